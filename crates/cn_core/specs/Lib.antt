@@ -1,0 +1,16 @@
+pub mod Characters
+pub mod Judge
+pub mod Mark
+pub mod Naive
+pub mod Numeral
+pub mod Place
+pub mod Refusal
+pub mod Scale
+pub mod Spelling
+pub mod Spot
+pub mod Text
+pub mod Typed
+pub mod Value
+pub mod Whole
+pub mod WholeLaws
+pub mod Written

@@ -1,0 +1,14 @@
+-- Where a place of a text stands in the string that was handed in.
+use Rattle.std.specs.Prelude.{ℕ, zero, suc, List, [], ◌∷◌, chars, if◌then◌else◌}
+use Rattle.std.specs.Char.{is_whitespace}
+
+-- how many of these characters stand before the one that is no white space
+-- and has exactly `place` such characters in front
+abbrev pub spot_among : List ℕ → ℕ → ℕ
+spot_among [] place = 0
+spot_among (c ∷ rest) zero = if is_whitespace c then suc (spot_among rest zero) else 0
+spot_among (c ∷ rest) (suc place) = suc (spot_among rest (if is_whitespace c then suc place else place))
+
+-- the same of the characters of a string, given by its bytes
+abbrev pub spot : List ℕ → ℕ → ℕ
+spot bytes place = spot_among (chars bytes) place

@@ -1,0 +1,61 @@
+-- What is answered of a string that is read as a number of a type.
+use Rattle.std.specs.Prelude.{◌≡◌, ℕ, ◌+◌, ℤ, pos, neg_ℤ, int_lt, Bool, true, List, ◌∷◌, drop, Option, Some, None, Result, Ok, Err, if◌then◌else◌}
+use Rattle.cn_core.specs.declared.method.ChineseCountMethod.{ChineseCountMethod}
+use Rattle.cn_core.specs.declared.sign.Sign.{Sign}
+use Rattle.cn_core.specs.declared.sign.Sign.TheVariants.{Minus}
+use Rattle.cn_core.specs.Characters.{sign_of}
+use Rattle.cn_core.specs.Judge.{Judges}
+use Rattle.cn_core.specs.Naive.{naive_answer}
+use Rattle.cn_core.specs.Refusal.{Refusal, incorrect_at, too_large, too_small}
+use Rattle.cn_core.specs.Spot.{spot}
+use Rattle.cn_core.specs.Text.{text_of, marks_of}
+use Rattle.cn_core.specs.Whole.{Kind}
+
+-- the one sign at the start of a text that is read for a signed type
+abbrev pub leading_sign : Bool → List ℕ → Option Sign
+leading_sign true (c ∷ rest) = sign_of c
+leading_sign signed text = None
+
+-- how many characters the sign takes
+abbrev pub sign_len : Option Sign → ℕ
+sign_len None = 0
+sign_len (Some sign) = 1
+
+-- the number with this sign and magnitude
+abbrev pub signed_by : Option Sign → ℕ → ℤ
+signed_by (Some Minus) magnitude = neg_ℤ (pos magnitude)
+signed_by sign magnitude = pos magnitude
+
+-- how a number is refused whose magnitude is too large
+abbrev pub too_far : Option Sign → Refusal
+too_far (Some Minus) = too_small
+too_far sign = too_large
+
+-- a number, if the type holds it
+abbrev pub held_by : Kind → ℤ → Result ℤ Refusal
+held_by kind number =
+    if int_lt kind.greatest number then Err too_large else (if int_lt number kind.least then Err too_small else Ok number)
+
+-- the answer for a type and a string, given by its bytes: from the sign, and from the answer to what follows it,
+-- whose place counts on from the sign and is told by where it stands in the string
+abbrev pub typed_answer : Kind → List ℕ → Option Sign → Result ℕ Refusal → Result ℤ Refusal
+typed_answer kind bytes sign (Ok magnitude) = held_by kind (signed_by sign magnitude)
+typed_answer kind bytes sign (Err too_large) = Err (too_far sign)
+typed_answer kind bytes sign (Err (incorrect_at place)) = Err (incorrect_at (spot bytes (place + sign_len sign)))
+typed_answer kind bytes sign (Err refusal) = Err refusal
+
+-- the answer to a string that is read with units
+abbrev pub Reads : Kind → ChineseCountMethod → List ℕ → Result ℤ Refusal → Type 0
+Reads kind method bytes answer =
+    let text = text_of bytes in
+    let sign = leading_sign kind.signed text in
+    (judged : Result ℕ Refusal)
+    × Judges method (marks_of (drop (sign_len sign) text)) judged
+    × (answer ≡ typed_answer kind bytes sign judged)
+
+-- the answer to a string that is read as plain digits
+abbrev pub naive_reading : Kind → List ℕ → Result ℤ Refusal
+naive_reading kind bytes =
+    let text = text_of bytes in
+    let sign = leading_sign kind.signed text in
+    typed_answer kind bytes sign (naive_answer (marks_of (drop (sign_len sign) text)))

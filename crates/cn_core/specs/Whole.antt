@@ -1,0 +1,25 @@
+-- What is known of an integer type.
+use Rattle.std.specs.Prelude.{ℕ, ◌-◌, ◌^◌, ℤ, pos, negsuc, neg_ℤ, ◌≤ℤ◌, Bool, true, false}
+
+-- whether the type is signed, and its least and greatest number
+pub record Kind : Type 0 where
+  pub signed : Bool
+  pub least : ℤ
+  pub greatest : ℤ
+
+-- an unsigned type of so many bits: from 0 to 2^bits - 1
+abbrev pub unsigned_kind : ℕ → Kind
+unsigned_kind bits = record { signed = false; least = pos 0; greatest = pos (2 ^ bits - 1) }
+
+-- a signed type of so many bits: from -2^(bits - 1) to 2^(bits - 1) - 1
+abbrev pub signed_kind : ℕ → Kind
+signed_kind bits = record { signed = true; least = negsuc (2 ^ (bits - 1) - 1); greatest = pos (2 ^ (bits - 1) - 1) }
+
+-- a type of this kind holds the number
+abbrev pub Holds : Kind → ℤ → Type 0
+Holds kind number = (kind.least ≤ℤ number) × (number ≤ℤ kind.greatest)
+
+-- the number with this sign and magnitude
+abbrev pub signed_number : Bool → ℕ → ℤ
+signed_number false magnitude = pos magnitude
+signed_number true magnitude = neg_ℤ (pos magnitude)

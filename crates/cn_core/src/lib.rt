@@ -1,0 +1,23 @@
+//! Characters and integer types of Chinese numerals, and what numerals mean: the definitions that the
+//! readers and printers are proved against stand in `specs/`.
+#![tactic(auto)]
+
+pub mod case;
+mod characters_read;
+mod characters_written;
+pub mod method;
+mod scales;
+pub mod script;
+pub mod sign;
+pub mod unit;
+pub mod whole;
+
+pub use case::ChineseCase;
+pub use characters_read::{digit_of, sign_of, unit_of};
+pub use characters_written::{digit_char, minus_char, unit_char};
+pub use method::ChineseCountMethod;
+pub use scales::scale;
+pub use script::ChineseVariant;
+pub use sign::Sign;
+pub use unit::Unit;
+pub use whole::Whole;

@@ -1,0 +1,6 @@
+/// The script in which a numeral is written: 億 and 負 are traditional, 亿 and 负 simple.
+#[derive(Debug, Copy, Clone, Eq, PartialEq, Hash)]
+pub enum ChineseVariant {
+    Traditional,
+    Simple,
+}

@@ -1,0 +1,6 @@
+/// The sign of a number: 正 is plus, 負 and 负 are minus.
+#[derive(Debug, Copy, Clone, Eq, PartialEq)]
+pub enum Sign {
+    Plus,
+    Minus,
+}

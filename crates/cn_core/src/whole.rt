@@ -1,0 +1,69 @@
+ghost use Rattle.std.specs.Prelude.{◌≡◌, ◌↔◌, ◌≤◌, ℤ, pos, ◌<ℤ◌, nat_abs, Bool, true, false, IsTrue, IsSome, IfSome};
+ghost use Rattle.cn_core.specs.Whole.{Kind, Holds, signed_number};
+
+mod signed;
+mod unsigned;
+
+/// An integer type that numerals are read and written for: the twelve from `u8` to `isize`.
+///
+/// A value is seen as its sign and its magnitude.
+///
+/// ```text
+/// i8::from_magnitude(true, 128) == Some(i8::MIN)
+/// i8::from_magnitude(false, 128) == None
+/// ```
+pub trait Whole: Copy {
+    /// Whether the type holds numbers below zero.
+    const SIGNED: bool;
+
+    /// Whether the type has 8 or 16 bits: true for `u8`, `u16`, `i8` and `i16` alone.
+    const NARROW: bool;
+
+    ghost SIGNED: { Bool };
+
+    ghost NARROW: { Bool };
+
+    // Whether the type is signed, and its least and greatest number.
+    ghost kind: { Kind };
+
+    // The number that a value stands for.
+    ghost number: { Self → ℤ };
+
+    /// The least value of the type.
+    fn least() -> Self
+        ensures { number result ≡ kind.least };
+
+    /// The greatest value of the type.
+    fn greatest() -> Self
+        ensures { number result ≡ kind.greatest };
+
+    /// Whether the number is below zero.
+    fn is_negative(self) -> bool
+        ensures { IsTrue result ↔ (number self <ℤ pos 0) };
+
+    /// The number without its sign.
+    fn magnitude(self) -> u128
+        ensures value { result ≡ nat_abs (number self) }
+        ensures held { Holds kind (number self) };
+
+    /// The value with this sign and magnitude; `None` exactly where the type does not hold it.
+    ///
+    /// A negative 0 is 0.
+    fn from_magnitude(negative: bool, magnitude: u128) -> Option<Self>
+        ensures value { IfSome result (λ x. number x ≡ signed_number negative magnitude) }
+        ensures held { IsSome result ↔ Holds kind (signed_number negative magnitude) };
+
+    // The laws: a value is its number, which is its sign and its magnitude.
+    ghost same_number: { (x y : Self) → number x ≡ number y → x ≡ y };
+
+    // The type holds each number from its least to its greatest.
+    ghost holds_each: { (z : ℤ) → Holds kind z → (x : Self) × (number x ≡ z) };
+
+    ghost holds_zero: { Holds kind (pos 0) };
+
+    ghost signed_is: { kind.signed ≡ SIGNED };
+
+    ghost unsigned_from_zero: { SIGNED ≡ false → kind.least ≡ pos 0 };
+
+    ghost narrow_bound: { NARROW ≡ true → (z : ℤ) → Holds kind z → nat_abs z ≤ 65535 };
+}

@@ -1,0 +1,296 @@
+// The signed types.
+ghost use Rattle.std.specs.Prelude.{refl, true, false};
+ghost use Rattle.std.proofs.Common.{rules};
+ghost use Rattle.cn_core.specs.Whole.{signed_kind};
+ghost use Rattle.cn_core.specs.WholeLaws.{signed_magnitude_bound};
+
+use crate::Whole;
+
+impl Whole for i8 {
+    const SIGNED: bool = true;
+
+    const NARROW: bool = true;
+
+    ghost SIGNED = { true };
+
+    ghost NARROW = { true };
+
+    ghost kind = { signed_kind 8 };
+
+    ghost number = { λ x. x };
+
+    fn least() -> i8 {
+        i8::MIN
+    }
+
+    fn greatest() -> i8 {
+        i8::MAX
+    }
+
+    fn is_negative(self) -> bool {
+        self < 0
+    }
+
+    fn magnitude(self) -> u128 {
+        self.unsigned_abs() as u128
+    }
+
+    fn from_magnitude(negative: bool, magnitude: u128) -> Option<i8> {
+        let size = i128::try_from(magnitude).ok()?;
+        i8::try_from(if negative { -size } else { size }).ok()
+    }
+
+    ghost same_number = { λ x y e. e };
+
+    ghost holds_each = { λ z h. (z, refl) };
+
+    ghost signed_is = { refl };
+
+    ghost holds_zero = { Prim.search rules };
+
+    ghost unsigned_from_zero = { Prim.search rules };
+
+    ghost narrow_bound = { Prim.search (rules, signed_magnitude_bound) };
+}
+
+impl Whole for i16 {
+    const SIGNED: bool = true;
+
+    const NARROW: bool = true;
+
+    ghost SIGNED = { true };
+
+    ghost NARROW = { true };
+
+    ghost kind = { signed_kind 16 };
+
+    ghost number = { λ x. x };
+
+    fn least() -> i16 {
+        i16::MIN
+    }
+
+    fn greatest() -> i16 {
+        i16::MAX
+    }
+
+    fn is_negative(self) -> bool {
+        self < 0
+    }
+
+    fn magnitude(self) -> u128 {
+        self.unsigned_abs() as u128
+    }
+
+    fn from_magnitude(negative: bool, magnitude: u128) -> Option<i16> {
+        let size = i128::try_from(magnitude).ok()?;
+        i16::try_from(if negative { -size } else { size }).ok()
+    }
+
+    ghost same_number = { λ x y e. e };
+
+    ghost holds_each = { λ z h. (z, refl) };
+
+    ghost signed_is = { refl };
+
+    ghost holds_zero = { Prim.search rules };
+
+    ghost unsigned_from_zero = { Prim.search rules };
+
+    ghost narrow_bound = { Prim.search (rules, signed_magnitude_bound) };
+}
+
+impl Whole for i32 {
+    const SIGNED: bool = true;
+
+    const NARROW: bool = false;
+
+    ghost SIGNED = { true };
+
+    ghost NARROW = { false };
+
+    ghost kind = { signed_kind 32 };
+
+    ghost number = { λ x. x };
+
+    fn least() -> i32 {
+        i32::MIN
+    }
+
+    fn greatest() -> i32 {
+        i32::MAX
+    }
+
+    fn is_negative(self) -> bool {
+        self < 0
+    }
+
+    fn magnitude(self) -> u128 {
+        self.unsigned_abs() as u128
+    }
+
+    fn from_magnitude(negative: bool, magnitude: u128) -> Option<i32> {
+        let size = i128::try_from(magnitude).ok()?;
+        i32::try_from(if negative { -size } else { size }).ok()
+    }
+
+    ghost same_number = { λ x y e. e };
+
+    ghost holds_each = { λ z h. (z, refl) };
+
+    ghost signed_is = { refl };
+
+    ghost holds_zero = { Prim.search rules };
+
+    ghost unsigned_from_zero = { Prim.search rules };
+
+    ghost narrow_bound = { Prim.search rules };
+}
+
+impl Whole for i64 {
+    const SIGNED: bool = true;
+
+    const NARROW: bool = false;
+
+    ghost SIGNED = { true };
+
+    ghost NARROW = { false };
+
+    ghost kind = { signed_kind 64 };
+
+    ghost number = { λ x. x };
+
+    fn least() -> i64 {
+        i64::MIN
+    }
+
+    fn greatest() -> i64 {
+        i64::MAX
+    }
+
+    fn is_negative(self) -> bool {
+        self < 0
+    }
+
+    fn magnitude(self) -> u128 {
+        self.unsigned_abs() as u128
+    }
+
+    fn from_magnitude(negative: bool, magnitude: u128) -> Option<i64> {
+        let size = i128::try_from(magnitude).ok()?;
+        i64::try_from(if negative { -size } else { size }).ok()
+    }
+
+    ghost same_number = { λ x y e. e };
+
+    ghost holds_each = { λ z h. (z, refl) };
+
+    ghost signed_is = { refl };
+
+    ghost holds_zero = { Prim.search rules };
+
+    ghost unsigned_from_zero = { Prim.search rules };
+
+    ghost narrow_bound = { Prim.search rules };
+}
+
+impl Whole for i128 {
+    const SIGNED: bool = true;
+
+    const NARROW: bool = false;
+
+    ghost SIGNED = { true };
+
+    ghost NARROW = { false };
+
+    ghost kind = { signed_kind 128 };
+
+    ghost number = { λ x. x };
+
+    fn least() -> i128 {
+        i128::MIN
+    }
+
+    fn greatest() -> i128 {
+        i128::MAX
+    }
+
+    fn is_negative(self) -> bool {
+        self < 0
+    }
+
+    fn magnitude(self) -> u128 {
+        self.unsigned_abs()
+    }
+
+    fn from_magnitude(negative: bool, magnitude: u128) -> Option<i128> {
+        if negative {
+            if magnitude <= 1 << 127 {
+                Some(0i128.wrapping_sub_unsigned(magnitude))
+            } else {
+                None
+            }
+        } else {
+            i128::try_from(magnitude).ok()
+        }
+    }
+
+    ghost same_number = { λ x y e. e };
+
+    ghost holds_each = { λ z h. (z, refl) };
+
+    ghost signed_is = { refl };
+
+    ghost holds_zero = { Prim.search rules };
+
+    ghost unsigned_from_zero = { Prim.search rules };
+
+    ghost narrow_bound = { Prim.search rules };
+}
+
+impl Whole for isize {
+    const SIGNED: bool = true;
+
+    const NARROW: bool = false;
+
+    ghost SIGNED = { true };
+
+    ghost NARROW = { false };
+
+    ghost kind = { signed_kind 64 };
+
+    ghost number = { λ x. x };
+
+    fn least() -> isize {
+        isize::MIN
+    }
+
+    fn greatest() -> isize {
+        isize::MAX
+    }
+
+    fn is_negative(self) -> bool {
+        self < 0
+    }
+
+    fn magnitude(self) -> u128 {
+        self.unsigned_abs() as u128
+    }
+
+    fn from_magnitude(negative: bool, magnitude: u128) -> Option<isize> {
+        let size = i128::try_from(magnitude).ok()?;
+        isize::try_from(if negative { -size } else { size }).ok()
+    }
+
+    ghost same_number = { λ x y e. e };
+
+    ghost holds_each = { λ z h. (z, refl) };
+
+    ghost signed_is = { refl };
+
+    ghost holds_zero = { Prim.search rules };
+
+    ghost unsigned_from_zero = { Prim.search rules };
+
+    ghost narrow_bound = { Prim.search rules };
+}

@@ -1,0 +1,307 @@
+// The unsigned types.
+ghost use Rattle.std.specs.Prelude.{ℕ, refl, pos, false, true};
+ghost use Rattle.std.proofs.Common.{rules};
+ghost use Rattle.cn_core.specs.Whole.{unsigned_kind};
+ghost use Rattle.cn_core.specs.WholeLaws.{pos_same, unsigned_holds, magnitude_bound};
+
+use crate::Whole;
+
+impl Whole for u8 {
+    const SIGNED: bool = false;
+
+    const NARROW: bool = true;
+
+    ghost SIGNED = { false };
+
+    ghost NARROW = { true };
+
+    ghost kind = { unsigned_kind 8 };
+
+    ghost number = { λ x. pos x };
+
+    fn least() -> u8 {
+        u8::MIN
+    }
+
+    fn greatest() -> u8 {
+        u8::MAX
+    }
+
+    fn is_negative(self) -> bool {
+        false
+    }
+
+    fn magnitude(self) -> u128 {
+        self as u128
+    }
+
+    fn from_magnitude(negative: bool, magnitude: u128) -> Option<u8> {
+        if negative && magnitude > 0 {
+            None
+        } else {
+            u8::try_from(magnitude).ok()
+        }
+    }
+
+    ghost same_number = { pos_same };
+
+    ghost holds_each = { λ z h. unsigned_holds z h.0 };
+
+    ghost signed_is = { refl };
+
+    ghost holds_zero = { Prim.search rules };
+
+    ghost unsigned_from_zero = { λ _. refl };
+
+    ghost narrow_bound = { Prim.search (rules, magnitude_bound) };
+}
+
+impl Whole for u16 {
+    const SIGNED: bool = false;
+
+    const NARROW: bool = true;
+
+    ghost SIGNED = { false };
+
+    ghost NARROW = { true };
+
+    ghost kind = { unsigned_kind 16 };
+
+    ghost number = { λ x. pos x };
+
+    fn least() -> u16 {
+        u16::MIN
+    }
+
+    fn greatest() -> u16 {
+        u16::MAX
+    }
+
+    fn is_negative(self) -> bool {
+        false
+    }
+
+    fn magnitude(self) -> u128 {
+        self as u128
+    }
+
+    fn from_magnitude(negative: bool, magnitude: u128) -> Option<u16> {
+        if negative && magnitude > 0 {
+            None
+        } else {
+            u16::try_from(magnitude).ok()
+        }
+    }
+
+    ghost same_number = { pos_same };
+
+    ghost holds_each = { λ z h. unsigned_holds z h.0 };
+
+    ghost signed_is = { refl };
+
+    ghost holds_zero = { Prim.search rules };
+
+    ghost unsigned_from_zero = { λ _. refl };
+
+    ghost narrow_bound = { Prim.search (rules, magnitude_bound) };
+}
+
+impl Whole for u32 {
+    const SIGNED: bool = false;
+
+    const NARROW: bool = false;
+
+    ghost SIGNED = { false };
+
+    ghost NARROW = { false };
+
+    ghost kind = { unsigned_kind 32 };
+
+    ghost number = { λ x. pos x };
+
+    fn least() -> u32 {
+        u32::MIN
+    }
+
+    fn greatest() -> u32 {
+        u32::MAX
+    }
+
+    fn is_negative(self) -> bool {
+        false
+    }
+
+    fn magnitude(self) -> u128 {
+        self as u128
+    }
+
+    fn from_magnitude(negative: bool, magnitude: u128) -> Option<u32> {
+        if negative && magnitude > 0 {
+            None
+        } else {
+            u32::try_from(magnitude).ok()
+        }
+    }
+
+    ghost same_number = { pos_same };
+
+    ghost holds_each = { λ z h. unsigned_holds z h.0 };
+
+    ghost signed_is = { refl };
+
+    ghost holds_zero = { Prim.search rules };
+
+    ghost unsigned_from_zero = { λ _. refl };
+
+    ghost narrow_bound = { Prim.search rules };
+}
+
+impl Whole for u64 {
+    const SIGNED: bool = false;
+
+    const NARROW: bool = false;
+
+    ghost SIGNED = { false };
+
+    ghost NARROW = { false };
+
+    ghost kind = { unsigned_kind 64 };
+
+    ghost number = { λ x. pos x };
+
+    fn least() -> u64 {
+        u64::MIN
+    }
+
+    fn greatest() -> u64 {
+        u64::MAX
+    }
+
+    fn is_negative(self) -> bool {
+        false
+    }
+
+    fn magnitude(self) -> u128 {
+        self as u128
+    }
+
+    fn from_magnitude(negative: bool, magnitude: u128) -> Option<u64> {
+        if negative && magnitude > 0 {
+            None
+        } else {
+            u64::try_from(magnitude).ok()
+        }
+    }
+
+    ghost same_number = { pos_same };
+
+    ghost holds_each = { λ z h. unsigned_holds z h.0 };
+
+    ghost signed_is = { refl };
+
+    ghost holds_zero = { Prim.search rules };
+
+    ghost unsigned_from_zero = { λ _. refl };
+
+    ghost narrow_bound = { Prim.search rules };
+}
+
+impl Whole for u128 {
+    const SIGNED: bool = false;
+
+    const NARROW: bool = false;
+
+    ghost SIGNED = { false };
+
+    ghost NARROW = { false };
+
+    ghost kind = { unsigned_kind 128 };
+
+    ghost number = { λ x. pos x };
+
+    fn least() -> u128 {
+        u128::MIN
+    }
+
+    fn greatest() -> u128 {
+        u128::MAX
+    }
+
+    fn is_negative(self) -> bool {
+        false
+    }
+
+    fn magnitude(self) -> u128 {
+        self
+    }
+
+    fn from_magnitude(negative: bool, magnitude: u128) -> Option<u128> {
+        if negative && magnitude > 0 {
+            None
+        } else {
+            Some(magnitude)
+        }
+    }
+
+    ghost same_number = { pos_same };
+
+    ghost holds_each = { λ z h. unsigned_holds z h.0 };
+
+    ghost signed_is = { refl };
+
+    ghost holds_zero = { Prim.search rules };
+
+    ghost unsigned_from_zero = { λ _. refl };
+
+    ghost narrow_bound = { Prim.search rules };
+}
+
+impl Whole for usize {
+    const SIGNED: bool = false;
+
+    const NARROW: bool = false;
+
+    ghost SIGNED = { false };
+
+    ghost NARROW = { false };
+
+    ghost kind = { unsigned_kind 64 };
+
+    ghost number = { λ x. pos x };
+
+    fn least() -> usize {
+        usize::MIN
+    }
+
+    fn greatest() -> usize {
+        usize::MAX
+    }
+
+    fn is_negative(self) -> bool {
+        false
+    }
+
+    fn magnitude(self) -> u128 {
+        self as u128
+    }
+
+    fn from_magnitude(negative: bool, magnitude: u128) -> Option<usize> {
+        if negative && magnitude > 0 {
+            None
+        } else {
+            usize::try_from(magnitude).ok()
+        }
+    }
+
+    ghost same_number = { pos_same };
+
+    ghost holds_each = { λ z h. unsigned_holds z h.0 };
+
+    ghost signed_is = { refl };
+
+    ghost holds_zero = { Prim.search rules };
+
+    ghost unsigned_from_zero = { λ _. refl };
+
+    ghost narrow_bound = { Prim.search rules };
+}
