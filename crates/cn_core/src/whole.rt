@@ -3,6 +3,7 @@ ghost use Rattle.cn_core.specs.Whole.{Kind, Holds, signed_number};
 
 mod signed;
 mod unsigned;
+mod wide;
 
 /// An integer type that numerals are read and written for: the twelve from `u8` to `isize`.
 ///

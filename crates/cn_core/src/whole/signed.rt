@@ -1,4 +1,4 @@
-// The signed types.
+// The signed types of up to 64 bits.
 ghost use Rattle.std.specs.Prelude.{refl, true, false};
 ghost use Rattle.std.proofs.Common.{rules};
 ghost use Rattle.cn_core.specs.Whole.{signed_kind};
@@ -179,60 +179,6 @@ impl Whole for i64 {
     fn from_magnitude(negative: bool, magnitude: u128) -> Option<i64> {
         let size = i128::try_from(magnitude).ok()?;
         i64::try_from(if negative { -size } else { size }).ok()
-    }
-
-    ghost same_number = { λ x y e. e };
-
-    ghost holds_each = { λ z h. (z, refl) };
-
-    ghost signed_is = { refl };
-
-    ghost holds_zero = { Prim.search rules };
-
-    ghost unsigned_from_zero = { Prim.search rules };
-
-    ghost narrow_bound = { Prim.search rules };
-}
-
-impl Whole for i128 {
-    const SIGNED: bool = true;
-
-    const NARROW: bool = false;
-
-    ghost SIGNED = { true };
-
-    ghost NARROW = { false };
-
-    ghost kind = { signed_kind 128 };
-
-    ghost number = { λ x. x };
-
-    fn least() -> i128 {
-        i128::MIN
-    }
-
-    fn greatest() -> i128 {
-        i128::MAX
-    }
-
-    fn is_negative(self) -> bool {
-        self < 0
-    }
-
-    fn magnitude(self) -> u128 {
-        self.unsigned_abs()
-    }
-
-    fn from_magnitude(negative: bool, magnitude: u128) -> Option<i128> {
-        if negative {
-            if magnitude <= 1 << 127 {
-                Some(0i128.wrapping_sub_unsigned(magnitude))
-            } else {
-                None
-            }
-        } else {
-            i128::try_from(magnitude).ok()
-        }
     }
 
     ghost same_number = { λ x y e. e };

@@ -1,5 +1,5 @@
-// The unsigned types.
-ghost use Rattle.std.specs.Prelude.{ℕ, refl, pos, false, true};
+// The unsigned types of up to 64 bits.
+ghost use Rattle.std.specs.Prelude.{refl, pos, false, true};
 ghost use Rattle.std.proofs.Common.{rules};
 ghost use Rattle.cn_core.specs.Whole.{unsigned_kind};
 ghost use Rattle.cn_core.specs.WholeLaws.{pos_same, unsigned_holds, magnitude_bound};
@@ -190,56 +190,6 @@ impl Whole for u64 {
             None
         } else {
             u64::try_from(magnitude).ok()
-        }
-    }
-
-    ghost same_number = { pos_same };
-
-    ghost holds_each = { λ z h. unsigned_holds z h.0 };
-
-    ghost signed_is = { refl };
-
-    ghost holds_zero = { Prim.search rules };
-
-    ghost unsigned_from_zero = { λ _. refl };
-
-    ghost narrow_bound = { Prim.search rules };
-}
-
-impl Whole for u128 {
-    const SIGNED: bool = false;
-
-    const NARROW: bool = false;
-
-    ghost SIGNED = { false };
-
-    ghost NARROW = { false };
-
-    ghost kind = { unsigned_kind 128 };
-
-    ghost number = { λ x. pos x };
-
-    fn least() -> u128 {
-        u128::MIN
-    }
-
-    fn greatest() -> u128 {
-        u128::MAX
-    }
-
-    fn is_negative(self) -> bool {
-        false
-    }
-
-    fn magnitude(self) -> u128 {
-        self
-    }
-
-    fn from_magnitude(negative: bool, magnitude: u128) -> Option<u128> {
-        if negative && magnitude > 0 {
-            None
-        } else {
-            Some(magnitude)
         }
     }
 
