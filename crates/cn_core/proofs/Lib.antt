@@ -1,6 +1,7 @@
 pub mod Fronts
 pub mod Grammar
 pub mod Judging
+pub mod NaiveExamples
 pub mod OpenUnits
 pub mod ReadBack
 pub mod ScaleLaws
