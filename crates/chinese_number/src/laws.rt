@@ -4,10 +4,15 @@ ghost use Rattle.std.specs.Ordering.{nat_cmp};
 ghost use Rattle.cn_core.specs.Characters.{rank};
 ghost use Rattle.cn_core.specs.declared.unit.Unit.{Unit as NumeralUnit};
 
+mod read_back;
+
 use cn_core::Unit;
+pub use read_back::{
+    each_string_has_one_answer, each_text_has_one_judgement, spellings_are_numerals,
+    spellings_read_back,
+};
 
 /// Units are ordered by rank: 個 is the least and 極 the greatest.
 pub fn units_compare_by_rank()
     ensures { (a b : NumeralUnit) → ⟦<Unit as Ord>⟧.cmp a b ≡ nat_cmp (rank a) (rank b) }
-{
-}
+{}

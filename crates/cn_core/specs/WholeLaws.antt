@@ -1,5 +1,5 @@
 -- What the laws of the integer types rest on.
-use Rattle.std.proofs.Common.{◌≡◌, ℕ, ◌<◌, ◌≤◌, ℤ, pos, negsuc, ◌≤ℤ◌, nat_abs, refl, ap, arith}
+use Rattle.std.proofs.Common.{◌≡◌, ℕ, ◌+◌, ◌^◌, ◌<◌, ◌≤◌, ℤ, pos, negsuc, ◌≤ℤ◌, nat_abs, refl, ap, arith}
 use Rattle.std.proofs.lemmas.Int.{ints}
 
 -- a type that holds no number below zero
@@ -19,3 +19,13 @@ magnitude_bound (negsuc n) m held small = absurd (omega (arith, ints, held.0))
 pub signed_magnitude_bound : (z : ℤ) (m : ℕ) → (negsuc m ≤ℤ z) × (z ≤ℤ pos m) → m < 65535 → nat_abs z ≤ 65535
 signed_magnitude_bound (pos n) m held small = omega (arith, ints, held.1)
 signed_magnitude_bound (negsuc n) m held small = omega (arith, ints, held.0)
+
+-- a magnitude that a type without sign holds fits 128 bits
+pub unsigned_fits : (z : ℤ) (m : ℕ) → (pos 0 ≤ℤ z) × (z ≤ℤ pos m) → m < 2 ^ 128 → nat_abs z < 2 ^ 128
+unsigned_fits (pos n) m held small = omega (arith, ints, held.1)
+unsigned_fits (negsuc n) m held small = absurd (omega (arith, ints, held.0))
+
+-- and so does one that a type with a sign holds
+pub signed_fits : (z : ℤ) (m : ℕ) → (negsuc m ≤ℤ z) × (z ≤ℤ pos m) → m + 1 < 2 ^ 128 → nat_abs z < 2 ^ 128
+signed_fits (pos n) m held small = omega (arith, ints, held.1)
+signed_fits (negsuc n) m held small = omega (arith, ints, held.0)

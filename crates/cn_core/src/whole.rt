@@ -1,4 +1,4 @@
-ghost use Rattle.std.specs.Prelude.{◌≡◌, ◌↔◌, ◌≤◌, ℤ, pos, ◌<ℤ◌, nat_abs, Bool, true, false, IsTrue, IsSome, IfSome};
+ghost use Rattle.std.specs.Prelude.{◌≡◌, ◌↔◌, ◌^◌, ◌<◌, ◌≤◌, ℤ, pos, ◌<ℤ◌, nat_abs, Bool, true, false, IsTrue, IsSome, IfSome};
 ghost use Rattle.cn_core.specs.Whole.{Kind, Holds, signed_number};
 
 mod signed;
@@ -67,4 +67,7 @@ pub trait Whole: Copy {
     ghost unsigned_from_zero: { SIGNED ≡ false → kind.least ≡ pos 0 };
 
     ghost narrow_bound: { NARROW ≡ true → (z : ℤ) → Holds kind z → nat_abs z ≤ 65535 };
+
+    // Each magnitude fits 128 bits.
+    ghost magnitude_fits: { (z : ℤ) → Holds kind z → nat_abs z < 2 ^ 128 };
 }

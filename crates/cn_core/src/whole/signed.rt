@@ -2,7 +2,7 @@
 ghost use Rattle.std.specs.Prelude.{refl, true, false};
 ghost use Rattle.std.proofs.Common.{rules};
 ghost use Rattle.cn_core.specs.Whole.{signed_kind};
-ghost use Rattle.cn_core.specs.WholeLaws.{signed_magnitude_bound};
+ghost use Rattle.cn_core.specs.WholeLaws.{signed_magnitude_bound, signed_fits};
 
 use crate::Whole;
 
@@ -51,6 +51,8 @@ impl Whole for i8 {
     ghost unsigned_from_zero = { Prim.search rules };
 
     ghost narrow_bound = { Prim.search (rules, signed_magnitude_bound) };
+
+    ghost magnitude_fits = { Prim.search (rules, signed_fits) };
 }
 
 impl Whole for i16 {
@@ -98,6 +100,8 @@ impl Whole for i16 {
     ghost unsigned_from_zero = { Prim.search rules };
 
     ghost narrow_bound = { Prim.search (rules, signed_magnitude_bound) };
+
+    ghost magnitude_fits = { Prim.search (rules, signed_fits) };
 }
 
 impl Whole for i32 {
@@ -145,6 +149,8 @@ impl Whole for i32 {
     ghost unsigned_from_zero = { Prim.search rules };
 
     ghost narrow_bound = { Prim.search rules };
+
+    ghost magnitude_fits = { Prim.search (rules, signed_fits) };
 }
 
 impl Whole for i64 {
@@ -192,6 +198,8 @@ impl Whole for i64 {
     ghost unsigned_from_zero = { Prim.search rules };
 
     ghost narrow_bound = { Prim.search rules };
+
+    ghost magnitude_fits = { Prim.search (rules, signed_fits) };
 }
 
 impl Whole for isize {
@@ -239,4 +247,6 @@ impl Whole for isize {
     ghost unsigned_from_zero = { Prim.search rules };
 
     ghost narrow_bound = { Prim.search rules };
+
+    ghost magnitude_fits = { Prim.search (rules, signed_fits) };
 }

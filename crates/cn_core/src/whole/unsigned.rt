@@ -2,7 +2,7 @@
 ghost use Rattle.std.specs.Prelude.{refl, pos, false, true};
 ghost use Rattle.std.proofs.Common.{rules};
 ghost use Rattle.cn_core.specs.Whole.{unsigned_kind};
-ghost use Rattle.cn_core.specs.WholeLaws.{pos_same, unsigned_holds, magnitude_bound};
+ghost use Rattle.cn_core.specs.WholeLaws.{pos_same, unsigned_holds, magnitude_bound, unsigned_fits};
 
 use crate::Whole;
 
@@ -54,6 +54,8 @@ impl Whole for u8 {
     ghost unsigned_from_zero = { λ _. refl };
 
     ghost narrow_bound = { Prim.search (rules, magnitude_bound) };
+
+    ghost magnitude_fits = { Prim.search (rules, unsigned_fits) };
 }
 
 impl Whole for u16 {
@@ -104,6 +106,8 @@ impl Whole for u16 {
     ghost unsigned_from_zero = { λ _. refl };
 
     ghost narrow_bound = { Prim.search (rules, magnitude_bound) };
+
+    ghost magnitude_fits = { Prim.search (rules, unsigned_fits) };
 }
 
 impl Whole for u32 {
@@ -154,6 +158,8 @@ impl Whole for u32 {
     ghost unsigned_from_zero = { λ _. refl };
 
     ghost narrow_bound = { Prim.search rules };
+
+    ghost magnitude_fits = { Prim.search (rules, unsigned_fits) };
 }
 
 impl Whole for u64 {
@@ -204,6 +210,8 @@ impl Whole for u64 {
     ghost unsigned_from_zero = { λ _. refl };
 
     ghost narrow_bound = { Prim.search rules };
+
+    ghost magnitude_fits = { Prim.search (rules, unsigned_fits) };
 }
 
 impl Whole for usize {
@@ -254,4 +262,6 @@ impl Whole for usize {
     ghost unsigned_from_zero = { λ _. refl };
 
     ghost narrow_bound = { Prim.search rules };
+
+    ghost magnitude_fits = { Prim.search (rules, unsigned_fits) };
 }

@@ -1,0 +1,163 @@
+-- What is written is read as the marks that it was written for.
+use Rattle.std.proofs.Common.{◌≡◌, ℕ, zero, suc, ◌<◌, Bool, true, false, ◌&&◌, ◌==◌, nat_lt, List, [], ◌∷◌, map, filter, Option, Some, None, is_none, refl, ap, ◌∙◌, arith, if◌then◌else◌}
+use Rattle.std.proofs.lemmas.Bool.Decides.{nat_tests}
+use Rattle.std.proofs.lemmas.Str.{chars-encodes}
+use Rattle.std.proofs.Math.Decide.{dec_lt}
+use Rattle.std.specs.List.{list_all}
+use Rattle.std.specs.Str.{all_scalars}
+use Rattle.std.specs.Char.{is_not_whitespace}
+use Rattle.cn_core.specs.declared.script.ChineseVariant.{ChineseVariant}
+use Rattle.cn_core.specs.declared.script.ChineseVariant.TheVariants.{Traditional, Simple}
+use Rattle.cn_core.specs.declared.case.ChineseCase.{ChineseCase}
+use Rattle.cn_core.specs.declared.case.ChineseCase.TheVariants.{Upper, Lower}
+use Rattle.cn_core.specs.declared.sign.Sign.TheVariants.{Minus}
+use Rattle.cn_core.specs.Characters.{digit_of, rank_of, sign_of, digit_char, unit_char, minus_char}
+use Rattle.cn_core.specs.Mark.{Mark, digit, unit, other, mark_of}
+use Rattle.cn_core.specs.Numeral.{opened, starts_with_digit}
+use Rattle.cn_core.specs.Text.{text_of, marks_of}
+use Rattle.cn_core.specs.Written.{mark_char, written, written_bytes}
+use Rattle.cn_core.proofs.Fronts.{and-left, and-right}
+
+pub both : (x y : Bool) → x ≡ true → y ≡ true → (x && y) ≡ true
+both x y p q = rw (p, q)
+
+-- a digit of one place, or a unit
+abbrev pub is_printed : Mark → Bool
+is_printed (digit value) = nat_lt value 10
+is_printed (unit rank) = nat_lt rank 16
+is_printed other = false
+
+abbrev same_mark : Mark → Mark → Bool
+same_mark (digit a) (digit b) = a == b
+same_mark (unit a) (unit b) = a == b
+same_mark a b = false
+
+same_mark-true : (a b : Mark) → same_mark a b ≡ true → a ≡ b
+same_mark-true (digit a) (digit b) h = let e : a ≡ b = grind (arith, nat_tests) in ap digit e
+same_mark-true (digit a) (unit b) h = cc
+same_mark-true (digit a) other h = cc
+same_mark-true (unit a) (digit b) h = cc
+same_mark-true (unit a) (unit b) h = let e : a ≡ b = grind (arith, nat_tests) in ap unit e
+same_mark-true (unit a) other h = cc
+same_mark-true other b h = cc
+
+-- a test of each number below a bound
+abbrev each_below : (ℕ → Bool) → ℕ → Bool
+each_below test zero = true
+each_below test (suc n) = test n && each_below test n
+
+each_below-at : (test : ℕ → Bool) (n k : ℕ) → each_below test n ≡ true → k < n → test k ≡ true
+each_below-at test zero k h low = absurd (omega (arith, low))
+each_below-at test (suc n) k h low = elim (dec_lt k n) [
+  | yes less ↦ each_below-at test n k (and-right (test n) _ h) less
+  | no last ↦ let e : k ≡ n = omega (arith, low, last) in rw e (and-left (test n) _ h)
+]
+
+-- the character of a mark is no white space, and is read as that mark
+abbrev is_read_back : ChineseVariant → ChineseCase → Mark → Bool
+is_read_back variant case mark =
+    let c = mark_char variant case mark in same_mark (mark_of c) mark && all_scalars (c ∷ []) && is_not_whitespace c
+
+digits_read_back : (variant : ChineseVariant) (case : ChineseCase) → each_below (λ value. is_read_back variant case (digit value)) 10 ≡ true
+unfolding digit_char digit_of rank_of
+digits_read_back Traditional Upper = refl
+digits_read_back Traditional Lower = refl
+digits_read_back Simple Upper = refl
+digits_read_back Simple Lower = refl
+
+units_read_back : (variant : ChineseVariant) (case : ChineseCase) → each_below (λ rank. is_read_back variant case (unit rank)) 16 ≡ true
+unfolding unit_char digit_of rank_of
+units_read_back Traditional Upper = refl
+units_read_back Traditional Lower = refl
+units_read_back Simple Upper = refl
+units_read_back Simple Lower = refl
+
+read_back : (variant : ChineseVariant) (case : ChineseCase) (mark : Mark) → is_printed mark ≡ true → is_read_back variant case mark ≡ true
+read_back variant case (digit value) h =
+    each_below-at (λ value. is_read_back variant case (digit value)) 10 value (digits_read_back variant case) (grind (arith, nat_tests))
+read_back variant case (unit rank) h =
+    each_below-at (λ rank. is_read_back variant case (unit rank)) 16 rank (units_read_back variant case) (grind (arith, nat_tests))
+read_back variant case other h = cc
+
+-- what a list of such marks is written as
+pub record IsReadBack (text : List ℕ) (marks : List Mark) : Type 0 where
+  pub scalars : all_scalars text ≡ true
+  pub kept : filter is_not_whitespace text ≡ text
+  pub marks_same : marks_of text ≡ marks
+
+pub IsReadBack-nil : IsReadBack [] []
+IsReadBack-nil = record { scalars = refl; kept = refl; marks_same = refl }
+
+IsReadBack-more : (c : ℕ) (text : List ℕ) (marks : List Mark) → all_scalars (c ∷ []) ≡ true → is_not_whitespace c ≡ true → IsReadBack text marks → IsReadBack (c ∷ text) (mark_of c ∷ marks)
+IsReadBack-more c text marks s w h = record {
+  scalars = both _ _ (and-left _ true s) h.scalars;
+  kept = rw w (ap (λ l. c ∷ l) h.kept);
+  marks_same = ap (λ l. mark_of c ∷ l) h.marks_same;
+}
+
+pub IsReadBack-marks : (variant : ChineseVariant) (case : ChineseCase) (marks : List Mark) → list_all is_printed marks ≡ true → IsReadBack (map (mark_char variant case) marks) marks
+IsReadBack-marks variant case [] h = IsReadBack-nil
+IsReadBack-marks variant case (mark ∷ marks) h =
+    let c = mark_char variant case mark in
+    let t = read_back variant case mark (and-left (is_printed mark) _ h) in
+    let same = same_mark-true (mark_of c) mark (and-left (same_mark (mark_of c) mark) _ (and-left (same_mark (mark_of c) mark && all_scalars (c ∷ [])) _ t)) in
+    let scalar = and-right (same_mark (mark_of c) mark) (all_scalars (c ∷ [])) (and-left (same_mark (mark_of c) mark && all_scalars (c ∷ [])) _ t) in
+    let dark = and-right (same_mark (mark_of c) mark && all_scalars (c ∷ [])) (is_not_whitespace c) t in
+    let rest = IsReadBack-marks variant case marks (and-right (is_printed mark) _ h) in
+    rw same at (IsReadBack-more c (map (mark_char variant case) marks) marks scalar dark rest)
+
+-- the minus sign
+minus_scalar : (variant : ChineseVariant) → all_scalars (minus_char variant ∷ []) ≡ true
+unfolding minus_char
+minus_scalar Traditional = refl
+minus_scalar Simple = refl
+
+minus_dark : (variant : ChineseVariant) → is_not_whitespace (minus_char variant) ≡ true
+unfolding minus_char
+minus_dark Traditional = refl
+minus_dark Simple = refl
+
+pub minus_is_sign : (variant : ChineseVariant) → sign_of (minus_char variant) ≡ Some Minus
+unfolding minus_char sign_of
+minus_is_sign Traditional = refl
+minus_is_sign Simple = refl
+
+-- the text of what is written is what is written
+pub text_of-written : (variant : ChineseVariant) (case : ChineseCase) (negative : Bool) (marks : List Mark) → list_all is_printed marks ≡ true
+    → text_of (written_bytes variant case negative marks) ≡ written variant case negative marks
+text_of-written variant case true marks h =
+    let r = IsReadBack-more (minus_char variant) (map (mark_char variant case) marks) marks (minus_scalar variant) (minus_dark variant) (IsReadBack-marks variant case marks h) in
+    ap (filter is_not_whitespace) (chars-encodes (written variant case true marks) r.scalars) ∙ r.kept
+text_of-written variant case false marks h =
+    let r = IsReadBack-marks variant case marks h in
+    ap (filter is_not_whitespace) (chars-encodes (written variant case false marks) r.scalars) ∙ r.kept
+
+-- a digit is no sign, nor is 十
+digits_no_sign : (variant : ChineseVariant) (case : ChineseCase) → each_below (λ value. is_none (sign_of (digit_char variant case value))) 10 ≡ true
+unfolding digit_char sign_of
+digits_no_sign Traditional Upper = refl
+digits_no_sign Traditional Lower = refl
+digits_no_sign Simple Upper = refl
+digits_no_sign Simple Lower = refl
+
+ten_no_sign : (variant : ChineseVariant) (case : ChineseCase) → sign_of (unit_char variant case 1) ≡ None
+unfolding unit_char sign_of
+ten_no_sign Traditional Upper = refl
+ten_no_sign Traditional Lower = refl
+ten_no_sign Simple Upper = refl
+ten_no_sign Simple Lower = refl
+
+none_from_is_none : {A : Type 0} (o : Option A) → is_none o ≡ true → o ≡ None
+none_from_is_none None h = refl
+none_from_is_none (Some x) h = cc
+
+-- so what a numeral starts with is no sign
+pub no_sign : (variant : ChineseVariant) (case : ChineseCase) (mark : Mark) (rest : List Mark) → is_printed mark ≡ true → starts_with_digit (opened (mark ∷ rest)) ≡ true
+    → sign_of (mark_char variant case mark) ≡ None
+no_sign variant case (digit value) rest h s =
+    none_from_is_none _ (each_below-at (λ value. is_none (sign_of (digit_char variant case value))) 10 value (digits_no_sign variant case) (grind (arith, nat_tests)))
+no_sign variant case (unit rank) rest h s = by (rank == 1) refl s where
+  by : (b : Bool) → (rank == 1) ≡ b → starts_with_digit ((if b then digit 10 else unit rank) ∷ rest) ≡ true → sign_of (unit_char variant case rank) ≡ None
+  by true e s = let ten : rank ≡ 1 = grind (arith, nat_tests) in rw ten (ten_no_sign variant case)
+  by false e s = cc
+no_sign variant case other rest h s = cc

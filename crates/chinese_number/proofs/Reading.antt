@@ -1,0 +1,135 @@
+-- The answer to a string, from its text; and to the written text of a number.
+use Rattle.std.proofs.Common.{◌≡◌, ℕ, ◌^◌, ◌<◌, ℤ, pos, negsuc, nat_abs, ◌≤ℤ◌, int_lt, Bool, true, false, List, [], ◌∷◌, map, drop, encode_utf8_all, Option, Some, None, Result, Ok, Err, refl, sym, ap, subst, ◌∙◌, arith, if◌then◌else◌}
+use Rattle.std.proofs.lemmas.Int.{ints}
+use Rattle.cn_core.specs.declared.method.ChineseCountMethod.{ChineseCountMethod}
+use Rattle.cn_core.specs.declared.script.ChineseVariant.{ChineseVariant}
+use Rattle.cn_core.specs.declared.case.ChineseCase.{ChineseCase}
+use Rattle.cn_core.specs.declared.sign.Sign.{Sign}
+use Rattle.cn_core.specs.declared.sign.Sign.TheVariants.{Minus}
+use Rattle.cn_core.specs.Judge.{Judges}
+use Rattle.cn_core.specs.Mark.{Mark}
+use Rattle.cn_core.specs.Numeral.{IsNumeral, opened, starts_with_digit}
+use Rattle.cn_core.specs.Refusal.{Refusal, too_large, too_small}
+use Rattle.cn_core.specs.Spelling.{spelling}
+use Rattle.cn_core.specs.Text.{text_of, marks_of}
+use Rattle.cn_core.specs.Typed.{Reads, leading_sign, sign_len, signed_by, held_by, typed_answer}
+use Rattle.cn_core.specs.Whole.{Kind, Holds}
+use Rattle.cn_core.specs.Written.{mark_char, written, written_bytes, spelled_text, is_printable}
+use Rattle.std.specs.List.{list_all}
+use Rattle.cn_core.proofs.Fronts.{and-left}
+use Rattle.cn_core.proofs.Judging.{judge, Judges-judge, Judges-same}
+use Rattle.cn_core.proofs.ReadBack.{spelling-is_numeral}
+use Rattle.chinese_number.proofs.Printed.{is_printed, IsReadBack-marks, text_of-written, minus_is_sign, no_sign}
+use Rattle.chinese_number.proofs.SpelledMarks.{below_square, spelling-printed, Judges-spelling}
+
+-- a number that the type holds
+pub held_by-Holds : (kind : Kind) (number : ℤ) → Holds kind number → held_by kind number ≡ Ok number
+held_by-Holds kind number h =
+    let high : int_lt kind.greatest number ≡ false = not_below kind.greatest number h.1 in
+    let low : int_lt number kind.least ≡ false = not_below number kind.least h.0 in
+    rw (high, low) where
+      not_below : (x y : ℤ) → y ≤ℤ x → int_lt x y ≡ false
+      not_below x y h = by (int_lt x y) refl where
+        by : (b : Bool) → int_lt x y ≡ b → b ≡ false
+        by true e = absurd (omega (arith, ints))
+        by false e = refl
+
+-- and what is answered is such a number
+pub Holds-held_by : (kind : Kind) (number answer : ℤ) → held_by kind number ≡ Ok answer → Holds kind answer
+Holds-held_by kind number answer h = by (int_lt kind.greatest number) (int_lt number kind.least) refl refl h where
+  by : (a b : Bool) → int_lt kind.greatest number ≡ a → int_lt number kind.least ≡ b
+      → (if a then Err too_large else (if b then Err too_small else Ok number)) ≡ Ok answer → Holds kind answer
+  by true b p q h = cc
+  by false true p q h = cc
+  by false false p q h = let e : number ≡ answer = cc in let held : Holds kind number = (at_most number kind.least q, at_most kind.greatest number p) in subst (Holds kind) e held where
+    at_most : (x y : ℤ) → int_lt x y ≡ false → y ≤ℤ x
+    at_most x y e = omega (arith, ints)
+
+-- a string has one answer
+pub Reads-same : (kind : Kind) (method : ChineseCountMethod) (bytes : List ℕ) (a b : Result ℤ Refusal) → Reads kind method bytes a → Reads kind method bytes b → a ≡ b
+Reads-same kind method bytes a b (x, is_x, a_is) (y, is_y, b_is) =
+    let sign = leading_sign kind.signed (text_of bytes) in
+    a_is ∙ ap (typed_answer kind bytes sign) (Judges-same method (marks_of (drop (sign_len sign) (text_of bytes))) x y is_x is_y) ∙ sym b_is
+
+-- the answer, from the sign and what follows it
+pub Reads-parts : (kind : Kind) (method : ChineseCountMethod) (bytes text rest : List ℕ) (sign : Option Sign) (judged : Result ℕ Refusal)
+    → text_of bytes ≡ text → leading_sign kind.signed text ≡ sign → drop (sign_len sign) text ≡ rest → Judges method (marks_of rest) judged
+    → Reads kind method bytes (typed_answer kind bytes sign judged)
+Reads-parts kind method bytes text rest sign judged t s r j = rw (t, s, r) (judged, j, refl)
+
+-- what a spelling starts with is no sign
+unsigned_start : (variant : ChineseVariant) (case : ChineseCase) (signed : Bool) (marks : List Mark) → list_all is_printed marks ≡ true → IsNumeral marks
+    → leading_sign signed (map (mark_char variant case) marks) ≡ None
+unsigned_start variant case false marks h n = refl
+unsigned_start variant case true [] h n = refl
+unsigned_start variant case true (mark ∷ rest) h n = no_sign variant case mark rest (and-left (is_printed mark) _ h) (and-left (starts_with_digit (opened (mark ∷ rest))) _ n)
+
+-- the sign that a negative number is written with, where the type has one
+abbrev pub written_sign : Bool → Option Sign
+written_sign true = Some Minus
+written_sign false = None
+
+pub signed_by-written : (number : ℤ) → signed_by (written_sign (int_lt number (pos 0))) (nat_abs number) ≡ number
+signed_by-written (pos n) = rw (not_below_zero n) where
+  not_below_zero : (n : ℕ) → int_lt (pos n) (pos 0) ≡ false
+  not_below_zero n = by (int_lt (pos n) (pos 0)) refl where
+    by : (b : Bool) → int_lt (pos n) (pos 0) ≡ b → b ≡ false
+    by true e = absurd (omega (arith, ints))
+    by false e = refl
+signed_by-written (negsuc n) = refl
+
+-- the text of a number, by its marks, is read as that number
+pub Reads-written : (kind : Kind) (method : ChineseCountMethod) (variant : ChineseVariant) (case : ChineseCase) (negative : Bool) (marks : List Mark) (judged : Result ℕ Refusal)
+    → (negative ≡ true → kind.signed ≡ true) → list_all is_printed marks ≡ true → IsNumeral marks → Judges method marks judged
+    → let bytes = written_bytes variant case negative marks in Reads kind method bytes (typed_answer kind bytes (written_sign negative) judged)
+Reads-written kind method variant case true marks judged minus h n j =
+    Reads-parts kind method (written_bytes variant case true marks) (written variant case true marks) (map (mark_char variant case) marks) (Some Minus) judged
+    (text_of-written variant case true marks h) (rw (minus refl) (minus_is_sign variant)) refl
+    (rw (IsReadBack-marks variant case marks h).marks_same j)
+Reads-written kind method variant case false marks judged minus h n j =
+    Reads-parts kind method (written_bytes variant case false marks) (written variant case false marks) (map (mark_char variant case) marks) None judged
+    (text_of-written variant case false marks h) (unsigned_start variant case kind.signed marks h n) refl
+    (rw (IsReadBack-marks variant case marks h).marks_same j)
+
+-- what is known of the kind of an integer type
+pub record IsWhole (kind : Kind) : Type 0 where
+  pub from_zero : kind.signed ≡ false → kind.least ≡ pos 0
+  pub fits : (z : ℤ) → Holds kind z → nat_abs z < 2 ^ 128
+
+pub minus_is_signed : (kind : Kind) (number : ℤ) → IsWhole kind → Holds kind number → int_lt number (pos 0) ≡ true → kind.signed ≡ true
+minus_is_signed kind number whole held below = by kind.signed refl where
+  by : (b : Bool) → kind.signed ≡ b → b ≡ true
+  by true e = refl
+  by false e = absurd (let zero_least = whole.from_zero e in let least : pos 0 ≤ℤ number = rw zero_least at held.0 in omega (arith, ints, least, below))
+
+-- every written spelling is read back
+pub Reads-spelled : (kind : Kind) (method : ChineseCountMethod) (variant : ChineseVariant) (case : ChineseCase) (number : ℤ) → IsWhole kind → Holds kind number → is_printable method number ≡ true
+    → Reads kind method (encode_utf8_all (spelled_text variant case method number)) (Ok number)
+Reads-spelled kind method variant case number whole held printable =
+    let small = whole.fits number held in
+    let square = below_square method number small printable in
+    let marks = spelling method (nat_abs number) in
+    let bytes = encode_utf8_all (spelled_text variant case method number) in
+    let negative = int_lt number (pos 0) in
+    let n = spelling-is_numeral method (nat_abs number) square in
+    subst (λ answer. Reads kind method bytes answer) (ap (held_by kind) (signed_by-written number) ∙ held_by-Holds kind number held)
+    (Reads-written kind method variant case negative marks (Ok (nat_abs number)) (minus_is_signed kind number whole held)
+    (spelling-printed method (nat_abs number) square) n.0 (Judges-spelling method (nat_abs number) small square))
+
+-- and no other number is
+pub Reads-only : (kind : Kind) (method : ChineseCountMethod) (bytes : List ℕ) (answer number : Result ℤ Refusal) → Reads kind method bytes number
+    → (Reads kind method bytes answer → answer ≡ number) × (answer ≡ number → Reads kind method bytes answer)
+Reads-only kind method bytes answer number is =
+    (λ r. Reads-same kind method bytes answer number r is, λ e. subst (λ a. Reads kind method bytes a) (sym e) is)
+
+-- the answer is there
+abbrev pub the_answer : Kind → ChineseCountMethod → List ℕ → Result ℤ Refusal
+the_answer kind method bytes =
+    let sign = leading_sign kind.signed (text_of bytes) in
+    typed_answer kind bytes sign (judge method (marks_of (drop (sign_len sign) (text_of bytes))))
+
+pub Reads-the_answer : (kind : Kind) (method : ChineseCountMethod) (bytes : List ℕ) → Reads kind method bytes (the_answer kind method bytes)
+Reads-the_answer kind method bytes =
+    let sign = leading_sign kind.signed (text_of bytes) in
+    let marks = marks_of (drop (sign_len sign) (text_of bytes)) in
+    (judge method marks, Judges-judge method marks, refl)
