@@ -1,3 +1,4 @@
+pub mod PlainDigits
 pub mod Printed
 pub mod Reading
 pub mod SpelledMarks

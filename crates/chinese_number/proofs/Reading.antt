@@ -9,10 +9,11 @@ use Rattle.cn_core.specs.declared.sign.Sign.TheVariants.{Minus}
 use Rattle.cn_core.specs.Judge.{Judges}
 use Rattle.cn_core.specs.Mark.{Mark}
 use Rattle.cn_core.specs.Numeral.{IsNumeral, opened, starts_with_digit}
+use Rattle.cn_core.specs.Naive.{naive_answer}
 use Rattle.cn_core.specs.Refusal.{Refusal, too_large, too_small}
 use Rattle.cn_core.specs.Spelling.{spelling}
 use Rattle.cn_core.specs.Text.{text_of, marks_of}
-use Rattle.cn_core.specs.Typed.{Reads, leading_sign, sign_len, signed_by, held_by, typed_answer}
+use Rattle.cn_core.specs.Typed.{Reads, leading_sign, sign_len, signed_by, held_by, typed_answer, naive_reading}
 use Rattle.cn_core.specs.Whole.{Kind, Holds}
 use Rattle.cn_core.specs.Written.{mark_char, written, written_bytes, spelled_text, is_printable}
 use Rattle.std.specs.List.{list_all}
@@ -51,18 +52,25 @@ Reads-same kind method bytes a b (x, is_x, a_is) (y, is_y, b_is) =
     let sign = leading_sign kind.signed (text_of bytes) in
     a_is ∙ ap (typed_answer kind bytes sign) (Judges-same method (marks_of (drop (sign_len sign) (text_of bytes))) x y is_x is_y) ∙ sym b_is
 
--- the answer, from the sign and what follows it
-pub Reads-parts : (kind : Kind) (method : ChineseCountMethod) (bytes text rest : List ℕ) (sign : Option Sign) (judged : Result ℕ Refusal)
-    → text_of bytes ≡ text → leading_sign kind.signed text ≡ sign → drop (sign_len sign) text ≡ rest → Judges method (marks_of rest) judged
-    → Reads kind method bytes (typed_answer kind bytes sign judged)
-Reads-parts kind method bytes text rest sign judged t s r j = rw (t, s, r) (judged, j, refl)
+-- the sign of a string, and the marks that follow it
+pub record HasParts (kind : Kind) (bytes : List ℕ) (sign : Option Sign) (marks : List Mark) : Type 0 where
+  pub sign_is : leading_sign kind.signed (text_of bytes) ≡ sign
+  pub marks_is : marks_of (drop (sign_len sign) (text_of bytes)) ≡ marks
 
--- what a spelling starts with is no sign
-unsigned_start : (variant : ChineseVariant) (case : ChineseCase) (signed : Bool) (marks : List Mark) → list_all is_printed marks ≡ true → IsNumeral marks
+pub Reads-parts : (kind : Kind) (method : ChineseCountMethod) (bytes : List ℕ) (sign : Option Sign) (marks : List Mark) (judged : Result ℕ Refusal)
+    → HasParts kind bytes sign marks → Judges method marks judged → Reads kind method bytes (typed_answer kind bytes sign judged)
+Reads-parts kind method bytes sign marks judged parts j = rw (parts.sign_is, parts.marks_is) (judged, j, refl)
+
+pub naive_reading-parts : (kind : Kind) (bytes : List ℕ) (sign : Option Sign) (marks : List Mark) → HasParts kind bytes sign marks
+    → naive_reading kind bytes ≡ typed_answer kind bytes sign (naive_answer marks)
+naive_reading-parts kind bytes sign marks parts = rw (parts.sign_is, parts.marks_is)
+
+-- what a numeral starts with is no sign
+unsigned_start : (variant : ChineseVariant) (case : ChineseCase) (signed : Bool) (marks : List Mark) → list_all is_printed marks ≡ true → starts_with_digit (opened marks) ≡ true
     → leading_sign signed (map (mark_char variant case) marks) ≡ None
-unsigned_start variant case false marks h n = refl
-unsigned_start variant case true [] h n = refl
-unsigned_start variant case true (mark ∷ rest) h n = no_sign variant case mark rest (and-left (is_printed mark) _ h) (and-left (starts_with_digit (opened (mark ∷ rest))) _ n)
+unsigned_start variant case false marks h s = refl
+unsigned_start variant case true [] h s = refl
+unsigned_start variant case true (mark ∷ rest) h s = no_sign variant case mark rest (and-left (is_printed mark) _ h) s
 
 -- the sign that a negative number is written with, where the type has one
 abbrev pub written_sign : Bool → Option Sign
@@ -78,18 +86,23 @@ signed_by-written (pos n) = rw (not_below_zero n) where
     by false e = refl
 signed_by-written (negsuc n) = refl
 
--- the text of a number, by its marks, is read as that number
-pub Reads-written : (kind : Kind) (method : ChineseCountMethod) (variant : ChineseVariant) (case : ChineseCase) (negative : Bool) (marks : List Mark) (judged : Result ℕ Refusal)
-    → (negative ≡ true → kind.signed ≡ true) → list_all is_printed marks ≡ true → IsNumeral marks → Judges method marks judged
-    → let bytes = written_bytes variant case negative marks in Reads kind method bytes (typed_answer kind bytes (written_sign negative) judged)
-Reads-written kind method variant case true marks judged minus h n j =
-    Reads-parts kind method (written_bytes variant case true marks) (written variant case true marks) (map (mark_char variant case) marks) (Some Minus) judged
-    (text_of-written variant case true marks h) (rw (minus refl) (minus_is_sign variant)) refl
-    (rw (IsReadBack-marks variant case marks h).marks_same j)
-Reads-written kind method variant case false marks judged minus h n j =
-    Reads-parts kind method (written_bytes variant case false marks) (written variant case false marks) (map (mark_char variant case) marks) None judged
-    (text_of-written variant case false marks h) (unsigned_start variant case kind.signed marks h n) refl
-    (rw (IsReadBack-marks variant case marks h).marks_same j)
+-- the parts of a written text are those that it was written from
+pub HasParts-written : (kind : Kind) (variant : ChineseVariant) (case : ChineseCase) (negative : Bool) (marks : List Mark)
+    → (negative ≡ true → kind.signed ≡ true) → list_all is_printed marks ≡ true → starts_with_digit (opened marks) ≡ true
+    → HasParts kind (written_bytes variant case negative marks) (written_sign negative) marks
+HasParts-written kind variant case true marks minus h s = record {
+  sign_is = rw (text_of-written variant case true marks h, minus refl) (minus_is_sign variant);
+  marks_is = rw (text_of-written variant case true marks h) (IsReadBack-marks variant case marks h).marks_same;
+}
+HasParts-written kind variant case false marks minus h s = record {
+  sign_is = rw (text_of-written variant case false marks h) (unsigned_start variant case kind.signed marks h s);
+  marks_is = rw (text_of-written variant case false marks h) (IsReadBack-marks variant case marks h).marks_same;
+}
+
+-- a number is answered where its magnitude is judged
+pub typed_answer-held : (kind : Kind) (number : ℤ) (bytes : List ℕ) → Holds kind number
+    → typed_answer kind bytes (written_sign (int_lt number (pos 0))) (Ok (nat_abs number)) ≡ Ok number
+typed_answer-held kind number bytes held = ap (held_by kind) (signed_by-written number) ∙ held_by-Holds kind number held
 
 -- what is known of the kind of an integer type
 pub record IsWhole (kind : Kind) : Type 0 where
@@ -112,9 +125,10 @@ Reads-spelled kind method variant case number whole held printable =
     let bytes = encode_utf8_all (spelled_text variant case method number) in
     let negative = int_lt number (pos 0) in
     let n = spelling-is_numeral method (nat_abs number) square in
-    subst (λ answer. Reads kind method bytes answer) (ap (held_by kind) (signed_by-written number) ∙ held_by-Holds kind number held)
-    (Reads-written kind method variant case negative marks (Ok (nat_abs number)) (minus_is_signed kind number whole held)
-    (spelling-printed method (nat_abs number) square) n.0 (Judges-spelling method (nat_abs number) small square))
+    subst (λ answer. Reads kind method bytes answer) (typed_answer-held kind number bytes held)
+    (Reads-parts kind method bytes (written_sign negative) marks (Ok (nat_abs number))
+    (HasParts-written kind variant case negative marks (minus_is_signed kind number whole held) (spelling-printed method (nat_abs number) square) (and-left (starts_with_digit (opened marks)) _ n.0))
+    (Judges-spelling method (nat_abs number) small square))
 
 -- and no other number is
 pub Reads-only : (kind : Kind) (method : ChineseCountMethod) (bytes : List ℕ) (answer number : Result ℤ Refusal) → Reads kind method bytes number
