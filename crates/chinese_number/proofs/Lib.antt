@@ -1,3 +1,5 @@
+pub mod LeadingZeros
+pub mod Places
 pub mod PlainDigits
 pub mod Printed
 pub mod Reading

@@ -4,11 +4,16 @@ ghost use Rattle.std.specs.Ordering.{nat_cmp};
 ghost use Rattle.cn_core.specs.Characters.{rank};
 ghost use Rattle.cn_core.specs.declared.unit.Unit.{Unit as NumeralUnit};
 
+mod places;
 mod plain_digits;
 mod read_back;
 
 use cn_core::Unit;
-pub use plain_digits::naive_texts_read_back;
+pub use places::{
+    ends_can_be_completed, nothing_is_wrong_after_a_place, texts_complete_texts,
+    zero_in_front_decides,
+};
+pub use plain_digits::{naive_texts_read_back, zeros_in_front_change_no_digits};
 pub use read_back::{
     each_string_has_one_answer, each_text_has_one_judgement, spellings_are_numerals,
     spellings_read_back,

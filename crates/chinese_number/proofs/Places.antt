@@ -1,0 +1,20 @@
+-- Where a list's place is, and what stands after it.
+use Rattle.std.proofs.Common.{◌≡◌, ℕ, zero, suc, ◌+◌, ◌-◌, ◌<◌, ◌≤◌, List, [], ◌∷◌, length, drop, refl, sym, ap, ◌∙◌, arith, length-drop}
+use Rattle.std.proofs.Math.Decide.{dec_lt}
+use Rattle.cn_core.specs.Mark.{Mark, digit}
+use Rattle.cn_core.specs.Numeral.{IsNumeral}
+use Rattle.cn_core.specs.Place.{IsPlace}
+use Rattle.cn_core.proofs.Fronts.{completable_by_zero, zero_in_front}
+
+drop_past : (n : ℕ) (marks : List Mark) → length marks ≤ n → drop n marks ≡ []
+drop_past n marks h = by (drop n marks) (length-drop n marks) where
+  by : (l : List Mark) → length l ≡ length marks - n → l ≡ []
+  by [] e = refl
+  by (mark ∷ rest) e = absurd (omega (arith, e, h))
+
+-- 零 with what stands after the place is a numeral
+pub zero_after_place : (marks : List Mark) (place : ℕ) → IsPlace marks place → IsNumeral (digit 0 ∷ drop (place + 1) marks)
+zero_after_place marks place at = elim (dec_lt (place + 1) (length marks)) [
+  | yes within ↦ completable_by_zero (drop (place + 1) marks) (at.after (place + 1) (omega arith) within)
+  | no past ↦ rw (drop_past (place + 1) marks (omega (arith, past)))
+]

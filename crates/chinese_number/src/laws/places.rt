@@ -1,0 +1,33 @@
+// What can be completed, and where a refusal points.
+ghost use Rattle.std.specs.Prelude.{◌≡◌, ◌↔◌, ◌<◌, ◌+◌, ◌++◌, ◌∷◌, ℕ, List, length, drop};
+ghost use Rattle.cn_core.specs.Mark.{Mark, digit};
+ghost use Rattle.cn_core.specs.Numeral.{IsNumeral, Completable};
+ghost use Rattle.cn_core.specs.Place.{IsPlace};
+ghost use Rattle.cn_core.specs.Text.{marks_of};
+
+/// 零 alone in front is the whole test of completability: a list can be completed exactly where 零
+/// in front of it makes a numeral.
+///
+/// Form validators rest on it: to know whether what stands from a place on can be right, try 零.
+pub fn zero_in_front_decides()
+    ensures { (marks : List Mark) → Completable marks ↔ IsNumeral (digit 0 ∷ marks) }
+{}
+
+/// A text can be completed by marks exactly where it can be completed by characters.
+pub fn texts_complete_texts()
+    ensures { (text : List ℕ) → Completable (marks_of text)
+        ↔ ((front : List ℕ) × (0 < length front) × IsNumeral (marks_of (front ++ text))) }
+{}
+
+/// Every end of what can be completed can be completed.
+pub fn ends_can_be_completed()
+    ensures { (start : ℕ) (marks : List Mark) → Completable marks → Completable (drop start marks) }
+{}
+
+/// 零 with what stands after a place is a numeral: past the mark at fault nothing is wrong.
+///
+/// Form validators rest on it: they mark one character, and what follows it can stay.
+pub fn nothing_is_wrong_after_a_place()
+    ensures { (marks : List Mark) (place : ℕ)
+        → IsPlace marks place → IsNumeral (digit 0 ∷ drop (place + 1) marks) }
+{}
