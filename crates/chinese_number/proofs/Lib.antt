@@ -4,3 +4,5 @@ pub mod PlainDigits
 pub mod Printed
 pub mod Reading
 pub mod SpelledMarks
+pub mod Spots
+pub mod WhiteSpace

@@ -7,6 +7,7 @@ ghost use Rattle.cn_core.specs.declared.unit.Unit.{Unit as NumeralUnit};
 mod places;
 mod plain_digits;
 mod read_back;
+mod white_space;
 
 use cn_core::Unit;
 pub use places::{
@@ -18,6 +19,7 @@ pub use read_back::{
     each_string_has_one_answer, each_text_has_one_judgement, spellings_are_numerals,
     spellings_read_back,
 };
+pub use white_space::{refusals_point_at_characters, white_space_does_not_matter};
 
 /// Units are ordered by rank: 個 is the least and 極 the greatest.
 pub fn units_compare_by_rank()

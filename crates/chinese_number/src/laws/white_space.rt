@@ -1,0 +1,42 @@
+// White space does not matter, but where a refusal points.
+ghost use Rattle.std.specs.Prelude.{◌≡◌, ◌+◌, ℕ, ℤ, List, Result, Err, drop};
+ghost use Rattle.chinese_number.specs.Places.{without_spot, PointsAt};
+ghost use Rattle.cn_core.specs.Judge.{Judges};
+ghost use Rattle.cn_core.specs.Naive.{naive_answer};
+ghost use Rattle.cn_core.specs.Refusal.{Refusal, incorrect_at};
+ghost use Rattle.cn_core.specs.Text.{text_of, marks_of};
+ghost use Rattle.cn_core.specs.Typed.{Reads, naive_reading, leading_sign, sign_len};
+ghost use Rattle.cn_core.specs.Whole.{Kind};
+ghost use Rattle.cn_core.specs.declared.method.ChineseCountMethod.{ChineseCountMethod};
+
+/// White space does not matter: strings with the same text have the same value, or the same kind of
+/// refusal.
+///
+/// A normaliser for speech rests on it.
+pub fn white_space_does_not_matter()
+    ensures units { (kind : Kind) (method : ChineseCountMethod) (one other : List ℕ)
+        → text_of one ≡ text_of other → (first second : Result ℤ Refusal)
+        → Reads kind method one first → Reads kind method other second
+        → without_spot first ≡ without_spot second }
+    ensures digits { (kind : Kind) (one other : List ℕ) → text_of one ≡ text_of other
+        → without_spot (naive_reading kind one) ≡ without_spot (naive_reading kind other) }
+{}
+
+/// A refusal points at a character: the one at its spot is no white space, and before it stand exactly
+/// as many characters that are none as were counted, the sign's among them.
+///
+/// Form validators rest on it: they mark the character that the spot names.
+pub fn refusals_point_at_characters()
+    ensures units { (kind : Kind) (method : ChineseCountMethod) (bytes : List ℕ) (spot : ℕ)
+        → Reads kind method bytes (Err (incorrect_at spot))
+        → let text = text_of bytes in
+        let sign = sign_len (leading_sign kind.signed text) in
+        (place : ℕ) × Judges method (marks_of (drop sign text)) (Err (incorrect_at place))
+        × PointsAt bytes spot (place + sign) }
+    ensures digits { (kind : Kind) (bytes : List ℕ) (spot : ℕ)
+        → naive_reading kind bytes ≡ Err (incorrect_at spot)
+        → let text = text_of bytes in
+        let sign = sign_len (leading_sign kind.signed text) in
+        (place : ℕ) × (naive_answer (marks_of (drop sign text)) ≡ Err (incorrect_at place))
+        × PointsAt bytes spot (place + sign) }
+{}
