@@ -1,8 +1,10 @@
 pub mod LeadingZeros
+pub mod Methods
 pub mod Places
 pub mod PlainDigits
 pub mod Printed
 pub mod Reading
+pub mod SmallUnits
 pub mod SpelledMarks
 pub mod Spots
 pub mod WhiteSpace

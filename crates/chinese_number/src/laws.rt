@@ -4,12 +4,16 @@ ghost use Rattle.std.specs.Ordering.{nat_cmp};
 ghost use Rattle.cn_core.specs.Characters.{rank};
 ghost use Rattle.cn_core.specs.declared.unit.Unit.{Unit as NumeralUnit};
 
+mod methods;
 mod places;
 mod plain_digits;
 mod read_back;
 mod white_space;
 
 use cn_core::Unit;
+pub use methods::{
+    methods_spell_alike_below, methods_spell_otherwise_from, small_units_read_alike,
+};
 pub use places::{
     ends_can_be_completed, nothing_is_wrong_after_a_place, texts_complete_texts,
     zero_in_front_decides,

@@ -1,0 +1,47 @@
+// Where the four methods agree, and where they do not.
+ghost use Rattle.std.specs.Prelude.{◌≡◌, ◌≢◌, ◌↔◌, ◌^◌, ◌<◌, ℕ, ℤ, List, Result, IsTrue, drop};
+ghost use Rattle.chinese_number.specs.Methods.{names_no_unit_above_wan};
+ghost use Rattle.cn_core.specs.Refusal.{Refusal};
+ghost use Rattle.cn_core.specs.Spelling.{spelling};
+ghost use Rattle.cn_core.specs.Text.{text_of, marks_of};
+ghost use Rattle.cn_core.specs.Typed.{Reads, leading_sign, sign_len};
+ghost use Rattle.cn_core.specs.Whole.{Kind};
+ghost use Rattle.cn_core.specs.declared.method.ChineseCountMethod.{ChineseCountMethod};
+ghost use Rattle.cn_core.specs.declared.method.ChineseCountMethod.TheVariants.{Low, TenThousand, Middle, High};
+
+/// The methods spell alike where they have the same units: all four below 10^5, all but `Low` below
+/// 10^12, and `Middle` and `High` below 10^24.
+///
+/// Who prints years, page and chapter numbers rests on it: there no method has to be chosen.
+pub fn methods_spell_alike_below()
+    ensures all { (number : ℕ) → number < 10 ^ 5 → (one other : ChineseCountMethod)
+        → spelling one number ≡ spelling other number }
+    ensures three { (number : ℕ) → number < 10 ^ 12
+        → (spelling TenThousand number ≡ spelling Middle number)
+        × (spelling Middle number ≡ spelling High number) }
+    ensures two { (number : ℕ) → number < 10 ^ 24 → spelling Middle number ≡ spelling High number }
+{}
+
+/// And no further: at 10^5 `Low`, at 10^12 `TenThousand` and at 10^24 `Middle` spells otherwise than
+/// the rest.
+pub fn methods_spell_otherwise_from()
+    ensures low { (spelling Low (10 ^ 5) ≢ spelling TenThousand (10 ^ 5))
+        × (spelling Low (10 ^ 5) ≢ spelling Middle (10 ^ 5))
+        × (spelling Low (10 ^ 5) ≢ spelling High (10 ^ 5)) }
+    ensures ten_thousand { (spelling TenThousand (10 ^ 12) ≢ spelling Middle (10 ^ 12))
+        × (spelling TenThousand (10 ^ 12) ≢ spelling High (10 ^ 12)) }
+    ensures middle { spelling Middle (10 ^ 24) ≢ spelling High (10 ^ 24) }
+{}
+
+/// A string that names no unit above 萬 has the same answer under all four methods, the spot of a
+/// refusal included. The sign that its type takes off does not count.
+///
+/// Readers of dates and chapter numbers rest on it: there no method has to be chosen.
+pub fn small_units_read_alike()
+    ensures { (kind : Kind) (bytes : List ℕ)
+        → let text = text_of bytes in
+        let sign = sign_len (leading_sign kind.signed text) in
+        IsTrue (names_no_unit_above_wan (marks_of (drop sign text)))
+        → (one other : ChineseCountMethod) (answer : Result ℤ Refusal)
+        → Reads kind one bytes answer ↔ Reads kind other bytes answer }
+{}
