@@ -4,6 +4,8 @@ pub mod Places
 pub mod PlainDigits
 pub mod Printed
 pub mod Reading
+pub mod Scripts
+pub mod Signs
 pub mod SmallUnits
 pub mod SpelledMarks
 pub mod Spots

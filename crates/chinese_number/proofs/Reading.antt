@@ -10,7 +10,7 @@ use Rattle.cn_core.specs.Judge.{Judges}
 use Rattle.cn_core.specs.Mark.{Mark}
 use Rattle.cn_core.specs.Numeral.{IsNumeral, opened, starts_with_digit}
 use Rattle.cn_core.specs.Naive.{naive_answer}
-use Rattle.cn_core.specs.Refusal.{Refusal, too_large, too_small}
+use Rattle.cn_core.specs.Refusal.{Refusal, empty, incorrect_at, too_large, too_small}
 use Rattle.cn_core.specs.Spelling.{spelling}
 use Rattle.cn_core.specs.Text.{text_of, marks_of}
 use Rattle.cn_core.specs.Typed.{Reads, leading_sign, sign_len, signed_by, held_by, typed_answer, naive_reading}
@@ -147,3 +147,31 @@ Reads-the_answer kind method bytes =
     let sign = leading_sign kind.signed (text_of bytes) in
     let marks = marks_of (drop (sign_len sign) (text_of bytes)) in
     (judge method marks, Judges-judge method marks, refl)
+
+-- what is answered is a number of the type
+pub Holds-answered : (kind : Kind) (method : ChineseCountMethod) (bytes : List ℕ) (number : ℤ) → Reads kind method bytes (Ok number) → Holds kind number
+Holds-answered kind method bytes number (judged, is, answer) = by judged answer where
+  sign : Option Sign
+  sign = leading_sign kind.signed (text_of bytes)
+
+  by : (judged : Result ℕ Refusal) → Ok number ≡ typed_answer kind bytes sign judged → Holds kind number
+  by (Ok magnitude) h = Holds-held_by kind (signed_by sign magnitude) number (sym h)
+  by (Err empty) h = cc
+  by (Err (incorrect_at place)) h = cc
+  by (Err too_large) h = cc
+  by (Err too_small) h = cc
+
+-- two numbers with one text are one
+pub same_from_text : (kind : Kind) (method : ChineseCountMethod) (variant : ChineseVariant) (case : ChineseCase) (one second : ℤ) → IsWhole kind → Holds kind one → Holds kind second
+    → is_printable method one ≡ true → is_printable method second ≡ true
+    → encode_utf8_all (spelled_text variant case method one) ≡ encode_utf8_all (spelled_text variant case method second) → one ≡ second
+same_from_text kind method variant case one second whole held_one held_second p q same =
+    let bytes = λ (number : ℤ). encode_utf8_all (spelled_text variant case method number) in
+    let first : Reads kind method (bytes second) (Ok one) = subst (λ b. Reads kind method b (Ok one)) same (Reads-spelled kind method variant case one whole held_one p) in
+    let answers : Ok one ≡ Ok second = Reads-same kind method (bytes second) (Ok one) (Ok second) first (Reads-spelled kind method variant case second whole held_second q) in
+    cc
+
+-- texts of one number are answered alike
+pub Reads-alike : (kind : Kind) (method : ChineseCountMethod) (one second : List ℕ) (answer number : Result ℤ Refusal) → Reads kind method one number → Reads kind method second number
+    → Reads kind method one answer → Reads kind method second answer
+Reads-alike kind method one second answer number is_one is_second h = subst (Reads kind method second) (Reads-same kind method one number answer is_one h) is_second

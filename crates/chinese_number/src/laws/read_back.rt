@@ -47,3 +47,27 @@ pub fn spellings_read_back<T: Whole>()
         → Reads T.kind method (encode_utf8_all (spelled_text variant case method number)) answer
         ↔ (answer ≡ Ok number) }
 {}
+
+/// One spelling for each number: two numbers have the same written text, by one method, script and
+/// case, exactly where they are equal.
+///
+/// Amounts on cheques and invoices rest on it: no two amounts look alike.
+pub fn one_spelling_for_each_number<T: Whole>()
+    ensures { (variant : ChineseVariant) (case : ChineseCase) (method : ChineseCountMethod)
+        (one other : ℤ) → Holds T.kind one → Holds T.kind other
+        → IsTrue (is_printable method one) → IsTrue (is_printable method other)
+        → (encode_utf8_all (spelled_text variant case method one)
+        ≡ encode_utf8_all (spelled_text variant case method other)) ↔ (one ≡ other) }
+{}
+
+/// Reading, then printing, is idempotent: where a string reads as a printable number, the written
+/// spelling of that number reads as the same, and as nothing else.
+///
+/// A search index that folds numerals to numbers rests on it.
+pub fn reading_then_printing_is_idempotent<T: Whole>()
+    ensures { (variant : ChineseVariant) (case : ChineseCase) (method : ChineseCountMethod)
+        (bytes : List ℕ) (number : ℤ) → Reads T.kind method bytes (Ok number)
+        → IsTrue (is_printable method number) → (answer : Result ℤ Refusal)
+        → Reads T.kind method (encode_utf8_all (spelled_text variant case method number)) answer
+        ↔ (answer ≡ Ok number) }
+{}

@@ -1,0 +1,22 @@
+use Rattle.std.proofs.Common.{Ok, sym, ◌∙◌, encode_utf8_all}
+use Rattle.cn_core.specs.declared.script.ChineseVariant.{ChineseVariant}
+use Rattle.cn_core.specs.declared.case.ChineseCase.{ChineseCase}
+use Rattle.cn_core.specs.Written.{spelled_text}
+use Rattle.chinese_number.proofs.PlainDigits.{naive_reading-written}
+use Rattle.chinese_number.proofs.Reading.{IsWhole, Reads-spelled, Reads-alike}
+use Rattle.chinese_number.proofs.laws.scripts.texts_of_a_number_read_alike.Goals as goal
+
+pub returns : goal.returns
+returns g c =
+    let whole : IsWhole g.T.Whole.kind = record { from_zero = λ e. g.met.T.Whole.unsigned_from_zero (sym g.met.T.Whole.signed_is ∙ e); fits = g.met.T.Whole.magnitude_fits } in
+    record {
+      units = λ one second first other method number held printable answer.
+          let left = Reads-spelled g.T.Whole.kind method one first number whole held printable in
+          let right = Reads-spelled g.T.Whole.kind method second other number whole held printable in
+          let bytes = λ (variant : ChineseVariant) (case : ChineseCase). encode_utf8_all (spelled_text variant case method number) in (
+            Reads-alike g.T.Whole.kind method (bytes one first) (bytes second other) answer (Ok number) left right,
+            Reads-alike g.T.Whole.kind method (bytes second other) (bytes one first) answer (Ok number) right left,
+          );
+      digits = λ one second first other number held.
+          naive_reading-written g.T.Whole.kind one first number whole held ∙ sym (naive_reading-written g.T.Whole.kind second other number whole held);
+    }

@@ -1,0 +1,26 @@
+// What equality and order of the enums say.
+ghost use Rattle.std.specs.Prelude.{◌≡◌, ◌↔◌, IsTrue};
+ghost use Rattle.std.specs.Ordering.{nat_cmp};
+ghost use Rattle.cn_core.specs.Characters.{rank};
+ghost use Rattle.cn_core.specs.declared.case.ChineseCase.{ChineseCase as Case};
+ghost use Rattle.cn_core.specs.declared.method.ChineseCountMethod.{ChineseCountMethod as Method};
+ghost use Rattle.cn_core.specs.declared.script.ChineseVariant.{ChineseVariant as Script};
+ghost use Rattle.cn_core.specs.declared.sign.Sign.{Sign as NumeralSign};
+ghost use Rattle.cn_core.specs.declared.unit.Unit.{Unit as NumeralUnit};
+
+use cn_core::{ChineseCase, ChineseCountMethod, ChineseVariant, Sign, Unit};
+
+/// Two values of an enum are equal exactly where they are the same variant.
+pub fn equal_values_are_the_same_variant()
+    ensures units { (a b : NumeralUnit) → IsTrue (⟦<Unit as PartialEq>⟧.eq a b) ↔ (a ≡ b) }
+    ensures signs { (a b : NumeralSign) → IsTrue (⟦<Sign as PartialEq>⟧.eq a b) ↔ (a ≡ b) }
+    ensures scripts { (a b : Script) → IsTrue (⟦<ChineseVariant as PartialEq>⟧.eq a b) ↔ (a ≡ b) }
+    ensures cases { (a b : Case) → IsTrue (⟦<ChineseCase as PartialEq>⟧.eq a b) ↔ (a ≡ b) }
+    ensures methods { (a b : Method)
+        → IsTrue (⟦<ChineseCountMethod as PartialEq>⟧.eq a b) ↔ (a ≡ b) }
+{}
+
+/// Units are ordered by rank: 個 is the least and 極 the greatest.
+pub fn units_compare_by_rank()
+    ensures { (a b : NumeralUnit) → ⟦<Unit as Ord>⟧.cmp a b ≡ nat_cmp (rank a) (rank b) }
+{}
