@@ -1,18 +1,18 @@
 -- Zeros before the digits of a string, after its sign.
-use Rattle.std.proofs.Common.{◌≡◌, ℕ, zero, suc, ℤ, Bool, true, false, ◌||◌, ◌==◌, List, [], ◌∷◌, ◌++◌, map, take, drop, All, Option, Some, None, Result, Ok, Err, refl, sym, ap, subst, ◌∙◌, arith, if◌then◌else◌}
+use Rattle.std.proofs.Common.{◌≡◌, ℕ, ℤ, Bool, true, false, ◌||◌, ◌==◌, List, [], ◌∷◌, ◌++◌, take, drop, All, Option, Some, None, Result, Ok, Err, refl, sym, ap, ◌∙◌, arith, if◌then◌else◌}
 use Rattle.std.proofs.lemmas.Bool.Decides.{nat_tests}
 use Rattle.std.proofs.lemmas.List.Elements.{All-head, All-tail, All-nil, All-cons}
 use Rattle.cn_core.specs.declared.sign.Sign.{Sign}
 use Rattle.cn_core.specs.declared.sign.Sign.TheVariants.{Plus, Minus}
 use Rattle.cn_core.specs.Characters.{digit_of, sign_of}
-use Rattle.cn_core.specs.Mark.{Mark, digit, mark_of}
+use Rattle.cn_core.specs.Mark.{digit, mark_of}
 use Rattle.cn_core.specs.Naive.{naive_answer}
 use Rattle.cn_core.specs.Refusal.{Refusal, empty, incorrect_at, too_large, too_small}
 use Rattle.cn_core.specs.Text.{text_of, marks_of}
 use Rattle.cn_core.specs.Typed.{leading_sign, sign_len, signed_by, held_by, typed_answer, naive_reading}
 use Rattle.cn_core.specs.Whole.{Kind}
 use Rattle.chinese_number.proofs.PlainDigits.{naive_answer-zeros}
-use Rattle.chinese_number.proofs.Reading.{HasParts, naive_reading-parts}
+use Rattle.chinese_number.proofs.Reading.{naive_reading-parts}
 
 plus : digit_of 0x6B63 ≡ None
 unfolding digit_of

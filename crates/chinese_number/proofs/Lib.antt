@@ -1,5 +1,6 @@
 pub mod LeadingZeros
 pub mod Methods
+pub mod Numerals
 pub mod Places
 pub mod PlainDigits
 pub mod Printed

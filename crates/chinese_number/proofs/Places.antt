@@ -1,10 +1,10 @@
 -- Where a list's place is, and what stands after it.
-use Rattle.std.proofs.Common.{◌≡◌, ℕ, zero, suc, ◌+◌, ◌-◌, ◌<◌, ◌≤◌, List, [], ◌∷◌, length, drop, refl, sym, ap, ◌∙◌, arith, length-drop}
+use Rattle.std.proofs.Common.{◌≡◌, ℕ, ◌+◌, ◌-◌, ◌≤◌, List, [], ◌∷◌, length, drop, refl, arith, length-drop}
 use Rattle.std.proofs.Math.Decide.{dec_lt}
 use Rattle.cn_core.specs.Mark.{Mark, digit}
 use Rattle.cn_core.specs.Numeral.{IsNumeral}
 use Rattle.cn_core.specs.Place.{IsPlace}
-use Rattle.cn_core.proofs.Fronts.{completable_by_zero, zero_in_front}
+use Rattle.cn_core.proofs.Fronts.{completable_by_zero}
 
 drop_past : (n : ℕ) (marks : List Mark) → length marks ≤ n → drop n marks ≡ []
 drop_past n marks h = by (drop n marks) (length-drop n marks) where

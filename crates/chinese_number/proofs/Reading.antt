@@ -8,14 +8,14 @@ use Rattle.cn_core.specs.declared.sign.Sign.{Sign}
 use Rattle.cn_core.specs.declared.sign.Sign.TheVariants.{Minus}
 use Rattle.cn_core.specs.Judge.{Judges}
 use Rattle.cn_core.specs.Mark.{Mark}
-use Rattle.cn_core.specs.Numeral.{IsNumeral, opened, starts_with_digit}
+use Rattle.cn_core.specs.Numeral.{opened, starts_with_digit}
 use Rattle.cn_core.specs.Naive.{naive_answer}
 use Rattle.cn_core.specs.Refusal.{Refusal, empty, incorrect_at, too_large, too_small}
 use Rattle.cn_core.specs.Spelling.{spelling}
 use Rattle.cn_core.specs.Text.{text_of, marks_of}
 use Rattle.cn_core.specs.Typed.{Reads, leading_sign, sign_len, signed_by, held_by, typed_answer, naive_reading}
 use Rattle.cn_core.specs.Whole.{Kind, Holds}
-use Rattle.cn_core.specs.Written.{mark_char, written, written_bytes, spelled_text, is_printable}
+use Rattle.cn_core.specs.Written.{mark_char, written_bytes, spelled_text, is_printable}
 use Rattle.std.specs.List.{list_all}
 use Rattle.cn_core.proofs.Fronts.{and-left}
 use Rattle.cn_core.proofs.Judging.{judge, Judges-judge, Judges-same}
@@ -108,6 +108,10 @@ typed_answer-held kind number bytes held = ap (held_by kind) (signed_by-written 
 pub record IsWhole (kind : Kind) : Type 0 where
   pub from_zero : kind.signed ≡ false → kind.least ≡ pos 0
   pub fits : (z : ℤ) → Holds kind z → nat_abs z < 2 ^ 128
+
+-- by the laws of the type
+pub IsWhole-laws : (kind : Kind) (signed : Bool) → kind.signed ≡ signed → (signed ≡ false → kind.least ≡ pos 0) → ((z : ℤ) → Holds kind z → nat_abs z < 2 ^ 128) → IsWhole kind
+IsWhole-laws kind signed same zero_least fits = record { from_zero = λ e. zero_least (sym same ∙ e); fits = fits }
 
 pub minus_is_signed : (kind : Kind) (number : ℤ) → IsWhole kind → Holds kind number → int_lt number (pos 0) ≡ true → kind.signed ≡ true
 minus_is_signed kind number whole held below = by kind.signed refl where

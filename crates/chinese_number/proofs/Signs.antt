@@ -1,18 +1,18 @@
 -- A sign in front of a numeral.
-use Rattle.std.proofs.Common.{◌≡◌, ℕ, zero, suc, ◌+◌, ◌*◌, ◌^◌, ◌<◌, ℤ, pos, neg_ℤ, nat_abs, true, false, List, [], ◌∷◌, drop, Some, None, Ok, Result, refl, sym, ap, subst, ◌∙◌, arith}
+use Rattle.std.proofs.Common.{◌≡◌, ℕ, ◌^◌, ◌<◌, pos, true, false, List, [], ◌∷◌, Some, Ok, refl, subst, arith}
 use Rattle.cn_core.specs.declared.method.ChineseCountMethod.{ChineseCountMethod}
 use Rattle.cn_core.specs.declared.sign.Sign.{Sign}
-use Rattle.cn_core.specs.declared.sign.Sign.TheVariants.{Plus, Minus}
+use Rattle.cn_core.specs.declared.sign.Sign.TheVariants.{Minus}
 use Rattle.cn_core.specs.Characters.{digit_of, sign_of}
-use Rattle.cn_core.specs.Mark.{Mark, digit}
+use Rattle.cn_core.specs.Mark.{digit}
 use Rattle.cn_core.specs.Numeral.{IsNumeral}
 use Rattle.cn_core.specs.Place.{some_unfit}
-use Rattle.cn_core.specs.Refusal.{Refusal}
 use Rattle.cn_core.specs.Text.{text_of, marks_of}
-use Rattle.cn_core.specs.Typed.{Reads, signed_by, held_by, typed_answer}
+use Rattle.cn_core.specs.Typed.{Reads, signed_by}
 use Rattle.cn_core.specs.Value.{numeral_value}
 use Rattle.cn_core.specs.Whole.{Kind, Holds}
 use Rattle.chinese_number.proofs.Reading.{IsWhole, HasParts, Reads-parts, held_by-Holds}
+use Rattle.chinese_number.proofs.Numerals.{size_of}
 use Rattle.chinese_number.proofs.SpelledMarks.{Judges-numeral}
 
 HasParts-sign : (kind : Kind) (bytes rest : List ℕ) (character : ℕ) (sign : Sign) → kind.signed ≡ true → text_of bytes ≡ character ∷ rest → sign_of character ≡ Some sign
@@ -22,11 +22,6 @@ HasParts-sign kind bytes rest character sign signed text is = record {
   marks_is = rw text;
 }
 
-magnitude : (sign : Sign) (number : ℕ) → nat_abs (signed_by (Some sign) number) ≡ number
-magnitude Plus number = refl
-magnitude Minus zero = refl
-magnitude Minus (suc number) = refl
-
 -- it gives the signed value
 pub Reads-signed : (kind : Kind) (method : ChineseCountMethod) (bytes rest : List ℕ) (character : ℕ) (sign : Sign) → IsWhole kind → kind.signed ≡ true → text_of bytes ≡ character ∷ rest
     → sign_of character ≡ Some sign → IsNumeral (marks_of rest) → some_unfit method (marks_of rest) ≡ false
@@ -34,7 +29,7 @@ pub Reads-signed : (kind : Kind) (method : ChineseCountMethod) (bytes rest : Lis
 Reads-signed kind method bytes rest character sign whole signed text is numeral fits held =
     let size = numeral_value method (marks_of rest) in
     let number = signed_by (Some sign) size in
-    let small : size < 2 ^ 128 = omega (arith, whole.fits number held, magnitude sign size) in
+    let small : size < 2 ^ 128 = omega (arith, whole.fits number held, size_of (Some sign) size) in
     subst (Reads kind method bytes) (held_by-Holds kind number held)
     (Reads-parts kind method bytes (Some sign) (marks_of rest) (Ok size) (HasParts-sign kind bytes rest character sign signed text is)
     (Judges-numeral method (marks_of rest) size numeral fits refl small))

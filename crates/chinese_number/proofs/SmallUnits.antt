@@ -1,20 +1,20 @@
 -- Texts whose units are below 億 are judged alike by all methods.
-use Rattle.std.proofs.Common.{◌≡◌, ℕ, zero, suc, ◌+◌, ◌-◌, ◌*◌, ◌/◌, ◌^◌, ◌<◌, ◌≤◌, ℤ, max, Bool, true, false, not, ◌&&◌, ◌||◌, ◌==◌, nat_lt, nat_le, List, [], ◌∷◌, map, length, drop, take, take_while, Result, Ok, Err, is_ok, refl, sym, ap, ap₂, subst, ◌∙◌, arith, if◌then◌else◌}
+use Rattle.std.proofs.Common.{◌≡◌, ℕ, zero, suc, ◌+◌, ◌-◌, ◌*◌, ◌/◌, ◌^◌, ◌<◌, ℤ, max, Bool, true, false, not, ◌&&◌, ◌||◌, ◌==◌, nat_lt, nat_le, List, [], ◌∷◌, map, length, drop, take, take_while, Result, Ok, Err, is_ok, refl, sym, ap, ap₂, ◌∙◌, arith, if◌then◌else◌}
 use Rattle.std.proofs.lemmas.Bool.Decides.{nat_tests}
-use Rattle.std.specs.List.{list_all, prefix_len}
+use Rattle.std.specs.List.{prefix_len}
 use Rattle.cn_core.specs.declared.method.ChineseCountMethod.{ChineseCountMethod}
-use Rattle.cn_core.specs.Judge.{Judges, numeral_answer, last_mark_answer}
+use Rattle.cn_core.specs.Judge.{Judges, numeral_answer}
 use Rattle.cn_core.specs.Mark.{Mark, digit, unit, other}
 use Rattle.cn_core.specs.Numeral.{is_numeral, opened}
-use Rattle.cn_core.specs.Place.{body, is_below, is_early, is_unfit, is_overflowing, some_unfit, some_overflowing, is_unit_from_hundred, is_unit_above_ge}
-use Rattle.cn_core.specs.Refusal.{Refusal, empty, incorrect_at, too_large}
-use Rattle.cn_core.specs.Scale.{scale, scale_fits, exponent}
+use Rattle.cn_core.specs.Place.{body, is_below, is_early, is_overflowing, some_unfit, some_overflowing, is_unit_from_hundred, is_unit_above_ge}
+use Rattle.cn_core.specs.Refusal.{Refusal, incorrect_at, too_large}
+use Rattle.cn_core.specs.Scale.{scale, scale_fits}
 use Rattle.cn_core.specs.Text.{text_of, marks_of}
 use Rattle.cn_core.specs.Typed.{Reads, leading_sign, sign_len}
-use Rattle.cn_core.specs.Value.{value, weight, colloquial_value, numeral_value, product, records_from}
+use Rattle.cn_core.specs.Value.{value, colloquial_value, product, records_from}
 use Rattle.cn_core.specs.Whole.{Kind}
 use Rattle.cn_core.proofs.Fronts.{and-left, and-right, place_of}
-use Rattle.cn_core.proofs.Judging.{judge, judge_body, Judges-judge, Judges-same, Judges-by_walk}
+use Rattle.cn_core.proofs.Judging.{judge, Judges-judge, Judges-same, Judges-by_walk}
 use Rattle.chinese_number.specs.Methods.{names_no_unit_above_wan}
 use Rattle.chinese_number.proofs.Methods.{exponent-low, scale-low}
 

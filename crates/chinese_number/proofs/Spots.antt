@@ -1,24 +1,22 @@
 -- The spot of a refusal is that of a character.
-use Rattle.std.proofs.Common.{◌≡◌, ◌⊎◌, inl, inr, ℕ, zero, suc, ◌+◌, ◌-◌, ◌^◌, ◌<◌, ◌≤◌, ℤ, int_lt, Bool, true, false, not, ◌&&◌, nat_lt, nat_le, List, [], ◌∷◌, length, map, filter, take, drop, chars, slice_get, Option, Some, None, Result, Ok, Err, is_ok, refl, sym, ap, subst, ◌∙◌, arith, length-drop, if◌then◌else◌, MatchBool}
+use Rattle.std.proofs.Common.{◌≡◌, ◌⊎◌, inl, inr, ℕ, zero, suc, ◌+◌, ◌-◌, ◌^◌, ◌<◌, ◌≤◌, ℤ, int_lt, Bool, true, false, not, ◌&&◌, nat_lt, nat_le, List, [], ◌∷◌, length, filter, take, drop, chars, slice_get, Option, Some, None, Result, Ok, Err, is_ok, refl, sym, ap, subst, ◌∙◌, arith, length-drop, if◌then◌else◌, MatchBool}
 use Rattle.std.specs.Option.{option_or}
 use Rattle.std.specs.Char.{is_whitespace, is_not_whitespace}
 use Rattle.cn_core.specs.declared.method.ChineseCountMethod.{ChineseCountMethod}
 use Rattle.cn_core.specs.declared.sign.Sign.{Sign}
 use Rattle.cn_core.specs.declared.sign.Sign.TheVariants.{Plus, Minus}
-use Rattle.cn_core.specs.Characters.{sign_of}
 use Rattle.cn_core.specs.Judge.{Judges, RefusesBody, numeral_answer, last_mark_answer}
-use Rattle.cn_core.specs.Mark.{Mark, digit, unit, other, mark_of}
-use Rattle.cn_core.specs.Naive.{naive_answer, first_fault, fault_at, refused_or, decimal_value}
+use Rattle.cn_core.specs.Mark.{Mark, digit, unit, other}
+use Rattle.cn_core.specs.Naive.{naive_answer, first_fault, refused_or, decimal_value}
 use Rattle.cn_core.specs.Numeral.{is_numeral, Completable}
-use Rattle.cn_core.specs.Place.{IsPlace, body, is_early, some_unfit, is_unit_from_hundred, is_unit_above_ge}
+use Rattle.cn_core.specs.Place.{body, is_early, some_unfit, is_unit_from_hundred, is_unit_above_ge}
 use Rattle.cn_core.specs.Refusal.{Refusal, empty, incorrect_at, too_large, too_small}
 use Rattle.cn_core.specs.Spot.{spot, spot_among}
 use Rattle.cn_core.specs.Text.{text_of, marks_of}
-use Rattle.cn_core.specs.Typed.{Reads, leading_sign, sign_len, signed_by, held_by, too_far, typed_answer, naive_reading}
+use Rattle.cn_core.specs.Typed.{Reads, leading_sign, sign_len, signed_by, held_by, typed_answer, naive_reading}
 use Rattle.cn_core.specs.Value.{numeral_value}
 use Rattle.cn_core.specs.Whole.{Kind}
-use Rattle.cn_core.proofs.Judging.{Judges-same}
-use Rattle.chinese_number.specs.Places.{without_spot, PointsAt}
+use Rattle.chinese_number.specs.Places.{PointsAt}
 
 -- the same of a list of characters
 record PointsAmong (cs : List ℕ) (at_spot place : ℕ) : Type 0 where

@@ -1,5 +1,5 @@
 -- Strings with the same text are answered alike.
-use Rattle.std.proofs.Common.{◌≡◌, ℕ, ℤ, List, drop, Option, Some, None, Result, Ok, Err, refl, sym, ap, subst, ◌∙◌}
+use Rattle.std.proofs.Common.{◌≡◌, ℕ, ℤ, List, drop, Option, Result, Ok, Err, refl, sym, ap, subst, ◌∙◌}
 use Rattle.cn_core.specs.declared.method.ChineseCountMethod.{ChineseCountMethod}
 use Rattle.cn_core.specs.declared.sign.Sign.{Sign}
 use Rattle.cn_core.specs.Judge.{Judges}

@@ -1,4 +1,5 @@
 //! What users rest on, each as the contract of a function that does nothing.
+mod answers;
 mod enums;
 mod methods;
 mod places;
@@ -8,18 +9,21 @@ mod scripts;
 mod signs;
 mod white_space;
 
+pub use answers::{
+    each_string_has_one_answer, each_text_has_one_judgement, numerals_alone_are_read,
+};
 pub use enums::{equal_values_are_the_same_variant, units_compare_by_rank};
 pub use methods::{
     methods_spell_alike_below, methods_spell_otherwise_from, small_units_read_alike,
 };
 pub use places::{
-    ends_can_be_completed, nothing_is_wrong_after_a_place, texts_complete_texts,
-    zero_in_front_decides,
+    each_list_has_one_place, ends_can_be_completed, nothing_is_wrong_after_a_place,
+    texts_complete_texts, zero_in_front_decides,
 };
 pub use plain_digits::{naive_texts_read_back, zeros_in_front_change_no_digits};
 pub use read_back::{
-    each_string_has_one_answer, each_text_has_one_judgement, one_spelling_for_each_number,
-    reading_then_printing_is_idempotent, spellings_are_numerals, spellings_read_back,
+    one_spelling_for_each_number, reading_then_printing_is_idempotent, spellings_are_numerals,
+    spellings_read_back,
 };
 pub use scripts::{texts_of_a_number_are_equally_long, texts_of_a_number_read_alike};
 pub use signs::{a_sign_gives_the_signed_value, minus_zero_is_zero};

@@ -1,10 +1,11 @@
 // Where the four methods agree, and where they do not.
-ghost use Rattle.std.specs.Prelude.{◌≡◌, ◌≢◌, ◌↔◌, ◌^◌, ◌<◌, ℕ, ℤ, List, Result, IsTrue, drop};
+ghost use Rattle.std.specs.Prelude.{◌≡◌, ◌≢◌, ◌↔◌, ◌^◌, ◌<◌, ℕ, ℤ, List, Result, IsTrue};
 ghost use Rattle.chinese_number.specs.Methods.{names_no_unit_above_wan};
+ghost use Rattle.chinese_number.specs.Parts.{unsigned_text};
 ghost use Rattle.cn_core.specs.Refusal.{Refusal};
 ghost use Rattle.cn_core.specs.Spelling.{spelling};
-ghost use Rattle.cn_core.specs.Text.{text_of, marks_of};
-ghost use Rattle.cn_core.specs.Typed.{Reads, leading_sign, sign_len};
+ghost use Rattle.cn_core.specs.Text.{marks_of};
+ghost use Rattle.cn_core.specs.Typed.{Reads};
 ghost use Rattle.cn_core.specs.Whole.{Kind};
 ghost use Rattle.cn_core.specs.declared.method.ChineseCountMethod.{ChineseCountMethod};
 ghost use Rattle.cn_core.specs.declared.method.ChineseCountMethod.TheVariants.{Low, TenThousand, Middle, High};
@@ -39,9 +40,7 @@ pub fn methods_spell_otherwise_from()
 /// Readers of dates and chapter numbers rest on it: there no method has to be chosen.
 pub fn small_units_read_alike()
     ensures { (kind : Kind) (bytes : List ℕ)
-        → let text = text_of bytes in
-        let sign = sign_len (leading_sign kind.signed text) in
-        IsTrue (names_no_unit_above_wan (marks_of (drop sign text)))
+        → IsTrue (names_no_unit_above_wan (marks_of (unsigned_text kind bytes)))
         → (one other : ChineseCountMethod) (answer : Result ℤ Refusal)
         → Reads kind one bytes answer ↔ Reads kind other bytes answer }
 {}

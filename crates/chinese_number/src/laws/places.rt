@@ -24,6 +24,12 @@ pub fn ends_can_be_completed()
     ensures { (start : ℕ) (marks : List Mark) → Completable marks → Completable (drop start marks) }
 {}
 
+/// Each list has one place, which a refusal names where the list is no numeral.
+pub fn each_list_has_one_place()
+    ensures { (marks : List Mark)
+        → (place : ℕ) × IsPlace marks place × ((other : ℕ) → IsPlace marks other → other ≡ place) }
+{}
+
 /// 零 with what stands after a place is a numeral: past the mark at fault nothing is wrong.
 ///
 /// Form validators rest on it: they mark one character, and what follows it can stay.

@@ -1,8 +1,9 @@
 // What holds of plain digits.
-ghost use Rattle.std.specs.Prelude.{◌≡◌, ◌++◌, ℕ, ℤ, List, Ok, Some, All, take, drop, encode_utf8_all};
+ghost use Rattle.std.specs.Prelude.{◌≡◌, ◌++◌, ℕ, ℤ, List, Ok, Some, All, encode_utf8_all};
+ghost use Rattle.chinese_number.specs.Parts.{sign_text, unsigned_text};
 ghost use Rattle.cn_core.specs.Characters.{digit_of};
 ghost use Rattle.cn_core.specs.Text.{text_of};
-ghost use Rattle.cn_core.specs.Typed.{leading_sign, sign_len, naive_reading};
+ghost use Rattle.cn_core.specs.Typed.{naive_reading};
 ghost use Rattle.cn_core.specs.Whole.{Kind, Holds};
 ghost use Rattle.cn_core.specs.Written.{naive_text};
 ghost use Rattle.cn_core.specs.declared.case.ChineseCase.{ChineseCase};
@@ -25,9 +26,7 @@ pub fn naive_texts_read_back<T: Whole>()
 /// A search index that folds numerals to numbers rests on it.
 pub fn zeros_in_front_change_no_digits()
     ensures { (kind : Kind) (bytes more zeros : List ℕ) (number : ℤ)
-        → let text = text_of bytes in
-        let sign = sign_len (leading_sign kind.signed text) in
-        All (λ c. digit_of c ≡ Some 0) zeros
-        → text_of more ≡ take sign text ++ zeros ++ drop sign text
+        → All (λ c. digit_of c ≡ Some 0) zeros
+        → text_of more ≡ sign_text kind bytes ++ zeros ++ unsigned_text kind bytes
         → naive_reading kind bytes ≡ Ok number → naive_reading kind more ≡ Ok number }
 {}

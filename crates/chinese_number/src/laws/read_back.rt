@@ -1,33 +1,17 @@
 // What is printed is read back.
-ghost use Rattle.std.specs.Prelude.{◌≡◌, ◌↔◌, ◌^◌, ◌<◌, ℕ, ℤ, pos, nat_abs, List, Result, Ok, IsTrue, encode_utf8_all};
-ghost use Rattle.cn_core.specs.Judge.{Judges};
-ghost use Rattle.cn_core.specs.Mark.{Mark};
+ghost use Rattle.std.specs.Prelude.{◌≡◌, ◌↔◌, ℕ, ℤ, nat_abs, List, Result, Ok, IsTrue, encode_utf8_all};
 ghost use Rattle.cn_core.specs.Numeral.{IsNumeral};
 ghost use Rattle.cn_core.specs.Refusal.{Refusal};
 ghost use Rattle.cn_core.specs.Spelling.{spelling};
 ghost use Rattle.cn_core.specs.Typed.{Reads};
 ghost use Rattle.cn_core.specs.Value.{numeral_value};
-ghost use Rattle.cn_core.specs.Whole.{Kind, Holds};
+ghost use Rattle.cn_core.specs.Whole.{Holds};
 ghost use Rattle.cn_core.specs.Written.{spelled_text, is_printable};
 ghost use Rattle.cn_core.specs.declared.case.ChineseCase.{ChineseCase};
 ghost use Rattle.cn_core.specs.declared.method.ChineseCountMethod.{ChineseCountMethod};
 ghost use Rattle.cn_core.specs.declared.script.ChineseVariant.{ChineseVariant};
 
 use cn_core::Whole;
-
-/// Each text has one judgement: a number, or one refusal.
-pub fn each_text_has_one_judgement()
-    ensures { (method : ChineseCountMethod) (marks : List Mark)
-        → (answer : Result ℕ Refusal) × Judges method marks answer
-        × ((other : Result ℕ Refusal) → Judges method marks other → other ≡ answer) }
-{}
-
-/// Each string has one answer, for each type and method.
-pub fn each_string_has_one_answer()
-    ensures { (kind : Kind) (method : ChineseCountMethod) (bytes : List ℕ)
-        → (answer : Result ℤ Refusal) × Reads kind method bytes answer
-        × ((other : Result ℤ Refusal) → Reads kind method bytes other → other ≡ answer) }
-{}
 
 /// Every spelling is a numeral of its magnitude.
 pub fn spellings_are_numerals<T: Whole>()

@@ -1,11 +1,12 @@
 // White space does not matter, but where a refusal points.
-ghost use Rattle.std.specs.Prelude.{◌≡◌, ◌+◌, ℕ, ℤ, List, Result, Err, drop};
+ghost use Rattle.std.specs.Prelude.{◌≡◌, ◌+◌, ℕ, ℤ, List, Result, Err};
+ghost use Rattle.chinese_number.specs.Parts.{sign_length, unsigned_text};
 ghost use Rattle.chinese_number.specs.Places.{without_spot, PointsAt};
 ghost use Rattle.cn_core.specs.Judge.{Judges};
 ghost use Rattle.cn_core.specs.Naive.{naive_answer};
 ghost use Rattle.cn_core.specs.Refusal.{Refusal, incorrect_at};
 ghost use Rattle.cn_core.specs.Text.{text_of, marks_of};
-ghost use Rattle.cn_core.specs.Typed.{Reads, naive_reading, leading_sign, sign_len};
+ghost use Rattle.cn_core.specs.Typed.{Reads, naive_reading};
 ghost use Rattle.cn_core.specs.Whole.{Kind};
 ghost use Rattle.cn_core.specs.declared.method.ChineseCountMethod.{ChineseCountMethod};
 
@@ -29,14 +30,12 @@ pub fn white_space_does_not_matter()
 pub fn refusals_point_at_characters()
     ensures units { (kind : Kind) (method : ChineseCountMethod) (bytes : List ℕ) (spot : ℕ)
         → Reads kind method bytes (Err (incorrect_at spot))
-        → let text = text_of bytes in
-        let sign = sign_len (leading_sign kind.signed text) in
-        (place : ℕ) × Judges method (marks_of (drop sign text)) (Err (incorrect_at place))
-        × PointsAt bytes spot (place + sign) }
+        → (place : ℕ)
+        × Judges method (marks_of (unsigned_text kind bytes)) (Err (incorrect_at place))
+        × PointsAt bytes spot (place + sign_length kind bytes) }
     ensures digits { (kind : Kind) (bytes : List ℕ) (spot : ℕ)
         → naive_reading kind bytes ≡ Err (incorrect_at spot)
-        → let text = text_of bytes in
-        let sign = sign_len (leading_sign kind.signed text) in
-        (place : ℕ) × (naive_answer (marks_of (drop sign text)) ≡ Err (incorrect_at place))
-        × PointsAt bytes spot (place + sign) }
+        → (place : ℕ)
+        × (naive_answer (marks_of (unsigned_text kind bytes)) ≡ Err (incorrect_at place))
+        × PointsAt bytes spot (place + sign_length kind bytes) }
 {}

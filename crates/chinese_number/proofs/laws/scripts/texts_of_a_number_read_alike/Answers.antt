@@ -3,12 +3,13 @@ use Rattle.cn_core.specs.declared.script.ChineseVariant.{ChineseVariant}
 use Rattle.cn_core.specs.declared.case.ChineseCase.{ChineseCase}
 use Rattle.cn_core.specs.Written.{spelled_text}
 use Rattle.chinese_number.proofs.PlainDigits.{naive_reading-written}
-use Rattle.chinese_number.proofs.Reading.{IsWhole, Reads-spelled, Reads-alike}
+use Rattle.chinese_number.proofs.Reading.{IsWhole-laws, Reads-spelled, Reads-alike}
 use Rattle.chinese_number.proofs.laws.scripts.texts_of_a_number_read_alike.Goals as goal
 
 pub returns : goal.returns
 returns g c =
-    let whole : IsWhole g.T.Whole.kind = record { from_zero = λ e. g.met.T.Whole.unsigned_from_zero (sym g.met.T.Whole.signed_is ∙ e); fits = g.met.T.Whole.magnitude_fits } in
+    let laws = g.met.T.Whole in
+    let whole = IsWhole-laws g.T.Whole.kind g.T.Whole.SIGNED laws.signed_is laws.unsigned_from_zero laws.magnitude_fits in
     record {
       units = λ one second first other method number held printable answer.
           let left = Reads-spelled g.T.Whole.kind method one first number whole held printable in

@@ -1,0 +1,99 @@
+-- Numerals alone are answered by a number.
+use Rattle.std.proofs.Common.{◌≡◌, ℕ, zero, suc, int_lt, ◌-◌, ◌^◌, ◌<◌, ℤ, nat_abs, Bool, true, false, not, ◌&&◌, nat_lt, List, [], ◌∷◌, length, Option, Some, None, Result, Ok, Err, is_ok, MatchBool, refl, sym, ap, subst, ◌∙◌, arith, if◌then◌else◌}
+use Rattle.cn_core.specs.declared.method.ChineseCountMethod.{ChineseCountMethod}
+use Rattle.cn_core.specs.declared.sign.Sign.{Sign}
+use Rattle.cn_core.specs.declared.sign.Sign.TheVariants.{Plus, Minus}
+use Rattle.cn_core.specs.Judge.{Judges, RefusesBody, numeral_answer, last_mark_answer}
+use Rattle.cn_core.specs.Mark.{Mark}
+use Rattle.cn_core.specs.Numeral.{IsNumeral, is_numeral}
+use Rattle.cn_core.specs.Place.{body, is_early, some_unfit}
+use Rattle.cn_core.specs.Refusal.{Refusal, empty, incorrect_at, too_large, too_small}
+use Rattle.cn_core.specs.Text.{marks_of}
+use Rattle.cn_core.specs.Typed.{Reads, signed_by, held_by, typed_answer}
+use Rattle.cn_core.specs.Value.{numeral_value}
+use Rattle.cn_core.specs.Whole.{Kind, Holds}
+use Rattle.chinese_number.specs.Parts.{sign_at, unsigned_text}
+use Rattle.chinese_number.proofs.Reading.{IsWhole, Reads-parts, held_by-Holds, Holds-held_by}
+use Rattle.chinese_number.proofs.SpelledMarks.{Judges-numeral}
+
+-- what a text that is judged as a number is like
+pub record IsJudged (method : ChineseCountMethod) (marks : List Mark) (number : ℕ) : Type 0 where
+  pub numeral : IsNumeral marks
+  pub fits : some_unfit method marks ≡ false
+  pub value : numeral_value method marks ≡ number
+
+judged_numeral : (method : ChineseCountMethod) (marks : List Mark) (number : ℕ) → IsNumeral marks → Ok number ≡ numeral_answer method marks → IsJudged method marks number
+judged_numeral method marks number n h = by (some_unfit method marks) (nat_lt (numeral_value method marks) (2 ^ 128)) refl h where
+  by : (u s : Bool) → some_unfit method marks ≡ u → ◌≡◌ {A = Result ℕ Refusal} (Ok number) (if not u && s then Ok (numeral_value method marks) else Err too_large) → IsJudged method marks number
+  by true s e h = cc
+  by false false e h = cc
+  by false true e h = record { numeral = n; fits = e; value = cc }
+
+last_no_number : (method : ChineseCountMethod) (marks : List Mark) (number : ℕ) → ¬ (Ok number ≡ last_mark_answer method marks)
+last_no_number method marks number h = by (is_ok (numeral_answer method (body marks))) h where
+  by : (b : Bool) → ¬ (◌≡◌ {A = Result ℕ Refusal} (Ok number) (if b then Err (incorrect_at (length marks - 1)) else Err too_large))
+  by true h = cc
+  by false h = cc
+
+body_no_number : (method : ChineseCountMethod) (marks : List Mark) (number : ℕ) → ¬ RefusesBody method marks (Ok number)
+body_no_number method marks number (place, at_place, is) = by (is_early method marks place) is where
+  by : (b : Bool) → ¬ (◌≡◌ {A = Result ℕ Refusal} (Ok number) (if b then Err too_large else Err (incorrect_at place)))
+  by true h = cc
+  by false h = cc
+
+IsJudged-number : (method : ChineseCountMethod) (marks : List Mark) (number : ℕ) → Judges method marks (Ok number) → IsJudged method marks number
+IsJudged-number method [] number h = cc
+IsJudged-number method (mark ∷ rest) number h =
+    by (is_numeral marks) (is_numeral (body marks)) refl h where
+      marks : List Mark
+      marks = mark ∷ rest
+
+      by : (b c : Bool) → is_numeral marks ≡ b
+          → MatchBool b (Ok number ≡ numeral_answer method marks) (MatchBool c (Ok number ≡ last_mark_answer method marks) (RefusesBody method (body marks) (Ok number)))
+          → IsJudged method marks number
+      by true c e h = judged_numeral method marks number e h
+      by false true e h = absurd (last_no_number method marks number h)
+      by false false e h = absurd (body_no_number method (body marks) number h)
+
+held_is : (kind : Kind) (number answer : ℤ) → held_by kind number ≡ Ok answer → number ≡ answer
+held_is kind number answer h = by (int_lt kind.greatest number) (int_lt number kind.least) h where
+  by : (a b : Bool) → (if a then Err too_large else (if b then Err too_small else Ok number)) ≡ Ok answer → number ≡ answer
+  by true b h = cc
+  by false true h = cc
+  by false false h = cc
+
+-- exactly numerals whose scales and signed value fit are answered by that value
+pub Reads-number : (kind : Kind) (method : ChineseCountMethod) (bytes : List ℕ) (number : ℤ) → Reads kind method bytes (Ok number)
+    → let marks = marks_of (unsigned_text kind bytes) in
+    IsNumeral marks × (some_unfit method marks ≡ false) × (signed_by (sign_at kind bytes) (numeral_value method marks) ≡ number) × Holds kind number
+Reads-number kind method bytes number (judged, is, answer) = by judged is (sym answer) where
+  marks : List Mark
+  marks = marks_of (unsigned_text kind bytes)
+
+  by : (judged : Result ℕ Refusal) → Judges method marks judged → typed_answer kind bytes (sign_at kind bytes) judged ≡ Ok number
+      → IsNumeral marks × (some_unfit method marks ≡ false) × (signed_by (sign_at kind bytes) (numeral_value method marks) ≡ number) × Holds kind number
+  by (Err empty) is h = cc
+  by (Err (incorrect_at place)) is h = cc
+  by (Err too_large) is h = cc
+  by (Err too_small) is h = cc
+  by (Ok magnitude) is h =
+      let j = IsJudged-number method marks magnitude is in
+      (j.numeral, j.fits, ap (signed_by (sign_at kind bytes)) j.value ∙ held_is kind (signed_by (sign_at kind bytes) magnitude) number h, Holds-held_by kind (signed_by (sign_at kind bytes) magnitude) number h)
+
+pub size_of : (sign : Option Sign) (magnitude : ℕ) → nat_abs (signed_by sign magnitude) ≡ magnitude
+size_of None magnitude = refl
+size_of (Some Plus) magnitude = refl
+size_of (Some Minus) zero = refl
+size_of (Some Minus) (suc magnitude) = refl
+
+pub Reads-numeral : (kind : Kind) (method : ChineseCountMethod) (bytes : List ℕ) (number : ℤ) → IsWhole kind
+    → let marks = marks_of (unsigned_text kind bytes) in
+    IsNumeral marks × (some_unfit method marks ≡ false) × (signed_by (sign_at kind bytes) (numeral_value method marks) ≡ number) × Holds kind number
+    → Reads kind method bytes (Ok number)
+Reads-numeral kind method bytes number whole (numeral, fits, is, held) =
+    let sign = sign_at kind bytes in
+    let marks = marks_of (unsigned_text kind bytes) in
+    let size = numeral_value method marks in
+    let small : size < 2 ^ 128 = omega (arith, whole.fits number held, size_of sign size, ap nat_abs is) in
+    subst (Reads kind method bytes) (ap (held_by kind) is ∙ held_by-Holds kind number held)
+    (Reads-parts kind method bytes sign marks (Ok size) (record { sign_is = refl; marks_is = refl }) (Judges-numeral method marks size numeral fits refl small))

@@ -1,0 +1,43 @@
+// Which answer a string has.
+ghost use Rattle.std.specs.Prelude.{◌≡◌, ◌↔◌, ℕ, ℤ, false, List, Result, Ok};
+ghost use Rattle.chinese_number.specs.Parts.{sign_at, unsigned_text};
+ghost use Rattle.cn_core.specs.Judge.{Judges};
+ghost use Rattle.cn_core.specs.Mark.{Mark};
+ghost use Rattle.cn_core.specs.Numeral.{IsNumeral};
+ghost use Rattle.cn_core.specs.Place.{some_unfit};
+ghost use Rattle.cn_core.specs.Refusal.{Refusal};
+ghost use Rattle.cn_core.specs.Text.{marks_of};
+ghost use Rattle.cn_core.specs.Typed.{Reads, signed_by};
+ghost use Rattle.cn_core.specs.Value.{numeral_value};
+ghost use Rattle.cn_core.specs.Whole.{Kind, Holds};
+ghost use Rattle.cn_core.specs.declared.method.ChineseCountMethod.{ChineseCountMethod};
+
+use cn_core::Whole;
+
+/// Each text has one judgement: a number, or one refusal.
+pub fn each_text_has_one_judgement()
+    ensures { (method : ChineseCountMethod) (marks : List Mark)
+        → (answer : Result ℕ Refusal) × Judges method marks answer
+        × ((other : Result ℕ Refusal) → Judges method marks other → other ≡ answer) }
+{}
+
+/// Each string has one answer, for each type and method.
+pub fn each_string_has_one_answer()
+    ensures { (kind : Kind) (method : ChineseCountMethod) (bytes : List ℕ)
+        → (answer : Result ℤ Refusal) × Reads kind method bytes answer
+        × ((other : Result ℤ Refusal) → Reads kind method bytes other → other ≡ answer) }
+{}
+
+/// A string is answered by a number exactly where its text, without white space and, for a signed
+/// type, one sign in front, is a numeral whose scales all fit 128 bits and whose signed value is that
+/// number, which the type holds.
+///
+/// Every user who reads rests on it.
+pub fn numerals_alone_are_read<T: Whole>()
+    ensures { (method : ChineseCountMethod) (bytes : List ℕ) (number : ℤ)
+        → let marks = marks_of (unsigned_text T.kind bytes) in
+        Reads T.kind method bytes (Ok number)
+        ↔ (IsNumeral marks × (some_unfit method marks ≡ false)
+        × (signed_by (sign_at T.kind bytes) (numeral_value method marks) ≡ number)
+        × Holds T.kind number) }
+{}
