@@ -16,3 +16,10 @@ pub use cn_read::{
     from_chinese_to_u32_naive, from_chinese_to_u64_naive, from_chinese_to_u128_naive,
     from_chinese_to_usize_naive,
 };
+pub use cn_print::{
+    NumberToChinese, NumberToChineseError, from_i8_to_chinese_naive, from_i16_to_chinese_naive,
+    from_i32_to_chinese_naive, from_i64_to_chinese_naive, from_i128_to_chinese_naive,
+    from_isize_to_chinese_naive, from_u8_to_chinese_naive, from_u16_to_chinese_naive,
+    from_u32_to_chinese_naive, from_u64_to_chinese_naive, from_u128_to_chinese_naive,
+    from_usize_to_chinese_naive,
+};

@@ -1,19 +1,19 @@
 //! Repeats a call over numbers of all lengths, and prints a checksum that keeps the work alive.
 //!
 //! ```text
-//! cn_bench print u128 naive 10000000
-//! cn_bench read u64 naive 10000000
+//! cn_bench print u128 naive 1000
+//! cn_bench read u64 naive 1000
 //! ```
 //!
-//! To be timed from outside, less the time with a count of 0, in which only the numbers and their texts
-//! are made.
+//! The last word says how often it goes over all ten thousand numbers. It is to be timed from outside, less
+//! the time with 0, in which only the numbers and their texts are made.
 #![tactic(auto)]
 
 mod numbers;
 mod task;
 
 use crate::numbers::{narrow_numbers, wide_numbers};
-use crate::task::{Call, Task, read_sum, print_sum};
+use crate::task::{Call, Task, print_sum, read_sum};
 use std::{env, io};
 
 fn main(rt: HostRuntime) -> io::Result<()> {
@@ -22,7 +22,7 @@ fn main(rt: HostRuntime) -> io::Result<()> {
         words.push(word)?;
     }
     let Some(task) = Task::from_words(&words) else {
-        return println!(rt; "usage: cn_bench print|read u64|u128 METHOD COUNT");
+        return println!(rt; "usage: cn_bench print|read u64|u128 METHOD PASSES");
     };
     let alloc = rt.alloc();
     let sum = match (task.call, task.is_wide) {

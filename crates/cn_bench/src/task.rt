@@ -1,7 +1,5 @@
 // What is repeated, and how often.
-use chinese_number::{
-    ChineseCase, ChineseToNumber, ChineseVariant, NumberToChinese, Whole,
-};
+use chinese_number::{ChineseCase, ChineseToNumber, ChineseVariant, NumberToChinese, Whole};
 use std::alloc::{AllocError, Global};
 
 /// Which way a number goes.
@@ -11,25 +9,25 @@ pub enum Call {
     Read,
 }
 
-/// A call for a type, and how often it is made.
+/// A call for a type, and how often it goes over all the numbers.
 #[derive(Copy, Clone)]
 pub struct Task {
     pub call: Call,
     pub is_wide: bool,
-    pub count: usize,
+    pub passes: u32,
 }
 
 impl Task {
-    /// The task that these words name; a few calls where there are none.
+    /// The task that these words name; one pass of printing where there are none.
     pub fn from_words(words: &[String]) -> Option<Self> {
         if words.is_empty() {
             return Some(Task {
                 call: Call::Print,
                 is_wide: true,
-                count: 100,
+                passes: 1,
             });
         }
-        let [call, kind, method, count] = words else {
+        let [call, kind, method, passes] = words else {
             return None;
         };
         let call = match call.as_str() {
@@ -48,7 +46,7 @@ impl Task {
         Some(Task {
             call,
             is_wide,
-            count: count.as_str().parse().ok()?,
+            passes: passes.as_str().parse().ok()?,
         })
     }
 }
@@ -64,12 +62,10 @@ pub fn print_sum<T: NumberToChinese>(
     task: Task,
 ) -> Result<u64, AllocError> {
     let mut sum = 0u64;
-    let mut left = task.count;
-    while left > 0 {
-        for number in numbers.iter().take(left) {
+    for _ in 0..task.passes {
+        for number in numbers {
             sum = sum.wrapping_add(text_of(alloc, *number)?.len() as u64);
         }
-        left = left.saturating_sub(numbers.len().max(1));
     }
     Ok(sum)
 }
@@ -85,14 +81,12 @@ pub fn read_sum<T: NumberToChinese>(
         texts.push(text_of(alloc, *number)?)?;
     }
     let mut sum = 0u64;
-    let mut left = task.count;
-    while left > 0 {
-        for text in texts.iter().take(left) {
+    for _ in 0..task.passes {
+        for text in &texts {
             let number: Result<T, _> = text.as_str().to_number_naive();
             let magnitude = number.map_or(0, |number| number.magnitude());
             sum = sum.wrapping_add((magnitude & u64::MAX as u128) as u64);
         }
-        left = left.saturating_sub(texts.len().max(1));
     }
     Ok(sum)
 }

@@ -2,7 +2,11 @@
 #![tactic(auto)]
 
 use chinese_number::{
-    ChineseCase, ChineseVariant, NumberToChinese, Whole, from_u8_to_chinese_naive, from_u16_to_chinese_naive, from_u32_to_chinese_naive, from_u64_to_chinese_naive, from_u128_to_chinese_naive, from_usize_to_chinese_naive, from_i8_to_chinese_naive, from_i16_to_chinese_naive, from_i32_to_chinese_naive, from_i64_to_chinese_naive, from_i128_to_chinese_naive, from_isize_to_chinese_naive,
+    ChineseCase, ChineseVariant, NumberToChinese, Whole, from_i8_to_chinese_naive,
+    from_i16_to_chinese_naive, from_i32_to_chinese_naive, from_i64_to_chinese_naive,
+    from_i128_to_chinese_naive, from_isize_to_chinese_naive, from_u8_to_chinese_naive,
+    from_u16_to_chinese_naive, from_u32_to_chinese_naive, from_u64_to_chinese_naive,
+    from_u128_to_chinese_naive, from_usize_to_chinese_naive,
 };
 use std::fmt::Display;
 use std::io;
@@ -26,18 +30,66 @@ fn show<E: Display + Drop>(
 // The free naive printers.
 fn naive(rt: &(impl Print + AllocGlobal)) -> io::Result<()> {
     let alloc = rt.alloc();
-    show(rt, "from_u8_to_chinese_naive", from_u8_to_chinese_naive(alloc, SCRIPT, CASE, 1))?;
-    show(rt, "from_u16_to_chinese_naive", from_u16_to_chinese_naive(alloc, SCRIPT, CASE, 1))?;
-    show(rt, "from_u32_to_chinese_naive", from_u32_to_chinese_naive(alloc, SCRIPT, CASE, 1))?;
-    show(rt, "from_u64_to_chinese_naive", from_u64_to_chinese_naive(alloc, SCRIPT, CASE, 1))?;
-    show(rt, "from_u128_to_chinese_naive", from_u128_to_chinese_naive(alloc, SCRIPT, CASE, 1))?;
-    show(rt, "from_usize_to_chinese_naive", from_usize_to_chinese_naive(alloc, SCRIPT, CASE, 1))?;
-    show(rt, "from_i8_to_chinese_naive", from_i8_to_chinese_naive(alloc, SCRIPT, CASE, 1))?;
-    show(rt, "from_i16_to_chinese_naive", from_i16_to_chinese_naive(alloc, SCRIPT, CASE, 1))?;
-    show(rt, "from_i32_to_chinese_naive", from_i32_to_chinese_naive(alloc, SCRIPT, CASE, 1))?;
-    show(rt, "from_i64_to_chinese_naive", from_i64_to_chinese_naive(alloc, SCRIPT, CASE, 1))?;
-    show(rt, "from_i128_to_chinese_naive", from_i128_to_chinese_naive(alloc, SCRIPT, CASE, 1))?;
-    show(rt, "from_isize_to_chinese_naive", from_isize_to_chinese_naive(alloc, SCRIPT, CASE, 1))?;
+    show(
+        rt,
+        "from_u8_to_chinese_naive",
+        from_u8_to_chinese_naive(alloc, SCRIPT, CASE, 1),
+    )?;
+    show(
+        rt,
+        "from_u16_to_chinese_naive",
+        from_u16_to_chinese_naive(alloc, SCRIPT, CASE, 1),
+    )?;
+    show(
+        rt,
+        "from_u32_to_chinese_naive",
+        from_u32_to_chinese_naive(alloc, SCRIPT, CASE, 1),
+    )?;
+    show(
+        rt,
+        "from_u64_to_chinese_naive",
+        from_u64_to_chinese_naive(alloc, SCRIPT, CASE, 1),
+    )?;
+    show(
+        rt,
+        "from_u128_to_chinese_naive",
+        from_u128_to_chinese_naive(alloc, SCRIPT, CASE, 1),
+    )?;
+    show(
+        rt,
+        "from_usize_to_chinese_naive",
+        from_usize_to_chinese_naive(alloc, SCRIPT, CASE, 1),
+    )?;
+    show(
+        rt,
+        "from_i8_to_chinese_naive",
+        from_i8_to_chinese_naive(alloc, SCRIPT, CASE, 1),
+    )?;
+    show(
+        rt,
+        "from_i16_to_chinese_naive",
+        from_i16_to_chinese_naive(alloc, SCRIPT, CASE, 1),
+    )?;
+    show(
+        rt,
+        "from_i32_to_chinese_naive",
+        from_i32_to_chinese_naive(alloc, SCRIPT, CASE, 1),
+    )?;
+    show(
+        rt,
+        "from_i64_to_chinese_naive",
+        from_i64_to_chinese_naive(alloc, SCRIPT, CASE, 1),
+    )?;
+    show(
+        rt,
+        "from_i128_to_chinese_naive",
+        from_i128_to_chinese_naive(alloc, SCRIPT, CASE, 1),
+    )?;
+    show(
+        rt,
+        "from_isize_to_chinese_naive",
+        from_isize_to_chinese_naive(alloc, SCRIPT, CASE, 1),
+    )?;
     Ok(())
 }
 
@@ -47,7 +99,11 @@ fn by_trait<T: Whole>(rt: &(impl Print + AllocGlobal), name: &str) -> io::Result
         return Ok(());
     };
     println!(rt; "{name}")?;
-    show(rt, "to_chinese_naive", one.to_chinese_naive(rt.alloc(), SCRIPT, CASE))
+    show(
+        rt,
+        "to_chinese_naive",
+        one.to_chinese_naive(rt.alloc(), SCRIPT, CASE),
+    )
 }
 
 fn main(rt: HostRuntime) -> io::Result<()> {

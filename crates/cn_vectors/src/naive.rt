@@ -1,4 +1,5 @@
 // Plain digits, read and written.
+use ChineseToNumberError::{ChineseNumberEmpty, ChineseNumberIncorrect, Overflow, Underflow};
 use chinese_number::{
     ChineseCase, ChineseToNumber, ChineseToNumberError, ChineseVariant, NumberToChinese, Whole,
     from_chinese_to_i8_naive, from_chinese_to_i16_naive, from_chinese_to_i32_naive,
@@ -13,8 +14,6 @@ use chinese_number::{
 use std::fmt::Debug;
 use std::process::Abort;
 use std::test::Fail;
-
-use ChineseToNumberError::{ChineseNumberEmpty, ChineseNumberIncorrect, Overflow, Underflow};
 
 fn incorrect<T>(char_index: usize) -> Result<T, ChineseToNumberError> {
     Err(ChineseNumberIncorrect { char_index })
@@ -62,12 +61,108 @@ fn reads_signed(rt: HostRuntime) {
     assert_eq!(rt; from_chinese_to_i128_naive(least), Ok(i128::MIN));
 }
 
-// By the trait: nothing to read is refused, and 1 is written as 一 and read back.
-fn reads_and_writes_one<T: NumberToChinese + PartialEq + Debug + Drop>(
-    rt: &(impl Abort + AllocGlobal),
-) -> Result<(), Fail>
-where
-    for<'a> &'a str: ChineseToNumber<T>,
-{
+#[test]
+fn writes(rt: HostRuntime) -> Result<(), Fail> {
+    let alloc = rt.alloc();
+    let (script, case) = (ChineseVariant::Traditional, ChineseCase::Lower);
+    for (text, characters) in [
+        (from_i8_to_chinese_naive(alloc, script, case, 123)?, "一二三"),
+        (
+            from_u64_to_chinese_naive(alloc, script, case, 123_456_789)?,
+            "一二三四五六七八九",
+        ),
+        (
+            (-5i8).to_chinese_naive(alloc, ChineseVariant::Simple, ChineseCase::Upper)?,
+            "负伍",
+        ),
+        (from_u8_to_chinese_naive(alloc, script, case, 0)?, "零"),
+        (
+            from_i128_to_chinese_naive(alloc, script, case, i128::MIN)?,
+            "負一七零一四一一八三四六零四六九二三一七三一六八七三零三七一五八八四一零五七二八",
+        ),
+    ] {
+        assert_eq!(rt; text.as_str(), characters);
+    }
+    assert_eq!(rt;
+        from_i128_to_chinese_naive(alloc, script, case, i128::MIN)?.len(),
+        120
+    );
+    assert_eq!(rt; from_u8_to_chinese_naive(alloc, script, case, 0)?.len(), 3);
     Ok(())
+}
+
+#[test]
+fn writes_one_for_each_type(rt: HostRuntime) -> Result<(), Fail> {
+    let alloc = rt.alloc();
+    let (script, case) = (ChineseVariant::Traditional, ChineseCase::Lower);
+    for text in [
+        from_u8_to_chinese_naive(alloc, script, case, 1)?,
+        from_u16_to_chinese_naive(alloc, script, case, 1)?,
+        from_u32_to_chinese_naive(alloc, script, case, 1)?,
+        from_u64_to_chinese_naive(alloc, script, case, 1)?,
+        from_u128_to_chinese_naive(alloc, script, case, 1)?,
+        from_usize_to_chinese_naive(alloc, script, case, 1)?,
+        from_i8_to_chinese_naive(alloc, script, case, 1)?,
+        from_i16_to_chinese_naive(alloc, script, case, 1)?,
+        from_i32_to_chinese_naive(alloc, script, case, 1)?,
+        from_i64_to_chinese_naive(alloc, script, case, 1)?,
+        from_i128_to_chinese_naive(alloc, script, case, 1)?,
+        from_isize_to_chinese_naive(alloc, script, case, 1)?,
+    ] {
+        assert_eq!(rt; text.as_str(), "一");
+    }
+    Ok(())
+}
+
+// By the trait: an empty text is refused, and 1 is written as 一, which is read back.
+fn reads_back_one<T: Whole + PartialEq + Debug>(
+    rt: &(impl Abort + AllocGlobal),
+) -> Result<(), Fail> {
+    let nothing: Result<T, ChineseToNumberError> = "\u{3000}".to_number_naive();
+    assert_eq!(rt; nothing, Err(ChineseNumberEmpty));
+    let one = T::from_magnitude(false, 1).ok_or("holds 1")?;
+    let (script, case) = (ChineseVariant::Traditional, ChineseCase::Lower);
+    let text = one.to_chinese_naive(rt.alloc(), script, case)?;
+    assert_eq!(rt; text.as_str(), "一");
+    assert_eq!(rt; text.as_str().to_number_naive(), Ok(one));
+    Ok(())
+}
+
+#[test]
+fn reads_back_one_of_each_type(rt: HostRuntime) -> Result<(), Fail> {
+    reads_back_one::<u8>(&rt)?;
+    reads_back_one::<u16>(&rt)?;
+    reads_back_one::<u32>(&rt)?;
+    reads_back_one::<u64>(&rt)?;
+    reads_back_one::<u128>(&rt)?;
+    reads_back_one::<usize>(&rt)?;
+    reads_back_one::<i8>(&rt)?;
+    reads_back_one::<i16>(&rt)?;
+    reads_back_one::<i32>(&rt)?;
+    reads_back_one::<i64>(&rt)?;
+    reads_back_one::<i128>(&rt)?;
+    reads_back_one::<isize>(&rt)?;
+    Ok(())
+}
+
+#[test]
+fn reads_with_each_type(rt: HostRuntime) {
+    assert_eq!(rt; from_chinese_to_u8_naive("一二三"), Ok(123));
+    assert_eq!(rt; from_chinese_to_u16_naive("一二三"), Ok(123));
+    assert_eq!(rt; from_chinese_to_u32_naive("一二三"), Ok(123));
+    assert_eq!(rt; from_chinese_to_u64_naive("一二三"), Ok(123));
+    assert_eq!(rt; from_chinese_to_u128_naive("一二三"), Ok(123));
+    assert_eq!(rt; from_chinese_to_usize_naive("一二三"), Ok(123));
+    assert_eq!(rt; from_chinese_to_i8_naive("一二三"), Ok(123));
+    assert_eq!(rt; from_chinese_to_i16_naive("一二三"), Ok(123));
+    assert_eq!(rt; from_chinese_to_i32_naive("一二三"), Ok(123));
+    assert_eq!(rt; from_chinese_to_i64_naive("一二三"), Ok(123));
+    assert_eq!(rt; from_chinese_to_i128_naive("一二三"), Ok(123));
+    assert_eq!(rt; from_chinese_to_isize_naive("一二三"), Ok(123));
+}
+
+#[test]
+fn reads_by_the_trait(rt: HostRuntime) {
+    assert_eq!(rt; "一二三".to_number_naive(), Ok(123i8));
+    assert_eq!(rt; "一二三四五六七八九".to_number_naive(), Ok(123_456_789u64));
 }
