@@ -1,4 +1,6 @@
-//! Makes each call that takes memory once, and prints what came of it: 1 in Chinese, or the error.
+//! Makes each call that takes memory once, and prints what came of it in a line: 1 in Chinese, or the error.
+//!
+//! Each line takes one growth, so that `beside/want_of_memory.py` can refuse them in turn.
 #![tactic(auto)]
 
 use chinese_number::{
@@ -15,10 +17,10 @@ const SCRIPT: ChineseVariant = ChineseVariant::Traditional;
 
 const CASE: ChineseCase = ChineseCase::Lower;
 
-// Prints what came of a call.
+// Prints what came of a call, in a line of its own.
 fn show<E: Display + Drop>(
     rt: &impl Print,
-    call: &str,
+    call: impl Display + Drop,
     outcome: Result<String, E>,
 ) -> io::Result<()> {
     match outcome {
@@ -98,10 +100,9 @@ fn by_trait<T: Whole>(rt: &(impl Print + AllocGlobal), name: &str) -> io::Result
     let Some(one) = T::from_magnitude(false, 1) else {
         return Ok(());
     };
-    println!(rt; "{name}")?;
     show(
         rt,
-        "to_chinese_naive",
+        format_args!("{name}.to_chinese_naive"),
         one.to_chinese_naive(rt.alloc(), SCRIPT, CASE),
     )
 }
@@ -119,6 +120,5 @@ fn main(rt: HostRuntime) -> io::Result<()> {
     by_trait::<i32>(&rt, "i32")?;
     by_trait::<i64>(&rt, "i64")?;
     by_trait::<i128>(&rt, "i128")?;
-    by_trait::<isize>(&rt, "isize")?;
-    Ok(())
+    by_trait::<isize>(&rt, "isize")
 }
