@@ -17,7 +17,10 @@ use cn_core::Whole;
 fn push_digit(number: u128, digit: u8) -> Option<u128>
     ensures { SomeIff result (number * 10 + digit < 2 ^ 128) (number * 10 + digit) }
 {
-    number.checked_mul(10)?.checked_add(digit as u128)
+    if number > u128::MAX / 10 {
+        return None;
+    }
+    (number * 10).checked_add(digit as u128)
 }
 
 // The answer to plain digits without sign, which stand after so many characters of the caller's string.
