@@ -1,3 +1,4 @@
-pub mod Walking
+pub mod MarkTable
 pub mod Pieces
 pub mod PlainDigits
+pub mod Walking

@@ -43,11 +43,15 @@ rows_have p rows c i h e =
     let at = position-Some (λ row. char_set_contains row c) rows i [] e in
     row_has p (get_or rows i []) c (rows_at (list_all p) rows i h at.0) at.1
 
+-- what each character of a digit or a unit has, a character that lacks it is neither
+pub outside-mark : (p : ℕ → Bool) (c : ℕ) → list_all (list_all p) digit_rows ≡ true → list_all (list_all p) unit_rows ≡ true → p c ≡ false → mark_of c ≡ other
+unfolding digit_of rank_of
+outside-mark p c digits units lacks = by (row_with c digit_rows) (row_with c unit_rows) refl refl where
+  by : (d r : Option ℕ) → row_with c digit_rows ≡ d → row_with c unit_rows ≡ r → mark_from d r ≡ other
+  by (Some value) r e f = let has = rows_have p digit_rows c value digits e in cc
+  by None (Some rank) e f = let has = rows_have p unit_rows c rank units f in cc
+  by None None e f = refl
+
 -- white space is no mark
 pub white-mark : (c : ℕ) → is_whitespace c ≡ true → mark_of c ≡ other
-unfolding digit_of rank_of
-white-mark c white = by (row_with c digit_rows) (row_with c unit_rows) refl refl where
-  by : (d r : Option ℕ) → row_with c digit_rows ≡ d → row_with c unit_rows ≡ r → mark_from d r ≡ other
-  by (Some value) r p q = let dark = rows_have is_not_whitespace digit_rows c value refl p in let e = ap not white in cc
-  by None (Some rank) p q = let dark = rows_have is_not_whitespace unit_rows c rank refl q in let e = ap not white in cc
-  by None None p q = refl
+white-mark c white = outside-mark is_not_whitespace c refl refl (ap not white)
