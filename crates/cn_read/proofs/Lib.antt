@@ -1,0 +1,4 @@
+pub mod MarkTable
+pub mod Pieces
+pub mod PlainDigits
+pub mod Walking

@@ -1,0 +1,11 @@
+-- A mark of the code, as the definitions of numerals speak of it.
+use Rattle.cn_core.specs.Characters.{rank}
+use Rattle.cn_core.specs.Mark.{Mark, digit, unit, other}
+use Rattle.cn_read.specs.declared.mark.Mark.{Mark as ReadMark}
+use Rattle.cn_read.specs.declared.mark.Mark.TheVariants.{Digit, Unit, Other}
+
+-- the mark that it stands for
+abbrev pub marked : ReadMark → Mark
+marked (Digit value) = digit value
+marked (Unit which) = unit (rank which)
+marked Other = other

@@ -1,0 +1,18 @@
+-- Ends of a string, by the characters that stand in front of them. Private functions alone speak of them.
+use Rattle.std.specs.Prelude.{◌≡◌, ℕ, ◌+◌, List, ◌++◌, length, filter, chars, Result, Err}
+use Rattle.std.specs.Char.{is_not_whitespace}
+use Rattle.cn_core.specs.Refusal.{Refusal, incorrect_at}
+use Rattle.cn_core.specs.Spot.{spot}
+
+-- these characters end the string, after so many others, of which `place` are no white space
+pub record StandsAt (bytes ahead : List ℕ) (index place : ℕ) : Type 0 where
+  pub front : List ℕ
+  pub parts : chars bytes ≡ front ++ ahead
+  pub index_is : length front ≡ index
+  pub place_is : length (filter is_not_whitespace front) ≡ place
+
+-- the answer to a piece of a string, whose place is told by where it stands in the string, when so many
+-- characters of the string stand before the piece
+abbrev pub spotted : ℕ → List ℕ → Result ℕ Refusal → Result ℕ Refusal
+spotted skipped bytes (Err (incorrect_at place)) = Err (incorrect_at (skipped + spot bytes place))
+spotted skipped bytes answer = answer
