@@ -1,3 +1,4 @@
+pub mod Joining
 pub mod LeadingZeros
 pub mod Methods
 pub mod Numerals
