@@ -2,8 +2,10 @@ pub mod Fronts
 pub mod Grammar
 pub mod Judging
 pub mod NaiveExamples
+pub mod NumeralExamples
 pub mod OpenUnits
 pub mod ReadBack
 pub mod ScaleLaws
+pub mod SpellingExamples
 pub mod Spellings
 pub mod Sums
