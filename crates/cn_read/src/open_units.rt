@@ -39,6 +39,9 @@ impl Model for OpenUnits {
 fn multiply_add(factor: u128, size: u128, more: u128) -> Option<u128>
     ensures { SomeIff result (factor * size + more < 2 ^ 128) (factor * size + more) }
 {
+    if let (Ok(factor), Ok(size)) = (u64::try_from(factor), u64::try_from(size)) {
+        return (factor as u128 * size as u128).checked_add(more);
+    }
     factor.checked_mul(size)?.checked_add(more)
 }
 

@@ -49,11 +49,36 @@ pub fn split_first(text: &str) -> Option<First<'_>>
     None
 }
 
+// The last character where it takes three bytes, as nearly all characters of numerals do, and what stands
+// before it. The general way below looks for the character's first byte.
+fn split_last_of_three_bytes(text: &str) -> Option<(char, &str)>
+    ensures parts { IfSome result (λ r. chars text.now ≡ chars r.1.now ++ r.0 ∷ []) }
+    ensures shorter { IfSome result (λ r. length r.1.now < length text.now) }
+{
+    let bytes = text.as_bytes();
+    if bytes.len() < 3 {
+        return None;
+    }
+    let start = bytes.len() - 3;
+    let first = bytes[start];
+    if first < 0xe0 || first >= 0xf0 {
+        return None;
+    }
+    let (before, last) = text.split_at(start);
+    match split_first_char(last) {
+        Some((c, rest)) if rest.is_empty() => Some((c, before)),
+        _ => None,
+    }
+}
+
 /// The last character, and what stands before it.
 pub fn split_last_char(text: &str) -> Option<(char, &str)>
     ensures parts { MatchOption result (chars text.now ≡ []) (λ r. chars text.now ≡ chars r.1.now ++ r.0 ∷ []) }
     ensures shorter { IfSome result (λ r. length r.1.now < length text.now) }
 {
+    if let Some(split) = split_last_of_three_bytes(text) {
+        return Some(split);
+    }
     let mut chars = text.chars();
     match chars.next_back() {
         Some(c) => Some((c, chars.as_str())),

@@ -33,6 +33,7 @@ ghost use Rattle.cn_read.specs.Private.Walk.{digit_next, walked_answer, HasNoTai
 
 use crate::ChineseToNumberError;
 use crate::mark::{Mark, mark_of};
+use crate::open_units::OpenUnits;
 use crate::sign::split_sign;
 use crate::text::{count_chars, split_first, split_last};
 use crate::typed::with_sign;
@@ -67,7 +68,8 @@ fn judge_plain(
     ensures { answer_of (λ n. n) result
         ≡ after_first char_index rest.now (walked_answer method (mark_of first) (marks_of (text_of rest.now))) }
 {
-    let (mut units, next) = walk(method, char_index + 1, rest)?;
+    let mut units = OpenUnits::new();
+    let next = walk(method, char_index + 1, rest, &mut units)?;
     let Some(digit) = first_digit(first, next) else {
         return Err(ChineseToNumberError::ChineseNumberIncorrect { char_index });
     };

@@ -150,18 +150,20 @@ fn step(
     }
 }
 
-/// Walks a text that stands after so many characters of the caller's string, to its first fault.
+/// Walks a text that stands after so many characters of the caller's string, to its first fault, and tells
+/// what stands at its start.
 pub fn walk(
     method: ChineseCountMethod,
     skipped: usize,
     text: &str,
-) -> Result<(OpenUnits, Next), ChineseToNumberError>
-    requires { skipped + length text.now < 2 ^ 64 }
-    ensures { MatchResult result (λ w. IsWalked method (text_of text.now) w.0 w.1)
+    units: &mut OpenUnits,
+) -> Result<Next, ChineseToNumberError>
+    requires room { skipped + length text.now < 2 ^ 64 }
+    requires none_open { units.old ≡ (0, []) }
+    ensures { MatchResult result (λ next. IsWalked method (text_of text.now) units.new next)
         (λ error. (fault : Refusal) × (faults method (marks_of (text_of text.now)) ≡ Some fault)
         × (Err (refusal_of error) ≡ spotted skipped text.now (Err fault))) }
 {
-    let mut units = OpenUnits::new();
     let mut next = Next::AtEnd;
     let mut ahead = text;
     'walking: while let Some((c, before)) = split_last_char(ahead) {
@@ -170,7 +172,7 @@ pub fn walk(
             ahead = before;
             continue;
         }
-        match step(method, &mut units, next, mark) {
+        match step(method, units, next, mark) {
             Ok(after) => next = after,
             Err(Fault::PastLimit) => return Err(ChineseToNumberError::Overflow),
             Err(Fault::Incorrect) => {
@@ -180,5 +182,5 @@ pub fn walk(
         }
         ahead = before;
     }
-    Ok((units, next))
+    Ok(next)
 }
