@@ -8,7 +8,7 @@ use Rattle.cn_core.proofs.Fronts.{and-left, and-right}
 use Rattle.cn_read.specs.declared.mark.Mark.{Mark as ReadMark}
 use Rattle.cn_read.specs.declared.mark.Mark.TheVariants.{Other}
 use Rattle.cn_read.specs.declared.mark.TheConstants.{MARKS, PLACES}
-use Rattle.cn_read.specs.Marked.{marked}
+use Rattle.cn_read.specs.Private.Marked.{marked}
 use Rattle.cn_read.proofs.Walking.{outside-mark}
 
 all_at : {X : Type 0} (p : X → Bool) (xs : List X) (i : ℕ) (d : X) → list_all p xs ≡ true → i < length xs → p (get_or xs i d) ≡ true

@@ -1,12 +1,12 @@
 -- A step over one character, from the front and from the back, and which characters are no white space.
-use Rattle.std.proofs.Common.{◌≡◌, ℕ, ◌<◌, Bool, true, false, cond, List, [], ◌∷◌, ◌++◌, length, filter, chars, Option, Some, None, refl, sym, ap, ◌∙◌, arith, IsUtf8, append-nil, encode_utf8, encode_utf8_all, get_or, not, ◌==◌, ◌||◌, zero, suc}
+use Rattle.std.proofs.Common.{◌≡◌, ◌≢◌, ℕ, ◌<◌, Bool, true, false, cond, List, [], ◌∷◌, ◌++◌, length, filter, chars, Option, Some, None, refl, sym, ap, ◌∙◌, arith, IsUtf8, append-nil, encode_utf8, encode_utf8_all, get_or, not, ◌==◌, ◌||◌, zero, suc}
 use Rattle.std.specs.List.{list_all}
 use Rattle.std.specs.Char.{is_whitespace, is_not_whitespace, char_set_contains}
 use Rattle.std.proofs.lemmas.Bool.Decides.{nat_tests}
 use Rattle.std.proofs.lemmas.List.Quantifiers.{position-Some}
 use Rattle.std.proofs.lemmas.Str.{encodes-chars, encodes-append, encodes_same, chars-nil}
 use Rattle.cn_core.specs.Characters.{digit_of, rank_of, digit_rows, unit_rows, row_with}
-use Rattle.cn_core.specs.Mark.{other, mark_of, mark_from}
+use Rattle.cn_core.specs.Mark.{digit, unit, other, mark_of, mark_from}
 use Rattle.cn_core.proofs.Fronts.{and-left, and-right}
 
 pub chars-from_empty : (bytes : List ℕ) → length bytes ≡ 0 → chars bytes ≡ []
@@ -19,6 +19,13 @@ chars-back bytes front c whole before parts =
     encodes_same (chars bytes) (chars front ++ c ∷ [])
     (encodes-chars bytes whole ∙ parts ∙ ap (λ l. l ++ encode_utf8 c) (sym (encodes-chars front before))
     ∙ ap (λ l. encode_utf8_all (chars front) ++ l) (sym (append-nil (encode_utf8 c))) ∙ sym (encodes-append (chars front) (c ∷ [])))
+
+-- a text that is cut before its last character
+pub chars-split : (bytes front back : List ℕ) (c : ℕ) → IsUtf8 bytes → IsUtf8 front → IsUtf8 back → bytes ≡ front ++ back → chars back ≡ c ∷ []
+    → chars bytes ≡ chars front ++ c ∷ []
+chars-split bytes front back c whole before after parts is =
+    chars-back bytes front c whole before
+    (parts ∙ ap (λ l. front ++ l) (sym (encodes-chars back after) ∙ ap encode_utf8_all is ∙ append-nil (encode_utf8 c)))
 
 pub filter-append : (p : ℕ → Bool) (xs ys : List ℕ) → filter p (xs ++ ys) ≡ filter p xs ++ filter p ys
 filter-append p [] ys = refl
@@ -55,3 +62,15 @@ outside-mark p c digits units lacks = by (row_with c digit_rows) (row_with c uni
 -- white space is no mark
 pub white-mark : (c : ℕ) → is_whitespace c ≡ true → mark_of c ≡ other
 white-mark c white = outside-mark is_not_whitespace c refl refl (ap not white)
+
+marks-dark : (c : ℕ) → mark_of c ≢ other → is_whitespace c ≡ false
+marks-dark c some = by (is_whitespace c) refl where
+  by : (b : Bool) → is_whitespace c ≡ b → b ≡ false
+  by true white = absurd (some (white-mark c white))
+  by false dark = refl
+
+pub digit-dark : (c value : ℕ) → digit value ≡ mark_of c → is_whitespace c ≡ false
+digit-dark c value h = marks-dark c (λ e. let f = h ∙ e in cc)
+
+pub unit-dark : (c rank : ℕ) → unit rank ≡ mark_of c → is_whitespace c ≡ false
+unit-dark c rank h = marks-dark c (λ e. let f = h ∙ e in cc)

@@ -1,7 +1,8 @@
 // What a character of a numeral is, by a look-up without a search.
 ghost use Rattle.std.specs.Prelude.{◌≡◌, ◌*◌, ◌/◌, ◌%◌, slice_index, slice_index_or};
+ghost use Rattle.std.specs.Char.{is_whitespace};
 ghost use Rattle.cn_core.specs.Mark.{mark_of};
-ghost use Rattle.cn_read.specs.Marked.{marked};
+ghost use Rattle.cn_read.specs.Private.Marked.{marked};
 
 use cn_core::Unit;
 
@@ -115,4 +116,16 @@ pub fn mark_of(c: char) -> Mark
 {
     let (character, mark) = entry(c);
     if character == c { mark } else { Mark::Other }
+}
+
+/// Whether the character, which has this mark, is white space: no digit and no unit is.
+pub fn is_white(c: char, mark: Mark) -> bool
+    requires { marked mark ≡ mark_of c }
+    ensures { result ≡ is_whitespace c }
+{
+    match mark {
+        Mark::Other => c.is_whitespace(),
+        Mark::Digit(_) => false,
+        Mark::Unit(_) => false,
+    }
 }

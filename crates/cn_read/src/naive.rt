@@ -4,7 +4,7 @@ ghost use Rattle.cn_core.specs.Text.{text_of, marks_of};
 ghost use Rattle.cn_core.specs.Naive.{naive_answer};
 ghost use Rattle.cn_core.specs.Typed.{naive_reading};
 ghost use Rattle.cn_read.specs.Answer.{answer_of};
-ghost use Rattle.cn_read.specs.Piece.{spotted};
+ghost use Rattle.cn_read.specs.Private.Piece.{spotted};
 
 use crate::ChineseToNumberError;
 use crate::mark::{Mark, mark_of};
