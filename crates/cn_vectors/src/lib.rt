@@ -2,6 +2,12 @@
 #![tactic(auto)]
 
 #[cfg(test)]
+mod calls;
+#[cfg(test)]
+mod long;
+#[cfg(test)]
 mod naive;
+#[cfg(test)]
+mod reading;
 #[cfg(test)]
 mod scales;
