@@ -9,5 +9,4 @@ use cn_core::Unit;
 /// Units are ordered by rank: 個 is the least and 極 the greatest.
 pub fn units_compare_by_rank()
     ensures { (a b : NumeralUnit) → ⟦<Unit as Ord>⟧.cmp a b ≡ nat_cmp (rank a) (rank b) }
-{
-}
+{}
