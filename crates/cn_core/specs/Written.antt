@@ -1,9 +1,13 @@
 -- The characters and bytes in which marks and numbers are written.
-use Rattle.std.specs.Prelude.{ℕ, Bool, List, [], ◌∷◌, ◌++◌, map, encode_utf8_all, if◌then◌else◌}
+use Rattle.std.specs.Prelude.{ℕ, ◌^◌, ℤ, pos, int_lt, nat_abs, nat_lt, Bool, true, List, [], ◌∷◌, ◌++◌, map, encode_utf8_all, if◌then◌else◌}
 use Rattle.cn_core.specs.declared.script.ChineseVariant.{ChineseVariant}
 use Rattle.cn_core.specs.declared.case.ChineseCase.{ChineseCase}
+use Rattle.cn_core.specs.declared.method.ChineseCountMethod.{ChineseCountMethod}
+use Rattle.cn_core.specs.declared.method.ChineseCountMethod.TheVariants.{Low}
 use Rattle.cn_core.specs.Characters.{digit_char, unit_char, minus_char}
 use Rattle.cn_core.specs.Mark.{Mark, digit, unit, other}
+use Rattle.cn_core.specs.Naive.{decimal_digits}
+use Rattle.cn_core.specs.Spelling.{spelling}
 
 -- the character that writes a mark; a spelling has no other mark than digits and units
 abbrev pub mark_char : ChineseVariant → ChineseCase → Mark → ℕ
@@ -19,3 +23,16 @@ written variant case negative marks =
 -- the bytes of that text
 abbrev pub written_bytes : ChineseVariant → ChineseCase → Bool → List Mark → List ℕ
 written_bytes variant case negative marks = encode_utf8_all (written variant case negative marks)
+
+-- the characters of a number as plain digits, after the minus sign where it is below zero
+abbrev pub naive_text : ChineseVariant → ChineseCase → ℤ → List ℕ
+naive_text variant case number = written variant case (int_lt number (pos 0)) (decimal_digits (nat_abs number))
+
+-- the characters of a number by its spelling, after the minus sign where it is below zero
+abbrev pub spelled_text : ChineseVariant → ChineseCase → ChineseCountMethod → ℤ → List ℕ
+spelled_text variant case method number = written variant case (int_lt number (pos 0)) (spelling method (nat_abs number))
+
+-- the numbers that a method writes: each one, but by `Low` those with a magnitude below 10^16
+abbrev pub is_printable : ChineseCountMethod → ℤ → Bool
+is_printable Low number = nat_lt (nat_abs number) (10 ^ 16)
+is_printable method number = true

@@ -1,0 +1,72 @@
+-- The decimal digits of a number, taken off from the lowest up.
+use Rattle.std.proofs.Common.{◌≡◌, ℕ, zero, suc, ◌+◌, ◌-◌, ◌*◌, ◌/◌, ◌%◌, ◌^◌, ◌<◌, ◌≤◌, [], ◌∷◌, ◌++◌, length, map, refl, sym, ap, ◌∙◌, arith}
+use Rattle.std.specs.Prelude.{decimal, reverse}
+use Rattle.std.proofs.Math.Decide.{dec_lt}
+use Rattle.std.proofs.Math.Nat.{div-div-eq-div-mul, one-le-pow}
+use Rattle.std.proofs.Math.Arith.{mod-mul}
+use Rattle.std.proofs.lemmas.Nat.{div-mul-add, mod-mul-add}
+use Rattle.std.proofs.lemmas.Fmt.{decimal_step_wide, decimal_digit, length-decimal-le_wide}
+use Rattle.std.proofs.lemmas.List.{map-append, length-map, reverse-append, length-reverse}
+use Rattle.cn_print.specs.Places.{places_of, lowest}
+
+pub places-step : (number : ℕ) → 10 ≤ number → number < 10 ^ 64 → places_of number ≡ number % 10 ∷ places_of (number / 10)
+places-step number ten small =
+    let value : ℕ → ℕ = λ byte. byte - 48 in
+    let last : 48 + number % 10 - 48 ≡ number % 10 = omega arith in
+    ap (λ bytes. reverse (map value bytes)) (decimal_step_wide number ten small)
+    ∙ ap reverse (map-append value (decimal (number / 10)) ((48 + number % 10) ∷ []))
+    ∙ reverse-append (map value (decimal (number / 10))) (value (48 + number % 10) ∷ [])
+    ∙ ap (λ digit. digit ∷ places_of (number / 10)) last
+
+pub places-digit : (number : ℕ) → number < 10 → places_of number ≡ number ∷ []
+places-digit number small =
+    let value : ℕ → ℕ = λ byte. byte - 48 in
+    let only : 48 + number - 48 ≡ number = omega arith in
+    ap (λ bytes. reverse (map value bytes)) (decimal_digit number small) ∙ ap (λ digit. digit ∷ []) only
+
+-- so many digits, and then those of what is left
+pub places-lowest : (count number : ℕ) → 10 ^ count ≤ number → number < 10 ^ 64 → places_of number ≡ lowest count number ++ places_of (number / 10 ^ count)
+places-lowest zero number reach small = let e : number / 1 ≡ number = omega arith in rw e refl
+places-lowest (suc count) number reach small =
+    let one : 1 ≤ 10 ^ count = one-le-pow count 10 (omega arith) in
+    let power : 10 ^ suc count ≡ 10 * 10 ^ count = omega arith in
+    let below : 10 ^ count ≤ number / 10 = omega (arith, reach, power) in
+    let rest : number / 10 / 10 ^ count ≡ number / 10 ^ suc count = div-div-eq-div-mul number 10 (10 ^ count) ∙ ap (λ p. number / p) (sym power) in
+    places-step number (omega (arith, reach, one, power)) small
+    ∙ ap (λ front. number % 10 ∷ front) (places-lowest count (number / 10) below (omega (arith, small)) ∙ ap (λ left. lowest count (number / 10) ++ places_of left) rest)
+
+pub lowest-append : (count more number : ℕ) → lowest (count + more) number ≡ lowest count number ++ lowest more (number / 10 ^ count)
+lowest-append zero more number = let e : number / 1 ≡ number = omega arith in let z : 0 + more ≡ more = omega arith in rw (e, z) refl
+lowest-append (suc count) more number =
+    let power : 10 * 10 ^ count ≡ 10 ^ suc count = omega arith in
+    let rest : number / 10 / 10 ^ count ≡ number / 10 ^ suc count = div-div-eq-div-mul number 10 (10 ^ count) ∙ ap (λ p. number / p) power in
+    let step : suc count + more ≡ suc (count + more) = omega arith in
+    rw step (ap (λ front. number % 10 ∷ front) (lowest-append count more (number / 10) ∙ ap (λ left. lowest count (number / 10) ++ lowest more left) rest))
+
+pub length-lowest : (count number : ℕ) → length (lowest count number) ≡ count
+length-lowest zero number = refl
+length-lowest (suc count) number = ap suc (length-lowest count (number / 10))
+
+pub length-places-le : (count number : ℕ) → 1 ≤ count → number < 10 ^ count → number < 10 ^ 64 → length (places_of number) ≤ count
+length-places-le count number some fits small =
+    let value : ℕ → ℕ = λ byte. byte - 48 in
+    omega (arith, length-reverse (map value (decimal number)), length-map (decimal number) value, length-decimal-le_wide count number some fits small)
+
+-- a number has a digit
+pub length-places-some : (number : ℕ) → number < 10 ^ 64 → 1 ≤ length (places_of number)
+length-places-some number small = elim (dec_lt number 10) [
+  | yes low ↦ rw (places-digit number low) (omega arith)
+  | no high ↦ rw (places-step number (omega (arith, high)) small) (omega arith)
+]
+
+-- what stands above does not matter
+pub lowest-low : (count more number : ℕ) → lowest count (number % 10 ^ (count + more)) ≡ lowest count number
+lowest-low zero more number = refl
+lowest-low (suc count) more number =
+    let power = 10 ^ (count + more) in
+    let some : 1 ≤ 10 ^ (count + more) = one-le-pow (count + more) 10 (omega arith) in
+    let width : 10 ^ (suc count + more) ≡ 10 ^ (count + more) * 10 = let step : suc count + more ≡ suc (count + more) = omega arith in rw step (omega arith) in
+    let split : number % (power * 10) ≡ number / 10 % power * 10 + number % 10 = mod-mul number (omega (arith, some)) (omega arith) in
+    let digit = mod-mul-add (number / 10 % power) 10 (number % 10) (omega arith) in
+    let above = div-mul-add (number / 10 % power) 10 (number % 10) (omega arith) in
+    rw (width, split, digit, above) (ap (λ front. number % 10 ∷ front) (lowest-low count more (number / 10)))

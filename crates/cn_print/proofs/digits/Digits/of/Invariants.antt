@@ -1,0 +1,9 @@
+use Rattle.std.proofs.Common.{◌≡◌, ◌++◌}
+use Rattle.cn_print.specs.Places.{places_of}
+use Rattle.cn_print.proofs.digits.Digits.of.Given as goal
+
+abbrev pub invariant-loop-above : goal.invariant-loop-above
+invariant-loop-above l = l.digits ++ places_of l.above ≡ places_of l.magnitude
+
+abbrev pub decreases-loop-above : goal.decreases-loop-above
+decreases-loop-above l = l.above

@@ -1,0 +1,9 @@
+-- What a printed text is.
+use Rattle.std.specs.Prelude.{◌≡◌, ℕ, ◌*◌, ◌≤◌, List, length, encode_utf8_all, string_bytes, string_len}
+use Rattle.std.specs.declared.string.String.{String}
+
+-- the text is these characters, three bytes for each, and has at most so many bytes
+pub record Writes {Z : Type 0} (characters : List ℕ) (most : ℕ) (text : String Z) : Type 0 where
+  pub bytes : string_bytes text ≡ encode_utf8_all characters
+  pub len : string_len text ≡ 3 * length characters
+  pub bound : string_len text ≤ most

@@ -1,0 +1,176 @@
+// The free printers of plain digits, one for each integer type.
+ghost use Rattle.std.specs.Prelude.{IfOk, pos};
+ghost use Rattle.cn_core.specs.Written.{naive_text};
+ghost use Rattle.cn_print.specs.Writes.{Writes};
+
+use crate::naive::print_naive;
+use cn_core::{ChineseCase, ChineseVariant};
+use std::alloc::{AllocError, Global};
+
+/// Writes a `u8` as plain decimal digits.
+///
+/// The only error is want of memory.
+pub fn from_u8_to_chinese_naive(
+    alloc: Global,
+    variant: ChineseVariant,
+    case: ChineseCase,
+    value: u8,
+) -> Result<String, AllocError>
+    ensures { IfOk result (Writes (naive_text variant case (pos value)) 120) }
+{
+    print_naive(alloc, variant, case, value)
+}
+
+/// Writes a `u16` as plain decimal digits.
+///
+/// The only error is want of memory.
+pub fn from_u16_to_chinese_naive(
+    alloc: Global,
+    variant: ChineseVariant,
+    case: ChineseCase,
+    value: u16,
+) -> Result<String, AllocError>
+    ensures { IfOk result (Writes (naive_text variant case (pos value)) 120) }
+{
+    print_naive(alloc, variant, case, value)
+}
+
+/// Writes a `u32` as plain decimal digits.
+///
+/// The only error is want of memory.
+pub fn from_u32_to_chinese_naive(
+    alloc: Global,
+    variant: ChineseVariant,
+    case: ChineseCase,
+    value: u32,
+) -> Result<String, AllocError>
+    ensures { IfOk result (Writes (naive_text variant case (pos value)) 120) }
+{
+    print_naive(alloc, variant, case, value)
+}
+
+/// Writes a `u64` as plain decimal digits.
+///
+/// The only error is want of memory.
+pub fn from_u64_to_chinese_naive(
+    alloc: Global,
+    variant: ChineseVariant,
+    case: ChineseCase,
+    value: u64,
+) -> Result<String, AllocError>
+    ensures { IfOk result (Writes (naive_text variant case (pos value)) 120) }
+{
+    print_naive(alloc, variant, case, value)
+}
+
+/// Writes a `u128` as plain decimal digits.
+///
+/// The only error is want of memory.
+pub fn from_u128_to_chinese_naive(
+    alloc: Global,
+    variant: ChineseVariant,
+    case: ChineseCase,
+    value: u128,
+) -> Result<String, AllocError>
+    ensures { IfOk result (Writes (naive_text variant case (pos value)) 120) }
+{
+    print_naive(alloc, variant, case, value)
+}
+
+/// Writes a `usize` as plain decimal digits.
+///
+/// The only error is want of memory.
+pub fn from_usize_to_chinese_naive(
+    alloc: Global,
+    variant: ChineseVariant,
+    case: ChineseCase,
+    value: usize,
+) -> Result<String, AllocError>
+    ensures { IfOk result (Writes (naive_text variant case (pos value)) 120) }
+{
+    print_naive(alloc, variant, case, value)
+}
+
+/// Writes a `i8` as plain decimal digits, after the minus sign where it is below zero.
+///
+/// The only error is want of memory.
+pub fn from_i8_to_chinese_naive(
+    alloc: Global,
+    variant: ChineseVariant,
+    case: ChineseCase,
+    value: i8,
+) -> Result<String, AllocError>
+    ensures { IfOk result (Writes (naive_text variant case value) 120) }
+{
+    print_naive(alloc, variant, case, value)
+}
+
+/// Writes a `i16` as plain decimal digits, after the minus sign where it is below zero.
+///
+/// The only error is want of memory.
+pub fn from_i16_to_chinese_naive(
+    alloc: Global,
+    variant: ChineseVariant,
+    case: ChineseCase,
+    value: i16,
+) -> Result<String, AllocError>
+    ensures { IfOk result (Writes (naive_text variant case value) 120) }
+{
+    print_naive(alloc, variant, case, value)
+}
+
+/// Writes a `i32` as plain decimal digits, after the minus sign where it is below zero.
+///
+/// The only error is want of memory.
+pub fn from_i32_to_chinese_naive(
+    alloc: Global,
+    variant: ChineseVariant,
+    case: ChineseCase,
+    value: i32,
+) -> Result<String, AllocError>
+    ensures { IfOk result (Writes (naive_text variant case value) 120) }
+{
+    print_naive(alloc, variant, case, value)
+}
+
+/// Writes a `i64` as plain decimal digits, after the minus sign where it is below zero.
+///
+/// The only error is want of memory.
+pub fn from_i64_to_chinese_naive(
+    alloc: Global,
+    variant: ChineseVariant,
+    case: ChineseCase,
+    value: i64,
+) -> Result<String, AllocError>
+    ensures { IfOk result (Writes (naive_text variant case value) 120) }
+{
+    print_naive(alloc, variant, case, value)
+}
+
+/// Writes a `i128` as plain decimal digits, after the minus sign where it is below zero.
+///
+/// The only error is want of memory.
+pub fn from_i128_to_chinese_naive(
+    alloc: Global,
+    variant: ChineseVariant,
+    case: ChineseCase,
+    value: i128,
+) -> Result<String, AllocError>
+    ensures { IfOk result (Writes (naive_text variant case value) 120) }
+{
+    print_naive(alloc, variant, case, value)
+}
+
+/// Writes a `isize` as plain decimal digits, after the minus sign where it is below zero.
+///
+/// The only error is want of memory.
+pub fn from_isize_to_chinese_naive(
+    alloc: Global,
+    variant: ChineseVariant,
+    case: ChineseCase,
+    value: isize,
+) -> Result<String, AllocError>
+    ensures { IfOk result (Writes (naive_text variant case value) 120) }
+{
+    print_naive(alloc, variant, case, value)
+}
