@@ -1,0 +1,4 @@
+pub mod Cut
+pub mod Replying
+pub mod State
+pub mod Fields
