@@ -19,6 +19,8 @@ mod numerals;
 pub mod program_status;
 mod question;
 pub mod std_device;
+#[cfg(test)]
+mod tests;
 
 use crate::engine::run;
 use crate::fault::RunError;
