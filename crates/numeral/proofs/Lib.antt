@@ -2,3 +2,4 @@ pub mod Cut
 pub mod Replying
 pub mod State
 pub mod Fields
+pub mod Characters

@@ -3,7 +3,7 @@ ghost use Rattle.std.specs.Prelude.{◌≡◌, ◌<◌, ◌≤◌, ◌++◌, ◌
 ghost use Rattle.numeral.specs.Lines.{HasNoFeed};
 
 // How many bytes are looked at in one step.
-const STRIDE: usize = 32;
+const STRIDE: usize = 16;
 
 // Whether a byte is a line feed. There is no early exit, so that the bytes are compared side by side.
 fn has_feed(bytes: &[u8; STRIDE]) -> bool

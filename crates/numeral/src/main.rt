@@ -21,6 +21,7 @@ mod question;
 pub mod std_device;
 #[cfg(test)]
 mod tests;
+mod text;
 
 use crate::engine::run;
 use crate::fault::RunError;

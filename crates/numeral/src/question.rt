@@ -3,12 +3,12 @@ ghost use Rattle.std.specs.Prelude.{◌≡◌, ◌==◌, ◌+◌, ◌*◌, ◌^�
 ghost use Rattle.std.specs.List.{list_all};
 ghost use Rattle.std.specs.Char.{is_ascii_digit};
 ghost use Rattle.cn_core.specs.Whole.{signed_number};
-ghost use Rattle.numeral.specs.Question.{cut, type_named, method_named, script_named, case_named, value_of, value_after, magnitude_of, number_of, number_of, text_of, read, print, read_question, print_question};
+ghost use Rattle.numeral.specs.Question.{cut, type_named, method_named, script_named, case_named, value_of, value_after, magnitude_of, number_of, number_of, read, print, read_question, print_question};
 ghost use Rattle.numeral.specs.Answer.{bad_line, AnswersAny};
 ghost use Rattle.numeral.specs.Steps.{IsBeyondAll};
 
 use crate::numerals::{ChineseCase, ChineseCountMethod, ChineseVariant};
-use std::str;
+use crate::text::text_of;
 
 /// The twelve integer types.
 #[derive(Clone, Copy)]
@@ -108,15 +108,6 @@ fn case_named(name: &[u8]) -> Option<ChineseCase>
         b"upper" => Some(ChineseCase::Upper),
         b"lower" => Some(ChineseCase::Lower),
         _ => None,
-    }
-}
-
-fn text_of(bytes: &[u8]) -> Option<&str>
-    ensures { MatchOption result (text_of bytes.now ≡ None) (λ r. text_of bytes.now ≡ Some r.now) }
-{
-    match str::from_utf8(bytes) {
-        Ok(text) => Some(text),
-        Err(_) => None,
     }
 }
 
