@@ -1,13 +1,15 @@
 -- The decimal digits of a number, taken off from the lowest up.
-use Rattle.std.proofs.Common.{◌≡◌, ℕ, zero, suc, ◌+◌, ◌-◌, ◌*◌, ◌/◌, ◌%◌, ◌^◌, ◌<◌, ◌≤◌, [], ◌∷◌, ◌++◌, length, map, refl, sym, ap, ◌∙◌, arith}
+use Rattle.std.proofs.Common.{List, ap₂, length-append, append_assoc, true, nat_lt, ◌≡◌, ℕ, zero, suc, ◌+◌, ◌-◌, ◌*◌, ◌/◌, ◌%◌, ◌^◌, ◌<◌, ◌≤◌, [], ◌∷◌, ◌++◌, length, map, refl, sym, ap, ◌∙◌, arith}
 use Rattle.std.specs.Prelude.{decimal, reverse}
+use Rattle.std.specs.List.{list_all}
+use Rattle.std.proofs.lemmas.Bool.Decides.{nat_tests}
 use Rattle.std.proofs.Math.Decide.{dec_lt}
 use Rattle.std.proofs.Math.Nat.{div-div-eq-div-mul, one-le-pow}
 use Rattle.std.proofs.Math.Arith.{mod-mul}
 use Rattle.std.proofs.lemmas.Nat.{div-mul-add, mod-mul-add}
-use Rattle.std.proofs.lemmas.Fmt.{decimal_step_wide, decimal_digit, length-decimal-le_wide}
+use Rattle.std.proofs.lemmas.Fmt.{decimal_step_wide, decimal_by_steps_wide, decimal_digit, length-decimal-le_wide}
 use Rattle.std.proofs.lemmas.List.{map-append, length-map, reverse-append, length-reverse}
-use Rattle.cn_print.specs.Places.{places_of, lowest}
+use Rattle.cn_print.specs.Places.{places_of, lowest, is_digit}
 
 pub places-step : (number : ℕ) → 10 ≤ number → number < 10 ^ 64 → places_of number ≡ number % 10 ∷ places_of (number / 10)
 places-step number ten small =
@@ -70,3 +72,45 @@ lowest-low (suc count) more number =
     let digit = mod-mul-add (number / 10 % power) 10 (number % 10) (omega arith) in
     let above = div-mul-add (number / 10 % power) 10 (number % 10) (omega arith) in
     rw (width, split, digit, above) (ap (λ front. number % 10 ∷ front) (lowest-low count more (number / 10)))
+
+-- a chunk goes from what is left to what is done
+pub chunk-done : (done chunk rest more left whole : List ℕ) → more ≡ done ++ chunk → left ≡ chunk ++ rest → done ++ left ≡ whole → more ++ rest ≡ whole
+chunk-done done chunk rest more left whole put split same =
+    ap (λ front. front ++ rest) put ∙ append_assoc done chunk rest ∙ ap (λ back. done ++ back) (sym split) ∙ same
+
+-- the length of a number's digits, by so many and those of what is left
+pub length-split : (count number : ℕ) → 10 ^ count ≤ number → number < 10 ^ 64 → length (places_of number) ≡ count + length (places_of (number / 10 ^ count))
+length-split count number reach small =
+    ap length (places-lowest count number reach small) ∙ length-append (lowest count number) (places_of (number / 10 ^ count))
+    ∙ ap (λ n. n + length (places_of (number / 10 ^ count))) (length-lowest count number)
+
+-- each of them is a digit
+pub all-digits : (number : ℕ) → number < 10 ^ 64 → list_all is_digit (places_of number) ≡ true
+all-digits = decimal_by_steps_wide (λ number bytes. list_all is_digit (reverse (map (λ byte. byte - 48) bytes)) ≡ true) one more where
+  one : (number : ℕ) → number < 10 → list_all is_digit (reverse (map (λ byte. byte - 48) ((48 + number) ∷ []))) ≡ true
+  one number small = let e : 48 + number - 48 ≡ number = omega arith in let t : nat_lt number 10 ≡ true = grind (arith, nat_tests, small) in rw (e, t) refl
+
+  more : (number : ℕ) (bytes : List ℕ) → 10 ≤ number → list_all is_digit (reverse (map (λ byte. byte - 48) bytes)) ≡ true
+      → list_all is_digit (reverse (map (λ byte. byte - 48) (bytes ++ ((48 + number % 10) ∷ [])))) ≡ true
+  more number bytes ten rest =
+      let value : ℕ → ℕ = λ byte. byte - 48 in
+      let last : 48 + number % 10 - 48 ≡ number % 10 = omega arith in
+      let t : nat_lt (number % 10) 10 ≡ true = grind (arith, nat_tests) in
+      let e : reverse (map value (bytes ++ ((48 + number % 10) ∷ []))) ≡ number % 10 ∷ reverse (map value bytes) =
+      ap reverse (map-append value bytes ((48 + number % 10) ∷ [])) ∙ reverse-append (map value bytes) (value (48 + number % 10) ∷ []) ∙ ap (λ digit. digit ∷ reverse (map value bytes)) last in
+      rw (e, t) rest
+
+-- sixteen digits in four groups
+pub lowest-part : (part : ℕ) → lowest 4 (part % 10 ^ 8 % 10 ^ 4) ++ (lowest 4 (part % 10 ^ 8 / 10 ^ 4) ++ (lowest 4 (part / 10 ^ 8 % 10 ^ 4) ++ lowest 4 (part / 10 ^ 8 / 10 ^ 4))) ≡ lowest 16 part
+lowest-part part = ap₂ (λ low high. low ++ high) (two (part % 10 ^ 8) ∙ lowest-low 8 0 part) (two (part / 10 ^ 8)) ∙ sym (lowest-append 8 8 part) where
+  two : (n : ℕ) → lowest 4 (n % 10 ^ 4) ++ lowest 4 (n / 10 ^ 4) ≡ lowest 8 n
+  two n = ap (λ low. low ++ lowest 4 (n / 10 ^ 4)) (lowest-low 4 0 n) ∙ sym (lowest-append 4 4 n)
+
+regroup : (a b c d e : List ℕ) → (((a ++ b) ++ c) ++ d) ++ e ≡ a ++ (b ++ (c ++ (d ++ e)))
+regroup a b c d e = simp append_assoc
+
+pub part-done : (done : List ℕ) (part : ℕ)
+    → (((done ++ lowest 4 (part % 10 ^ 8 % 10 ^ 4)) ++ lowest 4 (part % 10 ^ 8 / 10 ^ 4)) ++ lowest 4 (part / 10 ^ 8 % 10 ^ 4)) ++ lowest 4 (part / 10 ^ 8 / 10 ^ 4) ≡ done ++ lowest 16 part
+part-done done part =
+    regroup done (lowest 4 (part % 10 ^ 8 % 10 ^ 4)) (lowest 4 (part % 10 ^ 8 / 10 ^ 4)) (lowest 4 (part / 10 ^ 8 % 10 ^ 4)) (lowest 4 (part / 10 ^ 8 / 10 ^ 4))
+    ∙ ap (λ digits. done ++ digits) (lowest-part part)

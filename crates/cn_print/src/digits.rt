@@ -13,7 +13,7 @@ const GROUP: u64 = 10_000;
 
 const PART: u128 = 10_000_000_000_000_000;
 
-/// Decimal digits, the lowest first.
+/// The decimal digits of a magnitude, the lowest first.
 #[derive(Drop)]
 pub struct Digits {
     places: [u8; MOST],
@@ -29,22 +29,23 @@ impl Model for Digits {
 }
 
 impl Digits {
-    /// The digits of a magnitude, with no 0 in front.
+    /// The digits, with no 0 in front.
+    ///
+    /// At most two divisions are of 128 bits.
     pub fn of(magnitude: u128) -> Self
         ensures { result ≡ places_of magnitude }
     {
-        let mut digits = Digits {
-            places: [0; MOST],
-            len: 0,
-        };
+        let mut places = [0; MOST];
+        let mut len = 0;
         let mut above = magnitude;
-        while above >= PART {
+        while above > u64::MAX as u128 {
             let next = above / PART;
-            digits.push_part((above - next * PART) as u64);
+            put_part(&mut places, len, (above - next * PART) as u64);
+            len += 16;
             above = next;
         }
-        digits.push_front(above as u64);
-        digits
+        let len = put_front(&mut places, len, above as u64);
+        Digits { places, len }
     }
 
     pub fn len(&self) -> usize
@@ -60,62 +61,54 @@ impl Digits {
     {
         self.places[place]
     }
+}
 
-    fn push(&mut self, digit: u8)
-        requires digit { digit < 10 }
-        requires room { length self.old < 39 }
-        ensures { self.new ≡ self.old ++ digit ∷ [] }
-    {
-        self.places[self.len] = digit;
-        self.len += 1;
-    }
+// The four digits of a group, from the place on.
+fn put_group(places: &mut [u8], place: usize, group: u64)
+    requires group { group < 10 ^ 4 }
+    requires room { place + 4 ≤ length places.old }
+    ensures { take (place + 4) places.new ≡ take place places.old ++ lowest 4 group }
+{
+    let low = group % 100;
+    let high = group / 100;
+    places[place] = (low % 10) as u8;
+    places[place + 1] = (low / 10) as u8;
+    places[place + 2] = (high % 10) as u8;
+    places[place + 3] = (high / 10) as u8;
+}
 
-    fn push_group(&mut self, group: u64)
-        requires group { group < 10 ^ 4 }
-        requires room { length self.old + 4 ≤ 39 }
-        ensures { self.new ≡ self.old ++ lowest 4 group }
-    {
-        let low = group % 100;
-        let high = group / 100;
-        self.push((low % 10) as u8);
-        self.push((low / 10) as u8);
-        self.push((high % 10) as u8);
-        self.push((high / 10) as u8);
-    }
+// The sixteen digits of a part, from the place on.
+fn put_part(places: &mut [u8], place: usize, part: u64)
+    requires part { part < 10 ^ 16 }
+    requires room { place + 16 ≤ length places.old }
+    ensures { take (place + 16) places.new ≡ take place places.old ++ lowest 16 part }
+{
+    let low = part % (GROUP * GROUP);
+    let high = part / (GROUP * GROUP);
+    put_group(places, place, low % GROUP);
+    put_group(places, place + 4, low / GROUP);
+    put_group(places, place + 8, high % GROUP);
+    put_group(places, place + 12, high / GROUP);
+}
 
-    fn push_two_groups(&mut self, groups: u64)
-        requires groups { groups < 10 ^ 8 }
-        requires room { length self.old + 8 ≤ 39 }
-        ensures { self.new ≡ self.old ++ lowest 8 groups }
-    {
-        self.push_group(groups % GROUP);
-        self.push_group(groups / GROUP);
+// The digits of the front, which begins with no 0, from the place on; the result is the place after them.
+fn put_front(places: &mut [u8], place: usize, front: u64) -> usize
+    requires { place + length (places_of front) ≤ length places.old }
+    ensures digits { take result places.new ≡ take place places.old ++ places_of front }
+    ensures end { result ≡ place + length (places_of front) }
+{
+    let mut left = front;
+    let mut place = place;
+    while left >= GROUP {
+        put_group(places, place, left % GROUP);
+        place += 4;
+        left /= GROUP;
     }
-
-    fn push_part(&mut self, part: u64)
-        requires part { part < 10 ^ 16 }
-        requires room { length self.old + 16 ≤ 39 }
-        ensures { self.new ≡ self.old ++ lowest 16 part }
-    {
-        self.push_two_groups(part % (GROUP * GROUP));
-        self.push_two_groups(part / (GROUP * GROUP));
+    while left >= 10 {
+        places[place] = (left % 10) as u8;
+        place += 1;
+        left /= 10;
     }
-
-    // The digits of the front part, which has no 0 in front.
-    fn push_front(&mut self, front: u64)
-        requires front { front < 10 ^ 16 }
-        requires room { length (self.old ++ places_of front) ≤ 39 }
-        ensures { self.new ≡ self.old ++ places_of front }
-    {
-        let mut left = front;
-        while left >= GROUP {
-            self.push_group(left % GROUP);
-            left /= GROUP;
-        }
-        while left >= 10 {
-            self.push((left % 10) as u8);
-            left /= 10;
-        }
-        self.push(left as u8);
-    }
+    places[place] = left as u8;
+    place + 1
 }

@@ -1,3 +1,12 @@
-pub mod Walking
+pub mod Endings
+pub mod Faults
+pub mod Judgements
+pub mod MarkTable
+pub mod OpenSums
 pub mod Pieces
 pub mod PlainDigits
+pub mod Stacks
+pub mod Steps
+pub mod Tails
+pub mod Walking
+pub mod WalkSteps

@@ -1,5 +1,5 @@
 -- Where a place of a text stands in the string.
-use Rattle.std.proofs.Common.{◌≡◌, ℕ, zero, suc, ◌+◌, Bool, true, false, List, [], ◌∷◌, ◌++◌, length, filter, chars, drop, Ok, Err, Result, refl, sym, ap, ◌∙◌, arith, append_assoc, length-append, add-zero, zero-add, Option}
+use Rattle.std.proofs.Common.{◌≡◌, ℕ, zero, suc, ◌+◌, Bool, true, false, List, [], ◌∷◌, ◌++◌, length, filter, chars, drop, Ok, Err, Result, refl, sym, ap, ◌∙◌, arith, append_assoc, append-nil, length-append, add-zero, zero-add, Option}
 use Rattle.std.proofs.Math.Seq.{drop-append_seam}
 use Rattle.std.specs.Char.{is_whitespace, is_not_whitespace}
 use Rattle.cn_core.specs.declared.sign.Sign.{Sign}
@@ -8,8 +8,8 @@ use Rattle.cn_core.specs.Spot.{spot_among, spot}
 use Rattle.cn_core.specs.Text.{text_of}
 use Rattle.cn_core.specs.Typed.{typed_answer, sign_len}
 use Rattle.cn_core.specs.Whole.{Kind}
-use Rattle.cn_read.specs.Piece.{StandsAt, spotted}
-use Rattle.cn_read.specs.Signed.{with_sign}
+use Rattle.cn_read.specs.Private.Piece.{StandsAt, EndsWith, spotted}
+use Rattle.cn_read.specs.Private.Signed.{with_sign}
 use Rattle.cn_read.proofs.Walking.{filter-append}
 
 -- one character further
@@ -71,6 +71,10 @@ pub text_of-rest : (bytes rest : List ℕ) (index place : ℕ) → StandsAt byte
 text_of-rest bytes rest index place at =
     rw (at.parts, filter-append, ← at.place_is) (drop-append_seam (filter is_not_whitespace at.front) (text_of rest))
 
+-- a place after the front
+pub spot-rest : (bytes rest : List ℕ) (index place p : ℕ) → StandsAt bytes (chars rest) index place → spot bytes (p + place) ≡ index + spot rest p
+spot-rest bytes rest index place p at = rw (at.parts, ← at.place_is, ← at.index_is) (spot-front at.front (chars rest) p)
+
 -- the answer for a type, from the answer to what follows the sign
 pub typed-rest : (kind : Kind) (bytes rest : List ℕ) (skipped : ℕ) (sign : Option Sign) (judged : Result ℕ Refusal)
     → StandsAt bytes (chars rest) skipped (sign_len sign) → with_sign kind sign (spotted skipped rest judged) ≡ typed_answer kind bytes sign judged
@@ -78,6 +82,38 @@ typed-rest kind bytes rest skipped sign (Ok number) at = refl
 typed-rest kind bytes rest skipped sign (Err empty) at = refl
 typed-rest kind bytes rest skipped sign (Err too_large) at = refl
 typed-rest kind bytes rest skipped sign (Err too_small) at = refl
-typed-rest kind bytes rest skipped sign (Err (incorrect_at place)) at = ap (λ n. Err (incorrect_at n)) (sym same) where
-  same : spot bytes (place + sign_len sign) ≡ skipped + spot rest place
-  same = rw (at.parts, ← at.place_is, ← at.index_is) (spot-front at.front (chars rest) place)
+typed-rest kind bytes rest skipped sign (Err (incorrect_at place)) at = ap (λ n. Err (incorrect_at n)) (sym (spot-rest bytes rest skipped (sign_len sign) place at))
+
+-- white space ends the string after this piece
+pub record EndsBlank (bytes ahead : List ℕ) : Type 0 where
+  pub white : List ℕ
+  pub parts : chars bytes ≡ chars ahead ++ white
+  pub blank : filter is_not_whitespace white ≡ []
+
+pub EndsBlank-start : (bytes : List ℕ) → EndsBlank bytes bytes
+EndsBlank-start bytes = record { white = []; parts = sym (append-nil (chars bytes)); blank = refl }
+
+pub parts-next : (bytes ahead before white : List ℕ) (c : ℕ) → chars bytes ≡ chars ahead ++ white → chars ahead ≡ chars before ++ c ∷ [] → chars bytes ≡ chars before ++ c ∷ white
+parts-next bytes ahead before white c p q = p ∙ ap (λ l. l ++ white) q ∙ append_assoc (chars before) (c ∷ []) white
+
+pub EndsBlank-white : (bytes ahead before : List ℕ) (c : ℕ) → EndsBlank bytes ahead → chars ahead ≡ chars before ++ c ∷ [] → is_whitespace c ≡ true → EndsBlank bytes before
+EndsBlank-white bytes ahead before c e q white = record {
+  white = c ∷ e.white;
+  parts = parts-next bytes ahead before e.white c e.parts q;
+  blank = rw white e.blank;
+}
+
+pub EndsBlank-dark : (bytes ahead before : List ℕ) (c : ℕ) → EndsBlank bytes ahead → chars ahead ≡ chars before ++ c ∷ [] → is_whitespace c ≡ false → EndsWith bytes c before
+EndsBlank-dark bytes ahead before c e q dark = record {
+  white = e.white;
+  parts = parts-next bytes ahead before e.white c e.parts q;
+  blank = e.blank;
+  dark = dark;
+}
+
+pub EndsBlank-none : (bytes ahead : List ℕ) → EndsBlank bytes ahead → chars ahead ≡ [] → text_of bytes ≡ []
+EndsBlank-none bytes ahead e none = rw (e.parts, none) e.blank
+
+-- the text of a string by its last character
+pub text-last : (bytes before : List ℕ) (c : ℕ) → EndsWith bytes c before → text_of bytes ≡ text_of before ++ c ∷ []
+text-last bytes before c e = rw (e.parts, filter-append, e.dark, e.blank)

@@ -8,9 +8,9 @@ use Rattle.cn_core.specs.Mark.{Mark, digit, unit, other, mark_of}
 use Rattle.cn_core.specs.Text.{text_of, marks_of}
 use Rattle.cn_core.specs.Naive.{naive_answer, first_fault, fault_at, decimal_value, digit_value, refused_or}
 use Rattle.cn_core.specs.Spot.{spot}
-use Rattle.cn_read.specs.Piece.{StandsAt, spotted}
+use Rattle.cn_read.specs.Private.Piece.{StandsAt, spotted}
 use Rattle.cn_read.proofs.Pieces.{StandsAt-start, StandsAt-white, StandsAt-dark, spot-at}
-use Rattle.cn_read.proofs.Walking.{white-mark}
+use Rattle.cn_read.proofs.Walking.{digit-dark}
 use Rattle.std.specs.Char.{is_whitespace}
 use Rattle.cn_core.specs.Refusal.{Refusal, empty, incorrect_at, too_large}
 
@@ -119,18 +119,6 @@ IsReading-white skipped bytes ahead after char_index number c is_empty r parts w
 ahead-dark : (ahead after : List ℕ) (c : ℕ) (mark : Mark) → chars ahead ≡ c ∷ chars after → is_whitespace c ≡ false → mark ≡ mark_of c
     → marks_of (text_of ahead) ≡ mark ∷ marks_of (text_of after)
 ahead-dark ahead after c mark parts dark same = rw (parts, dark) (ap (λ m. m ∷ marks_of (text_of after)) (sym same))
-
-marks-dark : (c : ℕ) → mark_of c ≢ other → is_whitespace c ≡ false
-marks-dark c some = by (is_whitespace c) refl where
-  by : (b : Bool) → is_whitespace c ≡ b → b ≡ false
-  by true white = absurd (some (white-mark c white))
-  by false dark = refl
-
-digit-dark : (c value : ℕ) → digit value ≡ mark_of c → is_whitespace c ≡ false
-digit-dark c value h = marks-dark c (λ e. let f = h ∙ e in cc)
-
-pub unit-dark : (c rank : ℕ) → unit rank ≡ mark_of c → is_whitespace c ≡ false
-unit-dark c rank h = marks-dark c (λ e. let f = h ∙ e in cc)
 
 -- it is a digit
 pub IsReading-digit : (skipped : ℕ) (bytes ahead after : List ℕ) (char_index number c value total : ℕ) (is_empty : Bool) → IsReading skipped bytes ahead char_index number is_empty

@@ -1,12 +1,12 @@
 -- A step over one character, from the front and from the back, and which characters are no white space.
-use Rattle.std.proofs.Common.{◌≡◌, ℕ, ◌<◌, Bool, true, false, cond, List, [], ◌∷◌, ◌++◌, length, filter, chars, Option, Some, None, refl, sym, ap, ◌∙◌, arith, IsUtf8, append-nil, encode_utf8, encode_utf8_all, get_or, not, ◌==◌, ◌||◌, zero, suc}
+use Rattle.std.proofs.Common.{◌≡◌, ◌≢◌, ℕ, ◌<◌, Bool, true, false, cond, List, [], ◌∷◌, ◌++◌, length, filter, chars, Option, Some, None, refl, sym, ap, ◌∙◌, arith, IsUtf8, append-nil, encode_utf8, encode_utf8_all, get_or, not, ◌==◌, ◌||◌, zero, suc}
 use Rattle.std.specs.List.{list_all}
 use Rattle.std.specs.Char.{is_whitespace, is_not_whitespace, char_set_contains}
 use Rattle.std.proofs.lemmas.Bool.Decides.{nat_tests}
 use Rattle.std.proofs.lemmas.List.Quantifiers.{position-Some}
 use Rattle.std.proofs.lemmas.Str.{encodes-chars, encodes-append, encodes_same, chars-nil}
 use Rattle.cn_core.specs.Characters.{digit_of, rank_of, digit_rows, unit_rows, row_with}
-use Rattle.cn_core.specs.Mark.{other, mark_of, mark_from}
+use Rattle.cn_core.specs.Mark.{digit, unit, other, mark_of, mark_from}
 use Rattle.cn_core.proofs.Fronts.{and-left, and-right}
 
 pub chars-from_empty : (bytes : List ℕ) → length bytes ≡ 0 → chars bytes ≡ []
@@ -43,11 +43,27 @@ rows_have p rows c i h e =
     let at = position-Some (λ row. char_set_contains row c) rows i [] e in
     row_has p (get_or rows i []) c (rows_at (list_all p) rows i h at.0) at.1
 
+-- what each character of a digit or a unit has, a character that lacks it is neither
+pub outside-mark : (p : ℕ → Bool) (c : ℕ) → list_all (list_all p) digit_rows ≡ true → list_all (list_all p) unit_rows ≡ true → p c ≡ false → mark_of c ≡ other
+unfolding digit_of rank_of
+outside-mark p c digits units lacks = by (row_with c digit_rows) (row_with c unit_rows) refl refl where
+  by : (d r : Option ℕ) → row_with c digit_rows ≡ d → row_with c unit_rows ≡ r → mark_from d r ≡ other
+  by (Some value) r e f = let has = rows_have p digit_rows c value digits e in cc
+  by None (Some rank) e f = let has = rows_have p unit_rows c rank units f in cc
+  by None None e f = refl
+
 -- white space is no mark
 pub white-mark : (c : ℕ) → is_whitespace c ≡ true → mark_of c ≡ other
-unfolding digit_of rank_of
-white-mark c white = by (row_with c digit_rows) (row_with c unit_rows) refl refl where
-  by : (d r : Option ℕ) → row_with c digit_rows ≡ d → row_with c unit_rows ≡ r → mark_from d r ≡ other
-  by (Some value) r p q = let dark = rows_have is_not_whitespace digit_rows c value refl p in let e = ap not white in cc
-  by None (Some rank) p q = let dark = rows_have is_not_whitespace unit_rows c rank refl q in let e = ap not white in cc
-  by None None p q = refl
+white-mark c white = outside-mark is_not_whitespace c refl refl (ap not white)
+
+marks-dark : (c : ℕ) → mark_of c ≢ other → is_whitespace c ≡ false
+marks-dark c some = by (is_whitespace c) refl where
+  by : (b : Bool) → is_whitespace c ≡ b → b ≡ false
+  by true white = absurd (some (white-mark c white))
+  by false dark = refl
+
+pub digit-dark : (c value : ℕ) → digit value ≡ mark_of c → is_whitespace c ≡ false
+digit-dark c value h = marks-dark c (λ e. let f = h ∙ e in cc)
+
+pub unit-dark : (c rank : ℕ) → unit rank ≡ mark_of c → is_whitespace c ≡ false
+unit-dark c rank h = marks-dark c (λ e. let f = h ∙ e in cc)

@@ -1,5 +1,3 @@
 pub mod Answer
 pub mod ErrorText
-pub mod Marked
-pub mod Piece
-pub mod Signed
+pub mod Private

@@ -6,12 +6,16 @@ mod error;
 mod mark;
 mod naive;
 mod naive_readers;
+mod open_units;
 mod sign;
 #[cfg(test)]
 mod tests;
 mod text;
 mod to_number;
 mod typed;
+mod unit_readers;
+mod units;
+mod walk;
 
 pub use error::ChineseToNumberError;
 pub use naive_readers::{
@@ -21,3 +25,17 @@ pub use naive_readers::{
     from_chinese_to_u64_naive, from_chinese_to_u128_naive, from_chinese_to_usize_naive,
 };
 pub use to_number::ChineseToNumber;
+pub use unit_readers::{
+    from_chinese_to_i8, from_chinese_to_i16, from_chinese_to_i32_high, from_chinese_to_i32_low,
+    from_chinese_to_i32_middle, from_chinese_to_i32_ten_thousand, from_chinese_to_i64_high,
+    from_chinese_to_i64_low, from_chinese_to_i64_middle, from_chinese_to_i64_ten_thousand,
+    from_chinese_to_i128_high, from_chinese_to_i128_low, from_chinese_to_i128_middle,
+    from_chinese_to_i128_ten_thousand, from_chinese_to_isize_high, from_chinese_to_isize_low,
+    from_chinese_to_isize_middle, from_chinese_to_isize_ten_thousand, from_chinese_to_u8,
+    from_chinese_to_u16, from_chinese_to_u32_high, from_chinese_to_u32_low,
+    from_chinese_to_u32_middle, from_chinese_to_u32_ten_thousand, from_chinese_to_u64_high,
+    from_chinese_to_u64_low, from_chinese_to_u64_middle, from_chinese_to_u64_ten_thousand,
+    from_chinese_to_u128_high, from_chinese_to_u128_low, from_chinese_to_u128_middle,
+    from_chinese_to_u128_ten_thousand, from_chinese_to_usize_high, from_chinese_to_usize_low,
+    from_chinese_to_usize_middle, from_chinese_to_usize_ten_thousand,
+};

@@ -4,7 +4,7 @@ ghost use Rattle.cn_core.specs.Text.{text_of, marks_of};
 ghost use Rattle.cn_core.specs.Naive.{naive_answer};
 ghost use Rattle.cn_core.specs.Typed.{naive_reading};
 ghost use Rattle.cn_read.specs.Answer.{answer_of};
-ghost use Rattle.cn_read.specs.Piece.{spotted};
+ghost use Rattle.cn_read.specs.Private.Piece.{spotted};
 
 use crate::ChineseToNumberError;
 use crate::mark::{Mark, mark_of};
@@ -13,11 +13,17 @@ use crate::text::split_first_char;
 use crate::typed::with_sign;
 use cn_core::Whole;
 
-// The number with one more digit, if it fits.
+// The number with one more digit, if it fits. A small one is multiplied in 64 bits, which is faster.
 fn push_digit(number: u128, digit: u8) -> Option<u128>
     ensures { SomeIff result (number * 10 + digit < 2 ^ 128) (number * 10 + digit) }
 {
-    number.checked_mul(10)?.checked_add(digit as u128)
+    if number < 1_000_000_000_000_000_000 {
+        return Some((number as u64 * 10 + digit as u64) as u128);
+    }
+    if number > u128::MAX / 10 {
+        return None;
+    }
+    (number * 10).checked_add(digit as u128)
 }
 
 // The answer to plain digits without sign, which stand after so many characters of the caller's string.

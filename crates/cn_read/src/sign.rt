@@ -2,7 +2,7 @@
 ghost use Rattle.std.specs.Prelude.{◌≡◌, ◌+◌, ◌≤◌, length, chars};
 ghost use Rattle.cn_core.specs.Text.{text_of};
 ghost use Rattle.cn_core.specs.Typed.{leading_sign, sign_len};
-ghost use Rattle.cn_read.specs.Piece.{StandsAt};
+ghost use Rattle.cn_read.specs.Private.Piece.{StandsAt};
 
 use crate::text::split_first;
 use cn_core::{Sign, sign_of};

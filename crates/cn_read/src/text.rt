@@ -1,8 +1,8 @@
 // Walking a text: its characters from either end, and those that are no white space.
-ghost use Rattle.std.specs.Prelude.{◌≡◌, ◌+◌, ◌<◌, ◌≤◌, [], ◌∷◌, ◌++◌, length, chars, false, IfSome, MatchOption};
+ghost use Rattle.std.specs.Prelude.{◌≡◌, ◌+◌, ◌<◌, ◌≤◌, [], ◌∷◌, ◌++◌, length, chars, false, IfSome, IfNone, MatchOption};
 ghost use Rattle.cn_core.specs.Text.{text_of};
 ghost use Rattle.std.specs.Char.{is_whitespace};
-ghost use Rattle.cn_read.specs.Piece.{StandsAt};
+ghost use Rattle.cn_read.specs.Private.Piece.{StandsAt, EndsWith};
 
 /// The first character, and what stands after it.
 pub fn split_first_char(text: &str) -> Option<(char, &str)>
@@ -47,4 +47,40 @@ pub fn split_first(text: &str) -> Option<First<'_>>
         rest = after;
     }
     None
+}
+
+/// The last character, and what stands before it.
+pub fn split_last_char(text: &str) -> Option<(char, &str)>
+    ensures parts { MatchOption result (chars text.now ≡ []) (λ r. chars text.now ≡ chars r.1.now ++ r.0 ∷ []) }
+    ensures shorter { IfSome result (λ r. length r.1.now < length text.now) }
+{
+    let mut chars = text.chars();
+    match chars.next_back() {
+        Some(c) => Some((c, chars.as_str())),
+        None => None,
+    }
+}
+
+/// The last character that is no white space, and what stands before it.
+pub fn split_last(text: &str) -> Option<(char, &str)>
+    ensures parts { IfSome result (λ r. EndsWith text.now r.0 r.1.now) }
+    ensures none { IfNone result (text_of text.now ≡ []) }
+    ensures shorter { IfSome result (λ r. length r.1.now < length text.now) }
+{
+    let mut ahead = text;
+    'skipping: while let Some((c, before)) = split_last_char(ahead) {
+        if !c.is_whitespace() {
+            return Some((c, before));
+        }
+        ahead = before;
+    }
+    None
+}
+
+/// How many characters a text has.
+pub fn count_chars(text: &str) -> usize
+    ensures count { result ≡ length (chars text.now) }
+    ensures within { result ≤ length text.now }
+{
+    text.chars().count()
 }

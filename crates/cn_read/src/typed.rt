@@ -1,7 +1,7 @@
 // The answer for a type, from a sign and a magnitude.
 ghost use Rattle.std.specs.Prelude.{◌≡◌};
 ghost use Rattle.cn_read.specs.Answer.{answer_of};
-ghost use Rattle.cn_read.specs.Signed.{with_sign};
+ghost use Rattle.cn_read.specs.Private.Signed.{with_sign};
 
 use crate::ChineseToNumberError;
 use cn_core::{Sign, Whole};

@@ -1,5 +1,6 @@
 use Rattle.std.proofs.Common.{◌+◌, ◌*◌, ◌^◌, ◌≤◌, sym, arith, rules}
-use Rattle.cn_read.proofs.PlainDigits.{IsReading-digit, IsReading-white, IsReading-great, IsReading-incorrect, unit-dark}
+use Rattle.cn_read.proofs.PlainDigits.{IsReading-digit, IsReading-white, IsReading-great, IsReading-incorrect}
+use Rattle.cn_read.proofs.Walking.{unit-dark}
 use Rattle.cn_read.proofs.naive.judge_naive.Goals as goal
 use Rattle.cn_read.proofs.naive.judge_naive.Goals.{in-Digit+in-Some-push_digit, in-Other+else-not-is_whitespace}
 

@@ -2,7 +2,7 @@ use Rattle.std.proofs.Common.{◌≡◌, drop, sym, ap, ◌∙◌}
 use Rattle.cn_core.specs.Naive.{naive_answer}
 use Rattle.cn_core.specs.Text.{text_of, marks_of}
 use Rattle.cn_core.specs.Typed.{leading_sign, sign_len, typed_answer}
-use Rattle.cn_read.specs.Signed.{with_sign}
+use Rattle.cn_read.specs.Private.Signed.{with_sign}
 use Rattle.cn_read.proofs.Pieces.{text_of-rest, typed-rest}
 use Rattle.cn_read.proofs.naive.read_naive.Goals as goal
 

@@ -1,4 +1,4 @@
--- The answer for a type, once places are told by where they stand in the string. Private functions alone speak of it.
+-- The answer for a type, once places are told by where they stand in the string.
 use Rattle.std.specs.Prelude.{ℕ, ℤ, Option, Result, Ok, Err}
 use Rattle.cn_core.specs.declared.sign.Sign.{Sign}
 use Rattle.cn_core.specs.Refusal.{Refusal, too_large}

@@ -1,0 +1,7 @@
+-- Words that contracts of private functions alone cite: how a text is taken apart, and where a walk stands.
+pub mod Judged
+pub mod Marked
+pub mod Piece
+pub mod Signed
+pub mod Stack
+pub mod Walk

@@ -1,0 +1,184 @@
+// The walk of a unit reader: from the back, character by character, to the first fault.
+ghost use Rattle.std.specs.Prelude.{◌≡◌, ℕ, ◌+◌, ◌<◌, ◌↔◌, ◌^◌, List, [], ◌∷◌, None, Some, Err, IsTrue, MatchResult, option_map, length};
+ghost use Rattle.cn_core.specs.Characters.{rank};
+ghost use Rattle.cn_core.specs.Mark.{digit, mark_of};
+ghost use Rattle.cn_core.specs.Refusal.{Refusal};
+ghost use Rattle.cn_core.specs.Text.{marks_of, text_of};
+ghost use Rattle.cn_read.specs.Answer.{refusal_of};
+ghost use Rattle.cn_read.specs.Private.Marked.{marked, unit_mark};
+ghost use Rattle.cn_read.specs.Private.Piece.{spotted};
+ghost use Rattle.cn_read.specs.Private.Walk.{
+  IsWalked,
+  faults,
+  digit_next,
+  unit_next,
+  multiplies_by,
+  opens_of,
+  fault_of,
+  fault_refusal,
+};
+
+use crate::ChineseToNumberError;
+use crate::mark::{Mark, is_white, mark_of};
+use crate::open_units::OpenUnits;
+use crate::text::{count_chars, split_last_char};
+use cn_core::{ChineseCountMethod, Unit, scale};
+
+/// What a walk from the back has just met.
+#[derive(Copy, Clone)]
+pub enum Next {
+    AtEnd,
+    AtDigit,
+    AtUnit(Unit),
+}
+
+// Why a walk stops at a character.
+#[derive(Copy, Clone)]
+pub enum Fault {
+    Incorrect,
+    PastLimit,
+}
+
+// The unit that has just been met, if it was one.
+fn unit_after(next: Next) -> Option<Unit>
+    ensures { option_map rank result ≡ unit_next next }
+{
+    match next {
+        Next::AtUnit(unit) => Some(unit),
+        _ => None,
+    }
+}
+
+// Whether a unit may stand before what follows it: it is smaller than a unit there, but 十 may count 個.
+fn multiplies(unit: Unit, after: Option<Unit>) -> bool
+    ensures { result ≡ multiplies_by (rank unit) (option_map rank after) }
+{
+    match after {
+        Some(next) => unit < next || (unit == Unit::Shi && next == Unit::Ge),
+        None => true,
+    }
+}
+
+// Whether the unit is 個 and counts no unit.
+fn counts_nothing(unit: Unit, after: Option<Unit>) -> bool
+    ensures { IsTrue result ↔ ((rank unit ≡ 0) × (option_map rank after ≡ None)) }
+{
+    unit == Unit::Ge && after.is_none()
+}
+
+// One more unit, where what was walked holds no fault.
+fn step_unit(
+    method: ChineseCountMethod,
+    units: &mut OpenUnits,
+    next: Next,
+    unit: Unit,
+) -> Result<(), Fault>
+    requires { (walked : List ℕ) × IsWalked method walked units.old next }
+    ensures { (walked : List ℕ) → IsWalked method walked units.old next
+        → MatchResult result
+        (λ _. (fault_of method (unit_mark unit) (marks_of walked) ≡ None)
+        × (units.new ≡ (0, opens_of method (unit_mark unit ∷ marks_of walked))))
+        (λ fault. fault_of method (unit_mark unit) (marks_of walked) ≡ Some (fault_refusal fault)) }
+{
+    let after = unit_after(next);
+    if !multiplies(unit, after) {
+        return Err(Fault::Incorrect);
+    }
+    if !units.close_below(method, unit) {
+        return Err(Fault::PastLimit);
+    }
+    if counts_nothing(unit, after) {
+        return Err(Fault::Incorrect);
+    }
+    if units.has_on_top(unit) {
+        return Err(Fault::Incorrect);
+    }
+    if scale(method, unit).is_none() {
+        return Err(Fault::PastLimit);
+    }
+    units.open(unit);
+    Ok(())
+}
+
+// One more digit, where what was walked holds no fault.
+fn step_digit(
+    method: ChineseCountMethod,
+    units: &mut OpenUnits,
+    next: Next,
+    value: u8,
+) -> Result<(), Fault>
+    requires { value < 10 }
+    ensures { (walked : List ℕ) → IsWalked method walked units.old next
+        → MatchResult result
+        (λ _. (fault_of method (digit value) (marks_of walked) ≡ None)
+        × (units.new ≡ (units.old.0 + value, units.old.1)))
+        (λ fault. fault_of method (digit value) (marks_of walked) ≡ Some (fault_refusal fault)) }
+{
+    if value == 0 {
+        return Ok(());
+    }
+    if let Next::AtDigit = next {
+        return Err(Fault::Incorrect);
+    }
+    units.set_sum(value);
+    Ok(())
+}
+
+// One more character, by its mark, where what was walked holds no fault.
+fn step(
+    method: ChineseCountMethod,
+    units: &mut OpenUnits,
+    next: Next,
+    mark: Mark,
+) -> Result<Next, Fault>
+    requires { (c : ℕ) × (walked : List ℕ) × (marked mark ≡ mark_of c) × IsWalked method walked units.old next }
+    ensures { (c : ℕ) (walked : List ℕ) → marked mark ≡ mark_of c → IsWalked method walked units.old next
+        → MatchResult result
+        (λ after. IsWalked method (c ∷ walked) units.new after)
+        (λ fault. fault_of method (mark_of c) (marks_of walked) ≡ Some (fault_refusal fault)) }
+{
+    match mark {
+        Mark::Digit(value) => match step_digit(method, units, next, value) {
+            Ok(()) => Ok(Next::AtDigit),
+            Err(fault) => Err(fault),
+        },
+        Mark::Unit(unit) => match step_unit(method, units, next, unit) {
+            Ok(()) => Ok(Next::AtUnit(unit)),
+            Err(fault) => Err(fault),
+        },
+        Mark::Other => Err(Fault::Incorrect),
+    }
+}
+
+/// Walks a text that stands after so many characters of the caller's string, to its first fault.
+pub fn walk(
+    method: ChineseCountMethod,
+    skipped: usize,
+    text: &str,
+) -> Result<(OpenUnits, Next), ChineseToNumberError>
+    requires { skipped + length text.now < 2 ^ 64 }
+    ensures { MatchResult result (λ w. IsWalked method (text_of text.now) w.0 w.1)
+        (λ error. (fault : Refusal) × (faults method (marks_of (text_of text.now)) ≡ Some fault)
+        × (Err (refusal_of error) ≡ spotted skipped text.now (Err fault))) }
+{
+    let mut units = OpenUnits::new();
+    let mut next = Next::AtEnd;
+    let mut ahead = text;
+    'walking: while let Some((c, before)) = split_last_char(ahead) {
+        let mark = mark_of(c);
+        if is_white(c, mark) {
+            ahead = before;
+            continue;
+        }
+        match step(method, &mut units, next, mark) {
+            Ok(after) => next = after,
+            Err(Fault::PastLimit) => return Err(ChineseToNumberError::Overflow),
+            Err(Fault::Incorrect) => {
+                let char_index = skipped + count_chars(before);
+                return Err(ChineseToNumberError::ChineseNumberIncorrect { char_index });
+            }
+        }
+        ahead = before;
+    }
+    Ok((units, next))
+}
