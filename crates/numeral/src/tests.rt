@@ -5,7 +5,8 @@ mod rows;
 
 use crate::engine::run;
 use crate::fault::RunError;
-use crate::memory::{MemorySink, MemorySource};
+use crate::memory_sink::MemorySink;
+use crate::memory_source::MemorySource;
 use std::alloc::{AllocError, Global};
 use std::process::Abort;
 
