@@ -12,6 +12,8 @@ mod naive;
 mod number_to_chinese;
 mod room;
 mod sign;
+#[cfg(test)]
+mod tests;
 
 pub use error::NumberToChineseError;
 pub use free_naive::{

@@ -1,0 +1,5 @@
+pub mod Cut
+pub mod Replying
+pub mod State
+pub mod Fields
+pub mod Characters

@@ -1,0 +1,197 @@
+-- How far a run has come: what it has written and what it keeps, over the bytes so far.
+use Rattle.std.proofs.Common.{◌≡◌, ◌++◌, ◌+◌, ◌<◌, ℕ, Bool, false, Option, Result, Ok, Err, List, [], ◌∷◌, length, take, refl, sym, ap, ◌∙◌, subst, append_assoc, append-nil, length-append, inl, inr, arith}
+use Rattle.std.specs.Io.KnownBytes.{Keeps, IsAtEnd}
+use Rattle.std.proofs.KnownBytes.{Appends-kept, Appends-nil, Keeps-refl, Consumes-whole}
+use Rattle.std.proofs.Math.Seq.{take-append-add}
+use Rattle.std.specs.Prelude.{OnErr, OnOk, IfSome}
+use Rattle.numeral.specs.Lines.{HasNoFeed, ended, unended, lines, last_line}
+use Rattle.numeral.specs.Answer.{Answers}
+use Rattle.numeral.specs.declared.fault.RunError.{RunError}
+use Rattle.numeral.specs.declared.fault.RunError.TheVariants.{Read, Write, Memory}
+use Rattle.numeral.specs.Leaves.{Wrote, WroteBeginning, WroteFirst, Leaves, Runs}
+use Rattle.numeral.specs.Steps.{Puts, Replies, Feeds}
+use Rattle.numeral.proofs.Cut.{ended-line, unended-line, ended-none, unended-none, ended-append, unended-append, lines-append, lines-some, HasNoFeed-unended, HasNoFeed-append}
+use Rattle.numeral.proofs.Replying.{Wrote-none, Wrote-append, WroteBeginning-after, WroteBeginning-before}
+
+-- an answer and its line feed were put, or a beginning of them
+pub Replies-put : (T U : Type 0) (old new : Option (List ℕ)) (failed : Bool) (line answer : List ℕ) (r : Result T RunError) → Answers line answer
+    → Puts old new failed (answer ++ 10 ∷ []) r → Replies old new failed (line ∷ []) r
+Replies-put T U old new failed line answer (Ok x) a p = ((answer ++ 10 ∷ [], (answer, [], a, refl, refl), p.0), p.1)
+Replies-put T U old new failed line answer (Err Read) a p = absurd p
+Replies-put T U old new failed line answer (Err Write) a p =
+    ((p.0, p.1, (answer, [], a, refl, sym p.2), p.3), p.4)
+Replies-put T U old new failed line answer (Err Memory) a p = absurd p
+
+pub last_line-some : (kept : List ℕ) → 0 < length kept → last_line kept ≡ kept ∷ []
+last_line-some [] h = absurd (omega arith)
+last_line-some (byte ∷ kept) h = refl
+
+-- of the bytes got each line that ended is answered, and the rest is kept
+pub record State (old now : Option (List ℕ)) (got kept : List ℕ) : Type 0 where
+  pub written : Wrote old now (ended got)
+  pub rest : kept ≡ unended got
+
+-- more bytes come, and their lines are answered
+pub State-more : (old now new : Option (List ℕ)) (got kept more kept' : List ℕ) → State old now got kept
+    → Wrote now new (ended (kept ++ more)) → kept' ≡ unended (kept ++ more) → State old new (got ++ more) kept'
+State-more old now new got kept more kept' s w r =
+    let P : List ℕ → Type 0 = λ k. Wrote now new (ended (k ++ more)) in
+    let w' : Wrote now new (ended (unended got ++ more)) = subst P s.rest w in
+    record {
+      written = subst (Wrote old new) (sym (ended-append got more)) (Wrote-append old now new _ _ s.written w');
+      rest = r ∙ ap (λ k. unended (k ++ more)) s.rest ∙ sym (unended-append got more);
+    }
+
+-- a write fails among the answers to more bytes
+pub State-write : (old now new : Option (List ℕ)) (got kept more : List ℕ) → State old now got kept
+    → WroteBeginning now new (ended (kept ++ more)) → WroteBeginning old new (ended (got ++ more))
+State-write old now new got kept more s w =
+    let P : List ℕ → Type 0 = λ k. WroteBeginning now new (ended (k ++ more)) in
+    let w' : WroteBeginning now new (ended (unended got ++ more)) = subst P s.rest w in
+    subst (WroteBeginning old new) (sym (ended-append got more)) (WroteBeginning-after old now new _ _ s.written w')
+
+-- memory is short at a line of more bytes
+pub State-memory : (old now new : Option (List ℕ)) (got kept more : List ℕ) → State old now got kept
+    → WroteFirst now new (kept ++ more) → WroteFirst old new (got ++ more)
+State-memory old now new got kept more s w =
+    let P : List ℕ → Type 0 = λ k. WroteFirst now new (k ++ more) in
+    let w' : WroteFirst now new (unended got ++ more) = subst P s.rest w in
+    let before = ended got in
+    let after = lines (unended got ++ more) in
+    let e : lines (got ++ more) ≡ before ++ after = lines-append got more in
+    let n : length (lines (got ++ more)) ≡ length before + length after = ap length e ∙ length-append before after in
+    let t : take (length before + w'.0) (lines (got ++ more)) ≡ before ++ take w'.0 after =
+    ap (take (length before + w'.0)) e ∙ take-append-add before after w'.0 in
+    (length before + w'.0, omega (arith, n, w'.1), subst (Wrote old new) (sym t) (Wrote-append old now new _ _ s.written w'.2))
+
+-- memory is short at the first line
+pub WroteFirst-none : (now new : Option (List ℕ)) (bytes : List ℕ) → 0 < length bytes → Keeps now new → WroteFirst now new bytes
+WroteFirst-none now new bytes h k = (0, lines-some bytes h, ([], refl, Appends-kept now now new [] (Appends-nil now) k))
+
+pub State-no_feed : (old now : Option (List ℕ)) (got kept : List ℕ) → State old now got kept → HasNoFeed kept
+State-no_feed old now got kept s = subst HasNoFeed (sym s.rest) (HasNoFeed-unended got)
+
+-- a whole line comes
+ended-whole : (kept line after : List ℕ) → HasNoFeed kept → HasNoFeed line → ended (kept ++ (line ++ 10 ∷ after)) ≡ (kept ++ line) ∷ ended after
+ended-whole kept line after p q =
+    ap ended (sym (append_assoc kept line (10 ∷ after))) ∙ ended-line (kept ++ line) after (HasNoFeed-append kept line p q)
+
+unended-whole : (kept line after : List ℕ) → HasNoFeed kept → HasNoFeed line → unended (kept ++ (line ++ 10 ∷ after)) ≡ unended after
+unended-whole kept line after p q =
+    ap unended (sym (append_assoc kept line (10 ∷ after))) ∙ unended-line (kept ++ line) after (HasNoFeed-append kept line p q)
+
+unended-nil : unended [] ≡ []
+unfolding unended
+unended-nil = refl
+
+pub State-line : (old now new : Option (List ℕ)) (got kept line : List ℕ) → State old now got kept → HasNoFeed line
+    → Wrote now new ((kept ++ line) ∷ []) → State old new (got ++ (line ++ 10 ∷ [])) []
+State-line old now new got kept line s h w =
+    let n = State-no_feed old now got kept s in
+    let e : ended (kept ++ (line ++ 10 ∷ [])) ≡ (kept ++ line) ∷ [] =
+    ended-whole kept line [] n h ∙ ap (λ l. (kept ++ line) ∷ l) (ended-none [] tt) in
+    State-more old now new got kept (line ++ 10 ∷ []) [] s (subst (Wrote now new) (sym e) w) (sym (unended-whole kept line [] n h ∙ unended-nil))
+
+-- a piece with no line feed comes
+pub State-piece : (old now : Option (List ℕ)) (got kept piece : List ℕ) → State old now got kept → HasNoFeed piece → State old now (got ++ piece) (kept ++ piece)
+State-piece old now got kept piece s h =
+    let n = HasNoFeed-append kept piece (State-no_feed old now got kept s) h in
+    State-more old now now got kept piece (kept ++ piece) s
+    (subst (Wrote now now) (sym (ended-none (kept ++ piece) n)) (Wrote-none now)) (sym (unended-none (kept ++ piece) n))
+
+length-line : (line after : List ℕ) → 0 < length (line ++ 10 ∷ after)
+length-line line after = omega (arith, length-append line (10 ∷ after))
+
+length-kept : (kept more : List ℕ) → 0 < length more → 0 < length (kept ++ more)
+length-kept kept more h = omega (arith, length-append kept more)
+
+-- the answer to a whole line fails
+Feeds-got : (T U : Type 0) (old now new : Option (List ℕ)) (failed : Bool) (got kept line after keeps : List ℕ) (e : RunError) → State old now got kept → HasNoFeed line
+    → Replies {T = T} now new failed ((kept ++ line) ∷ []) (Err e) → Feeds {T = U} old new failed (got ++ (line ++ 10 ∷ after)) keeps (Err e)
+Feeds-got T U old now new failed got kept line after keeps Read s h w = absurd w
+Feeds-got T U old now new failed got kept line after keeps Write s h w =
+    let n = State-no_feed old now got kept s in
+    let e : ended (kept ++ (line ++ 10 ∷ after)) ≡ ((kept ++ line) ∷ []) ++ ended after = ended-whole kept line after n h in (
+      State-write old now new got kept (line ++ 10 ∷ after) s
+          (subst (WroteBeginning now new) (sym e) (WroteBeginning-before now new ((kept ++ line) ∷ []) (ended after) w.0)),
+      w.1,
+    )
+Feeds-got T U old now new failed got kept line after keeps Memory s h w = (
+  State-memory old now new got kept (line ++ 10 ∷ after) s
+      (WroteFirst-none now new (kept ++ (line ++ 10 ∷ after)) (length-kept kept (line ++ 10 ∷ after) (length-line line after)) w.0),
+  w.1,
+)
+
+-- memory is short at a piece with no line feed
+Feeds-got_piece : (U : Type 0) (old now : Option (List ℕ)) (failed : Bool) (got kept piece keeps : List ℕ) → State old now got kept → 0 < length piece
+    → failed ≡ false → Feeds {T = U} old now failed (got ++ piece) keeps (Err Memory)
+Feeds-got_piece U old now failed got kept piece keeps s h f =
+    (State-memory old now now got kept piece s (WroteFirst-none now now (kept ++ piece) (length-kept kept piece h) (Keeps-refl now)), f)
+
+-- more bytes come, and a line of theirs fails
+pub Leaves-fed : (T U : Type 0) (left old now new : Option (List ℕ)) (read_failed write_failed : Bool) (got kept more keeps : List ℕ) (e : RunError) → State old now got kept
+    → read_failed ≡ false → Feeds {T = T} now new write_failed (kept ++ more) keeps (Err e) → Leaves {T = U} left read_failed old new write_failed (got ++ more) (Err e)
+Leaves-fed T U left old now new read_failed write_failed got kept more keeps Read s r w = absurd w
+Leaves-fed T U left old now new read_failed write_failed got kept more keeps Write s r w = (inl (State-write old now new got kept more s w.0), r, w.1)
+Leaves-fed T U left old now new read_failed write_failed got kept more keeps Memory s r w = (State-memory old now new got kept more s w.0, r, w.1)
+
+pub State-start : (now : Option (List ℕ)) (kept : List ℕ) → HasNoFeed kept → State now now kept kept
+State-start now kept h = record {
+  written = subst (Wrote now now) (sym (ended-none kept h)) (Wrote-none now);
+  rest = sym (unended-none kept h);
+}
+
+-- the input has ended, and what is kept is answered if it is a line
+lines-is : (got kept : List ℕ) → kept ≡ unended got → lines got ≡ ended got ++ last_line kept
+unfolding lines
+lines-is got kept e = ap (λ rest. ended got ++ last_line rest) (sym e)
+
+pub Leaves-finished : (T : Type 0) (left old now new : Option (List ℕ)) (read_failed write_failed : Bool) (got kept : List ℕ) (r : Result T RunError) → State old now got kept
+    → read_failed ≡ false → IsAtEnd left → Replies now new write_failed (last_line kept) r → OnErr r (0 < length kept)
+    → Leaves left read_failed old new write_failed got r
+Leaves-finished T left old now new read_failed write_failed got kept (Ok x) s f end w h =
+    (end, subst (Wrote old new) (sym (lines-is got kept s.rest)) (Wrote-append old now new _ _ s.written w.0), f, w.1)
+Leaves-finished T left old now new read_failed write_failed got kept (Err Read) s f end w h = absurd w
+Leaves-finished T left old now new read_failed write_failed got kept (Err Write) s f end w h =
+    (inr (end, subst (WroteBeginning old new) (sym (lines-is got kept s.rest)) (WroteBeginning-after old now new _ _ s.written w.0)), f, w.1)
+Leaves-finished T left old now new read_failed write_failed got kept (Err Memory) s f end w h =
+    let k : WroteFirst now new (kept ++ []) = WroteFirst-none now new (kept ++ []) (omega (arith, length-append kept [])) w.0 in
+    (subst (WroteFirst old new) (append-nil got) (State-memory old now new got kept [] s k), f, w.1)
+
+-- ---- at a block of which a beginning was seen
+
+module _ (first block seen rest : List ℕ) (is : block ≡ seen ++ rest) where
+  whole_is : first ++ block ≡ (first ++ seen) ++ rest
+  whole_is = ap (λ l. first ++ l) is ∙ sym (append_assoc first seen rest)
+
+  -- a line of the rest was answered
+  pub seen_line : (line after : List ℕ) → rest ≡ line ++ 10 ∷ after → block ≡ (seen ++ (line ++ 10 ∷ [])) ++ after
+  seen_line line after e =
+      is ∙ ap (λ l. seen ++ l) (e ∙ sym (append_assoc line (10 ∷ []) after)) ∙ sym (append_assoc seen (line ++ 10 ∷ []) after)
+
+  pub State-seen : (old now new : Option (List ℕ)) (kept line : List ℕ) → State old now (first ++ seen) kept → HasNoFeed line
+      → Wrote now new ((kept ++ line) ∷ []) → State old new (first ++ (seen ++ (line ++ 10 ∷ []))) []
+  State-seen old now new kept line s h w =
+      subst (λ l. State old new l []) (append_assoc first seen (line ++ 10 ∷ [])) (State-line old now new (first ++ seen) kept line s h w)
+
+  pub Feeds-line : (T U : Type 0) (old now new : Option (List ℕ)) (failed : Bool) (kept line after keeps : List ℕ) (e : RunError) → rest ≡ line ++ 10 ∷ after
+      → State old now (first ++ seen) kept → HasNoFeed line → Replies {T = T} now new failed ((kept ++ line) ∷ []) (Err e)
+      → Feeds {T = U} old new failed (first ++ block) keeps (Err e)
+  Feeds-line T U old now new failed kept line after keeps e r s h w =
+      subst (λ l. Feeds {T = U} old new failed l keeps (Err e)) (sym (whole_is ∙ ap (λ l. (first ++ seen) ++ l) r))
+      (Feeds-got T U old now new failed (first ++ seen) kept line after keeps e s h w)
+
+  pub Feeds-piece : (U : Type 0) (old now : Option (List ℕ)) (failed : Bool) (kept keeps : List ℕ) → State old now (first ++ seen) kept → 0 < length rest
+      → failed ≡ false → Feeds {T = U} old now failed (first ++ block) keeps (Err Memory)
+  Feeds-piece U old now failed kept keeps s h f =
+      subst (λ l. Feeds {T = U} old now failed l keeps (Err Memory)) (sym whole_is) (Feeds-got_piece U old now failed (first ++ seen) kept rest keeps s h f)
+
+  pub State-rest : (old now : Option (List ℕ)) (kept : List ℕ) → State old now (first ++ seen) kept → HasNoFeed rest → State old now (first ++ block) (kept ++ rest)
+  State-rest old now kept s h = subst (λ l. State old now l (kept ++ rest)) (sym whole_is) (State-piece old now (first ++ seen) kept rest s h)
+
+-- a run that answers `Ok` answers the whole input
+pub whole_input : {T : Type 0} (given left : Option (List ℕ)) (read_failed : Bool) (old new : Option (List ℕ)) (write_failed : Bool) (r : Result T RunError)
+    → Runs given left read_failed old new write_failed r → OnOk r (IfSome given (λ input. Wrote old new (lines input)))
+whole_input given left read_failed old new write_failed (Ok x) h =
+    Consumes-whole given left h.0 (λ input. Wrote old new (lines input)) h.1 h.2.0 h.2.1
+whole_input given left read_failed old new write_failed (Err e) h = tt

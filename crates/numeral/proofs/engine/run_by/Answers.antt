@@ -1,0 +1,44 @@
+use Rattle.std.proofs.Common.{◌≡◌, ◌++◌, [], take, ap, ◌∙◌, subst, append-nil, arith}
+use Rattle.std.proofs.lemmas.Result.{err_from_is_err_and}
+use Rattle.std.specs.Io.KnownBytes.{Consumes}
+use Rattle.std.proofs.KnownBytes.{Consumes-nil, Consumes-trans}
+use Rattle.numeral.proofs.State.{State-start, State-no_feed, State-more, Leaves-fed, Leaves-finished}
+use Rattle.numeral.proofs.engine.run_by.Goals as goal
+
+pub reads-init : goal.reads-init
+reads-init g c =
+    ([], Consumes-nil _, rw c.new.ensures.items (State-start _ [] tt), c.requires.reads, c.requires.writes)
+
+pub feed-requires-clause-unended : goal.feed-requires-clause-unended
+feed-requires-clause-unended g c = State-no_feed _ _ c.reads.invariant.0 _ c.reads.invariant.2
+
+pub reads-preserved : goal.reads-preserved
+reads-preserved g c =
+    let i = c.reads.invariant in
+    let w = c.in_ok-feed.ensures in (
+      i.0 ++ c.split_at.result.0.now,
+      rw c.split_at.ensures.front (Consumes-trans _ _ _ i.0 _ i.1 c.in-Ok.ensures.bytes.0),
+      State-more _ _ _ i.0 c.reads.room.line.items c.split_at.result.0.now c.feed.new.room.line.items i.2 w.0 w.1,
+      c.in-Ok.ensures.fails,
+      w.2,
+    )
+
+pub returns-in_err-feed : goal.returns-in_err-feed
+returns-in_err-feed g c =
+    let i = c.reads.invariant in
+    let p = err_from_is_err_and c.from_residual.result c.from_residual.ensures.1 in (
+      i.0 ++ c.split_at.result.0.now,
+      rw c.split_at.ensures.front (Consumes-trans _ _ _ i.0 _ i.1 c.in-Ok.ensures.bytes.0),
+      rw (p.1, p.2)
+          (Leaves-fed (Unit {0}) (Unit {0}) _ _ _ _ _ _ i.0 c.reads.room.line.items c.split_at.result.0.now c.feed.new.room.line.items _ i.2 c.in-Ok.ensures.fails c.in_err-feed.ensures),
+    )
+
+pub returns : goal.returns
+returns g c =
+    let i = c.reads.invariant in
+    let e : take c.in-Ok.count c.read.new.buffer ≡ [] = ap (λ n. take n c.read.new.buffer) c.if-count-eq0.true in (
+      i.0,
+      subst (Consumes _ _) (ap (λ l. i.0 ++ l) e ∙ append-nil i.0) (Consumes-trans _ _ _ i.0 _ i.1 c.in-Ok.ensures.bytes.0),
+      Leaves-finished (Unit {0}) _ _ _ _ _ _ i.0 c.reads.room.line.items c.finish.result i.2 c.in-Ok.ensures.fails
+          (c.in-Ok.ensures.bytes.1 c.if-count-eq0.true (omega arith)) c.finish.ensures.replies c.finish.ensures.some,
+    )

@@ -1,0 +1,161 @@
+// Reads the input block by block, and answers its lines.
+ghost use Rattle.std.specs.Prelude.{◌≡◌, ◌<◌, ◌≤◌, ◌++◌, [], ◌∷◌, false, length, take, slice_index, OnOk, OnErr, IfSome, MatchOption, string_bytes};
+ghost use Rattle.numeral.specs.Lines.{HasNoFeed, last_line, lines};
+ghost use Rattle.numeral.specs.Answer.{Answers};
+ghost use Rattle.numeral.specs.Leaves.{Wrote, Runs};
+ghost use Rattle.numeral.specs.Steps.{Puts, Replies, Feeds};
+
+use crate::answer::answer;
+use crate::device::{Sink, Source};
+use crate::fault::RunError;
+use crate::lines::split_line;
+use std::alloc::Global;
+
+// How many bytes are read at a time.
+const BLOCK: usize = 65536;
+
+// What is kept from line to line: the beginning of a line that a block has cut, and the room for an answer.
+#[derive(Drop)]
+struct Room {
+    line: Vec<u8>,
+    answer: String,
+}
+
+// Writes all the bytes, in as many writes as it takes.
+fn write_all<W: Sink>(writer: &mut W, bytes: &[u8]) -> Result<(), RunError>
+    requires { W.failed writer.old ≡ false }
+    ensures { Puts (W.contents writer.old) (W.contents writer.new) (W.failed writer.new) bytes.now result }
+{
+    let mut rest = bytes;
+    while !rest.is_empty() {
+        match writer.write(rest) {
+            Ok(count) => rest = rest.split_at(count).1,
+            Err(_) => return Err(RunError::Write),
+        }
+    }
+    Ok(())
+}
+
+// Answers a line. The answer is whole before any of it is written.
+fn answer_line<W: Sink>(
+    alloc: Global,
+    writer: &mut W,
+    room: &mut String,
+    line: &[u8],
+) -> Result<(), RunError>
+    requires { W.failed writer.old ≡ false }
+    ensures { Replies (W.contents writer.old) (W.contents writer.new) (W.failed writer.new) (line.now ∷ []) result }
+{
+    room.clear();
+    answer(alloc, room, line)?;
+    room.push('\n')?;
+    write_all(writer, room.as_bytes())
+}
+
+// Answers the line that is kept and goes on with this piece, and keeps nothing.
+fn answer_kept<W: Sink>(
+    alloc: Global,
+    writer: &mut W,
+    room: &mut Room,
+    piece: &[u8],
+) -> Result<(), RunError>
+    requires { W.failed writer.old ≡ false }
+    ensures replies { Replies (W.contents writer.old) (W.contents writer.new) (W.failed writer.new)
+        ((room.old.line.items ++ piece.now) ∷ []) result }
+    ensures kept { OnOk result (room.new.line.items ≡ []) }
+{
+    if room.line.is_empty() {
+        return answer_line(alloc, writer, &mut room.answer, piece);
+    }
+    room.line.extend_from_slice(piece)?;
+    answer_line(alloc, writer, &mut room.answer, room.line.as_slice())?;
+    room.line.clear();
+    Ok(())
+}
+
+// Takes the next bytes: answers each line that ends in them, and keeps the rest.
+fn feed<W: Sink>(
+    alloc: Global,
+    writer: &mut W,
+    room: &mut Room,
+    block: &[u8],
+) -> Result<(), RunError>
+    requires works { W.failed writer.old ≡ false }
+    requires unended { HasNoFeed room.old.line.items }
+    ensures { Feeds (W.contents writer.old) (W.contents writer.new) (W.failed writer.new)
+        (room.old.line.items ++ block.now) room.new.line.items result }
+{
+    let mut rest = block;
+    'lines: while let Some((line, after)) = split_line(rest) {
+        answer_kept(alloc, writer, room, line)?;
+        rest = after;
+    }
+    if !rest.is_empty() {
+        room.line.extend_from_slice(rest)?;
+    }
+    Ok(())
+}
+
+// Answers what is kept at the end of the input, if it is a line.
+fn finish<W: Sink>(alloc: Global, writer: &mut W, room: &mut Room) -> Result<(), RunError>
+    requires { W.failed writer.old ≡ false }
+    ensures replies { Replies (W.contents writer.old) (W.contents writer.new) (W.failed writer.new)
+        (last_line room.old.line.items) result }
+    ensures some { OnErr result (0 < length room.old.line.items) }
+{
+    if room.line.is_empty() {
+        return Ok(());
+    }
+    answer_line(alloc, writer, &mut room.answer, room.line.as_slice())
+}
+
+// Runs, and reads by this block.
+fn run_by<R: Source, W: Sink>(
+    alloc: Global,
+    reader: &mut R,
+    writer: &mut W,
+    block: &mut [u8],
+) -> Result<(), RunError>
+    requires reads { R.failed reader.old ≡ false }
+    requires writes { W.failed writer.old ≡ false }
+    requires room { 0 < length block.old }
+    ensures { Runs (R.remaining reader.old) (R.remaining reader.new) (R.failed reader.new)
+        (W.contents writer.old) (W.contents writer.new) (W.failed writer.new) result }
+{
+    let mut room = Room {
+        line: Vec::new(alloc),
+        answer: String::new(alloc),
+    };
+    'reads: loop {
+        let Ok(count) = reader.read(block) else {
+            return Err(RunError::Read);
+        };
+        if count == 0 {
+            break;
+        }
+        let (filled, _) = block.split_at(count);
+        feed(alloc, writer, &mut room, filled)?;
+    }
+    finish(alloc, writer, &mut room)
+}
+
+/// Reads the input to its end, and writes the answers to its lines, each followed by a line feed.
+///
+/// A line is answered and written before room for a later one is asked for. After a fault nothing more is
+/// read or written: at `Read` the lines that had ended are answered, at `Write` a beginning of the answers was
+/// written, at `Memory` the lines before the one in hand are answered.
+pub fn run<R: Source, W: Sink>(
+    alloc: Global,
+    reader: &mut R,
+    writer: &mut W,
+) -> Result<(), RunError>
+    requires reads { R.failed reader.old ≡ false }
+    requires writes { W.failed writer.old ≡ false }
+    ensures whole { OnOk result (IfSome (R.remaining reader.old) (λ input.
+        Wrote (W.contents writer.old) (W.contents writer.new) (lines input))) }
+    ensures leaves { Runs (R.remaining reader.old) (R.remaining reader.new) (R.failed reader.new)
+        (W.contents writer.old) (W.contents writer.new) (W.failed writer.new) result }
+{
+    let mut block = [0u8; BLOCK];
+    run_by(alloc, reader, writer, &mut block)
+}

@@ -1,0 +1,73 @@
+ghost use Rattle.std.specs.Prelude.{◌≡◌, ◌==◌, ◌<◌, ◌≤◌, ◌-◌, Some, min, length, unwrap_or, false, is_err, IfOk, OnOk};
+ghost use Rattle.std.specs.Io.KnownBytes.{ReadConsumes};
+
+use crate::device::Source;
+use crate::fault::DeviceFault;
+
+/// The bytes of a lent slice.
+///
+/// It fails at the call named, and never else.
+#[derive(Drop)]
+pub struct MemorySource<'a> {
+    rest: &'a [u8],
+    most: usize,
+    // which call from now on fails; 0 for none
+    fails_in: u64,
+    failed: bool,
+    ghost gives_some: { 0 < most },
+}
+
+impl<'a> MemorySource<'a> {
+    /// Gives these bytes, at most so many in a call, which is at least 1. Of the calls, counted from 1, this one
+    /// fails; `Some(0)` fails none.
+    pub fn new(bytes: &'a [u8], most: usize, failing: Option<u64>) -> MemorySource<'a>
+        requires { 0 < most }
+        ensures remaining { result.rest.now ≡ bytes.now }
+        ensures works { result.failed ≡ false }
+        ensures most { result.most ≡ most }
+        ensures failing { result.fails_in ≡ unwrap_or failing 0 }
+    {
+        MemorySource {
+            rest: bytes,
+            most,
+            fails_in: failing.unwrap_or(0),
+            failed: false,
+        }
+    }
+}
+
+impl Source for MemorySource<'_> {
+    ghost remaining = { λ s. Some s.rest.now };
+
+    ghost failed = { λ s. s.failed };
+
+    ghost reads_left = { λ s. length s.rest.now };
+
+    fn read(&mut self, buffer: &mut [u8]) -> Result<usize, DeviceFault>
+        requires room { 0 < length buffer.old }
+        requires works { self.old.failed ≡ false }
+        ensures bound { IfOk result (λ n. n ≤ length buffer.new) }
+        ensures fails { self.new.failed ≡ is_err result }
+        ensures bytes { ReadConsumes (Some self.old.rest.now) (Some self.new.rest.now) result buffer.new }
+        ensures ends { IfOk result (λ n. 0 < n → length self.new.rest.now < length self.old.rest.now) }
+        ensures only { is_err result ≡ (self.old.fails_in == 1) }
+        ensures counts { OnOk result (self.new.fails_in ≡ self.old.fails_in - 1) }
+        ensures most { IfOk result (λ n. n ≡ min (min (length self.old.rest.now) (length buffer.old)) self.old.most) }
+        ensures same { self.new.most ≡ self.old.most }
+    {
+        if self.fails_in == 1 {
+            self.failed = true;
+            return Err(DeviceFault);
+        }
+        self.fails_in = self.fails_in.saturating_sub(1);
+        let count = self.rest.len().min(buffer.len()).min(self.most);
+        let (front, rest) = self.rest.split_at(count);
+        buffer[..count].copy_from_slice(front);
+        self.rest = rest;
+        Ok(count)
+    }
+
+    fn has_failed(&self) -> bool {
+        self.failed
+    }
+}
