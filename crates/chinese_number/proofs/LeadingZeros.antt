@@ -1,5 +1,5 @@
 -- Zeros before the digits of a string, after its sign.
-use Rattle.std.proofs.Common.{◌≡◌, ℕ, ℤ, Bool, true, false, ◌||◌, ◌==◌, List, [], ◌∷◌, ◌++◌, take, drop, All, Option, Some, None, Result, Ok, Err, refl, sym, ap, ◌∙◌, arith, if◌then◌else◌}
+use Rattle.std.proofs.Common.{◌≡◌, ℕ, ℤ, Bool, true, false, ◌||◌, ◌==◌, if◌then◌else◌, List, [], ◌∷◌, ◌++◌, take, drop, All, Option, Some, None, Ok, refl, sym, ap, ◌∙◌, arith}
 use Rattle.std.proofs.lemmas.Bool.Decides.{nat_tests}
 use Rattle.std.proofs.lemmas.List.Elements.{All-head, All-tail, All-nil, All-cons}
 use Rattle.cn_core.specs.declared.sign.Sign.{Sign}
@@ -7,11 +7,10 @@ use Rattle.cn_core.specs.declared.sign.Sign.TheVariants.{Plus, Minus}
 use Rattle.cn_core.specs.Characters.{digit_of, sign_of}
 use Rattle.cn_core.specs.Mark.{digit, mark_of}
 use Rattle.cn_core.specs.Naive.{naive_answer}
-use Rattle.cn_core.specs.Refusal.{Refusal, empty, incorrect_at, too_large, too_small}
 use Rattle.cn_core.specs.Text.{text_of, marks_of}
 use Rattle.cn_core.specs.Typed.{leading_sign, sign_len, signed_by, held_by, typed_answer, naive_reading}
 use Rattle.cn_core.specs.Whole.{Kind}
-use Rattle.chinese_number.proofs.PlainDigits.{naive_answer-zeros}
+use Rattle.chinese_number.proofs.PlainDigits.{answered, naive_answer-zeros}
 use Rattle.chinese_number.proofs.Reading.{naive_reading-parts}
 
 plus : digit_of 0x6B63 ≡ None
@@ -35,14 +34,6 @@ sign_no_digit c value h = by (c == 0x6B63) (c == 0x8CA0) (c == 0x8D1F) refl refl
   by false true s e f g = let is : c ≡ 0x8CA0 = grind (arith, nat_tests) in let d : digit_of 0x8CA0 ≡ Some value = rw is at h in cc (minus)
   by false false true e f g = let is : c ≡ 0x8D1F = grind (arith, nat_tests) in let d : digit_of 0x8D1F ≡ Some value = rw is at h in cc (simple_minus)
   by false false false e f g = refl
-
--- an answered number has an answered magnitude
-answered : (kind : Kind) (bytes : List ℕ) (sign : Option Sign) (number : ℤ) (judged : Result ℕ Refusal) → typed_answer kind bytes sign judged ≡ Ok number → (magnitude : ℕ) × (judged ≡ Ok magnitude)
-answered kind bytes sign number (Ok magnitude) h = (magnitude, refl)
-answered kind bytes sign number (Err empty) h = cc
-answered kind bytes sign number (Err (incorrect_at place)) h = cc
-answered kind bytes sign number (Err too_large) h = cc
-answered kind bytes sign number (Err too_small) h = cc
 
 -- zeros after the sign hide no sign and make none
 marks_of-append : (xs ys : List ℕ) → marks_of (xs ++ ys) ≡ marks_of xs ++ marks_of ys

@@ -1,8 +1,6 @@
 -- Numerals alone are answered by a number.
-use Rattle.std.proofs.Common.{◌≡◌, ℕ, zero, suc, int_lt, ◌-◌, ◌^◌, ◌<◌, ℤ, nat_abs, Bool, true, false, not, ◌&&◌, nat_lt, List, [], ◌∷◌, length, Option, Some, None, Result, Ok, Err, is_ok, MatchBool, refl, sym, ap, subst, ◌∙◌, arith, if◌then◌else◌}
+use Rattle.std.proofs.Common.{◌≡◌, ℕ, ◌-◌, ◌^◌, ◌<◌, ℤ, nat_abs, Bool, true, false, not, ◌&&◌, nat_lt, MatchBool, if◌then◌else◌, List, [], ◌∷◌, length, Result, Ok, Err, is_ok, refl, sym, ap, subst, ◌∙◌, arith}
 use Rattle.cn_core.specs.declared.method.ChineseCountMethod.{ChineseCountMethod}
-use Rattle.cn_core.specs.declared.sign.Sign.{Sign}
-use Rattle.cn_core.specs.declared.sign.Sign.TheVariants.{Plus, Minus}
 use Rattle.cn_core.specs.Judge.{Judges, RefusesBody, numeral_answer, last_mark_answer}
 use Rattle.cn_core.specs.Mark.{Mark}
 use Rattle.cn_core.specs.Numeral.{IsNumeral, is_numeral}
@@ -13,7 +11,7 @@ use Rattle.cn_core.specs.Typed.{Reads, signed_by, held_by, typed_answer}
 use Rattle.cn_core.specs.Value.{numeral_value}
 use Rattle.cn_core.specs.Whole.{Kind, Holds}
 use Rattle.chinese_number.specs.Parts.{sign_at, unsigned_text}
-use Rattle.chinese_number.proofs.Reading.{IsWhole, Reads-parts, held_by-Holds, Holds-held_by}
+use Rattle.chinese_number.proofs.Reading.{IsWhole, Reads-parts, held_by-Holds, Holds-held_by, held_is, size_of}
 use Rattle.chinese_number.proofs.SpelledMarks.{Judges-numeral}
 
 -- what a text that is judged as a number is like
@@ -55,13 +53,6 @@ IsJudged-number method (mark ∷ rest) number h =
       by false true e h = absurd (last_no_number method marks number h)
       by false false e h = absurd (body_no_number method (body marks) number h)
 
-held_is : (kind : Kind) (number answer : ℤ) → held_by kind number ≡ Ok answer → number ≡ answer
-held_is kind number answer h = by (int_lt kind.greatest number) (int_lt number kind.least) h where
-  by : (a b : Bool) → (if a then Err too_large else (if b then Err too_small else Ok number)) ≡ Ok answer → number ≡ answer
-  by true b h = cc
-  by false true h = cc
-  by false false h = cc
-
 -- exactly numerals whose scales and signed value fit are answered by that value
 pub Reads-number : (kind : Kind) (method : ChineseCountMethod) (bytes : List ℕ) (number : ℤ) → Reads kind method bytes (Ok number)
     → let marks = marks_of (unsigned_text kind bytes) in
@@ -79,12 +70,6 @@ Reads-number kind method bytes number (judged, is, answer) = by judged is (sym a
   by (Ok magnitude) is h =
       let j = IsJudged-number method marks magnitude is in
       (j.numeral, j.fits, ap (signed_by (sign_at kind bytes)) j.value ∙ held_is kind (signed_by (sign_at kind bytes) magnitude) number h, Holds-held_by kind (signed_by (sign_at kind bytes) magnitude) number h)
-
-pub size_of : (sign : Option Sign) (magnitude : ℕ) → nat_abs (signed_by sign magnitude) ≡ magnitude
-size_of None magnitude = refl
-size_of (Some Plus) magnitude = refl
-size_of (Some Minus) zero = refl
-size_of (Some Minus) (suc magnitude) = refl
 
 pub Reads-numeral : (kind : Kind) (method : ChineseCountMethod) (bytes : List ℕ) (number : ℤ) → IsWhole kind
     → let marks = marks_of (unsigned_text kind bytes) in

@@ -1,5 +1,5 @@
 -- Plain digits are read back, also after zeros.
-use Rattle.std.proofs.Common.{◌≡◌, ℕ, ◌+◌, ◌-◌, ◌*◌, ◌/◌, ◌%◌, ◌^◌, ◌<◌, ◌≤◌, ℤ, pos, nat_abs, int_lt, Bool, true, false, nat_lt, nat_le, List, [], ◌∷◌, ◌++◌, map, length, take, drop, All, fold, decimal, Option, Some, None, Ok, refl, ap, subst, ◌∙◌, arith, if◌then◌else◌, length-append, take-append-drop, take_all}
+use Rattle.std.proofs.Common.{◌≡◌, ℕ, ◌+◌, ◌-◌, ◌*◌, ◌/◌, ◌%◌, ◌^◌, ◌<◌, ◌≤◌, ℤ, pos, nat_abs, int_lt, Bool, true, false, nat_lt, nat_le, if◌then◌else◌, List, [], ◌∷◌, ◌++◌, length, map, fold, take, drop, All, decimal, Option, Some, None, Result, Ok, Err, refl, sym, ap, subst, ◌∙◌, arith, length-append, take-append-drop, take_all}
 use Rattle.std.proofs.lemmas.Bool.Decides.{nat_tests}
 use Rattle.std.proofs.lemmas.Fmt.{decimal_by_steps_wide}
 use Rattle.std.proofs.lemmas.List.{map-append}
@@ -7,22 +7,21 @@ use Rattle.std.proofs.lemmas.List.Elements.{All-head, All-tail}
 use Rattle.std.proofs.lemmas.List.Sums.{fold-append}
 use Rattle.std.specs.List.{list_all}
 use Rattle.std.specs.Option.{option_or}
-use Rattle.cn_core.specs.declared.script.ChineseVariant.{ChineseVariant}
 use Rattle.cn_core.specs.declared.case.ChineseCase.{ChineseCase}
+use Rattle.cn_core.specs.declared.script.ChineseVariant.{ChineseVariant}
+use Rattle.cn_core.specs.declared.sign.Sign.{Sign}
 use Rattle.cn_core.specs.Mark.{Mark, digit, unit, other}
 use Rattle.cn_core.specs.Naive.{decimal_digits, decimal_value, digit_value, naive_answer, first_fault, fault_at, refused_or}
 use Rattle.cn_core.specs.Numeral.{opened, starts_with_digit}
-use Rattle.cn_core.specs.Refusal.{Refusal, too_large}
-use Rattle.cn_core.specs.Typed.{naive_reading, typed_answer}
+use Rattle.cn_core.specs.Refusal.{Refusal, empty, incorrect_at, too_large, too_small}
+use Rattle.cn_core.specs.Text.{marks_of}
+use Rattle.cn_core.specs.Typed.{naive_reading, signed_by, held_by, typed_answer}
 use Rattle.cn_core.specs.Whole.{Kind, Holds}
 use Rattle.cn_core.specs.Written.{written_bytes}
-use Rattle.cn_core.proofs.Fronts.{and-left, and-right}
-use Rattle.chinese_number.proofs.Printed.{is_printed, both}
-use Rattle.chinese_number.proofs.Reading.{IsWhole, HasParts-written, naive_reading-parts, typed_answer-held, minus_is_signed, written_sign}
-
-abbrev is_digit : Mark → Bool
-is_digit (digit value) = true
-is_digit mark = false
+use Rattle.chinese_number.specs.Digits.{is_digit}
+use Rattle.chinese_number.specs.Parts.{sign_at, unsigned_text}
+use Rattle.chinese_number.proofs.Printed.{is_printed, list_all-both}
+use Rattle.chinese_number.proofs.Reading.{IsWhole, HasParts-written, naive_reading-parts, typed_answer-held, minus_is_signed, written_sign, held_by-Holds, Holds-held_by, held_is, size_of}
 
 -- one more digit in the sum
 abbrev step : ℕ → Mark → ℕ
@@ -97,6 +96,36 @@ IsPlain-answered (mark ∷ rest) number h = by (first_fault (mark ∷ rest) 0 (m
       let fits = digits_fit (mark ∷ rest) 0 (mark ∷ rest) e (omega arith) (omega arith) in
       record { some = omega arith; digits = all_digits (mark ∷ rest) 0 (mark ∷ rest) e; value = value; small = omega (arith, value, fits) }
 
+-- an answered number has an answered magnitude
+pub answered : (kind : Kind) (bytes : List ℕ) (sign : Option Sign) (number : ℤ) (judged : Result ℕ Refusal) → typed_answer kind bytes sign judged ≡ Ok number → (magnitude : ℕ) × (judged ≡ Ok magnitude)
+answered kind bytes sign number (Ok magnitude) h = (magnitude, refl)
+answered kind bytes sign number (Err empty) h = cc
+answered kind bytes sign number (Err (incorrect_at place)) h = cc
+answered kind bytes sign number (Err too_large) h = cc
+answered kind bytes sign number (Err too_small) h = cc
+
+-- exactly digits whose signed value fits are answered by that value
+pub naive_reading-number : (kind : Kind) (bytes : List ℕ) (number : ℤ) → naive_reading kind bytes ≡ Ok number
+    → let marks = marks_of (unsigned_text kind bytes) in
+    (0 < length marks) × (list_all is_digit marks ≡ true) × (signed_by (sign_at kind bytes) (decimal_value marks) ≡ number) × Holds kind number
+naive_reading-number kind bytes number h =
+    let sign = sign_at kind bytes in
+    let marks = marks_of (unsigned_text kind bytes) in
+    let a = answered kind bytes sign number (naive_answer marks) h in
+    let plain = IsPlain-answered marks a.0 a.1 in
+    let held : held_by kind (signed_by sign a.0) ≡ Ok number = ap (typed_answer kind bytes sign) (sym a.1) ∙ h in
+    (plain.some, plain.digits, ap (signed_by sign) plain.value ∙ held_is kind (signed_by sign a.0) number held, Holds-held_by kind (signed_by sign a.0) number held)
+
+pub naive_reading-digits : (kind : Kind) (bytes : List ℕ) (number : ℤ) → IsWhole kind
+    → let marks = marks_of (unsigned_text kind bytes) in
+    (0 < length marks) × (list_all is_digit marks ≡ true) × (signed_by (sign_at kind bytes) (decimal_value marks) ≡ number) × Holds kind number
+    → naive_reading kind bytes ≡ Ok number
+naive_reading-digits kind bytes number whole (some, digits, is, held) =
+    let sign = sign_at kind bytes in
+    let marks = marks_of (unsigned_text kind bytes) in
+    let small : decimal_value marks < 2 ^ 128 = omega (arith, whole.fits number held, size_of sign (decimal_value marks), ap nat_abs is) in
+    ap (typed_answer kind bytes sign) (naive_answer-digits marks some digits small) ∙ ap (held_by kind) is ∙ held_by-Holds kind number held
+
 -- zeros in front leave the answer as it was
 zeros_sum : (zeros : List Mark) → All (λ mark. mark ≡ digit 0) zeros → (list_all is_digit zeros ≡ true) × (fold step 0 zeros ≡ 0)
 zeros_sum [] h = (refl, refl)
@@ -105,17 +134,13 @@ zeros_sum (mark ∷ rest) h =
     let ih = zeros_sum rest (All-tail (λ mark. mark ≡ digit 0) mark rest h) in
     (rw is ih.0, rw is ih.1)
 
-list_all-append : (xs ys : List Mark) → list_all is_digit xs ≡ true → list_all is_digit ys ≡ true → list_all is_digit (xs ++ ys) ≡ true
-list_all-append [] ys p q = q
-list_all-append (x ∷ xs) ys p q = both _ _ (and-left (is_digit x) _ p) (list_all-append xs ys (and-right (is_digit x) _ p) q)
-
 pub naive_answer-zeros : (zeros marks : List Mark) (number : ℕ) → All (λ mark. mark ≡ digit 0) zeros → naive_answer marks ≡ Ok number → naive_answer (zeros ++ marks) ≡ Ok number
 naive_answer-zeros zeros marks number z h =
     let plain = IsPlain-answered marks number h in
     let sum = zeros_sum zeros z in
     let total : decimal_value (zeros ++ marks) ≡ number = fold-append step 0 zeros marks ∙ ap (λ n. fold step n marks) sum.1 ∙ plain.value in
     let long : 0 < length (zeros ++ marks) = omega (arith, length-append zeros marks, plain.some) in
-    naive_answer-digits (zeros ++ marks) long (list_all-append zeros marks sum.0 plain.digits) (omega (arith, total, plain.small)) ∙ ap Ok total
+    naive_answer-digits (zeros ++ marks) long (list_all-both is_digit zeros marks sum.0 plain.digits) (omega (arith, total, plain.small)) ∙ ap Ok total
 
 -- the decimal digits of a number
 record IsDecimal (number : ℕ) (bytes : List ℕ) : Type 0 where
@@ -123,10 +148,6 @@ record IsDecimal (number : ℕ) (bytes : List ℕ) : Type 0 where
   printed : list_all is_printed (map (λ byte. digit (byte - 48)) bytes) ≡ true
   digits : list_all is_digit (map (λ byte. digit (byte - 48)) bytes) ≡ true
   value : decimal_value (map (λ byte. digit (byte - 48)) bytes) ≡ number
-
-list_all-printed-append : (xs ys : List Mark) → list_all is_printed xs ≡ true → list_all is_printed ys ≡ true → list_all is_printed (xs ++ ys) ≡ true
-list_all-printed-append [] ys p q = q
-list_all-printed-append (x ∷ xs) ys p q = both _ _ (and-left (is_printed x) _ p) (list_all-printed-append xs ys (and-right (is_printed x) _ p) q)
 
 IsDecimal-one : (n : ℕ) → n < 10 → IsDecimal n ((48 + n) ∷ [])
 IsDecimal-one n low =
@@ -143,8 +164,8 @@ IsDecimal-more n bytes high h =
     let sum : fold step (decimal_value (map f bytes)) (digit (n % 10) ∷ []) ≡ n = (let v = h.value in rw v (omega arith)) in
     record {
       some = omega (arith, length-append bytes ((48 + n % 10) ∷ []));
-      printed = rw parts (list_all-printed-append (map f bytes) (digit (n % 10) ∷ []) h.printed (rw test));
-      digits = rw parts (list_all-append (map f bytes) (digit (n % 10) ∷ []) h.digits refl);
+      printed = rw parts (list_all-both is_printed (map f bytes) (digit (n % 10) ∷ []) h.printed (rw test));
+      digits = rw parts (list_all-both is_digit (map f bytes) (digit (n % 10) ∷ []) h.digits refl);
       value = ap decimal_value parts ∙ fold-append step 0 (map f bytes) (digit (n % 10) ∷ []) ∙ sum;
     }
 

@@ -1,22 +1,22 @@
 -- The answer to a string, from its text; and to the written text of a number.
-use Rattle.std.proofs.Common.{◌≡◌, ℕ, ◌^◌, ◌<◌, ℤ, pos, negsuc, nat_abs, ◌≤ℤ◌, int_lt, Bool, true, false, List, [], ◌∷◌, map, drop, encode_utf8_all, Option, Some, None, Result, Ok, Err, refl, sym, ap, subst, ◌∙◌, arith, if◌then◌else◌}
+use Rattle.std.proofs.Common.{◌≡◌, ℕ, zero, suc, ◌^◌, ◌<◌, ℤ, pos, negsuc, nat_abs, ◌≤ℤ◌, int_lt, Bool, true, false, if◌then◌else◌, List, [], ◌∷◌, map, drop, encode_utf8_all, Option, Some, None, Result, Ok, Err, refl, sym, ap, subst, ◌∙◌, arith}
 use Rattle.std.proofs.lemmas.Int.{ints}
+use Rattle.std.specs.List.{list_all}
+use Rattle.cn_core.specs.declared.case.ChineseCase.{ChineseCase}
 use Rattle.cn_core.specs.declared.method.ChineseCountMethod.{ChineseCountMethod}
 use Rattle.cn_core.specs.declared.script.ChineseVariant.{ChineseVariant}
-use Rattle.cn_core.specs.declared.case.ChineseCase.{ChineseCase}
 use Rattle.cn_core.specs.declared.sign.Sign.{Sign}
-use Rattle.cn_core.specs.declared.sign.Sign.TheVariants.{Minus}
+use Rattle.cn_core.specs.declared.sign.Sign.TheVariants.{Plus, Minus}
 use Rattle.cn_core.specs.Judge.{Judges}
 use Rattle.cn_core.specs.Mark.{Mark}
-use Rattle.cn_core.specs.Numeral.{opened, starts_with_digit}
 use Rattle.cn_core.specs.Naive.{naive_answer}
+use Rattle.cn_core.specs.Numeral.{opened, starts_with_digit}
 use Rattle.cn_core.specs.Refusal.{Refusal, empty, incorrect_at, too_large, too_small}
 use Rattle.cn_core.specs.Spelling.{spelling}
 use Rattle.cn_core.specs.Text.{text_of, marks_of}
 use Rattle.cn_core.specs.Typed.{Reads, leading_sign, sign_len, signed_by, held_by, typed_answer, naive_reading}
 use Rattle.cn_core.specs.Whole.{Kind, Holds}
 use Rattle.cn_core.specs.Written.{mark_char, written_bytes, spelled_text, is_printable}
-use Rattle.std.specs.List.{list_all}
 use Rattle.cn_core.proofs.Fronts.{and-left}
 use Rattle.cn_core.proofs.Judging.{judge, Judges-judge, Judges-same}
 use Rattle.cn_core.proofs.ReadBack.{spelling-is_numeral}
@@ -45,6 +45,14 @@ Holds-held_by kind number answer h = by (int_lt kind.greatest number) (int_lt nu
   by false false p q h = let e : number ≡ answer = cc in let held : Holds kind number = (at_most number kind.least q, at_most kind.greatest number p) in subst (Holds kind) e held where
     at_most : (x y : ℤ) → int_lt x y ≡ false → y ≤ℤ x
     at_most x y e = omega (arith, ints)
+
+-- that is, the number itself
+pub held_is : (kind : Kind) (number answer : ℤ) → held_by kind number ≡ Ok answer → number ≡ answer
+held_is kind number answer h = by (int_lt kind.greatest number) (int_lt number kind.least) h where
+  by : (a b : Bool) → (if a then Err too_large else (if b then Err too_small else Ok number)) ≡ Ok answer → number ≡ answer
+  by true b h = cc
+  by false true h = cc
+  by false false h = cc
 
 -- a string has one answer
 pub Reads-same : (kind : Kind) (method : ChineseCountMethod) (bytes : List ℕ) (a b : Result ℤ Refusal) → Reads kind method bytes a → Reads kind method bytes b → a ≡ b
@@ -85,6 +93,13 @@ signed_by-written (pos n) = rw (not_below_zero n) where
     by true e = absurd (omega (arith, ints))
     by false e = refl
 signed_by-written (negsuc n) = refl
+
+-- a sign leaves the magnitude as it was
+pub size_of : (sign : Option Sign) (magnitude : ℕ) → nat_abs (signed_by sign magnitude) ≡ magnitude
+size_of None magnitude = refl
+size_of (Some Plus) magnitude = refl
+size_of (Some Minus) zero = refl
+size_of (Some Minus) (suc magnitude) = refl
 
 -- the parts of a written text are those that it was written from
 pub HasParts-written : (kind : Kind) (variant : ChineseVariant) (case : ChineseCase) (negative : Bool) (marks : List Mark)

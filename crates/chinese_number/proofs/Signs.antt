@@ -11,8 +11,7 @@ use Rattle.cn_core.specs.Text.{text_of, marks_of}
 use Rattle.cn_core.specs.Typed.{Reads, signed_by}
 use Rattle.cn_core.specs.Value.{numeral_value}
 use Rattle.cn_core.specs.Whole.{Kind, Holds}
-use Rattle.chinese_number.proofs.Reading.{IsWhole, HasParts, Reads-parts, held_by-Holds}
-use Rattle.chinese_number.proofs.Numerals.{size_of}
+use Rattle.chinese_number.proofs.Reading.{IsWhole, HasParts, Reads-parts, held_by-Holds, size_of}
 use Rattle.chinese_number.proofs.SpelledMarks.{Judges-numeral}
 
 HasParts-sign : (kind : Kind) (bytes rest : List ℕ) (character : ℕ) (sign : Sign) → kind.signed ≡ true → text_of bytes ≡ character ∷ rest → sign_of character ≡ Some sign

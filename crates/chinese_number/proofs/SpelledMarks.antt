@@ -1,9 +1,9 @@
 -- What stands in a spelling: digits of one place, and units whose scales fit 128 bits.
-use Rattle.std.proofs.Common.{◌≡◌, ℕ, zero, suc, ◌*◌, ◌/◌, ◌%◌, ◌^◌, ◌<◌, ◌≤◌, Bool, true, false, not, ◌&&◌, ◌||◌, ◌==◌, nat_lt, List, [], ◌∷◌, ◌++◌, Ok, ℤ, nat_abs, MatchBool, subst, refl, sym, ◌∙◌, arith, if◌then◌else◌}
-use Rattle.std.proofs.lemmas.Bool.Decides.{nat_tests}
-use Rattle.std.proofs.lemmas.Bool.{leb-true}
+use Rattle.std.proofs.Common.{◌≡◌, ℕ, zero, suc, ◌*◌, ◌/◌, ◌%◌, ◌^◌, ◌<◌, ◌≤◌, ℤ, nat_abs, Bool, true, false, not, ◌&&◌, ◌||◌, ◌==◌, nat_lt, MatchBool, if◌then◌else◌, List, [], ◌∷◌, ◌++◌, Ok, refl, sym, subst, ◌∙◌, arith}
 use Rattle.std.proofs.Math.Decide.{dec_lt}
 use Rattle.std.proofs.Math.Nat.{pow-le-pow_right}
+use Rattle.std.proofs.lemmas.Bool.{leb-true}
+use Rattle.std.proofs.lemmas.Bool.Decides.{nat_tests}
 use Rattle.std.specs.List.{list_all}
 use Rattle.cn_core.specs.declared.method.ChineseCountMethod.{ChineseCountMethod}
 use Rattle.cn_core.specs.declared.method.ChineseCountMethod.TheVariants.{Low, TenThousand, Middle, High}
@@ -20,7 +20,7 @@ use Rattle.cn_core.proofs.ReadBack.{spelling-is_numeral}
 use Rattle.cn_core.proofs.ScaleLaws.{IsGreatest-unit}
 use Rattle.cn_core.proofs.Spellings.{Spells-spelled_within, IsCut-greatest, spelled-step}
 use Rattle.cn_core.proofs.Sums.{all_below, spelled-digit}
-use Rattle.chinese_number.proofs.Printed.{is_printed, both}
+use Rattle.chinese_number.proofs.Printed.{is_printed, both, list_all-both}
 
 -- each number of 128 bits that a method writes is below the square of its greatest scale
 pub below_square : (method : ChineseCountMethod) (number : ℤ) → nat_abs number < 2 ^ 128 → is_printable method number ≡ true → nat_abs number < scale method 15 * scale method 15
@@ -30,10 +30,6 @@ below_square Middle number small h = omega (arith, small)
 below_square High number small h = let much : 2 ^ 128 ≤ scale High 15 * scale High 15 = leb-true _ _ refl in omega (arith, small, much)
 
 -- digits of one place and units alone
-list_all-append : (test : Mark → Bool) (xs ys : List Mark) → list_all test xs ≡ true → list_all test ys ≡ true → list_all test (xs ++ ys) ≡ true
-list_all-append test [] ys p q = q
-list_all-append test (x ∷ xs) ys p q = both _ _ (and-left (test x) _ p) (list_all-append test xs ys (and-right (test x) _ p) q)
-
 after_unit-printed : (remainder size : ℕ) (marks : List Mark) → list_all is_printed marks ≡ true → list_all is_printed (after_unit remainder size marks) ≡ true
 after_unit-printed remainder size marks h = by (nat_lt 0 remainder && nat_lt remainder (size / 10)) (remainder == 0) where
   by : (g z : Bool) → list_all is_printed ((if g then digit 0 ∷ [] else []) ++ (if z then [] else marks)) ≡ true
@@ -57,7 +53,7 @@ spelled_within-printed (suc steps) method number fuel small = by (dec_lt number 
       let back = rest (number % size) (omega (arith, cut.remainder, cut.size, fuel)) (omega (arith, cut.remainder, cut.size, small)) in
       let high : nat_lt rank 16 ≡ true = let g = (IsGreatest-unit method number ten).high in grind (arith, nat_tests) in
       rw (spelled-step steps method number ten)
-      (list_all-append is_printed (spelled_within steps method (number / size)) (unit rank ∷ after_unit (number % size) size (spelled_within steps method (number % size))) front
+      (list_all-both is_printed (spelled_within steps method (number / size)) (unit rank ∷ after_unit (number % size) size (spelled_within steps method (number % size))) front
       (both _ _ high (after_unit-printed (number % size) size _ back)))
 
 shortened-printed : (marks : List Mark) → list_all is_printed marks ≡ true → list_all is_printed (shortened marks) ≡ true

@@ -1,7 +1,7 @@
 -- The spot of a refusal is that of a character.
-use Rattle.std.proofs.Common.{◌≡◌, ◌⊎◌, inl, inr, ℕ, zero, suc, ◌+◌, ◌-◌, ◌^◌, ◌<◌, ◌≤◌, ℤ, int_lt, Bool, true, false, not, ◌&&◌, nat_lt, nat_le, List, [], ◌∷◌, length, filter, take, drop, chars, slice_get, Option, Some, None, Result, Ok, Err, is_ok, refl, sym, ap, subst, ◌∙◌, arith, length-drop, if◌then◌else◌, MatchBool}
-use Rattle.std.specs.Option.{option_or}
+use Rattle.std.proofs.Common.{◌≡◌, ◌⊎◌, inl, inr, ℕ, zero, suc, ◌+◌, ◌-◌, ◌^◌, ◌<◌, ◌≤◌, ℤ, int_lt, Bool, true, false, not, ◌&&◌, nat_lt, nat_le, MatchBool, if◌then◌else◌, List, [], ◌∷◌, length, filter, take, drop, slice_get, chars, Option, Some, None, Result, Ok, Err, is_ok, refl, sym, ap, subst, ◌∙◌, arith, length-drop}
 use Rattle.std.specs.Char.{is_whitespace, is_not_whitespace}
+use Rattle.std.specs.Option.{option_or}
 use Rattle.cn_core.specs.declared.method.ChineseCountMethod.{ChineseCountMethod}
 use Rattle.cn_core.specs.declared.sign.Sign.{Sign}
 use Rattle.cn_core.specs.declared.sign.Sign.TheVariants.{Plus, Minus}

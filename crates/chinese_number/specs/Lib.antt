@@ -1,3 +1,4 @@
+pub mod Digits
 pub mod Methods
 pub mod Parts
 pub mod Places

@@ -1,5 +1,5 @@
 -- How laws speak of the spot of a refusal.
-use Rattle.std.specs.Prelude.{◌≡◌, ℕ, ℤ, false, List, length, take, filter, chars, slice_get, Some, Result, Err}
+use Rattle.std.specs.Prelude.{◌≡◌, ℕ, ℤ, false, List, length, filter, take, slice_get, chars, Some, Result, Err}
 use Rattle.std.specs.Char.{is_whitespace, is_not_whitespace}
 use Rattle.cn_core.specs.Refusal.{Refusal, incorrect_at}
 

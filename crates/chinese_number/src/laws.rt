@@ -17,10 +17,12 @@ pub use methods::{
     methods_spell_alike_below, methods_spell_otherwise_from, small_units_read_alike,
 };
 pub use places::{
-    each_list_has_one_place, ends_can_be_completed, nothing_is_wrong_after_a_place,
-    texts_complete_texts, zero_in_front_decides,
+    characters_complete_texts, each_list_has_one_place, ends_can_be_completed,
+    nothing_is_wrong_after_a_place, zero_in_front_decides,
 };
-pub use plain_digits::{naive_texts_read_back, zeros_in_front_change_no_digits};
+pub use plain_digits::{
+    digits_alone_are_read, leading_zeros_change_nothing, naive_texts_read_back,
+};
 pub use read_back::{
     one_spelling_for_each_number, reading_then_printing_is_idempotent, spellings_are_numerals,
     spellings_read_back,

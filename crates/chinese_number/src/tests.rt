@@ -19,12 +19,62 @@ fn print_and_read_naive<T: NumberToChinese>(
     Ok(text.as_str().to_number_naive())
 }
 
+static PAIRS: [(ChineseVariant, ChineseCase); 4] = [
+    (ChineseVariant::Traditional, ChineseCase::Upper),
+    (ChineseVariant::Traditional, ChineseCase::Lower),
+    (ChineseVariant::Simple, ChineseCase::Upper),
+    (ChineseVariant::Simple, ChineseCase::Lower),
+];
+
+// Whether the four texts of a number are all read as it.
+fn is_read_back<T: NumberToChinese + PartialEq>(
+    alloc: Global,
+    number: T,
+) -> Result<bool, AllocError> {
+    for (variant, case) in PAIRS {
+        if print_and_read_naive(alloc, variant, case, number)? != Ok(number) {
+            return Ok(false);
+        }
+    }
+    Ok(true)
+}
+
+// What the proof shows, as the compilers built it.
 #[test]
-fn reads_what_it_printed(rt: HostRuntime) -> Result<(), AllocError> {
-    let (variant, case) = (ChineseVariant::Simple, ChineseCase::Upper);
-    assert_eq!(rt;
-        print_and_read_naive(rt.alloc(), variant, case, i8::MIN)?,
-        Ok(i8::MIN)
-    );
+fn reads_back_every_narrow_number(rt: HostRuntime) -> Result<(), AllocError> {
+    for number in u8::MIN..=u8::MAX {
+        assert!(rt; is_read_back(rt.alloc(), number)?, "at {number}");
+    }
+    for number in i8::MIN..=i8::MAX {
+        assert!(rt; is_read_back(rt.alloc(), number)?, "at {number}");
+    }
+    for number in u16::MIN..=u16::MAX {
+        assert!(rt; is_read_back(rt.alloc(), number)?, "at {number}");
+    }
+    for number in i16::MIN..=i16::MAX {
+        assert!(rt; is_read_back(rt.alloc(), number)?, "at {number}");
+    }
+    Ok(())
+}
+
+// Whether the least and the greatest value of a type are read back.
+fn ends_are_read_back<T: NumberToChinese + PartialEq>(alloc: Global) -> Result<bool, AllocError> {
+    Ok(is_read_back(alloc, T::least())? && is_read_back(alloc, T::greatest())?)
+}
+
+#[test]
+fn reads_back_the_ends_of_each_type(rt: HostRuntime) -> Result<(), AllocError> {
+    assert!(rt; ends_are_read_back::<u8>(rt.alloc())?);
+    assert!(rt; ends_are_read_back::<u16>(rt.alloc())?);
+    assert!(rt; ends_are_read_back::<u32>(rt.alloc())?);
+    assert!(rt; ends_are_read_back::<u64>(rt.alloc())?);
+    assert!(rt; ends_are_read_back::<u128>(rt.alloc())?);
+    assert!(rt; ends_are_read_back::<usize>(rt.alloc())?);
+    assert!(rt; ends_are_read_back::<i8>(rt.alloc())?);
+    assert!(rt; ends_are_read_back::<i16>(rt.alloc())?);
+    assert!(rt; ends_are_read_back::<i32>(rt.alloc())?);
+    assert!(rt; ends_are_read_back::<i64>(rt.alloc())?);
+    assert!(rt; ends_are_read_back::<i128>(rt.alloc())?);
+    assert!(rt; ends_are_read_back::<isize>(rt.alloc())?);
     Ok(())
 }

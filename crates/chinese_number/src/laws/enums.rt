@@ -11,6 +11,8 @@ ghost use Rattle.cn_core.specs.declared.unit.Unit.{Unit as NumeralUnit};
 use cn_core::{ChineseCase, ChineseCountMethod, ChineseVariant, Sign, Unit};
 
 /// Two values of an enum are equal exactly where they are the same variant.
+///
+/// Callers who compare scripts, cases, methods, units or signs rest on it.
 pub fn equal_values_are_the_same_variant()
     ensures units { (a b : NumeralUnit) → IsTrue (⟦<Unit as PartialEq>⟧.eq a b) ↔ (a ≡ b) }
     ensures signs { (a b : NumeralSign) → IsTrue (⟦<Sign as PartialEq>⟧.eq a b) ↔ (a ≡ b) }
@@ -21,6 +23,8 @@ pub fn equal_values_are_the_same_variant()
 {}
 
 /// Units are ordered by rank: 個 is the least and 極 the greatest.
+///
+/// Callers who compare units rest on it.
 pub fn units_compare_by_rank()
     ensures { (a b : NumeralUnit) → ⟦<Unit as Ord>⟧.cmp a b ≡ nat_cmp (rank a) (rank b) }
 {}

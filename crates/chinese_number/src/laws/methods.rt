@@ -25,6 +25,8 @@ pub fn methods_spell_alike_below()
 
 /// And no further: at 10^5 `Low`, at 10^12 `TenThousand` and at 10^24 `Middle` spells otherwise than
 /// the rest.
+///
+/// Who prints great amounts rests on it: from there on a method has to be chosen.
 pub fn methods_spell_otherwise_from()
     ensures low { (spelling Low (10 ^ 5) ≢ spelling TenThousand (10 ^ 5))
         × (spelling Low (10 ^ 5) ≢ spelling Middle (10 ^ 5))

@@ -1,5 +1,6 @@
 // What can be completed, and where a refusal points.
-ghost use Rattle.std.specs.Prelude.{◌≡◌, ◌↔◌, ◌<◌, ◌+◌, ◌++◌, ◌∷◌, ℕ, List, length, drop};
+ghost use Rattle.std.specs.Prelude.{◌≡◌, ◌↔◌, ◌<◌, ◌+◌, ◌++◌, ◌∷◌, ℕ, List, IsTrue, length, drop};
+ghost use Rattle.std.specs.Str.{all_scalars};
 ghost use Rattle.cn_core.specs.Mark.{Mark, digit};
 ghost use Rattle.cn_core.specs.Numeral.{IsNumeral, Completable};
 ghost use Rattle.cn_core.specs.Place.{IsPlace};
@@ -13,18 +14,26 @@ pub fn zero_in_front_decides()
     ensures { (marks : List Mark) → Completable marks ↔ IsNumeral (digit 0 ∷ marks) }
 {}
 
-/// A text can be completed by marks exactly where it can be completed by characters.
-pub fn texts_complete_texts()
+/// What marks can complete, characters can complete: no list of marks that nobody can write makes a
+/// text completable.
+///
+/// Form validators rest on it: what can be right with something in front, a user can type.
+pub fn characters_complete_texts()
     ensures { (text : List ℕ) → Completable (marks_of text)
-        ↔ ((front : List ℕ) × (0 < length front) × IsNumeral (marks_of (front ++ text))) }
+        ↔ ((front : List ℕ) × IsTrue (all_scalars front) × (0 < length front)
+        × IsNumeral (marks_of (front ++ text))) }
 {}
 
 /// Every end of what can be completed can be completed.
+///
+/// Form validators that check while a user types from the end rest on it.
 pub fn ends_can_be_completed()
     ensures { (start : ℕ) (marks : List Mark) → Completable marks → Completable (drop start marks) }
 {}
 
-/// Each list has one place, which a refusal names where the list is no numeral.
+/// Each list has one place: the last from which nothing in front can complete it, or else 0.
+///
+/// Form validators rest on it: there is one character to mark.
 pub fn each_list_has_one_place()
     ensures { (marks : List Mark)
         → (place : ℕ) × IsPlace marks place × ((other : ℕ) → IsPlace marks other → other ≡ place) }

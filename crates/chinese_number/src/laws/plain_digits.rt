@@ -1,15 +1,32 @@
 // What holds of plain digits.
-ghost use Rattle.std.specs.Prelude.{◌≡◌, ◌++◌, ℕ, ℤ, List, Ok, Some, All, encode_utf8_all};
-ghost use Rattle.chinese_number.specs.Parts.{sign_text, unsigned_text};
+ghost use Rattle.std.specs.Prelude.{◌≡◌, ◌↔◌, ◌<◌, ◌++◌, ℕ, ℤ, List, Ok, Some, IsTrue, All, length, encode_utf8_all};
+ghost use Rattle.std.specs.List.{list_all};
+ghost use Rattle.chinese_number.specs.Digits.{is_digit};
+ghost use Rattle.chinese_number.specs.Parts.{sign_at, sign_text, unsigned_text};
 ghost use Rattle.cn_core.specs.Characters.{digit_of};
-ghost use Rattle.cn_core.specs.Text.{text_of};
-ghost use Rattle.cn_core.specs.Typed.{naive_reading};
+ghost use Rattle.cn_core.specs.Naive.{decimal_value};
+ghost use Rattle.cn_core.specs.Text.{text_of, marks_of};
+ghost use Rattle.cn_core.specs.Typed.{naive_reading, signed_by};
 ghost use Rattle.cn_core.specs.Whole.{Kind, Holds};
 ghost use Rattle.cn_core.specs.Written.{naive_text};
 ghost use Rattle.cn_core.specs.declared.case.ChineseCase.{ChineseCase};
 ghost use Rattle.cn_core.specs.declared.script.ChineseVariant.{ChineseVariant};
 
 use cn_core::Whole;
+
+/// A string is answered by a number, as plain digits, exactly where its text, without white space and,
+/// for a signed type, one sign in front, is a digit or more and nothing else, whose signed value is
+/// that number, which the type holds.
+///
+/// Form validators that ask for digits alone rest on it.
+pub fn digits_alone_are_read<T: Whole>()
+    ensures { (bytes : List ℕ) (number : ℤ)
+        → let marks = marks_of (unsigned_text T.kind bytes) in
+        (naive_reading T.kind bytes ≡ Ok number)
+        ↔ ((0 < length marks) × IsTrue (list_all is_digit marks)
+        × (signed_by (sign_at T.kind bytes) (decimal_value marks) ≡ number)
+        × Holds T.kind number) }
+{}
 
 /// Plain digits are read back: what is printed of a number, in any script and case, is answered by
 /// that number.
@@ -24,7 +41,7 @@ pub fn naive_texts_read_back<T: Whole>()
 /// of zeros before its digits, after its sign, leaves that answer as it was.
 ///
 /// A search index that folds numerals to numbers rests on it.
-pub fn zeros_in_front_change_no_digits()
+pub fn leading_zeros_change_nothing()
     ensures { (kind : Kind) (bytes more zeros : List ℕ) (number : ℤ)
         → All (λ c. digit_of c ≡ Some 0) zeros
         → text_of more ≡ sign_text kind bytes ++ zeros ++ unsigned_text kind bytes

@@ -14,6 +14,8 @@ ghost use Rattle.cn_core.specs.declared.script.ChineseVariant.{ChineseVariant};
 use cn_core::Whole;
 
 /// Every spelling is a numeral of its magnitude.
+///
+/// A normaliser for speech rests on it: what it writes is a numeral by the rules, for any reader.
 pub fn spellings_are_numerals<T: Whole>()
     ensures { (method : ChineseCountMethod) (number : ℤ)
         → Holds T.kind number → IsTrue (is_printable method number)

@@ -28,6 +28,8 @@ pub fn a_sign_gives_the_signed_value<T: Whole>()
 {}
 
 /// A minus before a zero is 0, in each signed type: 負零.
+///
+/// A search index that folds numerals to numbers rests on it.
 pub fn minus_zero_is_zero<T: Whole>()
     ensures { (method : ChineseCountMethod) (bytes : List ℕ) (minus zero : ℕ) → IsTrue T.SIGNED
         → sign_of minus ≡ Some Minus → digit_of zero ≡ Some 0

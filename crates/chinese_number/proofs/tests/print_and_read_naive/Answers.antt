@@ -1,12 +1,15 @@
-use Rattle.std.proofs.Common.{ap, ◌∙◌}
-use Rattle.cn_core.specs.Typed.{naive_reading}
-use Rattle.chinese_number.proofs.Joining.{result_is}
+use Rattle.std.proofs.Common.{encode_utf8_all, string_bytes}
+use Rattle.cn_core.specs.Written.{naive_text}
+use Rattle.chinese_number.proofs.Joining.{naive_result_is}
 use Rattle.chinese_number.proofs.tests.print_and_read_naive.Goals as goal
 
 pub returns : goal.returns
 returns g c =
     let number = g.T.Whole.number in
-    let text = c.as_str.ensures.value ∙ c.in_ok-text.ensures.bytes in
-    let law = c.naive_texts_read_back.ensures c.args.variant c.args.case (number c.args.number) c.magnitude-magnitude.ensures.held in
-    result_is number g.met.T.Whole.same_number c.to_number_naive.result c.args.number
-    (c.to_number_naive.ensures ∙ ap (naive_reading g.T.Whole.kind) text ∙ law)
+    let variant = c.args.variant in
+    let case = c.args.case in
+    let value = c.args.number in
+    naive_result_is number g.met.T.Whole.same_number c.to_number_naive.result value g.T.Whole.kind
+    c.as_str.result.now (string_bytes c.in_ok-text.text) (encode_utf8_all (naive_text variant case (number value)))
+    c.to_number_naive.ensures c.as_str.ensures.value c.in_ok-text.ensures.bytes
+    (c.naive_texts_read_back.ensures variant case (number value) c.magnitude-magnitude.ensures.held)

@@ -1,5 +1,5 @@
-use Rattle.chinese_number.proofs.Reading.{IsWhole-laws}
 use Rattle.chinese_number.proofs.PlainDigits.{naive_reading-written}
+use Rattle.chinese_number.proofs.Reading.{IsWhole-laws}
 use Rattle.chinese_number.proofs.laws.plain_digits.naive_texts_read_back.Goals as goal
 
 pub returns : goal.returns

@@ -1,4 +1,4 @@
-use Rattle.std.proofs.Common.{ap, encode_utf8_all}
+use Rattle.std.proofs.Common.{encode_utf8_all, ap}
 use Rattle.cn_core.specs.Written.{spelled_text}
 use Rattle.chinese_number.proofs.Reading.{IsWhole-laws, same_from_text}
 use Rattle.chinese_number.proofs.laws.read_back.one_spelling_for_each_number.Goals as goal

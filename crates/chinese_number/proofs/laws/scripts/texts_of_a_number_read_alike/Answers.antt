@@ -1,6 +1,6 @@
-use Rattle.std.proofs.Common.{Ok, sym, ◌∙◌, encode_utf8_all}
-use Rattle.cn_core.specs.declared.script.ChineseVariant.{ChineseVariant}
+use Rattle.std.proofs.Common.{encode_utf8_all, Ok, sym, ◌∙◌}
 use Rattle.cn_core.specs.declared.case.ChineseCase.{ChineseCase}
+use Rattle.cn_core.specs.declared.script.ChineseVariant.{ChineseVariant}
 use Rattle.cn_core.specs.Written.{spelled_text}
 use Rattle.chinese_number.proofs.PlainDigits.{naive_reading-written}
 use Rattle.chinese_number.proofs.Reading.{IsWhole-laws, Reads-spelled, Reads-alike}

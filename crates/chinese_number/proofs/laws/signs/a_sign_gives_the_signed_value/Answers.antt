@@ -1,4 +1,4 @@
-use Rattle.std.proofs.Common.{Ok, Some, ◌∙◌}
+use Rattle.std.proofs.Common.{Some, Ok, ◌∙◌}
 use Rattle.cn_core.specs.Text.{marks_of}
 use Rattle.cn_core.specs.Typed.{signed_by}
 use Rattle.cn_core.specs.Value.{numeral_value}

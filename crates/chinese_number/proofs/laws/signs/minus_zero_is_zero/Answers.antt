@@ -1,4 +1,4 @@
-use Rattle.std.proofs.Common.{Ok, pos, ◌∙◌}
+use Rattle.std.proofs.Common.{pos, Ok, ◌∙◌}
 use Rattle.chinese_number.proofs.Reading.{Reads-only}
 use Rattle.chinese_number.proofs.Signs.{Reads-minus_zero}
 use Rattle.chinese_number.proofs.laws.signs.minus_zero_is_zero.Goals as goal
