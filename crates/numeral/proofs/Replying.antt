@@ -2,8 +2,8 @@
 use Rattle.std.proofs.Common.{◌≡◌, ◌++◌, ℕ, ℤ, Bool, true, false, Option, Some, None, List, [], ◌∷◌, refl, sym, ap, ◌∙◌, subst, append_assoc}
 use Rattle.std.specs.Bool.{MatchBool}
 use Rattle.std.proofs.KnownBytes.{Appends-trans, Appends-nil}
-use Rattle.cn_core.specs.declared.script.ChineseVariant.{ChineseVariant}
-use Rattle.cn_core.specs.declared.case.ChineseCase.{ChineseCase}
+use Rattle.chinese_number.specs.declared.ChineseVariant.{ChineseVariant}
+use Rattle.chinese_number.specs.declared.ChineseCase.{ChineseCase}
 use Rattle.numeral.specs.declared.question.Method.{Method}
 use Rattle.numeral.specs.declared.question.Method.TheVariants.{Naive, Units}
 use Rattle.numeral.specs.Question.{Question, read, print, kind_of, question_of}

@@ -2,12 +2,12 @@
 use Rattle.std.specs.Prelude.{◌≡◌, ◌++◌, ◌&&◌, ℕ, ℤ, int_le, Bool, List, [], ◌∷◌, codes, decimal, encode_utf8_all, Option, Some, None, Result, Ok, Err}
 use Rattle.std.specs.Bool.{MatchBool}
 use Rattle.std.specs.Fmt.{signed_decimal}
-use Rattle.cn_core.specs.declared.script.ChineseVariant.{ChineseVariant}
-use Rattle.cn_core.specs.declared.case.ChineseCase.{ChineseCase}
-use Rattle.cn_core.specs.Refusal.{Refusal, empty, incorrect_at, too_large, too_small}
-use Rattle.cn_core.specs.Typed.{naive_reading}
-use Rattle.cn_core.specs.Whole.{Kind}
-use Rattle.cn_core.specs.Written.{naive_text}
+use Rattle.chinese_number.specs.declared.ChineseVariant.{ChineseVariant}
+use Rattle.chinese_number.specs.declared.ChineseCase.{ChineseCase}
+use Rattle.chinese_number.specs.Refusal.{Refusal, empty, incorrect_at, too_large, too_small}
+use Rattle.chinese_number.specs.Typed.{naive_reading}
+use Rattle.chinese_number.specs.Whole.{Kind}
+use Rattle.chinese_number.specs.Written.{naive_text}
 use Rattle.numeral.specs.declared.question.Method.{Method}
 use Rattle.numeral.specs.declared.question.Method.TheVariants.{Naive, Units}
 use Rattle.numeral.specs.Question.{Question, read, print, kind_of, question_of}

@@ -3,12 +3,12 @@ use Rattle.std.specs.Prelude.{◌==◌, ◌&&◌, ◌+◌, ◌-◌, ◌*◌, ℕ
 use Rattle.std.specs.Char.{is_ascii_digit}
 use Rattle.std.specs.List.{list_all}
 use Rattle.std.specs.Str.{is_utf8}
-use Rattle.cn_core.specs.declared.script.ChineseVariant.{ChineseVariant}
-use Rattle.cn_core.specs.declared.script.ChineseVariant.TheVariants.{Traditional, Simple}
-use Rattle.cn_core.specs.declared.case.ChineseCase.{ChineseCase}
-use Rattle.cn_core.specs.declared.case.ChineseCase.TheVariants.{Upper, Lower}
-use Rattle.cn_core.specs.declared.method.ChineseCountMethod.TheVariants.{Low, TenThousand, Middle, High}
-use Rattle.cn_core.specs.Whole.{Kind, unsigned_kind, signed_kind, signed_number}
+use Rattle.chinese_number.specs.declared.ChineseVariant.{ChineseVariant}
+use Rattle.chinese_number.specs.declared.ChineseVariant.TheVariants.{Traditional, Simple}
+use Rattle.chinese_number.specs.declared.ChineseCase.{ChineseCase}
+use Rattle.chinese_number.specs.declared.ChineseCase.TheVariants.{Upper, Lower}
+use Rattle.chinese_number.specs.declared.ChineseCountMethod.TheVariants.{Low, TenThousand, Middle, High}
+use Rattle.chinese_number.specs.Whole.{Kind, unsigned_kind, signed_kind, signed_number}
 use Rattle.numeral.specs.declared.question.IntegerType.{IntegerType}
 use Rattle.numeral.specs.declared.question.IntegerType.TheVariants.{U8, U16, U32, U64, U128, Usize, I8, I16, I32, I64, I128, Isize}
 use Rattle.numeral.specs.declared.question.Method.{Method}

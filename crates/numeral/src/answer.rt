@@ -1,7 +1,7 @@
 // The answer to a line.
 ghost use Rattle.std.specs.Prelude.{◌≡◌, ◌++◌, [], Err, OnOk, codes, string_bytes};
-ghost use Rattle.cn_core.specs.Whole.{signed_number};
-ghost use Rattle.cn_read.specs.Answer.{answer_of};
+ghost use Rattle.chinese_number.specs.Whole.{signed_number};
+ghost use Rattle.chinese_number.specs.Answer.{answer_of};
 ghost use Rattle.numeral.specs.Question.{kind_of, read_question, print_question};
 ghost use Rattle.numeral.specs.Answer.{Answers, AnswersAny, AnswersRead, AnswersPrinting, bad_line, reading_text};
 

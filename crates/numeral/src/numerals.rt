@@ -1,4 +1,5 @@
-// The items of the numeral crates that the program uses.
-pub(crate) use cn_core::{ChineseCase, ChineseCountMethod, ChineseVariant, Whole};
-pub(crate) use cn_print::NumberToChinese;
-pub(crate) use cn_read::{ChineseToNumber, ChineseToNumberError};
+// The items of the numeral library that the program uses.
+pub(crate) use chinese_number::{
+    ChineseCase, ChineseCountMethod, ChineseToNumber, ChineseToNumberError, ChineseVariant,
+    NumberToChinese, Whole,
+};
