@@ -1,6 +1,8 @@
+pub mod Cuts
 pub mod Fronts
 pub mod Grammar
 pub mod Judging
+pub mod Lengths
 pub mod OpenUnits
 pub mod ReadBack
 pub mod ScaleLaws
