@@ -1,6 +1,8 @@
+pub mod Cuts
 pub mod Fronts
 pub mod Grammar
 pub mod Judging
+pub mod Lengths
 pub mod NaiveExamples
 pub mod NumeralExamples
 pub mod OpenUnits

@@ -1,6 +1,12 @@
+pub mod Bounds
 pub mod NaiveTexts
+pub mod Pens
 pub mod PlacesLemmas
 pub mod Rooms
 pub mod Signs
 pub mod Tables
 pub mod ThreeBytes
+pub mod Tops
+pub mod UnitLoops
+pub mod UnitTables
+pub mod Walks

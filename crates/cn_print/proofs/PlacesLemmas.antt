@@ -1,15 +1,16 @@
 -- The decimal digits of a number, taken off from the lowest up.
-use Rattle.std.proofs.Common.{List, ap₂, length-append, append_assoc, true, nat_lt, ◌≡◌, ℕ, zero, suc, ◌+◌, ◌-◌, ◌*◌, ◌/◌, ◌%◌, ◌^◌, ◌<◌, ◌≤◌, [], ◌∷◌, ◌++◌, length, map, refl, sym, ap, ◌∙◌, arith}
+use Rattle.std.proofs.Common.{List, slice_index, ap₂, length-append, append_assoc, true, nat_lt, ◌≡◌, ℕ, zero, suc, ◌+◌, ◌-◌, ◌*◌, ◌/◌, ◌%◌, ◌^◌, ◌<◌, ◌≤◌, [], ◌∷◌, ◌++◌, length, map, refl, sym, ap, ◌∙◌, arith}
 use Rattle.std.specs.Prelude.{decimal, reverse}
 use Rattle.std.specs.List.{list_all}
 use Rattle.std.proofs.lemmas.Bool.Decides.{nat_tests}
 use Rattle.std.proofs.Math.Decide.{dec_lt}
-use Rattle.std.proofs.Math.Nat.{div-div-eq-div-mul, one-le-pow}
+use Rattle.std.proofs.Math.Nat.{div-div-eq-div-mul, one-le-pow, pow-le-pow_right}
+use Rattle.cn_core.proofs.Fronts.{and-left, and-right}
 use Rattle.std.proofs.Math.Arith.{mod-mul}
 use Rattle.std.proofs.lemmas.Nat.{div-mul-add, mod-mul-add}
 use Rattle.std.proofs.lemmas.Fmt.{decimal_step_wide, decimal_by_steps_wide, decimal_digit, length-decimal-le_wide}
 use Rattle.std.proofs.lemmas.List.{map-append, length-map, reverse-append, length-reverse}
-use Rattle.cn_print.specs.Places.{places_of, lowest, is_digit}
+use Rattle.cn_print.specs.Places.{places_of, places_value, lowest, is_digit, HoldsPlaces}
 
 pub places-step : (number : ℕ) → 10 ≤ number → number < 10 ^ 64 → places_of number ≡ number % 10 ∷ places_of (number / 10)
 places-step number ten small =
@@ -114,3 +115,83 @@ pub part-done : (done : List ℕ) (part : ℕ)
 part-done done part =
     regroup done (lowest 4 (part % 10 ^ 8 % 10 ^ 4)) (lowest 4 (part % 10 ^ 8 / 10 ^ 4)) (lowest 4 (part / 10 ^ 8 % 10 ^ 4)) (lowest 4 (part / 10 ^ 8 / 10 ^ 4))
     ∙ ap (λ digits. done ++ digits) (lowest-part part)
+
+pub value-places : (number : ℕ) → number < 10 ^ 64 → places_value (places_of number) ≡ number
+value-places = decimal_by_steps_wide (λ number bytes. places_value (reverse (map (λ byte. byte - 48) bytes)) ≡ number) one more where
+  one : (number : ℕ) → number < 10 → places_value (reverse (map (λ byte. byte - 48) ((48 + number) ∷ []))) ≡ number
+  one number small = omega arith
+
+  more : (number : ℕ) (bytes : List ℕ) → 10 ≤ number → places_value (reverse (map (λ byte. byte - 48) bytes)) ≡ number / 10
+      → places_value (reverse (map (λ byte. byte - 48) (bytes ++ ((48 + number % 10) ∷ [])))) ≡ number
+  more number bytes ten rest =
+      let value : ℕ → ℕ = λ byte. byte - 48 in
+      let e : reverse (map value (bytes ++ ((48 + number % 10) ∷ []))) ≡ value (48 + number % 10) ∷ reverse (map value bytes) =
+      ap reverse (map-append value bytes ((48 + number % 10) ∷ [])) ∙ reverse-append (map value bytes) (value (48 + number % 10) ∷ []) in
+      rw e (omega (arith, rest))
+
+-- the digit at a place, by division
+pub digit-at : (number place : ℕ) → number < 10 ^ 64 → place < length (places_of number) → slice_index (places_of number) place ≡ number / 10 ^ place % 10
+digit-at number zero small less = elim (dec_lt number 10) [
+  | yes low ↦ rw (places-digit number low) (omega (arith, low))
+  | no high ↦ rw (places-step number (omega (arith, high)) small) (omega arith)
+]
+digit-at number (suc place) small less = elim (dec_lt number 10) [
+  | yes low ↦ absurd (omega (arith, less, ap length (places-digit number low)))
+  | no high ↦
+      let step = places-step number (omega (arith, high)) small in
+      let power : 10 * 10 ^ place ≡ 10 ^ suc place = omega arith in
+      let rest : number / 10 / 10 ^ place ≡ number / 10 ^ suc place = div-div-eq-div-mul number 10 (10 ^ place) ∙ ap (λ p. number / p) power in
+      rw step (digit-at (number / 10) place (omega (arith, small)) (omega (arith, less, ap length step)) ∙ ap (λ n. n % 10) rest)
+]
+
+-- the number reaches its highest place, but for 0
+pub reaches : (count number : ℕ) → number < 10 ^ 64 → 0 < number → length (places_of number) ≡ suc count → 10 ^ count ≤ number
+reaches zero number small pos size = omega (arith, pos)
+reaches (suc count) number small pos size = elim (dec_lt number 10) [
+  | yes low ↦ absurd (omega (arith, size, ap length (places-digit number low)))
+  | no high ↦
+      let step = places-step number (omega (arith, high)) small in
+      let p = reaches count (number / 10) (omega (arith, small)) (omega (arith, high)) (omega (arith, size, ap length step)) in
+      omega (arith, p)
+]
+
+-- and stays below the next
+pub below-next : (count number : ℕ) → number < 10 ^ 64 → length (places_of number) ≤ count → number < 10 ^ count
+below-next zero number small size = absurd (omega (arith, size, length-places-some number small))
+below-next (suc count) number small size = elim (dec_lt number 10) [
+  | yes low ↦ let p : 1 ≤ 10 ^ count = one-le-pow count 10 (omega arith) in omega (arith, p, low)
+  | no high ↦
+      let step = places-step number (omega (arith, high)) small in
+      let p = below-next count (number / 10) (omega (arith, small)) (omega (arith, size, ap length step)) in
+      omega (arith, p)
+]
+
+-- the digits of a number, as they are held
+pub holds : (number len : ℕ) (places : List ℕ) → number < 10 ^ 39 → places ≡ places_of number → len ≡ length (places_of number) → HoldsPlaces len places
+holds number len places small same size =
+    let wide : number < 10 ^ 64 = omega (arith, small) in
+    let value : places_value places ≡ number = ap places_value same ∙ value-places number wide in
+    record {
+      some = omega (arith, size, length-places-some number wide);
+      bound = omega (arith, size, length-places-le 39 number (omega arith) small wide);
+      count = ap length same ∙ sym size;
+      digits = rw same (all-digits number wide);
+      whole = same ∙ ap places_of (sym value);
+    }
+
+-- so many digits make a number below that power of ten
+pub value-less : (places : List ℕ) → list_all is_digit places ≡ true → places_value places < 10 ^ length places
+value-less [] h = omega arith
+value-less (digit ∷ places) h =
+    let t : is_digit digit ≡ true = and-left (is_digit digit) _ h in
+    let small : digit < 10 = grind (arith, nat_tests, t) in
+    let power : 10 ^ suc (length places) ≡ 10 * 10 ^ length places = omega arith in
+    let rest = value-less places (and-right (is_digit digit) _ h) in
+    let whole : digit + 10 * places_value places < 10 ^ suc (length places) = omega (arith, small, rest, power) in
+    whole
+
+pub holds-less : (len : ℕ) (places : List ℕ) → HoldsPlaces len places → places_value places < 10 ^ 39
+holds-less len places held =
+    let few : length places ≤ 39 = omega (arith, held.bound, held.count) in
+    let p : 10 ^ length places ≤ 10 ^ 39 = pow-le-pow_right (omega arith) few in
+    omega (arith, p, value-less places held.digits)

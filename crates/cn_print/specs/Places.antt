@@ -1,5 +1,6 @@
 -- Decimal places, the lowest first.
-use Rattle.std.specs.Prelude.{ℕ, zero, suc, ◌-◌, ◌/◌, ◌%◌, Bool, nat_lt, List, [], ◌∷◌, map, reverse, decimal}
+use Rattle.std.specs.Prelude.{◌≡◌, ℕ, zero, suc, ◌+◌, ◌-◌, ◌*◌, ◌/◌, ◌%◌, ◌<◌, ◌≤◌, Bool, true, nat_lt, List, [], ◌∷◌, map, reverse, length, decimal}
+use Rattle.std.specs.List.{list_all}
 
 -- the decimal digits of a number, the lowest first
 abbrev pub places_of : ℕ → List ℕ
@@ -12,3 +13,16 @@ lowest (suc count) number = number % 10 ∷ lowest count (number / 10)
 
 abbrev pub is_digit : ℕ → Bool
 is_digit value = nat_lt value 10
+
+-- the number with these digits, the lowest first
+abbrev pub places_value : List ℕ → ℕ
+places_value [] = 0
+places_value (digit ∷ above) = digit + 10 * places_value above
+
+-- so many places are the digits of a number of 128 bits, all of them
+pub record HoldsPlaces (len : ℕ) (places : List ℕ) : Type 0 where
+  pub some : 0 < len
+  pub bound : len ≤ 39
+  pub count : length places ≡ len
+  pub digits : list_all is_digit places ≡ true
+  pub whole : places ≡ places_of (places_value places)

@@ -1,7 +1,6 @@
-// The decimal digits of a magnitude.
-ghost use Rattle.std.specs.Prelude.{◌≡◌, ◌+◌, ◌<◌, ◌≤◌, ◌^◌, ℕ, List, [], ◌∷◌, ◌++◌, true, take, length, slice_index};
-ghost use Rattle.std.specs.List.{list_all};
-ghost use Rattle.cn_print.specs.Places.{places_of, lowest, is_digit};
+// A magnitude as its decimal digits.
+ghost use Rattle.std.specs.Prelude.{◌≡◌, ◌+◌, ◌<◌, ◌≤◌, ◌^◌, ℕ, ◌++◌, take, length, slice_index};
+ghost use Rattle.cn_print.specs.Places.{places_of, places_value, lowest, HoldsPlaces};
 
 use std::marker::Model;
 
@@ -13,7 +12,7 @@ const GROUP: u64 = 10_000;
 
 const PART: u128 = 10_000_000_000_000_000;
 
-/// The decimal digits of a magnitude, the lowest first.
+/// A magnitude, by its decimal digits: the lowest first, and no 0 in front.
 #[derive(Drop)]
 pub struct Digits {
     places: [u8; MOST],
@@ -21,19 +20,17 @@ pub struct Digits {
 }
 
 impl Model for Digits {
-    ghost Value = { List ℕ };
+    ghost Value = { ℕ };
 
-    ghost view = { λ digits. take digits.len digits.places };
+    ghost view = { λ digits. places_value (take digits.len digits.places) };
 
-    ghost invariant = { λ digits. (digits.len ≤ 39) × (list_all is_digit (take digits.len digits.places) ≡ true) };
+    ghost invariant = { λ digits. HoldsPlaces digits.len (take digits.len digits.places) };
 }
 
 impl Digits {
-    /// The digits, with no 0 in front.
-    ///
-    /// At most two divisions are of 128 bits.
+    /// Takes the digits off; at most two of the divisions are of 128 bits.
     pub fn of(magnitude: u128) -> Self
-        ensures { result ≡ places_of magnitude }
+        ensures { result ≡ magnitude }
     {
         let mut places = [0; MOST];
         let mut len = 0;
@@ -49,14 +46,18 @@ impl Digits {
     }
 
     pub fn len(&self) -> usize
-        ensures { result ≡ length self.now }
+        ensures len { result ≡ length (places_of self.now) }
+        ensures bound { result ≤ 39 }
+        ensures some { 0 < result }
+        ensures magnitude { self.now < 10 ^ 39 }
     {
         self.len
     }
 
+    /// The digit at a place, counted from the lowest.
     pub fn at(&self, place: usize) -> u8
-        requires { place < length self.now }
-        ensures value { result ≡ slice_index self.now place }
+        requires { place < length (places_of self.now) }
+        ensures value { result ≡ slice_index (places_of self.now) place }
         ensures digit { result < 10 }
     {
         self.places[place]

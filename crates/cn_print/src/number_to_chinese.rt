@@ -1,13 +1,33 @@
 ghost use Rattle.std.specs.Prelude.{IfOk};
 ghost use Rattle.cn_core.specs.Written.{naive_text};
+ghost use Rattle.cn_print.specs.Prints.{Prints};
 ghost use Rattle.cn_print.specs.Writes.{Writes};
 
+use crate::NumberToChineseError;
 use crate::naive::print_naive;
-use cn_core::{ChineseCase, ChineseVariant, Whole};
+use crate::print::print_or_refuse;
+use cn_core::{ChineseCase, ChineseCountMethod, ChineseVariant, Whole};
 use std::alloc::{AllocError, Global};
 
 /// Numbers that are written in Chinese: those of the twelve integer types.
 pub trait NumberToChinese: Whole {
+    /// Writes the number by the units of a method, after the minus sign where it is below zero.
+    ///
+    /// ```text
+    /// 123i8.to_chinese(alloc, ChineseVariant::Simple, ChineseCase::Upper, ChineseCountMethod::Low)   // 壹佰贰拾叁
+    /// ```
+    ///
+    /// `Low` refuses a number from 10^16 up with `Overflow` and one from -10^16 down with `Underflow`, before
+    /// memory is asked for; want of memory is `OutOfMemory`.
+    fn to_chinese(
+        self,
+        alloc: Global,
+        variant: ChineseVariant,
+        case: ChineseCase,
+        method: ChineseCountMethod,
+    ) -> Result<String, NumberToChineseError>
+        ensures { Prints variant case method (Self.number self) result };
+
     /// Writes the number as plain decimal digits, after the minus sign where it is below zero.
     ///
     /// ```text
@@ -25,6 +45,16 @@ pub trait NumberToChinese: Whole {
 }
 
 impl<T: Whole> NumberToChinese for T {
+    fn to_chinese(
+        self,
+        alloc: Global,
+        variant: ChineseVariant,
+        case: ChineseCase,
+        method: ChineseCountMethod,
+    ) -> Result<String, NumberToChineseError> {
+        print_or_refuse(alloc, variant, case, method, self)
+    }
+
     fn to_chinese_naive(
         self,
         alloc: Global,

@@ -1,6 +1,6 @@
 use Rattle.std.proofs.Common.{◌≡◌, ◌-◌, ◌*◌, ◌/◌, ◌%◌, ◌^◌, ◌<◌, ◌≤◌, ◌++◌, take, ap, ◌∙◌, arith}
-use Rattle.cn_print.specs.Places.{places_of, lowest}
-use Rattle.cn_print.proofs.PlacesLemmas.{places-lowest, lowest-low, chunk-done, length-split, length-places-le, all-digits}
+use Rattle.cn_print.specs.Places.{places_of, places_value, lowest}
+use Rattle.cn_print.proofs.PlacesLemmas.{places-lowest, lowest-low, chunk-done, length-split, length-places-le, holds, value-places}
 use Rattle.cn_print.proofs.digits.Digits.of.Goals as goal
 
 pub put_part-requires-clause-room : goal.put_part-requires-clause-room
@@ -30,6 +30,7 @@ put_front-len-requires c =
 
 pub invariant_of-result : goal.invariant_of-result
 invariant_of-result c =
-    let most = length-places-le 39 c.args.magnitude (omega arith) (omega arith) (omega arith) in
-    let digits = c.put_front-len.ensures.digits ∙ c.loop-above.invariant.digits in
-    (omega (arith, most, c.loop-above.invariant.end, c.put_front-len.ensures.end), rw digits (all-digits c.args.magnitude (omega arith)))
+    holds c.args.magnitude c.put_front-len.result _ (omega arith) (c.put_front-len.ensures.digits ∙ c.loop-above.invariant.digits) (c.put_front-len.ensures.end ∙ c.loop-above.invariant.end)
+
+pub returns : goal.returns
+returns c = ap places_value (c.put_front-len.ensures.digits ∙ c.loop-above.invariant.digits) ∙ value-places c.args.magnitude (omega arith)

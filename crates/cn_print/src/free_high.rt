@@ -1,0 +1,120 @@
+// The free printers by `High`, one for each integer type from 32 bits up.
+ghost use Rattle.std.specs.Prelude.{IfOk, pos};
+ghost use Rattle.cn_core.specs.Written.{spelled_text};
+ghost use Rattle.cn_print.specs.Writes.{Writes};
+
+use crate::print::print;
+use cn_core::{ChineseCase, ChineseCountMethod, ChineseVariant};
+use std::alloc::{AllocError, Global};
+
+/// Writes a `u32` by squares: 億 is 10^8, 兆 is 10^16, 京 is 10^32.
+///
+/// The only error is want of memory.
+pub fn from_u32_to_chinese_high(
+    alloc: Global,
+    variant: ChineseVariant,
+    case: ChineseCase,
+    value: u32,
+) -> Result<String, AllocError>
+    ensures { IfOk result (Writes (spelled_text variant case ChineseCountMethod.High (pos value)) 234) }
+{
+    print(alloc, variant, case, ChineseCountMethod::High, value)
+}
+
+/// Writes a `u64` by squares: 億 is 10^8, 兆 is 10^16, 京 is 10^32.
+///
+/// The only error is want of memory.
+pub fn from_u64_to_chinese_high(
+    alloc: Global,
+    variant: ChineseVariant,
+    case: ChineseCase,
+    value: u64,
+) -> Result<String, AllocError>
+    ensures { IfOk result (Writes (spelled_text variant case ChineseCountMethod.High (pos value)) 234) }
+{
+    print(alloc, variant, case, ChineseCountMethod::High, value)
+}
+
+/// Writes a `u128` by squares: 億 is 10^8, 兆 is 10^16, 京 is 10^32.
+///
+/// The only error is want of memory.
+pub fn from_u128_to_chinese_high(
+    alloc: Global,
+    variant: ChineseVariant,
+    case: ChineseCase,
+    value: u128,
+) -> Result<String, AllocError>
+    ensures { IfOk result (Writes (spelled_text variant case ChineseCountMethod.High (pos value)) 234) }
+{
+    print(alloc, variant, case, ChineseCountMethod::High, value)
+}
+
+/// Writes a `usize` by squares: 億 is 10^8, 兆 is 10^16, 京 is 10^32.
+///
+/// The only error is want of memory.
+pub fn from_usize_to_chinese_high(
+    alloc: Global,
+    variant: ChineseVariant,
+    case: ChineseCase,
+    value: usize,
+) -> Result<String, AllocError>
+    ensures { IfOk result (Writes (spelled_text variant case ChineseCountMethod.High (pos value)) 234) }
+{
+    print(alloc, variant, case, ChineseCountMethod::High, value)
+}
+
+/// Writes an `i32` by squares: 億 is 10^8, 兆 is 10^16, 京 is 10^32.
+///
+/// The only error is want of memory.
+pub fn from_i32_to_chinese_high(
+    alloc: Global,
+    variant: ChineseVariant,
+    case: ChineseCase,
+    value: i32,
+) -> Result<String, AllocError>
+    ensures { IfOk result (Writes (spelled_text variant case ChineseCountMethod.High value) 234) }
+{
+    print(alloc, variant, case, ChineseCountMethod::High, value)
+}
+
+/// Writes an `i64` by squares: 億 is 10^8, 兆 is 10^16, 京 is 10^32.
+///
+/// The only error is want of memory.
+pub fn from_i64_to_chinese_high(
+    alloc: Global,
+    variant: ChineseVariant,
+    case: ChineseCase,
+    value: i64,
+) -> Result<String, AllocError>
+    ensures { IfOk result (Writes (spelled_text variant case ChineseCountMethod.High value) 234) }
+{
+    print(alloc, variant, case, ChineseCountMethod::High, value)
+}
+
+/// Writes an `i128` by squares: 億 is 10^8, 兆 is 10^16, 京 is 10^32.
+///
+/// The only error is want of memory.
+pub fn from_i128_to_chinese_high(
+    alloc: Global,
+    variant: ChineseVariant,
+    case: ChineseCase,
+    value: i128,
+) -> Result<String, AllocError>
+    ensures { IfOk result (Writes (spelled_text variant case ChineseCountMethod.High value) 234) }
+{
+    print(alloc, variant, case, ChineseCountMethod::High, value)
+}
+
+/// Writes an `isize` by squares: 億 is 10^8, 兆 is 10^16, 京 is 10^32.
+///
+/// The only error is want of memory.
+pub fn from_isize_to_chinese_high(
+    alloc: Global,
+    variant: ChineseVariant,
+    case: ChineseCase,
+    value: isize,
+) -> Result<String, AllocError>
+    ensures { IfOk result (Writes (spelled_text variant case ChineseCountMethod.High value) 234) }
+{
+    print(alloc, variant, case, ChineseCountMethod::High, value)
+}

@@ -1,0 +1,184 @@
+// The free printers by `Low`, one for each integer type.
+ghost use Rattle.std.specs.Prelude.{IfOk, pos};
+ghost use Rattle.cn_core.specs.Written.{spelled_text};
+ghost use Rattle.cn_print.specs.Prints.{Prints};
+ghost use Rattle.cn_print.specs.Writes.{Writes};
+
+use crate::NumberToChineseError;
+use crate::print::{print, print_or_refuse};
+use cn_core::{ChineseCase, ChineseCountMethod, ChineseVariant};
+use std::alloc::{AllocError, Global};
+
+/// Writes a `u8` by single places: 億 is 10^5.
+///
+/// The only error is want of memory.
+pub fn from_u8_to_chinese(
+    alloc: Global,
+    variant: ChineseVariant,
+    case: ChineseCase,
+    value: u8,
+) -> Result<String, AllocError>
+    ensures { IfOk result (Writes (spelled_text variant case ChineseCountMethod.Low (pos value)) 96) }
+{
+    print(alloc, variant, case, ChineseCountMethod::Low, value)
+}
+
+/// Writes a `u16` by single places: 億 is 10^5.
+///
+/// The only error is want of memory.
+pub fn from_u16_to_chinese(
+    alloc: Global,
+    variant: ChineseVariant,
+    case: ChineseCase,
+    value: u16,
+) -> Result<String, AllocError>
+    ensures { IfOk result (Writes (spelled_text variant case ChineseCountMethod.Low (pos value)) 96) }
+{
+    print(alloc, variant, case, ChineseCountMethod::Low, value)
+}
+
+/// Writes a `u32` by single places: 億 is 10^5.
+///
+/// The only error is want of memory.
+pub fn from_u32_to_chinese_low(
+    alloc: Global,
+    variant: ChineseVariant,
+    case: ChineseCase,
+    value: u32,
+) -> Result<String, AllocError>
+    ensures { IfOk result (Writes (spelled_text variant case ChineseCountMethod.Low (pos value)) 96) }
+{
+    print(alloc, variant, case, ChineseCountMethod::Low, value)
+}
+
+/// Writes a `u64` by single places: 億 is 10^5.
+///
+/// A number from 10^16 up is refused with `Overflow`, before memory is asked
+/// for; want of memory is `OutOfMemory`.
+pub fn from_u64_to_chinese_low(
+    alloc: Global,
+    variant: ChineseVariant,
+    case: ChineseCase,
+    value: u64,
+) -> Result<String, NumberToChineseError>
+    ensures { Prints variant case ChineseCountMethod.Low (pos value) result }
+{
+    print_or_refuse(alloc, variant, case, ChineseCountMethod::Low, value)
+}
+
+/// Writes a `u128` by single places: 億 is 10^5.
+///
+/// A number from 10^16 up is refused with `Overflow`, before memory is asked
+/// for; want of memory is `OutOfMemory`.
+pub fn from_u128_to_chinese_low(
+    alloc: Global,
+    variant: ChineseVariant,
+    case: ChineseCase,
+    value: u128,
+) -> Result<String, NumberToChineseError>
+    ensures { Prints variant case ChineseCountMethod.Low (pos value) result }
+{
+    print_or_refuse(alloc, variant, case, ChineseCountMethod::Low, value)
+}
+
+/// Writes a `usize` by single places: 億 is 10^5.
+///
+/// A number from 10^16 up is refused with `Overflow`, before memory is asked
+/// for; want of memory is `OutOfMemory`.
+pub fn from_usize_to_chinese_low(
+    alloc: Global,
+    variant: ChineseVariant,
+    case: ChineseCase,
+    value: usize,
+) -> Result<String, NumberToChineseError>
+    ensures { Prints variant case ChineseCountMethod.Low (pos value) result }
+{
+    print_or_refuse(alloc, variant, case, ChineseCountMethod::Low, value)
+}
+
+/// Writes an `i8` by single places: 億 is 10^5.
+///
+/// The only error is want of memory.
+pub fn from_i8_to_chinese(
+    alloc: Global,
+    variant: ChineseVariant,
+    case: ChineseCase,
+    value: i8,
+) -> Result<String, AllocError>
+    ensures { IfOk result (Writes (spelled_text variant case ChineseCountMethod.Low value) 96) }
+{
+    print(alloc, variant, case, ChineseCountMethod::Low, value)
+}
+
+/// Writes an `i16` by single places: 億 is 10^5.
+///
+/// The only error is want of memory.
+pub fn from_i16_to_chinese(
+    alloc: Global,
+    variant: ChineseVariant,
+    case: ChineseCase,
+    value: i16,
+) -> Result<String, AllocError>
+    ensures { IfOk result (Writes (spelled_text variant case ChineseCountMethod.Low value) 96) }
+{
+    print(alloc, variant, case, ChineseCountMethod::Low, value)
+}
+
+/// Writes an `i32` by single places: 億 is 10^5.
+///
+/// The only error is want of memory.
+pub fn from_i32_to_chinese_low(
+    alloc: Global,
+    variant: ChineseVariant,
+    case: ChineseCase,
+    value: i32,
+) -> Result<String, AllocError>
+    ensures { IfOk result (Writes (spelled_text variant case ChineseCountMethod.Low value) 96) }
+{
+    print(alloc, variant, case, ChineseCountMethod::Low, value)
+}
+
+/// Writes an `i64` by single places: 億 is 10^5.
+///
+/// A number from 10^16 up is refused with `Overflow`, one from -10^16 down with `Underflow`, before memory is asked
+/// for; want of memory is `OutOfMemory`.
+pub fn from_i64_to_chinese_low(
+    alloc: Global,
+    variant: ChineseVariant,
+    case: ChineseCase,
+    value: i64,
+) -> Result<String, NumberToChineseError>
+    ensures { Prints variant case ChineseCountMethod.Low value result }
+{
+    print_or_refuse(alloc, variant, case, ChineseCountMethod::Low, value)
+}
+
+/// Writes an `i128` by single places: 億 is 10^5.
+///
+/// A number from 10^16 up is refused with `Overflow`, one from -10^16 down with `Underflow`, before memory is asked
+/// for; want of memory is `OutOfMemory`.
+pub fn from_i128_to_chinese_low(
+    alloc: Global,
+    variant: ChineseVariant,
+    case: ChineseCase,
+    value: i128,
+) -> Result<String, NumberToChineseError>
+    ensures { Prints variant case ChineseCountMethod.Low value result }
+{
+    print_or_refuse(alloc, variant, case, ChineseCountMethod::Low, value)
+}
+
+/// Writes an `isize` by single places: 億 is 10^5.
+///
+/// A number from 10^16 up is refused with `Overflow`, one from -10^16 down with `Underflow`, before memory is asked
+/// for; want of memory is `OutOfMemory`.
+pub fn from_isize_to_chinese_low(
+    alloc: Global,
+    variant: ChineseVariant,
+    case: ChineseCase,
+    value: isize,
+) -> Result<String, NumberToChineseError>
+    ensures { Prints variant case ChineseCountMethod.Low value result }
+{
+    print_or_refuse(alloc, variant, case, ChineseCountMethod::Low, value)
+}
