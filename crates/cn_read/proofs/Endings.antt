@@ -11,7 +11,10 @@ use Rattle.cn_core.specs.Text.{marks_of}
 use Rattle.cn_core.specs.Value.{value}
 use Rattle.cn_core.proofs.Judging.{judge}
 use Rattle.cn_read.specs.declared.walk.Next.{Next}
-use Rattle.cn_read.specs.Private.Walk.{Open, IsWalked, opens_of, total, faults, fitting, front_answer, refused_or, walked_answer, tail_answer, HasTail, HasNoTail, digit_next}
+use Rattle.cn_read.specs.Private.Walk.{sum_of, opens_of, faults, fitting, front_answer, refused_or, walked_answer, tail_answer, HasTail, HasNoTail, digit_next}
+use Rattle.cn_read.specs.Private.Stack.{Sized, sized, total_sum}
+use Rattle.cn_read.specs.Private.Walked.{IsWalked}
+use Rattle.cn_read.proofs.Stacks.{total-sized}
 use Rattle.cn_read.proofs.OpenSums.{total-value}
 use Rattle.cn_read.proofs.Faults.{plain-walked}
 use Rattle.cn_read.proofs.Steps.{sound-none}
@@ -37,19 +40,20 @@ first-stops c value is some next at marks each starts =
           let b : nat_lt 9 value ≡ false = grind (arith, nat_tests) in
           rw (a, b)
 
-pub walked-each : (method : ChineseCountMethod) (walked : List ℕ) (units : ℕ × List Open) (next : Next) → IsWalked method walked units next → each_may_precede (marks_of walked) ≡ true
-walked-each method walked units next w = (sound-none method (marks_of walked) w.sound).each
+pub walked-each : (method : ChineseCountMethod) (walked : List ℕ) (sum : ℕ) (units : List Sized) (next : Next) → IsWalked method walked sum units next → each_may_precede (marks_of walked) ≡ true
+walked-each method walked sum units next w = (sound-none method (marks_of walked) w.sound).each
 
-pub front-fits : (method : ChineseCountMethod) (first : Mark) (walked : List ℕ) (units : ℕ × List Open) (next : Next) (d : ℕ) → IsWalked method walked units next
+pub front-fits : (method : ChineseCountMethod) (first : Mark) (walked : List ℕ) (sum : ℕ) (units : List Sized) (next : Next) (d : ℕ) → IsWalked method walked sum units next
     → (is_numeral (first ∷ marks_of walked) ≡ true) × (opened (first ∷ marks_of walked) ≡ digit d ∷ marks_of walked)
-    → walked_answer method first (marks_of walked) ≡ fitting (total method (units.0 + d) units.1)
-front-fits method first walked units next d w numeral =
+    → walked_answer method first (marks_of walked) ≡ fitting (total_sum (sum + d) units)
+front-fits method first walked sum units next d w numeral =
     ap (λ f. refused_or f (front_answer method first (marks_of walked))) w.sound
     ∙ ap (λ (b : Bool). if b then fitting (value method (opened (first ∷ marks_of walked))) else Err (incorrect_at 0)) numeral.0
     ∙ ap (λ l. fitting (value method l)) numeral.1
     ∙ ap fitting (sym (total-value method (digit d ∷ marks_of walked)))
-    ∙ ap (λ s. fitting (total method (s + d) (opens_of method (marks_of walked)))) (sym w.sum)
-    ∙ ap (λ o. fitting (total method (units.0 + d) o)) (sym w.opens)
+    ∙ ap fitting (sym (total-sized method (opens_of method (marks_of walked)) (sum_of (marks_of walked) + d)))
+    ∙ ap (λ s. fitting (total_sum (s + d) (sized method (opens_of method (marks_of walked))))) (sym w.sum_is)
+    ∙ ap (λ o. fitting (total_sum (sum + d) o)) (sym w.units_are)
 
 pub fitting-some : (number sum : ℕ) → (sum < 2 ^ 128) × (number ≡ sum) → fitting sum ≡ Ok number
 fitting-some number sum h = let test : nat_lt sum (2 ^ 128) ≡ true = grind (arith, nat_tests, h.0) in rw test (ap Ok (sym h.1))

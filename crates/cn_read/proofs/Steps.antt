@@ -12,7 +12,7 @@ use Rattle.cn_core.specs.Scale.{scale, scale_fits}
 use Rattle.cn_core.specs.Value.{value, records_from}
 use Rattle.cn_core.proofs.Fronts.{place_of, and-left, and-right}
 use Rattle.cn_core.proofs.OpenUnits.{in_ranks, length-records}
-use Rattle.cn_read.specs.Private.Walk.{Open, closed, left_open, sum_of, opens_of, top_rank, all_fit, fault_of, faults, leading_rank, multiplies_by}
+use Rattle.cn_read.specs.Private.Walk.{Open, closed, left_open, sum_of, opens_of, top_rank, fault_of, faults, leading_rank, multiplies_by}
 use Rattle.cn_read.proofs.OpenSums.{group, take_while-group, closed-group, first_not_smaller-top, opens-records, ranks_of}
 use Rattle.cn_read.proofs.Faults.{faults_by, faults-at, is_early_at}
 
@@ -155,28 +155,6 @@ opens-room method u marks low small h =
     let mapped : length (ranks_of (opens_of method (unit u ∷ marks))) ≡ length (opens_of method (unit u ∷ marks)) = length-map (opens_of method (unit u ∷ marks)) (λ (top : Open). top.0) in
     let next : length (opens_of method (unit u ∷ marks)) ≡ suc (length (left_open u (opens_of method marks))) = ap length (opens-next method u marks h) in
     omega (arith, all, same, mapped, next)
-
-fit-left : (method : ChineseCountMethod) (u : ℕ) (opens : List Open) → all_fit method opens ≡ true → all_fit method (left_open u opens) ≡ true
-fit-left method u [] h = refl
-fit-left method u (top ∷ opens) h = by (nat_lt top.0 u) (fit-left method u opens (and-right (scale_fits method top.0) _ h)) where
-  by : (b : Bool) → all_fit method (left_open u opens) ≡ true → all_fit method (if b then left_open u opens else top ∷ opens) ≡ true
-  by true ih = ih
-  by false ih = h
-
-pub fit-opens : (method : ChineseCountMethod) (marks : List Mark) → some_unfit method marks ≡ false → all_fit method (opens_of method marks) ≡ true
-fit-opens method [] h = refl
-fit-opens method (digit n ∷ rest) h = fit-opens method rest h
-fit-opens method (other ∷ rest) h = fit-opens method rest h
-fit-opens method (unit r ∷ rest) h =
-    both (scale_fits method r) _ (not_false (scale_fits method r) (or-left (not (scale_fits method r)) _ h))
-    (fit-left method (r + 1) (opens_of method rest) (fit-opens method rest (or-right (not (scale_fits method r)) _ h))) where
-      not_false : (b : Bool) → not b ≡ false → b ≡ true
-      not_false true h = refl
-      not_false false h = cc
-
-      both : (a b : Bool) → a ≡ true → b ≡ true → (a && b) ≡ true
-      both true b h k = k
-      both false b h k = cc
 
 -- the steps at a unit
 pub unit-past : (method : ChineseCountMethod) (u : ℕ) (marks : List Mark) → IsSound method marks → multiplies_by u (leading_rank marks) ≡ true

@@ -1,23 +1,26 @@
 -- The steps of the walk, over what its state says.
 use Rattle.std.proofs.Common.{◌≡◌, ◌≢◌, ◌↔◌, ℕ, suc, ◌+◌, ◌^◌, ◌<◌, Bool, true, false, IsTrue, List, [], ◌∷◌, length, Option, Some, None, refl, sym, ap, ◌∙◌, arith, if◌then◌else◌, lit<, ◌++◌, append-nil, filter, chars, Err}
-use Rattle.std.specs.Option.{SomeIff, is_some}
 use Rattle.cn_core.specs.declared.method.ChineseCountMethod.{ChineseCountMethod}
 use Rattle.cn_core.specs.declared.unit.Unit.{Unit as NumeralUnit}
 use Rattle.cn_core.specs.declared.unit.Unit.TheVariants.{Ge, Shi, Bai, Qian, Wan, Yi, Zhao, Jing, Gai, Zi, Rang, Gou, Jian, Zheng, Zai, Ji}
 use Rattle.cn_core.specs.Characters.{rank, digit_of, rank_of}
 use Rattle.cn_core.specs.Mark.{Mark, digit, unit, other, mark_of, mark_from}
 use Rattle.cn_core.specs.Refusal.{Refusal, incorrect_at, too_large}
-use Rattle.cn_core.specs.Scale.{scale_fits}
+use Rattle.cn_core.specs.Scale.{scale, scale_fits}
 use Rattle.cn_core.specs.Text.{text_of, marks_of}
 use Rattle.cn_core.proofs.OpenUnits.{in_ranks-marks, digit_of-low}
 use Rattle.cn_read.specs.declared.walk.Next.{Next}
-use Rattle.cn_read.specs.Private.Walk.{Open, IsWalked, closed, left_open, sum_of, opens_of, top_rank, all_fit, fault_of, faults, leading_rank, multiplies_by, unit_next, further_or}
+use Rattle.cn_read.specs.declared.walk.Next.TheVariants.{AtDigit}
+use Rattle.cn_read.specs.Private.Walk.{closed, left_open, sum_of, opens_of, top_rank, fault_of, faults, leading_rank, multiplies_by, unit_next, further_or}
 use Rattle.std.specs.Char.{is_whitespace, is_not_whitespace}
 use Rattle.cn_core.specs.Spot.{spot}
 use Rattle.cn_read.specs.Private.Piece.{StandsAt, spotted}
 use Rattle.cn_read.proofs.Walking.{filter-append}
 use Rattle.cn_read.proofs.Pieces.{parts-next, spot-at}
-use Rattle.cn_read.proofs.Steps.{sound-none, unit-past, unit-alone, unit-same, unit-step, opens-next, opens-room, fit-opens}
+use Rattle.cn_read.specs.Private.Stack.{Sized, sized, closed_sum, not_closed, all_positive, top_of}
+use Rattle.cn_read.specs.Private.Walked.{IsWalked}
+use Rattle.cn_read.proofs.Stacks.{closed-sized, left-sized, top-sized, length-sized, positive-sized}
+use Rattle.cn_read.proofs.Steps.{sound-none, unit-past, unit-alone, unit-same, unit-step, opens-next, opens-room}
 
 pub rank-low : (u : NumeralUnit) → rank u < 16
 rank-low Ge = lit< tt
@@ -37,84 +40,86 @@ rank-low Zheng = lit< tt
 rank-low Zai = lit< tt
 rank-low Ji = lit< tt
 
-pub walked-fit : (method : ChineseCountMethod) (walked : List ℕ) (units : ℕ × List Open) (next : Next) → IsWalked method walked units next → all_fit method units.1 ≡ true
-walked-fit method walked units next w = ap (all_fit method) w.opens ∙ fit-opens method (marks_of walked) (sound-none method (marks_of walked) w.sound).fit
-
 -- what the tests on the way say of the marks
 leading : (u : ℕ) (marks : List Mark) {a b : Option ℕ} → a ≡ b → b ≡ leading_rank marks → true ≡ multiplies_by u a → multiplies_by u (leading_rank marks) ≡ true
 leading u marks p q h = sym (ap (multiplies_by u) (p ∙ q)) ∙ sym h
 
-sum_same : (method : ChineseCountMethod) (u : ℕ) (marks : List Mark) (units : ℕ × List Open) → units.0 ≡ sum_of marks → units.1 ≡ opens_of method marks
-    → closed method u (sum_of marks) (opens_of method marks) ≡ closed method u units.0 units.1
-sum_same method u marks units a b = sym (ap (λ s. closed method u s units.1) a ∙ ap (closed method u (sum_of marks)) b)
+sum_same : (method : ChineseCountMethod) (u : ℕ) (walked : List ℕ) (sum : ℕ) (units : List Sized) (next : Next) → IsWalked method walked sum units next
+    → closed_sum u sum units ≡ closed method u (sum_of (marks_of walked)) (opens_of method (marks_of walked))
+sum_same method u walked sum units next w =
+    ap (λ s. closed_sum u s units) w.sum_is ∙ ap (closed_sum u (sum_of (marks_of walked))) w.units_are
+    ∙ closed-sized method u (opens_of method (marks_of walked)) (sum_of (marks_of walked))
 
-left_same : (method : ChineseCountMethod) (u : ℕ) (marks : List Mark) (units after : ℕ × List Open) → units.1 ≡ opens_of method marks
-    → after ≡ (closed method u units.0 units.1, left_open u units.1) → left_open u (opens_of method marks) ≡ after.1
-left_same method u marks units after b c = sym (ap (λ v. v.1) c ∙ ap (left_open u) b)
+left_same : (method : ChineseCountMethod) (u : ℕ) (walked : List ℕ) (sum : ℕ) (units after : List Sized) (next : Next) → after ≡ not_closed u units → IsWalked method walked sum units next
+    → after ≡ sized method (left_open u (opens_of method (marks_of walked)))
+left_same method u walked sum units after next gives w = gives ∙ ap (not_closed u) w.units_are ∙ left-sized method u (opens_of method (marks_of walked))
 
-not_top : (method : ChineseCountMethod) (u : ℕ) (marks : List Mark) (units after : ℕ × List Open) → units.1 ≡ opens_of method marks
-    → after ≡ (closed method u units.0 units.1, left_open u units.1) → (IsTrue false ↔ (top_rank after.1 ≡ Some u)) → top_rank (left_open u (opens_of method marks)) ≢ Some u
-not_top method u marks units after b c differs same = let t = differs.1 (sym (ap top_rank (left_same method u marks units after b c)) ∙ same) in cc
+top_same : (method : ChineseCountMethod) (u : ℕ) (walked : List ℕ) (sum : ℕ) (units after : List Sized) (next : Next) → after ≡ not_closed u units → IsWalked method walked sum units next
+    → top_of after ≡ top_rank (left_open u (opens_of method (marks_of walked)))
+top_same method u walked sum units after next gives w = ap top_of (left_same method u walked sum units after next gives w) ∙ top-sized method (left_open u (opens_of method (marks_of walked)))
 
-pub walked-past : (method : ChineseCountMethod) (u : ℕ) (units : ℕ × List Open) (next : Next) (a : Option ℕ) → a ≡ unit_next next → true ≡ multiplies_by u a
-    → (IsTrue false ↔ (closed method u units.0 units.1 < 2 ^ 128))
-    → (walked : List ℕ) → IsWalked method walked units next → fault_of method (unit u) (marks_of walked) ≡ Some too_large
-walked-past method u units next a is h past walked w =
+not_top : (method : ChineseCountMethod) (u : ℕ) (walked : List ℕ) (sum : ℕ) (units after : List Sized) (next : Next) → after ≡ not_closed u units → (IsTrue false ↔ (top_of after ≡ Some u))
+    → IsWalked method walked sum units next → top_rank (left_open u (opens_of method (marks_of walked))) ≢ Some u
+not_top method u walked sum units after next gives differs w same = let t = differs.1 (top_same method u walked sum units after next gives w ∙ same) in cc
+
+fits_same : (method : ChineseCountMethod) (u : ℕ) (walked : List ℕ) (sum : ℕ) (units : List Sized) (next : Next) → closed_sum u sum units < 2 ^ 128 → IsWalked method walked sum units next
+    → closed method u (sum_of (marks_of walked)) (opens_of method (marks_of walked)) < 2 ^ 128
+fits_same method u walked sum units next fits w = let same = sum_same method u walked sum units next w in omega (arith, same, fits)
+
+pub walked-positive : (method : ChineseCountMethod) (walked : List ℕ) (sum : ℕ) (units : List Sized) (next : Next) → IsWalked method walked sum units next → all_positive units ≡ true
+walked-positive method walked sum units next w = ap all_positive w.units_are ∙ positive-sized method (opens_of method (marks_of walked))
+
+pub walked-past : (method : ChineseCountMethod) (u sum : ℕ) (units : List Sized) (next : Next) (a : Option ℕ) → a ≡ unit_next next → true ≡ multiplies_by u a
+    → ¬ (closed_sum u sum units < 2 ^ 128)
+    → (walked : List ℕ) → IsWalked method walked sum units next → fault_of method (unit u) (marks_of walked) ≡ Some too_large
+walked-past method u sum units next a is h past walked w =
     unit-past method u (marks_of walked) (sound-none method _ w.sound) (leading u _ is w.after_unit h)
-    (λ fits. let t = past.1 (rw (sum_same method u (marks_of walked) units w.sum w.opens) at fits) in cc)
+    (λ fits. past (let same = sum_same method u walked sum units next w in omega (arith, same, fits)))
 
-fits_same : (method : ChineseCountMethod) (u : ℕ) (marks : List Mark) (units : ℕ × List Open) → units.0 ≡ sum_of marks → units.1 ≡ opens_of method marks
-    → (IsTrue true ↔ (closed method u units.0 units.1 < 2 ^ 128)) → closed method u (sum_of marks) (opens_of method marks) < 2 ^ 128
-fits_same method u marks units a b fits = let same = sum_same method u marks units a b in let less = fits.0 refl in omega (arith, same, less)
-
-pub walked-alone : (method : ChineseCountMethod) (u : ℕ) (units : ℕ × List Open) (next : Next) (a : Option ℕ) → a ≡ unit_next next → true ≡ multiplies_by u a
-    → (IsTrue true ↔ (closed method u units.0 units.1 < 2 ^ 128)) → (IsTrue true ↔ ((u ≡ 0) × (a ≡ None)))
-    → (walked : List ℕ) → IsWalked method walked units next → fault_of method (unit u) (marks_of walked) ≡ Some (incorrect_at 0)
-walked-alone method u units next a is h fits alone walked w =
-    unit-alone method u (marks_of walked) (sound-none method _ w.sound) (leading u _ is w.after_unit h) (fits_same method u (marks_of walked) units w.sum w.opens fits)
+pub walked-alone : (method : ChineseCountMethod) (u sum : ℕ) (units : List Sized) (next : Next) (a : Option ℕ) → a ≡ unit_next next → true ≡ multiplies_by u a
+    → closed_sum u sum units < 2 ^ 128 → (IsTrue true ↔ ((u ≡ 0) × (a ≡ None)))
+    → (walked : List ℕ) → IsWalked method walked sum units next → fault_of method (unit u) (marks_of walked) ≡ Some (incorrect_at 0)
+walked-alone method u sum units next a is h fits alone walked w =
+    unit-alone method u (marks_of walked) (sound-none method _ w.sound) (leading u _ is w.after_unit h) (fits_same method u walked sum units next fits w)
     (alone.0 refl).0 (sym (is ∙ w.after_unit) ∙ (alone.0 refl).1)
 
-pub walked-same : (method : ChineseCountMethod) (u : ℕ) (units after : ℕ × List Open) (next : Next) (a : Option ℕ) → a ≡ unit_next next → true ≡ multiplies_by u a
-    → (IsTrue true ↔ (closed method u units.0 units.1 < 2 ^ 128)) → after ≡ (closed method u units.0 units.1, left_open u units.1) → (IsTrue true ↔ (top_rank after.1 ≡ Some u))
-    → (walked : List ℕ) → IsWalked method walked units next → fault_of method (unit u) (marks_of walked) ≡ Some (incorrect_at 0)
-walked-same method u units after next a is h fits gives top walked w =
-    unit-same method u (marks_of walked) (sound-none method _ w.sound) (leading u _ is w.after_unit h) (fits_same method u (marks_of walked) units w.sum w.opens fits)
-    (ap top_rank (left_same method u (marks_of walked) units after w.opens gives) ∙ top.0 refl)
+pub walked-same : (method : ChineseCountMethod) (u sum : ℕ) (units after : List Sized) (next : Next) (a : Option ℕ) → a ≡ unit_next next → true ≡ multiplies_by u a
+    → closed_sum u sum units < 2 ^ 128 → after ≡ not_closed u units → (IsTrue true ↔ (top_of after ≡ Some u))
+    → (walked : List ℕ) → IsWalked method walked sum units next → fault_of method (unit u) (marks_of walked) ≡ Some (incorrect_at 0)
+walked-same method u sum units after next a is h fits gives top walked w =
+    unit-same method u (marks_of walked) (sound-none method _ w.sound) (leading u _ is w.after_unit h) (fits_same method u walked sum units next fits w)
+    (sym (top_same method u walked sum units after next gives w) ∙ top.0 refl)
 
-pub walked-step : (method : ChineseCountMethod) (u : ℕ) (units after : ℕ × List Open) (next : Next) (a : Option ℕ) (b : Bool) → a ≡ unit_next next → true ≡ multiplies_by u a
-    → (IsTrue true ↔ (closed method u units.0 units.1 < 2 ^ 128)) → (IsTrue false ↔ ((u ≡ 0) × (a ≡ None)))
-    → after ≡ (closed method u units.0 units.1, left_open u units.1) → (IsTrue false ↔ (top_rank after.1 ≡ Some u)) → scale_fits method u ≡ b
-    → (walked : List ℕ) → IsWalked method walked units next → fault_of method (unit u) (marks_of walked) ≡ (if b then None else Some too_large)
-walked-step method u units after next a b is h fits alone gives top fit walked w =
-    unit-step method u (marks_of walked) b (sound-none method _ w.sound) (leading u _ is w.after_unit h) (fits_same method u (marks_of walked) units w.sum w.opens fits)
+pub walked-step : (method : ChineseCountMethod) (u sum : ℕ) (units after : List Sized) (next : Next) (a : Option ℕ) (b : Bool) → a ≡ unit_next next → true ≡ multiplies_by u a
+    → closed_sum u sum units < 2 ^ 128 → (IsTrue false ↔ ((u ≡ 0) × (a ≡ None)))
+    → after ≡ not_closed u units → (IsTrue false ↔ (top_of after ≡ Some u)) → scale_fits method u ≡ b
+    → (walked : List ℕ) → IsWalked method walked sum units next → fault_of method (unit u) (marks_of walked) ≡ (if b then None else Some too_large)
+walked-step method u sum units after next a b is h fits alone gives top fit walked w =
+    unit-step method u (marks_of walked) b (sound-none method _ w.sound) (leading u _ is w.after_unit h) (fits_same method u walked sum units next fits w)
     (λ z none. let t = alone.1 (z, is ∙ w.after_unit ∙ none) in cc)
-    (not_top method u (marks_of walked) units after w.opens gives top) fit
+    (not_top method u walked sum units after next gives top w) fit
 
-pub walked-opens : (method : ChineseCountMethod) (u : ℕ) (units after : ℕ × List Open) (next : Next)
-    → after ≡ (closed method u units.0 units.1, left_open u units.1) → (IsTrue false ↔ (top_rank after.1 ≡ Some u))
-    → (walked : List ℕ) → IsWalked method walked units next → (u, after.0) ∷ after.1 ≡ opens_of method (unit u ∷ marks_of walked)
-walked-opens method u units after next gives top walked w =
-    ap (λ v. (u, v.0) ∷ v.1) gives ∙ ap (λ s. (u, s) ∷ left_open u units.1) (sym (sum_same method u (marks_of walked) units w.sum w.opens))
-    ∙ ap (λ o. (u, closed method u (sum_of (marks_of walked)) (opens_of method (marks_of walked))) ∷ left_open u o) w.opens
-    ∙ sym (opens-next method u (marks_of walked) (not_top method u (marks_of walked) units after w.opens gives top))
+pub walked-opens : (method : ChineseCountMethod) (u sum size below : ℕ) (units after : List Sized) (next : Next)
+    → size ≡ scale method u → below ≡ closed_sum u sum units → after ≡ not_closed u units → (IsTrue false ↔ (top_of after ≡ Some u))
+    → (walked : List ℕ) → IsWalked method walked sum units next → (u, size, below) ∷ after ≡ sized method (opens_of method (unit u ∷ marks_of walked))
+walked-opens method u sum size below units after next size_is below_is gives top walked w =
+    ap (λ n. (u, n, below) ∷ after) size_is
+    ∙ ap (λ n. (u, scale method u, n) ∷ after) (below_is ∙ sum_same method u walked sum units next w)
+    ∙ ap (λ l. (u, scale method u, closed method u (sum_of (marks_of walked)) (opens_of method (marks_of walked))) ∷ l) (left_same method u walked sum units after next gives w)
+    ∙ ap (sized method) (sym (opens-next method u (marks_of walked) (not_top method u walked sum units after next gives top w)))
 
-pub walked-room : (method : ChineseCountMethod) (u : ℕ) (units after : ℕ × List Open) (next : Next) → u < 16
-    → after ≡ (closed method u units.0 units.1, left_open u units.1) → (IsTrue false ↔ (top_rank after.1 ≡ Some u))
-    → (walked : List ℕ) → IsWalked method walked units next → length after.1 < 16
-walked-room method u units after next low gives top walked w =
-    let room = opens-room method u (marks_of walked) (in_ranks-marks walked) low (not_top method u (marks_of walked) units after w.opens gives top) in
-    let same = ap length (left_same method u (marks_of walked) units after w.opens gives) in
+pub walked-room : (method : ChineseCountMethod) (u sum : ℕ) (units after : List Sized) (next : Next) → u < 16
+    → after ≡ not_closed u units → (IsTrue false ↔ (top_of after ≡ Some u))
+    → (walked : List ℕ) → IsWalked method walked sum units next → length after < 16
+walked-room method u sum units after next low gives top walked w =
+    let room = opens-room method u (marks_of walked) (in_ranks-marks walked) low (not_top method u walked sum units after next gives top w) in
+    let same = ap length (left_same method u walked sum units after next gives w) ∙ length-sized method (left_open u (opens_of method (marks_of walked))) in
     omega (arith, room, same)
 
--- a scale that is there fits
-pub fits-none : (r : Option ℕ) (b : Bool) (n : ℕ) → SomeIff r (IsTrue b) n → is_some r ≡ false → b ≡ false
-fits-none None true n h e = absurd (h refl)
-fits-none None false n h e = refl
-fits-none (Some x) b n h e = cc
-
-pub fits-some : (r : Option ℕ) (b : Bool) (n : ℕ) → SomeIff r (IsTrue b) n → is_some r ≡ true → b ≡ true
-fits-some None b n h e = cc
-fits-some (Some x) b n h e = h.0
+-- a scale that does not fit
+pub unfit : (b : Bool) → ¬ (IsTrue b) → b ≡ false
+unfit true h = absurd (h refl)
+unfit false h = refl
 
 -- the mark of a character
 pub mark-digit : (c value : ℕ) → Some value ≡ digit_of c → mark_of c ≡ digit value
@@ -151,35 +156,46 @@ digit-low c value h = by (digit_of c) (rank_of c) refl h where
   by None (Some r) e h = cc
   by None None e h = cc
 
+-- one more digit
+pub walked-digit : (method : ChineseCountMethod) (c value sum total : ℕ) (units : List Sized) (next : Next) (walked : List ℕ) → digit value ≡ mark_of c → IsWalked method walked sum units next
+    → (fault_of method (digit value) (marks_of walked) ≡ None) × (total ≡ sum + value) → IsWalked method (c ∷ walked) total units AtDigit
+walked-digit method c value sum total units next walked is w h = record {
+  sum_is = rw (← is) (h.1 ∙ ap (λ n. n + value) w.sum_is);
+  units_are = rw (← is) w.units_are;
+  after_digit = rw (← is) refl;
+  after_unit = rw (← is) refl;
+  sound = rw (← is) (ap (λ f. further_or f (fault_of method (digit value) (marks_of walked))) w.sound ∙ h.0);
+}
+
 -- where a walk stands in a string of which this piece is still ahead
-pub record HasWalked (method : ChineseCountMethod) (bytes ahead : List ℕ) (units : ℕ × List Open) (next : Next) : Type 0 where
+pub record HasWalked (method : ChineseCountMethod) (bytes ahead : List ℕ) (sum : ℕ) (units : List Sized) (next : Next) : Type 0 where
   pub after : List ℕ
   pub parts : chars bytes ≡ chars ahead ++ after
-  pub state : IsWalked method (filter is_not_whitespace after) units next
+  pub state : IsWalked method (filter is_not_whitespace after) sum units next
 
-pub HasWalked-start : (method : ChineseCountMethod) (bytes : List ℕ) (units : ℕ × List Open) (next : Next) → IsWalked method [] units next → HasWalked method bytes bytes units next
-HasWalked-start method bytes units next w = record { after = []; parts = sym (append-nil (chars bytes)); state = w }
+pub HasWalked-start : (method : ChineseCountMethod) (bytes : List ℕ) (sum : ℕ) (units : List Sized) (next : Next) → IsWalked method [] sum units next → HasWalked method bytes bytes sum units next
+HasWalked-start method bytes sum units next w = record { after = []; parts = sym (append-nil (chars bytes)); state = w }
 
-pub HasWalked-white : (method : ChineseCountMethod) (bytes ahead before : List ℕ) (units : ℕ × List Open) (next : Next) (c : ℕ) → HasWalked method bytes ahead units next
-    → chars ahead ≡ chars before ++ c ∷ [] → is_whitespace c ≡ true → HasWalked method bytes before units next
-HasWalked-white method bytes ahead before units next c h parts white = record {
+pub HasWalked-white : (method : ChineseCountMethod) (bytes ahead before : List ℕ) (sum : ℕ) (units : List Sized) (next : Next) (c : ℕ) → HasWalked method bytes ahead sum units next
+    → chars ahead ≡ chars before ++ c ∷ [] → is_whitespace c ≡ true → HasWalked method bytes before sum units next
+HasWalked-white method bytes ahead before sum units next c h parts white = record {
   after = c ∷ h.after;
   parts = parts-next bytes ahead before h.after c h.parts parts;
   state = rw white h.state;
 }
 
-pub HasWalked-dark : (method : ChineseCountMethod) (bytes ahead before : List ℕ) (units more : ℕ × List Open) (next new : Next) (c : ℕ) → HasWalked method bytes ahead units next
+pub HasWalked-dark : (method : ChineseCountMethod) (bytes ahead before : List ℕ) (sum total : ℕ) (units more : List Sized) (next new : Next) (c : ℕ) → HasWalked method bytes ahead sum units next
     → chars ahead ≡ chars before ++ c ∷ [] → is_whitespace c ≡ false
-    → ((walked : List ℕ) → IsWalked method walked units next → IsWalked method (c ∷ walked) more new) → HasWalked method bytes before more new
-HasWalked-dark method bytes ahead before units more next new c h parts dark step = record {
+    → ((walked : List ℕ) → IsWalked method walked sum units next → IsWalked method (c ∷ walked) total more new) → HasWalked method bytes before total more new
+HasWalked-dark method bytes ahead before sum total units more next new c h parts dark step = record {
   after = c ∷ h.after;
   parts = parts-next bytes ahead before h.after c h.parts parts;
   state = rw dark (step (filter is_not_whitespace h.after) h.state);
 }
 
-pub HasWalked-end : (method : ChineseCountMethod) (bytes ahead : List ℕ) (units : ℕ × List Open) (next : Next) → HasWalked method bytes ahead units next → chars ahead ≡ []
-    → IsWalked method (text_of bytes) units next
-HasWalked-end method bytes ahead units next h none = rw (h.parts, none) h.state
+pub HasWalked-end : (method : ChineseCountMethod) (bytes ahead : List ℕ) (sum : ℕ) (units : List Sized) (next : Next) → HasWalked method bytes ahead sum units next → chars ahead ≡ []
+    → IsWalked method (text_of bytes) sum units next
+HasWalked-end method bytes ahead sum units next h none = rw (h.parts, none) h.state
 
 -- what a walk meets at fault, as the string's answer has it
 abbrev pub StopsAt : ChineseCountMethod → ℕ → List ℕ → Refusal → Type 0
@@ -196,35 +212,35 @@ text-parts bytes ahead before after c p q dark =
       kept : is_whitespace c ≡ false → filter is_not_whitespace (c ∷ after) ≡ c ∷ filter is_not_whitespace after
       kept dark = rw dark
 
-fault_here : (method : ChineseCountMethod) (walked : List ℕ) (units : ℕ × List Open) (next : Next) (c : ℕ) (r : Refusal) → IsWalked method walked units next
+fault_here : (method : ChineseCountMethod) (walked : List ℕ) (sum : ℕ) (units : List Sized) (next : Next) (c : ℕ) (r : Refusal) → IsWalked method walked sum units next
     → fault_of method (mark_of c) (marks_of walked) ≡ Some r → faults method (marks_of (c ∷ walked)) ≡ Some r
-fault_here method walked units next c r w h = ap (λ f. further_or f (fault_of method (mark_of c) (marks_of walked))) w.sound ∙ h
+fault_here method walked sum units next c r w h = ap (λ f. further_or f (fault_of method (mark_of c) (marks_of walked))) w.sound ∙ h
 
-pub HasWalked-past : (method : ChineseCountMethod) (skipped : ℕ) (bytes ahead before : List ℕ) (units : ℕ × List Open) (next : Next) (c : ℕ) → HasWalked method bytes ahead units next
+pub HasWalked-past : (method : ChineseCountMethod) (skipped : ℕ) (bytes ahead before : List ℕ) (sum : ℕ) (units : List Sized) (next : Next) (c : ℕ) → HasWalked method bytes ahead sum units next
     → chars ahead ≡ chars before ++ c ∷ [] → is_whitespace c ≡ false
-    → ((walked : List ℕ) → IsWalked method walked units next → fault_of method (mark_of c) (marks_of walked) ≡ Some too_large)
+    → ((walked : List ℕ) → IsWalked method walked sum units next → fault_of method (mark_of c) (marks_of walked) ≡ Some too_large)
     → StopsAt method skipped bytes too_large
-HasWalked-past method skipped bytes ahead before units next c h parts dark step =
+HasWalked-past method skipped bytes ahead before sum units next c h parts dark step =
     let walked = filter is_not_whitespace h.after in (
       too_large,
       ap (faults method) (text-parts bytes ahead before h.after c h.parts parts dark)
-          ∙ past-front method (marks_of (text_of before)) (marks_of (c ∷ walked)) (fault_here method walked units next c too_large h.state (step walked h.state)),
+          ∙ past-front method (marks_of (text_of before)) (marks_of (c ∷ walked)) (fault_here method walked sum units next c too_large h.state (step walked h.state)),
       refl,
     )
 
-pub HasWalked-wrong : (method : ChineseCountMethod) (skipped : ℕ) (bytes ahead before : List ℕ) (units : ℕ × List Open) (next : Next) (c char_index : ℕ) → HasWalked method bytes ahead units next
+pub HasWalked-wrong : (method : ChineseCountMethod) (skipped : ℕ) (bytes ahead before : List ℕ) (sum : ℕ) (units : List Sized) (next : Next) (c char_index : ℕ) → HasWalked method bytes ahead sum units next
     → chars ahead ≡ chars before ++ c ∷ [] → is_whitespace c ≡ false
-    → ((walked : List ℕ) → IsWalked method walked units next → fault_of method (mark_of c) (marks_of walked) ≡ Some (incorrect_at 0))
+    → ((walked : List ℕ) → IsWalked method walked sum units next → fault_of method (mark_of c) (marks_of walked) ≡ Some (incorrect_at 0))
     → char_index ≡ skipped + length (chars before)
     → StopsAt method skipped bytes (incorrect_at char_index)
-HasWalked-wrong method skipped bytes ahead before units next c char_index h parts dark step at =
+HasWalked-wrong method skipped bytes ahead before sum units next c char_index h parts dark step at =
     let walked = filter is_not_whitespace h.after in
     let stands : StandsAt bytes (c ∷ h.after) (length (chars before)) (length (text_of before)) =
     record { front = chars before; parts = parts-next bytes ahead before h.after c h.parts parts; index_is = refl; place_is = refl } in
     let spot_is : spot bytes (length (text_of before)) ≡ length (chars before) = spot-at bytes h.after c _ _ stands dark in (
       incorrect_at (length (text_of before)),
       ap (faults method) (text-parts bytes ahead before h.after c h.parts parts dark)
-          ∙ wrong-front method (marks_of (text_of before)) (marks_of (c ∷ walked)) (fault_here method walked units next c (incorrect_at 0) h.state (step walked h.state))
+          ∙ wrong-front method (marks_of (text_of before)) (marks_of (c ∷ walked)) (fault_here method walked sum units next c (incorrect_at 0) h.state (step walked h.state))
           ∙ ap (λ n. Some (incorrect_at n)) (marks-length (text_of before)),
       ap (λ n. Err (incorrect_at n)) (at ∙ ap (λ n. skipped + n) (sym spot_is)),
     )

@@ -5,3 +5,4 @@ pub mod Piece
 pub mod Signed
 pub mod Stack
 pub mod Walk
+pub mod Walked

@@ -51,6 +51,7 @@ pub fn split_first(text: &str) -> Option<First<'_>>
 
 // The last character where it takes three bytes, as nearly all characters of numerals do, and what stands
 // before it. The general way below looks for the character's first byte.
+#[inline(always)]
 fn split_last_of_three_bytes(text: &str) -> Option<(char, &str)>
     ensures parts { IfSome result (λ r. chars text.now ≡ chars r.1.now ++ r.0 ∷ []) }
     ensures shorter { IfSome result (λ r. length r.1.now < length text.now) }
@@ -72,6 +73,7 @@ fn split_last_of_three_bytes(text: &str) -> Option<(char, &str)>
 }
 
 /// The last character, and what stands before it.
+#[inline(always)]
 pub fn split_last_char(text: &str) -> Option<(char, &str)>
     ensures parts { MatchOption result (chars text.now ≡ []) (λ r. chars text.now ≡ chars r.1.now ++ r.0 ∷ []) }
     ensures shorter { IfSome result (λ r. length r.1.now < length text.now) }

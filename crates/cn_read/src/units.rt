@@ -69,11 +69,11 @@ fn judge_plain(
         ≡ after_first char_index rest.now (walked_answer method (mark_of first) (marks_of (text_of rest.now))) }
 {
     let mut units = OpenUnits::new();
-    let next = walk(method, char_index + 1, rest, &mut units)?;
-    let Some(digit) = first_digit(first, next) else {
+    let standing = walk(method, char_index + 1, rest, &mut units)?;
+    let Some(digit) = first_digit(first, standing.next) else {
         return Err(ChineseToNumberError::ChineseNumberIncorrect { char_index });
     };
-    match units.finish(method, digit) {
+    match units.finish(standing.sum, digit) {
         Some(number) => Ok(number),
         None => Err(ChineseToNumberError::Overflow),
     }

@@ -7,16 +7,9 @@ ghost use Rattle.cn_core.specs.Text.{marks_of, text_of};
 ghost use Rattle.cn_read.specs.Answer.{refusal_of};
 ghost use Rattle.cn_read.specs.Private.Marked.{marked, unit_mark};
 ghost use Rattle.cn_read.specs.Private.Piece.{spotted};
-ghost use Rattle.cn_read.specs.Private.Walk.{
-  IsWalked,
-  faults,
-  digit_next,
-  unit_next,
-  multiplies_by,
-  opens_of,
-  fault_of,
-  fault_refusal,
-};
+ghost use Rattle.cn_read.specs.Private.Stack.{Sized, sized};
+ghost use Rattle.cn_read.specs.Private.Walk.{faults, unit_next, multiplies_by, opens_of, fault_of, fault_refusal};
+ghost use Rattle.cn_read.specs.Private.Walked.{IsWalked};
 
 use crate::ChineseToNumberError;
 use crate::mark::{Mark, is_white, mark_of};
@@ -30,6 +23,13 @@ pub enum Next {
     AtEnd,
     AtDigit,
     AtUnit(Unit),
+}
+
+/// Where a walk stands between two characters: the sum of the digits since the last unit, and what was met.
+#[derive(Copy, Clone)]
+pub struct Standing {
+    pub sum: u128,
+    pub next: Next,
 }
 
 // Why a walk stops at a character.
@@ -66,105 +66,109 @@ fn counts_nothing(unit: Unit, after: Option<Unit>) -> bool
     unit == Unit::Ge && after.is_none()
 }
 
-// One more unit, where what was walked holds no fault.
+// One more unit, where what was walked holds no fault: it is opened over the sum that it leaves below it.
 fn step_unit(
     method: ChineseCountMethod,
     units: &mut OpenUnits,
-    next: Next,
+    standing: Standing,
     unit: Unit,
 ) -> Result<(), Fault>
-    requires { (walked : List ℕ) × IsWalked method walked units.old next }
-    ensures { (walked : List ℕ) → IsWalked method walked units.old next
+    requires { (walked : List ℕ) × IsWalked method walked standing.sum units.old standing.next }
+    ensures { (walked : List ℕ) → IsWalked method walked standing.sum units.old standing.next
         → MatchResult result
         (λ _. (fault_of method (unit_mark unit) (marks_of walked) ≡ None)
-        × (units.new ≡ (0, opens_of method (unit_mark unit ∷ marks_of walked))))
+        × (units.new ≡ sized method (opens_of method (unit_mark unit ∷ marks_of walked))))
         (λ fault. fault_of method (unit_mark unit) (marks_of walked) ≡ Some (fault_refusal fault)) }
 {
-    let after = unit_after(next);
+    let after = unit_after(standing.next);
     if !multiplies(unit, after) {
         return Err(Fault::Incorrect);
     }
-    if !units.close_below(method, unit) {
+    let Some(below) = units.close_below(unit, standing.sum) else {
         return Err(Fault::PastLimit);
-    }
+    };
     if counts_nothing(unit, after) {
         return Err(Fault::Incorrect);
     }
     if units.has_on_top(unit) {
         return Err(Fault::Incorrect);
     }
-    if scale(method, unit).is_none() {
+    let Some(size) = scale(method, unit) else {
         return Err(Fault::PastLimit);
-    }
-    units.open(unit);
+    };
+    units.open(unit, size, below);
     Ok(())
 }
 
-// One more digit, where what was walked holds no fault.
-fn step_digit(
-    method: ChineseCountMethod,
-    units: &mut OpenUnits,
-    next: Next,
-    value: u8,
-) -> Result<(), Fault>
+// The sum with one more digit, where what was walked holds no fault.
+fn step_digit(standing: Standing, value: u8) -> Result<u128, Fault>
     requires { value < 10 }
-    ensures { (walked : List ℕ) → IsWalked method walked units.old next
+    ensures { (method : ChineseCountMethod) (walked : List ℕ) (units : List Sized)
+        → IsWalked method walked standing.sum units standing.next
         → MatchResult result
-        (λ _. (fault_of method (digit value) (marks_of walked) ≡ None)
-        × (units.new ≡ (units.old.0 + value, units.old.1)))
+        (λ sum. (fault_of method (digit value) (marks_of walked) ≡ None) × (sum ≡ standing.sum + value))
         (λ fault. fault_of method (digit value) (marks_of walked) ≡ Some (fault_refusal fault)) }
 {
     if value == 0 {
-        return Ok(());
+        return Ok(standing.sum);
     }
-    if let Next::AtDigit = next {
+    if let Next::AtDigit = standing.next {
         return Err(Fault::Incorrect);
     }
-    units.set_sum(value);
-    Ok(())
+    Ok(value as u128)
 }
 
 // One more character, by its mark, where what was walked holds no fault.
 fn step(
     method: ChineseCountMethod,
     units: &mut OpenUnits,
-    next: Next,
+    standing: Standing,
     mark: Mark,
-) -> Result<Next, Fault>
-    requires { (c : ℕ) × (walked : List ℕ) × (marked mark ≡ mark_of c) × IsWalked method walked units.old next }
-    ensures { (c : ℕ) (walked : List ℕ) → marked mark ≡ mark_of c → IsWalked method walked units.old next
+) -> Result<Standing, Fault>
+    requires { (c : ℕ) × (walked : List ℕ) × (marked mark ≡ mark_of c)
+        × IsWalked method walked standing.sum units.old standing.next }
+    ensures { (c : ℕ) (walked : List ℕ) → marked mark ≡ mark_of c
+        → IsWalked method walked standing.sum units.old standing.next
         → MatchResult result
-        (λ after. IsWalked method (c ∷ walked) units.new after)
+        (λ after. IsWalked method (c ∷ walked) after.sum units.new after.next)
         (λ fault. fault_of method (mark_of c) (marks_of walked) ≡ Some (fault_refusal fault)) }
 {
     match mark {
-        Mark::Digit(value) => match step_digit(method, units, next, value) {
-            Ok(()) => Ok(Next::AtDigit),
+        Mark::Digit(value) => match step_digit(standing, value) {
+            Ok(sum) => Ok(Standing {
+                sum,
+                next: Next::AtDigit,
+            }),
             Err(fault) => Err(fault),
         },
-        Mark::Unit(unit) => match step_unit(method, units, next, unit) {
-            Ok(()) => Ok(Next::AtUnit(unit)),
+        Mark::Unit(unit) => match step_unit(method, units, standing, unit) {
+            Ok(()) => Ok(Standing {
+                sum: 0,
+                next: Next::AtUnit(unit),
+            }),
             Err(fault) => Err(fault),
         },
         Mark::Other => Err(Fault::Incorrect),
     }
 }
 
-/// Walks a text that stands after so many characters of the caller's string, to its first fault, and tells
-/// what stands at its start.
+/// Walks a text that stands after so many characters of the caller's string, to its first fault.
 pub fn walk(
     method: ChineseCountMethod,
     skipped: usize,
     text: &str,
     units: &mut OpenUnits,
-) -> Result<Next, ChineseToNumberError>
+) -> Result<Standing, ChineseToNumberError>
     requires room { skipped + length text.now < 2 ^ 64 }
-    requires none_open { units.old ≡ (0, []) }
-    ensures { MatchResult result (λ next. IsWalked method (text_of text.now) units.new next)
+    requires none_open { units.old ≡ [] }
+    ensures { MatchResult result (λ standing. IsWalked method (text_of text.now) standing.sum units.new standing.next)
         (λ error. (fault : Refusal) × (faults method (marks_of (text_of text.now)) ≡ Some fault)
         × (Err (refusal_of error) ≡ spotted skipped text.now (Err fault))) }
 {
-    let mut next = Next::AtEnd;
+    let mut standing = Standing {
+        sum: 0,
+        next: Next::AtEnd,
+    };
     let mut ahead = text;
     'walking: while let Some((c, before)) = split_last_char(ahead) {
         let mark = mark_of(c);
@@ -172,8 +176,8 @@ pub fn walk(
             ahead = before;
             continue;
         }
-        match step(method, units, next, mark) {
-            Ok(after) => next = after,
+        match step(method, units, standing, mark) {
+            Ok(after) => standing = after,
             Err(Fault::PastLimit) => return Err(ChineseToNumberError::Overflow),
             Err(Fault::Incorrect) => {
                 let char_index = skipped + count_chars(before);
@@ -182,5 +186,5 @@ pub fn walk(
         }
         ahead = before;
     }
-    Ok(next)
+    Ok(standing)
 }

@@ -3,12 +3,11 @@ use Rattle.std.specs.Prelude.{◌≡◌, ℕ, suc, ◌+◌, ◌*◌, ◌/◌, �
 use Rattle.cn_core.specs.declared.method.ChineseCountMethod.{ChineseCountMethod}
 use Rattle.cn_core.specs.Mark.{Mark, digit, unit, other}
 use Rattle.cn_core.specs.Characters.{rank}
-use Rattle.cn_core.specs.Scale.{scale, scale_fits}
-use Rattle.cn_core.specs.Numeral.{may_precede, starts_with_digit, is_numeral, opened}
+use Rattle.cn_core.specs.Scale.{scale}
+use Rattle.cn_core.specs.Numeral.{may_precede, is_numeral, opened}
 use Rattle.cn_core.specs.Value.{value}
 use Rattle.cn_core.specs.Place.{is_overflowing, is_unfit, is_unit_from_hundred, is_unit_above_ge}
 use Rattle.cn_core.specs.Refusal.{Refusal, incorrect_at, too_large}
-use Rattle.cn_core.specs.Text.{marks_of}
 use Rattle.cn_read.specs.declared.walk.Next.{Next}
 use Rattle.cn_read.specs.declared.walk.Next.TheVariants.{AtDigit, AtUnit}
 use Rattle.cn_read.specs.declared.walk.Fault.{Fault}
@@ -33,11 +32,6 @@ left_open limit (top ∷ opens) = if nat_lt top.0 limit then left_open limit ope
 abbrev pub total : ChineseCountMethod → ℕ → List Open → ℕ
 total method sum [] = sum
 total method sum (top ∷ opens) = total method (sum * scale method top.0 + top.1) opens
-
--- each open unit's scale fits
-abbrev pub all_fit : ChineseCountMethod → List Open → Bool
-all_fit method [] = true
-all_fit method (top ∷ opens) = scale_fits method top.0 && all_fit method opens
 
 -- the digits up to the first unit
 abbrev pub sum_of : List Mark → ℕ
@@ -95,14 +89,6 @@ digit_next next = false
 abbrev pub unit_next : Next → Option ℕ
 unit_next (AtUnit which) = Some (rank which)
 unit_next next = None
-
--- where a walk stands after these characters, in which it found no fault
-pub record IsWalked (method : ChineseCountMethod) (walked : List ℕ) (units : ℕ × List Open) (next : Next) : Type 0 where
-  pub sum : units.0 ≡ sum_of (marks_of walked)
-  pub opens : units.1 ≡ opens_of method (marks_of walked)
-  pub after_digit : digit_next next ≡ starts_with_digit (marks_of walked)
-  pub after_unit : unit_next next ≡ leading_rank (marks_of walked)
-  pub sound : faults method (marks_of walked) ≡ None
 
 -- a fault, as a refusal at its own place
 abbrev pub fault_refusal : Fault → Refusal

@@ -1,12 +1,13 @@
-use Rattle.std.proofs.Common.{◌≡◌, IsTrue, length}
-use Rattle.cn_read.specs.Private.Walk.{total, all_fit}
+use Rattle.std.proofs.Common.{◌≡◌, ◌<◌, ◌^◌, IsTrue, length}
+use Rattle.cn_read.specs.Private.Stack.{total_sum, all_positive}
 use Rattle.cn_read.proofs.open_units.OpenUnits.close_all.Given as goal
 
 abbrev pub invariant-closing : goal.invariant-closing
 invariant-closing l = record {
-  sum : total l.method l.self.0 l.self.1 ≡ total l.method l.fn.self.0 l.fn.self.1;
-  fit : IsTrue (all_fit l.method l.self.1);
+  sum : total_sum l.closed l.self ≡ total_sum l.fn.sum l.fn.self;
+  positive : IsTrue (all_positive l.self);
+  fits : l.closed < 2 ^ 128;
 }
 
 abbrev pub decreases-closing : goal.decreases-closing
-decreases-closing l = length l.self.1
+decreases-closing l = length l.self

@@ -1,14 +1,15 @@
-use Rattle.std.proofs.Common.{◌≡◌, IsTrue, length}
+use Rattle.std.proofs.Common.{◌≡◌, ◌<◌, ◌^◌, IsTrue, length}
 use Rattle.cn_core.specs.Characters.{rank}
-use Rattle.cn_read.specs.Private.Walk.{closed, left_open, all_fit}
+use Rattle.cn_read.specs.Private.Stack.{closed_sum, not_closed, all_positive}
 use Rattle.cn_read.proofs.open_units.OpenUnits.close_below.Given as goal
 
 abbrev pub invariant-closing : goal.invariant-closing
 invariant-closing l = record {
-  sum : closed l.method (rank l.unit) l.self.0 l.self.1 ≡ closed l.method (rank l.unit) l.fn.self.0 l.fn.self.1;
-  left : left_open (rank l.unit) l.self.1 ≡ left_open (rank l.unit) l.fn.self.1;
-  fit : IsTrue (all_fit l.method l.self.1);
+  sum : closed_sum (rank l.unit) l.closed l.self ≡ closed_sum (rank l.unit) l.fn.sum l.fn.self;
+  left : not_closed (rank l.unit) l.self ≡ not_closed (rank l.unit) l.fn.self;
+  positive : IsTrue (all_positive l.self);
+  fits : l.closed < 2 ^ 128;
 }
 
 abbrev pub decreases-closing : goal.decreases-closing
-decreases-closing l = length l.self.1
+decreases-closing l = length l.self
