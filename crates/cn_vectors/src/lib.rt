@@ -3,3 +3,5 @@
 
 #[cfg(test)]
 mod naive;
+#[cfg(test)]
+mod scales;
