@@ -1,10 +1,10 @@
 -- Numerals alone are answered by a number.
-use Rattle.std.proofs.Common.{◌≡◌, ℕ, ◌-◌, ◌^◌, ◌<◌, ℤ, nat_abs, Bool, true, false, not, ◌&&◌, nat_lt, MatchBool, if◌then◌else◌, List, [], ◌∷◌, length, Result, Ok, Err, is_ok, refl, sym, ap, subst, ◌∙◌, arith}
+use Rattle.std.proofs.Common.{◌≡◌, ◌⊎◌, inl, inr, ℕ, ◌+◌, ◌-◌, ◌^◌, ◌<◌, ℤ, nat_abs, Bool, true, false, not, ◌&&◌, nat_lt, MatchBool, if◌then◌else◌, List, [], ◌∷◌, length, Result, Ok, Err, is_ok, refl, sym, ap, subst, ◌∙◌, arith, true≢false}
 use Rattle.cn_core.specs.declared.method.ChineseCountMethod.{ChineseCountMethod}
 use Rattle.cn_core.specs.Judge.{Judges, RefusesBody, numeral_answer, last_mark_answer}
 use Rattle.cn_core.specs.Mark.{Mark}
 use Rattle.cn_core.specs.Numeral.{IsNumeral, is_numeral}
-use Rattle.cn_core.specs.Place.{body, is_early, some_unfit}
+use Rattle.cn_core.specs.Place.{IsPlace, body, is_early, some_unfit}
 use Rattle.cn_core.specs.Refusal.{Refusal, empty, incorrect_at, too_large, too_small}
 use Rattle.cn_core.specs.Text.{marks_of}
 use Rattle.cn_core.specs.Typed.{Reads, signed_by, held_by, typed_answer}
@@ -52,6 +52,40 @@ IsJudged-number method (mark ∷ rest) number h =
       by true c e h = judged_numeral method marks number e h
       by false true e h = absurd (last_no_number method marks number h)
       by false false e h = absurd (body_no_number method (body marks) number h)
+
+-- what a text that is refused at a place is like
+pub refused_at : (method : ChineseCountMethod) (marks : List Mark) (place : ℕ) → Judges method marks (Err (incorrect_at place))
+    → ¬ IsNumeral marks × (IsPlace (body marks) place ⊎ (IsNumeral (body marks) × (place + 1 ≡ length marks)))
+refused_at method [] place h = cc
+refused_at method (mark ∷ rest) place h =
+    by (is_numeral marks) (is_numeral (body marks)) refl refl h where
+      marks : List Mark
+      marks = mark ∷ rest
+
+      numeral : ¬ (Err (incorrect_at place) ≡ numeral_answer method marks)
+      numeral e = in_numeral (not (some_unfit method marks) && nat_lt (numeral_value method marks) (2 ^ 128)) e where
+        in_numeral : (b : Bool) → ¬ (◌≡◌ {A = Result ℕ Refusal} (Err (incorrect_at place)) (if b then Ok (numeral_value method marks) else Err too_large))
+        in_numeral true e = cc
+        in_numeral false e = cc
+
+      last : Err (incorrect_at place) ≡ last_mark_answer method marks → place + 1 ≡ length marks
+      last e = in_last (is_ok (numeral_answer method (body marks))) e where
+        in_last : (b : Bool) → ◌≡◌ {A = Result ℕ Refusal} (Err (incorrect_at place)) (if b then Err (incorrect_at (length marks - 1)) else Err too_large) → place + 1 ≡ length marks
+        in_last true e = let at_last : place ≡ length marks - 1 = cc in omega (arith, at_last)
+        in_last false e = cc
+
+      inside : RefusesBody method (body marks) (Err (incorrect_at place)) → IsPlace (body marks) place
+      inside (p, at_p, is) = in_body (is_early method (body marks) p) is where
+        in_body : (b : Bool) → ◌≡◌ {A = Result ℕ Refusal} (Err (incorrect_at place)) (if b then Err too_large else Err (incorrect_at p)) → IsPlace (body marks) place
+        in_body true e = cc
+        in_body false e = let same : p ≡ place = cc in subst (IsPlace (body marks)) same at_p
+
+      by : (b c : Bool) → is_numeral marks ≡ b → is_numeral (body marks) ≡ c
+          → MatchBool b (Err (incorrect_at place) ≡ numeral_answer method marks) (MatchBool c (Err (incorrect_at place) ≡ last_mark_answer method marks) (RefusesBody method (body marks) (Err (incorrect_at place))))
+          → ¬ IsNumeral marks × (IsPlace (body marks) place ⊎ (IsNumeral (body marks) × (place + 1 ≡ length marks)))
+      by true c e f h = absurd (numeral h)
+      by false true e f h = (λ n. true≢false (sym n ∙ e), inr (f, last h))
+      by false false e f h = (λ n. true≢false (sym n ∙ e), inl (inside h))
 
 -- exactly numerals whose scales and signed value fit are answered by that value
 pub Reads-number : (kind : Kind) (method : ChineseCountMethod) (bytes : List ℕ) (number : ℤ) → Reads kind method bytes (Ok number)

@@ -1,5 +1,5 @@
 -- Plain digits are read back, also after zeros.
-use Rattle.std.proofs.Common.{◌≡◌, ℕ, ◌+◌, ◌-◌, ◌*◌, ◌/◌, ◌%◌, ◌^◌, ◌<◌, ◌≤◌, ℤ, pos, nat_abs, int_lt, Bool, true, false, nat_lt, nat_le, if◌then◌else◌, List, [], ◌∷◌, ◌++◌, length, map, fold, take, drop, All, decimal, Option, Some, None, Result, Ok, Err, refl, sym, ap, subst, ◌∙◌, arith, length-append, take-append-drop, take_all}
+use Rattle.std.proofs.Common.{◌≡◌, ℕ, ◌+◌, ◌-◌, ◌*◌, ◌/◌, ◌%◌, ◌^◌, ◌<◌, ◌≤◌, ℤ, pos, nat_abs, int_lt, Bool, true, false, nat_lt, nat_le, if◌then◌else◌, List, [], ◌∷◌, ◌++◌, length, map, fold, take, drop, All, encode_utf8_all, decimal, Option, Some, None, Result, Ok, Err, refl, sym, ap, subst, ◌∙◌, arith, length-append, take-append-drop, take_all}
 use Rattle.std.proofs.lemmas.Bool.Decides.{nat_tests}
 use Rattle.std.proofs.lemmas.Fmt.{decimal_by_steps_wide}
 use Rattle.std.proofs.lemmas.List.{map-append}
@@ -17,7 +17,7 @@ use Rattle.cn_core.specs.Refusal.{Refusal, empty, incorrect_at, too_large, too_s
 use Rattle.cn_core.specs.Text.{marks_of}
 use Rattle.cn_core.specs.Typed.{naive_reading, signed_by, held_by, typed_answer}
 use Rattle.cn_core.specs.Whole.{Kind, Holds}
-use Rattle.cn_core.specs.Written.{written_bytes}
+use Rattle.cn_core.specs.Written.{written_bytes, naive_text}
 use Rattle.chinese_number.specs.Digits.{is_digit}
 use Rattle.chinese_number.specs.Parts.{sign_at, unsigned_text}
 use Rattle.chinese_number.proofs.Printed.{is_printed, list_all-both}
@@ -193,3 +193,10 @@ naive_reading-written kind variant case number whole held =
     (HasParts-written kind variant case negative marks (minus_is_signed kind number whole held) d.printed (starts (decimal (nat_abs number)) d.some))
     ∙ ap (typed_answer kind bytes (written_sign negative)) (naive_answer-digits marks (long (decimal (nat_abs number)) d.some) d.digits (omega (arith, d.value, small)) ∙ ap Ok d.value)
     ∙ typed_answer-held kind number bytes held
+
+-- so two numbers with one such text are one
+pub same_from_digits : (kind : Kind) (variant : ChineseVariant) (case : ChineseCase) (one second : ℤ) → IsWhole kind → Holds kind one → Holds kind second
+    → encode_utf8_all (naive_text variant case one) ≡ encode_utf8_all (naive_text variant case second) → one ≡ second
+same_from_digits kind variant case one second whole held_one held_second same =
+    let answers : Ok one ≡ Ok second = sym (naive_reading-written kind variant case one whole held_one) ∙ ap (naive_reading kind) same ∙ naive_reading-written kind variant case second whole held_second in
+    cc

@@ -18,13 +18,13 @@ pub use methods::{
 };
 pub use places::{
     characters_complete_texts, each_list_has_one_place, ends_can_be_completed,
-    nothing_is_wrong_after_a_place, zero_in_front_decides,
+    nothing_is_wrong_after_a_place, refusals_name_the_last_place, zero_in_front_decides,
 };
 pub use plain_digits::{
     digits_alone_are_read, leading_zeros_change_nothing, naive_texts_read_back,
 };
 pub use read_back::{
-    one_spelling_for_each_number, reading_then_printing_is_idempotent, spellings_are_numerals,
+    one_text_for_each_number, reading_then_printing_is_idempotent, spellings_are_numerals,
     spellings_read_back,
 };
 pub use scripts::{texts_of_a_number_are_equally_long, texts_of_a_number_read_alike};

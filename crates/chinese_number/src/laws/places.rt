@@ -1,10 +1,13 @@
 // What can be completed, and where a refusal points.
-ghost use Rattle.std.specs.Prelude.{◌≡◌, ◌↔◌, ◌<◌, ◌+◌, ◌++◌, ◌∷◌, ℕ, List, IsTrue, length, drop};
+ghost use Rattle.std.specs.Prelude.{◌≡◌, ◌↔◌, ◌⊎◌, ◌<◌, ◌+◌, ◌++◌, ◌∷◌, ℕ, List, Err, IsTrue, length, drop};
 ghost use Rattle.std.specs.Str.{all_scalars};
+ghost use Rattle.cn_core.specs.Judge.{Judges};
 ghost use Rattle.cn_core.specs.Mark.{Mark, digit};
 ghost use Rattle.cn_core.specs.Numeral.{IsNumeral, Completable};
-ghost use Rattle.cn_core.specs.Place.{IsPlace};
+ghost use Rattle.cn_core.specs.Place.{IsPlace, body};
+ghost use Rattle.cn_core.specs.Refusal.{incorrect_at};
 ghost use Rattle.cn_core.specs.Text.{marks_of};
+ghost use Rattle.cn_core.specs.declared.method.ChineseCountMethod.{ChineseCountMethod};
 
 /// 零 alone in front is the whole test of completability: a list can be completed exactly where 零
 /// in front of it makes a numeral.
@@ -37,6 +40,17 @@ pub fn ends_can_be_completed()
 pub fn each_list_has_one_place()
     ensures { (marks : List Mark)
         → (place : ℕ) × IsPlace marks place × ((other : ℕ) → IsPlace marks other → other ≡ place) }
+{}
+
+/// A text whose refusal names a place is no numeral. The place is the last from which nothing in front
+/// can complete the text's body, or else 0; or, where the body is a numeral, the text's last mark.
+///
+/// Form validators rest on it: the character that they mark is at fault whatever stands in front of it.
+pub fn refusals_name_the_last_place()
+    ensures { (method : ChineseCountMethod) (marks : List Mark) (place : ℕ)
+        → Judges method marks (Err (incorrect_at place))
+        → ¬ IsNumeral marks
+        × (IsPlace (body marks) place ⊎ (IsNumeral (body marks) × (place + 1 ≡ length marks))) }
 {}
 
 /// 零 with what stands after a place is a numeral: past the mark at fault nothing is wrong.

@@ -6,7 +6,7 @@ ghost use Rattle.cn_core.specs.Spelling.{spelling};
 ghost use Rattle.cn_core.specs.Typed.{Reads};
 ghost use Rattle.cn_core.specs.Value.{numeral_value};
 ghost use Rattle.cn_core.specs.Whole.{Holds};
-ghost use Rattle.cn_core.specs.Written.{spelled_text, is_printable};
+ghost use Rattle.cn_core.specs.Written.{naive_text, spelled_text, is_printable};
 ghost use Rattle.cn_core.specs.declared.case.ChineseCase.{ChineseCase};
 ghost use Rattle.cn_core.specs.declared.method.ChineseCountMethod.{ChineseCountMethod};
 ghost use Rattle.cn_core.specs.declared.script.ChineseVariant.{ChineseVariant};
@@ -34,16 +34,20 @@ pub fn spellings_read_back<T: Whole>()
         ↔ (answer ≡ Ok number) }
 {}
 
-/// One spelling for each number: two numbers have the same written text, by one method, script and
-/// case, exactly where they are equal.
+/// One text for each number: two numbers have the same written text, by one method or as plain digits
+/// and in one script and case, exactly where they are equal.
 ///
 /// Amounts on cheques and invoices rest on it: no two amounts look alike.
-pub fn one_spelling_for_each_number<T: Whole>()
-    ensures { (variant : ChineseVariant) (case : ChineseCase) (method : ChineseCountMethod)
+pub fn one_text_for_each_number<T: Whole>()
+    ensures units { (variant : ChineseVariant) (case : ChineseCase) (method : ChineseCountMethod)
         (one other : ℤ) → Holds T.kind one → Holds T.kind other
         → IsTrue (is_printable method one) → IsTrue (is_printable method other)
         → (encode_utf8_all (spelled_text variant case method one)
         ≡ encode_utf8_all (spelled_text variant case method other)) ↔ (one ≡ other) }
+    ensures digits { (variant : ChineseVariant) (case : ChineseCase) (one other : ℤ)
+        → Holds T.kind one → Holds T.kind other
+        → (encode_utf8_all (naive_text variant case one)
+        ≡ encode_utf8_all (naive_text variant case other)) ↔ (one ≡ other) }
 {}
 
 /// Reading, then printing, is idempotent: where a string reads as a printable number, the written
