@@ -18,6 +18,7 @@ pub use Rattle.cn_core.specs.Value
 pub use Rattle.cn_core.specs.Whole
 pub use Rattle.cn_core.specs.Written
 pub use Rattle.cn_print.specs.ErrorText as PrintErrorText
+pub use Rattle.cn_print.specs.Prints
 pub use Rattle.cn_print.specs.Writes
 pub use Rattle.cn_read.specs.Answer
 pub use Rattle.cn_read.specs.ErrorText as ReadErrorText

@@ -7,33 +7,116 @@ pub mod laws;
 #[cfg(test)]
 mod tests;
 
-pub use cn_core::{
-    ChineseCase, ChineseCountMethod, ChineseVariant, Sign, Unit, Whole, digit_char, digit_of,
-    minus_char, scale, sign_of, unit_char, unit_of,
-};
-pub use cn_print::{
-    NumberToChinese, NumberToChineseError, from_i8_to_chinese_naive, from_i16_to_chinese_naive,
-    from_i32_to_chinese_naive, from_i64_to_chinese_naive, from_i128_to_chinese_naive,
-    from_isize_to_chinese_naive, from_u8_to_chinese_naive, from_u16_to_chinese_naive,
-    from_u32_to_chinese_naive, from_u64_to_chinese_naive, from_u128_to_chinese_naive,
-    from_usize_to_chinese_naive,
-};
-pub use cn_read::{
-    ChineseToNumber, ChineseToNumberError, from_chinese_to_i8, from_chinese_to_i8_naive,
-    from_chinese_to_i16, from_chinese_to_i16_naive, from_chinese_to_i32_high,
-    from_chinese_to_i32_low, from_chinese_to_i32_middle, from_chinese_to_i32_naive,
-    from_chinese_to_i32_ten_thousand, from_chinese_to_i64_high, from_chinese_to_i64_low,
-    from_chinese_to_i64_middle, from_chinese_to_i64_naive, from_chinese_to_i64_ten_thousand,
-    from_chinese_to_i128_high, from_chinese_to_i128_low, from_chinese_to_i128_middle,
-    from_chinese_to_i128_naive, from_chinese_to_i128_ten_thousand, from_chinese_to_isize_high,
-    from_chinese_to_isize_low, from_chinese_to_isize_middle, from_chinese_to_isize_naive,
-    from_chinese_to_isize_ten_thousand, from_chinese_to_u8, from_chinese_to_u8_naive,
-    from_chinese_to_u16, from_chinese_to_u16_naive, from_chinese_to_u32_high,
-    from_chinese_to_u32_low, from_chinese_to_u32_middle, from_chinese_to_u32_naive,
-    from_chinese_to_u32_ten_thousand, from_chinese_to_u64_high, from_chinese_to_u64_low,
-    from_chinese_to_u64_middle, from_chinese_to_u64_naive, from_chinese_to_u64_ten_thousand,
-    from_chinese_to_u128_high, from_chinese_to_u128_low, from_chinese_to_u128_middle,
-    from_chinese_to_u128_naive, from_chinese_to_u128_ten_thousand, from_chinese_to_usize_high,
-    from_chinese_to_usize_low, from_chinese_to_usize_middle, from_chinese_to_usize_naive,
-    from_chinese_to_usize_ten_thousand,
-};
+pub use cn_core::ChineseCase;
+pub use cn_core::ChineseCountMethod;
+pub use cn_core::ChineseVariant;
+pub use cn_core::Sign;
+pub use cn_core::Unit;
+pub use cn_core::Whole;
+pub use cn_core::digit_char;
+pub use cn_core::digit_of;
+pub use cn_core::minus_char;
+pub use cn_core::scale;
+pub use cn_core::sign_of;
+pub use cn_core::unit_char;
+pub use cn_core::unit_of;
+pub use cn_print::NumberToChinese;
+pub use cn_print::NumberToChineseError;
+pub use cn_print::from_i8_to_chinese;
+pub use cn_print::from_i8_to_chinese_naive;
+pub use cn_print::from_i16_to_chinese;
+pub use cn_print::from_i16_to_chinese_naive;
+pub use cn_print::from_i32_to_chinese_high;
+pub use cn_print::from_i32_to_chinese_low;
+pub use cn_print::from_i32_to_chinese_middle;
+pub use cn_print::from_i32_to_chinese_naive;
+pub use cn_print::from_i32_to_chinese_ten_thousand;
+pub use cn_print::from_i64_to_chinese_high;
+pub use cn_print::from_i64_to_chinese_low;
+pub use cn_print::from_i64_to_chinese_middle;
+pub use cn_print::from_i64_to_chinese_naive;
+pub use cn_print::from_i64_to_chinese_ten_thousand;
+pub use cn_print::from_i128_to_chinese_high;
+pub use cn_print::from_i128_to_chinese_low;
+pub use cn_print::from_i128_to_chinese_middle;
+pub use cn_print::from_i128_to_chinese_naive;
+pub use cn_print::from_i128_to_chinese_ten_thousand;
+pub use cn_print::from_isize_to_chinese_high;
+pub use cn_print::from_isize_to_chinese_low;
+pub use cn_print::from_isize_to_chinese_middle;
+pub use cn_print::from_isize_to_chinese_naive;
+pub use cn_print::from_isize_to_chinese_ten_thousand;
+pub use cn_print::from_u8_to_chinese;
+pub use cn_print::from_u8_to_chinese_naive;
+pub use cn_print::from_u16_to_chinese;
+pub use cn_print::from_u16_to_chinese_naive;
+pub use cn_print::from_u32_to_chinese_high;
+pub use cn_print::from_u32_to_chinese_low;
+pub use cn_print::from_u32_to_chinese_middle;
+pub use cn_print::from_u32_to_chinese_naive;
+pub use cn_print::from_u32_to_chinese_ten_thousand;
+pub use cn_print::from_u64_to_chinese_high;
+pub use cn_print::from_u64_to_chinese_low;
+pub use cn_print::from_u64_to_chinese_middle;
+pub use cn_print::from_u64_to_chinese_naive;
+pub use cn_print::from_u64_to_chinese_ten_thousand;
+pub use cn_print::from_u128_to_chinese_high;
+pub use cn_print::from_u128_to_chinese_low;
+pub use cn_print::from_u128_to_chinese_middle;
+pub use cn_print::from_u128_to_chinese_naive;
+pub use cn_print::from_u128_to_chinese_ten_thousand;
+pub use cn_print::from_usize_to_chinese_high;
+pub use cn_print::from_usize_to_chinese_low;
+pub use cn_print::from_usize_to_chinese_middle;
+pub use cn_print::from_usize_to_chinese_naive;
+pub use cn_print::from_usize_to_chinese_ten_thousand;
+pub use cn_read::ChineseToNumber;
+pub use cn_read::ChineseToNumberError;
+pub use cn_read::from_chinese_to_i8;
+pub use cn_read::from_chinese_to_i8_naive;
+pub use cn_read::from_chinese_to_i16;
+pub use cn_read::from_chinese_to_i16_naive;
+pub use cn_read::from_chinese_to_i32_high;
+pub use cn_read::from_chinese_to_i32_low;
+pub use cn_read::from_chinese_to_i32_middle;
+pub use cn_read::from_chinese_to_i32_naive;
+pub use cn_read::from_chinese_to_i32_ten_thousand;
+pub use cn_read::from_chinese_to_i64_high;
+pub use cn_read::from_chinese_to_i64_low;
+pub use cn_read::from_chinese_to_i64_middle;
+pub use cn_read::from_chinese_to_i64_naive;
+pub use cn_read::from_chinese_to_i64_ten_thousand;
+pub use cn_read::from_chinese_to_i128_high;
+pub use cn_read::from_chinese_to_i128_low;
+pub use cn_read::from_chinese_to_i128_middle;
+pub use cn_read::from_chinese_to_i128_naive;
+pub use cn_read::from_chinese_to_i128_ten_thousand;
+pub use cn_read::from_chinese_to_isize_high;
+pub use cn_read::from_chinese_to_isize_low;
+pub use cn_read::from_chinese_to_isize_middle;
+pub use cn_read::from_chinese_to_isize_naive;
+pub use cn_read::from_chinese_to_isize_ten_thousand;
+pub use cn_read::from_chinese_to_u8;
+pub use cn_read::from_chinese_to_u8_naive;
+pub use cn_read::from_chinese_to_u16;
+pub use cn_read::from_chinese_to_u16_naive;
+pub use cn_read::from_chinese_to_u32_high;
+pub use cn_read::from_chinese_to_u32_low;
+pub use cn_read::from_chinese_to_u32_middle;
+pub use cn_read::from_chinese_to_u32_naive;
+pub use cn_read::from_chinese_to_u32_ten_thousand;
+pub use cn_read::from_chinese_to_u64_high;
+pub use cn_read::from_chinese_to_u64_low;
+pub use cn_read::from_chinese_to_u64_middle;
+pub use cn_read::from_chinese_to_u64_naive;
+pub use cn_read::from_chinese_to_u64_ten_thousand;
+pub use cn_read::from_chinese_to_u128_high;
+pub use cn_read::from_chinese_to_u128_low;
+pub use cn_read::from_chinese_to_u128_middle;
+pub use cn_read::from_chinese_to_u128_naive;
+pub use cn_read::from_chinese_to_u128_ten_thousand;
+pub use cn_read::from_chinese_to_usize_high;
+pub use cn_read::from_chinese_to_usize_low;
+pub use cn_read::from_chinese_to_usize_middle;
+pub use cn_read::from_chinese_to_usize_naive;
+pub use cn_read::from_chinese_to_usize_ten_thousand;

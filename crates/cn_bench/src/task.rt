@@ -1,5 +1,8 @@
 // What is repeated, and how often.
-use chinese_number::{ChineseCase, ChineseToNumber, ChineseVariant, NumberToChinese, Whole};
+use chinese_number::{
+    ChineseCase, ChineseCountMethod, ChineseToNumber, ChineseToNumberError, ChineseVariant,
+    NumberToChinese, NumberToChineseError,
+};
 use std::alloc::{AllocError, Global};
 
 /// Which way a number goes.
@@ -9,12 +12,31 @@ pub enum Call {
     Read,
 }
 
+/// Digit by digit, or by the units of a method.
+#[derive(Copy, Clone)]
+pub enum Way {
+    Naive,
+    Units(ChineseCountMethod),
+}
+
 /// A call for a type, and how often it goes over all the numbers.
 #[derive(Copy, Clone)]
 pub struct Task {
     pub call: Call,
     pub is_wide: bool,
+    pub way: Way,
     pub passes: u32,
+}
+
+fn way_named(name: &str) -> Option<Way> {
+    match name {
+        "naive" => Some(Way::Naive),
+        "low" => Some(Way::Units(ChineseCountMethod::Low)),
+        "ten_thousand" => Some(Way::Units(ChineseCountMethod::TenThousand)),
+        "middle" => Some(Way::Units(ChineseCountMethod::Middle)),
+        "high" => Some(Way::Units(ChineseCountMethod::High)),
+        _ => None,
+    }
 }
 
 impl Task {
@@ -24,10 +46,11 @@ impl Task {
             return Some(Task {
                 call: Call::Print,
                 is_wide: true,
+                way: Way::Naive,
                 passes: 1,
             });
         }
-        let [call, kind, method, passes] = words else {
+        let [call, kind, way, passes] = words else {
             return None;
         };
         let call = match call.as_str() {
@@ -40,19 +63,33 @@ impl Task {
             "u128" => true,
             _ => return None,
         };
-        if method.as_str() != "naive" {
-            return None;
-        }
         Some(Task {
             call,
             is_wide,
+            way: way_named(way.as_str())?,
             passes: passes.as_str().parse().ok()?,
         })
     }
 }
 
-fn text_of<T: NumberToChinese>(alloc: Global, number: T) -> Result<String, AllocError> {
-    number.to_chinese_naive(alloc, ChineseVariant::Traditional, ChineseCase::Lower)
+// The text of a number; of one that `Low` does not write, the text of 0.
+fn text_of<T: NumberToChinese>(alloc: Global, way: Way, number: T) -> Result<String, AllocError> {
+    let (variant, case) = (ChineseVariant::Traditional, ChineseCase::Lower);
+    match way {
+        Way::Naive => number.to_chinese_naive(alloc, variant, case),
+        Way::Units(method) => match number.to_chinese(alloc, variant, case, method) {
+            Ok(text) => Ok(text),
+            Err(NumberToChineseError::OutOfMemory) => Err(AllocError),
+            Err(_) => 0u8.to_chinese_naive(alloc, variant, case),
+        },
+    }
+}
+
+fn number_of<T: NumberToChinese>(way: Way, text: &str) -> Result<T, ChineseToNumberError> {
+    match way {
+        Way::Naive => text.to_number_naive(),
+        Way::Units(method) => text.to_number(method),
+    }
 }
 
 /// Prints the numbers in turn, and adds up the lengths of their texts.
@@ -64,7 +101,8 @@ pub fn print_sum<T: NumberToChinese>(
     let mut sum = 0u64;
     for _ in 0..task.passes {
         for number in numbers {
-            sum = sum.wrapping_add(text_of(alloc, *number)?.len() as u64);
+            let text = text_of(alloc, task.way, *number)?;
+            sum = sum.wrapping_add(text.len() as u64);
         }
     }
     Ok(sum)
@@ -78,12 +116,12 @@ pub fn read_sum<T: NumberToChinese>(
 ) -> Result<u64, AllocError> {
     let mut texts = Vec::new(alloc);
     for number in numbers {
-        texts.push(text_of(alloc, *number)?)?;
+        texts.push(text_of(alloc, task.way, *number)?)?;
     }
     let mut sum = 0u64;
     for _ in 0..task.passes {
         for text in &texts {
-            let number: Result<T, _> = text.as_str().to_number_naive();
+            let number = number_of::<T>(task.way, text.as_str());
             let magnitude = number.map_or(0, |number| number.magnitude());
             sum = sum.wrapping_add((magnitude & u64::MAX as u128) as u64);
         }

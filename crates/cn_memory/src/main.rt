@@ -4,11 +4,23 @@
 #![tactic(auto)]
 
 use chinese_number::{
-    ChineseCase, ChineseVariant, NumberToChinese, Whole, from_i8_to_chinese_naive,
-    from_i16_to_chinese_naive, from_i32_to_chinese_naive, from_i64_to_chinese_naive,
-    from_i128_to_chinese_naive, from_isize_to_chinese_naive, from_u8_to_chinese_naive,
-    from_u16_to_chinese_naive, from_u32_to_chinese_naive, from_u64_to_chinese_naive,
-    from_u128_to_chinese_naive, from_usize_to_chinese_naive,
+    ChineseCase, ChineseCountMethod, ChineseVariant, NumberToChinese, Whole, from_i8_to_chinese,
+    from_i8_to_chinese_naive, from_i16_to_chinese, from_i16_to_chinese_naive,
+    from_i32_to_chinese_high, from_i32_to_chinese_low, from_i32_to_chinese_middle,
+    from_i32_to_chinese_naive, from_i32_to_chinese_ten_thousand, from_i64_to_chinese_high,
+    from_i64_to_chinese_low, from_i64_to_chinese_middle, from_i64_to_chinese_naive,
+    from_i64_to_chinese_ten_thousand, from_i128_to_chinese_high, from_i128_to_chinese_low,
+    from_i128_to_chinese_middle, from_i128_to_chinese_naive, from_i128_to_chinese_ten_thousand,
+    from_isize_to_chinese_high, from_isize_to_chinese_low, from_isize_to_chinese_middle,
+    from_isize_to_chinese_naive, from_isize_to_chinese_ten_thousand, from_u8_to_chinese,
+    from_u8_to_chinese_naive, from_u16_to_chinese, from_u16_to_chinese_naive,
+    from_u32_to_chinese_high, from_u32_to_chinese_low, from_u32_to_chinese_middle,
+    from_u32_to_chinese_naive, from_u32_to_chinese_ten_thousand, from_u64_to_chinese_high,
+    from_u64_to_chinese_low, from_u64_to_chinese_middle, from_u64_to_chinese_naive,
+    from_u64_to_chinese_ten_thousand, from_u128_to_chinese_high, from_u128_to_chinese_low,
+    from_u128_to_chinese_middle, from_u128_to_chinese_naive, from_u128_to_chinese_ten_thousand,
+    from_usize_to_chinese_high, from_usize_to_chinese_low, from_usize_to_chinese_middle,
+    from_usize_to_chinese_naive, from_usize_to_chinese_ten_thousand,
 };
 use std::fmt::Display;
 use std::io;
@@ -91,8 +103,202 @@ fn naive(rt: &(impl Print + AllocGlobal)) -> io::Result<()> {
         rt,
         "from_isize_to_chinese_naive",
         from_isize_to_chinese_naive(alloc, SCRIPT, CASE, 1),
+    )
+}
+
+// The free unit printers of 8 to 32 bits.
+fn small(rt: &(impl Print + AllocGlobal)) -> io::Result<()> {
+    let alloc = rt.alloc();
+    show(
+        rt,
+        "from_u8_to_chinese",
+        from_u8_to_chinese(alloc, SCRIPT, CASE, 1),
     )?;
-    Ok(())
+    show(
+        rt,
+        "from_u16_to_chinese",
+        from_u16_to_chinese(alloc, SCRIPT, CASE, 1),
+    )?;
+    show(
+        rt,
+        "from_u32_to_chinese_low",
+        from_u32_to_chinese_low(alloc, SCRIPT, CASE, 1),
+    )?;
+    show(
+        rt,
+        "from_u32_to_chinese_ten_thousand",
+        from_u32_to_chinese_ten_thousand(alloc, SCRIPT, CASE, 1),
+    )?;
+    show(
+        rt,
+        "from_u32_to_chinese_middle",
+        from_u32_to_chinese_middle(alloc, SCRIPT, CASE, 1),
+    )?;
+    show(
+        rt,
+        "from_u32_to_chinese_high",
+        from_u32_to_chinese_high(alloc, SCRIPT, CASE, 1),
+    )?;
+    show(
+        rt,
+        "from_i8_to_chinese",
+        from_i8_to_chinese(alloc, SCRIPT, CASE, 1),
+    )?;
+    show(
+        rt,
+        "from_i16_to_chinese",
+        from_i16_to_chinese(alloc, SCRIPT, CASE, 1),
+    )?;
+    show(
+        rt,
+        "from_i32_to_chinese_low",
+        from_i32_to_chinese_low(alloc, SCRIPT, CASE, 1),
+    )?;
+    show(
+        rt,
+        "from_i32_to_chinese_ten_thousand",
+        from_i32_to_chinese_ten_thousand(alloc, SCRIPT, CASE, 1),
+    )?;
+    show(
+        rt,
+        "from_i32_to_chinese_middle",
+        from_i32_to_chinese_middle(alloc, SCRIPT, CASE, 1),
+    )?;
+    show(
+        rt,
+        "from_i32_to_chinese_high",
+        from_i32_to_chinese_high(alloc, SCRIPT, CASE, 1),
+    )
+}
+
+// The free unit printers of wide unsigned types.
+fn wide_unsigned(rt: &(impl Print + AllocGlobal)) -> io::Result<()> {
+    let alloc = rt.alloc();
+    show(
+        rt,
+        "from_u64_to_chinese_low",
+        from_u64_to_chinese_low(alloc, SCRIPT, CASE, 1),
+    )?;
+    show(
+        rt,
+        "from_u64_to_chinese_ten_thousand",
+        from_u64_to_chinese_ten_thousand(alloc, SCRIPT, CASE, 1),
+    )?;
+    show(
+        rt,
+        "from_u64_to_chinese_middle",
+        from_u64_to_chinese_middle(alloc, SCRIPT, CASE, 1),
+    )?;
+    show(
+        rt,
+        "from_u64_to_chinese_high",
+        from_u64_to_chinese_high(alloc, SCRIPT, CASE, 1),
+    )?;
+    show(
+        rt,
+        "from_u128_to_chinese_low",
+        from_u128_to_chinese_low(alloc, SCRIPT, CASE, 1),
+    )?;
+    show(
+        rt,
+        "from_u128_to_chinese_ten_thousand",
+        from_u128_to_chinese_ten_thousand(alloc, SCRIPT, CASE, 1),
+    )?;
+    show(
+        rt,
+        "from_u128_to_chinese_middle",
+        from_u128_to_chinese_middle(alloc, SCRIPT, CASE, 1),
+    )?;
+    show(
+        rt,
+        "from_u128_to_chinese_high",
+        from_u128_to_chinese_high(alloc, SCRIPT, CASE, 1),
+    )?;
+    show(
+        rt,
+        "from_usize_to_chinese_low",
+        from_usize_to_chinese_low(alloc, SCRIPT, CASE, 1),
+    )?;
+    show(
+        rt,
+        "from_usize_to_chinese_ten_thousand",
+        from_usize_to_chinese_ten_thousand(alloc, SCRIPT, CASE, 1),
+    )?;
+    show(
+        rt,
+        "from_usize_to_chinese_middle",
+        from_usize_to_chinese_middle(alloc, SCRIPT, CASE, 1),
+    )?;
+    show(
+        rt,
+        "from_usize_to_chinese_high",
+        from_usize_to_chinese_high(alloc, SCRIPT, CASE, 1),
+    )
+}
+
+// The free unit printers of wide signed types.
+fn wide_signed(rt: &(impl Print + AllocGlobal)) -> io::Result<()> {
+    let alloc = rt.alloc();
+    show(
+        rt,
+        "from_i64_to_chinese_low",
+        from_i64_to_chinese_low(alloc, SCRIPT, CASE, 1),
+    )?;
+    show(
+        rt,
+        "from_i64_to_chinese_ten_thousand",
+        from_i64_to_chinese_ten_thousand(alloc, SCRIPT, CASE, 1),
+    )?;
+    show(
+        rt,
+        "from_i64_to_chinese_middle",
+        from_i64_to_chinese_middle(alloc, SCRIPT, CASE, 1),
+    )?;
+    show(
+        rt,
+        "from_i64_to_chinese_high",
+        from_i64_to_chinese_high(alloc, SCRIPT, CASE, 1),
+    )?;
+    show(
+        rt,
+        "from_i128_to_chinese_low",
+        from_i128_to_chinese_low(alloc, SCRIPT, CASE, 1),
+    )?;
+    show(
+        rt,
+        "from_i128_to_chinese_ten_thousand",
+        from_i128_to_chinese_ten_thousand(alloc, SCRIPT, CASE, 1),
+    )?;
+    show(
+        rt,
+        "from_i128_to_chinese_middle",
+        from_i128_to_chinese_middle(alloc, SCRIPT, CASE, 1),
+    )?;
+    show(
+        rt,
+        "from_i128_to_chinese_high",
+        from_i128_to_chinese_high(alloc, SCRIPT, CASE, 1),
+    )?;
+    show(
+        rt,
+        "from_isize_to_chinese_low",
+        from_isize_to_chinese_low(alloc, SCRIPT, CASE, 1),
+    )?;
+    show(
+        rt,
+        "from_isize_to_chinese_ten_thousand",
+        from_isize_to_chinese_ten_thousand(alloc, SCRIPT, CASE, 1),
+    )?;
+    show(
+        rt,
+        "from_isize_to_chinese_middle",
+        from_isize_to_chinese_middle(alloc, SCRIPT, CASE, 1),
+    )?;
+    show(
+        rt,
+        "from_isize_to_chinese_high",
+        from_isize_to_chinese_high(alloc, SCRIPT, CASE, 1),
+    )
 }
 
 // The calls of the trait for one type.
@@ -100,6 +306,13 @@ fn by_trait<T: Whole>(rt: &(impl Print + AllocGlobal), name: &str) -> io::Result
     let Some(one) = T::from_magnitude(false, 1) else {
         return Ok(());
     };
+    for method in ChineseCountMethod::variants() {
+        show(
+            rt,
+            format_args!("{name}.to_chinese"),
+            one.to_chinese(rt.alloc(), SCRIPT, CASE, method),
+        )?;
+    }
     show(
         rt,
         format_args!("{name}.to_chinese_naive"),
@@ -109,6 +322,9 @@ fn by_trait<T: Whole>(rt: &(impl Print + AllocGlobal), name: &str) -> io::Result
 
 fn main(rt: HostRuntime) -> io::Result<()> {
     naive(&rt)?;
+    small(&rt)?;
+    wide_unsigned(&rt)?;
+    wide_signed(&rt)?;
     by_trait::<u8>(&rt, "u8")?;
     by_trait::<u16>(&rt, "u16")?;
     by_trait::<u32>(&rt, "u32")?;

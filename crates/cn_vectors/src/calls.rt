@@ -1,10 +1,18 @@
 // The free calls of the widest types, by a method that is a value.
 use chinese_number::{
-    ChineseCountMethod, ChineseToNumberError,
-    from_chinese_to_i128_high, from_chinese_to_i128_low, from_chinese_to_i128_middle, from_chinese_to_i128_ten_thousand, from_chinese_to_u128_high, from_chinese_to_u128_low, from_chinese_to_u128_middle, from_chinese_to_u128_ten_thousand,
+    ChineseCase, ChineseCountMethod, ChineseToNumberError, ChineseVariant, NumberToChineseError,
+    from_chinese_to_i128_high, from_chinese_to_i128_low, from_chinese_to_i128_middle,
+    from_chinese_to_i128_ten_thousand, from_chinese_to_u128_high, from_chinese_to_u128_low,
+    from_chinese_to_u128_middle, from_chinese_to_u128_ten_thousand, from_i128_to_chinese_high,
+    from_i128_to_chinese_low, from_i128_to_chinese_middle, from_i128_to_chinese_ten_thousand,
+    from_u128_to_chinese_high, from_u128_to_chinese_low, from_u128_to_chinese_middle,
+    from_u128_to_chinese_ten_thousand,
 };
+use std::alloc::Global;
 
+const SCRIPT: ChineseVariant = ChineseVariant::Traditional;
 
+const CASE: ChineseCase = ChineseCase::Lower;
 
 pub fn read_u128(method: ChineseCountMethod, text: &str) -> Result<u128, ChineseToNumberError> {
     match method {
@@ -15,6 +23,21 @@ pub fn read_u128(method: ChineseCountMethod, text: &str) -> Result<u128, Chinese
     }
 }
 
+pub fn print_u128(
+    alloc: Global,
+    method: ChineseCountMethod,
+    number: u128,
+) -> Result<String, NumberToChineseError> {
+    Ok(match method {
+        ChineseCountMethod::Low => from_u128_to_chinese_low(alloc, SCRIPT, CASE, number)?,
+        ChineseCountMethod::TenThousand => {
+            from_u128_to_chinese_ten_thousand(alloc, SCRIPT, CASE, number)?
+        }
+        ChineseCountMethod::Middle => from_u128_to_chinese_middle(alloc, SCRIPT, CASE, number)?,
+        ChineseCountMethod::High => from_u128_to_chinese_high(alloc, SCRIPT, CASE, number)?,
+    })
+}
+
 pub fn read_i128(method: ChineseCountMethod, text: &str) -> Result<i128, ChineseToNumberError> {
     match method {
         ChineseCountMethod::Low => from_chinese_to_i128_low(text),
@@ -22,4 +45,19 @@ pub fn read_i128(method: ChineseCountMethod, text: &str) -> Result<i128, Chinese
         ChineseCountMethod::Middle => from_chinese_to_i128_middle(text),
         ChineseCountMethod::High => from_chinese_to_i128_high(text),
     }
+}
+
+pub fn print_i128(
+    alloc: Global,
+    method: ChineseCountMethod,
+    number: i128,
+) -> Result<String, NumberToChineseError> {
+    Ok(match method {
+        ChineseCountMethod::Low => from_i128_to_chinese_low(alloc, SCRIPT, CASE, number)?,
+        ChineseCountMethod::TenThousand => {
+            from_i128_to_chinese_ten_thousand(alloc, SCRIPT, CASE, number)?
+        }
+        ChineseCountMethod::Middle => from_i128_to_chinese_middle(alloc, SCRIPT, CASE, number)?,
+        ChineseCountMethod::High => from_i128_to_chinese_high(alloc, SCRIPT, CASE, number)?,
+    })
 }

@@ -8,6 +8,12 @@ mod long;
 #[cfg(test)]
 mod naive;
 #[cfg(test)]
+mod ones;
+#[cfg(test)]
+mod printing;
+#[cfg(test)]
 mod reading;
 #[cfg(test)]
 mod scales;
+#[cfg(test)]
+mod upstream;

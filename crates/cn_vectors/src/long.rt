@@ -20,7 +20,12 @@ fn zeros_without_end(rt: HostRuntime) -> Result<(), Fail> {
     for (first, zeros, last, answer) in [
         ("一百", 5_000, "五", Ok(105)),
         ("", 5_000, "二", Ok(2)),
-        ("五", 5_000, "", Err(ChineseNumberIncorrect { char_index: 0 })),
+        (
+            "五",
+            5_000,
+            "",
+            Err(ChineseNumberIncorrect { char_index: 0 }),
+        ),
         ("一百", 50_000, "五", Ok(105)),
         ("", 10_000_000, "", Ok(0)),
     ] {
@@ -43,7 +48,10 @@ fn white_space_without_end(rt: HostRuntime) -> Result<(), Fail> {
     }
     let incorrect = Err(ChineseNumberIncorrect { char_index: 2001 });
     assert_eq!(rt; read_u128(TenThousand, text.as_str()), incorrect);
-    assert_eq!(rt; read_u128(TenThousand, white.as_str()), Err(ChineseNumberEmpty));
+    assert_eq!(rt;
+        read_u128(TenThousand, white.as_str()),
+        Err(ChineseNumberEmpty)
+    );
     Ok(())
 }
 
@@ -61,9 +69,17 @@ fn chain(alloc: Global, first: &str, units: &str) -> Result<String, AllocError> 
 #[test]
 fn chains(rt: HostRuntime) -> Result<(), Fail> {
     let alloc = rt.alloc();
-    let eight: u128 = [101u128, 1_001, 10_001, 100_001, 1_000_001, 10_000_001, 100_000_001]
-        .iter()
-        .fold(10, |product, factor| product.wrapping_mul(*factor));
+    let eight: u128 = [
+        101u128,
+        1_001,
+        10_001,
+        100_001,
+        1_000_001,
+        10_000_001,
+        100_000_001,
+    ]
+    .iter()
+    .fold(10, |product, factor| product.wrapping_mul(*factor));
     for (first, units, characters, answer) in [
         ("一十", "百", 5, Ok(1010)),
         ("一十", "百千萬億兆京垓", 383, Ok(eight)),

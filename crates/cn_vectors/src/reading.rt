@@ -1,19 +1,18 @@
 // Worked examples of reading.
 use crate::calls::{read_i128, read_u128};
+use crate::printing::LEAST;
 use chinese_number::ChineseCountMethod::{High, Low, Middle, TenThousand};
 use chinese_number::ChineseToNumberError::{
     ChineseNumberEmpty, ChineseNumberIncorrect, Overflow, Underflow,
 };
 use chinese_number::{
-    ChineseToNumber, ChineseToNumberError, Whole, from_chinese_to_i8,
-    from_chinese_to_i64_low, from_chinese_to_u8, from_chinese_to_u16,
-    from_chinese_to_u32_ten_thousand, from_chinese_to_u64_high, from_chinese_to_u64_low,
-    from_chinese_to_u64_middle, from_chinese_to_u64_ten_thousand,
+    ChineseToNumber, ChineseToNumberError, Whole, from_chinese_to_i8, from_chinese_to_i64_low,
+    from_chinese_to_u8, from_chinese_to_u16, from_chinese_to_u32_ten_thousand,
+    from_chinese_to_u64_high, from_chinese_to_u64_low, from_chinese_to_u64_middle,
+    from_chinese_to_u64_ten_thousand,
 };
 use std::fmt::Debug;
 use std::process::Abort;
-
-const LEAST: &str = "負一百七十澗一千四百一十一溝八千三百四十六穰零四百六十九秭二千三百一十七垓三千一百六十八京七千三百零三兆七千一百五十八億八千四百一十萬五千七百二十八";
 
 fn incorrect<T>(char_index: usize) -> Result<T, ChineseToNumberError> {
     Err(ChineseNumberIncorrect { char_index })
@@ -53,7 +52,10 @@ fn reads_by_ten_thousand(rt: HostRuntime) {
         ("五二澗一億溝澗", Err(Overflow)),
         ("五零", incorrect(0)),
         ("一百零零五", Ok(105)),
-        ("三百四十澗二", Ok(340_200_000_000_000_000_000_000_000_000_000_000_000)),
+        (
+            "三百四十澗二",
+            Ok(340_200_000_000_000_000_000_000_000_000_000_000_000),
+        ),
         ("三百四十澗三", Err(Overflow)),
         ("四百澗", Err(Overflow)),
         ("十個十", Ok(100)),
@@ -98,8 +100,14 @@ fn reads_by_other_methods(rt: HostRuntime) {
         assert_eq!(rt; read_u128(method, text), answer, "{text}");
     }
     assert_eq!(rt; from_chinese_to_u64_low("一兆"), Ok(1_000_000));
-    assert_eq!(rt; from_chinese_to_u64_ten_thousand("一兆"), Ok(1_000_000_000_000));
-    assert_eq!(rt; from_chinese_to_u64_middle("一兆"), Ok(10_000_000_000_000_000));
+    assert_eq!(rt;
+        from_chinese_to_u64_ten_thousand("一兆"),
+        Ok(1_000_000_000_000)
+    );
+    assert_eq!(rt;
+        from_chinese_to_u64_middle("一兆"),
+        Ok(10_000_000_000_000_000)
+    );
     assert_eq!(rt; from_chinese_to_u64_high("一兆"), Ok(10_000_000_000_000_000));
 }
 
@@ -145,8 +153,14 @@ fn reads_wide_signed(rt: HostRuntime) {
         ("負一極個", Err(Underflow)),
         ("負一百個", incorrect(3)),
         ("負百百個", incorrect(1)),
-        ("一百七十澗一千四百一十一溝八千三百四十六穰零四百六十九秭二千三百一十七垓三千一百六十八京七千三百零三兆七千一百五十八億八千四百一十萬五千七百二十八", Err(Overflow)),
-        ("負一百七十澗一千四百一十一溝八千三百四十六穰零四百六十九秭二千三百一十七垓三千一百六十八京七千三百零三兆七千一百五十八億八千四百一十萬五千七百二十九", Err(Underflow)),
+        (
+            "一百七十澗一千四百一十一溝八千三百四十六穰零四百六十九秭二千三百一十七垓三千一百六十八京七千三百零三兆七千一百五十八億八千四百一十萬五千七百二十八",
+            Err(Overflow),
+        ),
+        (
+            "負一百七十澗一千四百一十一溝八千三百四十六穰零四百六十九秭二千三百一十七垓三千一百六十八京七千三百零三兆七千一百五十八億八千四百一十萬五千七百二十九",
+            Err(Underflow),
+        ),
     ] {
         assert_eq!(rt; read_i128(TenThousand, text), answer, "{text}");
     }
@@ -187,7 +201,10 @@ fn zero_completes(rt: HostRuntime) {
     }
     for text in ["零十十", "零五零", "零億萬", "零個", "零x"] {
         let answer = read_u128(TenThousand, text);
-        assert!(rt; matches!(answer, Err(ChineseNumberIncorrect { .. })), "{text}");
+        assert!(rt;
+            matches!(answer, Err(ChineseNumberIncorrect { .. })),
+            "{text}"
+        );
     }
 }
 

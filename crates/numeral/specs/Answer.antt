@@ -1,13 +1,13 @@
 -- What is answered to lines.
-use Rattle.std.specs.Prelude.{◌≡◌, ◌++◌, ◌&&◌, ℕ, ℤ, int_le, Bool, List, [], ◌∷◌, codes, decimal, encode_utf8_all, Option, Some, None, Result, Ok, Err}
+use Rattle.std.specs.Prelude.{◌≡◌, ◌++◌, ◌&&◌, ℕ, ℤ, pos, int_le, int_lt, Bool, List, [], ◌∷◌, codes, decimal, encode_utf8_all, Option, Some, None, Result, Ok, Err, if◌then◌else◌}
 use Rattle.std.specs.Bool.{MatchBool}
 use Rattle.std.specs.Fmt.{signed_decimal}
 use Rattle.chinese_number.specs.declared.ChineseVariant.{ChineseVariant}
 use Rattle.chinese_number.specs.declared.ChineseCase.{ChineseCase}
 use Rattle.chinese_number.specs.Refusal.{Refusal, empty, incorrect_at, too_large, too_small}
-use Rattle.chinese_number.specs.Typed.{naive_reading}
+use Rattle.chinese_number.specs.Typed.{Reads, naive_reading}
 use Rattle.chinese_number.specs.Whole.{Kind}
-use Rattle.chinese_number.specs.Written.{naive_text}
+use Rattle.chinese_number.specs.Written.{naive_text, spelled_text, is_printable}
 use Rattle.numeral.specs.declared.question.Method.{Method}
 use Rattle.numeral.specs.declared.question.Method.TheVariants.{Naive, Units}
 use Rattle.numeral.specs.Question.{Question, read, print, kind_of, question_of}
@@ -32,16 +32,23 @@ bad_line = codes "bad line"
 abbrev pub holds : Kind → ℤ → Bool
 holds kind number = int_le kind.least number && int_le number kind.greatest
 
--- the answer to a text that is to be read; one that is read by units has none yet
+-- the answer to a text that is to be read
 abbrev pub AnswersRead : Kind → Method → List ℕ → List ℕ → Type 0
 AnswersRead kind Naive text answer = answer ≡ reading_text (naive_reading kind text)
-AnswersRead kind (Units method) text answer = answer ≡ bad_line
+AnswersRead kind (Units method) text answer =
+    (reading : Result ℤ Refusal) × Reads kind method text reading × (answer ≡ reading_text reading)
 
--- the answer to a number that is to be printed and that its type holds; one that is printed by units has none yet
+-- why a method does not write a number
+abbrev pub unprintable : ℤ → Refusal
+unprintable number = if int_lt number (pos 0) then too_small else too_large
+
+-- the answer to a number that is to be printed and that its type holds
 abbrev pub AnswersPrint : Method → ChineseVariant → ChineseCase → ℤ → List ℕ → Type 0
 AnswersPrint Naive variant case number answer =
     answer ≡ codes "ok " ++ encode_utf8_all (naive_text variant case number)
-AnswersPrint (Units method) variant case number answer = answer ≡ bad_line
+AnswersPrint (Units method) variant case number answer =
+    MatchBool (is_printable method number) (answer ≡ codes "ok " ++ encode_utf8_all (spelled_text variant case method number))
+    (answer ≡ codes "err " ++ refusal_text (unprintable number))
 
 -- the answer to a number that is to be printed
 abbrev pub AnswersPrinting : Kind → Method → ChineseVariant → ChineseCase → ℤ → List ℕ → Type 0

@@ -6,7 +6,9 @@ ghost use Rattle.numeral.specs.Question.{kind_of, read_question, print_question}
 ghost use Rattle.numeral.specs.Answer.{Answers, AnswersAny, AnswersRead, AnswersPrinting, bad_line, reading_text};
 
 use crate::decimal::put_decimal;
-use crate::numerals::{ChineseToNumber, ChineseToNumberError, NumberToChinese, Whole};
+use crate::numerals::{
+    ChineseToNumber, ChineseToNumberError, NumberToChinese, NumberToChineseError, Whole,
+};
 use crate::question::{
     IntegerType, Method, Printing, Reading, SignedMagnitude, asked_printing, asked_reading, cut,
 };
@@ -50,7 +52,7 @@ fn answer_as<T: Whole>(room: &mut String, method: Method, text: &str) -> Result<
 {
     match method {
         Method::Naive => put_reading::<T>(room, text.to_number_naive()),
-        Method::Units(_) => put_bad_line(room),
+        Method::Units(method) => put_reading::<T>(room, text.to_number(method)),
     }
 }
 
@@ -121,7 +123,13 @@ fn print_as<T: NumberToChinese>(
             let text = value.to_chinese_naive(alloc, asked.variant, asked.case)?;
             put_printed(room, text.as_str())
         }
-        Method::Units(_) => put_bad_line(room),
+        Method::Units(method) => {
+            match value.to_chinese(alloc, asked.variant, asked.case, method) {
+                Ok(text) => put_printed(room, text.as_str()),
+                Err(NumberToChineseError::OutOfMemory) => Err(AllocError),
+                Err(error) => write!(room, "err {error}"),
+            }
+        }
     }
 }
 

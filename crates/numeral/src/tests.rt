@@ -2,6 +2,7 @@
 mod devices;
 mod faults;
 mod rows;
+mod unit_rows;
 
 use crate::engine::run;
 use crate::fault::RunError;
