@@ -6,6 +6,7 @@ pub mod Places
 pub mod PlainDigits
 pub mod Printed
 pub mod Reading
+pub mod Refusals
 pub mod Scripts
 pub mod Signs
 pub mod SmallUnits

@@ -1,5 +1,5 @@
 -- The spot of a refusal is that of a character.
-use Rattle.std.proofs.Common.{◌≡◌, ◌⊎◌, inl, inr, ℕ, zero, suc, ◌+◌, ◌-◌, ◌^◌, ◌<◌, ◌≤◌, ℤ, int_lt, Bool, true, false, not, ◌&&◌, nat_lt, nat_le, MatchBool, if◌then◌else◌, List, [], ◌∷◌, length, filter, take, drop, slice_get, chars, Option, Some, None, Result, Ok, Err, is_ok, refl, sym, ap, subst, ◌∙◌, arith, length-drop}
+use Rattle.std.proofs.Common.{◌≡◌, ◌⊎◌, inl, inr, ℕ, zero, suc, ◌+◌, ◌-◌, ◌^◌, ◌<◌, ◌≤◌, ℤ, int_lt, Bool, true, false, not, ◌&&◌, nat_lt, nat_le, if◌then◌else◌, List, [], ◌∷◌, length, filter, take, drop, slice_get, chars, Option, Some, None, Result, Ok, Err, is_ok, refl, sym, ap, subst, ◌∙◌, arith, length-drop}
 use Rattle.std.specs.Char.{is_whitespace, is_not_whitespace}
 use Rattle.std.specs.Option.{option_or}
 use Rattle.cn_core.specs.declared.method.ChineseCountMethod.{ChineseCountMethod}
@@ -17,6 +17,7 @@ use Rattle.cn_core.specs.Typed.{Reads, leading_sign, sign_len, signed_by, held_b
 use Rattle.cn_core.specs.Value.{numeral_value}
 use Rattle.cn_core.specs.Whole.{Kind}
 use Rattle.chinese_number.specs.Places.{PointsAt}
+use Rattle.chinese_number.proofs.Refusals.{by_ways}
 
 -- the same of a list of characters
 record PointsAmong (cs : List ℕ) (at_spot place : ℕ) : Type 0 where
@@ -84,16 +85,11 @@ body_place method marks place some (p, at_p, is) = by (is_early method (body mar
   by true h = cc
   by false h = let e : place ≡ p = cc in let l = low at_p.here in omega (arith, e, l)
 
-three : {P Q R : Type 0} (G : Type 0) (b c : Bool) → (P → G) → (Q → G) → (R → G) → MatchBool b P (MatchBool c Q R) → G
-three G true c p q r x = p x
-three G false true p q r x = q x
-three G false false p q r x = r x
-
 judged_place : (method : ChineseCountMethod) (marks : List Mark) (place : ℕ) → Judges method marks (Err (incorrect_at place)) → place < length marks
 judged_place method [] place h = cc
 judged_place method (mark ∷ rest) place h =
     let marks = mark ∷ rest in
-    three (place < length marks) (is_numeral marks) (is_numeral (body marks)) (λ p. absurd (numeral_place method marks place p)) (last_place method marks place (omega arith))
+    by_ways (place < length marks) (is_numeral marks) (is_numeral (body marks)) (λ p. absurd (numeral_place method marks place p)) (last_place method marks place (omega arith))
     (body_place method marks place (omega arith)) h
 
 fault_place : (marks : List Mark) (start : ℕ) (rest : List Mark) (place : ℕ) → first_fault marks start rest ≡ Some (incorrect_at place) → place < start + length rest

@@ -5,6 +5,7 @@ mod methods;
 mod places;
 mod plain_digits;
 mod read_back;
+mod refusals;
 mod scripts;
 mod signs;
 mod white_space;
@@ -27,6 +28,7 @@ pub use read_back::{
     one_text_for_each_number, reading_then_printing_is_idempotent, spellings_are_numerals,
     spellings_read_back,
 };
+pub use refusals::{empty_is_nothing_left, unsigned_types_never_underflow};
 pub use scripts::{texts_of_a_number_are_equally_long, texts_of_a_number_read_alike};
 pub use signs::{a_sign_gives_the_signed_value, minus_zero_is_zero};
 pub use white_space::{refusals_point_at_characters, white_space_does_not_matter};

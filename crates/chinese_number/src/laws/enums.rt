@@ -7,12 +7,17 @@ ghost use Rattle.cn_core.specs.declared.method.ChineseCountMethod.{ChineseCountM
 ghost use Rattle.cn_core.specs.declared.script.ChineseVariant.{ChineseVariant as Script};
 ghost use Rattle.cn_core.specs.declared.sign.Sign.{Sign as NumeralSign};
 ghost use Rattle.cn_core.specs.declared.unit.Unit.{Unit as NumeralUnit};
+ghost use Rattle.cn_print.specs.declared.error.NumberToChineseError.{NumberToChineseError as PrintingError};
+ghost use Rattle.cn_read.specs.declared.error.ChineseToNumberError.{ChineseToNumberError as ReadingError};
 
 use cn_core::{ChineseCase, ChineseCountMethod, ChineseVariant, Sign, Unit};
+use cn_print::NumberToChineseError;
+use cn_read::ChineseToNumberError;
 
-/// Two values of an enum are equal exactly where they are the same variant.
+/// Two values of an enum are equal exactly where they are the same variant, with the same spot where
+/// there is one.
 ///
-/// Callers who compare scripts, cases, methods, units or signs rest on it.
+/// Callers who compare scripts, cases, methods, units, signs or errors rest on it.
 pub fn equal_values_are_the_same_variant()
     ensures units { (a b : NumeralUnit) → IsTrue (⟦<Unit as PartialEq>⟧.eq a b) ↔ (a ≡ b) }
     ensures signs { (a b : NumeralSign) → IsTrue (⟦<Sign as PartialEq>⟧.eq a b) ↔ (a ≡ b) }
@@ -20,6 +25,10 @@ pub fn equal_values_are_the_same_variant()
     ensures cases { (a b : Case) → IsTrue (⟦<ChineseCase as PartialEq>⟧.eq a b) ↔ (a ≡ b) }
     ensures methods { (a b : Method)
         → IsTrue (⟦<ChineseCountMethod as PartialEq>⟧.eq a b) ↔ (a ≡ b) }
+    ensures reading_errors { (a b : ReadingError)
+        → IsTrue (⟦<ChineseToNumberError as PartialEq>⟧.eq a b) ↔ (a ≡ b) }
+    ensures printing_errors { (a b : PrintingError)
+        → IsTrue (⟦<NumberToChineseError as PartialEq>⟧.eq a b) ↔ (a ≡ b) }
 {}
 
 /// Units are ordered by rank: 個 is the least and 極 the greatest.

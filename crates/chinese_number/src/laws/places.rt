@@ -45,7 +45,8 @@ pub fn each_list_has_one_place()
 /// A text whose refusal names a place is no numeral. The place is the last from which nothing in front
 /// can complete the text's body, or else 0; or, where the body is a numeral, the text's last mark.
 ///
-/// Form validators rest on it: the character that they mark is at fault whatever stands in front of it.
+/// Form validators rest on it: past place 0, the character that they mark is at fault whatever stands
+/// in front of it.
 pub fn refusals_name_the_last_place()
     ensures { (method : ChineseCountMethod) (marks : List Mark) (place : ℕ)
         → Judges method marks (Err (incorrect_at place))

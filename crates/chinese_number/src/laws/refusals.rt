@@ -1,0 +1,30 @@
+// Which refusals can come.
+ghost use Rattle.std.specs.Prelude.{◌≡◌, ◌≢◌, ◌↔◌, [], ℕ, List, Err, IsTrue, not};
+ghost use Rattle.chinese_number.specs.Parts.{unsigned_text};
+ghost use Rattle.cn_core.specs.Refusal.{empty, too_small};
+ghost use Rattle.cn_core.specs.Typed.{Reads, naive_reading};
+ghost use Rattle.cn_core.specs.Whole.{Kind};
+ghost use Rattle.cn_core.specs.declared.method.ChineseCountMethod.{ChineseCountMethod};
+
+use cn_core::Whole;
+
+/// A string is refused as empty exactly where nothing is left of it without white space and, for a
+/// signed type, one sign.
+///
+/// Forms with a required field rest on it.
+pub fn empty_is_nothing_left()
+    ensures units { (kind : Kind) (method : ChineseCountMethod) (bytes : List ℕ)
+        → Reads kind method bytes (Err empty) ↔ (unsigned_text kind bytes ≡ []) }
+    ensures digits { (kind : Kind) (bytes : List ℕ)
+        → (naive_reading kind bytes ≡ Err empty) ↔ (unsigned_text kind bytes ≡ []) }
+{}
+
+/// For a type without sign no string is too small.
+///
+/// Callers who tell a user what is wrong rest on it: there is one message less.
+pub fn unsigned_types_never_underflow<T: Whole>()
+    ensures units { (method : ChineseCountMethod) (bytes : List ℕ) → IsTrue (not T.SIGNED)
+        → ¬ Reads T.kind method bytes (Err too_small) }
+    ensures digits { (bytes : List ℕ) → IsTrue (not T.SIGNED)
+        → naive_reading T.kind bytes ≢ Err too_small }
+{}
