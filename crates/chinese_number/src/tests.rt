@@ -1,9 +1,27 @@
 // A caller who prints and then reads gets the number back, by the contracts alone.
 ghost use Rattle.std.specs.Prelude.{◌≡◌, Ok, IfOk};
 
-use crate::laws::naive_texts_read_back;
-use crate::{ChineseCase, ChineseToNumber, ChineseToNumberError, ChineseVariant, NumberToChinese};
+use crate::laws::{naive_texts_read_back, spellings_read_back};
+use crate::{
+    ChineseCase, ChineseCountMethod, ChineseToNumber, ChineseToNumberError, ChineseVariant,
+    NumberToChinese, NumberToChineseError,
+};
 use std::alloc::{AllocError, Global};
+
+fn print_and_read<T: NumberToChinese>(
+    alloc: Global,
+    variant: ChineseVariant,
+    case: ChineseCase,
+    method: ChineseCountMethod,
+    number: T,
+) -> Result<Result<T, ChineseToNumberError>, NumberToChineseError>
+    ensures { IfOk result (λ answer. answer ≡ Ok number) }
+{
+    let _magnitude = number.magnitude();
+    spellings_read_back::<T>();
+    let text = number.to_chinese(alloc, variant, case, method)?;
+    Ok(text.as_str().to_number(method))
+}
 
 fn print_and_read_naive<T: NumberToChinese>(
     alloc: Global,
@@ -26,7 +44,24 @@ static PAIRS: [(ChineseVariant, ChineseCase); 4] = [
     (ChineseVariant::Simple, ChineseCase::Lower),
 ];
 
-// Whether the four texts of a number are all read as it.
+// Whether the text of a number by one method is read as it; `Low` writes none from 10^16 on.
+fn is_read_back_by<T: NumberToChinese + PartialEq>(
+    alloc: Global,
+    variant: ChineseVariant,
+    case: ChineseCase,
+    method: ChineseCountMethod,
+    number: T,
+) -> Result<bool, AllocError> {
+    match print_and_read(alloc, variant, case, method, number) {
+        Ok(answer) => Ok(answer == Ok(number)),
+        Err(NumberToChineseError::OutOfMemory) => Err(AllocError),
+        Err(_) => {
+            Ok(method == ChineseCountMethod::Low && number.magnitude() >= 10_000_000_000_000_000)
+        }
+    }
+}
+
+// Whether all texts of a number are read as it: digit by digit and by each method, in each script and case.
 fn is_read_back<T: NumberToChinese + PartialEq>(
     alloc: Global,
     number: T,
@@ -35,8 +70,29 @@ fn is_read_back<T: NumberToChinese + PartialEq>(
         if print_and_read_naive(alloc, variant, case, number)? != Ok(number) {
             return Ok(false);
         }
+        for method in ChineseCountMethod::variants() {
+            if !is_read_back_by(alloc, variant, case, method, number)? {
+                return Ok(false);
+            }
+        }
     }
     Ok(true)
+}
+
+#[test]
+fn reads_back_worked_numbers(rt: HostRuntime) -> Result<(), AllocError> {
+    for number in [
+        1_234_567_890_123_456_789,
+        10_001_000_000_000_000,
+        1_000_100_000_000,
+        100_100_000,
+        100_000,
+        u128::MAX,
+    ] {
+        assert!(rt; is_read_back(rt.alloc(), number)?, "at {number}");
+    }
+    assert!(rt; is_read_back(rt.alloc(), i128::MIN)?);
+    Ok(())
 }
 
 // What the proof shows, as the compilers built it.

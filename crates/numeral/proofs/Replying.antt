@@ -1,32 +1,40 @@
 -- What stands written when lines are answered one after the other.
-use Rattle.std.proofs.Common.{◌≡◌, ◌++◌, ℕ, ℤ, Bool, true, false, Option, Some, None, List, [], ◌∷◌, refl, sym, ap, ◌∙◌, subst, append_assoc}
+use Rattle.std.proofs.Common.{◌≡◌, ◌++◌, codes, encode_utf8_all, ℕ, ℤ, Bool, true, false, Option, Some, None, List, [], ◌∷◌, refl, sym, ap, ◌∙◌, subst, append_assoc}
 use Rattle.std.specs.Bool.{MatchBool}
 use Rattle.std.proofs.KnownBytes.{Appends-trans, Appends-nil}
 use Rattle.chinese_number.specs.declared.ChineseVariant.{ChineseVariant}
 use Rattle.chinese_number.specs.declared.ChineseCase.{ChineseCase}
+use Rattle.chinese_number.specs.Written.{spelled_text, is_printable}
+use Rattle.chinese_number.proofs.Reading.{the_answer, Reads-the_answer}
 use Rattle.numeral.specs.declared.question.Method.{Method}
 use Rattle.numeral.specs.declared.question.Method.TheVariants.{Naive, Units}
 use Rattle.numeral.specs.Question.{Question, read, print, kind_of, question_of}
-use Rattle.numeral.specs.Answer.{bad_line, holds, Answers, AnswersPrint, AnswersAny, AreReplies}
+use Rattle.numeral.specs.Answer.{bad_line, holds, reading_text, refusal_text, unprintable, Answers, AnswersPrint, AnswersAny, AreReplies}
 use Rattle.numeral.specs.Leaves.{Wrote, WroteBeginning}
 
 -- each line has an answer
-if_held : (held : Bool) (P : List ℕ → Type 0) → ((answer : List ℕ) × P answer) → (answer : List ℕ) × MatchBool held (P answer) (answer ≡ bad_line)
-if_held true P p = p
-if_held false P p = (bad_line, refl)
+either_way : (test : Bool) (P Q : List ℕ → Type 0) → ((answer : List ℕ) × P answer) → ((answer : List ℕ) × Q answer)
+    → (answer : List ℕ) × MatchBool test (P answer) (Q answer)
+either_way true P Q p q = p
+either_way false P Q p q = q
 
 some_printing : (method : Method) (variant : ChineseVariant) (case : ChineseCase) (number : ℤ)
     → (answer : List ℕ) × AnswersPrint method variant case number answer
 some_printing Naive variant case number = (_, refl)
-some_printing (Units method) variant case number = (_, refl)
+some_printing (Units method) variant case number =
+    either_way (is_printable method number) (λ answer. answer ≡ codes "ok " ++ encode_utf8_all (spelled_text variant case method number))
+    (λ answer. answer ≡ codes "err " ++ refusal_text (unprintable number)) (_, refl) (_, refl)
 
 some_to_question : (question : Option Question)
     → (answer : List ℕ) × AnswersAny question answer
 some_to_question None = (_, refl)
 some_to_question (Some (read integer Naive text)) = (_, refl)
-some_to_question (Some (read integer (Units method) text)) = (_, refl)
+some_to_question (Some (read integer (Units method) text)) =
+    let kind = kind_of integer in
+    (reading_text (the_answer kind method text), (the_answer kind method text, Reads-the_answer kind method text, refl))
 some_to_question (Some (print integer method variant case number)) =
-    if_held (holds (kind_of integer) number) (AnswersPrint method variant case number) (some_printing method variant case number)
+    either_way (holds (kind_of integer) number) (AnswersPrint method variant case number) (λ answer. answer ≡ bad_line)
+    (some_printing method variant case number) (_, refl)
 
 pub some_answer : (line : List ℕ) → (answer : List ℕ) × Answers line answer
 unfolding Answers
