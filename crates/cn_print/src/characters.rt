@@ -51,6 +51,7 @@ impl Characters {
         }
     }
 
+    #[inline(always)]
     fn at(self, place: usize) -> [u8; 3]
         requires { place < 27 }
         ensures bytes { result ≡ encode_utf8 (slice_index (table_characters self.variant self.case) place) }
@@ -64,6 +65,7 @@ impl Characters {
         ]
     }
 
+    #[inline(always)]
     pub fn digit(self, digit: u8) -> [u8; 3]
         requires { digit < 10 }
         ensures bytes { result ≡ encode_utf8 (digit_char self.variant self.case digit) }
@@ -72,6 +74,7 @@ impl Characters {
         self.at(digit as usize)
     }
 
+    #[inline(always)]
     pub fn unit(self, unit: Unit) -> [u8; 3]
         ensures bytes { result ≡ encode_utf8 (unit_char self.variant self.case (rank unit)) }
         ensures utf8 { IsUtf8 result }
@@ -79,6 +82,7 @@ impl Characters {
         self.at(UNITS + unit as usize)
     }
 
+    #[inline(always)]
     pub fn minus(self) -> [u8; 3]
         ensures bytes { result ≡ encode_utf8 (minus_char self.variant) }
         ensures utf8 { IsUtf8 result }

@@ -45,6 +45,7 @@ impl Digits {
         Digits { places, len }
     }
 
+    #[inline(always)]
     pub fn len(&self) -> usize
         ensures len { result ≡ length (places_of self.now) }
         ensures bound { result ≤ 39 }
@@ -55,6 +56,7 @@ impl Digits {
     }
 
     /// The digit at a place, counted from the lowest.
+    #[inline(always)]
     pub fn at(&self, place: usize) -> u8
         requires { place < length (places_of self.now) }
         ensures value { result ≡ slice_index (places_of self.now) place }

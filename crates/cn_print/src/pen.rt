@@ -44,10 +44,12 @@ impl Pen for Count {
 
     ghost shows = { λ count variant case marks. count.characters ≡ length marks };
 
+    #[inline(always)]
     fn put_digit(&mut self, _characters: Characters, _value: u8) {
         self.characters += 1;
     }
 
+    #[inline(always)]
     fn put_unit(&mut self, _characters: Characters, _value: Unit) {
         self.characters += 1;
     }
@@ -59,10 +61,12 @@ impl<A: Allocator> Pen for Room<A> {
     ghost shows = { λ room variant case marks.
         (room.text ≡ encode_utf8_all (map (mark_char variant case) marks)) × (length room.text ≡ 3 * length marks) };
 
+    #[inline(always)]
     fn put_digit(&mut self, characters: Characters, value: u8) {
         self.put(characters.digit(value));
     }
 
+    #[inline(always)]
     fn put_unit(&mut self, characters: Characters, value: Unit) {
         self.put(characters.unit(value));
     }

@@ -40,10 +40,9 @@ pub fn print<T: Whole, A: Allocator>(
     let characters = Characters::new(variant, case);
     let digits = Digits::of(value.magnitude());
     let negative = value.is_negative();
-    let mut count = Count { characters: 0 };
-    put_spelling(&mut count, characters, method, &digits);
-    let mut room = Room::for_characters(alloc, count.characters + negative as usize)?;
-    put_spelling(&mut room, characters, method, &digits);
+    let count = put_spelling(Count { characters: 0 }, characters, method, &digits);
+    let room = Room::for_characters(alloc, count.characters + negative as usize)?;
+    let room = put_spelling(room, characters, method, &digits);
     Ok(with_sign(room, characters, negative))
 }
 

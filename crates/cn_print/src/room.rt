@@ -33,15 +33,17 @@ impl<A: Allocator> Room<A> {
     }
 
     /// Puts a character in front of the text.
+    #[inline(always)]
     pub fn put(&mut self, character: [u8; 3])
         requires room { 3 ≤ self.old.free }
         requires utf8 { IsUtf8 character }
         ensures { self.new ≡ record { free = self.old.free - 3; text = character ++ self.old.text } }
     {
-        self.free -= 3;
-        self.bytes[self.free] = character[0];
-        self.bytes[self.free + 1] = character[1];
-        self.bytes[self.free + 2] = character[2];
+        let start = self.free - 3;
+        self.bytes[start] = character[0];
+        self.bytes[start + 1] = character[1];
+        self.bytes[start + 2] = character[2];
+        self.free = start;
     }
 
     /// The text of a full room, in the memory that it has.

@@ -13,6 +13,7 @@ use cn_core::{ChineseCountMethod, Unit};
 
 // Puts the units that a digit at a place stands before, in front of what is written: it has digits at the
 // places below `filled` alone. 零 stands behind them where the next place below is empty.
+#[inline(always)]
 fn put_front<P: Pen>(
     pen: &mut P,
     characters: Characters,
@@ -40,6 +41,7 @@ fn put_front<P: Pen>(
 }
 
 // Whether a highest digit is 一 before 十, which is not written.
+#[inline(always)]
 fn is_left_out(method: ChineseCountMethod, top: usize, digit: u8) -> bool
     requires { top < places_within method }
     ensures { result ≡ (digit == 1 && rank_at method top == 1) }
@@ -47,8 +49,9 @@ fn is_left_out(method: ChineseCountMethod, top: usize, digit: u8) -> bool
     digit == 1 && unit_at(method, top) == Unit::Shi
 }
 
-/// Puts a magnitude's spelling, from its lowest digit up.
-pub fn put_spelling<P: Pen>(
+// Puts a magnitude's spelling by a method that the compiler knows.
+#[inline(always)]
+fn put_digits<P: Pen>(
     pen: &mut P,
     characters: Characters,
     method: ChineseCountMethod,
@@ -75,4 +78,41 @@ pub fn put_spelling<P: Pen>(
     if !is_left_out(method, top, digit) {
         pen.put_digit(characters, digit);
     }
+}
+
+/// Puts a magnitude's spelling, from its lowest digit up, and gives the pen back.
+pub fn put_spelling<P: Pen>(
+    pen: P,
+    characters: Characters,
+    method: ChineseCountMethod,
+    digits: &Digits,
+) -> P
+    requires places { length (places_of digits.now) ≤ places_within method }
+    requires room { 3 * length (spelling method digits.now) ≤ P.left pen }
+    requires empty { P.shows pen characters.variant characters.case [] }
+    ensures room { P.left result + 3 * length (spelling method digits.now) ≡ P.left pen }
+    ensures marks { P.shows result characters.variant characters.case (spelling method digits.now) }
+{
+    let mut pen = pen;
+    match method {
+        ChineseCountMethod::Low => put_digits(
+            &mut pen,
+            characters,
+            ChineseCountMethod::Low,
+            digits,
+        ),
+        ChineseCountMethod::TenThousand => put_digits(
+            &mut pen,
+            characters,
+            ChineseCountMethod::TenThousand,
+            digits,
+        ),
+        ChineseCountMethod::Middle => {
+            put_digits(&mut pen, characters, ChineseCountMethod::Middle, digits)
+        }
+        ChineseCountMethod::High => {
+            put_digits(&mut pen, characters, ChineseCountMethod::High, digits)
+        }
+    }
+    pen
 }

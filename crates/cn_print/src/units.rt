@@ -32,6 +32,7 @@ static HIGH: [Unit; 39] = [
 ];
 
 /// The unit whose group begins at a place: 萬 at the fourth, by all methods but `Low`.
+#[inline(always)]
 pub fn unit_at(method: ChineseCountMethod, place: usize) -> Unit
     requires { place < places_within method }
     ensures { rank result ≡ rank_at method place }
@@ -53,6 +54,7 @@ static MIDDLE_WIDTHS: [usize; 3] = [8, 4, 1];
 static HIGH_WIDTHS: [usize; 5] = [32, 16, 8, 4, 1];
 
 /// How many places a unit's group has, the widest group first.
+#[inline(always)]
 pub fn widths(method: ChineseCountMethod) -> &'static [usize]
     ensures { result.now ≡ widths_of method }
 {

@@ -1,7 +1,7 @@
 use Rattle.std.proofs.Common.{◌≡◌, ◌+◌, ◌*◌, ◌%◌, ◌^◌, ◌≤◌, length}
 use Rattle.cn_core.proofs.Cuts.{part}
 use Rattle.cn_print.proofs.Walks.{Fills}
-use Rattle.cn_print.proofs.spell.put_spelling.Given as goal
+use Rattle.cn_print.proofs.spell.put_digits.Given as goal
 
 abbrev pub invariant-loop-place : goal.invariant-loop-place
 invariant-loop-place g l = record {

@@ -5,8 +5,8 @@ use Rattle.cn_print.specs.Places.{places_of}
 use Rattle.cn_print.specs.Units.{places_within, front}
 use Rattle.cn_print.proofs.PlacesLemmas.{digit-at}
 use Rattle.cn_print.proofs.Tops.{at, part-more, part-same, Fills-more, Fills-same, room-next, room-top, IsTop-marks, top_digit-shown, top_digit-hidden}
-use Rattle.cn_print.proofs.spell.put_spelling.Goals.{then-digit-gt0, else-digit-gt0}
-use Rattle.cn_print.proofs.spell.put_spelling.Goals as goal
+use Rattle.cn_print.proofs.spell.put_digits.Goals.{then-digit-gt0, else-digit-gt0}
+use Rattle.cn_print.proofs.spell.put_digits.Goals as goal
 
 pub put_front-requires-clause-room : goal.put_front-requires-clause-room
 put_front-requires-clause-room g c =
