@@ -63,7 +63,6 @@ length-part method number digits h small = by (dec_lt 0 number) where
       let p = length-spelled number method number digits (omega arith) some h small in
       rw (part-some method number pos) (omega (arith, p))
 
-
 length-shortened : (marks : List Mark) → length (shortened marks) ≤ length marks
 length-shortened [] = omega arith
 length-shortened (unit r ∷ rest) = omega arith
@@ -81,4 +80,3 @@ pub length-spelling : (method : ChineseCountMethod) (number digits : ℕ) → 1 
     → length (spelling method number) + 1 ≤ 2 * digits
 length-spelling method number digits some h small =
     omega (arith, length-shortened (spelled_within number method number), length-spelled number method number digits (omega arith) some h small)
-

@@ -3,7 +3,7 @@ ghost use Rattle.std.specs.Prelude.{◌≡◌, ◌==◌, ◌+◌, ◌*◌, ◌^�
 ghost use Rattle.std.specs.List.{list_all};
 ghost use Rattle.std.specs.Char.{is_ascii_digit};
 ghost use Rattle.chinese_number.specs.Whole.{signed_number};
-ghost use Rattle.numeral.specs.Question.{cut, type_named, method_named, script_named, case_named, value_of, value_after, magnitude_of, number_of, number_of, read, print, read_question, print_question};
+ghost use Rattle.numeral.specs.Question.{cut, type_named, method_named, script_named, case_named, value_of, value_after, magnitude_of, number_of, read, print, read_question, print_question};
 ghost use Rattle.numeral.specs.Answer.{bad_line, AnswersAny};
 ghost use Rattle.numeral.specs.Steps.{IsBeyondAll};
 

@@ -1,7 +1,7 @@
 #!/usr/bin/env python3
 """Two programs talk line by line over pipes: one prints a number, the other reads it back.
 
-Usage: dialogue.py [PROGRAM]   (default: out/numeral of this crate)
+Usage: dialogue.py PROGRAM
 
 Each answer must come before the next line is sent, so a program that waits for more input than one line before it
 answers stops the dialogue, and the script fails after some seconds.
@@ -11,7 +11,6 @@ import select
 import subprocess
 import sys
 
-HERE = os.path.dirname(os.path.abspath(__file__))
 ROUNDS = 500
 SECONDS = 10
 
@@ -49,14 +48,14 @@ def end(process):
 
 
 def main():
-    program = sys.argv[1] if len(sys.argv) > 1 else os.path.join(HERE, "..", "out", "numeral")
+    program = sys.argv[1]
     printer, reader = begin(program), begin(program)
     number = -1
     for count in range(ROUNDS):
-        printed = ask(printer, f"print i128 naive traditional upper {number}")
+        printed = ask(printer, f"print i128 ten_thousand traditional upper {number}")
         if not printed.startswith("ok "):
             fail(f"{number} was printed as {printed!r}")
-        read = ask(reader, f"read i128 naive {printed[3:]}")
+        read = ask(reader, f"read i128 ten_thousand {printed[3:]}")
         if read != f"ok {number}":
             fail(f"{printed!r} was read as {read!r}")
         if ask(printer if count % 2 else reader, "hello") != "bad line":

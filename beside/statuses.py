@@ -1,7 +1,7 @@
 #!/usr/bin/env python3
 """The statuses with which the program ends, and what it has written by then.
 
-Usage: statuses.py [PROGRAM]   (default: out/numeral of this crate)
+Usage: statuses.py PROGRAM
 
 0 at the end of the input, 1 where the input cannot be read or the output not be written, 2 where memory is short;
 then the lines before the one in hand are answered, and nothing else is written.
@@ -11,7 +11,6 @@ import resource
 import subprocess
 import sys
 
-HERE = os.path.dirname(os.path.abspath(__file__))
 MEGABYTE = 1 << 20
 LINES = b"read u8 naive 1\nhello\n"
 ANSWERS = b"ok 1\nbad line\n"
@@ -44,7 +43,7 @@ def run(program, **words):
 
 
 def main():
-    program = sys.argv[1] if len(sys.argv) > 1 else os.path.join(HERE, "..", "out", "numeral")
+    program = sys.argv[1]
     expect("the end of the input", run(program, input=LINES), 0, ANSWERS)
     expect("empty input", run(program, input=b""), 0, b"")
 
