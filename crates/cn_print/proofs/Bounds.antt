@@ -6,9 +6,9 @@ use Rattle.cn_core.specs.declared.method.ChineseCountMethod.TheVariants.{Low, Te
 use Rattle.cn_core.specs.Spelling.{spelling}
 use Rattle.cn_core.specs.Written.{is_printable}
 use Rattle.cn_core.proofs.Lengths.{length-spelling}
-use Rattle.cn_print.specs.Places.{places_of}
+use Rattle.cn_print.specs.Working.Places.{places_of}
 use Rattle.cn_print.specs.Prints.{most_bytes}
-use Rattle.cn_print.specs.Units.{places_within}
+use Rattle.cn_print.specs.Working.Units.{places_within}
 use Rattle.cn_print.proofs.PlacesLemmas.{length-places-le}
 use Rattle.cn_print.proofs.Walks.{square}
 

@@ -8,7 +8,7 @@ use Rattle.cn_core.specs.Characters.{digit_char}
 use Rattle.cn_core.specs.Mark.{digit}
 use Rattle.cn_core.specs.Naive.{decimal_digits}
 use Rattle.cn_core.specs.Written.{mark_char}
-use Rattle.cn_print.specs.Places.{places_of}
+use Rattle.cn_print.specs.Working.Places.{places_of}
 
 -- the characters of these digits, which are told from the lowest up
 abbrev pub digit_characters : ChineseVariant → ChineseCase → List ℕ → List ℕ

@@ -10,7 +10,7 @@ use Rattle.std.proofs.Math.Arith.{mod-mul}
 use Rattle.std.proofs.lemmas.Nat.{div-mul-add, mod-mul-add}
 use Rattle.std.proofs.lemmas.Fmt.{decimal_step_wide, decimal_by_steps_wide, decimal_digit, length-decimal-le_wide}
 use Rattle.std.proofs.lemmas.List.{map-append, length-map, reverse-append, length-reverse}
-use Rattle.cn_print.specs.Places.{places_of, places_value, lowest, is_digit, HoldsPlaces}
+use Rattle.cn_print.specs.Working.Places.{places_of, places_value, lowest, is_digit, HoldsPlaces}
 
 pub places-step : (number : ℕ) → 10 ≤ number → number < 10 ^ 64 → places_of number ≡ number % 10 ∷ places_of (number / 10)
 places-step number ten small =

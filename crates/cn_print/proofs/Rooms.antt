@@ -1,7 +1,7 @@
 -- What a room holds after a character is put.
 use Rattle.std.proofs.Common.{◌≡◌, ℕ, zero, suc, ◌+◌, ◌-◌, ◌≤◌, true, List, [], ◌∷◌, ◌++◌, length, drop, set, slice_index, refl, ap, ap₂, ◌∙◌, arith}
 use Rattle.std.specs.Str.{IsUtf8, is_utf8}
-use Rattle.cn_print.specs.Room.{Filling}
+use Rattle.cn_print.specs.Working.Room.{Filling}
 use Rattle.std.proofs.lemmas.Str.{IsUtf8-append, IsUtf8-from_is_utf8, is_utf8-from_IsUtf8}
 
 drop-sets : (items : List ℕ) (start a b d : ℕ) → start + 3 ≤ length items

@@ -3,7 +3,7 @@ use Rattle.std.proofs.Common.{◌≡◌, ◌↔◌, ℤ, pos, negsuc, ◌<ℤ◌
 use Rattle.std.proofs.lemmas.Bool.Decides.{nat_tests}
 use Rattle.std.proofs.lemmas.Int.{ints}
 use Rattle.cn_core.specs.declared.script.ChineseVariant.{ChineseVariant}
-use Rattle.cn_print.specs.Sign.{sign_characters, sign_count}
+use Rattle.cn_print.specs.Working.Sign.{sign_characters, sign_count}
 
 -- the test for a number below zero
 pub negative-is : (negative : Bool) (number : ℤ) → (IsTrue negative ↔ (number <ℤ pos 0)) → negative ≡ int_lt number (pos 0)

@@ -10,7 +10,7 @@ use Rattle.cn_core.specs.declared.case.ChineseCase.TheVariants.{Upper, Lower}
 use Rattle.cn_core.specs.declared.unit.Unit.{Unit as NumeralUnit}
 use Rattle.cn_core.specs.declared.unit.Unit.TheVariants.{Ge, Shi, Bai, Qian, Wan, Yi, Zhao, Jing, Gai, Zi, Rang, Gou, Jian, Zheng, Zai, Ji}
 use Rattle.cn_core.specs.Characters.{printed_digits, printed_units, rank, digit_char, unit_char, minus_char}
-use Rattle.cn_print.specs.Table.{table_characters}
+use Rattle.cn_print.specs.Working.Table.{table_characters}
 use Rattle.cn_print.proofs.ThreeBytes.{takes_three, length-encode_all}
 
 slice_index-front : (xs ys : List ℕ) (k : ℕ) → k < length xs → slice_index (xs ++ ys) k ≡ slice_index xs k

@@ -11,8 +11,8 @@ use Rattle.cn_core.specs.Mark.{Mark, digit, unit}
 use Rattle.cn_core.specs.Spelling.{spelling, shortened, spelled_within}
 use Rattle.cn_core.proofs.Cuts.{part, part-some}
 use Rattle.cn_core.proofs.Sums.{spelled-digit}
-use Rattle.cn_print.specs.Places.{places_of}
-use Rattle.cn_print.specs.Units.{widths_of, places_within, rank_at, start_of, unit_front, units_over, front}
+use Rattle.cn_print.specs.Working.Places.{places_of}
+use Rattle.cn_print.specs.Working.Units.{widths_of, places_within, rank_at, start_of, unit_front, units_over, front}
 use Rattle.cn_print.proofs.PlacesLemmas.{places-digit, reaches, below-next}
 use Rattle.cn_print.proofs.Walks.{Fills, chain, digit-over}
 

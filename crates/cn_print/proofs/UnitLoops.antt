@@ -3,7 +3,7 @@ use Rattle.std.proofs.Common.{◌≡◌, ℕ, ◌+◌, ◌<◌, ◌≤◌, true,
 use Rattle.std.proofs.lemmas.Bool.Decides.{nat_tests}
 use Rattle.cn_core.specs.declared.method.ChineseCountMethod.{ChineseCountMethod}
 use Rattle.cn_core.specs.Mark.{Mark}
-use Rattle.cn_print.specs.Units.{start_of, unit_front, units_over}
+use Rattle.cn_print.specs.Working.Units.{start_of, unit_front, units_over}
 
 -- the loop over the widths: a group that begins above what is written
 pub front-then : (method : ChineseCountMethod) (place filled above index : ℕ) (widths : List ℕ) (done all : List Mark) → index < length widths

@@ -13,7 +13,7 @@ use Rattle.cn_core.proofs.Cuts.{part, gap, part-cut, part-some}
 use Rattle.cn_core.proofs.Fronts.{and-left, and-right}
 use Rattle.cn_core.proofs.ScaleLaws.{scale-mono}
 use Rattle.cn_core.proofs.Sums.{spelled-digit}
-use Rattle.cn_print.specs.Units.{widths_of, places_within, rank_at, start_of, unit_front, units_over}
+use Rattle.cn_print.specs.Working.Units.{widths_of, places_within, rank_at, start_of, unit_front, units_over}
 
 -- the number has digits at the places below `filled`, and one that is not 0 just below it
 pub record Fills (filled number : ℕ) : Type 0 where

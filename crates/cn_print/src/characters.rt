@@ -2,7 +2,7 @@
 ghost use Rattle.std.specs.Prelude.{◌≡◌, ◌<◌, slice_index, encode_utf8, encode_utf8_all};
 ghost use Rattle.std.specs.Str.{IsUtf8};
 ghost use Rattle.cn_core.specs.Characters.{rank, digit_char, unit_char, minus_char};
-ghost use Rattle.cn_print.specs.Table.{table_characters};
+ghost use Rattle.cn_print.specs.Working.Table.{table_characters};
 
 use cn_core::{ChineseCase, ChineseVariant, Unit};
 

@@ -1,6 +1,6 @@
 // A magnitude as its decimal digits.
 ghost use Rattle.std.specs.Prelude.{◌≡◌, ◌+◌, ◌<◌, ◌≤◌, ◌^◌, ℕ, ◌++◌, take, length, slice_index};
-ghost use Rattle.cn_print.specs.Places.{places_of, places_value, lowest, HoldsPlaces};
+ghost use Rattle.cn_print.specs.Working.Places.{places_of, places_value, lowest, HoldsPlaces};
 
 use std::marker::Model;
 

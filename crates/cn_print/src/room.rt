@@ -1,7 +1,7 @@
 // The room of a text, which is filled from its last character to its first.
 ghost use Rattle.std.specs.Prelude.{◌≡◌, ◌≤◌, ◌-◌, ◌*◌, ◌++◌, [], true, drop, IfOk, string_bytes, string_len, length};
 ghost use Rattle.std.specs.Str.{IsUtf8, is_utf8};
-ghost use Rattle.cn_print.specs.Room.{Filling};
+ghost use Rattle.cn_print.specs.Working.Room.{Filling};
 
 use std::alloc::{AllocError, Allocator};
 use std::marker::Model;

@@ -1,6 +1,6 @@
 // The minus sign in front of a magnitude's text.
 ghost use Rattle.std.specs.Prelude.{◌≡◌, ◌+◌, ◌*◌, ◌++◌, length, encode_utf8_all, string_bytes, string_len};
-ghost use Rattle.cn_print.specs.Sign.{sign_characters, sign_count};
+ghost use Rattle.cn_print.specs.Working.Sign.{sign_characters, sign_count};
 
 use crate::characters::Characters;
 use crate::room::Room;

@@ -2,8 +2,8 @@
 ghost use Rattle.std.specs.Prelude.{◌≡◌, ℕ, ◌+◌, ◌*◌, ◌<◌, ◌≤◌, ◌==◌, ◌&&◌, List, [], ◌++◌, length};
 ghost use Rattle.cn_core.specs.Mark.{Mark};
 ghost use Rattle.cn_core.specs.Spelling.{spelling};
-ghost use Rattle.cn_print.specs.Places.{places_of};
-ghost use Rattle.cn_print.specs.Units.{places_within, rank_at, front};
+ghost use Rattle.cn_print.specs.Working.Places.{places_of};
+ghost use Rattle.cn_print.specs.Working.Units.{places_within, rank_at, front};
 
 use crate::characters::Characters;
 use crate::digits::Digits;

@@ -2,7 +2,7 @@
 ghost use Rattle.std.specs.Prelude.{◌≡◌, ◌<◌, ◌≤◌, ◌*◌, ◌+◌, length};
 ghost use Rattle.cn_core.specs.Characters.{rank};
 ghost use Rattle.cn_core.specs.Mark.{Mark};
-ghost use Rattle.cn_print.specs.Units.{widths_of, places_within, rank_at, front};
+ghost use Rattle.cn_print.specs.Working.Units.{widths_of, places_within, rank_at, front};
 
 use cn_core::Unit::{
     Bai, Gai, Ge, Gou, Ji, Jian, Jing, Qian, Rang, Shi, Wan, Yi, Zai, Zhao, Zheng, Zi,

@@ -1,6 +1,6 @@
 use Rattle.std.proofs.Common.{◌≡◌, ◌/◌, ◌%◌, ◌^◌, ◌<◌, ◌≤◌, ◌++◌, ◌∷◌, [], length, take, ap, sym, ◌∙◌, arith}
 use Rattle.std.proofs.lemmas.List.{take_more_set}
-use Rattle.cn_print.specs.Places.{places_of, lowest}
+use Rattle.cn_print.specs.Working.Places.{places_of, lowest}
 use Rattle.cn_print.proofs.PlacesLemmas.{places-step, places-digit, places-lowest, lowest-low, chunk-done, length-split, length-places-some}
 use Rattle.cn_print.proofs.digits.put_front.Goals as goal
 

@@ -3,8 +3,8 @@ use Rattle.std.proofs.lemmas.List.{take_all}
 use Rattle.std.proofs.lemmas.Str.{encodes-append}
 use Rattle.cn_core.specs.Naive.{decimal_digits}
 use Rattle.cn_core.specs.Written.{mark_char, naive_text}
-use Rattle.cn_print.specs.Places.{places_of}
-use Rattle.cn_print.specs.Sign.{sign_characters, sign_count}
+use Rattle.cn_print.specs.Working.Places.{places_of}
+use Rattle.cn_print.specs.Working.Sign.{sign_characters, sign_count}
 use Rattle.cn_print.proofs.NaiveTexts.{digit_characters, digit_characters-all, length-digit_characters}
 use Rattle.cn_print.proofs.PlacesLemmas.{length-places-le}
 use Rattle.cn_print.proofs.Signs.{negative-is, length-sign, sign_count-le}

@@ -1,6 +1,6 @@
 use Rattle.std.proofs.Common.{◌≡◌, ◌+◌, ◌-◌, ◌*◌, length, take, encode_utf8_all}
-use Rattle.cn_print.specs.Places.{places_of}
-use Rattle.cn_print.specs.Sign.{sign_count}
+use Rattle.cn_print.specs.Working.Places.{places_of}
+use Rattle.cn_print.specs.Working.Sign.{sign_count}
 use Rattle.cn_print.proofs.NaiveTexts.{digit_characters}
 use Rattle.cn_print.proofs.naive.print_naive.Given as goal
 

@@ -3,7 +3,7 @@ use Rattle.std.proofs.lemmas.List.{length-map}
 use Rattle.std.proofs.lemmas.Str.{encodes-append}
 use Rattle.cn_core.specs.Spelling.{spelling}
 use Rattle.cn_core.specs.Written.{mark_char, spelled_text}
-use Rattle.cn_print.specs.Sign.{sign_characters, sign_count}
+use Rattle.cn_print.specs.Working.Sign.{sign_characters, sign_count}
 use Rattle.cn_print.proofs.Bounds.{places-fit, marks-fit, most_bytes-le}
 use Rattle.cn_print.proofs.Signs.{negative-is, length-sign, sign_count-le}
 use Rattle.cn_print.proofs.print.print.Goals as goal

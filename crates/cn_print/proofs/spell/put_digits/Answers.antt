@@ -1,8 +1,8 @@
 use Rattle.std.proofs.Common.{rules, ◌≡◌, ℕ, ◌+◌, ◌-◌, ◌%◌, ◌^◌, ◌<◌, true, false, [], ◌∷◌, ◌++◌, length, sym, ◌∙◌, arith, length-append}
 use Rattle.cn_core.specs.Mark.{digit}
 use Rattle.cn_core.proofs.Cuts.{part}
-use Rattle.cn_print.specs.Places.{places_of}
-use Rattle.cn_print.specs.Units.{places_within, front}
+use Rattle.cn_print.specs.Working.Places.{places_of}
+use Rattle.cn_print.specs.Working.Units.{places_within, front}
 use Rattle.cn_print.proofs.PlacesLemmas.{digit-at}
 use Rattle.cn_print.proofs.Tops.{at, part-more, part-same, Fills-more, Fills-same, room-next, room-top, IsTop-marks, top_digit-shown, top_digit-hidden}
 use Rattle.cn_print.proofs.spell.put_digits.Goals.{then-digit-gt0, else-digit-gt0}

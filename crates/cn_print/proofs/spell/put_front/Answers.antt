@@ -1,7 +1,7 @@
 use Rattle.std.proofs.Common.{Bool, ◌≡◌, ℕ, ◌&&◌, ◌==◌, nat_lt, true, false, [], ◌∷◌, ◌++◌, slice_index, if◌then◌else◌, arith}
 use Rattle.std.proofs.lemmas.Bool.Decides.{nat_tests}
 use Rattle.cn_core.specs.Mark.{digit, unit}
-use Rattle.cn_print.specs.Units.{start_of, unit_front}
+use Rattle.cn_print.specs.Working.Units.{start_of, unit_front}
 use Rattle.cn_print.proofs.Pens.{Wrote, Wrote-more}
 use Rattle.cn_print.proofs.UnitLoops.{front-then, front-else}
 use Rattle.cn_print.proofs.spell.put_front.Goals.{then-start-above, else-start-above, then-above-filled+then-filled-start, else-above-filled, else-above-filled-via-then-above-filled+else-filled-start, else-above-filled-via-else-above-filled}

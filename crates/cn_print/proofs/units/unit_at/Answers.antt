@@ -1,7 +1,7 @@
 use Rattle.std.proofs.Common.{refl}
 use Rattle.cn_core.specs.declared.method.ChineseCountMethod.TheVariants.{TenThousand, Middle, High}
 use Rattle.cn_core.specs.declared.unit.Unit.TheVariants.{Ge}
-use Rattle.cn_print.specs.Units.{rank_at}
+use Rattle.cn_print.specs.Working.Units.{rank_at}
 use Rattle.cn_print.specs.declared.units.TheConstants as table
 use Rattle.cn_print.proofs.UnitTables.{rank-in}
 use Rattle.cn_print.proofs.units.unit_at.Goals as goal

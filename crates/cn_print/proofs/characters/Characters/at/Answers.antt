@@ -1,5 +1,5 @@
 use Rattle.std.proofs.Common.{◌<◌, length, ap, refl, arith}
-use Rattle.cn_print.specs.Table.{table_characters}
+use Rattle.cn_print.specs.Working.Table.{table_characters}
 use Rattle.cn_print.proofs.Tables.{length-table, length-bytes, three-table}
 use Rattle.cn_print.proofs.ThreeBytes.{takes_three, passes-at, bytes-at, IsUtf8-three}
 use Rattle.cn_print.proofs.characters.Characters.at.Goals as goal

@@ -1,6 +1,6 @@
 use Rattle.std.proofs.Common.{◌+◌, ◌∙◌, ap, slice_index}
 use Rattle.std.specs.Char.{encode_utf8}
-use Rattle.cn_print.specs.Table.{table_characters}
+use Rattle.cn_print.specs.Working.Table.{table_characters}
 use Rattle.cn_print.proofs.Tables.{unit-at, tag-rank}
 use Rattle.cn_print.proofs.characters.Characters.unit.Goals as goal
 

@@ -1,5 +1,5 @@
 use Rattle.std.proofs.Common.{◌≡◌, ◌-◌, ◌*◌, ◌/◌, ◌%◌, ◌^◌, ◌<◌, ◌≤◌, ◌++◌, take, ap, ◌∙◌, arith}
-use Rattle.cn_print.specs.Places.{places_of, places_value, lowest}
+use Rattle.cn_print.specs.Working.Places.{places_of, places_value, lowest}
 use Rattle.cn_print.proofs.PlacesLemmas.{places-lowest, lowest-low, chunk-done, length-split, length-places-le, holds, value-places}
 use Rattle.cn_print.proofs.digits.Digits.of.Goals as goal
 

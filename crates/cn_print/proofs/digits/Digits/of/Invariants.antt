@@ -1,5 +1,5 @@
 use Rattle.std.proofs.Common.{◌≡◌, ◌+◌, ◌++◌, length, take}
-use Rattle.cn_print.specs.Places.{places_of}
+use Rattle.cn_print.specs.Working.Places.{places_of}
 use Rattle.cn_print.proofs.digits.Digits.of.Given as goal
 
 abbrev pub invariant-loop-above : goal.invariant-loop-above

@@ -1,6 +1,6 @@
 use Rattle.std.proofs.Common.{◌≡◌, ap, ◌∙◌}
 use Rattle.std.proofs.lemmas.Str.{IsUtf8-from_is_utf8}
-use Rattle.cn_print.specs.Room.{Filling}
+use Rattle.cn_print.specs.Working.Room.{Filling}
 use Rattle.cn_print.proofs.room.Room.into_text.Goals as goal
 
 pub from_utf8_unchecked-requires : goal.from_utf8_unchecked-requires

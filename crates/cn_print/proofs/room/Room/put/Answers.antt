@@ -1,5 +1,5 @@
 use Rattle.std.proofs.Common.{◌≡◌, ◌≤◌, ◌-◌, ◌++◌, length, drop, ap, ◌∙◌, arith, length-set}
-use Rattle.cn_print.specs.Room.{Filling}
+use Rattle.cn_print.specs.Working.Room.{Filling}
 use Rattle.cn_print.proofs.Rooms.{put-text, put-utf8, filling}
 use Rattle.cn_print.proofs.room.Room.put.Goals as goal
 

@@ -1,5 +1,4 @@
--- Which units a decimal digit stands before, place by place. These words tell how the printer walks over the digits of a
--- number; the public contracts cite the spelling alone.
+-- Which units a decimal digit stands before, place by place.
 use Rattle.std.specs.Prelude.{ℕ, ◌+◌, ◌-◌, ◌/◌, ◌%◌, max, ◌==◌, ◌&&◌, nat_le, nat_lt, List, [], ◌∷◌, ◌++◌, if◌then◌else◌}
 use Rattle.cn_core.specs.declared.method.ChineseCountMethod.{ChineseCountMethod}
 use Rattle.cn_core.specs.declared.method.ChineseCountMethod.TheVariants.{Low, TenThousand, Middle, High}
