@@ -1,12 +1,12 @@
 // The free calls of the widest types, by a method that is a value.
 use chinese_number::{
-    ChineseCase, ChineseCountMethod, ChineseToNumberError, ChineseVariant, NumberToChineseError,
-    from_chinese_to_i128_high, from_chinese_to_i128_low, from_chinese_to_i128_middle,
-    from_chinese_to_i128_ten_thousand, from_chinese_to_u128_high, from_chinese_to_u128_low,
-    from_chinese_to_u128_middle, from_chinese_to_u128_ten_thousand, from_i128_to_chinese_high,
-    from_i128_to_chinese_low, from_i128_to_chinese_middle, from_i128_to_chinese_ten_thousand,
-    from_u128_to_chinese_high, from_u128_to_chinese_low, from_u128_to_chinese_middle,
-    from_u128_to_chinese_ten_thousand,
+    ChineseCase, ChineseCountMethod, ChineseToNumber, ChineseToNumberError, ChineseVariant,
+    NumberToChineseError, Whole, from_chinese_to_i128_high, from_chinese_to_i128_low,
+    from_chinese_to_i128_middle, from_chinese_to_i128_ten_thousand, from_chinese_to_u128_high,
+    from_chinese_to_u128_low, from_chinese_to_u128_middle, from_chinese_to_u128_ten_thousand,
+    from_i128_to_chinese_high, from_i128_to_chinese_low, from_i128_to_chinese_middle,
+    from_i128_to_chinese_ten_thousand, from_u128_to_chinese_high, from_u128_to_chinese_low,
+    from_u128_to_chinese_middle, from_u128_to_chinese_ten_thousand,
 };
 use std::alloc::Global;
 
@@ -60,4 +60,12 @@ pub fn print_i128(
         ChineseCountMethod::Middle => from_i128_to_chinese_middle(alloc, SCRIPT, CASE, number)?,
         ChineseCountMethod::High => from_i128_to_chinese_high(alloc, SCRIPT, CASE, number)?,
     })
+}
+
+/// Reads by the trait.
+pub fn to_number<T: Whole>(
+    method: ChineseCountMethod,
+    text: &str,
+) -> Result<T, ChineseToNumberError> {
+    text.to_number(method)
 }

@@ -1,15 +1,14 @@
 // Worked examples of reading.
-use crate::calls::{read_i128, read_u128};
+use crate::calls::{read_i128, read_u128, to_number};
 use crate::printing::LEAST;
 use chinese_number::ChineseCountMethod::{High, Low, Middle, TenThousand};
 use chinese_number::ChineseToNumberError::{
     ChineseNumberEmpty, ChineseNumberIncorrect, Overflow, Underflow,
 };
 use chinese_number::{
-    ChineseToNumber, ChineseToNumberError, Whole, from_chinese_to_i8, from_chinese_to_i64_low,
-    from_chinese_to_u8, from_chinese_to_u16, from_chinese_to_u32_ten_thousand,
-    from_chinese_to_u64_high, from_chinese_to_u64_low, from_chinese_to_u64_middle,
-    from_chinese_to_u64_ten_thousand,
+    ChineseToNumberError, Whole, from_chinese_to_i8, from_chinese_to_i64_low, from_chinese_to_u8,
+    from_chinese_to_u16, from_chinese_to_u32_ten_thousand, from_chinese_to_u64_high,
+    from_chinese_to_u64_low, from_chinese_to_u64_middle, from_chinese_to_u64_ten_thousand,
 };
 use std::fmt::Debug;
 use std::process::Abort;
@@ -125,7 +124,7 @@ fn reads_small_types(rt: HostRuntime) {
         (" 負 二十十", incorrect(4)),
     ] {
         assert_eq!(rt; from_chinese_to_i8(text), answer, "{text}");
-        assert_eq!(rt; text.to_number(Low), answer, "{text}");
+        assert_eq!(rt; to_number(Low, text), answer, "{text}");
     }
     for (text, answer) in [
         ("正", incorrect(0)),
@@ -139,7 +138,7 @@ fn reads_small_types(rt: HostRuntime) {
         ("二百五", Ok(250)),
     ] {
         assert_eq!(rt; from_chinese_to_u8(text), answer, "{text}");
-        assert_eq!(rt; text.to_number(Low), answer, "{text}");
+        assert_eq!(rt; to_number(Low, text), answer, "{text}");
     }
 }
 
@@ -177,7 +176,7 @@ fn to_number_obeys_its_method(rt: HostRuntime) {
         (Low, "六萬五千五百三十五", Ok(u16::MAX)),
         (TenThousand, "六萬五千五百三十五", Ok(u16::MAX)),
     ] {
-        assert_eq!(rt; text.to_number(method), answer, "{text}");
+        assert_eq!(rt; to_number(method, text), answer, "{text}");
     }
     for (method, text, answer) in [
         (Low, "零極", Ok(0u8)),
@@ -187,10 +186,10 @@ fn to_number_obeys_its_method(rt: HostRuntime) {
         (Middle, "零垓", Ok(0)),
         (High, "零垓", Err(Overflow)),
     ] {
-        assert_eq!(rt; text.to_number(method), answer, "{text}");
+        assert_eq!(rt; to_number(method, text), answer, "{text}");
     }
-    assert_eq!(rt; "負零極".to_number(Low), Ok(0i8));
-    assert_eq!(rt; "負零極".to_number(TenThousand), Err::<i8, _>(Underflow));
+    assert_eq!(rt; to_number(Low, "負零極"), Ok(0i8));
+    assert_eq!(rt; to_number(TenThousand, "負零極"), Err::<i8, _>(Underflow));
 }
 
 // What can be completed: 零 in front makes a numeral of it.
@@ -211,7 +210,7 @@ fn zero_completes(rt: HostRuntime) {
 // An empty text, one of white space alone, and no other, is empty for each type.
 fn refuses_emptiness<T: Whole + PartialEq + Debug>(rt: &impl Abort) {
     for text in ["", "\u{3000}"] {
-        let answer: Result<T, ChineseToNumberError> = text.to_number(TenThousand);
+        let answer: Result<T, ChineseToNumberError> = to_number(TenThousand, text);
         assert_eq!(rt; answer, Err(ChineseNumberEmpty));
     }
 }
