@@ -23,5 +23,6 @@ python3 beside/want_of_memory.py crates/cn_memory/out/cn_memory "$scratch/refuse
 python3 beside/short_of_memory.py crates/numeral/out/numeral "$scratch/refuse_growth.so" < crates/numeral/stdin
 python3 beside/dialogue.py crates/numeral/out/numeral
 python3 beside/statuses.py crates/numeral/out/numeral
+python3 beside/readers_without_memory.py crates/cn_vectors
 
 rt ci

@@ -1,8 +1,9 @@
-"""Runs a program that prints a line for each growth that it asks for, with each growth refused in turn.
+"""Runs a program that prints a line for each call that takes memory, with each growth refused in turn.
 
     want_of_memory.py PROGRAM REFUSE_GROWTH.so
 
-With growth N refused, line N has to say that memory was short, and every other line has to stay as it is.
+With growth N refused, line N has to say that memory was short, and every other line has to stay as it is. At the end
+stand the calls that refuse their number by name: they ask for no memory.
 """
 
 import os
@@ -10,6 +11,7 @@ import subprocess
 import sys
 
 SHORT = (": memory allocation failed", ": out of memory")
+BY_NAME = (": number is too large", ": number is too small")
 
 
 def lines_with(program, library, number):
@@ -22,7 +24,10 @@ def lines_with(program, library, number):
 def main():
     program, library = sys.argv[1:]
     ample, _ = lines_with(program, library, 0)
-    for number, line in enumerate(ample, start=1):
+    growing = [line for line in ample if not line.endswith(BY_NAME)]
+    if ample[: len(growing)] != growing:
+        sys.exit("a call that refuses its number by name stands among the others")
+    for number, line in enumerate(growing, start=1):
         call = line.rsplit(":", 1)[0]
         short, was_refused = lines_with(program, library, number)
         told = short[number - 1]
@@ -30,10 +35,10 @@ def main():
             sys.exit(f"growth {number} refused: {told!r} in place of {line!r}")
         if short[: number - 1] + short[number:] != ample[: number - 1] + ample[number:]:
             sys.exit(f"growth {number} refused: another line changed")
-    last, was_refused = lines_with(program, library, len(ample) + 1)
+    last, was_refused = lines_with(program, library, len(growing) + 1)
     if was_refused or last != ample:
         sys.exit(f"{program} asks for more than one growth for a line")
-    print(f"want of memory: {len(ample)} calls, each refused in turn")
+    print(f"want of memory: {len(growing)} calls, each refused in turn")
 
 
 main()

@@ -1,6 +1,7 @@
 //! Makes each call that takes memory once, and prints what came of it in a line: 1 in Chinese, or the error.
 //!
-//! Each line takes one growth, so that `beside/want_of_memory.py` can refuse them in turn.
+//! Each line takes one growth, so that `beside/want_of_memory.py` can refuse them in turn. The last lines take
+//! none: they refuse their number by name.
 #![tactic(auto)]
 
 use chinese_number::{
@@ -320,6 +321,27 @@ fn by_trait<T: Whole>(rt: &(impl Print + AllocGlobal), name: &str) -> io::Result
     )
 }
 
+// The calls that refuse their number before they ask for memory.
+fn by_name(rt: &(impl Print + AllocGlobal)) -> io::Result<()> {
+    let alloc = rt.alloc();
+    let limit = 10_000_000_000_000_000;
+    show(
+        rt,
+        "from_u64_to_chinese_low",
+        from_u64_to_chinese_low(alloc, SCRIPT, CASE, limit),
+    )?;
+    show(
+        rt,
+        "from_i64_to_chinese_low",
+        from_i64_to_chinese_low(alloc, SCRIPT, CASE, -10_000_000_000_000_000),
+    )?;
+    show(
+        rt,
+        "u64.to_chinese",
+        limit.to_chinese(alloc, SCRIPT, CASE, ChineseCountMethod::Low),
+    )
+}
+
 fn main(rt: HostRuntime) -> io::Result<()> {
     naive(&rt)?;
     small(&rt)?;
@@ -336,5 +358,6 @@ fn main(rt: HostRuntime) -> io::Result<()> {
     by_trait::<i32>(&rt, "i32")?;
     by_trait::<i64>(&rt, "i64")?;
     by_trait::<i128>(&rt, "i128")?;
-    by_trait::<isize>(&rt, "isize")
+    by_trait::<isize>(&rt, "isize")?;
+    by_name(&rt)
 }

@@ -5,11 +5,18 @@ use chinese_number::ChineseToNumberError::{ChineseNumberEmpty, ChineseNumberInco
 use std::alloc::{AllocError, Global};
 use std::test::Fail;
 
-// A text many times over.
-fn repeated(alloc: Global, text: &str, times: usize) -> Result<String, AllocError> {
+// A text many times over, below 2^24 times: by doubling it.
+fn repeated(alloc: Global, text: &str, times: u32) -> Result<String, AllocError> {
     let mut long = String::new(alloc);
-    for _ in 0..times {
-        long.push_str(text)?;
+    let mut piece = String::from_str(alloc, text)?;
+    for bit in 0..24 {
+        if times >> bit & 1 == 1 {
+            long.push_str(piece.as_str())?;
+        }
+        if times >> bit > 1 {
+            let same = piece.clone()?;
+            piece.push_str(same.as_str())?;
+        }
     }
     Ok(long)
 }
