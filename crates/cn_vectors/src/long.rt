@@ -9,7 +9,7 @@ use std::test::Fail;
 fn repeated(alloc: Global, text: &str, times: u32) -> Result<String, AllocError> {
     let mut long = String::new(alloc);
     let mut piece = String::from_str(alloc, text)?;
-    for bit in 0..24 {
+    for bit in 0u32..24 {
         if times >> bit & 1 == 1 {
             long.push_str(piece.as_str())?;
         }
