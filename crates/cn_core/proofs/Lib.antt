@@ -7,6 +7,7 @@ pub mod NaiveExamples
 pub mod NumeralExamples
 pub mod OpenUnits
 pub mod ReadBack
+pub mod ScaleExamples
 pub mod ScaleLaws
 pub mod SpellingExamples
 pub mod Spellings
