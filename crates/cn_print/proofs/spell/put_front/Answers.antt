@@ -1,5 +1,5 @@
-use Rattle.std.proofs.Common.{◌≡◌, ℕ, List, [], ◌∷◌, ◌++◌, length, ap, ◌∙◌, sym, arith}
-use Rattle.cn_core.specs.Mark.{Mark, unit}
+use Rattle.std.proofs.Common.{◌≡◌, [], ◌∷◌, length, ap, ◌∙◌, arith}
+use Rattle.cn_core.specs.Mark.{unit}
 use Rattle.cn_print.specs.Working.Units.{rank_at, front}
 use Rattle.cn_print.proofs.Tops.{front-next}
 use Rattle.cn_print.proofs.spell.put_front.Goals as goal
