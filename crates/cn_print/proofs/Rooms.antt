@@ -2,7 +2,7 @@
 use Rattle.std.proofs.Common.{◌≡◌, ℕ, zero, suc, ◌+◌, ◌-◌, ◌≤◌, true, List, [], ◌∷◌, ◌++◌, length, drop, set, slice_index, refl, ap, ap₂, ◌∙◌, arith}
 use Rattle.std.specs.Str.{IsUtf8, is_utf8}
 use Rattle.cn_print.specs.Working.Room.{Filling}
-use Rattle.std.proofs.lemmas.Str.{IsUtf8-append, IsUtf8-from_is_utf8, is_utf8-from_IsUtf8}
+use Rattle.std.proofs.lemmas.Str.{IsUtf8-nil, IsUtf8-append, IsUtf8-from_is_utf8, is_utf8-from_IsUtf8}
 
 drop-sets : (items : List ℕ) (start a b d : ℕ) → start + 3 ≤ length items
     → drop start (set (set (set items start a) (start + 1) b) (start + 2) d) ≡ a ∷ b ∷ d ∷ drop (start + 3) items
@@ -36,11 +36,15 @@ put-text items character free three within size =
 pub put-utf8 : (character text : List ℕ) → IsUtf8 character → is_utf8 text ≡ true → is_utf8 (character ++ text) ≡ true
 put-utf8 character text one rest = is_utf8-from_IsUtf8 (character ++ text) (IsUtf8-append character text one (IsUtf8-from_is_utf8 text rest))
 
-pub drop-none : (items : List ℕ) (n : ℕ) → length items ≤ n → drop n items ≡ []
+drop-none : (items : List ℕ) (n : ℕ) → length items ≤ n → drop n items ≡ []
 drop-none [] zero h = refl
 drop-none [] (suc n) h = refl
 drop-none (x ∷ items) zero h = absurd (omega (arith, h))
 drop-none (x ∷ items) (suc n) h = drop-none items n (omega (arith, h))
+
+-- nothing is written yet where all bytes are free
+pub free-utf8 : (items : List ℕ) (n : ℕ) → length items ≤ n → is_utf8 (drop n items) ≡ true
+free-utf8 items n h = rw (drop-none items n h) (is_utf8-from_IsUtf8 [] IsUtf8-nil)
 
 pub filling : {a b : ℕ} {s t : List ℕ} → a ≡ b → s ≡ t → (let x : Filling = record { free = a; text = s } in x) ≡ record { free = b; text = t }
 filling e f = ap₂ (λ n text. let x : Filling = record { free = n; text = text } in x) e f

@@ -141,6 +141,33 @@ over-head method (width ∷ next ∷ widths) place filled above h reach = by (λ
       let test : nat_le above place ≡ true = grind (arith, nat_tests, reach) in
       ((if above == filled && nat_lt filled place then digit 0 ∷ [] else []), rw (same, test, over-none method (next ∷ widths) place filled (place + 1) (omega arith)) refl)
 
+-- over a place that is filled, the only unit is the place's own
+over-next : (method : ChineseCountMethod) (widths : List ℕ) (place : ℕ) → ends_single widths ≡ true → units_over method place place place widths ≡ unit (rank_at method place) ∷ []
+over-next method [] place h = absurd (let e : false ≡ true = h in cc)
+over-next method (width ∷ []) place h =
+    let one : width ≡ 1 = grind (arith, nat_tests, h) in
+    let start : start_of width place ≡ place = rw one (omega arith) in
+    let reach : nat_le place place ≡ true = grind (arith, nat_tests) in
+    let same : nat_lt place place ≡ false = grind (arith, nat_tests) in
+    let equal : (place == place) ≡ true = grind (arith, nat_tests) in
+    rw (start, reach, same, equal) refl
+over-next method (width ∷ next ∷ widths) place h = by (over-next method (next ∷ widths) place h) (dec_lt (start_of width place) place) where
+  by : units_over method place place place (next ∷ widths) ≡ unit (rank_at method place) ∷ [] → Dec (start_of width place < place) → units_over method place place place (width ∷ next ∷ widths) ≡ unit (rank_at method place) ∷ []
+  by deeper (yes inside) =
+      let test : nat_le place (start_of width place) ≡ false = grind (arith, nat_tests, inside) in
+      rw test deeper
+  by deeper (no outside) =
+      let start : start_of width place ≡ place = omega (arith, outside) in
+      let reach : nat_le place place ≡ true = grind (arith, nat_tests) in
+      let same : nat_lt place place ≡ false = grind (arith, nat_tests) in
+      let equal : (place == place) ≡ true = grind (arith, nat_tests) in
+      rw (start, reach, same, equal, over-none method (next ∷ widths) place place (place + 1) (omega arith)) refl
+
+pub front-next : (method : ChineseCountMethod) (place : ℕ) → 0 < place → front method place place ≡ unit (rank_at method place) ∷ []
+front-next method place some =
+    let most : max place 1 ≡ place = omega (arith, some) in
+    rw most (over-next method (widths_of method) place (single method))
+
 -- the digit of the highest place, but for 一 before 十
 abbrev pub top_digit : ChineseCountMethod → ℕ → ℕ → List Mark
 top_digit method place d = if d == 1 && rank_at method place == 1 then [] else digit d ∷ []
@@ -157,7 +184,7 @@ rank-zero TenThousand = refl
 rank-zero Middle = refl
 rank-zero High = refl
 
-front-zero : (method : ChineseCountMethod) → front method 0 0 ≡ []
+pub front-zero : (method : ChineseCountMethod) → front method 0 0 ≡ []
 front-zero Low = refl
 front-zero TenThousand = refl
 front-zero Middle = refl

@@ -1,4 +1,7 @@
 // The free printers by `Low`, one for each integer type.
+//
+// The types of 8 and 16 bits hold no number from 10^5 on, where the methods begin to differ: any method would
+// write the same text, and no body that prints by another one is wrong. Theirs is `Low`, as in their contracts.
 ghost use Rattle.std.specs.Prelude.{IfOk, pos};
 ghost use Rattle.cn_core.specs.Written.{spelled_text};
 ghost use Rattle.cn_print.specs.Prints.{Prints};

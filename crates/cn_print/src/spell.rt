@@ -14,7 +14,7 @@ use cn_core::{ChineseCountMethod, Unit};
 // Puts the units that a digit at a place stands before, in front of what is written: it has digits at the
 // places below `filled` alone. 零 stands behind them where the next place below is empty.
 #[inline(always)]
-fn put_front<P: Pen>(
+fn put_units<P: Pen>(
     pen: &mut P,
     characters: Characters,
     method: ChineseCountMethod,
@@ -37,6 +37,28 @@ fn put_front<P: Pen>(
             pen.put_unit(characters, unit_at(method, start));
             above = start + 1;
         }
+    }
+}
+
+// The same, soon done where the place below is filled: then the place's own unit is the only one.
+#[inline(always)]
+fn put_front<P: Pen>(
+    pen: &mut P,
+    characters: Characters,
+    method: ChineseCountMethod,
+    place: usize,
+    filled: usize,
+)
+    requires place { place < places_within method }
+    requires room { 3 * length (front method place filled) ≤ P.left pen.old }
+    ensures room { P.left pen.new + 3 * length (front method place filled) ≡ P.left pen.old }
+    ensures marks { (marks : List Mark) → P.shows pen.old characters.variant characters.case marks
+        → P.shows pen.new characters.variant characters.case (front method place filled ++ marks) }
+{
+    if filled != place {
+        put_units(pen, characters, method, place, filled);
+    } else if place > 0 {
+        pen.put_unit(characters, unit_at(method, place));
     }
 }
 

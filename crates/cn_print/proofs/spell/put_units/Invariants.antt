@@ -2,7 +2,7 @@ use Rattle.std.proofs.Common.{◌≡◌, List, ◌++◌, drop}
 use Rattle.cn_core.specs.Mark.{Mark}
 use Rattle.cn_print.specs.Working.Units.{front, units_over}
 use Rattle.cn_print.proofs.Pens.{Wrote}
-use Rattle.cn_print.proofs.spell.put_front.Given as goal
+use Rattle.cn_print.proofs.spell.put_units.Given as goal
 
 abbrev pub invariant-loop-width : goal.invariant-loop-width
 invariant-loop-width g l =
