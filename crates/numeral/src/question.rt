@@ -8,6 +8,7 @@ ghost use Rattle.numeral.specs.Answer.{bad_line, AnswersAny};
 ghost use Rattle.numeral.specs.Steps.{IsBeyondAll};
 
 use crate::numerals::{ChineseCase, ChineseCountMethod, ChineseVariant};
+use crate::search::near_place;
 use crate::text::text_of;
 
 /// The twelve integer types.
@@ -38,7 +39,12 @@ pub(crate) enum Method {
 fn first_space(bytes: &[u8]) -> Option<usize>
     ensures { result ≡ position (λ byte. byte == 32) bytes.now }
 {
-    bytes.iter().position(|byte| *byte == b' ')
+    let place = near_place(b' ', bytes);
+    if place < bytes.len() {
+        Some(place)
+    } else {
+        None
+    }
 }
 
 /// The first field, which a space ends, and all that follows the space.
