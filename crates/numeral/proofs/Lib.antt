@@ -4,3 +4,4 @@ pub mod State
 pub mod Fields
 pub mod Characters
 pub mod Strides
+pub mod Decimals
