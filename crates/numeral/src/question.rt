@@ -57,6 +57,7 @@ pub(crate) fn cut(bytes: &[u8]) -> Option<(&[u8], &[u8])>
     Some((&bytes[..end], &bytes[end + 1..]))
 }
 
+#[inline(always)]
 fn type_named(name: &[u8]) -> Option<IntegerType>
     ensures { result ≡ type_named name.now }
 {
@@ -77,6 +78,7 @@ fn type_named(name: &[u8]) -> Option<IntegerType>
     }
 }
 
+#[inline(always)]
 fn method_named(name: &[u8]) -> Option<Method>
     ensures { result ≡ method_named name.now }
 {
@@ -208,6 +210,7 @@ pub(crate) struct SignedMagnitude {
 }
 
 // A decimal number. There is none, too, where its magnitude passes 128 bits, since no type holds it.
+#[inline(always)]
 fn number_of(field: &[u8]) -> Option<SignedMagnitude>
     ensures none { IfNone result (IfSome (number_of field.now) IsBeyondAll) }
     ensures some { IfSome result (λ n. number_of field.now ≡ Some (signed_number n.negative n.magnitude)) }
