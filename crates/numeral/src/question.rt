@@ -186,15 +186,17 @@ pub(crate) struct Reading<'a> {
 }
 
 /// What stands after `read `: a type, a method and a text.
+#[inline(always)]
 pub(crate) fn asked_reading(fields: &[u8]) -> Option<Reading<'_>>
     ensures { MatchOption result (read_question fields.now ≡ None)
         (λ r. read_question fields.now ≡ Some (read r.integer r.method r.text.now)) }
 {
     let (integer, rest) = cut(fields)?;
     let (method, text) = cut(rest)?;
-    let integer = type_named(integer)?;
     let method = method_named(method)?;
     let text = text_of(text)?;
+    // the type comes last, next to where the answer goes by it
+    let integer = type_named(integer)?;
     Some(Reading {
         integer,
         method,
@@ -237,6 +239,7 @@ pub(crate) struct Printing {
 }
 
 /// What stands after `print `: a type, a method, a script, a case and a number.
+#[inline(always)]
 pub(crate) fn asked_printing(fields: &[u8]) -> Option<Printing>
     ensures none { IfNone result (AnswersAny (print_question fields.now) bad_line) }
     ensures some { IfSome result (λ p. print_question fields.now
@@ -246,11 +249,11 @@ pub(crate) fn asked_printing(fields: &[u8]) -> Option<Printing>
     let (method, rest) = cut(rest)?;
     let (variant, rest) = cut(rest)?;
     let (case, number) = cut(rest)?;
-    let integer = type_named(integer)?;
     let method = method_named(method)?;
     let variant = script_named(variant)?;
     let case = case_named(case)?;
     let number = number_of(number)?;
+    let integer = type_named(integer)?;
     Some(Printing {
         integer,
         method,
