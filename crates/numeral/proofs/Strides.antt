@@ -7,7 +7,7 @@ use Rattle.std.proofs.lemmas.Bool.Decides.{nat_tests}
 use Rattle.std.proofs.lemmas.Bool.{eq-eqb, ne_eqb}
 use Rattle.std.proofs.lemmas.Grind.{common_steps}
 use Rattle.std.specs.Array.{IsFirstChunk}
-use Rattle.std.specs.List.{prefix_len, position_or_len}
+use Rattle.std.specs.List.{position_or_len}
 use Rattle.numeral.specs.Lines.{HasNoFeed}
 use Rattle.std.proofs.lemmas.Bool.{false≢true}
 use lib.Count.{count_trailing_zeros}
