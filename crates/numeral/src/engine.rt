@@ -114,6 +114,7 @@ fn feed<W: Sink>(
 }
 
 // Answers what is kept at the end of the input, if it is a line.
+#[tactic(auto, using(crate::proofs::State::Replies_last))]
 fn finish<W: Sink>(alloc: Global, writer: &mut W, room: &mut Room) -> Result<(), RunError>
     requires { W.failed writer.old ≡ false }
     ensures replies { Replies (W.contents writer.old) (W.contents writer.new) (W.failed writer.new)
