@@ -3,3 +3,5 @@ pub mod Replying
 pub mod State
 pub mod Fields
 pub mod Characters
+pub mod Strides
+pub mod Decimals

@@ -26,6 +26,12 @@ pub last_line-some : (kept : List ℕ) → 0 < length kept → last_line kept �
 last_line-some [] h = absurd (omega arith)
 last_line-some (byte ∷ kept) h = refl
 
+-- the kept line is answered
+pub Replies_last : {T : Type 0} (old new : Option (List ℕ)) (failed : Bool) (kept line : List ℕ) (r : Result T RunError) → 0 < length kept → line ≡ kept
+    → Replies old new failed (line ∷ []) r → Replies old new failed (last_line kept) r
+Replies_last old new failed kept line r some is replies =
+    subst (λ lines. Replies old new failed lines r) (ap (λ l. l ∷ []) is ∙ sym (last_line-some kept some)) replies
+
 -- of the bytes got each line that ended is answered, and the rest is kept
 pub record State (old now : Option (List ℕ)) (got kept : List ℕ) : Type 0 where
   pub written : Wrote old now (ended got)

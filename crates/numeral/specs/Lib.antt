@@ -1,4 +1,5 @@
 pub mod Answer
+pub mod Digits
 pub mod Leaves
 pub mod Lines
 pub mod Question

@@ -57,6 +57,7 @@ fn answer_as<T: Whole>(room: &mut String, method: Method, text: &str) -> Result<
 }
 
 // Answers a text that is to be read.
+#[inline(always)]
 fn answer_reading(room: &mut String, asked: Reading<'_>) -> Result<(), AllocError>
     requires { string_bytes room.old ≡ [] }
     ensures { OnOk result (AnswersRead (kind_of asked.entry.integer) asked.entry.method asked.entry.text.now (string_bytes room.new)) }
@@ -134,6 +135,7 @@ fn print_as<T: NumberToChinese>(
 }
 
 // Answers a number that is to be printed.
+#[inline(always)]
 fn answer_printing(alloc: Global, room: &mut String, asked: Printing) -> Result<(), AllocError>
     requires { string_bytes room.old ≡ [] }
     ensures { OnOk result (AnswersPrinting (kind_of asked.integer) asked.method asked.variant asked.case

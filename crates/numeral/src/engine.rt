@@ -1,5 +1,5 @@
 // Reads the input block by block, and answers its lines.
-ghost use Rattle.std.specs.Prelude.{◌≡◌, ◌<◌, ◌≤◌, ◌++◌, [], ◌∷◌, false, length, take, slice_index, OnOk, OnErr, IfSome, MatchOption, string_bytes};
+ghost use Rattle.std.specs.Prelude.{◌≡◌, ◌<◌, ◌≤◌, ◌++◌, [], ◌∷◌, false, length, take, drop, slice_index, OnOk, OnErr, IfSome, MatchOption, string_bytes};
 ghost use Rattle.numeral.specs.Lines.{HasNoFeed, last_line, lines};
 ghost use Rattle.numeral.specs.Answer.{Answers};
 ghost use Rattle.numeral.specs.Leaves.{Wrote, Runs};
@@ -9,7 +9,7 @@ use crate::answer::answer;
 use crate::device::{Sink, Source};
 use crate::fault::RunError;
 use crate::lines::split_line;
-use std::alloc::Global;
+use std::alloc::{AllocError, Global};
 
 // How many bytes are read at a time.
 const BLOCK: usize = 65536;
@@ -21,6 +21,15 @@ struct Room {
     answer: String,
 }
 
+// What is left of the bytes after so many were written.
+#[inline(always)]
+fn unwritten(bytes: &[u8], count: usize) -> &[u8]
+    requires { count ≤ length bytes.now }
+    ensures { result.now ≡ drop count bytes.now }
+{
+    bytes.split_at(count).1
+}
+
 // Writes all the bytes, in as many writes as it takes.
 fn write_all<W: Sink>(writer: &mut W, bytes: &[u8]) -> Result<(), RunError>
     requires { W.failed writer.old ≡ false }
@@ -29,11 +38,19 @@ fn write_all<W: Sink>(writer: &mut W, bytes: &[u8]) -> Result<(), RunError>
     let mut rest = bytes;
     while !rest.is_empty() {
         match writer.write(rest) {
-            Ok(count) => rest = rest.split_at(count).1,
+            Ok(count) => rest = unwritten(rest, count),
             Err(_) => return Err(RunError::Write),
         }
     }
     Ok(())
+}
+
+// Puts the end of an answer's line.
+#[inline(always)]
+fn put_line_feed(room: &mut String) -> Result<(), AllocError>
+    ensures { OnOk result (string_bytes room.new ≡ string_bytes room.old ++ 10 ∷ []) }
+{
+    room.push('\n')
 }
 
 // Answers a line. The answer is whole before any of it is written.
@@ -48,7 +65,7 @@ fn answer_line<W: Sink>(
 {
     room.clear();
     answer(alloc, room, line)?;
-    room.push('\n')?;
+    put_line_feed(room)?;
     write_all(writer, room.as_bytes())
 }
 
@@ -97,16 +114,26 @@ fn feed<W: Sink>(
 }
 
 // Answers what is kept at the end of the input, if it is a line.
+#[tactic(auto, using(crate::proofs::State::Replies_last))]
 fn finish<W: Sink>(alloc: Global, writer: &mut W, room: &mut Room) -> Result<(), RunError>
     requires { W.failed writer.old ≡ false }
     ensures replies { Replies (W.contents writer.old) (W.contents writer.new) (W.failed writer.new)
         (last_line room.old.line.items) result }
     ensures some { OnErr result (0 < length room.old.line.items) }
 {
-    if room.line.is_empty() {
-        return Ok(());
+    match room.line.as_slice() {
+        [] => Ok(()),
+        line => answer_line(alloc, writer, &mut room.answer, line),
     }
-    answer_line(alloc, writer, &mut room.answer, room.line.as_slice())
+}
+
+// What a read has put into the front of the block.
+#[inline(always)]
+fn filled(block: &[u8], count: usize) -> &[u8]
+    requires { count ≤ length block.now }
+    ensures { result.now ≡ take count block.now }
+{
+    block.split_at(count).0
 }
 
 // Runs, and reads by this block.
@@ -133,8 +160,7 @@ fn run_by<R: Source, W: Sink>(
         if count == 0 {
             break;
         }
-        let (filled, _) = block.split_at(count);
-        feed(alloc, writer, &mut room, filled)?;
+        feed(alloc, writer, &mut room, filled(block, count))?;
     }
     finish(alloc, writer, &mut room)
 }

@@ -19,6 +19,7 @@ pub mod memory_source;
 mod numerals;
 pub mod program_status;
 mod question;
+mod search;
 pub mod std_device;
 #[cfg(test)]
 mod tests;

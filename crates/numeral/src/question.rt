@@ -8,6 +8,7 @@ ghost use Rattle.numeral.specs.Answer.{bad_line, AnswersAny};
 ghost use Rattle.numeral.specs.Steps.{IsBeyondAll};
 
 use crate::numerals::{ChineseCase, ChineseCountMethod, ChineseVariant};
+use crate::search::near_place;
 use crate::text::text_of;
 
 /// The twelve integer types.
@@ -38,7 +39,12 @@ pub(crate) enum Method {
 fn first_space(bytes: &[u8]) -> Option<usize>
     ensures { result ≡ position (λ byte. byte == 32) bytes.now }
 {
-    bytes.iter().position(|byte| *byte == b' ')
+    let place = near_place(b' ', bytes);
+    if place < bytes.len() {
+        Some(place)
+    } else {
+        None
+    }
 }
 
 /// The first field, which a space ends, and all that follows the space.
@@ -51,6 +57,7 @@ pub(crate) fn cut(bytes: &[u8]) -> Option<(&[u8], &[u8])>
     Some((&bytes[..end], &bytes[end + 1..]))
 }
 
+#[inline(always)]
 fn type_named(name: &[u8]) -> Option<IntegerType>
     ensures { result ≡ type_named name.now }
 {
@@ -71,6 +78,7 @@ fn type_named(name: &[u8]) -> Option<IntegerType>
     }
 }
 
+#[inline(always)]
 fn method_named(name: &[u8]) -> Option<Method>
     ensures { result ≡ method_named name.now }
 {
@@ -178,15 +186,17 @@ pub(crate) struct Reading<'a> {
 }
 
 /// What stands after `read `: a type, a method and a text.
+#[inline(always)]
 pub(crate) fn asked_reading(fields: &[u8]) -> Option<Reading<'_>>
     ensures { MatchOption result (read_question fields.now ≡ None)
         (λ r. read_question fields.now ≡ Some (read r.integer r.method r.text.now)) }
 {
     let (integer, rest) = cut(fields)?;
     let (method, text) = cut(rest)?;
-    let integer = type_named(integer)?;
     let method = method_named(method)?;
     let text = text_of(text)?;
+    // the type comes last, next to where the answer goes by it
+    let integer = type_named(integer)?;
     Some(Reading {
         integer,
         method,
@@ -202,6 +212,7 @@ pub(crate) struct SignedMagnitude {
 }
 
 // A decimal number. There is none, too, where its magnitude passes 128 bits, since no type holds it.
+#[inline(always)]
 fn number_of(field: &[u8]) -> Option<SignedMagnitude>
     ensures none { IfNone result (IfSome (number_of field.now) IsBeyondAll) }
     ensures some { IfSome result (λ n. number_of field.now ≡ Some (signed_number n.negative n.magnitude)) }
@@ -228,6 +239,7 @@ pub(crate) struct Printing {
 }
 
 /// What stands after `print `: a type, a method, a script, a case and a number.
+#[inline(always)]
 pub(crate) fn asked_printing(fields: &[u8]) -> Option<Printing>
     ensures none { IfNone result (AnswersAny (print_question fields.now) bad_line) }
     ensures some { IfSome result (λ p. print_question fields.now
@@ -237,11 +249,11 @@ pub(crate) fn asked_printing(fields: &[u8]) -> Option<Printing>
     let (method, rest) = cut(rest)?;
     let (variant, rest) = cut(rest)?;
     let (case, number) = cut(rest)?;
-    let integer = type_named(integer)?;
     let method = method_named(method)?;
     let variant = script_named(variant)?;
     let case = case_named(case)?;
     let number = number_of(number)?;
+    let integer = type_named(integer)?;
     Some(Printing {
         integer,
         method,

@@ -16,9 +16,9 @@ pub reads-preserved : goal.reads-preserved
 reads-preserved g c =
     let i = c.reads.invariant in
     let w = c.in_ok-feed.ensures in (
-      i.0 ++ c.split_at.result.0.now,
-      rw c.split_at.ensures.front (Consumes-trans _ _ _ i.0 _ i.1 c.in-Ok.ensures.bytes.0),
-      State-more _ _ _ i.0 c.reads.room.line.items c.split_at.result.0.now c.feed.new.room.line.items i.2 w.0 w.1,
+      i.0 ++ c.filled.result.now,
+      rw c.filled.ensures (Consumes-trans _ _ _ i.0 _ i.1 c.in-Ok.ensures.bytes.0),
+      State-more _ _ _ i.0 c.reads.room.line.items c.filled.result.now c.feed.new.room.line.items i.2 w.0 w.1,
       c.in-Ok.ensures.fails,
       w.2,
     )
@@ -27,10 +27,10 @@ pub returns-in_err-feed : goal.returns-in_err-feed
 returns-in_err-feed g c =
     let i = c.reads.invariant in
     let p = err_from_is_err_and c.from_residual.result c.from_residual.ensures.1 in (
-      i.0 ++ c.split_at.result.0.now,
-      rw c.split_at.ensures.front (Consumes-trans _ _ _ i.0 _ i.1 c.in-Ok.ensures.bytes.0),
+      i.0 ++ c.filled.result.now,
+      rw c.filled.ensures (Consumes-trans _ _ _ i.0 _ i.1 c.in-Ok.ensures.bytes.0),
       rw (p.1, p.2)
-          (Leaves-fed (Unit {0}) (Unit {0}) _ _ _ _ _ _ i.0 c.reads.room.line.items c.split_at.result.0.now c.feed.new.room.line.items _ i.2 c.in-Ok.ensures.fails c.in_err-feed.ensures),
+          (Leaves-fed (Unit {0}) (Unit {0}) _ _ _ _ _ _ i.0 c.reads.room.line.items c.filled.result.now c.feed.new.room.line.items _ i.2 c.in-Ok.ensures.fails c.in_err-feed.ensures),
     )
 
 pub returns : goal.returns

@@ -1,8 +1,10 @@
-use Rattle.numeral.proofs.Cut.{HasNoFeed-further}
+use Rattle.std.proofs.Common.{◌<◌, length}
+use Rattle.numeral.proofs.Strides.{HasNoFeed-before, feed_there}
 use Rattle.numeral.proofs.lines.line_len.Goals as goal
 
-pub strides-preserved : goal.strides-preserved
-strides-preserved c =
-    let before = c.strides.invariant in
-    HasNoFeed-further c.args.bytes.now c.strides.start 16 c.in-Some.stride.now before.0 before.1 c.in-Some.ensures.cases
-    (c.has_feed.ensures c.if-has_feed.false)
+pub returns-clause-line : goal.returns-clause-line
+returns-clause-line c = rw c.far_place.ensures.place (HasNoFeed-before c.args.bytes.now)
+
+pub returns-clause-feed : goal.returns-clause-feed
+returns-clause-feed c =
+    λ h. let within : c.far_place.result < length c.args.bytes.now = h in rw c.far_place.ensures.place (feed_there c.args.bytes.now (rw c.far_place.ensures.place at within))

@@ -1,0 +1,9 @@
+use Rattle.std.proofs.Common.{eqb}
+use Rattle.numeral.proofs.Strides.{place_further}
+use Rattle.numeral.proofs.search.near_place.Goals as goal
+
+pub strides-preserved : goal.strides-preserved
+strides-preserved c =
+    let i = c.strides.invariant in
+    place_further (λ b. eqb b c.args.byte) c.args.bytes.now c.strides.start 16 _ c.in-Some.stride.now i.0 c.in-Some.ensures.cases
+    c.place_in_stride-place.ensures i.1 c.if-place-lt-STRIDE.false
