@@ -8,5 +8,6 @@ pub mod PlainDigits
 pub mod Stacks
 pub mod Steps
 pub mod Tails
+pub mod ThreeBytes
 pub mod Walking
 pub mod WalkSteps

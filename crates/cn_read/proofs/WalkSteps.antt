@@ -1,5 +1,5 @@
 -- The steps of the walk, over what its state says.
-use Rattle.std.proofs.Common.{◌≡◌, ◌≢◌, ◌↔◌, ℕ, suc, ◌+◌, ◌^◌, ◌<◌, Bool, true, false, IsTrue, List, [], ◌∷◌, length, Option, Some, None, refl, sym, ap, ◌∙◌, arith, if◌then◌else◌, lit<, ◌++◌, append-nil, filter, chars, Err}
+use Rattle.std.proofs.Common.{◌≡◌, ◌≢◌, ◌↔◌, ℕ, suc, ◌+◌, ◌^◌, ◌<◌, Bool, true, false, IsTrue, List, [], ◌∷◌, length, Option, Some, None, refl, sym, ap, ◌∙◌, arith, if◌then◌else◌, lit<, ◌++◌, append-nil, append_assoc, filter, chars, Err}
 use Rattle.cn_core.specs.declared.method.ChineseCountMethod.{ChineseCountMethod}
 use Rattle.cn_core.specs.declared.unit.Unit.{Unit as NumeralUnit}
 use Rattle.cn_core.specs.declared.unit.Unit.TheVariants.{Ge, Shi, Bai, Qian, Wan, Yi, Zhao, Jing, Gai, Zi, Rang, Gou, Jian, Zheng, Zai, Ji}
@@ -14,9 +14,9 @@ use Rattle.cn_read.specs.declared.walk.Next.TheVariants.{AtDigit}
 use Rattle.cn_read.specs.Private.Walk.{closed, left_open, sum_of, opens_of, top_rank, fault_of, faults, leading_rank, multiplies_by, unit_next, further_or}
 use Rattle.std.specs.Char.{is_whitespace, is_not_whitespace}
 use Rattle.cn_core.specs.Spot.{spot}
-use Rattle.cn_read.specs.Private.Piece.{StandsAt, spotted}
+use Rattle.cn_read.specs.Private.Piece.{StandsAt, EndsWith, spotted}
 use Rattle.cn_read.proofs.Walking.{filter-append}
-use Rattle.cn_read.proofs.Pieces.{parts-next, spot-at}
+use Rattle.cn_read.proofs.Pieces.{spot-at}
 use Rattle.cn_read.specs.Private.Stack.{Sized, sized, closed_sum, not_closed, all_positive, top_of}
 use Rattle.cn_read.specs.Private.Walked.{IsWalked}
 use Rattle.cn_read.proofs.Stacks.{closed-sized, left-sized, top-sized, length-sized, positive-sized}
@@ -176,71 +176,82 @@ pub record HasWalked (method : ChineseCountMethod) (bytes ahead : List ℕ) (sum
 pub HasWalked-start : (method : ChineseCountMethod) (bytes : List ℕ) (sum : ℕ) (units : List Sized) (next : Next) → IsWalked method [] sum units next → HasWalked method bytes bytes sum units next
 HasWalked-start method bytes sum units next w = record { after = []; parts = sym (append-nil (chars bytes)); state = w }
 
-pub HasWalked-white : (method : ChineseCountMethod) (bytes ahead before : List ℕ) (sum : ℕ) (units : List Sized) (next : Next) (c : ℕ) → HasWalked method bytes ahead sum units next
-    → chars ahead ≡ chars before ++ c ∷ [] → is_whitespace c ≡ true → HasWalked method bytes before sum units next
-HasWalked-white method bytes ahead before sum units next c h parts white = record {
-  after = c ∷ h.after;
-  parts = parts-next bytes ahead before h.after c h.parts parts;
-  state = rw white h.state;
+-- a step from the back: what stands after the character, less white space, is what was walked
+pub record EndsAt (bytes before after : List ℕ) (c : ℕ) : Type 0 where
+  pub more : List ℕ
+  pub parts : chars bytes ≡ chars before ++ c ∷ more
+  pub kept : filter is_not_whitespace more ≡ filter is_not_whitespace after
+
+ends-at : (bytes ahead before after : List ℕ) (c : ℕ) → chars bytes ≡ chars ahead ++ after → EndsWith ahead c before → EndsAt bytes before after c
+ends-at bytes ahead before after c parts e = record {
+  more = e.white ++ after;
+  parts = parts ∙ ap (λ l. l ++ after) e.parts ∙ append_assoc (chars before) (c ∷ e.white) after;
+  kept = filter-append is_not_whitespace e.white after ∙ ap (λ l. l ++ filter is_not_whitespace after) e.blank;
 }
+
+kept-dark : (c : ℕ) (more after : List ℕ) → is_whitespace c ≡ false → filter is_not_whitespace more ≡ filter is_not_whitespace after
+    → filter is_not_whitespace (c ∷ more) ≡ c ∷ filter is_not_whitespace after
+kept-dark c more after dark kept = rw dark (ap (λ l. c ∷ l) kept)
 
 pub HasWalked-dark : (method : ChineseCountMethod) (bytes ahead before : List ℕ) (sum total : ℕ) (units more : List Sized) (next new : Next) (c : ℕ) → HasWalked method bytes ahead sum units next
-    → chars ahead ≡ chars before ++ c ∷ [] → is_whitespace c ≡ false
+    → EndsWith ahead c before
     → ((walked : List ℕ) → IsWalked method walked sum units next → IsWalked method (c ∷ walked) total more new) → HasWalked method bytes before total more new
-HasWalked-dark method bytes ahead before sum total units more next new c h parts dark step = record {
-  after = c ∷ h.after;
-  parts = parts-next bytes ahead before h.after c h.parts parts;
-  state = rw dark (step (filter is_not_whitespace h.after) h.state);
-}
+HasWalked-dark method bytes ahead before sum total units more next new c h e step =
+    let at = ends-at bytes ahead before h.after c h.parts e in
+    record {
+      after = c ∷ at.more;
+      parts = at.parts;
+      state = rw (kept-dark c at.more h.after e.dark at.kept) (step (filter is_not_whitespace h.after) h.state);
+    }
 
-pub HasWalked-end : (method : ChineseCountMethod) (bytes ahead : List ℕ) (sum : ℕ) (units : List Sized) (next : Next) → HasWalked method bytes ahead sum units next → chars ahead ≡ []
+pub HasWalked-end : (method : ChineseCountMethod) (bytes ahead : List ℕ) (sum : ℕ) (units : List Sized) (next : Next) → HasWalked method bytes ahead sum units next → text_of ahead ≡ []
     → IsWalked method (text_of bytes) sum units next
-HasWalked-end method bytes ahead sum units next h none = rw (h.parts, none) h.state
+HasWalked-end method bytes ahead sum units next h none = rw (h.parts, filter-append, none) h.state
 
 -- what a walk meets at fault, as the string's answer has it
 abbrev pub StopsAt : ChineseCountMethod → ℕ → List ℕ → Refusal → Type 0
 StopsAt method skipped bytes refusal =
     (fault : Refusal) × (faults method (marks_of (text_of bytes)) ≡ Some fault) × (Err refusal ≡ spotted skipped bytes (Err fault))
 
-text-parts : (bytes ahead before after : List ℕ) (c : ℕ) → chars bytes ≡ chars ahead ++ after → chars ahead ≡ chars before ++ c ∷ [] → is_whitespace c ≡ false
+text-parts : (bytes before after : List ℕ) (c : ℕ) → EndsAt bytes before after c → is_whitespace c ≡ false
     → marks_of (text_of bytes) ≡ marks_of (text_of before) ++ marks_of (c ∷ filter is_not_whitespace after)
-text-parts bytes ahead before after c p q dark =
-    ap (λ l. marks_of (filter is_not_whitespace l)) (parts-next bytes ahead before after c p q)
-    ∙ ap marks_of (filter-append is_not_whitespace (chars before) (c ∷ after))
-    ∙ marks-append (text_of before) (filter is_not_whitespace (c ∷ after))
-    ∙ ap (λ l. marks_of (text_of before) ++ marks_of l) (kept dark) where
-      kept : is_whitespace c ≡ false → filter is_not_whitespace (c ∷ after) ≡ c ∷ filter is_not_whitespace after
-      kept dark = rw dark
+text-parts bytes before after c at dark =
+    ap (λ l. marks_of (filter is_not_whitespace l)) at.parts
+    ∙ ap marks_of (filter-append is_not_whitespace (chars before) (c ∷ at.more))
+    ∙ marks-append (text_of before) (filter is_not_whitespace (c ∷ at.more))
+    ∙ ap (λ l. marks_of (text_of before) ++ marks_of l) (kept-dark c at.more after dark at.kept)
 
 fault_here : (method : ChineseCountMethod) (walked : List ℕ) (sum : ℕ) (units : List Sized) (next : Next) (c : ℕ) (r : Refusal) → IsWalked method walked sum units next
     → fault_of method (mark_of c) (marks_of walked) ≡ Some r → faults method (marks_of (c ∷ walked)) ≡ Some r
 fault_here method walked sum units next c r w h = ap (λ f. further_or f (fault_of method (mark_of c) (marks_of walked))) w.sound ∙ h
 
 pub HasWalked-past : (method : ChineseCountMethod) (skipped : ℕ) (bytes ahead before : List ℕ) (sum : ℕ) (units : List Sized) (next : Next) (c : ℕ) → HasWalked method bytes ahead sum units next
-    → chars ahead ≡ chars before ++ c ∷ [] → is_whitespace c ≡ false
+    → EndsWith ahead c before
     → ((walked : List ℕ) → IsWalked method walked sum units next → fault_of method (mark_of c) (marks_of walked) ≡ Some too_large)
     → StopsAt method skipped bytes too_large
-HasWalked-past method skipped bytes ahead before sum units next c h parts dark step =
-    let walked = filter is_not_whitespace h.after in (
+HasWalked-past method skipped bytes ahead before sum units next c h e step =
+    let walked = filter is_not_whitespace h.after in
+    let at = ends-at bytes ahead before h.after c h.parts e in (
       too_large,
-      ap (faults method) (text-parts bytes ahead before h.after c h.parts parts dark)
+      ap (faults method) (text-parts bytes before h.after c at e.dark)
           ∙ past-front method (marks_of (text_of before)) (marks_of (c ∷ walked)) (fault_here method walked sum units next c too_large h.state (step walked h.state)),
       refl,
     )
 
 pub HasWalked-wrong : (method : ChineseCountMethod) (skipped : ℕ) (bytes ahead before : List ℕ) (sum : ℕ) (units : List Sized) (next : Next) (c char_index : ℕ) → HasWalked method bytes ahead sum units next
-    → chars ahead ≡ chars before ++ c ∷ [] → is_whitespace c ≡ false
+    → EndsWith ahead c before
     → ((walked : List ℕ) → IsWalked method walked sum units next → fault_of method (mark_of c) (marks_of walked) ≡ Some (incorrect_at 0))
     → char_index ≡ skipped + length (chars before)
     → StopsAt method skipped bytes (incorrect_at char_index)
-HasWalked-wrong method skipped bytes ahead before sum units next c char_index h parts dark step at =
+HasWalked-wrong method skipped bytes ahead before sum units next c char_index h e step place =
     let walked = filter is_not_whitespace h.after in
-    let stands : StandsAt bytes (c ∷ h.after) (length (chars before)) (length (text_of before)) =
-    record { front = chars before; parts = parts-next bytes ahead before h.after c h.parts parts; index_is = refl; place_is = refl } in
-    let spot_is : spot bytes (length (text_of before)) ≡ length (chars before) = spot-at bytes h.after c _ _ stands dark in (
+    let at = ends-at bytes ahead before h.after c h.parts e in
+    let stands : StandsAt bytes (c ∷ at.more) (length (chars before)) (length (text_of before)) =
+    record { front = chars before; parts = at.parts; index_is = refl; place_is = refl } in
+    let spot_is : spot bytes (length (text_of before)) ≡ length (chars before) = spot-at bytes at.more c _ _ stands e.dark in (
       incorrect_at (length (text_of before)),
-      ap (faults method) (text-parts bytes ahead before h.after c h.parts parts dark)
+      ap (faults method) (text-parts bytes before h.after c at e.dark)
           ∙ wrong-front method (marks_of (text_of before)) (marks_of (c ∷ walked)) (fault_here method walked sum units next c (incorrect_at 0) h.state (step walked h.state))
           ∙ ap (λ n. Some (incorrect_at n)) (marks-length (text_of before)),
-      ap (λ n. Err (incorrect_at n)) (at ∙ ap (λ n. skipped + n) (sym spot_is)),
+      ap (λ n. Err (incorrect_at n)) (place ∙ ap (λ n. skipped + n) (sym spot_is)),
     )

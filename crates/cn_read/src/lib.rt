@@ -2,6 +2,7 @@
 //! definitions of `cn_core` judge it. No reader takes memory.
 #![tactic(auto)]
 
+mod ends;
 mod error;
 mod mark;
 mod naive;

@@ -1,10 +1,10 @@
 // What a character of a numeral is, by a look-up without a search.
-ghost use Rattle.std.specs.Prelude.{◌≡◌, ◌*◌, ◌/◌, ◌%◌, slice_index, slice_index_or};
+ghost use Rattle.std.specs.Prelude.{◌≡◌, ◌*◌, ◌/◌, ◌%◌, slice_index_or, false, IfSome};
 ghost use Rattle.std.specs.Char.{is_whitespace};
 ghost use Rattle.cn_core.specs.Mark.{mark_of};
 ghost use Rattle.cn_read.specs.Private.Marked.{marked};
 
-use cn_core::Unit;
+use cn_core::{Unit, digit_of, unit_of};
 
 /// A digit by its value, a unit, or any other character.
 #[derive(Copy, Clone)]
@@ -14,118 +14,172 @@ pub enum Mark {
     Other,
 }
 
-// The characters of digits and units, each with its mark.
-static MARKS: [(char, Mark); 64] = [
-    ('零', Mark::Digit(0)),
-    ('0', Mark::Digit(0)),
-    ('〇', Mark::Digit(0)),
-    ('一', Mark::Digit(1)),
-    ('壹', Mark::Digit(1)),
-    ('1', Mark::Digit(1)),
-    ('二', Mark::Digit(2)),
-    ('貳', Mark::Digit(2)),
-    ('贰', Mark::Digit(2)),
-    ('貮', Mark::Digit(2)),
-    ('兩', Mark::Digit(2)),
-    ('两', Mark::Digit(2)),
-    ('2', Mark::Digit(2)),
-    ('三', Mark::Digit(3)),
-    ('參', Mark::Digit(3)),
-    ('叁', Mark::Digit(3)),
-    ('叄', Mark::Digit(3)),
-    ('参', Mark::Digit(3)),
-    ('3', Mark::Digit(3)),
-    ('四', Mark::Digit(4)),
-    ('肆', Mark::Digit(4)),
-    ('4', Mark::Digit(4)),
-    ('五', Mark::Digit(5)),
-    ('伍', Mark::Digit(5)),
-    ('5', Mark::Digit(5)),
+// The characters of digits and units that take three bytes, each with its mark at its slot. 無, which is
+// neither, stands at the slots of none.
+static MARKS: [(char, Mark); 128] = [
+    ('無', Mark::Other),
+    ('無', Mark::Other),
     ('六', Mark::Digit(6)),
-    ('陸', Mark::Digit(6)),
-    ('陆', Mark::Digit(6)),
-    ('6', Mark::Digit(6)),
-    ('七', Mark::Digit(7)),
-    ('柒', Mark::Digit(7)),
-    ('7', Mark::Digit(7)),
-    ('八', Mark::Digit(8)),
-    ('捌', Mark::Digit(8)),
-    ('8', Mark::Digit(8)),
-    ('九', Mark::Digit(9)),
-    ('玖', Mark::Digit(9)),
-    ('9', Mark::Digit(9)),
-    ('個', Mark::Unit(Unit::Ge)),
-    ('个', Mark::Unit(Unit::Ge)),
-    ('十', Mark::Unit(Unit::Shi)),
-    ('拾', Mark::Unit(Unit::Shi)),
-    ('百', Mark::Unit(Unit::Bai)),
-    ('佰', Mark::Unit(Unit::Bai)),
+    ('無', Mark::Other),
     ('千', Mark::Unit(Unit::Qian)),
-    ('仟', Mark::Unit(Unit::Qian)),
-    ('萬', Mark::Unit(Unit::Wan)),
-    ('万', Mark::Unit(Unit::Wan)),
-    ('億', Mark::Unit(Unit::Yi)),
-    ('亿', Mark::Unit(Unit::Yi)),
-    ('兆', Mark::Unit(Unit::Zhao)),
-    ('京', Mark::Unit(Unit::Jing)),
-    ('垓', Mark::Unit(Unit::Gai)),
-    ('秭', Mark::Unit(Unit::Zi)),
-    ('穰', Mark::Unit(Unit::Rang)),
-    ('溝', Mark::Unit(Unit::Gou)),
-    ('沟', Mark::Unit(Unit::Gou)),
-    ('澗', Mark::Unit(Unit::Jian)),
-    ('涧', Mark::Unit(Unit::Jian)),
-    ('正', Mark::Unit(Unit::Zheng)),
-    ('載', Mark::Unit(Unit::Zai)),
+    ('無', Mark::Other),
+    ('無', Mark::Other),
+    ('〇', Mark::Digit(0)),
+    ('七', Mark::Digit(7)),
+    ('無', Mark::Other),
+    ('無', Mark::Other),
+    ('四', Mark::Digit(4)),
+    ('無', Mark::Other),
     ('载', Mark::Unit(Unit::Zai)),
+    ('無', Mark::Other),
+    ('無', Mark::Other),
+    ('澗', Mark::Unit(Unit::Jian)),
+    ('無', Mark::Other),
+    ('無', Mark::Other),
+    ('載', Mark::Unit(Unit::Zai)),
+    ('参', Mark::Digit(3)),
+    ('無', Mark::Other),
+    ('二', Mark::Digit(2)),
+    ('無', Mark::Other),
+    ('無', Mark::Other),
+    ('正', Mark::Unit(Unit::Zheng)),
+    ('無', Mark::Other),
+    ('無', Mark::Other),
+    ('無', Mark::Other),
+    ('兩', Mark::Digit(2)),
+    ('無', Mark::Other),
+    ('億', Mark::Unit(Unit::Yi)),
+    ('三', Mark::Digit(3)),
+    ('無', Mark::Other),
+    ('亿', Mark::Unit(Unit::Yi)),
+    ('無', Mark::Other),
+    ('無', Mark::Other),
+    ('佰', Mark::Unit(Unit::Bai)),
+    ('無', Mark::Other),
+    ('兆', Mark::Unit(Unit::Zhao)),
+    ('無', Mark::Other),
+    ('無', Mark::Other),
+    ('無', Mark::Other),
+    ('無', Mark::Other),
+    ('壹', Mark::Digit(1)),
+    ('無', Mark::Other),
+    ('參', Mark::Digit(3)),
+    ('捌', Mark::Digit(8)),
+    ('無', Mark::Other),
+    ('無', Mark::Other),
+    ('無', Mark::Other),
+    ('無', Mark::Other),
+    ('無', Mark::Other),
+    ('無', Mark::Other),
+    ('無', Mark::Other),
+    ('無', Mark::Other),
     ('極', Mark::Unit(Unit::Ji)),
+    ('無', Mark::Other),
+    ('無', Mark::Other),
+    ('無', Mark::Other),
+    ('一', Mark::Digit(1)),
+    ('無', Mark::Other),
+    ('無', Mark::Other),
     ('极', Mark::Unit(Unit::Ji)),
+    ('垓', Mark::Unit(Unit::Gai)),
+    ('京', Mark::Unit(Unit::Jing)),
+    ('無', Mark::Other),
+    ('柒', Mark::Digit(7)),
+    ('無', Mark::Other),
+    ('贰', Mark::Digit(2)),
+    ('無', Mark::Other),
+    ('叄', Mark::Digit(3)),
+    ('無', Mark::Other),
+    ('玖', Mark::Digit(9)),
+    ('無', Mark::Other),
+    ('無', Mark::Other),
+    ('两', Mark::Digit(2)),
+    ('仟', Mark::Unit(Unit::Qian)),
+    ('無', Mark::Other),
+    ('無', Mark::Other),
+    ('八', Mark::Digit(8)),
+    ('十', Mark::Unit(Unit::Shi)),
+    ('無', Mark::Other),
+    ('無', Mark::Other),
+    ('溝', Mark::Unit(Unit::Gou)),
+    ('零', Mark::Digit(0)),
+    ('穰', Mark::Unit(Unit::Rang)),
+    ('無', Mark::Other),
+    ('無', Mark::Other),
+    ('無', Mark::Other),
+    ('伍', Mark::Digit(5)),
+    ('無', Mark::Other),
+    ('無', Mark::Other),
+    ('陸', Mark::Digit(6)),
+    ('沟', Mark::Unit(Unit::Gou)),
+    ('秭', Mark::Unit(Unit::Zi)),
+    ('無', Mark::Other),
+    ('五', Mark::Digit(5)),
+    ('無', Mark::Other),
+    ('無', Mark::Other),
+    ('个', Mark::Unit(Unit::Ge)),
+    ('無', Mark::Other),
+    ('百', Mark::Unit(Unit::Bai)),
+    ('貳', Mark::Digit(2)),
+    ('萬', Mark::Unit(Unit::Wan)),
+    ('貮', Mark::Digit(2)),
+    ('無', Mark::Other),
+    ('陆', Mark::Digit(6)),
+    ('無', Mark::Other),
+    ('万', Mark::Unit(Unit::Wan)),
+    ('無', Mark::Other),
+    ('無', Mark::Other),
+    ('九', Mark::Digit(9)),
+    ('無', Mark::Other),
+    ('無', Mark::Other),
+    ('無', Mark::Other),
+    ('無', Mark::Other),
+    ('無', Mark::Other),
+    ('無', Mark::Other),
+    ('拾', Mark::Unit(Unit::Shi)),
+    ('無', Mark::Other),
+    ('無', Mark::Other),
+    ('無', Mark::Other),
+    ('叁', Mark::Digit(3)),
+    ('個', Mark::Unit(Unit::Ge)),
+    ('涧', Mark::Unit(Unit::Jian)),
+    ('肆', Mark::Digit(4)),
+    ('無', Mark::Other),
 ];
 
-// The place of each character in `MARKS` stands at its slot, and 0 at the other slots.
-static PLACES: [u8; 256] = [
-    0, 0, 7, 0, 0, 0, 0, 0, 0, 0, 0, 0, 0, 0, 0, 0, 0, 4, 0, 48, 35, 0, 0, 0, 0, 0, 0, 0, 0, 23, 0,
-    0, 0, 0, 0, 0, 0, 57, 0, 0, 0, 46, 41, 36, 0, 0, 0, 0, 0, 0, 0, 0, 15, 17, 61, 14, 16, 0, 58,
-    0, 0, 0, 0, 0, 0, 0, 0, 0, 0, 0, 0, 0, 1, 5, 0, 12, 18, 0, 21, 24, 0, 28, 31, 0, 34, 37, 0, 0,
-    0, 0, 0, 6, 0, 0, 2, 0, 0, 0, 0, 0, 0, 0, 0, 22, 0, 0, 0, 0, 0, 0, 0, 27, 30, 0, 0, 40, 0, 0,
-    44, 50, 0, 0, 0, 0, 0, 0, 54, 0, 0, 0, 0, 0, 0, 0, 0, 60, 3, 0, 0, 51, 42, 29, 0, 0, 0, 0, 0,
-    47, 0, 0, 13, 0, 0, 0, 0, 0, 38, 0, 0, 33, 0, 0, 0, 0, 0, 0, 0, 0, 49, 20, 0, 10, 56, 55, 32,
-    0, 0, 25, 0, 43, 0, 0, 0, 0, 53, 0, 0, 26, 0, 0, 11, 8, 0, 0, 0, 0, 0, 0, 0, 39, 0, 0, 0, 0, 0,
-    0, 0, 0, 59, 0, 0, 0, 0, 0, 0, 0, 45, 0, 0, 0, 0, 0, 0, 0, 19, 0, 0, 0, 0, 0, 0, 0, 62, 0, 0,
-    0, 0, 0, 0, 0, 0, 0, 0, 0, 0, 52, 63, 0, 0, 0, 0, 9, 0, 0, 0, 0,
-];
-
-// The slot of a character: no two characters of `MARKS` share one.
-fn slot(c: char) -> usize
-    ensures { result ≡ c * 1543 / 1024 % 256 }
+// The entry at the slot of a character: no two digits or units share one.
+#[inline(always)]
+fn entry(code: u32) -> (char, Mark)
+    ensures { result ≡ slice_index_or MARKS (code * 207503 / 8192 % 128) result }
 {
-    (c as u32 * 1543 / 1024 % 256) as usize
+    MARKS[(code as u64 * 207_503 / 8192 % 128) as usize]
 }
 
-// The entry at the slot of a character.
-fn entry(c: char) -> (char, Mark)
-    ensures { result ≡ slice_index_or MARKS (slice_index PLACES (c * 1543 / 1024 % 256)) result }
+/// What the character with this number is, if the table has it; each digit and unit of three bytes is there.
+#[inline(always)]
+pub fn known_mark(code: u32) -> Option<Mark>
+    ensures { IfSome result (λ mark. (marked mark ≡ mark_of code) × (is_whitespace code ≡ false)) }
 {
-    let place = PLACES[slot(c)] as usize;
-    MARKS[place]
+    let (character, mark) = entry(code);
+    if character as u32 == code {
+        Some(mark)
+    } else {
+        None
+    }
 }
 
 /// What the character is.
 pub fn mark_of(c: char) -> Mark
     ensures { marked result ≡ mark_of c }
 {
-    let (character, mark) = entry(c);
-    if character == c { mark } else { Mark::Other }
-}
-
-/// Whether the character, which has this mark, is white space: no digit and no unit is.
-pub fn is_white(c: char, mark: Mark) -> bool
-    requires { marked mark ≡ mark_of c }
-    ensures { result ≡ is_whitespace c }
-{
-    match mark {
-        Mark::Other => c.is_whitespace(),
-        Mark::Digit(_) => false,
-        Mark::Unit(_) => false,
+    if let Some(mark) = known_mark(c as u32) {
+        return mark;
+    }
+    if let Some(value) = digit_of(c) {
+        return Mark::Digit(value);
+    }
+    match unit_of(c) {
+        Some(unit) => Mark::Unit(unit),
+        None => Mark::Other,
     }
 }

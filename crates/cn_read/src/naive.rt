@@ -1,12 +1,14 @@
 // Plain decimal digits, read from left to right.
-ghost use Rattle.std.specs.Prelude.{◌≡◌, ◌+◌, ◌*◌, ◌<◌, ◌^◌, length, SomeIff};
+ghost use Rattle.std.specs.Prelude.{◌≡◌, ℕ, ◌+◌, ◌*◌, ◌<◌, ◌^◌, [], ◌∷◌, length, chars, IfSome, MatchOption, SomeIff};
 ghost use Rattle.cn_core.specs.Text.{text_of, marks_of};
 ghost use Rattle.cn_core.specs.Naive.{naive_answer};
 ghost use Rattle.cn_core.specs.Typed.{naive_reading};
 ghost use Rattle.cn_read.specs.Answer.{answer_of};
 ghost use Rattle.cn_read.specs.Private.Piece.{spotted};
+ghost use Rattle.cn_read.specs.Private.PlainPiece.{IsPiece};
 
 use crate::ChineseToNumberError;
+use crate::ends::split_first_digit;
 use crate::mark::{Mark, mark_of};
 use crate::sign::split_sign;
 use crate::text::split_first_char;
@@ -26,6 +28,47 @@ fn push_digit(number: u128, digit: u8) -> Option<u128>
     (number * 10).checked_add(digit as u128)
 }
 
+// What a character is to plain digits.
+#[derive(Copy, Clone)]
+enum Piece {
+    Digit(u8),
+    White,
+    Wrong,
+}
+
+// What a character is, whatever it is.
+fn piece_of(c: char) -> Piece
+    ensures { IsPiece result c }
+{
+    match mark_of(c) {
+        Mark::Digit(digit) => Piece::Digit(digit),
+        Mark::Unit(_) => Piece::Wrong,
+        Mark::Other => {
+            if c.is_whitespace() {
+                Piece::White
+            } else {
+                Piece::Wrong
+            }
+        }
+    }
+}
+
+// What the first character is, and what stands after it. A digit of three bytes is found quickly.
+#[inline(always)]
+fn split_first_piece(text: &str) -> Option<(Piece, &str)>
+    ensures parts { MatchOption result (chars text.now ≡ [])
+        (λ r. (c : ℕ) × (chars text.now ≡ c ∷ chars r.1.now) × IsPiece r.0 c) }
+    ensures shorter { IfSome result (λ r. length r.1.now < length text.now) }
+{
+    if let Some((digit, after)) = split_first_digit(text) {
+        return Some((Piece::Digit(digit), after));
+    }
+    match split_first_char(text) {
+        Some((c, after)) => Some((piece_of(c), after)),
+        None => None,
+    }
+}
+
 // The answer to plain digits without sign, which stand after so many characters of the caller's string.
 fn judge_naive(skipped: usize, text: &str) -> Result<u128, ChineseToNumberError>
     requires { skipped + length text.now < 2 ^ 64 }
@@ -35,22 +78,19 @@ fn judge_naive(skipped: usize, text: &str) -> Result<u128, ChineseToNumberError>
     let mut char_index = skipped;
     let mut is_empty = true;
     let mut number = 0u128;
-    'reading: while let Some((c, after)) = split_first_char(rest) {
-        let incorrect = Err(ChineseToNumberError::ChineseNumberIncorrect { char_index });
-        match mark_of(c) {
-            Mark::Digit(digit) => {
+    'reading: while let Some((piece, after)) = split_first_piece(rest) {
+        match piece {
+            Piece::Digit(digit) => {
                 let Some(longer) = push_digit(number, digit) else {
                     return Err(ChineseToNumberError::Overflow);
                 };
                 number = longer;
                 is_empty = false;
             }
-            Mark::Other => {
-                if !c.is_whitespace() {
-                    return incorrect;
-                }
+            Piece::White => {}
+            Piece::Wrong => {
+                return Err(ChineseToNumberError::ChineseNumberIncorrect { char_index });
             }
-            Mark::Unit(_) => return incorrect,
         }
         char_index += 1;
         rest = after;

@@ -32,10 +32,11 @@ ghost use Rattle.cn_read.specs.Private.Piece.{EndsWith};
 ghost use Rattle.cn_read.specs.Private.Walk.{digit_next, walked_answer, HasNoTail, HasTail};
 
 use crate::ChineseToNumberError;
+use crate::ends::split_last_mark;
 use crate::mark::{Mark, mark_of};
 use crate::open_units::OpenUnits;
 use crate::sign::split_sign;
-use crate::text::{count_chars, split_first, split_last};
+use crate::text::{count_chars, split_first};
 use crate::typed::with_sign;
 use crate::walk::{Next, walk};
 use cn_core::{ChineseCountMethod, Unit, Whole, scale};
@@ -117,16 +118,15 @@ fn split_tail(text: &str) -> Option<Tail<'_>>
     ensures end { IfSome result (λ t. (c : ℕ) × EndsWith text.now c t.body.now × (marked t.last ≡ mark_of c)) }
     ensures shorter { IfSome result (λ t. length t.body.now < length text.now) }
 {
-    let Some((last, body)) = split_last(text) else {
+    let Some((last, body)) = split_last_mark(text) else {
         return None;
     };
-    let Some((second, _)) = split_last(body) else {
+    let Some((second, _)) = split_last_mark(body) else {
         return None;
     };
-    let Some(unit) = unit_from_hundred(mark_of(second)) else {
+    let Some(unit) = unit_from_hundred(second) else {
         return None;
     };
-    let last = mark_of(last);
     if is_unit_above_ge(last) {
         return None;
     }

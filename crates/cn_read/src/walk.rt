@@ -12,9 +12,10 @@ ghost use Rattle.cn_read.specs.Private.Walk.{faults, unit_next, multiplies_by, o
 ghost use Rattle.cn_read.specs.Private.Walked.{IsWalked};
 
 use crate::ChineseToNumberError;
-use crate::mark::{Mark, is_white, mark_of};
+use crate::ends::split_last_mark;
+use crate::mark::Mark;
 use crate::open_units::OpenUnits;
-use crate::text::{count_chars, split_last_char};
+use crate::text::count_chars;
 use cn_core::{ChineseCountMethod, Unit, scale};
 
 /// What a walk from the back has just met.
@@ -170,12 +171,7 @@ pub fn walk(
         next: Next::AtEnd,
     };
     let mut ahead = text;
-    'walking: while let Some((c, before)) = split_last_char(ahead) {
-        let mark = mark_of(c);
-        if is_white(c, mark) {
-            ahead = before;
-            continue;
-        }
+    'walking: while let Some((mark, before)) = split_last_mark(ahead) {
         match step(method, units, standing, mark) {
             Ok(after) => standing = after,
             Err(Fault::PastLimit) => return Err(ChineseToNumberError::Overflow),

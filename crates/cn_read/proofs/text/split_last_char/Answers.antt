@@ -2,9 +2,9 @@ use Rattle.std.proofs.Common.{◌≡◌, ◌++◌, encode_utf8, length, ap, arit
 use Rattle.cn_read.proofs.Walking.{chars-back, chars-from_empty}
 use Rattle.cn_read.proofs.text.split_last_char.Goals as goal
 
-pub returns-in-Some-next_back-clause-parts : goal.returns-in-Some-next_back-clause-parts
-returns-in-Some-next_back-clause-parts c =
-    let parts : c.args.text.now ≡ c.as_str.result.now ++ encode_utf8 c.in-Some-next_back.c = cc (c.in-Some-next_back.ensures.steps, c.chars-chars.ensures.rest) in
+pub returns-in-Some-clause-parts : goal.returns-in-Some-clause-parts
+returns-in-Some-clause-parts c =
+    let parts : c.args.text.now ≡ c.as_str.result.now ++ encode_utf8 c.in-Some.c = cc (c.in-Some.ensures.steps, c.chars-chars.ensures.rest) in
     chars-back _ _ _ c.utf8.text c.as_str.utf8 parts
 
 pub returns-in-None-clause-parts : goal.returns-in-None-clause-parts
