@@ -1,5 +1,5 @@
 -- Worked examples of plain digits: what the definitions compute to.
-use Rattle.std.proofs.Common.{◌≡◌, ◌^◌, ◌-◌, ◌++◌, List, ℕ, refl, codes, Ok, Err, encode_utf8_all, false, true, pos, negsuc}
+use Rattle.std.proofs.Common.{◌≡◌, ◌^◌, ◌-◌, List, ℕ, refl, codes, Ok, Err, encode_utf8_all, false, true, pos, negsuc}
 use Rattle.std.specs.Str.{chars}
 use Rattle.std.specs.Char.{encode_utf8}
 use Rattle.std.specs.Fmt.{digits}

@@ -1,6 +1,6 @@
 -- Worked examples of numerals: what the definitions compute to.
-use Rattle.std.proofs.Common.{◌≡◌, ◌*◌, ◌^◌, refl, codes, Ok, Err}
-use Rattle.cn_core.specs.declared.method.ChineseCountMethod.TheVariants.{Low, TenThousand, Middle, High}
+use Rattle.std.proofs.Common.{◌*◌, ◌^◌, refl, codes, Ok, Err}
+use Rattle.cn_core.specs.declared.method.ChineseCountMethod.TheVariants.{Low, TenThousand, Middle}
 use Rattle.cn_core.specs.Characters.{digit_of, rank_of}
 use Rattle.cn_core.specs.Judge.{Judges}
 use Rattle.cn_core.specs.Refusal.{incorrect_at, too_large}
