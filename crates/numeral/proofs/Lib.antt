@@ -5,3 +5,4 @@ pub mod Fields
 pub mod Characters
 pub mod Strides
 pub mod Decimals
+pub mod Gathered

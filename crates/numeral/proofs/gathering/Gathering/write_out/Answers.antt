@@ -1,0 +1,29 @@
+use Rattle.std.proofs.Common.{rules, ◌≡◌, ◌≤◌, [], ◌-◌, ◌++◌, drop, length, take, refl, sym, ap, ◌∙◌}
+use Rattle.std.specs.Io.KnownBytes.{Keeps, append_known}
+use Rattle.std.proofs.Math.ListN.{drop_of_length-le}
+use Rattle.numeral.proofs.Gathered.{kept-alike, kept-same, kept-twice, kept-before, kept-moved, none-moved, left_after, slice_to_end}
+use Rattle.numeral.proofs.gathering.Gathering.write_out.Goals as goal
+
+pub writes-init : goal.writes-init
+writes-init g c = (c.args.self.now.within, kept-alike _)
+
+pub returns-in_err-count-clause-bytes : goal.returns-in_err-count-clause-bytes
+returns-in_err-count-clause-bytes g c = kept-twice _ _ _ (c.writes.invariant).1 (kept-before _ _ _ (c.in_err-count.ensures).bytes)
+
+pub returns-then-count-eq0-clause-bytes : goal.returns-then-count-eq0-clause-bytes
+returns-then-count-eq0-clause-bytes g c =
+    kept-twice _ _ _ (c.writes.invariant).1 (kept-before _ _ _ (none-moved _ _ _ c.if-count-eq0.true (c.in_ok-count.ensures).bytes))
+
+pub writes-preserved : goal.writes-preserved
+writes-preserved g c =
+    let whole = slice_to_end c.writes.self.room.items c.deref.result.now c.writes.self.gone c.deref.ensures.value in (
+      search rules,
+      kept-twice _ _ _ (c.writes.invariant).1 (kept-moved _ _ _ _ _ (c.in_ok-count.ensures).bytes
+          (sym whole ∙ left_after c.writes.self.room.items _ c.writes.self.gone c.in_ok-count.count whole)),
+    )
+
+pub returns-clause-bytes : goal.returns-clause-bytes
+returns-clause-bytes g c =
+    let nothing : drop c.writes.self.gone c.writes.self.room.items ≡ c.clear.new.self.items =
+    drop_of_length-le c.writes.self.room.items search rules ∙ sym c.clear.ensures.items in
+    kept-twice _ _ _ (c.writes.invariant).1 (kept-same _ nothing)
