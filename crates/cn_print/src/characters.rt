@@ -40,6 +40,7 @@ pub struct Characters {
 }
 
 impl Characters {
+    /// Looks the table up, once for a text.
     pub fn new(variant: ChineseVariant, case: ChineseCase) -> Self
         ensures variant { result.variant ≡ variant }
         ensures case { result.case ≡ case }
@@ -65,6 +66,7 @@ impl Characters {
         ]
     }
 
+    /// The character of a digit from 0 to 9.
     #[inline(always)]
     pub fn digit(self, digit: u8) -> [u8; 3]
         requires { digit < 10 }
@@ -74,6 +76,7 @@ impl Characters {
         self.at(digit as usize)
     }
 
+    /// The character of a unit.
     #[inline(always)]
     pub fn unit(self, unit: Unit) -> [u8; 3]
         ensures bytes { result ≡ encode_utf8 (unit_char self.variant self.case (rank unit)) }
@@ -82,6 +85,7 @@ impl Characters {
         self.at(UNITS + unit as usize)
     }
 
+    /// The minus sign.
     #[inline(always)]
     pub fn minus(self) -> [u8; 3]
         ensures bytes { result ≡ encode_utf8 (minus_char self.variant) }

@@ -45,6 +45,7 @@ impl Digits {
         Digits { places, len }
     }
 
+    /// How many digits there are; 0 has one.
     #[inline(always)]
     pub fn len(&self) -> usize
         ensures len { result ≡ length (places_of self.now) }

@@ -45,6 +45,7 @@ fn multiply_add(factor: u128, size: u128, more: u128) -> Option<u128>
 }
 
 impl OpenUnits {
+    /// No unit is open.
     pub fn new() -> Self
         ensures { result ≡ [] }
     {

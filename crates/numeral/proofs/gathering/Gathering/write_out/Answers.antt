@@ -1,5 +1,4 @@
-use Rattle.std.proofs.Common.{rules, ◌≡◌, ◌≤◌, [], ◌-◌, ◌++◌, drop, length, take, refl, sym, ap, ◌∙◌}
-use Rattle.std.specs.Io.KnownBytes.{Keeps, append_known}
+use Rattle.std.proofs.Common.{rules, ◌≡◌, drop, sym, ◌∙◌}
 use Rattle.std.proofs.Math.ListN.{drop_of_length-le}
 use Rattle.numeral.proofs.Gathered.{kept-alike, kept-same, kept-twice, kept-before, kept-moved, none-moved, left_after, slice_to_end}
 use Rattle.numeral.proofs.gathering.Gathering.write_out.Goals as goal
