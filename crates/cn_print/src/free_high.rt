@@ -18,7 +18,7 @@ pub fn from_u32_to_chinese_high(
 ) -> Result<String, AllocError>
     ensures { IfOk result (Writes (spelled_text variant case ChineseCountMethod.High (pos value)) 234) }
 {
-    print(alloc, variant, case, ChineseCountMethod::High, value)
+    print::<u32, _>(alloc, variant, case, ChineseCountMethod::High, value)
 }
 
 /// Writes a `u64` by squares: 億 is 10^8, 兆 is 10^16, 京 is 10^32.
@@ -32,7 +32,7 @@ pub fn from_u64_to_chinese_high(
 ) -> Result<String, AllocError>
     ensures { IfOk result (Writes (spelled_text variant case ChineseCountMethod.High (pos value)) 234) }
 {
-    print(alloc, variant, case, ChineseCountMethod::High, value)
+    print::<u64, _>(alloc, variant, case, ChineseCountMethod::High, value)
 }
 
 /// Writes a `u128` by squares: 億 is 10^8, 兆 is 10^16, 京 is 10^32.
@@ -46,7 +46,7 @@ pub fn from_u128_to_chinese_high(
 ) -> Result<String, AllocError>
     ensures { IfOk result (Writes (spelled_text variant case ChineseCountMethod.High (pos value)) 234) }
 {
-    print(alloc, variant, case, ChineseCountMethod::High, value)
+    print::<u128, _>(alloc, variant, case, ChineseCountMethod::High, value)
 }
 
 /// Writes a `usize` by squares: 億 is 10^8, 兆 is 10^16, 京 is 10^32.
@@ -60,7 +60,7 @@ pub fn from_usize_to_chinese_high(
 ) -> Result<String, AllocError>
     ensures { IfOk result (Writes (spelled_text variant case ChineseCountMethod.High (pos value)) 234) }
 {
-    print(alloc, variant, case, ChineseCountMethod::High, value)
+    print::<usize, _>(alloc, variant, case, ChineseCountMethod::High, value)
 }
 
 /// Writes an `i32` by squares: 億 is 10^8, 兆 is 10^16, 京 is 10^32.
@@ -74,7 +74,7 @@ pub fn from_i32_to_chinese_high(
 ) -> Result<String, AllocError>
     ensures { IfOk result (Writes (spelled_text variant case ChineseCountMethod.High value) 234) }
 {
-    print(alloc, variant, case, ChineseCountMethod::High, value)
+    print::<i32, _>(alloc, variant, case, ChineseCountMethod::High, value)
 }
 
 /// Writes an `i64` by squares: 億 is 10^8, 兆 is 10^16, 京 is 10^32.
@@ -88,7 +88,7 @@ pub fn from_i64_to_chinese_high(
 ) -> Result<String, AllocError>
     ensures { IfOk result (Writes (spelled_text variant case ChineseCountMethod.High value) 234) }
 {
-    print(alloc, variant, case, ChineseCountMethod::High, value)
+    print::<i64, _>(alloc, variant, case, ChineseCountMethod::High, value)
 }
 
 /// Writes an `i128` by squares: 億 is 10^8, 兆 is 10^16, 京 is 10^32.
@@ -102,7 +102,7 @@ pub fn from_i128_to_chinese_high(
 ) -> Result<String, AllocError>
     ensures { IfOk result (Writes (spelled_text variant case ChineseCountMethod.High value) 234) }
 {
-    print(alloc, variant, case, ChineseCountMethod::High, value)
+    print::<i128, _>(alloc, variant, case, ChineseCountMethod::High, value)
 }
 
 /// Writes an `isize` by squares: 億 is 10^8, 兆 is 10^16, 京 is 10^32.
@@ -116,5 +116,5 @@ pub fn from_isize_to_chinese_high(
 ) -> Result<String, AllocError>
     ensures { IfOk result (Writes (spelled_text variant case ChineseCountMethod.High value) 234) }
 {
-    print(alloc, variant, case, ChineseCountMethod::High, value)
+    print::<isize, _>(alloc, variant, case, ChineseCountMethod::High, value)
 }

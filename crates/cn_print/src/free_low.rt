@@ -23,7 +23,7 @@ pub fn from_u8_to_chinese(
 ) -> Result<String, AllocError>
     ensures { IfOk result (Writes (spelled_text variant case ChineseCountMethod.Low (pos value)) 96) }
 {
-    print(alloc, variant, case, ChineseCountMethod::Low, value)
+    print::<u8, _>(alloc, variant, case, ChineseCountMethod::Low, value)
 }
 
 /// Writes a `u16` by single places: 億 is 10^5.
@@ -37,7 +37,7 @@ pub fn from_u16_to_chinese(
 ) -> Result<String, AllocError>
     ensures { IfOk result (Writes (spelled_text variant case ChineseCountMethod.Low (pos value)) 96) }
 {
-    print(alloc, variant, case, ChineseCountMethod::Low, value)
+    print::<u16, _>(alloc, variant, case, ChineseCountMethod::Low, value)
 }
 
 /// Writes a `u32` by single places: 億 is 10^5.
@@ -51,7 +51,7 @@ pub fn from_u32_to_chinese_low(
 ) -> Result<String, AllocError>
     ensures { IfOk result (Writes (spelled_text variant case ChineseCountMethod.Low (pos value)) 96) }
 {
-    print(alloc, variant, case, ChineseCountMethod::Low, value)
+    print::<u32, _>(alloc, variant, case, ChineseCountMethod::Low, value)
 }
 
 /// Writes a `u64` by single places: 億 is 10^5.
@@ -66,7 +66,7 @@ pub fn from_u64_to_chinese_low(
 ) -> Result<String, NumberToChineseError>
     ensures { Prints variant case ChineseCountMethod.Low (pos value) result }
 {
-    print_or_refuse(alloc, variant, case, ChineseCountMethod::Low, value)
+    print_or_refuse::<u64, _>(alloc, variant, case, ChineseCountMethod::Low, value)
 }
 
 /// Writes a `u128` by single places: 億 is 10^5.
@@ -81,7 +81,7 @@ pub fn from_u128_to_chinese_low(
 ) -> Result<String, NumberToChineseError>
     ensures { Prints variant case ChineseCountMethod.Low (pos value) result }
 {
-    print_or_refuse(alloc, variant, case, ChineseCountMethod::Low, value)
+    print_or_refuse::<u128, _>(alloc, variant, case, ChineseCountMethod::Low, value)
 }
 
 /// Writes a `usize` by single places: 億 is 10^5.
@@ -96,7 +96,7 @@ pub fn from_usize_to_chinese_low(
 ) -> Result<String, NumberToChineseError>
     ensures { Prints variant case ChineseCountMethod.Low (pos value) result }
 {
-    print_or_refuse(alloc, variant, case, ChineseCountMethod::Low, value)
+    print_or_refuse::<usize, _>(alloc, variant, case, ChineseCountMethod::Low, value)
 }
 
 /// Writes an `i8` by single places: 億 is 10^5.
@@ -110,7 +110,7 @@ pub fn from_i8_to_chinese(
 ) -> Result<String, AllocError>
     ensures { IfOk result (Writes (spelled_text variant case ChineseCountMethod.Low value) 96) }
 {
-    print(alloc, variant, case, ChineseCountMethod::Low, value)
+    print::<i8, _>(alloc, variant, case, ChineseCountMethod::Low, value)
 }
 
 /// Writes an `i16` by single places: 億 is 10^5.
@@ -124,7 +124,7 @@ pub fn from_i16_to_chinese(
 ) -> Result<String, AllocError>
     ensures { IfOk result (Writes (spelled_text variant case ChineseCountMethod.Low value) 96) }
 {
-    print(alloc, variant, case, ChineseCountMethod::Low, value)
+    print::<i16, _>(alloc, variant, case, ChineseCountMethod::Low, value)
 }
 
 /// Writes an `i32` by single places: 億 is 10^5.
@@ -138,7 +138,7 @@ pub fn from_i32_to_chinese_low(
 ) -> Result<String, AllocError>
     ensures { IfOk result (Writes (spelled_text variant case ChineseCountMethod.Low value) 96) }
 {
-    print(alloc, variant, case, ChineseCountMethod::Low, value)
+    print::<i32, _>(alloc, variant, case, ChineseCountMethod::Low, value)
 }
 
 /// Writes an `i64` by single places: 億 is 10^5.
@@ -153,7 +153,7 @@ pub fn from_i64_to_chinese_low(
 ) -> Result<String, NumberToChineseError>
     ensures { Prints variant case ChineseCountMethod.Low value result }
 {
-    print_or_refuse(alloc, variant, case, ChineseCountMethod::Low, value)
+    print_or_refuse::<i64, _>(alloc, variant, case, ChineseCountMethod::Low, value)
 }
 
 /// Writes an `i128` by single places: 億 is 10^5.
@@ -168,7 +168,7 @@ pub fn from_i128_to_chinese_low(
 ) -> Result<String, NumberToChineseError>
     ensures { Prints variant case ChineseCountMethod.Low value result }
 {
-    print_or_refuse(alloc, variant, case, ChineseCountMethod::Low, value)
+    print_or_refuse::<i128, _>(alloc, variant, case, ChineseCountMethod::Low, value)
 }
 
 /// Writes an `isize` by single places: 億 is 10^5.
@@ -183,5 +183,5 @@ pub fn from_isize_to_chinese_low(
 ) -> Result<String, NumberToChineseError>
     ensures { Prints variant case ChineseCountMethod.Low value result }
 {
-    print_or_refuse(alloc, variant, case, ChineseCountMethod::Low, value)
+    print_or_refuse::<isize, _>(alloc, variant, case, ChineseCountMethod::Low, value)
 }

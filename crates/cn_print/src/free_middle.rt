@@ -18,7 +18,7 @@ pub fn from_u32_to_chinese_middle(
 ) -> Result<String, AllocError>
     ensures { IfOk result (Writes (spelled_text variant case ChineseCountMethod.Middle (pos value)) 234) }
 {
-    print(alloc, variant, case, ChineseCountMethod::Middle, value)
+    print::<u32, _>(alloc, variant, case, ChineseCountMethod::Middle, value)
 }
 
 /// Writes a `u64` by hundred millions: 億 is 10^8, 兆 is 10^16.
@@ -32,7 +32,7 @@ pub fn from_u64_to_chinese_middle(
 ) -> Result<String, AllocError>
     ensures { IfOk result (Writes (spelled_text variant case ChineseCountMethod.Middle (pos value)) 234) }
 {
-    print(alloc, variant, case, ChineseCountMethod::Middle, value)
+    print::<u64, _>(alloc, variant, case, ChineseCountMethod::Middle, value)
 }
 
 /// Writes a `u128` by hundred millions: 億 is 10^8, 兆 is 10^16.
@@ -46,7 +46,7 @@ pub fn from_u128_to_chinese_middle(
 ) -> Result<String, AllocError>
     ensures { IfOk result (Writes (spelled_text variant case ChineseCountMethod.Middle (pos value)) 234) }
 {
-    print(alloc, variant, case, ChineseCountMethod::Middle, value)
+    print::<u128, _>(alloc, variant, case, ChineseCountMethod::Middle, value)
 }
 
 /// Writes a `usize` by hundred millions: 億 is 10^8, 兆 is 10^16.
@@ -60,7 +60,7 @@ pub fn from_usize_to_chinese_middle(
 ) -> Result<String, AllocError>
     ensures { IfOk result (Writes (spelled_text variant case ChineseCountMethod.Middle (pos value)) 234) }
 {
-    print(alloc, variant, case, ChineseCountMethod::Middle, value)
+    print::<usize, _>(alloc, variant, case, ChineseCountMethod::Middle, value)
 }
 
 /// Writes an `i32` by hundred millions: 億 is 10^8, 兆 is 10^16.
@@ -74,7 +74,7 @@ pub fn from_i32_to_chinese_middle(
 ) -> Result<String, AllocError>
     ensures { IfOk result (Writes (spelled_text variant case ChineseCountMethod.Middle value) 234) }
 {
-    print(alloc, variant, case, ChineseCountMethod::Middle, value)
+    print::<i32, _>(alloc, variant, case, ChineseCountMethod::Middle, value)
 }
 
 /// Writes an `i64` by hundred millions: 億 is 10^8, 兆 is 10^16.
@@ -88,7 +88,7 @@ pub fn from_i64_to_chinese_middle(
 ) -> Result<String, AllocError>
     ensures { IfOk result (Writes (spelled_text variant case ChineseCountMethod.Middle value) 234) }
 {
-    print(alloc, variant, case, ChineseCountMethod::Middle, value)
+    print::<i64, _>(alloc, variant, case, ChineseCountMethod::Middle, value)
 }
 
 /// Writes an `i128` by hundred millions: 億 is 10^8, 兆 is 10^16.
@@ -102,7 +102,7 @@ pub fn from_i128_to_chinese_middle(
 ) -> Result<String, AllocError>
     ensures { IfOk result (Writes (spelled_text variant case ChineseCountMethod.Middle value) 234) }
 {
-    print(alloc, variant, case, ChineseCountMethod::Middle, value)
+    print::<i128, _>(alloc, variant, case, ChineseCountMethod::Middle, value)
 }
 
 /// Writes an `isize` by hundred millions: 億 is 10^8, 兆 is 10^16.
@@ -116,5 +116,5 @@ pub fn from_isize_to_chinese_middle(
 ) -> Result<String, AllocError>
     ensures { IfOk result (Writes (spelled_text variant case ChineseCountMethod.Middle value) 234) }
 {
-    print(alloc, variant, case, ChineseCountMethod::Middle, value)
+    print::<isize, _>(alloc, variant, case, ChineseCountMethod::Middle, value)
 }

@@ -18,7 +18,7 @@ pub fn from_u8_to_chinese_naive(
 ) -> Result<String, AllocError>
     ensures { IfOk result (Writes (naive_text variant case (pos value)) 120) }
 {
-    print_naive(alloc, variant, case, value)
+    print_naive::<u8, _>(alloc, variant, case, value)
 }
 
 /// Writes a `u16` as plain decimal digits.
@@ -32,7 +32,7 @@ pub fn from_u16_to_chinese_naive(
 ) -> Result<String, AllocError>
     ensures { IfOk result (Writes (naive_text variant case (pos value)) 120) }
 {
-    print_naive(alloc, variant, case, value)
+    print_naive::<u16, _>(alloc, variant, case, value)
 }
 
 /// Writes a `u32` as plain decimal digits.
@@ -46,7 +46,7 @@ pub fn from_u32_to_chinese_naive(
 ) -> Result<String, AllocError>
     ensures { IfOk result (Writes (naive_text variant case (pos value)) 120) }
 {
-    print_naive(alloc, variant, case, value)
+    print_naive::<u32, _>(alloc, variant, case, value)
 }
 
 /// Writes a `u64` as plain decimal digits.
@@ -60,7 +60,7 @@ pub fn from_u64_to_chinese_naive(
 ) -> Result<String, AllocError>
     ensures { IfOk result (Writes (naive_text variant case (pos value)) 120) }
 {
-    print_naive(alloc, variant, case, value)
+    print_naive::<u64, _>(alloc, variant, case, value)
 }
 
 /// Writes a `u128` as plain decimal digits.
@@ -74,7 +74,7 @@ pub fn from_u128_to_chinese_naive(
 ) -> Result<String, AllocError>
     ensures { IfOk result (Writes (naive_text variant case (pos value)) 120) }
 {
-    print_naive(alloc, variant, case, value)
+    print_naive::<u128, _>(alloc, variant, case, value)
 }
 
 /// Writes a `usize` as plain decimal digits.
@@ -88,7 +88,7 @@ pub fn from_usize_to_chinese_naive(
 ) -> Result<String, AllocError>
     ensures { IfOk result (Writes (naive_text variant case (pos value)) 120) }
 {
-    print_naive(alloc, variant, case, value)
+    print_naive::<usize, _>(alloc, variant, case, value)
 }
 
 /// Writes a `i8` as plain decimal digits, after the minus sign where it is below zero.
@@ -102,7 +102,7 @@ pub fn from_i8_to_chinese_naive(
 ) -> Result<String, AllocError>
     ensures { IfOk result (Writes (naive_text variant case value) 120) }
 {
-    print_naive(alloc, variant, case, value)
+    print_naive::<i8, _>(alloc, variant, case, value)
 }
 
 /// Writes a `i16` as plain decimal digits, after the minus sign where it is below zero.
@@ -116,7 +116,7 @@ pub fn from_i16_to_chinese_naive(
 ) -> Result<String, AllocError>
     ensures { IfOk result (Writes (naive_text variant case value) 120) }
 {
-    print_naive(alloc, variant, case, value)
+    print_naive::<i16, _>(alloc, variant, case, value)
 }
 
 /// Writes a `i32` as plain decimal digits, after the minus sign where it is below zero.
@@ -130,7 +130,7 @@ pub fn from_i32_to_chinese_naive(
 ) -> Result<String, AllocError>
     ensures { IfOk result (Writes (naive_text variant case value) 120) }
 {
-    print_naive(alloc, variant, case, value)
+    print_naive::<i32, _>(alloc, variant, case, value)
 }
 
 /// Writes a `i64` as plain decimal digits, after the minus sign where it is below zero.
@@ -144,7 +144,7 @@ pub fn from_i64_to_chinese_naive(
 ) -> Result<String, AllocError>
     ensures { IfOk result (Writes (naive_text variant case value) 120) }
 {
-    print_naive(alloc, variant, case, value)
+    print_naive::<i64, _>(alloc, variant, case, value)
 }
 
 /// Writes a `i128` as plain decimal digits, after the minus sign where it is below zero.
@@ -158,7 +158,7 @@ pub fn from_i128_to_chinese_naive(
 ) -> Result<String, AllocError>
     ensures { IfOk result (Writes (naive_text variant case value) 120) }
 {
-    print_naive(alloc, variant, case, value)
+    print_naive::<i128, _>(alloc, variant, case, value)
 }
 
 /// Writes a `isize` as plain decimal digits, after the minus sign where it is below zero.
@@ -172,5 +172,5 @@ pub fn from_isize_to_chinese_naive(
 ) -> Result<String, AllocError>
     ensures { IfOk result (Writes (naive_text variant case value) 120) }
 {
-    print_naive(alloc, variant, case, value)
+    print_naive::<isize, _>(alloc, variant, case, value)
 }

@@ -18,7 +18,7 @@ pub fn from_u32_to_chinese_ten_thousand(
 ) -> Result<String, AllocError>
     ensures { IfOk result (Writes (spelled_text variant case ChineseCountMethod.TenThousand (pos value)) 234) }
 {
-    print(alloc, variant, case, ChineseCountMethod::TenThousand, value)
+    print::<u32, _>(alloc, variant, case, ChineseCountMethod::TenThousand, value)
 }
 
 /// Writes a `u64` by ten thousands: 億 is 10^8, 兆 is 10^12.
@@ -32,7 +32,7 @@ pub fn from_u64_to_chinese_ten_thousand(
 ) -> Result<String, AllocError>
     ensures { IfOk result (Writes (spelled_text variant case ChineseCountMethod.TenThousand (pos value)) 234) }
 {
-    print(alloc, variant, case, ChineseCountMethod::TenThousand, value)
+    print::<u64, _>(alloc, variant, case, ChineseCountMethod::TenThousand, value)
 }
 
 /// Writes a `u128` by ten thousands: 億 is 10^8, 兆 is 10^12.
@@ -46,7 +46,7 @@ pub fn from_u128_to_chinese_ten_thousand(
 ) -> Result<String, AllocError>
     ensures { IfOk result (Writes (spelled_text variant case ChineseCountMethod.TenThousand (pos value)) 234) }
 {
-    print(alloc, variant, case, ChineseCountMethod::TenThousand, value)
+    print::<u128, _>(alloc, variant, case, ChineseCountMethod::TenThousand, value)
 }
 
 /// Writes a `usize` by ten thousands: 億 is 10^8, 兆 is 10^12.
@@ -60,7 +60,7 @@ pub fn from_usize_to_chinese_ten_thousand(
 ) -> Result<String, AllocError>
     ensures { IfOk result (Writes (spelled_text variant case ChineseCountMethod.TenThousand (pos value)) 234) }
 {
-    print(alloc, variant, case, ChineseCountMethod::TenThousand, value)
+    print::<usize, _>(alloc, variant, case, ChineseCountMethod::TenThousand, value)
 }
 
 /// Writes an `i32` by ten thousands: 億 is 10^8, 兆 is 10^12.
@@ -74,7 +74,7 @@ pub fn from_i32_to_chinese_ten_thousand(
 ) -> Result<String, AllocError>
     ensures { IfOk result (Writes (spelled_text variant case ChineseCountMethod.TenThousand value) 234) }
 {
-    print(alloc, variant, case, ChineseCountMethod::TenThousand, value)
+    print::<i32, _>(alloc, variant, case, ChineseCountMethod::TenThousand, value)
 }
 
 /// Writes an `i64` by ten thousands: 億 is 10^8, 兆 is 10^12.
@@ -88,7 +88,7 @@ pub fn from_i64_to_chinese_ten_thousand(
 ) -> Result<String, AllocError>
     ensures { IfOk result (Writes (spelled_text variant case ChineseCountMethod.TenThousand value) 234) }
 {
-    print(alloc, variant, case, ChineseCountMethod::TenThousand, value)
+    print::<i64, _>(alloc, variant, case, ChineseCountMethod::TenThousand, value)
 }
 
 /// Writes an `i128` by ten thousands: 億 is 10^8, 兆 is 10^12.
@@ -102,7 +102,7 @@ pub fn from_i128_to_chinese_ten_thousand(
 ) -> Result<String, AllocError>
     ensures { IfOk result (Writes (spelled_text variant case ChineseCountMethod.TenThousand value) 234) }
 {
-    print(alloc, variant, case, ChineseCountMethod::TenThousand, value)
+    print::<i128, _>(alloc, variant, case, ChineseCountMethod::TenThousand, value)
 }
 
 /// Writes an `isize` by ten thousands: 億 is 10^8, 兆 is 10^12.
@@ -116,5 +116,5 @@ pub fn from_isize_to_chinese_ten_thousand(
 ) -> Result<String, AllocError>
     ensures { IfOk result (Writes (spelled_text variant case ChineseCountMethod.TenThousand value) 234) }
 {
-    print(alloc, variant, case, ChineseCountMethod::TenThousand, value)
+    print::<isize, _>(alloc, variant, case, ChineseCountMethod::TenThousand, value)
 }

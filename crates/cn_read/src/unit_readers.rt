@@ -15,7 +15,7 @@ use cn_core::ChineseCountMethod;
 pub fn from_chinese_to_u8(text: &str) -> Result<u8, ChineseToNumberError>
     ensures { Reads (unsigned_kind 8) ChineseCountMethod.Low text.now (answer_of pos result) }
 {
-    read(ChineseCountMethod::Low, text)
+    read::<u8>(ChineseCountMethod::Low, text)
 }
 
 /// Reads a numeral by `Low` as a `u16`: `一百二` is 120.
@@ -25,7 +25,7 @@ pub fn from_chinese_to_u8(text: &str) -> Result<u8, ChineseToNumberError>
 pub fn from_chinese_to_u16(text: &str) -> Result<u16, ChineseToNumberError>
     ensures { Reads (unsigned_kind 16) ChineseCountMethod.Low text.now (answer_of pos result) }
 {
-    read(ChineseCountMethod::Low, text)
+    read::<u16>(ChineseCountMethod::Low, text)
 }
 
 /// Reads a numeral by `Low` as a `u32`: `一億二` is 120000.
@@ -35,7 +35,7 @@ pub fn from_chinese_to_u16(text: &str) -> Result<u16, ChineseToNumberError>
 pub fn from_chinese_to_u32_low(text: &str) -> Result<u32, ChineseToNumberError>
     ensures { Reads (unsigned_kind 32) ChineseCountMethod.Low text.now (answer_of pos result) }
 {
-    read(ChineseCountMethod::Low, text)
+    read::<u32>(ChineseCountMethod::Low, text)
 }
 
 /// Reads a numeral by `TenThousand` as a `u32`: `一億二` is 120000000.
@@ -45,7 +45,7 @@ pub fn from_chinese_to_u32_low(text: &str) -> Result<u32, ChineseToNumberError>
 pub fn from_chinese_to_u32_ten_thousand(text: &str) -> Result<u32, ChineseToNumberError>
     ensures { Reads (unsigned_kind 32) ChineseCountMethod.TenThousand text.now (answer_of pos result) }
 {
-    read(ChineseCountMethod::TenThousand, text)
+    read::<u32>(ChineseCountMethod::TenThousand, text)
 }
 
 /// Reads a numeral by `Middle` as a `u32`: `一億二` is 120000000.
@@ -55,7 +55,7 @@ pub fn from_chinese_to_u32_ten_thousand(text: &str) -> Result<u32, ChineseToNumb
 pub fn from_chinese_to_u32_middle(text: &str) -> Result<u32, ChineseToNumberError>
     ensures { Reads (unsigned_kind 32) ChineseCountMethod.Middle text.now (answer_of pos result) }
 {
-    read(ChineseCountMethod::Middle, text)
+    read::<u32>(ChineseCountMethod::Middle, text)
 }
 
 /// Reads a numeral by `High` as a `u32`: `一億二` is 120000000.
@@ -65,7 +65,7 @@ pub fn from_chinese_to_u32_middle(text: &str) -> Result<u32, ChineseToNumberErro
 pub fn from_chinese_to_u32_high(text: &str) -> Result<u32, ChineseToNumberError>
     ensures { Reads (unsigned_kind 32) ChineseCountMethod.High text.now (answer_of pos result) }
 {
-    read(ChineseCountMethod::High, text)
+    read::<u32>(ChineseCountMethod::High, text)
 }
 
 /// Reads a numeral by `Low` as a `u64`: `一億二` is 120000.
@@ -75,7 +75,7 @@ pub fn from_chinese_to_u32_high(text: &str) -> Result<u32, ChineseToNumberError>
 pub fn from_chinese_to_u64_low(text: &str) -> Result<u64, ChineseToNumberError>
     ensures { Reads (unsigned_kind 64) ChineseCountMethod.Low text.now (answer_of pos result) }
 {
-    read(ChineseCountMethod::Low, text)
+    read::<u64>(ChineseCountMethod::Low, text)
 }
 
 /// Reads a numeral by `TenThousand` as a `u64`: `一億二` is 120000000.
@@ -85,7 +85,7 @@ pub fn from_chinese_to_u64_low(text: &str) -> Result<u64, ChineseToNumberError>
 pub fn from_chinese_to_u64_ten_thousand(text: &str) -> Result<u64, ChineseToNumberError>
     ensures { Reads (unsigned_kind 64) ChineseCountMethod.TenThousand text.now (answer_of pos result) }
 {
-    read(ChineseCountMethod::TenThousand, text)
+    read::<u64>(ChineseCountMethod::TenThousand, text)
 }
 
 /// Reads a numeral by `Middle` as a `u64`: `一億二` is 120000000.
@@ -95,7 +95,7 @@ pub fn from_chinese_to_u64_ten_thousand(text: &str) -> Result<u64, ChineseToNumb
 pub fn from_chinese_to_u64_middle(text: &str) -> Result<u64, ChineseToNumberError>
     ensures { Reads (unsigned_kind 64) ChineseCountMethod.Middle text.now (answer_of pos result) }
 {
-    read(ChineseCountMethod::Middle, text)
+    read::<u64>(ChineseCountMethod::Middle, text)
 }
 
 /// Reads a numeral by `High` as a `u64`: `一億二` is 120000000.
@@ -105,7 +105,7 @@ pub fn from_chinese_to_u64_middle(text: &str) -> Result<u64, ChineseToNumberErro
 pub fn from_chinese_to_u64_high(text: &str) -> Result<u64, ChineseToNumberError>
     ensures { Reads (unsigned_kind 64) ChineseCountMethod.High text.now (answer_of pos result) }
 {
-    read(ChineseCountMethod::High, text)
+    read::<u64>(ChineseCountMethod::High, text)
 }
 
 /// Reads a numeral by `Low` as a `u128`: `一億二` is 120000.
@@ -115,7 +115,7 @@ pub fn from_chinese_to_u64_high(text: &str) -> Result<u64, ChineseToNumberError>
 pub fn from_chinese_to_u128_low(text: &str) -> Result<u128, ChineseToNumberError>
     ensures { Reads (unsigned_kind 128) ChineseCountMethod.Low text.now (answer_of pos result) }
 {
-    read(ChineseCountMethod::Low, text)
+    read::<u128>(ChineseCountMethod::Low, text)
 }
 
 /// Reads a numeral by `TenThousand` as a `u128`: `一億二` is 120000000.
@@ -125,7 +125,7 @@ pub fn from_chinese_to_u128_low(text: &str) -> Result<u128, ChineseToNumberError
 pub fn from_chinese_to_u128_ten_thousand(text: &str) -> Result<u128, ChineseToNumberError>
     ensures { Reads (unsigned_kind 128) ChineseCountMethod.TenThousand text.now (answer_of pos result) }
 {
-    read(ChineseCountMethod::TenThousand, text)
+    read::<u128>(ChineseCountMethod::TenThousand, text)
 }
 
 /// Reads a numeral by `Middle` as a `u128`: `一億二` is 120000000.
@@ -135,7 +135,7 @@ pub fn from_chinese_to_u128_ten_thousand(text: &str) -> Result<u128, ChineseToNu
 pub fn from_chinese_to_u128_middle(text: &str) -> Result<u128, ChineseToNumberError>
     ensures { Reads (unsigned_kind 128) ChineseCountMethod.Middle text.now (answer_of pos result) }
 {
-    read(ChineseCountMethod::Middle, text)
+    read::<u128>(ChineseCountMethod::Middle, text)
 }
 
 /// Reads a numeral by `High` as a `u128`: `一億二` is 120000000.
@@ -145,7 +145,7 @@ pub fn from_chinese_to_u128_middle(text: &str) -> Result<u128, ChineseToNumberEr
 pub fn from_chinese_to_u128_high(text: &str) -> Result<u128, ChineseToNumberError>
     ensures { Reads (unsigned_kind 128) ChineseCountMethod.High text.now (answer_of pos result) }
 {
-    read(ChineseCountMethod::High, text)
+    read::<u128>(ChineseCountMethod::High, text)
 }
 
 /// Reads a numeral by `Low` as a `usize`: `一億二` is 120000.
@@ -155,7 +155,7 @@ pub fn from_chinese_to_u128_high(text: &str) -> Result<u128, ChineseToNumberErro
 pub fn from_chinese_to_usize_low(text: &str) -> Result<usize, ChineseToNumberError>
     ensures { Reads (unsigned_kind 64) ChineseCountMethod.Low text.now (answer_of pos result) }
 {
-    read(ChineseCountMethod::Low, text)
+    read::<usize>(ChineseCountMethod::Low, text)
 }
 
 /// Reads a numeral by `TenThousand` as a `usize`: `一億二` is 120000000.
@@ -165,7 +165,7 @@ pub fn from_chinese_to_usize_low(text: &str) -> Result<usize, ChineseToNumberErr
 pub fn from_chinese_to_usize_ten_thousand(text: &str) -> Result<usize, ChineseToNumberError>
     ensures { Reads (unsigned_kind 64) ChineseCountMethod.TenThousand text.now (answer_of pos result) }
 {
-    read(ChineseCountMethod::TenThousand, text)
+    read::<usize>(ChineseCountMethod::TenThousand, text)
 }
 
 /// Reads a numeral by `Middle` as a `usize`: `一億二` is 120000000.
@@ -175,7 +175,7 @@ pub fn from_chinese_to_usize_ten_thousand(text: &str) -> Result<usize, ChineseTo
 pub fn from_chinese_to_usize_middle(text: &str) -> Result<usize, ChineseToNumberError>
     ensures { Reads (unsigned_kind 64) ChineseCountMethod.Middle text.now (answer_of pos result) }
 {
-    read(ChineseCountMethod::Middle, text)
+    read::<usize>(ChineseCountMethod::Middle, text)
 }
 
 /// Reads a numeral by `High` as a `usize`: `一億二` is 120000000.
@@ -185,7 +185,7 @@ pub fn from_chinese_to_usize_middle(text: &str) -> Result<usize, ChineseToNumber
 pub fn from_chinese_to_usize_high(text: &str) -> Result<usize, ChineseToNumberError>
     ensures { Reads (unsigned_kind 64) ChineseCountMethod.High text.now (answer_of pos result) }
 {
-    read(ChineseCountMethod::High, text)
+    read::<usize>(ChineseCountMethod::High, text)
 }
 
 /// Reads a numeral by `Low` as an `i8`: `負一百二` is -120.
@@ -196,7 +196,7 @@ pub fn from_chinese_to_usize_high(text: &str) -> Result<usize, ChineseToNumberEr
 pub fn from_chinese_to_i8(text: &str) -> Result<i8, ChineseToNumberError>
     ensures { Reads (signed_kind 8) ChineseCountMethod.Low text.now (answer_of (λ z. z) result) }
 {
-    read(ChineseCountMethod::Low, text)
+    read::<i8>(ChineseCountMethod::Low, text)
 }
 
 /// Reads a numeral by `Low` as an `i16`: `負一百二` is -120.
@@ -207,7 +207,7 @@ pub fn from_chinese_to_i8(text: &str) -> Result<i8, ChineseToNumberError>
 pub fn from_chinese_to_i16(text: &str) -> Result<i16, ChineseToNumberError>
     ensures { Reads (signed_kind 16) ChineseCountMethod.Low text.now (answer_of (λ z. z) result) }
 {
-    read(ChineseCountMethod::Low, text)
+    read::<i16>(ChineseCountMethod::Low, text)
 }
 
 /// Reads a numeral by `Low` as an `i32`: `負一億二` is -120000.
@@ -218,7 +218,7 @@ pub fn from_chinese_to_i16(text: &str) -> Result<i16, ChineseToNumberError>
 pub fn from_chinese_to_i32_low(text: &str) -> Result<i32, ChineseToNumberError>
     ensures { Reads (signed_kind 32) ChineseCountMethod.Low text.now (answer_of (λ z. z) result) }
 {
-    read(ChineseCountMethod::Low, text)
+    read::<i32>(ChineseCountMethod::Low, text)
 }
 
 /// Reads a numeral by `TenThousand` as an `i32`: `負一億二` is -120000000.
@@ -229,7 +229,7 @@ pub fn from_chinese_to_i32_low(text: &str) -> Result<i32, ChineseToNumberError>
 pub fn from_chinese_to_i32_ten_thousand(text: &str) -> Result<i32, ChineseToNumberError>
     ensures { Reads (signed_kind 32) ChineseCountMethod.TenThousand text.now (answer_of (λ z. z) result) }
 {
-    read(ChineseCountMethod::TenThousand, text)
+    read::<i32>(ChineseCountMethod::TenThousand, text)
 }
 
 /// Reads a numeral by `Middle` as an `i32`: `負一億二` is -120000000.
@@ -240,7 +240,7 @@ pub fn from_chinese_to_i32_ten_thousand(text: &str) -> Result<i32, ChineseToNumb
 pub fn from_chinese_to_i32_middle(text: &str) -> Result<i32, ChineseToNumberError>
     ensures { Reads (signed_kind 32) ChineseCountMethod.Middle text.now (answer_of (λ z. z) result) }
 {
-    read(ChineseCountMethod::Middle, text)
+    read::<i32>(ChineseCountMethod::Middle, text)
 }
 
 /// Reads a numeral by `High` as an `i32`: `負一億二` is -120000000.
@@ -251,7 +251,7 @@ pub fn from_chinese_to_i32_middle(text: &str) -> Result<i32, ChineseToNumberErro
 pub fn from_chinese_to_i32_high(text: &str) -> Result<i32, ChineseToNumberError>
     ensures { Reads (signed_kind 32) ChineseCountMethod.High text.now (answer_of (λ z. z) result) }
 {
-    read(ChineseCountMethod::High, text)
+    read::<i32>(ChineseCountMethod::High, text)
 }
 
 /// Reads a numeral by `Low` as an `i64`: `負一億二` is -120000.
@@ -262,7 +262,7 @@ pub fn from_chinese_to_i32_high(text: &str) -> Result<i32, ChineseToNumberError>
 pub fn from_chinese_to_i64_low(text: &str) -> Result<i64, ChineseToNumberError>
     ensures { Reads (signed_kind 64) ChineseCountMethod.Low text.now (answer_of (λ z. z) result) }
 {
-    read(ChineseCountMethod::Low, text)
+    read::<i64>(ChineseCountMethod::Low, text)
 }
 
 /// Reads a numeral by `TenThousand` as an `i64`: `負一億二` is -120000000.
@@ -273,7 +273,7 @@ pub fn from_chinese_to_i64_low(text: &str) -> Result<i64, ChineseToNumberError>
 pub fn from_chinese_to_i64_ten_thousand(text: &str) -> Result<i64, ChineseToNumberError>
     ensures { Reads (signed_kind 64) ChineseCountMethod.TenThousand text.now (answer_of (λ z. z) result) }
 {
-    read(ChineseCountMethod::TenThousand, text)
+    read::<i64>(ChineseCountMethod::TenThousand, text)
 }
 
 /// Reads a numeral by `Middle` as an `i64`: `負一億二` is -120000000.
@@ -284,7 +284,7 @@ pub fn from_chinese_to_i64_ten_thousand(text: &str) -> Result<i64, ChineseToNumb
 pub fn from_chinese_to_i64_middle(text: &str) -> Result<i64, ChineseToNumberError>
     ensures { Reads (signed_kind 64) ChineseCountMethod.Middle text.now (answer_of (λ z. z) result) }
 {
-    read(ChineseCountMethod::Middle, text)
+    read::<i64>(ChineseCountMethod::Middle, text)
 }
 
 /// Reads a numeral by `High` as an `i64`: `負一億二` is -120000000.
@@ -295,7 +295,7 @@ pub fn from_chinese_to_i64_middle(text: &str) -> Result<i64, ChineseToNumberErro
 pub fn from_chinese_to_i64_high(text: &str) -> Result<i64, ChineseToNumberError>
     ensures { Reads (signed_kind 64) ChineseCountMethod.High text.now (answer_of (λ z. z) result) }
 {
-    read(ChineseCountMethod::High, text)
+    read::<i64>(ChineseCountMethod::High, text)
 }
 
 /// Reads a numeral by `Low` as an `i128`: `負一億二` is -120000.
@@ -306,7 +306,7 @@ pub fn from_chinese_to_i64_high(text: &str) -> Result<i64, ChineseToNumberError>
 pub fn from_chinese_to_i128_low(text: &str) -> Result<i128, ChineseToNumberError>
     ensures { Reads (signed_kind 128) ChineseCountMethod.Low text.now (answer_of (λ z. z) result) }
 {
-    read(ChineseCountMethod::Low, text)
+    read::<i128>(ChineseCountMethod::Low, text)
 }
 
 /// Reads a numeral by `TenThousand` as an `i128`: `負一億二` is -120000000.
@@ -317,7 +317,7 @@ pub fn from_chinese_to_i128_low(text: &str) -> Result<i128, ChineseToNumberError
 pub fn from_chinese_to_i128_ten_thousand(text: &str) -> Result<i128, ChineseToNumberError>
     ensures { Reads (signed_kind 128) ChineseCountMethod.TenThousand text.now (answer_of (λ z. z) result) }
 {
-    read(ChineseCountMethod::TenThousand, text)
+    read::<i128>(ChineseCountMethod::TenThousand, text)
 }
 
 /// Reads a numeral by `Middle` as an `i128`: `負一億二` is -120000000.
@@ -328,7 +328,7 @@ pub fn from_chinese_to_i128_ten_thousand(text: &str) -> Result<i128, ChineseToNu
 pub fn from_chinese_to_i128_middle(text: &str) -> Result<i128, ChineseToNumberError>
     ensures { Reads (signed_kind 128) ChineseCountMethod.Middle text.now (answer_of (λ z. z) result) }
 {
-    read(ChineseCountMethod::Middle, text)
+    read::<i128>(ChineseCountMethod::Middle, text)
 }
 
 /// Reads a numeral by `High` as an `i128`: `負一億二` is -120000000.
@@ -339,7 +339,7 @@ pub fn from_chinese_to_i128_middle(text: &str) -> Result<i128, ChineseToNumberEr
 pub fn from_chinese_to_i128_high(text: &str) -> Result<i128, ChineseToNumberError>
     ensures { Reads (signed_kind 128) ChineseCountMethod.High text.now (answer_of (λ z. z) result) }
 {
-    read(ChineseCountMethod::High, text)
+    read::<i128>(ChineseCountMethod::High, text)
 }
 
 /// Reads a numeral by `Low` as an `isize`: `負一億二` is -120000.
@@ -350,7 +350,7 @@ pub fn from_chinese_to_i128_high(text: &str) -> Result<i128, ChineseToNumberErro
 pub fn from_chinese_to_isize_low(text: &str) -> Result<isize, ChineseToNumberError>
     ensures { Reads (signed_kind 64) ChineseCountMethod.Low text.now (answer_of (λ z. z) result) }
 {
-    read(ChineseCountMethod::Low, text)
+    read::<isize>(ChineseCountMethod::Low, text)
 }
 
 /// Reads a numeral by `TenThousand` as an `isize`: `負一億二` is -120000000.
@@ -361,7 +361,7 @@ pub fn from_chinese_to_isize_low(text: &str) -> Result<isize, ChineseToNumberErr
 pub fn from_chinese_to_isize_ten_thousand(text: &str) -> Result<isize, ChineseToNumberError>
     ensures { Reads (signed_kind 64) ChineseCountMethod.TenThousand text.now (answer_of (λ z. z) result) }
 {
-    read(ChineseCountMethod::TenThousand, text)
+    read::<isize>(ChineseCountMethod::TenThousand, text)
 }
 
 /// Reads a numeral by `Middle` as an `isize`: `負一億二` is -120000000.
@@ -372,7 +372,7 @@ pub fn from_chinese_to_isize_ten_thousand(text: &str) -> Result<isize, ChineseTo
 pub fn from_chinese_to_isize_middle(text: &str) -> Result<isize, ChineseToNumberError>
     ensures { Reads (signed_kind 64) ChineseCountMethod.Middle text.now (answer_of (λ z. z) result) }
 {
-    read(ChineseCountMethod::Middle, text)
+    read::<isize>(ChineseCountMethod::Middle, text)
 }
 
 /// Reads a numeral by `High` as an `isize`: `負一億二` is -120000000.
@@ -383,5 +383,5 @@ pub fn from_chinese_to_isize_middle(text: &str) -> Result<isize, ChineseToNumber
 pub fn from_chinese_to_isize_high(text: &str) -> Result<isize, ChineseToNumberError>
     ensures { Reads (signed_kind 64) ChineseCountMethod.High text.now (answer_of (λ z. z) result) }
 {
-    read(ChineseCountMethod::High, text)
+    read::<isize>(ChineseCountMethod::High, text)
 }
