@@ -26,7 +26,6 @@ pub mod std_device;
 mod tests;
 mod text;
 
-use crate::device::{Sink, Source};
 use crate::fault::RunError;
 use crate::gathering::Gathering;
 use crate::program::answer_all;

@@ -115,6 +115,31 @@ impl Write for Counting<'_> {
     }
 }
 
+// Cannot be flushed.
+#[derive(Drop)]
+struct Stuck;
+
+impl Write for Stuck {
+    fn write(&mut self, bytes: &[u8]) -> io::Result<usize> {
+        Ok(bytes.len())
+    }
+
+    fn flush(&mut self) -> io::Result<()> {
+        Err(io::Error::from(ErrorKind::Other))
+    }
+}
+
+#[test]
+fn a_failed_flush_is_a_fault(rt: HostRuntime) {
+    let mut device = Device::new(Stuck);
+    assert_eq!(rt; device.write(b"hello"), Ok(5));
+    assert_eq!(rt; device.flush(), Err(DeviceFault));
+    assert!(rt; Sink::has_failed(&device));
+    let mut reader = MemorySource::new(b"hello", 9, None);
+    let mut writer = Device::new(Stuck);
+    assert_eq!(rt; answer_all(rt.alloc(), &mut reader, &mut writer), 1);
+}
+
 // A flush is the writer's own, and many answers go out in one write before the read that follows.
 #[test]
 fn answers_go_out_together(rt: HostRuntime) -> Result<(), Fail> {
