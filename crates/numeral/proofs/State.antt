@@ -1,11 +1,11 @@
 -- How far a run has come: what it has written and what it keeps, over the bytes so far.
-use Rattle.std.proofs.Common.{◌≡◌, ◌++◌, ◌+◌, ◌<◌, ℕ, Bool, false, Option, Result, Ok, Err, List, [], ◌∷◌, length, take, refl, sym, ap, ◌∙◌, subst, append_assoc, append-nil, length-append, inl, inr, arith}
-use Rattle.std.specs.Io.KnownBytes.{Keeps, IsAtEnd}
+use Rattle.std.proofs.Common.{◌≡◌, ◌++◌, ◌+◌, ◌<◌, ℕ, Bool, false, Option, Result, Ok, Err, List, [], ◌∷◌, length, take, refl, sym, ap, ◌∙◌, subst, append_assoc, append-nil, take-append-drop, drop, length-append, inl, inr, arith}
+use Rattle.std.specs.Io.KnownBytes.{Keeps, Consumes, IsAtEnd}
 use Rattle.std.proofs.KnownBytes.{Appends-kept, Appends-nil, Keeps-refl, Consumes-whole}
 use Rattle.std.proofs.Math.Seq.{take-append-add}
 use Rattle.std.specs.Prelude.{OnErr, OnOk, IfSome}
 use Rattle.numeral.specs.Lines.{HasNoFeed, ended, unended, lines, last_line}
-use Rattle.numeral.specs.Answer.{Answers}
+use Rattle.numeral.specs.Answer.{Answers, AreReplies}
 use Rattle.numeral.specs.declared.fault.RunError.{RunError}
 use Rattle.numeral.specs.declared.fault.RunError.TheVariants.{Read, Write, Memory}
 use Rattle.numeral.specs.Leaves.{Wrote, WroteBeginning, WroteFirst, Leaves, Runs}
@@ -47,6 +47,13 @@ State-more old now new got kept more kept' s w r =
       written = subst (Wrote old new) (sym (ended-append got more)) (Wrote-append old now new _ _ s.written w');
       rest = r ∙ ap (λ k. unended (k ++ more)) s.rest ∙ sym (unended-append got more);
     }
+
+-- a flush keeps what was written
+pub State-flushed : (old now new : Option (List ℕ)) (got kept : List ℕ) → State old now got kept → Keeps now new → State old new got kept
+State-flushed old now new got kept s k = record {
+  written = (s.written.0, s.written.1, Appends-kept old now new s.written.0 s.written.2 k);
+  rest = s.rest;
+}
 
 -- a write fails among the answers to more bytes
 pub State-write : (old now new : Option (List ℕ)) (got kept more : List ℕ) → State old now got kept
@@ -195,9 +202,40 @@ module _ (first block seen rest : List ℕ) (is : block ≡ seen ++ rest) where
   pub State-rest : (old now : Option (List ℕ)) (kept : List ℕ) → State old now (first ++ seen) kept → HasNoFeed rest → State old now (first ++ block) (kept ++ rest)
   State-rest old now kept s h = subst (λ l. State old now l (kept ++ rest)) (sym whole_is) (State-piece old now (first ++ seen) kept rest s h)
 
+-- ---- what was written is a beginning
+
+lines_append : (bytes : List ℕ) → ended bytes ++ last_line (unended bytes) ≡ lines bytes
+unfolding lines
+lines_append bytes = refl
+
+whole_beginning : (old new : Option (List ℕ)) (xs ys : List (List ℕ)) → Wrote old new xs → WroteBeginning old new (xs ++ ys)
+whole_beginning old new xs ys w =
+    WroteBeginning-before old new xs ys (w.0, [], subst (AreReplies xs) (sym (append-nil w.0)) w.1, w.2)
+
+Leaves-beginning : {T : Type 0} (left : Option (List ℕ)) (read_failed : Bool) (old new : Option (List ℕ)) (write_failed : Bool) (bytes : List ℕ) (r : Result T RunError)
+    → Leaves left read_failed old new write_failed bytes r → WroteBeginning old new (lines bytes)
+Leaves-beginning left read_failed old new write_failed bytes (Ok x) h =
+    subst (WroteBeginning old new) (append-nil (lines bytes)) (whole_beginning old new (lines bytes) [] h.1)
+Leaves-beginning left read_failed old new write_failed bytes (Err Read) h =
+    subst (WroteBeginning old new) (lines_append bytes) (whole_beginning old new (ended bytes) (last_line (unended bytes)) h.0)
+Leaves-beginning left read_failed old new write_failed bytes (Err Write) (inl some, _, _) =
+    subst (WroteBeginning old new) (lines_append bytes) (WroteBeginning-before old new (ended bytes) (last_line (unended bytes)) some)
+Leaves-beginning left read_failed old new write_failed bytes (Err Write) (inr some, _, _) = some.1
+Leaves-beginning left read_failed old new write_failed bytes (Err Memory) h =
+    let first = h.0 in
+    subst (WroteBeginning old new) (take-append-drop first.0 (lines bytes))
+    (whole_beginning old new (take first.0 (lines bytes)) (drop first.0 (lines bytes)) first.2)
+
 -- a run that answers `Ok` answers the whole input
 pub whole_input : {T : Type 0} (given left : Option (List ℕ)) (read_failed : Bool) (old new : Option (List ℕ)) (write_failed : Bool) (r : Result T RunError)
     → Runs given left read_failed old new write_failed r → OnOk r (IfSome given (λ input. Wrote old new (lines input)))
 whole_input given left read_failed old new write_failed (Ok x) h =
     Consumes-whole given left h.0 (λ input. Wrote old new (lines input)) h.1 h.2.0 h.2.1
 whole_input given left read_failed old new write_failed (Err e) h = tt
+
+-- whatever a run answers, it has written a beginning of the answers to the lines read
+pub Runs-beginning : {T : Type 0} (given left : Option (List ℕ)) (read_failed : Bool) (old now new : Option (List ℕ)) (write_failed : Bool) (r : Result T RunError)
+    → Runs given left read_failed old now write_failed r → Keeps now new → (bytes : List ℕ) × Consumes given left bytes × WroteBeginning old new (lines bytes)
+Runs-beginning given left read_failed old now new write_failed r h k =
+    let part = Leaves-beginning left read_failed old now write_failed h.0 r h.2 in
+    (h.0, h.1, (part.0, part.1, part.2, Appends-kept old now new part.0 part.3 k))

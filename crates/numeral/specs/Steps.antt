@@ -18,6 +18,13 @@ Puts old new failed bytes (Err Write) =
     (part : List ℕ) × (rest : List ℕ) × (bytes ≡ part ++ rest) × Appends old new part × (failed ≡ true)
 Puts old new failed bytes (Err Memory) = ⊥
 
+-- nothing failed at an answer, and else what it names
+abbrev pub Fails : {T : Type 0} → Bool → Bool → Result T RunError → Type 0
+Fails read_failed write_failed (Ok x) = (read_failed ≡ false) × (write_failed ≡ false)
+Fails read_failed write_failed (Err Read) = (read_failed ≡ true) × (write_failed ≡ false)
+Fails read_failed write_failed (Err Write) = (read_failed ≡ false) × (write_failed ≡ true)
+Fails read_failed write_failed (Err Memory) = ⊥
+
 -- the lines are answered: all of them, or a beginning of the answers where a write failed, or none where memory was short
 abbrev pub Replies : {T : Type 0} → Option (List ℕ) → Option (List ℕ) → Bool → List (List ℕ) → Result T RunError → Type 0
 Replies old new failed lines (Ok x) = Wrote old new lines × (failed ≡ false)

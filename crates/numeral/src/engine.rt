@@ -1,9 +1,10 @@
 // Reads the input block by block, and answers its lines.
-ghost use Rattle.std.specs.Prelude.{◌≡◌, ◌<◌, ◌≤◌, ◌++◌, [], ◌∷◌, false, length, take, drop, slice_index, OnOk, OnErr, IfSome, MatchOption, string_bytes};
+ghost use Rattle.std.specs.Prelude.{◌≡◌, ◌<◌, ◌≤◌, ◌++◌, [], ◌∷◌, false, length, take, drop, slice_index, OnOk, OnErr, IfOk, IfSome, MatchOption, string_bytes};
+ghost use Rattle.std.specs.Io.KnownBytes.{Keeps, ReadConsumes};
 ghost use Rattle.numeral.specs.Lines.{HasNoFeed, last_line, lines};
 ghost use Rattle.numeral.specs.Answer.{Answers};
 ghost use Rattle.numeral.specs.Leaves.{Wrote, Runs};
-ghost use Rattle.numeral.specs.Steps.{Puts, Replies, Feeds};
+ghost use Rattle.numeral.specs.Steps.{Fails, Puts, Replies, Feeds};
 
 use crate::answer::answer;
 use crate::device::{Sink, Source};
@@ -136,6 +137,29 @@ fn filled(block: &[u8], count: usize) -> &[u8]
     block.split_at(count).0
 }
 
+// Reads into the front of the block, and says how many bytes. What was written is handed on first, since whoever
+// is to send the next bytes may wait for it.
+fn read_more<R: Source, W: Sink>(
+    reader: &mut R,
+    writer: &mut W,
+    block: &mut [u8],
+) -> Result<usize, RunError>
+    requires reads { R.failed reader.old ≡ false }
+    requires writes { W.failed writer.old ≡ false }
+    requires room { 0 < length block.old }
+    ensures bound { IfOk result (λ n. n ≤ length block.new) }
+    ensures fails { Fails (R.failed reader.new) (W.failed writer.new) result }
+    ensures bytes { ReadConsumes (R.remaining reader.old) (R.remaining reader.new) result block.new }
+    ensures kept { Keeps (W.contents writer.old) (W.contents writer.new) }
+    ensures out { OnOk result (W.holds_back writer.new ≡ false) }
+    ensures ends { IfOk result (λ n. 0 < n → R.reads_left reader.new < R.reads_left reader.old) }
+{
+    if writer.flush().is_err() {
+        return Err(RunError::Write);
+    }
+    reader.read(block).map_err(|_| RunError::Read)
+}
+
 // Runs, and reads by this block.
 fn run_by<R: Source, W: Sink>(
     alloc: Global,
@@ -154,9 +178,7 @@ fn run_by<R: Source, W: Sink>(
         answer: String::new(alloc),
     };
     'reads: loop {
-        let Ok(count) = reader.read(block) else {
-            return Err(RunError::Read);
-        };
+        let count = read_more(reader, writer, block)?;
         if count == 0 {
             break;
         }
@@ -167,8 +189,9 @@ fn run_by<R: Source, W: Sink>(
 
 /// Reads the input to its end, and writes the answers to its lines, each followed by a line feed.
 ///
-/// A line is answered and written before room for a later one is asked for. After a fault nothing more is
-/// read or written: at `Read` the lines that had ended are answered, at `Write` a beginning of the answers was
+/// A line is answered and written before room for a later one is asked for. What is written is flushed before
+/// each read, which may have to wait; whoever calls flushes it at the end. After a fault nothing more is read,
+/// written or flushed: at `Read` the lines that had ended are answered, at `Write` a beginning of the answers was
 /// written, at `Memory` the lines before the one in hand are answered.
 pub fn run<R: Source, W: Sink>(
     alloc: Global,

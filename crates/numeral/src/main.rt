@@ -17,6 +17,7 @@ mod lines;
 pub mod memory_sink;
 pub mod memory_source;
 mod numerals;
+mod program;
 pub mod program_status;
 mod question;
 mod search;
@@ -25,27 +26,17 @@ pub mod std_device;
 mod tests;
 mod text;
 
-use crate::engine::run;
 use crate::fault::RunError;
-use crate::gathering::{FlushingReader, Gathering, Shared};
+use crate::gathering::Gathering;
+use crate::program::answer_all;
 use crate::program_status::status;
 use crate::std_device::Device;
-use std::cell::RefCell;
 use std::process::ExitCode;
 
-// Answers standard input on standard output, and gives the status.
-fn answer_all(rt: &HostRuntime) -> u8 {
-    let Ok(gathering) = Gathering::new(rt.alloc(), rt.stdout()) else {
-        return status(&Err(RunError::Memory), false);
-    };
-    let output = RefCell::new(gathering);
-    let mut reader = Device::new(FlushingReader::new(rt.stdin(), Shared::new(&output)));
-    let mut writer = Device::new(Shared::new(&output));
-    let outcome = run(rt.alloc(), &mut reader, &mut writer);
-    let flushed = writer.flush().is_ok();
-    status(&outcome, flushed)
-}
-
 fn main(rt: HostRuntime) -> ExitCode {
-    ExitCode::from(answer_all(&rt))
+    let Ok(mut writer) = Gathering::new(rt.alloc(), Device::new(rt.stdout())) else {
+        return ExitCode::from(status(&Err(RunError::Memory), false));
+    };
+    let mut reader = Device::new(rt.stdin());
+    ExitCode::from(answer_all(rt.alloc(), &mut reader, &mut writer))
 }

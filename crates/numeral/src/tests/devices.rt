@@ -1,14 +1,15 @@
 // Devices over std readers and writers, and a source that is made on the spot.
 ghost use Rattle.std.specs.Prelude.{None, false};
 
-use crate::device::Source;
+use crate::device::{Sink, Source};
 use crate::engine::run;
 use crate::fault::{DeviceFault, RunError};
-use crate::gathering::{FlushingReader, Gathering, Shared};
+use crate::gathering::Gathering;
 use crate::memory_sink::MemorySink;
 use crate::memory_source::MemorySource;
+use crate::program::answer_all;
 use crate::std_device::Device;
-use std::cell::RefCell;
+use std::cell::Cell;
 use std::io;
 use std::io::{ErrorKind, Read, Write};
 use std::test::Fail;
@@ -81,20 +82,97 @@ fn an_interrupted_call_is_a_fault(rt: HostRuntime) -> Result<(), Fail> {
         Err(RunError::Read)
     );
 
-    // Under gathered output the write comes with the next read, or with the flush at the end.
-    let output = RefCell::new(Gathering::new(rt.alloc(), Interrupted { calls: 0 })?);
-    let mut reader = Device::new(FlushingReader::new(b"hello\n".as_slice(), Shared::new(&output)));
-    let mut writer = Device::new(Shared::new(&output));
+    // Under gathered output the write comes with the next flush: before a read, or at the end.
+    let mut reader = MemorySource::new(b"hello\n", 9, None);
+    let mut writer = Gathering::new(rt.alloc(), Device::new(Interrupted { calls: 0 }))?;
     assert_eq!(rt;
         run(rt.alloc(), &mut reader, &mut writer),
-        Err(RunError::Read)
+        Err(RunError::Write)
     );
-    let output = RefCell::new(Gathering::new(rt.alloc(), Interrupted { calls: 0 })?);
     let mut reader = MemorySource::new(b"hello", 9, None);
-    let mut writer = Device::new(Shared::new(&output));
+    let mut writer = Gathering::new(rt.alloc(), Device::new(Interrupted { calls: 0 }))?;
     assert_eq!(rt; run(rt.alloc(), &mut reader, &mut writer), Ok(()));
     assert_eq!(rt; writer.flush(), Err(DeviceFault));
     Ok(())
+}
+
+// Counts its calls.
+#[derive(Drop)]
+struct Counting<'a> {
+    writes: &'a Cell<usize>,
+    flushes: &'a Cell<usize>,
+}
+
+impl Write for Counting<'_> {
+    fn write(&mut self, bytes: &[u8]) -> io::Result<usize> {
+        self.writes.set(self.writes.get().saturating_add(1));
+        Ok(bytes.len())
+    }
+
+    fn flush(&mut self) -> io::Result<()> {
+        self.flushes.set(self.flushes.get().saturating_add(1));
+        Ok(())
+    }
+}
+
+// Cannot be flushed.
+#[derive(Drop)]
+struct Stuck;
+
+impl Write for Stuck {
+    fn write(&mut self, bytes: &[u8]) -> io::Result<usize> {
+        Ok(bytes.len())
+    }
+
+    fn flush(&mut self) -> io::Result<()> {
+        Err(io::Error::from(ErrorKind::Other))
+    }
+}
+
+#[test]
+fn a_failed_flush_is_a_fault(rt: HostRuntime) {
+    let mut device = Device::new(Stuck);
+    assert_eq!(rt; device.write(b"hello"), Ok(5));
+    assert_eq!(rt; device.flush(), Err(DeviceFault));
+    assert!(rt; Sink::has_failed(&device));
+    let mut reader = MemorySource::new(b"hello", 9, None);
+    let mut writer = Device::new(Stuck);
+    assert_eq!(rt; answer_all(rt.alloc(), &mut reader, &mut writer), 1);
+}
+
+// A flush is the writer's own, and many answers go out in one write before the read that follows.
+#[test]
+fn answers_go_out_together(rt: HostRuntime) -> Result<(), Fail> {
+    let (writes, flushes) = (Cell::new(0), Cell::new(0));
+    let mut device = Device::new(Counting {
+        writes: &writes,
+        flushes: &flushes,
+    });
+    assert_eq!(rt; device.flush(), Ok(()));
+    assert_eq!(rt; (writes.get(), flushes.get()), (0, 1));
+
+    let mut reader = MemorySource::new(b"hello\nhello\nhello\n", 99, None);
+    let mut writer = Gathering::new(rt.alloc(), device)?;
+    assert_eq!(rt; answer_all(rt.alloc(), &mut reader, &mut writer), 0);
+    assert_eq!(rt; (writes.get(), flushes.get()), (1, 4));
+    Ok(())
+}
+
+// The program over memory: its status, and what it wrote.
+#[test]
+fn the_program_over_memory(rt: HostRuntime) {
+    let mut reader = MemorySource::new("read u8 naive 一\nhello".as_bytes(), 9, None);
+    let mut writer = MemorySink::new(9, None);
+    assert_eq!(rt; answer_all(rt.alloc(), &mut reader, &mut writer), 0);
+    assert!(rt; writer.bytes() == b"ok 1\nbad line\n".as_slice());
+    let mut reader = MemorySource::new("read u8 naive 一\nhello".as_bytes(), 99, Some(2));
+    let mut writer = MemorySink::new(9, None);
+    assert_eq!(rt; answer_all(rt.alloc(), &mut reader, &mut writer), 1);
+    assert!(rt; writer.bytes() == b"ok 1\n".as_slice());
+    let mut reader = MemorySource::new("read u8 naive 一\nhello".as_bytes(), 99, None);
+    let mut writer = MemorySink::new(1, Some(5));
+    assert_eq!(rt; answer_all(rt.alloc(), &mut reader, &mut writer), 1);
+    assert!(rt; writer.bytes() == b"ok 1".as_slice());
 }
 
 // So many bytes without a line feed.

@@ -2,7 +2,7 @@ use Rattle.std.proofs.Common.{◌≡◌, ◌++◌, [], take, ap, ◌∙◌, subs
 use Rattle.std.proofs.lemmas.Result.{err_from_is_err_and}
 use Rattle.std.specs.Io.KnownBytes.{Consumes}
 use Rattle.std.proofs.KnownBytes.{Consumes-nil, Consumes-trans}
-use Rattle.numeral.proofs.State.{State-start, State-no_feed, State-more, Leaves-fed, Leaves-finished}
+use Rattle.numeral.proofs.State.{State-start, State-flushed, State-no_feed, State-more, Leaves-fed, Leaves-finished}
 use Rattle.numeral.proofs.engine.run_by.Goals as goal
 
 pub reads-init : goal.reads-init
@@ -15,30 +15,33 @@ feed-requires-clause-unended g c = State-no_feed _ _ c.reads.invariant.0 _ c.rea
 pub reads-preserved : goal.reads-preserved
 reads-preserved g c =
     let i = c.reads.invariant in
+    let flushed = State-flushed _ _ _ i.0 _ i.2 c.read_more.ensures.kept in
     let w = c.in_ok-feed.ensures in (
       i.0 ++ c.filled.result.now,
-      rw c.filled.ensures (Consumes-trans _ _ _ i.0 _ i.1 c.in-Ok.ensures.bytes.0),
-      State-more _ _ _ i.0 c.reads.room.line.items c.filled.result.now c.feed.new.room.line.items i.2 w.0 w.1,
-      c.in-Ok.ensures.fails,
+      rw c.filled.ensures (Consumes-trans _ _ _ i.0 _ i.1 c.in_ok-count.ensures.bytes.0),
+      State-more _ _ _ i.0 c.reads.room.line.items c.filled.result.now c.feed.new.room.line.items flushed w.0 w.1,
+      c.in_ok-count.ensures.fails.0,
       w.2,
     )
 
 pub returns-in_err-feed : goal.returns-in_err-feed
 returns-in_err-feed g c =
     let i = c.reads.invariant in
-    let p = err_from_is_err_and c.from_residual.result c.from_residual.ensures.1 in (
+    let flushed = State-flushed _ _ _ i.0 _ i.2 c.read_more.ensures.kept in
+    let p = err_from_is_err_and c.from_residual-in_err-feed.result c.from_residual-in_err-feed.ensures.1 in (
       i.0 ++ c.filled.result.now,
-      rw c.filled.ensures (Consumes-trans _ _ _ i.0 _ i.1 c.in-Ok.ensures.bytes.0),
+      rw c.filled.ensures (Consumes-trans _ _ _ i.0 _ i.1 c.in_ok-count.ensures.bytes.0),
       rw (p.1, p.2)
-          (Leaves-fed (Unit {0}) (Unit {0}) _ _ _ _ _ _ i.0 c.reads.room.line.items c.filled.result.now c.feed.new.room.line.items _ i.2 c.in-Ok.ensures.fails c.in_err-feed.ensures),
+          (Leaves-fed (Unit {0}) (Unit {0}) _ _ _ _ _ _ i.0 c.reads.room.line.items c.filled.result.now c.feed.new.room.line.items _ flushed c.in_ok-count.ensures.fails.0 c.in_err-feed.ensures),
     )
 
 pub returns : goal.returns
 returns g c =
     let i = c.reads.invariant in
-    let e : take c.in-Ok.count c.read.new.buffer ≡ [] = ap (λ n. take n c.read.new.buffer) c.if-count-eq0.true in (
+    let flushed = State-flushed _ _ _ i.0 _ i.2 c.read_more.ensures.kept in
+    let e : take c.in_ok-count.count c.read_more.new.block ≡ [] = ap (λ n. take n c.read_more.new.block) c.if-count-eq0.true in (
       i.0,
-      subst (Consumes _ _) (ap (λ l. i.0 ++ l) e ∙ append-nil i.0) (Consumes-trans _ _ _ i.0 _ i.1 c.in-Ok.ensures.bytes.0),
-      Leaves-finished (Unit {0}) _ _ _ _ _ _ i.0 c.reads.room.line.items c.finish.result i.2 c.in-Ok.ensures.fails
-          (c.in-Ok.ensures.bytes.1 c.if-count-eq0.true (omega arith)) c.finish.ensures.replies c.finish.ensures.some,
+      subst (Consumes _ _) (ap (λ l. i.0 ++ l) e ∙ append-nil i.0) (Consumes-trans _ _ _ i.0 _ i.1 c.in_ok-count.ensures.bytes.0),
+      Leaves-finished (Unit {0}) _ _ _ _ _ _ i.0 c.reads.room.line.items c.finish.result flushed c.in_ok-count.ensures.fails.0
+          (c.in_ok-count.ensures.bytes.1 c.if-count-eq0.true (omega arith)) c.finish.ensures.replies c.finish.ensures.some,
     )

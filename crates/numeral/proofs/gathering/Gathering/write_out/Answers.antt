@@ -1,17 +1,13 @@
 use Rattle.std.proofs.Common.{rules, ◌≡◌, drop, sym, ◌∙◌}
 use Rattle.std.proofs.Math.ListN.{drop_of_length-le}
-use Rattle.numeral.proofs.Gathered.{kept-alike, kept-same, kept-twice, kept-before, kept-moved, none-moved, left_after, slice_to_end}
+use Rattle.numeral.proofs.Gathered.{kept-alike, kept-same, kept-twice, kept-before, kept-moved, left_after, slice_to_end}
 use Rattle.numeral.proofs.gathering.Gathering.write_out.Goals as goal
 
 pub writes-init : goal.writes-init
-writes-init g c = (c.args.self.now.within, kept-alike _)
+writes-init g c = (c.args.self.now.within, kept-alike _, c.requires.works)
 
 pub returns-in_err-count-clause-bytes : goal.returns-in_err-count-clause-bytes
 returns-in_err-count-clause-bytes g c = kept-twice _ _ _ (c.writes.invariant).1 (kept-before _ _ _ (c.in_err-count.ensures).bytes)
-
-pub returns-then-count-eq0-clause-bytes : goal.returns-then-count-eq0-clause-bytes
-returns-then-count-eq0-clause-bytes g c =
-    kept-twice _ _ _ (c.writes.invariant).1 (kept-before _ _ _ (none-moved _ _ _ c.if-count-eq0.true (c.in_ok-count.ensures).bytes))
 
 pub writes-preserved : goal.writes-preserved
 writes-preserved g c =
@@ -19,6 +15,7 @@ writes-preserved g c =
       search rules,
       kept-twice _ _ _ (c.writes.invariant).1 (kept-moved _ _ _ _ _ (c.in_ok-count.ensures).bytes
           (sym whole ∙ left_after c.writes.self.room.items _ c.writes.self.gone c.in_ok-count.count whole)),
+      c.in_ok-count.ensures.fails,
     )
 
 pub returns-clause-bytes : goal.returns-clause-bytes

@@ -1,4 +1,4 @@
-use Rattle.std.proofs.Common.{◌≤◌, ◌-◌, drop}
+use Rattle.std.proofs.Common.{◌≡◌, ◌≤◌, ◌-◌, drop, false}
 use Rattle.std.specs.Prelude.{vec_len}
 use Rattle.std.specs.Io.KnownBytes.{Keeps, append_known}
 use Rattle.numeral.proofs.gathering.Gathering.write_out.Given as goal
@@ -6,8 +6,9 @@ use Rattle.numeral.proofs.gathering.Gathering.write_out.Given as goal
 abbrev pub invariant-writes : goal.invariant-writes
 invariant-writes g l =
     (l.self.gone ≤ vec_len l.self.room)
-    × Keeps (append_known (g.W.Write.contents l.fn.self.inner) (drop l.fn.self.gone l.fn.self.room.items))
-    (append_known (g.W.Write.contents l.self.inner) (drop l.self.gone l.self.room.items))
+    × Keeps (append_known (g.W.Sink.contents l.fn.self.inner) (drop l.fn.self.gone l.fn.self.room.items))
+    (append_known (g.W.Sink.contents l.self.inner) (drop l.self.gone l.self.room.items))
+    × (g.W.Sink.failed l.self.inner ≡ false)
 
 abbrev pub decreases-writes : goal.decreases-writes
 decreases-writes g l = vec_len l.self.room - l.self.gone

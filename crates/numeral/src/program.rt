@@ -1,0 +1,37 @@
+// What the program does with its input and output.
+ghost use Rattle.std.specs.Prelude.{◌≡◌, ◌≤◌, ◌||◌, ℕ, List, true, false, IfSome};
+ghost use Rattle.std.specs.Io.KnownBytes.{Consumes};
+ghost use Rattle.numeral.specs.Leaves.{Wrote, WroteBeginning, WroteFirst};
+ghost use Rattle.numeral.specs.Lines.{lines};
+
+use crate::device::{Sink, Source};
+use crate::engine::run;
+use crate::program_status::status;
+use std::alloc::Global;
+
+/// Answers the lines of the reader on the writer, hands all of it on, and gives the status of the program.
+///
+/// What was written is a beginning of the answers to the lines read, and none of it is held back unless the writer
+/// failed. After 0 neither failed, the input was read to its end, and what was written is exactly the answers to
+/// its lines. 1 comes only where the reader or the writer failed. After 2 the answers to the first k lines read
+/// were written, whole, and a further line was read.
+pub(crate) fn answer_all<R: Source, W: Sink>(alloc: Global, reader: &mut R, writer: &mut W) -> u8
+    requires reads { R.failed reader.old ≡ false }
+    requires writes { W.failed writer.old ≡ false }
+    ensures beginning { (bytes : List ℕ)
+        × Consumes (R.remaining reader.old) (R.remaining reader.new) bytes
+        × WroteBeginning (W.contents writer.old) (W.contents writer.new) (lines bytes) }
+    ensures whole { result ≡ 0 → IfSome (R.remaining reader.old) (λ input.
+        Wrote (W.contents writer.old) (W.contents writer.new) (lines input)) }
+    ensures out { W.failed writer.new ≡ false → W.holds_back writer.new ≡ false }
+    ensures works { result ≡ 0 → (R.failed reader.new || W.failed writer.new) ≡ false }
+    ensures fault { result ≡ 1 → (R.failed reader.new || W.failed writer.new) ≡ true }
+    ensures memory { result ≡ 2 → (bytes : List ℕ)
+        × Consumes (R.remaining reader.old) (R.remaining reader.new) bytes
+        × WroteFirst (W.contents writer.old) (W.contents writer.new) bytes }
+    ensures no_other { result ≤ 2 }
+{
+    let outcome = run(alloc, reader, writer);
+    let flushed = !writer.has_failed() && writer.flush().is_ok();
+    status(&outcome, flushed)
+}
