@@ -1,7 +1,8 @@
 // Output that is gathered and goes out in few writes: when its room is full, and at a flush. Unlike std's
 // buffered writer it tries no write again that was interrupted.
-ghost use Rattle.std.specs.Prelude.{◌≡◌, ◌≤◌, ◌==◌, ◌||◌, ◌++◌, [], drop, false, if◌then◌else◌, is_err, not, IfOk, OnOk, vec_len};
+ghost use Rattle.std.specs.Prelude.{◌≡◌, ◌↔◌, ◌+◌, ◌≤◌, ◌==◌, ◌||◌, ◌++◌, [], drop, false, if◌then◌else◌, is_err, length, not, IfOk, IsTrue, OnOk, vec_capacity, vec_len};
 ghost use Rattle.std.specs.Io.KnownBytes.{Keeps, append_known};
+ghost use Rattle.numeral.specs.declared.gathering.TheConstants.{ROOM};
 
 use crate::device::Sink;
 use crate::fault::DeviceFault;
@@ -18,6 +19,8 @@ pub(crate) struct Gathering<W> {
     // how many bytes of the room have gone out
     gone: usize,
     ghost within: { gone ≤ vec_len room },
+    ghost fits: { vec_len room ≤ ROOM },
+    ghost roomy: { ROOM ≤ vec_capacity room },
 }
 
 impl<W: Sink> Gathering<W> {
@@ -37,14 +40,14 @@ impl<W: Sink> Gathering<W> {
         })
     }
 
-    // Gathers the bytes, if there is room for all of them.
+    // Gathers the bytes, if there is room for all of them. No memory is asked for, so nothing else stops it.
     fn gather(&mut self, bytes: &[u8]) -> bool
+        ensures takes { IsTrue result ↔ (vec_len self.old.room + length bytes.now ≤ ROOM) }
         ensures room { self.new.room.items ≡ (if result then self.old.room.items ++ bytes.now else self.old.room.items) }
         ensures gone { self.new.gone ≡ self.old.gone }
         ensures inner { self.new.inner ≡ self.old.inner }
     {
-        bytes.len() <= ROOM.saturating_sub(self.room.len())
-            && self.room.extend_from_slice(bytes).is_ok()
+        bytes.len() <= ROOM - self.room.len() && self.room.extend_from_slice(bytes).is_ok()
     }
 
     // Writes what is gathered. What has gone out before an error is not written again, and the rest is kept.
