@@ -5,6 +5,7 @@ pub mod MarkTable
 pub mod OpenSums
 pub mod Pieces
 pub mod PlainDigits
+pub mod Runs
 pub mod Stacks
 pub mod Steps
 pub mod Tails

@@ -34,8 +34,8 @@ impl Model for OpenUnits {
     ghost invariant = { λ s. s.len ≤ 16 };
 }
 
-// A product and a sum, if they fit. Where both factors are below 2^64 the product does, and is found faster.
-fn multiply_add(factor: u128, size: u128, more: u128) -> Option<u128>
+/// A product and a sum, if they fit. Where both factors are below 2^64 the product does, and is found faster.
+pub fn multiply_add(factor: u128, size: u128, more: u128) -> Option<u128>
     ensures { SomeIff result (factor * size + more < 2 ^ 128) (factor * size + more) }
 {
     if let (Ok(factor), Ok(size)) = (u64::try_from(factor), u64::try_from(size)) {
