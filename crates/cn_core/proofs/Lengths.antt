@@ -8,7 +8,6 @@ use Rattle.cn_core.specs.declared.method.ChineseCountMethod.{ChineseCountMethod}
 use Rattle.cn_core.specs.Mark.{Mark, digit, unit, other}
 use Rattle.cn_core.specs.Scale.{scale, exponent}
 use Rattle.cn_core.specs.Spelling.{spelled_within, greatest_unit, after_unit, spelling, shortened}
-use Rattle.cn_core.proofs.Cuts.{part, part-some}
 use Rattle.cn_core.proofs.Sums.{spelled-digit}
 use Rattle.cn_core.proofs.Spellings.{spelled-step, IsCut-greatest}
 
@@ -53,15 +52,6 @@ length-spelled (suc steps) method number digits fuel some h small = by (dec_lt n
               let low : n < 10 ^ (e - 1) = omega (arith, up, d) in
               let two : 1 ≤ e - 1 = elim (dec_lt 1 e) [ yes m ↦ omega (arith, m) | no m ↦ absurd (let one : e - 1 ≡ 0 = omega (arith, m) in let p : 10 ^ (e - 1) ≡ 1 = ap (λ k. 10 ^ k) one in omega (arith, p, low, pos)) ] in
               rw (a, b, c) (let p = rest (e - 1) two low small in omega (arith, p))
-
-pub length-part : (method : ChineseCountMethod) (number digits : ℕ) → number < 10 ^ digits → number < scale method 15 * scale method 15 → length (part method number) ≤ 2 * digits
-length-part method number digits h small = by (dec_lt 0 number) where
-  by : Dec (0 < number) → length (part method number) ≤ 2 * digits
-  by (no none) = let z : number ≡ 0 = omega (arith, none) in rw z (omega arith)
-  by (yes pos) =
-      let some : 1 ≤ digits = elim (dec_lt 0 digits) [ yes a ↦ a | no a ↦ absurd (let z : digits ≡ 0 = omega (arith, a) in let one : 10 ^ digits ≡ 1 = ap (λ k. 10 ^ k) z in omega (arith, one, h, pos)) ] in
-      let p = length-spelled number method number digits (omega arith) some h small in
-      rw (part-some method number pos) (omega (arith, p))
 
 length-shortened : (marks : List Mark) → length (shortened marks) ≤ length marks
 length-shortened [] = omega arith

@@ -1,7 +1,7 @@
 -- The text of plain digits, from its lowest digit up.
-use Rattle.std.proofs.Common.{◌≡◌, ℕ, ◌+◌, ◌-◌, ◌<◌, List, [], ◌∷◌, length, map, take, slice_index, refl, ap, ◌∙◌}
+use Rattle.std.proofs.Common.{◌≡◌, ℕ, ◌-◌, List, [], ◌∷◌, length, map, refl, ap, ◌∙◌}
 use Rattle.std.specs.Prelude.{decimal, reverse}
-use Rattle.std.proofs.lemmas.List.{length-map, length-reverse, reverse-append, reverse-reverse, take_more}
+use Rattle.std.proofs.lemmas.List.{length-map, length-reverse, reverse-reverse}
 use Rattle.cn_core.specs.declared.script.ChineseVariant.{ChineseVariant}
 use Rattle.cn_core.specs.declared.case.ChineseCase.{ChineseCase}
 use Rattle.cn_core.specs.Characters.{digit_char}
@@ -13,12 +13,6 @@ use Rattle.cn_print.specs.Working.Places.{places_of}
 -- the characters of these digits, which are told from the lowest up
 abbrev pub digit_characters : ChineseVariant → ChineseCase → List ℕ → List ℕ
 digit_characters variant case digits = map (digit_char variant case) (reverse digits)
-
--- one more digit stands in front
-pub digit_characters-more : (variant : ChineseVariant) (case : ChineseCase) (digits : List ℕ) (place : ℕ) → place < length digits
-    → digit_characters variant case (take (place + 1) digits) ≡ digit_char variant case (slice_index digits place) ∷ digit_characters variant case (take place digits)
-digit_characters-more variant case digits place less =
-    ap (digit_characters variant case) (take_more digits place 0 less) ∙ ap (map (digit_char variant case)) (reverse-append (take place digits) (slice_index digits place ∷ []))
 
 same-characters : (variant : ChineseVariant) (case : ChineseCase) (bytes : List ℕ)
     → map (digit_char variant case) (map (λ byte. byte - 48) bytes) ≡ map (mark_char variant case) (map (λ byte. digit (byte - 48)) bytes)

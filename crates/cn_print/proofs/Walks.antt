@@ -109,11 +109,6 @@ cut method high below size width rank s pos low fits small =
       same : {a b : ℕ} → a ≡ b → high * a + below ≡ high * b + below
       same f = ap (λ n. high * n + below) f
 
-same-test : (a b : Bool) → (a ≡ true → b ≡ true) → (b ≡ true → a ≡ true) → a ≡ b
-same-test true b there back = sym (there refl)
-same-test false true there back = back refl
-same-test false false there back = refl
-
 -- 零 is written where the places below the unit leave one empty
 gap-flag : (inner size filled above below start base : ℕ) → Fills inner below → inner ≤ size → 1 ≤ size → start ≡ base + size → above ≡ base + max inner 1
     → (0 < inner → filled ≡ above) → (inner ≡ 0 → filled < above)

@@ -144,9 +144,6 @@ numeral_fits method (unit rank) rest h = by (rank == 1) refl h where
   by true e h = let one : rank ≡ 1 = grind (arith, nat_tests) in rw one (ap not (ten_fits method))
   by false e h = absurd (let h2 = rw e at h in cc)
 
-early_zero : (method : ChineseCountMethod) (mark : Mark) (rest : List Mark) → is_early method (mark ∷ rest) 0 ≡ (some_unfit method rest || some_overflowing method rest)
-early_zero method mark rest = refl
-
 early_suc : (method : ChineseCountMethod) (mark : Mark) (rest : List Mark) (place : ℕ) → is_early method (mark ∷ rest) (suc place) ≡ is_early_at method rest place
 early_suc method mark rest place =
     let a : suc place + 1 ≡ suc (suc place) = omega arith in

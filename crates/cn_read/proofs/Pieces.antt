@@ -1,5 +1,5 @@
 -- Where a place of a text stands in the string.
-use Rattle.std.proofs.Common.{◌≡◌, ℕ, zero, suc, ◌+◌, Bool, true, false, List, [], ◌∷◌, ◌++◌, length, filter, chars, drop, Ok, Err, Result, refl, sym, ap, ◌∙◌, arith, append_assoc, append-nil, length-append, add-zero, zero-add, Option}
+use Rattle.std.proofs.Common.{◌≡◌, ℕ, zero, suc, ◌+◌, Bool, true, false, List, [], ◌∷◌, ◌++◌, length, filter, chars, drop, Ok, Err, Result, refl, sym, ap, ◌∙◌, arith, append_assoc, length-append, add-zero, zero-add, Option}
 use Rattle.std.proofs.Math.Seq.{drop-append_seam}
 use Rattle.std.specs.Char.{is_whitespace, is_not_whitespace}
 use Rattle.cn_core.specs.declared.sign.Sign.{Sign}
@@ -41,10 +41,6 @@ pub spot-at : (bytes rest : List ℕ) (c index place : ℕ) → StandsAt bytes (
 spot-at bytes rest c index place at dark =
     rw (at.parts, ← at.place_is)
     (rw zero-add at (spot-front at.front (c ∷ rest) 0) ∙ ap (λ n. length at.front + n) (spot-here c rest dark) ∙ add-zero (length at.front) ∙ at.index_is)
-
--- a string ends with itself
-pub StandsAt-start : (bytes : List ℕ) → StandsAt bytes (chars bytes) 0 0
-StandsAt-start bytes = record { front = []; parts = refl; index_is = refl; place_is = refl }
 
 -- one character is passed
 pub StandsAt-white : (bytes rest : List ℕ) (c index place : ℕ) → StandsAt bytes (c ∷ rest) index place → is_whitespace c ≡ true → StandsAt bytes rest (index + 1) place
@@ -89,9 +85,6 @@ pub record EndsBlank (bytes ahead : List ℕ) : Type 0 where
   pub white : List ℕ
   pub parts : chars bytes ≡ chars ahead ++ white
   pub blank : filter is_not_whitespace white ≡ []
-
-pub EndsBlank-start : (bytes : List ℕ) → EndsBlank bytes bytes
-EndsBlank-start bytes = record { white = []; parts = sym (append-nil (chars bytes)); blank = refl }
 
 pub parts-next : (bytes ahead before white : List ℕ) (c : ℕ) → chars bytes ≡ chars ahead ++ white → chars ahead ≡ chars before ++ c ∷ [] → chars bytes ≡ chars before ++ c ∷ white
 parts-next bytes ahead before white c p q = p ∙ ap (λ l. l ++ white) q ∙ append_assoc (chars before) (c ∷ []) white

@@ -1,18 +1,17 @@
 -- Plain digits, read from left to right.
-use Rattle.std.proofs.Common.{Bool, chars, ◌≡◌, ℕ, zero, suc, ◌+◌, ◌*◌, ◌^◌, ◌<◌, ◌≤◌, true, false, nat_le, List, [], ◌∷◌, ◌++◌, length, take, drop, Some, None, Ok, Err, refl, sym, ap, ◌∙◌, arith, add-one, append-nil, ◌≢◌, length-drop, ◌==◌}
+use Rattle.std.proofs.Common.{Bool, chars, ◌≡◌, ℕ, zero, suc, ◌+◌, ◌*◌, ◌^◌, ◌<◌, ◌≤◌, true, false, nat_le, List, [], ◌∷◌, ◌++◌, length, take, drop, Some, None, Err, refl, sym, ap, ◌∙◌, arith, add-one, ◌≢◌, length-drop, ◌==◌}
 use Rattle.std.proofs.lemmas.Bool.Decides.{nat_tests}
 use Rattle.std.proofs.lemmas.List.Sums.{fold-append}
-use Rattle.std.proofs.lemmas.List.{take-append-drop}
 use Rattle.std.specs.Option.{option_or}
 use Rattle.cn_core.specs.Mark.{Mark, digit, unit, other, mark_of}
 use Rattle.cn_core.specs.Text.{text_of, marks_of}
 use Rattle.cn_core.specs.Naive.{naive_answer, first_fault, fault_at, decimal_value, digit_value, refused_or}
 use Rattle.cn_core.specs.Spot.{spot}
 use Rattle.cn_read.specs.Private.Piece.{StandsAt, spotted}
-use Rattle.cn_read.proofs.Pieces.{StandsAt-start, StandsAt-white, StandsAt-dark, spot-at}
+use Rattle.cn_read.proofs.Pieces.{StandsAt-white, StandsAt-dark, spot-at}
 use Rattle.cn_read.proofs.Walking.{digit-dark}
 use Rattle.std.specs.Char.{is_whitespace}
-use Rattle.cn_core.specs.Refusal.{Refusal, empty, incorrect_at, too_large}
+use Rattle.cn_core.specs.Refusal.{Refusal, incorrect_at, too_large}
 
 -- one more mark taken
 taken : (place : ℕ) (marks rest : List Mark) (mark : Mark) → drop place marks ≡ mark ∷ rest
@@ -36,9 +35,6 @@ pub record HasRead (marks rest : List Mark) (place number : ℕ) : Type 0 where
   pub ahead : drop place marks ≡ rest
   pub value : number ≡ decimal_value (take place marks)
   pub faults : first_fault marks 0 marks ≡ first_fault marks place rest
-
-HasRead-start : (marks : List Mark) → HasRead marks marks 0 0
-HasRead-start marks = record { within = omega arith; ahead = refl; value = refl; faults = refl }
 
 fault_small : (marks : List Mark) (place value total : ℕ) → decimal_value (take (place + 1) marks) ≡ total → total < 2 ^ 128 → fault_at marks place (digit value) ≡ None
 fault_small marks place value total e small = let test : nat_le (2 ^ 128) total ≡ false = grind (arith, nat_tests) in rw (e, test)
@@ -71,17 +67,6 @@ HasRead-sum : (marks rest : List Mark) (place number value total : ℕ) → HasR
     → HasRead marks rest (place + 1) total
 HasRead-sum marks rest place number value total read e small = rw e (HasRead-digit marks rest place number value read (rw (← e) small))
 
--- digits to the end
-HasRead-end : (marks : List Mark) (place number : ℕ) → HasRead marks [] place number → place ≢ 0 → naive_answer marks ≡ Ok number
-HasRead-end [] place number read some = absurd (omega (arith, read.within))
-HasRead-end (mark ∷ rest) place number read some =
-    let whole : take place (mark ∷ rest) ≡ mark ∷ rest = sym (append-nil _) ∙ ap (λ l. take place (mark ∷ rest) ++ l) (sym read.ahead) ∙ take-append-drop place (mark ∷ rest) in
-    ap (λ f. refused_or f (decimal_value (mark ∷ rest))) read.faults ∙ ap Ok (sym (read.value ∙ ap decimal_value whole))
-
-HasRead-none : (marks : List Mark) (place number : ℕ) → HasRead marks [] place number → place ≡ 0 → naive_answer marks ≡ Err empty
-HasRead-none [] place number read none = refl
-HasRead-none (mark ∷ rest) place number read none = let e : drop 0 (mark ∷ rest) ≡ [] = rw none at read.ahead in cc
-
 -- where a string stands of which some characters are read, the last of them before this index of the caller's string
 pub record IsReading (skipped : ℕ) (bytes ahead : List ℕ) (char_index number : ℕ) (is_empty : Bool) : Type 0 where
   pub index : ℕ
@@ -90,16 +75,6 @@ pub record IsReading (skipped : ℕ) (bytes ahead : List ℕ) (char_index number
   pub char_index_is : char_index ≡ skipped + index
   pub read : HasRead (marks_of (text_of bytes)) (marks_of (text_of ahead)) place number
   pub empty_is : is_empty ≡ (place == 0)
-
-pub IsReading-start : (skipped : ℕ) (bytes : List ℕ) → IsReading skipped bytes bytes skipped 0 true
-IsReading-start skipped bytes = record {
-  index = 0;
-  place = 0;
-  at = StandsAt-start bytes;
-  char_index_is = omega arith;
-  read = HasRead-start (marks_of (text_of bytes));
-  empty_is = refl;
-}
 
 -- the next character is white space
 pub IsReading-white : (skipped : ℕ) (bytes ahead after : List ℕ) (char_index number c : ℕ) (is_empty : Bool) → IsReading skipped bytes ahead char_index number is_empty
@@ -159,19 +134,3 @@ IsReading-incorrect skipped bytes ahead after char_index number c mark is_empty 
     let spot_is : spot bytes r.place ≡ r.index = spot-at bytes (chars after) c r.index r.place (rw parts at r.at) dark in
     ap (spotted skipped bytes) (no_digit _ _ mark _ _ (rw next at r.read) none)
     ∙ ap (λ n. Err (incorrect_at n)) (ap (λ n. skipped + n) spot_is ∙ sym r.char_index_is)
-
--- nothing is ahead
-pub IsReading-end : (skipped : ℕ) (bytes ahead : List ℕ) (char_index number : ℕ) → IsReading skipped bytes ahead char_index number false → chars ahead ≡ []
-    → spotted skipped bytes (naive_answer (marks_of (text_of bytes))) ≡ Ok number
-IsReading-end skipped bytes ahead char_index number r parts =
-    let none : marks_of (text_of ahead) ≡ [] = rw parts in
-    let some : r.place ≢ 0 = (λ e. let t = r.empty_is ∙ ap (λ n. n == 0) e in cc) in
-    ap (spotted skipped bytes) (HasRead-end _ _ _ (rw none at r.read) some)
-
-pub IsReading-none : (skipped : ℕ) (bytes ahead : List ℕ) (char_index number : ℕ) → IsReading skipped bytes ahead char_index number true → chars ahead ≡ []
-    → spotted skipped bytes (naive_answer (marks_of (text_of bytes))) ≡ Err empty
-IsReading-none skipped bytes ahead char_index number r parts =
-    let none : marks_of (text_of ahead) ≡ [] = rw parts in
-    let e = r.empty_is in
-    let zero_is : r.place ≡ 0 = grind (arith, nat_tests) in
-    ap (spotted skipped bytes) (HasRead-none _ _ _ (rw none at r.read) zero_is)

@@ -94,10 +94,6 @@ total-past sum (top ∷ units) after some h p =
     let grows = total-grows units (sum * top.1 + top.2) (and-right (nat_lt 0 top.1) _ p) in
     λ small. h.1 (omega (arith, small, grows))
 
-pub some_open : (units : List Sized) (t : ℕ) → Some t ≡ top_of units → 0 < length units
-some_open [] t is = cc
-some_open (top ∷ units) t is = omega arith
-
 -- the same of the open units of a walk
 pub closed-sized : (method : ChineseCountMethod) (limit : ℕ) (opens : List Open) (sum : ℕ) → closed_sum limit sum (sized method opens) ≡ closed method limit sum opens
 closed-sized method limit [] sum = refl

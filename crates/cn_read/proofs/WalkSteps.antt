@@ -1,10 +1,10 @@
 -- The steps of the walk, over what its state says.
-use Rattle.std.proofs.Common.{◌≡◌, ◌≢◌, ◌↔◌, ℕ, suc, ◌+◌, ◌^◌, ◌<◌, Bool, true, false, IsTrue, List, [], ◌∷◌, length, Option, Some, None, refl, sym, ap, ◌∙◌, arith, if◌then◌else◌, lit<, ◌++◌, append-nil, append_assoc, filter, chars, Err}
+use Rattle.std.proofs.Common.{◌≡◌, ◌≢◌, ◌↔◌, ℕ, suc, ◌+◌, ◌^◌, ◌<◌, Bool, true, false, IsTrue, List, [], ◌∷◌, length, Option, Some, None, refl, sym, ap, ◌∙◌, arith, if◌then◌else◌, lit<, ◌++◌, append_assoc, filter, chars, Err}
 use Rattle.cn_core.specs.declared.method.ChineseCountMethod.{ChineseCountMethod}
 use Rattle.cn_core.specs.declared.unit.Unit.{Unit as NumeralUnit}
 use Rattle.cn_core.specs.declared.unit.Unit.TheVariants.{Ge, Shi, Bai, Qian, Wan, Yi, Zhao, Jing, Gai, Zi, Rang, Gou, Jian, Zheng, Zai, Ji}
 use Rattle.cn_core.specs.Characters.{rank, digit_of, rank_of}
-use Rattle.cn_core.specs.Mark.{Mark, digit, unit, other, mark_of, mark_from}
+use Rattle.cn_core.specs.Mark.{Mark, digit, unit, mark_of, mark_from}
 use Rattle.cn_core.specs.Refusal.{Refusal, incorrect_at, too_large}
 use Rattle.cn_core.specs.Scale.{scale, scale_fits}
 use Rattle.cn_core.specs.Text.{text_of, marks_of}
@@ -121,16 +121,6 @@ pub unfit : (b : Bool) → ¬ (IsTrue b) → b ≡ false
 unfit true h = absurd (h refl)
 unfit false h = refl
 
--- the mark of a character
-pub mark-digit : (c value : ℕ) → Some value ≡ digit_of c → mark_of c ≡ digit value
-mark-digit c value h = rw (← h)
-
-pub mark-unit : (c r : ℕ) → None ≡ digit_of c → Some r ≡ rank_of c → mark_of c ≡ unit r
-mark-unit c r h k = rw (← h, ← k)
-
-pub mark-other : (c : ℕ) → None ≡ digit_of c → None ≡ rank_of c → mark_of c ≡ other
-mark-other c h k = rw (← h, ← k)
-
 -- a fault stays, and its place counts what stands before it
 past-front : (method : ChineseCountMethod) (front marks : List Mark) → faults method marks ≡ Some too_large → faults method (front ++ marks) ≡ Some too_large
 past-front method [] marks h = h
@@ -173,9 +163,6 @@ pub record HasWalked (method : ChineseCountMethod) (bytes ahead : List ℕ) (sum
   pub parts : chars bytes ≡ chars ahead ++ after
   pub state : IsWalked method (filter is_not_whitespace after) sum units next
 
-pub HasWalked-start : (method : ChineseCountMethod) (bytes : List ℕ) (sum : ℕ) (units : List Sized) (next : Next) → IsWalked method [] sum units next → HasWalked method bytes bytes sum units next
-HasWalked-start method bytes sum units next w = record { after = []; parts = sym (append-nil (chars bytes)); state = w }
-
 -- a step from the back: what stands after the character, less white space, is what was walked
 pub record EndsAt (bytes before after : List ℕ) (c : ℕ) : Type 0 where
   pub more : List ℕ
@@ -192,21 +179,6 @@ ends-at bytes ahead before after c parts e = record {
 kept-dark : (c : ℕ) (more after : List ℕ) → is_whitespace c ≡ false → filter is_not_whitespace more ≡ filter is_not_whitespace after
     → filter is_not_whitespace (c ∷ more) ≡ c ∷ filter is_not_whitespace after
 kept-dark c more after dark kept = rw dark (ap (λ l. c ∷ l) kept)
-
-pub HasWalked-dark : (method : ChineseCountMethod) (bytes ahead before : List ℕ) (sum total : ℕ) (units more : List Sized) (next new : Next) (c : ℕ) → HasWalked method bytes ahead sum units next
-    → EndsWith ahead c before
-    → ((walked : List ℕ) → IsWalked method walked sum units next → IsWalked method (c ∷ walked) total more new) → HasWalked method bytes before total more new
-HasWalked-dark method bytes ahead before sum total units more next new c h e step =
-    let at = ends-at bytes ahead before h.after c h.parts e in
-    record {
-      after = c ∷ at.more;
-      parts = at.parts;
-      state = rw (kept-dark c at.more h.after e.dark at.kept) (step (filter is_not_whitespace h.after) h.state);
-    }
-
-pub HasWalked-end : (method : ChineseCountMethod) (bytes ahead : List ℕ) (sum : ℕ) (units : List Sized) (next : Next) → HasWalked method bytes ahead sum units next → text_of ahead ≡ []
-    → IsWalked method (text_of bytes) sum units next
-HasWalked-end method bytes ahead sum units next h none = rw (h.parts, filter-append, none) h.state
 
 -- what a walk meets at fault, as the string's answer has it
 abbrev pub StopsAt : ChineseCountMethod → ℕ → List ℕ → Refusal → Type 0

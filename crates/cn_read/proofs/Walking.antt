@@ -20,13 +20,6 @@ chars-back bytes front c whole before parts =
     (encodes-chars bytes whole ∙ parts ∙ ap (λ l. l ++ encode_utf8 c) (sym (encodes-chars front before))
     ∙ ap (λ l. encode_utf8_all (chars front) ++ l) (sym (append-nil (encode_utf8 c))) ∙ sym (encodes-append (chars front) (c ∷ [])))
 
--- a text that is cut before its last character
-pub chars-split : (bytes front back : List ℕ) (c : ℕ) → IsUtf8 bytes → IsUtf8 front → IsUtf8 back → bytes ≡ front ++ back → chars back ≡ c ∷ []
-    → chars bytes ≡ chars front ++ c ∷ []
-chars-split bytes front back c whole before after parts is =
-    chars-back bytes front c whole before
-    (parts ∙ ap (λ l. front ++ l) (sym (encodes-chars back after) ∙ ap encode_utf8_all is ∙ append-nil (encode_utf8 c)))
-
 pub filter-append : (p : ℕ → Bool) (xs ys : List ℕ) → filter p (xs ++ ys) ≡ filter p xs ++ filter p ys
 filter-append p [] ys = refl
 filter-append p (x ∷ xs) ys = elim (p x) as (λ b. cond b (x ∷ filter p (xs ++ ys)) (filter p (xs ++ ys)) ≡ cond b (x ∷ filter p xs) (filter p xs) ++ filter p ys)

@@ -1,8 +1,5 @@
 -- How lines go on over bytes joined end to end.
-use Rattle.std.proofs.Common.{◌≡◌, ◌≢◌, ◌++◌, ◌+◌, ◌-◌, ◌<◌, ◌≤◌, ℕ, Bool, true, false, eqb, List, [], ◌∷◌, length, take, drop, length-drop, refl, sym, ap, ◌∙◌, append_assoc, arith, rules, eq-eqb}
-use Rattle.std.proofs.Math.Seq.{take-add}
-use Rattle.std.proofs.lemmas.Grind.{common_steps}
-use Rattle.std.specs.Array.{IsFirstChunk}
+use Rattle.std.proofs.Common.{◌≡◌, ◌≢◌, ◌++◌, ◌<◌, ℕ, Bool, true, false, eqb, List, [], ◌∷◌, length, refl, sym, ap, ◌∙◌, append_assoc, arith, rules, eq-eqb}
 use Rattle.std.proofs.lemmas.Bool.{false≢true}
 use Rattle.std.proofs.lemmas.Bool.Decides.{nat_tests}
 use Rattle.numeral.specs.Lines.{HasNoFeed, onto_first, onto_rest, ended, unended, lines, last_line}
@@ -103,9 +100,6 @@ lines-some_byte : (x : ℕ) (a : List ℕ) (ls : List (List ℕ)) → 0 < length
 lines-some_byte x a [] = search rules
 lines-some_byte x a (l ∷ ls) = search rules
 
-some_last : (b : ℕ) (rest : List ℕ) → 0 < length (last_line (b ∷ rest))
-some_last b rest = search rules
-
 pub lines-some : (bytes : List ℕ) → 0 < length bytes → 0 < length (lines bytes)
 unfolding lines ended unended
 lines-some [] h = absurd (omega arith)
@@ -113,13 +107,3 @@ lines-some (x ∷ a) h =
     let go : (t : Bool) → eqb x 10 ≡ t → 0 < length (lines (x ∷ a)) =
     elim [ true ↦ λ e. rw e (search rules) | false ↦ λ e. rw e (lines-some_byte x a (ended a)) ] in
     go (eqb x 10) refl
-
--- the next bytes have no line feed, after some that have none
-pub HasNoFeed-further : (bytes : List ℕ) (start n : ℕ) (stride : List ℕ) → start ≤ length bytes → HasNoFeed (take start bytes)
-    → IsFirstChunk (take (length bytes - start) (drop start bytes)) stride n → HasNoFeed stride
-    → (start + n ≤ length bytes) × HasNoFeed (take (start + n) bytes)
-HasNoFeed-further bytes start n stride within before chunk none =
-    let whole : take (length bytes - start) (drop start bytes) ≡ drop start bytes = grind (arith, common_steps) in
-    let enough : n ≤ length (drop start bytes) = rw whole at chunk.enough in
-    let same : stride ≡ take n (drop start bytes) = rw whole at chunk.same in
-    (omega (arith, length-drop start bytes), rw (take-add start n bytes, ← same) (HasNoFeed-append (take start bytes) stride before none))

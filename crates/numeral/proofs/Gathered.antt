@@ -33,14 +33,6 @@ kept-moved (Some x) None front rest gathered moved parts = absurd moved
 kept-moved (Some x) (Some y) front rest gathered moved parts =
     ap (λ bytes. bytes ++ rest) moved ∙ append_assoc x front rest ∙ ap (λ bytes. x ++ bytes) (sym parts)
 
--- a call that gathers more
-pub grown : (a b : Option (List ℕ)) (gathered more all : List ℕ)
-    → Keeps a (append_known b gathered) → all ≡ gathered ++ more → Appends a (append_known b all) more
-grown None b gathered more all kept parts = tt
-grown (Some x) None gathered more all kept parts = absurd kept
-grown (Some x) (Some y) gathered more all kept parts =
-    ap (λ bytes. y ++ bytes) parts ∙ sym (append_assoc y gathered more) ∙ ap (λ bytes. bytes ++ more) kept
-
 -- what is left once the writer has taken the front of what was left
 pub left_after : (all left : List ℕ) (gone count : ℕ) → left ≡ drop gone all → left ≡ take count left ++ drop (gone + count) all
 left_after all left gone count is = sym (take-append-drop count left) ∙ ap (λ rest. take count left ++ rest) (ap (drop count) is ∙ drop-drop count gone all)
@@ -49,12 +41,6 @@ left_after all left gone count is = sym (take-append-drop count left) ∙ ap (λ
 pub slice_to_end : (all now : List ℕ) (gone : ℕ) → now ≡ all → take (length now - gone) (drop gone now) ≡ drop gone all
 slice_to_end all now gone same =
     take_all (length now - gone) (drop gone now) (subst (λ n. n ≤ length now - gone) (sym (length-drop gone now)) (le_refl (length now - gone))) ∙ ap (drop gone) same
-
--- a call that takes no byte
-pub none-moved : (a b : Option (List ℕ)) {count : ℕ} (bytes : List ℕ) → count ≡ 0 → Appends a b (take count bytes) → Keeps a b
-none-moved None b bytes none moved = tt
-none-moved (Some x) None bytes none moved = absurd moved
-none-moved (Some x) (Some y) bytes none moved = moved ∙ ap (λ n. x ++ take n bytes) none ∙ append-nil x
 
 -- a call of the writer where nothing is gathered any more
 pub written_through : {E : Type 0} (a b c : Option (List ℕ)) (gathered : List ℕ) (result : Result ℕ E) (bytes : List ℕ)
