@@ -1,28 +1,32 @@
 #!/usr/bin/env bash
-# Runs what stands beside the gate, and then the gate, `rt ci`; stops at the first failure.
+# Runs the gate, `rt ci`, and what stands beside it; stops at the first failure, and says how long each part took. The
+# gate's last line, which counts what passed, is held back to the end.
 set -euo pipefail
 cd "$(dirname "$0")"
 
 scratch=$(mktemp -d)
 trap 'rm -rf "$scratch"' EXIT
-cc -O1 -shared -fPIC -o "$scratch/refuse_growth.so" beside/refuse_growth.c -ldl
+TIMEFORMAT='    %0lR, and %0lU + %0lS of processor time'
+numeral=crates/numeral/out/numeral
+refuse_growth=$scratch/refuse_growth.so
 
-# Proves and builds a program, and runs it on its stored input.
-build() {
-    echo "building $1"
-    (cd "crates/$1" && rt run < stdin > "$scratch/$1.stdout" 2> "$scratch/$1.log") || {
-        tail -n 20 "$scratch/$1.log"
-        exit 1
+gate() {
+    rt ci 2>&1 | tee "$scratch/gate" | sed '$d' || {
+        tail -n 1 "$scratch/gate"
+        return 1
     }
-    cmp "$scratch/$1.stdout" "crates/$1/stdout"
 }
 
-build cn_memory
-build numeral
-python3 beside/want_of_memory.py crates/cn_memory/out/cn_memory "$scratch/refuse_growth.so"
-python3 beside/short_of_memory.py crates/numeral/out/numeral "$scratch/refuse_growth.so" < crates/numeral/stdin
-python3 beside/dialogue.py crates/numeral/out/numeral
-python3 beside/statuses.py crates/numeral/out/numeral
-python3 beside/readers_without_memory.py crates/cn_vectors
+time python3 beside/names.py crates
+time python3 beside/edits.py crates
+time gate
 
-rt ci
+# The programs that the gate has proved and built.
+cc -O1 -shared -fPIC -o "$refuse_growth" beside/refuse_growth.c -ldl
+time python3 beside/want_of_memory.py crates/cn_memory/out/cn_memory "$refuse_growth"
+time python3 beside/short_of_memory.py $numeral "$refuse_growth" < crates/numeral/stdin
+time python3 beside/dialogue.py $numeral
+time python3 beside/statuses.py $numeral
+time python3 beside/readers_without_memory.py crates/cn_vectors
+
+tail -n 1 "$scratch/gate"

@@ -4,7 +4,8 @@
 Usage: statuses.py PROGRAM
 
 0 at the end of the input, 1 where the input cannot be read or the output not be written, 2 where memory is short;
-then the lines before the one in hand are answered, and nothing else is written.
+then the lines before the one in hand are answered, and nothing else is written. Answers go to standard output alone, and
+standard error stays empty, whatever the status.
 """
 import os
 import resource
@@ -46,9 +47,11 @@ def main():
     program = sys.argv[1]
     expect("the end of the input", run(program, input=LINES), 0, ANSWERS)
     expect("empty input", run(program, input=b""), 0, b"")
+    expect("many lines", run(program, input=LINES * 20000), 0, ANSWERS * 20000)
 
     with open("/dev/full", "wb") as full:
         expect("a full output", run(program, input=LINES, stdout=full), 1)
+        expect("a full output, with more than the room for it", run(program, input=LINES * 20000, stdout=full), 1)
     listener, speaker = os.pipe()
     os.close(listener)
     expect("a closed output", run(program, input=LINES, stdout=speaker), 1)
