@@ -4,8 +4,8 @@ use Rattle.cn_core.specs.declared.method.ChineseCountMethod.{ChineseCountMethod}
 use Rattle.cn_core.specs.Refusal.{Refusal}
 use Rattle.cn_core.specs.Typed.{Reads, naive_reading}
 use Rattle.cn_core.specs.Whole.{Kind}
+use Rattle.cn_judge.specs.declared.error.ChineseToNumberError.{ChineseToNumberError}
 use Rattle.cn_read.specs.Answer.{answer_of}
-use Rattle.cn_read.specs.declared.error.ChineseToNumberError.{ChineseToNumberError}
 
 -- a result whose answer is the number of a value is that value
 module _ {T : Type 0} (number : T → ℤ) (same : (x y : T) → number x ≡ number y → x ≡ y) (result : Result T ChineseToNumberError) (value : T) where

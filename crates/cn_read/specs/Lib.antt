@@ -1,3 +1,2 @@
-pub mod Answer
-pub mod ErrorText
-pub mod Private
+pub use Rattle.cn_judge.specs.Answer
+pub use Rattle.cn_judge.specs.ErrorText

@@ -1,24 +1,14 @@
 //! Readers of Chinese numerals: each of the twelve integer types is read from text, exactly as the
-//! definitions of `cn_core` judge it. No reader takes memory.
+//! definitions of `cn_core` judge it. No reader takes memory. Each call is a line over `cn_judge`.
 #![tactic(auto)]
 
-mod ends;
-mod error;
-mod mark;
-mod naive;
 mod naive_readers;
-mod open_units;
-mod sign;
 #[cfg(test)]
 mod tests;
-mod text;
 mod to_number;
-mod typed;
 mod unit_readers;
-mod units;
-mod walk;
 
-pub use error::ChineseToNumberError;
+pub use cn_judge::ChineseToNumberError;
 pub use naive_readers::{
     from_chinese_to_i8_naive, from_chinese_to_i16_naive, from_chinese_to_i32_naive,
     from_chinese_to_i64_naive, from_chinese_to_i128_naive, from_chinese_to_isize_naive,

@@ -2,10 +2,9 @@
 ghost use Rattle.std.specs.Prelude.{◌≡◌, pos};
 ghost use Rattle.cn_core.specs.Typed.{naive_reading};
 ghost use Rattle.cn_core.specs.Whole.{signed_kind, unsigned_kind};
-ghost use Rattle.cn_read.specs.Answer.{answer_of};
+ghost use Rattle.cn_judge.specs.Answer.{answer_of};
 
-use crate::ChineseToNumberError;
-use crate::naive::read_naive;
+use cn_judge::{ChineseToNumberError, read_naive};
 
 /// Reads plain digits as an `u8`: `零一二` is 12.
 ///

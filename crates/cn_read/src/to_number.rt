@@ -1,11 +1,9 @@
 ghost use Rattle.std.specs.Prelude.{◌≡◌, ℕ, List};
 ghost use Rattle.cn_core.specs.Typed.{naive_reading, Reads};
-ghost use Rattle.cn_read.specs.Answer.{answer_of};
+ghost use Rattle.cn_judge.specs.Answer.{answer_of};
 
-use crate::ChineseToNumberError;
-use crate::naive::read_naive;
-use crate::units::read;
 use cn_core::{ChineseCountMethod, Whole};
+use cn_judge::{ChineseToNumberError, read, read_naive};
 
 /// A text that is read as a number of the integer type `T`.
 pub trait ChineseToNumber<T: Whole> {

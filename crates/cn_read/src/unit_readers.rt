@@ -2,11 +2,10 @@
 ghost use Rattle.std.specs.Prelude.{pos};
 ghost use Rattle.cn_core.specs.Typed.{Reads};
 ghost use Rattle.cn_core.specs.Whole.{signed_kind, unsigned_kind};
-ghost use Rattle.cn_read.specs.Answer.{answer_of};
+ghost use Rattle.cn_judge.specs.Answer.{answer_of};
 
-use crate::ChineseToNumberError;
-use crate::units::read;
 use cn_core::ChineseCountMethod;
+use cn_judge::{ChineseToNumberError, read};
 
 /// Reads a numeral by `Low` as an `u8`: `一百二` is 120.
 ///

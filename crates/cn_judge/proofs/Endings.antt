@@ -1,0 +1,147 @@
+-- The answer at the front, and where the last mark stands apart.
+use Rattle.std.proofs.Common.{◌≡◌, ◌≢◌, inl, inr, ℕ, ◌+◌, ◌-◌, ◌^◌, ◌<◌, Bool, true, false, not, ◌&&◌, ◌||◌, ◌==◌, nat_lt, List, [], ◌∷◌, ◌++◌, length, Option, Some, None, Result, Ok, Err, refl, sym, ap, ◌∙◌, arith, if◌then◌else◌, append_assoc, length-append}
+use Rattle.std.proofs.lemmas.Bool.Decides.{nat_tests}
+use Rattle.cn_core.specs.declared.method.ChineseCountMethod.{ChineseCountMethod}
+use Rattle.cn_core.specs.Mark.{Mark, digit, unit, other, mark_of}
+use Rattle.cn_core.specs.Numeral.{each_may_precede, is_numeral, opened, starts_with_digit}
+use Rattle.cn_core.specs.Place.{some_unfit, is_unit_from_hundred, is_unit_above_ge, is_unfit}
+use Rattle.cn_core.specs.Refusal.{Refusal, incorrect_at, too_large}
+use Rattle.cn_core.specs.Scale.{scale_fits}
+use Rattle.cn_core.specs.Text.{marks_of}
+use Rattle.cn_core.specs.Value.{value}
+use Rattle.cn_core.proofs.Judging.{judge}
+use Rattle.cn_judge.specs.declared.walk.Next.{Next}
+use Rattle.cn_judge.specs.Private.Walk.{sum_of, opens_of, faults, fitting, front_answer, refused_or, walked_answer, tail_answer, HasTail, HasNoTail, digit_next}
+use Rattle.cn_judge.specs.Private.Stack.{Sized, sized, total_sum}
+use Rattle.cn_judge.specs.Private.Walked.{IsWalked}
+use Rattle.cn_judge.proofs.Stacks.{total-sized}
+use Rattle.cn_judge.proofs.OpenSums.{total-value}
+use Rattle.cn_judge.proofs.Faults.{plain-walked}
+use Rattle.cn_judge.proofs.Steps.{sound-none}
+use Rattle.cn_judge.proofs.Tails.{judge-one, judge-two, judge-plain, judge-tail}
+use Rattle.cn_judge.proofs.WalkSteps.{digit-low, marks-length, marks-append}
+use Rattle.cn_core.specs.Judge.{Judges}
+use Rattle.std.specs.Result.{IsErr, IsErrAnd}
+use Rattle.cn_judge.specs.Answer.{answer_of, refusal_of}
+use Rattle.cn_judge.specs.declared.error.ChineseToNumberError.{ChineseToNumberError}
+use Rattle.cn_core.proofs.Judging.{Judges-by_walk}
+
+pub first-stops : (c value : ℕ) → digit value ≡ mark_of c → value ≢ 0 → (next : Next) → true ≡ digit_next next
+    → (marks : List Mark) → each_may_precede marks ≡ true → digit_next next ≡ starts_with_digit marks → is_numeral (mark_of c ∷ marks) ≡ false
+first-stops c value is some next at marks each starts =
+    ap (λ m. is_numeral (m ∷ marks)) (sym is) ∙ by marks (sym (at ∙ starts)) where
+      by : (marks : List Mark) → starts_with_digit marks ≡ true → is_numeral (digit value ∷ marks) ≡ false
+      by [] h = cc
+      by (unit n ∷ rest) h = cc
+      by (other ∷ rest) h = cc
+      by (digit n ∷ rest) h =
+          let low = digit-low c value is in
+          let a : (value == 0) ≡ false = grind (arith, nat_tests) in
+          let b : nat_lt 9 value ≡ false = grind (arith, nat_tests) in
+          rw (a, b)
+
+pub walked-each : (method : ChineseCountMethod) (walked : List ℕ) (sum : ℕ) (units : List Sized) (next : Next) → IsWalked method walked sum units next → each_may_precede (marks_of walked) ≡ true
+walked-each method walked sum units next w = (sound-none method (marks_of walked) w.sound).each
+
+pub front-fits : (method : ChineseCountMethod) (first : Mark) (walked : List ℕ) (sum : ℕ) (units : List Sized) (next : Next) (d : ℕ) → IsWalked method walked sum units next
+    → (is_numeral (first ∷ marks_of walked) ≡ true) × (opened (first ∷ marks_of walked) ≡ digit d ∷ marks_of walked)
+    → walked_answer method first (marks_of walked) ≡ fitting (total_sum (sum + d) units)
+front-fits method first walked sum units next d w numeral =
+    ap (λ f. refused_or f (front_answer method first (marks_of walked))) w.sound
+    ∙ ap (λ (b : Bool). if b then fitting (value method (opened (first ∷ marks_of walked))) else Err (incorrect_at 0)) numeral.0
+    ∙ ap (λ l. fitting (value method l)) numeral.1
+    ∙ ap fitting (sym (total-value method (digit d ∷ marks_of walked)))
+    ∙ ap fitting (sym (total-sized method (opens_of method (marks_of walked)) (sum_of (marks_of walked) + d)))
+    ∙ ap (λ s. fitting (total_sum (s + d) (sized method (opens_of method (marks_of walked))))) (sym w.sum_is)
+    ∙ ap (λ o. fitting (total_sum (sum + d) o)) (sym w.units_are)
+
+pub fitting-some : (number sum : ℕ) → (sum < 2 ^ 128) × (number ≡ sum) → fitting sum ≡ Ok number
+fitting-some number sum h = let test : nat_lt sum (2 ^ 128) ≡ true = grind (arith, nat_tests, h.0) in rw test (ap Ok (sym h.1))
+
+pub fitting-none : (sum : ℕ) → ¬ (sum < 2 ^ 128) → fitting sum ≡ Err too_large
+fitting-none sum h = let test : nat_lt sum (2 ^ 128) ≡ false = grind (arith, nat_tests) in rw test
+
+-- the answer where no mark stands apart
+pub judge-no_tail : (method : ChineseCountMethod) (first : Mark) (marks : List Mark) → HasNoTail marks → judge method (first ∷ marks) ≡ walked_answer method first marks
+judge-no_tail method first [] (inl h) = judge-one method first ∙ plain-walked method first []
+judge-no_tail method first (m ∷ []) (inl h) = judge-two method first m ∙ plain-walked method first (m ∷ [])
+judge-no_tail method first (m ∷ n ∷ marks) (inl h) = absurd (omega (arith, h))
+judge-no_tail method first marks (inr (front, second, last, parts, stands)) =
+    ap (λ l. judge method (first ∷ l)) parts ∙ judge-plain method first front second last stands ∙ plain-walked method first (front ++ second ∷ last ∷ [])
+    ∙ ap (walked_answer method first) (sym parts)
+
+-- and where one does
+pub judge-has_tail : (method : ChineseCountMethod) (first : Mark) (marks before : List Mark) (rank : ℕ) (last : Mark) (place : ℕ) → HasTail marks before rank last
+    → place ≡ length before + 1 → judge method (first ∷ marks) ≡ tail_answer method place rank last (walked_answer method first before)
+judge-has_tail method first marks before rank last place (parts, (front, is), stands) at =
+    let all : marks ≡ front ++ unit rank ∷ last ∷ [] = parts ∙ ap (λ l. l ++ last ∷ []) is ∙ append_assoc front (unit rank ∷ []) (last ∷ []) in
+    let a = ap length all in
+    let b = ap length is in
+    let e : length (front ++ unit rank ∷ []) ≡ length front + 1 = length-append front (unit rank ∷ []) in
+    let f : length (front ++ unit rank ∷ last ∷ []) ≡ length front + 2 = length-append front (unit rank ∷ last ∷ []) in
+    let there : place ≡ length (first ∷ front ++ unit rank ∷ last ∷ []) - 1 = omega (arith, at, b, e, f) in
+    ap (λ l. judge method (first ∷ l)) all ∙ judge-tail method first front rank last place stands there
+    ∙ ap (tail_answer method place rank last) (plain-walked method first (front ++ unit rank ∷ []))
+    ∙ ap (λ l. tail_answer method place rank last (walked_answer method first l)) (sym is)
+
+-- the unit before it fits, where the answer is a number
+unfit-end : (method : ChineseCountMethod) (front : List Mark) (rank : ℕ) → some_unfit method (front ++ unit rank ∷ []) ≡ false → scale_fits method rank ≡ true
+unfit-end method [] rank h = by (scale_fits method rank) h where
+  by : (b : Bool) → (not b || false) ≡ false → b ≡ true
+  by true h = refl
+  by false h = cc
+unfit-end method (m ∷ front) rank h = unfit-end method front rank (right (is_unfit method m) _ h) where
+  right : (a b : Bool) → (a || b) ≡ false → b ≡ false
+  right true b h = cc
+  right false b h = h
+
+walked-sound : (method : ChineseCountMethod) (first : Mark) (marks : List Mark) (number : ℕ) → Ok number ≡ walked_answer method first marks → faults method marks ≡ None
+walked-sound method first marks number h = by (faults method marks) h where
+  by : (f : Option Refusal) → Ok number ≡ refused_or f (front_answer method first marks) → f ≡ None
+  by None h = refl
+  by (Some r) h = cc
+
+pub tail-fits : (method : ChineseCountMethod) (first : Mark) (marks before : List Mark) (rank : ℕ) (last : Mark) (number : ℕ) → HasTail marks before rank last
+    → Ok number ≡ walked_answer method first before → scale_fits method rank ≡ true
+tail-fits method first marks before rank last number (parts, (front, is), stands) h =
+    unfit-end method front rank (ap (some_unfit method) (sym is) ∙ (sound-none method before (walked-sound method first before number h)).fit)
+
+-- the answer to a text of two parts
+pub judged : (method : ChineseCountMethod) (text rest : List ℕ) (first : ℕ) (answer : Result ℕ Refusal) → text ≡ first ∷ rest
+    → judge method (mark_of first ∷ marks_of rest) ≡ answer → Judges method (marks_of text) answer
+judged method text rest first answer parts h = rw parts (Judges-by_walk method (mark_of first ∷ marks_of rest) answer h)
+
+pub judged_plain : (method : ChineseCountMethod) (text rest : List ℕ) (first : ℕ) (answer : Result ℕ Refusal) → text ≡ first ∷ rest
+    → HasNoTail (marks_of rest) → answer ≡ walked_answer method (mark_of first) (marks_of rest) → Judges method (marks_of text) answer
+judged_plain method text rest first answer parts none h =
+    judged method text rest first answer parts (judge-no_tail method (mark_of first) (marks_of rest) none ∙ sym h)
+
+pub judged_tail : (method : ChineseCountMethod) (text rest before : List ℕ) (first : ℕ) (last : Mark) (rank place : ℕ) (answer body : Result ℕ Refusal) → text ≡ first ∷ rest
+    → HasTail (marks_of rest) (marks_of before) rank last → place ≡ length before + 1
+    → body ≡ walked_answer method (mark_of first) (marks_of before) → tail_answer method place rank last body ≡ answer → Judges method (marks_of text) answer
+judged_tail method text rest before first last rank place answer body parts tail at is h =
+    let there : place ≡ length (marks_of before) + 1 = (let l = marks-length before in omega (arith, l, at)) in
+    judged method text rest first answer parts
+    (judge-has_tail method (mark_of first) (marks_of rest) (marks_of before) rank last place tail there
+    ∙ ap (tail_answer method place rank last) (sym is) ∙ h)
+
+-- a last mark that is no digit is at fault
+pub tail-stops : (method : ChineseCountMethod) (place rank number : ℕ) (last : Mark) → ((value : ℕ) → last ≢ digit value) → tail_answer method place rank last (Ok number) ≡ Err (incorrect_at place)
+tail-stops method place rank number (digit value) none = absurd (none value refl)
+tail-stops method place rank number (unit u) none = refl
+tail-stops method place rank number other none = refl
+
+pub has-tail : (text before more : List ℕ) (last second rank : ℕ) (last_mark second_mark : Mark) → text ≡ before ++ last ∷ [] → before ≡ more ++ second ∷ []
+    → last_mark ≡ mark_of last → second_mark ≡ mark_of second
+    → second_mark ≡ unit rank → is_unit_from_hundred second_mark ≡ true → false ≡ is_unit_above_ge last_mark
+    → HasTail (marks_of text) (marks_of before) rank last_mark
+has-tail text before more last second rank last_mark second_mark parts more_parts last_is second_is is hundred above = (
+  ap marks_of parts ∙ marks-append before (last ∷ []) ∙ ap (λ m. marks_of before ++ m ∷ []) (sym last_is),
+  (marks_of more, ap marks_of more_parts ∙ marks-append more (second ∷ []) ∙ ap (λ m. marks_of more ++ m ∷ []) (sym second_is ∙ is)),
+  ap (λ b. is_unit_from_hundred (unit rank) && not b) (sym above) ∙ ap (λ m. is_unit_from_hundred m && true) (sym is) ∙ ap (λ b. b && true) hundred,
+)
+
+-- an error that is handed on
+pub err-same : (r : Result ℕ ChineseToNumberError) (x : ChineseToNumberError) → IsErr r × IsErrAnd r (λ e. e ≡ x) → answer_of (λ n. n) r ≡ Err (refusal_of x)
+err-same (Ok n) x h = absurd (h.1)
+err-same (Err e) x h = ap (λ e. Err (refusal_of e)) h.1

@@ -1,0 +1,148 @@
+-- The open units in an array.
+use Rattle.std.proofs.Common.{◌≡◌, ℕ, nat_lt, Bool, Option, Some, None, SomeIff, if◌then◌else◌, zero, suc, ◌+◌, ◌-◌, ◌*◌, ◌^◌, ◌<◌, ◌≤◌, true, false, List, [], ◌∷◌, length, slice_index_or, slice_set, refl, ap, arith, add-one}
+use Rattle.std.proofs.lemmas.Grind.{common_steps}
+use Rattle.cn_core.specs.declared.method.ChineseCountMethod.{ChineseCountMethod}
+use Rattle.cn_core.specs.Scale.{scale}
+use Rattle.cn_judge.specs.declared.open_units.OpenUnit.{OpenUnit}
+use Rattle.cn_judge.specs.Private.Walk.{Open, closed, left_open, total, top_rank}
+use Rattle.cn_core.proofs.ScaleLaws.{scale-pos}
+use Rattle.cn_core.proofs.Fronts.{and-left, and-right}
+use Rattle.std.proofs.lemmas.Bool.Decides.{nat_tests}
+use Rattle.cn_judge.specs.Private.Stack.{Sized, sized, stack_of, opened_at, no_unit, ClosesTop, all_positive, closed_sum, not_closed, top_of, total_sum}
+
+pub length-stack : (entries : List OpenUnit) (len : ℕ) → length (stack_of entries len) ≡ len
+length-stack entries zero = refl
+length-stack entries (suc len) = ap suc (length-stack entries len)
+
+set_other : (entries : List OpenUnit) (i k : ℕ) (e : OpenUnit) → k < i → slice_index_or (slice_set entries i e) k no_unit ≡ slice_index_or entries k no_unit
+set_other entries i k e h = grind (arith, common_steps)
+
+set_same : (entries : List OpenUnit) (i : ℕ) (e : OpenUnit) → i < length entries → slice_index_or (slice_set entries i e) i no_unit ≡ e
+set_same entries i e h = grind (arith, common_steps)
+
+stack-set : (entries : List OpenUnit) (i len : ℕ) (e : OpenUnit) → len ≤ i → stack_of (slice_set entries i e) len ≡ stack_of entries len
+stack-set entries i zero e h = refl
+stack-set entries i (suc len) e h = rw (set_other entries i len e (omega arith), stack-set entries i len e (omega arith))
+
+pub stack-push : (entries : List OpenUnit) (len : ℕ) (e : OpenUnit) → len < length entries → stack_of (slice_set entries len e) (len + 1) ≡ opened_at e ∷ stack_of entries len
+stack-push entries len e h = rw (add-one, set_same entries len e h, stack-set entries len len e (omega arith))
+
+-- the top closes
+pub ClosesTop-view : (units : List Sized) (entries : List OpenUnit) (sum len : ℕ) (result : Option ℕ) → stack_of entries len ≡ units → 0 < length units
+    → SomeIff result (sum * (slice_index_or entries (len - 1) no_unit).size + (slice_index_or entries (len - 1) no_unit).below < 2 ^ 128)
+    (sum * (slice_index_or entries (len - 1) no_unit).size + (slice_index_or entries (len - 1) no_unit).below)
+    → ClosesTop sum units (stack_of entries (len - 1)) result
+ClosesTop-view units entries sum zero result is some s = absurd (let same = ap length is in omega (arith, some, same))
+ClosesTop-view units entries sum (suc len) result is some s =
+    let down : suc len - 1 ≡ len = omega arith in
+    let t = rw down at s in
+    rw (← is, down) (refl, t)
+
+some_same : (a b : ℕ) → Some a ≡ Some b → a ≡ b
+some_same a b h = cc
+
+-- closing never lowers a sum
+sum_grows : (sum size more : ℕ) → 0 < size → sum ≤ sum * size + more
+sum_grows sum size more h = grind arith
+
+pub total-grows : (units : List Sized) (sum : ℕ) → all_positive units ≡ true → sum ≤ total_sum sum units
+total-grows [] sum h = omega arith
+total-grows (top ∷ units) sum h =
+    let t : nat_lt 0 top.1 ≡ true = and-left (nat_lt 0 top.1) _ h in
+    let p : 0 < top.1 = grind (arith, nat_tests) in
+    let ih = total-grows units (sum * top.1 + top.2) (and-right (nat_lt 0 top.1) _ h) in
+    let g = sum_grows sum top.1 top.2 p in omega (arith, ih, g)
+
+closed-grows : (limit : ℕ) (units : List Sized) (sum : ℕ) → all_positive units ≡ true → sum ≤ closed_sum limit sum units
+closed-grows limit [] sum h = omega arith
+closed-grows limit (top ∷ units) sum h = by (nat_lt top.0 limit) (closed-grows limit units (sum * top.1 + top.2) (and-right (nat_lt 0 top.1) _ h)) where
+  by : (b : Bool) → sum * top.1 + top.2 ≤ closed_sum limit (sum * top.1 + top.2) units → sum ≤ (if b then closed_sum limit (sum * top.1 + top.2) units else sum)
+  by true ih =
+      let t : nat_lt 0 top.1 ≡ true = and-left (nat_lt 0 top.1) _ h in
+      let p : 0 < top.1 = grind (arith, nat_tests) in
+      let g = sum_grows sum top.1 top.2 p in omega (arith, g, ih)
+  by false ih = omega arith
+
+-- a step of closing what is smaller
+pub closed-step : (limit t sum more : ℕ) (before after : List Sized) → Some t ≡ top_of before → t < limit → ClosesTop sum before after (Some more) → all_positive before ≡ true
+    → (closed_sum limit more after ≡ closed_sum limit sum before) × (not_closed limit after ≡ not_closed limit before) × (all_positive after ≡ true) × (more < 2 ^ 128)
+closed-step limit t sum more [] after is low h p = cc
+closed-step limit t sum more (top ∷ units) after is low h p =
+    let same = some_same t top.0 is in
+    let test : nat_lt top.0 limit ≡ true = grind (arith, nat_tests) in
+    let e = h.1.1 in
+    (rw (h.0, test, e) refl, rw (h.0, test) refl, rw (h.0) (and-right (nat_lt 0 top.1) _ p), omega (arith, h.1.0, e))
+
+pub closed-past : (limit t sum : ℕ) (before after : List Sized) → Some t ≡ top_of before → t < limit → ClosesTop sum before after None → all_positive before ≡ true
+    → ¬ (closed_sum limit sum before < 2 ^ 128)
+closed-past limit t sum [] after is low h p = cc
+closed-past limit t sum (top ∷ units) after is low h p =
+    let same = some_same t top.0 is in
+    let test : nat_lt top.0 limit ≡ true = grind (arith, nat_tests) in
+    let grows = closed-grows limit units (sum * top.1 + top.2) (and-right (nat_lt 0 top.1) _ p) in
+    rw test (λ small. h.1 (omega (arith, small, grows)))
+
+-- a step of closing all
+pub total-step : (sum more : ℕ) (before after : List Sized) → 0 < length before → ClosesTop sum before after (Some more) → all_positive before ≡ true
+    → (total_sum more after ≡ total_sum sum before) × (all_positive after ≡ true) × (length after < length before) × (more < 2 ^ 128)
+total-step sum more [] after some h p = absurd (omega (arith, some))
+total-step sum more (top ∷ units) after some h p = let e = h.1.1 in (rw (h.0, e) refl, rw (h.0) (and-right (nat_lt 0 top.1) _ p), rw (h.0) (omega arith), omega (arith, h.1.0, e))
+
+pub total-past : (sum : ℕ) (before after : List Sized) → 0 < length before → ClosesTop sum before after None → all_positive before ≡ true → ¬ (total_sum sum before < 2 ^ 128)
+total-past sum [] after some h p = absurd (omega (arith, some))
+total-past sum (top ∷ units) after some h p =
+    let grows = total-grows units (sum * top.1 + top.2) (and-right (nat_lt 0 top.1) _ p) in
+    λ small. h.1 (omega (arith, small, grows))
+
+-- the same of the open units of a walk
+pub closed-sized : (method : ChineseCountMethod) (limit : ℕ) (opens : List Open) (sum : ℕ) → closed_sum limit sum (sized method opens) ≡ closed method limit sum opens
+closed-sized method limit [] sum = refl
+closed-sized method limit (top ∷ opens) sum = ap (λ n. if nat_lt top.0 limit then n else sum) (closed-sized method limit opens (sum * scale method top.0 + top.1))
+
+pub left-sized : (method : ChineseCountMethod) (limit : ℕ) (opens : List Open) → not_closed limit (sized method opens) ≡ sized method (left_open limit opens)
+left-sized method limit [] = refl
+left-sized method limit (top ∷ opens) = by (nat_lt top.0 limit) (left-sized method limit opens) where
+  by : (b : Bool) → not_closed limit (sized method opens) ≡ sized method (left_open limit opens)
+      → (if b then not_closed limit (sized method opens) else (top.0, scale method top.0, top.1) ∷ sized method opens) ≡ sized method (if b then left_open limit opens else top ∷ opens)
+  by true ih = ih
+  by false ih = refl
+
+pub total-sized : (method : ChineseCountMethod) (opens : List Open) (sum : ℕ) → total_sum sum (sized method opens) ≡ total method sum opens
+total-sized method [] sum = refl
+total-sized method (top ∷ opens) sum = total-sized method opens (sum * scale method top.0 + top.1)
+
+pub top-sized : (method : ChineseCountMethod) (opens : List Open) → top_of (sized method opens) ≡ top_rank opens
+top-sized method [] = refl
+top-sized method (top ∷ opens) = refl
+
+pub length-sized : (method : ChineseCountMethod) (opens : List Open) → length (sized method opens) ≡ length opens
+length-sized method [] = refl
+length-sized method (top ∷ opens) = ap suc (length-sized method opens)
+
+pub positive-sized : (method : ChineseCountMethod) (opens : List Open) → all_positive (sized method opens) ≡ true
+positive-sized method [] = refl
+positive-sized method (top ∷ opens) =
+    let p = scale-pos method top.0 in
+    let t : nat_lt 0 (scale method top.0) ≡ true = test (scale method top.0) p in
+    rw t (positive-sized method opens) where
+      test : (n : ℕ) → 0 < n → nat_lt 0 n ≡ true
+      test n h = grind (arith, nat_tests)
+
+-- nothing smaller is left
+pub closed-stop : (limit t sum : ℕ) (units : List Sized) → Some t ≡ top_of units → limit ≤ t → (closed_sum limit sum units ≡ sum) × (not_closed limit units ≡ units)
+closed-stop limit t sum [] is high = cc
+closed-stop limit t sum (top ∷ units) is high =
+    let same = some_same t top.0 is in
+    let test : nat_lt top.0 limit ≡ false = grind (arith, nat_tests) in
+    (rw test refl, rw test refl)
+
+pub closed-none : (limit sum : ℕ) (units : List Sized) → None ≡ top_of units → (closed_sum limit sum units ≡ sum) × (not_closed limit units ≡ units)
+closed-none limit sum [] is = (refl, refl)
+closed-none limit sum (top ∷ units) is = cc
+
+pub total-none : (sum : ℕ) (entries : List OpenUnit) (len : ℕ) (units : List Sized) → stack_of entries len ≡ units → len ≡ 0 → total_sum sum units ≡ sum
+total-none sum entries zero units is none = rw (← is) refl
+total-none sum entries (suc len) units is none = absurd (omega (arith, none))
+
+pub some_entries : (entries : List OpenUnit) (len : ℕ) (units : List Sized) → stack_of entries len ≡ units → 0 < len → 0 < length units
+some_entries entries len units is some = let same = ap length is in omega (arith, same, length-stack entries len, some)

@@ -1,0 +1,107 @@
+-- Characters of three bytes, by what the bytes add up to.
+use Rattle.std.proofs.Common.{◌≡◌, ℕ, ◌+◌, ◌*◌, ◌/◌, ◌<◌, ◌≤◌, Bool, true, false, cond, ltb, List, [], ◌∷◌, ◌++◌, length, get_or, take, drop, chars, encode_utf8, IsUtf8, refl, sym, ap, ◌∙◌, subst, arith, append-nil, add-zero, length-drop}
+use Rattle.std.specs.Str.{IsCharBoundary}
+use Rattle.std.proofs.lemmas.Str.{IsUtf8-take, IsUtf8-drop, IsUtf8-past_char, IsCharBoundary-from_drop, chars_past_char}
+use Rattle.std.proofs.lemmas.List.{take-append-drop}
+use lib.Dec.{T, ltb→lt}
+use lib.Seq.{drop_at, get_or-drop}
+use lib.Utf8.{next, encode, encodes}
+use Rattle.cn_judge.proofs.Walking.{chars-back}
+
+-- a character's bytes, by which of the three bounds it is below
+abbrev bytes_by : Bool → Bool → Bool → ℕ → List ℕ
+bytes_by x y z c =
+    cond x (c ∷ []) (cond y ((192 + c / 64) ∷ next c ∷ []) (cond z ((224 + c / 4096) ∷ next (c / 64) ∷ next c ∷ []) ((240 + c / 262144) ∷ next (c / 4096) ∷ next (c / 64) ∷ next c ∷ [])))
+
+encode-by : (c : ℕ) → encode c ≡ bytes_by (ltb c 128) (ltb c 2048) (ltb c 65536) c
+unfolding encode
+encode-by c = refl
+
+below : (m n : ℕ) → ltb m n ≡ true → m < n
+below m n e = ltb→lt m n (subst T (sym e) tt)
+
+abbrev IsThree : ℕ → List ℕ → List ℕ → Type 0
+IsThree c bytes all = (length bytes ≡ 3) × (c + 925824 ≡ get_or all 0 0 * 4096 + get_or all 1 0 * 64 + get_or all 2 0)
+
+is_three : (c : ℕ) (rest : List ℕ) → 224 ≤ get_or (encode c ++ rest) 0 0 → (240 ≤ get_or (encode c ++ rest) 0 0 → length (encode c ++ rest) < 4)
+    → IsThree c (encode c) (encode c ++ rest)
+is_three c rest = rw (encode-by c) (by (ltb c 128) (ltb c 2048) (ltb c 65536) refl refl) where
+  by : (x y z : Bool) → ltb c 128 ≡ x → ltb c 2048 ≡ y
+      → 224 ≤ get_or (bytes_by x y z c ++ rest) 0 0 → (240 ≤ get_or (bytes_by x y z c ++ rest) 0 0 → length (bytes_by x y z c ++ rest) < 4)
+      → IsThree c (bytes_by x y z c) (bytes_by x y z c ++ rest)
+  by true y z p q low short = absurd (let small = below c 128 p in omega (arith, small, low))
+  by false true z p q low short = absurd (let small = below c 2048 q in omega (arith, small, low))
+  by false false true p q low short = (refl, omega arith)
+  by false false false p q low short = absurd (let few = short (omega arith) in omega (arith, few))
+
+-- a text that starts with a character of three bytes
+pub record StartsWithThree (bytes : List ℕ) : Type 0 where
+  pub code : ℕ
+  pub sum : code + 925824 ≡ get_or bytes 0 0 * 4096 + get_or bytes 1 0 * 64 + get_or bytes 2 0
+  pub parts : bytes ≡ encode_utf8 code ++ drop 3 bytes
+  pub rest : IsUtf8 (drop 3 bytes)
+
+starts-three : (bytes : List ℕ) → IsUtf8 bytes → 0 < length bytes → 224 ≤ get_or bytes 0 0 → (240 ≤ get_or bytes 0 0 → length bytes < 4) → StartsWithThree bytes
+starts-three bytes whole some low short = by whole.0 whole.1.1 where
+  by : (cs : List ℕ) → encodes cs ≡ bytes → StartsWithThree bytes
+  by [] e = absurd (omega (arith, some, ap length e))
+  by (c ∷ cs) e =
+      let three = is_three c (encodes cs) (subst (λ l. 224 ≤ get_or l 0 0) (sym e) low) (subst (λ l. 240 ≤ get_or l 0 0 → length l < 4) (sym e) short) in
+      let cut : drop 3 bytes ≡ encodes cs = ap (drop 3) (sym e) ∙ drop_at (encode c) (encodes cs) 3 three.0 in
+      record {
+        code = c;
+        sum = three.1 ∙ ap (λ l. get_or l 0 0 * 4096 + get_or l 1 0 * 64 + get_or l 2 0) e;
+        parts = sym e ∙ ap (λ l. encode c ++ l) (sym cut);
+        rest = subst IsUtf8 (sym cut) (IsUtf8-past_char bytes (encodes cs) c whole (sym e));
+      }
+
+-- the first character
+first-starts : (bytes : List ℕ) (a : ℕ) → IsUtf8 bytes → 3 ≤ length bytes → a ≡ get_or bytes 0 0 → 224 ≤ a → a < 240 → StartsWithThree bytes
+first-starts bytes a whole long p low high = starts-three bytes whole (omega (arith, long)) (omega (arith, p, low)) (λ great. absurd (omega (arith, p, high, great)))
+
+pub first-three : (bytes after : List ℕ) (a b d code : ℕ) → IsUtf8 bytes → 3 ≤ length bytes → after ≡ drop 3 bytes
+    → a ≡ get_or bytes 0 0 → b ≡ get_or bytes 1 0 → d ≡ get_or bytes 2 0 → 224 ≤ a → a < 240 → code + 925824 ≡ a * 4096 + b * 64 + d
+    → chars bytes ≡ code ∷ chars after
+first-three bytes after a b d code whole long cut p q r low high sum =
+    let three = first-starts bytes a whole long p low high in
+    let same : three.code ≡ code = omega (arith, three.sum, sum, p, q, r) in
+    chars_past_char _ _ _ whole (three.parts ∙ ap (λ c. encode_utf8 c ++ drop 3 bytes) same ∙ ap (λ l. encode_utf8 code ++ l) (sym cut))
+
+pub first-heavy : (bytes : List ℕ) (a b d : ℕ) → IsUtf8 bytes → 3 ≤ length bytes
+    → a ≡ get_or bytes 0 0 → b ≡ get_or bytes 1 0 → d ≡ get_or bytes 2 0 → 224 ≤ a → a < 240 → 925824 ≤ a * 4096 + b * 64 + d
+first-heavy bytes a b d whole long p q r low high =
+    let three = first-starts bytes a whole long p low high in omega (arith, three.sum, p, q, r)
+
+pub first-boundary : (bytes : List ℕ) (a : ℕ) → IsUtf8 bytes → 3 ≤ length bytes → a ≡ get_or bytes 0 0 → 224 ≤ a → a < 240 → IsCharBoundary bytes 3
+first-boundary bytes a whole long p low high = let three = first-starts bytes a whole long p low high in IsCharBoundary-from_drop bytes 3 long three.rest
+
+-- the last character
+at-start : (bytes : List ℕ) (start : ℕ) → get_or (drop start bytes) 0 0 ≡ get_or bytes start 0
+at-start bytes start = get_or-drop start bytes 0 0 ∙ ap (λ n. get_or bytes n 0) (add-zero start)
+
+last-starts : (bytes : List ℕ) (start a : ℕ) → IsUtf8 bytes → IsCharBoundary bytes start → length bytes ≡ start + 3 → a ≡ get_or bytes start 0 → 224 ≤ a
+    → StartsWithThree (drop start bytes)
+last-starts bytes start a whole boundary long p low =
+    let size = length-drop start bytes in
+    let at = at-start bytes start in
+    starts-three (drop start bytes) (IsUtf8-drop bytes start whole boundary) (omega (arith, size, long)) (omega (arith, at, p, low)) (λ _. omega (arith, size, long))
+
+pub last-heavy : (bytes : List ℕ) (start a b d : ℕ) → IsUtf8 bytes → IsCharBoundary bytes start → length bytes ≡ start + 3
+    → a ≡ get_or bytes start 0 → b ≡ get_or bytes (start + 1) 0 → d ≡ get_or bytes (start + 2) 0 → 224 ≤ a → 925824 ≤ a * 4096 + b * 64 + d
+last-heavy bytes start a b d whole boundary long p q r low =
+    let three = last-starts bytes start a whole boundary long p low in
+    omega (arith, three.sum, p, q, r, at-start bytes start, get_or-drop start bytes 1 0, get_or-drop start bytes 2 0)
+
+pub last-three : (bytes before : List ℕ) (start a b d code : ℕ) → IsUtf8 bytes → IsCharBoundary bytes start → length bytes ≡ start + 3 → before ≡ take start bytes
+    → a ≡ get_or bytes start 0 → b ≡ get_or bytes (start + 1) 0 → d ≡ get_or bytes (start + 2) 0 → 224 ≤ a → code + 925824 ≡ a * 4096 + b * 64 + d
+    → chars bytes ≡ chars before ++ code ∷ []
+last-three bytes before start a b d code whole boundary long cut p q r low sum =
+    let three = last-starts bytes start a whole boundary long p low in
+    let same : three.code ≡ code = omega (arith, three.sum, sum, p, q, r, at-start bytes start, get_or-drop start bytes 1 0, get_or-drop start bytes 2 0) in
+    let none : drop 3 (drop start bytes) ≡ [] = is_nil _ (omega (arith, length-drop 3 (drop start bytes), length-drop start bytes, long)) in
+    let last : drop start bytes ≡ encode_utf8 code = three.parts ∙ ap (λ c. encode_utf8 c ++ drop 3 (drop start bytes)) same ∙ ap (λ l. encode_utf8 code ++ l) none ∙ append-nil (encode_utf8 code) in
+    chars-back bytes before code whole (subst IsUtf8 (sym cut) (IsUtf8-take bytes start whole boundary))
+    (sym (take-append-drop start bytes) ∙ ap (λ l. l ++ drop start bytes) (sym cut) ∙ ap (λ l. before ++ l) last) where
+      is_nil : (xs : List ℕ) → length xs ≡ 0 → xs ≡ []
+      is_nil [] e = refl
+      is_nil (x ∷ xs) e = absurd (omega (arith, e))

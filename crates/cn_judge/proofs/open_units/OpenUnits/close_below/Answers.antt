@@ -1,0 +1,33 @@
+use Rattle.std.proofs.Common.{arith, rules, ◌∙◌}
+use Rattle.cn_core.specs.Characters.{rank}
+use Rattle.cn_judge.proofs.Stacks.{closed-step, closed-past, closed-stop, closed-none}
+use Rattle.cn_judge.proofs.open_units.OpenUnits.close_below.Goals as goal
+
+pub returns-in-None-clause-sum : goal.returns-in-None-clause-sum
+returns-in-None-clause-sum c =
+    let inv = c.closing.invariant in
+    let past = closed-past (rank c.args.unit) _ _ _ _ c.in-Some.ensures (search rules) c.in-None.ensures inv.positive in
+    λ small. past (omega (arith, inv.sum, small))
+
+pub returns-then-ge-clause-sum : goal.returns-then-ge-clause-sum
+returns-then-ge-clause-sum c =
+    let inv = c.closing.invariant in
+    let stop = closed-stop (rank c.args.unit) _ c.closing.closed _ c.in-Some.ensures (search rules) in
+    (omega (arith, inv.sum, stop.0, inv.fits), omega (arith, inv.sum, stop.0))
+
+pub returns-in_default-clause-sum : goal.returns-in_default-clause-sum
+returns-in_default-clause-sum c =
+    let inv = c.closing.invariant in
+    let stop = closed-none (rank c.args.unit) c.closing.closed _ c.in_default.ensures in
+    (omega (arith, inv.sum, stop.0, inv.fits), omega (arith, inv.sum, stop.0))
+
+pub closing-preserved : goal.closing-preserved
+closing-preserved c =
+    let inv = c.closing.invariant in
+    let step = closed-step (rank c.args.unit) _ _ _ _ _ c.in-Some.ensures (search rules) c.in-Some-close_top.ensures inv.positive in
+    record {
+      sum = step.0 ∙ inv.sum;
+      left = step.1 ∙ inv.left;
+      positive = step.2;
+      fits = step.3;
+    }

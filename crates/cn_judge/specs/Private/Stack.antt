@@ -1,0 +1,59 @@
+-- The open units as the walk keeps them, each with its scale, in an array whose last entry is the top.
+use Rattle.std.specs.Prelude.{◌≡◌, ℕ, zero, suc, ◌+◌, ◌*◌, ◌^◌, ◌<◌, SomeIff, Bool, nat_lt, List, [], ◌∷◌, Option, Some, None, slice_index_or, if◌then◌else◌}
+use Rattle.std.specs.List.{list_all}
+use Rattle.cn_core.specs.declared.method.ChineseCountMethod.{ChineseCountMethod}
+use Rattle.cn_core.specs.declared.unit.Unit.TheVariants.{Ge}
+use Rattle.cn_core.specs.Characters.{rank}
+use Rattle.cn_core.specs.Scale.{scale}
+use Rattle.cn_judge.specs.declared.open_units.OpenUnit.{OpenUnit}
+use Rattle.cn_judge.specs.Private.Walk.{Open}
+
+-- an open unit: its rank, its scale, and the sum that it was opened over; the top stands first
+abbrev pub Sized : Type 0
+Sized = ℕ × ℕ × ℕ
+
+-- the open units of a walk, with their scales
+abbrev pub sized : ChineseCountMethod → List Open → List Sized
+sized method [] = []
+sized method (top ∷ opens) = (top.0, scale method top.0, top.1) ∷ sized method opens
+
+-- each scale is above 0
+abbrev pub all_positive : List Sized → Bool
+all_positive units = list_all (λ top. nat_lt 0 top.1) units
+
+-- the rank on top
+abbrev pub top_of : List Sized → Option ℕ
+top_of [] = None
+top_of (top ∷ units) = Some top.0
+
+-- the sum once each open unit below a rank is closed: it multiplies the sum, and adds it to the one below
+abbrev pub closed_sum : ℕ → ℕ → List Sized → ℕ
+closed_sum limit sum [] = sum
+closed_sum limit sum (top ∷ units) = if nat_lt top.0 limit then closed_sum limit (sum * top.1 + top.2) units else sum
+
+-- the units that are then still open
+abbrev pub not_closed : ℕ → List Sized → List Sized
+not_closed limit [] = []
+not_closed limit (top ∷ units) = if nat_lt top.0 limit then not_closed limit units else top ∷ units
+
+-- the sum once all are closed
+abbrev pub total_sum : ℕ → List Sized → ℕ
+total_sum sum [] = sum
+total_sum sum (top ∷ units) = total_sum (sum * top.1 + top.2) units
+
+-- an entry past the end
+abbrev pub no_unit : OpenUnit
+no_unit = record { unit = Ge; size = 0; below = 0 }
+
+abbrev pub opened_at : OpenUnit → Sized
+opened_at entry = (rank entry.unit, entry.size, entry.below)
+
+-- the first entries, the last of them first
+abbrev pub stack_of : List OpenUnit → ℕ → List Sized
+stack_of entries zero = []
+stack_of entries (suc len) = opened_at (slice_index_or entries len no_unit) ∷ stack_of entries len
+
+-- the top closes: the sum is multiplied and joins the one below, if that fits
+abbrev pub ClosesTop : ℕ → List Sized → List Sized → Option ℕ → Type 0
+ClosesTop sum [] after result = Unit {0}
+ClosesTop sum (top ∷ units) after result = (after ≡ units) × SomeIff result (sum * top.1 + top.2 < 2 ^ 128) (sum * top.1 + top.2)

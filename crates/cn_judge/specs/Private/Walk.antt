@@ -1,0 +1,130 @@
+-- What a walk from the right holds after an end of a list: the digits since the last unit, and the units that are still open.
+use Rattle.std.specs.Prelude.{◌≡◌, ℕ, suc, ◌+◌, ◌*◌, ◌/◌, ◌^◌, ◌≤◌, ◌⊎◌, ◌++◌, length, Bool, true, false, not, Result, Ok, Err, ◌&&◌, ◌||◌, ◌==◌, nat_lt, List, [], ◌∷◌, Option, Some, None, if◌then◌else◌}
+use Rattle.cn_core.specs.declared.method.ChineseCountMethod.{ChineseCountMethod}
+use Rattle.cn_core.specs.Mark.{Mark, digit, unit, other}
+use Rattle.cn_core.specs.Characters.{rank}
+use Rattle.cn_core.specs.Scale.{scale}
+use Rattle.cn_core.specs.Numeral.{may_precede, is_numeral, opened}
+use Rattle.cn_core.specs.Value.{value}
+use Rattle.cn_core.specs.Place.{is_overflowing, is_unfit, is_unit_from_hundred, is_unit_above_ge}
+use Rattle.cn_core.specs.Refusal.{Refusal, incorrect_at, too_large}
+use Rattle.cn_judge.specs.declared.walk.Next.{Next}
+use Rattle.cn_judge.specs.declared.walk.Next.TheVariants.{AtDigit, AtUnit}
+use Rattle.cn_judge.specs.declared.walk.Fault.{Fault}
+use Rattle.cn_judge.specs.declared.walk.Fault.TheVariants.{Incorrect, PastLimit}
+use Rattle.std.specs.Option.{option_map_or}
+
+-- an open unit: its rank, and the sum that it was opened over; the last opened stands first
+abbrev pub Open : Type 0
+Open = ℕ × ℕ
+
+-- the sum once each open unit below a rank is closed: it multiplies the sum, and adds it to the one below
+abbrev pub closed : ChineseCountMethod → ℕ → ℕ → List Open → ℕ
+closed method limit sum [] = sum
+closed method limit sum (top ∷ opens) = if nat_lt top.0 limit then closed method limit (sum * scale method top.0 + top.1) opens else sum
+
+-- the units that are then still open
+abbrev pub left_open : ℕ → List Open → List Open
+left_open limit [] = []
+left_open limit (top ∷ opens) = if nat_lt top.0 limit then left_open limit opens else top ∷ opens
+
+-- the sum once all are closed
+abbrev pub total : ChineseCountMethod → ℕ → List Open → ℕ
+total method sum [] = sum
+total method sum (top ∷ opens) = total method (sum * scale method top.0 + top.1) opens
+
+-- the digits up to the first unit
+abbrev pub sum_of : List Mark → ℕ
+sum_of [] = 0
+sum_of (digit value ∷ rest) = sum_of rest + value
+sum_of (unit rank ∷ rest) = 0
+sum_of (other ∷ rest) = sum_of rest
+
+-- the units that are open after this end of a list
+abbrev pub opens_of : ChineseCountMethod → List Mark → List Open
+opens_of method [] = []
+opens_of method (unit rank ∷ rest) =
+    (rank, closed method (rank + 1) (sum_of rest) (opens_of method rest)) ∷ left_open (rank + 1) (opens_of method rest)
+opens_of method (mark ∷ rest) = opens_of method rest
+
+-- the first open unit's rank
+abbrev pub top_rank : List Open → Option ℕ
+top_rank [] = None
+top_rank (top ∷ opens) = Some top.0
+
+-- the fault of a mark, where there is none to its right; places count from the mark
+abbrev pub fault_of : ChineseCountMethod → Mark → List Mark → Option Refusal
+fault_of method mark rest =
+    if is_overflowing method mark rest then Some too_large
+    else (if may_precede mark rest then (if is_unfit method mark then Some too_large else None) else Some (incorrect_at 0))
+
+-- the same refusal, one place further
+abbrev pub further : Refusal → Refusal
+further (incorrect_at place) = incorrect_at (suc place)
+further refusal = refusal
+
+abbrev pub further_or : Option Refusal → Option Refusal → Option Refusal
+further_or (Some refusal) fault = Some (further refusal)
+further_or None fault = fault
+
+-- the first fault that a walk from the right meets
+abbrev pub faults : ChineseCountMethod → List Mark → Option Refusal
+faults method [] = None
+faults method (mark ∷ rest) = further_or (faults method rest) (fault_of method mark rest)
+
+-- the rank of the unit that the list starts with
+abbrev pub leading_rank : List Mark → Option ℕ
+leading_rank (unit rank ∷ rest) = Some rank
+leading_rank marks = None
+
+-- a unit of this rank may multiply the unit after it
+abbrev pub multiplies_by : ℕ → Option ℕ → Bool
+multiplies_by rank after = option_map_or (λ next. nat_lt rank next || (rank == 1 && next == 0)) after true
+
+-- what the walk knows of the mark before
+abbrev pub digit_next : Next → Bool
+digit_next AtDigit = true
+digit_next next = false
+
+abbrev pub unit_next : Next → Option ℕ
+unit_next (AtUnit which) = Some (rank which)
+unit_next next = None
+
+-- a fault, as a refusal at its own place
+abbrev pub fault_refusal : Fault → Refusal
+fault_refusal Incorrect = incorrect_at 0
+fault_refusal PastLimit = too_large
+
+-- a text that is walked as it stands
+abbrev pub fitting : ℕ → Result ℕ Refusal
+fitting number = if nat_lt number (2 ^ 128) then Ok number else Err too_large
+
+-- the answer at the first mark, where what follows has no fault
+abbrev pub front_answer : ChineseCountMethod → Mark → List Mark → Result ℕ Refusal
+front_answer method mark rest = if is_numeral (mark ∷ rest) then fitting (value method (opened (mark ∷ rest))) else Err (incorrect_at 0)
+
+abbrev pub refused_or : Option Refusal → Result ℕ Refusal → Result ℕ Refusal
+refused_or (Some refusal) answer = Err (further refusal)
+refused_or None answer = answer
+
+-- the last of three marks or more stands apart
+abbrev pub is_tail : Mark → Mark → Bool
+is_tail second last = is_unit_from_hundred second && not (is_unit_above_ge last)
+
+-- the last mark's part in the answer, where it stands apart after a unit of this rank
+abbrev pub tail_answer : ChineseCountMethod → ℕ → ℕ → Mark → Result ℕ Refusal → Result ℕ Refusal
+tail_answer method place rank last (Err refusal) = Err refusal
+tail_answer method place rank (digit number) (Ok before) = fitting (before + number * scale method rank / 10)
+tail_answer method place rank last (Ok before) = Err (incorrect_at place)
+
+-- the answer to a text as it stands
+abbrev pub walked_answer : ChineseCountMethod → Mark → List Mark → Result ℕ Refusal
+walked_answer method mark rest = refused_or (faults method rest) (front_answer method mark rest)
+
+-- a text whose last two marks are read as they stand
+abbrev pub HasNoTail : List Mark → Type 0
+HasNoTail marks = (length marks ≤ 1) ⊎ ((front : List Mark) × (second : Mark) × (last : Mark) × (marks ≡ front ++ second ∷ last ∷ []) × (is_tail second last ≡ false))
+
+-- a text whose last mark stands apart, after a unit
+abbrev pub HasTail : List Mark → List Mark → ℕ → Mark → Type 0
+HasTail marks before rank last = (marks ≡ before ++ last ∷ []) × ((front : List Mark) × (before ≡ front ++ unit rank ∷ [])) × (is_tail (unit rank) last ≡ true)

@@ -1,0 +1,51 @@
+// The characters at either end of a text, by their marks: those of three bytes quickly, any other as it comes.
+ghost use Rattle.std.specs.Prelude.{◌≡◌, ℕ, ◌<◌, [], ◌∷◌, length, chars, IfSome, IfNone};
+ghost use Rattle.cn_core.specs.Mark.{digit, mark_of};
+ghost use Rattle.cn_core.specs.Text.{text_of};
+ghost use Rattle.cn_judge.specs.Private.Marked.{marked};
+ghost use Rattle.cn_judge.specs.Private.Piece.{EndsWith};
+
+use crate::mark::{Mark, known_mark, mark_of};
+use crate::text::{split_first_of_three_bytes, split_last, split_last_of_three_bytes};
+
+/// The mark of the last character that is no white space, and what stands before it.
+#[inline(always)]
+pub fn split_last_mark(text: &str) -> Option<(Mark, &str)>
+    ensures parts { IfSome result (λ r. (c : ℕ) × EndsWith text.now c r.1.now × (marked r.0 ≡ mark_of c)) }
+    ensures none { IfNone result (text_of text.now ≡ []) }
+    ensures shorter { IfSome result (λ r. length r.1.now < length text.now) }
+{
+    if let Some((code, before)) = split_last_of_three_bytes(text) {
+        if let Some(mark) = known_mark(code) {
+            return Some((mark, before));
+        }
+    }
+    split_last_slowly(text)
+}
+
+// The same, whatever the character.
+fn split_last_slowly(text: &str) -> Option<(Mark, &str)>
+    ensures parts { IfSome result (λ r. (c : ℕ) × EndsWith text.now c r.1.now × (marked r.0 ≡ mark_of c)) }
+    ensures none { IfNone result (text_of text.now ≡ []) }
+    ensures shorter { IfSome result (λ r. length r.1.now < length text.now) }
+{
+    match split_last(text) {
+        Some((c, before)) => Some((mark_of(c), before)),
+        None => None,
+    }
+}
+
+/// The first character where it is a digit of three bytes, and what stands after it.
+#[inline(always)]
+pub fn split_first_digit(text: &str) -> Option<(u8, &str)>
+    ensures parts { IfSome result (λ r. (c : ℕ) × (chars text.now ≡ c ∷ chars r.1.now) × (digit r.0 ≡ mark_of c)) }
+    ensures shorter { IfSome result (λ r. length r.1.now < length text.now) }
+{
+    let Some((code, after)) = split_first_of_three_bytes(text) else {
+        return None;
+    };
+    match known_mark(code) {
+        Some(Mark::Digit(value)) => Some((value, after)),
+        _ => None,
+    }
+}

@@ -1,0 +1,21 @@
+//! Reads a text as a number of any integer type, by units or as plain digits, exactly as the definitions of
+//! `cn_core` judge it. No reader takes memory.
+//!
+//! What stands here serves the crates above it alone: `cn_read` gives the two readers their public names, and
+//! hands on the error.
+#![tactic(auto)]
+
+mod ends;
+mod error;
+mod mark;
+mod naive;
+mod open_units;
+mod sign;
+mod text;
+mod typed;
+mod units;
+mod walk;
+
+pub use error::ChineseToNumberError;
+pub use naive::read_naive;
+pub use units::read;

@@ -1,0 +1,138 @@
+// Plain decimal digits, read from left to right.
+ghost use Rattle.std.specs.Prelude.{◌≡◌, ◌+◌, ◌<◌, ◌≤◌, ◌^◌, [], length, chars, IfSome, MatchOption};
+ghost use Rattle.cn_core.specs.Text.{text_of, marks_of};
+ghost use Rattle.cn_core.specs.Naive.{naive_answer};
+ghost use Rattle.cn_core.specs.Typed.{naive_reading};
+ghost use Rattle.cn_judge.specs.Answer.{answer_of};
+ghost use Rattle.cn_judge.specs.Private.Piece.{spotted};
+ghost use Rattle.cn_judge.specs.Private.PlainPiece.{IsPiece, IsRun, StartsWith, piece_len};
+
+use crate::ChineseToNumberError;
+use crate::ends::split_first_digit;
+use crate::mark::{Mark, mark_of};
+use crate::open_units::multiply_add;
+use crate::sign::split_sign;
+use crate::text::split_first_char;
+use crate::typed::with_sign;
+use cn_core::Whole;
+
+// Digits that stand side by side: how many, the power of ten that they make room for, and their number.
+#[derive(Copy, Clone)]
+struct Run {
+    count: usize,
+    weight: u64,
+    value: u64,
+}
+
+// The digits of three bytes at the start of a text, at most nineteen, whose number fits 64 bits.
+#[inline(always)]
+fn split_run(text: &str) -> (Run, &str)
+    ensures run { IsRun text.now result.1.now result.0.count result.0.weight result.0.value }
+    ensures within { result.0.count + length result.1.now ≤ length text.now }
+{
+    let mut run = Run {
+        count: 0,
+        weight: 1,
+        value: 0,
+    };
+    let mut rest = text;
+    'gathering: while run.weight <= 1_000_000_000_000_000_000 {
+        let Some((digit, after)) = split_first_digit(rest) else {
+            break;
+        };
+        run = Run {
+            count: run.count + 1,
+            weight: run.weight * 10,
+            value: run.value * 10 + digit as u64,
+        };
+        rest = after;
+    }
+    (run, rest)
+}
+
+// What stands at the start of a text, to plain digits.
+#[derive(Copy, Clone)]
+enum Piece {
+    Digits(Run),
+    White,
+    Wrong,
+}
+
+// What a character is, whatever it is.
+fn piece_of(c: char) -> Piece
+    ensures { IsPiece result c }
+{
+    match mark_of(c) {
+        Mark::Digit(digit) => Piece::Digits(Run {
+            count: 1,
+            weight: 10,
+            value: digit as u64,
+        }),
+        Mark::Unit(_) => Piece::Wrong,
+        Mark::Other => {
+            if c.is_whitespace() {
+                Piece::White
+            } else {
+                Piece::Wrong
+            }
+        }
+    }
+}
+
+// What a text starts with, and what stands after it. Digits of three bytes are found quickly.
+#[inline(always)]
+fn split_first_piece(text: &str) -> Option<(Piece, &str)>
+    ensures parts { MatchOption result (chars text.now ≡ []) (λ r. StartsWith r.0 text.now r.1.now) }
+    ensures within { IfSome result (λ r. (piece_len r.0 + length r.1.now ≤ length text.now) × (0 < piece_len r.0)) }
+{
+    let (run, after) = split_run(text);
+    if run.count > 0 {
+        return Some((Piece::Digits(run), after));
+    }
+    match split_first_char(text) {
+        Some((c, after)) => Some((piece_of(c), after)),
+        None => None,
+    }
+}
+
+// The answer to plain digits without sign, which stand after so many characters of the caller's string.
+fn judge_naive(skipped: usize, text: &str) -> Result<u128, ChineseToNumberError>
+    requires { skipped + length text.now < 2 ^ 64 }
+    ensures { answer_of (λ n. n) result ≡ spotted skipped text.now (naive_answer (marks_of (text_of text.now))) }
+{
+    let mut rest = text;
+    let mut char_index = skipped;
+    let mut is_empty = true;
+    let mut number = 0u128;
+    'reading: while let Some((piece, after)) = split_first_piece(rest) {
+        match piece {
+            Piece::Digits(run) => {
+                let Some(longer) = multiply_add(number, run.weight as u128, run.value as u128)
+                else {
+                    return Err(ChineseToNumberError::Overflow);
+                };
+                number = longer;
+                is_empty = false;
+                char_index += run.count;
+            }
+            Piece::White => char_index += 1,
+            Piece::Wrong => {
+                return Err(ChineseToNumberError::ChineseNumberIncorrect { char_index });
+            }
+        }
+        rest = after;
+    }
+    if is_empty {
+        Err(ChineseToNumberError::ChineseNumberEmpty)
+    } else {
+        Ok(number)
+    }
+}
+
+/// The number of plain digits after at most one sign.
+pub fn read_naive<T: Whole>(text: &str) -> Result<T, ChineseToNumberError>
+    ensures { answer_of T.number result ≡ naive_reading T.kind text.now }
+{
+    let after = split_sign(T::SIGNED, text);
+    with_sign(after.sign, judge_naive(after.skipped, after.rest))
+}

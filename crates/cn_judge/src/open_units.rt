@@ -1,0 +1,145 @@
+// The units that a walk from the back has met and that a unit further left can still join.
+ghost use Rattle.std.specs.Prelude.{◌≡◌, ◌+◌, ◌*◌, ◌^◌, ◌<◌, ◌≤◌, ◌↔◌, [], ◌∷◌, length, Some, IsTrue, IfSome, IfNone, SomeIff, option_map};
+ghost use Rattle.cn_core.specs.Characters.{rank};
+ghost use Rattle.cn_judge.specs.Private.Stack.{ClosesTop, all_positive, closed_sum, not_closed, top_of, total_sum};
+
+use cn_core::Unit;
+use std::marker::Model;
+
+// A unit, its scale, and the sum that it was opened over.
+#[derive(Copy, Clone)]
+struct OpenUnit {
+    unit: Unit,
+    size: u128,
+    below: u128,
+}
+
+/// The units that are still open, the last opened on top. Their ranks fall from the bottom to the top, so
+/// there are never more than the 16 ranks.
+#[derive(Drop)]
+pub struct OpenUnits {
+    entries: [OpenUnit; 16],
+    len: usize,
+}
+
+impl Model for OpenUnits {
+    ghost use Rattle.std.specs.Prelude.{ℕ, List, ◌≤◌};
+
+    ghost Value = { List (ℕ × ℕ × ℕ) };
+
+    ghost use Rattle.cn_judge.specs.Private.Stack.{stack_of};
+
+    ghost view = { λ s. stack_of s.entries s.len };
+
+    ghost invariant = { λ s. s.len ≤ 16 };
+}
+
+/// A product and a sum, if they fit. Where both factors are below 2^64 the product does, and is found faster.
+pub fn multiply_add(factor: u128, size: u128, more: u128) -> Option<u128>
+    ensures { SomeIff result (factor * size + more < 2 ^ 128) (factor * size + more) }
+{
+    if let (Ok(factor), Ok(size)) = (u64::try_from(factor), u64::try_from(size)) {
+        return (factor as u128 * size as u128).checked_add(more);
+    }
+    factor.checked_mul(size)?.checked_add(more)
+}
+
+impl OpenUnits {
+    /// No unit is open.
+    pub fn new() -> Self
+        ensures { result ≡ [] }
+    {
+        OpenUnits {
+            entries: [OpenUnit {
+                unit: Unit::Ge,
+                size: 0,
+                below: 0,
+            }; 16],
+            len: 0,
+        }
+    }
+
+    /// Opens a unit over the sum so far.
+    pub fn open(&mut self, unit: Unit, size: u128, below: u128)
+        requires { length self.old < 16 }
+        ensures { self.new ≡ (rank unit, size, below) ∷ self.old }
+    {
+        self.entries[self.len] = OpenUnit { unit, size, below };
+        self.len += 1;
+    }
+
+    // The unit on top.
+    fn top(&self) -> Option<Unit>
+        ensures { option_map rank result ≡ top_of self.now }
+    {
+        if self.len == 0 {
+            None
+        } else {
+            Some(self.entries[self.len - 1].unit)
+        }
+    }
+
+    /// Whether the unit is the one on top.
+    pub fn has_on_top(&self, unit: Unit) -> bool
+        ensures { IsTrue result ↔ (top_of self.now ≡ Some (rank unit)) }
+    {
+        match self.top() {
+            Some(top) => top == unit,
+            None => false,
+        }
+    }
+
+    // Closes the unit on top, if the sum fits.
+    fn close_top(&mut self, sum: u128) -> Option<u128>
+        requires { 0 < length self.old }
+        ensures { ClosesTop sum self.old self.new result }
+    {
+        let top = self.entries[self.len - 1];
+        self.len -= 1;
+        multiply_add(sum, top.size, top.below)
+    }
+
+    /// The sum once each open unit that is smaller than this one is closed, if it fits.
+    pub fn close_below(&mut self, unit: Unit, sum: u128) -> Option<u128>
+        requires { IsTrue (all_positive self.old) }
+        ensures sum { SomeIff result (closed_sum (rank unit) sum self.old < 2 ^ 128) (closed_sum (rank unit) sum self.old) }
+        ensures left { IfSome result (λ _. self.new ≡ not_closed (rank unit) self.old) }
+    {
+        let mut closed = sum;
+        'closing: while let Some(top) = self.top() {
+            if top >= unit {
+                break;
+            }
+            closed = match self.close_top(closed) {
+                Some(more) => more,
+                None => return None,
+            };
+        }
+        Some(closed)
+    }
+
+    // The sum once all are closed, if it fits.
+    fn close_all(&mut self, sum: u128) -> Option<u128>
+        requires { IsTrue (all_positive self.old) }
+        ensures { SomeIff result (total_sum sum self.old < 2 ^ 128) (total_sum sum self.old) }
+    {
+        let mut closed = sum;
+        'closing: while self.len > 0 {
+            closed = match self.close_top(closed) {
+                Some(more) => more,
+                None => return None,
+            };
+        }
+        Some(closed)
+    }
+    /// The sum once a first digit is added and all are closed, if it fits.
+    pub fn finish(&mut self, sum: u128, digit: u8) -> Option<u128>
+        requires { IsTrue (all_positive self.old) }
+        ensures { SomeIff result (total_sum (sum + digit) self.old < 2 ^ 128) (total_sum (sum + digit) self.old) }
+    {
+        match sum.checked_add(digit as u128) {
+            Some(more) => self.close_all(more),
+            None => None,
+        }
+    }
+}

@@ -1,0 +1,183 @@
+// A numeral without sign, read by its first character, the walk over what follows, and a last digit that
+// stands apart.
+ghost use Rattle.std.specs.Prelude.{
+  ◌≡◌,
+  ℕ,
+  ◌+◌,
+  ◌*◌,
+  ◌/◌,
+  ◌^◌,
+  ◌<◌,
+  List,
+  ◌∷◌,
+  true,
+  false,
+  length,
+  IfSome,
+  IsTrue,
+  MatchOption,
+  SomeIff,
+};
+ghost use Rattle.cn_core.specs.Characters.{rank};
+ghost use Rattle.cn_core.specs.Mark.{Mark as NumeralMark, digit, mark_of};
+ghost use Rattle.cn_core.specs.Scale.{scale, scale_fits};
+ghost use Rattle.cn_core.specs.Text.{text_of, marks_of};
+ghost use Rattle.cn_core.specs.Numeral.{each_may_precede, is_numeral, opened, starts_with_digit};
+ghost use Rattle.cn_core.specs.Place.{is_unit_from_hundred, is_unit_above_ge};
+ghost use Rattle.cn_core.specs.Typed.{Reads};
+ghost use Rattle.cn_judge.specs.Answer.{answer_of};
+ghost use Rattle.cn_judge.specs.Private.Judged.{after_first, JudgesAt};
+ghost use Rattle.cn_judge.specs.Private.Marked.{marked, unit_mark};
+ghost use Rattle.cn_judge.specs.Private.Piece.{EndsWith};
+ghost use Rattle.cn_judge.specs.Private.Walk.{digit_next, walked_answer, HasNoTail, HasTail};
+
+use crate::ChineseToNumberError;
+use crate::ends::split_last_mark;
+use crate::mark::{Mark, mark_of};
+use crate::open_units::OpenUnits;
+use crate::sign::split_sign;
+use crate::text::{count_chars, split_first};
+use crate::typed::with_sign;
+use crate::walk::{Next, walk};
+use cn_core::{ChineseCountMethod, Unit, Whole, scale};
+
+// The digit at the start of a text, where 十 is ten, if what follows lets it stand there.
+fn first_digit(first: char, next: Next) -> Option<u8>
+    ensures { (marks : List NumeralMark) → each_may_precede marks ≡ true → digit_next next ≡ starts_with_digit marks
+        → MatchOption result (is_numeral (mark_of first ∷ marks) ≡ false)
+        (λ value. (is_numeral (mark_of first ∷ marks) ≡ true) × (opened (mark_of first ∷ marks) ≡ digit value ∷ marks)) }
+{
+    match mark_of(first) {
+        Mark::Digit(0) => Some(0),
+        Mark::Digit(value) => match next {
+            Next::AtDigit => None,
+            _ => Some(value),
+        },
+        Mark::Unit(Unit::Shi) => Some(10),
+        _ => None,
+    }
+}
+
+// The answer to a first character and what follows it, read as it stands.
+fn judge_plain(
+    method: ChineseCountMethod,
+    char_index: usize,
+    first: char,
+    rest: &str,
+) -> Result<u128, ChineseToNumberError>
+    requires { char_index + 1 + length rest.now < 2 ^ 64 }
+    ensures { answer_of (λ n. n) result
+        ≡ after_first char_index rest.now (walked_answer method (mark_of first) (marks_of (text_of rest.now))) }
+{
+    let mut units = OpenUnits::new();
+    let standing = walk(method, char_index + 1, rest, &mut units)?;
+    let Some(digit) = first_digit(first, standing.next) else {
+        return Err(ChineseToNumberError::ChineseNumberIncorrect { char_index });
+    };
+    match units.finish(standing.sum, digit) {
+        Some(number) => Ok(number),
+        None => Err(ChineseToNumberError::Overflow),
+    }
+}
+
+// A unit from 百 up.
+fn unit_from_hundred(mark: Mark) -> Option<Unit>
+    ensures { MatchOption result (is_unit_from_hundred (marked mark) ≡ false)
+        (λ unit. (marked mark ≡ unit_mark unit) × (is_unit_from_hundred (marked mark) ≡ true)) }
+{
+    match mark {
+        Mark::Unit(unit) if unit >= Unit::Bai => Some(unit),
+        _ => None,
+    }
+}
+
+// Whether the mark is a unit above 個.
+fn is_unit_above_ge(mark: Mark) -> bool
+    ensures { result ≡ is_unit_above_ge (marked mark) }
+{
+    match mark {
+        Mark::Unit(unit) => unit > Unit::Ge,
+        _ => false,
+    }
+}
+
+// A last character that stands apart: it follows a unit from 百 up and is no unit above 個.
+#[derive(Copy, Clone)]
+struct Tail<'a> {
+    // What stands before it.
+    body: &'a str,
+    // The unit at the body's end.
+    unit: Unit,
+    last: Mark,
+}
+
+// The last character where it stands apart.
+fn split_tail(text: &str) -> Option<Tail<'_>>
+    ensures tail { MatchOption result (HasNoTail (marks_of (text_of text.now)))
+        (λ t. HasTail (marks_of (text_of text.now)) (marks_of (text_of t.body.now)) (rank t.unit) (marked t.last)) }
+    ensures end { IfSome result (λ t. (c : ℕ) × EndsWith text.now c t.body.now × (marked t.last ≡ mark_of c)) }
+    ensures shorter { IfSome result (λ t. length t.body.now < length text.now) }
+{
+    let Some((last, body)) = split_last_mark(text) else {
+        return None;
+    };
+    let Some((second, _)) = split_last_mark(body) else {
+        return None;
+    };
+    let Some(unit) = unit_from_hundred(second) else {
+        return None;
+    };
+    if is_unit_above_ge(last) {
+        return None;
+    }
+    Some(Tail { body, unit, last })
+}
+
+// A number and a tenth of a unit for each of a digit.
+fn add_tail(method: ChineseCountMethod, number: u128, unit: Unit, digit: u8) -> Option<u128>
+    requires digit { digit < 10 }
+    requires hundred { 1 < rank unit }
+    requires fits { IsTrue (scale_fits method (rank unit)) }
+    ensures { SomeIff result (number + digit * scale method (rank unit) / 10 < 2 ^ 128)
+        (number + digit * scale method (rank unit) / 10) }
+{
+    let Some(size) = scale(method, unit) else {
+        unreachable!()
+    };
+    number.checked_add(digit as u128 * (size / 10))
+}
+
+// The answer to a text without sign, which stands after so many characters of the caller's string.
+fn judge(
+    method: ChineseCountMethod,
+    skipped: usize,
+    text: &str,
+) -> Result<u128, ChineseToNumberError>
+    requires { skipped + length text.now < 2 ^ 64 }
+    ensures { JudgesAt method skipped text.now (answer_of (λ n. n) result) }
+{
+    let Some(first) = split_first(text) else {
+        return Err(ChineseToNumberError::ChineseNumberEmpty);
+    };
+    let char_index = skipped + first.skipped;
+    let Some(tail) = split_tail(first.rest) else {
+        return judge_plain(method, char_index, first.character, first.rest);
+    };
+    let number = judge_plain(method, char_index, first.character, tail.body)?;
+    let Mark::Digit(digit) = tail.last else {
+        let char_index = char_index + 1 + count_chars(tail.body);
+        return Err(ChineseToNumberError::ChineseNumberIncorrect { char_index });
+    };
+    match add_tail(method, number, tail.unit, digit) {
+        Some(sum) => Ok(sum),
+        None => Err(ChineseToNumberError::Overflow),
+    }
+}
+
+/// The number of a numeral after at most one sign.
+pub fn read<T: Whole>(method: ChineseCountMethod, text: &str) -> Result<T, ChineseToNumberError>
+    ensures { Reads T.kind method text.now (answer_of T.number result) }
+{
+    let after = split_sign(T::SIGNED, text);
+    with_sign(after.sign, judge(method, after.skipped, after.rest))
+}

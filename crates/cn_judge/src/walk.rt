@@ -1,0 +1,186 @@
+// The walk of a unit reader: from the back, character by character, to the first fault.
+ghost use Rattle.std.specs.Prelude.{◌≡◌, ℕ, ◌+◌, ◌<◌, ◌↔◌, ◌^◌, List, [], ◌∷◌, None, Some, Err, IsTrue, MatchResult, option_map, length};
+ghost use Rattle.cn_core.specs.Characters.{rank};
+ghost use Rattle.cn_core.specs.Mark.{digit, mark_of};
+ghost use Rattle.cn_core.specs.Refusal.{Refusal};
+ghost use Rattle.cn_core.specs.Text.{marks_of, text_of};
+ghost use Rattle.cn_judge.specs.Answer.{refusal_of};
+ghost use Rattle.cn_judge.specs.Private.Marked.{marked, unit_mark};
+ghost use Rattle.cn_judge.specs.Private.Piece.{spotted};
+ghost use Rattle.cn_judge.specs.Private.Stack.{Sized, sized};
+ghost use Rattle.cn_judge.specs.Private.Walk.{faults, unit_next, multiplies_by, opens_of, fault_of, fault_refusal};
+ghost use Rattle.cn_judge.specs.Private.Walked.{IsWalked};
+
+use crate::ChineseToNumberError;
+use crate::ends::split_last_mark;
+use crate::mark::Mark;
+use crate::open_units::OpenUnits;
+use crate::text::count_chars;
+use cn_core::{ChineseCountMethod, Unit, scale};
+
+/// What a walk from the back has just met.
+#[derive(Copy, Clone)]
+pub enum Next {
+    AtEnd,
+    AtDigit,
+    AtUnit(Unit),
+}
+
+/// Where a walk stands between two characters: the sum of the digits since the last unit, and what was met.
+#[derive(Copy, Clone)]
+pub struct Standing {
+    pub sum: u128,
+    pub next: Next,
+}
+
+// Why a walk stops at a character.
+#[derive(Copy, Clone)]
+pub enum Fault {
+    Incorrect,
+    PastLimit,
+}
+
+// The unit that has just been met, if it was one.
+fn unit_after(next: Next) -> Option<Unit>
+    ensures { option_map rank result ≡ unit_next next }
+{
+    match next {
+        Next::AtUnit(unit) => Some(unit),
+        _ => None,
+    }
+}
+
+// Whether a unit may stand before what follows it: it is smaller than a unit there, but 十 may count 個.
+fn multiplies(unit: Unit, after: Option<Unit>) -> bool
+    ensures { result ≡ multiplies_by (rank unit) (option_map rank after) }
+{
+    match after {
+        Some(next) => unit < next || (unit == Unit::Shi && next == Unit::Ge),
+        None => true,
+    }
+}
+
+// Whether the unit is 個 and counts no unit.
+fn counts_nothing(unit: Unit, after: Option<Unit>) -> bool
+    ensures { IsTrue result ↔ ((rank unit ≡ 0) × (option_map rank after ≡ None)) }
+{
+    unit == Unit::Ge && after.is_none()
+}
+
+// One more unit, where what was walked holds no fault: it is opened over the sum that it leaves below it.
+fn step_unit(
+    method: ChineseCountMethod,
+    units: &mut OpenUnits,
+    standing: Standing,
+    unit: Unit,
+) -> Result<(), Fault>
+    requires { (walked : List ℕ) × IsWalked method walked standing.sum units.old standing.next }
+    ensures { (walked : List ℕ) → IsWalked method walked standing.sum units.old standing.next
+        → MatchResult result
+        (λ _. (fault_of method (unit_mark unit) (marks_of walked) ≡ None)
+        × (units.new ≡ sized method (opens_of method (unit_mark unit ∷ marks_of walked))))
+        (λ fault. fault_of method (unit_mark unit) (marks_of walked) ≡ Some (fault_refusal fault)) }
+{
+    let after = unit_after(standing.next);
+    if !multiplies(unit, after) {
+        return Err(Fault::Incorrect);
+    }
+    let Some(below) = units.close_below(unit, standing.sum) else {
+        return Err(Fault::PastLimit);
+    };
+    if counts_nothing(unit, after) {
+        return Err(Fault::Incorrect);
+    }
+    if units.has_on_top(unit) {
+        return Err(Fault::Incorrect);
+    }
+    let Some(size) = scale(method, unit) else {
+        return Err(Fault::PastLimit);
+    };
+    units.open(unit, size, below);
+    Ok(())
+}
+
+// The sum with one more digit, where what was walked holds no fault.
+fn step_digit(standing: Standing, value: u8) -> Result<u128, Fault>
+    requires { value < 10 }
+    ensures { (method : ChineseCountMethod) (walked : List ℕ) (units : List Sized)
+        → IsWalked method walked standing.sum units standing.next
+        → MatchResult result
+        (λ sum. (fault_of method (digit value) (marks_of walked) ≡ None) × (sum ≡ standing.sum + value))
+        (λ fault. fault_of method (digit value) (marks_of walked) ≡ Some (fault_refusal fault)) }
+{
+    if value == 0 {
+        return Ok(standing.sum);
+    }
+    if let Next::AtDigit = standing.next {
+        return Err(Fault::Incorrect);
+    }
+    Ok(value as u128)
+}
+
+// One more character, by its mark, where what was walked holds no fault.
+fn step(
+    method: ChineseCountMethod,
+    units: &mut OpenUnits,
+    standing: Standing,
+    mark: Mark,
+) -> Result<Standing, Fault>
+    requires { (c : ℕ) × (walked : List ℕ) × (marked mark ≡ mark_of c)
+        × IsWalked method walked standing.sum units.old standing.next }
+    ensures { (c : ℕ) (walked : List ℕ) → marked mark ≡ mark_of c
+        → IsWalked method walked standing.sum units.old standing.next
+        → MatchResult result
+        (λ after. IsWalked method (c ∷ walked) after.sum units.new after.next)
+        (λ fault. fault_of method (mark_of c) (marks_of walked) ≡ Some (fault_refusal fault)) }
+{
+    match mark {
+        Mark::Digit(value) => match step_digit(standing, value) {
+            Ok(sum) => Ok(Standing {
+                sum,
+                next: Next::AtDigit,
+            }),
+            Err(fault) => Err(fault),
+        },
+        Mark::Unit(unit) => match step_unit(method, units, standing, unit) {
+            Ok(()) => Ok(Standing {
+                sum: 0,
+                next: Next::AtUnit(unit),
+            }),
+            Err(fault) => Err(fault),
+        },
+        Mark::Other => Err(Fault::Incorrect),
+    }
+}
+
+/// Walks a text that stands after so many characters of the caller's string, to its first fault.
+pub fn walk(
+    method: ChineseCountMethod,
+    skipped: usize,
+    text: &str,
+    units: &mut OpenUnits,
+) -> Result<Standing, ChineseToNumberError>
+    requires room { skipped + length text.now < 2 ^ 64 }
+    requires none_open { units.old ≡ [] }
+    ensures { MatchResult result (λ standing. IsWalked method (text_of text.now) standing.sum units.new standing.next)
+        (λ error. (fault : Refusal) × (faults method (marks_of (text_of text.now)) ≡ Some fault)
+        × (Err (refusal_of error) ≡ spotted skipped text.now (Err fault))) }
+{
+    let mut standing = Standing {
+        sum: 0,
+        next: Next::AtEnd,
+    };
+    let mut ahead = text;
+    'walking: while let Some((mark, before)) = split_last_mark(ahead) {
+        match step(method, units, standing, mark) {
+            Ok(after) => standing = after,
+            Err(Fault::PastLimit) => return Err(ChineseToNumberError::Overflow),
+            Err(Fault::Incorrect) => {
+                let char_index = skipped + count_chars(before);
+                return Err(ChineseToNumberError::ChineseNumberIncorrect { char_index });
+            }
+        }
+        ahead = before;
+    }
+    Ok(standing)
+}

@@ -1,5 +1,0 @@
-use Rattle.cn_read.proofs.Walking.{unit-dark}
-use Rattle.cn_read.proofs.naive.piece_of.Goals as goal
-
-pub returns-in-Unit : goal.returns-in-Unit
-returns-in-Unit c = let mark = rw c.in-Unit.is at c.mark_of.ensures in (unit-dark _ _ mark, λ value e. cc)

@@ -1,5 +1,0 @@
-use Rattle.cn_read.proofs.Runs.{StartsWith-character}
-use Rattle.cn_read.proofs.naive.split_first_piece.Goals as goal
-
-pub returns-in-Some-clause-parts : goal.returns-in-Some-clause-parts
-returns-in-Some-clause-parts c = StartsWith-character _ _ _ _ c.piece_of.ensures c.in-Some.ensures.parts
