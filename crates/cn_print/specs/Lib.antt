@@ -1,4 +1,3 @@
-pub mod ErrorText
-pub mod Prints
-pub mod Working
-pub mod Writes
+pub use Rattle.cn_spell.specs.ErrorText
+pub use Rattle.cn_spell.specs.Prints
+pub use Rattle.cn_spell.specs.Writes

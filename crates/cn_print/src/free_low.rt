@@ -4,12 +4,11 @@
 // write the same text, and no body that prints by another one is wrong. Theirs is `Low`, as in their contracts.
 ghost use Rattle.std.specs.Prelude.{IfOk, pos};
 ghost use Rattle.cn_core.specs.Written.{spelled_text};
-ghost use Rattle.cn_print.specs.Prints.{Prints};
-ghost use Rattle.cn_print.specs.Writes.{Writes};
+ghost use Rattle.cn_spell.specs.Prints.{Prints};
+ghost use Rattle.cn_spell.specs.Writes.{Writes};
 
-use crate::NumberToChineseError;
-use crate::print::{print, print_or_refuse};
 use cn_core::{ChineseCase, ChineseCountMethod, ChineseVariant};
+use cn_spell::{NumberToChineseError, print_by_units, print_or_refuse};
 use std::alloc::{AllocError, Global};
 
 /// Writes a `u8` by single places: 億 is 10^5.
@@ -23,7 +22,7 @@ pub fn from_u8_to_chinese(
 ) -> Result<String, AllocError>
     ensures { IfOk result (Writes (spelled_text variant case ChineseCountMethod.Low (pos value)) 96) }
 {
-    print::<u8, _>(alloc, variant, case, ChineseCountMethod::Low, value)
+    print_by_units::<u8, _>(alloc, variant, case, ChineseCountMethod::Low, value)
 }
 
 /// Writes a `u16` by single places: 億 is 10^5.
@@ -37,7 +36,7 @@ pub fn from_u16_to_chinese(
 ) -> Result<String, AllocError>
     ensures { IfOk result (Writes (spelled_text variant case ChineseCountMethod.Low (pos value)) 96) }
 {
-    print::<u16, _>(alloc, variant, case, ChineseCountMethod::Low, value)
+    print_by_units::<u16, _>(alloc, variant, case, ChineseCountMethod::Low, value)
 }
 
 /// Writes a `u32` by single places: 億 is 10^5.
@@ -51,7 +50,7 @@ pub fn from_u32_to_chinese_low(
 ) -> Result<String, AllocError>
     ensures { IfOk result (Writes (spelled_text variant case ChineseCountMethod.Low (pos value)) 96) }
 {
-    print::<u32, _>(alloc, variant, case, ChineseCountMethod::Low, value)
+    print_by_units::<u32, _>(alloc, variant, case, ChineseCountMethod::Low, value)
 }
 
 /// Writes a `u64` by single places: 億 is 10^5.
@@ -110,7 +109,7 @@ pub fn from_i8_to_chinese(
 ) -> Result<String, AllocError>
     ensures { IfOk result (Writes (spelled_text variant case ChineseCountMethod.Low value) 96) }
 {
-    print::<i8, _>(alloc, variant, case, ChineseCountMethod::Low, value)
+    print_by_units::<i8, _>(alloc, variant, case, ChineseCountMethod::Low, value)
 }
 
 /// Writes an `i16` by single places: 億 is 10^5.
@@ -124,7 +123,7 @@ pub fn from_i16_to_chinese(
 ) -> Result<String, AllocError>
     ensures { IfOk result (Writes (spelled_text variant case ChineseCountMethod.Low value) 96) }
 {
-    print::<i16, _>(alloc, variant, case, ChineseCountMethod::Low, value)
+    print_by_units::<i16, _>(alloc, variant, case, ChineseCountMethod::Low, value)
 }
 
 /// Writes an `i32` by single places: 億 is 10^5.
@@ -138,7 +137,7 @@ pub fn from_i32_to_chinese_low(
 ) -> Result<String, AllocError>
     ensures { IfOk result (Writes (spelled_text variant case ChineseCountMethod.Low value) 96) }
 {
-    print::<i32, _>(alloc, variant, case, ChineseCountMethod::Low, value)
+    print_by_units::<i32, _>(alloc, variant, case, ChineseCountMethod::Low, value)
 }
 
 /// Writes an `i64` by single places: 億 is 10^5.

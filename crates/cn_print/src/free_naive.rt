@@ -1,10 +1,10 @@
 // The free printers of plain digits, one for each integer type.
 ghost use Rattle.std.specs.Prelude.{IfOk, pos};
 ghost use Rattle.cn_core.specs.Written.{naive_text};
-ghost use Rattle.cn_print.specs.Writes.{Writes};
+ghost use Rattle.cn_spell.specs.Writes.{Writes};
 
-use crate::naive::print_naive;
 use cn_core::{ChineseCase, ChineseVariant};
+use cn_spell::print_naive;
 use std::alloc::{AllocError, Global};
 
 /// Writes a `u8` as plain decimal digits.

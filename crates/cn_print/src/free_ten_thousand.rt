@@ -1,10 +1,10 @@
 // The free printers by `TenThousand`, one for each integer type from 32 bits up.
 ghost use Rattle.std.specs.Prelude.{IfOk, pos};
 ghost use Rattle.cn_core.specs.Written.{spelled_text};
-ghost use Rattle.cn_print.specs.Writes.{Writes};
+ghost use Rattle.cn_spell.specs.Writes.{Writes};
 
-use crate::print::print;
 use cn_core::{ChineseCase, ChineseCountMethod, ChineseVariant};
+use cn_spell::print_by_units;
 use std::alloc::{AllocError, Global};
 
 /// Writes a `u32` by ten thousands: 億 is 10^8, 兆 is 10^12.
@@ -18,7 +18,7 @@ pub fn from_u32_to_chinese_ten_thousand(
 ) -> Result<String, AllocError>
     ensures { IfOk result (Writes (spelled_text variant case ChineseCountMethod.TenThousand (pos value)) 234) }
 {
-    print::<u32, _>(alloc, variant, case, ChineseCountMethod::TenThousand, value)
+    print_by_units::<u32, _>(alloc, variant, case, ChineseCountMethod::TenThousand, value)
 }
 
 /// Writes a `u64` by ten thousands: 億 is 10^8, 兆 is 10^12.
@@ -32,7 +32,7 @@ pub fn from_u64_to_chinese_ten_thousand(
 ) -> Result<String, AllocError>
     ensures { IfOk result (Writes (spelled_text variant case ChineseCountMethod.TenThousand (pos value)) 234) }
 {
-    print::<u64, _>(alloc, variant, case, ChineseCountMethod::TenThousand, value)
+    print_by_units::<u64, _>(alloc, variant, case, ChineseCountMethod::TenThousand, value)
 }
 
 /// Writes a `u128` by ten thousands: 億 is 10^8, 兆 is 10^12.
@@ -46,7 +46,7 @@ pub fn from_u128_to_chinese_ten_thousand(
 ) -> Result<String, AllocError>
     ensures { IfOk result (Writes (spelled_text variant case ChineseCountMethod.TenThousand (pos value)) 234) }
 {
-    print::<u128, _>(alloc, variant, case, ChineseCountMethod::TenThousand, value)
+    print_by_units::<u128, _>(alloc, variant, case, ChineseCountMethod::TenThousand, value)
 }
 
 /// Writes a `usize` by ten thousands: 億 is 10^8, 兆 is 10^12.
@@ -60,7 +60,7 @@ pub fn from_usize_to_chinese_ten_thousand(
 ) -> Result<String, AllocError>
     ensures { IfOk result (Writes (spelled_text variant case ChineseCountMethod.TenThousand (pos value)) 234) }
 {
-    print::<usize, _>(alloc, variant, case, ChineseCountMethod::TenThousand, value)
+    print_by_units::<usize, _>(alloc, variant, case, ChineseCountMethod::TenThousand, value)
 }
 
 /// Writes an `i32` by ten thousands: 億 is 10^8, 兆 is 10^12.
@@ -74,7 +74,7 @@ pub fn from_i32_to_chinese_ten_thousand(
 ) -> Result<String, AllocError>
     ensures { IfOk result (Writes (spelled_text variant case ChineseCountMethod.TenThousand value) 234) }
 {
-    print::<i32, _>(alloc, variant, case, ChineseCountMethod::TenThousand, value)
+    print_by_units::<i32, _>(alloc, variant, case, ChineseCountMethod::TenThousand, value)
 }
 
 /// Writes an `i64` by ten thousands: 億 is 10^8, 兆 is 10^12.
@@ -88,7 +88,7 @@ pub fn from_i64_to_chinese_ten_thousand(
 ) -> Result<String, AllocError>
     ensures { IfOk result (Writes (spelled_text variant case ChineseCountMethod.TenThousand value) 234) }
 {
-    print::<i64, _>(alloc, variant, case, ChineseCountMethod::TenThousand, value)
+    print_by_units::<i64, _>(alloc, variant, case, ChineseCountMethod::TenThousand, value)
 }
 
 /// Writes an `i128` by ten thousands: 億 is 10^8, 兆 is 10^12.
@@ -102,7 +102,7 @@ pub fn from_i128_to_chinese_ten_thousand(
 ) -> Result<String, AllocError>
     ensures { IfOk result (Writes (spelled_text variant case ChineseCountMethod.TenThousand value) 234) }
 {
-    print::<i128, _>(alloc, variant, case, ChineseCountMethod::TenThousand, value)
+    print_by_units::<i128, _>(alloc, variant, case, ChineseCountMethod::TenThousand, value)
 }
 
 /// Writes an `isize` by ten thousands: 億 is 10^8, 兆 is 10^12.
@@ -116,5 +116,5 @@ pub fn from_isize_to_chinese_ten_thousand(
 ) -> Result<String, AllocError>
     ensures { IfOk result (Writes (spelled_text variant case ChineseCountMethod.TenThousand value) 234) }
 {
-    print::<isize, _>(alloc, variant, case, ChineseCountMethod::TenThousand, value)
+    print_by_units::<isize, _>(alloc, variant, case, ChineseCountMethod::TenThousand, value)
 }

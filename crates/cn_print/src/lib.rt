@@ -1,29 +1,17 @@
-//! Printers of Chinese numerals: plain digits, and spellings by units.
-//!
-//! Each printer counts its characters, asks once for three bytes for each, and fills them from the last
-//! to the first.
+//! The printers of Chinese numerals by name, one for each integer type and method, and the trait
+//! `NumberToChinese`. Each is one line above `cn_spell`.
 #![tactic(auto)]
 
-mod characters;
-mod digits;
-mod error;
 mod free_high;
 mod free_low;
 mod free_middle;
 mod free_naive;
 mod free_ten_thousand;
-mod naive;
 mod number_to_chinese;
-mod pen;
-mod print;
-mod room;
-mod sign;
-mod spell;
 #[cfg(test)]
 mod tests;
-mod units;
 
-pub use error::NumberToChineseError;
+pub use cn_spell::NumberToChineseError;
 pub use free_high::{
     from_i32_to_chinese_high, from_i64_to_chinese_high, from_i128_to_chinese_high,
     from_isize_to_chinese_high, from_u32_to_chinese_high, from_u64_to_chinese_high,

@@ -1,12 +1,10 @@
 ghost use Rattle.std.specs.Prelude.{IfOk};
 ghost use Rattle.cn_core.specs.Written.{naive_text};
-ghost use Rattle.cn_print.specs.Prints.{Prints};
-ghost use Rattle.cn_print.specs.Writes.{Writes};
+ghost use Rattle.cn_spell.specs.Prints.{Prints};
+ghost use Rattle.cn_spell.specs.Writes.{Writes};
 
-use crate::NumberToChineseError;
-use crate::naive::print_naive;
-use crate::print::print_or_refuse;
 use cn_core::{ChineseCase, ChineseCountMethod, ChineseVariant, Whole};
+use cn_spell::{NumberToChineseError, print_naive, print_or_refuse};
 use std::alloc::{AllocError, Global};
 
 /// Numbers that are written in Chinese: those of the twelve integer types.

@@ -8,7 +8,7 @@ ghost use Rattle.cn_core.specs.declared.script.ChineseVariant.{ChineseVariant as
 ghost use Rattle.cn_core.specs.declared.sign.Sign.{Sign as NumeralSign};
 ghost use Rattle.cn_core.specs.declared.unit.Unit.{Unit as NumeralUnit};
 ghost use Rattle.cn_judge.specs.declared.error.ChineseToNumberError.{ChineseToNumberError as ReadingError};
-ghost use Rattle.cn_print.specs.declared.error.NumberToChineseError.{NumberToChineseError as PrintingError};
+ghost use Rattle.cn_spell.specs.declared.error.NumberToChineseError.{NumberToChineseError as PrintingError};
 
 use cn_core::{ChineseCase, ChineseCountMethod, ChineseVariant, Sign, Unit};
 use cn_print::NumberToChineseError;

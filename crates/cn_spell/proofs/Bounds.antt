@@ -1,0 +1,47 @@
+-- How long the texts of the numbers that a method writes are.
+use Rattle.std.proofs.Common.{◌≡◌, ◌+◌, ◌*◌, ◌^◌, ◌<◌, ◌≤◌, ℤ, nat_abs, true, length, arith}
+use Rattle.std.proofs.lemmas.Bool.Decides.{nat_tests}
+use Rattle.cn_core.specs.declared.method.ChineseCountMethod.{ChineseCountMethod}
+use Rattle.cn_core.specs.declared.method.ChineseCountMethod.TheVariants.{Low, TenThousand, Middle, High}
+use Rattle.cn_core.specs.Spelling.{spelling}
+use Rattle.cn_core.specs.Written.{is_printable}
+use Rattle.cn_core.proofs.Lengths.{length-spelling}
+use Rattle.cn_spell.specs.Working.Places.{places_of}
+use Rattle.cn_spell.specs.Prints.{most_bytes}
+use Rattle.cn_spell.specs.Working.Units.{places_within}
+use Rattle.cn_spell.proofs.PlacesLemmas.{length-places-le}
+use Rattle.cn_spell.proofs.Walks.{square}
+
+fits : (method : ChineseCountMethod) (number : ℤ) → is_printable method number ≡ true → nat_abs number < 2 ^ 128 → nat_abs number < 10 ^ places_within method
+fits Low number printable small = grind (arith, nat_tests, printable)
+fits TenThousand number printable small = omega (arith, small)
+fits Middle number printable small = omega (arith, small)
+fits High number printable small = omega (arith, small)
+
+some-places : (method : ChineseCountMethod) → 1 ≤ places_within method
+some-places Low = omega arith
+some-places TenThousand = omega arith
+some-places Middle = omega arith
+some-places High = omega arith
+
+-- its digits are few enough for the method's units
+pub places-fit : (method : ChineseCountMethod) (number : ℤ) → is_printable method number ≡ true → nat_abs number < 2 ^ 128 → length (places_of (nat_abs number)) ≤ places_within method
+places-fit method number printable small = length-places-le (places_within method) (nat_abs number) (some-places method) (fits method number printable small) (omega (arith, small))
+
+-- the marks of its spelling, and its sign
+pub marks-fit : (method : ChineseCountMethod) (number : ℤ) → is_printable method number ≡ true → nat_abs number < 2 ^ 128 → 3 * (length (spelling method (nat_abs number)) + 1) ≤ most_bytes method
+marks-fit method number printable small =
+    let less = fits method number printable small in
+    let marks = length-spelling method (nat_abs number) (places_within method) (some-places method) less (square method (nat_abs number) (places_within method) less (omega arith)) in
+    omega (arith, marks, bytes method) where
+      bytes : (method : ChineseCountMethod) → 6 * places_within method ≤ most_bytes method
+      bytes Low = omega arith
+      bytes TenThousand = omega arith
+      bytes Middle = omega arith
+      bytes High = omega arith
+
+pub most_bytes-le : (method : ChineseCountMethod) → most_bytes method ≤ 234
+most_bytes-le Low = omega arith
+most_bytes-le TenThousand = omega arith
+most_bytes-le Middle = omega arith
+most_bytes-le High = omega arith

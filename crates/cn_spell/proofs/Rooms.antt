@@ -1,0 +1,50 @@
+-- What a room holds after a character is put.
+use Rattle.std.proofs.Common.{◌≡◌, ℕ, zero, suc, ◌+◌, ◌-◌, ◌≤◌, true, List, [], ◌∷◌, ◌++◌, length, drop, set, slice_index, refl, ap, ap₂, ◌∙◌, arith}
+use Rattle.std.specs.Str.{IsUtf8, is_utf8}
+use Rattle.cn_spell.specs.Working.Room.{Filling}
+use Rattle.std.proofs.lemmas.Str.{IsUtf8-nil, IsUtf8-append, IsUtf8-from_is_utf8, is_utf8-from_IsUtf8}
+
+drop-sets : (items : List ℕ) (start a b d : ℕ) → start + 3 ≤ length items
+    → drop start (set (set (set items start a) (start + 1) b) (start + 2) d) ≡ a ∷ b ∷ d ∷ drop (start + 3) items
+drop-sets [] start a b d h = absurd (omega (arith, h))
+drop-sets (x ∷ []) zero a b d h = absurd (omega (arith, h))
+drop-sets (x ∷ y ∷ []) zero a b d h = absurd (omega (arith, h))
+drop-sets (x ∷ y ∷ z ∷ items) zero a b d h = refl
+drop-sets (x ∷ items) (suc start) a b d h =
+    let one : suc start + 1 ≡ suc (start + 1) = omega arith in
+    let two : suc start + 2 ≡ suc (start + 2) = omega arith in
+    let three : suc start + 3 ≡ suc (start + 3) = omega arith in
+    rw (one, two, three) (drop-sets items start a b d (omega (arith, h)))
+
+of-three : (character : List ℕ) → length character ≡ 3 → slice_index character 0 ∷ slice_index character 1 ∷ slice_index character 2 ∷ [] ≡ character
+of-three [] h = absurd (omega (arith, h))
+of-three (a ∷ []) h = absurd (omega (arith, h))
+of-three (a ∷ b ∷ []) h = absurd (omega (arith, h))
+of-three (a ∷ b ∷ d ∷ []) h = refl
+of-three (a ∷ b ∷ d ∷ e ∷ rest) h = absurd (omega (arith, h))
+
+-- the character stands in front of the text
+pub put-text : (items character : List ℕ) (free : ℕ) → 3 ≤ free → free ≤ length items → length character ≡ 3
+    → drop (free - 3) (set (set (set items (free - 3) (slice_index character 0)) (free - 3 + 1) (slice_index character 1)) (free - 3 + 2) (slice_index character 2))
+    ≡ character ++ drop free items
+put-text items character free three within size =
+    let e : free - 3 + 3 ≡ free = omega (arith, three) in
+    drop-sets items (free - 3) (slice_index character 0) (slice_index character 1) (slice_index character 2) (omega (arith, three, within))
+    ∙ ap₂ (λ front rest. front ++ rest) (of-three character size) (ap (λ n. drop n items) e)
+
+-- and the whole is UTF-8
+pub put-utf8 : (character text : List ℕ) → IsUtf8 character → is_utf8 text ≡ true → is_utf8 (character ++ text) ≡ true
+put-utf8 character text one rest = is_utf8-from_IsUtf8 (character ++ text) (IsUtf8-append character text one (IsUtf8-from_is_utf8 text rest))
+
+drop-none : (items : List ℕ) (n : ℕ) → length items ≤ n → drop n items ≡ []
+drop-none [] zero h = refl
+drop-none [] (suc n) h = refl
+drop-none (x ∷ items) zero h = absurd (omega (arith, h))
+drop-none (x ∷ items) (suc n) h = drop-none items n (omega (arith, h))
+
+-- nothing is written yet where all bytes are free
+pub free-utf8 : (items : List ℕ) (n : ℕ) → length items ≤ n → is_utf8 (drop n items) ≡ true
+free-utf8 items n h = rw (drop-none items n h) (is_utf8-from_IsUtf8 [] IsUtf8-nil)
+
+pub filling : {a b : ℕ} {s t : List ℕ} → a ≡ b → s ≡ t → (let x : Filling = record { free = a; text = s } in x) ≡ record { free = b; text = t }
+filling e f = ap₂ (λ n text. let x : Filling = record { free = n; text = text } in x) e f

@@ -1,0 +1,29 @@
+-- The loop over the widths of a method's groups.
+use Rattle.std.proofs.Common.{◌≡◌, ℕ, ◌+◌, ◌<◌, ◌≤◌, true, false, nat_le, List, ◌∷◌, ◌++◌, length, drop, slice_index, refl, ap, ◌∙◌, arith, append_assoc, drop-cons, add-one}
+use Rattle.std.proofs.lemmas.Bool.Decides.{nat_tests}
+use Rattle.cn_core.specs.declared.method.ChineseCountMethod.{ChineseCountMethod}
+use Rattle.cn_core.specs.Mark.{Mark}
+use Rattle.cn_spell.specs.Working.Units.{start_of, unit_front, units_over}
+
+-- the loop over the widths: a group that begins above what is written
+pub front-then : (method : ChineseCountMethod) (place filled above index : ℕ) (widths : List ℕ) (done all : List Mark) → index < length widths
+    → above ≤ start_of (slice_index widths index) place → all ≡ units_over method place filled above (drop index widths) ++ done
+    → all ≡ units_over method place filled (start_of (slice_index widths index) place + 1) (drop (index + 1) widths) ++ (unit_front method filled above (start_of (slice_index widths index) place) ++ done)
+front-then method place filled above index widths done all less reach e =
+    let start = start_of (slice_index widths index) place in
+    let test : nat_le above start ≡ true = grind (arith, nat_tests, reach) in
+    let first : units_over method place filled above (slice_index widths index ∷ drop (index + 1) widths) ≡ units_over method place filled (start + 1) (drop (index + 1) widths) ++ unit_front method filled above start =
+    rw test refl in
+    let items : drop index widths ≡ slice_index widths index ∷ drop (index + 1) widths = rw (add-one, drop-cons widths index 0 less) refl in
+    e ∙ ap (λ ws. units_over method place filled above ws ++ done) items ∙ ap (λ marks. marks ++ done) first
+    ∙ append_assoc (units_over method place filled (start + 1) (drop (index + 1) widths)) (unit_front method filled above start) done
+
+-- and one whose unit is written already
+pub front-else : (method : ChineseCountMethod) (place filled above index : ℕ) (widths : List ℕ) (done all : List Mark) → index < length widths
+    → start_of (slice_index widths index) place < above → all ≡ units_over method place filled above (drop index widths) ++ done
+    → all ≡ units_over method place filled above (drop (index + 1) widths) ++ done
+front-else method place filled above index widths done all less reach e =
+    let test : nat_le above (start_of (slice_index widths index) place) ≡ false = grind (arith, nat_tests, reach) in
+    let first : units_over method place filled above (slice_index widths index ∷ drop (index + 1) widths) ≡ units_over method place filled above (drop (index + 1) widths) = rw test refl in
+    let items : drop index widths ≡ slice_index widths index ∷ drop (index + 1) widths = rw (add-one, drop-cons widths index 0 less) refl in
+    e ∙ ap (λ ws. units_over method place filled above ws ++ done) items ∙ ap (λ marks. marks ++ done) first

@@ -1,0 +1,26 @@
+use Rattle.std.proofs.Common.{◌<◌, length, ap, refl, arith}
+use Rattle.cn_spell.specs.Working.Table.{table_characters}
+use Rattle.cn_spell.proofs.Tables.{length-table, length-bytes, three-table}
+use Rattle.cn_spell.proofs.ThreeBytes.{takes_three, passes-at, bytes-at, IsUtf8-three}
+use Rattle.cn_spell.proofs.characters.Characters.at.Goals as goal
+
+pub bounds-self-start : goal.bounds-self-start
+bounds-self-start c = omega (arith, ap length c.args.self.is_table, length-bytes c.args.self.variant c.args.self.case)
+
+pub bounds-self-start-2 : goal.bounds-self-start-2
+bounds-self-start-2 c = omega (arith, ap length c.args.self.is_table, length-bytes c.args.self.variant c.args.self.case)
+
+pub bounds-self-start-3 : goal.bounds-self-start-3
+bounds-self-start-3 c = omega (arith, ap length c.args.self.is_table, length-bytes c.args.self.variant c.args.self.case)
+
+pub returns-clause-bytes : goal.returns-clause-bytes
+returns-clause-bytes c =
+    let less : c.args.place < length (table_characters c.args.self.variant c.args.self.case) = omega (arith, length-table c.args.self.variant c.args.self.case, c.requires) in
+    rw c.args.self.is_table (bytes-at (table_characters c.args.self.variant c.args.self.case) c.args.place _ (three-table c.args.self.variant c.args.self.case) less refl)
+
+pub returns-clause-utf8 : goal.returns-clause-utf8
+returns-clause-utf8 c =
+    let all = table_characters c.args.self.variant c.args.self.case in
+    let three = three-table c.args.self.variant c.args.self.case in
+    let less : c.args.place < length all = omega (arith, length-table c.args.self.variant c.args.self.case, c.requires) in
+    rw (c.args.self.is_table, bytes-at all c.args.place _ three less refl) (IsUtf8-three _ (passes-at takes_three all c.args.place three less))

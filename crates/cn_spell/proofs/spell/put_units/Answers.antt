@@ -1,0 +1,42 @@
+use Rattle.std.proofs.Common.{Bool, ◌≡◌, ℕ, ◌&&◌, ◌==◌, nat_lt, true, false, [], ◌∷◌, ◌++◌, slice_index, if◌then◌else◌, arith}
+use Rattle.std.proofs.lemmas.Bool.Decides.{nat_tests}
+use Rattle.cn_core.specs.Mark.{digit, unit}
+use Rattle.cn_spell.specs.Working.Units.{start_of, unit_front}
+use Rattle.cn_spell.proofs.Pens.{Wrote, Wrote-more}
+use Rattle.cn_spell.proofs.UnitLoops.{front-then, front-else}
+use Rattle.cn_spell.proofs.spell.put_units.Goals.{then-start-above, else-start-above, then-above-filled+then-filled-start, else-above-filled, else-above-filled-via-then-above-filled+else-filled-start, else-above-filled-via-else-above-filled}
+use Rattle.cn_spell.proofs.spell.put_units.Goals as goal
+
+pub loop-width-preserved : goal.loop-width-preserved
+loop-width-preserved g c =
+    let l = c.loop-width in
+    let widths = c.widths-width-items.result.now in
+    let place = c.args.place in
+    let filled = c.args.filled in
+    let method = c.args.method in
+    let start : ℕ = start_of (slice_index widths l.width-index) place in
+    elim c.if-start-above.branch [
+      | then-start-above w ↦
+          let test : Bool = l.above == filled && nat_lt filled start in
+          let zero : Wrote (g.P.Pen.left c.args.pen.now) (g.P.Pen.left w.if-above-filled.pen) (g.P.Pen.shows c.args.pen.now c.args.characters.variant c.args.characters.case)
+          (g.P.Pen.shows w.if-above-filled.pen c.args.characters.variant c.args.characters.case) ((if test then digit 0 ∷ [] else []) ++ l.invariant.0) = elim w.if-above-filled.branch [
+            | then-above-filled+then-filled-start v ↦
+                let flag : (l.above == filled && nat_lt filled start) ≡ true = grind (arith, nat_tests, v.if-above-filled.true, v.if-filled-start.true) in
+                rw (v.pen-is, flag) (Wrote-more (digit 0) l.invariant.2 v.put_digit.ensures.room v.put_digit.ensures.marks)
+            | else-above-filled v ↦
+                let flag : (l.above == filled && nat_lt filled start) ≡ false = elim v.else-above-filled.branch [
+                  | else-above-filled-via-then-above-filled+else-filled-start u ↦ grind (arith, nat_tests, u.if-above-filled.true, u.if-filled-start.false)
+                  | else-above-filled-via-else-above-filled u ↦ grind (arith, nat_tests, u.if-above-filled.false)
+                ] in
+                rw (v.pen-is, flag) l.invariant.2
+          ] in (
+            unit_front method filled l.above start ++ l.invariant.0,
+            rw w.above-is (front-then method place filled l.above l.width-index widths l.invariant.0 _ c.loop-width-test.true w.if-start-above.true l.invariant.1),
+            rw (w.pen-is, ← w.unit_at.ensures) (Wrote-more (unit _) zero w.put_unit.ensures.room w.put_unit.ensures.marks),
+          )
+      | else-start-above w ↦ (
+        l.invariant.0,
+        rw w.above-is (front-else method place filled l.above l.width-index widths l.invariant.0 _ c.loop-width-test.true w.if-start-above.false l.invariant.1),
+        rw w.pen-is l.invariant.2,
+      )
+    ]

@@ -1,0 +1,4 @@
+pub mod ErrorText
+pub mod Prints
+pub mod Working
+pub mod Writes

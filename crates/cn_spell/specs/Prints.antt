@@ -1,0 +1,30 @@
+-- What a printer by units answers.
+use Rattle.std.specs.Prelude.{ℕ, ℤ, pos, ◌<ℤ◌, IsTrue, IsFalse, Result, MatchResult}
+use Rattle.std.specs.declared.string.String.{String}
+use Rattle.cn_core.specs.declared.script.ChineseVariant.{ChineseVariant}
+use Rattle.cn_core.specs.declared.case.ChineseCase.{ChineseCase}
+use Rattle.cn_core.specs.declared.method.ChineseCountMethod.{ChineseCountMethod}
+use Rattle.cn_core.specs.declared.method.ChineseCountMethod.TheVariants.{Low}
+use Rattle.cn_core.specs.Written.{spelled_text, is_printable}
+use Rattle.cn_spell.specs.declared.error.NumberToChineseError.{NumberToChineseError}
+use Rattle.cn_spell.specs.declared.error.NumberToChineseError.TheVariants.{Overflow, Underflow, OutOfMemory}
+use Rattle.cn_spell.specs.Writes.{Writes}
+
+-- the most bytes of a text
+abbrev pub most_bytes : ChineseCountMethod → ℕ
+most_bytes Low = 96
+most_bytes method = 234
+
+-- when each refusal comes: a number that the method does not write is too large or too small, by its sign;
+-- memory is asked for only where the method writes the number
+abbrev pub Refuses : ChineseCountMethod → ℤ → NumberToChineseError → Type 0
+Refuses method number Overflow = (pos 0 <ℤ number) × IsFalse (is_printable method number)
+Refuses method number Underflow = (number <ℤ pos 0) × IsFalse (is_printable method number)
+Refuses method number OutOfMemory = IsTrue (is_printable method number)
+
+-- the text of a number that the method writes, or the refusal
+abbrev pub Prints : {Z : Type 0} → ChineseVariant → ChineseCase → ChineseCountMethod → ℤ → Result (String Z) NumberToChineseError → Type 0
+Prints variant case method number result =
+    MatchResult result
+    (λ text. IsTrue (is_printable method number) × Writes (spelled_text variant case method number) (most_bytes method) text)
+    (Refuses method number)

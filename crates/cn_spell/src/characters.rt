@@ -1,0 +1,96 @@
+// The characters of one script and case, as the three bytes that each takes.
+ghost use Rattle.std.specs.Prelude.{◌≡◌, ◌<◌, slice_index, encode_utf8, encode_utf8_all};
+ghost use Rattle.std.specs.Str.{IsUtf8};
+ghost use Rattle.cn_core.specs.Characters.{rank, digit_char, unit_char, minus_char};
+ghost use Rattle.cn_spell.specs.Working.Table.{table_characters};
+
+use cn_core::{ChineseCase, ChineseVariant, Unit};
+
+static LOWER_TRADITIONAL: &str = "零一二三四五六七八九個十百千萬億兆京垓秭穰溝澗正載極負";
+
+static LOWER_SIMPLE: &str = "零一二三四五六七八九个十百千万亿兆京垓秭穰沟涧正载极负";
+
+static UPPER_TRADITIONAL: &str = "零壹貳參肆伍陸柒捌玖個拾佰仟萬億兆京垓秭穰溝澗正載極負";
+
+static UPPER_SIMPLE: &str = "零壹贰叁肆伍陆柒捌玖个拾佰仟万亿兆京垓秭穰沟涧正载极负";
+
+// Where the units and the minus sign begin in these tables.
+const UNITS: usize = 10;
+
+const MINUS: usize = 26;
+
+fn table(variant: ChineseVariant, case: ChineseCase) -> &'static [u8]
+    ensures { result.now ≡ encode_utf8_all (table_characters variant case) }
+{
+    match (case, variant) {
+        (ChineseCase::Lower, ChineseVariant::Traditional) => LOWER_TRADITIONAL.as_bytes(),
+        (ChineseCase::Lower, ChineseVariant::Simple) => LOWER_SIMPLE.as_bytes(),
+        (ChineseCase::Upper, ChineseVariant::Traditional) => UPPER_TRADITIONAL.as_bytes(),
+        (ChineseCase::Upper, ChineseVariant::Simple) => UPPER_SIMPLE.as_bytes(),
+    }
+}
+
+/// The characters of a script and case.
+#[derive(Clone, Copy)]
+pub struct Characters {
+    pub variant: ChineseVariant,
+    pub case: ChineseCase,
+    table: &'static [u8],
+    ghost is_table: { table.now ≡ encode_utf8_all (table_characters variant case) },
+}
+
+impl Characters {
+    /// Looks the table up, once for a text.
+    pub fn new(variant: ChineseVariant, case: ChineseCase) -> Self
+        ensures variant { result.variant ≡ variant }
+        ensures case { result.case ≡ case }
+    {
+        Characters {
+            variant,
+            case,
+            table: table(variant, case),
+        }
+    }
+
+    #[inline(always)]
+    fn at(self, place: usize) -> [u8; 3]
+        requires { place < 27 }
+        ensures bytes { result ≡ encode_utf8 (slice_index (table_characters self.variant self.case) place) }
+        ensures utf8 { IsUtf8 result }
+    {
+        let start = 3 * place;
+        [
+            self.table[start],
+            self.table[start + 1],
+            self.table[start + 2],
+        ]
+    }
+
+    /// The character of a digit from 0 to 9.
+    #[inline(always)]
+    pub fn digit(self, digit: u8) -> [u8; 3]
+        requires { digit < 10 }
+        ensures bytes { result ≡ encode_utf8 (digit_char self.variant self.case digit) }
+        ensures utf8 { IsUtf8 result }
+    {
+        self.at(digit as usize)
+    }
+
+    /// The character of a unit.
+    #[inline(always)]
+    pub fn unit(self, unit: Unit) -> [u8; 3]
+        ensures bytes { result ≡ encode_utf8 (unit_char self.variant self.case (rank unit)) }
+        ensures utf8 { IsUtf8 result }
+    {
+        self.at(UNITS + unit as usize)
+    }
+
+    /// The minus sign.
+    #[inline(always)]
+    pub fn minus(self) -> [u8; 3]
+        ensures bytes { result ≡ encode_utf8 (minus_char self.variant) }
+        ensures utf8 { IsUtf8 result }
+    {
+        self.at(MINUS)
+    }
+}

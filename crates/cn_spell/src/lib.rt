@@ -1,0 +1,21 @@
+//! The printer of any integer type, by units or as plain digits. It serves the crates above it alone:
+//! users take the calls of `chinese_number`.
+//!
+//! It counts its characters, asks once for three bytes for each, and fills them from the last to the
+//! first.
+#![tactic(auto)]
+
+mod characters;
+mod digits;
+mod error;
+mod naive;
+mod pen;
+mod print;
+mod room;
+mod sign;
+mod spell;
+mod units;
+
+pub use error::NumberToChineseError;
+pub use naive::print_naive;
+pub use print::{print_by_units, print_or_refuse};

@@ -1,0 +1,67 @@
+// The units of a method, by the decimal places at which their groups begin.
+ghost use Rattle.std.specs.Prelude.{◌≡◌, ◌<◌, ◌≤◌, ◌*◌, ◌+◌, length};
+ghost use Rattle.cn_core.specs.Characters.{rank};
+ghost use Rattle.cn_core.specs.Mark.{Mark};
+ghost use Rattle.cn_spell.specs.Working.Units.{widths_of, places_within, rank_at, front};
+
+use cn_core::Unit::{
+    Bai, Gai, Ge, Gou, Ji, Jian, Jing, Qian, Rang, Shi, Wan, Yi, Zai, Zhao, Zheng, Zi,
+};
+use cn_core::{ChineseCountMethod, Unit};
+
+static LOW: [Unit; 16] = [
+    Ge, Shi, Bai, Qian, Wan, Yi, Zhao, Jing, Gai, Zi, Rang, Gou, Jian, Zheng, Zai, Ji,
+];
+
+static TEN_THOUSAND: [Unit; 39] = [
+    Ge, Shi, Bai, Qian, Wan, Shi, Bai, Qian, Yi, Shi, Bai, Qian, Zhao, Shi, Bai, Qian, Jing, Shi,
+    Bai, Qian, Gai, Shi, Bai, Qian, Zi, Shi, Bai, Qian, Rang, Shi, Bai, Qian, Gou, Shi, Bai, Qian,
+    Jian, Shi, Bai,
+];
+
+static MIDDLE: [Unit; 39] = [
+    Ge, Shi, Bai, Qian, Wan, Shi, Bai, Qian, Yi, Shi, Bai, Qian, Wan, Shi, Bai, Qian, Zhao, Shi,
+    Bai, Qian, Wan, Shi, Bai, Qian, Jing, Shi, Bai, Qian, Wan, Shi, Bai, Qian, Gai, Shi, Bai, Qian,
+    Wan, Shi, Bai,
+];
+
+static HIGH: [Unit; 39] = [
+    Ge, Shi, Bai, Qian, Wan, Shi, Bai, Qian, Yi, Shi, Bai, Qian, Wan, Shi, Bai, Qian, Zhao, Shi,
+    Bai, Qian, Wan, Shi, Bai, Qian, Yi, Shi, Bai, Qian, Wan, Shi, Bai, Qian, Jing, Shi, Bai, Qian,
+    Wan, Shi, Bai,
+];
+
+/// The unit whose group begins at a place: 萬 at the fourth, by all methods but `Low`.
+#[inline(always)]
+pub fn unit_at(method: ChineseCountMethod, place: usize) -> Unit
+    requires { place < places_within method }
+    ensures { rank result ≡ rank_at method place }
+{
+    match method {
+        ChineseCountMethod::Low => LOW[place],
+        ChineseCountMethod::TenThousand => TEN_THOUSAND[place],
+        ChineseCountMethod::Middle => MIDDLE[place],
+        ChineseCountMethod::High => HIGH[place],
+    }
+}
+
+static LOW_WIDTHS: [usize; 1] = [1];
+
+static TEN_THOUSAND_WIDTHS: [usize; 2] = [4, 1];
+
+static MIDDLE_WIDTHS: [usize; 3] = [8, 4, 1];
+
+static HIGH_WIDTHS: [usize; 5] = [32, 16, 8, 4, 1];
+
+/// How many places a unit's group has, the widest group first.
+#[inline(always)]
+pub fn widths(method: ChineseCountMethod) -> &'static [usize]
+    ensures { result.now ≡ widths_of method }
+{
+    match method {
+        ChineseCountMethod::Low => &LOW_WIDTHS,
+        ChineseCountMethod::TenThousand => &TEN_THOUSAND_WIDTHS,
+        ChineseCountMethod::Middle => &MIDDLE_WIDTHS,
+        ChineseCountMethod::High => &HIGH_WIDTHS,
+    }
+}
