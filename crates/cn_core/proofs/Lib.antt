@@ -6,6 +6,7 @@ pub mod Lengths
 pub mod NaiveExamples
 pub mod NumeralExamples
 pub mod OpenUnits
+pub mod Powers
 pub mod ReadBack
 pub mod ScaleExamples
 pub mod ScaleLaws

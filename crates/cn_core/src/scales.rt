@@ -1,4 +1,4 @@
-ghost use Rattle.std.specs.Prelude.{◌≡◌, IsTrue};
+ghost use Rattle.std.specs.Prelude.{◌≡◌, ◌^◌, ◌≤◌, IsTrue};
 ghost use Rattle.std.specs.Option.{SomeIff};
 ghost use Rattle.cn_core.specs.Characters.{rank};
 ghost use Rattle.cn_core.specs.Scale.{scale, scale_fits, exponent};
@@ -47,7 +47,7 @@ static POWERS_OF_TEN: [u128; 39] = [
     100_000_000_000_000_000_000_000_000_000_000_000_000,
 ];
 
-// The power of ten that a unit stands for.
+// The exponent of the power of ten that a unit stands for.
 fn exponent(method: ChineseCountMethod, unit: Unit) -> usize
     ensures { result ≡ exponent method (rank unit) }
 {
@@ -61,6 +61,13 @@ fn exponent(method: ChineseCountMethod, unit: Unit) -> usize
     }
 }
 
+// The power of ten with this exponent; `None` exactly where it does not fit `u128`.
+fn power_of_ten(exponent: usize) -> Option<u128>
+    ensures { SomeIff result (exponent ≤ 38) (10 ^ exponent) }
+{
+    POWERS_OF_TEN.get(exponent).copied()
+}
+
 /// The number that a unit stands for under a method; `None` exactly where it does not fit `u128`.
 ///
 /// ```text
@@ -70,5 +77,5 @@ fn exponent(method: ChineseCountMethod, unit: Unit) -> usize
 pub fn scale(method: ChineseCountMethod, unit: Unit) -> Option<u128>
     ensures { SomeIff result (IsTrue (scale_fits method (rank unit))) (scale method (rank unit)) }
 {
-    POWERS_OF_TEN.get(exponent(method, unit)).copied()
+    power_of_ten(exponent(method, unit))
 }

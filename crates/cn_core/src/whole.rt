@@ -17,7 +17,7 @@ pub trait Whole: Copy {
     /// Whether the type holds numbers below zero.
     const SIGNED: bool;
 
-    /// Whether the type has 8 or 16 bits: true for `u8`, `u16`, `i8` and `i16` alone.
+    /// Whether the type has 8 or 16 bits: true for `u8`, `u16`, `i8` and `i16`, false for the other eight.
     const NARROW: bool;
 
     ghost SIGNED: { Bool };
@@ -66,7 +66,8 @@ pub trait Whole: Copy {
 
     ghost unsigned_from_zero: { SIGNED ≡ false → kind.least ≡ pos 0 };
 
-    ghost narrow_bound: { NARROW ≡ true → (z : ℤ) → Holds kind z → nat_abs z ≤ 65535 };
+    // A type is narrow exactly where no magnitude that it holds is above 65535.
+    ghost narrow_is: { NARROW ≡ true ↔ ((z : ℤ) → Holds kind z → nat_abs z ≤ 65535) };
 
     // Each magnitude fits 128 bits.
     ghost magnitude_fits: { (z : ℤ) → Holds kind z → nat_abs z < 2 ^ 128 };

@@ -2,7 +2,7 @@
 ghost use Rattle.std.specs.Prelude.{refl, true, false};
 ghost use Rattle.std.proofs.Common.{rules};
 ghost use Rattle.cn_core.specs.Whole.{signed_kind};
-ghost use Rattle.cn_core.specs.WholeLaws.{signed_magnitude_bound, signed_fits};
+ghost use Rattle.cn_core.specs.WholeLaws.{signed_narrow, signed_wide, signed_fits};
 
 use crate::Whole;
 
@@ -36,8 +36,7 @@ impl Whole for i8 {
     }
 
     fn from_magnitude(negative: bool, magnitude: u128) -> Option<i8> {
-        let size = i128::try_from(magnitude).ok()?;
-        i8::try_from(if negative { -size } else { size }).ok()
+        i8::try_from(i128::from_magnitude(negative, magnitude)?).ok()
     }
 
     ghost same_number = { λ x y e. e };
@@ -50,7 +49,7 @@ impl Whole for i8 {
 
     ghost unsigned_from_zero = { Prim.search rules };
 
-    ghost narrow_bound = { Prim.search (rules, signed_magnitude_bound) };
+    ghost narrow_is = { Prim.search (rules, signed_narrow) };
 
     ghost magnitude_fits = { Prim.search (rules, signed_fits) };
 }
@@ -85,8 +84,7 @@ impl Whole for i16 {
     }
 
     fn from_magnitude(negative: bool, magnitude: u128) -> Option<i16> {
-        let size = i128::try_from(magnitude).ok()?;
-        i16::try_from(if negative { -size } else { size }).ok()
+        i16::try_from(i128::from_magnitude(negative, magnitude)?).ok()
     }
 
     ghost same_number = { λ x y e. e };
@@ -99,7 +97,7 @@ impl Whole for i16 {
 
     ghost unsigned_from_zero = { Prim.search rules };
 
-    ghost narrow_bound = { Prim.search (rules, signed_magnitude_bound) };
+    ghost narrow_is = { Prim.search (rules, signed_narrow) };
 
     ghost magnitude_fits = { Prim.search (rules, signed_fits) };
 }
@@ -134,8 +132,7 @@ impl Whole for i32 {
     }
 
     fn from_magnitude(negative: bool, magnitude: u128) -> Option<i32> {
-        let size = i128::try_from(magnitude).ok()?;
-        i32::try_from(if negative { -size } else { size }).ok()
+        i32::try_from(i128::from_magnitude(negative, magnitude)?).ok()
     }
 
     ghost same_number = { λ x y e. e };
@@ -148,7 +145,7 @@ impl Whole for i32 {
 
     ghost unsigned_from_zero = { Prim.search rules };
 
-    ghost narrow_bound = { Prim.search rules };
+    ghost narrow_is = { Prim.search (rules, signed_wide) };
 
     ghost magnitude_fits = { Prim.search (rules, signed_fits) };
 }
@@ -183,8 +180,7 @@ impl Whole for i64 {
     }
 
     fn from_magnitude(negative: bool, magnitude: u128) -> Option<i64> {
-        let size = i128::try_from(magnitude).ok()?;
-        i64::try_from(if negative { -size } else { size }).ok()
+        i64::try_from(i128::from_magnitude(negative, magnitude)?).ok()
     }
 
     ghost same_number = { λ x y e. e };
@@ -197,7 +193,7 @@ impl Whole for i64 {
 
     ghost unsigned_from_zero = { Prim.search rules };
 
-    ghost narrow_bound = { Prim.search rules };
+    ghost narrow_is = { Prim.search (rules, signed_wide) };
 
     ghost magnitude_fits = { Prim.search (rules, signed_fits) };
 }
@@ -232,8 +228,7 @@ impl Whole for isize {
     }
 
     fn from_magnitude(negative: bool, magnitude: u128) -> Option<isize> {
-        let size = i128::try_from(magnitude).ok()?;
-        isize::try_from(if negative { -size } else { size }).ok()
+        isize::try_from(i128::from_magnitude(negative, magnitude)?).ok()
     }
 
     ghost same_number = { λ x y e. e };
@@ -246,7 +241,7 @@ impl Whole for isize {
 
     ghost unsigned_from_zero = { Prim.search rules };
 
-    ghost narrow_bound = { Prim.search rules };
+    ghost narrow_is = { Prim.search (rules, signed_wide) };
 
     ghost magnitude_fits = { Prim.search (rules, signed_fits) };
 }

@@ -2,7 +2,7 @@
 ghost use Rattle.std.specs.Prelude.{refl, pos, false, true};
 ghost use Rattle.std.proofs.Common.{rules};
 ghost use Rattle.cn_core.specs.Whole.{unsigned_kind};
-ghost use Rattle.cn_core.specs.WholeLaws.{pos_same, unsigned_holds, magnitude_bound, unsigned_fits};
+ghost use Rattle.cn_core.specs.WholeLaws.{pos_same, unsigned_holds, unsigned_narrow, unsigned_wide, unsigned_fits};
 
 use crate::Whole;
 
@@ -36,11 +36,7 @@ impl Whole for u8 {
     }
 
     fn from_magnitude(negative: bool, magnitude: u128) -> Option<u8> {
-        if negative && magnitude > 0 {
-            None
-        } else {
-            u8::try_from(magnitude).ok()
-        }
+        u8::try_from(u128::from_magnitude(negative, magnitude)?).ok()
     }
 
     ghost same_number = { pos_same };
@@ -53,7 +49,7 @@ impl Whole for u8 {
 
     ghost unsigned_from_zero = { λ _. refl };
 
-    ghost narrow_bound = { Prim.search (rules, magnitude_bound) };
+    ghost narrow_is = { Prim.search (rules, unsigned_narrow) };
 
     ghost magnitude_fits = { Prim.search (rules, unsigned_fits) };
 }
@@ -88,11 +84,7 @@ impl Whole for u16 {
     }
 
     fn from_magnitude(negative: bool, magnitude: u128) -> Option<u16> {
-        if negative && magnitude > 0 {
-            None
-        } else {
-            u16::try_from(magnitude).ok()
-        }
+        u16::try_from(u128::from_magnitude(negative, magnitude)?).ok()
     }
 
     ghost same_number = { pos_same };
@@ -105,7 +97,7 @@ impl Whole for u16 {
 
     ghost unsigned_from_zero = { λ _. refl };
 
-    ghost narrow_bound = { Prim.search (rules, magnitude_bound) };
+    ghost narrow_is = { Prim.search (rules, unsigned_narrow) };
 
     ghost magnitude_fits = { Prim.search (rules, unsigned_fits) };
 }
@@ -140,11 +132,7 @@ impl Whole for u32 {
     }
 
     fn from_magnitude(negative: bool, magnitude: u128) -> Option<u32> {
-        if negative && magnitude > 0 {
-            None
-        } else {
-            u32::try_from(magnitude).ok()
-        }
+        u32::try_from(u128::from_magnitude(negative, magnitude)?).ok()
     }
 
     ghost same_number = { pos_same };
@@ -157,7 +145,7 @@ impl Whole for u32 {
 
     ghost unsigned_from_zero = { λ _. refl };
 
-    ghost narrow_bound = { Prim.search rules };
+    ghost narrow_is = { Prim.search (rules, unsigned_wide) };
 
     ghost magnitude_fits = { Prim.search (rules, unsigned_fits) };
 }
@@ -192,11 +180,7 @@ impl Whole for u64 {
     }
 
     fn from_magnitude(negative: bool, magnitude: u128) -> Option<u64> {
-        if negative && magnitude > 0 {
-            None
-        } else {
-            u64::try_from(magnitude).ok()
-        }
+        u64::try_from(u128::from_magnitude(negative, magnitude)?).ok()
     }
 
     ghost same_number = { pos_same };
@@ -209,7 +193,7 @@ impl Whole for u64 {
 
     ghost unsigned_from_zero = { λ _. refl };
 
-    ghost narrow_bound = { Prim.search rules };
+    ghost narrow_is = { Prim.search (rules, unsigned_wide) };
 
     ghost magnitude_fits = { Prim.search (rules, unsigned_fits) };
 }
@@ -244,11 +228,7 @@ impl Whole for usize {
     }
 
     fn from_magnitude(negative: bool, magnitude: u128) -> Option<usize> {
-        if negative && magnitude > 0 {
-            None
-        } else {
-            usize::try_from(magnitude).ok()
-        }
+        usize::try_from(u128::from_magnitude(negative, magnitude)?).ok()
     }
 
     ghost same_number = { pos_same };
@@ -261,7 +241,7 @@ impl Whole for usize {
 
     ghost unsigned_from_zero = { λ _. refl };
 
-    ghost narrow_bound = { Prim.search rules };
+    ghost narrow_is = { Prim.search (rules, unsigned_wide) };
 
     ghost magnitude_fits = { Prim.search (rules, unsigned_fits) };
 }

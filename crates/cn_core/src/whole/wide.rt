@@ -2,7 +2,7 @@
 ghost use Rattle.std.specs.Prelude.{refl, pos, false, true};
 ghost use Rattle.std.proofs.Common.{rules};
 ghost use Rattle.cn_core.specs.Whole.{unsigned_kind, signed_kind};
-ghost use Rattle.cn_core.specs.WholeLaws.{pos_same, unsigned_holds, unsigned_fits, signed_fits};
+ghost use Rattle.cn_core.specs.WholeLaws.{pos_same, unsigned_holds, unsigned_wide, signed_wide, unsigned_fits, signed_fits};
 
 use crate::Whole;
 
@@ -53,7 +53,7 @@ impl Whole for u128 {
 
     ghost unsigned_from_zero = { λ _. refl };
 
-    ghost narrow_bound = { Prim.search rules };
+    ghost narrow_is = { Prim.search (rules, unsigned_wide) };
 
     ghost magnitude_fits = { Prim.search (rules, unsigned_fits) };
 }
@@ -105,7 +105,7 @@ impl Whole for i128 {
 
     ghost unsigned_from_zero = { Prim.search rules };
 
-    ghost narrow_bound = { Prim.search rules };
+    ghost narrow_is = { Prim.search (rules, signed_wide) };
 
     ghost magnitude_fits = { Prim.search (rules, signed_fits) };
 }

@@ -1,0 +1,5 @@
+use Rattle.cn_core.proofs.Powers.{entry_is_power}
+use Rattle.cn_core.proofs.scales.power_of_ten.Goals as goal
+
+pub returns : goal.returns
+returns c = rw c.copied.ensures (entry_is_power _ _ c.get.ensures.lookup)
