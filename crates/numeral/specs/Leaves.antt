@@ -5,6 +5,7 @@ use Rattle.numeral.specs.declared.fault.RunError.{RunError}
 use Rattle.numeral.specs.declared.fault.RunError.TheVariants.{Read, Write, Memory}
 use Rattle.numeral.specs.Lines.{ended, lines}
 use Rattle.numeral.specs.Answer.{AreReplies}
+use Rattle.numeral.specs.Reads.{next_count}
 
 -- the answers to these lines were written, each with its line feed, and nothing else
 abbrev pub Wrote : Option (List ℕ) → Option (List ℕ) → List (List ℕ) → Type 0
@@ -34,3 +35,18 @@ Leaves left read_failed old new write_failed bytes (Err Memory) =
 abbrev pub Runs : {T : Type 0} → Option (List ℕ) → Option (List ℕ) → Bool → Option (List ℕ) → Option (List ℕ) → Bool → Result T RunError → Type 0
 Runs given left read_failed old new write_failed result =
     (bytes : List ℕ) × Consumes given left bytes × Leaves left read_failed old new write_failed bytes result
+
+-- one read gave nothing, and it was the last: `old` and `new` count such reads, `ended` says whether the last was one
+abbrev pub EndedOnce : ℕ → ℕ → Bool → Type 0
+EndedOnce old new ended = (new ≡ next_count old) × (ended ≡ true)
+
+-- no read gave nothing, or one did, and it was the last
+abbrev pub EndedAtMostOnce : ℕ → ℕ → Bool → Type 0
+EndedAtMostOnce old new ended = (new ≡ old) ⊎ EndedOnce old new ended
+
+-- how a run ends its reading: it goes on as long as a read gives a byte, and no longer
+abbrev pub Stops : {T : Type 0} → ℕ → ℕ → Bool → Result T RunError → Type 0
+Stops old new ended (Ok x) = EndedOnce old new ended
+Stops old new ended (Err Read) = new ≡ old
+Stops old new ended (Err Write) = EndedAtMostOnce old new ended
+Stops old new ended (Err Memory) = EndedAtMostOnce old new ended

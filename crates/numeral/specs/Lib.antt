@@ -3,5 +3,6 @@ pub mod Digits
 pub mod Leaves
 pub mod Lines
 pub mod Question
+pub mod Reads
 pub mod Status
 pub mod Steps

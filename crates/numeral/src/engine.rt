@@ -1,9 +1,10 @@
 // Reads the input block by block, and answers its lines.
-ghost use Rattle.std.specs.Prelude.{◌≡◌, ◌<◌, ◌≤◌, ◌++◌, [], ◌∷◌, false, length, take, drop, slice_index, OnOk, OnErr, IfOk, IfSome, MatchOption, string_bytes};
+ghost use Rattle.std.specs.Prelude.{◌≡◌, ◌<◌, ◌≤◌, ◌||◌, ◌++◌, [], ◌∷◌, true, false, length, take, drop, slice_index, OnOk, OnErr, IfOk, IfSome, MatchOption, string_bytes};
 ghost use Rattle.std.specs.Io.KnownBytes.{Keeps, ReadConsumes};
 ghost use Rattle.numeral.specs.Lines.{HasNoFeed, last_line, lines};
 ghost use Rattle.numeral.specs.Answer.{Answers};
-ghost use Rattle.numeral.specs.Leaves.{Wrote, Runs};
+ghost use Rattle.numeral.specs.Leaves.{Wrote, Runs, Stops};
+ghost use Rattle.numeral.specs.Reads.{Counts};
 ghost use Rattle.numeral.specs.Steps.{Fails, Puts, Replies, Feeds};
 
 use crate::answer::answer;
@@ -138,7 +139,7 @@ fn filled(block: &[u8], count: usize) -> &[u8]
 }
 
 // Reads into the front of the block, and says how many bytes. What was written is handed on first, since whoever
-// is to send the next bytes may wait for it.
+// is to send the next bytes may wait for it; a flush that fails though no write did does not keep it from reading.
 fn read_more<R: Source, W: Sink>(
     reader: &mut R,
     writer: &mut W,
@@ -151,10 +152,11 @@ fn read_more<R: Source, W: Sink>(
     ensures fails { Fails (R.failed reader.new) (W.failed writer.new) result }
     ensures bytes { ReadConsumes (R.remaining reader.old) (R.remaining reader.new) result block.new }
     ensures kept { Keeps (W.contents writer.old) (W.contents writer.new) }
-    ensures out { OnOk result (W.holds_back writer.new ≡ false) }
+    ensures out { W.holds_back writer.new ≡ true → (W.failed writer.new || W.flush_failed writer.new) ≡ true }
     ensures ends { IfOk result (λ n. 0 < n → R.reads_left reader.new < R.reads_left reader.old) }
+    ensures counts { Counts (R.empty_reads reader.old) (R.empty_reads reader.new) (R.ended reader.old) (R.ended reader.new) result }
 {
-    if writer.flush().is_err() {
+    if writer.flush().is_err() && writer.has_failed() {
         return Err(RunError::Write);
     }
     reader.read(block).map_err(|_| RunError::Read)
@@ -170,8 +172,9 @@ fn run_by<R: Source, W: Sink>(
     requires reads { R.failed reader.old ≡ false }
     requires writes { W.failed writer.old ≡ false }
     requires room { 0 < length block.old }
-    ensures { Runs (R.remaining reader.old) (R.remaining reader.new) (R.failed reader.new)
+    ensures leaves { Runs (R.remaining reader.old) (R.remaining reader.new) (R.failed reader.new)
         (W.contents writer.old) (W.contents writer.new) (W.failed writer.new) result }
+    ensures stops { Stops (R.empty_reads reader.old) (R.empty_reads reader.new) (R.ended reader.new) result }
 {
     let mut room = Room {
         line: Vec::new(alloc),
@@ -190,9 +193,10 @@ fn run_by<R: Source, W: Sink>(
 /// Reads the input to its end, and writes the answers to its lines, each followed by a line feed.
 ///
 /// A line is answered and written before room for a later one is asked for. What is written is flushed before
-/// each read, which may have to wait; whoever calls flushes it at the end. After a fault nothing more is read,
-/// written or flushed: at `Read` the lines that had ended are answered, at `Write` a beginning of the answers was
-/// written, at `Memory` the lines before the one in hand are answered.
+/// each read, which may have to wait; where no write fails, a flush that does stops nothing, and whoever calls
+/// flushes at the end. After a read that gives nothing no more is read. After a fault nothing more is read, written
+/// or flushed: at `Read` the lines that had ended are answered, at `Write` a beginning of the answers was written, at
+/// `Memory` the lines before the one in hand are answered.
 pub fn run<R: Source, W: Sink>(
     alloc: Global,
     reader: &mut R,
@@ -204,6 +208,7 @@ pub fn run<R: Source, W: Sink>(
         Wrote (W.contents writer.old) (W.contents writer.new) (lines input))) }
     ensures leaves { Runs (R.remaining reader.old) (R.remaining reader.new) (R.failed reader.new)
         (W.contents writer.old) (W.contents writer.new) (W.failed writer.new) result }
+    ensures stops { Stops (R.empty_reads reader.old) (R.empty_reads reader.new) (R.ended reader.new) result }
 {
     let mut block = [0u8; BLOCK];
     run_by(alloc, reader, writer, &mut block)

@@ -1,6 +1,6 @@
 // Output that is gathered and goes out in few writes: when its room is full, and at a flush. Unlike std's
 // buffered writer it tries no write again that was interrupted.
-ghost use Rattle.std.specs.Prelude.{◌≡◌, ◌↔◌, ◌+◌, ◌≤◌, ◌==◌, ◌||◌, ◌++◌, [], drop, false, if◌then◌else◌, is_err, length, not, IfOk, IsTrue, OnOk, vec_capacity, vec_len};
+ghost use Rattle.std.specs.Prelude.{◌≡◌, ◌↔◌, ◌+◌, ◌≤◌, ◌==◌, ◌||◌, ◌&&◌, ◌++◌, [], drop, false, if◌then◌else◌, is_err, length, not, IfOk, IsTrue, OnOk, vec_capacity, vec_len};
 ghost use Rattle.std.specs.Io.KnownBytes.{Keeps, append_known};
 ghost use Rattle.numeral.specs.declared.gathering.TheConstants.{ROOM};
 
@@ -76,6 +76,8 @@ impl<W: Sink> Sink for Gathering<W> {
     ghost failed = { λ g. W.failed g.inner };
 
     ghost holds_back = { λ g. not (vec_len g.room == 0) || W.holds_back g.inner };
+
+    ghost flush_failed = { λ g. vec_len g.room == 0 && W.flush_failed g.inner };
 
     fn write(&mut self, bytes: &[u8]) -> Result<usize, DeviceFault> {
         if self.gather(bytes) {

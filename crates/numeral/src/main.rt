@@ -10,6 +10,7 @@
 mod answer;
 mod decimal;
 pub mod device;
+mod empty_reads;
 pub mod engine;
 pub mod fault;
 mod gathering;

@@ -1,7 +1,9 @@
 ghost use Rattle.std.specs.Prelude.{◌≡◌, ◌==◌, ◌<◌, ◌≤◌, ◌-◌, Some, min, length, unwrap_or, false, is_err, IfOk, OnOk};
 ghost use Rattle.std.specs.Io.KnownBytes.{ReadConsumes};
+ghost use Rattle.numeral.specs.Reads.{Counts};
 
 use crate::device::Source;
+use crate::empty_reads::EmptyReads;
 use crate::fault::DeviceFault;
 
 /// The bytes of a lent slice.
@@ -14,6 +16,7 @@ pub struct MemorySource<'a> {
     // which call from now on fails; 0 for none
     fails_in: u64,
     failed: bool,
+    empty: EmptyReads,
     ghost gives_some: { 0 < most },
 }
 
@@ -24,6 +27,8 @@ impl<'a> MemorySource<'a> {
         requires { 0 < most }
         ensures remaining { result.rest.now ≡ bytes.now }
         ensures works { result.failed ≡ false }
+        ensures count { result.empty.count ≡ 0 }
+        ensures ended { result.empty.ended ≡ false }
         ensures most { result.most ≡ most }
         ensures failing { result.fails_in ≡ unwrap_or failing 0 }
     {
@@ -32,6 +37,7 @@ impl<'a> MemorySource<'a> {
             most,
             fails_in: failing.unwrap_or(0),
             failed: false,
+            empty: EmptyReads::none(),
         }
     }
 }
@@ -43,6 +49,10 @@ impl Source for MemorySource<'_> {
 
     ghost reads_left = { λ s. length s.rest.now };
 
+    ghost empty_reads = { λ s. s.empty.count };
+
+    ghost ended = { λ s. s.empty.ended };
+
     fn read(&mut self, buffer: &mut [u8]) -> Result<usize, DeviceFault>
         requires room { 0 < length buffer.old }
         requires works { self.old.failed ≡ false }
@@ -50,8 +60,9 @@ impl Source for MemorySource<'_> {
         ensures fails { self.new.failed ≡ is_err result }
         ensures bytes { ReadConsumes (Some self.old.rest.now) (Some self.new.rest.now) result buffer.new }
         ensures ends { IfOk result (λ n. 0 < n → length self.new.rest.now < length self.old.rest.now) }
+        ensures counts { Counts self.old.empty.count self.new.empty.count self.old.empty.ended self.new.empty.ended result }
         ensures only { is_err result ≡ (self.old.fails_in == 1) }
-        ensures counts { OnOk result (self.new.fails_in ≡ self.old.fails_in - 1) }
+        ensures falls { OnOk result (self.new.fails_in ≡ self.old.fails_in - 1) }
         ensures most { IfOk result (λ n. n ≡ min (min (length self.old.rest.now) (length buffer.old)) self.old.most) }
         ensures same { self.new.most ≡ self.old.most }
     {
@@ -64,6 +75,7 @@ impl Source for MemorySource<'_> {
         let (front, rest) = self.rest.split_at(count);
         buffer[..count].copy_from_slice(front);
         self.rest = rest;
+        self.empty.note(count);
         Ok(count)
     }
 

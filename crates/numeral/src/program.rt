@@ -1,7 +1,7 @@
 // What the program does with its input and output.
 ghost use Rattle.std.specs.Prelude.{◌≡◌, ◌≤◌, ◌||◌, ℕ, List, true, false, IfSome};
 ghost use Rattle.std.specs.Io.KnownBytes.{Consumes};
-ghost use Rattle.numeral.specs.Leaves.{Wrote, WroteBeginning, WroteFirst};
+ghost use Rattle.numeral.specs.Leaves.{Wrote, WroteBeginning, WroteFirst, EndedOnce, EndedAtMostOnce};
 ghost use Rattle.numeral.specs.Lines.{lines};
 
 use crate::device::{Sink, Source};
@@ -11,10 +11,10 @@ use std::alloc::Global;
 
 /// Answers the lines of the reader on the writer, hands all of it on, and gives the status of the program.
 ///
-/// What was written is a beginning of the answers to the lines read, and none of it is held back unless the writer
-/// failed. After 0 neither failed, the input was read to its end, and what was written is exactly the answers to
-/// its lines. 1 comes only where the reader or the writer failed. After 2 the answers to the first k lines read
-/// were written, whole, and a further line was read.
+/// What was written is a beginning of the answers to the lines read, and none of it is held back unless a write or
+/// the last flush failed. After a read that gave nothing no more is read. After 0 nothing failed, the input was read
+/// to its end, and what was written is exactly the answers to its lines. 1 comes only where a read, a write or the
+/// last flush failed. After 2 the answers to the first k lines read were written, whole, and a further line was read.
 pub(crate) fn answer_all<R: Source, W: Sink>(alloc: Global, reader: &mut R, writer: &mut W) -> u8
     requires reads { R.failed reader.old ≡ false }
     requires writes { W.failed writer.old ≡ false }
@@ -23,9 +23,11 @@ pub(crate) fn answer_all<R: Source, W: Sink>(alloc: Global, reader: &mut R, writ
         × WroteBeginning (W.contents writer.old) (W.contents writer.new) (lines bytes) }
     ensures whole { result ≡ 0 → IfSome (R.remaining reader.old) (λ input.
         Wrote (W.contents writer.old) (W.contents writer.new) (lines input)) }
-    ensures out { W.failed writer.new ≡ false → W.holds_back writer.new ≡ false }
-    ensures works { result ≡ 0 → (R.failed reader.new || W.failed writer.new) ≡ false }
-    ensures fault { result ≡ 1 → (R.failed reader.new || W.failed writer.new) ≡ true }
+    ensures ended { result ≡ 0 → EndedOnce (R.empty_reads reader.old) (R.empty_reads reader.new) (R.ended reader.new) }
+    ensures stops { EndedAtMostOnce (R.empty_reads reader.old) (R.empty_reads reader.new) (R.ended reader.new) }
+    ensures out { W.holds_back writer.new ≡ true → (W.failed writer.new || W.flush_failed writer.new) ≡ true }
+    ensures works { result ≡ 0 → (R.failed reader.new || W.failed writer.new || W.flush_failed writer.new) ≡ false }
+    ensures fault { result ≡ 1 → (R.failed reader.new || W.failed writer.new || W.flush_failed writer.new) ≡ true }
     ensures memory { result ≡ 2 → (bytes : List ℕ)
         × Consumes (R.remaining reader.old) (R.remaining reader.new) bytes
         × WroteFirst (W.contents writer.old) (W.contents writer.new) bytes }

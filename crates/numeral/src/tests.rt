@@ -1,6 +1,7 @@
 // What no clause says: that the worked lines are answered as they should be, and what a run leaves at each fault.
 mod devices;
 mod faults;
+mod flushing;
 mod rows;
 mod unit_rows;
 

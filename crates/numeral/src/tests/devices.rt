@@ -2,6 +2,7 @@
 ghost use Rattle.std.specs.Prelude.{None, false};
 
 use crate::device::{Sink, Source};
+use crate::empty_reads::EmptyReads;
 use crate::engine::run;
 use crate::fault::{DeviceFault, RunError};
 use crate::gathering::Gathering;
@@ -115,31 +116,6 @@ impl Write for Counting<'_> {
     }
 }
 
-// Cannot be flushed.
-#[derive(Drop)]
-struct Stuck;
-
-impl Write for Stuck {
-    fn write(&mut self, bytes: &[u8]) -> io::Result<usize> {
-        Ok(bytes.len())
-    }
-
-    fn flush(&mut self) -> io::Result<()> {
-        Err(io::Error::from(ErrorKind::Other))
-    }
-}
-
-#[test]
-fn a_failed_flush_is_a_fault(rt: HostRuntime) {
-    let mut device = Device::new(Stuck);
-    assert_eq!(rt; device.write(b"hello"), Ok(5));
-    assert_eq!(rt; device.flush(), Err(DeviceFault));
-    assert!(rt; Sink::has_failed(&device));
-    let mut reader = MemorySource::new(b"hello", 9, None);
-    let mut writer = Device::new(Stuck);
-    assert_eq!(rt; answer_all(rt.alloc(), &mut reader, &mut writer), 1);
-}
-
 // A flush is the writer's own, and many answers go out in one write before the read that follows.
 #[test]
 fn answers_go_out_together(rt: HostRuntime) -> Result<(), Fail> {
@@ -179,6 +155,7 @@ fn the_program_over_memory(rt: HostRuntime) {
 #[derive(Drop)]
 struct LongLine {
     left: usize,
+    empty: EmptyReads,
 }
 
 impl Source for LongLine {
@@ -188,6 +165,10 @@ impl Source for LongLine {
 
     ghost reads_left = { λ source. source.left };
 
+    ghost empty_reads = { λ source. source.empty.count };
+
+    ghost ended = { λ source. source.empty.ended };
+
     fn read(&mut self, buffer: &mut [u8]) -> Result<usize, DeviceFault> {
         let count = self.left.min(buffer.len());
         let (front, _) = buffer.split_at_mut(count);
@@ -195,6 +176,7 @@ impl Source for LongLine {
             *byte = b'1';
         }
         self.left -= count;
+        self.empty.note(count);
         Ok(count)
     }
 
@@ -206,7 +188,11 @@ impl Source for LongLine {
 #[test]
 fn a_line_of_fifty_million_bytes(rt: HostRuntime) {
     let mut writer = MemorySink::new(9, None);
-    let outcome = run(rt.alloc(), &mut LongLine { left: 50_000_000 }, &mut writer);
+    let mut reader = LongLine {
+        left: 50_000_000,
+        empty: EmptyReads::none(),
+    };
+    let outcome = run(rt.alloc(), &mut reader, &mut writer);
     assert_eq!(rt; outcome, Ok(()));
     assert!(rt; writer.bytes() == b"bad line\n".as_slice());
 }

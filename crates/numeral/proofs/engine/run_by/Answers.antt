@@ -1,4 +1,4 @@
-use Rattle.std.proofs.Common.{◌≡◌, ◌++◌, [], take, ap, ◌∙◌, subst, append-nil, arith}
+use Rattle.std.proofs.Common.{◌≡◌, ◌++◌, [], take, ap, ◌∙◌, subst, append-nil, arith, rules, refl}
 use Rattle.std.proofs.lemmas.Result.{err_from_is_err_and}
 use Rattle.std.specs.Io.KnownBytes.{Consumes}
 use Rattle.std.proofs.KnownBytes.{Consumes-nil, Consumes-trans}
@@ -7,7 +7,7 @@ use Rattle.numeral.proofs.engine.run_by.Goals as goal
 
 pub reads-init : goal.reads-init
 reads-init g c =
-    ([], Consumes-nil _, rw c.new.ensures.items (State-start _ [] tt), c.requires.reads, c.requires.writes)
+    ([], Consumes-nil _, rw c.new.ensures.items (State-start _ [] tt), c.requires.reads, c.requires.writes, refl)
 
 pub feed-requires-clause-unended : goal.feed-requires-clause-unended
 feed-requires-clause-unended g c = State-no_feed _ _ c.reads.invariant.0 _ c.reads.invariant.2
@@ -22,10 +22,11 @@ reads-preserved g c =
       State-more _ _ _ i.0 c.reads.room.line.items c.filled.result.now c.feed.new.room.line.items flushed w.0 w.1,
       c.in_ok-count.ensures.fails.0,
       w.2,
+      search rules,
     )
 
-pub returns-in_err-feed : goal.returns-in_err-feed
-returns-in_err-feed g c =
+pub returns-in_err-feed-clause-leaves : goal.returns-in_err-feed-clause-leaves
+returns-in_err-feed-clause-leaves g c =
     let i = c.reads.invariant in
     let flushed = State-flushed _ _ _ i.0 _ i.2 c.read_more.ensures.kept in
     let p = err_from_is_err_and c.from_residual-in_err-feed.result c.from_residual-in_err-feed.ensures.1 in (
@@ -35,8 +36,8 @@ returns-in_err-feed g c =
           (Leaves-fed (Unit {0}) (Unit {0}) _ _ _ _ _ _ i.0 c.reads.room.line.items c.filled.result.now c.feed.new.room.line.items _ flushed c.in_ok-count.ensures.fails.0 c.in_err-feed.ensures),
     )
 
-pub returns : goal.returns
-returns g c =
+pub returns-clause-leaves : goal.returns-clause-leaves
+returns-clause-leaves g c =
     let i = c.reads.invariant in
     let flushed = State-flushed _ _ _ i.0 _ i.2 c.read_more.ensures.kept in
     let e : take c.in_ok-count.count c.read_more.new.block ≡ [] = ap (λ n. take n c.read_more.new.block) c.if-count-eq0.true in (

@@ -1,0 +1,54 @@
+// A writer that takes every write and cannot be flushed: no write fails, and the program's last flush tells.
+use crate::device::Sink;
+use crate::engine::run;
+use crate::fault::DeviceFault;
+use crate::gathering::Gathering;
+use crate::memory_source::MemorySource;
+use crate::program::answer_all;
+use crate::std_device::Device;
+use std::cell::Cell;
+use std::io;
+use std::io::{ErrorKind, Write};
+use std::test::Fail;
+
+// Shows the front of the last write, and cannot be flushed.
+#[derive(Drop)]
+struct Stuck<'a> {
+    last: &'a Cell<[u8; 9]>,
+}
+
+impl Write for Stuck<'_> {
+    fn write(&mut self, bytes: &[u8]) -> io::Result<usize> {
+        let mut last = [0; 9];
+        for (place, byte) in last.iter_mut().zip(bytes) {
+            *place = *byte;
+        }
+        self.last.set(last);
+        Ok(bytes.len())
+    }
+
+    fn flush(&mut self) -> io::Result<()> {
+        Err(io::Error::from(ErrorKind::Other))
+    }
+}
+
+#[test]
+fn a_failed_flush_is_no_failed_write(rt: HostRuntime) {
+    let last = Cell::new([0; 9]);
+    let mut reader = MemorySource::new(b"hello", 9, None);
+    let mut writer = Device::new(Stuck { last: &last });
+    assert_eq!(rt; run(rt.alloc(), &mut reader, &mut writer), Ok(()));
+    assert_eq!(rt; last.get(), *b"bad line\n");
+    assert_eq!(rt; writer.flush(), Err(DeviceFault));
+    assert!(rt; !Sink::has_failed(&writer));
+}
+
+#[test]
+fn a_failed_flush_at_the_end_is_status_one(rt: HostRuntime) -> Result<(), Fail> {
+    let last = Cell::new([0; 9]);
+    let mut reader = MemorySource::new(b"hello", 9, None);
+    let mut writer = Gathering::new(rt.alloc(), Device::new(Stuck { last: &last }))?;
+    assert_eq!(rt; answer_all(rt.alloc(), &mut reader, &mut writer), 1);
+    assert_eq!(rt; last.get(), *b"bad line\n");
+    Ok(())
+}
