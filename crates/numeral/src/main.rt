@@ -13,6 +13,7 @@ pub mod device;
 pub mod engine;
 pub mod fault;
 mod gathering;
+pub mod laws;
 mod lines;
 pub mod memory_sink;
 pub mod memory_source;
