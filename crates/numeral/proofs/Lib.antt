@@ -6,3 +6,4 @@ pub mod Characters
 pub mod Strides
 pub mod Decimals
 pub mod Gathered
+pub mod OneAnswer

@@ -45,7 +45,7 @@ AreReplies-append [] ys a b p q = subst (AreReplies ys) (ap (λ l. l ++ b) (sym 
 AreReplies-append (x ∷ xs) ys a b p q =
     (p.0, p.1 ++ b, p.2, AreReplies-append xs ys p.1 b p.3 q, ap (λ l. l ++ b) p.4 ∙ append_assoc p.0 (10 ∷ p.1) b)
 
-some_replies : (lines : List (List ℕ)) → (bytes : List ℕ) × AreReplies lines bytes
+pub some_replies : (lines : List (List ℕ)) → (bytes : List ℕ) × AreReplies lines bytes
 some_replies [] = ([], refl)
 some_replies (line ∷ lines) =
     let first = some_answer line in

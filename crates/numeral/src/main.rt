@@ -14,6 +14,7 @@ mod empty_reads;
 pub mod engine;
 pub mod fault;
 mod gathering;
+pub mod laws;
 mod lines;
 pub mod memory_sink;
 pub mod memory_source;

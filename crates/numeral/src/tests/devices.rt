@@ -1,5 +1,5 @@
 // Devices over std readers and writers, and a source that is made on the spot.
-ghost use Rattle.std.specs.Prelude.{None, false};
+ghost use Rattle.std.specs.Prelude.{◌≡◌, None, false};
 
 use crate::device::{Sink, Source};
 use crate::empty_reads::EmptyReads;
@@ -13,6 +13,7 @@ use crate::std_device::Device;
 use std::cell::Cell;
 use std::io;
 use std::io::{ErrorKind, Read, Write};
+use std::process::Abort;
 use std::test::Fail;
 
 // Takes nothing.
@@ -61,38 +62,49 @@ impl Read for Interrupted {
     }
 }
 
-#[test]
-fn a_writer_that_takes_nothing(rt: HostRuntime) {
-    let mut reader = MemorySource::new(b"hello", 9, None);
-    let outcome = run(rt.alloc(), &mut reader, &mut Device::new(Full));
-    assert_eq!(rt; outcome, Err(RunError::Write));
+// Asserts what a run over these devices answers.
+fn ends<R: Source, W: Sink>(
+    rt: &(impl Abort + AllocGlobal),
+    reader: &mut R,
+    writer: &mut W,
+    wanted: Result<(), RunError>,
+)
+    requires reads { R.failed reader.old ≡ false }
+    requires writes { W.failed writer.old ≡ false }
+{
+    assert_eq!(rt; run(rt.alloc(), reader, writer), wanted);
 }
 
 #[test]
-fn an_interrupted_call_is_a_fault(rt: HostRuntime) -> Result<(), Fail> {
+fn a_writer_that_takes_nothing(rt: HostRuntime) {
+    let mut reader = MemorySource::new(b"hello", 9, None);
+    ends(
+        &rt,
+        &mut reader,
+        &mut Device::new(Full),
+        Err(RunError::Write),
+    );
+}
+
+#[test]
+fn an_interrupted_call_is_a_fault(rt: HostRuntime) {
     let mut reader = MemorySource::new(b"hello", 9, None);
     let mut writer = Device::new(Interrupted { calls: 0 });
-    assert_eq!(rt;
-        run(rt.alloc(), &mut reader, &mut writer),
-        Err(RunError::Write)
-    );
+    ends(&rt, &mut reader, &mut writer, Err(RunError::Write));
     let mut reader = Device::new(Interrupted { calls: 0 });
     let mut writer = MemorySink::new(9, None);
-    assert_eq!(rt;
-        run(rt.alloc(), &mut reader, &mut writer),
-        Err(RunError::Read)
-    );
+    ends(&rt, &mut reader, &mut writer, Err(RunError::Read));
+}
 
-    // Under gathered output the write comes with the next flush: before a read, or at the end.
+// Under gathered output the write comes with the next flush: before a read, or at the end.
+#[test]
+fn an_interrupted_flush_is_a_fault(rt: HostRuntime) -> Result<(), Fail> {
     let mut reader = MemorySource::new(b"hello\n", 9, None);
     let mut writer = Gathering::new(rt.alloc(), Device::new(Interrupted { calls: 0 }))?;
-    assert_eq!(rt;
-        run(rt.alloc(), &mut reader, &mut writer),
-        Err(RunError::Write)
-    );
+    ends(&rt, &mut reader, &mut writer, Err(RunError::Write));
     let mut reader = MemorySource::new(b"hello", 9, None);
     let mut writer = Gathering::new(rt.alloc(), Device::new(Interrupted { calls: 0 }))?;
-    assert_eq!(rt; run(rt.alloc(), &mut reader, &mut writer), Ok(()));
+    ends(&rt, &mut reader, &mut writer, Ok(()));
     assert_eq!(rt; writer.flush(), Err(DeviceFault));
     Ok(())
 }
@@ -134,21 +146,26 @@ fn answers_go_out_together(rt: HostRuntime) -> Result<(), Fail> {
     Ok(())
 }
 
+// The most bytes that a read moves and the read that fails, the same of writes, the status and what is written.
+type Program = (usize, Option<u64>, usize, Option<u64>, u8, &'static str);
+
+static PROGRAMS: [Program; 3] = [
+    (9, None, 9, None, 0, "ok 1\nbad line\n"),
+    (99, Some(2), 9, None, 1, "ok 1\n"),
+    (99, None, 1, Some(5), 1, "ok 1"),
+];
+
 // The program over memory: its status, and what it wrote.
 #[test]
 fn the_program_over_memory(rt: HostRuntime) {
-    let mut reader = MemorySource::new("read u8 naive 一\nhello".as_bytes(), 9, None);
-    let mut writer = MemorySink::new(9, None);
-    assert_eq!(rt; answer_all(rt.alloc(), &mut reader, &mut writer), 0);
-    assert!(rt; writer.bytes() == b"ok 1\nbad line\n".as_slice());
-    let mut reader = MemorySource::new("read u8 naive 一\nhello".as_bytes(), 99, Some(2));
-    let mut writer = MemorySink::new(9, None);
-    assert_eq!(rt; answer_all(rt.alloc(), &mut reader, &mut writer), 1);
-    assert!(rt; writer.bytes() == b"ok 1\n".as_slice());
-    let mut reader = MemorySource::new("read u8 naive 一\nhello".as_bytes(), 99, None);
-    let mut writer = MemorySink::new(1, Some(5));
-    assert_eq!(rt; answer_all(rt.alloc(), &mut reader, &mut writer), 1);
-    assert!(rt; writer.bytes() == b"ok 1".as_slice());
+    let input = "read u8 naive 一\nhello".as_bytes();
+    for (read_most, read_fails, write_most, write_fails, wanted, output) in &PROGRAMS {
+        assert!(rt; *read_most > 0 && *write_most > 0);
+        let mut reader = MemorySource::new(input, *read_most, *read_fails);
+        let mut writer = MemorySink::new(*write_most, *write_fails);
+        assert_eq!(rt; answer_all(rt.alloc(), &mut reader, &mut writer), *wanted);
+        assert!(rt; writer.bytes() == output.as_bytes());
+    }
 }
 
 // So many bytes without a line feed.

@@ -1,8 +1,8 @@
 // Worked lines of numerals with units.
-use super::answered;
-use std::test::Fail;
+use super::answers_rows;
+use std::alloc::AllocError;
 
-const ROWS: [(&str, &str); 24] = [
+static ROWS: [(&str, &str); 24] = [
     ("read u64 ten_thousand 一百二", "ok 120"),
     ("print i8 low traditional upper 123", "ok 壹佰貳拾參"),
     ("read i8 low ", "err a chinese number cannot be empty"),
@@ -51,26 +51,6 @@ const ROWS: [(&str, &str); 24] = [
 ];
 
 #[test]
-fn answers_each_unit_row(rt: HostRuntime) -> Result<(), Fail> {
-    let mut input = String::new(rt.alloc());
-    let mut output = String::new(rt.alloc());
-    for (line, answer) in ROWS {
-        input.push_str(line)?;
-        input.push('\n')?;
-        output.push_str(answer)?;
-        output.push('\n')?;
-    }
-    for most in [1, 7, 4096] {
-        let (written, outcome) = answered(&rt, input.as_bytes(), most, None, None);
-        assert_eq!(rt; outcome, Ok(()), "by {most}");
-        assert!(rt; written.bytes() == output.as_bytes(), "by {most}");
-    }
-    Ok(())
-}
-
-#[test]
-fn answers_a_line_that_no_feed_ends(rt: HostRuntime) {
-    let (written, outcome) = answered(&rt, b"print u8 low traditional lower 10", 7, None, None);
-    assert_eq!(rt; outcome, Ok(()));
-    assert!(rt; written.bytes() == b"ok \xe5\x8d\x81\n".as_slice());
+fn answers_each_unit_row(rt: HostRuntime) -> Result<(), AllocError> {
+    answers_rows(&rt, &ROWS, &[1, 7, 4096])
 }

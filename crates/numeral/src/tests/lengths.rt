@@ -1,0 +1,78 @@
+// Long lines and long numbers. A contract allows want of memory at any time, so it alone rules out no body that gives
+// up at some length.
+use super::{answers_rows, ends_well};
+use std::alloc::AllocError;
+
+// The greatest `u128`, which has 39 digits.
+static FULL: [(&str, &str); 8] = [
+    (
+        "print u128 naive traditional lower 340282366920938463463374607431768211455",
+        "ok 三四零二八二三六六九二零九三八四六三四六三三七四六零七四三一七六八二一一四五五",
+    ),
+    (
+        "read u128 naive 三四零二八二三六六九二零九三八四六三四六三三七四六零七四三一七六八二一一四五五",
+        "ok 340282366920938463463374607431768211455",
+    ),
+    (
+        "print u128 ten_thousand traditional lower 340282366920938463463374607431768211455",
+        "ok 三百四十澗二千八百二十三溝六千六百九十二穰零九百三十八秭四千六百三十四垓六千三百三十七京四千六百零七兆四千三百一十七億六千八百二十一萬一千四百五十五",
+    ),
+    (
+        "read u128 ten_thousand 三百四十澗二千八百二十三溝六千六百九十二穰零九百三十八秭四千六百三十四垓六千三百三十七京四千六百零七兆四千三百一十七億六千八百二十一萬一千四百五十五",
+        "ok 340282366920938463463374607431768211455",
+    ),
+    (
+        "print u128 middle traditional lower 340282366920938463463374607431768211455",
+        "ok 三百四十萬二千八百二十三垓六千六百九十二萬零九百三十八京四千六百三十四萬六千三百三十七兆四千六百零七萬四千三百一十七億六千八百二十一萬一千四百五十五",
+    ),
+    (
+        "read u128 middle 三百四十萬二千八百二十三垓六千六百九十二萬零九百三十八京四千六百三十四萬六千三百三十七兆四千六百零七萬四千三百一十七億六千八百二十一萬一千四百五十五",
+        "ok 340282366920938463463374607431768211455",
+    ),
+    (
+        "print u128 high traditional lower 340282366920938463463374607431768211455",
+        "ok 三百四十萬二千八百二十三京六千六百九十二萬零九百三十八億四千六百三十四萬六千三百三十七兆四千六百零七萬四千三百一十七億六千八百二十一萬一千四百五十五",
+    ),
+    (
+        "read u128 high 三百四十萬二千八百二十三京六千六百九十二萬零九百三十八億四千六百三十四萬六千三百三十七兆四千六百零七萬四千三百一十七億六千八百二十一萬一千四百五十五",
+        "ok 340282366920938463463374607431768211455",
+    ),
+];
+
+#[test]
+fn answers_full_length_numbers(rt: HostRuntime) -> Result<(), AllocError> {
+    answers_rows(&rt, &FULL, &[7, 4096])
+}
+
+// A line's start, what stands in it 10,000 times, its end, and the answer.
+static LONG: [(&str, &str, &str, &str); 6] = [
+    ("read u128 naive ", "零", "五", "ok 5\n"),
+    (
+        "read u128 naive ",
+        "零",
+        "x",
+        "err the chinese number is incorrect (position: 10000)\n",
+    ),
+    ("read u128 naive ", " ", "五", "ok 5\n"),
+    ("read u128 ten_thousand 一百", "零", "五", "ok 105\n"),
+    (
+        "read u128 ten_thousand ",
+        " ",
+        "二十十",
+        "err the chinese number is incorrect (position: 10001)\n",
+    ),
+    ("print u128 low traditional lower ", "0", "7", "ok 七\n"),
+];
+
+#[test]
+fn answers_long_lines(rt: HostRuntime) -> Result<(), AllocError> {
+    for (start, repeated, end, answer) in &LONG {
+        let mut line = String::from_str(rt.alloc(), start)?;
+        for _ in 0..10_000 {
+            line.push_str(repeated)?;
+        }
+        line.push_str(end)?;
+        ends_well(&rt, line.as_bytes(), 4096, answer.as_bytes());
+    }
+    Ok(())
+}
