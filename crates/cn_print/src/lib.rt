@@ -19,8 +19,6 @@ mod print;
 mod room;
 mod sign;
 mod spell;
-#[cfg(test)]
-mod tests;
 mod units;
 
 pub use error::NumberToChineseError;

@@ -9,8 +9,6 @@ mod naive;
 mod naive_readers;
 mod open_units;
 mod sign;
-#[cfg(test)]
-mod tests;
 mod text;
 mod to_number;
 mod typed;
