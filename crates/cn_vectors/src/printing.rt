@@ -3,6 +3,7 @@ use crate::calls::{print_i128, print_u128, writes};
 use chinese_number::ChineseCase::{Lower, Upper};
 use chinese_number::ChineseCountMethod::{High, Low, Middle, TenThousand};
 use chinese_number::ChineseVariant::{Simple, Traditional};
+use chinese_number::NumberToChineseError::{Overflow, Underflow};
 use chinese_number::{
     ChineseCase, ChineseCountMethod, ChineseVariant, NumberToChinese, NumberToChineseError,
     from_i8_to_chinese, from_i16_to_chinese, from_i32_to_chinese_low,
@@ -10,6 +11,7 @@ use chinese_number::{
     from_u16_to_chinese, from_u64_to_chinese_low, from_u64_to_chinese_ten_thousand,
     from_u128_to_chinese_low,
 };
+use std::process::Abort;
 use std::test::Fail;
 
 // The least `i128` by `TenThousand`.
@@ -168,23 +170,32 @@ fn as_16_and_32_bits(rt: HostRuntime) {
     );
 }
 
+// Refused with this error.
+fn refuses(
+    rt: &impl Abort,
+    printed: Result<String, NumberToChineseError>,
+    wanted: NumberToChineseError,
+) {
+    assert_eq!(rt; printed.err(), Some(wanted));
+}
+
 #[test]
 fn low_refuses_from_its_limit_on(rt: HostRuntime) {
     let alloc = rt.alloc();
     let (large, small) = (10_000_000_000_000_000, -10_000_000_000_000_000);
-    let overflow = Some(NumberToChineseError::Overflow);
-    let underflow = Some(NumberToChineseError::Underflow);
-    let answer = from_u64_to_chinese_low(alloc, Traditional, Lower, large);
-    assert_eq!(rt; answer.err(), overflow);
-    assert_eq!(rt;
-        large.to_chinese(alloc, Traditional, Lower, Low).err(),
-        overflow
+    let by_name = from_u64_to_chinese_low(alloc, Traditional, Lower, large);
+    refuses(&rt, by_name, Overflow);
+    refuses(
+        &rt,
+        large.to_chinese(alloc, Traditional, Lower, Low),
+        Overflow,
     );
-    let answer = from_i64_to_chinese_low(alloc, Traditional, Lower, small);
-    assert_eq!(rt; answer.err(), underflow);
-    assert_eq!(rt;
-        small.to_chinese(alloc, Traditional, Lower, Low).err(),
-        underflow
+    let by_name = from_i64_to_chinese_low(alloc, Traditional, Lower, small);
+    refuses(&rt, by_name, Underflow);
+    refuses(
+        &rt,
+        small.to_chinese(alloc, Traditional, Lower, Low),
+        Underflow,
     );
 }
 
