@@ -1,18 +1,27 @@
-// To be preloaded into a program: refuses the one growth whose number, counted from 1, stands in the
-// environment as REFUSE, and says so on standard error.
+// To be preloaded into a program: refuses the growth whose number, counted from 1, stands in the environment as
+// REFUSE, and the next ones, as many as stand there as MORE. It says so on standard error, a line for each, with the
+// bytes that were asked for where the environment has SIZES.
 #define _GNU_SOURCE
 #include <dlfcn.h>
 #include <errno.h>
+#include <stdio.h>
 #include <stdlib.h>
 #include <unistd.h>
 
-static int is_refused(void) {
+static int is_refused(size_t size) {
     static long number = 0;
-    const char *refused = getenv("REFUSE");
-    if (refused == NULL || ++number != atol(refused)) {
+    const char *first = getenv("REFUSE");
+    const char *more = getenv("MORE");
+    if (first == NULL) {
         return 0;
     }
-    if (write(2, "refused\n", 8) != 8) {
+    long past = ++number - atol(first);
+    if (past < 0 || past > (more == NULL ? 0 : atol(more))) {
+        return 0;
+    }
+    char line[40];
+    int length = snprintf(line, sizeof line, getenv("SIZES") == NULL ? "refused\n" : "refused %zu\n", size);
+    if (write(2, line, length) != length) {
         _exit(99);
     }
     errno = ENOMEM;
@@ -21,15 +30,15 @@ static int is_refused(void) {
 
 void *malloc(size_t size) {
     void *(*next)(size_t) = (void *(*)(size_t))dlsym(RTLD_NEXT, "malloc");
-    return is_refused() ? NULL : next(size);
+    return is_refused(size) ? NULL : next(size);
 }
 
 void *calloc(size_t count, size_t size) {
     void *(*next)(size_t, size_t) = (void *(*)(size_t, size_t))dlsym(RTLD_NEXT, "calloc");
-    return is_refused() ? NULL : next(count, size);
+    return is_refused(count * size) ? NULL : next(count, size);
 }
 
 void *realloc(void *old, size_t size) {
     void *(*next)(void *, size_t) = (void *(*)(void *, size_t))dlsym(RTLD_NEXT, "realloc");
-    return is_refused() ? NULL : next(old, size);
+    return is_refused(size) ? NULL : next(old, size);
 }

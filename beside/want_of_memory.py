@@ -1,44 +1,56 @@
-"""Runs a program that prints a line for each call that takes memory, with each growth refused in turn.
+"""Runs a program that prints a line for each call that takes memory, with each growth refused in turn, by itself and
+with the next one.
 
     want_of_memory.py PROGRAM REFUSE_GROWTH.so
 
-With growth N refused, line N has to say that memory was short, and every other line has to stay as it is. At the end
-stand the calls that refuse their number by name: they ask for no memory.
+Each line has one growth, of exactly as many bytes as its text. Where that is refused the line has to say that memory
+was short, and every other line has to stay as it is; so a second growth of a line would be seen. At the end stand the
+calls that refuse their number by name: they ask for no memory.
 """
 
 import os
 import subprocess
 import sys
 
-SHORT = (": memory allocation failed", ": out of memory")
-BY_NAME = (": number is too large", ": number is too small")
+SHORT = ("memory allocation failed", "out of memory")
+BY_NAME = ("number is too large", "number is too small")
 
 
-def lines_with(program, library, number):
-    """What the program prints with this growth refused, and whether it asked for that growth."""
-    environment = dict(os.environ, LD_PRELOAD=library, REFUSE=str(number))
+def lines_with(program, library, first, more):
+    """What the program prints with these growths refused, as calls and answers, and how many bytes each asked for."""
+    environment = dict(os.environ, LD_PRELOAD=library, REFUSE=str(first), MORE=str(more), SIZES="1")
     run = subprocess.run([program], env=environment, capture_output=True, check=True)
-    return run.stdout.decode().splitlines(), run.stderr == b"refused\n"
+    sizes = [int(line.removeprefix("refused ")) for line in run.stderr.decode().splitlines()]
+    return [line.rsplit(": ", 1) for line in run.stdout.decode().splitlines()], sizes
+
+
+def check(ample, growing, first, refused):
+    """Holds a run against the one with ample memory, of which the first lines grow: the lines from this one on, as
+    many as were refused, are short of memory, and all others are as they were."""
+    lines, sizes = refused
+    hit = range(first - 1, min(first - 1 + len(sizes), growing))
+    if sizes != [len(ample[place][1].encode()) for place in hit]:
+        sys.exit(f"growth {first} refused: {sizes} bytes were asked for {[ample[place] for place in hit]}")
+    if len(lines) != len(ample):
+        sys.exit(f"growth {first} refused: {len(lines)} lines")
+    for place, ((call, answer), (name, text)) in enumerate(zip(lines, ample)):
+        if call != name or (answer not in SHORT if place in hit else answer != text):
+            sys.exit(f"growth {first} refused: {call}: {answer} in place of {name}: {text}")
 
 
 def main():
     program, library = sys.argv[1:]
-    ample, _ = lines_with(program, library, 0)
-    growing = [line for line in ample if not line.endswith(BY_NAME)]
-    if ample[: len(growing)] != growing:
+    ample, _ = lines_with(program, library, 0, 0)
+    growing = sum(answer not in BY_NAME for _, answer in ample)
+    if any(answer in BY_NAME for _, answer in ample[:growing]):
         sys.exit("a call that refuses its number by name stands among the others")
-    for number, line in enumerate(growing, start=1):
-        call = line.rsplit(":", 1)[0]
-        short, was_refused = lines_with(program, library, number)
-        told = short[number - 1]
-        if not was_refused or told not in [call + end for end in SHORT]:
-            sys.exit(f"growth {number} refused: {told!r} in place of {line!r}")
-        if short[: number - 1] + short[number:] != ample[: number - 1] + ample[number:]:
-            sys.exit(f"growth {number} refused: another line changed")
-    last, was_refused = lines_with(program, library, len(growing) + 1)
-    if was_refused or last != ample:
-        sys.exit(f"{program} asks for more than one growth for a line")
-    print(f"want of memory: {len(growing)} calls, each refused in turn")
+    for first in range(1, growing + 2):
+        for more in (0, 1):
+            refused = lines_with(program, library, first, more)
+            if len(refused[1]) != min(more + 1, growing + 1 - first):
+                sys.exit(f"{program} asks for more or less than one growth for a line, at growth {first}")
+            check(ample, growing, first, refused)
+    print(f"want of memory: {growing} calls, each with its one growth refused")
 
 
 main()

@@ -1,4 +1,3 @@
-pub mod Joining
 pub mod LeadingZeros
 pub mod Methods
 pub mod Numerals

@@ -4,8 +4,6 @@
 #![tactic(auto)]
 
 pub mod laws;
-#[cfg(test)]
-mod tests;
 
 pub use cn_core::ChineseCase;
 pub use cn_core::ChineseCountMethod;

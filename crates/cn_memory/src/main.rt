@@ -1,34 +1,15 @@
-//! Makes each call that takes memory once, and prints what came of it in a line: 1 in Chinese, or the error.
+//! Makes each call that takes memory once, and prints what came of it in a line: its text, or the error.
 //!
 //! Each line takes one growth, so that `beside/want_of_memory.py` can refuse them in turn. The last lines take
 //! none: they refuse their number by name.
 #![tactic(auto)]
 
-use chinese_number::{
-    ChineseCase, ChineseCountMethod, ChineseVariant, NumberToChinese, Whole, from_i8_to_chinese,
-    from_i8_to_chinese_naive, from_i16_to_chinese, from_i16_to_chinese_naive,
-    from_i32_to_chinese_high, from_i32_to_chinese_low, from_i32_to_chinese_middle,
-    from_i32_to_chinese_naive, from_i32_to_chinese_ten_thousand, from_i64_to_chinese_high,
-    from_i64_to_chinese_low, from_i64_to_chinese_middle, from_i64_to_chinese_naive,
-    from_i64_to_chinese_ten_thousand, from_i128_to_chinese_high, from_i128_to_chinese_low,
-    from_i128_to_chinese_middle, from_i128_to_chinese_naive, from_i128_to_chinese_ten_thousand,
-    from_isize_to_chinese_high, from_isize_to_chinese_low, from_isize_to_chinese_middle,
-    from_isize_to_chinese_naive, from_isize_to_chinese_ten_thousand, from_u8_to_chinese,
-    from_u8_to_chinese_naive, from_u16_to_chinese, from_u16_to_chinese_naive,
-    from_u32_to_chinese_high, from_u32_to_chinese_low, from_u32_to_chinese_middle,
-    from_u32_to_chinese_naive, from_u32_to_chinese_ten_thousand, from_u64_to_chinese_high,
-    from_u64_to_chinese_low, from_u64_to_chinese_middle, from_u64_to_chinese_naive,
-    from_u64_to_chinese_ten_thousand, from_u128_to_chinese_high, from_u128_to_chinese_low,
-    from_u128_to_chinese_middle, from_u128_to_chinese_naive, from_u128_to_chinese_ten_thousand,
-    from_usize_to_chinese_high, from_usize_to_chinese_low, from_usize_to_chinese_middle,
-    from_usize_to_chinese_naive, from_usize_to_chinese_ten_thousand,
-};
+use chinese_number::ChineseCase::Lower;
+use chinese_number::ChineseCountMethod::{High, Low, Middle, TenThousand};
+use chinese_number::ChineseVariant::Traditional;
+use chinese_number::{ChineseCountMethod, NumberToChinese};
 use std::fmt::Display;
 use std::io;
-
-const SCRIPT: ChineseVariant = ChineseVariant::Traditional;
-
-const CASE: ChineseCase = ChineseCase::Lower;
 
 // Prints what came of a call, in a line of its own.
 fn show<E: Display + Drop>(
@@ -42,322 +23,149 @@ fn show<E: Display + Drop>(
     }
 }
 
-// The free naive printers.
-fn naive(rt: &(impl Print + AllocGlobal)) -> io::Result<()> {
-    let alloc = rt.alloc();
-    show(
-        rt,
-        "from_u8_to_chinese_naive",
-        from_u8_to_chinese_naive(alloc, SCRIPT, CASE, 1),
-    )?;
-    show(
-        rt,
-        "from_u16_to_chinese_naive",
-        from_u16_to_chinese_naive(alloc, SCRIPT, CASE, 1),
-    )?;
-    show(
-        rt,
-        "from_u32_to_chinese_naive",
-        from_u32_to_chinese_naive(alloc, SCRIPT, CASE, 1),
-    )?;
-    show(
-        rt,
-        "from_u64_to_chinese_naive",
-        from_u64_to_chinese_naive(alloc, SCRIPT, CASE, 1),
-    )?;
-    show(
-        rt,
-        "from_u128_to_chinese_naive",
-        from_u128_to_chinese_naive(alloc, SCRIPT, CASE, 1),
-    )?;
-    show(
-        rt,
-        "from_usize_to_chinese_naive",
-        from_usize_to_chinese_naive(alloc, SCRIPT, CASE, 1),
-    )?;
-    show(
-        rt,
-        "from_i8_to_chinese_naive",
-        from_i8_to_chinese_naive(alloc, SCRIPT, CASE, 1),
-    )?;
-    show(
-        rt,
-        "from_i16_to_chinese_naive",
-        from_i16_to_chinese_naive(alloc, SCRIPT, CASE, 1),
-    )?;
-    show(
-        rt,
-        "from_i32_to_chinese_naive",
-        from_i32_to_chinese_naive(alloc, SCRIPT, CASE, 1),
-    )?;
-    show(
-        rt,
-        "from_i64_to_chinese_naive",
-        from_i64_to_chinese_naive(alloc, SCRIPT, CASE, 1),
-    )?;
-    show(
-        rt,
-        "from_i128_to_chinese_naive",
-        from_i128_to_chinese_naive(alloc, SCRIPT, CASE, 1),
-    )?;
-    show(
-        rt,
-        "from_isize_to_chinese_naive",
-        from_isize_to_chinese_naive(alloc, SCRIPT, CASE, 1),
-    )
-}
-
-// The free unit printers of 8 to 32 bits.
-fn small(rt: &(impl Print + AllocGlobal)) -> io::Result<()> {
-    let alloc = rt.alloc();
-    show(
-        rt,
-        "from_u8_to_chinese",
-        from_u8_to_chinese(alloc, SCRIPT, CASE, 1),
-    )?;
-    show(
-        rt,
-        "from_u16_to_chinese",
-        from_u16_to_chinese(alloc, SCRIPT, CASE, 1),
-    )?;
-    show(
-        rt,
-        "from_u32_to_chinese_low",
-        from_u32_to_chinese_low(alloc, SCRIPT, CASE, 1),
-    )?;
-    show(
-        rt,
-        "from_u32_to_chinese_ten_thousand",
-        from_u32_to_chinese_ten_thousand(alloc, SCRIPT, CASE, 1),
-    )?;
-    show(
-        rt,
-        "from_u32_to_chinese_middle",
-        from_u32_to_chinese_middle(alloc, SCRIPT, CASE, 1),
-    )?;
-    show(
-        rt,
-        "from_u32_to_chinese_high",
-        from_u32_to_chinese_high(alloc, SCRIPT, CASE, 1),
-    )?;
-    show(
-        rt,
-        "from_i8_to_chinese",
-        from_i8_to_chinese(alloc, SCRIPT, CASE, 1),
-    )?;
-    show(
-        rt,
-        "from_i16_to_chinese",
-        from_i16_to_chinese(alloc, SCRIPT, CASE, 1),
-    )?;
-    show(
-        rt,
-        "from_i32_to_chinese_low",
-        from_i32_to_chinese_low(alloc, SCRIPT, CASE, 1),
-    )?;
-    show(
-        rt,
-        "from_i32_to_chinese_ten_thousand",
-        from_i32_to_chinese_ten_thousand(alloc, SCRIPT, CASE, 1),
-    )?;
-    show(
-        rt,
-        "from_i32_to_chinese_middle",
-        from_i32_to_chinese_middle(alloc, SCRIPT, CASE, 1),
-    )?;
-    show(
-        rt,
-        "from_i32_to_chinese_high",
-        from_i32_to_chinese_high(alloc, SCRIPT, CASE, 1),
-    )
-}
-
-// The free unit printers of wide unsigned types.
-fn wide_unsigned(rt: &(impl Print + AllocGlobal)) -> io::Result<()> {
-    let alloc = rt.alloc();
-    show(
-        rt,
-        "from_u64_to_chinese_low",
-        from_u64_to_chinese_low(alloc, SCRIPT, CASE, 1),
-    )?;
-    show(
-        rt,
-        "from_u64_to_chinese_ten_thousand",
-        from_u64_to_chinese_ten_thousand(alloc, SCRIPT, CASE, 1),
-    )?;
-    show(
-        rt,
-        "from_u64_to_chinese_middle",
-        from_u64_to_chinese_middle(alloc, SCRIPT, CASE, 1),
-    )?;
-    show(
-        rt,
-        "from_u64_to_chinese_high",
-        from_u64_to_chinese_high(alloc, SCRIPT, CASE, 1),
-    )?;
-    show(
-        rt,
-        "from_u128_to_chinese_low",
-        from_u128_to_chinese_low(alloc, SCRIPT, CASE, 1),
-    )?;
-    show(
-        rt,
-        "from_u128_to_chinese_ten_thousand",
-        from_u128_to_chinese_ten_thousand(alloc, SCRIPT, CASE, 1),
-    )?;
-    show(
-        rt,
-        "from_u128_to_chinese_middle",
-        from_u128_to_chinese_middle(alloc, SCRIPT, CASE, 1),
-    )?;
-    show(
-        rt,
-        "from_u128_to_chinese_high",
-        from_u128_to_chinese_high(alloc, SCRIPT, CASE, 1),
-    )?;
-    show(
-        rt,
-        "from_usize_to_chinese_low",
-        from_usize_to_chinese_low(alloc, SCRIPT, CASE, 1),
-    )?;
-    show(
-        rt,
-        "from_usize_to_chinese_ten_thousand",
-        from_usize_to_chinese_ten_thousand(alloc, SCRIPT, CASE, 1),
-    )?;
-    show(
-        rt,
-        "from_usize_to_chinese_middle",
-        from_usize_to_chinese_middle(alloc, SCRIPT, CASE, 1),
-    )?;
-    show(
-        rt,
-        "from_usize_to_chinese_high",
-        from_usize_to_chinese_high(alloc, SCRIPT, CASE, 1),
-    )
-}
-
-// The free unit printers of wide signed types.
-fn wide_signed(rt: &(impl Print + AllocGlobal)) -> io::Result<()> {
-    let alloc = rt.alloc();
-    show(
-        rt,
-        "from_i64_to_chinese_low",
-        from_i64_to_chinese_low(alloc, SCRIPT, CASE, 1),
-    )?;
-    show(
-        rt,
-        "from_i64_to_chinese_ten_thousand",
-        from_i64_to_chinese_ten_thousand(alloc, SCRIPT, CASE, 1),
-    )?;
-    show(
-        rt,
-        "from_i64_to_chinese_middle",
-        from_i64_to_chinese_middle(alloc, SCRIPT, CASE, 1),
-    )?;
-    show(
-        rt,
-        "from_i64_to_chinese_high",
-        from_i64_to_chinese_high(alloc, SCRIPT, CASE, 1),
-    )?;
-    show(
-        rt,
-        "from_i128_to_chinese_low",
-        from_i128_to_chinese_low(alloc, SCRIPT, CASE, 1),
-    )?;
-    show(
-        rt,
-        "from_i128_to_chinese_ten_thousand",
-        from_i128_to_chinese_ten_thousand(alloc, SCRIPT, CASE, 1),
-    )?;
-    show(
-        rt,
-        "from_i128_to_chinese_middle",
-        from_i128_to_chinese_middle(alloc, SCRIPT, CASE, 1),
-    )?;
-    show(
-        rt,
-        "from_i128_to_chinese_high",
-        from_i128_to_chinese_high(alloc, SCRIPT, CASE, 1),
-    )?;
-    show(
-        rt,
-        "from_isize_to_chinese_low",
-        from_isize_to_chinese_low(alloc, SCRIPT, CASE, 1),
-    )?;
-    show(
-        rt,
-        "from_isize_to_chinese_ten_thousand",
-        from_isize_to_chinese_ten_thousand(alloc, SCRIPT, CASE, 1),
-    )?;
-    show(
-        rt,
-        "from_isize_to_chinese_middle",
-        from_isize_to_chinese_middle(alloc, SCRIPT, CASE, 1),
-    )?;
-    show(
-        rt,
-        "from_isize_to_chinese_high",
-        from_isize_to_chinese_high(alloc, SCRIPT, CASE, 1),
-    )
-}
-
-// The calls of the trait for one type.
-fn by_trait<T: Whole>(rt: &(impl Print + AllocGlobal), name: &str) -> io::Result<()> {
-    let Some(one) = T::from_magnitude(false, 1) else {
-        return Ok(());
+// A line for each of these printers, by name, with what it makes of a number.
+macro_rules! show_each {
+    ($rt:ident, $number:expr; $($printer:ident)+) => {
+        $(
+            let outcome = chinese_number::$printer($rt.alloc(), Traditional, Lower, $number);
+            show($rt, stringify!($printer), outcome)?;
+        )+
     };
-    for method in ChineseCountMethod::variants() {
-        show(
-            rt,
-            format_args!("{name}.to_chinese"),
-            one.to_chinese(rt.alloc(), SCRIPT, CASE, method),
-        )?;
-    }
-    show(
-        rt,
-        format_args!("{name}.to_chinese_naive"),
-        one.to_chinese_naive(rt.alloc(), SCRIPT, CASE),
-    )
 }
+
+fn naive(rt: &(impl Print + AllocGlobal)) -> io::Result<()> {
+    show_each!(rt, 1;
+        from_u8_to_chinese_naive from_u16_to_chinese_naive from_u32_to_chinese_naive
+        from_u64_to_chinese_naive from_u128_to_chinese_naive from_usize_to_chinese_naive
+        from_i8_to_chinese_naive from_i16_to_chinese_naive from_i32_to_chinese_naive
+        from_i64_to_chinese_naive from_i128_to_chinese_naive from_isize_to_chinese_naive
+    );
+    Ok(())
+}
+
+fn low(rt: &(impl Print + AllocGlobal)) -> io::Result<()> {
+    show_each!(rt, 1;
+        from_u8_to_chinese from_u16_to_chinese from_u32_to_chinese_low from_u64_to_chinese_low
+        from_u128_to_chinese_low from_usize_to_chinese_low from_i8_to_chinese from_i16_to_chinese
+        from_i32_to_chinese_low from_i64_to_chinese_low from_i128_to_chinese_low
+        from_isize_to_chinese_low
+    );
+    Ok(())
+}
+
+fn ten_thousand(rt: &(impl Print + AllocGlobal)) -> io::Result<()> {
+    show_each!(rt, 1;
+        from_u32_to_chinese_ten_thousand from_u64_to_chinese_ten_thousand
+        from_u128_to_chinese_ten_thousand from_usize_to_chinese_ten_thousand
+        from_i32_to_chinese_ten_thousand from_i64_to_chinese_ten_thousand
+        from_i128_to_chinese_ten_thousand from_isize_to_chinese_ten_thousand
+    );
+    Ok(())
+}
+
+fn middle(rt: &(impl Print + AllocGlobal)) -> io::Result<()> {
+    show_each!(rt, 1;
+        from_u32_to_chinese_middle from_u64_to_chinese_middle from_u128_to_chinese_middle
+        from_usize_to_chinese_middle from_i32_to_chinese_middle from_i64_to_chinese_middle
+        from_i128_to_chinese_middle from_isize_to_chinese_middle
+    );
+    Ok(())
+}
+
+fn high(rt: &(impl Print + AllocGlobal)) -> io::Result<()> {
+    show_each!(rt, 1;
+        from_u32_to_chinese_high from_u64_to_chinese_high from_u128_to_chinese_high
+        from_usize_to_chinese_high from_i32_to_chinese_high from_i64_to_chinese_high
+        from_i128_to_chinese_high from_isize_to_chinese_high
+    );
+    Ok(())
+}
+
+// A number by the trait, with units.
+fn by_units<T: NumberToChinese>(
+    rt: &(impl Print + AllocGlobal),
+    name: &str,
+    number: T,
+    method: ChineseCountMethod,
+) -> io::Result<()> {
+    let outcome = number.to_chinese(rt.alloc(), Traditional, Lower, method);
+    show(rt, format_args!("{name}.to_chinese"), outcome)
+}
+
+// A number by the trait, as plain digits.
+fn by_digits<T: NumberToChinese>(
+    rt: &(impl Print + AllocGlobal),
+    name: &str,
+    number: T,
+) -> io::Result<()> {
+    let outcome = number.to_chinese_naive(rt.alloc(), Traditional, Lower);
+    show(rt, format_args!("{name}.to_chinese_naive"), outcome)
+}
+
+// All that the trait prints of a number of one character.
+fn by_trait<T: NumberToChinese>(
+    rt: &(impl Print + AllocGlobal),
+    name: &str,
+    number: T,
+) -> io::Result<()> {
+    for method in ChineseCountMethod::variants() {
+        by_units(rt, name, number, method)?;
+    }
+    by_digits(rt, name, number)
+}
+
+fn one_at_each_type(rt: &(impl Print + AllocGlobal)) -> io::Result<()> {
+    by_trait(rt, "u8", 1u8)?;
+    by_trait(rt, "u16", 1u16)?;
+    by_trait(rt, "u32", 1u32)?;
+    by_trait(rt, "u64", 1u64)?;
+    by_trait(rt, "u128", 1u128)?;
+    by_trait(rt, "usize", 1usize)?;
+    by_trait(rt, "i8", 1i8)?;
+    by_trait(rt, "i16", 1i16)?;
+    by_trait(rt, "i32", 1i32)?;
+    by_trait(rt, "i64", 1i64)?;
+    by_trait(rt, "i128", 1i128)?;
+    by_trait(rt, "isize", 1isize)
+}
+
+// The shortest and the longest texts, by name.
+fn ends_by_name(rt: &(impl Print + AllocGlobal)) -> io::Result<()> {
+    show_each!(rt, 0; from_u8_to_chinese from_u8_to_chinese_naive);
+    show_each!(rt, MOST_BY_LOW; from_u64_to_chinese_low);
+    show_each!(rt, i128::MIN; from_i128_to_chinese_ten_thousand from_i128_to_chinese_naive);
+    show_each!(rt, u128::MAX; from_u128_to_chinese_middle from_u128_to_chinese_high);
+    Ok(())
+}
+
+// The same, by the trait.
+fn ends_by_trait(rt: &(impl Print + AllocGlobal)) -> io::Result<()> {
+    by_trait(rt, "u8", 0u8)?;
+    by_units(rt, "u64", MOST_BY_LOW, Low)?;
+    by_units(rt, "i128", i128::MIN, TenThousand)?;
+    by_digits(rt, "i128", i128::MIN)?;
+    by_units(rt, "u128", u128::MAX, Middle)?;
+    by_units(rt, "u128", u128::MAX, High)
+}
+
+// The greatest number that `Low` prints.
+const MOST_BY_LOW: u64 = 9_999_999_999_999_999;
 
 // The calls that refuse their number before they ask for memory.
-fn by_name(rt: &(impl Print + AllocGlobal)) -> io::Result<()> {
-    let alloc = rt.alloc();
-    let limit = 10_000_000_000_000_000;
-    show(
-        rt,
-        "from_u64_to_chinese_low",
-        from_u64_to_chinese_low(alloc, SCRIPT, CASE, limit),
-    )?;
-    show(
-        rt,
-        "from_i64_to_chinese_low",
-        from_i64_to_chinese_low(alloc, SCRIPT, CASE, -10_000_000_000_000_000),
-    )?;
-    show(
-        rt,
-        "u64.to_chinese",
-        limit.to_chinese(alloc, SCRIPT, CASE, ChineseCountMethod::Low),
-    )
+fn refused(rt: &(impl Print + AllocGlobal)) -> io::Result<()> {
+    show_each!(rt, MOST_BY_LOW + 1; from_u64_to_chinese_low);
+    show_each!(rt, -10_000_000_000_000_000; from_i64_to_chinese_low);
+    by_units(rt, "u64", MOST_BY_LOW + 1, Low)
 }
 
 fn main(rt: HostRuntime) -> io::Result<()> {
     naive(&rt)?;
-    small(&rt)?;
-    wide_unsigned(&rt)?;
-    wide_signed(&rt)?;
-    by_trait::<u8>(&rt, "u8")?;
-    by_trait::<u16>(&rt, "u16")?;
-    by_trait::<u32>(&rt, "u32")?;
-    by_trait::<u64>(&rt, "u64")?;
-    by_trait::<u128>(&rt, "u128")?;
-    by_trait::<usize>(&rt, "usize")?;
-    by_trait::<i8>(&rt, "i8")?;
-    by_trait::<i16>(&rt, "i16")?;
-    by_trait::<i32>(&rt, "i32")?;
-    by_trait::<i64>(&rt, "i64")?;
-    by_trait::<i128>(&rt, "i128")?;
-    by_trait::<isize>(&rt, "isize")?;
-    by_name(&rt)
+    low(&rt)?;
+    ten_thousand(&rt)?;
+    middle(&rt)?;
+    high(&rt)?;
+    one_at_each_type(&rt)?;
+    ends_by_name(&rt)?;
+    ends_by_trait(&rt)?;
+    refused(&rt)
 }

@@ -8,8 +8,6 @@ mod free_middle;
 mod free_naive;
 mod free_ten_thousand;
 mod number_to_chinese;
-#[cfg(test)]
-mod tests;
 
 pub use cn_spell::NumberToChineseError;
 pub use free_high::{

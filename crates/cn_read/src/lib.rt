@@ -3,8 +3,6 @@
 #![tactic(auto)]
 
 mod naive_readers;
-#[cfg(test)]
-mod tests;
 mod to_number;
 mod unit_readers;
 

@@ -1,71 +1,99 @@
-// The free calls of the widest types, by a method that is a value.
-use chinese_number::{
-    ChineseCase, ChineseCountMethod, ChineseToNumber, ChineseToNumberError, ChineseVariant,
-    NumberToChineseError, Whole, from_chinese_to_i128_high, from_chinese_to_i128_low,
-    from_chinese_to_i128_middle, from_chinese_to_i128_ten_thousand, from_chinese_to_u128_high,
-    from_chinese_to_u128_low, from_chinese_to_u128_middle, from_chinese_to_u128_ten_thousand,
-    from_i128_to_chinese_high, from_i128_to_chinese_low, from_i128_to_chinese_middle,
-    from_i128_to_chinese_ten_thousand, from_u128_to_chinese_high, from_u128_to_chinese_low,
-    from_u128_to_chinese_middle, from_u128_to_chinese_ten_thousand,
-};
+// The free calls of a type by a method that is a value, and what they answer.
+use chinese_number::ChineseCase::Lower;
+use chinese_number::ChineseCountMethod::{High, Low, Middle, TenThousand};
+use chinese_number::ChineseVariant::Traditional;
+use chinese_number::{ChineseCountMethod, ChineseToNumberError, NumberToChineseError};
 use std::alloc::Global;
+use std::fmt::Debug;
+use std::process::Abort;
 
-const SCRIPT: ChineseVariant = ChineseVariant::Traditional;
+pub type Answer<T> = Result<T, ChineseToNumberError>;
 
-const CASE: ChineseCase = ChineseCase::Lower;
+pub type Printed = Result<String, NumberToChineseError>;
 
-pub fn read_u128(method: ChineseCountMethod, text: &str) -> Result<u128, ChineseToNumberError> {
-    match method {
-        ChineseCountMethod::Low => from_chinese_to_u128_low(text),
-        ChineseCountMethod::TenThousand => from_chinese_to_u128_ten_thousand(text),
-        ChineseCountMethod::Middle => from_chinese_to_u128_middle(text),
-        ChineseCountMethod::High => from_chinese_to_u128_high(text),
-    }
+macro_rules! by_method {
+    ($method:ident, $low:ident, $ten_thousand:ident, $middle:ident, $high:ident, $($argument:expr),+) => {
+        Ok(match $method {
+            Low => chinese_number::$low($($argument),+)?,
+            TenThousand => chinese_number::$ten_thousand($($argument),+)?,
+            Middle => chinese_number::$middle($($argument),+)?,
+            High => chinese_number::$high($($argument),+)?,
+        })
+    };
 }
 
-pub fn print_u128(
-    alloc: Global,
-    method: ChineseCountMethod,
-    number: u128,
-) -> Result<String, NumberToChineseError> {
-    Ok(match method {
-        ChineseCountMethod::Low => from_u128_to_chinese_low(alloc, SCRIPT, CASE, number)?,
-        ChineseCountMethod::TenThousand => {
-            from_u128_to_chinese_ten_thousand(alloc, SCRIPT, CASE, number)?
-        }
-        ChineseCountMethod::Middle => from_u128_to_chinese_middle(alloc, SCRIPT, CASE, number)?,
-        ChineseCountMethod::High => from_u128_to_chinese_high(alloc, SCRIPT, CASE, number)?,
-    })
+pub fn read_u64(method: ChineseCountMethod, text: &str) -> Answer<u64> {
+    by_method!(
+        method,
+        from_chinese_to_u64_low,
+        from_chinese_to_u64_ten_thousand,
+        from_chinese_to_u64_middle,
+        from_chinese_to_u64_high,
+        text
+    )
 }
 
-pub fn read_i128(method: ChineseCountMethod, text: &str) -> Result<i128, ChineseToNumberError> {
-    match method {
-        ChineseCountMethod::Low => from_chinese_to_i128_low(text),
-        ChineseCountMethod::TenThousand => from_chinese_to_i128_ten_thousand(text),
-        ChineseCountMethod::Middle => from_chinese_to_i128_middle(text),
-        ChineseCountMethod::High => from_chinese_to_i128_high(text),
-    }
+pub fn read_u128(method: ChineseCountMethod, text: &str) -> Answer<u128> {
+    by_method!(
+        method,
+        from_chinese_to_u128_low,
+        from_chinese_to_u128_ten_thousand,
+        from_chinese_to_u128_middle,
+        from_chinese_to_u128_high,
+        text
+    )
 }
 
-pub fn print_i128(
-    alloc: Global,
-    method: ChineseCountMethod,
-    number: i128,
-) -> Result<String, NumberToChineseError> {
-    Ok(match method {
-        ChineseCountMethod::Low => from_i128_to_chinese_low(alloc, SCRIPT, CASE, number)?,
-        ChineseCountMethod::TenThousand => {
-            from_i128_to_chinese_ten_thousand(alloc, SCRIPT, CASE, number)?
-        }
-        ChineseCountMethod::Middle => from_i128_to_chinese_middle(alloc, SCRIPT, CASE, number)?,
-        ChineseCountMethod::High => from_i128_to_chinese_high(alloc, SCRIPT, CASE, number)?,
-    })
+pub fn read_i128(method: ChineseCountMethod, text: &str) -> Answer<i128> {
+    by_method!(
+        method,
+        from_chinese_to_i128_low,
+        from_chinese_to_i128_ten_thousand,
+        from_chinese_to_i128_middle,
+        from_chinese_to_i128_high,
+        text
+    )
 }
 
-/// Reads by the trait.
-pub fn to_number<T: Whole>(
-    method: ChineseCountMethod,
+pub fn print_u128(alloc: Global, method: ChineseCountMethod, number: u128) -> Printed {
+    by_method!(
+        method,
+        from_u128_to_chinese_low,
+        from_u128_to_chinese_ten_thousand,
+        from_u128_to_chinese_middle,
+        from_u128_to_chinese_high,
+        alloc,
+        Traditional,
+        Lower,
+        number
+    )
+}
+
+pub fn print_i128(alloc: Global, method: ChineseCountMethod, number: i128) -> Printed {
+    by_method!(
+        method,
+        from_i128_to_chinese_low,
+        from_i128_to_chinese_ten_thousand,
+        from_i128_to_chinese_middle,
+        from_i128_to_chinese_high,
+        alloc,
+        Traditional,
+        Lower,
+        number
+    )
+}
+
+// What a reader answers to a text is this answer.
+pub fn reads<T: Copy + PartialEq + Debug>(
+    rt: &impl Abort,
     text: &str,
-) -> Result<T, ChineseToNumberError> {
-    text.to_number(method)
+    answer: Answer<T>,
+    wanted: &Answer<T>,
+) {
+    assert_eq!(rt; answer, *wanted, "{text}");
+}
+
+// What a printer writes is this text.
+pub fn writes<E: Debug + Drop>(rt: &impl Abort, printed: Result<String, E>, text: &str) {
+    assert_eq!(rt; printed.expect(rt, text).as_str(), text);
 }

@@ -1,19 +1,24 @@
-//! Worked examples, and the upstream crate's vectors, by the public calls.
+//! Tests alone, by the public calls: worked examples, the upstream crate's vectors, and callers who print and read
+//! back.
 #![tactic(auto)]
 
 #[cfg(test)]
 mod calls;
 #[cfg(test)]
+mod each_printer;
+#[cfg(test)]
+mod error_texts;
+#[cfg(test)]
 mod long;
-#[cfg(test)]
-mod naive;
-#[cfg(test)]
-mod ones;
 #[cfg(test)]
 mod printing;
 #[cfg(test)]
-mod reading;
+mod printing_digits;
+#[cfg(test)]
+mod reading_back;
 #[cfg(test)]
 mod scales;
 #[cfg(test)]
-mod upstream;
+mod upstream_printing;
+#[cfg(test)]
+mod without_memory;

@@ -1,7 +1,7 @@
 use Rattle.std.proofs.Common.{encode_utf8_all, string_bytes}
-use Rattle.cn_core.specs.Written.{naive_text}
-use Rattle.chinese_number.proofs.Joining.{naive_result_is}
-use Rattle.chinese_number.proofs.tests.print_and_read_naive.Goals as goal
+use Rattle.chinese_number.specs.Written.{naive_text}
+use Rattle.cn_vectors.proofs.Joining.{naive_result_is}
+use Rattle.cn_vectors.proofs.reading_back.print_and_read_naive.Goals as goal
 
 pub returns : goal.returns
 returns g c =

@@ -1,0 +1,126 @@
+// A caller who prints and then reads gets the number back, by the contracts alone.
+ghost use Rattle.std.specs.Prelude.{◌≡◌, Ok, IfOk};
+
+use chinese_number::laws::{naive_texts_read_back, spellings_read_back};
+use chinese_number::{
+    ChineseCase, ChineseCountMethod, ChineseToNumber, ChineseToNumberError, ChineseVariant,
+    NumberToChinese, NumberToChineseError,
+};
+use std::alloc::{AllocError, Global};
+use std::fmt::Debug;
+use std::process::Abort;
+use std::test::Fail;
+
+fn print_and_read<T: NumberToChinese>(
+    alloc: Global,
+    variant: ChineseVariant,
+    case: ChineseCase,
+    method: ChineseCountMethod,
+    number: T,
+) -> Result<Result<T, ChineseToNumberError>, NumberToChineseError>
+    ensures { IfOk result (λ answer. answer ≡ Ok number) }
+{
+    let _magnitude = number.magnitude();
+    spellings_read_back::<T>();
+    let text = number.to_chinese(alloc, variant, case, method)?;
+    Ok(text.as_str().to_number(method))
+}
+
+fn print_and_read_naive<T: NumberToChinese>(
+    alloc: Global,
+    variant: ChineseVariant,
+    case: ChineseCase,
+    number: T,
+) -> Result<Result<T, ChineseToNumberError>, AllocError>
+    ensures { IfOk result (λ answer. answer ≡ Ok number) }
+{
+    let _magnitude = number.magnitude();
+    naive_texts_read_back::<T>();
+    let text = number.to_chinese_naive(alloc, variant, case)?;
+    Ok(text.as_str().to_number_naive())
+}
+
+static PAIRS: [(ChineseVariant, ChineseCase); 4] = [
+    (ChineseVariant::Traditional, ChineseCase::Upper),
+    (ChineseVariant::Traditional, ChineseCase::Lower),
+    (ChineseVariant::Simple, ChineseCase::Upper),
+    (ChineseVariant::Simple, ChineseCase::Lower),
+];
+
+// All texts of a number are read as it: digit by digit and by each method, in each script and case. `Low` writes none
+// from 10^16 on.
+fn reads_back<T: NumberToChinese + PartialEq + Debug>(
+    rt: &(impl Abort + AllocGlobal),
+    number: T,
+) -> Result<(), Fail> {
+    let past_low = number.magnitude() >= 10_000_000_000_000_000;
+    for (variant, case) in &PAIRS {
+        let read = print_and_read_naive(rt.alloc(), *variant, *case, number)?;
+        assert_eq!(rt; read, Ok(number));
+        for method in ChineseCountMethod::variants() {
+            if method != ChineseCountMethod::Low || !past_low {
+                let read = print_and_read(rt.alloc(), *variant, *case, method, number)?;
+                assert_eq!(rt; read, Ok(number), "{method:?}");
+            }
+        }
+    }
+    Ok(())
+}
+
+static WORKED: [u128; 5] = [
+    1_234_567_890_123_456_789,
+    10_001_000_000_000_000,
+    1_000_100_000_000,
+    100_100_000,
+    100_000,
+];
+
+#[test]
+fn worked_numbers(rt: HostRuntime) -> Result<(), Fail> {
+    for number in &WORKED {
+        reads_back(&rt, *number)?;
+    }
+    Ok(())
+}
+
+// What the proof shows, as the compilers built it.
+#[test]
+fn every_narrow_number(rt: HostRuntime) -> Result<(), Fail> {
+    for number in u8::MIN..=u8::MAX {
+        reads_back(&rt, number)?;
+    }
+    for number in i8::MIN..=i8::MAX {
+        reads_back(&rt, number)?;
+    }
+    for number in u16::MIN..=u16::MAX {
+        reads_back(&rt, number)?;
+    }
+    for number in i16::MIN..=i16::MAX {
+        reads_back(&rt, number)?;
+    }
+    Ok(())
+}
+
+// The least and the greatest number of a type.
+fn reads_back_ends<T: NumberToChinese + PartialEq + Debug>(
+    rt: &(impl Abort + AllocGlobal),
+) -> Result<(), Fail> {
+    reads_back(rt, T::least())?;
+    reads_back(rt, T::greatest())
+}
+
+#[test]
+fn the_ends_of_each_type(rt: HostRuntime) -> Result<(), Fail> {
+    reads_back_ends::<u8>(&rt)?;
+    reads_back_ends::<u16>(&rt)?;
+    reads_back_ends::<u32>(&rt)?;
+    reads_back_ends::<u64>(&rt)?;
+    reads_back_ends::<u128>(&rt)?;
+    reads_back_ends::<usize>(&rt)?;
+    reads_back_ends::<i8>(&rt)?;
+    reads_back_ends::<i16>(&rt)?;
+    reads_back_ends::<i32>(&rt)?;
+    reads_back_ends::<i64>(&rt)?;
+    reads_back_ends::<i128>(&rt)?;
+    reads_back_ends::<isize>(&rt)
+}
