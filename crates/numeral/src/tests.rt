@@ -95,6 +95,11 @@ static ROWS: [(&str, &str); 51] = [
     ("hello", "bad line"),
 ];
 
+fn push_line(text: &mut String, line: &str) -> Result<(), AllocError> {
+    text.push_str(line)?;
+    text.push('\n')
+}
+
 // The first of these lines, each with its line feed, and their answers.
 fn first_rows(
     alloc: Global,
@@ -104,10 +109,8 @@ fn first_rows(
     let mut input = String::new(alloc);
     let mut output = String::new(alloc);
     for (line, answer) in rows.iter().take(count) {
-        input.push_str(line)?;
-        input.push('\n')?;
-        output.push_str(answer)?;
-        output.push('\n')?;
+        push_line(&mut input, line)?;
+        push_line(&mut output, answer)?;
     }
     Ok((input, output))
 }

@@ -3,30 +3,44 @@ use super::{Calls, ROWS, first_rows, leaves};
 use crate::fault::RunError;
 use crate::program_status::status;
 use std::alloc::AllocError;
+use std::process::Abort;
 
-// Each read fails in turn: the lines that had ended are answered.
+// The read of this number fails: the lines that had ended are answered.
+fn a_read_fails(
+    rt: &(impl Abort + AllocGlobal),
+    input: &[u8],
+    most: usize,
+    call: u64,
+) -> Result<(), AllocError> {
+    let read = input
+        .len()
+        .min((call as usize).saturating_sub(1).saturating_mul(most));
+    let (seen, _) = input.split_at(read);
+    let ended = seen.iter().filter(|byte| **byte == b'\n').count();
+    let (_, output) = first_rows(rt.alloc(), &ROWS, ended)?;
+    // a run comes to this call where the one before it gave a byte
+    let before = (call as usize).saturating_sub(2).saturating_mul(most);
+    let outcome = if before < input.len() {
+        Err(RunError::Read)
+    } else {
+        Ok(())
+    };
+    let calls = Calls {
+        most,
+        read_fails: Some(call),
+        write_fails: None,
+    };
+    leaves(rt, input, calls, outcome, output.as_bytes());
+    Ok(())
+}
+
+// Each read fails in turn.
 #[test]
 fn each_read_fails(rt: HostRuntime) -> Result<(), AllocError> {
     let (input, _) = first_rows(rt.alloc(), &ROWS, 9)?;
     for most in [1, 10, 100] {
         for call in 1..input.len() as u64 {
-            let read = input.len().min((call as usize - 1).saturating_mul(most));
-            let (seen, _) = input.as_bytes().split_at(read);
-            let ended = seen.iter().filter(|byte| **byte == b'\n').count();
-            let (_, output) = first_rows(rt.alloc(), &ROWS, ended)?;
-            let calls = Calls {
-                most,
-                read_fails: Some(call),
-                write_fails: None,
-            };
-            // a run comes to this call where the one before it gave a byte
-            let before = (call as usize).saturating_sub(2).saturating_mul(most);
-            let outcome = if before < input.len() {
-                Err(RunError::Read)
-            } else {
-                Ok(())
-            };
-            leaves(&rt, input.as_bytes(), calls, outcome, output.as_bytes());
+            a_read_fails(&rt, input.as_bytes(), most, call)?;
         }
     }
     Ok(())

@@ -41,7 +41,7 @@ static FULL: [(&str, &str); 8] = [
 
 #[test]
 fn answers_full_length_numbers(rt: HostRuntime) -> Result<(), AllocError> {
-    answers_rows(&rt, &FULL, &[7, 4096])
+    answers_rows(&rt, &FULL, &[1, 7, 4096])
 }
 
 // A line's start, what stands in it 10,000 times, its end, and the answer.
