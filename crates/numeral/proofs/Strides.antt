@@ -1,5 +1,5 @@
 -- The place of a byte, seen a stride at a time.
-use Rattle.std.proofs.Common.{◌≡◌, ◌≢◌, ◌+◌, ◌-◌, ◌<◌, ◌≤◌, ◌++◌, ℕ, suc, Bool, true, false, not, cond, eqb, List, [], ◌∷◌, refl, map, length, take, drop, get_or, rules, sym, ap, ◌∙◌, arith}
+use Rattle.std.proofs.Common.{◌≡◌, ◌≢◌, ◌+◌, ◌-◌, ◌<◌, ◌≤◌, ◌++◌, ℕ, suc, Bool, true, false, not, cond, eqb, ltb, List, [], ◌∷◌, refl, map, length, position, unwrap_or, take, drop, get_or, rules, sym, ap, ◌∙◌, arith}
 use Rattle.std.proofs.lemmas.Simd.{chunk-drop, first_set_mask_l}
 use Rattle.std.proofs.lemmas.List.Folds.{prefix_len-append}
 use Rattle.std.proofs.lemmas.List.Sums.{prefix_len-le-length, prefix_len_stops}
@@ -12,6 +12,14 @@ use Rattle.numeral.specs.Lines.{HasNoFeed}
 use Rattle.std.proofs.lemmas.Bool.{false≢true}
 use lib.Count.{count_trailing_zeros}
 use lib.Lanes.{mask_l}
+
+-- the first place that passes, or else the length
+pub first_or_length : (p : ℕ → Bool) (bytes : List ℕ) → unwrap_or (position p bytes) (length bytes) ≡ position_or_len p bytes
+first_or_length p bytes =
+    let most : position_or_len p bytes ≤ length bytes = prefix_len-le-length (λ b. not (p b)) bytes in
+    let go : (t : Bool) → ltb (position_or_len p bytes) (length bytes) ≡ t → unwrap_or (position p bytes) (length bytes) ≡ position_or_len p bytes =
+    elim [ true ↦ λ e. rw e refl | false ↦ λ e. rw e (search (rules, nat_tests, e, most)) ] in
+    go (ltb (position_or_len p bytes) (length bytes)) refl
 
 -- where no bit of the mask is set, the place is the length
 pub place_of_none : (p : ℕ → Bool) (xs : List ℕ) (n mask : ℕ) → length xs ≡ n → n ≤ 64 → mask ≡ mask_l (map p xs) → mask ≡ 0

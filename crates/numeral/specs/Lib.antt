@@ -1,5 +1,4 @@
 pub mod Answer
-pub mod Digits
 pub mod Leaves
 pub mod Lines
 pub mod Question

@@ -5,7 +5,6 @@ ghost use Rattle.chinese_number.specs.Answer.{answer_of};
 ghost use Rattle.numeral.specs.Question.{kind_of, read_question, print_question};
 ghost use Rattle.numeral.specs.Answer.{Answers, AnswersAny, AnswersRead, AnswersPrinting, bad_line, reading_text};
 
-use crate::decimal::put_decimal;
 use crate::numerals::{
     ChineseToNumber, ChineseToNumberError, NumberToChinese, NumberToChineseError, Whole,
 };
@@ -37,9 +36,9 @@ fn put_reading<T: Whole>(
 {
     match outcome {
         Ok(value) => {
-            let sign = if value.is_negative() { "ok -" } else { "ok " };
-            room.push_str(sign)?;
-            put_decimal(room, value.magnitude())
+            let sign = if value.is_negative() { "-" } else { "" };
+            let magnitude = value.magnitude();
+            write!(room, "ok {sign}{magnitude}")
         }
         Err(error) => put_refusal(room, error),
     }

@@ -8,7 +8,6 @@
 #![tactic(auto)]
 
 mod answer;
-mod decimal;
 pub mod device;
 mod empty_reads;
 pub mod engine;

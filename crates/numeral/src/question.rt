@@ -8,7 +8,7 @@ ghost use Rattle.numeral.specs.Answer.{bad_line, AnswersAny};
 ghost use Rattle.numeral.specs.Steps.{IsBeyondAll};
 
 use crate::numerals::{ChineseCase, ChineseCountMethod, ChineseVariant};
-use crate::search::near_place;
+use crate::search::first_place;
 use crate::text::text_of;
 
 /// The twelve integer types.
@@ -35,23 +35,11 @@ pub(crate) enum Method {
     Units(ChineseCountMethod),
 }
 
-// The place of the first space.
-fn first_space(bytes: &[u8]) -> Option<usize>
-    ensures { result ≡ position (λ byte. byte == 32) bytes.now }
-{
-    let place = near_place(b' ', bytes);
-    if place < bytes.len() {
-        Some(place)
-    } else {
-        None
-    }
-}
-
 /// The first field, which a space ends, and all that follows the space.
 pub(crate) fn cut(bytes: &[u8]) -> Option<(&[u8], &[u8])>
     ensures { MatchOption result (cut bytes.now ≡ None) (λ r. cut bytes.now ≡ Some (r.0.now, r.1.now)) }
 {
-    let Some(end) = first_space(bytes) else {
+    let Some(end) = first_place(b' ', bytes) else {
         return None;
     };
     Some((&bytes[..end], &bytes[end + 1..]))

@@ -1,9 +1,13 @@
-use Rattle.std.proofs.Common.{eqb}
-use Rattle.numeral.proofs.Strides.{place_further}
+use Rattle.std.proofs.Common.{eqb, length, not, unwrap_or, ap, ◌∙◌}
+use Rattle.std.proofs.lemmas.List.Sums.{prefix_len-le-length}
+use Rattle.numeral.proofs.Strides.{first_or_length}
 use Rattle.numeral.proofs.search.near_place.Goals as goal
 
-pub strides-preserved : goal.strides-preserved
-strides-preserved c =
-    let i = c.strides.invariant in
-    place_further (λ b. eqb b c.args.byte) c.args.bytes.now c.strides.start 16 _ c.in-Some.stride.now i.0 c.in-Some.ensures.cases
-    c.place_in_stride-place.ensures i.1 c.if-place-lt-STRIDE.false
+pub returns-clause-place : goal.returns-clause-place
+returns-clause-place c =
+    c.unwrap_or.ensures ∙ ap (λ r. unwrap_or r (length c.args.bytes.now)) c.first_place.ensures
+    ∙ first_or_length (λ b. eqb b c.args.byte) c.args.bytes.now
+
+pub returns-clause-bound : goal.returns-clause-bound
+returns-clause-bound c =
+    rw (returns-clause-place c) (prefix_len-le-length (λ b. not (eqb b c.args.byte)) c.args.bytes.now)

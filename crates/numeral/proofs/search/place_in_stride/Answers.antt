@@ -1,4 +1,4 @@
-use Rattle.std.proofs.Common.{◌≡◌, length, eqb, w8, arith, rules}
+use Rattle.std.proofs.Common.{◌≡◌, length, eqb, w8, arith}
 use Rattle.std.proofs.lemmas.Simd.{bitmask_splat}
 use Rattle.numeral.proofs.Strides.{place_of_none, place_of_some}
 use Rattle.numeral.proofs.search.place_in_stride.Goals as goal
@@ -6,11 +6,11 @@ use Rattle.numeral.proofs.search.place_in_stride.Goals as goal
 pub returns-then-found-eq0 : goal.returns-then-found-eq0
 returns-then-found-eq0 c =
     let stride = c.args.stride.now in
-    let long : length stride ≡ 16 = search rules in
-    place_of_none (λ b. eqb b c.args.byte) stride 16 _ long (omega arith) (bitmask_splat w8 eqb stride 16 c.args.byte long (omega arith)) c.if-found-eq0.true
+    let long : length stride ≡ 64 = c.told-stride in
+    place_of_none (λ b. eqb b c.args.byte) stride 64 _ long (omega arith) (bitmask_splat w8 eqb stride 64 c.args.byte long (omega arith)) c.if-found-eq0.true
 
 pub returns : goal.returns
 returns c =
     let stride = c.args.stride.now in
-    let long : length stride ≡ 16 = search rules in
-    place_of_some (λ b. eqb b c.args.byte) stride 16 _ long (omega arith) (bitmask_splat w8 eqb stride 16 c.args.byte long (omega arith)) c.if-found-eq0.false
+    let long : length stride ≡ 64 = c.told-stride in
+    place_of_some (λ b. eqb b c.args.byte) stride 64 _ long (omega arith) (bitmask_splat w8 eqb stride 64 c.args.byte long (omega arith)) c.if-found-eq0.false
