@@ -63,7 +63,7 @@ fn code_of(first: u8, second: u8, third: u8) -> u32
 #[inline(always)]
 pub fn split_last_of_three_bytes(text: &str) -> Option<(u32, &str)>
     ensures parts { IfSome result (λ r. chars text.now ≡ chars r.1.now ++ r.0 ∷ []) }
-    ensures shorter { IfSome result (λ r. length r.1.now < length text.now) }
+    ensures shorter { IfSome result (λ r. length r.1.now + 3 ≡ length text.now) }
 {
     let bytes = text.as_bytes();
     if bytes.len() < 3 {
