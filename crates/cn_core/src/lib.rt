@@ -16,7 +16,7 @@ pub use case::ChineseCase;
 pub use characters_read::{digit_of, sign_of, unit_of};
 pub use characters_written::{digit_char, minus_char, unit_char};
 pub use method::ChineseCountMethod;
-pub use scales::scale;
+pub use scales::{exponent, power_of_ten, scale};
 pub use script::ChineseVariant;
 pub use sign::Sign;
 pub use unit::Unit;

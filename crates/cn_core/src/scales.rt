@@ -47,8 +47,8 @@ static POWERS_OF_TEN: [u128; 39] = [
     100_000_000_000_000_000_000_000_000_000_000_000_000,
 ];
 
-// The exponent of the power of ten that a unit stands for.
-fn exponent(method: ChineseCountMethod, unit: Unit) -> usize
+/// The exponent of the power of ten that a unit stands for.
+pub fn exponent(method: ChineseCountMethod, unit: Unit) -> usize
     ensures { result ≡ exponent method (rank unit) }
 {
     let rank = unit as usize;
@@ -61,8 +61,8 @@ fn exponent(method: ChineseCountMethod, unit: Unit) -> usize
     }
 }
 
-// The power of ten with this exponent; `None` exactly where it does not fit `u128`.
-fn power_of_ten(exponent: usize) -> Option<u128>
+/// The power of ten with this exponent; `None` exactly where it does not fit `u128`.
+pub fn power_of_ten(exponent: usize) -> Option<u128>
     ensures { SomeIff result (exponent ≤ 38) (10 ^ exponent) }
 {
     POWERS_OF_TEN.get(exponent).copied()

@@ -16,7 +16,7 @@ use Rattle.cn_judge.specs.Private.Stack.{Sized, sized, total_sum}
 use Rattle.cn_judge.specs.Private.Walked.{IsWalked}
 use Rattle.cn_judge.proofs.Stacks.{total-sized}
 use Rattle.cn_judge.proofs.OpenSums.{total-value}
-use Rattle.cn_judge.proofs.Faults.{plain-walked}
+use Rattle.cn_judge.proofs.Faults.{plain, plain-walked}
 use Rattle.cn_judge.proofs.Steps.{sound-none}
 use Rattle.cn_judge.proofs.Tails.{judge-one, judge-two, judge-plain, judge-tail}
 use Rattle.cn_judge.proofs.WalkSteps.{digit-low, marks-length, marks-append}
@@ -61,14 +61,17 @@ fitting-some number sum h = let test : nat_lt sum (2 ^ 128) ≡ true = grind (ar
 pub fitting-none : (sum : ℕ) → ¬ (sum < 2 ^ 128) → fitting sum ≡ Err too_large
 fitting-none sum h = let test : nat_lt sum (2 ^ 128) ≡ false = grind (arith, nat_tests) in rw test
 
--- the answer where no mark stands apart
+-- where no mark stands apart, the marks are read as they stand
+pub judge-plain_end : (method : ChineseCountMethod) (first : Mark) (marks : List Mark) → HasNoTail marks → judge method (first ∷ marks) ≡ plain method (first ∷ marks)
+judge-plain_end method first [] (inl h) = judge-one method first
+judge-plain_end method first (m ∷ []) (inl h) = judge-two method first m
+judge-plain_end method first (m ∷ n ∷ marks) (inl h) = absurd (omega (arith, h))
+judge-plain_end method first marks (inr (front, second, last, parts, stands)) =
+    ap (λ l. judge method (first ∷ l)) parts ∙ judge-plain method first front second last stands ∙ ap (λ l. plain method (first ∷ l)) (sym parts)
+
+-- the answer then
 pub judge-no_tail : (method : ChineseCountMethod) (first : Mark) (marks : List Mark) → HasNoTail marks → judge method (first ∷ marks) ≡ walked_answer method first marks
-judge-no_tail method first [] (inl h) = judge-one method first ∙ plain-walked method first []
-judge-no_tail method first (m ∷ []) (inl h) = judge-two method first m ∙ plain-walked method first (m ∷ [])
-judge-no_tail method first (m ∷ n ∷ marks) (inl h) = absurd (omega (arith, h))
-judge-no_tail method first marks (inr (front, second, last, parts, stands)) =
-    ap (λ l. judge method (first ∷ l)) parts ∙ judge-plain method first front second last stands ∙ plain-walked method first (front ++ second ∷ last ∷ [])
-    ∙ ap (walked_answer method first) (sym parts)
+judge-no_tail method first marks h = judge-plain_end method first marks h ∙ plain-walked method first marks
 
 -- and where one does
 pub judge-has_tail : (method : ChineseCountMethod) (first : Mark) (marks before : List Mark) (rank : ℕ) (last : Mark) (place : ℕ) → HasTail marks before rank last

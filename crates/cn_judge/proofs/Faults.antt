@@ -1,5 +1,5 @@
 -- What a walk from the right finds at fault first, and that this is what the place and the early overflow name.
-use Rattle.std.proofs.Common.{◌≡◌, ℕ, suc, ◌+◌, ◌^◌, ◌≤◌, max, Bool, true, false, not, ◌&&◌, ◌||◌, nat_le, nat_lt, ◌==◌, List, [], ◌∷◌, drop, take_while, Option, Some, None, Result, Ok, Err, refl, sym, ap, ◌∙◌, arith, if◌then◌else◌}
+use Rattle.std.proofs.Common.{◌≡◌, ℕ, suc, ◌+◌, ◌^◌, ◌<◌, ◌≤◌, max, Bool, true, false, not, ◌&&◌, ◌||◌, nat_le, nat_lt, ◌==◌, List, [], ◌∷◌, drop, take_while, Option, Some, None, Result, Ok, Err, refl, sym, ap, ◌∙◌, arith, if◌then◌else◌}
 use Rattle.std.proofs.lemmas.Bool.Decides.{nat_tests}
 use Rattle.cn_core.specs.declared.method.ChineseCountMethod.{ChineseCountMethod}
 use Rattle.cn_core.specs.declared.method.ChineseCountMethod.TheVariants.{Low, TenThousand, Middle, High}
@@ -126,6 +126,12 @@ plain method marks =
     if is_numeral marks then (if not (some_unfit method marks) && nat_lt (value method (opened marks)) (2 ^ 128) then Ok (value method (opened marks)) else Err too_large)
     else judge_body method marks
 
+-- a numeral that fits
+pub plain-numeral : (method : ChineseCountMethod) (marks : List Mark) (number : ℕ) → is_numeral marks ≡ true → some_unfit method marks ≡ false
+    → value method (opened marks) ≡ number → number < 2 ^ 128 → plain method marks ≡ Ok number
+plain-numeral method marks number numeral fit same fits =
+    let test : nat_lt number (2 ^ 128) ≡ true = grind (arith, nat_tests) in rw (numeral, fit, same, test)
+
 pub numeral_tail : (mark : Mark) (rest : List Mark) → is_numeral (mark ∷ rest) ≡ true → each_may_precede rest ≡ true
 numeral_tail mark rest h = each-from_completable rest (mark ∷ [], omega arith, h)
 
@@ -136,7 +142,7 @@ ten_fits Middle = refl
 ten_fits High = refl
 
 -- a numeral's first mark fits
-numeral_fits : (method : ChineseCountMethod) (mark : Mark) (rest : List Mark) → is_numeral (mark ∷ rest) ≡ true → is_unfit method mark ≡ false
+pub numeral_fits : (method : ChineseCountMethod) (mark : Mark) (rest : List Mark) → is_numeral (mark ∷ rest) ≡ true → is_unfit method mark ≡ false
 numeral_fits method (digit number) rest h = refl
 numeral_fits method other rest h = cc
 numeral_fits method (unit rank) rest h = by (rank == 1) refl h where

@@ -1,5 +1,5 @@
 -- The table of marks has characters of three bytes, none of them white space, each with its own mark.
-use Rattle.std.proofs.Common.{◌≡◌, ℕ, ◌*◌, ◌/◌, ◌%◌, ◌<◌, ◌==◌, ◌&&◌, not, Bool, true, false, List, [], ◌∷◌, length, get_or, refl, ap, ◌∙◌, arith, zero, suc}
+use Rattle.std.proofs.Common.{◌≡◌, ℕ, ◌+◌, ◌-◌, ◌*◌, ◌/◌, ◌%◌, ◌<◌, ◌≤◌, nat_le, nat_lt, ◌==◌, ◌&&◌, not, Bool, true, false, List, [], ◌∷◌, length, get_or, Option, Some, None, IfSome, refl, ap, ◌∙◌, arith, zero, suc}
 use Rattle.std.specs.Char.{is_whitespace}
 use Rattle.std.specs.List.{list_all}
 use Rattle.std.proofs.lemmas.Bool.Decides.{nat_tests}
@@ -8,7 +8,7 @@ use Rattle.cn_core.specs.Mark.{Mark, digit, unit, other, mark_of}
 use Rattle.cn_core.proofs.Fronts.{and-left, and-right}
 use Rattle.cn_judge.specs.declared.mark.Mark.{Mark as ReadMark}
 use Rattle.cn_judge.specs.declared.mark.TheConstants.{MARKS}
-use Rattle.cn_judge.specs.Private.Marked.{marked}
+use Rattle.cn_judge.specs.Private.Marked.{IsKnown, marked}
 
 all_at : {X : Type 0} (p : X → Bool) (xs : List X) (i : ℕ) (d : X) → list_all p xs ≡ true → i < length xs → p (get_or xs i d) ≡ true
 all_at p [] i d h low = absurd (omega (arith, low))
@@ -39,9 +39,18 @@ same-is (unit a) other h = cc
 same-is other (digit b) h = cc
 same-is other (unit b) h = cc
 
--- an entry has its character's mark, and no white space
+-- the sum of three bytes by which a character's number is told, from their key
+abbrev sum_of_bytes : ℕ → ℕ
+sum_of_bytes key = key % 256 * 4096 + key / 256 % 256 * 64 + key / 65536
+
+abbrev code_of : ℕ → ℕ
+code_of key = sum_of_bytes key - 925824
+
+-- an entry's key is that of a character of three bytes, and no white space, with its own mark
 is_right : ℕ × ReadMark → Bool
-is_right entry = same (marked entry.1) (mark_of entry.0) && not (is_whitespace entry.0)
+is_right entry =
+    same (marked entry.1) (mark_of (code_of entry.0)) && not (is_whitespace (code_of entry.0)) && nat_le 925824 (sum_of_bytes entry.0)
+    && nat_le 224 (entry.0 % 256) && nat_lt (entry.0 % 256) 240
 
 all_right : list_all is_right MARKS ≡ true
 unfolding same is_right digit_of rank_of
@@ -51,17 +60,54 @@ is_false : (b : Bool) → not b ≡ true → b ≡ false
 is_false true h = cc
 is_false false h = refl
 
--- the slot of a character
+-- the slot of a key
 abbrev pub slot : ℕ → ℕ
-slot c = c * 207503 / 8192 % 128
+slot key = key * 9487029 / 16777216 % 256
 
-pub slot-low : (c : ℕ) → slot c < 128
-slot-low c = omega arith
+pub slot-low : (key : ℕ) → slot key < 256
+slot-low key = omega arith
 
-pub entry-mark : (c : ℕ) (entry : ℕ × ReadMark) → entry ≡ get_or MARKS (slot c) entry → (marked entry.1 ≡ mark_of entry.0) × (is_whitespace entry.0 ≡ false)
+five : (a b c d e : Bool) → (a && b && c && d && e) ≡ true → (a ≡ true) × (b ≡ true) × (c ≡ true) × (d ≡ true) × (e ≡ true)
+five true true true true true h = (refl, refl, refl, refl, refl)
+five true true true true false h = cc
+five true true true false e h = cc
+five true true false d e h = cc
+five true false c d e h = cc
+five false b c d e h = cc
+
+entry-right : (entry : ℕ × ReadMark) → is_right entry ≡ true
+    → (marked entry.1 ≡ mark_of (code_of entry.0)) × (is_whitespace (code_of entry.0) ≡ false) × (925824 ≤ sum_of_bytes entry.0) × (224 ≤ entry.0 % 256) × (entry.0 % 256 < 240)
 unfolding is_right
-entry-mark c entry e =
-    let right = ap is_right e ∙ all_at is_right MARKS (slot c) entry all_right (slot-low c) in (
-      same-is (marked entry.1) (mark_of entry.0) (and-left (same (marked entry.1) (mark_of entry.0)) _ right),
-      is_false (is_whitespace entry.0) (and-right (same (marked entry.1) (mark_of entry.0)) _ right),
-    )
+entry-right entry h =
+    let parts = five (same (marked entry.1) (mark_of (code_of entry.0))) (not (is_whitespace (code_of entry.0))) (nat_le 925824 (sum_of_bytes entry.0)) (nat_le 224 (entry.0 % 256)) (nat_lt (entry.0 % 256) 240) h in
+    (same-is (marked entry.1) (mark_of (code_of entry.0)) parts.0, is_false _ parts.1, le 925824 (sum_of_bytes entry.0) parts.2, le 224 (entry.0 % 256) parts.3, lt (entry.0 % 256) 240 parts.4) where
+      le : (a b : ℕ) → nat_le a b ≡ true → a ≤ b
+      le a b h = grind (arith, nat_tests)
+
+      lt : (a b : ℕ) → nat_lt a b ≡ true → a < b
+      lt a b h = grind (arith, nat_tests)
+
+-- the entry whose key is that of three bytes
+pub entry-known : (first second third key : ℕ) (entry : ℕ × ReadMark) → first < 256 → second < 256 → third < 256 → key ≡ first + second * 256 + third * 65536
+    → entry ≡ get_or MARKS (slot key) entry → entry.0 ≡ key → IsKnown first second third entry.1
+entry-known first second third key entry a b c is at found =
+    let right = entry-right entry (ap is_right at ∙ all_at is_right MARKS (slot key) entry all_right (slot-low key)) in
+    let one : entry.0 % 256 ≡ first = omega (arith, a, b, c, is, found) in
+    let two : entry.0 / 256 % 256 ≡ second = omega (arith, a, b, c, is, found) in
+    let three : entry.0 / 65536 ≡ third = omega (arith, a, b, c, is, found) in
+    record {
+      code = code_of entry.0;
+      sum = (let heavy = right.2 in omega (arith, heavy, one, two, three));
+      low = (let low = right.3 in omega (arith, low, one));
+      high = (let high = right.4 in omega (arith, high, one));
+      mark_is = right.0;
+      dark = right.1;
+    }
+
+-- the bytes of a character
+pub known-code : (code : ℕ) (result : Option ReadMark) → IfSome result (IsKnown (224 + code / 64 / 64) (128 + code / 64 % 64) (128 + code % 64)) → IfSome result (λ mark. marked mark ≡ mark_of code)
+known-code code None k = tt
+known-code code (Some mark) k =
+    let sum = k.sum in
+    let same : k.code ≡ code = omega (arith, sum) in
+    k.mark_is ∙ ap mark_of same

@@ -20,7 +20,7 @@ abbrev pub from_rank : ℕ → List ℕ → List ℕ
 from_rank limit [] = []
 from_rank limit (rank ∷ ranks) = if nat_lt rank limit then from_rank limit ranks else rank ∷ ranks
 
-records-left : (least limit : ℕ) (marks : List Mark) → from_rank limit (records_from least marks) ≡ records_from (max least limit) marks
+pub records-left : (least limit : ℕ) (marks : List Mark) → from_rank limit (records_from least marks) ≡ records_from (max least limit) marks
 records-left least limit [] = refl
 records-left least limit (digit value ∷ rest) = records-left least limit rest
 records-left least limit (other ∷ rest) = records-left least limit rest

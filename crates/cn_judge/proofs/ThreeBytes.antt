@@ -67,11 +67,6 @@ first-three bytes after a b d code whole long cut p q r low high sum =
     let same : three.code ≡ code = omega (arith, three.sum, sum, p, q, r) in
     chars_past_char _ _ _ whole (three.parts ∙ ap (λ c. encode_utf8 c ++ drop 3 bytes) same ∙ ap (λ l. encode_utf8 code ++ l) (sym cut))
 
-pub first-heavy : (bytes : List ℕ) (a b d : ℕ) → IsUtf8 bytes → 3 ≤ length bytes
-    → a ≡ get_or bytes 0 0 → b ≡ get_or bytes 1 0 → d ≡ get_or bytes 2 0 → 224 ≤ a → a < 240 → 925824 ≤ a * 4096 + b * 64 + d
-first-heavy bytes a b d whole long p q r low high =
-    let three = first-starts bytes a whole long p low high in omega (arith, three.sum, p, q, r)
-
 pub first-boundary : (bytes : List ℕ) (a : ℕ) → IsUtf8 bytes → 3 ≤ length bytes → a ≡ get_or bytes 0 0 → 224 ≤ a → a < 240 → IsCharBoundary bytes 3
 first-boundary bytes a whole long p low high = let three = first-starts bytes a whole long p low high in IsCharBoundary-from_drop bytes 3 long three.rest
 
@@ -85,12 +80,6 @@ last-starts bytes start a whole boundary long p low =
     let size = length-drop start bytes in
     let at = at-start bytes start in
     starts-three (drop start bytes) (IsUtf8-drop bytes start whole boundary) (omega (arith, size, long)) (omega (arith, at, p, low)) (λ _. omega (arith, size, long))
-
-pub last-heavy : (bytes : List ℕ) (start a b d : ℕ) → IsUtf8 bytes → IsCharBoundary bytes start → length bytes ≡ start + 3
-    → a ≡ get_or bytes start 0 → b ≡ get_or bytes (start + 1) 0 → d ≡ get_or bytes (start + 2) 0 → 224 ≤ a → 925824 ≤ a * 4096 + b * 64 + d
-last-heavy bytes start a b d whole boundary long p q r low =
-    let three = last-starts bytes start a whole boundary long p low in
-    omega (arith, three.sum, p, q, r, at-start bytes start, get_or-drop start bytes 1 0, get_or-drop start bytes 2 0)
 
 pub last-three : (bytes before : List ℕ) (start a b d code : ℕ) → IsUtf8 bytes → IsCharBoundary bytes start → length bytes ≡ start + 3 → before ≡ take start bytes
     → a ≡ get_or bytes start 0 → b ≡ get_or bytes (start + 1) 0 → d ≡ get_or bytes (start + 2) 0 → 224 ≤ a → code + 925824 ≡ a * 4096 + b * 64 + d

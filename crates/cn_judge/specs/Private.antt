@@ -3,6 +3,7 @@ pub mod Judged
 pub mod Marked
 pub mod Piece
 pub mod PlainPiece
+pub mod Regular
 pub mod Signed
 pub mod Stack
 pub mod Walk

@@ -9,8 +9,12 @@ mod ends;
 mod error;
 mod mark;
 mod naive;
+mod open_groups;
 mod open_units;
+mod quick;
 mod sign;
+#[cfg(test)]
+mod tests;
 mod text;
 mod typed;
 mod units;

@@ -1,8 +1,7 @@
 // What a character of a numeral is, by a look-up without a search.
-ghost use Rattle.std.specs.Prelude.{◌≡◌, ◌*◌, ◌/◌, ◌%◌, slice_index_or, false, IfSome};
-ghost use Rattle.std.specs.Char.{is_whitespace};
+ghost use Rattle.std.specs.Prelude.{◌≡◌, ◌*◌, ◌/◌, ◌%◌, slice_index_or, IfSome};
 ghost use Rattle.cn_core.specs.Mark.{mark_of};
-ghost use Rattle.cn_judge.specs.Private.Marked.{marked};
+ghost use Rattle.cn_judge.specs.Private.Marked.{IsKnown, marked};
 
 use cn_core::{Unit, digit_of, unit_of};
 
@@ -14,165 +13,304 @@ pub enum Mark {
     Other,
 }
 
-// The characters of digits and units that take three bytes, each with its mark at its slot. 無, which is
-// neither, stands at the slots of none.
-static MARKS: [(char, Mark); 128] = [
-    ('無', Mark::Other),
-    ('無', Mark::Other),
-    ('六', Mark::Digit(6)),
-    ('無', Mark::Other),
-    ('千', Mark::Unit(Unit::Qian)),
-    ('無', Mark::Other),
-    ('無', Mark::Other),
-    ('〇', Mark::Digit(0)),
-    ('七', Mark::Digit(7)),
-    ('無', Mark::Other),
-    ('無', Mark::Other),
-    ('四', Mark::Digit(4)),
-    ('無', Mark::Other),
-    ('载', Mark::Unit(Unit::Zai)),
-    ('無', Mark::Other),
-    ('無', Mark::Other),
-    ('澗', Mark::Unit(Unit::Jian)),
-    ('無', Mark::Other),
-    ('無', Mark::Other),
-    ('載', Mark::Unit(Unit::Zai)),
-    ('参', Mark::Digit(3)),
-    ('無', Mark::Other),
-    ('二', Mark::Digit(2)),
-    ('無', Mark::Other),
-    ('無', Mark::Other),
-    ('正', Mark::Unit(Unit::Zheng)),
-    ('無', Mark::Other),
-    ('無', Mark::Other),
-    ('無', Mark::Other),
-    ('兩', Mark::Digit(2)),
-    ('無', Mark::Other),
-    ('億', Mark::Unit(Unit::Yi)),
-    ('三', Mark::Digit(3)),
-    ('無', Mark::Other),
-    ('亿', Mark::Unit(Unit::Yi)),
-    ('無', Mark::Other),
-    ('無', Mark::Other),
-    ('佰', Mark::Unit(Unit::Bai)),
-    ('無', Mark::Other),
-    ('兆', Mark::Unit(Unit::Zhao)),
-    ('無', Mark::Other),
-    ('無', Mark::Other),
-    ('無', Mark::Other),
-    ('無', Mark::Other),
-    ('壹', Mark::Digit(1)),
-    ('無', Mark::Other),
-    ('參', Mark::Digit(3)),
-    ('捌', Mark::Digit(8)),
-    ('無', Mark::Other),
-    ('無', Mark::Other),
-    ('無', Mark::Other),
-    ('無', Mark::Other),
-    ('無', Mark::Other),
-    ('無', Mark::Other),
-    ('無', Mark::Other),
-    ('無', Mark::Other),
-    ('極', Mark::Unit(Unit::Ji)),
-    ('無', Mark::Other),
-    ('無', Mark::Other),
-    ('無', Mark::Other),
-    ('一', Mark::Digit(1)),
-    ('無', Mark::Other),
-    ('無', Mark::Other),
-    ('极', Mark::Unit(Unit::Ji)),
-    ('垓', Mark::Unit(Unit::Gai)),
-    ('京', Mark::Unit(Unit::Jing)),
-    ('無', Mark::Other),
-    ('柒', Mark::Digit(7)),
-    ('無', Mark::Other),
-    ('贰', Mark::Digit(2)),
-    ('無', Mark::Other),
-    ('叄', Mark::Digit(3)),
-    ('無', Mark::Other),
-    ('玖', Mark::Digit(9)),
-    ('無', Mark::Other),
-    ('無', Mark::Other),
-    ('两', Mark::Digit(2)),
-    ('仟', Mark::Unit(Unit::Qian)),
-    ('無', Mark::Other),
-    ('無', Mark::Other),
-    ('八', Mark::Digit(8)),
-    ('十', Mark::Unit(Unit::Shi)),
-    ('無', Mark::Other),
-    ('無', Mark::Other),
-    ('溝', Mark::Unit(Unit::Gou)),
-    ('零', Mark::Digit(0)),
-    ('穰', Mark::Unit(Unit::Rang)),
-    ('無', Mark::Other),
-    ('無', Mark::Other),
-    ('無', Mark::Other),
-    ('伍', Mark::Digit(5)),
-    ('無', Mark::Other),
-    ('無', Mark::Other),
-    ('陸', Mark::Digit(6)),
-    ('沟', Mark::Unit(Unit::Gou)),
-    ('秭', Mark::Unit(Unit::Zi)),
-    ('無', Mark::Other),
-    ('五', Mark::Digit(5)),
-    ('無', Mark::Other),
-    ('無', Mark::Other),
-    ('个', Mark::Unit(Unit::Ge)),
-    ('無', Mark::Other),
-    ('百', Mark::Unit(Unit::Bai)),
-    ('貳', Mark::Digit(2)),
-    ('萬', Mark::Unit(Unit::Wan)),
-    ('貮', Mark::Digit(2)),
-    ('無', Mark::Other),
-    ('陆', Mark::Digit(6)),
-    ('無', Mark::Other),
-    ('万', Mark::Unit(Unit::Wan)),
-    ('無', Mark::Other),
-    ('無', Mark::Other),
-    ('九', Mark::Digit(9)),
-    ('無', Mark::Other),
-    ('無', Mark::Other),
-    ('無', Mark::Other),
-    ('無', Mark::Other),
-    ('無', Mark::Other),
-    ('無', Mark::Other),
-    ('拾', Mark::Unit(Unit::Shi)),
-    ('無', Mark::Other),
-    ('無', Mark::Other),
-    ('無', Mark::Other),
-    ('叁', Mark::Digit(3)),
-    ('個', Mark::Unit(Unit::Ge)),
-    ('涧', Mark::Unit(Unit::Jian)),
-    ('肆', Mark::Digit(4)),
-    ('無', Mark::Other),
+// The characters of digits and units that take three bytes, each with its mark at its slot. The key has the
+// three bytes, the first of them lowest. 無, which is neither, stands at the slots of none.
+static MARKS: [(u32, Mark); 256] = [
+    (0x838fe5, Mark::Digit(3)), // 參
+    (0xa184e7, Mark::Other), // 無
+    (0xa184e7, Mark::Other), // 無
+    (0xa184e7, Mark::Other), // 無
+    (0xa184e7, Mark::Other), // 無
+    (0x89bce8, Mark::Unit(Unit::Zai)), // 載
+    (0xa184e7, Mark::Other), // 無
+    (0xa184e7, Mark::Other), // 無
+    (0xa184e7, Mark::Other), // 無
+    (0xa184e7, Mark::Other), // 無
+    (0x9b9be5, Mark::Digit(4)), // 四
+    (0xa184e7, Mark::Other), // 無
+    (0xa184e7, Mark::Other), // 無
+    (0x8dbce4, Mark::Digit(5)), // 伍
+    (0xa184e7, Mark::Other), // 無
+    (0xa184e7, Mark::Other), // 無
+    (0xa184e7, Mark::Other), // 無
+    (0xa184e7, Mark::Other), // 無
+    (0xa184e7, Mark::Other), // 無
+    (0xa184e7, Mark::Other), // 無
+    (0xa184e7, Mark::Other), // 無
+    (0xa184e7, Mark::Other), // 無
+    (0xa184e7, Mark::Other), // 無
+    (0x9fb2e6, Mark::Unit(Unit::Gou)), // 沟
+    (0x9dbae6, Mark::Unit(Unit::Gou)), // 溝
+    (0xa184e7, Mark::Other), // 無
+    (0xa184e7, Mark::Other), // 無
+    (0xa184e7, Mark::Other), // 無
+    (0xa184e7, Mark::Other), // 無
+    (0xa184e7, Mark::Other), // 無
+    (0xa184e7, Mark::Other), // 無
+    (0xa184e7, Mark::Other), // 無
+    (0xa184e7, Mark::Other), // 無
+    (0xa184e7, Mark::Other), // 無
+    (0xbdbde8, Mark::Unit(Unit::Zai)), // 载
+    (0xa184e7, Mark::Other), // 無
+    (0xa184e7, Mark::Other), // 無
+    (0xa184e7, Mark::Other), // 無
+    (0xa184e7, Mark::Other), // 無
+    (0xa184e7, Mark::Other), // 無
+    (0xb0b4e8, Mark::Digit(2)), // 贰
+    (0x8cbae4, Mark::Digit(2)), // 二
+    (0xa184e7, Mark::Other), // 無
+    (0xa184e7, Mark::Other), // 無
+    (0xa184e7, Mark::Other), // 無
+    (0x9fbbe4, Mark::Unit(Unit::Qian)), // 仟
+    (0xa184e7, Mark::Other), // 無
+    (0x83b8e4, Mark::Digit(7)), // 七
+    (0xa184e7, Mark::Other), // 無
+    (0xa184e7, Mark::Other), // 無
+    (0xa184e7, Mark::Other), // 無
+    (0xa184e7, Mark::Other), // 無
+    (0xa184e7, Mark::Other), // 無
+    (0xa184e7, Mark::Other), // 無
+    (0xa184e7, Mark::Other), // 無
+    (0xa184e7, Mark::Other), // 無
+    (0xa184e7, Mark::Other), // 無
+    (0xa184e7, Mark::Other), // 無
+    (0x87b8e4, Mark::Unit(Unit::Wan)), // 万
+    (0xa184e7, Mark::Other), // 無
+    (0xa184e7, Mark::Other), // 無
+    (0xb0bde4, Mark::Unit(Unit::Bai)), // 佰
+    (0x828fe5, Mark::Digit(3)), // 参
+    (0x94bae4, Mark::Digit(5)), // 五
+    (0xa985e5, Mark::Digit(2)), // 兩
+    (0xa184e7, Mark::Other), // 無
+    (0xa184e7, Mark::Other), // 無
+    (0xa184e7, Mark::Other), // 無
+    (0xa184e7, Mark::Other), // 無
+    (0xa184e7, Mark::Other), // 無
+    (0xa184e7, Mark::Other), // 無
+    (0xa184e7, Mark::Other), // 無
+    (0xa4b8e4, Mark::Digit(2)), // 两
+    (0xa184e7, Mark::Other), // 無
+    (0xad85e5, Mark::Digit(6)), // 六
+    (0xa184e7, Mark::Other), // 無
+    (0xa184e7, Mark::Other), // 無
+    (0xa184e7, Mark::Other), // 無
+    (0xa3ade6, Mark::Unit(Unit::Zheng)), // 正
+    (0xb3b2e8, Mark::Digit(2)), // 貳
+    (0xa184e7, Mark::Other), // 無
+    (0xa184e7, Mark::Other), // 無
+    (0xa184e7, Mark::Other), // 無
+    (0xa184e7, Mark::Other), // 無
+    (0xa184e7, Mark::Other), // 無
+    (0xa184e7, Mark::Other), // 無
+    (0xa184e7, Mark::Other), // 無
+    (0xa184e7, Mark::Other), // 無
+    (0xa184e7, Mark::Other), // 無
+    (0x818de5, Mark::Unit(Unit::Shi)), // 十
+    (0xa184e7, Mark::Other), // 無
+    (0xa184e7, Mark::Other), // 無
+    (0xa184e7, Mark::Other), // 無
+    (0xa184e7, Mark::Other), // 無
+    (0xa184e7, Mark::Other), // 無
+    (0xa184e7, Mark::Other), // 無
+    (0xa184e7, Mark::Other), // 無
+    (0xa184e7, Mark::Other), // 無
+    (0xb9a3e5, Mark::Digit(1)), // 壹
+    (0xa184e7, Mark::Other), // 無
+    (0xa184e7, Mark::Other), // 無
+    (0xa184e7, Mark::Other), // 無
+    (0xa184e7, Mark::Other), // 無
+    (0xa184e7, Mark::Other), // 無
+    (0xa184e7, Mark::Other), // 無
+    (0xa184e7, Mark::Other), // 無
+    (0xa184e7, Mark::Other), // 無
+    (0xa184e7, Mark::Other), // 無
+    (0xa184e7, Mark::Other), // 無
+    (0xa184e7, Mark::Other), // 無
+    (0xa184e7, Mark::Other), // 無
+    (0xa184e7, Mark::Other), // 無
+    (0xa7b6e6, Mark::Unit(Unit::Jian)), // 涧
+    (0xa184e7, Mark::Other), // 無
+    (0xa184e7, Mark::Other), // 無
+    (0xa184e7, Mark::Other), // 無
+    (0xa184e7, Mark::Other), // 無
+    (0xa184e7, Mark::Other), // 無
+    (0x929fe6, Mark::Digit(7)), // 柒
+    (0xa184e7, Mark::Other), // 無
+    (0xa184e7, Mark::Other), // 無
+    (0xb5a5e6, Mark::Unit(Unit::Ji)), // 極
+    (0xa184e7, Mark::Other), // 無
+    (0x818fe5, Mark::Digit(3)), // 叁
+    (0xa184e7, Mark::Other), // 無
+    (0xa184e7, Mark::Other), // 無
+    (0xa184e7, Mark::Other), // 無
+    (0xa184e7, Mark::Other), // 無
+    (0xacbae4, Mark::Unit(Unit::Jing)), // 京
+    (0xaeb2e8, Mark::Digit(2)), // 貮
+    (0xa184e7, Mark::Other), // 無
+    (0xa184e7, Mark::Other), // 無
+    (0xa184e7, Mark::Other), // 無
+    (0xada7e7, Mark::Unit(Unit::Zi)), // 秭
+    (0x9db9e4, Mark::Digit(9)), // 九
+    (0xa184e7, Mark::Other), // 無
+    (0xa184e7, Mark::Other), // 無
+    (0xbe99e7, Mark::Unit(Unit::Bai)), // 百
+    (0xa184e7, Mark::Other), // 無
+    (0x8484e5, Mark::Unit(Unit::Yi)), // 億
+    (0xa184e7, Mark::Other), // 無
+    (0xa184e7, Mark::Other), // 無
+    (0xa184e7, Mark::Other), // 無
+    (0x8780e3, Mark::Digit(0)), // 〇
+    (0xa184e7, Mark::Other), // 無
+    (0xa184e7, Mark::Other), // 無
+    (0xa184e7, Mark::Other), // 無
+    (0xa184e7, Mark::Other), // 無
+    (0xa184e7, Mark::Other), // 無
+    (0xa184e7, Mark::Other), // 無
+    (0xb69be9, Mark::Digit(0)), // 零
+    (0xa184e7, Mark::Other), // 無
+    (0xa184e7, Mark::Other), // 無
+    (0xa184e7, Mark::Other), // 無
+    (0xa184e7, Mark::Other), // 無
+    (0x8b80e5, Mark::Unit(Unit::Ge)), // 個
+    (0xa184e7, Mark::Other), // 無
+    (0xa184e7, Mark::Other), // 無
+    (0xbe8be6, Mark::Unit(Unit::Shi)), // 拾
+    (0xa184e7, Mark::Other), // 無
+    (0xa184e7, Mark::Other), // 無
+    (0x8685e5, Mark::Unit(Unit::Zhao)), // 兆
+    (0xa184e7, Mark::Other), // 無
+    (0xa184e7, Mark::Other), // 無
+    (0xa184e7, Mark::Other), // 無
+    (0xa184e7, Mark::Other), // 無
+    (0xa184e7, Mark::Other), // 無
+    (0x939ee5, Mark::Unit(Unit::Gai)), // 垓
+    (0xa184e7, Mark::Other), // 無
+    (0xa184e7, Mark::Other), // 無
+    (0xa184e7, Mark::Other), // 無
+    (0xa184e7, Mark::Other), // 無
+    (0xa184e7, Mark::Other), // 無
+    (0xa184e7, Mark::Other), // 無
+    (0xa184e7, Mark::Other), // 無
+    (0xa184e7, Mark::Other), // 無
+    (0xa184e7, Mark::Other), // 無
+    (0xa184e7, Mark::Other), // 無
+    (0xa184e7, Mark::Other), // 無
+    (0xa184e7, Mark::Other), // 無
+    (0xa184e7, Mark::Other), // 無
+    (0xa184e7, Mark::Other), // 無
+    (0xa184e7, Mark::Other), // 無
+    (0xa184e7, Mark::Other), // 無
+    (0x8c8de6, Mark::Digit(8)), // 捌
+    (0xa184e7, Mark::Other), // 無
+    (0xa184e7, Mark::Other), // 無
+    (0xa184e7, Mark::Other), // 無
+    (0xa184e7, Mark::Other), // 無
+    (0xa184e7, Mark::Other), // 無
+    (0xa184e7, Mark::Other), // 無
+    (0x89b8e4, Mark::Digit(3)), // 三
+    (0xa184e7, Mark::Other), // 無
+    (0xa184e7, Mark::Other), // 無
+    (0xac90e8, Mark::Unit(Unit::Wan)), // 萬
+    (0x848fe5, Mark::Digit(3)), // 叄
+    (0xa184e7, Mark::Other), // 無
+    (0xab85e5, Mark::Digit(8)), // 八
+    (0xa184e7, Mark::Other), // 無
+    (0xa184e7, Mark::Other), // 無
+    (0xa184e7, Mark::Other), // 無
+    (0xa184e7, Mark::Other), // 無
+    (0xa184e7, Mark::Other), // 無
+    (0x97bee6, Mark::Unit(Unit::Jian)), // 澗
+    (0xa184e7, Mark::Other), // 無
+    (0xa184e7, Mark::Other), // 無
+    (0xa184e7, Mark::Other), // 無
+    (0xa184e7, Mark::Other), // 無
+    (0xa184e7, Mark::Other), // 無
+    (0xa184e7, Mark::Other), // 無
+    (0xa184e7, Mark::Other), // 無
+    (0xa184e7, Mark::Other), // 無
+    (0xa184e7, Mark::Other), // 無
+    (0xa184e7, Mark::Other), // 無
+    (0xa184e7, Mark::Other), // 無
+    (0xa184e7, Mark::Other), // 無
+    (0xa184e7, Mark::Other), // 無
+    (0xaab8e4, Mark::Unit(Unit::Ge)), // 个
+    (0xa184e7, Mark::Other), // 無
+    (0xa184e7, Mark::Other), // 無
+    (0xa184e7, Mark::Other), // 無
+    (0xa184e7, Mark::Other), // 無
+    (0xa184e7, Mark::Other), // 無
+    (0x838de5, Mark::Unit(Unit::Qian)), // 千
+    (0xa184e7, Mark::Other), // 無
+    (0xa184e7, Mark::Other), // 無
+    (0xa184e7, Mark::Other), // 無
+    (0xa184e7, Mark::Other), // 無
+    (0x968ee7, Mark::Digit(9)), // 玖
+    (0xa184e7, Mark::Other), // 無
+    (0xa184e7, Mark::Other), // 無
+    (0x80b8e4, Mark::Digit(1)), // 一
+    (0xa184e7, Mark::Other), // 無
+    (0xa184e7, Mark::Other), // 無
+    (0xa184e7, Mark::Other), // 無
+    (0xa184e7, Mark::Other), // 無
+    (0xa184e7, Mark::Other), // 無
+    (0xa184e7, Mark::Other), // 無
+    (0xa184e7, Mark::Other), // 無
+    (0xb0a9e7, Mark::Unit(Unit::Rang)), // 穰
+    (0x8682e8, Mark::Digit(4)), // 肆
+    (0xa184e7, Mark::Other), // 無
+    (0x8699e9, Mark::Digit(6)), // 陆
+    (0xbfbae4, Mark::Unit(Unit::Yi)), // 亿
+    (0xa184e7, Mark::Other), // 無
+    (0xa184e7, Mark::Other), // 無
+    (0xa184e7, Mark::Other), // 無
+    (0x819ee6, Mark::Unit(Unit::Ji)), // 极
+    (0xa184e7, Mark::Other), // 無
+    (0xa184e7, Mark::Other), // 無
+    (0xb899e9, Mark::Digit(6)), // 陸
+    (0xa184e7, Mark::Other), // 無
+    (0xa184e7, Mark::Other), // 無
+    (0xa184e7, Mark::Other), // 無
+    (0xa184e7, Mark::Other), // 無
+    (0xa184e7, Mark::Other), // 無
 ];
 
-// The entry at the slot of a character: no two digits or units share one.
+// The entry at the slot of a key: no two digits or units share one.
 #[inline(always)]
-fn entry(code: u32) -> (char, Mark)
-    ensures { result ≡ slice_index_or MARKS (code * 207503 / 8192 % 128) result }
+fn entry(key: u32) -> (u32, Mark)
+    ensures { result ≡ slice_index_or MARKS (key * 9487029 / 16777216 % 256) result }
 {
-    MARKS[(code as u64 * 207_503 / 8192 % 128) as usize]
+    MARKS[(key as u64 * 9_487_029 / 16_777_216 % 256) as usize]
 }
 
-/// What the character with this number is, if the table has it; each digit and unit of three bytes is there.
+/// What the character of these three bytes is, if the table has it; each digit and unit of three bytes is there.
 #[inline(always)]
-pub fn known_mark(code: u32) -> Option<Mark>
-    ensures { IfSome result (λ mark. (marked mark ≡ mark_of code) × (is_whitespace code ≡ false)) }
+pub fn known_mark(first: u8, second: u8, third: u8) -> Option<Mark>
+    ensures { IfSome result (IsKnown first second third) }
 {
-    let (character, mark) = entry(code);
-    if character as u32 == code {
-        Some(mark)
-    } else {
-        None
+    let key = first as u32 + second as u32 * 256 + third as u32 * 65_536;
+    let (known, mark) = entry(key);
+    if known == key { Some(mark) } else { None }
+}
+
+// The same of a character.
+fn known_mark_of(c: char) -> Option<Mark>
+    ensures { IfSome result (λ mark. marked mark ≡ mark_of c) }
+{
+    let code = c as u32;
+    if code >= 65_536 {
+        return None;
     }
+    let first = 224 + code / 64 / 64;
+    let second = 128 + code / 64 % 64;
+    let third = 128 + code % 64;
+    known_mark(first as u8, second as u8, third as u8)
 }
 
 /// What the character is.
 pub fn mark_of(c: char) -> Mark
     ensures { marked result ≡ mark_of c }
 {
-    if let Some(mark) = known_mark(c as u32) {
+    if let Some(mark) = known_mark_of(c) {
         return mark;
     }
     if let Some(value) = digit_of(c) {

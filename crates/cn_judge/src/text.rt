@@ -49,53 +49,6 @@ pub fn split_first(text: &str) -> Option<First<'_>>
     None
 }
 
-// The number of a character, from its three bytes.
-#[inline(always)]
-fn code_of(first: u8, second: u8, third: u8) -> u32
-    requires { 925824 ≤ first * 4096 + second * 64 + third }
-    ensures { result + 925824 ≡ first * 4096 + second * 64 + third }
-{
-    first as u32 * 4096 + second as u32 * 64 + third as u32 - 925_824
-}
-
-/// The number of the last character where it takes three bytes, as nearly all characters of numerals do, and
-/// what stands before it.
-#[inline(always)]
-pub fn split_last_of_three_bytes(text: &str) -> Option<(u32, &str)>
-    ensures parts { IfSome result (λ r. chars text.now ≡ chars r.1.now ++ r.0 ∷ []) }
-    ensures shorter { IfSome result (λ r. length r.1.now < length text.now) }
-{
-    let bytes = text.as_bytes();
-    if bytes.len() < 3 {
-        return None;
-    }
-    let start = bytes.len() - 3;
-    let first = bytes[start];
-    if first < 0xe0 {
-        return None;
-    }
-    let (before, _) = text.split_at(start);
-    Some((code_of(first, bytes[start + 1], bytes[start + 2]), before))
-}
-
-/// The number of the first character where it takes three bytes, and what stands after it.
-#[inline(always)]
-pub fn split_first_of_three_bytes(text: &str) -> Option<(u32, &str)>
-    ensures parts { IfSome result (λ r. chars text.now ≡ r.0 ∷ chars r.1.now) }
-    ensures shorter { IfSome result (λ r. length r.1.now < length text.now) }
-{
-    let bytes = text.as_bytes();
-    if bytes.len() < 3 {
-        return None;
-    }
-    let first = bytes[0];
-    if first < 0xe0 || first >= 0xf0 {
-        return None;
-    }
-    let (_, after) = text.split_at(3);
-    Some((code_of(first, bytes[1], bytes[2]), after))
-}
-
 /// The last character, and what stands before it.
 pub fn split_last_char(text: &str) -> Option<(char, &str)>
     ensures parts { MatchOption result (chars text.now ≡ []) (λ r. chars text.now ≡ chars r.1.now ++ r.0 ∷ []) }

@@ -35,6 +35,7 @@ use crate::ChineseToNumberError;
 use crate::ends::split_last_mark;
 use crate::mark::{Mark, mark_of};
 use crate::open_units::OpenUnits;
+use crate::quick::read_quickly;
 use crate::sign::split_sign;
 use crate::text::{count_chars, split_first};
 use crate::typed::with_sign;
@@ -174,10 +175,25 @@ fn judge(
     }
 }
 
+// The same; a regular numeral is read at once, and any other text is walked from the beginning.
+fn judge_quickly(
+    method: ChineseCountMethod,
+    skipped: usize,
+    text: &str,
+) -> Result<u128, ChineseToNumberError>
+    requires { skipped + length text.now < 2 ^ 64 }
+    ensures { JudgesAt method skipped text.now (answer_of (λ n. n) result) }
+{
+    match read_quickly(method, text) {
+        Some(number) => Ok(number),
+        None => judge(method, skipped, text),
+    }
+}
+
 /// The number of a numeral after at most one sign.
 pub fn read<T: Whole>(method: ChineseCountMethod, text: &str) -> Result<T, ChineseToNumberError>
     ensures { Reads T.kind method text.now (answer_of T.number result) }
 {
     let after = split_sign(T::SIGNED, text);
-    with_sign(after.sign, judge(method, after.skipped, after.rest))
+    with_sign(after.sign, judge_quickly(method, after.skipped, after.rest))
 }

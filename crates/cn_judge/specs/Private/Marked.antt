@@ -1,7 +1,9 @@
 -- A mark of the code, as the definitions of numerals speak of it.
+use Rattle.std.specs.Prelude.{◌≡◌, ℕ, ◌+◌, ◌*◌, ◌<◌, ◌≤◌, false}
+use Rattle.std.specs.Char.{is_whitespace}
 use Rattle.cn_core.specs.declared.unit.Unit.{Unit as NumeralUnit}
 use Rattle.cn_core.specs.Characters.{rank}
-use Rattle.cn_core.specs.Mark.{Mark, digit, unit, other}
+use Rattle.cn_core.specs.Mark.{Mark, digit, unit, other, mark_of}
 use Rattle.cn_judge.specs.declared.mark.Mark.{Mark as ReadMark}
 use Rattle.cn_judge.specs.declared.mark.Mark.TheVariants.{Digit, Unit, Other}
 
@@ -14,3 +16,12 @@ marked Other = other
 -- the mark of a unit
 abbrev pub unit_mark : NumeralUnit → Mark
 unit_mark which = unit (rank which)
+
+-- these three bytes are a character that is no white space, and this is its mark
+pub record IsKnown (first second third : ℕ) (mark : ReadMark) : Type 0 where
+  pub code : ℕ
+  pub sum : code + 925824 ≡ first * 4096 + second * 64 + third
+  pub low : 224 ≤ first
+  pub high : first < 240
+  pub mark_is : marked mark ≡ mark_of code
+  pub dark : is_whitespace code ≡ false

@@ -3,4 +3,4 @@ use Rattle.cn_judge.proofs.MarkTable.{within, slot-low}
 use Rattle.cn_judge.proofs.mark.entry.Goals as goal
 
 pub returns : goal.returns
-returns c = within MARKS _ _ _ (slot-low c.args.code)
+returns c = within MARKS _ _ _ (slot-low c.args.key)

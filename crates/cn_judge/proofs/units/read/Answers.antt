@@ -10,7 +10,7 @@ returns g c =
     let kind = g.T.Whole.kind in
     let bytes = c.args.text.now in
     let after = c.split_sign-after in
-    let judged = c.judge.ensures in
+    let judged = c.judge_quickly.ensures in
     let sign_is : after.result.sign ≡ leading_sign kind.signed (text_of bytes) =
     after.ensures.sign ∙ ap (λ s. leading_sign s (text_of bytes)) (c.SIGNED.ensures ∙ sym g.met.T.Whole.signed_is) in (
       judged.0,

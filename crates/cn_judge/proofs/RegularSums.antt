@@ -1,0 +1,133 @@
+-- What the digits of a regular numeral count: the power of ten of its section, and that of the open units.
+use Rattle.std.proofs.Common.{◌≡◌, ℕ, suc, ◌+◌, ◌*◌, ◌^◌, ◌<◌, ◌≤◌, max, Bool, true, false, ◌==◌, nat_le, nat_lt, List, [], ◌∷◌, length, map, find, refl, sym, ap, ◌∙◌, arith, if◌then◌else◌}
+use Rattle.std.specs.Option.{option_map_or}
+use Rattle.std.proofs.lemmas.Bool.Decides.{nat_tests}
+use Rattle.std.proofs.lemmas.Nat.{pow-add}
+use Rattle.cn_core.specs.declared.method.ChineseCountMethod.{ChineseCountMethod}
+use Rattle.cn_core.specs.declared.method.ChineseCountMethod.TheVariants.{Low, TenThousand, Middle, High}
+use Rattle.cn_core.specs.Mark.{Mark, digit, unit, other}
+use Rattle.cn_core.specs.Scale.{scale, exponent}
+use Rattle.cn_core.specs.Value.{product, records_from}
+use Rattle.cn_judge.specs.Private.Regular.{exponents, groups_of, top_exponent, is_below_top, not_smaller, with_last}
+use Rattle.cn_judge.proofs.OpenSums.{from_rank, records-left}
+
+-- the scales of some ranks make a power of ten
+product-exponents : (method : ChineseCountMethod) (ranks : List ℕ) → product (map (scale method) ranks) ≡ 10 ^ exponents method ranks
+product-exponents method [] = refl
+product-exponents method (rank ∷ ranks) =
+    ap (λ n. scale method rank * n) (product-exponents method ranks) ∙ sym (pow-add 10 (exponent method rank) (exponents method ranks))
+
+-- below 萬 all methods agree
+pub exponent-small : (method : ChineseCountMethod) (rank : ℕ) → rank ≤ 4 → exponent method rank ≡ rank
+exponent-small Low rank h = refl
+exponent-small TenThousand rank h = let t : nat_le rank 4 ≡ true = grind (arith, nat_tests) in rw t
+exponent-small Middle rank h = let t : nat_le rank 4 ≡ true = grind (arith, nat_tests) in rw t
+exponent-small High rank h = let t : nat_le rank 4 ≡ true = grind (arith, nat_tests) in rw t
+
+pub product-last : (method : ChineseCountMethod) (last : ℕ) (ranks : List ℕ) → last < 4
+    → product (map (scale method) (with_last last ranks)) ≡ 10 ^ last * 10 ^ exponents method ranks
+product-last method last ranks low = by (last == 0) refl where
+  by : (b : Bool) → (last == 0) ≡ b → product (map (scale method) (if b then ranks else last ∷ ranks)) ≡ 10 ^ last * 10 ^ exponents method ranks
+  by true e =
+      let none : last ≡ 0 = grind (arith, nat_tests) in
+      let all = product-exponents method ranks in rw (none, all) (omega arith)
+  by false e =
+      let all = product-exponents method ranks in
+      let small : exponent method last ≡ last = exponent-small method last (omega (arith, low)) in
+      rw (all, small)
+
+-- the open units by their ranks
+pub length-groups : (method : ChineseCountMethod) (ranks : List ℕ) → length (groups_of method ranks) ≡ length ranks
+length-groups method [] = refl
+length-groups method (rank ∷ ranks) = ap suc (length-groups method ranks)
+
+pub top-groups : (method : ChineseCountMethod) (ranks : List ℕ) → top_exponent (groups_of method ranks) ≡ exponents method ranks
+top-groups method [] = refl
+top-groups method (rank ∷ ranks) = refl
+
+pub left-groups : (method : ChineseCountMethod) (limit : ℕ) (ranks : List ℕ) → not_smaller limit (groups_of method ranks) ≡ groups_of method (from_rank limit ranks)
+left-groups method limit [] = refl
+left-groups method limit (rank ∷ ranks) = by (nat_lt rank limit) (left-groups method limit ranks) where
+  by : (b : Bool) → not_smaller limit (groups_of method ranks) ≡ groups_of method (from_rank limit ranks)
+      → (if b then not_smaller limit (groups_of method ranks) else (rank, exponents method (rank ∷ ranks)) ∷ groups_of method ranks)
+      ≡ groups_of method (if b then from_rank limit ranks else rank ∷ ranks)
+  by true ih = ih
+  by false ih = refl
+
+-- the first of some ranks is greater than this one
+abbrev pub is_first : ℕ → List ℕ → Bool
+is_first rank [] = true
+is_first rank (next ∷ ranks) = nat_lt rank next
+
+pub first-groups : (method : ChineseCountMethod) (rank : ℕ) (ranks : List ℕ) → is_below_top rank (groups_of method ranks) ≡ is_first rank ranks
+first-groups method rank [] = refl
+first-groups method rank (next ∷ ranks) = refl
+
+pub first-strict : (rank : ℕ) (ranks : List ℕ)
+    → option_map_or (λ next. nat_lt rank next) (find (λ next. nat_le rank next) ranks) true ≡ is_first rank (from_rank rank ranks)
+first-strict rank [] = refl
+first-strict rank (next ∷ ranks) = by (nat_lt next rank) refl (first-strict rank ranks) where
+  by : (b : Bool) → nat_lt next rank ≡ b
+      → option_map_or (λ next. nat_lt rank next) (find (λ next. nat_le rank next) ranks) true ≡ is_first rank (from_rank rank ranks)
+      → option_map_or (λ next. nat_lt rank next) (find (λ next. nat_le rank next) (next ∷ ranks)) true ≡ is_first rank (if b then from_rank rank ranks else next ∷ ranks)
+  by true e ih = let t : nat_le rank next ≡ false = grind (arith, nat_tests) in rw t ih
+  by false e ih = let t : nat_le rank next ≡ true = grind (arith, nat_tests) in rw t refl
+
+pub first-left : (rank : ℕ) (ranks : List ℕ) → is_first rank ranks ≡ true → from_rank rank ranks ≡ ranks
+first-left rank [] h = refl
+first-left rank (next ∷ ranks) h = let t : nat_lt next rank ≡ false = grind (arith, nat_tests) in rw t
+
+pub next-left : (rank : ℕ) (ranks : List ℕ) → is_first rank (from_rank rank ranks) ≡ true → from_rank (rank + 1) ranks ≡ from_rank rank ranks
+next-left rank [] h = refl
+next-left rank (next ∷ ranks) h = by (nat_lt next rank) refl h (next-left rank ranks) where
+  by : (b : Bool) → nat_lt next rank ≡ b → is_first rank (if b then from_rank rank ranks else next ∷ ranks) ≡ true
+      → (is_first rank (from_rank rank ranks) ≡ true → from_rank (rank + 1) ranks ≡ from_rank rank ranks)
+      → (if nat_lt next (rank + 1) then from_rank (rank + 1) ranks else next ∷ ranks) ≡ (if b then from_rank rank ranks else next ∷ ranks)
+  by true e h ih = let t : nat_lt next (rank + 1) ≡ true = grind (arith, nat_tests) in rw t (ih h)
+  by false e h ih = let t : nat_lt next (rank + 1) ≡ false = grind (arith, nat_tests) in rw t
+
+pub last-left : (rank last : ℕ) (ranks : List ℕ) → last < rank → from_rank rank (with_last last ranks) ≡ from_rank rank ranks
+last-left rank last ranks low = by (last == 0) where
+  by : (b : Bool) → from_rank rank (if b then ranks else last ∷ ranks) ≡ from_rank rank ranks
+  by true = refl
+  by false = let t : nat_lt last rank ≡ true = grind (arith, nat_tests) in rw t
+
+-- the records from a rank on are greater than what is below it
+pub records-first : (rank least : ℕ) (marks : List Mark) → rank < least → is_first rank (records_from least marks) ≡ true
+records-first rank least [] h = refl
+records-first rank least (digit value ∷ rest) h = records-first rank least rest h
+records-first rank least (other ∷ rest) h = records-first rank least rest h
+records-first rank least (unit next ∷ rest) h = by (nat_le least next) refl (records-first rank (max least (next + 1)) rest (omega (arith, h))) where
+  by : (b : Bool) → nat_le least next ≡ b → is_first rank (records_from (max least (next + 1)) rest) ≡ true
+      → is_first rank (if b then next ∷ records_from (max least (next + 1)) rest else records_from (max least (next + 1)) rest) ≡ true
+  by true e ih = let low : least ≤ next = grind (arith, nat_tests) in test rank next (omega (arith, h, low)) where
+    test : (a b : ℕ) → a < b → nat_lt a b ≡ true
+    test a b h = grind (arith, nat_tests)
+  by false e ih = ih
+
+-- the records with one more unit
+pub records-unit : (rank : ℕ) (marks : List Mark) → records_from 0 (unit rank ∷ marks) ≡ rank ∷ records_from (rank + 1) marks
+records-unit rank marks =
+    let t : nat_le 0 rank ≡ true = grind (arith, nat_tests) in
+    let m : max 0 (rank + 1) ≡ rank + 1 = omega arith in rw (t, m)
+
+pub records-great : (rank : ℕ) (marks : List Mark) → 4 ≤ rank → records_from 4 (unit rank ∷ marks) ≡ rank ∷ records_from (rank + 1) marks
+records-great rank marks h =
+    let t : nat_le 4 rank ≡ true = grind (arith, nat_tests) in
+    let m : max 4 (rank + 1) ≡ rank + 1 = omega (arith, h) in rw (t, m)
+
+pub records-small : (rank : ℕ) (marks : List Mark) → rank < 4 → records_from 4 (unit rank ∷ marks) ≡ records_from 4 marks
+records-small rank marks h =
+    let t : nat_le 4 rank ≡ false = grind (arith, nat_tests) in
+    let m : max 4 (rank + 1) ≡ 4 = omega (arith, h) in rw (t, m)
+
+-- and the records above a unit
+pub records-above : (rank last : ℕ) (marks : List Mark) → records_from 0 marks ≡ with_last last (records_from 4 marks) → last < rank + 1
+    → records_from (rank + 1) marks ≡ from_rank (rank + 1) (records_from 4 marks)
+records-above rank last marks records low =
+    let m : max 0 (rank + 1) ≡ rank + 1 = omega arith in
+    let left = rw m at (records-left 0 (rank + 1) marks) in
+    sym left ∙ ap (from_rank (rank + 1)) records ∙ last-left (rank + 1) last (records_from 4 marks) low
+
+pub records-above_small : (rank : ℕ) (marks : List Mark) → rank < 4 → from_rank (rank + 1) (records_from 4 marks) ≡ records_from 4 marks
+records-above_small rank marks low = let m : max 4 (rank + 1) ≡ 4 = omega (arith, low) in rw m at (records-left 4 (rank + 1) marks)

@@ -1,0 +1,8 @@
+use Rattle.cn_core.specs.Characters.{rank}
+use Rattle.cn_judge.proofs.RegularSteps.{regular-digit}
+use Rattle.cn_judge.proofs.quick.step_digit.Goals as goal
+
+pub returns : goal.returns
+returns c = λ method marks groups s.
+    regular-digit method marks groups c.args.standing.total c.args.standing.sum (rank c.args.standing.last) c.args.standing.at_digit c.args.value _ s
+    c.if-not-digit_may_precede.ensures c.in_ok-add_digit.ensures

@@ -1,0 +1,5 @@
+use Rattle.std.proofs.Common.{Ok, refl}
+use Rattle.cn_judge.proofs.units.judge_quickly.Goals as goal
+
+pub returns-in-Some : goal.returns-in-Some
+returns-in-Some c = (Ok c.in-Some.number, c.in-Some.ensures, refl)

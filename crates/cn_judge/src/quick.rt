@@ -1,0 +1,271 @@
+// A quick way for regular numerals: one pass from the back over characters of three bytes, with the digits of
+// a section below 萬 in 32 bits. What it does not take is left to the walk, which judges from the beginning.
+ghost use Rattle.std.specs.Prelude.{
+  ◌≡◌,
+  ℕ,
+  ◌+◌,
+  ◌*◌,
+  ◌^◌,
+  ◌<◌,
+  ◌∷◌,
+  ◌&&◌,
+  ◌||◌,
+  ◌==◌,
+  List,
+  Ok,
+  true,
+  not,
+  nat_le,
+  nat_lt,
+  length,
+  IfSome,
+  IsTrue,
+};
+ghost use Rattle.cn_core.specs.Characters.{rank};
+ghost use Rattle.cn_core.specs.Judge.{Judges};
+ghost use Rattle.cn_core.specs.Mark.{Mark as NumeralMark, digit};
+ghost use Rattle.cn_core.specs.Numeral.{each_may_precede, is_numeral, opened, starts_with_digit};
+ghost use Rattle.cn_core.specs.Text.{text_of, marks_of};
+ghost use Rattle.cn_judge.specs.Private.Marked.{marked, unit_mark};
+ghost use Rattle.cn_judge.specs.Private.Regular.{Group, LeavesNoTail, MayOpen, StandsRegular, top_exponent};
+
+use crate::ends::split_last_known;
+use crate::mark::Mark;
+use crate::open_groups::OpenGroups;
+use cn_core::{ChineseCountMethod, Unit, exponent, power_of_ten};
+
+/// Where a quick walk stands between two characters.
+#[derive(Copy, Clone)]
+pub struct Standing {
+    /// The sum of the digits before the last unit from 萬 up.
+    pub total: u128,
+    /// The sum of the digits since then, as if no unit from 萬 up followed.
+    pub sum: u32,
+    /// The last unit since then, or 個 if there is none.
+    pub last: Unit,
+    /// Whether a digit has just been met.
+    pub at_digit: bool,
+}
+
+// The number that a unit below 萬 stands for.
+fn place(unit: Unit) -> u32
+    requires { rank unit < 4 }
+    ensures { result ≡ 10 ^ rank unit }
+{
+    match unit {
+        Unit::Ge => 1,
+        Unit::Shi => 10,
+        Unit::Bai => 100,
+        _ => 1000,
+    }
+}
+
+// The section's sum with one more digit, if it fits.
+fn add_digit(standing: Standing, value: u8) -> Option<u32>
+    requires { rank standing.last < 4 }
+    ensures { IfSome result (λ sum. sum ≡ standing.sum + value * 10 ^ rank standing.last) }
+{
+    standing
+        .sum
+        .checked_add(value as u32 * place(standing.last))
+}
+
+// The sum so far with a section that the open units multiply, if it fits.
+fn add_section(groups: &OpenGroups, total: u128, sum: u32) -> Option<u128>
+    ensures { IfSome result (λ n. (n ≡ total + sum * 10 ^ top_exponent groups.now) × (n < 2 ^ 128)) }
+{
+    let exponent = groups.exponent();
+    let size = power_of_ten(exponent)?;
+    if exponent <= 28 {
+        total.checked_add(sum as u128 * size)
+    } else {
+        total.checked_add((sum as u128).checked_mul(size)?)
+    }
+}
+
+// Whether a digit may stand before what follows it.
+fn digit_may_precede(value: u8, at_digit: bool) -> bool
+    ensures { result ≡ ((value == 0) || not at_digit) }
+{
+    value == 0 || !at_digit
+}
+
+// One more digit.
+fn step_digit(standing: Standing, value: u8) -> Option<Standing>
+    requires { (method : ChineseCountMethod) × (marks : List NumeralMark) × (groups : List Group)
+        × StandsRegular method marks groups standing }
+    ensures { (method : ChineseCountMethod) (marks : List NumeralMark) (groups : List Group) → StandsRegular method marks groups standing
+        → IfSome result (StandsRegular method (digit value ∷ marks) groups) }
+{
+    if !digit_may_precede(value, standing.at_digit) {
+        return None;
+    }
+    Some(Standing {
+        total: standing.total,
+        sum: add_digit(standing, value)?,
+        last: standing.last,
+        at_digit: true,
+    })
+}
+
+// Whether a unit below 萬 is greater than the section's last unit, and has a digit after it unless it is the
+// section's first.
+fn extends_section(standing: Standing, unit: Unit) -> bool
+    ensures { result ≡ (nat_lt (rank standing.last) (rank unit) && (standing.at_digit || rank standing.last == 0)) }
+{
+    unit > standing.last && (standing.at_digit || standing.last == Unit::Ge)
+}
+
+// One more unit below 萬.
+fn step_small_unit(standing: Standing, unit: Unit) -> Option<Standing>
+    ensures { (method : ChineseCountMethod) (marks : List NumeralMark) (groups : List Group) → StandsRegular method marks groups standing
+        → rank unit < 4
+        → LeavesNoTail (unit_mark unit) marks
+        → IfSome result (StandsRegular method (unit_mark unit ∷ marks) groups) }
+{
+    if !extends_section(standing, unit) {
+        return None;
+    }
+    Some(Standing {
+        total: standing.total,
+        sum: standing.sum,
+        last: unit,
+        at_digit: false,
+    })
+}
+
+// Whether a unit from 萬 up may stand there; it closes what is smaller.
+fn makes_way(groups: &mut OpenGroups, standing: Standing, unit: Unit) -> bool
+    ensures { (method : ChineseCountMethod) (marks : List NumeralMark) → StandsRegular method marks groups.old standing → 3 < rank unit
+        → IsTrue result → MayOpen method marks groups.new (rank unit) }
+{
+    if standing.at_digit {
+        groups.close_below(unit);
+        groups.is_below_top(unit)
+    } else {
+        standing.last == Unit::Ge && groups.is_below_top(unit)
+    }
+}
+
+// One more unit from 萬 up, which closes the section.
+fn step_group(
+    method: ChineseCountMethod,
+    groups: &mut OpenGroups,
+    standing: Standing,
+    unit: Unit,
+) -> Option<Standing>
+    requires { (marks : List NumeralMark) × StandsRegular method marks groups.old standing × (3 < rank unit) }
+    ensures { (marks : List NumeralMark) → StandsRegular method marks groups.old standing
+        → LeavesNoTail (unit_mark unit) marks
+        → IfSome result (StandsRegular method (unit_mark unit ∷ marks) groups.new) }
+{
+    let total = add_section(groups, standing.total, standing.sum)?;
+    if !makes_way(groups, standing, unit) {
+        return None;
+    }
+    let all = groups.exponent().checked_add(exponent(method, unit))?;
+    if all > 38 {
+        return None;
+    }
+    groups.open(unit, all as u8);
+    Some(Standing {
+        total,
+        sum: 0,
+        last: Unit::Ge,
+        at_digit: false,
+    })
+}
+
+// Whether a digit that is the text's last character would stand apart after this unit.
+fn leaves_tail(unit: Unit, standing: Standing, is_second: bool) -> bool
+    ensures { result ≡ (nat_le 2 (rank unit) && standing.at_digit && is_second) }
+{
+    unit >= Unit::Bai && standing.at_digit && is_second
+}
+
+// One more unit.
+fn step_unit(
+    method: ChineseCountMethod,
+    groups: &mut OpenGroups,
+    standing: Standing,
+    unit: Unit,
+    is_second: bool,
+) -> Option<Standing>
+    requires { (marks : List NumeralMark) × StandsRegular method marks groups.old standing }
+    ensures { (marks : List NumeralMark) → StandsRegular method marks groups.old standing → is_second ≡ (length marks == 1)
+        → IfSome result (StandsRegular method (unit_mark unit ∷ marks) groups.new) }
+{
+    if leaves_tail(unit, standing, is_second) {
+        return None;
+    }
+    if unit < Unit::Wan {
+        step_small_unit(standing, unit)
+    } else {
+        step_group(method, groups, standing, unit)
+    }
+}
+
+// One more character, by its mark.
+fn step(
+    method: ChineseCountMethod,
+    groups: &mut OpenGroups,
+    standing: Standing,
+    mark: Mark,
+    is_second: bool,
+) -> Option<Standing>
+    requires { (marks : List NumeralMark) × StandsRegular method marks groups.old standing }
+    ensures { (marks : List NumeralMark) → StandsRegular method marks groups.old standing → is_second ≡ (length marks == 1)
+        → IfSome result (StandsRegular method (marked mark ∷ marks) groups.new) }
+{
+    match mark {
+        Mark::Digit(value) => step_digit(standing, value),
+        Mark::Unit(unit) => step_unit(method, groups, standing, unit, is_second),
+        Mark::Other => None,
+    }
+}
+
+// The digit at the start of a text, where 十 is ten, if what follows lets it stand there.
+fn first_digit(first: Mark, at_digit: bool) -> Option<u8>
+    ensures { (marks : List NumeralMark) → each_may_precede marks ≡ true → at_digit ≡ starts_with_digit marks
+        → IfSome result (λ value. (is_numeral (marked first ∷ marks) ≡ true) × (opened (marked first ∷ marks) ≡ digit value ∷ marks)) }
+{
+    match first {
+        Mark::Digit(value) if digit_may_precede(value, at_digit) => Some(value),
+        Mark::Unit(Unit::Shi) => Some(10),
+        _ => None,
+    }
+}
+
+// The number of a numeral by its first character, once the others are walked.
+fn finish(groups: &OpenGroups, standing: Standing, first: Mark) -> Option<u128>
+    requires { (method : ChineseCountMethod) × (marks : List NumeralMark) × StandsRegular method marks groups.now standing }
+    ensures { (method : ChineseCountMethod) (marks : List NumeralMark) → StandsRegular method marks groups.now standing
+        → IfSome result (λ n. Judges method (marked first ∷ marks) (Ok n)) }
+{
+    let digit = first_digit(first, standing.at_digit)?;
+    add_section(groups, standing.total, add_digit(standing, digit)?)
+}
+
+/// The number of a regular numeral: of digits and units above 個 that take three bytes each, where no last
+/// digit stands apart and all is within 128 bits. `None` says nothing of a text.
+pub fn read_quickly(method: ChineseCountMethod, text: &str) -> Option<u128>
+    ensures { IfSome result (λ n. Judges method (marks_of (text_of text.now)) (Ok n)) }
+{
+    let mut groups = OpenGroups::new();
+    let mut standing = Standing {
+        total: 0,
+        sum: 0,
+        last: Unit::Ge,
+        at_digit: false,
+    };
+    let mut ahead = text;
+    'walking: while let Some((mark, before)) = split_last_known(ahead) {
+        if before.is_empty() {
+            return finish(&groups, standing, mark);
+        }
+        let is_second = text.len() - ahead.len() == 3;
+        standing = step(method, &mut groups, standing, mark, is_second)?;
+        ahead = before;
+    }
+    None
+}
