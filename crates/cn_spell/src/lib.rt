@@ -8,8 +8,10 @@
 mod characters;
 mod digits;
 mod error;
+mod groups;
 mod naive;
 mod pen;
+mod places;
 mod print;
 mod room;
 mod sign;
