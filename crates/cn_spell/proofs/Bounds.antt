@@ -12,7 +12,8 @@ use Rattle.cn_spell.specs.Working.Units.{places_within}
 use Rattle.cn_spell.proofs.PlacesLemmas.{length-places-le}
 use Rattle.cn_spell.proofs.Walks.{square}
 
-fits : (method : ChineseCountMethod) (number : ℤ) → is_printable method number ≡ true → nat_abs number < 2 ^ 128 → nat_abs number < 10 ^ places_within method
+-- its digits are few enough for the method's units
+pub fits : (method : ChineseCountMethod) (number : ℤ) → is_printable method number ≡ true → nat_abs number < 2 ^ 128 → nat_abs number < 10 ^ places_within method
 fits Low number printable small = grind (arith, nat_tests, printable)
 fits TenThousand number printable small = omega (arith, small)
 fits Middle number printable small = omega (arith, small)

@@ -9,6 +9,7 @@ mod characters;
 mod digits;
 mod error;
 mod groups;
+mod known_method;
 mod naive;
 mod pen;
 mod places;

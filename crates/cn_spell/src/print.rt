@@ -8,11 +8,11 @@ ghost use Rattle.cn_spell.specs.Writes.{Writes};
 use crate::NumberToChineseError;
 use crate::characters::Characters;
 use crate::groups::Groups;
+use crate::known_method::{ByHigh, ByLow, ByMiddle, ByTenThousand, KnownMethod};
 use crate::pen::Count;
 use crate::room::Room;
 use crate::sign::with_sign;
 use crate::spell::put_spelling;
-use cn_core::ChineseCountMethod::{High, Low, Middle, TenThousand};
 use cn_core::{ChineseCase, ChineseCountMethod, ChineseVariant, Whole};
 use std::alloc::{AllocError, Allocator};
 
@@ -28,18 +28,17 @@ fn is_printable(method: ChineseCountMethod, magnitude: u128) -> bool
     }
 }
 
-// The text of a sign and a magnitude by a method that the compiler knows, in one request for memory.
-#[inline(always)]
-fn signed_text<A: Allocator>(
+// The text of a sign and a magnitude, in one request for memory.
+fn signed_text<M: KnownMethod, A: Allocator>(
     alloc: A,
     characters: Characters,
-    method: ChineseCountMethod,
     negative: bool,
     magnitude: u128,
 ) -> Result<String<A>, AllocError>
-    requires { IsTrue (is_printable method (pos magnitude)) }
-    ensures { IfOk result (Writes (written characters.variant characters.case negative (spelling method magnitude)) (most_bytes method)) }
+    requires { IsTrue (is_printable M.stands_for (pos magnitude)) }
+    ensures { IfOk result (Writes (written characters.variant characters.case negative (spelling M.stands_for magnitude)) (most_bytes M.stands_for)) }
 {
+    let method = M::method();
     let groups = Groups::of(method, magnitude);
     let mut count = Count { characters: 0 };
     put_spelling(&mut count, characters, method, &groups);
@@ -48,7 +47,7 @@ fn signed_text<A: Allocator>(
     Ok(with_sign(room, characters, negative))
 }
 
-// The same by any method.
+// The same by a method that is given.
 fn print_magnitude<A: Allocator>(
     alloc: A,
     characters: Characters,
@@ -60,10 +59,16 @@ fn print_magnitude<A: Allocator>(
     ensures { IfOk result (Writes (written characters.variant characters.case negative (spelling method magnitude)) (most_bytes method)) }
 {
     match method {
-        Low => signed_text(alloc, characters, Low, negative, magnitude),
-        TenThousand => signed_text(alloc, characters, TenThousand, negative, magnitude),
-        Middle => signed_text(alloc, characters, Middle, negative, magnitude),
-        High => signed_text(alloc, characters, High, negative, magnitude),
+        ChineseCountMethod::Low => signed_text::<ByLow, A>(alloc, characters, negative, magnitude),
+        ChineseCountMethod::TenThousand => {
+            signed_text::<ByTenThousand, A>(alloc, characters, negative, magnitude)
+        }
+        ChineseCountMethod::Middle => {
+            signed_text::<ByMiddle, A>(alloc, characters, negative, magnitude)
+        }
+        ChineseCountMethod::High => {
+            signed_text::<ByHigh, A>(alloc, characters, negative, magnitude)
+        }
     }
 }
 
