@@ -1,5 +1,5 @@
 -- How long the texts of the numbers that a method writes are.
-use Rattle.std.proofs.Common.{◌≡◌, ◌+◌, ◌*◌, ◌^◌, ◌<◌, ◌≤◌, ℤ, nat_abs, true, length, arith}
+use Rattle.std.proofs.Common.{◌≡◌, ◌+◌, ◌*◌, ◌^◌, ◌<◌, ◌≤◌, ℕ, ℤ, pos, nat_abs, true, length, refl, arith}
 use Rattle.std.proofs.lemmas.Bool.Decides.{nat_tests}
 use Rattle.cn_core.specs.declared.method.ChineseCountMethod.{ChineseCountMethod}
 use Rattle.cn_core.specs.declared.method.ChineseCountMethod.TheVariants.{Low, TenThousand, Middle, High}
@@ -12,7 +12,8 @@ use Rattle.cn_spell.specs.Working.Units.{places_within}
 use Rattle.cn_spell.proofs.PlacesLemmas.{length-places-le}
 use Rattle.cn_spell.proofs.Walks.{square}
 
-fits : (method : ChineseCountMethod) (number : ℤ) → is_printable method number ≡ true → nat_abs number < 2 ^ 128 → nat_abs number < 10 ^ places_within method
+-- its digits are few enough for the method's units
+pub fits : (method : ChineseCountMethod) (number : ℤ) → is_printable method number ≡ true → nat_abs number < 2 ^ 128 → nat_abs number < 10 ^ places_within method
 fits Low number printable small = grind (arith, nat_tests, printable)
 fits TenThousand number printable small = omega (arith, small)
 fits Middle number printable small = omega (arith, small)
@@ -23,10 +24,6 @@ some-places Low = omega arith
 some-places TenThousand = omega arith
 some-places Middle = omega arith
 some-places High = omega arith
-
--- its digits are few enough for the method's units
-pub places-fit : (method : ChineseCountMethod) (number : ℤ) → is_printable method number ≡ true → nat_abs number < 2 ^ 128 → length (places_of (nat_abs number)) ≤ places_within method
-places-fit method number printable small = length-places-le (places_within method) (nat_abs number) (some-places method) (fits method number printable small) (omega (arith, small))
 
 -- the marks of its spelling, and its sign
 pub marks-fit : (method : ChineseCountMethod) (number : ℤ) → is_printable method number ≡ true → nat_abs number < 2 ^ 128 → 3 * (length (spelling method (nat_abs number)) + 1) ≤ most_bytes method
@@ -45,3 +42,10 @@ most_bytes-le Low = omega arith
 most_bytes-le TenThousand = omega arith
 most_bytes-le Middle = omega arith
 most_bytes-le High = omega arith
+
+-- a magnitude is printed where its number is
+pub printable : (method : ChineseCountMethod) (number : ℤ) (magnitude : ℕ) → magnitude ≡ nat_abs number → is_printable method number ≡ true → is_printable method (pos magnitude) ≡ true
+printable Low number magnitude same h = rw same h
+printable TenThousand number magnitude same h = refl
+printable Middle number magnitude same h = refl
+printable High number magnitude same h = refl

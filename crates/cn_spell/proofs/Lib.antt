@@ -1,9 +1,13 @@
 pub mod Bounds
+pub mod GroupCuts
+pub mod GroupWalks
 pub mod NaiveTexts
 pub mod Pens
 pub mod PlacesLemmas
 pub mod Rooms
 pub mod Signs
+pub mod Single
+pub mod SingleTops
 pub mod Tables
 pub mod ThreeBytes
 pub mod Tops

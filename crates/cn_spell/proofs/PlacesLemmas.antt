@@ -129,43 +129,6 @@ value-places = decimal_by_steps_wide (λ number bytes. places_value (reverse (ma
       ap reverse (map-append value bytes ((48 + number % 10) ∷ [])) ∙ reverse-append (map value bytes) (value (48 + number % 10) ∷ []) in
       rw e (omega (arith, rest))
 
--- the digit at a place, by division
-pub digit-at : (number place : ℕ) → number < 10 ^ 64 → place < length (places_of number) → slice_index (places_of number) place ≡ number / 10 ^ place % 10
-digit-at number zero small less = elim (dec_lt number 10) [
-  | yes low ↦ rw (places-digit number low) (omega (arith, low))
-  | no high ↦ rw (places-step number (omega (arith, high)) small) (omega arith)
-]
-digit-at number (suc place) small less = elim (dec_lt number 10) [
-  | yes low ↦ absurd (omega (arith, less, ap length (places-digit number low)))
-  | no high ↦
-      let step = places-step number (omega (arith, high)) small in
-      let power : 10 * 10 ^ place ≡ 10 ^ suc place = omega arith in
-      let rest : number / 10 / 10 ^ place ≡ number / 10 ^ suc place = div-div-eq-div-mul number 10 (10 ^ place) ∙ ap (λ p. number / p) power in
-      rw step (digit-at (number / 10) place (omega (arith, small)) (omega (arith, less, ap length step)) ∙ ap (λ n. n % 10) rest)
-]
-
--- the number reaches its highest place, but for 0
-pub reaches : (count number : ℕ) → number < 10 ^ 64 → 0 < number → length (places_of number) ≡ suc count → 10 ^ count ≤ number
-reaches zero number small pos size = omega (arith, pos)
-reaches (suc count) number small pos size = elim (dec_lt number 10) [
-  | yes low ↦ absurd (omega (arith, size, ap length (places-digit number low)))
-  | no high ↦
-      let step = places-step number (omega (arith, high)) small in
-      let p = reaches count (number / 10) (omega (arith, small)) (omega (arith, high)) (omega (arith, size, ap length step)) in
-      omega (arith, p)
-]
-
--- and stays below the next
-pub below-next : (count number : ℕ) → number < 10 ^ 64 → length (places_of number) ≤ count → number < 10 ^ count
-below-next zero number small size = absurd (omega (arith, size, length-places-some number small))
-below-next (suc count) number small size = elim (dec_lt number 10) [
-  | yes low ↦ let p : 1 ≤ 10 ^ count = one-le-pow count 10 (omega arith) in omega (arith, p, low)
-  | no high ↦
-      let step = places-step number (omega (arith, high)) small in
-      let p = below-next count (number / 10) (omega (arith, small)) (omega (arith, size, ap length step)) in
-      omega (arith, p)
-]
-
 -- the digits of a number, as they are held
 pub holds : (number len : ℕ) (places : List ℕ) → number < 10 ^ 39 → places ≡ places_of number → len ≡ length (places_of number) → HoldsPlaces len places
 holds number len places small same size =

@@ -263,3 +263,128 @@ digit-over method (width ∷ widths) outer place d below inner filled above link
                 ∙ ap (λ marks. digit d ∷ (marks ++ part method below)) (otherwise test)
           ]
     ]
+
+-- the same for a group of four places: the widths part a group of the outer width down to groups of four
+abbrev pub is_chain_of_four : ChineseCountMethod → ℕ → List ℕ → Bool
+is_chain_of_four method outer [] = false
+is_chain_of_four method outer (width ∷ []) = outer == 4 && width == 1
+is_chain_of_four method outer (width ∷ next ∷ widths) =
+    nat_lt 0 width && outer % width == 0 && width % 4 == 0 && all_stand method outer width (places_within method) && is_chain_of_four method width (next ∷ widths)
+
+join-group : (method : ChineseCountMethod) (lead below size width rank : ℕ) (group marks : List Mark) → Stands method size width rank → 10 ^ size ≤ below
+    → lead * 10 ^ size + below < 10 ^ (size + width) → lead * 10 ^ size + below < scale method 15 * scale method 15
+    → part method (lead + below / 10 ^ size) ≡ group ++ (marks ++ part method (below / 10 ^ size))
+    → part method (lead * 10 ^ size + below) ≡ group ++ (marks ++ part method below)
+join-group method lead below size width rank group marks unit_is least fits few known =
+    let size_pos : 0 < 10 ^ size = one-le-pow size 10 (omega arith) in
+    let high = below / 10 ^ size in
+    let low = below % 10 ^ size in
+    let less : low < 10 ^ size = mod-lt below size_pos in
+    let split : below ≡ high * 10 ^ size + low = omega (arith, div-add-mod below (10 ^ size)) in
+    let some : 0 < high = elim (dec_lt 0 high) [ yes p ↦ p | no p ↦ absurd (let z : high ≡ 0 = omega (arith, p) in let e : below ≡ 0 * 10 ^ size + low = rw z at split in omega (arith, e, less, least)) ] in
+    let whole : lead * 10 ^ size + below ≡ (lead + high) * 10 ^ size + low = omega (arith, split) in
+    let tail : List Mark = unit rank ∷ (gap low (10 ^ size) ++ part method low) in
+    let one : part method ((lead + high) * 10 ^ size + low) ≡ part method (lead + high) ++ tail = cut method (lead + high) low size width rank unit_is (omega (arith, some)) less (omega (arith, fits, whole)) (omega (arith, few, whole)) in
+    let two : part method (high * 10 ^ size + low) ≡ part method high ++ tail = cut method high low size width rank unit_is some less (omega (arith, fits, split)) (omega (arith, few, split)) in
+    ap (λ n. part method n) whole ∙ one ∙ ap (λ front. front ++ tail) known
+    ∙ append_assoc group (marks ++ part method high) tail ∙ ap (λ rest. group ++ rest) (append_assoc marks (part method high) tail)
+    ∙ ap (λ rest. group ++ (marks ++ rest)) (sym two ∙ ap (λ n. part method n) (sym split))
+
+-- a unit stands at no start below what is written
+past-one : (method : ChineseCountMethod) (place filled above : ℕ) → place < above → units_over method place filled above (1 ∷ []) ≡ []
+past-one method place filled above past =
+    let test : nat_le above (start_of 1 place) ≡ false = grind (arith, nat_tests, past) in
+    rw test refl
+
+few-of : (method : ChineseCountMethod) (number places : ℕ) → number < 10 ^ places → places ≤ exponent method 15 + exponent method 15 → number < scale method 15 * scale method 15
+few-of method number places h within =
+    let e : 10 ^ (exponent method 15 + exponent method 15) ≡ scale method 15 * scale method 15 = pow-add 10 (exponent method 15) (exponent method 15) in
+    let p : 10 ^ places ≤ 10 ^ (exponent method 15 + exponent method 15) = pow-le-pow_right (omega arith) within in
+    omega (arith, h, p, e)
+
+-- a group of four places in front of what stands below it
+pub group-over : (method : ChineseCountMethod) (widths : List ℕ) (outer place g below inner filled above : ℕ) → is_chain_of_four method outer widths ≡ true → place < places_within method
+    → place + 4 ≤ exponent method 15 + exponent method 15 → place % 4 ≡ 0 → 0 < g → g < 10 ^ 4
+    → below < 10 ^ (place % outer) → Fills inner below → above ≡ (place - place % outer) + max inner 1 → (0 < inner → filled ≡ above) → (inner ≡ 0 → filled < above)
+    → part method (g * 10 ^ (place % outer) + below) ≡ part method g ++ (units_over method place filled above widths ++ part method below)
+group-over method [] outer place g below inner filled above links within room four pos ten small fills is_above some none = cc
+group-over method (width ∷ []) outer place g below inner filled above links within room four pos ten small fills is_above some none =
+    let is_four : outer ≡ 4 = let t = and-left (outer == 4) _ links in grind (arith, nat_tests, t) in
+    let is_one : width ≡ 1 = let t = and-right (outer == 4) _ links in grind (arith, nat_tests, t) in
+    let zero : place % outer ≡ 0 = rw is_four four in
+    let empty : below ≡ 0 = let p : 10 ^ (place % outer) ≡ 1 = ap (λ n. 10 ^ n) zero in omega (arith, p, small) in
+    let past : place < above = omega (arith, is_above, zero) in
+    let only : g * 10 ^ 0 + 0 ≡ g = omega arith in
+    rw (zero, empty, only, is_one, past-one method place filled above past) (sym (append-nil (part method g)))
+group-over method (width ∷ next ∷ widths) outer place g below inner filled above links within room four pos ten small fills is_above some none =
+    let two = and-left (nat_lt 0 width && outer % width == 0) _ (and-left (nat_lt 0 width && outer % width == 0 && width % 4 == 0) _
+    (and-left (nat_lt 0 width && outer % width == 0 && width % 4 == 0 && all_stand method outer width (places_within method)) _ links)) in
+    let wide : nat_lt 0 width ≡ true = and-left (nat_lt 0 width) _ two in
+    let even : (outer % width == 0) ≡ true = and-right (nat_lt 0 width) _ two in
+    let fours : (width % 4 == 0) ≡ true = and-right (nat_lt 0 width && outer % width == 0) _ (and-left (nat_lt 0 width && outer % width == 0 && width % 4 == 0) _
+    (and-left (nat_lt 0 width && outer % width == 0 && width % 4 == 0 && all_stand method outer width (places_within method)) _ links)) in
+    let stand = all_stand-at method outer width (places_within method) place (and-right (nat_lt 0 width && outer % width == 0 && width % 4 == 0) _
+    (and-left (nat_lt 0 width && outer % width == 0 && width % 4 == 0 && all_stand method outer width (places_within method)) _ links)) within in
+    let rest : is_chain_of_four method width (next ∷ widths) ≡ true = and-right (nat_lt 0 width && outer % width == 0 && width % 4 == 0 && all_stand method outer width (places_within method)) _ links in
+    let start = start_of width place in
+    let size = place % outer - place % width in
+    let wider : 0 < width = grind (arith, nat_tests, wide) in
+    let divides : outer % width ≡ 0 = grind (arith, nat_tests, even) in
+    let of_four : width % 4 ≡ 0 = grind (arith, nat_tests, fours) in
+    let inside : place % outer % width ≡ place % width = mod-mod_of_dvd width place (dvd_of_mod-eq-zero width divides) in
+    let inside_four : place % width % 4 ≡ 0 = mod-mod_of_dvd 4 place (dvd_of_mod-eq-zero 4 of_four) ∙ four in
+    let rest_less : place % width < width = omega (arith, wider) in
+    let rest_four : place % width + 4 ≤ width = omega (arith, rest_less, inside_four, of_four, div-add-mod (place % width) 4, div-add-mod width 4) in
+    let rest_in : place % width ≤ place % outer = omega (arith, inside, mod-le (place % outer) width) in
+    let outer_in : place % outer ≤ place = mod-le place outer in
+    let is_start : start ≡ (place - place % outer) + size = omega (arith, rest_in, outer_in) in
+    let power : 10 ^ (place % outer) ≡ 10 ^ (place % width) * 10 ^ size = let e : place % outer ≡ place % width + size = omega (arith, rest_in) in ap (λ n. 10 ^ n) e ∙ pow-add 10 (place % width) size in
+    let whole : g * 10 ^ (place % outer) ≡ g * 10 ^ (place % width) * 10 ^ size = ap (λ n. g * n) power ∙ omega arith in
+    let top : 10 ^ (place % outer + 4) ≡ 10 ^ (place % outer) * 10000 = pow-add 10 (place % outer) 4 in
+    let g_most : g * 10 ^ (place % outer) ≤ 9999 * 10 ^ (place % outer) = mul-le-mul_right (10 ^ (place % outer)) (omega (arith, ten)) in
+    let number : g * 10 ^ (place % outer) + below < 10 ^ (place % outer + 4) = omega (arith, g_most, small, top) in
+    let fits : g * 10 ^ (place % outer) + below < 10 ^ (size + width) = let p : 10 ^ (place % outer + 4) ≤ 10 ^ (size + width) = pow-le-pow_right (omega arith) (omega (arith, rest_four, rest_in)) in omega (arith, p, number) in
+    let few : g * 10 ^ (place % outer) + below < scale method 15 * scale method 15 = few-of method _ (place % outer + 4) number (omega (arith, outer_in, room)) in
+    let lead : 0 < g * 10 ^ (place % width) = let p : 1 ≤ 10 ^ (place % width) = one-le-pow (place % width) 10 (omega arith) in let q : g * 1 ≤ g * 10 ^ (place % width) = mul-le-mul_left g p in omega (arith, q, pos) in
+    elim (dec_lt start above) [
+      | no reach ↦
+          let test : nat_le above start ≡ true = grind (arith, nat_tests, reach) in
+          let one : 1 ≤ size = omega (arith, reach, is_start, is_above) in
+          let inner_in : inner ≤ size = omega (arith, reach, is_start, is_above) in
+          let below_small : below < 10 ^ size = let p : 10 ^ inner ≤ 10 ^ size = pow-le-pow_right (omega arith) inner_in in omega (arith, p, fills.below) in
+          let unit_is = Stands-stands method outer width place stand (omega (arith, one)) in
+          let lower : filled < start + 1 = elim (dec_lt 0 inner) [ yes p ↦ omega (arith, some p, reach) | no p ↦ omega (arith, none (omega (arith, p)), reach) ] in
+          let more = group-over method (next ∷ widths) width place g 0 0 filled (start + 1) rest within room four pos ten (one-le-pow (place % width) 10 (omega arith)) (record { below = omega arith; reach = λ z. absurd (omega (arith, z)) })
+          (omega arith) (λ z. absurd (omega (arith, z))) (λ z. lower) in
+          let front_part : part method (g * 10 ^ (place % width)) ≡ part method g ++ units_over method place filled (start + 1) (next ∷ widths) =
+          let e : g * 10 ^ (place % width) + 0 ≡ g * 10 ^ (place % width) = omega arith in
+          let none_left = append-nil (units_over method place filled (start + 1) (next ∷ widths)) in
+          rw e at more ∙ ap (λ marks. part method g ++ marks) none_left in
+          let split = cut method (g * 10 ^ (place % width)) below size width (rank_at method start) unit_is lead below_small (omega (arith, fits, whole)) (omega (arith, few, whole)) in
+          let flag = gap-flag inner size filled above below start (place - place % outer) fills inner_in one is_start is_above some none in
+          ap (λ n. part method (n + below)) whole ∙ split
+          ∙ ap (λ marks. marks ++ (unit (rank_at method start) ∷ (gap below (10 ^ size) ++ part method below))) front_part
+          ∙ append_assoc (part method g) (units_over method place filled (start + 1) (next ∷ widths)) (unit (rank_at method start) ∷ (gap below (10 ^ size) ++ part method below))
+          ∙ ap (λ marks. part method g ++ (units_over method place filled (start + 1) (next ∷ widths) ++ (unit (rank_at method start) ∷ (marks ++ part method below)))) flag
+          ∙ ap (λ marks. part method g ++ marks) (sym (append_assoc (units_over method place filled (start + 1) (next ∷ widths)) (unit_front method filled above start) (part method below)))
+          ∙ ap (λ marks. part method g ++ (marks ++ part method below)) (if-then (units_over method place filled (start + 1) (next ∷ widths) ++ unit_front method filled above start) (units_over method place filled above (next ∷ widths)) test)
+      | yes short ↦
+          let test : nat_le above start ≡ false = grind (arith, nat_tests, short) in
+          let otherwise = if-else (units_over method place filled (start + 1) (next ∷ widths) ++ unit_front method filled above start) (units_over method place filled above (next ∷ widths)) in
+          elim (dec_lt 0 size) [
+            | no none_in ↦
+                let same : place % outer ≡ place % width = omega (arith, none_in, rest_in) in
+                let more = group-over method (next ∷ widths) width place g below inner filled above rest within room four pos ten (rw same at small) fills (rw same at is_above) some none in
+                ap (λ n. part method (g * 10 ^ n + below)) same ∙ more ∙ ap (λ marks. part method g ++ (marks ++ part method below)) (otherwise test)
+            | yes some_in ↦
+                let deep : size < inner = omega (arith, short, is_start, is_above, some_in) in
+                let least : 10 ^ size ≤ below = let p : 10 ^ size ≤ 10 ^ (inner - 1) = pow-le-pow_right (omega arith) (omega (arith, deep)) in omega (arith, p, fills.reach (omega (arith, deep))) in
+                let high_small : below / 10 ^ size < 10 ^ (place % width) = lt_of_mul-lt-mul_right (10 ^ size) (omega (arith, small, power, div-mul-le_self below (10 ^ size))) in
+                let more = group-over method (next ∷ widths) width place g (below / 10 ^ size) (inner - size) filled above rest within room four pos ten high_small (Fills-above inner size below fills deep)
+                (omega (arith, is_above, is_start, deep)) (λ z. some (omega (arith, deep))) (λ z. absurd (omega (arith, z, deep))) in
+                ap (λ n. part method (n + below)) whole
+                ∙ join-group method (g * 10 ^ (place % width)) below size width (rank_at method start) (part method g) (units_over method place filled above (next ∷ widths)) (Stands-stands method outer width place stand some_in) least
+                (omega (arith, fits, whole)) (omega (arith, few, whole)) more
+                ∙ ap (λ marks. part method g ++ (marks ++ part method below)) (otherwise test)
+          ]
+    ]

@@ -8,8 +8,11 @@
 mod characters;
 mod digits;
 mod error;
+mod groups;
+mod known_method;
 mod naive;
 mod pen;
+mod places;
 mod print;
 mod room;
 mod sign;

@@ -1,10 +1,11 @@
 // What marks are written by, from the last to the first: once to count them, once to fill a room.
-ghost use Rattle.std.specs.Prelude.{◌≡◌, ℕ, ◌+◌, ◌-◌, ◌*◌, ◌^◌, ◌≤◌, ◌<◌, List, ◌∷◌, length, map, encode_utf8_all};
+ghost use Rattle.std.specs.Prelude.{◌≡◌, ℕ, ◌+◌, ◌-◌, ◌*◌, ◌^◌, ◌≤◌, ◌<◌, List, ◌++◌, length, map, encode_utf8_all};
 ghost use Rattle.cn_core.specs.declared.script.ChineseVariant.{ChineseVariant};
 ghost use Rattle.cn_core.specs.declared.case.ChineseCase.{ChineseCase};
 ghost use Rattle.cn_core.specs.Characters.{rank};
 ghost use Rattle.cn_core.specs.Mark.{Mark, digit, unit};
 ghost use Rattle.cn_core.specs.Written.{mark_char};
+ghost use Rattle.cn_spell.specs.Working.Groups.{kept};
 
 use crate::characters::Characters;
 use crate::room::Room;
@@ -19,18 +20,20 @@ pub trait Pen {
     // What it has taken are these marks, in a script and case.
     ghost shows: { Self → ChineseVariant → ChineseCase → List Mark → Type 0 };
 
-    fn put_digit(&mut self, characters: Characters, value: u8)
+    // Puts a digit where it is kept; there is room for it in either case.
+    fn put_digit_if(&mut self, characters: Characters, is_kept: bool, value: u8)
         requires value { value < 10 }
         requires room { 3 ≤ left self.old }
-        ensures room { left self.new + 3 ≡ left self.old }
+        ensures room { left self.new + 3 * length (kept is_kept (digit value)) ≡ left self.old }
         ensures marks { (marks : List Mark) → shows self.old characters.variant characters.case marks
-            → shows self.new characters.variant characters.case (digit value ∷ marks) };
+            → shows self.new characters.variant characters.case (kept is_kept (digit value) ++ marks) };
 
-    fn put_unit(&mut self, characters: Characters, value: Unit)
+    // The same for a unit.
+    fn put_unit_if(&mut self, characters: Characters, is_kept: bool, value: Unit)
         requires room { 3 ≤ left self.old }
-        ensures room { left self.new + 3 ≡ left self.old }
+        ensures room { left self.new + 3 * length (kept is_kept (unit (rank value))) ≡ left self.old }
         ensures marks { (marks : List Mark) → shows self.old characters.variant characters.case marks
-            → shows self.new characters.variant characters.case (unit (rank value) ∷ marks) };
+            → shows self.new characters.variant characters.case (kept is_kept (unit (rank value)) ++ marks) };
 }
 
 /// Counts characters and writes none.
@@ -45,13 +48,13 @@ impl Pen for Count {
     ghost shows = { λ count variant case marks. count.characters ≡ length marks };
 
     #[inline(always)]
-    fn put_digit(&mut self, _characters: Characters, _value: u8) {
-        self.characters += 1;
+    fn put_digit_if(&mut self, _characters: Characters, is_kept: bool, _value: u8) {
+        self.characters += is_kept as usize;
     }
 
     #[inline(always)]
-    fn put_unit(&mut self, _characters: Characters, _value: Unit) {
-        self.characters += 1;
+    fn put_unit_if(&mut self, _characters: Characters, is_kept: bool, _value: Unit) {
+        self.characters += is_kept as usize;
     }
 }
 
@@ -62,12 +65,12 @@ impl<A: Allocator> Pen for Room<A> {
         (room.text ≡ encode_utf8_all (map (mark_char variant case) marks)) × (length room.text ≡ 3 * length marks) };
 
     #[inline(always)]
-    fn put_digit(&mut self, characters: Characters, value: u8) {
-        self.put(characters.digit(value));
+    fn put_digit_if(&mut self, characters: Characters, is_kept: bool, value: u8) {
+        self.put_if(is_kept, characters.digit(value));
     }
 
     #[inline(always)]
-    fn put_unit(&mut self, characters: Characters, value: Unit) {
-        self.put(characters.unit(value));
+    fn put_unit_if(&mut self, characters: Characters, is_kept: bool, value: Unit) {
+        self.put_if(is_kept, characters.unit(value));
     }
 }

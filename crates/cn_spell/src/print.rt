@@ -1,12 +1,14 @@
 // Printing by units.
 ghost use Rattle.std.specs.Prelude.{◌≡◌, pos, IfOk, IsTrue};
-ghost use Rattle.cn_core.specs.Written.{spelled_text, is_printable};
+ghost use Rattle.cn_core.specs.Spelling.{spelling};
+ghost use Rattle.cn_core.specs.Written.{written, spelled_text, is_printable};
 ghost use Rattle.cn_spell.specs.Prints.{Prints, most_bytes};
 ghost use Rattle.cn_spell.specs.Writes.{Writes};
 
 use crate::NumberToChineseError;
 use crate::characters::Characters;
-use crate::digits::Digits;
+use crate::groups::Groups;
+use crate::known_method::{ByHigh, ByLow, ByMiddle, ByTenThousand, KnownMethod};
 use crate::pen::Count;
 use crate::room::Room;
 use crate::sign::with_sign;
@@ -26,7 +28,51 @@ fn is_printable(method: ChineseCountMethod, magnitude: u128) -> bool
     }
 }
 
-/// The spelling of a number that the method writes, in one request for memory.
+// The text of a sign and a magnitude, in one request for memory.
+fn signed_text<M: KnownMethod, A: Allocator>(
+    alloc: A,
+    characters: Characters,
+    negative: bool,
+    magnitude: u128,
+) -> Result<String<A>, AllocError>
+    requires { IsTrue (is_printable M.stands_for (pos magnitude)) }
+    ensures { IfOk result (Writes (written characters.variant characters.case negative (spelling M.stands_for magnitude)) (most_bytes M.stands_for)) }
+{
+    let method = M::method();
+    let groups = Groups::of(method, magnitude);
+    let mut count = Count { characters: 0 };
+    put_spelling(&mut count, characters, method, &groups);
+    let mut room = Room::for_characters(alloc, count.characters + negative as usize)?;
+    put_spelling(&mut room, characters, method, &groups);
+    Ok(with_sign(room, characters, negative))
+}
+
+// The same by a method that is given.
+fn print_magnitude<A: Allocator>(
+    alloc: A,
+    characters: Characters,
+    method: ChineseCountMethod,
+    negative: bool,
+    magnitude: u128,
+) -> Result<String<A>, AllocError>
+    requires { IsTrue (is_printable method (pos magnitude)) }
+    ensures { IfOk result (Writes (written characters.variant characters.case negative (spelling method magnitude)) (most_bytes method)) }
+{
+    match method {
+        ChineseCountMethod::Low => signed_text::<ByLow, A>(alloc, characters, negative, magnitude),
+        ChineseCountMethod::TenThousand => {
+            signed_text::<ByTenThousand, A>(alloc, characters, negative, magnitude)
+        }
+        ChineseCountMethod::Middle => {
+            signed_text::<ByMiddle, A>(alloc, characters, negative, magnitude)
+        }
+        ChineseCountMethod::High => {
+            signed_text::<ByHigh, A>(alloc, characters, negative, magnitude)
+        }
+    }
+}
+
+/// The spelling of a number that the method writes.
 pub fn print_by_units<T: Whole, A: Allocator>(
     alloc: A,
     variant: ChineseVariant,
@@ -38,12 +84,13 @@ pub fn print_by_units<T: Whole, A: Allocator>(
     ensures { IfOk result (Writes (spelled_text variant case method (T.number value)) (most_bytes method)) }
 {
     let characters = Characters::new(variant, case);
-    let digits = Digits::of(value.magnitude());
-    let negative = value.is_negative();
-    let count = put_spelling(Count { characters: 0 }, characters, method, &digits);
-    let room = Room::for_characters(alloc, count.characters + negative as usize)?;
-    let room = put_spelling(room, characters, method, &digits);
-    Ok(with_sign(room, characters, negative))
+    print_magnitude(
+        alloc,
+        characters,
+        method,
+        value.is_negative(),
+        value.magnitude(),
+    )
 }
 
 /// The same for any number: what the method does not write is refused before memory is asked for.

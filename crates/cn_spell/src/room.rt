@@ -1,5 +1,5 @@
 // The room of a text, which is filled from its last character to its first.
-ghost use Rattle.std.specs.Prelude.{◌≡◌, ◌≤◌, ◌-◌, ◌*◌, ◌++◌, [], true, drop, IfOk, string_bytes, string_len, length};
+ghost use Rattle.std.specs.Prelude.{◌≡◌, ◌≤◌, ◌-◌, ◌*◌, ◌++◌, [], true, drop, IfOk, string_bytes, string_len, length, if◌then◌else◌};
 ghost use Rattle.std.specs.Str.{IsUtf8, is_utf8};
 ghost use Rattle.cn_spell.specs.Working.Room.{Filling};
 
@@ -21,6 +21,14 @@ impl<A: Allocator> Model for Room<A> {
     ghost invariant = { λ room. (room.free ≤ length room.bytes.items) × (is_utf8 (drop room.free room.bytes.items) ≡ true) };
 }
 
+// How many bytes a character takes.
+#[inline(always)]
+fn taken(is_kept: bool) -> usize
+    ensures { result ≡ (if is_kept then 3 else 0) }
+{
+    3 * is_kept as usize
+}
+
 impl<A: Allocator> Room<A> {
     /// Takes the whole room in one request: three bytes for each character.
     pub fn for_characters(alloc: A, count: usize) -> Result<Self, AllocError>
@@ -39,11 +47,21 @@ impl<A: Allocator> Room<A> {
         requires utf8 { IsUtf8 character }
         ensures { self.new ≡ record { free = self.old.free - 3; text = character ++ self.old.text } }
     {
+        self.put_if(true, character);
+    }
+
+    /// Puts it there where it is kept; its bytes are written in either case, so that nothing branches.
+    #[inline(always)]
+    pub fn put_if(&mut self, is_kept: bool, character: [u8; 3])
+        requires room { 3 ≤ self.old.free }
+        requires utf8 { IsUtf8 character }
+        ensures { self.new ≡ (if is_kept then record { free = self.old.free - 3; text = character ++ self.old.text } else self.old) }
+    {
         let start = self.free - 3;
         self.bytes[start] = character[0];
         self.bytes[start + 1] = character[1];
         self.bytes[start + 2] = character[2];
-        self.free = start;
+        self.free -= taken(is_kept);
     }
 
     /// The text of a full room, in the memory that it has.

@@ -1,15 +1,16 @@
 // A magnitude's spelling, written from its lowest digit up.
-ghost use Rattle.std.specs.Prelude.{◌≡◌, ℕ, ◌+◌, ◌*◌, ◌<◌, ◌≤◌, ◌==◌, ◌&&◌, List, [], ◌++◌, length};
+ghost use Rattle.std.specs.Prelude.{◌≡◌, ℕ, ◌+◌, ◌*◌, ◌%◌, ◌^◌, ◌<◌, ◌≤◌, List, [], ◌++◌, length};
 ghost use Rattle.cn_core.specs.Mark.{Mark};
 ghost use Rattle.cn_core.specs.Spelling.{spelling};
-ghost use Rattle.cn_spell.specs.Working.Places.{places_of};
-ghost use Rattle.cn_spell.specs.Working.Units.{places_within, rank_at, front};
+ghost use Rattle.cn_spell.specs.Working.Groups.{groups_within, front_limit};
+ghost use Rattle.cn_spell.specs.Working.Units.{places_within, front};
 
 use crate::characters::Characters;
-use crate::digits::Digits;
+use crate::groups::Groups;
 use crate::pen::Pen;
+use crate::places::{put_group, put_places};
 use crate::units::{unit_at, widths};
-use cn_core::{ChineseCountMethod, Unit};
+use cn_core::ChineseCountMethod;
 
 // Puts the units that a digit at a place stands before, in front of what is written: it has digits at the
 // places below `filled` alone. 零 stands behind them where the next place below is empty.
@@ -32,15 +33,16 @@ fn put_units<P: Pen>(
         let start = place - place % *width;
         if start >= above {
             if above == filled && filled < start {
-                pen.put_digit(characters, 0);
+                pen.put_digit_if(characters, true, 0);
             }
-            pen.put_unit(characters, unit_at(method, start));
+            pen.put_unit_if(characters, true, unit_at(method, start));
             above = start + 1;
         }
     }
 }
 
-// The same, soon done where the place below is filled: then the place's own unit is the only one.
+// The same for a group that begins at the place, soon done where the group below is not empty: then the
+// group's own unit is the only one.
 #[inline(always)]
 fn put_front<P: Pen>(
     pen: &mut P,
@@ -49,92 +51,67 @@ fn put_front<P: Pen>(
     place: usize,
     filled: usize,
 )
-    requires place { place < places_within method }
+    requires group { place % 4 ≡ 0 }
+    requires place { place ≤ 4 * groups_within method }
+    requires filled { filled ≤ place }
     requires room { 3 * length (front method place filled) ≤ P.left pen.old }
     ensures room { P.left pen.new + 3 * length (front method place filled) ≡ P.left pen.old }
     ensures marks { (marks : List Mark) → P.shows pen.old characters.variant characters.case marks
         → P.shows pen.new characters.variant characters.case (front method place filled ++ marks) }
 {
-    if filled != place {
-        put_units(pen, characters, method, place, filled);
-    } else if place > 0 {
-        pen.put_unit(characters, unit_at(method, place));
+    if place > 0 {
+        if filled + 4 > place {
+            pen.put_digit_if(characters, filled < place, 0);
+            pen.put_unit_if(characters, true, unit_at(method, place));
+        } else {
+            put_units(pen, characters, method, place, filled);
+        }
     }
 }
 
-// Whether a highest digit is 一 before 十, which is not written.
+// How many digits a group has that is not empty.
 #[inline(always)]
-fn is_left_out(method: ChineseCountMethod, top: usize, digit: u8) -> bool
-    requires { top < places_within method }
-    ensures { result ≡ (digit == 1 && rank_at method top == 1) }
+fn digits_of(group: u16) -> usize
+    requires some { 0 < group }
+    requires group { group < 10 ^ 4 }
+    ensures some { 0 < result }
+    ensures most { result ≤ 4 }
+    ensures below { group < 10 ^ result }
+    ensures reach { 10 ^ result ≤ 10 * group }
 {
-    digit == 1 && unit_at(method, top) == Unit::Shi
+    match group {
+        0..10 => 1,
+        10..100 => 2,
+        100..1000 => 3,
+        _ => 4,
+    }
 }
 
-// Puts a magnitude's spelling by a method that the compiler knows.
+/// Puts a magnitude's spelling, from its lowest group up.
 #[inline(always)]
-fn put_digits<P: Pen>(
+pub fn put_spelling<P: Pen>(
     pen: &mut P,
     characters: Characters,
     method: ChineseCountMethod,
-    digits: &Digits,
+    groups: &Groups,
 )
-    requires places { length (places_of digits.now) ≤ places_within method }
-    requires room { 3 * length (spelling method digits.now) ≤ P.left pen.old }
+    requires number { groups.now.number < 10 ^ 39 }
+    requires count { groups.now.count ≤ groups_within method }
+    requires front { groups.now.front < front_limit method }
+    requires room { 3 * length (spelling method groups.now.number) ≤ P.left pen.old }
     requires empty { P.shows pen.old characters.variant characters.case [] }
-    ensures room { P.left pen.new + 3 * length (spelling method digits.now) ≡ P.left pen.old }
-    ensures marks { P.shows pen.new characters.variant characters.case (spelling method digits.now) }
+    ensures room { P.left pen.new + 3 * length (spelling method groups.now.number) ≡ P.left pen.old }
+    ensures marks { P.shows pen.new characters.variant characters.case (spelling method groups.now.number) }
 {
-    let top = digits.len() - 1;
     let mut filled = 0;
-    for place in 0..top {
-        let digit = digits.at(place);
-        if digit > 0 {
-            put_front(pen, characters, method, place, filled);
-            pen.put_digit(characters, digit);
-            filled = place + 1;
+    for index in 0..groups.count {
+        let group = groups.groups[index];
+        if group > 0 {
+            put_front(pen, characters, method, 4 * index, filled);
+            put_group(pen, characters, group);
+            filled = 4 * index + digits_of(group);
         }
     }
-    put_front(pen, characters, method, top, filled);
-    let digit = digits.at(top);
-    if !is_left_out(method, top, digit) {
-        pen.put_digit(characters, digit);
-    }
-}
-
-/// Puts a magnitude's spelling, from its lowest digit up, and gives the pen back.
-pub fn put_spelling<P: Pen>(
-    pen: P,
-    characters: Characters,
-    method: ChineseCountMethod,
-    digits: &Digits,
-) -> P
-    requires places { length (places_of digits.now) ≤ places_within method }
-    requires room { 3 * length (spelling method digits.now) ≤ P.left pen }
-    requires empty { P.shows pen characters.variant characters.case [] }
-    ensures room { P.left result + 3 * length (spelling method digits.now) ≡ P.left pen }
-    ensures marks { P.shows result characters.variant characters.case (spelling method digits.now) }
-{
-    let mut pen = pen;
-    match method {
-        ChineseCountMethod::Low => put_digits(
-            &mut pen,
-            characters,
-            ChineseCountMethod::Low,
-            digits,
-        ),
-        ChineseCountMethod::TenThousand => put_digits(
-            &mut pen,
-            characters,
-            ChineseCountMethod::TenThousand,
-            digits,
-        ),
-        ChineseCountMethod::Middle => {
-            put_digits(&mut pen, characters, ChineseCountMethod::Middle, digits)
-        }
-        ChineseCountMethod::High => {
-            put_digits(&mut pen, characters, ChineseCountMethod::High, digits)
-        }
-    }
-    pen
+    put_front(pen, characters, method, 4 * groups.count, filled);
+    put_places(pen, characters, groups.front);
 }

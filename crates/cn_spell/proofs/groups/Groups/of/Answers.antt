@@ -1,0 +1,31 @@
+use Rattle.std.proofs.Common.{◌≡◌, ◌+◌, ◌-◌, ◌*◌, ◌/◌, ◌%◌, ◌^◌, ◌<◌, ◌≤◌, refl, ap, ◌∙◌, arith, length-set}
+use Rattle.cn_spell.proofs.GroupCuts.{cut-more, cut-few, each-more, each-part}
+use Rattle.cn_spell.proofs.groups.Groups.of.Goals as goal
+
+pub loop-above-preserved : goal.loop-above-preserved
+loop-above-preserved c =
+    let l = c.loop-above in
+    let number = c.args.magnitude in
+    let part : l.above - l.above / 10 ^ 16 * 10 ^ 16 ≡ l.above % 10 ^ 16 = omega arith in
+    let put = c.put_part.ensures in
+    record {
+      split = cut-more number l.count 4 l.above l.invariant.split;
+      each = each-part number l.count l.above l.groups c.put_part.new.groups l.invariant.split l.invariant.each put.lower
+          (put.first ∙ ap (λ n. n % 10 ^ 4) part) (put.second ∙ ap (λ n. n / 10 ^ 4 % 10 ^ 4) part) (put.third ∙ ap (λ n. n / 10 ^ 8 % 10 ^ 4) part) (put.fourth ∙ ap (λ n. n / 10 ^ 12) part);
+      some = λ h. omega arith;
+      few = cut-few number l.count 4 l.above (omega arith) l.invariant.split (omega arith);
+      size = put.length ∙ l.invariant.size;
+    }
+
+pub loop-front-preserved : goal.loop-front-preserved
+loop-front-preserved c =
+    let l = c.loop-front in
+    let number = c.args.magnitude in
+    let few : l.count + 1 ≤ 9 = cut-few number l.count 1 l.front (omega arith) l.invariant.split (omega arith) in
+    record {
+      split = cut-more number l.count 1 l.front l.invariant.split;
+      each = each-more number l.count l.front (l.front % 10 ^ 4) l.groups (omega (arith, few, l.invariant.size)) l.invariant.split refl l.invariant.each;
+      some = λ h. omega arith;
+      few = few;
+      size = simp length-set l.invariant.size;
+    }

@@ -1,0 +1,20 @@
+use Rattle.std.proofs.Common.{◌≡◌, ◌+◌, ◌*◌, ◌/◌, ◌^◌, ◌<◌, ◌≤◌, List, ◌++◌, length}
+use Rattle.cn_core.specs.declared.method.ChineseCountMethod.TheVariants.{Low}
+use Rattle.cn_core.specs.Mark.{Mark}
+use Rattle.cn_spell.proofs.Single.{so_far, below_of}
+use Rattle.cn_spell.proofs.places.put_places.Given as goal
+
+abbrev pub invariant-loop-left : goal.invariant-loop-left
+invariant-loop-left g l = record {
+  split : l.left ≡ l.number / 10 ^ l.place;
+  reach : 0 < l.place → 10 ^ l.place ≤ l.number;
+  within : l.place < 16;
+  below : l.below ≡ below_of l.number l.place;
+  digit : l.below < 10;
+  room : g.P.Pen.left l.pen + 3 * length (so_far Low l.number l.place) ≡ g.P.Pen.left l.fn.pen;
+  marks : (marks : List Mark) → g.P.Pen.shows l.fn.pen l.characters.variant l.characters.case marks
+      → g.P.Pen.shows l.pen l.characters.variant l.characters.case (so_far Low l.number l.place ++ marks);
+}
+
+abbrev pub decreases-loop-left : goal.decreases-loop-left
+decreases-loop-left g l = l.left

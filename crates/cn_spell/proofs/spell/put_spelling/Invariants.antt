@@ -1,0 +1,12 @@
+use Rattle.std.proofs.Common.{◌≡◌, ◌+◌, ◌*◌, ◌%◌, ◌^◌, ◌≤◌, length}
+use Rattle.cn_core.proofs.Cuts.{part}
+use Rattle.cn_spell.proofs.Walks.{Fills}
+use Rattle.cn_spell.proofs.spell.put_spelling.Given as goal
+
+abbrev pub invariant-loop-index : goal.invariant-loop-index
+invariant-loop-index g l = record {
+  fills : Fills l.filled (l.groups.number % 10 ^ (4 * l.index));
+  under : l.filled ≤ 4 * l.index;
+  room : g.P.Pen.left l.pen + 3 * length (part l.method (l.groups.number % 10 ^ (4 * l.index))) ≡ g.P.Pen.left l.fn.pen;
+  marks : g.P.Pen.shows l.pen l.characters.variant l.characters.case (part l.method (l.groups.number % 10 ^ (4 * l.index)));
+}

@@ -1,0 +1,85 @@
+// A magnitude as groups of four decimal digits.
+ghost use Rattle.std.specs.Prelude.{◌≡◌, ◌*◌, ◌/◌, ◌%◌, ◌^◌, ◌+◌, ◌<◌, ◌≤◌, ℕ, length, slice_index};
+ghost use Rattle.cn_spell.specs.Working.Groups.{groups_within, front_limit, HoldsGroups};
+ghost use Rattle.cn_spell.specs.Working.Units.{places_within};
+
+use cn_core::ChineseCountMethod;
+
+// A number of 128 bits has nine groups below its highest at most.
+const MOST: usize = 9;
+
+// A group has four digits, and a part four groups: it fits 64 bits.
+const GROUP: u64 = 10_000;
+
+const PART: u128 = 10_000_000_000_000_000;
+
+/// A magnitude, by its lowest groups of four digits and what stands in front of them.
+#[derive(Drop)]
+pub struct Groups {
+    pub number: u128,
+    pub groups: [u16; MOST],
+    pub count: usize,
+    pub front: u64,
+    ghost holds: { HoldsGroups number groups count front },
+}
+
+impl Groups {
+    /// Takes off all groups but the highest, and none for `Low`; at most two of the divisions are of 128 bits.
+    #[inline(always)]
+    pub fn of(method: ChineseCountMethod, magnitude: u128) -> Self
+        requires { magnitude < 10 ^ places_within method }
+        ensures number { result.number ≡ magnitude }
+        ensures count { result.count ≤ groups_within method }
+        ensures front { result.front < front_limit method }
+    {
+        let mut groups = [0; MOST];
+        let mut count = 0;
+        if let ChineseCountMethod::Low = method {
+            return Groups {
+                number: magnitude,
+                groups,
+                count,
+                front: magnitude as u64,
+            };
+        }
+        let mut above = magnitude;
+        while above > u64::MAX as u128 {
+            let next = above / PART;
+            put_part(&mut groups, count, (above - next * PART) as u64);
+            count += 4;
+            above = next;
+        }
+        let mut front = above as u64;
+        while front >= GROUP {
+            groups[count] = (front % GROUP) as u16;
+            count += 1;
+            front /= GROUP;
+        }
+        Groups {
+            number: magnitude,
+            groups,
+            count,
+            front,
+        }
+    }
+}
+
+// The four groups of a part, from the index on.
+#[inline(always)]
+fn put_part(groups: &mut [u16], index: usize, part: u64)
+    requires part { part < 10 ^ 16 }
+    requires room { index + 4 ≤ length groups.old }
+    ensures length { length groups.new ≡ length groups.old }
+    ensures lower { (k : ℕ) → k < index → slice_index groups.new k ≡ slice_index groups.old k }
+    ensures first { slice_index groups.new index ≡ part % 10 ^ 4 }
+    ensures second { slice_index groups.new (index + 1) ≡ part / 10 ^ 4 % 10 ^ 4 }
+    ensures third { slice_index groups.new (index + 2) ≡ part / 10 ^ 8 % 10 ^ 4 }
+    ensures fourth { slice_index groups.new (index + 3) ≡ part / 10 ^ 12 }
+{
+    let low = part % (GROUP * GROUP);
+    let high = part / (GROUP * GROUP);
+    groups[index] = (low % GROUP) as u16;
+    groups[index + 1] = (low / GROUP) as u16;
+    groups[index + 2] = (high % GROUP) as u16;
+    groups[index + 3] = (high / GROUP) as u16;
+}

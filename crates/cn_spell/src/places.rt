@@ -1,0 +1,88 @@
+// Digits whose places have units of their own: all of them by `Low`, the four of a group by each method.
+ghost use Rattle.std.specs.Prelude.{◌≡◌, ◌+◌, ◌*◌, ◌^◌, ◌<◌, ◌≤◌, List, ◌++◌, length};
+ghost use Rattle.cn_core.specs.declared.method.ChineseCountMethod.TheVariants.{Low};
+ghost use Rattle.cn_core.specs.Mark.{Mark};
+ghost use Rattle.cn_core.specs.Spelling.{spelling};
+ghost use Rattle.cn_spell.specs.Working.Groups.{place_marks, group_marks, top_marks};
+
+use crate::characters::Characters;
+use crate::pen::Pen;
+use crate::units::unit_at;
+use cn_core::ChineseCountMethod;
+
+// Puts a digit and its place's unit, where it is not 0, and 零 where a gap is to be shown.
+#[inline(always)]
+fn put_place<P: Pen>(pen: &mut P, characters: Characters, place: usize, digit: u8, is_gap: bool)
+    requires place { place < 16 }
+    requires digit { digit < 10 }
+    requires room { 3 * length (place_marks place digit is_gap) + 3 ≤ P.left pen.old }
+    ensures room { P.left pen.new + 3 * length (place_marks place digit is_gap) ≡ P.left pen.old }
+    ensures marks { (marks : List Mark) → P.shows pen.old characters.variant characters.case marks
+        → P.shows pen.new characters.variant characters.case (place_marks place digit is_gap ++ marks) }
+{
+    let unit = unit_at(ChineseCountMethod::Low, place);
+    pen.put_unit_if(characters, (digit > 0) & (place > 0), unit);
+    pen.put_digit_if(characters, (digit > 0) | is_gap, digit);
+}
+
+/// Puts a group that something stands in front of.
+#[inline(always)]
+pub fn put_group<P: Pen>(pen: &mut P, characters: Characters, group: u16)
+    requires group { group < 10 ^ 4 }
+    requires room { 3 * length (group_marks group) + 3 ≤ P.left pen.old }
+    ensures room { P.left pen.new + 3 * length (group_marks group) ≡ P.left pen.old }
+    ensures marks { (marks : List Mark) → P.shows pen.old characters.variant characters.case marks
+        → P.shows pen.new characters.variant characters.case (group_marks group ++ marks) }
+{
+    let low = group % 100;
+    let high = group / 100;
+    let ones = (low % 10) as u8;
+    let tens = (low / 10) as u8;
+    let hundreds = (high % 10) as u8;
+    let thousands = (high / 10) as u8;
+    put_place(pen, characters, 0, ones, false);
+    put_place(pen, characters, 1, tens, (ones > 0) & (group >= 100));
+    put_place(pen, characters, 2, hundreds, (tens > 0) & (group >= 1000));
+    put_place(pen, characters, 3, thousands, false);
+}
+
+// Puts the highest digit and its unit, but no 一 before 十.
+#[inline(always)]
+fn put_top<P: Pen>(pen: &mut P, characters: Characters, place: usize, digit: u8)
+    requires place { place < 16 }
+    requires digit { digit < 10 }
+    requires room { 3 * length (top_marks place digit) ≤ P.left pen.old }
+    ensures room { P.left pen.new + 3 * length (top_marks place digit) ≡ P.left pen.old }
+    ensures marks { (marks : List Mark) → P.shows pen.old characters.variant characters.case marks
+        → P.shows pen.new characters.variant characters.case (top_marks place digit ++ marks) }
+{
+    if place > 0 {
+        let unit = unit_at(ChineseCountMethod::Low, place);
+        pen.put_unit_if(characters, true, unit);
+    }
+    if digit != 1 || place != 1 {
+        pen.put_digit_if(characters, true, digit);
+    }
+}
+
+/// Puts the spelling of a number that nothing stands in front of.
+#[inline(always)]
+pub fn put_places<P: Pen>(pen: &mut P, characters: Characters, number: u64)
+    requires number { number < 10 ^ 16 }
+    requires room { 3 * length (spelling Low number) ≤ P.left pen.old }
+    ensures room { P.left pen.new + 3 * length (spelling Low number) ≡ P.left pen.old }
+    ensures marks { (marks : List Mark) → P.shows pen.old characters.variant characters.case marks
+        → P.shows pen.new characters.variant characters.case (spelling Low number ++ marks) }
+{
+    let mut left = number;
+    let mut place = 0;
+    let mut below = 0;
+    while left >= 10 {
+        let digit = (left % 10) as u8;
+        put_place(pen, characters, place, digit, below > 0);
+        below = digit;
+        left /= 10;
+        place += 1;
+    }
+    put_top(pen, characters, place, left as u8);
+}
