@@ -6,10 +6,8 @@ use Rattle.cn_core.specs.declared.method.ChineseCountMethod.TheVariants.{Low, Te
 use Rattle.cn_core.specs.Spelling.{spelling}
 use Rattle.cn_core.specs.Written.{is_printable}
 use Rattle.cn_core.proofs.Lengths.{length-spelling}
-use Rattle.cn_spell.specs.Working.Places.{places_of}
 use Rattle.cn_spell.specs.Prints.{most_bytes}
 use Rattle.cn_spell.specs.Working.Units.{places_within}
-use Rattle.cn_spell.proofs.PlacesLemmas.{length-places-le}
 use Rattle.cn_spell.proofs.Walks.{square}
 
 -- its digits are few enough for the method's units

@@ -1,5 +1,5 @@
 -- The groups of a number, taken off from the lowest up.
-use Rattle.std.proofs.Common.{◌≡◌, ℕ, suc, ◌+◌, ◌-◌, ◌*◌, ◌/◌, ◌%◌, ◌^◌, ◌<◌, ◌≤◌, List, set, length, slice_index, ap, sym, ◌∙◌, arith}
+use Rattle.std.proofs.Common.{◌≡◌, ℕ, ◌+◌, ◌*◌, ◌/◌, ◌%◌, ◌^◌, ◌<◌, ◌≤◌, List, set, length, slice_index, ap, sym, ◌∙◌, arith}
 use Rattle.std.proofs.Math.Decide.{dec_lt}
 use Rattle.std.proofs.Math.Nat.{mul-le-mul_right, div-div-eq-div-mul, div-mul-le_self, pow-le-pow_right}
 use Rattle.std.proofs.lemmas.Nat.{pow-add}

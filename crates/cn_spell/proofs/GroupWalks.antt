@@ -3,7 +3,7 @@ use Rattle.std.proofs.Common.{◌≡◌, ℕ, zero, suc, ◌+◌, ◌-◌, ◌*�
 use Rattle.std.proofs.lemmas.Bool.Decides.{nat_tests}
 use Rattle.std.proofs.Math.Arith.{mod-mul}
 use Rattle.std.proofs.Math.Decide.{dec_lt}
-use Rattle.std.proofs.Math.Nat.{mul-le-mul_right, mod-lt, mod-eq_of_lt, mod-mod_of_dvd, one-le-pow, pow-le-pow_right}
+use Rattle.std.proofs.Math.Nat.{mul-le-mul_right, mod-lt, mod-eq_of_lt, mod-mod_of_dvd, one-le-pow}
 use Rattle.std.proofs.lemmas.Nat.{pow-add, div-add-mod'}
 use Rattle.std.proofs.lemmas.Nat.Gcd.{dvd_of_mod-eq-zero}
 use Rattle.cn_core.specs.declared.method.ChineseCountMethod.{ChineseCountMethod}
@@ -15,7 +15,7 @@ use Rattle.cn_core.proofs.Cuts.{part, part-some}
 use Rattle.cn_core.proofs.Fronts.{and-left, and-right}
 use Rattle.cn_core.proofs.Sums.{spelled-digit}
 use Rattle.cn_spell.specs.Working.Groups.{groups_within, front_limit, kept, group_marks}
-use Rattle.cn_spell.specs.Working.Units.{widths_of, places_within, rank_at, start_of, unit_front, units_over, front}
+use Rattle.cn_spell.specs.Working.Units.{widths_of, places_within, rank_at, start_of, units_over, front}
 use Rattle.cn_spell.proofs.Walks.{Fills, is_chain_of_four, group-over}
 use Rattle.cn_spell.proofs.Tops.{places-few, filled_of, Filled, lower-less, part-none, parts-grow, over-none, over-head, single, front-zero}
 use Rattle.cn_spell.proofs.Single.{so_far, group-is}

@@ -1,15 +1,14 @@
 -- Digits whose places have units of their own, from the lowest up.
-use Rattle.std.proofs.Common.{◌≡◌, ℕ, zero, suc, ◌+◌, ◌-◌, ◌*◌, ◌/◌, ◌%◌, ◌^◌, ◌<◌, ◌≤◌, max, Bool, true, false, ◌==◌, ◌&&◌, ◌||◌, nat_le, nat_lt, List, [], ◌∷◌, ◌++◌, length, refl, sym, ap, ap₂, ◌∙◌, arith, length-append, append_assoc, append-nil, if◌then◌else◌}
+use Rattle.std.proofs.Common.{◌≡◌, ℕ, zero, suc, ◌+◌, ◌*◌, ◌/◌, ◌%◌, ◌^◌, ◌<◌, ◌≤◌, max, Bool, true, false, ◌==◌, ◌&&◌, nat_le, nat_lt, List, [], ◌∷◌, ◌++◌, refl, sym, ap, ap₂, ◌∙◌, arith, append_assoc, append-nil, if◌then◌else◌}
 use Rattle.std.proofs.lemmas.Bool.Decides.{nat_tests}
 use Rattle.std.proofs.Math.Decide.{dec_lt}
-use Rattle.std.proofs.Math.Nat.{mul-le-mul_right, mod-eq_of_lt, one-le-pow}
-use Rattle.std.proofs.lemmas.Nat.{pow-add}
+use Rattle.std.proofs.Math.Nat.{mul-le-mul_right, mod-eq_of_lt}
 use Rattle.cn_core.specs.declared.method.ChineseCountMethod.{ChineseCountMethod}
 use Rattle.cn_core.specs.declared.method.ChineseCountMethod.TheVariants.{Low, TenThousand, Middle, High}
 use Rattle.cn_core.specs.Mark.{Mark, digit, unit}
 use Rattle.cn_core.proofs.Cuts.{part}
 use Rattle.cn_spell.specs.Working.Groups.{kept, place_marks, group_marks}
-use Rattle.cn_spell.specs.Working.Units.{widths_of, places_within, rank_at, start_of, units_over, front}
+use Rattle.cn_spell.specs.Working.Units.{places_within, rank_at, start_of, units_over, front}
 use Rattle.cn_spell.proofs.Walks.{Fills}
 use Rattle.cn_spell.proofs.Tops.{at, lower-split, lower-less, part-same, filled_of, Filled, part-more, part-none, front-zero}
 

@@ -1,4 +1,4 @@
-use Rattle.std.proofs.Common.{◌≡◌, ◌+◌, ◌*◌, ◌%◌, ◌^◌, ◌<◌, ◌≤◌, suc, ◌++◌, length, nat_lt, refl, ap, arith, length-append, append_assoc}
+use Rattle.std.proofs.Common.{◌≡◌, ◌+◌, ◌%◌, suc, length, nat_lt, refl, ap, arith, length-append, append_assoc}
 use Rattle.cn_core.specs.declared.method.ChineseCountMethod.TheVariants.{Low}
 use Rattle.cn_spell.specs.Working.Groups.{place_marks, top_marks}
 use Rattle.cn_spell.proofs.Single.{so_far}

@@ -1,4 +1,4 @@
-use Rattle.std.proofs.Common.{◌≡◌, pos, int_lt, nat_abs, subst, IfOk, ap, ap₂, sym, ◌∙◌}
+use Rattle.std.proofs.Common.{◌≡◌, pos, int_lt, subst, IfOk, ap₂, ◌∙◌}
 use Rattle.cn_core.specs.Spelling.{spelling}
 use Rattle.cn_core.specs.Written.{written, spelled_text}
 use Rattle.cn_spell.specs.Prints.{most_bytes}

@@ -1,4 +1,4 @@
-use Rattle.std.proofs.Common.{◌≡◌, ◌<◌, ◌+◌, length, ap, arith}
+use Rattle.std.proofs.Common.{length, ap, arith}
 use Rattle.cn_spell.proofs.GroupWalks.{front-near}
 use Rattle.cn_spell.proofs.spell.put_front.Goals as goal
 
