@@ -6,7 +6,7 @@ ghost use Rattle.cn_spell.specs.Working.Units.{places_within};
 use cn_core::ChineseCountMethod;
 
 // A number of 128 bits has nine groups below its highest at most.
-const MOST: usize = 9;
+pub const MOST: usize = 9;
 
 // A group has four digits, and a part four groups: it fits 64 bits.
 const GROUP: u64 = 10_000;
@@ -14,54 +14,46 @@ const GROUP: u64 = 10_000;
 const PART: u128 = 10_000_000_000_000_000;
 
 /// A magnitude, by its lowest groups of four digits and what stands in front of them.
-#[derive(Drop)]
-pub struct Groups {
+#[derive(Clone, Copy)]
+pub struct Groups<'a> {
     pub number: u128,
-    pub groups: [u16; MOST],
+    pub groups: &'a [u16; MOST],
     pub count: usize,
     pub front: u64,
-    ghost holds: { HoldsGroups number groups count front },
+    ghost holds: { HoldsGroups number groups.now count front },
 }
 
-impl Groups {
-    /// Takes off all groups but the highest, and none for `Low`; at most two of the divisions are of 128 bits.
-    #[inline(always)]
-    pub fn of(method: ChineseCountMethod, magnitude: u128) -> Self
-        requires { magnitude < 10 ^ places_within method }
-        ensures number { result.number ≡ magnitude }
-        ensures count { result.count ≤ groups_within method }
-        ensures front { result.front < front_limit method }
-    {
-        let mut groups = [0; MOST];
-        let mut count = 0;
-        if let ChineseCountMethod::Low = method {
-            return Groups {
-                number: magnitude,
-                groups,
-                count,
-                front: magnitude as u64,
-            };
-        }
-        let mut above = magnitude;
-        while above > u64::MAX as u128 {
-            let next = above / PART;
-            put_part(&mut groups, count, (above - next * PART) as u64);
-            count += 4;
-            above = next;
-        }
-        let mut front = above as u64;
-        while front >= GROUP {
-            groups[count] = (front % GROUP) as u16;
-            count += 1;
-            front /= GROUP;
-        }
-        Groups {
-            number: magnitude,
-            groups,
-            count,
-            front,
-        }
+/// Takes off all groups but the highest, and none for `Low`; at most two of the divisions are of 128 bits. The
+/// result is how many groups these are, and what stands in front of them.
+#[inline(always)]
+pub fn take_groups(
+    groups: &mut [u16; MOST],
+    method: ChineseCountMethod,
+    magnitude: u128,
+) -> (usize, u64)
+    requires { magnitude < 10 ^ places_within method }
+    ensures holds { HoldsGroups magnitude groups.new result.0 result.1 }
+    ensures count { result.0 ≤ groups_within method }
+    ensures front { result.1 < front_limit method }
+{
+    if let ChineseCountMethod::Low = method {
+        return (0, magnitude as u64);
     }
+    let mut count = 0;
+    let mut above = magnitude;
+    while above > u64::MAX as u128 {
+        let next = above / PART;
+        put_part(groups, count, (above - next * PART) as u64);
+        count += 4;
+        above = next;
+    }
+    let mut front = above as u64;
+    while front >= GROUP {
+        groups[count] = (front % GROUP) as u16;
+        count += 1;
+        front /= GROUP;
+    }
+    (count, front)
 }
 
 // The four groups of a part, from the index on.

@@ -7,7 +7,7 @@ ghost use Rattle.cn_spell.specs.Writes.{Writes};
 
 use crate::NumberToChineseError;
 use crate::characters::Characters;
-use crate::groups::Groups;
+use crate::groups::{Groups, MOST, take_groups};
 use crate::known_method::{ByHigh, ByLow, ByMiddle, ByTenThousand, KnownMethod};
 use crate::pen::Count;
 use crate::room::Room;
@@ -39,10 +39,17 @@ fn signed_text<M: KnownMethod, A: Allocator>(
     ensures { IfOk result (Writes (written characters.variant characters.case negative (spelling M.stands_for magnitude)) (most_bytes M.stands_for)) }
 {
     let method = M::method();
-    let groups = Groups::of(method, magnitude);
-    let mut count = Count { characters: 0 };
-    put_spelling(&mut count, characters, method, &groups);
-    let mut room = Room::for_characters(alloc, count.characters + negative as usize)?;
+    let mut taken = [0; MOST];
+    let (count, front) = take_groups(&mut taken, method, magnitude);
+    let groups = Groups {
+        number: magnitude,
+        groups: &taken,
+        count,
+        front,
+    };
+    let mut counted = Count { characters: 0 };
+    put_spelling(&mut counted, characters, method, &groups);
+    let mut room = Room::for_characters(alloc, counted.characters + negative as usize)?;
     put_spelling(&mut room, characters, method, &groups);
     Ok(with_sign(room, characters, negative))
 }

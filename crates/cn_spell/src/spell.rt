@@ -79,12 +79,7 @@ fn digits_of(group: u16) -> usize
     ensures below { group < 10 ^ result }
     ensures reach { 10 ^ result ≤ 10 * group }
 {
-    match group {
-        0..10 => 1,
-        10..100 => 2,
-        100..1000 => 3,
-        _ => 4,
-    }
+    1 + (group >= 10) as usize + (group >= 100) as usize + (group >= 1000) as usize
 }
 
 /// Puts a magnitude's spelling, from its lowest group up.

@@ -1,6 +1,12 @@
 use Rattle.std.proofs.Common.{◌≡◌, ◌+◌, ◌-◌, ◌*◌, ◌/◌, ◌%◌, ◌^◌, ◌≤◌, refl, ap, ◌∙◌, arith, length-set}
 use Rattle.cn_spell.proofs.GroupCuts.{cut-more, cut-few, each-more, each-part}
-use Rattle.cn_spell.proofs.groups.Groups.of.Goals as goal
+use Rattle.cn_spell.proofs.groups.take_groups.Goals as goal
+
+pub put_part-requires : goal.put_part-requires
+put_part-requires c =
+    let l = c.loop-above in
+    let few = cut-few c.args.magnitude l.count 4 l.above (omega arith) l.invariant.split (omega arith) in
+    record { part = omega arith; room = omega (arith, few, l.invariant.size) }
 
 pub loop-above-preserved : goal.loop-above-preserved
 loop-above-preserved c =

@@ -1,5 +1,5 @@
 use Rattle.std.proofs.Common.{◌≡◌, ℕ, ◌*◌, ◌/◌, ◌%◌, ◌^◌, ◌<◌, ◌≤◌, length, slice_index}
-use Rattle.cn_spell.proofs.groups.Groups.of.Given as goal
+use Rattle.cn_spell.proofs.groups.take_groups.Given as goal
 
 abbrev pub invariant-loop-above : goal.invariant-loop-above
 invariant-loop-above l = record {
