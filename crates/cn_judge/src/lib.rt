@@ -2,7 +2,7 @@
 //! `cn_core` judge it. No reader takes memory.
 //!
 //! What stands here serves the crates above it alone: `cn_read` gives the two readers their public names, and
-//! hands on the error.
+//! hands on the error; the quick way is public so that `cn_vectors` can hold it against what printers write.
 #![tactic(auto)]
 
 mod ends;
@@ -13,8 +13,6 @@ mod open_groups;
 mod open_units;
 mod quick;
 mod sign;
-#[cfg(test)]
-mod tests;
 mod text;
 mod typed;
 mod units;
@@ -22,4 +20,5 @@ mod walk;
 
 pub use error::ChineseToNumberError;
 pub use naive::read_naive;
+pub use quick::read_quickly;
 pub use units::read;

@@ -15,6 +15,8 @@ mod printing;
 #[cfg(test)]
 mod printing_digits;
 #[cfg(test)]
+mod reading_at_once;
+#[cfg(test)]
 mod reading_back;
 #[cfg(test)]
 mod scales;
