@@ -3,6 +3,5 @@ pub mod Replying
 pub mod State
 pub mod Fields
 pub mod Strides
-pub mod Gathered
 pub mod Characters
 pub mod OneAnswer

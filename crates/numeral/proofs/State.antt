@@ -6,8 +6,8 @@ use Rattle.std.proofs.Math.Seq.{take-append-add}
 use Rattle.std.specs.Prelude.{OnErr, OnOk, IfSome}
 use Rattle.numeral.specs.Lines.{HasNoFeed, ended, unended, lines, last_line}
 use Rattle.numeral.specs.Answer.{Answers, AreReplies}
-use Rattle.numeral.specs.declared.fault.RunError.{RunError}
-use Rattle.numeral.specs.declared.fault.RunError.TheVariants.{Read, Write, Memory}
+use Rattle.cn_devices.specs.declared.fault.RunError.{RunError}
+use Rattle.cn_devices.specs.declared.fault.RunError.TheVariants.{Read, Write, Memory}
 use Rattle.numeral.specs.Leaves.{Wrote, WroteBeginning, WroteFirst, Leaves, Runs}
 use Rattle.numeral.specs.Steps.{Puts, Replies, Feeds}
 use Rattle.numeral.proofs.Cut.{ended-line, unended-line, ended-none, unended-none, ended-append, unended-append, lines-append, lines-some, HasNoFeed-unended, HasNoFeed-append}

@@ -1,11 +1,11 @@
 -- What a run leaves behind, by what it answers.
 use Rattle.std.specs.Prelude.{◌≡◌, ◌<◌, ◌++◌, ℕ, Bool, true, false, List, length, take, ◌⊎◌, Option, Result, Ok, Err}
 use Rattle.std.specs.Io.KnownBytes.{Appends, Consumes, IsAtEnd}
-use Rattle.numeral.specs.declared.fault.RunError.{RunError}
-use Rattle.numeral.specs.declared.fault.RunError.TheVariants.{Read, Write, Memory}
+use Rattle.cn_devices.specs.declared.fault.RunError.{RunError}
+use Rattle.cn_devices.specs.declared.fault.RunError.TheVariants.{Read, Write, Memory}
 use Rattle.numeral.specs.Lines.{ended, lines}
 use Rattle.numeral.specs.Answer.{AreReplies}
-use Rattle.numeral.specs.Reads.{next_count}
+use Rattle.cn_devices.specs.Reads.{next_count}
 
 -- the answers to these lines were written, each with its line feed, and nothing else
 abbrev pub Wrote : Option (List ℕ) → Option (List ℕ) → List (List ℕ) → Type 0

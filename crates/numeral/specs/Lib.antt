@@ -2,6 +2,5 @@ pub mod Answer
 pub mod Leaves
 pub mod Lines
 pub mod Question
-pub mod Reads
 pub mod Status
 pub mod Steps

@@ -1,8 +1,8 @@
 -- What the steps of a run do. No contract of a public call cites them.
 use Rattle.std.specs.Prelude.{◌≡◌, ◌++◌, ◌^◌, ◌≤◌, ℕ, ℤ, nat_abs, Bool, true, false, List, Option, Result, Ok, Err}
 use Rattle.std.specs.Io.KnownBytes.{Appends, Keeps}
-use Rattle.numeral.specs.declared.fault.RunError.{RunError}
-use Rattle.numeral.specs.declared.fault.RunError.TheVariants.{Read, Write, Memory}
+use Rattle.cn_devices.specs.declared.fault.RunError.{RunError}
+use Rattle.cn_devices.specs.declared.fault.RunError.TheVariants.{Read, Write, Memory}
 use Rattle.numeral.specs.Lines.{ended, unended}
 use Rattle.numeral.specs.Leaves.{Wrote, WroteBeginning, WroteFirst}
 

@@ -4,7 +4,7 @@ ghost use Rattle.std.specs.Io.KnownBytes.{Keeps, ReadConsumes};
 ghost use Rattle.numeral.specs.Lines.{HasNoFeed, last_line, lines};
 ghost use Rattle.numeral.specs.Answer.{Answers};
 ghost use Rattle.numeral.specs.Leaves.{Wrote, Runs, Stops};
-ghost use Rattle.numeral.specs.Reads.{Counts};
+ghost use Rattle.cn_devices.specs.Reads.{Counts};
 ghost use Rattle.numeral.specs.Steps.{Fails, Puts, Replies, Feeds};
 
 use crate::answer::answer;

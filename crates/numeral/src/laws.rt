@@ -2,8 +2,8 @@
 ghost use Rattle.std.specs.Prelude.{◌≡◌, ◌↔◌, ℕ, List, IsTrue};
 ghost use Rattle.numeral.specs.Answer.{Answers, AreReplies};
 ghost use Rattle.numeral.specs.Lines.{lines};
-ghost use Rattle.numeral.specs.declared.fault.DeviceFault.{DeviceFault as Fault};
-ghost use Rattle.numeral.specs.declared.fault.RunError.{RunError as Error};
+ghost use Rattle.cn_devices.specs.declared.fault.DeviceFault.{DeviceFault as Fault};
+ghost use Rattle.cn_devices.specs.declared.fault.RunError.{RunError as Error};
 
 use crate::fault::{DeviceFault, RunError};
 

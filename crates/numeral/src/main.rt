@@ -8,30 +8,24 @@
 #![tactic(auto)]
 
 mod answer;
-pub mod device;
-mod empty_reads;
 pub mod engine;
-pub mod fault;
-mod gathering;
 pub mod laws;
 mod lines;
-pub mod memory_sink;
-pub mod memory_source;
 mod numerals;
 mod program;
 pub mod program_status;
 mod question;
 mod search;
-pub mod std_device;
 #[cfg(test)]
 mod tests;
 mod text;
 
 use crate::fault::RunError;
-use crate::gathering::Gathering;
 use crate::program::answer_all;
 use crate::program_status::status;
 use crate::std_device::Device;
+use cn_devices::gathering::Gathering;
+pub use cn_devices::{device, fault, memory_sink, memory_source, std_device};
 use std::process::ExitCode;
 
 fn main(rt: HostRuntime) -> ExitCode {

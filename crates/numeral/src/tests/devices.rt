@@ -1,15 +1,14 @@
-// Devices over std readers and writers, and a source that is made on the spot.
-ghost use Rattle.std.specs.Prelude.{◌≡◌, None, false};
+// Devices over std readers and writers.
+ghost use Rattle.std.specs.Prelude.{◌≡◌, false};
 
 use crate::device::{Sink, Source};
-use crate::empty_reads::EmptyReads;
 use crate::engine::run;
 use crate::fault::{DeviceFault, RunError};
-use crate::gathering::Gathering;
 use crate::memory_sink::MemorySink;
 use crate::memory_source::MemorySource;
 use crate::program::answer_all;
 use crate::std_device::Device;
+use cn_devices::gathering::Gathering;
 use std::cell::Cell;
 use std::io;
 use std::io::{ErrorKind, Read, Write};
@@ -172,44 +171,24 @@ fn the_program_over_memory(rt: HostRuntime) {
 #[derive(Drop)]
 struct LongLine {
     left: usize,
-    empty: EmptyReads,
 }
 
-impl Source for LongLine {
-    ghost remaining = { λ _. None };
-
-    ghost failed = { λ _. false };
-
-    ghost reads_left = { λ source. source.left };
-
-    ghost empty_reads = { λ source. source.empty.count };
-
-    ghost ended = { λ source. source.empty.ended };
-
-    fn read(&mut self, buffer: &mut [u8]) -> Result<usize, DeviceFault> {
+impl Read for LongLine {
+    fn read(&mut self, buffer: &mut [u8]) -> io::Result<usize> {
         let count = self.left.min(buffer.len());
         let (front, _) = buffer.split_at_mut(count);
         for byte in front {
             *byte = b'1';
         }
         self.left -= count;
-        self.empty.note(count);
         Ok(count)
-    }
-
-    fn has_failed(&self) -> bool {
-        false
     }
 }
 
 #[test]
 fn a_line_of_fifty_million_bytes(rt: HostRuntime) {
+    let mut reader = Device::new(LongLine { left: 50_000_000 });
     let mut writer = MemorySink::new(9, None);
-    let mut reader = LongLine {
-        left: 50_000_000,
-        empty: EmptyReads::none(),
-    };
-    let outcome = run(rt.alloc(), &mut reader, &mut writer);
-    assert_eq!(rt; outcome, Ok(()));
+    ends(&rt, &mut reader, &mut writer, Ok(()));
     assert!(rt; writer.bytes() == b"bad line\n".as_slice());
 }

@@ -2,10 +2,10 @@
 use crate::device::Sink;
 use crate::engine::run;
 use crate::fault::DeviceFault;
-use crate::gathering::Gathering;
 use crate::memory_source::MemorySource;
 use crate::program::answer_all;
 use crate::std_device::Device;
+use cn_devices::gathering::Gathering;
 use std::cell::Cell;
 use std::io;
 use std::io::{ErrorKind, Write};

@@ -1,6 +1,6 @@
 ghost use Rattle.std.specs.Prelude.{◌≡◌, ◌==◌, ◌<◌, ◌≤◌, ◌-◌, Some, min, length, unwrap_or, false, is_err, IfOk, OnOk};
 ghost use Rattle.std.specs.Io.KnownBytes.{ReadConsumes};
-ghost use Rattle.numeral.specs.Reads.{Counts};
+ghost use Rattle.cn_devices.specs.Reads.{Counts};
 
 use crate::device::Source;
 use crate::empty_reads::EmptyReads;

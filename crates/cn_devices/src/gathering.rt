@@ -2,7 +2,7 @@
 // buffered writer it tries no write again that was interrupted.
 ghost use Rattle.std.specs.Prelude.{◌≡◌, ◌↔◌, ◌+◌, ◌≤◌, ◌==◌, ◌||◌, ◌&&◌, ◌++◌, [], drop, false, if◌then◌else◌, is_err, length, not, IfOk, IsTrue, OnOk, vec_capacity, vec_len};
 ghost use Rattle.std.specs.Io.KnownBytes.{Keeps, append_known};
-ghost use Rattle.numeral.specs.declared.gathering.TheConstants.{ROOM};
+ghost use Rattle.cn_devices.specs.declared.gathering.TheConstants.{ROOM};
 
 use crate::device::Sink;
 use crate::fault::DeviceFault;
@@ -13,7 +13,7 @@ const ROOM: usize = 65536;
 
 /// A sink behind room for its next bytes.
 #[derive(Drop)]
-pub(crate) struct Gathering<W> {
+pub struct Gathering<W> {
     inner: W,
     room: Vec<u8>,
     // how many bytes of the room have gone out
@@ -25,7 +25,7 @@ pub(crate) struct Gathering<W> {
 
 impl<W: Sink> Gathering<W> {
     /// Takes its room at once: the only error is want of memory.
-    pub(crate) fn new(alloc: Global, inner: W) -> Result<Gathering<W>, AllocError>
+    pub fn new(alloc: Global, inner: W) -> Result<Gathering<W>, AllocError>
     where
         W: Drop,
         ensures inner { IfOk result (λ g. g.inner ≡ inner) }

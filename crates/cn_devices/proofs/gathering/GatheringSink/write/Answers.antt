@@ -1,6 +1,6 @@
 use Rattle.std.proofs.Common.{◌≡◌, [], drop, ap, sym, ◌∙◌}
-use Rattle.numeral.proofs.Gathered.{kept-same, kept-twice, written_through}
-use Rattle.numeral.proofs.gathering.GatheringSink.write.Goals as goal
+use Rattle.cn_devices.proofs.Gathered.{kept-same, kept-twice, written_through}
+use Rattle.cn_devices.proofs.gathering.GatheringSink.write.Goals as goal
 
 pub returns-clause-bytes : goal.returns-clause-bytes
 returns-clause-bytes g c =

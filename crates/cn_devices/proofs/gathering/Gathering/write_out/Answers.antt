@@ -1,7 +1,7 @@
 use Rattle.std.proofs.Common.{rules, ◌≡◌, drop, sym, ◌∙◌}
 use Rattle.std.proofs.Math.ListN.{drop_of_length-le}
-use Rattle.numeral.proofs.Gathered.{kept-alike, kept-same, kept-twice, kept-before, kept-moved, left_after, slice_to_end}
-use Rattle.numeral.proofs.gathering.Gathering.write_out.Goals as goal
+use Rattle.cn_devices.proofs.Gathered.{kept-alike, kept-same, kept-twice, kept-before, kept-moved, left_after, slice_to_end}
+use Rattle.cn_devices.proofs.gathering.Gathering.write_out.Goals as goal
 
 pub writes-init : goal.writes-init
 writes-init g c = (c.args.self.now.within, kept-alike _, c.requires.works)
