@@ -21,11 +21,12 @@ def functions_of(lines):
         head = HEAD.match(line)
         if head is None:
             continue
-        closing = (head[1] + "}", head[1] + "{}")
-        end = next((at for at in range(start, len(lines)) if lines[at] in closing or lines[at].endswith(";")), None)
-        if end is not None and lines[end] in closing:
-            opening = (at for at in range(start, end) if lines[at] == head[1] + "{" or lines[at].endswith(" {"))
-            yield head[3], head[2] is not None, start, next(opening, end), end + 1
+        blank = (head[1] + "{", head[1] + "{}")
+        body = next((at for at in range(start, len(lines)) if lines[at].endswith((" {", ";")) or lines[at] in blank), None)
+        if body is None or lines[body].endswith(";"):
+            continue
+        end = next(at for at in range(body, len(lines)) if lines[at] in (head[1] + "}", head[1] + "{}"))
+        yield head[3], head[2] is not None, start, body, end + 1
 
 
 def is_open(root, path):
