@@ -6,9 +6,9 @@ use crate::device::Source;
 use crate::empty_reads::EmptyReads;
 use crate::fault::DeviceFault;
 
-/// The bytes of a lent slice.
+/// A source of the bytes of a lent slice.
 ///
-/// It fails at the call named, and never else.
+/// It fails at call number `failing`, and at no other.
 #[derive(Drop)]
 pub struct MemorySource<'a> {
     rest: &'a [u8],
