@@ -33,7 +33,7 @@ pub fn equal_values_are_the_same_variant()
 
 /// Units are ordered by rank: 個 is the least and 極 the greatest.
 ///
-/// For callers who compare units.
+/// For callers who compare units: 萬 is greater than 千.
 pub fn units_compare_by_rank()
     ensures { (a b : NumeralUnit) → ⟦<Unit as Ord>⟧.cmp a b ≡ nat_cmp (rank a) (rank b) }
 {}

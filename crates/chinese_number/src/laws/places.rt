@@ -21,7 +21,7 @@ pub fn zero_in_front_decides()
 /// What marks can complete, characters can complete: whatever can be right with some marks in front can be
 /// right with some typed text in front.
 ///
-/// For form validators: what can be right with something in front, a user can type.
+/// For form validators: what can be right with something in front, a user can type, as 一 before 百.
 pub fn characters_complete_texts()
     ensures { (text : List ℕ) → Completable (marks_of text)
         ↔ ((front : List ℕ) × IsTrue (all_scalars front) × (0 < length front)
@@ -30,14 +30,14 @@ pub fn characters_complete_texts()
 
 /// Every end of what can be completed can be completed.
 ///
-/// For form validators that check from the end: once an end is wrong, nothing in front puts it right.
+/// For form validators that check from the end: once an end is wrong, as 十十, nothing in front puts it right.
 pub fn ends_can_be_completed()
     ensures { (start : ℕ) (marks : List Mark) → Completable marks → Completable (drop start marks) }
 {}
 
 /// Each list has one place: the last from which nothing in front can complete it, or else 0.
 ///
-/// For form validators: there is one character to mark.
+/// For form validators: there is one character to mark. In 二十十 it is at 1.
 pub fn each_list_has_one_place()
     ensures { (marks : List Mark)
         → (place : ℕ) × IsPlace marks place × ((other : ℕ) → IsPlace marks other → other ≡ place) }
@@ -57,7 +57,7 @@ pub fn refusals_name_the_last_place()
 
 /// 零 with what stands after a place is a numeral: past the mark at fault nothing is wrong.
 ///
-/// For form validators: they mark one character, and what follows it can stay.
+/// For form validators: they mark one character, and what follows it can stay. In 二十十 that is the last 十.
 pub fn nothing_is_wrong_after_a_place()
     ensures { (marks : List Mark) (place : ℕ)
         → IsPlace marks place → IsNumeral (digit 0 ∷ drop (place + 1) marks) }

@@ -18,7 +18,7 @@ use cn_core::Whole;
 /// for a signed type, one sign in front, is a digit or more and nothing else, whose signed value is
 /// that number, which the type holds.
 ///
-/// For form validators that ask for digits alone.
+/// For form validators that ask for digits alone: 二零二五 is 2025, and 二千零二十五 is no number to them.
 pub fn digits_alone_are_read<T: Whole>()
     ensures { (bytes : List ℕ) (number : ℤ)
         → let marks = marks_of (unsigned_text T.kind bytes) in
