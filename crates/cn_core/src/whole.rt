@@ -17,7 +17,8 @@ pub trait Whole: Copy {
     /// Whether the type holds numbers below zero.
     const SIGNED: bool;
 
-    /// Whether the type has 8 or 16 bits: true for `u8`, `u16`, `i8` and `i16`, false for the other eight.
+    /// Whether the type has 8 or 16 bits: true for `u8`, `u16`, `i8` and `i16`, false for the other
+    /// eight.
     ///
     /// For callers alone, who can tell the types whose readers by name all read by `Low`.
     const NARROW: bool;

@@ -35,8 +35,8 @@ pub fn from_u64_to_chinese_high(
     print_by_units::<u64, _>(alloc, variant, case, ChineseCountMethod::High, value)
 }
 
-/// Writes a `u128` by `High`: 1_000_000_000_000_000_000_000_000 is `一億兆` in traditional script and
-/// lower case.
+/// Writes a `u128` by `High`: 1_000_000_000_000_000_000_000_000 is `一億兆` in traditional script
+/// and lower case.
 ///
 /// The only error is `AllocError`, where memory runs out.
 pub fn from_u128_to_chinese_high(
@@ -50,7 +50,8 @@ pub fn from_u128_to_chinese_high(
     print_by_units::<u128, _>(alloc, variant, case, ChineseCountMethod::High, value)
 }
 
-/// Writes a `usize` by `High`: 10_000_000_000_000_000 is `一兆` in traditional script and lower case.
+/// Writes a `usize` by `High`: 10_000_000_000_000_000 is `一兆` in traditional script and lower
+/// case.
 ///
 /// The only error is `AllocError`, where memory runs out.
 pub fn from_usize_to_chinese_high(
@@ -93,8 +94,8 @@ pub fn from_i64_to_chinese_high(
     print_by_units::<i64, _>(alloc, variant, case, ChineseCountMethod::High, value)
 }
 
-/// Writes an `i128` by `High`: -1_000_000_000_000_000_000_000_000 is `負一億兆` in traditional script
-/// and lower case.
+/// Writes an `i128` by `High`: -1_000_000_000_000_000_000_000_000 is `負一億兆` in traditional
+/// script and lower case.
 ///
 /// The only error is `AllocError`, where memory runs out.
 pub fn from_i128_to_chinese_high(

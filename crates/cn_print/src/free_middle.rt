@@ -35,8 +35,8 @@ pub fn from_u64_to_chinese_middle(
     print_by_units::<u64, _>(alloc, variant, case, ChineseCountMethod::Middle, value)
 }
 
-/// Writes a `u128` by `Middle`: 1_000_000_000_000_000_000_000_000 is `一京` in traditional script and
-/// lower case.
+/// Writes a `u128` by `Middle`: 1_000_000_000_000_000_000_000_000 is `一京` in traditional script
+/// and lower case.
 ///
 /// The only error is `AllocError`, where memory runs out.
 pub fn from_u128_to_chinese_middle(
@@ -50,7 +50,8 @@ pub fn from_u128_to_chinese_middle(
     print_by_units::<u128, _>(alloc, variant, case, ChineseCountMethod::Middle, value)
 }
 
-/// Writes a `usize` by `Middle`: 1_000_000_000_000 is `一萬億` in traditional script and lower case.
+/// Writes a `usize` by `Middle`: 1_000_000_000_000 is `一萬億` in traditional script and lower
+/// case.
 ///
 /// The only error is `AllocError`, where memory runs out.
 pub fn from_usize_to_chinese_middle(
@@ -78,7 +79,8 @@ pub fn from_i32_to_chinese_middle(
     print_by_units::<i32, _>(alloc, variant, case, ChineseCountMethod::Middle, value)
 }
 
-/// Writes an `i64` by `Middle`: -1_000_000_000_000 is `負一萬億` in traditional script and lower case.
+/// Writes an `i64` by `Middle`: -1_000_000_000_000 is `負一萬億` in traditional script and lower
+/// case.
 ///
 /// The only error is `AllocError`, where memory runs out.
 pub fn from_i64_to_chinese_middle(
@@ -92,8 +94,8 @@ pub fn from_i64_to_chinese_middle(
     print_by_units::<i64, _>(alloc, variant, case, ChineseCountMethod::Middle, value)
 }
 
-/// Writes an `i128` by `Middle`: -1_000_000_000_000_000_000_000_000 is `負一京` in traditional script
-/// and lower case.
+/// Writes an `i128` by `Middle`: -1_000_000_000_000_000_000_000_000 is `負一京` in traditional
+/// script and lower case.
 ///
 /// The only error is `AllocError`, where memory runs out.
 pub fn from_i128_to_chinese_middle(

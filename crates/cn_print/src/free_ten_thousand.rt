@@ -21,7 +21,8 @@ pub fn from_u32_to_chinese_ten_thousand(
     print_by_units::<u32, _>(alloc, variant, case, ChineseCountMethod::TenThousand, value)
 }
 
-/// Writes a `u64` by `TenThousand`: 1_000_000_000_000 is `一兆` in traditional script and lower case.
+/// Writes a `u64` by `TenThousand`: 1_000_000_000_000 is `一兆` in traditional script and lower
+/// case.
 ///
 /// The only error is `AllocError`, where memory runs out.
 pub fn from_u64_to_chinese_ten_thousand(
@@ -94,8 +95,8 @@ pub fn from_i64_to_chinese_ten_thousand(
     print_by_units::<i64, _>(alloc, variant, case, ChineseCountMethod::TenThousand, value)
 }
 
-/// Writes an `i128` by `TenThousand`: -1_000_000_000_000 is `負一兆` in traditional script and lower
-/// case.
+/// Writes an `i128` by `TenThousand`: -1_000_000_000_000 is `負一兆` in traditional script and
+/// lower case.
 ///
 /// The only error is `AllocError`, where memory runs out.
 pub fn from_i128_to_chinese_ten_thousand(
@@ -109,8 +110,8 @@ pub fn from_i128_to_chinese_ten_thousand(
     print_by_units::<i128, _>(alloc, variant, case, ChineseCountMethod::TenThousand, value)
 }
 
-/// Writes an `isize` by `TenThousand`: -1_000_000_000_000 is `負一兆` in traditional script and lower
-/// case.
+/// Writes an `isize` by `TenThousand`: -1_000_000_000_000 is `負一兆` in traditional script and
+/// lower case.
 ///
 /// The only error is `AllocError`, where memory runs out.
 pub fn from_isize_to_chinese_ten_thousand(

@@ -9,7 +9,8 @@ use std::alloc::{AllocError, Global};
 
 /// Numbers that are written in Chinese: those of the twelve integer types.
 ///
-/// `alloc` is the allocator for the text: `rt.alloc()` in `main`, which hands it on to what it calls.
+/// `alloc` is the allocator for the text: `rt.alloc()` in `main`, which hands it on to what it
+/// calls.
 pub trait NumberToChinese: Whole {
     /// Writes the number by the units of a method, after the minus sign where it is below zero.
     ///
@@ -17,8 +18,8 @@ pub trait NumberToChinese: Whole {
     /// 123i8.to_chinese(alloc, ChineseVariant::Simple, ChineseCase::Upper, ChineseCountMethod::Low)   // 壹佰贰拾叁
     /// ```
     ///
-    /// `Low` refuses a number from 10^16 up with `Overflow` and one from -10^16 down with `Underflow`, before
-    /// memory is asked for. Where memory runs out the error is `OutOfMemory`.
+    /// `Low` refuses a number from 10^16 up with `Overflow` and one from -10^16 down with
+    /// `Underflow`, before memory is asked for. Where memory runs out the error is `OutOfMemory`.
     fn to_chinese(
         self,
         alloc: Global,

@@ -8,8 +8,8 @@ use cn_judge::{ChineseToNumberError, read_naive};
 
 /// Reads plain digits as a `u8`: `零一二` is 12.
 ///
-/// A text of nothing but white space is empty, the first character that is no digit is incorrect, 正
-/// and 負 too, and a number above `u8::MAX` is an overflow. Where the digits pass 128 bits, what
+/// A text of nothing but white space is empty, the first character that is no digit is incorrect,
+/// 正 and 負 too, and a number above `u8::MAX` is an overflow. Where the digits pass 128 bits, what
 /// follows is not looked at.
 pub fn from_chinese_to_u8_naive(text: &str) -> Result<u8, ChineseToNumberError>
     ensures { answer_of pos result ≡ naive_reading (unsigned_kind 8) text.now }
@@ -19,9 +19,9 @@ pub fn from_chinese_to_u8_naive(text: &str) -> Result<u8, ChineseToNumberError>
 
 /// Reads plain digits as a `u16`: `零一二` is 12.
 ///
-/// A text of nothing but white space is empty, the first character that is no digit is incorrect, 正
-/// and 負 too, and a number above `u16::MAX` is an overflow. Where the digits pass 128 bits, what
-/// follows is not looked at.
+/// A text of nothing but white space is empty, the first character that is no digit is incorrect,
+/// 正 and 負 too, and a number above `u16::MAX` is an overflow. Where the digits pass 128 bits,
+/// what follows is not looked at.
 pub fn from_chinese_to_u16_naive(text: &str) -> Result<u16, ChineseToNumberError>
     ensures { answer_of pos result ≡ naive_reading (unsigned_kind 16) text.now }
 {
@@ -30,9 +30,9 @@ pub fn from_chinese_to_u16_naive(text: &str) -> Result<u16, ChineseToNumberError
 
 /// Reads plain digits as a `u32`: `零一二` is 12.
 ///
-/// A text of nothing but white space is empty, the first character that is no digit is incorrect, 正
-/// and 負 too, and a number above `u32::MAX` is an overflow. Where the digits pass 128 bits, what
-/// follows is not looked at.
+/// A text of nothing but white space is empty, the first character that is no digit is incorrect,
+/// 正 and 負 too, and a number above `u32::MAX` is an overflow. Where the digits pass 128 bits,
+/// what follows is not looked at.
 pub fn from_chinese_to_u32_naive(text: &str) -> Result<u32, ChineseToNumberError>
     ensures { answer_of pos result ≡ naive_reading (unsigned_kind 32) text.now }
 {
@@ -41,9 +41,9 @@ pub fn from_chinese_to_u32_naive(text: &str) -> Result<u32, ChineseToNumberError
 
 /// Reads plain digits as a `u64`: `零一二` is 12.
 ///
-/// A text of nothing but white space is empty, the first character that is no digit is incorrect, 正
-/// and 負 too, and a number above `u64::MAX` is an overflow. Where the digits pass 128 bits, what
-/// follows is not looked at.
+/// A text of nothing but white space is empty, the first character that is no digit is incorrect,
+/// 正 and 負 too, and a number above `u64::MAX` is an overflow. Where the digits pass 128 bits,
+/// what follows is not looked at.
 pub fn from_chinese_to_u64_naive(text: &str) -> Result<u64, ChineseToNumberError>
     ensures { answer_of pos result ≡ naive_reading (unsigned_kind 64) text.now }
 {
@@ -52,9 +52,9 @@ pub fn from_chinese_to_u64_naive(text: &str) -> Result<u64, ChineseToNumberError
 
 /// Reads plain digits as a `u128`: `零一二` is 12.
 ///
-/// A text of nothing but white space is empty, the first character that is no digit is incorrect, 正
-/// and 負 too, and a number above `u128::MAX` is an overflow. Where the digits pass 128 bits, what
-/// follows is not looked at.
+/// A text of nothing but white space is empty, the first character that is no digit is incorrect,
+/// 正 and 負 too, and a number above `u128::MAX` is an overflow. Where the digits pass 128 bits,
+/// what follows is not looked at.
 pub fn from_chinese_to_u128_naive(text: &str) -> Result<u128, ChineseToNumberError>
     ensures { answer_of pos result ≡ naive_reading (unsigned_kind 128) text.now }
 {
@@ -63,9 +63,9 @@ pub fn from_chinese_to_u128_naive(text: &str) -> Result<u128, ChineseToNumberErr
 
 /// Reads plain digits as a `usize`: `零一二` is 12.
 ///
-/// A text of nothing but white space is empty, the first character that is no digit is incorrect, 正
-/// and 負 too, and a number above `usize::MAX` is an overflow. Where the digits pass 128 bits, what
-/// follows is not looked at.
+/// A text of nothing but white space is empty, the first character that is no digit is incorrect,
+/// 正 and 負 too, and a number above `usize::MAX` is an overflow. Where the digits pass 128 bits,
+/// what follows is not looked at.
 pub fn from_chinese_to_usize_naive(text: &str) -> Result<usize, ChineseToNumberError>
     ensures { answer_of pos result ≡ naive_reading (unsigned_kind 64) text.now }
 {

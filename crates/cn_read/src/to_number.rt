@@ -18,9 +18,9 @@ pub trait ChineseToNumber<T: Whole> {
     /// "一百二".to_number(ChineseCountMethod::TenThousand) == Ok(120i8)
     /// ```
     ///
-    /// A text of nothing but white space, and one sign for signed types, is empty, a number above the type's
-    /// greatest is an overflow, one below its least an underflow, and a text that is no numeral is incorrect;
-    /// [`ChineseToNumberError`] says when each comes, and which comes first.
+    /// A text of nothing but white space, and one sign for signed types, is empty, a number above
+    /// the type's greatest is an overflow, one below its least an underflow, and a text that is no
+    /// numeral is incorrect; [`ChineseToNumberError`] says when each comes, and which comes first.
     fn to_number(&self, method: ChineseCountMethod) -> Result<T, ChineseToNumberError>
         ensures { Reads T.kind method (bytes self.now) (answer_of T.number result) };
 
@@ -30,9 +30,10 @@ pub trait ChineseToNumber<T: Whole> {
     /// "一二三".to_number_naive() == Ok(123i8)
     /// ```
     ///
-    /// A text of nothing but white space, and one sign for signed types, is empty, the first other character
-    /// that is no digit is incorrect, a number above the type's greatest is an overflow, and one below its least
-    /// an underflow. Where the digits pass 128 bits, what follows is not looked at.
+    /// A text of nothing but white space, and one sign for signed types, is empty, the first other
+    /// character that is no digit is incorrect, a number above the type's greatest is an overflow,
+    /// and one below its least an underflow. Where the digits pass 128 bits, what follows is not
+    /// looked at.
     fn to_number_naive(&self) -> Result<T, ChineseToNumberError>
         ensures { answer_of T.number result ≡ naive_reading T.kind (bytes self.now) };
 }

@@ -25,7 +25,8 @@ pub fn each_input_has_one_output()
         × ((other : List ℕ) → AreReplies (lines input) other → other ≡ output) }
 {}
 
-/// Two errors of a run are equal exactly where they are the same variant, and all faults of a device are equal.
+/// Two errors of a run are equal exactly where they are the same variant, and all faults of a
+/// device are equal.
 ///
 /// For callers who compare the outcomes of runs.
 pub fn equal_values_are_the_same_variant()

@@ -8,11 +8,13 @@
 //! anything else                               bad line
 //! ```
 //!
-//! A `read` line has a type, a method or `naive`, and a text; a `print` line a type, a method or `naive`, a script,
-//! a case and a number. Exactly one space parts them, and the text is all that follows the third. The other errors
-//! are `a chinese number cannot be empty`, `number is too large` and `number is too small`.
+//! A `read` line has a type, a method or `naive`, and a text; a `print` line a type, a method or
+//! `naive`, a script, a case and a number. Exactly one space parts them, and the text is all that
+//! follows the third. The other errors are `a chinese number cannot be empty`,
+//! `number is too large` and `number is too small`.
 //!
-//! The status is 0 where all was read and answered, 1 where a read or a write failed, and 2 where memory ran out.
+//! The status is 0 where all was read and answered, 1 where a read or a write failed, and 2 where
+//! memory ran out.
 #![tactic(auto)]
 
 mod answer;

@@ -21,8 +21,8 @@ pub struct MemorySource<'a> {
 }
 
 impl<'a> MemorySource<'a> {
-    /// Gives these bytes, at most so many in a call, which is at least 1. Of the calls, counted from 1, this one
-    /// fails; `Some(0)` fails none.
+    /// Gives these bytes, at most so many in a call, which is at least 1. Of the calls, counted
+    /// from 1, this one fails; `Some(0)` fails none.
     pub fn new(bytes: &'a [u8], most: usize, failing: Option<u64>) -> MemorySource<'a>
         requires { 0 < most }
         ensures remaining { result.rest.now ≡ bytes.now }

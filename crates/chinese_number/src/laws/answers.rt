@@ -33,11 +33,11 @@ pub fn each_string_has_one_answer()
 {}
 
 /// A string is answered by a number exactly where its text, without white space and, for a signed
-/// type, one sign in front, is a numeral whose scales all fit 128 bits and whose signed value is that
-/// number, which the type holds.
+/// type, one sign in front, is a numeral whose scales all fit 128 bits and whose signed value is
+/// that number, which the type holds.
 ///
-/// For readers of dates, chapter numbers and amounts: what is read means what it says, and what means a number
-/// is read, as 一百二, which is 120.
+/// For readers of dates, chapter numbers and amounts: what is read means what it says, and what
+/// means a number is read, as 一百二, which is 120.
 pub fn numerals_alone_are_read<T: Whole>()
     ensures { (method : ChineseCountMethod) (bytes : List ℕ) (number : ℤ)
         → let marks = marks_of (unsigned_text T.kind bytes) in

@@ -13,8 +13,8 @@ ghost use Rattle.cn_core.specs.declared.method.ChineseCountMethod.TheVariants.{L
 /// The methods spell alike where they have the same units: all four below 10^5, all but `Low` below
 /// 10^12, and `Middle` and `High` below 10^24.
 ///
-/// For whoever prints years, page and chapter numbers: there no method has to be chosen. 10,000 is 一萬 by
-/// each of them.
+/// For whoever prints years, page and chapter numbers: there no method has to be chosen. 10,000 is
+/// 一萬 by each of them.
 pub fn methods_spell_alike_below()
     ensures all { (number : ℕ) → number < 10 ^ 5 → (one other : ChineseCountMethod)
         → spelling one number ≡ spelling other number }
@@ -27,8 +27,8 @@ pub fn methods_spell_alike_below()
 /// The methods spell alike no further than that: at 10^5 `Low`, at 10^12 `TenThousand` and at 10^24
 /// `Middle` spells otherwise than the rest.
 ///
-/// For whoever prints great amounts: from there on a method has to be chosen. 100,000 is 一億 by `Low` and
-/// 十萬 by the others.
+/// For whoever prints great amounts: from there on a method has to be chosen. 100,000 is 一億 by
+/// `Low` and 十萬 by the others.
 pub fn methods_spell_otherwise_from()
     ensures low { (spelling Low (10 ^ 5) ≢ spelling TenThousand (10 ^ 5))
         × (spelling Low (10 ^ 5) ≢ spelling Middle (10 ^ 5))

@@ -15,8 +15,8 @@ use cn_core::Whole;
 
 /// Every spelling is a numeral of its magnitude.
 ///
-/// For a normaliser for speech: what it writes is a numeral by the rules, for any reader. 110 is 一百一十 by each
-/// method.
+/// For a normaliser for speech: what it writes is a numeral by the rules, for any reader. 110 is
+/// 一百一十 by each method.
 pub fn spellings_are_numerals<T: Whole>()
     ensures { (method : ChineseCountMethod) (number : ℤ)
         → Holds T.kind number → IsTrue (is_printable method number)
@@ -27,8 +27,8 @@ pub fn spellings_are_numerals<T: Whole>()
 /// What is printed is read back: the written spelling of a number, in any script and case, is
 /// answered by that number and by nothing else.
 ///
-/// For amounts on cheques and invoices: 1,280,500 is written 一百二十八萬零五百 by `TenThousand`, and that reads
-/// as 1,280,500 and as nothing else.
+/// For amounts on cheques and invoices: 1,280,500 is written 一百二十八萬零五百 by `TenThousand`,
+/// and that reads as 1,280,500 and as nothing else.
 pub fn spellings_read_back<T: Whole>()
     ensures { (variant : ChineseVariant) (case : ChineseCase) (method : ChineseCountMethod) (number : ℤ)
         → Holds T.kind number → IsTrue (is_printable method number) → (answer : Result ℤ Refusal)
@@ -36,8 +36,8 @@ pub fn spellings_read_back<T: Whole>()
         ↔ (answer ≡ Ok number) }
 {}
 
-/// One text for each number: two numbers have the same written text, by one method or as plain digits
-/// and in one script and case, exactly where they are equal.
+/// One text for each number: two numbers have the same written text, by one method or as plain
+/// digits and in one script and case, exactly where they are equal.
 ///
 /// For amounts on cheques and invoices: no two amounts look alike.
 pub fn one_text_for_each_number<T: Whole>()

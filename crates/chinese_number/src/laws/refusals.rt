@@ -21,7 +21,8 @@ pub fn empty_is_nothing_left()
 
 /// For a type without sign no string is too small.
 ///
-/// For callers who tell a user what is wrong: there is one message less. 負一 as a `u8` is incorrect at 0.
+/// For callers who tell a user what is wrong: there is one message less. 負一 as a `u8` is
+/// incorrect at 0.
 pub fn unsigned_types_never_underflow<T: Whole>()
     ensures units { (method : ChineseCountMethod) (bytes : List ℕ) → IsTrue (not T.SIGNED)
         → ¬ Reads T.kind method bytes (Err too_small) }

@@ -14,8 +14,8 @@ ghost use Rattle.cn_core.specs.declared.sign.Sign.{Sign};
 
 use cn_core::Whole;
 
-/// A sign in front of a numeral, whose units all have scales that fit, gives its value: 負 the negated
-/// one, 正 the value itself, in each signed type that holds it.
+/// A sign in front of a numeral, whose units all have scales that fit, gives its value: 負 the
+/// negated one, 正 the value itself, in each signed type that holds it.
 ///
 /// For a normaliser for speech: 負十 is -10, and 正十 is 10.
 pub fn a_sign_gives_the_signed_value<T: Whole>()

@@ -23,10 +23,12 @@ pub fn white_space_does_not_matter()
         → without_spot (naive_reading kind one) ≡ without_spot (naive_reading kind other) }
 {}
 
-/// A refusal points at a character: the one at its spot is no white space, and before it stand exactly as
-/// many other characters that are no white space as its place says, the sign's among them.
+/// A refusal points at a character: the one at its spot is no white space, and before it stand
+/// exactly as many other characters that are no white space as its place says, the sign's among
+/// them.
 ///
-/// For form validators: they mark the character that the spot names. In ` 二 十 十 ` it is at 3, in `二十十` at 1.
+/// For form validators: they mark the character that the spot names. In ` 二 十 十 ` it is at 3, in
+/// `二十十` at 1.
 pub fn refusals_point_at_characters()
     ensures units { (kind : Kind) (method : ChineseCountMethod) (bytes : List ℕ) (spot : ℕ)
         → Reads kind method bytes (Err (incorrect_at spot))
