@@ -25,6 +25,7 @@ time gate
 cc -O1 -shared -fPIC -o "$refuse_growth" beside/refuse_growth.c -ldl
 time python3 beside/want_of_memory.py crates/cn_memory/out/cn_memory "$refuse_growth"
 time python3 beside/short_of_memory.py $numeral "$refuse_growth" < crates/numeral/stdin
+time python3 beside/documents.py $numeral
 time python3 beside/dialogue.py $numeral
 time python3 beside/statuses.py $numeral
 time python3 beside/readers_without_memory.py crates/cn_vectors

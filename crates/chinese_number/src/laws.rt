@@ -1,4 +1,5 @@
-//! What users rest on, each as the contract of a function that does nothing.
+//! What users can count on, each as the contract of a function that does nothing: that contract is
+//! the theorem, and the check proves it.
 mod answers;
 mod enums;
 mod methods;

@@ -1,6 +1,6 @@
 //! Chinese numerals, read and written, for the twelve integer types.
 //!
-//! All that callers need has its name here; `laws` says what they can rest on.
+//! All that callers need has its name here; `laws` says what they can count on.
 #![tactic(auto)]
 
 pub mod laws;

@@ -61,8 +61,14 @@ pub fn unit_of(c: char) -> Option<Unit>
     }
 }
 
-/// The sign of a sign character; `None` for any other character. 正 is a unit, too: it is a sign only in
-/// front of a text that is read for a signed type.
+/// The sign of a sign character; `None` for any other character.
+///
+/// ```text
+/// sign_of('负') == Some(Sign::Minus)
+/// sign_of('-') == None
+/// ```
+///
+/// 正 is a unit, too: it is a sign only in front of a text that is read for a signed type.
 #[tactic(auto, unfolding(crate::specs::Characters::sign_of))]
 pub fn sign_of(c: char) -> Option<Sign>
     ensures { result ≡ sign_of c }

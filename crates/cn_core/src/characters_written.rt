@@ -41,6 +41,10 @@ pub fn digit_char(variant: ChineseVariant, case: ChineseCase, digit: u8) -> char
 }
 
 /// The character that writes a unit: 個 or 个 for `Unit::Ge`, which no printer writes.
+///
+/// ```text
+/// unit_char(ChineseVariant::Simple, ChineseCase::Upper, Unit::Shi) == '拾'
+/// ```
 #[tactic(auto, unfolding(crate::specs::Characters::unit_char))]
 pub fn unit_char(variant: ChineseVariant, case: ChineseCase, unit: Unit) -> char
     ensures { result ≡ unit_char variant case (rank unit) }
@@ -75,7 +79,12 @@ pub fn unit_char(variant: ChineseVariant, case: ChineseCase, unit: Unit) -> char
     }
 }
 
-/// The character that writes the minus sign: 負 or 负.
+/// The character that writes the minus sign.
+///
+/// ```text
+/// minus_char(ChineseVariant::Traditional) == '負'
+/// minus_char(ChineseVariant::Simple) == '负'
+/// ```
 #[tactic(auto, unfolding(crate::specs::Characters::minus_char))]
 pub fn minus_char(variant: ChineseVariant) -> char
     ensures { result ≡ minus_char variant }

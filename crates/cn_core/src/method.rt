@@ -1,16 +1,17 @@
 ghost use Rattle.std.specs.Prelude.{◌≡◌, [], ◌∷◌};
 
-/// The method by which units stand for powers of ten: 億 is 10^5 by `Low` and 10^8 by the others, 兆
-/// is 10^6, 10^12, 10^16 and 10^16 by the four in turn.
+/// The method by which units stand for powers of ten. Up to 萬, 10^4, all four agree.
+///
+/// `TenThousand` is the one in use today; take another only for old texts that were written by it.
 #[derive(Debug, Copy, Clone, Eq, PartialEq, Hash)]
 pub enum ChineseCountMethod {
-    /// Each unit is ten of the one before.
+    /// Each unit is ten of the one before: 億 is 10^5, 兆 is 10^6, 極 is 10^15.
     Low,
-    /// From 萬 on each unit is 10^4 of the one before.
+    /// From 萬 on each unit is 10^4 of the one before: 億 is 10^8, 兆 is 10^12, 京 is 10^16.
     TenThousand,
-    /// From 億 on each unit is 10^8 of the one before.
+    /// From 億 on each unit is 10^8 of the one before: 億 is 10^8, 兆 is 10^16, 京 is 10^24.
     Middle,
-    /// From 億 on each unit is the square of the one before.
+    /// From 億 on each unit is the square of the one before: 億 is 10^8, 兆 is 10^16, 京 is 10^32.
     High,
 }
 

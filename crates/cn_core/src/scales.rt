@@ -48,6 +48,10 @@ static POWERS_OF_TEN: [u128; 39] = [
 ];
 
 /// The exponent of the power of ten that a unit stands for.
+///
+/// ```text
+/// exponent(ChineseCountMethod::Middle, Unit::Zhao) == 16
+/// ```
 pub fn exponent(method: ChineseCountMethod, unit: Unit) -> usize
     ensures { result ≡ exponent method (rank unit) }
 {
@@ -62,6 +66,11 @@ pub fn exponent(method: ChineseCountMethod, unit: Unit) -> usize
 }
 
 /// The power of ten with this exponent; `None` exactly where it does not fit `u128`.
+///
+/// ```text
+/// power_of_ten(4) == Some(10_000)
+/// power_of_ten(39) == None
+/// ```
 pub fn power_of_ten(exponent: usize) -> Option<u128>
     ensures { SomeIff result (exponent ≤ 38) (10 ^ exponent) }
 {

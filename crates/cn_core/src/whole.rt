@@ -17,7 +17,10 @@ pub trait Whole: Copy {
     /// Whether the type holds numbers below zero.
     const SIGNED: bool;
 
-    /// Whether the type has 8 or 16 bits: true for `u8`, `u16`, `i8` and `i16`, false for the other eight.
+    /// Whether the type has 8 or 16 bits: true for `u8`, `u16`, `i8` and `i16`, false for the other
+    /// eight.
+    ///
+    /// For callers alone, who can tell the types whose readers by name all read by `Low`.
     const NARROW: bool;
 
     ghost SIGNED: { Bool };
@@ -30,11 +33,11 @@ pub trait Whole: Copy {
     // The number that a value stands for.
     ghost number: { Self → ℤ };
 
-    /// The least value of the type.
+    /// The least value of the type: -128 for `i8`.
     fn least() -> Self
         ensures { number result ≡ kind.least };
 
-    /// The greatest value of the type.
+    /// The greatest value of the type: 127 for `i8`.
     fn greatest() -> Self
         ensures { number result ≡ kind.greatest };
 
@@ -42,7 +45,7 @@ pub trait Whole: Copy {
     fn is_negative(self) -> bool
         ensures { IsTrue result ↔ (number self <ℤ pos 0) };
 
-    /// The number without its sign.
+    /// The number without its sign: 128 for `i8::MIN`.
     fn magnitude(self) -> u128
         ensures value { result ≡ nat_abs (number self) }
         ensures held { Holds kind (number self) };

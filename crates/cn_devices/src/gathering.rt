@@ -24,7 +24,7 @@ pub struct Gathering<W> {
 }
 
 impl<W: Sink> Gathering<W> {
-    /// Takes its room at once: the only error is want of memory.
+    /// Takes its room at once: the only error is running out of memory.
     pub fn new(alloc: Global, inner: W) -> Result<Gathering<W>, AllocError>
     where
         W: Drop,

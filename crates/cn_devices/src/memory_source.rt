@@ -6,9 +6,9 @@ use crate::device::Source;
 use crate::empty_reads::EmptyReads;
 use crate::fault::DeviceFault;
 
-/// The bytes of a lent slice.
+/// A source of the bytes of a lent slice.
 ///
-/// It fails at the call named, and never else.
+/// It fails at call number `failing`, and at no other.
 #[derive(Drop)]
 pub struct MemorySource<'a> {
     rest: &'a [u8],
@@ -21,8 +21,8 @@ pub struct MemorySource<'a> {
 }
 
 impl<'a> MemorySource<'a> {
-    /// Gives these bytes, at most so many in a call, which is at least 1. Of the calls, counted from 1, this one
-    /// fails; `Some(0)` fails none.
+    /// Gives these bytes, at most so many in a call, which is at least 1. Of the calls, counted
+    /// from 1, this one fails; `Some(0)` fails none.
     pub fn new(bytes: &'a [u8], most: usize, failing: Option<u64>) -> MemorySource<'a>
         requires { 0 < most }
         ensures remaining { result.rest.now ≡ bytes.now }

@@ -7,9 +7,9 @@ use cn_core::{ChineseCase, ChineseCountMethod, ChineseVariant};
 use cn_spell::print_by_units;
 use std::alloc::{AllocError, Global};
 
-/// Writes a `u32` by squares: 億 is 10^8, 兆 is 10^16, 京 is 10^32.
+/// Writes a `u32` by `High`: 100_000 is `十萬` in traditional script and lower case.
 ///
-/// The only error is want of memory.
+/// The only error is `AllocError`, where memory runs out.
 pub fn from_u32_to_chinese_high(
     alloc: Global,
     variant: ChineseVariant,
@@ -21,9 +21,9 @@ pub fn from_u32_to_chinese_high(
     print_by_units::<u32, _>(alloc, variant, case, ChineseCountMethod::High, value)
 }
 
-/// Writes a `u64` by squares: 億 is 10^8, 兆 is 10^16, 京 is 10^32.
+/// Writes a `u64` by `High`: 10_000_000_000_000_000 is `一兆` in traditional script and lower case.
 ///
-/// The only error is want of memory.
+/// The only error is `AllocError`, where memory runs out.
 pub fn from_u64_to_chinese_high(
     alloc: Global,
     variant: ChineseVariant,
@@ -35,9 +35,10 @@ pub fn from_u64_to_chinese_high(
     print_by_units::<u64, _>(alloc, variant, case, ChineseCountMethod::High, value)
 }
 
-/// Writes a `u128` by squares: 億 is 10^8, 兆 is 10^16, 京 is 10^32.
+/// Writes a `u128` by `High`: 1_000_000_000_000_000_000_000_000 is `一億兆` in traditional script
+/// and lower case.
 ///
-/// The only error is want of memory.
+/// The only error is `AllocError`, where memory runs out.
 pub fn from_u128_to_chinese_high(
     alloc: Global,
     variant: ChineseVariant,
@@ -49,9 +50,10 @@ pub fn from_u128_to_chinese_high(
     print_by_units::<u128, _>(alloc, variant, case, ChineseCountMethod::High, value)
 }
 
-/// Writes a `usize` by squares: 億 is 10^8, 兆 is 10^16, 京 is 10^32.
+/// Writes a `usize` by `High`: 10_000_000_000_000_000 is `一兆` in traditional script and lower
+/// case.
 ///
-/// The only error is want of memory.
+/// The only error is `AllocError`, where memory runs out.
 pub fn from_usize_to_chinese_high(
     alloc: Global,
     variant: ChineseVariant,
@@ -63,9 +65,9 @@ pub fn from_usize_to_chinese_high(
     print_by_units::<usize, _>(alloc, variant, case, ChineseCountMethod::High, value)
 }
 
-/// Writes an `i32` by squares: 億 is 10^8, 兆 is 10^16, 京 is 10^32.
+/// Writes an `i32` by `High`: -100_000 is `負十萬` in traditional script and lower case.
 ///
-/// The only error is want of memory.
+/// The only error is `AllocError`, where memory runs out.
 pub fn from_i32_to_chinese_high(
     alloc: Global,
     variant: ChineseVariant,
@@ -77,9 +79,10 @@ pub fn from_i32_to_chinese_high(
     print_by_units::<i32, _>(alloc, variant, case, ChineseCountMethod::High, value)
 }
 
-/// Writes an `i64` by squares: 億 is 10^8, 兆 is 10^16, 京 is 10^32.
+/// Writes an `i64` by `High`: -10_000_000_000_000_000 is `負一兆` in traditional script and lower
+/// case.
 ///
-/// The only error is want of memory.
+/// The only error is `AllocError`, where memory runs out.
 pub fn from_i64_to_chinese_high(
     alloc: Global,
     variant: ChineseVariant,
@@ -91,9 +94,10 @@ pub fn from_i64_to_chinese_high(
     print_by_units::<i64, _>(alloc, variant, case, ChineseCountMethod::High, value)
 }
 
-/// Writes an `i128` by squares: 億 is 10^8, 兆 is 10^16, 京 is 10^32.
+/// Writes an `i128` by `High`: -1_000_000_000_000_000_000_000_000 is `負一億兆` in traditional
+/// script and lower case.
 ///
-/// The only error is want of memory.
+/// The only error is `AllocError`, where memory runs out.
 pub fn from_i128_to_chinese_high(
     alloc: Global,
     variant: ChineseVariant,
@@ -105,9 +109,10 @@ pub fn from_i128_to_chinese_high(
     print_by_units::<i128, _>(alloc, variant, case, ChineseCountMethod::High, value)
 }
 
-/// Writes an `isize` by squares: 億 is 10^8, 兆 is 10^16, 京 is 10^32.
+/// Writes an `isize` by `High`: -10_000_000_000_000_000 is `負一兆` in traditional script and lower
+/// case.
 ///
-/// The only error is want of memory.
+/// The only error is `AllocError`, where memory runs out.
 pub fn from_isize_to_chinese_high(
     alloc: Global,
     variant: ChineseVariant,

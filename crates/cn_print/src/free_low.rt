@@ -11,9 +11,9 @@ use cn_core::{ChineseCase, ChineseCountMethod, ChineseVariant};
 use cn_spell::{NumberToChineseError, print_by_units, print_or_refuse};
 use std::alloc::{AllocError, Global};
 
-/// Writes a `u8` by single places: 億 is 10^5.
+/// Writes a `u8` by `Low`: 12 is `十二` in traditional script and lower case.
 ///
-/// The only error is want of memory.
+/// The only error is `AllocError`, where memory runs out.
 pub fn from_u8_to_chinese(
     alloc: Global,
     variant: ChineseVariant,
@@ -25,9 +25,9 @@ pub fn from_u8_to_chinese(
     print_by_units::<u8, _>(alloc, variant, case, ChineseCountMethod::Low, value)
 }
 
-/// Writes a `u16` by single places: 億 is 10^5.
+/// Writes a `u16` by `Low`: 12 is `十二` in traditional script and lower case.
 ///
-/// The only error is want of memory.
+/// The only error is `AllocError`, where memory runs out.
 pub fn from_u16_to_chinese(
     alloc: Global,
     variant: ChineseVariant,
@@ -39,9 +39,9 @@ pub fn from_u16_to_chinese(
     print_by_units::<u16, _>(alloc, variant, case, ChineseCountMethod::Low, value)
 }
 
-/// Writes a `u32` by single places: 億 is 10^5.
+/// Writes a `u32` by `Low`: 100_000 is `一億` in traditional script and lower case.
 ///
-/// The only error is want of memory.
+/// The only error is `AllocError`, where memory runs out.
 pub fn from_u32_to_chinese_low(
     alloc: Global,
     variant: ChineseVariant,
@@ -53,10 +53,10 @@ pub fn from_u32_to_chinese_low(
     print_by_units::<u32, _>(alloc, variant, case, ChineseCountMethod::Low, value)
 }
 
-/// Writes a `u64` by single places: 億 is 10^5.
+/// Writes a `u64` by `Low`: 100_000 is `一億` in traditional script and lower case.
 ///
-/// A number from 10^16 up is refused with `Overflow`, before memory is asked
-/// for; want of memory is `OutOfMemory`.
+/// A number from 10^16 up is refused with `Overflow`, before memory is asked for. Where memory runs
+/// out the error is `OutOfMemory`.
 pub fn from_u64_to_chinese_low(
     alloc: Global,
     variant: ChineseVariant,
@@ -68,10 +68,10 @@ pub fn from_u64_to_chinese_low(
     print_or_refuse::<u64, _>(alloc, variant, case, ChineseCountMethod::Low, value)
 }
 
-/// Writes a `u128` by single places: 億 is 10^5.
+/// Writes a `u128` by `Low`: 100_000 is `一億` in traditional script and lower case.
 ///
-/// A number from 10^16 up is refused with `Overflow`, before memory is asked
-/// for; want of memory is `OutOfMemory`.
+/// A number from 10^16 up is refused with `Overflow`, before memory is asked for. Where memory runs
+/// out the error is `OutOfMemory`.
 pub fn from_u128_to_chinese_low(
     alloc: Global,
     variant: ChineseVariant,
@@ -83,10 +83,10 @@ pub fn from_u128_to_chinese_low(
     print_or_refuse::<u128, _>(alloc, variant, case, ChineseCountMethod::Low, value)
 }
 
-/// Writes a `usize` by single places: 億 is 10^5.
+/// Writes a `usize` by `Low`: 100_000 is `一億` in traditional script and lower case.
 ///
-/// A number from 10^16 up is refused with `Overflow`, before memory is asked
-/// for; want of memory is `OutOfMemory`.
+/// A number from 10^16 up is refused with `Overflow`, before memory is asked for. Where memory runs
+/// out the error is `OutOfMemory`.
 pub fn from_usize_to_chinese_low(
     alloc: Global,
     variant: ChineseVariant,
@@ -98,9 +98,9 @@ pub fn from_usize_to_chinese_low(
     print_or_refuse::<usize, _>(alloc, variant, case, ChineseCountMethod::Low, value)
 }
 
-/// Writes an `i8` by single places: 億 is 10^5.
+/// Writes an `i8` by `Low`: -12 is `負十二` in traditional script and lower case.
 ///
-/// The only error is want of memory.
+/// The only error is `AllocError`, where memory runs out.
 pub fn from_i8_to_chinese(
     alloc: Global,
     variant: ChineseVariant,
@@ -112,9 +112,9 @@ pub fn from_i8_to_chinese(
     print_by_units::<i8, _>(alloc, variant, case, ChineseCountMethod::Low, value)
 }
 
-/// Writes an `i16` by single places: 億 is 10^5.
+/// Writes an `i16` by `Low`: -12 is `負十二` in traditional script and lower case.
 ///
-/// The only error is want of memory.
+/// The only error is `AllocError`, where memory runs out.
 pub fn from_i16_to_chinese(
     alloc: Global,
     variant: ChineseVariant,
@@ -126,9 +126,9 @@ pub fn from_i16_to_chinese(
     print_by_units::<i16, _>(alloc, variant, case, ChineseCountMethod::Low, value)
 }
 
-/// Writes an `i32` by single places: 億 is 10^5.
+/// Writes an `i32` by `Low`: -100_000 is `負一億` in traditional script and lower case.
 ///
-/// The only error is want of memory.
+/// The only error is `AllocError`, where memory runs out.
 pub fn from_i32_to_chinese_low(
     alloc: Global,
     variant: ChineseVariant,
@@ -140,10 +140,10 @@ pub fn from_i32_to_chinese_low(
     print_by_units::<i32, _>(alloc, variant, case, ChineseCountMethod::Low, value)
 }
 
-/// Writes an `i64` by single places: 億 is 10^5.
+/// Writes an `i64` by `Low`: -100_000 is `負一億` in traditional script and lower case.
 ///
-/// A number from 10^16 up is refused with `Overflow`, one from -10^16 down with `Underflow`, before memory is asked
-/// for; want of memory is `OutOfMemory`.
+/// A number from 10^16 up is refused with `Overflow`, and one from -10^16 down with `Underflow`,
+/// before memory is asked for. Where memory runs out the error is `OutOfMemory`.
 pub fn from_i64_to_chinese_low(
     alloc: Global,
     variant: ChineseVariant,
@@ -155,10 +155,10 @@ pub fn from_i64_to_chinese_low(
     print_or_refuse::<i64, _>(alloc, variant, case, ChineseCountMethod::Low, value)
 }
 
-/// Writes an `i128` by single places: 億 is 10^5.
+/// Writes an `i128` by `Low`: -100_000 is `負一億` in traditional script and lower case.
 ///
-/// A number from 10^16 up is refused with `Overflow`, one from -10^16 down with `Underflow`, before memory is asked
-/// for; want of memory is `OutOfMemory`.
+/// A number from 10^16 up is refused with `Overflow`, and one from -10^16 down with `Underflow`,
+/// before memory is asked for. Where memory runs out the error is `OutOfMemory`.
 pub fn from_i128_to_chinese_low(
     alloc: Global,
     variant: ChineseVariant,
@@ -170,10 +170,10 @@ pub fn from_i128_to_chinese_low(
     print_or_refuse::<i128, _>(alloc, variant, case, ChineseCountMethod::Low, value)
 }
 
-/// Writes an `isize` by single places: 億 is 10^5.
+/// Writes an `isize` by `Low`: -100_000 is `負一億` in traditional script and lower case.
 ///
-/// A number from 10^16 up is refused with `Overflow`, one from -10^16 down with `Underflow`, before memory is asked
-/// for; want of memory is `OutOfMemory`.
+/// A number from 10^16 up is refused with `Overflow`, and one from -10^16 down with `Underflow`,
+/// before memory is asked for. Where memory runs out the error is `OutOfMemory`.
 pub fn from_isize_to_chinese_low(
     alloc: Global,
     variant: ChineseVariant,

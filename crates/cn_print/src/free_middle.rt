@@ -7,9 +7,9 @@ use cn_core::{ChineseCase, ChineseCountMethod, ChineseVariant};
 use cn_spell::print_by_units;
 use std::alloc::{AllocError, Global};
 
-/// Writes a `u32` by hundred millions: 億 is 10^8, 兆 is 10^16.
+/// Writes a `u32` by `Middle`: 100_000 is `十萬` in traditional script and lower case.
 ///
-/// The only error is want of memory.
+/// The only error is `AllocError`, where memory runs out.
 pub fn from_u32_to_chinese_middle(
     alloc: Global,
     variant: ChineseVariant,
@@ -21,9 +21,9 @@ pub fn from_u32_to_chinese_middle(
     print_by_units::<u32, _>(alloc, variant, case, ChineseCountMethod::Middle, value)
 }
 
-/// Writes a `u64` by hundred millions: 億 is 10^8, 兆 is 10^16.
+/// Writes a `u64` by `Middle`: 1_000_000_000_000 is `一萬億` in traditional script and lower case.
 ///
-/// The only error is want of memory.
+/// The only error is `AllocError`, where memory runs out.
 pub fn from_u64_to_chinese_middle(
     alloc: Global,
     variant: ChineseVariant,
@@ -35,9 +35,10 @@ pub fn from_u64_to_chinese_middle(
     print_by_units::<u64, _>(alloc, variant, case, ChineseCountMethod::Middle, value)
 }
 
-/// Writes a `u128` by hundred millions: 億 is 10^8, 兆 is 10^16.
+/// Writes a `u128` by `Middle`: 1_000_000_000_000_000_000_000_000 is `一京` in traditional script
+/// and lower case.
 ///
-/// The only error is want of memory.
+/// The only error is `AllocError`, where memory runs out.
 pub fn from_u128_to_chinese_middle(
     alloc: Global,
     variant: ChineseVariant,
@@ -49,9 +50,10 @@ pub fn from_u128_to_chinese_middle(
     print_by_units::<u128, _>(alloc, variant, case, ChineseCountMethod::Middle, value)
 }
 
-/// Writes a `usize` by hundred millions: 億 is 10^8, 兆 is 10^16.
+/// Writes a `usize` by `Middle`: 1_000_000_000_000 is `一萬億` in traditional script and lower
+/// case.
 ///
-/// The only error is want of memory.
+/// The only error is `AllocError`, where memory runs out.
 pub fn from_usize_to_chinese_middle(
     alloc: Global,
     variant: ChineseVariant,
@@ -63,9 +65,9 @@ pub fn from_usize_to_chinese_middle(
     print_by_units::<usize, _>(alloc, variant, case, ChineseCountMethod::Middle, value)
 }
 
-/// Writes an `i32` by hundred millions: 億 is 10^8, 兆 is 10^16.
+/// Writes an `i32` by `Middle`: -100_000 is `負十萬` in traditional script and lower case.
 ///
-/// The only error is want of memory.
+/// The only error is `AllocError`, where memory runs out.
 pub fn from_i32_to_chinese_middle(
     alloc: Global,
     variant: ChineseVariant,
@@ -77,9 +79,10 @@ pub fn from_i32_to_chinese_middle(
     print_by_units::<i32, _>(alloc, variant, case, ChineseCountMethod::Middle, value)
 }
 
-/// Writes an `i64` by hundred millions: 億 is 10^8, 兆 is 10^16.
+/// Writes an `i64` by `Middle`: -1_000_000_000_000 is `負一萬億` in traditional script and lower
+/// case.
 ///
-/// The only error is want of memory.
+/// The only error is `AllocError`, where memory runs out.
 pub fn from_i64_to_chinese_middle(
     alloc: Global,
     variant: ChineseVariant,
@@ -91,9 +94,10 @@ pub fn from_i64_to_chinese_middle(
     print_by_units::<i64, _>(alloc, variant, case, ChineseCountMethod::Middle, value)
 }
 
-/// Writes an `i128` by hundred millions: 億 is 10^8, 兆 is 10^16.
+/// Writes an `i128` by `Middle`: -1_000_000_000_000_000_000_000_000 is `負一京` in traditional
+/// script and lower case.
 ///
-/// The only error is want of memory.
+/// The only error is `AllocError`, where memory runs out.
 pub fn from_i128_to_chinese_middle(
     alloc: Global,
     variant: ChineseVariant,
@@ -105,9 +109,10 @@ pub fn from_i128_to_chinese_middle(
     print_by_units::<i128, _>(alloc, variant, case, ChineseCountMethod::Middle, value)
 }
 
-/// Writes an `isize` by hundred millions: 億 is 10^8, 兆 is 10^16.
+/// Writes an `isize` by `Middle`: -1_000_000_000_000 is `負一萬億` in traditional script and lower
+/// case.
 ///
-/// The only error is want of memory.
+/// The only error is `AllocError`, where memory runs out.
 pub fn from_isize_to_chinese_middle(
     alloc: Global,
     variant: ChineseVariant,

@@ -7,9 +7,9 @@ use cn_core::{ChineseCase, ChineseVariant};
 use cn_spell::print_naive;
 use std::alloc::{AllocError, Global};
 
-/// Writes a `u8` as plain decimal digits.
+/// Writes a `u8` digit by digit: 120 is `一二零` in traditional script and lower case.
 ///
-/// The only error is want of memory.
+/// The only error is `AllocError`, where memory runs out.
 pub fn from_u8_to_chinese_naive(
     alloc: Global,
     variant: ChineseVariant,
@@ -21,9 +21,9 @@ pub fn from_u8_to_chinese_naive(
     print_naive::<u8, _>(alloc, variant, case, value)
 }
 
-/// Writes a `u16` as plain decimal digits.
+/// Writes a `u16` digit by digit: 120 is `一二零` in traditional script and lower case.
 ///
-/// The only error is want of memory.
+/// The only error is `AllocError`, where memory runs out.
 pub fn from_u16_to_chinese_naive(
     alloc: Global,
     variant: ChineseVariant,
@@ -35,9 +35,9 @@ pub fn from_u16_to_chinese_naive(
     print_naive::<u16, _>(alloc, variant, case, value)
 }
 
-/// Writes a `u32` as plain decimal digits.
+/// Writes a `u32` digit by digit: 120 is `一二零` in traditional script and lower case.
 ///
-/// The only error is want of memory.
+/// The only error is `AllocError`, where memory runs out.
 pub fn from_u32_to_chinese_naive(
     alloc: Global,
     variant: ChineseVariant,
@@ -49,9 +49,9 @@ pub fn from_u32_to_chinese_naive(
     print_naive::<u32, _>(alloc, variant, case, value)
 }
 
-/// Writes a `u64` as plain decimal digits.
+/// Writes a `u64` digit by digit: 120 is `一二零` in traditional script and lower case.
 ///
-/// The only error is want of memory.
+/// The only error is `AllocError`, where memory runs out.
 pub fn from_u64_to_chinese_naive(
     alloc: Global,
     variant: ChineseVariant,
@@ -63,9 +63,9 @@ pub fn from_u64_to_chinese_naive(
     print_naive::<u64, _>(alloc, variant, case, value)
 }
 
-/// Writes a `u128` as plain decimal digits.
+/// Writes a `u128` digit by digit: 120 is `一二零` in traditional script and lower case.
 ///
-/// The only error is want of memory.
+/// The only error is `AllocError`, where memory runs out.
 pub fn from_u128_to_chinese_naive(
     alloc: Global,
     variant: ChineseVariant,
@@ -77,9 +77,9 @@ pub fn from_u128_to_chinese_naive(
     print_naive::<u128, _>(alloc, variant, case, value)
 }
 
-/// Writes a `usize` as plain decimal digits.
+/// Writes a `usize` digit by digit: 120 is `一二零` in traditional script and lower case.
 ///
-/// The only error is want of memory.
+/// The only error is `AllocError`, where memory runs out.
 pub fn from_usize_to_chinese_naive(
     alloc: Global,
     variant: ChineseVariant,
@@ -91,9 +91,9 @@ pub fn from_usize_to_chinese_naive(
     print_naive::<usize, _>(alloc, variant, case, value)
 }
 
-/// Writes a `i8` as plain decimal digits, after the minus sign where it is below zero.
+/// Writes an `i8` digit by digit: -120 is `負一二零` in traditional script and lower case.
 ///
-/// The only error is want of memory.
+/// The only error is `AllocError`, where memory runs out.
 pub fn from_i8_to_chinese_naive(
     alloc: Global,
     variant: ChineseVariant,
@@ -105,9 +105,9 @@ pub fn from_i8_to_chinese_naive(
     print_naive::<i8, _>(alloc, variant, case, value)
 }
 
-/// Writes a `i16` as plain decimal digits, after the minus sign where it is below zero.
+/// Writes an `i16` digit by digit: -120 is `負一二零` in traditional script and lower case.
 ///
-/// The only error is want of memory.
+/// The only error is `AllocError`, where memory runs out.
 pub fn from_i16_to_chinese_naive(
     alloc: Global,
     variant: ChineseVariant,
@@ -119,9 +119,9 @@ pub fn from_i16_to_chinese_naive(
     print_naive::<i16, _>(alloc, variant, case, value)
 }
 
-/// Writes a `i32` as plain decimal digits, after the minus sign where it is below zero.
+/// Writes an `i32` digit by digit: -120 is `負一二零` in traditional script and lower case.
 ///
-/// The only error is want of memory.
+/// The only error is `AllocError`, where memory runs out.
 pub fn from_i32_to_chinese_naive(
     alloc: Global,
     variant: ChineseVariant,
@@ -133,9 +133,9 @@ pub fn from_i32_to_chinese_naive(
     print_naive::<i32, _>(alloc, variant, case, value)
 }
 
-/// Writes a `i64` as plain decimal digits, after the minus sign where it is below zero.
+/// Writes an `i64` digit by digit: -120 is `負一二零` in traditional script and lower case.
 ///
-/// The only error is want of memory.
+/// The only error is `AllocError`, where memory runs out.
 pub fn from_i64_to_chinese_naive(
     alloc: Global,
     variant: ChineseVariant,
@@ -147,9 +147,9 @@ pub fn from_i64_to_chinese_naive(
     print_naive::<i64, _>(alloc, variant, case, value)
 }
 
-/// Writes a `i128` as plain decimal digits, after the minus sign where it is below zero.
+/// Writes an `i128` digit by digit: -120 is `負一二零` in traditional script and lower case.
 ///
-/// The only error is want of memory.
+/// The only error is `AllocError`, where memory runs out.
 pub fn from_i128_to_chinese_naive(
     alloc: Global,
     variant: ChineseVariant,
@@ -161,9 +161,9 @@ pub fn from_i128_to_chinese_naive(
     print_naive::<i128, _>(alloc, variant, case, value)
 }
 
-/// Writes a `isize` as plain decimal digits, after the minus sign where it is below zero.
+/// Writes an `isize` digit by digit: -120 is `負一二零` in traditional script and lower case.
 ///
-/// The only error is want of memory.
+/// The only error is `AllocError`, where memory runs out.
 pub fn from_isize_to_chinese_naive(
     alloc: Global,
     variant: ChineseVariant,

@@ -7,9 +7,9 @@ use cn_core::{ChineseCase, ChineseCountMethod, ChineseVariant};
 use cn_spell::print_by_units;
 use std::alloc::{AllocError, Global};
 
-/// Writes a `u32` by ten thousands: 億 is 10^8, 兆 is 10^12.
+/// Writes a `u32` by `TenThousand`: 100_000 is `十萬` in traditional script and lower case.
 ///
-/// The only error is want of memory.
+/// The only error is `AllocError`, where memory runs out.
 pub fn from_u32_to_chinese_ten_thousand(
     alloc: Global,
     variant: ChineseVariant,
@@ -21,9 +21,10 @@ pub fn from_u32_to_chinese_ten_thousand(
     print_by_units::<u32, _>(alloc, variant, case, ChineseCountMethod::TenThousand, value)
 }
 
-/// Writes a `u64` by ten thousands: 億 is 10^8, 兆 is 10^12.
+/// Writes a `u64` by `TenThousand`: 1_000_000_000_000 is `一兆` in traditional script and lower
+/// case.
 ///
-/// The only error is want of memory.
+/// The only error is `AllocError`, where memory runs out.
 pub fn from_u64_to_chinese_ten_thousand(
     alloc: Global,
     variant: ChineseVariant,
@@ -35,9 +36,10 @@ pub fn from_u64_to_chinese_ten_thousand(
     print_by_units::<u64, _>(alloc, variant, case, ChineseCountMethod::TenThousand, value)
 }
 
-/// Writes a `u128` by ten thousands: 億 is 10^8, 兆 is 10^12.
+/// Writes a `u128` by `TenThousand`: 1_000_000_000_000 is `一兆` in traditional script and lower
+/// case.
 ///
-/// The only error is want of memory.
+/// The only error is `AllocError`, where memory runs out.
 pub fn from_u128_to_chinese_ten_thousand(
     alloc: Global,
     variant: ChineseVariant,
@@ -49,9 +51,10 @@ pub fn from_u128_to_chinese_ten_thousand(
     print_by_units::<u128, _>(alloc, variant, case, ChineseCountMethod::TenThousand, value)
 }
 
-/// Writes a `usize` by ten thousands: 億 is 10^8, 兆 is 10^12.
+/// Writes a `usize` by `TenThousand`: 1_000_000_000_000 is `一兆` in traditional script and lower
+/// case.
 ///
-/// The only error is want of memory.
+/// The only error is `AllocError`, where memory runs out.
 pub fn from_usize_to_chinese_ten_thousand(
     alloc: Global,
     variant: ChineseVariant,
@@ -63,9 +66,9 @@ pub fn from_usize_to_chinese_ten_thousand(
     print_by_units::<usize, _>(alloc, variant, case, ChineseCountMethod::TenThousand, value)
 }
 
-/// Writes an `i32` by ten thousands: 億 is 10^8, 兆 is 10^12.
+/// Writes an `i32` by `TenThousand`: -100_000 is `負十萬` in traditional script and lower case.
 ///
-/// The only error is want of memory.
+/// The only error is `AllocError`, where memory runs out.
 pub fn from_i32_to_chinese_ten_thousand(
     alloc: Global,
     variant: ChineseVariant,
@@ -77,9 +80,10 @@ pub fn from_i32_to_chinese_ten_thousand(
     print_by_units::<i32, _>(alloc, variant, case, ChineseCountMethod::TenThousand, value)
 }
 
-/// Writes an `i64` by ten thousands: 億 is 10^8, 兆 is 10^12.
+/// Writes an `i64` by `TenThousand`: -1_000_000_000_000 is `負一兆` in traditional script and lower
+/// case.
 ///
-/// The only error is want of memory.
+/// The only error is `AllocError`, where memory runs out.
 pub fn from_i64_to_chinese_ten_thousand(
     alloc: Global,
     variant: ChineseVariant,
@@ -91,9 +95,10 @@ pub fn from_i64_to_chinese_ten_thousand(
     print_by_units::<i64, _>(alloc, variant, case, ChineseCountMethod::TenThousand, value)
 }
 
-/// Writes an `i128` by ten thousands: 億 is 10^8, 兆 is 10^12.
+/// Writes an `i128` by `TenThousand`: -1_000_000_000_000 is `負一兆` in traditional script and
+/// lower case.
 ///
-/// The only error is want of memory.
+/// The only error is `AllocError`, where memory runs out.
 pub fn from_i128_to_chinese_ten_thousand(
     alloc: Global,
     variant: ChineseVariant,
@@ -105,9 +110,10 @@ pub fn from_i128_to_chinese_ten_thousand(
     print_by_units::<i128, _>(alloc, variant, case, ChineseCountMethod::TenThousand, value)
 }
 
-/// Writes an `isize` by ten thousands: 億 is 10^8, 兆 is 10^12.
+/// Writes an `isize` by `TenThousand`: -1_000_000_000_000 is `負一兆` in traditional script and
+/// lower case.
 ///
-/// The only error is want of memory.
+/// The only error is `AllocError`, where memory runs out.
 pub fn from_isize_to_chinese_ten_thousand(
     alloc: Global,
     variant: ChineseVariant,

@@ -8,6 +8,9 @@ use cn_spell::{NumberToChineseError, print_naive, print_or_refuse};
 use std::alloc::{AllocError, Global};
 
 /// Numbers that are written in Chinese: those of the twelve integer types.
+///
+/// `alloc` is the allocator for the text: `rt.alloc()` in `main`, which hands it on to what it
+/// calls.
 pub trait NumberToChinese: Whole {
     /// Writes the number by the units of a method, after the minus sign where it is below zero.
     ///
@@ -15,8 +18,8 @@ pub trait NumberToChinese: Whole {
     /// 123i8.to_chinese(alloc, ChineseVariant::Simple, ChineseCase::Upper, ChineseCountMethod::Low)   // 壹佰贰拾叁
     /// ```
     ///
-    /// `Low` refuses a number from 10^16 up with `Overflow` and one from -10^16 down with `Underflow`, before
-    /// memory is asked for; want of memory is `OutOfMemory`.
+    /// `Low` refuses a number from 10^16 up with `Overflow` and one from -10^16 down with
+    /// `Underflow`, before memory is asked for. Where memory runs out the error is `OutOfMemory`.
     fn to_chinese(
         self,
         alloc: Global,
@@ -32,7 +35,7 @@ pub trait NumberToChinese: Whole {
     /// (-5i8).to_chinese_naive(alloc, ChineseVariant::Simple, ChineseCase::Upper)   // 负伍
     /// ```
     ///
-    /// The only error is want of memory.
+    /// The only error is `AllocError`, where memory runs out.
     fn to_chinese_naive(
         self,
         alloc: Global,

@@ -5,7 +5,9 @@ ghost use Rattle.cn_judge.specs.Answer.{answer_of};
 use cn_core::{ChineseCountMethod, Whole};
 use cn_judge::{ChineseToNumberError, read, read_naive};
 
-/// A text that is read as a number of the integer type `T`.
+/// A text that is read as a number of the integer type `T`, which the expected result picks.
+///
+/// It is implemented on `&str`. Of a `String` call `text.as_str().to_number(..)`.
 pub trait ChineseToNumber<T: Whole> {
     // The bytes of the text.
     ghost bytes: { Self → List ℕ };
@@ -16,9 +18,9 @@ pub trait ChineseToNumber<T: Whole> {
     /// "一百二".to_number(ChineseCountMethod::TenThousand) == Ok(120i8)
     /// ```
     ///
-    /// A text of nothing but white space, and one sign for signed types, is empty, a text that is no numeral
-    /// is incorrect at the last character that nothing in front could complete, a number above the type's
-    /// greatest is an overflow, and one below its least an underflow.
+    /// A text of nothing but white space, and one sign for signed types, is empty, a number above
+    /// the type's greatest is an overflow, one below its least an underflow, and a text that is no
+    /// numeral is incorrect; [`ChineseToNumberError`] says when each comes, and which comes first.
     fn to_number(&self, method: ChineseCountMethod) -> Result<T, ChineseToNumberError>
         ensures { Reads T.kind method (bytes self.now) (answer_of T.number result) };
 
@@ -28,8 +30,10 @@ pub trait ChineseToNumber<T: Whole> {
     /// "一二三".to_number_naive() == Ok(123i8)
     /// ```
     ///
-    /// A text without digits is empty, a character that is no digit is incorrect, a number above the type's
-    /// greatest is an overflow, and one below its least an underflow.
+    /// A text of nothing but white space, and one sign for signed types, is empty, the first other
+    /// character that is no digit is incorrect, a number above the type's greatest is an overflow,
+    /// and one below its least an underflow. Where the digits pass 128 bits, what follows is not
+    /// looked at.
     fn to_number_naive(&self) -> Result<T, ChineseToNumberError>
         ensures { answer_of T.number result ≡ naive_reading T.kind (bytes self.now) };
 }

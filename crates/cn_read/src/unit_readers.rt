@@ -7,10 +7,11 @@ ghost use Rattle.cn_judge.specs.Answer.{answer_of};
 use cn_core::ChineseCountMethod;
 use cn_judge::{ChineseToNumberError, read};
 
-/// Reads a numeral by `Low` as an `u8`: `一百二` is 120.
+/// Reads a numeral by `Low` as a `u8`: `一百二` is 120.
 ///
-/// A text of nothing but white space is empty, a text that is no numeral is incorrect at the last character
-/// that nothing in front could complete, and a number above `u8::MAX` is an overflow.
+/// A text of nothing but white space is empty, a number above `u8::MAX` is an overflow, and a text
+/// that is no numeral is incorrect; [`ChineseToNumberError`] says when each comes, and which comes
+/// first.
 pub fn from_chinese_to_u8(text: &str) -> Result<u8, ChineseToNumberError>
     ensures { Reads (unsigned_kind 8) ChineseCountMethod.Low text.now (answer_of pos result) }
 {
@@ -19,168 +20,185 @@ pub fn from_chinese_to_u8(text: &str) -> Result<u8, ChineseToNumberError>
 
 /// Reads a numeral by `Low` as a `u16`: `一百二` is 120.
 ///
-/// A text of nothing but white space is empty, a text that is no numeral is incorrect at the last character
-/// that nothing in front could complete, and a number above `u16::MAX` is an overflow.
+/// A text of nothing but white space is empty, a number above `u16::MAX` is an overflow, and a text
+/// that is no numeral is incorrect; [`ChineseToNumberError`] says when each comes, and which comes
+/// first.
 pub fn from_chinese_to_u16(text: &str) -> Result<u16, ChineseToNumberError>
     ensures { Reads (unsigned_kind 16) ChineseCountMethod.Low text.now (answer_of pos result) }
 {
     read::<u16>(ChineseCountMethod::Low, text)
 }
 
-/// Reads a numeral by `Low` as a `u32`: `一億二` is 120000.
+/// Reads a numeral by `Low` as a `u32`: `一億二` is 120_000.
 ///
-/// A text of nothing but white space is empty, a text that is no numeral is incorrect at the last character
-/// that nothing in front could complete, and a number above `u32::MAX` is an overflow.
+/// A text of nothing but white space is empty, a number above `u32::MAX` is an overflow, and a text
+/// that is no numeral is incorrect; [`ChineseToNumberError`] says when each comes, and which comes
+/// first.
 pub fn from_chinese_to_u32_low(text: &str) -> Result<u32, ChineseToNumberError>
     ensures { Reads (unsigned_kind 32) ChineseCountMethod.Low text.now (answer_of pos result) }
 {
     read::<u32>(ChineseCountMethod::Low, text)
 }
 
-/// Reads a numeral by `TenThousand` as a `u32`: `一億二` is 120000000.
+/// Reads a numeral by `TenThousand` as a `u32`: `一億二` is 120_000_000.
 ///
-/// A text of nothing but white space is empty, a text that is no numeral is incorrect at the last character
-/// that nothing in front could complete, and a number above `u32::MAX` is an overflow.
+/// A text of nothing but white space is empty, a number above `u32::MAX` is an overflow, and a text
+/// that is no numeral is incorrect; [`ChineseToNumberError`] says when each comes, and which comes
+/// first.
 pub fn from_chinese_to_u32_ten_thousand(text: &str) -> Result<u32, ChineseToNumberError>
     ensures { Reads (unsigned_kind 32) ChineseCountMethod.TenThousand text.now (answer_of pos result) }
 {
     read::<u32>(ChineseCountMethod::TenThousand, text)
 }
 
-/// Reads a numeral by `Middle` as a `u32`: `一億二` is 120000000.
+/// Reads a numeral by `Middle` as a `u32`: `一億二` is 120_000_000.
 ///
-/// A text of nothing but white space is empty, a text that is no numeral is incorrect at the last character
-/// that nothing in front could complete, and a number above `u32::MAX` is an overflow.
+/// A text of nothing but white space is empty, a number above `u32::MAX` is an overflow, and a text
+/// that is no numeral is incorrect; [`ChineseToNumberError`] says when each comes, and which comes
+/// first.
 pub fn from_chinese_to_u32_middle(text: &str) -> Result<u32, ChineseToNumberError>
     ensures { Reads (unsigned_kind 32) ChineseCountMethod.Middle text.now (answer_of pos result) }
 {
     read::<u32>(ChineseCountMethod::Middle, text)
 }
 
-/// Reads a numeral by `High` as a `u32`: `一億二` is 120000000.
+/// Reads a numeral by `High` as a `u32`: `一億二` is 120_000_000.
 ///
-/// A text of nothing but white space is empty, a text that is no numeral is incorrect at the last character
-/// that nothing in front could complete, and a number above `u32::MAX` is an overflow.
+/// A text of nothing but white space is empty, a number above `u32::MAX` is an overflow, and a text
+/// that is no numeral is incorrect; [`ChineseToNumberError`] says when each comes, and which comes
+/// first.
 pub fn from_chinese_to_u32_high(text: &str) -> Result<u32, ChineseToNumberError>
     ensures { Reads (unsigned_kind 32) ChineseCountMethod.High text.now (answer_of pos result) }
 {
     read::<u32>(ChineseCountMethod::High, text)
 }
 
-/// Reads a numeral by `Low` as a `u64`: `一億二` is 120000.
+/// Reads a numeral by `Low` as a `u64`: `一億二` is 120_000.
 ///
-/// A text of nothing but white space is empty, a text that is no numeral is incorrect at the last character
-/// that nothing in front could complete, and a number above `u64::MAX` is an overflow.
+/// A text of nothing but white space is empty, a number above `u64::MAX` is an overflow, and a text
+/// that is no numeral is incorrect; [`ChineseToNumberError`] says when each comes, and which comes
+/// first.
 pub fn from_chinese_to_u64_low(text: &str) -> Result<u64, ChineseToNumberError>
     ensures { Reads (unsigned_kind 64) ChineseCountMethod.Low text.now (answer_of pos result) }
 {
     read::<u64>(ChineseCountMethod::Low, text)
 }
 
-/// Reads a numeral by `TenThousand` as a `u64`: `一億二` is 120000000.
+/// Reads a numeral by `TenThousand` as a `u64`: `一億二` is 120_000_000.
 ///
-/// A text of nothing but white space is empty, a text that is no numeral is incorrect at the last character
-/// that nothing in front could complete, and a number above `u64::MAX` is an overflow.
+/// A text of nothing but white space is empty, a number above `u64::MAX` is an overflow, and a text
+/// that is no numeral is incorrect; [`ChineseToNumberError`] says when each comes, and which comes
+/// first.
 pub fn from_chinese_to_u64_ten_thousand(text: &str) -> Result<u64, ChineseToNumberError>
     ensures { Reads (unsigned_kind 64) ChineseCountMethod.TenThousand text.now (answer_of pos result) }
 {
     read::<u64>(ChineseCountMethod::TenThousand, text)
 }
 
-/// Reads a numeral by `Middle` as a `u64`: `一億二` is 120000000.
+/// Reads a numeral by `Middle` as a `u64`: `一億二` is 120_000_000.
 ///
-/// A text of nothing but white space is empty, a text that is no numeral is incorrect at the last character
-/// that nothing in front could complete, and a number above `u64::MAX` is an overflow.
+/// A text of nothing but white space is empty, a number above `u64::MAX` is an overflow, and a text
+/// that is no numeral is incorrect; [`ChineseToNumberError`] says when each comes, and which comes
+/// first.
 pub fn from_chinese_to_u64_middle(text: &str) -> Result<u64, ChineseToNumberError>
     ensures { Reads (unsigned_kind 64) ChineseCountMethod.Middle text.now (answer_of pos result) }
 {
     read::<u64>(ChineseCountMethod::Middle, text)
 }
 
-/// Reads a numeral by `High` as a `u64`: `一億二` is 120000000.
+/// Reads a numeral by `High` as a `u64`: `一億二` is 120_000_000.
 ///
-/// A text of nothing but white space is empty, a text that is no numeral is incorrect at the last character
-/// that nothing in front could complete, and a number above `u64::MAX` is an overflow.
+/// A text of nothing but white space is empty, a number above `u64::MAX` is an overflow, and a text
+/// that is no numeral is incorrect; [`ChineseToNumberError`] says when each comes, and which comes
+/// first.
 pub fn from_chinese_to_u64_high(text: &str) -> Result<u64, ChineseToNumberError>
     ensures { Reads (unsigned_kind 64) ChineseCountMethod.High text.now (answer_of pos result) }
 {
     read::<u64>(ChineseCountMethod::High, text)
 }
 
-/// Reads a numeral by `Low` as a `u128`: `一億二` is 120000.
+/// Reads a numeral by `Low` as a `u128`: `一億二` is 120_000.
 ///
-/// A text of nothing but white space is empty, a text that is no numeral is incorrect at the last character
-/// that nothing in front could complete, and a number above `u128::MAX` is an overflow.
+/// A text of nothing but white space is empty, a number above `u128::MAX` is an overflow, and a
+/// text that is no numeral is incorrect; [`ChineseToNumberError`] says when each comes, and which
+/// comes first.
 pub fn from_chinese_to_u128_low(text: &str) -> Result<u128, ChineseToNumberError>
     ensures { Reads (unsigned_kind 128) ChineseCountMethod.Low text.now (answer_of pos result) }
 {
     read::<u128>(ChineseCountMethod::Low, text)
 }
 
-/// Reads a numeral by `TenThousand` as a `u128`: `一億二` is 120000000.
+/// Reads a numeral by `TenThousand` as a `u128`: `一億二` is 120_000_000.
 ///
-/// A text of nothing but white space is empty, a text that is no numeral is incorrect at the last character
-/// that nothing in front could complete, and a number above `u128::MAX` is an overflow.
+/// A text of nothing but white space is empty, a number above `u128::MAX` is an overflow, and a
+/// text that is no numeral is incorrect; [`ChineseToNumberError`] says when each comes, and which
+/// comes first.
 pub fn from_chinese_to_u128_ten_thousand(text: &str) -> Result<u128, ChineseToNumberError>
     ensures { Reads (unsigned_kind 128) ChineseCountMethod.TenThousand text.now (answer_of pos result) }
 {
     read::<u128>(ChineseCountMethod::TenThousand, text)
 }
 
-/// Reads a numeral by `Middle` as a `u128`: `一億二` is 120000000.
+/// Reads a numeral by `Middle` as a `u128`: `一億二` is 120_000_000.
 ///
-/// A text of nothing but white space is empty, a text that is no numeral is incorrect at the last character
-/// that nothing in front could complete, and a number above `u128::MAX` is an overflow.
+/// A text of nothing but white space is empty, a number above `u128::MAX` is an overflow, and a
+/// text that is no numeral is incorrect; [`ChineseToNumberError`] says when each comes, and which
+/// comes first.
 pub fn from_chinese_to_u128_middle(text: &str) -> Result<u128, ChineseToNumberError>
     ensures { Reads (unsigned_kind 128) ChineseCountMethod.Middle text.now (answer_of pos result) }
 {
     read::<u128>(ChineseCountMethod::Middle, text)
 }
 
-/// Reads a numeral by `High` as a `u128`: `一億二` is 120000000.
+/// Reads a numeral by `High` as a `u128`: `一億二` is 120_000_000.
 ///
-/// A text of nothing but white space is empty, a text that is no numeral is incorrect at the last character
-/// that nothing in front could complete, and a number above `u128::MAX` is an overflow.
+/// A text of nothing but white space is empty, a number above `u128::MAX` is an overflow, and a
+/// text that is no numeral is incorrect; [`ChineseToNumberError`] says when each comes, and which
+/// comes first.
 pub fn from_chinese_to_u128_high(text: &str) -> Result<u128, ChineseToNumberError>
     ensures { Reads (unsigned_kind 128) ChineseCountMethod.High text.now (answer_of pos result) }
 {
     read::<u128>(ChineseCountMethod::High, text)
 }
 
-/// Reads a numeral by `Low` as a `usize`: `一億二` is 120000.
+/// Reads a numeral by `Low` as a `usize`: `一億二` is 120_000.
 ///
-/// A text of nothing but white space is empty, a text that is no numeral is incorrect at the last character
-/// that nothing in front could complete, and a number above `usize::MAX` is an overflow.
+/// A text of nothing but white space is empty, a number above `usize::MAX` is an overflow, and a
+/// text that is no numeral is incorrect; [`ChineseToNumberError`] says when each comes, and which
+/// comes first.
 pub fn from_chinese_to_usize_low(text: &str) -> Result<usize, ChineseToNumberError>
     ensures { Reads (unsigned_kind 64) ChineseCountMethod.Low text.now (answer_of pos result) }
 {
     read::<usize>(ChineseCountMethod::Low, text)
 }
 
-/// Reads a numeral by `TenThousand` as a `usize`: `一億二` is 120000000.
+/// Reads a numeral by `TenThousand` as a `usize`: `一億二` is 120_000_000.
 ///
-/// A text of nothing but white space is empty, a text that is no numeral is incorrect at the last character
-/// that nothing in front could complete, and a number above `usize::MAX` is an overflow.
+/// A text of nothing but white space is empty, a number above `usize::MAX` is an overflow, and a
+/// text that is no numeral is incorrect; [`ChineseToNumberError`] says when each comes, and which
+/// comes first.
 pub fn from_chinese_to_usize_ten_thousand(text: &str) -> Result<usize, ChineseToNumberError>
     ensures { Reads (unsigned_kind 64) ChineseCountMethod.TenThousand text.now (answer_of pos result) }
 {
     read::<usize>(ChineseCountMethod::TenThousand, text)
 }
 
-/// Reads a numeral by `Middle` as a `usize`: `一億二` is 120000000.
+/// Reads a numeral by `Middle` as a `usize`: `一億二` is 120_000_000.
 ///
-/// A text of nothing but white space is empty, a text that is no numeral is incorrect at the last character
-/// that nothing in front could complete, and a number above `usize::MAX` is an overflow.
+/// A text of nothing but white space is empty, a number above `usize::MAX` is an overflow, and a
+/// text that is no numeral is incorrect; [`ChineseToNumberError`] says when each comes, and which
+/// comes first.
 pub fn from_chinese_to_usize_middle(text: &str) -> Result<usize, ChineseToNumberError>
     ensures { Reads (unsigned_kind 64) ChineseCountMethod.Middle text.now (answer_of pos result) }
 {
     read::<usize>(ChineseCountMethod::Middle, text)
 }
 
-/// Reads a numeral by `High` as a `usize`: `一億二` is 120000000.
+/// Reads a numeral by `High` as a `usize`: `一億二` is 120_000_000.
 ///
-/// A text of nothing but white space is empty, a text that is no numeral is incorrect at the last character
-/// that nothing in front could complete, and a number above `usize::MAX` is an overflow.
+/// A text of nothing but white space is empty, a number above `usize::MAX` is an overflow, and a
+/// text that is no numeral is incorrect; [`ChineseToNumberError`] says when each comes, and which
+/// comes first.
 pub fn from_chinese_to_usize_high(text: &str) -> Result<usize, ChineseToNumberError>
     ensures { Reads (unsigned_kind 64) ChineseCountMethod.High text.now (answer_of pos result) }
 {
@@ -189,9 +207,9 @@ pub fn from_chinese_to_usize_high(text: &str) -> Result<usize, ChineseToNumberEr
 
 /// Reads a numeral by `Low` as an `i8`: `負一百二` is -120.
 ///
-/// A text of nothing but white space and one sign is empty, a text that is no numeral is incorrect at the
-/// last character that nothing in front could complete, a number above `i8::MAX` is an overflow, and one
-/// below `i8::MIN` an underflow.
+/// A text of nothing but white space and one sign is empty, a number above `i8::MAX` is an
+/// overflow, one below `i8::MIN` an underflow, and a text that is no numeral is incorrect;
+/// [`ChineseToNumberError`] says when each comes, and which comes first.
 pub fn from_chinese_to_i8(text: &str) -> Result<i8, ChineseToNumberError>
     ensures { Reads (signed_kind 8) ChineseCountMethod.Low text.now (answer_of (λ z. z) result) }
 {
@@ -200,185 +218,185 @@ pub fn from_chinese_to_i8(text: &str) -> Result<i8, ChineseToNumberError>
 
 /// Reads a numeral by `Low` as an `i16`: `負一百二` is -120.
 ///
-/// A text of nothing but white space and one sign is empty, a text that is no numeral is incorrect at the
-/// last character that nothing in front could complete, a number above `i16::MAX` is an overflow, and one
-/// below `i16::MIN` an underflow.
+/// A text of nothing but white space and one sign is empty, a number above `i16::MAX` is an
+/// overflow, one below `i16::MIN` an underflow, and a text that is no numeral is incorrect;
+/// [`ChineseToNumberError`] says when each comes, and which comes first.
 pub fn from_chinese_to_i16(text: &str) -> Result<i16, ChineseToNumberError>
     ensures { Reads (signed_kind 16) ChineseCountMethod.Low text.now (answer_of (λ z. z) result) }
 {
     read::<i16>(ChineseCountMethod::Low, text)
 }
 
-/// Reads a numeral by `Low` as an `i32`: `負一億二` is -120000.
+/// Reads a numeral by `Low` as an `i32`: `負一億二` is -120_000.
 ///
-/// A text of nothing but white space and one sign is empty, a text that is no numeral is incorrect at the
-/// last character that nothing in front could complete, a number above `i32::MAX` is an overflow, and one
-/// below `i32::MIN` an underflow.
+/// A text of nothing but white space and one sign is empty, a number above `i32::MAX` is an
+/// overflow, one below `i32::MIN` an underflow, and a text that is no numeral is incorrect;
+/// [`ChineseToNumberError`] says when each comes, and which comes first.
 pub fn from_chinese_to_i32_low(text: &str) -> Result<i32, ChineseToNumberError>
     ensures { Reads (signed_kind 32) ChineseCountMethod.Low text.now (answer_of (λ z. z) result) }
 {
     read::<i32>(ChineseCountMethod::Low, text)
 }
 
-/// Reads a numeral by `TenThousand` as an `i32`: `負一億二` is -120000000.
+/// Reads a numeral by `TenThousand` as an `i32`: `負一億二` is -120_000_000.
 ///
-/// A text of nothing but white space and one sign is empty, a text that is no numeral is incorrect at the
-/// last character that nothing in front could complete, a number above `i32::MAX` is an overflow, and one
-/// below `i32::MIN` an underflow.
+/// A text of nothing but white space and one sign is empty, a number above `i32::MAX` is an
+/// overflow, one below `i32::MIN` an underflow, and a text that is no numeral is incorrect;
+/// [`ChineseToNumberError`] says when each comes, and which comes first.
 pub fn from_chinese_to_i32_ten_thousand(text: &str) -> Result<i32, ChineseToNumberError>
     ensures { Reads (signed_kind 32) ChineseCountMethod.TenThousand text.now (answer_of (λ z. z) result) }
 {
     read::<i32>(ChineseCountMethod::TenThousand, text)
 }
 
-/// Reads a numeral by `Middle` as an `i32`: `負一億二` is -120000000.
+/// Reads a numeral by `Middle` as an `i32`: `負一億二` is -120_000_000.
 ///
-/// A text of nothing but white space and one sign is empty, a text that is no numeral is incorrect at the
-/// last character that nothing in front could complete, a number above `i32::MAX` is an overflow, and one
-/// below `i32::MIN` an underflow.
+/// A text of nothing but white space and one sign is empty, a number above `i32::MAX` is an
+/// overflow, one below `i32::MIN` an underflow, and a text that is no numeral is incorrect;
+/// [`ChineseToNumberError`] says when each comes, and which comes first.
 pub fn from_chinese_to_i32_middle(text: &str) -> Result<i32, ChineseToNumberError>
     ensures { Reads (signed_kind 32) ChineseCountMethod.Middle text.now (answer_of (λ z. z) result) }
 {
     read::<i32>(ChineseCountMethod::Middle, text)
 }
 
-/// Reads a numeral by `High` as an `i32`: `負一億二` is -120000000.
+/// Reads a numeral by `High` as an `i32`: `負一億二` is -120_000_000.
 ///
-/// A text of nothing but white space and one sign is empty, a text that is no numeral is incorrect at the
-/// last character that nothing in front could complete, a number above `i32::MAX` is an overflow, and one
-/// below `i32::MIN` an underflow.
+/// A text of nothing but white space and one sign is empty, a number above `i32::MAX` is an
+/// overflow, one below `i32::MIN` an underflow, and a text that is no numeral is incorrect;
+/// [`ChineseToNumberError`] says when each comes, and which comes first.
 pub fn from_chinese_to_i32_high(text: &str) -> Result<i32, ChineseToNumberError>
     ensures { Reads (signed_kind 32) ChineseCountMethod.High text.now (answer_of (λ z. z) result) }
 {
     read::<i32>(ChineseCountMethod::High, text)
 }
 
-/// Reads a numeral by `Low` as an `i64`: `負一億二` is -120000.
+/// Reads a numeral by `Low` as an `i64`: `負一億二` is -120_000.
 ///
-/// A text of nothing but white space and one sign is empty, a text that is no numeral is incorrect at the
-/// last character that nothing in front could complete, a number above `i64::MAX` is an overflow, and one
-/// below `i64::MIN` an underflow.
+/// A text of nothing but white space and one sign is empty, a number above `i64::MAX` is an
+/// overflow, one below `i64::MIN` an underflow, and a text that is no numeral is incorrect;
+/// [`ChineseToNumberError`] says when each comes, and which comes first.
 pub fn from_chinese_to_i64_low(text: &str) -> Result<i64, ChineseToNumberError>
     ensures { Reads (signed_kind 64) ChineseCountMethod.Low text.now (answer_of (λ z. z) result) }
 {
     read::<i64>(ChineseCountMethod::Low, text)
 }
 
-/// Reads a numeral by `TenThousand` as an `i64`: `負一億二` is -120000000.
+/// Reads a numeral by `TenThousand` as an `i64`: `負一億二` is -120_000_000.
 ///
-/// A text of nothing but white space and one sign is empty, a text that is no numeral is incorrect at the
-/// last character that nothing in front could complete, a number above `i64::MAX` is an overflow, and one
-/// below `i64::MIN` an underflow.
+/// A text of nothing but white space and one sign is empty, a number above `i64::MAX` is an
+/// overflow, one below `i64::MIN` an underflow, and a text that is no numeral is incorrect;
+/// [`ChineseToNumberError`] says when each comes, and which comes first.
 pub fn from_chinese_to_i64_ten_thousand(text: &str) -> Result<i64, ChineseToNumberError>
     ensures { Reads (signed_kind 64) ChineseCountMethod.TenThousand text.now (answer_of (λ z. z) result) }
 {
     read::<i64>(ChineseCountMethod::TenThousand, text)
 }
 
-/// Reads a numeral by `Middle` as an `i64`: `負一億二` is -120000000.
+/// Reads a numeral by `Middle` as an `i64`: `負一億二` is -120_000_000.
 ///
-/// A text of nothing but white space and one sign is empty, a text that is no numeral is incorrect at the
-/// last character that nothing in front could complete, a number above `i64::MAX` is an overflow, and one
-/// below `i64::MIN` an underflow.
+/// A text of nothing but white space and one sign is empty, a number above `i64::MAX` is an
+/// overflow, one below `i64::MIN` an underflow, and a text that is no numeral is incorrect;
+/// [`ChineseToNumberError`] says when each comes, and which comes first.
 pub fn from_chinese_to_i64_middle(text: &str) -> Result<i64, ChineseToNumberError>
     ensures { Reads (signed_kind 64) ChineseCountMethod.Middle text.now (answer_of (λ z. z) result) }
 {
     read::<i64>(ChineseCountMethod::Middle, text)
 }
 
-/// Reads a numeral by `High` as an `i64`: `負一億二` is -120000000.
+/// Reads a numeral by `High` as an `i64`: `負一億二` is -120_000_000.
 ///
-/// A text of nothing but white space and one sign is empty, a text that is no numeral is incorrect at the
-/// last character that nothing in front could complete, a number above `i64::MAX` is an overflow, and one
-/// below `i64::MIN` an underflow.
+/// A text of nothing but white space and one sign is empty, a number above `i64::MAX` is an
+/// overflow, one below `i64::MIN` an underflow, and a text that is no numeral is incorrect;
+/// [`ChineseToNumberError`] says when each comes, and which comes first.
 pub fn from_chinese_to_i64_high(text: &str) -> Result<i64, ChineseToNumberError>
     ensures { Reads (signed_kind 64) ChineseCountMethod.High text.now (answer_of (λ z. z) result) }
 {
     read::<i64>(ChineseCountMethod::High, text)
 }
 
-/// Reads a numeral by `Low` as an `i128`: `負一億二` is -120000.
+/// Reads a numeral by `Low` as an `i128`: `負一億二` is -120_000.
 ///
-/// A text of nothing but white space and one sign is empty, a text that is no numeral is incorrect at the
-/// last character that nothing in front could complete, a number above `i128::MAX` is an overflow, and one
-/// below `i128::MIN` an underflow.
+/// A text of nothing but white space and one sign is empty, a number above `i128::MAX` is an
+/// overflow, one below `i128::MIN` an underflow, and a text that is no numeral is incorrect;
+/// [`ChineseToNumberError`] says when each comes, and which comes first.
 pub fn from_chinese_to_i128_low(text: &str) -> Result<i128, ChineseToNumberError>
     ensures { Reads (signed_kind 128) ChineseCountMethod.Low text.now (answer_of (λ z. z) result) }
 {
     read::<i128>(ChineseCountMethod::Low, text)
 }
 
-/// Reads a numeral by `TenThousand` as an `i128`: `負一億二` is -120000000.
+/// Reads a numeral by `TenThousand` as an `i128`: `負一億二` is -120_000_000.
 ///
-/// A text of nothing but white space and one sign is empty, a text that is no numeral is incorrect at the
-/// last character that nothing in front could complete, a number above `i128::MAX` is an overflow, and one
-/// below `i128::MIN` an underflow.
+/// A text of nothing but white space and one sign is empty, a number above `i128::MAX` is an
+/// overflow, one below `i128::MIN` an underflow, and a text that is no numeral is incorrect;
+/// [`ChineseToNumberError`] says when each comes, and which comes first.
 pub fn from_chinese_to_i128_ten_thousand(text: &str) -> Result<i128, ChineseToNumberError>
     ensures { Reads (signed_kind 128) ChineseCountMethod.TenThousand text.now (answer_of (λ z. z) result) }
 {
     read::<i128>(ChineseCountMethod::TenThousand, text)
 }
 
-/// Reads a numeral by `Middle` as an `i128`: `負一億二` is -120000000.
+/// Reads a numeral by `Middle` as an `i128`: `負一億二` is -120_000_000.
 ///
-/// A text of nothing but white space and one sign is empty, a text that is no numeral is incorrect at the
-/// last character that nothing in front could complete, a number above `i128::MAX` is an overflow, and one
-/// below `i128::MIN` an underflow.
+/// A text of nothing but white space and one sign is empty, a number above `i128::MAX` is an
+/// overflow, one below `i128::MIN` an underflow, and a text that is no numeral is incorrect;
+/// [`ChineseToNumberError`] says when each comes, and which comes first.
 pub fn from_chinese_to_i128_middle(text: &str) -> Result<i128, ChineseToNumberError>
     ensures { Reads (signed_kind 128) ChineseCountMethod.Middle text.now (answer_of (λ z. z) result) }
 {
     read::<i128>(ChineseCountMethod::Middle, text)
 }
 
-/// Reads a numeral by `High` as an `i128`: `負一億二` is -120000000.
+/// Reads a numeral by `High` as an `i128`: `負一億二` is -120_000_000.
 ///
-/// A text of nothing but white space and one sign is empty, a text that is no numeral is incorrect at the
-/// last character that nothing in front could complete, a number above `i128::MAX` is an overflow, and one
-/// below `i128::MIN` an underflow.
+/// A text of nothing but white space and one sign is empty, a number above `i128::MAX` is an
+/// overflow, one below `i128::MIN` an underflow, and a text that is no numeral is incorrect;
+/// [`ChineseToNumberError`] says when each comes, and which comes first.
 pub fn from_chinese_to_i128_high(text: &str) -> Result<i128, ChineseToNumberError>
     ensures { Reads (signed_kind 128) ChineseCountMethod.High text.now (answer_of (λ z. z) result) }
 {
     read::<i128>(ChineseCountMethod::High, text)
 }
 
-/// Reads a numeral by `Low` as an `isize`: `負一億二` is -120000.
+/// Reads a numeral by `Low` as an `isize`: `負一億二` is -120_000.
 ///
-/// A text of nothing but white space and one sign is empty, a text that is no numeral is incorrect at the
-/// last character that nothing in front could complete, a number above `isize::MAX` is an overflow, and one
-/// below `isize::MIN` an underflow.
+/// A text of nothing but white space and one sign is empty, a number above `isize::MAX` is an
+/// overflow, one below `isize::MIN` an underflow, and a text that is no numeral is incorrect;
+/// [`ChineseToNumberError`] says when each comes, and which comes first.
 pub fn from_chinese_to_isize_low(text: &str) -> Result<isize, ChineseToNumberError>
     ensures { Reads (signed_kind 64) ChineseCountMethod.Low text.now (answer_of (λ z. z) result) }
 {
     read::<isize>(ChineseCountMethod::Low, text)
 }
 
-/// Reads a numeral by `TenThousand` as an `isize`: `負一億二` is -120000000.
+/// Reads a numeral by `TenThousand` as an `isize`: `負一億二` is -120_000_000.
 ///
-/// A text of nothing but white space and one sign is empty, a text that is no numeral is incorrect at the
-/// last character that nothing in front could complete, a number above `isize::MAX` is an overflow, and one
-/// below `isize::MIN` an underflow.
+/// A text of nothing but white space and one sign is empty, a number above `isize::MAX` is an
+/// overflow, one below `isize::MIN` an underflow, and a text that is no numeral is incorrect;
+/// [`ChineseToNumberError`] says when each comes, and which comes first.
 pub fn from_chinese_to_isize_ten_thousand(text: &str) -> Result<isize, ChineseToNumberError>
     ensures { Reads (signed_kind 64) ChineseCountMethod.TenThousand text.now (answer_of (λ z. z) result) }
 {
     read::<isize>(ChineseCountMethod::TenThousand, text)
 }
 
-/// Reads a numeral by `Middle` as an `isize`: `負一億二` is -120000000.
+/// Reads a numeral by `Middle` as an `isize`: `負一億二` is -120_000_000.
 ///
-/// A text of nothing but white space and one sign is empty, a text that is no numeral is incorrect at the
-/// last character that nothing in front could complete, a number above `isize::MAX` is an overflow, and one
-/// below `isize::MIN` an underflow.
+/// A text of nothing but white space and one sign is empty, a number above `isize::MAX` is an
+/// overflow, one below `isize::MIN` an underflow, and a text that is no numeral is incorrect;
+/// [`ChineseToNumberError`] says when each comes, and which comes first.
 pub fn from_chinese_to_isize_middle(text: &str) -> Result<isize, ChineseToNumberError>
     ensures { Reads (signed_kind 64) ChineseCountMethod.Middle text.now (answer_of (λ z. z) result) }
 {
     read::<isize>(ChineseCountMethod::Middle, text)
 }
 
-/// Reads a numeral by `High` as an `isize`: `負一億二` is -120000000.
+/// Reads a numeral by `High` as an `isize`: `負一億二` is -120_000_000.
 ///
-/// A text of nothing but white space and one sign is empty, a text that is no numeral is incorrect at the
-/// last character that nothing in front could complete, a number above `isize::MAX` is an overflow, and one
-/// below `isize::MIN` an underflow.
+/// A text of nothing but white space and one sign is empty, a number above `isize::MAX` is an
+/// overflow, one below `isize::MIN` an underflow, and a text that is no numeral is incorrect;
+/// [`ChineseToNumberError`] says when each comes, and which comes first.
 pub fn from_chinese_to_isize_high(text: &str) -> Result<isize, ChineseToNumberError>
     ensures { Reads (signed_kind 64) ChineseCountMethod.High text.now (answer_of (λ z. z) result) }
 {

@@ -8,7 +8,7 @@ use std::fmt;
 /// Why a number was not written.
 #[derive(Debug, Copy, Clone, Eq, PartialEq)]
 pub enum NumberToChineseError {
-    /// The number is 10^16 or more, and the method is `Low`.
+    /// The number is 10^16 or more, and the method is `Low`, whose greatest unit, 極, is 10^15.
     Overflow,
     /// The number is -10^16 or less, and the method is `Low`.
     Underflow,

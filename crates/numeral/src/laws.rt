@@ -1,4 +1,4 @@
-//! What users of the program rest on, each as the contract of a function that does nothing.
+//! What users of the program can count on, each as the contract of a function that does nothing.
 ghost use Rattle.std.specs.Prelude.{◌≡◌, ◌↔◌, ℕ, List, IsTrue};
 ghost use Rattle.numeral.specs.Answer.{Answers, AreReplies};
 ghost use Rattle.numeral.specs.Lines.{lines};
@@ -9,7 +9,7 @@ use crate::fault::{DeviceFault, RunError};
 
 /// Each line has exactly one answer.
 ///
-/// Whoever keeps answers by their lines rests on it.
+/// For whoever keeps answers by their lines.
 pub fn each_line_has_one_answer()
     ensures { (line : List ℕ)
         → (answer : List ℕ) × Answers line answer
@@ -18,16 +18,17 @@ pub fn each_line_has_one_answer()
 
 /// Each input has exactly one output: the answers to its lines, each with its line feed.
 ///
-/// Whoever compares two runs over the same bytes rests on it: where both end well, they write the same.
+/// For whoever compares two runs over the same bytes: where both end well, they write the same.
 pub fn each_input_has_one_output()
     ensures { (input : List ℕ)
         → (output : List ℕ) × AreReplies (lines input) output
         × ((other : List ℕ) → AreReplies (lines input) other → other ≡ output) }
 {}
 
-/// Two errors of a run are equal exactly where they are the same variant, and all faults of a device are equal.
+/// Two errors of a run are equal exactly where they are the same variant, and all faults of a
+/// device are equal.
 ///
-/// Callers who compare the outcomes of runs rest on it.
+/// For callers who compare the outcomes of runs.
 pub fn equal_values_are_the_same_variant()
     ensures errors { (a b : Error) → IsTrue (⟦<RunError as PartialEq>⟧.eq a b) ↔ (a ≡ b) }
     ensures faults { (a b : Fault) → IsTrue (⟦<DeviceFault as PartialEq>⟧.eq a b) ↔ (a ≡ b) }

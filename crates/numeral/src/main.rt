@@ -1,10 +1,20 @@
 //! Reads and writes Chinese numerals, a line at a time.
 //!
 //! ```text
+//! read u64 ten_thousand 一百二                ok 120
 //! read u64 naive 一二三                       ok 123
 //! print i8 naive traditional lower -12        ok 負一二
+//! read u64 ten_thousand 二十十                err the chinese number is incorrect (position: 1)
 //! anything else                               bad line
 //! ```
+//!
+//! A `read` line has a type, a method or `naive`, and a text; a `print` line a type, a method or
+//! `naive`, a script, a case and a number. Exactly one space parts them, and the text is all that
+//! follows the third. The other errors are `a chinese number cannot be empty`,
+//! `number is too large` and `number is too small`.
+//!
+//! The status is 0 where all was read and answered, 1 where a read or a write failed, and 2 where
+//! memory ran out.
 #![tactic(auto)]
 
 mod answer;

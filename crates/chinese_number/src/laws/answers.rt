@@ -16,7 +16,7 @@ use cn_core::Whole;
 
 /// Each text has one judgement under a method: a number, or one refusal.
 ///
-/// Whoever writes a reader of their own rests on it: there is one right answer.
+/// For whoever writes a reader of their own: there is one right answer.
 pub fn each_text_has_one_judgement()
     ensures { (method : ChineseCountMethod) (marks : List Mark)
         → (answer : Result ℕ Refusal) × Judges method marks answer
@@ -25,7 +25,7 @@ pub fn each_text_has_one_judgement()
 
 /// Each string has one answer, for each type and method.
 ///
-/// A search index that stores answers rests on it.
+/// For a search index that stores answers: the same string never asks for another one.
 pub fn each_string_has_one_answer()
     ensures { (kind : Kind) (method : ChineseCountMethod) (bytes : List ℕ)
         → (answer : Result ℤ Refusal) × Reads kind method bytes answer
@@ -33,11 +33,11 @@ pub fn each_string_has_one_answer()
 {}
 
 /// A string is answered by a number exactly where its text, without white space and, for a signed
-/// type, one sign in front, is a numeral whose scales all fit 128 bits and whose signed value is that
-/// number, which the type holds.
+/// type, one sign in front, is a numeral whose scales all fit 128 bits and whose signed value is
+/// that number, which the type holds.
 ///
-/// Readers of dates, chapter numbers and amounts rest on it: what is read means what it says, and what
-/// means a number is read.
+/// For readers of dates, chapter numbers and amounts: what is read means what it says, and what
+/// means a number is read, as 一百二, which is 120.
 pub fn numerals_alone_are_read<T: Whole>()
     ensures { (method : ChineseCountMethod) (bytes : List ℕ) (number : ℤ)
         → let marks = marks_of (unsigned_text T.kind bytes) in

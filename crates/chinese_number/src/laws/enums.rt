@@ -14,10 +14,10 @@ use cn_core::{ChineseCase, ChineseCountMethod, ChineseVariant, Sign, Unit};
 use cn_print::NumberToChineseError;
 use cn_read::ChineseToNumberError;
 
-/// Two values of an enum are equal exactly where they are the same variant, with the same spot where
-/// there is one.
+/// Two values of an enum are equal exactly where they are the same variant, with the same spot
+/// where there is one.
 ///
-/// Callers who compare scripts, cases, methods, units, signs or errors rest on it.
+/// For callers who compare scripts, cases, methods, units, signs or errors.
 pub fn equal_values_are_the_same_variant()
     ensures units { (a b : NumeralUnit) → IsTrue (⟦<Unit as PartialEq>⟧.eq a b) ↔ (a ≡ b) }
     ensures signs { (a b : NumeralSign) → IsTrue (⟦<Sign as PartialEq>⟧.eq a b) ↔ (a ≡ b) }
@@ -33,7 +33,7 @@ pub fn equal_values_are_the_same_variant()
 
 /// Units are ordered by rank: 個 is the least and 極 the greatest.
 ///
-/// Callers who compare units rest on it.
+/// For callers who compare units: 萬 is greater than 千.
 pub fn units_compare_by_rank()
     ensures { (a b : NumeralUnit) → ⟦<Unit as Ord>⟧.cmp a b ≡ nat_cmp (rank a) (rank b) }
 {}

@@ -13,7 +13,8 @@ ghost use Rattle.cn_core.specs.declared.method.ChineseCountMethod.TheVariants.{L
 /// The methods spell alike where they have the same units: all four below 10^5, all but `Low` below
 /// 10^12, and `Middle` and `High` below 10^24.
 ///
-/// Who prints years, page and chapter numbers rests on it: there no method has to be chosen.
+/// For whoever prints years, page and chapter numbers: there no method has to be chosen. 10,000 is
+/// 一萬 by each of them.
 pub fn methods_spell_alike_below()
     ensures all { (number : ℕ) → number < 10 ^ 5 → (one other : ChineseCountMethod)
         → spelling one number ≡ spelling other number }
@@ -23,10 +24,11 @@ pub fn methods_spell_alike_below()
     ensures two { (number : ℕ) → number < 10 ^ 24 → spelling Middle number ≡ spelling High number }
 {}
 
-/// And no further: at 10^5 `Low`, at 10^12 `TenThousand` and at 10^24 `Middle` spells otherwise than
-/// the rest.
+/// The methods spell alike no further than that: at 10^5 `Low`, at 10^12 `TenThousand` and at 10^24
+/// `Middle` spells otherwise than the rest.
 ///
-/// Who prints great amounts rests on it: from there on a method has to be chosen.
+/// For whoever prints great amounts: from there on a method has to be chosen. 100,000 is 一億 by
+/// `Low` and 十萬 by the others.
 pub fn methods_spell_otherwise_from()
     ensures low { (spelling Low (10 ^ 5) ≢ spelling TenThousand (10 ^ 5))
         × (spelling Low (10 ^ 5) ≢ spelling Middle (10 ^ 5))
@@ -39,7 +41,7 @@ pub fn methods_spell_otherwise_from()
 /// A string that names no unit above 萬 has the same answer under all four methods, the spot of a
 /// refusal included. The sign that its type takes off does not count.
 ///
-/// Readers of dates and chapter numbers rest on it: there no method has to be chosen.
+/// For readers of dates and chapter numbers: there no method has to be chosen.
 pub fn small_units_read_alike()
     ensures { (kind : Kind) (bytes : List ℕ)
         → IsTrue (names_no_unit_above_wan (marks_of (unsigned_text kind bytes)))

@@ -12,15 +12,17 @@ ghost use Rattle.cn_core.specs.declared.method.ChineseCountMethod.{ChineseCountM
 /// 零 alone in front is the whole test of completability: a list can be completed exactly where 零
 /// in front of it makes a numeral.
 ///
-/// Form validators rest on it: to know whether what stands from a place on can be right, try 零.
+/// For form validators: to know whether what stands from a place on can be right, try 零. 百 can be
+/// right, since 零百 is a numeral; 百百 cannot, since 零百百 is none.
 pub fn zero_in_front_decides()
     ensures { (marks : List Mark) → Completable marks ↔ IsNumeral (digit 0 ∷ marks) }
 {}
 
-/// What marks can complete, characters can complete: no list of marks that nobody can write makes a
-/// text completable.
+/// What marks can complete, characters can complete: whatever can be right with some marks in front
+/// can be right with some typed text in front.
 ///
-/// Form validators rest on it: what can be right with something in front, a user can type.
+/// For form validators: what can be right with something in front, a user can type, as 一 before
+/// 百.
 pub fn characters_complete_texts()
     ensures { (text : List ℕ) → Completable (marks_of text)
         ↔ ((front : List ℕ) × IsTrue (all_scalars front) × (0 < length front)
@@ -29,24 +31,26 @@ pub fn characters_complete_texts()
 
 /// Every end of what can be completed can be completed.
 ///
-/// Form validators that check while a user types from the end rest on it.
+/// For form validators that check from the end: once an end is wrong, as 十十, nothing in front
+/// puts it right.
 pub fn ends_can_be_completed()
     ensures { (start : ℕ) (marks : List Mark) → Completable marks → Completable (drop start marks) }
 {}
 
 /// Each list has one place: the last from which nothing in front can complete it, or else 0.
 ///
-/// Form validators rest on it: there is one character to mark.
+/// For form validators: there is one character to mark. In 二十十 it is at 1.
 pub fn each_list_has_one_place()
     ensures { (marks : List Mark)
         → (place : ℕ) × IsPlace marks place × ((other : ℕ) → IsPlace marks other → other ≡ place) }
 {}
 
-/// A text whose refusal names a place is no numeral. The place is the last from which nothing in front
-/// can complete the text's body, or else 0; or, where the body is a numeral, the text's last mark.
+/// A text whose refusal names a place is no numeral. The place is the last from which nothing in
+/// front can complete the text's body, or else 0; or, where the body is a numeral, the text's last
+/// mark.
 ///
-/// Form validators rest on it: past place 0, the character that they mark is at fault whatever stands
-/// in front of it.
+/// For form validators: past place 0, the character that they mark is at fault whatever stands in
+/// front of it.
 pub fn refusals_name_the_last_place()
     ensures { (method : ChineseCountMethod) (marks : List Mark) (place : ℕ)
         → Judges method marks (Err (incorrect_at place))
@@ -56,7 +60,8 @@ pub fn refusals_name_the_last_place()
 
 /// 零 with what stands after a place is a numeral: past the mark at fault nothing is wrong.
 ///
-/// Form validators rest on it: they mark one character, and what follows it can stay.
+/// For form validators: they mark one character, and what follows it can stay. In 二十十 that is
+/// the last 十.
 pub fn nothing_is_wrong_after_a_place()
     ensures { (marks : List Mark) (place : ℕ)
         → IsPlace marks place → IsNumeral (digit 0 ∷ drop (place + 1) marks) }

@@ -14,11 +14,12 @@ ghost use Rattle.cn_core.specs.declared.script.ChineseVariant.{ChineseVariant};
 
 use cn_core::Whole;
 
-/// A string is answered by a number, as plain digits, exactly where its text, without white space and,
-/// for a signed type, one sign in front, is a digit or more and nothing else, whose signed value is
-/// that number, which the type holds.
+/// A string is answered by a number, as plain digits, exactly where its text, without white space
+/// and, for a signed type, one sign in front, is a digit or more and nothing else, whose signed
+/// value is that number, which the type holds.
 ///
-/// Form validators that ask for digits alone rest on it.
+/// For form validators that ask for digits alone: 二零二五 is 2025, and 二千零二十五 is no number
+/// to them.
 pub fn digits_alone_are_read<T: Whole>()
     ensures { (bytes : List ℕ) (number : ℤ)
         → let marks = marks_of (unsigned_text T.kind bytes) in
@@ -31,16 +32,16 @@ pub fn digits_alone_are_read<T: Whole>()
 /// Plain digits are read back: what is printed of a number, in any script and case, is answered by
 /// that number.
 ///
-/// Dates and serial numbers, which are read digit by digit, rest on it.
+/// For dates and serial numbers, which are read digit by digit: 2025 is 二零二五.
 pub fn naive_texts_read_back<T: Whole>()
     ensures { (variant : ChineseVariant) (case : ChineseCase) (number : ℤ) → Holds T.kind number
         → naive_reading T.kind (encode_utf8_all (naive_text variant case number)) ≡ Ok number }
 {}
 
-/// Zeros in front change nothing: where a string of plain digits is answered by a number, any number
-/// of zeros before its digits, after its sign, leaves that answer as it was.
+/// Zeros in front change nothing: where a string of plain digits is answered by a number, any
+/// number of zeros before its digits, after its sign, leaves that answer as it was.
 ///
-/// A search index that folds numerals to numbers rests on it.
+/// For a search index that folds numerals to numbers: 零零一二 is 12, as 一二 is.
 pub fn leading_zeros_change_nothing()
     ensures { (kind : Kind) (bytes more zeros : List ℕ) (number : ℤ)
         → All (λ c. digit_of c ≡ Some 0) zeros

@@ -15,7 +15,8 @@ use cn_core::Whole;
 
 /// Every spelling is a numeral of its magnitude.
 ///
-/// A normaliser for speech rests on it: what it writes is a numeral by the rules, for any reader.
+/// For a normaliser for speech: what it writes is a numeral by the rules, for any reader. 110 is
+/// 一百一十 by each method.
 pub fn spellings_are_numerals<T: Whole>()
     ensures { (method : ChineseCountMethod) (number : ℤ)
         → Holds T.kind number → IsTrue (is_printable method number)
@@ -26,7 +27,8 @@ pub fn spellings_are_numerals<T: Whole>()
 /// What is printed is read back: the written spelling of a number, in any script and case, is
 /// answered by that number and by nothing else.
 ///
-/// Amounts on cheques and invoices rest on it.
+/// For amounts on cheques and invoices: 1,280,500 is written 一百二十八萬零五百 by `TenThousand`,
+/// and that reads as 1,280,500 and as nothing else.
 pub fn spellings_read_back<T: Whole>()
     ensures { (variant : ChineseVariant) (case : ChineseCase) (method : ChineseCountMethod) (number : ℤ)
         → Holds T.kind number → IsTrue (is_printable method number) → (answer : Result ℤ Refusal)
@@ -34,10 +36,10 @@ pub fn spellings_read_back<T: Whole>()
         ↔ (answer ≡ Ok number) }
 {}
 
-/// One text for each number: two numbers have the same written text, by one method or as plain digits
-/// and in one script and case, exactly where they are equal.
+/// One text for each number: two numbers have the same written text, by one method or as plain
+/// digits and in one script and case, exactly where they are equal.
 ///
-/// Amounts on cheques and invoices rest on it: no two amounts look alike.
+/// For amounts on cheques and invoices: no two amounts look alike.
 pub fn one_text_for_each_number<T: Whole>()
     ensures units { (variant : ChineseVariant) (case : ChineseCase) (method : ChineseCountMethod)
         (one other : ℤ) → Holds T.kind one → Holds T.kind other
@@ -53,7 +55,7 @@ pub fn one_text_for_each_number<T: Whole>()
 /// Reading, then printing, is idempotent: where a string reads as a printable number, the written
 /// spelling of that number reads as the same, and as nothing else.
 ///
-/// A search index that folds numerals to numbers rests on it.
+/// For a search index that folds numerals to one form: 兩千三 becomes 二千三百, and stays so.
 pub fn reading_then_printing_is_idempotent<T: Whole>()
     ensures { (variant : ChineseVariant) (case : ChineseCase) (method : ChineseCountMethod)
         (bytes : List ℕ) (number : ℤ) → Reads T.kind method bytes (Ok number)

@@ -11,7 +11,7 @@ use cn_core::Whole;
 /// A string is refused as empty exactly where nothing is left of it without white space and, for a
 /// signed type, one sign.
 ///
-/// Forms with a required field rest on it.
+/// For forms with a required field: white space alone is empty, and so is 負 for a signed type.
 pub fn empty_is_nothing_left()
     ensures units { (kind : Kind) (method : ChineseCountMethod) (bytes : List ℕ)
         → Reads kind method bytes (Err empty) ↔ (unsigned_text kind bytes ≡ []) }
@@ -21,7 +21,8 @@ pub fn empty_is_nothing_left()
 
 /// For a type without sign no string is too small.
 ///
-/// Callers who tell a user what is wrong rest on it: there is one message less.
+/// For callers who tell a user what is wrong: there is one message less. 負一 as a `u8` is
+/// incorrect at 0.
 pub fn unsigned_types_never_underflow<T: Whole>()
     ensures units { (method : ChineseCountMethod) (bytes : List ℕ) → IsTrue (not T.SIGNED)
         → ¬ Reads T.kind method bytes (Err too_small) }

@@ -12,7 +12,8 @@ use cn_core::Whole;
 
 /// The four texts of a number, by script and case, have equally many characters.
 ///
-/// Amounts on cheques and invoices rest on it: a form leaves room for one of them.
+/// For forms of cheques and invoices: they leave room for one of them. 123 has five characters in
+/// each.
 pub fn texts_of_a_number_are_equally_long()
     ensures units { (one other : ChineseVariant) (first second : ChineseCase)
         (method : ChineseCountMethod) (number : ℤ)
@@ -24,7 +25,7 @@ pub fn texts_of_a_number_are_equally_long()
 
 /// The four texts of a number, by script and case, read alike.
 ///
-/// A search index that folds numerals to numbers rests on it.
+/// For a search index that folds numerals to numbers: 一百二十三 and 壹佰贰拾叁 are one.
 pub fn texts_of_a_number_read_alike<T: Whole>()
     ensures units { (one other : ChineseVariant) (first second : ChineseCase)
         (method : ChineseCountMethod) (number : ℤ)

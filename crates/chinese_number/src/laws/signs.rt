@@ -14,10 +14,10 @@ ghost use Rattle.cn_core.specs.declared.sign.Sign.{Sign};
 
 use cn_core::Whole;
 
-/// A sign in front of a numeral, whose units all have scales that fit, gives its value: 負 the negated
-/// one, 正 the value itself, in each signed type that holds it.
+/// A sign in front of a numeral, whose units all have scales that fit, gives its value: 負 the
+/// negated one, 正 the value itself, in each signed type that holds it.
 ///
-/// A normaliser for speech rests on it.
+/// For a normaliser for speech: 負十 is -10, and 正十 is 10.
 pub fn a_sign_gives_the_signed_value<T: Whole>()
     ensures { (method : ChineseCountMethod) (bytes rest : List ℕ) (character : ℕ) (sign : Sign)
         → IsTrue T.SIGNED → text_of bytes ≡ character ∷ rest → sign_of character ≡ Some sign
@@ -29,7 +29,7 @@ pub fn a_sign_gives_the_signed_value<T: Whole>()
 
 /// A minus before a zero is 0, in each signed type: 負零.
 ///
-/// A search index that folds numerals to numbers rests on it.
+/// For a search index that folds numerals to numbers: there is one zero.
 pub fn minus_zero_is_zero<T: Whole>()
     ensures { (method : ChineseCountMethod) (bytes : List ℕ) (minus zero : ℕ) → IsTrue T.SIGNED
         → sign_of minus ≡ Some Minus → digit_of zero ≡ Some 0

@@ -13,7 +13,7 @@ ghost use Rattle.cn_core.specs.declared.method.ChineseCountMethod.{ChineseCountM
 /// White space does not matter: strings with the same text have the same value, or the same kind of
 /// refusal.
 ///
-/// A normaliser for speech rests on it.
+/// For a normaliser for speech: ` 一 百 二 ` is 120.
 pub fn white_space_does_not_matter()
     ensures units { (kind : Kind) (method : ChineseCountMethod) (one other : List ℕ)
         → text_of one ≡ text_of other → (first second : Result ℤ Refusal)
@@ -23,10 +23,12 @@ pub fn white_space_does_not_matter()
         → without_spot (naive_reading kind one) ≡ without_spot (naive_reading kind other) }
 {}
 
-/// A refusal points at a character: the one at its spot is no white space, and before it stand exactly
-/// as many characters that are none as were counted, the sign's among them.
+/// A refusal points at a character: the one at its spot is no white space, and before it stand
+/// exactly as many other characters that are no white space as its place says, the sign's among
+/// them.
 ///
-/// Form validators rest on it: they mark the character that the spot names.
+/// For form validators: they mark the character that the spot names. In ` 二 十 十 ` it is at 3, in
+/// `二十十` at 1.
 pub fn refusals_point_at_characters()
     ensures units { (kind : Kind) (method : ChineseCountMethod) (bytes : List ℕ) (spot : ℕ)
         → Reads kind method bytes (Err (incorrect_at spot))

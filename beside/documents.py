@@ -1,0 +1,68 @@
+#!/usr/bin/env python3
+"""Holds what the documents and the comments show against the programs.
+
+Usage: documents.py NUMERAL
+
+- Each row of a table in README.md and docs/ whose second cell is an answer of the program is asked: where the first cell
+  is no line of the program, it is a text that is read as an `i64` by `ten_thousand`.
+- The example in the comment of each of the 96 calls by name is asked, with its type and method.
+- Each block of Rust in README.md stands, line by line, in the source of `cheque`.
+"""
+import re
+import subprocess
+import sys
+from pathlib import Path
+
+TOP = Path(__file__).resolve().parent.parent
+ROW = re.compile(r"^\| `([^`]*)` \| `((?:ok|err) [^`]*|bad line)` \|", re.MULTILINE)
+CALL = re.compile(r"((?:^///.*\n)+)pub fn (from_\w+)", re.MULTILINE)
+READ = re.compile(r"^/// Reads .*: `(\S+)` is (-?[\d_]+)\.$", re.MULTILINE)
+PRINTED = re.compile(r"^/// Writes .*: (-?[\d_]+) is `(\S+)` in traditional", re.MULTILINE)
+NAME = re.compile(r"from_(?:chinese_to_)?([iu](?:\d+|size))(?:_to_chinese)?_?(\w*)")
+
+
+def text_of(path):
+    return path.read_text(encoding="utf-8")
+
+
+def rows():
+    """The questions and answers of the documents."""
+    for document in [TOP / "README.md", *sorted(TOP.glob("docs/*.md"))]:
+        for first, answer in ROW.findall(text_of(document)):
+            is_line = answer == "bad line" or re.match(r"(?:read|print) \w+ \w+ ", first)
+            yield document.name, first if is_line else f"read i64 ten_thousand {first}", answer
+
+
+def examples():
+    """The questions and answers of the comments of the 96 calls."""
+    for source in sorted(TOP.glob("crates/cn_read/src/*.rt")) + sorted(TOP.glob("crates/cn_print/src/*.rt")):
+        for comment, name in CALL.findall(text_of(source)):
+            integer, method = NAME.fullmatch(name).groups()
+            way = f"{integer} {method or 'low'}"
+            for text, number in READ.findall(comment):
+                yield name, f"read {way} {text}", f"ok {int(number)}"
+            for number, text in PRINTED.findall(comment):
+                yield name, f"print {way} traditional lower {int(number)}", f"ok {text}"
+
+
+def main():
+    if len(sys.argv) != 2 or sys.argv[1].startswith("-"):
+        sys.exit(__doc__)
+    in_documents, in_comments = list(rows()), list(examples())
+    if len({name for name, _, _ in in_comments}) != 96:
+        sys.exit(f"documents: {len(in_comments)} examples of the 96 calls by name")
+    asked = in_documents + in_comments
+    lines = "".join(question + "\n" for _, question, _ in asked)
+    told = subprocess.run([sys.argv[1]], input=lines, capture_output=True, encoding="utf-8", check=True).stdout.split("\n")
+    wrong = [f"{where}: {question}: {got}, and not {wanted}" for (where, question, wanted), got in zip(asked, told) if got != wanted]
+    if wrong or len(told) != len(asked) + 1:
+        sys.exit("documents: the program answers otherwise\n" + "\n".join(wrong))
+
+    source = text_of(TOP / "crates/cheque/src/main.rt")
+    blocks = re.findall(r"^```rust\n(.*?)^```$", text_of(TOP / "README.md"), re.MULTILINE | re.DOTALL)
+    if not blocks or any(block not in source for block in blocks):
+        sys.exit("documents: the Rust of README.md does not stand in the source of cheque")
+    print(f"documents: {len(in_documents)} answers, {len(in_comments)} examples and {len(blocks)} blocks of Rust, as the programs have them")
+
+
+main()

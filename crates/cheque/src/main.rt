@@ -1,0 +1,49 @@
+//! Writes the amount of a cheque, and reads the number of a chapter from its heading.
+#![tactic(auto)]
+
+ghost use Rattle.std.specs.Prelude.{◌≡◌, pos, Ok, Err, IfOk, MatchOption, string_bytes, encode_utf8_all};
+ghost use Rattle.chinese_number.specs.Refusal.{Refusal};
+ghost use Rattle.chinese_number.specs.Typed.{Reads};
+ghost use Rattle.chinese_number.specs.Whole.{unsigned_kind};
+ghost use Rattle.chinese_number.specs.Written.{spelled_text};
+ghost use Rattle.chinese_number.specs.declared.ChineseCase.TheVariants.{Upper};
+ghost use Rattle.chinese_number.specs.declared.ChineseCountMethod.TheVariants.{TenThousand};
+ghost use Rattle.chinese_number.specs.declared.ChineseVariant.TheVariants.{Simple};
+
+use chinese_number::{
+    ChineseCase, ChineseCountMethod, ChineseToNumber, ChineseVariant,
+    from_u64_to_chinese_ten_thousand,
+};
+use std::alloc::{AllocError, Global};
+use std::io;
+
+/// The amount in capitals, as it stands on a cheque.
+fn cheque_amount(alloc: Global, yuan: u64) -> Result<String, AllocError>
+    ensures { IfOk result (λ text. string_bytes text
+        ≡ encode_utf8_all (spelled_text Simple Upper TenThousand (pos yuan))) }
+{
+    from_u64_to_chinese_ten_thousand(alloc, ChineseVariant::Simple, ChineseCase::Upper, yuan)
+}
+
+/// The number of a chapter, as 二十三; `None` exactly where the definition refuses the text.
+fn chapter_number(text: &str) -> Option<u16>
+    ensures { MatchOption result
+        ((refusal : Refusal) × Reads (unsigned_kind 16) TenThousand text.now (Err refusal))
+        (λ number. Reads (unsigned_kind 16) TenThousand text.now (Ok (pos number))) }
+{
+    match text.to_number(ChineseCountMethod::TenThousand) {
+        Ok(number) => Some(number),
+        Err(_) => None,
+    }
+}
+
+fn main(rt: HostRuntime) -> io::Result<()> {
+    let amount = cheque_amount(rt.alloc(), 1_280_500)?;
+    println!(rt; "{amount}元整")?;
+    let heading = "第二十三回";
+    let digits = heading.trim_start_matches('第').trim_end_matches('回');
+    match chapter_number(digits) {
+        Some(chapter) => println!(rt; "chapter {chapter}"),
+        None => println!(rt; "no chapter"),
+    }
+}
