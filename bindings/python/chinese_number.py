@@ -135,7 +135,7 @@ def _library() -> ctypes.CDLL:
     library.chinese_number_read.argtypes = [ctypes.c_char_p, size, code, code, ctypes.POINTER(_Reading)]
     library.chinese_number_print.argtypes = [
         _Number, code, code, code, code, ctypes.c_char_p, size, ctypes.POINTER(size)
-    ]  # fmt: skip
+    ]
     return library
 
 
