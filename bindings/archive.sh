@@ -1,7 +1,7 @@
 #!/usr/bin/env bash
 # archive.sh OUT: builds the library for other languages into the folder OUT, as an archive, libchinese_number.a, and as a
-# shared object, libchinese_number.so. What is not yet proved is proved first. It stops where the archive asks for a name
-# that is not known here, has data that a call could write, or where the shared object shows other names than the three calls.
+# shared object, libchinese_number.so. What is not yet proved is proved first. It stops where either shows other names than
+# the three calls, or the archive asks for other names than those below, or has data that a call could write.
 set -euo pipefail
 [ $# -eq 1 ] || { sed -n '2,4s/^# //p' "$0"; exit 2; }
 out=$(mkdir -p "$1" && cd "$1" && pwd)
@@ -23,6 +23,7 @@ trap 'rm -rf "$scratch"' EXIT
 whole=(-Wl,--whole-archive out/libcn_c.a -Wl,--no-whole-archive)
 cc -r -nostdlib -o "$scratch/all.o" "${whole[@]}"
 same 'the names that the archive asks for' "$asks_for" "$(nm -u "$scratch/all.o" | awk '{print $NF}' | words)"
+same 'the names that the archive shows' "$calls" "$(nm -g --defined-only "$scratch/all.o" | awk '{print $NF}' | words)"
 same 'the bytes of its data that a call could write' '0' \
     "$(size -A "$scratch/all.o" | awk '$1 ~ /^\.t?(data|bss)/ && $1 !~ /^\.data\.rel\.ro/ {sum += $2} END {print sum + 0}')"
 
