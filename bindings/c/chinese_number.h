@@ -1,8 +1,8 @@
 /* Chinese numerals for whole numbers, printed and read: the C face of the proved library chinese_number.
  *
  * Link libchinese_number.a or libchinese_number.so, which bindings/archive.sh makes: for Linux on x86-64-v2 and later. They
- * need memcpy and memset of the C library and __udivti3 of the compiler's, and nothing else. No call takes memory, opens a
- * file, reads the locale or keeps anything between calls, so any number of threads may call at once, signal handlers too.
+ * need at most memcpy and memset of the C library and __udivti3 of the compiler's. No call takes memory, opens a file, reads
+ * the locale or keeps anything between calls, so any number of threads may call at once, and signal handlers too.
  *
  * What the caller must see to, since nothing tests it:
  * - no pointer is NULL, not that of an empty text or room either;
