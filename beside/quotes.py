@@ -9,7 +9,7 @@ from pathlib import Path
 
 SECTION = re.compile(r"^## From C, C\+\+, Rust and Python$(.*?)^## ", re.MULTILINE | re.DOTALL)
 BLOCK = re.compile(r"^```(\w+)$\n(.*?)^```$", re.MULTILINE | re.DOTALL)
-FILES = {"c": "c/example.c", "rust": "rust/src/lib.rs", "python": "python/chinese_number.py"}
+FILES = {"c": "c/example.c", "rs": "rust/src/lib.rs", "python": "python/chinese_number.py"}
 
 
 def lines_of(text):

@@ -17,7 +17,8 @@ static void first_steps(void) {
     uint8_t text[CN_MOST_BYTES];
     size_t length;
     cn_reading reading;
-    chinese_number_print(cn_signed(-105000), CN_I64, CN_TEN_THOUSAND, CN_TRADITIONAL, CN_LOWER, text, sizeof text, &length);
+    chinese_number_print(cn_signed(-105000), CN_I64, CN_TEN_THOUSAND, CN_TRADITIONAL, CN_LOWER,
+                         text, sizeof text, &length);
     printf("%.*s\n", (int)length, (const char *)text); /* 負十萬五千 */
     if (chinese_number_read(text, length, CN_I64, CN_TEN_THOUSAND, &reading) == CN_DONE)
         printf("%lld\n", (long long)reading.number.low); /* -105000 */

@@ -2,11 +2,14 @@
 //! over the proved library `chinese_number`.
 //!
 //! ```rust
-//! use chinese_number::{ChineseCase, ChineseCountMethod, ChineseToNumber, ChineseVariant, NumberToChinese};
+//! use chinese_number::{
+//!     ChineseCase, ChineseCountMethod, ChineseToNumber, ChineseVariant, NumberToChinese,
+//! };
 //!
-//! let text = 105_000.to_chinese(ChineseVariant::Traditional, ChineseCase::Lower, ChineseCountMethod::TenThousand);
+//! let method = ChineseCountMethod::TenThousand;
+//! let text = 105_000.to_chinese(ChineseVariant::Traditional, ChineseCase::Lower, method);
 //! assert_eq!(text.unwrap(), "十萬五千");
-//! assert_eq!("十萬五".to_number(ChineseCountMethod::TenThousand), Ok(105_000u64));
+//! assert_eq!("十萬五".to_number(method), Ok(105_000u64));
 //! ```
 //!
 //! The library takes no memory and keeps nothing between calls. A printer takes memory for its `String`, as `String`
