@@ -63,6 +63,7 @@ fn read_as<T: Whole>(way: Way, text: &str, reading: &mut Reading) -> u32
     tell(read_by::<T>(way, text), reading)
 }
 
+#[inline(always)]
 fn read_kind(kind: Kind, way: Way, text: &str, reading: &mut Reading) -> u32
     ensures { ReadsInto (the_kind kind) way text.now result reading.new }
 {
@@ -94,7 +95,12 @@ fn text_of(bytes: &[u8]) -> Option<&str>
 ///
 /// Writes `*reading` whole at each status, and nothing else.
 #[unsafe(no_mangle)]
-pub extern "C" fn chinese_number_read(text: &[u8], kind: u32, way: u32, reading: &mut Reading) -> u32
+pub extern "C" fn chinese_number_read(
+    text: &[u8],
+    kind: u32,
+    way: u32,
+    reading: &mut Reading,
+) -> u32
     ensures { IsRead text.now kind way result reading.new }
 {
     *reading = NOTHING;
