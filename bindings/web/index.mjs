@@ -28,6 +28,7 @@ function element(name, text) {
 // Says something below a field. What stays as it was is not written again, so a screen reader does not repeat it.
 function say(field, output, words, isFault) {
   if (output.textContent !== words) output.textContent = words;
+  output.classList.toggle('fault', isFault);
   field.setAttribute('aria-invalid', isFault);
 }
 
@@ -91,7 +92,9 @@ function spell() {
     const value = BigInt(written);
     for (const script of SCRIPTS) {
       for (const letterCase of LETTER_CASES) {
-        texts.append(element('dt', `${script}, ${letterCase}`), element('dd', print(value, { ...options(), script, letterCase })));
+        const text = element('dd', print(value, { ...options(), script, letterCase }));
+        text.lang = script === 'simple' ? 'zh-Hans' : 'zh-Hant';
+        texts.append(element('dt', `${script}, ${letterCase}`), text);
       }
     }
     say(number, refusal, '', false);
