@@ -28,5 +28,6 @@ time python3 beside/short_of_memory.py $numeral "$refuse_growth" < crates/numera
 time python3 beside/dialogue.py $numeral
 time python3 beside/statuses.py $numeral
 time python3 beside/readers_without_memory.py crates/cn_vectors
+time bash bindings/web/test.sh $numeral
 
 tail -n 1 "$scratch/gate"

@@ -102,7 +102,10 @@ let words;
 /** @type {Uint8Array} */
 let text = new Uint8Array(0);
 
-/** Lends room for so many bytes of text. @param {number} bytes */
+/**
+ * Lends room for so many bytes of text.
+ * @param {number} bytes
+ */
 function lend(bytes) {
   library ??= new WebAssembly.Instance(compiled).exports;
   const { memory } = library;
@@ -115,7 +118,10 @@ function lend(bytes) {
   }
 }
 
-/** @param {any} memory @param {number} pages */
+/**
+ * @param {any} memory
+ * @param {number} pages
+ */
 function grow(memory, pages) {
   try {
     // A 64-bit memory counts its pages by a BigInt, though early hosts and 32-bit memories do so by a Number.
@@ -130,7 +136,10 @@ function grow(memory, pages) {
   }
 }
 
-/** Calls the module; where that traps, as where the host's stack is full, the next call has a new instance. @param {() => number} call */
+/**
+ * Calls the module. Where that traps, as on a full stack of the host, the next call has a new instance.
+ * @param {() => number} call
+ */
 function statusOf(call) {
   try {
     return call();
@@ -140,7 +149,17 @@ function statusOf(call) {
   }
 }
 
-/** @param {readonly string[]} names @param {string} name @param {string} what */
+/**
+ * @param {number} status
+ * @returns {keyof typeof MESSAGES}
+ */
+const reasonOf = (status) => /** @type {any} */ (STATUSES[status]);
+
+/**
+ * @param {readonly string[]} names
+ * @param {string} name
+ * @param {string} what
+ */
 function codeOf(names, name, what) {
   const code = names.indexOf(name);
   if (code < 0) throw new TypeError(`no ${what} is named ${String(name)}`);
@@ -150,7 +169,11 @@ function codeOf(names, name, what) {
 /** @param {string} type */
 const isSigned = (type) => type.startsWith('i');
 
-/** Where the character with so many in front stands in a string. @param {string} string @param {number} charIndex */
+/**
+ * Where the character with so many in front stands in a string.
+ * @param {string} string
+ * @param {number} charIndex
+ */
 function placeOf(string, charIndex) {
   /** @param {number} at */
   const next = (at) => at + (Number(string.codePointAt(at)) > 0xffff ? 2 : 1);
@@ -166,7 +189,7 @@ function placeOf(string, charIndex) {
  * a TypeError where the text is no string or a name is unknown.
  *
  * @param {string} string
- * @param {ReadOptions} [options]
+ * @param {ReadOptions} options
  * @returns {bigint}
  */
 export function read(string, { type = 'i128', method = 'tenThousand' } = {}) {
@@ -175,14 +198,14 @@ export function read(string, { type = 'i128', method = 'tenThousand' } = {}) {
   if (typeof string !== 'string') throw new TypeError('a numeral is a string');
   lend(3 * string.length);
   // An encoder writes UTF-8 and nothing else (half a surrogate pair as U+FFFD), so the module need not test it.
-  const { written } = encoder.encodeInto(string, text);
-  const status = statusOf(() => library.chinese_number_read_utf8(TEXT_AT, BigInt(written), kind, way, READING_AT));
+  const written = BigInt(Number(encoder.encodeInto(string, text).written));
+  const status = statusOf(() => library.chinese_number_read_utf8(TEXT_AT, written, kind, way, READING_AT));
   const [low, high, charIndex] = words;
   if (status === 0) {
     const bits = (high << 64n) | low;
     return isSigned(type) ? BigInt.asIntN(128, bits) : bits;
   }
-  const code = STATUSES[status];
+  const code = reasonOf(status);
   throw new NumeralError(code, code === 'incorrect' ? placeOf(string, Number(charIndex)) : undefined);
 }
 
@@ -195,7 +218,7 @@ export function read(string, { type = 'i128', method = 'tenThousand' } = {}) {
  * unknown.
  *
  * @param {bigint | number} number
- * @param {PrintOptions} [options]
+ * @param {PrintOptions} options
  * @returns {string}
  */
 export function print(number, { type = 'i128', method = 'tenThousand', script = 'traditional', letterCase = 'lower' } = {}) {
@@ -215,6 +238,6 @@ export function print(number, { type = 'i128', method = 'tenThousand', script = 
   words[4] = bits >> 64n;
   const status = statusOf(() => library.chinese_number_print(
     NUMBER_AT, kind, way, scriptCode, caseCode, TEXT_AT, BigInt(MOST_BYTES), LENGTH_AT));
-  if (status !== 0) throw new NumeralError(STATUSES[status]);
+  if (status !== 0) throw new NumeralError(reasonOf(status));
   return decoder.decode(text.subarray(0, Number(words[5])));
 }

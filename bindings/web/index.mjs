@@ -89,17 +89,17 @@ function spell() {
   if (written === '' || written === '-') return say(number, refusal, '', false);
   if (!/^-?[0-9]+$/.test(written)) return say(number, refusal, 'Write digits alone, with - in front of a number below zero.', true);
   try {
-    const value = BigInt(written);
+    const value = BigInt(written), rows = [];
     for (const script of SCRIPTS) {
       for (const letterCase of LETTER_CASES) {
         const text = element('dd', print(value, { ...options(), script, letterCase }));
         text.lang = script === 'simple' ? 'zh-Hans' : 'zh-Hant';
-        texts.append(element('dt', `${script}, ${letterCase}`), text);
+        rows.push(element('dt', `${script}, ${letterCase}`), text);
       }
     }
+    texts.append(...rows);
     say(number, refusal, '', false);
   } catch (error) {
-    texts.replaceChildren();
     say(number, refusal, reasonOfPrinting(error), true);
   }
 }

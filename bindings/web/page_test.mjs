@@ -7,9 +7,14 @@ import { openTab, serve, start } from './browser.mjs';
 
 const [program, out, ...flags] = process.argv.slice(2);
 const folder = fileURLToPath(new URL('.', import.meta.url));
-const LOADED = `new Promise((done) => {
-  const look = () => (document.getElementById('loading')?.textContent.includes('did not') || document.getElementById('loading')?.hidden
-    ? done(performance.now()) : setTimeout(look, 5));
+// The page has loaded, or says that it did not.
+const LOADED = `new Promise((done, fail) => {
+  const look = () => {
+    const loading = document.getElementById('loading');
+    if (loading?.hidden || loading?.textContent.includes('did not')) done(performance.now());
+    else if (performance.now() > 20_000) fail(new Error('the page neither loads nor says why'));
+    else setTimeout(look, 5);
+  };
   look();
 })`;
 
@@ -72,6 +77,10 @@ async function reads() {
   assert.deepEqual(await marked(), ['', '😀']);
   await enter();
   assert.deepEqual(await caret(), [0, 2]);
+  await type('numeral', '😀😀x一');
+  assert.deepEqual(await marked(), ['😀😀', 'x']);
+  await enter();
+  assert.deepEqual(await caret(), [4, 5]);
   // White space at the front counts as characters, but is none of the fault.
   await type('numeral', ' 　三千𠀀百');
   assert.deepEqual(await marked(), [' 　三千', '𠀀']);
@@ -284,7 +293,7 @@ async function standsOut() {
 }
 
 async function poses() {
-  await tab.send('Emulation.setDeviceMetricsOverride', { width: 480, height: 600, deviceScaleFactor: 1, mobile: false });
+  await tab.send('Emulation.setDeviceMetricsOverride', { width: 480, height: 640, deviceScaleFactor: 1, mobile: false });
   await type('number', '100100000');
   await type('numeral', '三千兩白五十六');
   for (const scheme of ['light', 'dark']) {

@@ -7,7 +7,7 @@ import { LETTER_CASES, METHODS, NumeralError, SCRIPTS, TYPES, print, read } from
 
 const [program, crate] = process.argv.slice(2);
 const READINGS = 60_000, PRINTINGS = 30_000;
-const LETTERS = Array.from('零〇一二三四五六七八九十百千萬万億亿兆京垓秭壹貳叁肆伍陸柒捌玖拾佰仟兩两負负正個角分廿 \t　x1é￿😀𠀀');
+const LETTERS = Array.from('零〇一二三四五六七八九十百千萬万億亿兆京垓秭壹貳叁肆伍陸柒捌玖拾佰仟兩两負负正個角分廿 \t　x1１⼀é￿😀𠀀');
 
 // The program's word for a method is the name with an underscore.
 const word = (name) => name.replace(/[A-Z]/g, (it) => `_${it.toLowerCase()}`);
@@ -140,7 +140,10 @@ function tryEdges() {
     for (const it of [least, greatest]) assert.equal(read(print(it, { type }), { type }), it);
     for (const it of [least - 1n, greatest + 1n, least - 2n ** 128n, greatest + 2n ** 200n]) refuses('notHeld', () => print(it, { type }));
   }
+  // What is left out: i128, by tenThousand, in the traditional script and in lower case.
   assert.equal(print(120), '一百二十');
+  assert.equal(print(-(10n ** 36n)), '負一澗');
+  assert.equal(read('負一澗'), -(10n ** 36n));
   assert.equal(print(-0), '零');
   assert.equal(print(2 ** 53 - 1), print(2n ** 53n - 1n));
   for (const it of [1.5, NaN, Infinity, 2 ** 53, '1', null, undefined]) assert.throws(() => print(it), TypeError);

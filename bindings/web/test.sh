@@ -24,13 +24,13 @@ for module in "$scratch"/*.wasm; do
     # The module under both names, so that it is the one that is tried, whatever the host has.
     folder=$scratch/$(basename "$module" .wasm)
     mkdir "$folder"
-    cp "$web"/*.mjs "$web"/index.* "$folder"
+    cp "$web"/*.mjs "$web"/index.{html,css} "$folder"
     for bits in 64 32; do cp "$module" "$folder/chinese-number.$bits.wasm"; done
     echo "$(basename "$module"), $(wc -c < "$module") bytes:"
     if node "${flag[@]}" -e 'process.exit(WebAssembly.validate(require("fs").readFileSync(process.argv[1])) ? 0 : 1)' "$module"; then
-        node "${flag[@]}" "$folder/test.mjs" "$numeral" "$crate"
+        timeout 300 node "${flag[@]}" "$folder/test.mjs" "$numeral" "$crate"
     else
         echo "web: NOT TRIED, since node $(node --version) has no 64-bit memories: this module under node"
     fi
-    if [ -n "$chromium" ]; then node "$folder/page_test.mjs" "$chromium" "$pictures"; fi
+    if [ -n "$chromium" ]; then timeout 300 node "$folder/page_test.mjs" "$chromium" "$pictures"; fi
 done
