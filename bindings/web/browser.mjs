@@ -7,14 +7,14 @@ import { extname, join } from 'node:path';
 
 const KINDS = { '.html': 'text/html', '.css': 'text/css', '.mjs': 'text/javascript', '.wasm': 'application/wasm' };
 
-/** Serves the files of a folder; `changed` may answer other bytes for a file. */
+/** Serves the files of a folder; `changed` may answer other bytes for a file, or wait. */
 export async function serve(folder, changed = (name, bytes) => bytes) {
   const asked = [];
   const server = createServer(async (request, response) => {
     const name = request.url === '/' ? 'index.html' : request.url.slice(1);
     try {
       if (!/^[\w.-]+$/.test(name)) throw new Error('no such file');
-      const bytes = changed(name, await readFile(join(folder, name)));
+      const bytes = await changed(name, await readFile(join(folder, name)));
       response.writeHead(200, { 'content-type': KINDS[extname(name)] ?? 'application/octet-stream' }).end(bytes);
       asked.push({ name, bytes: bytes.length });
     } catch {

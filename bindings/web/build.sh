@@ -32,7 +32,7 @@ quietly "$kit/bin/rattle" build --crate-name cn_c src/lib.rt --crate-type static
     --incremental "$scratch/incremental" --links cn_c= -o "$scratch/libcn_c.a"
 grep "^logic=proved .* target=$target " "$scratch/log"
 
-# No call needs more than a few KiB of stack. It lies below all else in the memory, so one that is too deep traps.
+# No call was seen to need 2 KiB of stack. It lies below all else in the memory, so one that is too deep traps.
 quietly "$kit/bin/rattle-link" --target "$target" --toolchain "$kit/toolchain" --stack 65536 \
     -o "$out/chinese-number.64.wasm" "$scratch/libcn_c.a"
 rm -f "$out/chinese-number.32.wasm"

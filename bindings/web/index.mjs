@@ -127,11 +127,7 @@ reading.addEventListener('submit', (event) => {
   if (fault) numeral.setSelectionRange(fault.start, fault.end);
 });
 number.form.addEventListener('submit', (event) => event.preventDefault());
-// A browser may fill the fields in again when it comes back to a page.
-addEventListener('pageshow', () => {
-  judge();
-  spell();
-});
+// What was typed while the library loaded.
 judge();
 spell();
 loading.hidden = true;

@@ -321,6 +321,32 @@ async function fitsAPhone() {
   await choose('type', 'u64');
 }
 
+// What is typed before the library has loaded is judged once it has.
+async function judgesWhatCameEarly() {
+  let goOn;
+  const gate = new Promise((done) => {
+    goOn = done;
+  });
+  const slow = await serve(folder, async (name, bytes) => {
+    if (name.endsWith('.wasm')) await gate;
+    return bytes;
+  });
+  tab = await openTab(browser, 720, 760);
+  await tab.send('Page.navigate', { url: slow.url });
+  await value(`new Promise((done) => {
+    const look = () => (document.getElementById('texts') ? done() : setTimeout(look, 5));
+    look();
+  })`);
+  await type('numeral', '一百x');
+  await type('number', '120');
+  assert.deepEqual([await answer(), await texts(), await value('loading.hidden')], ['', [], false]);
+  goOn();
+  await value(LOADED);
+  assert.deepEqual([await marked(), (await texts())[1]], [['一百', 'x'], '一百二十']);
+  await tab.close();
+  slow.close();
+}
+
 // A page whose policy has no 'wasm-unsafe-eval', or that lacks the module, says that the library did not load.
 async function saysWhatIsMissing() {
   const without = (name, bytes) => (name === 'index.html' ? Buffer.from(String(bytes).replace(" 'wasm-unsafe-eval'", '')) : bytes);
@@ -362,6 +388,7 @@ async function test() {
     assert.deepEqual(tab.problems, [], it.name);
   }
   await tab.close();
+  await judgesWhatCameEarly();
   await saysWhatIsMissing();
   console.log('page: as wanted');
 }

@@ -2,7 +2,7 @@
 // sources of the crate CN_C, and tries what has no line of the program.
 import assert from 'node:assert/strict';
 import { spawnSync } from 'node:child_process';
-import { readFileSync } from 'node:fs';
+import { existsSync, readFileSync } from 'node:fs';
 import { LETTER_CASES, METHODS, NumeralError, SCRIPTS, TYPES, print, read } from './chinese-number.mjs';
 
 const [program, crate] = process.argv.slice(2);
@@ -129,6 +129,18 @@ function compareCodes() {
   console.log(`codes: ${TYPES.length} types, ${METHODS.length} methods and ${theirs.length} statuses are those of cn_c`);
 }
 
+// The modules ask nothing of their host, and offer the calls of cn_c.
+function lookAtTheModules() {
+  for (const bits of [64, 32]) {
+    const file = new URL(`chinese-number.${bits}.wasm`, import.meta.url);
+    if (!existsSync(file) || !WebAssembly.validate(readFileSync(file))) continue;
+    const compiled = new WebAssembly.Module(readFileSync(file));
+    assert.deepEqual(WebAssembly.Module.imports(compiled), []);
+    assert.deepEqual(WebAssembly.Module.exports(compiled).map((it) => it.name).sort(),
+      ['__heap_base', 'chinese_number_print', 'chinese_number_read', 'chinese_number_read_utf8', 'memory']);
+  }
+}
+
 const refuses = (code, call) => assert.throws(call, (error) => error instanceof NumeralError && error.code === code);
 
 function tryEdges() {
@@ -217,6 +229,7 @@ function tryTraps() {
   console.log(`full stacks: ${made} new instances, and each next call answered`);
 }
 
+lookAtTheModules();
 compareCodes();
 compareWithTheProgram();
 tryEdges();
