@@ -30,6 +30,7 @@ quietly "$kit/bin/rattle" build --crate-name cn_c src/lib.rt --crate-type static
     "${libraries[@]}" \
     --antt-project "$kit/rattle/logic/antt-project.json" --logic-built "$kit/logic_built" \
     --incremental "$scratch/incremental" --links cn_c= -o "$scratch/libcn_c.a"
+grep "^crate cn_c: " "$scratch/log"
 grep "^logic=proved .* target=$target " "$scratch/log"
 
 # No call was seen to need 2 KiB of stack. It lies below all else in the memory, so one that is too deep traps.

@@ -61,11 +61,14 @@ async function opens() {
   const asked = site.asked.splice(0);
   assert.equal(asked.length % 5, 0, 'a cache was not empty');
   const files = asked.slice(0, asked.length / 5);
+  const bits = (await value('WebAssembly.validate(Uint8Array.of(0, 0x61, 0x73, 0x6d, 1, 0, 0, 0, 5, 3, 1, 4, 1))')) ? 64 : 32;
+  assert.deepEqual(files.map((it) => it.name).filter((it) => it.endsWith('.wasm')), [`chinese-number.${bits}.wasm`]);
   console.log(`opens after ${times.join(', ')} ms with an empty cache; ${files.length} files, ${files.reduce((sum, it) => sum + it.bytes, 0)} bytes`);
   assert(Math.min(...times) < 1000, 'the page takes a second to open');
 }
 
 async function reads() {
+  assert.deepEqual(await value('[type.value, method.value]'), ['u64', 'tenThousand']);
   assert.deepEqual([await answer(), await isInvalid('numeral'), await marked()], ['No numeral yet.', 'false', null]);
   await type('numeral', '一百二');
   assert.deepEqual([await answer(), await isInvalid('numeral'), await marked()], ['120', 'false', null]);
@@ -135,6 +138,12 @@ async function refusesNumerals() {
   await choose('type', 'u8');
   await type('numeral', '三百');
   assert.deepEqual([await answer(), await isInvalid('numeral'), await marked()], ['The number is too large for u8.', 'true', null]);
+  // What stays as it was is not said again.
+  await value('window.said = 0; new MutationObserver(() => { said++; }).observe(answer, { childList: true, characterData: true, subtree: true })');
+  await insert('一');
+  assert.deepEqual([await value('numeral.value'), await value('said')], ['三百一', 0]);
+  await insert('x');
+  assert.equal(await value('said'), 1);
   await choose('type', 'i8');
   await type('numeral', '負一百二十九');
   assert.equal(await answer(), 'The number is too small for i8.');
@@ -189,6 +198,11 @@ async function scrolls() {
   await insert('y');
   await painted();
   assert(await together());
+  // A mark that is made anew, in a field that does not scroll.
+  await choose('type', 'u32');
+  await painted();
+  assert(await together());
+  await choose('type', 'u64');
   await tab.key('Home', 36);
   await painted();
   assert.equal(await value('numeral.scrollLeft + mirror.scrollLeft'), 0);
@@ -286,6 +300,7 @@ async function standsOut() {
         border: of(numeral, 'borderTopColor') + 1.5, line: of(mirror.querySelector('mark'), 'textDecorationColor') + 1.5 }];
     })()`);
     grounds.add(ground);
+    assert.notEqual(contrasts.fault, contrasts.words);
     for (const [what, it] of Object.entries(contrasts)) assert(it >= 4.5, `${scheme}, ${what}: ${it}`);
   }
   assert.equal(grounds.size, 2);
@@ -306,16 +321,16 @@ async function poses() {
 
 // At 320 pixels nothing is cut off and nothing scrolls sideways, by the longest texts too.
 async function fitsAPhone() {
-  await tab.send('Emulation.setDeviceMetricsOverride', { width: 320, height: 700, deviceScaleFactor: 1, mobile: false });
+  await tab.send('Emulation.setDeviceMetricsOverride', { width: 320, height: 700, deviceScaleFactor: 1, mobile: true });
   await choose('type', 'i128');
   await type('numeral', '三千兩白五十六');
   await type('number', '-170141183460469231731687303715884105728');
-  const [sideways, outside] = await value(`(() => {
+  const [widths, outside] = await value(`(() => {
     const { scrollWidth, clientWidth } = document.documentElement;
     const all = Array.from(document.body.querySelectorAll('*:not(mark)'));
-    return [scrollWidth - clientWidth, all.filter((it) => it.getBoundingClientRect().right > clientWidth).map((it) => it.outerHTML)];
+    return [[clientWidth, scrollWidth], all.filter((it) => it.getBoundingClientRect().right > clientWidth).map((it) => it.outerHTML)];
   })()`);
-  assert.deepEqual([sideways, outside], [0, []]);
+  assert.deepEqual([widths, outside], [[320, 320], []]);
   await picture('narrow.png');
   await tab.send('Emulation.clearDeviceMetricsOverride');
   await choose('type', 'u64');
@@ -343,6 +358,7 @@ async function judgesWhatCameEarly() {
   goOn();
   await value(LOADED);
   assert.deepEqual([await marked(), (await texts())[1]], [['一百', 'x'], '一百二十']);
+  assert.deepEqual(await value('[document.activeElement.id, number.selectionStart, numeral.selectionStart]'), ['number', 3, 3]);
   await tab.close();
   slow.close();
 }
