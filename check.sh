@@ -31,6 +31,7 @@ time python3 beside/documents.py $numeral
 time python3 beside/dialogue.py $numeral
 time python3 beside/statuses.py $numeral
 time python3 beside/readers_without_memory.py crates/cn_vectors
+time bash bindings/web/test.sh $numeral
 
 # The library for other languages, made of what the gate has proved.
 time bash bindings/archive.sh "$scratch/bindings"
