@@ -18,18 +18,18 @@ quietly() {
 }
 
 # The gate has no place for a crate of this target. So rt proves cn_c and what is below it, or takes up what is proved,
-# and rattle builds over a copy of that work: the proofs serve every target, and its last line names this one.
+# and rattle, told of the same libraries in the same words, builds over a copy of that work: the proofs serve every
+# target, so no module is checked anew, and the last line names this one.
 cd "$web/../../crates/cn_c"
 quietly rt lib
 cp -r out/incremental "$scratch/incremental"
 libraries=()
 for name in $(sed -n 's/^cn_c staticlib: *//p' ../../crates.txt); do libraries+=(--extern "$name=../$name/out/rlib/$name.rlib"); done
 for folder in ../*/out/rlib; do libraries+=(-L "dependency=$folder"); done
-quietly "$kit/bin/rattle" build --crate-name cn_c src/lib.rt --crate-type staticlib --target "$target" --toolchain "$kit/toolchain" \
-    --extern "core=$kit/rlibs/core.rlib" --extern "std=$kit/rlibs/std.rlib" -L "dependency=$kit/rlibs" \
-    "${libraries[@]}" \
+quietly "$kit/bin/rattle" build --crate-name cn_c src/lib.rt --crate-type staticlib --links cn_c= \
+    --extern "std=$kit/rlibs/std.rlib" -L "dependency=$kit/rlibs" "${libraries[@]}" \
     --antt-project "$kit/rattle/logic/antt-project.json" --logic-built "$kit/logic_built" \
-    --incremental "$scratch/incremental" --links cn_c= -o "$scratch/libcn_c.a"
+    --incremental "$scratch/incremental" --target "$target" --toolchain "$kit/toolchain" -o "$scratch/libcn_c.a"
 grep "^crate cn_c: " "$scratch/log"
 grep "^logic=proved .* target=$target " "$scratch/log"
 

@@ -198,11 +198,16 @@ async function scrolls() {
   await insert('y');
   await painted();
   assert(await together());
-  // A mark that is made anew, in a field that does not scroll.
-  await choose('type', 'u32');
+  // A mark that comes where there was none, in a field that does not scroll.
+  await choose('method', 'naive');
+  await choose('type', 'i64');
+  await type('numeral', `負${'零'.repeat(60)}`);
+  await painted();
+  assert.equal(await marked(), null);
+  await choose('type', 'u64');
   await painted();
   assert(await together());
-  await choose('type', 'u64');
+  await choose('method', 'tenThousand');
   await tab.key('Home', 36);
   await painted();
   assert.equal(await value('numeral.scrollLeft + mirror.scrollLeft'), 0);
