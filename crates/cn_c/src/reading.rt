@@ -94,7 +94,12 @@ fn text_of(bytes: &[u8]) -> Option<&str>
 ///
 /// Writes `*reading` whole at each status, and nothing else.
 #[unsafe(no_mangle)]
-pub extern "C" fn chinese_number_read(text: &[u8], kind: u32, way: u32, reading: &mut Reading) -> u32
+pub extern "C" fn chinese_number_read(
+    text: &[u8],
+    kind: u32,
+    way: u32,
+    reading: &mut Reading,
+) -> u32
     ensures { IsRead text.now kind way result reading.new }
 {
     *reading = NOTHING;

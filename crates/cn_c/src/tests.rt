@@ -34,7 +34,10 @@ fn tells_how_much_room_is_wanted(rt: HostRuntime) {
 #[test]
 fn reads_below_zero(rt: HostRuntime) {
     let mut reading = NOTHING;
-    assert_eq!(rt; chinese_number_read("負一百二".as_bytes(), 5, 2, &mut reading), 0);
+    assert_eq!(rt;
+        chinese_number_read("負一百二".as_bytes(), 5, 2, &mut reading),
+        0
+    );
     assert_eq!(rt; reading.number.low, 0xffff_ffff_ffff_ff88);
     assert_eq!(rt; reading.number.high, 0xffff_ffff_ffff_ffff);
     let status = unsafe { chinese_number_read_utf8("負一百二".as_bytes(), 0, 2, &mut reading) };
