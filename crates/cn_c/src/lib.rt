@@ -5,6 +5,7 @@
 #![tactic(auto)]
 
 mod codes;
+pub mod laws;
 mod number;
 mod printing;
 mod reading;

@@ -83,10 +83,10 @@ pub Shows-if : (is_kept : Bool) (c : ℕ) {free next : ℕ} {bytes after charact
     → drop next after ≡ (if is_kept then character ++ drop free bytes else drop free bytes) → length after ≡ length bytes
     → character ≡ encode_utf8 c → IsUtf8 character → Shows free bytes cs → Shows next after ((if is_kept then c ∷ [] else []) ++ cs)
 Shows-if true c three e t l same utf8 h = record {
-    text = t ∙ ap₂ (λ front rest. front ++ rest) same h.text;
-    utf8 = rw t (IsUtf8-append _ _ utf8 h.utf8);
-    size = omega (arith, e, l, three, h.size);
-  }
+  text = t ∙ ap₂ (λ front rest. front ++ rest) same h.text;
+  utf8 = rw t (IsUtf8-append _ _ utf8 h.utf8);
+  size = omega (arith, e, l, three, h.size);
+}
 Shows-if false c three e t l same utf8 h = record { text = t ∙ h.text; utf8 = rw t h.utf8; size = omega (arith, e, l, h.size) }
 
 -- a full room shows all of its bytes

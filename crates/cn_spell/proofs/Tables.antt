@@ -63,8 +63,24 @@ three-unit variant case unit =
     ap takes_three (sym (unit-at variant case unit))
     ∙ passes-at takes_three (table_characters variant case) (10 + rank unit) (three-table variant case) (omega (arith, rank-low unit, length-table variant case)) where
       rank-low : (unit : NumeralUnit) → rank unit < 16
-      rank-low = elim [ Ge ↦ omega arith | Shi ↦ omega arith | Bai ↦ omega arith | Qian ↦ omega arith | Wan ↦ omega arith | Yi ↦ omega arith | Zhao ↦ omega arith | Jing ↦ omega arith
-          | Gai ↦ omega arith | Zi ↦ omega arith | Rang ↦ omega arith | Gou ↦ omega arith | Jian ↦ omega arith | Zheng ↦ omega arith | Zai ↦ omega arith | Ji ↦ omega arith ]
+      rank-low = elim [
+        | Ge ↦ omega arith
+        | Shi ↦ omega arith
+        | Bai ↦ omega arith
+        | Qian ↦ omega arith
+        | Wan ↦ omega arith
+        | Yi ↦ omega arith
+        | Zhao ↦ omega arith
+        | Jing ↦ omega arith
+        | Gai ↦ omega arith
+        | Zi ↦ omega arith
+        | Rang ↦ omega arith
+        | Gou ↦ omega arith
+        | Jian ↦ omega arith
+        | Zheng ↦ omega arith
+        | Zai ↦ omega arith
+        | Ji ↦ omega arith
+      ]
 
 pub three-minus : (variant : ChineseVariant) → takes_three (minus_char variant) ≡ true
 unfolding minus_char

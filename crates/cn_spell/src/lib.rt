@@ -14,6 +14,7 @@ mod naive;
 mod pen;
 mod places;
 mod print;
+mod put;
 mod room;
 mod sign;
 mod spell;
@@ -23,4 +24,5 @@ mod units;
 
 pub use error::NumberToChineseError;
 pub use naive::{print_naive, put_naive};
-pub use print::{is_printable, print_by_units, print_or_refuse, put_by_units};
+pub use print::{is_printable, print_by_units, print_or_refuse};
+pub use put::put_by_units;

@@ -1,5 +1,5 @@
 // Printing by plain decimal digits.
-ghost use Rattle.std.specs.Prelude.{◌≡◌, IfOk};
+ghost use Rattle.std.specs.Prelude.{◌≡◌, nat_abs, IfOk};
 ghost use Rattle.cn_core.specs.Naive.{decimal_digits};
 ghost use Rattle.cn_core.specs.Written.{written, naive_text};
 ghost use Rattle.cn_spell.specs.Puts.{PutsInFront};
@@ -15,27 +15,33 @@ use std::alloc::{AllocError, Allocator};
 
 // The digits of a magnitude, and its sign.
 #[derive(Drop)]
-struct Plain {
+struct Plain<'a> {
     characters: Characters,
     negative: bool,
-    digits: Digits,
+    digits: &'a Digits,
 }
 
-impl Plain {
+impl<'a> Plain<'a> {
     #[inline(always)]
-    fn of<T: Whole>(variant: ChineseVariant, case: ChineseCase, value: T) -> Self
-        ensures { ⟦<Plain as Text>⟧.says result ≡ naive_text variant case (T.number value) }
+    fn of<T: Whole>(
+        digits: &'a Digits,
+        variant: ChineseVariant,
+        case: ChineseCase,
+        value: T,
+    ) -> Self
+        requires { digits.now ≡ nat_abs (T.number value) }
+        ensures { ⟦<Plain<'a> as Text>⟧.says result ≡ naive_text variant case (T.number value) }
     {
         Plain {
             characters: Characters::new(variant, case),
             negative: value.is_negative(),
-            digits: Digits::of(value.magnitude()),
+            digits,
         }
     }
 }
 
-impl Text for Plain {
-    ghost says = { λ plain. written plain.characters.variant plain.characters.case plain.negative (decimal_digits plain.digits) };
+impl Text for Plain<'_> {
+    ghost says = { λ plain. written plain.characters.variant plain.characters.case plain.negative (decimal_digits plain.digits.now) };
 
     ghost most = { λ plain. 120 };
 
@@ -63,7 +69,8 @@ pub fn print_naive<T: Whole, A: Allocator>(
 ) -> Result<String<A>, AllocError>
     ensures { IfOk result (Writes (naive_text variant case (T.number value)) 120) }
 {
-    new_string(alloc, &Plain::of(variant, case, value))
+    let digits = Digits::of(value.magnitude());
+    new_string(alloc, &Plain::of(&digits, variant, case, value))
 }
 
 /// The same at the front of a room, where it fits; the result is how many bytes it has.
@@ -75,5 +82,6 @@ pub fn put_naive<T: Whole>(
 ) -> usize
     ensures { PutsInFront (naive_text variant case (T.number value)) 120 room.old room.new result }
 {
-    put_in_front(room, &Plain::of(variant, case, value))
+    let digits = Digits::of(value.magnitude());
+    put_in_front(room, &Plain::of(&digits, variant, case, value))
 }

@@ -6,64 +6,69 @@ ghost use Rattle.cn_spell.specs.Prints.{most_bytes};
 ghost use Rattle.cn_spell.specs.Working.Groups.{groups_within, front_limit};
 
 use crate::characters::Characters;
-use crate::groups::Groups;
+use crate::groups::{Groups, MOST};
+use crate::known_method::KnownMethod;
 use crate::pen::Count;
 use crate::room::Room;
 use crate::sign::put_sign;
 use crate::spell::put_spelling;
 use crate::text::Text;
-use cn_core::ChineseCountMethod;
+use std::marker::PhantomData;
 
 /// A sign, and a magnitude that the method writes.
-#[derive(Clone, Copy)]
-pub struct Spelled {
+#[derive(Drop)]
+pub struct Spelled<'a, M: KnownMethod> {
     characters: Characters,
-    method: ChineseCountMethod,
     negative: bool,
-    groups: Groups,
+    groups: Groups<'a>,
+    method: PhantomData<M>,
     ghost small: { groups.number < 2 ^ 128 },
-    ghost printable: { IsTrue (is_printable method (pos groups.number)) },
-    ghost count: { groups.count ≤ groups_within method },
-    ghost front: { groups.front < front_limit method },
+    ghost printable: { IsTrue (is_printable M.stands_for (pos groups.number)) },
+    ghost count: { groups.count ≤ groups_within M.stands_for },
+    ghost front: { groups.front < front_limit M.stands_for },
 }
 
-impl Spelled {
+impl<'a, M: KnownMethod> Spelled<'a, M> {
+    /// Takes the magnitude's groups into an array.
     #[inline(always)]
     pub fn of(
+        taken: &'a mut [u16; MOST],
         characters: Characters,
-        method: ChineseCountMethod,
         negative: bool,
         magnitude: u128,
     ) -> Self
-        requires { IsTrue (is_printable method (pos magnitude)) }
-        ensures says { ⟦<Spelled as Text>⟧.says result ≡ written characters.variant characters.case negative (spelling method magnitude) }
-        ensures most { ⟦<Spelled as Text>⟧.most result ≡ most_bytes method }
+        requires { IsTrue (is_printable M.stands_for (pos magnitude)) }
+        ensures says { ⟦<Spelled<'a, M> as Text>⟧.says result ≡ written characters.variant characters.case negative (spelling M.stands_for magnitude) }
+        ensures most { ⟦<Spelled<'a, M> as Text>⟧.most result ≡ most_bytes M.stands_for }
     {
         Spelled {
             characters,
-            method,
             negative,
-            groups: Groups::of(method, magnitude),
+            groups: Groups::of(taken, M::method(), magnitude),
+            method: PhantomData,
         }
     }
 }
 
-impl Text for Spelled {
-    ghost says = { λ spelled. written spelled.characters.variant spelled.characters.case spelled.negative (spelling spelled.method spelled.groups.number) };
+impl<M: KnownMethod> Text for Spelled<'_, M> {
+    ghost says = { λ spelled. written spelled.characters.variant spelled.characters.case spelled.negative (spelling M.stands_for spelled.groups.number) };
 
-    ghost most = { λ spelled. most_bytes spelled.method };
+    ghost most = { λ spelled. most_bytes M.stands_for };
 
     #[inline(always)]
     fn count(&self) -> usize {
+        let groups = self.groups;
         let mut counted = Count { characters: 0 };
-        put_spelling(&mut counted, self.characters, self.method, &self.groups);
+        put_spelling(&mut counted, self.characters, M::method(), &groups);
         counted.characters + self.negative as usize
     }
 
     #[inline(always)]
     fn fill(&self, bytes: &mut [u8]) {
+        let groups = self.groups;
+        let characters = self.characters;
         let mut room = Room::new(bytes);
-        put_spelling(&mut room, self.characters, self.method, &self.groups);
-        put_sign(&mut room, self.characters, self.negative);
+        put_spelling(&mut room, characters, M::method(), &groups);
+        put_sign(&mut room, characters, self.negative);
     }
 }

@@ -1,6 +1,5 @@
 use Rattle.std.proofs.Common.{true}
 use Rattle.cn_core.specs.Characters.{minus_char}
-use Rattle.cn_spell.specs.Working.Sign.{sign_characters}
 use Rattle.cn_spell.proofs.Rooms.{Shows-if}
 use Rattle.cn_spell.proofs.sign.put_sign.Goals as goal
 

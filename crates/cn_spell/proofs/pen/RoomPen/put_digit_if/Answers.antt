@@ -9,4 +9,4 @@ returns-clause-marks c =
     let case = c.args.characters.case in
     let put = c.put_if.ensures in
     λ marks h. rw (kept-char variant case c.args.is_kept (digit c.args.value) marks)
-      (Shows-if c.args.is_kept (digit_char variant case c.args.value) c.requires.room put.free put.text put.length c.digit.ensures.bytes c.digit.ensures.utf8 h)
+    (Shows-if c.args.is_kept (digit_char variant case c.args.value) c.requires.room put.free put.text put.length c.digit.ensures.bytes c.digit.ensures.utf8 h)

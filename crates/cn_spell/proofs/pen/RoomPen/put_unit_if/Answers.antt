@@ -9,4 +9,4 @@ returns-clause-marks c =
     let case = c.args.characters.case in
     let put = c.put_if.ensures in
     λ marks h. rw (kept-char variant case c.args.is_kept (unit (rank c.args.value)) marks)
-      (Shows-if c.args.is_kept (unit_char variant case (rank c.args.value)) c.requires.room put.free put.text put.length c.unit.ensures.bytes c.unit.ensures.utf8 h)
+    (Shows-if c.args.is_kept (unit_char variant case (rank c.args.value)) c.requires.room put.free put.text put.length c.unit.ensures.bytes c.unit.ensures.utf8 h)

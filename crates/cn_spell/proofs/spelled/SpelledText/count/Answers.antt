@@ -1,4 +1,4 @@
-use Rattle.std.proofs.Common.{rules, if◌then◌else◌, ◌≡◌, ◌+◌, ◌*◌, ◌≤◌, length, pos, refl, ◌∙◌, arith}
+use Rattle.std.proofs.Common.{rules, if◌then◌else◌, ◌+◌, ◌*◌, ◌≤◌, length, map, pos, refl, ap, arith}
 use Rattle.std.proofs.lemmas.List.{length-map}
 use Rattle.cn_core.specs.Characters.{minus_char}
 use Rattle.cn_core.specs.Spelling.{spelling}
@@ -11,39 +11,52 @@ use Rattle.cn_spell.proofs.Tables.{three-minus}
 use Rattle.cn_spell.proofs.spelled.SpelledText.count.Goals as goal
 
 pub put_spelling-requires-clause-room : goal.put_spelling-requires-clause-room
-put_spelling-requires-clause-room c =
+put_spelling-requires-clause-room g c =
     let self = c.args.self.now in
-    omega (arith, marks-fit self.method (pos self.groups.number) self.printable self.small, most_bytes-le self.method)
+    let method = g.M.KnownMethod.stands_for in
+    let same = ap (λ m. length (spelling m self.groups.number)) c.method.ensures in
+    omega (arith, same, marks-fit method (pos self.groups.number) self.printable self.small, most_bytes-le method)
 
 pub overflow_add-result : goal.overflow_add-result
-overflow_add-result c =
+overflow_add-result g c =
     let self = c.args.self.now in
-    let marks = spelling self.method self.groups.number in
+    let method = g.M.KnownMethod.stands_for in
+    let shown : Counts c.put_spelling.new.pen.characters (map (mark_char self.characters.variant self.characters.case) (spelling method self.groups.number)) = rw c.method.ensures at c.put_spelling.ensures.marks in
     let few : c.put_spelling.new.pen.characters ≤ 77 =
-    omega (arith, marks-fit self.method (pos self.groups.number) self.printable self.small, most_bytes-le self.method, c.put_spelling.ensures.marks.size, length-map marks (mark_char self.characters.variant self.characters.case)) in
+    omega (arith, marks-fit method (pos self.groups.number) self.printable self.small, most_bytes-le method, shown.size, length-map (spelling method self.groups.number) (mark_char self.characters.variant self.characters.case)) in
     search rules
 
+pub returns-clause-count : goal.returns-clause-count
+returns-clause-count g c =
+    let self = c.args.self.now in
+    let variant = self.characters.variant in
+    let shown : Counts c.put_spelling.new.pen.characters (map (mark_char variant self.characters.case) (spelling g.M.KnownMethod.stands_for self.groups.number)) = rw c.method.ensures at c.put_spelling.ensures.marks in
+    (Counts-if self.negative (minus_char variant) (λ e. rw e refl) (λ e. rw e (omega arith)) (three-minus variant) shown).size
+
 pub returns-clause-bytes : goal.returns-clause-bytes
-returns-clause-bytes c =
+returns-clause-bytes g c =
     let self = c.args.self.now in
     let variant = self.characters.variant in
     let count = c.put_spelling.new.pen.characters in
-    let more : Counts (if self.negative then count + 1 else count) (written variant self.characters.case self.negative (spelling self.method self.groups.number)) =
-    Counts-if self.negative (minus_char variant) (λ e. rw e refl) (λ e. rw e refl) (three-minus variant) c.put_spelling.ensures.marks in
+    let shown : Counts count (map (mark_char variant self.characters.case) (spelling g.M.KnownMethod.stands_for self.groups.number)) = rw c.method.ensures at c.put_spelling.ensures.marks in
+    let more : Counts (if self.negative then count + 1 else count) (written variant self.characters.case self.negative (spelling g.M.KnownMethod.stands_for self.groups.number)) =
+    Counts-if self.negative (minus_char variant) (λ e. rw e refl) (λ e. rw e refl) (three-minus variant) shown in
     more.bytes
 
 pub returns-clause-most : goal.returns-clause-most
-returns-clause-most c =
+returns-clause-most g c =
     let self = c.args.self.now in
-    let marks = spelling self.method self.groups.number in
-    let few : 3 * (c.put_spelling.new.pen.characters + 1) ≤ most_bytes self.method =
-    omega (arith, marks-fit self.method (pos self.groups.number) self.printable self.small, c.put_spelling.ensures.marks.size, length-map marks (mark_char self.characters.variant self.characters.case)) in
+    let method = g.M.KnownMethod.stands_for in
+    let shown : Counts c.put_spelling.new.pen.characters (map (mark_char self.characters.variant self.characters.case) (spelling method self.groups.number)) = rw c.method.ensures at c.put_spelling.ensures.marks in
+    let few : 3 * (c.put_spelling.new.pen.characters + 1) ≤ most_bytes method =
+    omega (arith, marks-fit method (pos self.groups.number) self.printable self.small, shown.size, length-map (spelling method self.groups.number) (mark_char self.characters.variant self.characters.case)) in
     search (rules, few)
 
 pub returns-clause-bound : goal.returns-clause-bound
-returns-clause-bound c =
+returns-clause-bound g c =
     let self = c.args.self.now in
-    let marks = spelling self.method self.groups.number in
+    let method = g.M.KnownMethod.stands_for in
+    let shown : Counts c.put_spelling.new.pen.characters (map (mark_char self.characters.variant self.characters.case) (spelling method self.groups.number)) = rw c.method.ensures at c.put_spelling.ensures.marks in
     let few : c.put_spelling.new.pen.characters ≤ 77 =
-    omega (arith, marks-fit self.method (pos self.groups.number) self.printable self.small, most_bytes-le self.method, c.put_spelling.ensures.marks.size, length-map marks (mark_char self.characters.variant self.characters.case)) in
+    omega (arith, marks-fit method (pos self.groups.number) self.printable self.small, most_bytes-le method, shown.size, length-map (spelling method self.groups.number) (mark_char self.characters.variant self.characters.case)) in
     search (rules, few)

@@ -3,7 +3,7 @@ use Rattle.cn_spell.specs.Prints.{most_bytes}
 use Rattle.cn_spell.specs.Puts.{PutsInFront}
 use Rattle.cn_spell.proofs.Bounds.{printable}
 use Rattle.cn_spell.proofs.Signs.{spelled-is}
-use Rattle.cn_spell.proofs.print.put_by_units.Goals as goal
+use Rattle.cn_spell.proofs.put.put_by_units.Goals as goal
 
 pub put_magnitude-requires : goal.put_magnitude-requires
 put_magnitude-requires g c = printable c.args.method (g.T.Whole.number c.args.value) c.magnitude.result c.magnitude.ensures.value c.requires

@@ -1,0 +1,155 @@
+-- What is printed is read back as the same number.
+use Rattle.std.proofs.Common.{◌≡◌, ℕ, ◌-◌, ◌^◌, ◌<◌, ◌≤◌, ℤ, pos, negsuc, int_le, int_lt, nat_abs, nat_le, Bool, true, false, ◌&&◌, MatchBool, MatchOption, List, [], ◌∷◌, ◌++◌, length, take, drop, encode_utf8_all, Option, Some, None, Result, Ok, if◌then◌else◌, refl, ◌∙◌, arith}
+use Rattle.std.proofs.Math.Seq.{take-append_seam}
+use Rattle.std.proofs.lemmas.Int.{ints}
+use Rattle.std.proofs.lemmas.Str.{IsUtf8-nil, IsUtf8-append, IsUtf8-encode, is_utf8-from_IsUtf8}
+use Rattle.std.specs.List.{list_all}
+use Rattle.std.specs.Str.{IsUtf8, all_scalars}
+use Rattle.cn_core.specs.declared.case.ChineseCase.{ChineseCase}
+use Rattle.cn_core.specs.declared.script.ChineseVariant.{ChineseVariant}
+use Rattle.cn_core.specs.Refusal.{Refusal}
+use Rattle.cn_core.specs.Spelling.{spelling}
+use Rattle.cn_core.specs.Whole.{Kind, Holds, unsigned_kind, signed_kind}
+use Rattle.cn_core.specs.Written.{written, naive_text, spelled_text, is_printable}
+use Rattle.cn_core.specs.Mark.{Mark}
+use Rattle.cn_core.proofs.Fronts.{and-left, and-right}
+use Rattle.cn_spell.proofs.NaiveTexts.{three-naive}
+use Rattle.cn_spell.proofs.Tables.{three-minus}
+use Rattle.cn_spell.proofs.ThreeBytes.{takes_three, IsUtf8-three}
+use Rattle.chinese_number.proofs.PlainDigits.{naive_reading-written}
+use Rattle.chinese_number.proofs.Printed.{is_printed, IsReadBack-marks}
+use Rattle.chinese_number.proofs.Reading.{IsWhole, Reads-same, Reads-spelled}
+use Rattle.chinese_number.proofs.SpelledMarks.{below_square, spelling-printed}
+use Rattle.cn_c.specs.declared.codes.Kind.{Kind as KindCode}
+use Rattle.cn_c.specs.declared.codes.Kind.TheVariants.{U8, U16, U32, U64, U128, I8, I16, I32, I64, I128}
+use Rattle.cn_c.specs.declared.codes.Way.{Way}
+use Rattle.cn_c.specs.declared.codes.Way.TheVariants.{Digits, Units}
+use Rattle.cn_c.specs.declared.number.Number.{Number}
+use Rattle.cn_c.specs.declared.reading.Reading.{Reading}
+use Rattle.cn_c.specs.declared.status.TheConstants.{DONE, TOO_SMALL, TOO_LARGE}
+use Rattle.cn_c.specs.Halves.{number_of}
+use Rattle.cn_c.specs.Kinds.{the_kind}
+use Rattle.cn_c.specs.Prints.{Refuses, Puts, PrintsBy, PrintsNumber, IsPrintedAs}
+use Rattle.cn_c.specs.Reads.{ReadsBy, Tells, ReadsInto, IsReadAs}
+
+-- what is put where all goes well
+put-text : (text old new : List ℕ) (len : ℕ) → Puts text old DONE new len → take len new ≡ text
+put-text text old new len = by (nat_le (length text) (length old)) where
+  by : (b : Bool) → MatchBool b ((DONE ≡ 0) × (new ≡ text ++ drop (length text) old) × (len ≡ length text)) ((DONE ≡ 6) × (new ≡ old) × (len ≡ length text)) → take len new ≡ text
+  by true p = rw (p.1, p.2) (take-append_seam text (drop (length text) old))
+  by false p = absurd (omega (arith, p.0))
+
+-- written characters are UTF-8
+utf8-scalars : (text : List ℕ) → all_scalars text ≡ true → IsUtf8 (encode_utf8_all text)
+utf8-scalars [] h = IsUtf8-nil
+utf8-scalars (c ∷ text) h = IsUtf8-append _ _ (IsUtf8-encode c (and-left _ (all_scalars text) h)) (utf8-scalars text (and-right _ (all_scalars text) h))
+
+utf8-three : (text : List ℕ) → list_all takes_three text ≡ true → IsUtf8 (encode_utf8_all text)
+utf8-three [] h = IsUtf8-nil
+utf8-three (c ∷ text) h = IsUtf8-append _ _ (IsUtf8-three c (and-left (takes_three c) _ h)) (utf8-three text (and-right (takes_three c) _ h))
+
+utf8-written : (variant : ChineseVariant) (case : ChineseCase) (negative : Bool) (marks : List Mark) → list_all is_printed marks ≡ true → IsUtf8 (encode_utf8_all (written variant case negative marks))
+utf8-written variant case true marks h = IsUtf8-append _ _ (IsUtf8-three _ (three-minus variant)) (utf8-scalars _ (IsReadBack-marks variant case marks h).scalars)
+utf8-written variant case false marks h = utf8-scalars _ (IsReadBack-marks variant case marks h).scalars
+
+-- a number that is printed in a way is read in it
+read-by : (kind : Kind) (way : Way) (script : ChineseVariant) (case : ChineseCase) (number : ℤ) (old new : List ℕ) (len : ℕ) → IsWhole kind → Holds kind number
+    → PrintsBy way script case number old DONE new len
+    → IsUtf8 (take len new) × ((answer : Result ℤ Refusal) → ReadsBy kind way (take len new) answer → answer ≡ Ok number)
+read-by kind Digits script case number old new len whole held h =
+    let small = whole.fits number held in
+    let text = put-text (encode_utf8_all (naive_text script case number)) old new len h in
+    rw text (
+      utf8-three (naive_text script case number) (three-naive script case (int_lt number (pos 0)) (nat_abs number) (omega (arith, small))),
+      λ answer r. r ∙ naive_reading-written kind script case number whole held,
+    )
+read-by kind (Units method) script case number old new len whole held h = by (is_printable method number) refl h where
+  small : nat_abs number < 2 ^ 128
+  small = whole.fits number held
+
+  by : (b : Bool) → is_printable method number ≡ b
+      → MatchBool b (Puts (encode_utf8_all (spelled_text script case method number)) old DONE new len) (Refuses (if int_lt number (pos 0) then TOO_SMALL else TOO_LARGE) old DONE new len)
+      → IsUtf8 (take len new) × ((answer : Result ℤ Refusal) → ReadsBy kind (Units method) (take len new) answer → answer ≡ Ok number)
+  by true e h =
+      let text = put-text (encode_utf8_all (spelled_text script case method number)) old new len h in
+      let marks = spelling-printed method (nat_abs number) (below_square method number small e) in
+      rw text (
+        utf8-written script case (int_lt number (pos 0)) (spelling method (nat_abs number)) marks,
+        λ answer r. Reads-same kind method (encode_utf8_all (spelled_text script case method number)) answer (Ok number) r (Reads-spelled kind method script case number whole held e),
+      )
+  by false e h = absurd (other (int_lt number (pos 0)) h.0) where
+    other : (b : Bool) → DONE ≡ (if b then TOO_SMALL else TOO_LARGE) → ⊥
+    other true e = omega (arith, e)
+    other false e = omega (arith, e)
+
+-- each type is one of whole numbers below 2^128
+unsigned-whole : (bits : ℕ) → 2 ^ bits ≤ 2 ^ 128 → IsWhole (unsigned_kind bits)
+unsigned-whole bits few = record { from_zero = λ e. refl; fits = fits } where
+  fits : (z : ℤ) → Holds (unsigned_kind bits) z → nat_abs z < 2 ^ 128
+  fits (pos n) held = omega (arith, ints, held.1, few)
+  fits (negsuc n) held = absurd (omega (arith, ints, held.0))
+
+signed-whole : (bits : ℕ) → 2 ^ (bits - 1) ≤ 2 ^ 127 → IsWhole (signed_kind bits)
+signed-whole bits few = record { from_zero = λ e. cc; fits = fits } where
+  fits : (z : ℤ) → Holds (signed_kind bits) z → nat_abs z < 2 ^ 128
+  fits (pos n) held = omega (arith, ints, held.1, few)
+  fits (negsuc n) held = omega (arith, ints, held.0, few)
+
+whole : (kind : KindCode) → IsWhole (the_kind kind)
+whole U8 = unsigned-whole 8 (omega arith)
+whole U16 = unsigned-whole 16 (omega arith)
+whole U32 = unsigned-whole 32 (omega arith)
+whole U64 = unsigned-whole 64 (omega arith)
+whole U128 = unsigned-whole 128 (omega arith)
+whole I8 = signed-whole 8 (omega arith)
+whole I16 = signed-whole 16 (omega arith)
+whole I32 = signed-whole 32 (omega arith)
+whole I64 = signed-whole 64 (omega arith)
+whole I128 = signed-whole 128 (omega arith)
+
+held-from_tests : (kind : Kind) (number : ℤ) → (int_le kind.least number && int_le number kind.greatest) ≡ true → Holds kind number
+held-from_tests kind number e =
+    let low = and-left (int_le kind.least number) _ e in
+    let high = and-right (int_le kind.least number) _ e in
+    (omega (arith, ints, low), omega (arith, ints, high))
+
+-- and so it is told
+read-as : (kind : KindCode) (way : Way) (script : ChineseVariant) (case : ChineseCase) (number : Number) (old new : List ℕ) (len : ℕ)
+    → PrintsNumber (the_kind kind) way script case (number_of (the_kind kind).signed number) old DONE new len
+    → IsUtf8 (take len new)
+    × ((status : ℕ) (reading : Reading) → IsReadAs (Some kind) (Some way) (take len new) status reading
+    → (status ≡ DONE) × (number_of (the_kind kind).signed reading.number ≡ number_of (the_kind kind).signed number) × (reading.char_index ≡ 0))
+read-as code way script case number old new len = by (int_le kind.least value && int_le value kind.greatest) refl where
+  kind : Kind
+  kind = the_kind code
+
+  value : ℤ
+  value = number_of kind.signed number
+
+  told : (status : ℕ) (reading : Reading) (answer : Result ℤ Refusal) → answer ≡ Ok value → Tells kind.signed answer status reading
+      → (status ≡ DONE) × (number_of kind.signed reading.number ≡ value) × (reading.char_index ≡ 0)
+  told status reading answer e tells = rw e at tells
+
+  by : (b : Bool) → (int_le kind.least value && int_le value kind.greatest) ≡ b → MatchBool b (PrintsBy way script case value old DONE new len) (Refuses 7 old DONE new len)
+      → IsUtf8 (take len new)
+      × ((status : ℕ) (reading : Reading) → IsReadAs (Some code) (Some way) (take len new) status reading
+      → (status ≡ DONE) × (number_of kind.signed reading.number ≡ value) × (reading.char_index ≡ 0))
+  by true e h =
+      let back = read-by kind way script case value old new len (whole code) (held-from_tests kind value e) h in (
+        back.0,
+        λ status reading is.
+            let read : ReadsInto kind way (take len new) status reading = rw (is_utf8-from_IsUtf8 (take len new) back.0) at is in
+            told status reading read.0 (back.1 read.0 read.1) read.2,
+      )
+  by false e h = absurd (omega (arith, h.0))
+
+pub read-back : (number : Number) (kind : Option KindCode) (way : Option Way) (script : Option ChineseVariant) (case : Option ChineseCase) (old new : List ℕ) (len : ℕ)
+    → IsPrintedAs number kind way script case old DONE new len
+    → IsUtf8 (take len new)
+    × ((status : ℕ) (reading : Reading) → IsReadAs kind way (take len new) status reading
+    → (status ≡ DONE) × MatchOption kind ⊥ (λ kind. number_of (the_kind kind).signed reading.number ≡ number_of (the_kind kind).signed number) × (reading.char_index ≡ 0))
+read-back number (Some kind) (Some way) (Some script) (Some case) old new len h = read-as kind way script case number old new len h
+read-back number None way script case old new len h = absurd (omega (arith, h.0))
+read-back number (Some kind) None script case old new len h = absurd (omega (arith, h.0))
+read-back number (Some kind) (Some way) None case old new len h = absurd (omega (arith, h.0))
+read-back number (Some kind) (Some way) (Some script) None old new len h = absurd (omega (arith, h.0))
