@@ -2,7 +2,7 @@
 use Rattle.std.proofs.Common.{◌≡◌, ◌≢◌, ◌++◌, ◌<◌, ℕ, Bool, true, false, eqb, List, [], ◌∷◌, length, refl, sym, ap, ◌∙◌, append_assoc, arith, rules, eq-eqb}
 use Rattle.std.proofs.lemmas.Bool.{false≢true}
 use Rattle.std.proofs.lemmas.Bool.Decides.{nat_tests}
-use Rattle.numeral.specs.Lines.{HasNoFeed, onto_first, onto_rest, ended, unended, lines, last_line}
+use Rattle.cn_lines.specs.Lines.{HasNoFeed, onto_first, onto_rest, ended, unended, lines, last_line}
 
 no_feed_test : (b : ℕ) → b ≢ 10 → eqb b 10 ≡ false
 no_feed_test b h = search (rules, nat_tests)

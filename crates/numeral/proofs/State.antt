@@ -4,8 +4,8 @@ use Rattle.std.specs.Io.KnownBytes.{Keeps, Consumes, IsAtEnd}
 use Rattle.std.proofs.KnownBytes.{Appends-kept, Appends-nil, Keeps-refl, Consumes-whole}
 use Rattle.std.proofs.Math.Seq.{take-append-add}
 use Rattle.std.specs.Prelude.{OnErr, OnOk, IfSome}
-use Rattle.numeral.specs.Lines.{HasNoFeed, ended, unended, lines, last_line}
-use Rattle.numeral.specs.Answer.{Answers, AreReplies}
+use Rattle.cn_lines.specs.Lines.{HasNoFeed, ended, unended, lines, last_line}
+use Rattle.cn_lines.specs.Answer.{Answers, AreReplies}
 use Rattle.cn_devices.specs.declared.fault.RunError.{RunError}
 use Rattle.cn_devices.specs.declared.fault.RunError.TheVariants.{Read, Write, Memory}
 use Rattle.numeral.specs.Leaves.{Wrote, WroteBeginning, WroteFirst, Leaves, Runs}

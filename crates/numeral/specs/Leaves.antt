@@ -3,8 +3,8 @@ use Rattle.std.specs.Prelude.{◌≡◌, ◌<◌, ◌++◌, ℕ, Bool, true, fal
 use Rattle.std.specs.Io.KnownBytes.{Appends, Consumes, IsAtEnd}
 use Rattle.cn_devices.specs.declared.fault.RunError.{RunError}
 use Rattle.cn_devices.specs.declared.fault.RunError.TheVariants.{Read, Write, Memory}
-use Rattle.numeral.specs.Lines.{ended, lines}
-use Rattle.numeral.specs.Answer.{AreReplies}
+use Rattle.cn_lines.specs.Lines.{ended, lines}
+use Rattle.cn_lines.specs.Answer.{AreReplies}
 use Rattle.cn_devices.specs.Reads.{next_count}
 
 -- the answers to these lines were written, each with its line feed, and nothing else

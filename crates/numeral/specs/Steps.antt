@@ -1,14 +1,10 @@
 -- What the steps of a run do. No contract of a public call cites them.
-use Rattle.std.specs.Prelude.{◌≡◌, ◌++◌, ◌^◌, ◌≤◌, ℕ, ℤ, nat_abs, Bool, true, false, List, Option, Result, Ok, Err}
+use Rattle.std.specs.Prelude.{◌≡◌, ◌++◌, ℕ, Bool, true, false, List, Option, Result, Ok, Err}
 use Rattle.std.specs.Io.KnownBytes.{Appends, Keeps}
 use Rattle.cn_devices.specs.declared.fault.RunError.{RunError}
 use Rattle.cn_devices.specs.declared.fault.RunError.TheVariants.{Read, Write, Memory}
-use Rattle.numeral.specs.Lines.{ended, unended}
+use Rattle.cn_lines.specs.Lines.{ended, unended}
 use Rattle.numeral.specs.Leaves.{Wrote, WroteBeginning, WroteFirst}
-
--- the number is greater than each that a type of 128 bits holds, or less
-abbrev pub IsBeyondAll : ℤ → Type 0
-IsBeyondAll number = 2 ^ 128 ≤ nat_abs number
 
 -- the bytes are written: all of them, or a beginning where a write failed
 abbrev pub Puts : {T : Type 0} → Option (List ℕ) → Option (List ℕ) → Bool → List ℕ → Result T RunError → Type 0

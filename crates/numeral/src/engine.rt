@@ -1,16 +1,16 @@
 // Reads the input block by block, and answers its lines.
 ghost use Rattle.std.specs.Prelude.{◌≡◌, ◌<◌, ◌≤◌, ◌||◌, ◌++◌, [], ◌∷◌, true, false, length, take, drop, slice_index, OnOk, OnErr, IfOk, IfSome, MatchOption, string_bytes};
 ghost use Rattle.std.specs.Io.KnownBytes.{Keeps, ReadConsumes};
-ghost use Rattle.numeral.specs.Lines.{HasNoFeed, last_line, lines};
-ghost use Rattle.numeral.specs.Answer.{Answers};
+ghost use Rattle.cn_lines.specs.Lines.{HasNoFeed, last_line, lines};
+ghost use Rattle.cn_lines.specs.Answer.{Answers};
 ghost use Rattle.numeral.specs.Leaves.{Wrote, Runs, Stops};
 ghost use Rattle.cn_devices.specs.Reads.{Counts};
 ghost use Rattle.numeral.specs.Steps.{Fails, Puts, Replies, Feeds};
 
-use crate::answer::answer;
 use crate::device::{Sink, Source};
 use crate::fault::RunError;
-use crate::lines::split_line;
+use cn_lines::answer::answer;
+use cn_lines::lines::split_line;
 use std::alloc::{AllocError, Global};
 
 // How many bytes are read at a time.

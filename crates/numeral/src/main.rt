@@ -17,18 +17,12 @@
 //! memory ran out.
 #![tactic(auto)]
 
-mod answer;
 pub mod engine;
 pub mod laws;
-mod lines;
-mod numerals;
 mod program;
 pub mod program_status;
-mod question;
-mod search;
 #[cfg(test)]
 mod tests;
-mod text;
 
 use crate::fault::RunError;
 use crate::program::answer_all;

@@ -2,7 +2,7 @@
 ghost use Rattle.std.specs.Prelude.{◌≡◌, ◌≤◌, ◌||◌, ℕ, List, true, false, IfSome};
 ghost use Rattle.std.specs.Io.KnownBytes.{Consumes};
 ghost use Rattle.numeral.specs.Leaves.{Wrote, WroteBeginning, WroteFirst, EndedOnce, EndedAtMostOnce};
-ghost use Rattle.numeral.specs.Lines.{lines};
+ghost use Rattle.cn_lines.specs.Lines.{lines};
 
 use crate::device::{Sink, Source};
 use crate::engine::run;

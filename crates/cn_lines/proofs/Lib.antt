@@ -1,0 +1,4 @@
+pub mod Characters
+pub mod Fields
+pub mod OneAnswer
+pub mod Strides

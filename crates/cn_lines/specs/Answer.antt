@@ -1,0 +1,77 @@
+-- What is answered to lines.
+use Rattle.std.specs.Prelude.{◌≡◌, ◌++◌, ◌&&◌, ℕ, ℤ, pos, int_le, int_lt, Bool, List, [], ◌∷◌, codes, decimal, encode_utf8_all, Option, Some, None, Result, Ok, Err, if◌then◌else◌}
+use Rattle.std.specs.Bool.{MatchBool}
+use Rattle.std.specs.Fmt.{signed_decimal}
+use Rattle.chinese_number.specs.declared.ChineseVariant.{ChineseVariant}
+use Rattle.chinese_number.specs.declared.ChineseCase.{ChineseCase}
+use Rattle.chinese_number.specs.Refusal.{Refusal, empty, incorrect_at, too_large, too_small}
+use Rattle.chinese_number.specs.Typed.{Reads, naive_reading}
+use Rattle.chinese_number.specs.Whole.{Kind}
+use Rattle.chinese_number.specs.Written.{naive_text, spelled_text, is_printable}
+use Rattle.cn_lines.specs.declared.question.Method.{Method}
+use Rattle.cn_lines.specs.declared.question.Method.TheVariants.{Naive, Units}
+use Rattle.cn_lines.specs.Question.{Question, read, print, kind_of, question_of}
+
+-- the text of a refusal
+abbrev pub refusal_text : Refusal → List ℕ
+refusal_text empty = codes "a chinese number cannot be empty"
+refusal_text (incorrect_at place) = codes "the chinese number is incorrect (position: " ++ (decimal place ++ codes ")")
+refusal_text too_large = codes "number is too large"
+refusal_text too_small = codes "number is too small"
+
+-- what is answered to a text that was read
+abbrev pub reading_text : Result ℤ Refusal → List ℕ
+reading_text (Ok number) = codes "ok " ++ signed_decimal number
+reading_text (Err refusal) = codes "err " ++ refusal_text refusal
+
+-- the answer to a line that asks nothing
+abbrev pub bad_line : List ℕ
+bad_line = codes "bad line"
+
+-- whether a type of this kind holds the number
+abbrev pub holds : Kind → ℤ → Bool
+holds kind number = int_le kind.least number && int_le number kind.greatest
+
+-- the answer to a text that is to be read
+abbrev pub AnswersRead : Kind → Method → List ℕ → List ℕ → Type 0
+AnswersRead kind Naive text answer = answer ≡ reading_text (naive_reading kind text)
+AnswersRead kind (Units method) text answer =
+    (reading : Result ℤ Refusal) × Reads kind method text reading × (answer ≡ reading_text reading)
+
+-- why a method does not write a number
+abbrev pub unprintable : ℤ → Refusal
+unprintable number = if int_lt number (pos 0) then too_small else too_large
+
+-- the answer to a number that is to be printed and that its type holds
+abbrev pub AnswersPrint : Method → ChineseVariant → ChineseCase → ℤ → List ℕ → Type 0
+AnswersPrint Naive variant case number answer =
+    answer ≡ codes "ok " ++ encode_utf8_all (naive_text variant case number)
+AnswersPrint (Units method) variant case number answer =
+    MatchBool (is_printable method number) (answer ≡ codes "ok " ++ encode_utf8_all (spelled_text variant case method number))
+    (answer ≡ codes "err " ++ refusal_text (unprintable number))
+
+-- the answer to a number that is to be printed
+abbrev pub AnswersPrinting : Kind → Method → ChineseVariant → ChineseCase → ℤ → List ℕ → Type 0
+AnswersPrinting kind method variant case number answer =
+    MatchBool (holds kind number) (AnswersPrint method variant case number answer) (answer ≡ bad_line)
+
+-- the answer to a question
+abbrev pub AnswersQuestion : Question → List ℕ → Type 0
+AnswersQuestion (read integer method text) answer = AnswersRead (kind_of integer) method text answer
+AnswersQuestion (print integer method variant case number) answer =
+    AnswersPrinting (kind_of integer) method variant case number answer
+
+-- the answer to what is asked, if anything is
+abbrev pub AnswersAny : Option Question → List ℕ → Type 0
+AnswersAny None answer = answer ≡ bad_line
+AnswersAny (Some question) answer = AnswersQuestion question answer
+
+-- the answer to a line
+unfoldable pub Answers : List ℕ → List ℕ → Type 0
+Answers line answer = AnswersAny (question_of line) answer
+
+-- these bytes are the answers to these lines, each followed by a line feed
+abbrev pub AreReplies : List (List ℕ) → List ℕ → Type 0
+AreReplies [] bytes = bytes ≡ []
+AreReplies (line ∷ lines) bytes =
+    (answer : List ℕ) × (rest : List ℕ) × Answers line answer × AreReplies lines rest × (bytes ≡ answer ++ 10 ∷ rest)

@@ -1,0 +1,4 @@
+pub mod Answer
+pub mod Lines
+pub mod Private
+pub mod Question

@@ -1,0 +1,252 @@
+// What a line asks.
+ghost use Rattle.std.specs.Prelude.{◌≡◌, ◌==◌, ◌+◌, ◌*◌, ◌^◌, ◌<◌, ◌≤◌, position, length, IsTrue, SomeIff, IfNone, IfSome, MatchOption};
+ghost use Rattle.std.specs.List.{list_all};
+ghost use Rattle.std.specs.Char.{is_ascii_digit};
+ghost use Rattle.chinese_number.specs.Whole.{signed_number};
+ghost use Rattle.cn_lines.specs.Question.{cut, type_named, method_named, script_named, case_named, value_of, value_after, magnitude_of, number_of, read, print, read_question, print_question};
+ghost use Rattle.cn_lines.specs.Answer.{bad_line, AnswersAny};
+ghost use Rattle.cn_lines.specs.Private.{IsBeyondAll};
+
+use crate::numerals::{ChineseCase, ChineseCountMethod, ChineseVariant};
+use crate::search::first_place;
+use crate::text::text_of;
+
+/// The twelve integer types.
+#[derive(Clone, Copy)]
+pub(crate) enum IntegerType {
+    U8,
+    U16,
+    U32,
+    U64,
+    U128,
+    Usize,
+    I8,
+    I16,
+    I32,
+    I64,
+    I128,
+    Isize,
+}
+
+/// How a number is read or printed: by its plain digits, or with units by a counting method.
+#[derive(Clone, Copy)]
+pub(crate) enum Method {
+    Naive,
+    Units(ChineseCountMethod),
+}
+
+/// The first field, which a space ends, and all that follows the space.
+pub(crate) fn cut(bytes: &[u8]) -> Option<(&[u8], &[u8])>
+    ensures { MatchOption result (cut bytes.now ≡ None) (λ r. cut bytes.now ≡ Some (r.0.now, r.1.now)) }
+{
+    let Some(end) = first_place(b' ', bytes) else {
+        return None;
+    };
+    Some((&bytes[..end], &bytes[end + 1..]))
+}
+
+#[inline(always)]
+fn type_named(name: &[u8]) -> Option<IntegerType>
+    ensures { result ≡ type_named name.now }
+{
+    match name {
+        b"u8" => Some(IntegerType::U8),
+        b"u16" => Some(IntegerType::U16),
+        b"u32" => Some(IntegerType::U32),
+        b"u64" => Some(IntegerType::U64),
+        b"u128" => Some(IntegerType::U128),
+        b"usize" => Some(IntegerType::Usize),
+        b"i8" => Some(IntegerType::I8),
+        b"i16" => Some(IntegerType::I16),
+        b"i32" => Some(IntegerType::I32),
+        b"i64" => Some(IntegerType::I64),
+        b"i128" => Some(IntegerType::I128),
+        b"isize" => Some(IntegerType::Isize),
+        _ => None,
+    }
+}
+
+#[inline(always)]
+fn method_named(name: &[u8]) -> Option<Method>
+    ensures { result ≡ method_named name.now }
+{
+    if name == b"naive".as_slice() {
+        Some(Method::Naive)
+    } else if name == b"low".as_slice() {
+        Some(Method::Units(ChineseCountMethod::Low))
+    } else if name == b"ten_thousand".as_slice() {
+        Some(Method::Units(ChineseCountMethod::TenThousand))
+    } else if name == b"middle".as_slice() {
+        Some(Method::Units(ChineseCountMethod::Middle))
+    } else if name == b"high".as_slice() {
+        Some(Method::Units(ChineseCountMethod::High))
+    } else {
+        None
+    }
+}
+
+fn script_named(name: &[u8]) -> Option<ChineseVariant>
+    ensures { result ≡ script_named name.now }
+{
+    if name == b"traditional".as_slice() {
+        Some(ChineseVariant::Traditional)
+    } else if name == b"simple".as_slice() {
+        Some(ChineseVariant::Simple)
+    } else {
+        None
+    }
+}
+
+fn case_named(name: &[u8]) -> Option<ChineseCase>
+    ensures { result ≡ case_named name.now }
+{
+    match name {
+        b"upper" => Some(ChineseCase::Upper),
+        b"lower" => Some(ChineseCase::Lower),
+        _ => None,
+    }
+}
+
+// So many decimal digits fit 64 bits.
+const SHORT: usize = 19;
+
+// The number of so few decimal digits that it fits 64 bits.
+fn short_value(digits: &[u8]) -> Option<u64>
+    requires { length digits.now ≤ SHORT }
+    ensures { SomeIff result (IsTrue (list_all is_ascii_digit digits.now)) (value_of digits.now) }
+{
+    let mut value = 0u64;
+    for digit in digits {
+        if !digit.is_ascii_digit() {
+            return None;
+        }
+        value = value * 10 + (digit - b'0') as u64;
+    }
+    Some(value)
+}
+
+// The number with one more digit, if it fits.
+fn push_digit(number: u128, digit: u8) -> Option<u128>
+    ensures { SomeIff result (number * 10 + digit < 2 ^ 128) (number * 10 + digit) }
+{
+    number.checked_mul(10)?.checked_add(digit as u128)
+}
+
+// The number that more decimal digits write after those of another. There is none, too, where it passes 128 bits.
+fn longer_value(start: u128, digits: &[u8]) -> Option<u128>
+    ensures none { IfNone result (IsTrue (list_all is_ascii_digit digits.now) → 2 ^ 128 ≤ value_after start digits.now) }
+    ensures some { IfSome result (λ n. IsTrue (list_all is_ascii_digit digits.now) × (n ≡ value_after start digits.now)) }
+{
+    let mut value = start;
+    for digit in digits {
+        if !digit.is_ascii_digit() {
+            return None;
+        }
+        let Some(longer) = push_digit(value, digit - b'0') else {
+            return None;
+        };
+        value = longer;
+    }
+    Some(value)
+}
+
+// The magnitude of at least one decimal digit. There is none, too, where it passes 128 bits.
+fn magnitude_of(digits: &[u8]) -> Option<u128>
+    ensures none { IfNone result (IfSome (magnitude_of digits.now) (λ n. 2 ^ 128 ≤ n)) }
+    ensures some { IfSome result (λ n. magnitude_of digits.now ≡ Some n) }
+{
+    if digits.is_empty() {
+        return None;
+    }
+    let (front, rest) = digits.split_at(digits.len().min(SHORT));
+    match short_value(front) {
+        Some(start) => longer_value(start as u128, rest),
+        None => None,
+    }
+}
+
+/// A text that is to be read as a number of a type.
+#[derive(Clone, Copy)]
+pub(crate) struct Reading<'a> {
+    pub(crate) integer: IntegerType,
+    pub(crate) method: Method,
+    pub(crate) text: &'a str,
+}
+
+/// What stands after `read `: a type, a method and a text.
+#[inline(always)]
+pub(crate) fn asked_reading(fields: &[u8]) -> Option<Reading<'_>>
+    ensures { MatchOption result (read_question fields.now ≡ None)
+        (λ r. read_question fields.now ≡ Some (read r.integer r.method r.text.now)) }
+{
+    let (integer, rest) = cut(fields)?;
+    let (method, text) = cut(rest)?;
+    let method = method_named(method)?;
+    let text = text_of(text)?;
+    // the type comes last, next to where the answer goes by it
+    let integer = type_named(integer)?;
+    Some(Reading {
+        integer,
+        method,
+        text,
+    })
+}
+
+/// The sign and the magnitude of a number.
+#[derive(Clone, Copy)]
+pub(crate) struct SignedMagnitude {
+    pub(crate) negative: bool,
+    pub(crate) magnitude: u128,
+}
+
+// A decimal number. There is none, too, where its magnitude passes 128 bits, since no type holds it.
+#[inline(always)]
+fn number_of(field: &[u8]) -> Option<SignedMagnitude>
+    ensures none { IfNone result (IfSome (number_of field.now) IsBeyondAll) }
+    ensures some { IfSome result (λ n. number_of field.now ≡ Some (signed_number n.negative n.magnitude)) }
+{
+    let (negative, digits) = match field {
+        [b'-', digits @ ..] => (true, digits),
+        _ => (false, field),
+    };
+    let magnitude = magnitude_of(digits)?;
+    Some(SignedMagnitude {
+        negative,
+        magnitude,
+    })
+}
+
+/// A number that is to be printed, if its type holds it.
+#[derive(Clone, Copy)]
+pub(crate) struct Printing {
+    pub(crate) integer: IntegerType,
+    pub(crate) method: Method,
+    pub(crate) variant: ChineseVariant,
+    pub(crate) case: ChineseCase,
+    pub(crate) number: SignedMagnitude,
+}
+
+/// What stands after `print `: a type, a method, a script, a case and a number.
+#[inline(always)]
+pub(crate) fn asked_printing(fields: &[u8]) -> Option<Printing>
+    ensures none { IfNone result (AnswersAny (print_question fields.now) bad_line) }
+    ensures some { IfSome result (λ p. print_question fields.now
+        ≡ Some (print p.integer p.method p.variant p.case (signed_number p.number.negative p.number.magnitude))) }
+{
+    let (integer, rest) = cut(fields)?;
+    let (method, rest) = cut(rest)?;
+    let (variant, rest) = cut(rest)?;
+    let (case, number) = cut(rest)?;
+    let method = method_named(method)?;
+    let variant = script_named(variant)?;
+    let case = case_named(case)?;
+    let number = number_of(number)?;
+    let integer = type_named(integer)?;
+    Some(Printing {
+        integer,
+        method,
+        variant,
+        case,
+        number,
+    })
+}

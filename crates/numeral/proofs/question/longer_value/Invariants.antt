@@ -1,9 +1,0 @@
-use Rattle.std.proofs.Common.{◌≡◌, take, true}
-use Rattle.std.specs.List.{list_all}
-use Rattle.std.specs.Char.{is_ascii_digit}
-use Rattle.numeral.specs.Question.{value_after}
-use Rattle.numeral.proofs.question.longer_value.Given as goal
-
-abbrev pub invariant-loop-digit : goal.invariant-loop-digit
-invariant-loop-digit l =
-    (list_all is_ascii_digit (take l.digit-index l.digits) ≡ true) × (l.value ≡ value_after l.start (take l.digit-index l.digits))
