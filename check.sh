@@ -17,26 +17,26 @@ gate() {
     }
 }
 
-time python3 beside/names.py crates bindings/rust/tests/interface.rs
-time python3 beside/edits.py crates
-time python3 beside/codes.py crates/cn_c bindings
-time python3 beside/quotes.py README.md bindings
+time python3 checks/names.py crates bindings/rust/tests/interface.rs
+time python3 checks/edits.py crates
+time python3 checks/codes.py crates/cn_c bindings
+time python3 checks/quotes.py README.md bindings
 time gate
 
 # The programs that the gate has proved and built.
-cc -O1 -shared -fPIC -o "$refuse_growth" beside/refuse_growth.c -ldl
-time python3 beside/want_of_memory.py crates/cn_memory/out/cn_memory "$refuse_growth"
-time python3 beside/short_of_memory.py $numeral "$refuse_growth" < crates/numeral/stdin
-time python3 beside/documents.py $numeral
-time python3 beside/dialogue.py $numeral
-time python3 beside/statuses.py $numeral
-time python3 beside/readers_without_memory.py crates/cn_vectors
+cc -O1 -shared -fPIC -o "$refuse_growth" checks/refuse_growth.c -ldl
+time python3 checks/out_of_memory.py crates/cn_memory/out/cn_memory "$refuse_growth"
+time python3 checks/short_of_memory.py $numeral "$refuse_growth" < crates/numeral/stdin
+time python3 checks/documents.py $numeral
+time python3 checks/dialogue.py $numeral
+time python3 checks/statuses.py $numeral
+time python3 checks/readers_without_memory.py crates/cn_vectors
 time bash bindings/web/test.sh $numeral
 
 # The library for other languages, made of what the gate has proved.
 time bash bindings/archive.sh "$scratch/bindings"
-time python3 beside/c_binding.py bindings/c "$scratch/bindings"
-time python3 beside/rust_binding.py bindings/rust crates/cn_vectors "$scratch/bindings"
-time python3 beside/python_binding.py bindings/python "$scratch/bindings"
+time python3 checks/c_binding.py bindings/c "$scratch/bindings"
+time python3 checks/rust_binding.py bindings/rust crates/cn_vectors "$scratch/bindings"
+time python3 checks/python_binding.py bindings/python "$scratch/bindings"
 
 tail -n 1 "$scratch/gate"

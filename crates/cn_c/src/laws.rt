@@ -1,4 +1,4 @@
-// What users rest on, as the contract of a function that does nothing.
+// What users can count on, as the contract of a function that does nothing.
 ghost use Rattle.std.specs.Prelude.{◌≡◌, ℕ, List, take};
 ghost use Rattle.std.specs.Str.{IsUtf8};
 ghost use Rattle.cn_c.specs.Kinds.{AreSame};
@@ -8,10 +8,10 @@ ghost use Rattle.cn_c.specs.declared.number.Number.{Number};
 ghost use Rattle.cn_c.specs.declared.reading.Reading.{Reading};
 ghost use Rattle.cn_c.specs.declared.status.TheConstants.{DONE};
 
-/// What `chinese_number_print` writes is UTF-8, and `chinese_number_read_utf8` reads it, as the same type and in
-/// the same way, as the same number.
+/// What `chinese_number_print` writes is UTF-8, and `chinese_number_read_utf8` reads it, as the same
+/// type and in the same way, as the same number.
 ///
-/// Amounts that cross from one language to another rest on it.
+/// For amounts that cross from one language to another.
 pub fn printed_numbers_read_back()
     ensures { (number : Number) (kind way script case : ℕ) (old new : List ℕ) (len : ℕ)
         → IsPrinted number kind way script case old DONE new len

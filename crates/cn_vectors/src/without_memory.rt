@@ -1,4 +1,4 @@
-// Readers take no memory: `beside/readers_without_memory.py` runs the tests of this module once more, with the first
+// Readers take no memory: `checks/readers_without_memory.py` runs the tests of this module once more, with the first
 // request for memory of each refused.
 mod each_reader;
 mod numerals;

@@ -1,13 +1,13 @@
-"""Runs a program that prints a line for each call that takes memory, with each growth refused in turn, by itself and
-with the next one.
+#!/usr/bin/env python3
+"""Runs a program that prints a line for each call that takes memory, with each growth refused in turn.
 
-    want_of_memory.py PROGRAM REFUSE_GROWTH.so
+Usage: out_of_memory.py PROGRAM REFUSE_GROWTH.so
 
+Each growth is refused by itself and with the next one.
 Each line has one growth, of exactly as many bytes as its text. Where that is refused the line has to say that memory
 was short, and every other line has to stay as it is; so a second growth of a line would be seen. At the end stand the
 calls that refuse their number by name: they ask for no memory.
 """
-
 import os
 import subprocess
 import sys
@@ -39,6 +39,8 @@ def check(ample, growing, first, refused):
 
 
 def main():
+    if len(sys.argv) != 3 or sys.argv[1].startswith("-"):
+        sys.exit(__doc__)
     program, library = sys.argv[1:]
     ample, _ = lines_with(program, library, 0, 0)
     growing = sum(answer not in BY_NAME for _, answer in ample)
@@ -50,7 +52,7 @@ def main():
             if len(refused[1]) != min(more + 1, growing + 1 - first):
                 sys.exit(f"{program} asks for more or less than one growth for a line, at growth {first}")
             check(ample, growing, first, refused)
-    print(f"want of memory: {growing} calls, each with its one growth refused")
+    print(f"out of memory: {growing} calls, each with its one growth refused")
 
 
 main()

@@ -15,7 +15,7 @@ import tempfile
 from pathlib import Path
 
 MODULES = ("each_printer", "printing", "printing_digits", "upstream_printing", "without_memory")
-# Of the proved library alone: want of memory, its quick way, a proof, a table that is not public here, very long texts.
+# Of the proved library alone: running out of memory, its quick way, a proof, a table that is not public here, very long texts.
 LEFT_OUT = ("calls", "error_texts", "lib", "long", "reading_at_once", "reading_back", "scales")
 FEATURES = ("", "std", "number-to-chinese", "chinese-to-number", "number-to-chinese,chinese-to-number")
 

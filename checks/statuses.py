@@ -44,6 +44,8 @@ def run(program, **words):
 
 
 def main():
+    if len(sys.argv) != 2 or sys.argv[1].startswith("-"):
+        sys.exit(__doc__)
     program = sys.argv[1]
     expect("the end of the input", run(program, input=LINES), 0, ANSWERS)
     expect("empty input", run(program, input=b""), 0, b"")
@@ -63,8 +65,8 @@ def main():
     long_line = b"x" * (50 * MEGABYTE)
     expect("a long line", run(program, input=LINES + long_line), 0, ANSWERS + b"bad line\n")
     short = run(program, input=LINES + long_line + b"\n" + LINES, preexec_fn=limited(40))
-    expect("want of memory at the third line", short, 2, ANSWERS)
-    print("statuses: 0 at the end, 1 at faults of the input and the output, 2 at want of memory")
+    expect("out of memory at the third line", short, 2, ANSWERS)
+    print("statuses: 0 at the end, 1 at faults of the input and the output, 2 out of memory")
 
 
 main()

@@ -48,6 +48,8 @@ def end(process):
 
 
 def main():
+    if len(sys.argv) != 2 or sys.argv[1].startswith("-"):
+        sys.exit(__doc__)
     program = sys.argv[1]
     printer, reader = begin(program), begin(program)
     number = -1

@@ -80,7 +80,7 @@ def compare_counts(program):
 
 
 def main():
-    if len(sys.argv) != 3:
+    if len(sys.argv) != 3 or sys.argv[1].startswith("-"):
         sys.exit(__doc__)
     program = Program(*sys.argv[1:])
     lines = sys.stdin.buffer.read().splitlines(keepends=True)

@@ -1,9 +1,10 @@
-"""Runs the tests of one module, those of reading, with the first growth of each refused: readers take no memory, so all
-have to pass. Each reader that callers can name has to stand in that module.
+#!/usr/bin/env python3
+"""Runs the tests of one module, those of reading, with the first growth of each refused.
 
-    readers_without_memory.py CRATE_FOLDER
+Usage: readers_without_memory.py CRATE_FOLDER
+
+Readers take no memory, so all tests have to pass. Each reader that callers can name has to stand in that module.
 """
-
 import pathlib
 import re
 import subprocess
@@ -13,6 +14,8 @@ MODULE = "without_memory"
 
 
 def main():
+    if len(sys.argv) != 2 or sys.argv[1].startswith("-"):
+        sys.exit(__doc__)
     crate = pathlib.Path(sys.argv[1])
     files = [crate / f"src/{MODULE}.rt", *crate.glob(f"src/{MODULE}/*.rt")]
     source = "".join(file.read_text() for file in files)
