@@ -17,8 +17,10 @@ gate() {
     }
 }
 
-time python3 beside/names.py crates
+time python3 beside/names.py crates bindings/rust/tests/interface.rs
 time python3 beside/edits.py crates
+time python3 beside/codes.py crates/cn_c bindings
+time python3 beside/quotes.py README.md bindings
 time gate
 
 # The programs that the gate has proved and built.
@@ -29,5 +31,12 @@ time python3 beside/documents.py $numeral
 time python3 beside/dialogue.py $numeral
 time python3 beside/statuses.py $numeral
 time python3 beside/readers_without_memory.py crates/cn_vectors
+time bash bindings/web/test.sh $numeral
+
+# The library for other languages, made of what the gate has proved.
+time bash bindings/archive.sh "$scratch/bindings"
+time python3 beside/c_binding.py bindings/c "$scratch/bindings"
+time python3 beside/rust_binding.py bindings/rust crates/cn_vectors "$scratch/bindings"
+time python3 beside/python_binding.py bindings/python "$scratch/bindings"
 
 tail -n 1 "$scratch/gate"

@@ -1,10 +1,11 @@
 #!/usr/bin/env python3
 """The 96 calls by name: each is defined once, under its own name, and handed on by that name.
 
-Usage: names.py CRATES
+Usage: names.py CRATES SIGNATURES
 
 The name of a call says its type and its method. So no line `pub use .. as ..` may give a call another's name: its contract
-would stand at a definition with another name.
+would stand at a definition with another name. SIGNATURES is the test of the Rust crate in `bindings/` that gives each of
+its calls a type: there too, each stands once.
 """
 import re
 import sys
@@ -42,9 +43,9 @@ def compare(what, found, wanted):
 
 
 def main():
-    if len(sys.argv) != 2 or sys.argv[1].startswith("-"):
+    if len(sys.argv) != 3 or sys.argv[1].startswith("-"):
         sys.exit(__doc__)
-    crates = Path(sys.argv[1])
+    crates, signatures = map(Path, sys.argv[1:])
     for crate in sorted(path for path in crates.iterdir() if path.is_dir()):
         for path, text in sources(crate).items():
             renamed = [names for names in HANDED_ON.findall(text) if re.search(r"\bas\b", names)]
@@ -59,6 +60,8 @@ def main():
         root = (crates / crate / "src" / "lib.rt").read_text(encoding="utf-8")
         handed_on = [name for names in HANDED_ON.findall(root) for name in re.findall(r"\bfrom_\w+", names)]
         compare(f"handed on by {crate}", handed_on, wanted)
+    typed = re.findall(r"\bfrom_(?:chinese_to_\w+|\w+_to_chinese\w*)", signatures.read_text(encoding="utf-8"))
+    compare(f"typed in {signatures}", typed, readers + printers)
     print(f"names: {len(readers)} readers and {len(printers)} printers, each by its own name")
 
 

@@ -1,3 +1,4 @@
+pub mod Beginnings
 pub mod LeadingZeros
 pub mod Methods
 pub mod Numerals

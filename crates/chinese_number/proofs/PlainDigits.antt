@@ -18,9 +18,10 @@ use Rattle.cn_core.specs.Text.{marks_of}
 use Rattle.cn_core.specs.Typed.{naive_reading, signed_by, held_by, typed_answer}
 use Rattle.cn_core.specs.Whole.{Kind, Holds}
 use Rattle.cn_core.specs.Written.{written_bytes, naive_text}
+use Rattle.cn_core.proofs.Fronts.{list_all-both}
 use Rattle.chinese_number.specs.Digits.{is_digit}
 use Rattle.chinese_number.specs.Parts.{sign_at, unsigned_text}
-use Rattle.chinese_number.proofs.Printed.{is_printed, list_all-both}
+use Rattle.chinese_number.proofs.Printed.{is_printed}
 use Rattle.chinese_number.proofs.Reading.{IsWhole, HasParts-written, naive_reading-parts, typed_answer-held, minus_is_signed, written_sign, held_by-Holds, Holds-held_by, held_is, size_of}
 
 -- one more digit in the sum
@@ -32,7 +33,7 @@ step-le : (number : ℕ) (marks : List Mark) → number ≤ fold step number mar
 step-le number [] = omega arith
 step-le number (mark ∷ rest) = let up = step-le (step number mark) rest in omega (arith, up)
 
-front-le : (k : ℕ) (marks : List Mark) → decimal_value (take k marks) ≤ decimal_value marks
+pub front-le : (k : ℕ) (marks : List Mark) → decimal_value (take k marks) ≤ decimal_value marks
 front-le k marks =
     let parts : fold step 0 (take k marks ++ drop k marks) ≡ fold step (fold step 0 (take k marks)) (drop k marks) = fold-append step 0 (take k marks) (drop k marks) in
     let whole : fold step 0 (take k marks ++ drop k marks) ≡ fold step 0 marks = ap (fold step 0) (take-append-drop k marks) in
@@ -143,11 +144,11 @@ naive_answer-zeros zeros marks number z h =
     naive_answer-digits (zeros ++ marks) long (list_all-both is_digit zeros marks sum.0 plain.digits) (omega (arith, total, plain.small)) ∙ ap Ok total
 
 -- the decimal digits of a number
-record IsDecimal (number : ℕ) (bytes : List ℕ) : Type 0 where
-  some : 0 < length bytes
-  printed : list_all is_printed (map (λ byte. digit (byte - 48)) bytes) ≡ true
-  digits : list_all is_digit (map (λ byte. digit (byte - 48)) bytes) ≡ true
-  value : decimal_value (map (λ byte. digit (byte - 48)) bytes) ≡ number
+pub record IsDecimal (number : ℕ) (bytes : List ℕ) : Type 0 where
+  pub some : 0 < length bytes
+  pub printed : list_all is_printed (map (λ byte. digit (byte - 48)) bytes) ≡ true
+  pub digits : list_all is_digit (map (λ byte. digit (byte - 48)) bytes) ≡ true
+  pub value : decimal_value (map (λ byte. digit (byte - 48)) bytes) ≡ number
 
 IsDecimal-one : (n : ℕ) → n < 10 → IsDecimal n ((48 + n) ∷ [])
 IsDecimal-one n low =
@@ -169,10 +170,10 @@ IsDecimal-more n bytes high h =
       value = ap decimal_value parts ∙ fold-append step 0 (map f bytes) (digit (n % 10) ∷ []) ∙ sum;
     }
 
-decimal_is : (n : ℕ) → n < 2 ^ 128 → IsDecimal n (decimal n)
+pub decimal_is : (n : ℕ) → n < 2 ^ 128 → IsDecimal n (decimal n)
 decimal_is n small = decimal_by_steps_wide IsDecimal IsDecimal-one IsDecimal-more n (omega (arith, small))
 
-starts : (bytes : List ℕ) → 0 < length bytes → starts_with_digit (opened (map (λ byte. digit (byte - 48)) bytes)) ≡ true
+pub starts : (bytes : List ℕ) → 0 < length bytes → starts_with_digit (opened (map (λ byte. digit (byte - 48)) bytes)) ≡ true
 starts [] h = absurd (omega (arith, h))
 starts (byte ∷ rest) h = refl
 

@@ -1,8 +1,7 @@
 -- What is written is read as the marks that it was written for.
-use Rattle.std.proofs.Common.{◌≡◌, ℕ, zero, suc, ◌<◌, Bool, true, false, ◌&&◌, ◌==◌, nat_lt, if◌then◌else◌, List, [], ◌∷◌, ◌++◌, map, filter, Option, Some, None, is_none, refl, ap, ◌∙◌, arith}
+use Rattle.std.proofs.Common.{◌≡◌, ℕ, zero, suc, ◌<◌, Bool, true, false, ◌&&◌, ◌==◌, nat_lt, if◌then◌else◌, List, [], ◌∷◌, map, filter, Option, Some, None, is_none, refl, ap, ◌∙◌, arith}
 use Rattle.std.proofs.Math.Decide.{dec_lt}
 use Rattle.std.proofs.lemmas.Bool.Decides.{nat_tests}
-use Rattle.std.proofs.lemmas.List.Folds.{list_all-append}
 use Rattle.std.proofs.lemmas.Str.{chars-encodes}
 use Rattle.std.specs.Char.{is_not_whitespace}
 use Rattle.std.specs.List.{list_all}
@@ -17,13 +16,7 @@ use Rattle.cn_core.specs.Mark.{Mark, digit, unit, other, mark_of}
 use Rattle.cn_core.specs.Numeral.{opened, starts_with_digit}
 use Rattle.cn_core.specs.Text.{text_of, marks_of}
 use Rattle.cn_core.specs.Written.{mark_char, written, written_bytes}
-use Rattle.cn_core.proofs.Fronts.{and-left, and-right}
-
-pub both : (x y : Bool) → x ≡ true → y ≡ true → (x && y) ≡ true
-both x y p q = rw (p, q)
-
-pub list_all-both : (test : Mark → Bool) (xs ys : List Mark) → list_all test xs ≡ true → list_all test ys ≡ true → list_all test (xs ++ ys) ≡ true
-list_all-both test xs ys p q = list_all-append test xs ys ∙ both (list_all test xs) (list_all test ys) p q
+use Rattle.cn_core.proofs.Fronts.{and-left, and-right, both}
 
 -- a digit of one place, or a unit
 abbrev pub is_printed : Mark → Bool

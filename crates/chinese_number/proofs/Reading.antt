@@ -1,5 +1,5 @@
 -- The answer to a string, from its text; and to the written text of a number.
-use Rattle.std.proofs.Common.{◌≡◌, ℕ, zero, suc, ◌^◌, ◌<◌, ℤ, pos, negsuc, nat_abs, ◌≤ℤ◌, int_lt, Bool, true, false, if◌then◌else◌, List, [], ◌∷◌, map, drop, encode_utf8_all, Option, Some, None, Result, Ok, Err, refl, sym, ap, subst, ◌∙◌, arith}
+use Rattle.std.proofs.Common.{◌≡◌, ℕ, zero, suc, ◌^◌, ◌<◌, ◌≤◌, ℤ, pos, negsuc, nat_abs, ◌≤ℤ◌, int_lt, Bool, true, false, if◌then◌else◌, List, [], ◌∷◌, map, drop, encode_utf8_all, Option, Some, None, Result, Ok, Err, refl, sym, ap, subst, ◌∙◌, arith}
 use Rattle.std.proofs.lemmas.Int.{ints}
 use Rattle.std.specs.List.{list_all}
 use Rattle.cn_core.specs.declared.case.ChineseCase.{ChineseCase}
@@ -85,14 +85,22 @@ abbrev pub written_sign : Bool → Option Sign
 written_sign true = Some Minus
 written_sign false = None
 
+not_below_zero : (n : ℕ) → int_lt (pos n) (pos 0) ≡ false
+not_below_zero n = by (int_lt (pos n) (pos 0)) refl where
+  by : (b : Bool) → int_lt (pos n) (pos 0) ≡ b → b ≡ false
+  by true e = absurd (omega (arith, ints))
+  by false e = refl
+
 pub signed_by-written : (number : ℤ) → signed_by (written_sign (int_lt number (pos 0))) (nat_abs number) ≡ number
-signed_by-written (pos n) = rw (not_below_zero n) where
-  not_below_zero : (n : ℕ) → int_lt (pos n) (pos 0) ≡ false
-  not_below_zero n = by (int_lt (pos n) (pos 0)) refl where
-    by : (b : Bool) → int_lt (pos n) (pos 0) ≡ b → b ≡ false
-    by true e = absurd (omega (arith, ints))
-    by false e = refl
+signed_by-written (pos n) = rw (not_below_zero n)
 signed_by-written (negsuc n) = refl
+
+-- with this sign a type that holds the number, and 0, holds each smaller magnitude too
+pub Holds-smaller : (kind : Kind) (number : ℤ) (magnitude : ℕ) → Holds kind (pos 0) → Holds kind number → magnitude ≤ nat_abs number
+    → Holds kind (signed_by (written_sign (int_lt number (pos 0))) magnitude)
+Holds-smaller kind (pos n) magnitude none held low = rw (not_below_zero n) (omega (arith, ints, none.0), omega (arith, ints, held.1, low))
+Holds-smaller kind (negsuc n) zero none held low = none
+Holds-smaller kind (negsuc n) (suc magnitude) none held low = (omega (arith, ints, held.0, low), omega (arith, ints, none.1))
 
 -- a sign leaves the magnitude as it was
 pub size_of : (sign : Option Sign) (magnitude : ℕ) → nat_abs (signed_by sign magnitude) ≡ magnitude

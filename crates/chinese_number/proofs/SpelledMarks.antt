@@ -1,6 +1,5 @@
 -- What stands in a spelling: digits of one place, and units whose scales fit 128 bits.
-use Rattle.std.proofs.Common.{◌≡◌, ℕ, zero, suc, ◌*◌, ◌/◌, ◌%◌, ◌^◌, ◌<◌, ◌≤◌, ℤ, nat_abs, Bool, true, false, not, ◌&&◌, ◌||◌, ◌==◌, nat_lt, MatchBool, if◌then◌else◌, List, [], ◌∷◌, ◌++◌, Ok, refl, sym, subst, ◌∙◌, arith}
-use Rattle.std.proofs.Math.Decide.{dec_lt}
+use Rattle.std.proofs.Common.{◌≡◌, ℕ, ◌*◌, ◌%◌, ◌^◌, ◌<◌, ◌≤◌, ℤ, nat_abs, Bool, true, false, not, ◌||◌, nat_lt, MatchBool, List, [], ◌∷◌, ◌++◌, Ok, length, refl, sym, ap, subst, ◌∙◌, arith}
 use Rattle.std.proofs.Math.Nat.{pow-le-pow_right}
 use Rattle.std.proofs.lemmas.Bool.{leb-true}
 use Rattle.std.proofs.lemmas.Bool.Decides.{nat_tests}
@@ -10,17 +9,17 @@ use Rattle.cn_core.specs.declared.method.ChineseCountMethod.TheVariants.{Low, Te
 use Rattle.cn_core.specs.Judge.{Judges, RefusesBody, numeral_answer, last_mark_answer}
 use Rattle.cn_core.specs.Mark.{Mark, digit, unit, other}
 use Rattle.cn_core.specs.Numeral.{IsNumeral, is_numeral}
-use Rattle.cn_core.specs.Place.{body, some_unfit}
+use Rattle.cn_core.specs.Place.{body, is_unfit, some_unfit}
 use Rattle.cn_core.specs.Scale.{scale, exponent, scale_fits}
-use Rattle.cn_core.specs.Spelling.{spelling, shortened, spelled_within, greatest_unit, after_unit}
+use Rattle.cn_core.specs.Spelling.{spelling, spelled_within, after_unit}
 use Rattle.cn_core.specs.Value.{numeral_value}
 use Rattle.cn_core.specs.Written.{is_printable}
-use Rattle.cn_core.proofs.Fronts.{and-left, and-right}
+use Rattle.cn_core.proofs.Beginnings.{beginning-is_numeral}
+use Rattle.cn_core.proofs.Fronts.{and-left, and-right, both, list_all-both}
 use Rattle.cn_core.proofs.ReadBack.{spelling-is_numeral}
-use Rattle.cn_core.proofs.ScaleLaws.{IsGreatest-unit}
-use Rattle.cn_core.proofs.Spellings.{Spells-spelled_within, IsCut-greatest, spelled-step}
-use Rattle.cn_core.proofs.Sums.{all_below, spelled-digit}
-use Rattle.chinese_number.proofs.Printed.{is_printed, both, list_all-both}
+use Rattle.cn_core.proofs.Spellings.{Spells-spelled_within, IsCut, after_unit-all, spelled-by, shortened-by}
+use Rattle.cn_core.proofs.Sums.{all_below}
+use Rattle.chinese_number.proofs.Printed.{is_printed}
 
 -- each number of 128 bits that a method writes is below the square of its greatest scale
 pub below_square : (method : ChineseCountMethod) (number : ℤ) → nat_abs number < 2 ^ 128 → is_printable method number ≡ true → nat_abs number < scale method 15 * scale method 15
@@ -30,46 +29,23 @@ below_square Middle number small h = omega (arith, small)
 below_square High number small h = let much : 2 ^ 128 ≤ scale High 15 * scale High 15 = leb-true _ _ refl in omega (arith, small, much)
 
 -- digits of one place and units alone
-after_unit-printed : (remainder size : ℕ) (marks : List Mark) → list_all is_printed marks ≡ true → list_all is_printed (after_unit remainder size marks) ≡ true
-after_unit-printed remainder size marks h = by (nat_lt 0 remainder && nat_lt remainder (size / 10)) (remainder == 0) where
-  by : (g z : Bool) → list_all is_printed ((if g then digit 0 ∷ [] else []) ++ (if z then [] else marks)) ≡ true
-  by true true = refl
-  by true false = h
-  by false true = refl
-  by false false = h
+spelled_within-printed : (method : ChineseCountMethod) (steps number : ℕ) → number ≤ steps → number < scale method 15 * scale method 15 → list_all is_printed (spelled_within steps method number) ≡ true
+spelled_within-printed method = spelled-by method (λ number marks. list_all is_printed marks ≡ true) one step where
+  one : (number : ℕ) → number < 10 → list_all is_printed (digit number ∷ []) ≡ true
+  one number h = let low : nat_lt number 10 ≡ true = grind (arith, nat_tests) in rw low
 
-spelled_within-printed : (steps : ℕ) (method : ChineseCountMethod) (number : ℕ) → number ≤ steps → number < scale method 15 * scale method 15 → list_all is_printed (spelled_within steps method number) ≡ true
-spelled_within-printed zero method number fuel small = let low : nat_lt number 10 ≡ true = grind (arith, nat_tests) in rw low
-spelled_within-printed (suc steps) method number fuel small = by (dec_lt number 10) (λ n. spelled_within-printed steps method n) where
-  by : Dec (number < 10) → ((n : ℕ) → n ≤ steps → n < scale method 15 * scale method 15 → list_all is_printed (spelled_within steps method n) ≡ true)
-      → list_all is_printed (spelled_within (suc steps) method number) ≡ true
-  by (yes h) rest = let low : nat_lt number 10 ≡ true = grind (arith, nat_tests) in rw (spelled-digit (suc steps) method number h, low)
-  by (no h) rest =
-      let ten : 10 ≤ number = omega (arith, h) in
-      let cut = IsCut-greatest method number ten small in
-      let rank = greatest_unit method number in
-      let size = scale method rank in
-      let front = rest (number / size) (omega (arith, cut.smaller, fuel)) (omega (arith, cut.smaller, small)) in
-      let back = rest (number % size) (omega (arith, cut.remainder, cut.size, fuel)) (omega (arith, cut.remainder, cut.size, small)) in
-      let high : nat_lt rank 16 ≡ true = let g = (IsGreatest-unit method number ten).high in grind (arith, nat_tests) in
-      rw (spelled-step steps method number ten)
-      (list_all-both is_printed (spelled_within steps method (number / size)) (unit rank ∷ after_unit (number % size) size (spelled_within steps method (number % size))) front
-      (both _ _ high (after_unit-printed (number % size) size _ back)))
-
-shortened-printed : (marks : List Mark) → list_all is_printed marks ≡ true → list_all is_printed (shortened marks) ≡ true
-shortened-printed [] h = h
-shortened-printed (unit rank ∷ rest) h = h
-shortened-printed (other ∷ rest) h = h
-shortened-printed (digit number ∷ []) h = h
-shortened-printed (digit number ∷ digit next ∷ rest) h = h
-shortened-printed (digit number ∷ other ∷ rest) h = h
-shortened-printed (digit number ∷ unit rank ∷ rest) h = by (number == 1 && rank == 1) where
-  by : (b : Bool) → list_all is_printed (if b then unit rank ∷ rest else digit number ∷ unit rank ∷ rest) ≡ true
-  by true = and-right (nat_lt number 10) _ h
-  by false = h
+  step : (number rank : ℕ) (front back : List Mark) → IsCut method number rank → list_all is_printed front ≡ true → list_all is_printed back ≡ true
+      → list_all is_printed (front ++ unit rank ∷ after_unit (number % scale method rank) (scale method rank) back) ≡ true
+  step number rank front back cut f b =
+      let remainder = number % scale method rank in
+      let high : nat_lt rank 16 ≡ true = let h = cut.high in grind (arith, nat_tests) in
+      let after = after_unit-all is_printed remainder (scale method rank) back refl b in
+      list_all-both is_printed front (unit rank ∷ after_unit remainder (scale method rank) back) f (both (nat_lt rank 16) _ high after)
 
 pub spelling-printed : (method : ChineseCountMethod) (number : ℕ) → number < scale method 15 * scale method 15 → list_all is_printed (spelling method number) ≡ true
-spelling-printed method number small = shortened-printed (spelled_within number method number) (spelled_within-printed number method number (omega arith) small)
+spelling-printed method number small =
+    let h = spelled_within-printed method number number (omega arith) small in
+    shortened-by (λ l. list_all is_printed l ≡ true) (spelled_within number method number) h (λ rest ten. ap (list_all is_printed) (sym ten) ∙ h)
 
 -- a unit whose scale does not fit is above each number of 128 bits
 unfit_scale : (method : ChineseCountMethod) (rank number : ℕ) → scale_fits method rank ≡ false → number < 2 ^ 128 → number < scale method rank
@@ -88,24 +64,20 @@ fits-from_below method (unit rank ∷ rest) h = by (scale_fits method rank) refl
   by true e ih = ih
   by false e ih = absurd (let low : nat_lt rank rank ≡ true = and-left (nat_lt rank rank) _ (h rank e) in let less : rank < rank = grind (arith, nat_tests) in omega (arith, less))
 
-shortened-fits : (method : ChineseCountMethod) (marks : List Mark) → some_unfit method (shortened marks) ≡ some_unfit method marks
-shortened-fits method [] = refl
-shortened-fits method (unit rank ∷ rest) = refl
-shortened-fits method (other ∷ rest) = refl
-shortened-fits method (digit number ∷ []) = refl
-shortened-fits method (digit number ∷ digit next ∷ rest) = refl
-shortened-fits method (digit number ∷ other ∷ rest) = refl
-shortened-fits method (digit number ∷ unit rank ∷ rest) = by (number == 1 && rank == 1) where
-  by : (b : Bool) → some_unfit method (if b then unit rank ∷ rest else digit number ∷ unit rank ∷ rest) ≡ some_unfit method (unit rank ∷ rest)
-  by true = refl
-  by false = refl
-
 -- a spelling names no unit whose scale does not fit
 pub spelling-fits : (method : ChineseCountMethod) (number : ℕ) → number < 2 ^ 128 → number < scale method 15 * scale method 15 → some_unfit method (spelling method number) ≡ false
 spelling-fits method number small square =
-    shortened-fits method (spelled_within number method number)
-    ∙ fits-from_below method (spelled_within number method number)
-    (λ rank unfit. (Spells-spelled_within number method number (omega arith) square).below rank (unfit_scale method rank number unfit small))
+    let marks = spelled_within number method number in
+    let h = fits-from_below method marks (λ rank unfit. (Spells-spelled_within method number number (omega arith) square).below rank (unfit_scale method rank number unfit small)) in
+    shortened-by (λ l. some_unfit method l ≡ false) marks h (λ rest ten. ap (some_unfit method) (sym ten) ∙ h)
+
+-- nor does a beginning of what names none
+some_unfit-front : (method : ChineseCountMethod) (front back : List Mark) → some_unfit method (front ++ back) ≡ false → some_unfit method front ≡ false
+some_unfit-front method [] back h = refl
+some_unfit-front method (mark ∷ front) back h = by (is_unfit method mark) (some_unfit-front method front back) h where
+  by : (b : Bool) → (some_unfit method (front ++ back) ≡ false → some_unfit method front ≡ false) → (b || some_unfit method (front ++ back)) ≡ false → (b || some_unfit method front) ≡ false
+  by true ih h = h
+  by false ih h = ih h
 
 -- a numeral whose scales and value fit is judged as its value
 pub Judges-numeral : (method : ChineseCountMethod) (marks : List Mark) (number : ℕ) → IsNumeral marks → some_unfit method marks ≡ false → numeral_value method marks ≡ number → number < 2 ^ 128
@@ -121,3 +93,11 @@ pub Judges-spelling : (method : ChineseCountMethod) (number : ℕ) → number < 
 Judges-spelling method number small square =
     let n = spelling-is_numeral method number square in
     Judges-numeral method (spelling method number) number n.0 (spelling-fits method number small square) n.1 small
+
+-- and so is each beginning of a spelling, of which none is greater
+pub Judges-beginning : (method : ChineseCountMethod) (number : ℕ) (front back : List Mark) → number < 2 ^ 128 → number < scale method 15 * scale method 15 → 0 < length front
+    → front ++ back ≡ spelling method number → Judges method front (Ok (numeral_value method front)) × (numeral_value method front ≤ number)
+Judges-beginning method number front back small square some same =
+    let n = beginning-is_numeral method number front back square some same in
+    let fits = some_unfit-front method front back (ap (some_unfit method) same ∙ spelling-fits method number small square) in
+    (Judges-numeral method front (numeral_value method front) n.0 fits refl (omega (arith, n.1, small)), n.1)

@@ -8,7 +8,7 @@ use Rattle.cn_core.specs.declared.method.ChineseCountMethod.{ChineseCountMethod}
 use Rattle.cn_core.specs.Mark.{Mark, digit, unit}
 use Rattle.cn_core.specs.Scale.{scale}
 use Rattle.cn_core.specs.Spelling.{spelled_within, greatest_unit, after_unit}
-use Rattle.cn_core.proofs.ScaleLaws.{IsGreatest-unit, greatest-scale, scale-pos, scale-mono}
+use Rattle.cn_core.proofs.ScaleLaws.{IsGreatest-unit, greatest-scale, scale-ten}
 use Rattle.cn_core.proofs.Spellings.{IsCut-greatest, spelled-step}
 use Rattle.cn_core.proofs.Sums.{spelled-digit}
 
@@ -66,7 +66,7 @@ pub part-cut : (method : ChineseCountMethod) (high below rank : ℕ) → 1 ≤ r
 part-cut method high below rank one last pos low above small =
     let size = scale method rank in
     let number = high * size + below in
-    let ten : 10 ≤ size = let p = scale-mono method 0 rank (omega (arith, one)) in let z = scale-pos method 0 in omega (arith, p, z) in
+    let ten : 10 ≤ size = scale-ten method rank one in
     let reach : 1 * size ≤ high * size = mul-le-mul_right size (omega (arith, pos)) in
     let more : high * 1 ≤ high * size = mul-le-mul_left high (omega (arith, ten)) in
     let g : greatest_unit method number ≡ rank = greatest-is method number rank (omega (arith, reach, ten)) (omega (arith, reach)) last above in

@@ -1,21 +1,17 @@
 -- A spelling keeps the rules of numerals.
-use Rattle.std.proofs.Common.{◌≡◌, ℕ, zero, suc, ◌*◌, ◌/◌, ◌%◌, ◌<◌, ◌≤◌, Bool, true, false, ◌&&◌, ◌==◌, nat_lt, List, [], ◌∷◌, ◌++◌, Some, None, refl, arith, if◌then◌else◌}
+use Rattle.std.proofs.Common.{◌≡◌, ℕ, ◌*◌, ◌%◌, ◌/◌, ◌<◌, ◌≤◌, Bool, true, false, ◌&&◌, ◌==◌, nat_le, nat_lt, List, [], ◌∷◌, ◌++◌, Some, None, refl, arith, if◌then◌else◌}
 use Rattle.std.specs.Option.{option_map_or}
 use Rattle.std.proofs.lemmas.Bool.Decides.{nat_tests}
-use Rattle.std.proofs.Math.Decide.{dec_lt}
+use Rattle.std.specs.List.{list_all}
 use Rattle.cn_core.specs.declared.method.ChineseCountMethod.{ChineseCountMethod}
 use Rattle.cn_core.specs.Mark.{Mark, digit, unit, other}
 use Rattle.cn_core.specs.Numeral.{may_precede, each_may_precede, starts_with_digit, first_not_smaller, groups_strictly, multiplies_upwards, counts_a_unit}
 use Rattle.cn_core.specs.Place.{is_below}
 use Rattle.cn_core.specs.Scale.{scale}
-use Rattle.cn_core.specs.Spelling.{spelled_within, greatest_unit, after_unit}
-use Rattle.cn_core.proofs.Fronts.{and-left, and-right, zero_precedes}
-use Rattle.cn_core.proofs.ScaleLaws.{IsGreatest-unit}
-use Rattle.cn_core.proofs.Sums.{all_below, spelled-digit}
-use Rattle.cn_core.proofs.Spellings.{Spells-spelled_within, IsCut-greatest, spelled-step, after_unit-below}
-
-both : (x y : Bool) → x ≡ true → y ≡ true → (x && y) ≡ true
-both x y p q = rw (p, q)
+use Rattle.cn_core.specs.Spelling.{spelled_within, after_unit}
+use Rattle.cn_core.proofs.Fronts.{and-left, and-right, both, list_all-both, zero_precedes}
+use Rattle.cn_core.proofs.Sums.{all_below}
+use Rattle.cn_core.proofs.Spellings.{Spells, Spells-digit, Spells-step, IsCut, after_unit-by, after_unit-all, spelled-by}
 
 -- a greater unit further on breaks no group
 groups-more : (rank more : ℕ) (rest back : List Mark) → nat_lt rank more ≡ true
@@ -79,21 +75,21 @@ unit_precedes rank (digit value ∷ rest) low h b = let test : (rank == 0) ≡ f
 unit_precedes rank (unit next ∷ rest) low h b = cc
 unit_precedes rank (other ∷ rest) low h b = cc
 
-pub record IsRegular (marks : List Mark) : Type 0 where
+-- the mark is not 個
+abbrev pub is_no_ge : Mark → Bool
+is_no_ge (unit rank) = nat_le 1 rank
+is_no_ge mark = true
+
+-- what a spelling is like: it has its number's value, keeps the rules, starts with a digit and has no 個
+pub record IsRegular (method : ChineseCountMethod) (number : ℕ) (marks : List Mark) : Type 0 where
+  pub spells : Spells method number marks
   pub rules : each_may_precede marks ≡ true
   pub starts : starts_with_digit marks ≡ true
+  pub no_ge : list_all is_no_ge marks ≡ true
 
-after_unit-rules : (remainder size : ℕ) (marks : List Mark) → IsRegular marks → (each_may_precede (after_unit remainder size marks) ≡ true) × (may_follow (after_unit remainder size marks) ≡ true)
-after_unit-rules remainder size marks h = by (nat_lt 0 remainder && nat_lt remainder (size / 10)) (remainder == 0) where
-  follows : (marks : List Mark) → starts_with_digit marks ≡ true → may_follow marks ≡ true
-  follows [] e = refl
-  follows (mark ∷ rest) e = e
-
-  by : (g z : Bool) → let l = (if g then digit 0 ∷ [] else []) ++ (if z then [] else marks) in (each_may_precede l ≡ true) × (may_follow l ≡ true)
-  by true true = (refl, refl)
-  by true false = (rw (zero_precedes marks) h.rules, refl)
-  by false true = (refl, refl)
-  by false false = (h.rules, follows marks h.starts)
+starts-follow : (marks : List Mark) → starts_with_digit marks ≡ true → may_follow marks ≡ true
+starts-follow [] h = refl
+starts-follow (mark ∷ rest) h = h
 
 starts-append : (xs ys : List Mark) → starts_with_digit xs ≡ true → starts_with_digit (xs ++ ys) ≡ true
 starts-append [] ys h = cc
@@ -101,23 +97,25 @@ starts-append (digit value ∷ xs) ys h = refl
 starts-append (unit rank ∷ xs) ys h = cc
 starts-append (other ∷ xs) ys h = cc
 
-pub IsRegular-spelled_within : (steps : ℕ) (method : ChineseCountMethod) (number : ℕ) → number ≤ steps → number < scale method 15 * scale method 15 → IsRegular (spelled_within steps method number)
-IsRegular-spelled_within zero method number fuel small = record { rules = refl; starts = refl }
-IsRegular-spelled_within (suc steps) method number fuel small = by (dec_lt number 10) (λ n. IsRegular-spelled_within steps method n) where
-  by : Dec (number < 10) → ((n : ℕ) → n ≤ steps → n < scale method 15 * scale method 15 → IsRegular (spelled_within steps method n)) → IsRegular (spelled_within (suc steps) method number)
-  by (yes h) rest = rw (spelled-digit (suc steps) method number h) (record { rules = refl; starts = refl })
-  by (no h) rest =
-      let ten : 10 ≤ number = omega (arith, h) in
-      let cut = IsCut-greatest method number ten small in
-      let rank = greatest_unit method number in
-      let size = scale method rank in
-      let front = rest (number / size) (omega (arith, cut.smaller, fuel)) (omega (arith, cut.smaller, small)) in
-      let back = rest (number % size) (omega (arith, cut.remainder, cut.size, fuel)) (omega (arith, cut.remainder, cut.size, small)) in
-      let low_front = (Spells-spelled_within steps method (number / size) (omega (arith, cut.smaller, fuel)) (omega (arith, cut.smaller, small))).below rank cut.quotient in
-      let low_back = after_unit-below method (number % size) size rank (spelled_within steps method (number % size))
-      ((Spells-spelled_within steps method (number % size) (omega (arith, cut.remainder, cut.size, fuel)) (omega (arith, cut.remainder, cut.size, small))).below rank cut.remainder) in
-      let after = after_unit-rules (number % size) size (spelled_within steps method (number % size)) back in
-      rw (spelled-step steps method number ten) (record {
-        rules = each-closed rank (spelled_within steps method (number / size)) _ low_front front.rules (unit_precedes rank _ (IsGreatest-unit method number ten).low after.1 low_back) after.0;
-        starts = starts-append (spelled_within steps method (number / size)) _ front.starts;
-      })
+IsRegular-step : (method : ChineseCountMethod) (number rank : ℕ) (front back : List Mark) → IsCut method number rank
+    → IsRegular method (number / scale method rank) front → IsRegular method (number % scale method rank) back
+    → IsRegular method number (front ++ unit rank ∷ after_unit (number % scale method rank) (scale method rank) back)
+IsRegular-step method number rank front back cut f b =
+    let remainder = number % scale method rank in
+    let size = scale method rank in
+    let after = after_unit remainder size back in
+    let rules : each_may_precede after ≡ true = after_unit-by (λ l. each_may_precede l ≡ true) remainder size back (λ none. refl) (λ some gap. rw (zero_precedes back) b.rules) (λ some full. b.rules) in
+    let follows : may_follow after ≡ true = after_unit-by (λ l. may_follow l ≡ true) remainder size back (λ none. refl) (λ some gap. refl) (λ some full. starts-follow back b.starts) in
+    let low = after_unit-all (is_below rank) remainder size back refl (b.spells.below rank cut.remainder) in
+    let no_ge = after_unit-all is_no_ge remainder size back refl b.no_ge in
+    let above : nat_le 1 rank ≡ true = let l = cut.low in grind (arith, nat_tests) in
+    record {
+      spells = Spells-step method number rank front back cut f.spells b.spells;
+      rules = each-closed rank front after (f.spells.below rank cut.quotient) f.rules (unit_precedes rank after cut.low follows low) rules;
+      starts = starts-append front (unit rank ∷ after) f.starts;
+      no_ge = list_all-both is_no_ge front (unit rank ∷ after) f.no_ge (both (nat_le 1 rank) _ above no_ge);
+    }
+
+pub IsRegular-spelled_within : (method : ChineseCountMethod) (steps number : ℕ) → number ≤ steps → number < scale method 15 * scale method 15 → IsRegular method number (spelled_within steps method number)
+IsRegular-spelled_within method =
+    spelled-by method (IsRegular method) (λ number low. record { spells = Spells-digit method number; rules = refl; starts = refl; no_ge = refl }) (IsRegular-step method)

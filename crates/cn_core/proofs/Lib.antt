@@ -1,4 +1,6 @@
+pub mod Beginnings
 pub mod Cuts
+pub mod Ends
 pub mod Fronts
 pub mod Grammar
 pub mod Judging

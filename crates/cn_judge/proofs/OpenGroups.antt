@@ -39,9 +39,9 @@ smaller-none limit [] h = refl
 smaller-none limit (top ∷ groups) h = let t : nat_lt top.0 limit ≡ false = cc in rw t
 
 -- what a section counts, where the open units are not too great
-pub section-fits : (sum size exponent : ℕ) → sum < 2 ^ 32 → exponent ≤ 28 → size ≡ 10 ^ exponent → sum * size < 2 ^ 128
+pub section-fits : (sum size exponent : ℕ) → sum < 2 ^ 64 → exponent ≤ 19 → size ≡ 10 ^ exponent → sum * size < 2 ^ 128
 section-fits sum size exponent small low is =
-    let power : 10 ^ exponent ≤ 10 ^ 28 = pow-le-pow_right (omega arith) low in
-    let bound : size ≤ 10 ^ 28 = omega (arith, is, power) in
-    let most = mul-le sum size (2 ^ 32) (10 ^ 28) (omega (arith, small)) bound in
+    let power : 10 ^ exponent ≤ 10 ^ 19 = pow-le-pow_right (omega arith) low in
+    let bound : size ≤ 10 ^ 19 = omega (arith, is, power) in
+    let most = mul-le sum size (2 ^ 64) (10 ^ 19) (omega (arith, small)) bound in
     omega (arith, most)

@@ -16,11 +16,11 @@ use Rattle.cn_core.proofs.Fronts.{and-left, and-right}
 use Rattle.cn_core.proofs.Judging.{Judges-by_walk}
 use Rattle.cn_core.proofs.OpenUnits.{first_not_smaller-record, in_ranks, length-records}
 use Rattle.cn_judge.specs.declared.quick.Standing.{Standing}
-use Rattle.cn_judge.specs.Private.Regular.{Group, IsRegular, StandsRegular, LeavesNoTail, MayOpen, exponents, groups_of, top_exponent, is_below_top, is_regular_mark, not_smaller, with_last}
+use Rattle.cn_judge.specs.Private.Regular.{Group, IsRegular, StandsRegular, LeavesNoTail, MayOpen, exponents, groups_of, top_exponent, is_below_top, is_regular_mark, first_group, not_smaller, with_last}
 use Rattle.cn_judge.specs.Private.Walk.{HasNoTail}
 use Rattle.cn_judge.proofs.OpenSums.{from_rank}
 use Rattle.cn_judge.proofs.Walking.{chars-from_empty}
-use Rattle.cn_judge.proofs.RegularSums.{product-last, exponent-small, length-groups, top-groups, left-groups, is_first, first-groups, first-strict, first-left, next-left, last-left, records-first, records-unit, records-great, records-small, records-above, records-above_small}
+use Rattle.cn_judge.proofs.RegularSums.{product-last, exponent-small, first_group-within, length-groups, top-groups, left-groups, is_first, first-groups, first-strict, first-left, next-left, last-left, records-first, records-unit, records-great, records-small, records-above, records-above_small}
 use Rattle.cn_judge.proofs.Endings.{judge-plain_end}
 use Rattle.cn_judge.proofs.Faults.{numeral_fits, plain-numeral}
 
@@ -45,12 +45,12 @@ multiplies rank (unit next ∷ rest) regular (inr h) = let less : nat_lt rank ne
 counts : (rank : ℕ) (marks : List Mark) → 0 < rank → counts_a_unit (unit rank) marks ≡ true
 counts rank marks some = let t : (rank == 0) ≡ false = grind (arith, nat_tests) in rw t
 
-groups : (rank last : ℕ) (marks : List Mark) → record_units marks ≡ with_last last (records_from 4 marks) → last < rank
-    → is_first rank (from_rank rank (records_from 4 marks)) ≡ true → groups_strictly (unit rank) marks ≡ true
-groups rank last marks records low h =
+groups : (method : ChineseCountMethod) (rank last : ℕ) (marks : List Mark) → record_units marks ≡ with_last last (records_from (first_group method) marks) → last < rank
+    → is_first rank (from_rank rank (records_from (first_group method) marks)) ≡ true → groups_strictly (unit rank) marks ≡ true
+groups method rank last marks records low h =
     ap (λ o. option_map_or (λ next. nat_lt rank next) o true) (first_not_smaller-record 0 rank marks (omega arith))
     ∙ first-strict rank (record_units marks) ∙ ap (λ l. is_first rank (from_rank rank l)) records
-    ∙ ap (is_first rank) (last-left rank last (records_from 4 marks) low) ∙ h
+    ∙ ap (is_first rank) (last-left rank last (records_from (first_group method) marks) low) ∙ h
 
 -- the marks that end a text stay apart or do not
 plain_end-more : (mark : Mark) (marks : List Mark) → HasNoTail marks → LeavesNoTail mark marks → HasNoTail (mark ∷ marks)
@@ -90,19 +90,19 @@ regular-none method = record {
   records = refl;
   groups_are = refl;
   after_digit = refl;
-  low = omega arith;
+  low = (first_group-within method).0;
   plain_end = inl (omega arith);
 }
 
 -- one more digit
-value-digit : (method : ChineseCountMethod) (marks : List Mark) (total sum last d : ℕ) → last < 4
-    → value method marks ≡ total + sum * 10 ^ exponents method (records_from 4 marks) → record_units marks ≡ with_last last (records_from 4 marks)
-    → value method (digit d ∷ marks) ≡ total + (sum + d * 10 ^ last) * 10 ^ exponents method (records_from 4 marks)
+value-digit : (method : ChineseCountMethod) (marks : List Mark) (total sum last d : ℕ) → last < first_group method
+    → value method marks ≡ total + sum * 10 ^ exponents method (records_from (first_group method) marks) → record_units marks ≡ with_last last (records_from (first_group method) marks)
+    → value method (digit d ∷ marks) ≡ total + (sum + d * 10 ^ last) * 10 ^ exponents method (records_from (first_group method) marks)
 value-digit method marks total sum last d low number records =
-    let heavy : weight method marks ≡ 10 ^ last * 10 ^ exponents method (records_from 4 marks) =
-    ap (λ l. product (map (scale method) l)) records ∙ product-last method last (records_from 4 marks) low in
-    ap (λ w. d * w + value method marks) heavy ∙ ap (λ v. d * (10 ^ last * 10 ^ exponents method (records_from 4 marks)) + v) number
-    ∙ regroup d (10 ^ last) (10 ^ exponents method (records_from 4 marks)) total sum where
+    let heavy : weight method marks ≡ 10 ^ last * 10 ^ exponents method (records_from (first_group method) marks) =
+    ap (λ l. product (map (scale method) l)) records ∙ product-last method last (records_from (first_group method) marks) low in
+    ap (λ w. d * w + value method marks) heavy ∙ ap (λ v. d * (10 ^ last * 10 ^ exponents method (records_from (first_group method) marks)) + v) number
+    ∙ regroup d (10 ^ last) (10 ^ exponents method (records_from (first_group method) marks)) total sum where
       regroup : (d p q t s : ℕ) → d * (p * q) + (t + s * q) ≡ t + (s + d * p) * q
       regroup d p q t s = grind arith
 
@@ -122,7 +122,7 @@ regular-digit method marks held total sum last at_digit d more s h add = record 
   regular = s.regular;
   rules = both (may_precede (digit d) marks) _ (digit-precedes d marks at_digit s.after_digit h) s.rules;
   fit = s.fit;
-  number = value-digit method marks total sum last d s.low s.number s.records ∙ ap (λ n. total + n * 10 ^ exponents method (records_from 4 marks)) (sym add);
+  number = value-digit method marks total sum last d s.low s.number s.records ∙ ap (λ n. total + n * 10 ^ exponents method (records_from (first_group method) marks)) (sym add);
   records = s.records;
   groups_are = s.groups_are;
   after_digit = refl;
@@ -141,72 +141,72 @@ fit-unit method rank marks low h = let t : nat_le (exponent method rank) 38 ≡ 
   test : (n : ℕ) → n ≤ 38 → nat_le n 38 ≡ true
   test n h = grind (arith, nat_tests)
 
-precedes : (rank last : ℕ) (marks : List Mark) → 0 < rank → last < rank → list_all is_regular_mark marks ≡ true → record_units marks ≡ with_last last (records_from 4 marks)
-    → ((starts_with_digit marks ≡ true) ⊎ (is_first rank (record_units marks) ≡ true)) → is_first rank (from_rank rank (records_from 4 marks)) ≡ true
+precedes : (method : ChineseCountMethod) (rank last : ℕ) (marks : List Mark) → 0 < rank → last < rank → list_all is_regular_mark marks ≡ true → record_units marks ≡ with_last last (records_from (first_group method) marks)
+    → ((starts_with_digit marks ≡ true) ⊎ (is_first rank (record_units marks) ≡ true)) → is_first rank (from_rank rank (records_from (first_group method) marks)) ≡ true
     → may_precede (unit rank) marks ≡ true
-precedes rank last marks some low regular records h first =
+precedes method rank last marks some low regular records h first =
     all_three (multiplies_upwards (unit rank) marks) (counts_a_unit (unit rank) marks) (groups_strictly (unit rank) marks)
-    (multiplies rank marks regular h) (counts rank marks some) (groups rank last marks records low first)
+    (multiplies rank marks regular h) (counts rank marks some) (groups method rank last marks records low first)
 
 -- one below 萬
 pub regular-small : (method : ChineseCountMethod) (marks : List Mark) (held : List Group) (total sum last : ℕ) (at_digit : Bool) (rank : ℕ)
-    → IsRegular method marks held total sum last at_digit → true ≡ (nat_lt last rank && (at_digit || last == 0)) → rank < 4 → LeavesNoTail (unit rank) marks
+    → IsRegular method marks held total sum last at_digit → true ≡ (nat_lt last rank && (at_digit || last == 0)) → rank < first_group method → LeavesNoTail (unit rank) marks
     → IsRegular method (unit rank ∷ marks) held total sum rank false
 regular-small method marks held total sum last at_digit rank s h small leaves =
     let up : nat_lt last rank ≡ true = and-left (nat_lt last rank) _ (sym h) in
     let less : last < rank = grind (arith, nat_tests) in
     let some : 0 < rank = omega (arith, less) in
-    let first : is_first rank (records_from 4 marks) ≡ true = records-first rank 4 marks small in
-    let same : records_from 4 (unit rank ∷ marks) ≡ records_from 4 marks = records-small rank marks small in
+    let first : is_first rank (records_from (first_group method) marks) ≡ true = records-first rank (first_group method) marks small in
+    let same : records_from (first_group method) (unit rank ∷ marks) ≡ records_from (first_group method) marks = records-small (first_group method) rank marks small in
     let t : (rank == 0) ≡ false = grind (arith, nat_tests) in
     let with : (l : List ℕ) → with_last rank l ≡ rank ∷ l = λ l. rw t refl in
     record {
-      regular = regular-unit rank marks some (omega (arith, small)) s.regular;
+      regular = regular-unit rank marks some (omega (arith, small, (first_group-within method).1)) s.regular;
       rules = both (may_precede (unit rank) marks) _
-          (precedes rank last marks some less s.regular s.records (either at_digit (last == 0) s.after_digit refl (and-right (nat_lt last rank) _ (sym h)) first)
-          (ap (is_first rank) (first-left rank (records_from 4 marks) first) ∙ first)) s.rules;
-      fit = fit-unit method rank marks (let e = exponent-small method rank (omega (arith, small)) in omega (arith, e, small)) s.fit;
+          (precedes method rank last marks some less s.regular s.records (either at_digit (last == 0) s.after_digit refl (and-right (nat_lt last rank) _ (sym h)) first)
+          (ap (is_first rank) (first-left rank (records_from (first_group method) marks) first) ∙ first)) s.rules;
+      fit = fit-unit method rank marks (let e = exponent-small method rank small in omega (arith, e, small, (first_group-within method).1)) s.fit;
       number = s.number ∙ ap (λ l. total + sum * 10 ^ exponents method l) (sym same);
       records = records-unit rank marks
-          ∙ ap (λ l. rank ∷ l) (records-above rank last marks s.records (omega (arith, less)) ∙ records-above_small rank marks small)
-          ∙ sym (with (records_from 4 marks)) ∙ ap (with_last rank) (sym same);
+          ∙ ap (λ l. rank ∷ l) (records-above (first_group method) rank last marks s.records (omega (arith, less)) ∙ records-above_small (first_group method) rank marks small)
+          ∙ sym (with (records_from (first_group method) marks)) ∙ ap (with_last rank) (sym same);
       groups_are = s.groups_are ∙ ap (groups_of method) (sym same);
       after_digit = refl;
       low = small;
       plain_end = plain_end-more (unit rank) marks s.plain_end leaves;
     } where
-      either : (a b : Bool) → a ≡ starts_with_digit marks → (last == 0) ≡ b → (a || b) ≡ true → is_first rank (records_from 4 marks) ≡ true
+      either : (a b : Bool) → a ≡ starts_with_digit marks → (last == 0) ≡ b → (a || b) ≡ true → is_first rank (records_from (first_group method) marks) ≡ true
           → (starts_with_digit marks ≡ true) ⊎ (is_first rank (record_units marks) ≡ true)
       either true b at e h first = inl (sym at)
-      either false true at e h first = inr (ap (is_first rank) s.records ∙ ap (λ (b : Bool). is_first rank (if b then records_from 4 marks else last ∷ records_from 4 marks)) e ∙ first)
+      either false true at e h first = inr (ap (is_first rank) s.records ∙ ap (λ (b : Bool). is_first rank (if b then records_from (first_group method) marks else last ∷ records_from (first_group method) marks)) e ∙ first)
       either false false at e h first = cc
 
 -- one from 萬 up: once what is smaller is closed, the unit may stand there
 may_open : (method : ChineseCountMethod) (marks : List Mark) (held left : List Group) (total sum last : ℕ) (at_digit : Bool) (rank : ℕ)
-    → IsRegular method marks held total sum last at_digit → 3 < rank → left ≡ not_smaller rank held → true ≡ is_below_top rank left
+    → IsRegular method marks held total sum last at_digit → first_group method ≤ rank → left ≡ not_smaller rank held → true ≡ is_below_top rank left
     → ((starts_with_digit marks ≡ true) ⊎ (is_first rank (record_units marks) ≡ true))
     → MayOpen method marks left rank
 may_open method marks held left total sum last at_digit rank s great gives top h =
     let low = s.low in
-    let ranks = records_from 4 marks in
+    let ranks = records_from (first_group method) marks in
     let same : left ≡ groups_of method (from_rank rank ranks) = gives ∙ ap (not_smaller rank) s.groups_are ∙ left-groups method rank ranks in
     let first : is_first rank (from_rank rank ranks) ≡ true = sym (top ∙ ap (is_below_top rank) same ∙ first-groups method rank (from_rank rank ranks)) in
     record {
-      left_are = same ∙ ap (groups_of method) (sym (next-left rank ranks first) ∙ sym (records-above rank last marks s.records (omega (arith, great, low))));
-      precedes = precedes rank last marks (omega (arith, great)) (omega (arith, great, low)) s.regular s.records h first;
+      left_are = same ∙ ap (groups_of method) (sym (next-left rank ranks first) ∙ sym (records-above (first_group method) rank last marks s.records (omega (arith, great, low))));
+      precedes = precedes method rank last marks (omega (arith, great, low)) (omega (arith, great, low)) s.regular s.records h first;
     }
 
 pub may_open-digit : (method : ChineseCountMethod) (marks : List Mark) (held left : List Group) (total sum last : ℕ) (at_digit : Bool) (rank : ℕ)
-    → IsRegular method marks held total sum last at_digit → 3 < rank → at_digit ≡ true → left ≡ not_smaller rank held → true ≡ is_below_top rank left
+    → IsRegular method marks held total sum last at_digit → first_group method ≤ rank → at_digit ≡ true → left ≡ not_smaller rank held → true ≡ is_below_top rank left
     → MayOpen method marks left rank
 may_open-digit method marks held left total sum last at_digit rank s great at gives top =
     may_open method marks held left total sum last at_digit rank s great gives top (inl (sym s.after_digit ∙ at))
 
 pub may_open-unit : (method : ChineseCountMethod) (marks : List Mark) (held : List Group) (total sum last : ℕ) (at_digit : Bool) (rank : ℕ)
-    → IsRegular method marks held total sum last at_digit → 3 < rank → last ≡ 0 → true ≡ is_below_top rank held
+    → IsRegular method marks held total sum last at_digit → first_group method ≤ rank → last ≡ 0 → true ≡ is_below_top rank held
     → MayOpen method marks held rank
 may_open-unit method marks held total sum last at_digit rank s great none top =
-    let ranks = records_from 4 marks in
+    let ranks = records_from (first_group method) marks in
     let first : is_first rank ranks ≡ true = sym (top ∙ ap (is_below_top rank) s.groups_are ∙ first-groups method rank ranks) in
     let kept : held ≡ not_smaller rank held =
     s.groups_are ∙ ap (groups_of method) (sym (first-left rank ranks first)) ∙ sym (left-groups method rank ranks) ∙ ap (not_smaller rank) (sym s.groups_are) in
@@ -221,36 +221,36 @@ ranked (other ∷ rest) h = cc
 ranked (unit rank ∷ rest) h =
     both (nat_lt rank 16) _ (and-right (nat_lt 0 rank) _ (and-left (nat_lt 0 rank && nat_lt rank 16) _ h)) (ranked rest (and-right (nat_lt 0 rank && nat_lt rank 16) _ h))
 
-pub group-room : (method : ChineseCountMethod) (marks : List Mark) (left : List Group) (rank : ℕ) → list_all is_regular_mark marks ≡ true → rank < 16 → 3 < rank
+pub group-room : (method : ChineseCountMethod) (marks : List Mark) (left : List Group) (rank : ℕ) → list_all is_regular_mark marks ≡ true → rank < 16 → first_group method ≤ rank
     → MayOpen method marks left rank → length left < 16
 group-room method marks left rank regular low great o =
-    let all = length-records 4 (unit rank ∷ marks) (omega arith) (ranked (unit rank ∷ marks) (regular-unit rank marks (omega (arith, great)) low regular)) in
-    let more = ap length (records-great rank marks (omega (arith, great))) in
+    let all = length-records (first_group method) (unit rank ∷ marks) (first_group-within method).1 (ranked (unit rank ∷ marks) (regular-unit rank marks (omega (arith, great, (first_group-within method).0)) low regular)) in
+    let more = ap length (records-great (first_group method) rank marks great) in
     let same = ap length o.left_are ∙ length-groups method (records_from (rank + 1) marks) in
-    omega (arith, all, more, same)
+    omega (arith, all, more, same, (first_group-within method).0)
 
 pub regular-group : (method : ChineseCountMethod) (marks : List Mark) (held left after : List Group) (total sum last : ℕ) (at_digit : Bool) (rank all more : ℕ)
-    → IsRegular method marks held total sum last at_digit → 3 < rank → rank < 16 → LeavesNoTail (unit rank) marks
+    → IsRegular method marks held total sum last at_digit → first_group method ≤ rank → rank < 16 → LeavesNoTail (unit rank) marks
     → more ≡ total + sum * 10 ^ top_exponent held → MayOpen method marks left rank → all ≡ top_exponent left + exponent method rank → all ≤ 38
     → after ≡ (rank, all) ∷ left → IsRegular method (unit rank ∷ marks) after more 0 0 false
 regular-group method marks held left after total sum last at_digit rank all more s great low leaves add o all_is small after_is =
-    let ranks = records_from 4 marks in
+    let ranks = records_from (first_group method) marks in
     let above = records_from (rank + 1) marks in
-    let same : records_from 4 (unit rank ∷ marks) ≡ rank ∷ above = records-great rank marks (omega (arith, great)) in
+    let same : records_from (first_group method) (unit rank ∷ marks) ≡ rank ∷ above = records-great (first_group method) rank marks great in
     let inner : top_exponent left ≡ exponents method above = ap top_exponent o.left_are ∙ top-groups method above in
     let outer : top_exponent held ≡ exponents method ranks = ap top_exponent s.groups_are ∙ top-groups method ranks in
     let whole : all ≡ exponent method rank + exponents method above = omega (arith, all_is, inner) in
     let closed : more ≡ value method marks = add ∙ ap (λ e. total + sum * 10 ^ e) outer ∙ sym s.number in
     record {
-      regular = regular-unit rank marks (omega (arith, great)) low s.regular;
+      regular = regular-unit rank marks (omega (arith, great, (first_group-within method).0)) low s.regular;
       rules = both (may_precede (unit rank) marks) _ o.precedes s.rules;
       fit = fit-unit method rank marks (omega (arith, all_is, small)) s.fit;
-      number = sym closed ∙ none more (10 ^ exponents method (records_from 4 (unit rank ∷ marks)));
+      number = sym closed ∙ none more (10 ^ exponents method (records_from (first_group method) (unit rank ∷ marks)));
       records = records-unit rank marks ∙ sym same;
       groups_are = after_is ∙ ap (λ n. (rank, n) ∷ left) whole ∙ ap (λ l. (rank, exponent method rank + exponents method above) ∷ l) o.left_are
           ∙ ap (groups_of method) (sym same);
       after_digit = refl;
-      low = omega arith;
+      low = (first_group-within method).0;
       plain_end = plain_end-more (unit rank) marks s.plain_end leaves;
     } where
       none : (n p : ℕ) → n ≡ n + 0 * p
@@ -276,10 +276,10 @@ pub judges-regular : (method : ChineseCountMethod) (marks : List Mark) (held : L
     → more ≡ sum + d * 10 ^ last → n ≡ total + more * 10 ^ top_exponent held → n < 2 ^ 128
     → Judges method (first ∷ marks) (Ok n)
 judges-regular method marks held total sum last at_digit first d more n s numeral add number fits =
-    let outer : top_exponent held ≡ exponents method (records_from 4 marks) = ap top_exponent s.groups_are ∙ top-groups method (records_from 4 marks) in
+    let outer : top_exponent held ≡ exponents method (records_from (first_group method) marks) = ap top_exponent s.groups_are ∙ top-groups method (records_from (first_group method) marks) in
     let same : value method (opened (first ∷ marks)) ≡ n =
     ap (value method) numeral.1 ∙ value-digit method marks total sum last d s.low s.number s.records
-    ∙ ap (λ k. total + k * 10 ^ exponents method (records_from 4 marks)) (sym add) ∙ ap (λ e. total + more * 10 ^ e) (sym outer) ∙ sym number in
+    ∙ ap (λ k. total + k * 10 ^ exponents method (records_from (first_group method) marks)) (sym add) ∙ ap (λ e. total + more * 10 ^ e) (sym outer) ∙ sym number in
     let fit : some_unfit method (first ∷ marks) ≡ false = ap (λ b. b || some_unfit method marks) (numeral_fits method first marks numeral.0) ∙ s.fit in
     Judges-by_walk method (first ∷ marks) (Ok n)
     (judge-plain_end method first marks s.plain_end ∙ plain-numeral method (first ∷ marks) n numeral.0 fit same fits)
@@ -313,11 +313,11 @@ stepped-none method bytes held standing s = record {
 dark-more : (c : ℕ) (after : List ℕ) → is_whitespace c ≡ false → filter is_not_whitespace after ≡ after → filter is_not_whitespace (c ∷ after) ≡ c ∷ after
 dark-more c after dark h = rw dark (ap (λ l. c ∷ l) h)
 
-pub stepped-second : (method : ChineseCountMethod) (bytes ahead : List ℕ) (held : List Group) (standing : Standing) (s : HasStepped method bytes ahead held standing)
-    → (length bytes - length ahead == 3) ≡ (length (marks_of s.after) == 1)
-stepped-second method bytes ahead held standing s = same (length bytes) (length ahead) (length (marks_of s.after)) s.size where
-  same : (b a m : ℕ) → a + 3 * m ≡ b → (b - a == 3) ≡ (m == 1)
-  same b a m e = grind (arith, nat_tests)
+pub stepped-second : (method : ChineseCountMethod) (bytes ahead : List ℕ) (held : List Group) (standing : Standing) (second : ℕ) (s : HasStepped method bytes ahead held standing)
+    → second + 3 ≡ length bytes → (length ahead == second) ≡ (length (marks_of s.after) == 1)
+stepped-second method bytes ahead held standing second s is = same (length bytes) (length ahead) (length (marks_of s.after)) second s.size is where
+  same : (b a m n : ℕ) → a + 3 * m ≡ b → n + 3 ≡ b → (a == n) ≡ (m == 1)
+  same b a m n e is = grind (arith, nat_tests)
 
 pub stepped-more : (method : ChineseCountMethod) (bytes ahead before : List ℕ) (held left : List Group) (standing next : Standing) (c : ℕ) (mark : Mark)
     → (s : HasStepped method bytes ahead held standing) → chars ahead ≡ chars before ++ c ∷ [] → mark ≡ mark_of c → is_whitespace c ≡ false

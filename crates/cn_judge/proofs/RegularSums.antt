@@ -8,7 +8,7 @@ use Rattle.cn_core.specs.declared.method.ChineseCountMethod.TheVariants.{Low, Te
 use Rattle.cn_core.specs.Mark.{Mark, digit, unit, other}
 use Rattle.cn_core.specs.Scale.{scale, exponent}
 use Rattle.cn_core.specs.Value.{product, records_from}
-use Rattle.cn_judge.specs.Private.Regular.{exponents, groups_of, top_exponent, is_below_top, not_smaller, with_last}
+use Rattle.cn_judge.specs.Private.Regular.{exponents, groups_of, top_exponent, is_below_top, not_smaller, first_group, with_last}
 use Rattle.cn_judge.proofs.OpenSums.{from_rank, records-left}
 
 -- the scales of some ranks make a power of ten
@@ -17,14 +17,26 @@ product-exponents method [] = refl
 product-exponents method (rank ∷ ranks) =
     ap (λ n. scale method rank * n) (product-exponents method ranks) ∙ sym (pow-add 10 (exponent method rank) (exponents method ranks))
 
--- below 萬 all methods agree
-pub exponent-small : (method : ChineseCountMethod) (rank : ℕ) → rank ≤ 4 → exponent method rank ≡ rank
+-- no unit of a section is greater than its scale
+pub exponent-small : (method : ChineseCountMethod) (rank : ℕ) → rank < first_group method → exponent method rank ≡ rank
 exponent-small Low rank h = refl
 exponent-small TenThousand rank h = let t : nat_le rank 4 ≡ true = grind (arith, nat_tests) in rw t
 exponent-small Middle rank h = let t : nat_le rank 4 ≡ true = grind (arith, nat_tests) in rw t
 exponent-small High rank h = let t : nat_le rank 4 ≡ true = grind (arith, nat_tests) in rw t
 
-pub product-last : (method : ChineseCountMethod) (last : ℕ) (ranks : List ℕ) → last < 4
+pub first_group-other : (method : ChineseCountMethod) → (method ≡ Low → ⊥) → first_group method ≡ 4
+first_group-other Low h = absurd (h refl)
+first_group-other TenThousand h = refl
+first_group-other Middle h = refl
+first_group-other High h = refl
+
+pub first_group-within : (method : ChineseCountMethod) → (0 < first_group method) × (first_group method ≤ 16)
+first_group-within Low = (omega arith, omega arith)
+first_group-within TenThousand = (omega arith, omega arith)
+first_group-within Middle = (omega arith, omega arith)
+first_group-within High = (omega arith, omega arith)
+
+pub product-last : (method : ChineseCountMethod) (last : ℕ) (ranks : List ℕ) → last < first_group method
     → product (map (scale method) (with_last last ranks)) ≡ 10 ^ last * 10 ^ exponents method ranks
 product-last method last ranks low = by (last == 0) refl where
   by : (b : Bool) → (last == 0) ≡ b → product (map (scale method) (if b then ranks else last ∷ ranks)) ≡ 10 ^ last * 10 ^ exponents method ranks
@@ -33,7 +45,7 @@ product-last method last ranks low = by (last == 0) refl where
       let all = product-exponents method ranks in rw (none, all) (omega arith)
   by false e =
       let all = product-exponents method ranks in
-      let small : exponent method last ≡ last = exponent-small method last (omega (arith, low)) in
+      let small : exponent method last ≡ last = exponent-small method last low in
       rw (all, small)
 
 -- the open units by their ranks
@@ -111,23 +123,23 @@ records-unit rank marks =
     let t : nat_le 0 rank ≡ true = grind (arith, nat_tests) in
     let m : max 0 (rank + 1) ≡ rank + 1 = omega arith in rw (t, m)
 
-pub records-great : (rank : ℕ) (marks : List Mark) → 4 ≤ rank → records_from 4 (unit rank ∷ marks) ≡ rank ∷ records_from (rank + 1) marks
-records-great rank marks h =
-    let t : nat_le 4 rank ≡ true = grind (arith, nat_tests) in
-    let m : max 4 (rank + 1) ≡ rank + 1 = omega (arith, h) in rw (t, m)
+pub records-great : (least rank : ℕ) (marks : List Mark) → least ≤ rank → records_from least (unit rank ∷ marks) ≡ rank ∷ records_from (rank + 1) marks
+records-great least rank marks h =
+    let t : nat_le least rank ≡ true = grind (arith, nat_tests) in
+    let m : max least (rank + 1) ≡ rank + 1 = omega (arith, h) in rw (t, m)
 
-pub records-small : (rank : ℕ) (marks : List Mark) → rank < 4 → records_from 4 (unit rank ∷ marks) ≡ records_from 4 marks
-records-small rank marks h =
-    let t : nat_le 4 rank ≡ false = grind (arith, nat_tests) in
-    let m : max 4 (rank + 1) ≡ 4 = omega (arith, h) in rw (t, m)
+pub records-small : (least rank : ℕ) (marks : List Mark) → rank < least → records_from least (unit rank ∷ marks) ≡ records_from least marks
+records-small least rank marks h =
+    let t : nat_le least rank ≡ false = grind (arith, nat_tests) in
+    let m : max least (rank + 1) ≡ least = omega (arith, h) in rw (t, m)
 
 -- and the records above a unit
-pub records-above : (rank last : ℕ) (marks : List Mark) → records_from 0 marks ≡ with_last last (records_from 4 marks) → last < rank + 1
-    → records_from (rank + 1) marks ≡ from_rank (rank + 1) (records_from 4 marks)
-records-above rank last marks records low =
+pub records-above : (least rank last : ℕ) (marks : List Mark) → records_from 0 marks ≡ with_last last (records_from least marks) → last < rank + 1
+    → records_from (rank + 1) marks ≡ from_rank (rank + 1) (records_from least marks)
+records-above least rank last marks records low =
     let m : max 0 (rank + 1) ≡ rank + 1 = omega arith in
     let left = rw m at (records-left 0 (rank + 1) marks) in
-    sym left ∙ ap (from_rank (rank + 1)) records ∙ last-left (rank + 1) last (records_from 4 marks) low
+    sym left ∙ ap (from_rank (rank + 1)) records ∙ last-left (rank + 1) last (records_from least marks) low
 
-pub records-above_small : (rank : ℕ) (marks : List Mark) → rank < 4 → from_rank (rank + 1) (records_from 4 marks) ≡ records_from 4 marks
-records-above_small rank marks low = let m : max 4 (rank + 1) ≡ 4 = omega (arith, low) in rw m at (records-left 4 (rank + 1) marks)
+pub records-above_small : (least rank : ℕ) (marks : List Mark) → rank < least → from_rank (rank + 1) (records_from least marks) ≡ records_from least marks
+records-above_small least rank marks low = let m : max least (rank + 1) ≡ least = omega (arith, low) in rw m at (records-left least (rank + 1) marks)

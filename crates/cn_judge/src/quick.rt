@@ -1,7 +1,8 @@
 // A quick way for regular numerals: one pass from the back over characters of three bytes, with the digits of
-// a section below 萬 in 32 bits. What it does not take is left to the walk, which judges from the beginning.
+// a section in 64 bits. What it does not take is left to the walk, which judges from the beginning.
 ghost use Rattle.std.specs.Prelude.{
   ◌≡◌,
+  ◌≤◌,
   ℕ,
   ◌+◌,
   ◌*◌,
@@ -27,7 +28,7 @@ ghost use Rattle.cn_core.specs.Mark.{Mark as NumeralMark, digit};
 ghost use Rattle.cn_core.specs.Numeral.{each_may_precede, is_numeral, opened, starts_with_digit};
 ghost use Rattle.cn_core.specs.Text.{text_of, marks_of};
 ghost use Rattle.cn_judge.specs.Private.Marked.{marked, unit_mark};
-ghost use Rattle.cn_judge.specs.Private.Regular.{Group, LeavesNoTail, MayOpen, StandsRegular, top_exponent};
+ghost use Rattle.cn_judge.specs.Private.Regular.{Group, LeavesNoTail, MayOpen, StandsRegular, first_group, top_exponent};
 
 use crate::ends::split_last_known;
 use crate::mark::Mark;
@@ -37,46 +38,60 @@ use cn_core::{ChineseCountMethod, Unit, exponent, power_of_ten};
 /// Where a quick walk stands between two characters.
 #[derive(Copy, Clone)]
 pub struct Standing {
-    /// The sum of the digits before the last unit from 萬 up.
+    /// The sum of the digits before the last unit that opened a group.
     pub total: u128,
-    /// The sum of the digits since then, as if no unit from 萬 up followed.
-    pub sum: u32,
+    /// The sum of the digits since then, as if no group was open.
+    pub sum: u64,
     /// The last unit since then, or 個 if there is none.
     pub last: Unit,
     /// Whether a digit has just been met.
     pub at_digit: bool,
 }
 
-// The number that a unit below 萬 stands for.
-fn place(unit: Unit) -> u32
-    requires { rank unit < 4 }
-    ensures { result ≡ 10 ^ rank unit }
+// The powers of ten by their exponents, as far as units of a section go.
+static PLACES: [u64; 16] = [
+    1,
+    10,
+    100,
+    1_000,
+    10_000,
+    100_000,
+    1_000_000,
+    10_000_000,
+    100_000_000,
+    1_000_000_000,
+    10_000_000_000,
+    100_000_000_000,
+    1_000_000_000_000,
+    10_000_000_000_000,
+    100_000_000_000_000,
+    1_000_000_000_000_000,
+];
+
+// The number that a unit of a section stands for.
+fn place(unit: Unit) -> u64
+    ensures value { result ≡ 10 ^ rank unit }
+    ensures most { result ≤ 10 ^ 15 }
 {
-    match unit {
-        Unit::Ge => 1,
-        Unit::Shi => 10,
-        Unit::Bai => 100,
-        _ => 1000,
-    }
+    PLACES[unit as usize]
 }
 
 // The section's sum with one more digit, if it fits.
-fn add_digit(standing: Standing, value: u8) -> Option<u32>
-    requires { rank standing.last < 4 }
+fn add_digit(standing: Standing, value: u8) -> Option<u64>
     ensures { IfSome result (λ sum. sum ≡ standing.sum + value * 10 ^ rank standing.last) }
 {
     standing
         .sum
-        .checked_add(value as u32 * place(standing.last))
+        .checked_add(value as u64 * place(standing.last))
 }
 
 // The sum so far with a section that the open units multiply, if it fits.
-fn add_section(groups: &OpenGroups, total: u128, sum: u32) -> Option<u128>
+fn add_section(groups: &OpenGroups, total: u128, sum: u64) -> Option<u128>
     ensures { IfSome result (λ n. (n ≡ total + sum * 10 ^ top_exponent groups.now) × (n < 2 ^ 128)) }
 {
     let exponent = groups.exponent();
     let size = power_of_ten(exponent)?;
-    if exponent <= 28 {
+    if exponent <= 19 {
         total.checked_add(sum as u128 * size)
     } else {
         total.checked_add((sum as u128).checked_mul(size)?)
@@ -108,7 +123,7 @@ fn step_digit(standing: Standing, value: u8) -> Option<Standing>
     })
 }
 
-// Whether a unit below 萬 is greater than the section's last unit, and has a digit after it unless it is the
+// Whether a unit of a section is greater than the section's last unit, and has a digit after it unless it is the
 // section's first.
 fn extends_section(standing: Standing, unit: Unit) -> bool
     ensures { result ≡ (nat_lt (rank standing.last) (rank unit) && (standing.at_digit || rank standing.last == 0)) }
@@ -116,10 +131,10 @@ fn extends_section(standing: Standing, unit: Unit) -> bool
     unit > standing.last && (standing.at_digit || standing.last == Unit::Ge)
 }
 
-// One more unit below 萬.
-fn step_small_unit(standing: Standing, unit: Unit) -> Option<Standing>
+// One more unit of a section.
+fn step_section_unit(standing: Standing, unit: Unit) -> Option<Standing>
     ensures { (method : ChineseCountMethod) (marks : List NumeralMark) (groups : List Group) → StandsRegular method marks groups standing
-        → rank unit < 4
+        → rank unit < first_group method
         → LeavesNoTail (unit_mark unit) marks
         → IfSome result (StandsRegular method (unit_mark unit ∷ marks) groups) }
 {
@@ -134,9 +149,9 @@ fn step_small_unit(standing: Standing, unit: Unit) -> Option<Standing>
     })
 }
 
-// Whether a unit from 萬 up may stand there; it closes what is smaller.
+// Whether a unit may open a group there; it closes what is smaller.
 fn makes_way(groups: &mut OpenGroups, standing: Standing, unit: Unit) -> bool
-    ensures { (method : ChineseCountMethod) (marks : List NumeralMark) → StandsRegular method marks groups.old standing → 3 < rank unit
+    ensures { (method : ChineseCountMethod) (marks : List NumeralMark) → StandsRegular method marks groups.old standing → first_group method ≤ rank unit
         → IsTrue result → MayOpen method marks groups.new (rank unit) }
 {
     if standing.at_digit {
@@ -147,14 +162,14 @@ fn makes_way(groups: &mut OpenGroups, standing: Standing, unit: Unit) -> bool
     }
 }
 
-// One more unit from 萬 up, which closes the section.
+// One more unit that opens a group, which closes the section.
 fn step_group(
     method: ChineseCountMethod,
     groups: &mut OpenGroups,
     standing: Standing,
     unit: Unit,
 ) -> Option<Standing>
-    requires { (marks : List NumeralMark) × StandsRegular method marks groups.old standing × (3 < rank unit) }
+    requires { (marks : List NumeralMark) × StandsRegular method marks groups.old standing × (first_group method ≤ rank unit) }
     ensures { (marks : List NumeralMark) → StandsRegular method marks groups.old standing
         → LeavesNoTail (unit_mark unit) marks
         → IfSome result (StandsRegular method (unit_mark unit ∷ marks) groups.new) }
@@ -183,6 +198,16 @@ fn leaves_tail(unit: Unit, standing: Standing, is_second: bool) -> bool
     unit >= Unit::Bai && standing.at_digit && is_second
 }
 
+// Whether a unit opens a group: each from 萬 up does, but by `Low` none, since there each is ten of the one before.
+fn opens_group(method: ChineseCountMethod, unit: Unit) -> bool
+    ensures { result ≡ nat_le (first_group method) (rank unit) }
+{
+    match method {
+        ChineseCountMethod::Low => false,
+        _ => unit >= Unit::Wan,
+    }
+}
+
 // One more unit.
 fn step_unit(
     method: ChineseCountMethod,
@@ -198,10 +223,10 @@ fn step_unit(
     if leaves_tail(unit, standing, is_second) {
         return None;
     }
-    if unit < Unit::Wan {
-        step_small_unit(standing, unit)
-    } else {
+    if opens_group(method, unit) {
         step_group(method, groups, standing, unit)
+    } else {
+        step_section_unit(standing, unit)
     }
 }
 
@@ -246,8 +271,9 @@ fn finish(groups: &OpenGroups, standing: Standing, first: Mark) -> Option<u128>
     add_section(groups, standing.total, add_digit(standing, digit)?)
 }
 
-/// The number of a regular numeral: of digits and units above 個 that take three bytes each, where no last
-/// digit stands apart and all is within 128 bits. `None` says nothing of a text.
+/// The number of a regular numeral: of digits and units above 個 that take three bytes each, where no last digit
+/// stands apart, a section's units rise to the front, each behind a digit, and all is within 128 bits. `None` says
+/// nothing of a text.
 pub fn read_quickly(method: ChineseCountMethod, text: &str) -> Option<u128>
     ensures { IfSome result (λ n. Judges method (marks_of (text_of text.now)) (Ok n)) }
 {
@@ -258,14 +284,15 @@ pub fn read_quickly(method: ChineseCountMethod, text: &str) -> Option<u128>
         last: Unit::Ge,
         at_digit: false,
     };
+    let second = text.len().checked_sub(3)?;
     let mut ahead = text;
-    'walking: while let Some((mark, before)) = split_last_known(ahead) {
+    'walking: loop {
+        let (mark, before) = split_last_known(ahead)?;
         if before.is_empty() {
             return finish(&groups, standing, mark);
         }
-        let is_second = text.len() - ahead.len() == 3;
+        let is_second = ahead.len() == second;
         standing = step(method, &mut groups, standing, mark, is_second)?;
         ahead = before;
     }
-    None
 }

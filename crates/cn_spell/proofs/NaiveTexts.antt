@@ -1,18 +1,31 @@
 -- The text of plain digits, from its lowest digit up.
-use Rattle.std.proofs.Common.{◌≡◌, ℕ, ◌-◌, List, [], ◌∷◌, length, map, refl, ap, ◌∙◌}
+use Rattle.std.proofs.Common.{◌≡◌, ℕ, ◌+◌, ◌-◌, ◌*◌, ◌^◌, ◌%◌, ◌<◌, ◌≤◌, Bool, true, false, List, [], ◌∷◌, ◌++◌, length, map, take, slice_index, refl, ap, ap₂, sym, ◌∙◌, arith, length-append}
 use Rattle.std.specs.Prelude.{decimal, reverse}
-use Rattle.std.proofs.lemmas.List.{length-map, length-reverse, reverse-reverse}
+use Rattle.std.specs.List.{list_all}
+use Rattle.std.proofs.lemmas.Fmt.{decimal_by_steps_wide}
+use Rattle.std.proofs.lemmas.List.{length-map, length-reverse, reverse-append, reverse-reverse, take_more}
+use Rattle.std.proofs.lemmas.List.Folds.{list_all-append, list_all-map}
 use Rattle.cn_core.specs.declared.script.ChineseVariant.{ChineseVariant}
 use Rattle.cn_core.specs.declared.case.ChineseCase.{ChineseCase}
 use Rattle.cn_core.specs.Characters.{digit_char}
 use Rattle.cn_core.specs.Mark.{digit}
 use Rattle.cn_core.specs.Naive.{decimal_digits}
-use Rattle.cn_core.specs.Written.{mark_char}
+use Rattle.cn_core.specs.Written.{mark_char, written}
 use Rattle.cn_spell.specs.Working.Places.{places_of}
+use Rattle.cn_spell.specs.Working.Sign.{sign_characters, sign_count}
+use Rattle.cn_spell.proofs.Signs.{length-sign}
+use Rattle.cn_spell.proofs.Tables.{three-digit, three-minus}
+use Rattle.cn_spell.proofs.ThreeBytes.{takes_three}
 
 -- the characters of these digits, which are told from the lowest up
 abbrev pub digit_characters : ChineseVariant → ChineseCase → List ℕ → List ℕ
 digit_characters variant case digits = map (digit_char variant case) (reverse digits)
+
+-- the next of them stands in front
+pub digit_characters-more : (variant : ChineseVariant) (case : ChineseCase) (digits : List ℕ) (place : ℕ) → place < length digits
+    → digit_characters variant case (take (place + 1) digits) ≡ digit_char variant case (slice_index digits place) ∷ digit_characters variant case (take place digits)
+digit_characters-more variant case digits place h =
+    ap (digit_characters variant case) (take_more digits place 0 h) ∙ ap (map (digit_char variant case)) (reverse-append (take place digits) (slice_index digits place ∷ []))
 
 same-characters : (variant : ChineseVariant) (case : ChineseCase) (bytes : List ℕ)
     → map (digit_char variant case) (map (λ byte. byte - 48) bytes) ≡ map (mark_char variant case) (map (λ byte. digit (byte - 48)) bytes)
@@ -27,3 +40,37 @@ digit_characters-all variant case number =
 
 pub length-digit_characters : (variant : ChineseVariant) (case : ChineseCase) (digits : List ℕ) → length (digit_characters variant case digits) ≡ length digits
 length-digit_characters variant case digits = length-map (reverse digits) (digit_char variant case) ∙ length-reverse digits
+
+-- each of them takes three bytes
+three-decimal : (variant : ChineseVariant) (case : ChineseCase) (number : ℕ) → number < 10 ^ 64 → list_all (λ byte. takes_three (digit_char variant case (byte - 48))) (decimal number) ≡ true
+three-decimal variant case = decimal_by_steps_wide (λ number bytes. list_all (λ byte. takes_three (digit_char variant case (byte - 48))) bytes ≡ true) one more where
+  one : (number : ℕ) → number < 10 → list_all (λ byte. takes_three (digit_char variant case (byte - 48))) ((48 + number) ∷ []) ≡ true
+  one number small = let e : 48 + number - 48 ≡ number = omega arith in rw (e, three-digit variant case number small) refl
+
+  more : (number : ℕ) (bytes : List ℕ) → 10 ≤ number → list_all (λ byte. takes_three (digit_char variant case (byte - 48))) bytes ≡ true
+      → list_all (λ byte. takes_three (digit_char variant case (byte - 48))) (bytes ++ ((48 + number % 10) ∷ [])) ≡ true
+  more number bytes ten rest =
+      let last : 48 + number % 10 - 48 ≡ number % 10 = omega arith in
+      rw (list_all-append (λ byte. takes_three (digit_char variant case (byte - 48))) bytes ((48 + number % 10) ∷ []), rest, last, three-digit variant case (number % 10) (omega arith)) refl
+
+pub three-naive : (variant : ChineseVariant) (case : ChineseCase) (negative : Bool) (number : ℕ) → number < 10 ^ 64 → list_all takes_three (written variant case negative (decimal_digits number)) ≡ true
+three-naive variant case negative number small = by negative where
+  digits : list_all takes_three (map (mark_char variant case) (decimal_digits number)) ≡ true
+  digits =
+      list_all-map takes_three (mark_char variant case) (decimal_digits number) ∙ list_all-map (λ mark. takes_three (mark_char variant case mark)) (λ byte. digit (byte - 48)) (decimal number)
+      ∙ three-decimal variant case number small
+
+  by : (negative : Bool) → list_all takes_three (written variant case negative (decimal_digits number)) ≡ true
+  by true = rw (three-minus variant, digits) refl
+  by false = digits
+
+-- the sign and the digits
+pub naive-is : (variant : ChineseVariant) (case : ChineseCase) (negative : Bool) (number : ℕ)
+    → sign_characters variant negative ++ digit_characters variant case (places_of number) ≡ written variant case negative (decimal_digits number)
+naive-is variant case negative number = ap (λ digits. sign_characters variant negative ++ digits) (digit_characters-all variant case number)
+
+pub length-naive : (variant : ChineseVariant) (case : ChineseCase) (negative : Bool) (number : ℕ)
+    → length (written variant case negative (decimal_digits number)) ≡ sign_count negative + length (places_of number)
+length-naive variant case negative number =
+    ap length (sym (naive-is variant case negative number)) ∙ length-append (sign_characters variant negative) (digit_characters variant case (places_of number))
+    ∙ ap₂ (λ a b. a + b) (length-sign variant negative) (length-digit_characters variant case (places_of number))

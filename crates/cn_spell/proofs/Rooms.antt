@@ -1,8 +1,15 @@
--- What a room holds after a character is put.
-use Rattle.std.proofs.Common.{◌≡◌, ℕ, zero, suc, ◌+◌, ◌-◌, ◌≤◌, true, List, [], ◌∷◌, ◌++◌, length, drop, set, slice_index, refl, ap, ap₂, ◌∙◌, arith, Bool, false, if◌then◌else◌}
-use Rattle.std.specs.Str.{IsUtf8, is_utf8}
-use Rattle.cn_spell.specs.Working.Room.{Filling}
-use Rattle.std.proofs.lemmas.Str.{IsUtf8-nil, IsUtf8-append, IsUtf8-from_is_utf8, is_utf8-from_IsUtf8}
+-- What a room shows after a character is put.
+use Rattle.std.proofs.Common.{◌≡◌, ℕ, zero, suc, ◌+◌, ◌-◌, ◌*◌, ◌≤◌, Bool, true, false, List, [], ◌∷◌, ◌++◌, length, map, drop, set, encode_utf8_all, slice_index, if◌then◌else◌, refl, ap, ap₂, ◌∙◌, arith}
+use Rattle.std.specs.Char.{encode_utf8}
+use Rattle.std.specs.Str.{IsUtf8}
+use Rattle.std.proofs.lemmas.Str.{IsUtf8-nil, IsUtf8-append}
+use Rattle.cn_core.specs.declared.script.ChineseVariant.{ChineseVariant}
+use Rattle.cn_core.specs.declared.case.ChineseCase.{ChineseCase}
+use Rattle.cn_core.specs.Mark.{Mark}
+use Rattle.cn_core.specs.Written.{mark_char}
+use Rattle.cn_spell.specs.Working.Groups.{kept}
+use Rattle.cn_spell.specs.Working.Room.{Counts, Shows}
+use Rattle.cn_spell.proofs.ThreeBytes.{takes_three, encode-three}
 
 drop-sets : (items : List ℕ) (start a b d : ℕ) → start + 3 ≤ length items
     → drop start (set (set (set items start a) (start + 1) b) (start + 2) d) ≡ a ∷ b ∷ d ∷ drop (start + 3) items
@@ -36,7 +43,7 @@ of-three (a ∷ b ∷ d ∷ []) h = refl
 of-three (a ∷ b ∷ d ∷ e ∷ rest) h = absurd (omega (arith, h))
 
 -- the character stands in front of the text
-pub put-text : (items character : List ℕ) (free : ℕ) → 3 ≤ free → free ≤ length items → length character ≡ 3
+put-text : (items character : List ℕ) (free : ℕ) → 3 ≤ free → free ≤ length items → length character ≡ 3
     → drop (free - 3) (set (set (set items (free - 3) (slice_index character 0)) (free - 3 + 1) (slice_index character 1)) (free - 3 + 2) (slice_index character 2))
     ≡ character ++ drop free items
 put-text items character free three within size =
@@ -45,41 +52,55 @@ put-text items character free three within size =
     ∙ ap₂ (λ front rest. front ++ rest) (of-three character size) (ap (λ n. drop n items) e)
 
 -- and where it is not kept, the text is as it was
-pub unput-text : (items character : List ℕ) (free : ℕ) → 3 ≤ free → free ≤ length items
+unput-text : (items character : List ℕ) (free : ℕ) → 3 ≤ free → free ≤ length items
     → drop free (set (set (set items (free - 3) (slice_index character 0)) (free - 3 + 1) (slice_index character 1)) (free - 3 + 2) (slice_index character 2)) ≡ drop free items
 unput-text items character free three within =
     let e : free - 3 + 3 ≡ free = omega (arith, three) in
     rw e at (drop-past items (free - 3) (slice_index character 0) (slice_index character 1) (slice_index character 2) (omega (arith, three, within)))
 
--- and the whole is UTF-8
-pub put-utf8 : (character text : List ℕ) → IsUtf8 character → is_utf8 text ≡ true → is_utf8 (character ++ text) ≡ true
-put-utf8 character text one rest = is_utf8-from_IsUtf8 (character ++ text) (IsUtf8-append character text one (IsUtf8-from_is_utf8 text rest))
-
-drop-none : (items : List ℕ) (n : ℕ) → length items ≤ n → drop n items ≡ []
-drop-none [] zero h = refl
-drop-none [] (suc n) h = refl
-drop-none (x ∷ items) zero h = absurd (omega (arith, h))
-drop-none (x ∷ items) (suc n) h = drop-none items n (omega (arith, h))
-
--- nothing is written yet where all bytes are free
-pub free-utf8 : (items : List ℕ) (n : ℕ) → length items ≤ n → is_utf8 (drop n items) ≡ true
-free-utf8 items n h = rw (drop-none items n h) (is_utf8-from_IsUtf8 [] IsUtf8-nil)
-
-pub filling : {a b : ℕ} {s t : List ℕ} → a ≡ b → s ≡ t → (let x : Filling = record { free = a; text = s } in x) ≡ record { free = b; text = t }
-filling e f = ap₂ (λ n text. let x : Filling = record { free = n; text = text } in x) e f
-
--- what a room holds after a character that may be kept
+-- what stands in the room after a character that may be kept
 pub put-if : (items character : List ℕ) (free taken : ℕ) (is_kept : Bool) → 3 ≤ free → free ≤ length items → length character ≡ 3 → taken ≡ (if is_kept then 3 else 0)
-    → (let x : Filling = record { free = free - taken; text = drop (free - taken) (set (set (set items (free - 3) (slice_index character 0)) (free - 3 + 1) (slice_index character 1)) (free - 3 + 2) (slice_index character 2)) } in x)
-    ≡ (if is_kept then record { free = free - 3; text = character ++ drop free items } else record { free = free; text = drop free items })
-put-if items character free taken true three within size e = rw e (filling refl (put-text items character free three within size))
+    → drop (free - taken) (set (set (set items (free - 3) (slice_index character 0)) (free - 3 + 1) (slice_index character 1)) (free - 3 + 2) (slice_index character 2))
+    ≡ (if is_kept then character ++ drop free items else drop free items)
+put-if items character free taken true three within size e = rw e (put-text items character free three within size)
 put-if items character free taken false three within size e =
     let same : free - 0 ≡ free = omega arith in
-    rw (e, same) (filling refl (unput-text items character free three within))
+    rw (e, same) (unput-text items character free three within)
 
-pub put-if_utf8 : (items character : List ℕ) (free taken : ℕ) (is_kept : Bool) → 3 ≤ free → free ≤ length items → length character ≡ 3 → taken ≡ (if is_kept then 3 else 0) → IsUtf8 character → is_utf8 (drop free items) ≡ true
-    → is_utf8 (drop (free - taken) (set (set (set items (free - 3) (slice_index character 0)) (free - 3 + 1) (slice_index character 1)) (free - 3 + 2) (slice_index character 2))) ≡ true
-put-if_utf8 items character free taken true three within size e one rest = rw (e, put-text items character free three within size) (put-utf8 character (drop free items) one rest)
-put-if_utf8 items character free taken false three within size e one rest =
-    let same : free - 0 ≡ free = omega arith in
-    rw (e, same, unput-text items character free three within) rest
+-- an empty room shows nothing
+pub Shows-nil : (free : ℕ) (bytes : List ℕ) → free ≡ length bytes → Shows free bytes []
+Shows-nil free bytes e =
+    let none : drop free bytes ≡ [] = drop-none bytes free (omega (arith, e)) in
+    record { text = none; utf8 = rw none IsUtf8-nil; size = omega (arith, e) } where
+      drop-none : (items : List ℕ) (n : ℕ) → length items ≤ n → drop n items ≡ []
+      drop-none [] zero h = refl
+      drop-none [] (suc n) h = refl
+      drop-none (x ∷ items) zero h = absurd (omega (arith, h))
+      drop-none (x ∷ items) (suc n) h = drop-none items n (omega (arith, h))
+
+-- a character more, where it is kept
+pub Shows-if : (is_kept : Bool) (c : ℕ) {free next : ℕ} {bytes after character cs : List ℕ} → 3 ≤ free → next ≡ (if is_kept then free - 3 else free)
+    → drop next after ≡ (if is_kept then character ++ drop free bytes else drop free bytes) → length after ≡ length bytes
+    → character ≡ encode_utf8 c → IsUtf8 character → Shows free bytes cs → Shows next after ((if is_kept then c ∷ [] else []) ++ cs)
+Shows-if true c three e t l same utf8 h = record {
+    text = t ∙ ap₂ (λ front rest. front ++ rest) same h.text;
+    utf8 = rw t (IsUtf8-append _ _ utf8 h.utf8);
+    size = omega (arith, e, l, three, h.size);
+  }
+Shows-if false c three e t l same utf8 h = record { text = t ∙ h.text; utf8 = rw t h.utf8; size = omega (arith, e, l, h.size) }
+
+-- a full room shows all of its bytes
+pub Shows-full : (free : ℕ) (bytes cs : List ℕ) → Shows free bytes cs → length bytes ≡ 3 * length cs → bytes ≡ encode_utf8_all cs
+Shows-full free bytes cs h l = let none : free ≡ 0 = omega (arith, h.size, l) in rw none at h.text
+
+-- the same for a count
+pub Counts-if : (is_kept : Bool) (c : ℕ) {count next : ℕ} {cs : List ℕ} → (is_kept ≡ true → next ≡ count + 1) → (is_kept ≡ false → next ≡ count) → takes_three c ≡ true → Counts count cs
+    → Counts next ((if is_kept then c ∷ [] else []) ++ cs)
+Counts-if true c more same t h = record { size = omega (arith, more refl, h.size); bytes = let one = encode-three c t in rw one (omega (arith, h.bytes)) }
+Counts-if false c more same t h = record { size = omega (arith, same refl, h.size); bytes = h.bytes }
+
+-- a mark where it is kept is its character there
+pub kept-char : (variant : ChineseVariant) (case : ChineseCase) (is_kept : Bool) (mark : Mark) (marks : List Mark)
+    → map (mark_char variant case) (kept is_kept mark ++ marks) ≡ (if is_kept then mark_char variant case mark ∷ [] else []) ++ map (mark_char variant case) marks
+kept-char variant case true mark marks = refl
+kept-char variant case false mark marks = refl

@@ -1,5 +1,5 @@
 -- The characters of the tables take three bytes each, and stand at their places.
-use Rattle.std.proofs.Common.{◌≡◌, ℕ, zero, suc, ◌+◌, ◌*◌, ◌<◌, true, List, [], ◌∷◌, ◌++◌, length, slice_index, encode_utf8_all, refl, ap, ◌∙◌, arith}
+use Rattle.std.proofs.Common.{◌≡◌, ℕ, zero, suc, ◌+◌, ◌*◌, ◌<◌, true, List, [], ◌∷◌, ◌++◌, length, slice_index, encode_utf8_all, refl, ap, sym, ◌∙◌, arith}
 use denote.Enum.Declared.{tag_of}
 use Rattle.std.specs.List.{list_all}
 use Rattle.cn_core.specs.contracts.unit.Unit.{the_type}
@@ -11,7 +11,7 @@ use Rattle.cn_core.specs.declared.unit.Unit.{Unit as NumeralUnit}
 use Rattle.cn_core.specs.declared.unit.Unit.TheVariants.{Ge, Shi, Bai, Qian, Wan, Yi, Zhao, Jing, Gai, Zi, Rang, Gou, Jian, Zheng, Zai, Ji}
 use Rattle.cn_core.specs.Characters.{printed_digits, printed_units, rank, digit_char, unit_char, minus_char}
 use Rattle.cn_spell.specs.Working.Table.{table_characters}
-use Rattle.cn_spell.proofs.ThreeBytes.{takes_three, length-encode_all}
+use Rattle.cn_spell.proofs.ThreeBytes.{takes_three, passes-at, length-encode_all}
 
 slice_index-front : (xs ys : List ℕ) (k : ℕ) → k < length xs → slice_index (xs ++ ys) k ≡ slice_index xs k
 slice_index-front [] ys k h = absurd (omega (arith, h))
@@ -52,3 +52,21 @@ unit-at Traditional Lower = elim [ Ge ↦ refl | Shi ↦ refl | Bai ↦ refl | Q
 unit-at Traditional Upper = elim [ Ge ↦ refl | Shi ↦ refl | Bai ↦ refl | Qian ↦ refl | Wan ↦ refl | Yi ↦ refl | Zhao ↦ refl | Jing ↦ refl | Gai ↦ refl | Zi ↦ refl | Rang ↦ refl | Gou ↦ refl | Jian ↦ refl | Zheng ↦ refl | Zai ↦ refl | Ji ↦ refl ]
 unit-at Simple Lower = elim [ Ge ↦ refl | Shi ↦ refl | Bai ↦ refl | Qian ↦ refl | Wan ↦ refl | Yi ↦ refl | Zhao ↦ refl | Jing ↦ refl | Gai ↦ refl | Zi ↦ refl | Rang ↦ refl | Gou ↦ refl | Jian ↦ refl | Zheng ↦ refl | Zai ↦ refl | Ji ↦ refl ]
 unit-at Simple Upper = elim [ Ge ↦ refl | Shi ↦ refl | Bai ↦ refl | Qian ↦ refl | Wan ↦ refl | Yi ↦ refl | Zhao ↦ refl | Jing ↦ refl | Gai ↦ refl | Zi ↦ refl | Rang ↦ refl | Gou ↦ refl | Jian ↦ refl | Zheng ↦ refl | Zai ↦ refl | Ji ↦ refl ]
+
+-- so each character that is printed takes three bytes
+pub three-digit : (variant : ChineseVariant) (case : ChineseCase) (digit : ℕ) → digit < 10 → takes_three (digit_char variant case digit) ≡ true
+three-digit variant case digit h =
+    ap takes_three (sym (digit-at variant case digit h)) ∙ passes-at takes_three (table_characters variant case) digit (three-table variant case) (omega (arith, h, length-table variant case))
+
+pub three-unit : (variant : ChineseVariant) (case : ChineseCase) (unit : NumeralUnit) → takes_three (unit_char variant case (rank unit)) ≡ true
+three-unit variant case unit =
+    ap takes_three (sym (unit-at variant case unit))
+    ∙ passes-at takes_three (table_characters variant case) (10 + rank unit) (three-table variant case) (omega (arith, rank-low unit, length-table variant case)) where
+      rank-low : (unit : NumeralUnit) → rank unit < 16
+      rank-low = elim [ Ge ↦ omega arith | Shi ↦ omega arith | Bai ↦ omega arith | Qian ↦ omega arith | Wan ↦ omega arith | Yi ↦ omega arith | Zhao ↦ omega arith | Jing ↦ omega arith
+          | Gai ↦ omega arith | Zi ↦ omega arith | Rang ↦ omega arith | Gou ↦ omega arith | Jian ↦ omega arith | Zheng ↦ omega arith | Zai ↦ omega arith | Ji ↦ omega arith ]
+
+pub three-minus : (variant : ChineseVariant) → takes_three (minus_char variant) ≡ true
+unfolding minus_char
+three-minus Traditional = refl
+three-minus Simple = refl

@@ -1,4 +1,5 @@
 pub mod ErrorText
 pub mod Prints
+pub mod Puts
 pub mod Working
 pub mod Writes

@@ -6,7 +6,7 @@ ghost use Rattle.cn_spell.specs.Working.Units.{places_within};
 use cn_core::ChineseCountMethod;
 
 // A number of 128 bits has nine groups below its highest at most.
-pub const MOST: usize = 9;
+const MOST: usize = 9;
 
 // A group has four digits, and a part four groups: it fits 64 bits.
 const GROUP: u64 = 10_000;
@@ -15,18 +15,38 @@ const PART: u128 = 10_000_000_000_000_000;
 
 /// A magnitude, by its lowest groups of four digits and what stands in front of them.
 #[derive(Clone, Copy)]
-pub struct Groups<'a> {
+pub struct Groups {
     pub number: u128,
-    pub groups: &'a [u16; MOST],
+    pub groups: [u16; MOST],
     pub count: usize,
     pub front: u64,
-    ghost holds: { HoldsGroups number groups.now count front },
+    ghost holds: { HoldsGroups number groups count front },
 }
 
-/// Takes off all groups but the highest, and none for `Low`; at most two of the divisions are of 128 bits. The
-/// result is how many groups these are, and what stands in front of them.
+impl Groups {
+    /// The groups of a number that the method writes.
+    #[inline(always)]
+    pub fn of(method: ChineseCountMethod, number: u128) -> Self
+        requires { number < 10 ^ places_within method }
+        ensures number { result.number ≡ number }
+        ensures count { result.count ≤ groups_within method }
+        ensures front { result.front < front_limit method }
+    {
+        let mut groups = [0; MOST];
+        let (count, front) = take_groups(&mut groups, method, number);
+        Groups {
+            number,
+            groups,
+            count,
+            front,
+        }
+    }
+}
+
+// Takes off all groups but the highest, and none for `Low`; at most two of the divisions are of 128 bits. The
+// result is how many groups these are, and what stands in front of them.
 #[inline(always)]
-pub fn take_groups(
+fn take_groups(
     groups: &mut [u16; MOST],
     method: ChineseCountMethod,
     magnitude: u128,

@@ -17,8 +17,10 @@ mod print;
 mod room;
 mod sign;
 mod spell;
+mod spelled;
+mod text;
 mod units;
 
 pub use error::NumberToChineseError;
-pub use naive::print_naive;
-pub use print::{print_by_units, print_or_refuse};
+pub use naive::{print_naive, put_naive};
+pub use print::{is_printable, print_by_units, print_or_refuse, put_by_units};

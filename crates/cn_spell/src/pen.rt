@@ -1,16 +1,17 @@
 // What marks are written by, from the last to the first: once to count them, once to fill a room.
-ghost use Rattle.std.specs.Prelude.{◌≡◌, ℕ, ◌+◌, ◌-◌, ◌*◌, ◌^◌, ◌≤◌, ◌<◌, List, ◌++◌, length, map, encode_utf8_all};
+ghost use Rattle.std.specs.Prelude.{◌≡◌, ℕ, ◌+◌, ◌-◌, ◌*◌, ◌^◌, ◌≤◌, ◌<◌, List, ◌++◌, length, map};
+ghost use Rattle.std.specs.Borrow.{GName};
 ghost use Rattle.cn_core.specs.declared.script.ChineseVariant.{ChineseVariant};
 ghost use Rattle.cn_core.specs.declared.case.ChineseCase.{ChineseCase};
 ghost use Rattle.cn_core.specs.Characters.{rank};
 ghost use Rattle.cn_core.specs.Mark.{Mark, digit, unit};
 ghost use Rattle.cn_core.specs.Written.{mark_char};
 ghost use Rattle.cn_spell.specs.Working.Groups.{kept};
+ghost use Rattle.cn_spell.specs.Working.Room.{Counts, Shows};
 
 use crate::characters::Characters;
 use crate::room::Room;
 use cn_core::Unit;
-use std::alloc::Allocator;
 
 /// Takes digits and units, from the last to the first.
 pub trait Pen {
@@ -20,10 +21,14 @@ pub trait Pen {
     // What it has taken are these marks, in a script and case.
     ghost shows: { Self → ChineseVariant → ChineseCase → List Mark → Type 0 };
 
+    // Whose bytes it writes.
+    ghost lender: { Self → GName };
+
     // Puts a digit where it is kept; there is room for it in either case.
     fn put_digit_if(&mut self, characters: Characters, is_kept: bool, value: u8)
         requires value { value < 10 }
         requires room { 3 ≤ left self.old }
+        ensures lender { lender self.new ≡ lender self.old }
         ensures room { left self.new + 3 * length (kept is_kept (digit value)) ≡ left self.old }
         ensures marks { (marks : List Mark) → shows self.old characters.variant characters.case marks
             → shows self.new characters.variant characters.case (kept is_kept (digit value) ++ marks) };
@@ -31,6 +36,7 @@ pub trait Pen {
     // The same for a unit.
     fn put_unit_if(&mut self, characters: Characters, is_kept: bool, value: Unit)
         requires room { 3 ≤ left self.old }
+        ensures lender { lender self.new ≡ lender self.old }
         ensures room { left self.new + 3 * length (kept is_kept (unit (rank value))) ≡ left self.old }
         ensures marks { (marks : List Mark) → shows self.old characters.variant characters.case marks
             → shows self.new characters.variant characters.case (kept is_kept (unit (rank value)) ++ marks) };
@@ -45,7 +51,9 @@ pub struct Count {
 impl Pen for Count {
     ghost left = { λ count. 3 * (2 ^ 64 - 1 - count.characters) };
 
-    ghost shows = { λ count variant case marks. count.characters ≡ length marks };
+    ghost shows = { λ count variant case marks. Counts count.characters (map (mark_char variant case) marks) };
+
+    ghost lender = { λ count. 0 };
 
     #[inline(always)]
     fn put_digit_if(&mut self, _characters: Characters, is_kept: bool, _value: u8) {
@@ -58,11 +66,12 @@ impl Pen for Count {
     }
 }
 
-impl<A: Allocator> Pen for Room<A> {
+impl Pen for Room<'_> {
     ghost left = { λ room. room.free };
 
-    ghost shows = { λ room variant case marks.
-        (room.text ≡ encode_utf8_all (map (mark_char variant case) marks)) × (length room.text ≡ 3 * length marks) };
+    ghost shows = { λ room variant case marks. Shows room.free room.bytes.now (map (mark_char variant case) marks) };
+
+    ghost lender = { λ room. room.bytes.ghost_name };
 
     #[inline(always)]
     fn put_digit_if(&mut self, characters: Characters, is_kept: bool, value: u8) {

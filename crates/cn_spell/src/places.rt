@@ -16,6 +16,7 @@ fn put_place<P: Pen>(pen: &mut P, characters: Characters, place: usize, digit: u
     requires place { place < 16 }
     requires digit { digit < 10 }
     requires room { 3 * length (place_marks place digit is_gap) + 3 ≤ P.left pen.old }
+    ensures lender { P.lender pen.new ≡ P.lender pen.old }
     ensures room { P.left pen.new + 3 * length (place_marks place digit is_gap) ≡ P.left pen.old }
     ensures marks { (marks : List Mark) → P.shows pen.old characters.variant characters.case marks
         → P.shows pen.new characters.variant characters.case (place_marks place digit is_gap ++ marks) }
@@ -30,6 +31,7 @@ fn put_place<P: Pen>(pen: &mut P, characters: Characters, place: usize, digit: u
 pub fn put_group<P: Pen>(pen: &mut P, characters: Characters, group: u16)
     requires group { group < 10 ^ 4 }
     requires room { 3 * length (group_marks group) + 3 ≤ P.left pen.old }
+    ensures lender { P.lender pen.new ≡ P.lender pen.old }
     ensures room { P.left pen.new + 3 * length (group_marks group) ≡ P.left pen.old }
     ensures marks { (marks : List Mark) → P.shows pen.old characters.variant characters.case marks
         → P.shows pen.new characters.variant characters.case (group_marks group ++ marks) }
@@ -52,6 +54,7 @@ fn put_top<P: Pen>(pen: &mut P, characters: Characters, place: usize, digit: u8)
     requires place { place < 16 }
     requires digit { digit < 10 }
     requires room { 3 * length (top_marks place digit) ≤ P.left pen.old }
+    ensures lender { P.lender pen.new ≡ P.lender pen.old }
     ensures room { P.left pen.new + 3 * length (top_marks place digit) ≡ P.left pen.old }
     ensures marks { (marks : List Mark) → P.shows pen.old characters.variant characters.case marks
         → P.shows pen.new characters.variant characters.case (top_marks place digit ++ marks) }
@@ -70,6 +73,7 @@ fn put_top<P: Pen>(pen: &mut P, characters: Characters, place: usize, digit: u8)
 pub fn put_places<P: Pen>(pen: &mut P, characters: Characters, number: u64)
     requires number { number < 10 ^ 16 }
     requires room { 3 * length (spelling Low number) ≤ P.left pen.old }
+    ensures lender { P.lender pen.new ≡ P.lender pen.old }
     ensures room { P.left pen.new + 3 * length (spelling Low number) ≡ P.left pen.old }
     ensures marks { (marks : List Mark) → P.shows pen.old characters.variant characters.case marks
         → P.shows pen.new characters.variant characters.case (spelling Low number ++ marks) }

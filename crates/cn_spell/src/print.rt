@@ -3,27 +3,27 @@ ghost use Rattle.std.specs.Prelude.{◌≡◌, pos, IfOk, IsTrue};
 ghost use Rattle.cn_core.specs.Spelling.{spelling};
 ghost use Rattle.cn_core.specs.Written.{written, spelled_text, is_printable};
 ghost use Rattle.cn_spell.specs.Prints.{Prints, most_bytes};
+ghost use Rattle.cn_spell.specs.Puts.{PutsInFront};
 ghost use Rattle.cn_spell.specs.Writes.{Writes};
 
 use crate::NumberToChineseError;
 use crate::characters::Characters;
-use crate::groups::{Groups, MOST, take_groups};
 use crate::known_method::{ByHigh, ByLow, ByMiddle, ByTenThousand, KnownMethod};
-use crate::pen::Count;
-use crate::room::Room;
-use crate::sign::with_sign;
-use crate::spell::put_spelling;
+use crate::spelled::Spelled;
+use crate::text::{new_string, put_in_front};
 use cn_core::{ChineseCase, ChineseCountMethod, ChineseVariant, Whole};
 use std::alloc::{AllocError, Allocator};
 
 // `Low` writes magnitudes of at most sixteen digits.
 const LOW_LIMIT: u128 = 10_000_000_000_000_000;
 
-fn is_printable(method: ChineseCountMethod, magnitude: u128) -> bool
-    ensures { result ≡ is_printable method (pos magnitude) }
+/// Whether the method writes a number.
+#[inline(always)]
+pub fn is_printable<T: Whole>(method: ChineseCountMethod, value: T) -> bool
+    ensures { result ≡ is_printable method (T.number value) }
 {
     match method {
-        ChineseCountMethod::Low => magnitude < LOW_LIMIT,
+        ChineseCountMethod::Low => value.magnitude() < LOW_LIMIT,
         _ => true,
     }
 }
@@ -38,20 +38,10 @@ fn signed_text<M: KnownMethod, A: Allocator>(
     requires { IsTrue (is_printable M.stands_for (pos magnitude)) }
     ensures { IfOk result (Writes (written characters.variant characters.case negative (spelling M.stands_for magnitude)) (most_bytes M.stands_for)) }
 {
-    let method = M::method();
-    let mut taken = [0; MOST];
-    let (count, front) = take_groups(&mut taken, method, magnitude);
-    let groups = Groups {
-        number: magnitude,
-        groups: &taken,
-        count,
-        front,
-    };
-    let mut counted = Count { characters: 0 };
-    put_spelling(&mut counted, characters, method, &groups);
-    let mut room = Room::for_characters(alloc, counted.characters + negative as usize)?;
-    put_spelling(&mut room, characters, method, &groups);
-    Ok(with_sign(room, characters, negative))
+    new_string(
+        alloc,
+        &Spelled::of(characters, M::method(), negative, magnitude),
+    )
 }
 
 // The same by a method that is given.
@@ -76,6 +66,43 @@ fn print_magnitude<A: Allocator>(
         ChineseCountMethod::High => {
             signed_text::<ByHigh, A>(alloc, characters, negative, magnitude)
         }
+    }
+}
+
+// The text of a sign and a magnitude at the front of a room, where it fits.
+fn put_signed<M: KnownMethod>(
+    room: &mut [u8],
+    characters: Characters,
+    negative: bool,
+    magnitude: u128,
+) -> usize
+    requires { IsTrue (is_printable M.stands_for (pos magnitude)) }
+    ensures { PutsInFront (written characters.variant characters.case negative (spelling M.stands_for magnitude)) (most_bytes M.stands_for) room.old room.new result }
+{
+    put_in_front(
+        room,
+        &Spelled::of(characters, M::method(), negative, magnitude),
+    )
+}
+
+// The same by a method that is given.
+fn put_magnitude(
+    room: &mut [u8],
+    characters: Characters,
+    method: ChineseCountMethod,
+    negative: bool,
+    magnitude: u128,
+) -> usize
+    requires { IsTrue (is_printable method (pos magnitude)) }
+    ensures { PutsInFront (written characters.variant characters.case negative (spelling method magnitude)) (most_bytes method) room.old room.new result }
+{
+    match method {
+        ChineseCountMethod::Low => put_signed::<ByLow>(room, characters, negative, magnitude),
+        ChineseCountMethod::TenThousand => {
+            put_signed::<ByTenThousand>(room, characters, negative, magnitude)
+        }
+        ChineseCountMethod::Middle => put_signed::<ByMiddle>(room, characters, negative, magnitude),
+        ChineseCountMethod::High => put_signed::<ByHigh>(room, characters, negative, magnitude),
     }
 }
 
@@ -110,7 +137,7 @@ pub fn print_or_refuse<T: Whole, A: Allocator>(
 ) -> Result<String<A>, NumberToChineseError>
     ensures { Prints variant case method (T.number value) result }
 {
-    if !is_printable(method, value.magnitude()) {
+    if !is_printable(method, value) {
         return Err(if value.is_negative() {
             NumberToChineseError::Underflow
         } else {
@@ -118,4 +145,26 @@ pub fn print_or_refuse<T: Whole, A: Allocator>(
         });
     }
     Ok(print_by_units(alloc, variant, case, method, value)?)
+}
+
+/// The spelling of a number that the method writes, at the front of a room, where it fits; the result is how
+/// many bytes it has.
+pub fn put_by_units<T: Whole>(
+    room: &mut [u8],
+    variant: ChineseVariant,
+    case: ChineseCase,
+    method: ChineseCountMethod,
+    value: T,
+) -> usize
+    requires { IsTrue (is_printable method (T.number value)) }
+    ensures { PutsInFront (spelled_text variant case method (T.number value)) (most_bytes method) room.old room.new result }
+{
+    let characters = Characters::new(variant, case);
+    put_magnitude(
+        room,
+        characters,
+        method,
+        value.is_negative(),
+        value.magnitude(),
+    )
 }

@@ -24,6 +24,7 @@ fn put_units<P: Pen>(
 )
     requires place { place < places_within method }
     requires room { 3 * length (front method place filled) ≤ P.left pen.old }
+    ensures lender { P.lender pen.new ≡ P.lender pen.old }
     ensures room { P.left pen.new + 3 * length (front method place filled) ≡ P.left pen.old }
     ensures marks { (marks : List Mark) → P.shows pen.old characters.variant characters.case marks
         → P.shows pen.new characters.variant characters.case (front method place filled ++ marks) }
@@ -55,6 +56,7 @@ fn put_front<P: Pen>(
     requires place { place ≤ 4 * groups_within method }
     requires filled { filled ≤ place }
     requires room { 3 * length (front method place filled) ≤ P.left pen.old }
+    ensures lender { P.lender pen.new ≡ P.lender pen.old }
     ensures room { P.left pen.new + 3 * length (front method place filled) ≡ P.left pen.old }
     ensures marks { (marks : List Mark) → P.shows pen.old characters.variant characters.case marks
         → P.shows pen.new characters.variant characters.case (front method place filled ++ marks) }
@@ -95,6 +97,7 @@ pub fn put_spelling<P: Pen>(
     requires front { groups.now.front < front_limit method }
     requires room { 3 * length (spelling method groups.now.number) ≤ P.left pen.old }
     requires empty { P.shows pen.old characters.variant characters.case [] }
+    ensures lender { P.lender pen.new ≡ P.lender pen.old }
     ensures room { P.left pen.new + 3 * length (spelling method groups.now.number) ≡ P.left pen.old }
     ensures marks { P.shows pen.new characters.variant characters.case (spelling method groups.now.number) }
 {

@@ -1,9 +1,10 @@
 // What is printed is read back.
-ghost use Rattle.std.specs.Prelude.{◌≡◌, ◌↔◌, ℕ, ℤ, nat_abs, List, Result, Ok, IsTrue, encode_utf8_all};
+ghost use Rattle.std.specs.Prelude.{◌≡◌, ◌↔◌, ℕ, ◌<◌, ℤ, nat_abs, List, take, Result, Ok, IsTrue, encode_utf8_all};
+ghost use Rattle.chinese_number.specs.Parts.{sign_length};
 ghost use Rattle.cn_core.specs.Numeral.{IsNumeral};
 ghost use Rattle.cn_core.specs.Refusal.{Refusal};
 ghost use Rattle.cn_core.specs.Spelling.{spelling};
-ghost use Rattle.cn_core.specs.Typed.{Reads};
+ghost use Rattle.cn_core.specs.Typed.{Reads, naive_reading};
 ghost use Rattle.cn_core.specs.Value.{numeral_value};
 ghost use Rattle.cn_core.specs.Whole.{Holds};
 ghost use Rattle.cn_core.specs.Written.{naive_text, spelled_text, is_printable};
@@ -62,4 +63,22 @@ pub fn reading_then_printing_is_idempotent<T: Whole>()
         → IsTrue (is_printable method number) → (answer : Result ℤ Refusal)
         → Reads T.kind method (encode_utf8_all (spelled_text variant case method number)) answer
         ↔ (answer ≡ Ok number) }
+{}
+
+/// Every beginning of what is printed is read: the first characters of a number's text, by units or
+/// as plain digits and in any script and case, are answered by a number of the same type, by the
+/// same method, once they are more than its sign takes.
+///
+/// For forms that judge a numeral at each key: whoever types 負一百二十, as it is printed, is told
+/// of no fault at 負一, 負一百 or 負一百二.
+pub fn beginnings_are_read<T: Whole>()
+    ensures units { (variant : ChineseVariant) (case : ChineseCase) (method : ChineseCountMethod)
+        (number : ℤ) (count : ℕ) → Holds T.kind number → IsTrue (is_printable method number)
+        → let text = spelled_text variant case method number in
+        sign_length T.kind (encode_utf8_all text) < count
+        → (beginning : ℤ) × Reads T.kind method (encode_utf8_all (take count text)) (Ok beginning) }
+    ensures digits { (variant : ChineseVariant) (case : ChineseCase) (number : ℤ) (count : ℕ)
+        → Holds T.kind number → let digits = naive_text variant case number in
+        sign_length T.kind (encode_utf8_all digits) < count
+        → (beginning : ℤ) × (naive_reading T.kind (encode_utf8_all (take count digits)) ≡ Ok beginning) }
 {}

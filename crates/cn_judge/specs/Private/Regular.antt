@@ -4,6 +4,7 @@ use Rattle.std.specs.Prelude.{◌≡◌, ℕ, zero, suc, ◌+◌, ◌*◌, ◌^�
 use Rattle.std.specs.List.{list_all}
 use Rattle.std.specs.Option.{option_map_or}
 use Rattle.cn_core.specs.declared.method.ChineseCountMethod.{ChineseCountMethod}
+use Rattle.cn_core.specs.declared.method.ChineseCountMethod.TheVariants.{Low}
 use Rattle.cn_core.specs.declared.unit.Unit.TheVariants.{Ge}
 use Rattle.cn_core.specs.Characters.{rank}
 use Rattle.cn_core.specs.Mark.{Mark, digit, unit, other}
@@ -15,7 +16,7 @@ use Rattle.cn_judge.specs.declared.open_groups.OpenGroup.{OpenGroup}
 use Rattle.cn_judge.specs.declared.quick.Standing.{Standing}
 use Rattle.cn_judge.specs.Private.Walk.{is_tail, HasNoTail}
 
--- an open unit from 萬 up: its rank, and the exponent of the power of ten that it and the units below it make;
+-- an open group: its unit's rank, and the exponent of the power of ten that it and the units below it make;
 -- the last opened stands first
 abbrev pub Group : Type 0
 Group = ℕ × ℕ
@@ -64,7 +65,12 @@ abbrev pub entries_of : List OpenGroup → ℕ → List Group
 entries_of entries zero = []
 entries_of entries (suc len) = group_at (slice_index_or entries len no_group) ∷ entries_of entries len
 
--- the record units below 萬: the last unit of the section, if it is above 個, before those from 萬 up
+-- the rank of the least unit that opens a group: 萬, but none by Low, where each unit is ten of the one before
+abbrev pub first_group : ChineseCountMethod → ℕ
+first_group Low = 16
+first_group method = 4
+
+-- the record units: the last unit of the section, if it is above 個, before those that open groups
 abbrev pub with_last : ℕ → List ℕ → List ℕ
 with_last last ranks = if last == 0 then ranks else last ∷ ranks
 
@@ -85,14 +91,14 @@ pub record IsRegular (method : ChineseCountMethod) (marks : List Mark) (groups :
   pub regular : list_all is_regular_mark marks ≡ true
   pub rules : each_may_precede marks ≡ true
   pub fit : some_unfit method marks ≡ false
-  pub number : value method marks ≡ total + sum * 10 ^ exponents method (records_from 4 marks)
-  pub records : record_units marks ≡ with_last last (records_from 4 marks)
-  pub groups_are : groups ≡ groups_of method (records_from 4 marks)
+  pub number : value method marks ≡ total + sum * 10 ^ exponents method (records_from (first_group method) marks)
+  pub records : record_units marks ≡ with_last last (records_from (first_group method) marks)
+  pub groups_are : groups ≡ groups_of method (records_from (first_group method) marks)
   pub after_digit : at_digit ≡ starts_with_digit marks
-  pub low : last < 4
+  pub low : last < first_group method
   pub plain_end : HasNoTail marks
 
--- a unit from 萬 up may be opened there, over the units that are left
+-- a unit may open a group there, over the units that are left
 pub record MayOpen (method : ChineseCountMethod) (marks : List Mark) (left : List Group) (rank : ℕ) : Type 0 where
   pub left_are : left ≡ groups_of method (records_from (rank + 1) marks)
   pub precedes : may_precede (unit rank) marks ≡ true

@@ -1,4 +1,4 @@
-use Rattle.std.proofs.Common.{◌≡◌, ◌+◌, ◌%◌, suc, length, nat_lt, refl, ap, arith, length-append, append_assoc}
+use Rattle.std.proofs.Common.{◌≡◌, ◌+◌, ◌%◌, suc, length, nat_lt, refl, ap, ◌∙◌, arith, length-append, append_assoc}
 use Rattle.cn_core.specs.declared.method.ChineseCountMethod.TheVariants.{Low}
 use Rattle.cn_spell.specs.Working.Groups.{place_marks, top_marks}
 use Rattle.cn_spell.proofs.Single.{so_far}
@@ -26,6 +26,7 @@ loop-left-preserved g c =
       below = rw one (ap (λ n. n % 10) l.invariant.split);
       digit = omega arith;
       room = omega (arith, ap length step, length-append marks (so_far Low number l.place), c.put_place.ensures.room, l.invariant.room);
+      lender = c.put_place.ensures.lender ∙ l.invariant.lender;
       marks = λ rest h. rw (step, append_assoc) (c.put_place.ensures.marks _ (l.invariant.marks rest h));
     }
 
@@ -40,6 +41,9 @@ returns-clause-room g c =
     let l = c.loop-left in
     let spelled = ap length (spelled-last c.args.number l.place l.left l.invariant.within l.invariant.split (omega arith) l.invariant.reach) in
     omega (arith, spelled, length-append (top_marks l.place l.left) (so_far Low c.args.number l.place), l.invariant.room, c.put_top.ensures.room)
+
+pub returns-clause-lender : goal.returns-clause-lender
+returns-clause-lender g c = c.put_top.ensures.lender ∙ c.loop-left.invariant.lender
 
 pub returns-clause-marks : goal.returns-clause-marks
 returns-clause-marks g c =

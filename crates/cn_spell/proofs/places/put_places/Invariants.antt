@@ -12,6 +12,7 @@ invariant-loop-left g l = record {
   below : l.below ≡ below_of l.number l.place;
   digit : l.below < 10;
   room : g.P.Pen.left l.pen + 3 * length (so_far Low l.number l.place) ≡ g.P.Pen.left l.fn.pen;
+  lender : g.P.Pen.lender l.pen ≡ g.P.Pen.lender l.fn.pen;
   marks : (marks : List Mark) → g.P.Pen.shows l.fn.pen l.characters.variant l.characters.case marks
       → g.P.Pen.shows l.pen l.characters.variant l.characters.case (so_far Low l.number l.place ++ marks);
 }

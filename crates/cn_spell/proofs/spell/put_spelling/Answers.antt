@@ -1,4 +1,4 @@
-use Rattle.std.proofs.Common.{◌≡◌, ℕ, ◌+◌, ◌*◌, ◌%◌, ◌^◌, ◌<◌, ◌≤◌, ◌++◌, length, ap, arith, length-append}
+use Rattle.std.proofs.Common.{◌≡◌, ℕ, ◌+◌, ◌*◌, ◌%◌, ◌^◌, ◌<◌, ◌≤◌, ◌++◌, length, ap, ◌∙◌, arith, length-append}
 use Rattle.cn_core.specs.declared.method.ChineseCountMethod.TheVariants.{Low}
 use Rattle.cn_core.specs.Spelling.{spelling}
 use Rattle.cn_core.proofs.Cuts.{part}
@@ -55,6 +55,7 @@ loop-index-preserved g c =
             fills = Fills-group number place size w.digits_of.ensures.some below reach;
             under = omega (arith, w.digits_of.ensures.most);
             room = omega (arith, same, length-append (group_marks (group_at number place)) (front method place l.filled ++ part method (number % 10 ^ place)), length-append (front method place l.filled) (part method (number % 10 ^ place)), l.invariant.room, w.put_front.ensures.room, w.put_group.ensures.room);
+            lender = w.put_group.ensures.lender ∙ w.put_front.ensures.lender ∙ l.invariant.lender;
             marks = rw value at marks;
           })
       | else-group-gt0 w ↦
@@ -64,6 +65,7 @@ loop-index-preserved g c =
             fills = Fills-same_group number place l.filled none l.invariant.fills;
             under = omega (arith, l.invariant.under);
             room = l.invariant.room;
+            lender = l.invariant.lender;
             marks = l.invariant.marks;
           })
     ]
@@ -100,6 +102,9 @@ returns-clause-room g c =
     let place : ℕ = 4 * groups.count in
     let spelled = ap length (spelling-front method number groups.count groups.front l.filled c.requires.count c.requires.front groups.holds.split groups.holds.some (rw end at l.invariant.fills) (omega (arith, end, l.invariant.under))) in
     omega (arith, spelled, length-append (spelling Low groups.front) (front method place l.filled ++ part method (number % 10 ^ place)), length-append (front method place l.filled) (part method (number % 10 ^ place)), rw end at l.invariant.room, c.put_front-2.ensures.room, c.put_places.ensures.room)
+
+pub returns-clause-lender : goal.returns-clause-lender
+returns-clause-lender g c = c.put_places.ensures.lender ∙ c.put_front-2.ensures.lender ∙ c.loop-index.invariant.lender
 
 pub returns-clause-marks : goal.returns-clause-marks
 returns-clause-marks g c =

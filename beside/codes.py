@@ -1,0 +1,93 @@
+#!/usr/bin/env python3
+"""The codes and statuses by which other languages call the library: those of the sources of `cn_c`, in each language.
+
+Usage: codes.py CN_C BINDINGS
+
+The tables of `codes.rt` give a type, way, script or case its place as its code, and `status.rt` names the statuses. The
+header, the Rust crate and the Python file name each of them once, with the same number, and no other. Alike, too, are the
+most bytes of a text, which a clause of `printing.rt` bounds, and the version of all three.
+"""
+import re
+import sys
+from pathlib import Path
+
+TABLES = ("KINDS", "WAYS", "SCRIPTS", "CASES")
+TABLE = re.compile(r"^pub static (\w+): \[.*?\] = \[(.*?)\];", re.MULTILINE | re.DOTALL)
+NAMED = re.compile(r"(?:^|[,;{])[ \t]*(?:pub const )?(?:CN_)?(\w+)(?:: u32)? = (\d+)\b", re.MULTILINE)
+END_OF_TABLE = re.compile(r"\n\};?\n|\n\n\n")
+
+HEADER, RUST, PYTHON = "c/chinese_number.h", "rust/src/abi.rs", "python/chinese_number.py"
+# Where each table begins, in the order of the tables, the statuses last.
+BEGINNINGS = {
+    HEADER: ("/* The integer type", "/* The way", "/* The script", "/* The case", "/* The status"),
+    RUST: ("pub enum Kind ", "pub enum Way ", "pub enum ChineseVariant ", "pub enum ChineseCase ", "pub mod status "),
+    PYTHON: ("class Kind(", "class Way(", "class Script(", "class Case(", "class Status("),
+}
+MOST_BYTES = re.compile(r"MOST_BYTES(?:: usize)?(?: =)? (\d+)")
+VERSIONS = (
+    (HEADER, r'^#define CN_VERSION "(.*)"'),
+    ("rust/Cargo.toml", r'^version = "(.*)"'),
+    (PYTHON, r'^__version__ = "(.*)"'),
+)
+
+
+def text_of(path):
+    return path.read_text(encoding="utf-8")
+
+
+def snake(name):
+    """TenThousand and NOT_UTF8 as ten_thousand and not_utf8."""
+    return name.lower() if name.isupper() else re.sub(r"\B([A-Z])", r"_\1", name).lower()
+
+
+def of_sources(crate):
+    """The five tables: each name with its code."""
+    tables = dict(TABLE.findall(text_of(crate / "src/codes.rt")))
+    if tuple(tables) != TABLES:
+        sys.exit(f"codes: codes.rt has the tables {list(tables)}, and not {list(TABLES)}")
+    found = []
+    for table in tables.values():
+        names = re.findall(r"(\w+)\)?\s*(?:,|$)", table.strip())
+        found.append({snake(name): code for code, name in enumerate(names)})
+    return [*found, of_table(text_of(crate / "src/status.rt"))]
+
+
+def of_table(text):
+    named = NAMED.findall(text)
+    if len(dict(named)) != len(named):
+        sys.exit(f"codes: a name stands twice: {named}")
+    return {snake(name): int(code) for name, code in named}
+
+
+def of_language(language, text):
+    found = []
+    for beginning in BEGINNINGS[language]:
+        if text.count(beginning) != 1:
+            sys.exit(f"codes: {language}: {beginning!r} stands there {text.count(beginning)} times")
+        found.append(of_table(END_OF_TABLE.split(text.split(beginning)[1])[0]))
+    return found
+
+
+def main():
+    if len(sys.argv) != 3 or sys.argv[1].startswith("-"):
+        sys.exit(__doc__)
+    crate, bindings = map(Path, sys.argv[1:])
+    texts = {language: text_of(bindings / language) for language in BEGINNINGS}
+    texts[RUST] += text_of(bindings / "rust/src/lib.rs")
+    wanted = of_sources(crate)
+    bounds = set(re.findall(r"≤ (\d+)", text_of(crate / "src/printing.rt")))
+    for language, text in texts.items():
+        for name, table, right in zip((*TABLES, "statuses"), of_language(language, text), wanted):
+            if table != right or not right:
+                sys.exit(f"codes: {name} of {language}: {table}, and not {right}")
+        if {MOST_BYTES.search(text)[1]} != bounds:
+            sys.exit(f"codes: {language} has room for {MOST_BYTES.search(text)[1]} bytes, and printing.rt for {bounds}")
+
+    versions = {re.search(pattern, text_of(bindings / file), re.MULTILINE)[1] for file, pattern in VERSIONS}
+    versions.add(".".join(re.findall(r"^#define CN_VERSION_\w+ (\d+)", texts[HEADER], re.MULTILINE)))
+    if len(versions) != 1:
+        sys.exit(f"codes: versions {sorted(versions)}")
+    print(f"codes: {sum(map(len, wanted))} codes and statuses, alike in C, Rust and Python, of version {versions.pop()}")
+
+
+main()

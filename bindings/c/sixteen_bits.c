@@ -1,0 +1,64 @@
+/* sixteen_bits [STEP]: prints each number of 16 bits, or the first of each STEP, by each way, and reads it back: four threads,
+ * each with one script and case. The text stands in a block of just its bytes, so that a memory checker sees a byte that is
+ * read or written beyond. */
+#include "chinese_number.h"
+
+#include <pthread.h>
+#include <stdio.h>
+#include <stdlib.h>
+#include <string.h>
+
+typedef struct {
+    uint32_t script, letter_case;
+    int32_t step;
+    long failed;
+} task;
+
+/* Whether the number is printed as a text that is read as this number. */
+static int is_read_back(cn_number number, uint32_t kind, uint32_t way, const task *style) {
+    uint8_t enough[CN_MOST_BYTES], *room;
+    size_t length, same_length;
+    cn_reading reading;
+    int good;
+    if (chinese_number_print(number, kind, way, style->script, style->letter_case, enough, sizeof enough, &length) != CN_DONE)
+        return 0;
+    room = (uint8_t *)malloc(length);
+    good = room != NULL
+        && chinese_number_print(number, kind, way, style->script, style->letter_case, room, length, &same_length) == CN_DONE
+        && same_length == length && memcmp(room, enough, length) == 0
+        && chinese_number_read(room, length, kind, way, &reading) == CN_DONE
+        && reading.number.low == number.low && reading.number.high == number.high;
+    free(room);
+    return good;
+}
+
+static void *all_numbers(void *argument) {
+    task *mine = (task *)argument;
+    for (int32_t value = INT16_MIN; value <= UINT16_MAX; value += mine->step) {
+        uint32_t kind = value <= INT16_MAX ? CN_I16 : CN_U16;
+        for (uint32_t way = CN_DIGITS; way <= CN_HIGH; way++)
+            mine->failed += !is_read_back(cn_signed(value), kind, way, mine);
+    }
+    return NULL;
+}
+
+int main(int argc, char **argv) {
+    pthread_t threads[4];
+    task tasks[4];
+    long failed = 0;
+    for (uint32_t at = 0; at < 4; at++) {
+        tasks[at].script = at / 2;
+        tasks[at].letter_case = at % 2;
+        tasks[at].step = argc > 1 ? atoi(argv[1]) : 1;
+        tasks[at].failed = 0;
+        if (pthread_create(&threads[at], NULL, all_numbers, &tasks[at]) != 0)
+            return 2;
+    }
+    for (int at = 0; at < 4; at++) {
+        pthread_join(threads[at], NULL);
+        failed += tasks[at].failed;
+    }
+    if (failed != 0)
+        printf("%ld numbers were not read back\n", failed);
+    return failed != 0;
+}

@@ -1,0 +1,157 @@
+//! The readers: texts as numbers.
+
+use core::fmt::{self, Display, Formatter};
+
+use crate::abi::{self, status, Way, Whole};
+use crate::ChineseCountMethod;
+
+/// Why a text is no number of a type.
+#[derive(Debug, Copy, Clone, Eq, PartialEq)]
+pub enum ChineseToNumberError {
+    /// Nothing is left of the text without its white space and, for signed types, one sign.
+    ChineseNumberEmpty,
+    /// The character that has `char_index` characters of the text in front, white space among them, cannot stand there.
+    ChineseNumberIncorrect { char_index: usize },
+    /// The number is past the type's greatest, or has more than 128 bits.
+    Overflow,
+    /// The number is past the type's least.
+    Underflow,
+}
+
+impl Display for ChineseToNumberError {
+    fn fmt(&self, f: &mut Formatter<'_>) -> fmt::Result {
+        match self {
+            Self::ChineseNumberEmpty => f.write_str("a chinese number cannot be empty"),
+            Self::ChineseNumberIncorrect { char_index } => {
+                write!(
+                    f,
+                    "the chinese number is incorrect (position: {char_index})"
+                )
+            }
+            Self::Overflow => f.write_str("number is too large"),
+            Self::Underflow => f.write_str("number is too small"),
+        }
+    }
+}
+
+impl core::error::Error for ChineseToNumberError {}
+
+#[inline]
+fn read<T: Whole>(text: &str, way: Way) -> Result<T, ChineseToNumberError> {
+    abi::read(text, way).map_err(|(status, char_index)| match status {
+        status::EMPTY => ChineseToNumberError::ChineseNumberEmpty,
+        status::INCORRECT => ChineseToNumberError::ChineseNumberIncorrect { char_index },
+        status::TOO_LARGE => ChineseToNumberError::Overflow,
+        status::TOO_SMALL => ChineseToNumberError::Underflow,
+        _ => unreachable!("the codes are the library's"),
+    })
+}
+
+/// A text that is read as a number of the integer type `T`.
+///
+/// ```rust
+/// use chinese_number::{ChineseCountMethod, ChineseToNumber, ChineseToNumberError};
+///
+/// let number: Result<i8, _> = "負一百二十八".to_number(ChineseCountMethod::TenThousand);
+/// assert_eq!(number, Ok(-128));
+/// let number: Result<i8, _> = " 二 十 十 ".to_number(ChineseCountMethod::TenThousand);
+/// assert_eq!(number, Err(ChineseToNumberError::ChineseNumberIncorrect { char_index: 3 }));
+/// ```
+pub trait ChineseToNumber<T> {
+    /// Reads a numeral with units, by a method: 一百二 is 120.
+    fn to_number(&self, method: ChineseCountMethod) -> Result<T, ChineseToNumberError>;
+
+    /// Reads plain digits: 一二三 is 123.
+    fn to_number_naive(&self) -> Result<T, ChineseToNumberError>;
+}
+
+macro_rules! readers {
+    ($t:ty: $naive:ident $(, $name:ident $method:ident)*) => {
+        impl<S: AsRef<str>> ChineseToNumber<$t> for S {
+            #[inline]
+            fn to_number(&self, method: ChineseCountMethod) -> Result<$t, ChineseToNumberError> {
+                read(self.as_ref(), method.into())
+            }
+
+            #[inline]
+            fn to_number_naive(&self) -> Result<$t, ChineseToNumberError> {
+                read(self.as_ref(), Way::Digits)
+            }
+        }
+
+        #[doc = concat!("Reads plain digits as a `", stringify!($t), "`.")]
+        #[inline]
+        pub fn $naive<S: AsRef<str>>(chinese_number: S) -> Result<$t, ChineseToNumberError> {
+            read(chinese_number.as_ref(), Way::Digits)
+        }
+
+        $(
+            #[doc = concat!("Reads a numeral as a `", stringify!($t), "` by `", stringify!($method), "`.")]
+            #[inline]
+            pub fn $name<S: AsRef<str>>(chinese_number: S) -> Result<$t, ChineseToNumberError> {
+                read(chinese_number.as_ref(), Way::$method)
+            }
+        )*
+    };
+}
+
+readers! { u8: from_chinese_to_u8_naive, from_chinese_to_u8 Low }
+readers! { u16: from_chinese_to_u16_naive, from_chinese_to_u16 Low }
+readers! {
+    u32: from_chinese_to_u32_naive,
+    from_chinese_to_u32_low Low,
+    from_chinese_to_u32_ten_thousand TenThousand,
+    from_chinese_to_u32_middle Middle,
+    from_chinese_to_u32_high High
+}
+readers! {
+    u64: from_chinese_to_u64_naive,
+    from_chinese_to_u64_low Low,
+    from_chinese_to_u64_ten_thousand TenThousand,
+    from_chinese_to_u64_middle Middle,
+    from_chinese_to_u64_high High
+}
+readers! {
+    u128: from_chinese_to_u128_naive,
+    from_chinese_to_u128_low Low,
+    from_chinese_to_u128_ten_thousand TenThousand,
+    from_chinese_to_u128_middle Middle,
+    from_chinese_to_u128_high High
+}
+readers! {
+    usize: from_chinese_to_usize_naive,
+    from_chinese_to_usize_low Low,
+    from_chinese_to_usize_ten_thousand TenThousand,
+    from_chinese_to_usize_middle Middle,
+    from_chinese_to_usize_high High
+}
+readers! { i8: from_chinese_to_i8_naive, from_chinese_to_i8 Low }
+readers! { i16: from_chinese_to_i16_naive, from_chinese_to_i16 Low }
+readers! {
+    i32: from_chinese_to_i32_naive,
+    from_chinese_to_i32_low Low,
+    from_chinese_to_i32_ten_thousand TenThousand,
+    from_chinese_to_i32_middle Middle,
+    from_chinese_to_i32_high High
+}
+readers! {
+    i64: from_chinese_to_i64_naive,
+    from_chinese_to_i64_low Low,
+    from_chinese_to_i64_ten_thousand TenThousand,
+    from_chinese_to_i64_middle Middle,
+    from_chinese_to_i64_high High
+}
+readers! {
+    i128: from_chinese_to_i128_naive,
+    from_chinese_to_i128_low Low,
+    from_chinese_to_i128_ten_thousand TenThousand,
+    from_chinese_to_i128_middle Middle,
+    from_chinese_to_i128_high High
+}
+readers! {
+    isize: from_chinese_to_isize_naive,
+    from_chinese_to_isize_low Low,
+    from_chinese_to_isize_ten_thousand TenThousand,
+    from_chinese_to_isize_middle Middle,
+    from_chinese_to_isize_high High
+}

@@ -1,0 +1,194 @@
+//! The interface of the upstream crate for the integer types: each name with its signature, and what each type and trait
+//! can do; the texts of the errors, an empty text, and several threads at once.
+
+use std::error::Error;
+use std::fmt::{Debug, Display};
+use std::hash::Hash;
+use std::thread;
+
+use chinese_number::*;
+
+type Answer<T> = Result<T, ChineseToNumberError>;
+type Printed = Result<String, NumberToChineseError>;
+
+macro_rules! readers {
+    ($($t:ty: $($name:ident)+;)+) => {
+        $($(
+            let _: fn(&'static str) -> Answer<$t> = $name::<&str>;
+            let _: fn(String) -> Answer<$t> = $name::<String>;
+            let _: fn(&'static String) -> Answer<$t> = $name::<&String>;
+        )+)+
+    };
+}
+
+macro_rules! printers {
+    ($printed:ty; $($t:ty: $($name:ident)+;)+) => {
+        $($(let _: fn(ChineseVariant, ChineseCase, $t) -> $printed = $name;)+)+
+    };
+}
+
+#[test]
+fn signatures_of_readers() {
+    readers! {
+        u8: from_chinese_to_u8_naive from_chinese_to_u8;
+        u16: from_chinese_to_u16_naive from_chinese_to_u16;
+        u32: from_chinese_to_u32_naive from_chinese_to_u32_low from_chinese_to_u32_ten_thousand
+            from_chinese_to_u32_middle from_chinese_to_u32_high;
+        u64: from_chinese_to_u64_naive from_chinese_to_u64_low from_chinese_to_u64_ten_thousand
+            from_chinese_to_u64_middle from_chinese_to_u64_high;
+        u128: from_chinese_to_u128_naive from_chinese_to_u128_low from_chinese_to_u128_ten_thousand
+            from_chinese_to_u128_middle from_chinese_to_u128_high;
+        usize: from_chinese_to_usize_naive from_chinese_to_usize_low
+            from_chinese_to_usize_ten_thousand from_chinese_to_usize_middle
+            from_chinese_to_usize_high;
+        i8: from_chinese_to_i8_naive from_chinese_to_i8;
+        i16: from_chinese_to_i16_naive from_chinese_to_i16;
+        i32: from_chinese_to_i32_naive from_chinese_to_i32_low from_chinese_to_i32_ten_thousand
+            from_chinese_to_i32_middle from_chinese_to_i32_high;
+        i64: from_chinese_to_i64_naive from_chinese_to_i64_low from_chinese_to_i64_ten_thousand
+            from_chinese_to_i64_middle from_chinese_to_i64_high;
+        i128: from_chinese_to_i128_naive from_chinese_to_i128_low from_chinese_to_i128_ten_thousand
+            from_chinese_to_i128_middle from_chinese_to_i128_high;
+        isize: from_chinese_to_isize_naive from_chinese_to_isize_low
+            from_chinese_to_isize_ten_thousand from_chinese_to_isize_middle
+            from_chinese_to_isize_high;
+    }
+}
+
+#[test]
+fn signatures_of_printers() {
+    printers! { String;
+        u8: from_u8_to_chinese_naive from_u8_to_chinese;
+        u16: from_u16_to_chinese_naive from_u16_to_chinese;
+        u32: from_u32_to_chinese_naive from_u32_to_chinese_low from_u32_to_chinese_ten_thousand
+            from_u32_to_chinese_middle from_u32_to_chinese_high;
+        u64: from_u64_to_chinese_naive from_u64_to_chinese_ten_thousand from_u64_to_chinese_middle
+            from_u64_to_chinese_high;
+        u128: from_u128_to_chinese_naive from_u128_to_chinese_ten_thousand
+            from_u128_to_chinese_middle from_u128_to_chinese_high;
+        usize: from_usize_to_chinese_naive from_usize_to_chinese_ten_thousand
+            from_usize_to_chinese_middle from_usize_to_chinese_high;
+        i8: from_i8_to_chinese_naive from_i8_to_chinese;
+        i16: from_i16_to_chinese_naive from_i16_to_chinese;
+        i32: from_i32_to_chinese_naive from_i32_to_chinese_low from_i32_to_chinese_ten_thousand
+            from_i32_to_chinese_middle from_i32_to_chinese_high;
+        i64: from_i64_to_chinese_naive from_i64_to_chinese_ten_thousand from_i64_to_chinese_middle
+            from_i64_to_chinese_high;
+        i128: from_i128_to_chinese_naive from_i128_to_chinese_ten_thousand
+            from_i128_to_chinese_middle from_i128_to_chinese_high;
+        isize: from_isize_to_chinese_naive from_isize_to_chinese_ten_thousand
+            from_isize_to_chinese_middle from_isize_to_chinese_high;
+    }
+    printers! { Printed;
+        u64: from_u64_to_chinese_low;
+        u128: from_u128_to_chinese_low;
+        usize: from_usize_to_chinese_low;
+        i64: from_i64_to_chinese_low;
+        i128: from_i128_to_chinese_low;
+        isize: from_isize_to_chinese_low;
+    }
+    let _: [ChineseCountMethod; 4] = const { ChineseCountMethod::variants() };
+}
+
+// What is read and written by the traits as a number of this type.
+fn is_an_integer<T>()
+where
+    T: NumberToChinese,
+    for<'a> &'a str: ChineseToNumber<T>,
+    for<'a> &'a &'a str: ChineseToNumber<T>,
+    for<'a> &'a String: ChineseToNumber<T>,
+    String: ChineseToNumber<T>,
+    Box<str>: ChineseToNumber<T>,
+    for<'a> std::borrow::Cow<'a, str>: ChineseToNumber<T>,
+{
+}
+
+fn is_a_value<T: Copy + Eq + Debug + Send + Sync + Unpin + 'static>() {}
+
+fn is_an_error<T: Error + Copy + Eq + Send + Sync + 'static>() {}
+
+fn has_a_hash<T: Hash>() {}
+
+#[test]
+fn traits() {
+    macro_rules! integers {
+        ($($t:ty)+) => { $(is_an_integer::<$t>();)+ };
+    }
+    integers!(u8 u16 u32 u64 u128 usize i8 i16 i32 i64 i128 isize);
+    is_a_value::<ChineseVariant>();
+    is_a_value::<ChineseCase>();
+    is_a_value::<ChineseCountMethod>();
+    is_an_error::<ChineseToNumberError>();
+    is_an_error::<NumberToChineseError>();
+    has_a_hash::<ChineseVariant>();
+    has_a_hash::<ChineseCase>();
+    has_a_hash::<ChineseCountMethod>();
+    assert!(ChineseVariant::Traditional < ChineseVariant::Simple);
+}
+
+#[test]
+fn methods_in_their_order() {
+    use ChineseCountMethod::*;
+    assert_eq!(
+        ChineseCountMethod::variants(),
+        [Low, TenThousand, Middle, High]
+    );
+}
+
+#[test]
+fn texts_of_errors() {
+    use ChineseToNumberError::*;
+    let rows: [(&dyn Display, &str); 6] = [
+        (&ChineseNumberEmpty, "a chinese number cannot be empty"),
+        (
+            &ChineseNumberIncorrect { char_index: 12 },
+            "the chinese number is incorrect (position: 12)",
+        ),
+        (&Overflow, "number is too large"),
+        (&Underflow, "number is too small"),
+        (&NumberToChineseError::Overflow, "number is too large"),
+        (&NumberToChineseError::Underflow, "number is too small"),
+    ];
+    for (error, text) in rows {
+        assert_eq!(error.to_string(), text);
+    }
+}
+
+#[test]
+fn empty_texts() {
+    for text in ["", " ", "負"] {
+        let by_units: Answer<i8> = text.to_number(ChineseCountMethod::High);
+        assert_eq!(by_units, Err(ChineseToNumberError::ChineseNumberEmpty));
+        let by_digits: Answer<i128> = text.to_number_naive();
+        assert_eq!(by_digits, Err(ChineseToNumberError::ChineseNumberEmpty));
+    }
+}
+
+// Each number of 64 bits that this step leads to, ten thousand of them, is printed by each method and read back.
+fn reads_back(step: i64) {
+    let limits = -9_999_999_999_999_999..=9_999_999_999_999_999;
+    for number in (0..10_000).map(|count| step.wrapping_mul(count)) {
+        let text = number.to_chinese_naive(ChineseVariant::Simple, ChineseCase::Upper);
+        assert_eq!(text.to_number_naive(), Ok(number));
+        for method in ChineseCountMethod::variants() {
+            match number.to_chinese(ChineseVariant::Traditional, ChineseCase::Lower, method) {
+                Ok(text) => assert_eq!(text.to_number(method), Ok(number)),
+                Err(_) => assert!(method == ChineseCountMethod::Low && !limits.contains(&number)),
+            }
+        }
+    }
+}
+
+#[test]
+fn four_threads() {
+    let steps = [
+        1,
+        -1_000_003,
+        1_000_000_007_000_000_009,
+        -7_777_777_777_777_777_777,
+    ];
+    let threads = steps.map(|step| thread::spawn(move || reads_back(step)));
+    for thread in threads {
+        thread.join().unwrap();
+    }
+}

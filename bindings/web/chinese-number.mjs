@@ -1,0 +1,243 @@
+// Chinese numerals, read and printed by the proved library, which is the WebAssembly module beside this file.
+//
+//     read('一百二', { type: 'u64' })                                       120n
+//     print(120, { type: 'u64', script: 'simple', letterCase: 'upper' })    '壹佰贰拾'
+//
+// The module takes no memory of its own: this file lends it what lies past its __heap_base.
+
+// Each list is in the order of the codes that the module has for these names.
+
+/** The integer types. */
+export const TYPES = Object.freeze(/** @type {const} */ (
+  ['u8', 'u16', 'u32', 'u64', 'u128', 'i8', 'i16', 'i32', 'i64', 'i128']));
+
+/** How a number is written: 'naive' is digit by digit, the others are by the units of a method of counting. */
+export const METHODS = Object.freeze(/** @type {const} */ (['naive', 'low', 'tenThousand', 'middle', 'high']));
+
+/** The scripts. */
+export const SCRIPTS = Object.freeze(/** @type {const} */ (['traditional', 'simple']));
+
+/** The cases: 'upper' has the forms of cheques. */
+export const LETTER_CASES = Object.freeze(/** @type {const} */ (['upper', 'lower']));
+
+const STATUSES = ['done', 'empty', 'incorrect', 'tooLarge', 'tooSmall', 'notUtf8', 'noRoom', 'notHeld', 'unknown'];
+
+const MESSAGES = {
+  empty: 'a chinese number cannot be empty',
+  incorrect: 'the chinese number is incorrect',
+  tooLarge: 'number is too large',
+  tooSmall: 'number is too small',
+  notHeld: 'the type does not hold the number',
+  outOfMemory: 'out of memory',
+};
+
+/**
+ * @typedef {typeof TYPES[number]} IntegerType
+ * @typedef {typeof METHODS[number]} Method
+ * @typedef {typeof SCRIPTS[number]} Script
+ * @typedef {typeof LETTER_CASES[number]} LetterCase
+ * @typedef {{ type?: IntegerType, method?: Method }} ReadOptions
+ * @typedef {{ type?: IntegerType, method?: Method, script?: Script, letterCase?: LetterCase }} PrintOptions
+ */
+
+/**
+ * Why a text was not read, or a number not printed.
+ *
+ * `code` is
+ * - 'empty': nothing is left of the text without its white space and, for a signed type, one sign;
+ * - 'incorrect': a character cannot stand where it stands;
+ * - 'tooLarge', 'tooSmall': the number read does not fit the type, or by 'low' the number has no text;
+ * - 'notHeld': the type does not hold the number that is to be printed;
+ * - 'outOfMemory': the host has no memory for the text.
+ */
+export class NumeralError extends Error {
+  /**
+   * @param {keyof typeof MESSAGES} code
+   * @param {{ charIndex: number, start: number, end: number }} [place]
+   * @param {ErrorOptions} [options]
+   */
+  constructor(code, place, options) {
+    super(place ? `${MESSAGES[code]} (position: ${place.charIndex})` : MESSAGES[code], options);
+    this.name = 'NumeralError';
+    this.code = code;
+    /** At 'incorrect': how many characters stand in front of the one at fault. */
+    this.charIndex = place?.charIndex;
+    /** At 'incorrect': where it starts in the string, in UTF-16 code units, as setSelectionRange and slice take it. */
+    this.start = place?.start;
+    /** At 'incorrect': where it ends, likewise. */
+    this.end = place?.end;
+  }
+}
+
+// A module that has a 64-bit memory and nothing else, to ask whether the host has such memories.
+const HAS_MEMORY64 = WebAssembly.validate(Uint8Array.of(0, 0x61, 0x73, 0x6d, 1, 0, 0, 0, 5, 3, 1, 4, 1));
+
+const compiled = await WebAssembly.compile(await bytesOf(HAS_MEMORY64
+  ? new URL('chinese-number.64.wasm', import.meta.url)
+  : new URL('chinese-number.32.wasm', import.meta.url)));
+
+/** @param {URL} url */
+async function bytesOf(url) {
+  if (url.protocol === 'file:') return (await import('node:fs/promises')).readFile(url);
+  const answer = await fetch(url);
+  if (!answer.ok) throw new Error(`${url}: ${answer.status}`);
+  return answer.arrayBuffer();
+}
+
+/** @type {any} What the instance in use exports; null after a trap, since its memory may be half written then. */
+let library = (await WebAssembly.instantiate(compiled)).exports;
+
+// What is lent: a reading (24 bytes), a number (16), a length (8), and then the text.
+const READING = Math.ceil(Number(library.__heap_base.value) / 16) * 16;
+const NUMBER = READING + 24;
+const LENGTH = NUMBER + 16;
+const TEXT = LENGTH + 8;
+const [READING_AT, NUMBER_AT, LENGTH_AT, TEXT_AT] = [READING, NUMBER, LENGTH, TEXT].map(BigInt);
+const MOST_BYTES = 234;
+const PAGE = 65536;
+const encoder = new TextEncoder();
+const decoder = new TextDecoder();
+/** @type {BigUint64Array} The reading, the number and the length. */
+let words;
+/** @type {Uint8Array} */
+let text = new Uint8Array(0);
+
+/**
+ * Lends room for so many bytes of text.
+ * @param {number} bytes
+ */
+function lend(bytes) {
+  library ??= new WebAssembly.Instance(compiled).exports;
+  const { memory } = library;
+  const missing = TEXT + bytes - memory.buffer.byteLength;
+  if (missing > 0) grow(memory, Math.ceil(missing / PAGE));
+  // A memory that has grown has another buffer, and so has that of a new instance.
+  if (text.buffer !== memory.buffer) {
+    words = new BigUint64Array(memory.buffer, READING, 6);
+    text = new Uint8Array(memory.buffer, TEXT);
+  }
+}
+
+/**
+ * @param {any} memory
+ * @param {number} pages
+ */
+function grow(memory, pages) {
+  try {
+    // A 64-bit memory counts its pages by a BigInt, though early hosts and 32-bit memories do so by a Number.
+    try {
+      memory.grow(BigInt(pages));
+    } catch (error) {
+      if (!(error instanceof TypeError)) throw error;
+      memory.grow(pages);
+    }
+  } catch (cause) {
+    throw new NumeralError('outOfMemory', undefined, { cause });
+  }
+}
+
+/**
+ * Calls the module. Where that traps, as on a full stack of the host, the next call has a new instance.
+ * @param {() => number} call
+ */
+function statusOf(call) {
+  try {
+    return call();
+  } catch (error) {
+    library = null;
+    throw error;
+  }
+}
+
+/**
+ * @param {number} status
+ * @returns {keyof typeof MESSAGES}
+ */
+const reasonOf = (status) => /** @type {any} */ (STATUSES[status]);
+
+/**
+ * @param {readonly string[]} names
+ * @param {string} name
+ * @param {string} what
+ */
+function codeOf(names, name, what) {
+  const code = names.indexOf(name);
+  if (code < 0) throw new TypeError(`no ${what} is named ${String(name)}`);
+  return code;
+}
+
+/** @param {string} type */
+const isSigned = (type) => type.startsWith('i');
+
+/**
+ * Where the character with so many in front stands in a string.
+ * @param {string} string
+ * @param {number} charIndex
+ */
+function placeOf(string, charIndex) {
+  /** @param {number} at */
+  const next = (at) => at + (Number(string.codePointAt(at)) > 0xffff ? 2 : 1);
+  let start = 0;
+  for (let left = charIndex; left > 0; left--) start = next(start);
+  return { charIndex, start, end: next(start) };
+}
+
+/**
+ * Reads a numeral as a number of a type, 'i128' where none is named, by a method, else 'tenThousand'.
+ *
+ * `read('一百二')` is 120n. Throws a NumeralError where the text is no numeral or its number does not fit the type, and
+ * a TypeError where the text is no string or a name is unknown.
+ *
+ * @param {string} string
+ * @param {ReadOptions} options
+ * @returns {bigint}
+ */
+export function read(string, { type = 'i128', method = 'tenThousand' } = {}) {
+  const kind = codeOf(TYPES, type, 'type');
+  const way = codeOf(METHODS, method, 'method');
+  if (typeof string !== 'string') throw new TypeError('a numeral is a string');
+  lend(3 * string.length);
+  // An encoder writes UTF-8 and nothing else (half a surrogate pair as U+FFFD), so the module need not test it.
+  const written = BigInt(Number(encoder.encodeInto(string, text).written));
+  const status = statusOf(() => library.chinese_number_read_utf8(TEXT_AT, written, kind, way, READING_AT));
+  const [low, high, charIndex] = words;
+  if (status === 0) {
+    const bits = (high << 64n) | low;
+    return isSigned(type) ? BigInt.asIntN(128, bits) : bits;
+  }
+  const code = reasonOf(status);
+  throw new NumeralError(code, code === 'incorrect' ? placeOf(string, Number(charIndex)) : undefined);
+}
+
+/**
+ * The text of a number of a type, 'i128' where none is named, by a method, else 'tenThousand', in a script, else
+ * 'traditional', and a case, else 'lower'.
+ *
+ * `print(120)` is '一百二十'. The number is a BigInt, or a whole Number that is exact. Throws a NumeralError where the type
+ * does not hold the number or the method has no text for it, and a TypeError where it is no such number or a name is
+ * unknown.
+ *
+ * @param {bigint | number} number
+ * @param {PrintOptions} options
+ * @returns {string}
+ */
+export function print(number, { type = 'i128', method = 'tenThousand', script = 'traditional', letterCase = 'lower' } = {}) {
+  const kind = codeOf(TYPES, type, 'type');
+  const way = codeOf(METHODS, method, 'method');
+  const scriptCode = codeOf(SCRIPTS, script, 'script');
+  const caseCode = codeOf(LETTER_CASES, letterCase, 'letter case');
+  if (typeof number !== 'bigint') {
+    if (!Number.isSafeInteger(number)) throw new TypeError('a number is a BigInt, or a whole Number up to 2 ** 53 - 1');
+    number = BigInt(number);
+  }
+  // The module is handed 128 bits, so the number must be the one that they stand for.
+  const bits = isSigned(type) ? BigInt.asIntN(128, number) : BigInt.asUintN(128, number);
+  if (bits !== number) throw new NumeralError('notHeld');
+  lend(MOST_BYTES);
+  words[3] = bits;
+  words[4] = bits >> 64n;
+  const status = statusOf(() => library.chinese_number_print(
+    NUMBER_AT, kind, way, scriptCode, caseCode, TEXT_AT, BigInt(MOST_BYTES), LENGTH_AT));
+  if (status !== 0) throw new NumeralError(reasonOf(status));
+  return decoder.decode(text.subarray(0, Number(words[5])));
+}

@@ -1,0 +1,116 @@
+// Printing.
+ghost use Rattle.std.specs.Prelude.{◌≡◌, ◌≤◌};
+ghost use Rattle.chinese_number.specs.Whole.{signed_number};
+ghost use Rattle.cn_c.specs.Halves.{number_of};
+ghost use Rattle.cn_c.specs.Kinds.{the_kind};
+ghost use Rattle.cn_c.specs.Prints.{PrintsBy, PrintsNumber, IsPrinted};
+
+use crate::codes::{Kind, Way, case_of, kind_of, script_of, way_of};
+use crate::number::{Number, SignedMagnitude, signed_magnitude};
+use crate::status::{DONE, NO_ROOM, NOT_HELD, TOO_LARGE, TOO_SMALL, UNKNOWN};
+use chinese_number::{ChineseCase, ChineseVariant, Whole};
+use cn_spell::{is_printable, put_by_units, put_naive};
+
+/// How a number is to be written.
+#[derive(Clone, Copy)]
+pub struct Style {
+    pub way: Way,
+    pub script: ChineseVariant,
+    pub case: ChineseCase,
+}
+
+// Prints a value of a type.
+fn print_by<T: Whole>(value: T, style: Style, room: &mut [u8], len: &mut usize) -> u32
+    requires { len.old ≡ 0 }
+    ensures printed { PrintsBy style.way style.script style.case (T.number value) room.old result room.new len.new }
+    ensures bound { len.new ≤ 234 }
+{
+    let Style { way, script, case } = style;
+    *len = match way {
+        Way::Digits => put_naive(room, script, case, value),
+        Way::Units(method) if is_printable(method, value) => {
+            put_by_units(room, script, case, method, value)
+        }
+        Way::Units(_) if value.is_negative() => return TOO_SMALL,
+        Way::Units(_) => return TOO_LARGE,
+    };
+    if *len > room.len() { NO_ROOM } else { DONE }
+}
+
+// Prints a number, if the type holds it.
+fn print_as<T: Whole>(
+    number: SignedMagnitude,
+    style: Style,
+    room: &mut [u8],
+    len: &mut usize,
+) -> u32
+    requires { len.old ≡ 0 }
+    ensures printed { PrintsNumber T.kind style.way style.script style.case (signed_number number.negative number.magnitude)
+        room.old result room.new len.new }
+    ensures bound { len.new ≤ 234 }
+{
+    match T::from_magnitude(number.negative, number.magnitude) {
+        Some(value) => print_by(value, style, room, len),
+        None => NOT_HELD,
+    }
+}
+
+fn print_kind(kind: Kind, number: Number, style: Style, room: &mut [u8], len: &mut usize) -> u32
+    requires { len.old ≡ 0 }
+    ensures printed { PrintsNumber (the_kind kind) style.way style.script style.case (number_of (the_kind kind).signed number)
+        room.old result room.new len.new }
+    ensures bound { len.new ≤ 234 }
+{
+    let signed = is_signed(kind);
+    let number = signed_magnitude(signed, number);
+    match kind {
+        Kind::U8 => print_as::<u8>(number, style, room, len),
+        Kind::U16 => print_as::<u16>(number, style, room, len),
+        Kind::U32 => print_as::<u32>(number, style, room, len),
+        Kind::U64 => print_as::<u64>(number, style, room, len),
+        Kind::U128 => print_as::<u128>(number, style, room, len),
+        Kind::I8 => print_as::<i8>(number, style, room, len),
+        Kind::I16 => print_as::<i16>(number, style, room, len),
+        Kind::I32 => print_as::<i32>(number, style, room, len),
+        Kind::I64 => print_as::<i64>(number, style, room, len),
+        Kind::I128 => print_as::<i128>(number, style, room, len),
+    }
+}
+
+fn is_signed(kind: Kind) -> bool
+    ensures { result ≡ (the_kind kind).signed }
+{
+    match kind {
+        Kind::U8 | Kind::U16 | Kind::U32 | Kind::U64 | Kind::U128 => false,
+        Kind::I8 | Kind::I16 | Kind::I32 | Kind::I64 | Kind::I128 => true,
+    }
+}
+
+/// Prints a number of a type into the caller's room, where 234 bytes are enough for any.
+///
+/// Writes `*len`, and the bytes in front of it where the text fits; all else in the room stays.
+#[unsafe(no_mangle)]
+pub extern "C" fn chinese_number_print(
+    number: Number,
+    kind: u32,
+    way: u32,
+    script: u32,
+    case: u32,
+    room: &mut [u8],
+    len: &mut usize,
+) -> u32
+    ensures printed { IsPrinted number kind way script case room.old result room.new len.new }
+    ensures bound { len.new ≤ 234 }
+{
+    *len = 0;
+    let (Some(kind), Some(way), Some(script), Some(case)) = (
+        kind_of(kind),
+        way_of(way),
+        script_of(script),
+        case_of(case),
+    ) else {
+        return UNKNOWN;
+    };
+    let style = Style { way, script, case };
+    print_kind(kind, number, style, room, len)
+}

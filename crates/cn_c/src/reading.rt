@@ -1,0 +1,133 @@
+// Reading.
+ghost use Rattle.std.specs.Prelude.{◌≡◌, true, false, IsUtf8, MatchOption};
+ghost use Rattle.std.specs.Str.{is_utf8};
+ghost use Rattle.chinese_number.specs.Answer.{answer_of};
+ghost use Rattle.cn_c.specs.Halves.{FitsHalves};
+ghost use Rattle.cn_c.specs.Kinds.{the_kind};
+ghost use Rattle.cn_c.specs.Reads.{ReadsBy, ReadsInto, Tells, IsRead};
+
+use crate::codes::{Kind, Way, kind_of, way_of};
+use crate::number::{Number, halves};
+use crate::status::{DONE, EMPTY, INCORRECT, NOT_UTF8, TOO_LARGE, TOO_SMALL, UNKNOWN};
+use chinese_number::{ChineseToNumber, ChineseToNumberError, Whole};
+use std::str;
+
+/// What was read: the number, or the place of the character at fault.
+#[repr(C)]
+#[derive(Clone, Copy)]
+pub struct Reading {
+    pub number: Number,
+    pub char_index: usize,
+}
+
+const NOTHING: Reading = Reading {
+    number: Number { low: 0, high: 0 },
+    char_index: 0,
+};
+
+// The answer to a text, as its type has it.
+fn read_by<T: Whole>(way: Way, text: &str) -> Result<T, ChineseToNumberError>
+    ensures { ReadsBy T.kind way text.now (answer_of T.number result) }
+{
+    match way {
+        Way::Digits => text.to_number_naive(),
+        Way::Units(method) => text.to_number(method),
+    }
+}
+
+// Tells an answer to C.
+fn tell<T: Whole>(answer: Result<T, ChineseToNumberError>, reading: &mut Reading) -> u32
+    requires { FitsHalves T.kind }
+    ensures { Tells T.kind.signed (answer_of T.number answer) result reading.new }
+{
+    *reading = NOTHING;
+    match answer {
+        Ok(value) => {
+            reading.number = halves(value);
+            DONE
+        }
+        Err(ChineseToNumberError::ChineseNumberEmpty) => EMPTY,
+        Err(ChineseToNumberError::ChineseNumberIncorrect { char_index }) => {
+            reading.char_index = char_index;
+            INCORRECT
+        }
+        Err(ChineseToNumberError::Overflow) => TOO_LARGE,
+        Err(ChineseToNumberError::Underflow) => TOO_SMALL,
+    }
+}
+
+fn read_as<T: Whole>(way: Way, text: &str, reading: &mut Reading) -> u32
+    requires { FitsHalves T.kind }
+    ensures { ReadsInto T.kind way text.now result reading.new }
+{
+    tell(read_by::<T>(way, text), reading)
+}
+
+#[inline(always)]
+fn read_kind(kind: Kind, way: Way, text: &str, reading: &mut Reading) -> u32
+    ensures { ReadsInto (the_kind kind) way text.now result reading.new }
+{
+    match kind {
+        Kind::U8 => read_as::<u8>(way, text, reading),
+        Kind::U16 => read_as::<u16>(way, text, reading),
+        Kind::U32 => read_as::<u32>(way, text, reading),
+        Kind::U64 => read_as::<u64>(way, text, reading),
+        Kind::U128 => read_as::<u128>(way, text, reading),
+        Kind::I8 => read_as::<i8>(way, text, reading),
+        Kind::I16 => read_as::<i16>(way, text, reading),
+        Kind::I32 => read_as::<i32>(way, text, reading),
+        Kind::I64 => read_as::<i64>(way, text, reading),
+        Kind::I128 => read_as::<i128>(way, text, reading),
+    }
+}
+
+// The text of these bytes, if they are UTF-8.
+fn text_of(bytes: &[u8]) -> Option<&str>
+    ensures { MatchOption result (is_utf8 bytes.now ≡ false) (λ text. (is_utf8 bytes.now ≡ true) × (text.now ≡ bytes.now)) }
+{
+    match str::from_utf8(bytes) {
+        Ok(text) => Some(text),
+        Err(_) => None,
+    }
+}
+
+/// Reads a numeral as a number of a type.
+///
+/// Writes `*reading` whole at each status, and nothing else.
+#[unsafe(no_mangle)]
+pub extern "C" fn chinese_number_read(
+    text: &[u8],
+    kind: u32,
+    way: u32,
+    reading: &mut Reading,
+) -> u32
+    ensures { IsRead text.now kind way result reading.new }
+{
+    *reading = NOTHING;
+    let (Some(kind), Some(way)) = (kind_of(kind), way_of(way)) else {
+        return UNKNOWN;
+    };
+    match text_of(text) {
+        Some(text) => read_kind(kind, way, text, reading),
+        None => NOT_UTF8,
+    }
+}
+
+/// Reads a numeral as `chinese_number_read` does, where the caller knows that the bytes are UTF-8.
+#[unsafe(no_mangle)]
+pub unsafe extern "C" fn chinese_number_read_utf8(
+    text: &[u8],
+    kind: u32,
+    way: u32,
+    reading: &mut Reading,
+) -> u32
+    requires { IsUtf8 text.now }
+    ensures { IsRead text.now kind way result reading.new }
+{
+    *reading = NOTHING;
+    let (Some(kind), Some(way)) = (kind_of(kind), way_of(way)) else {
+        return UNKNOWN;
+    };
+    let text = unsafe { str::from_utf8_unchecked(text) };
+    read_kind(kind, way, text, reading)
+}

@@ -1,0 +1,44 @@
+use Rattle.std.proofs.Common.{rules, ◌≡◌, ◌+◌, ◌*◌, ◌++◌, ◌<◌, ◌≤◌, ℕ, List, length, true, take, slice_index, encode_utf8_all, subst, ap, ◌∙◌, arith}
+use Rattle.std.specs.Char.{encode_utf8}
+use Rattle.std.proofs.lemmas.List.{take_all}
+use Rattle.cn_core.specs.Characters.{digit_char}
+use Rattle.cn_core.specs.Naive.{decimal_digits}
+use Rattle.cn_core.specs.Written.{written}
+use Rattle.cn_spell.specs.Working.Places.{places_of}
+use Rattle.cn_spell.specs.Working.Room.{Shows}
+use Rattle.cn_spell.specs.Working.Sign.{sign_characters}
+use Rattle.cn_spell.proofs.NaiveTexts.{digit_characters, digit_characters-more, naive-is, length-naive}
+use Rattle.cn_spell.proofs.Rooms.{Shows-if, Shows-full}
+use Rattle.cn_spell.proofs.naive.PlainText.fill.Goals as goal
+
+pub loop-place-preserved : goal.loop-place-preserved
+loop-place-preserved c =
+    let l = c.loop-place in
+    let characters = c.args.self.now.characters in
+    let places : List ℕ = places_of c.args.self.now.digits in
+    let less : l.place < length places = omega (arith, c.len-place-end.ensures.len, c.loop-place-test.true) in
+    let put = c.put.ensures in
+    let three : 3 ≤ l.room.free = omega (arith, l.invariant.free, less, c.requires, length-naive characters.variant characters.case c.args.self.now.negative c.args.self.now.digits) in
+    record {
+      shows = rw (digit_characters-more characters.variant characters.case places l.place less)
+          (Shows-if true (digit_char characters.variant characters.case (slice_index places l.place)) three put.free put.text put.length
+          (c.digit.ensures.bytes ∙ ap (λ n. encode_utf8 (digit_char characters.variant characters.case n)) c.at.ensures.value) c.digit.ensures.utf8 l.invariant.shows);
+      free = omega (arith, put.free, three, l.invariant.free);
+      size = put.length ∙ l.invariant.size;
+      lender = put.lender ∙ l.invariant.lender;
+    }
+
+pub returns-clause-bytes : goal.returns-clause-bytes
+returns-clause-bytes c =
+    let l = c.loop-place in
+    let self = c.args.self.now in
+    let variant = self.characters.variant in
+    let case = self.characters.case in
+    let places : List ℕ = places_of self.digits in
+    let room = c.put_sign.new.room in
+    let end : l.place ≡ length places = omega (arith, c.len-place-end.ensures.len, l.auto.place-end, c.loop-place-test.false) in
+    let shown : sign_characters variant self.negative ++ digit_characters variant case (take l.place places) ≡ written variant case self.negative (decimal_digits self.digits) =
+    ap (λ digits. sign_characters variant self.negative ++ digit_characters variant case digits) (take_all l.place places (omega (arith, end))) ∙ naive-is variant case self.negative self.digits in
+    let shows : Shows room.free room.bytes.now (written variant case self.negative (decimal_digits self.digits)) =
+    subst (λ cs. Shows room.free room.bytes.now cs) shown (c.put_sign.ensures.shows _ l.invariant.shows) in
+    search (rules, shows, Shows-full)

@@ -1,0 +1,16 @@
+use Rattle.std.proofs.Common.{subst}
+use Rattle.cn_spell.specs.Prints.{most_bytes}
+use Rattle.cn_spell.specs.Puts.{PutsInFront}
+use Rattle.cn_spell.proofs.Bounds.{printable}
+use Rattle.cn_spell.proofs.Signs.{spelled-is}
+use Rattle.cn_spell.proofs.print.put_by_units.Goals as goal
+
+pub put_magnitude-requires : goal.put_magnitude-requires
+put_magnitude-requires g c = printable c.args.method (g.T.Whole.number c.args.value) c.magnitude.result c.magnitude.ensures.value c.requires
+
+pub returns : goal.returns
+returns g c =
+    let characters = c.new-characters.result in
+    subst (λ text. PutsInFront text (most_bytes c.args.method) c.args.room.now c.put_magnitude.new.room c.put_magnitude.result)
+    (spelled-is c.args.method c.args.variant characters.variant c.args.case characters.case c.is_negative.result c.magnitude.result (g.T.Whole.number c.args.value)
+    c.new-characters.ensures.variant c.new-characters.ensures.case c.is_negative.ensures c.magnitude.ensures.value) c.put_magnitude.ensures

@@ -1,0 +1,52 @@
+// A text that says how many characters it has, and fills a room of its size.
+ghost use Rattle.std.specs.Prelude.{◌≡◌, ℕ, ◌*◌, ◌≤◌, List, length, encode_utf8_all, IfOk};
+ghost use Rattle.std.specs.Str.{IsUtf8};
+ghost use Rattle.cn_spell.specs.Puts.{PutsInFront};
+ghost use Rattle.cn_spell.specs.Writes.{Writes};
+
+use std::alloc::{AllocError, Allocator};
+
+/// A text of characters that take three bytes each.
+pub trait Text {
+    // Its characters.
+    ghost says: { Self → List ℕ };
+
+    // The most bytes that they take.
+    ghost most: { Self → ℕ };
+
+    // How many they are.
+    fn count(&self) -> usize
+        ensures count { result ≡ length (says self.now) }
+        ensures bytes { length (encode_utf8_all (says self.now)) ≡ 3 * length (says self.now) }
+        ensures most { 3 * result ≤ most self.now }
+        ensures bound { result ≤ 78 };
+
+    // Writes them, from the last to the first.
+    fn fill(&self, bytes: &mut [u8])
+        requires { length bytes.old ≡ 3 * length (says self.now) }
+        ensures bytes { bytes.new ≡ encode_utf8_all (says self.now) }
+        ensures utf8 { IsUtf8 bytes.new };
+}
+
+/// The text in one request for memory.
+#[inline(always)]
+pub fn new_string<X: Text, A: Allocator>(alloc: A, text: &X) -> Result<String<A>, AllocError>
+    ensures { IfOk result (Writes (X.says text.now) (X.most text.now)) }
+{
+    let mut bytes = vec![in alloc; 0u8; 3 * text.count()]?;
+    text.fill(&mut bytes);
+    Ok(unsafe { String::from_utf8_unchecked(bytes) })
+}
+
+/// The text at the front of a room, where it fits. The result is how many bytes it has, in either case.
+#[inline(always)]
+pub fn put_in_front<X: Text>(room: &mut [u8], text: &X) -> usize
+    ensures { PutsInFront (X.says text.now) (X.most text.now) room.old room.new result }
+{
+    let len = 3 * text.count();
+    if len <= room.len() {
+        let (front, _) = room.split_at_mut(len);
+        text.fill(front);
+    }
+    len
+}
