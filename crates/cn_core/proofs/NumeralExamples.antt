@@ -97,6 +97,10 @@ group_closed_before_the_equal_unit : Judges TenThousand (marks_of (codes "五二
 unfolding digit_of rank_of
 group_closed_before_the_equal_unit = Judges-by_walk TenThousand (marks_of (codes "五二澗一億溝澗")) _ refl
 
+no_group_at_the_first_mark : Judges TenThousand (marks_of (codes "澗一億溝")) (Err (incorrect_at 0))
+unfolding digit_of rank_of
+no_group_at_the_first_mark = Judges-by_walk TenThousand (marks_of (codes "澗一億溝")) _ refl
+
 near_the_limit : Judges TenThousand (marks_of (codes "三百四十澗二")) (Ok (3402 * 10 ^ 35))
 unfolding digit_of rank_of
 near_the_limit = refl

@@ -1,5 +1,5 @@
 -- Which characters are digits, units and signs, and which one writes each digit, unit and sign.
-use Rattle.std.specs.Prelude.{ℕ, ◌==◌, ◌||◌, if◌then◌else◌, List, [], ◌∷◌, codes, position, Option, Some, None, slice_index}
+use Rattle.std.specs.Prelude.{ℕ, if◌then◌else◌, List, [], ◌∷◌, codes, position, Option, Some, None, slice_index}
 use Rattle.std.specs.Char.{char_set_contains}
 use Rattle.cn_core.specs.declared.script.ChineseVariant.{ChineseVariant}
 use Rattle.cn_core.specs.declared.script.ChineseVariant.TheVariants.{Traditional, Simple}
@@ -55,7 +55,9 @@ rank Ji = 15
 
 -- the sign of a sign character: 正 is plus, 負 and 负 are minus
 unfoldable pub sign_of : ℕ → Option Sign
-sign_of c = if c == 0x6B63 then Some Plus else (if c == 0x8CA0 || c == 0x8D1F then Some Minus else None)
+sign_of c =
+    if char_set_contains (codes "正") c then Some Plus
+    else (if char_set_contains (codes "負负") c then Some Minus else None)
 
 -- the characters that write the digits from 0 to 9
 abbrev pub printed_digits : ChineseVariant → ChineseCase → List ℕ
@@ -80,5 +82,5 @@ unit_char variant case unit = slice_index (printed_units variant case) unit
 
 -- the character that writes the minus sign
 unfoldable pub minus_char : ChineseVariant → ℕ
-minus_char Traditional = 0x8CA0
-minus_char Simple = 0x8D1F
+minus_char Traditional = slice_index (codes "負") 0
+minus_char Simple = slice_index (codes "负") 0

@@ -1,5 +1,5 @@
 -- What is known of an integer type.
-use Rattle.std.specs.Prelude.{ℕ, ◌-◌, ◌^◌, ℤ, pos, negsuc, neg_ℤ, ◌≤ℤ◌, Bool, true, false}
+use Rattle.std.specs.Prelude.{ℕ, ◌-◌, ◌^◌, ℤ, pos, neg_ℤ, ◌≤ℤ◌, Bool, true, false}
 
 -- whether the type is signed, and its least and greatest number
 pub record Kind : Type 0 where
@@ -13,7 +13,7 @@ unsigned_kind bits = record { signed = false; least = pos 0; greatest = pos (2 ^
 
 -- a signed type of so many bits: from -2^(bits - 1) to 2^(bits - 1) - 1
 abbrev pub signed_kind : ℕ → Kind
-signed_kind bits = record { signed = true; least = negsuc (2 ^ (bits - 1) - 1); greatest = pos (2 ^ (bits - 1) - 1) }
+signed_kind bits = record { signed = true; least = neg_ℤ (pos (2 ^ (bits - 1))); greatest = pos (2 ^ (bits - 1) - 1) }
 
 -- a type of this kind holds the number
 abbrev pub Holds : Kind → ℤ → Type 0

@@ -26,17 +26,22 @@ use Rattle.cn_judge.specs.Answer.{answer_of, refusal_of}
 use Rattle.cn_judge.specs.declared.error.ChineseToNumberError.{ChineseToNumberError}
 use Rattle.cn_core.proofs.Judging.{Judges-by_walk}
 
-pub first-stops : (c value : ℕ) → digit value ≡ mark_of c → value ≢ 0 → (next : Next) → true ≡ digit_next next
+pub first-stops : (c value : ℕ) → digit value ≡ mark_of c → (next : Next) → false ≡ (value == 0 || not (digit_next next))
     → (marks : List Mark) → each_may_precede marks ≡ true → digit_next next ≡ starts_with_digit marks → is_numeral (mark_of c ∷ marks) ≡ false
-first-stops c value is some next at marks each starts =
-    ap (λ m. is_numeral (m ∷ marks)) (sym is) ∙ by marks (sym (at ∙ starts)) where
-      by : (marks : List Mark) → starts_with_digit marks ≡ true → is_numeral (digit value ∷ marks) ≡ false
-      by [] h = cc
-      by (unit n ∷ rest) h = cc
-      by (other ∷ rest) h = cc
-      by (digit n ∷ rest) h =
+first-stops c value is next h marks each starts =
+    let parts = both (value == 0) (digit_next next) h in
+    ap (λ m. is_numeral (m ∷ marks)) (sym is) ∙ by parts.0 marks (sym starts ∙ parts.1) where
+      both : (a b : Bool) → false ≡ (a || not b) → (a ≡ false) × (b ≡ true)
+      both true b h = cc
+      both false true h = (refl, refl)
+      both false false h = cc
+
+      by : (value == 0) ≡ false → (marks : List Mark) → starts_with_digit marks ≡ true → is_numeral (digit value ∷ marks) ≡ false
+      by a [] h = cc
+      by a (unit n ∷ rest) h = cc
+      by a (other ∷ rest) h = cc
+      by a (digit n ∷ rest) h =
           let low = digit-low c value is in
-          let a : (value == 0) ≡ false = grind (arith, nat_tests) in
           let b : nat_lt 9 value ≡ false = grind (arith, nat_tests) in
           rw (a, b)
 

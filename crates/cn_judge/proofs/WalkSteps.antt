@@ -58,7 +58,7 @@ top_same : (method : ChineseCountMethod) (u : ℕ) (walked : List ℕ) (sum : �
     → top_of after ≡ top_rank (left_open u (opens_of method (marks_of walked)))
 top_same method u walked sum units after next gives w = ap top_of (left_same method u walked sum units after next gives w) ∙ top-sized method (left_open u (opens_of method (marks_of walked)))
 
-not_top : (method : ChineseCountMethod) (u : ℕ) (walked : List ℕ) (sum : ℕ) (units after : List Sized) (next : Next) → after ≡ not_closed u units → (IsTrue false ↔ (top_of after ≡ Some u))
+not_top : (method : ChineseCountMethod) (u : ℕ) (walked : List ℕ) (sum : ℕ) (units after : List Sized) (next : Next) → after ≡ not_closed u units → ((true ≡ false) ↔ (top_of after ≡ Some u))
     → IsWalked method walked sum units next → top_rank (left_open u (opens_of method (marks_of walked))) ≢ Some u
 not_top method u walked sum units after next gives differs w same = let t = differs.1 (top_same method u walked sum units after next gives w ∙ same) in cc
 
@@ -77,22 +77,22 @@ walked-past method u sum units next a is h past walked w =
     (λ fits. past (let same = sum_same method u walked sum units next w in omega (arith, same, fits)))
 
 pub walked-alone : (method : ChineseCountMethod) (u sum : ℕ) (units : List Sized) (next : Next) (a : Option ℕ) → a ≡ unit_next next → true ≡ multiplies_by u a
-    → closed_sum u sum units < 2 ^ 128 → (IsTrue true ↔ ((u ≡ 0) × (a ≡ None)))
+    → closed_sum u sum units < 2 ^ 128 → ((false ≡ false) ↔ ((u ≡ 0) × (a ≡ None)))
     → (walked : List ℕ) → IsWalked method walked sum units next → fault_of method (unit u) (marks_of walked) ≡ Some (incorrect_at 0)
 walked-alone method u sum units next a is h fits alone walked w =
     unit-alone method u (marks_of walked) (sound-none method _ w.sound) (leading u _ is w.after_unit h) (fits_same method u walked sum units next fits w)
     (alone.0 refl).0 (sym (is ∙ w.after_unit) ∙ (alone.0 refl).1)
 
 pub walked-same : (method : ChineseCountMethod) (u sum : ℕ) (units after : List Sized) (next : Next) (a : Option ℕ) → a ≡ unit_next next → true ≡ multiplies_by u a
-    → closed_sum u sum units < 2 ^ 128 → after ≡ not_closed u units → (IsTrue true ↔ (top_of after ≡ Some u))
+    → closed_sum u sum units < 2 ^ 128 → after ≡ not_closed u units → ((false ≡ false) ↔ (top_of after ≡ Some u))
     → (walked : List ℕ) → IsWalked method walked sum units next → fault_of method (unit u) (marks_of walked) ≡ Some (incorrect_at 0)
 walked-same method u sum units after next a is h fits gives top walked w =
     unit-same method u (marks_of walked) (sound-none method _ w.sound) (leading u _ is w.after_unit h) (fits_same method u walked sum units next fits w)
     (sym (top_same method u walked sum units after next gives w) ∙ top.0 refl)
 
 pub walked-step : (method : ChineseCountMethod) (u sum : ℕ) (units after : List Sized) (next : Next) (a : Option ℕ) (b : Bool) → a ≡ unit_next next → true ≡ multiplies_by u a
-    → closed_sum u sum units < 2 ^ 128 → (IsTrue false ↔ ((u ≡ 0) × (a ≡ None)))
-    → after ≡ not_closed u units → (IsTrue false ↔ (top_of after ≡ Some u)) → scale_fits method u ≡ b
+    → closed_sum u sum units < 2 ^ 128 → ((true ≡ false) ↔ ((u ≡ 0) × (a ≡ None)))
+    → after ≡ not_closed u units → ((true ≡ false) ↔ (top_of after ≡ Some u)) → scale_fits method u ≡ b
     → (walked : List ℕ) → IsWalked method walked sum units next → fault_of method (unit u) (marks_of walked) ≡ (if b then None else Some too_large)
 walked-step method u sum units after next a b is h fits alone gives top fit walked w =
     unit-step method u (marks_of walked) b (sound-none method _ w.sound) (leading u _ is w.after_unit h) (fits_same method u walked sum units next fits w)
@@ -100,7 +100,7 @@ walked-step method u sum units after next a b is h fits alone gives top fit walk
     (not_top method u walked sum units after next gives top w) fit
 
 pub walked-opens : (method : ChineseCountMethod) (u sum size below : ℕ) (units after : List Sized) (next : Next)
-    → size ≡ scale method u → below ≡ closed_sum u sum units → after ≡ not_closed u units → (IsTrue false ↔ (top_of after ≡ Some u))
+    → size ≡ scale method u → below ≡ closed_sum u sum units → after ≡ not_closed u units → ((true ≡ false) ↔ (top_of after ≡ Some u))
     → (walked : List ℕ) → IsWalked method walked sum units next → (u, size, below) ∷ after ≡ sized method (opens_of method (unit u ∷ marks_of walked))
 walked-opens method u sum size below units after next size_is below_is gives top walked w =
     ap (λ n. (u, n, below) ∷ after) size_is
@@ -109,7 +109,7 @@ walked-opens method u sum size below units after next size_is below_is gives top
     ∙ ap (sized method) (sym (opens-next method u (marks_of walked) (not_top method u walked sum units after next gives top w)))
 
 pub walked-room : (method : ChineseCountMethod) (u sum : ℕ) (units after : List Sized) (next : Next) → u < 16
-    → after ≡ not_closed u units → (IsTrue false ↔ (top_of after ≡ Some u))
+    → after ≡ not_closed u units → ((true ≡ false) ↔ (top_of after ≡ Some u))
     → (walked : List ℕ) → IsWalked method walked sum units next → length after < 16
 walked-room method u sum units after next low gives top walked w =
     let room = opens-room method u (marks_of walked) (in_ranks-marks walked) low (not_top method u walked sum units after next gives top w) in

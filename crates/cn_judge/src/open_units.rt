@@ -1,5 +1,5 @@
 // The units that a walk from the back has met and that a unit further left can still join.
-ghost use Rattle.std.specs.Prelude.{◌≡◌, ◌+◌, ◌*◌, ◌^◌, ◌<◌, ◌≤◌, ◌↔◌, [], ◌∷◌, length, Some, IsTrue, IfSome, IfNone, SomeIff, option_map};
+ghost use Rattle.std.specs.Prelude.{◌≡◌, ◌+◌, ◌*◌, ◌^◌, ◌<◌, ◌≤◌, ◌↔◌, [], ◌∷◌, length, Some, false, IsTrue, IfSome, IfNone, SomeIff, option_map};
 ghost use Rattle.cn_core.specs.Characters.{rank};
 ghost use Rattle.cn_judge.specs.Private.Stack.{ClosesTop, all_positive, closed_sum, not_closed, top_of, total_sum};
 
@@ -79,13 +79,13 @@ impl OpenUnits {
         }
     }
 
-    /// Whether the unit is the one on top.
-    pub fn has_on_top(&self, unit: Unit) -> bool
-        ensures { IsTrue result ↔ (top_of self.now ≡ Some (rank unit)) }
+    /// Rule 6, once all smaller units are closed: the first that is not smaller, now on top, is greater.
+    pub fn groups_strictly(&self, unit: Unit) -> bool
+        ensures { result ≡ false ↔ (top_of self.now ≡ Some (rank unit)) }
     {
         match self.top() {
-            Some(top) => top == unit,
-            None => false,
+            Some(top) => top != unit,
+            None => true,
         }
     }
 

@@ -39,21 +39,22 @@ use crate::quick::read_quickly;
 use crate::sign::split_sign;
 use crate::text::{count_chars, split_first};
 use crate::typed::with_sign;
-use crate::walk::{Next, walk};
+use crate::walk::{Next, separates_digits, walk};
 use cn_core::{ChineseCountMethod, Unit, Whole, scale};
 
-// The digit at the start of a text, where 十 is ten, if what follows lets it stand there.
+// Rule 1: the digit at the start of a text, where 十 is ten; it keeps rule 3 as any other.
 fn first_digit(first: char, next: Next) -> Option<u8>
     ensures { (marks : List NumeralMark) → each_may_precede marks ≡ true → digit_next next ≡ starts_with_digit marks
         → MatchOption result (is_numeral (mark_of first ∷ marks) ≡ false)
         (λ value. (is_numeral (mark_of first ∷ marks) ≡ true) × (opened (mark_of first ∷ marks) ≡ digit value ∷ marks)) }
 {
     match mark_of(first) {
-        Mark::Digit(0) => Some(0),
-        Mark::Digit(value) => match next {
-            Next::AtDigit => None,
-            _ => Some(value),
-        },
+        Mark::Digit(value) => {
+            if !separates_digits(value, next) {
+                return None;
+            }
+            Some(value)
+        }
         Mark::Unit(Unit::Shi) => Some(10),
         _ => None,
     }

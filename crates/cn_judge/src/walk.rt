@@ -1,5 +1,5 @@
 // The walk of a unit reader: from the back, character by character, to the first fault.
-ghost use Rattle.std.specs.Prelude.{◌≡◌, ℕ, ◌+◌, ◌<◌, ◌↔◌, ◌^◌, List, [], ◌∷◌, None, Some, Err, IsTrue, MatchResult, option_map, length};
+ghost use Rattle.std.specs.Prelude.{◌≡◌, ◌==◌, ◌||◌, not, false, ℕ, ◌+◌, ◌<◌, ◌↔◌, ◌^◌, List, [], ◌∷◌, None, Some, Err, IsTrue, MatchResult, option_map, length};
 ghost use Rattle.cn_core.specs.Characters.{rank};
 ghost use Rattle.cn_core.specs.Mark.{digit, mark_of};
 ghost use Rattle.cn_core.specs.Refusal.{Refusal};
@@ -8,7 +8,7 @@ ghost use Rattle.cn_judge.specs.Answer.{refusal_of};
 ghost use Rattle.cn_judge.specs.Private.Marked.{marked, unit_mark};
 ghost use Rattle.cn_judge.specs.Private.Piece.{spotted};
 ghost use Rattle.cn_judge.specs.Private.Stack.{Sized, sized};
-ghost use Rattle.cn_judge.specs.Private.Walk.{faults, unit_next, multiplies_by, opens_of, fault_of, fault_refusal};
+ghost use Rattle.cn_judge.specs.Private.Walk.{faults, digit_next, unit_next, multiplies_by, opens_of, fault_of, fault_refusal};
 ghost use Rattle.cn_judge.specs.Private.Walked.{IsWalked};
 
 use crate::ChineseToNumberError;
@@ -50,8 +50,15 @@ fn unit_after(next: Next) -> Option<Unit>
     }
 }
 
-// Whether a unit may stand before what follows it: it is smaller than a unit there, but 十 may count 個.
-fn multiplies(unit: Unit, after: Option<Unit>) -> bool
+// Rule 3: no digit from 1 to 9 stands directly before a digit.
+pub fn separates_digits(value: u8, next: Next) -> bool
+    ensures { result ≡ (value == 0 || not (digit_next next)) }
+{
+    value == 0 || !matches!(next, Next::AtDigit)
+}
+
+// Rule 4: a unit directly before a unit is smaller than it, except 十 directly before 個.
+fn multiplies_upwards(unit: Unit, after: Option<Unit>) -> bool
     ensures { result ≡ multiplies_by (rank unit) (option_map rank after) }
 {
     match after {
@@ -60,14 +67,19 @@ fn multiplies(unit: Unit, after: Option<Unit>) -> bool
     }
 }
 
-// Whether the unit is 個 and counts no unit.
-fn counts_nothing(unit: Unit, after: Option<Unit>) -> bool
-    ensures { IsTrue result ↔ ((rank unit ≡ 0) × (option_map rank after ≡ None)) }
+// Rule 5: 個 stands directly before a unit, which is greater where rule 4 holds.
+fn counts_a_unit(unit: Unit, after: Option<Unit>) -> bool
+    ensures { result ≡ false ↔ ((rank unit ≡ 0) × (option_map rank after ≡ None)) }
 {
-    unit == Unit::Ge && after.is_none()
+    unit != Unit::Ge || after.is_some()
 }
 
 // One more unit, where what was walked holds no fault: it is opened over the sum that it leaves below it.
+//
+// The order is the one of `is_early`: a group that is too large is answered before rules 5 and 6 are
+// asked, since only the closed sum says which unit is on top; after rule 4, since a unit directly before
+// a unit that it may not stand before closes no group; and before the scale, since a unit that breaks a
+// rule is refused whatever its scale. So 極 in front of 極 is refused by rule 4.
 fn step_unit(
     method: ChineseCountMethod,
     units: &mut OpenUnits,
@@ -82,20 +94,20 @@ fn step_unit(
         (λ fault. fault_of method (unit_mark unit) (marks_of walked) ≡ Some (fault_refusal fault)) }
 {
     let after = unit_after(standing.next);
-    if !multiplies(unit, after) {
-        return Err(Fault::Incorrect);
+    if !multiplies_upwards(unit, after) {
+        return Err(Fault::Incorrect); // rule 4
     }
     let Some(below) = units.close_below(unit, standing.sum) else {
-        return Err(Fault::PastLimit);
+        return Err(Fault::PastLimit); // its group is too large
     };
-    if counts_nothing(unit, after) {
-        return Err(Fault::Incorrect);
+    if !counts_a_unit(unit, after) {
+        return Err(Fault::Incorrect); // rule 5
     }
-    if units.has_on_top(unit) {
-        return Err(Fault::Incorrect);
+    if !units.groups_strictly(unit) {
+        return Err(Fault::Incorrect); // rule 6
     }
     let Some(size) = scale(method, unit) else {
-        return Err(Fault::PastLimit);
+        return Err(Fault::PastLimit); // its scale does not fit
     };
     units.open(unit, size, below);
     Ok(())
@@ -110,11 +122,11 @@ fn step_digit(standing: Standing, value: u8) -> Result<u128, Fault>
         (λ sum. (fault_of method (digit value) (marks_of walked) ≡ None) × (sum ≡ standing.sum + value))
         (λ fault. fault_of method (digit value) (marks_of walked) ≡ Some (fault_refusal fault)) }
 {
+    if !separates_digits(value, standing.next) {
+        return Err(Fault::Incorrect); // rule 3
+    }
     if value == 0 {
         return Ok(standing.sum);
-    }
-    if let Next::AtDigit = standing.next {
-        return Err(Fault::Incorrect);
     }
     Ok(value as u128)
 }
@@ -149,7 +161,7 @@ fn step(
             }),
             Err(fault) => Err(fault),
         },
-        Mark::Other => Err(Fault::Incorrect),
+        Mark::Other => Err(Fault::Incorrect), // rule 2
     }
 }
 
