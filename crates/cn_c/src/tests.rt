@@ -1,4 +1,4 @@
-// Each call on its happy path, and statuses that C sees, by their numbers.
+// Each call on its happy path, and codes and statuses by their numbers, as C has them.
 use crate::{Number, Reading, chinese_number_print, chinese_number_read, chinese_number_read_utf8};
 
 const NOTHING: Reading = Reading {
@@ -6,41 +6,74 @@ const NOTHING: Reading = Reading {
     char_index: 0,
 };
 
+// A text, and the codes of a type and a way; the status, the halves of the number, and the place.
+static READ: [(&str, [u32; 2], u32, [u64; 2], usize); 7] = [
+    ("一百二", [0, 2], 0, [120, 0], 0),
+    ("負一百二", [5, 3], 0, [u64::MAX - 119, u64::MAX], 0),
+    ("零〇1兩", [4, 0], 0, [12, 0], 0),
+    ("　", [9, 4], 1, [0, 0], 0),
+    (" 二 十 十 ", [4, 2], 2, [0, 0], 3),
+    ("負一百二十九", [5, 1], 4, [0, 0], 0),
+    ("一", [10, 0], 8, [0, 0], 0),
+];
+
 #[test]
-fn prints_into_the_room(rt: HostRuntime) {
-    let mut room = [7; 13];
-    let mut len = 0;
-    let number = Number { low: 123, high: 0 };
-    let status = chinese_number_print(number, 0, 0, 0, 1, &mut room, &mut len);
-    assert_eq!(rt; status, 0);
-    assert_eq!(rt; len, 9);
-    assert_eq!(rt;
-        room,
-        *b"\xe4\xb8\x80\xe4\xba\x8c\xe4\xb8\x89\x07\x07\x07\x07"
-    );
+fn reads(rt: HostRuntime) {
+    for (text, [kind, way], status, [low, high], place) in &READ {
+        let mut reading = NOTHING;
+        let answer = chinese_number_read(text.as_bytes(), *kind, *way, &mut reading);
+        assert_eq!(rt; answer, *status, "{text}");
+        assert_eq!(rt; reading.number.low, *low, "{text}");
+        assert_eq!(rt; reading.number.high, *high, "{text}");
+        assert_eq!(rt; reading.char_index, *place, "{text}");
+    }
 }
 
 #[test]
-fn tells_how_much_room_is_wanted(rt: HostRuntime) {
-    let mut room = [7; 8];
-    let mut len = 0;
-    let number = Number { low: 123, high: 0 };
-    let status = chinese_number_print(number, 0, 0, 0, 1, &mut room, &mut len);
-    assert_eq!(rt; status, 6);
-    assert_eq!(rt; len, 9);
-    assert_eq!(rt; room, [7; 8]);
-}
-
-#[test]
-fn reads_below_zero(rt: HostRuntime) {
+fn reads_utf8_and_no_other_bytes(rt: HostRuntime) {
     let mut reading = NOTHING;
-    assert_eq!(rt;
-        chinese_number_read("負一百二".as_bytes(), 5, 2, &mut reading),
-        0
-    );
-    assert_eq!(rt; reading.number.low, 0xffff_ffff_ffff_ff88);
-    assert_eq!(rt; reading.number.high, 0xffff_ffff_ffff_ffff);
-    let status = unsafe { chinese_number_read_utf8("負一百二".as_bytes(), 0, 2, &mut reading) };
-    assert_eq!(rt; status, 2);
-    assert_eq!(rt; reading.char_index, 0);
+    let status = unsafe { chinese_number_read_utf8("三百".as_bytes(), 1, 1, &mut reading) };
+    assert_eq!(rt; status, 0);
+    assert_eq!(rt; reading.number.low, 300);
+    assert_eq!(rt; chinese_number_read("三百".as_bytes(), 0, 1, &mut reading), 3);
+    assert_eq!(rt; chinese_number_read(b"\xe4\xb8", 0, 0, &mut reading), 5);
+}
+
+// A number in halves, the codes of a type, a way, a script and a case, and the bytes of the room; the status,
+// and the text or how long it would be.
+static PRINTED: [([u64; 2], [u32; 4], usize, u32, &str, usize); 8] = [
+    ([123, 0], [0, 0, 0, 1], 9, 0, "一二三", 9),
+    ([123, 0], [5, 1, 1, 0], 16, 0, "壹佰贰拾叁", 15),
+    ([u64::MAX - 11, u64::MAX], [9, 4, 0, 1], 12, 0, "負十二", 9),
+    ([123, 0], [0, 0, 0, 1], 8, 6, "", 9),
+    ([10_000_000_000_000_000, 0], [3, 1, 0, 1], 48, 3, "", 0),
+    (
+        [u64::MAX - 9_999_999_999_999_999, u64::MAX],
+        [8, 1, 0, 1],
+        48,
+        4,
+        "",
+        0,
+    ),
+    ([300, 0], [0, 0, 0, 1], 16, 7, "", 0),
+    ([3, 0], [0, 5, 0, 1], 16, 8, "", 0),
+];
+
+#[test]
+fn prints(rt: HostRuntime) {
+    for ([low, high], [kind, way, script, case], size, status, text, wanted) in &PRINTED {
+        let mut bytes = [7; 48];
+        let (room, _) = bytes.split_at_mut(*size);
+        let mut len = 0;
+        let number = Number {
+            low: *low,
+            high: *high,
+        };
+        let answer = chinese_number_print(number, *kind, *way, *script, *case, room, &mut len);
+        assert_eq!(rt; answer, *status);
+        assert_eq!(rt; len, *wanted);
+        let (front, behind) = bytes.split_at(text.len());
+        assert_eq!(rt; front, text.as_bytes());
+        assert!(rt; behind.iter().all(|byte| *byte == 7));
+    }
 }
