@@ -11,7 +11,7 @@ import re
 import sys
 from pathlib import Path
 
-HEAD = re.compile(r'(\s*)(pub )?(?:const )?(?:extern "C" )?fn (\w+)')
+HEAD = re.compile(r'(\s*)(pub )?(?:const )?(?:unsafe )?(?:extern "C" )?fn (\w+)')
 FILE = re.compile(r"^file: (.*)\n((?:(?:old|new): .*\n?)*)", re.MULTILINE)
 
 
