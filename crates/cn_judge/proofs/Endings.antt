@@ -9,7 +9,6 @@ use Rattle.cn_core.specs.Refusal.{Refusal, incorrect_at, too_large}
 use Rattle.cn_core.specs.Scale.{scale_fits}
 use Rattle.cn_core.specs.Text.{marks_of}
 use Rattle.cn_core.specs.Value.{value}
-use Rattle.cn_core.proofs.Judging.{judge}
 use Rattle.cn_judge.specs.declared.walk.Next.{Next}
 use Rattle.cn_judge.specs.Private.Walk.{sum_of, opens_of, faults, fitting, front_answer, refused_or, walked_answer, tail_answer, HasTail, HasNoTail, digit_next}
 use Rattle.cn_judge.specs.Private.Stack.{Sized, sized, total_sum}
@@ -21,6 +20,7 @@ use Rattle.cn_judge.proofs.Steps.{sound-none}
 use Rattle.cn_judge.proofs.Tails.{judge-one, judge-two, judge-plain, judge-tail}
 use Rattle.cn_judge.proofs.WalkSteps.{digit-low, marks-length, marks-append}
 use Rattle.cn_core.specs.Judge.{Judges}
+use Rattle.cn_core.specs.Judging.{judge}
 use Rattle.std.specs.Result.{IsErr, IsErrAnd}
 use Rattle.cn_judge.specs.Answer.{answer_of, refusal_of}
 use Rattle.cn_judge.specs.declared.error.ChineseToNumberError.{ChineseToNumberError}

@@ -10,7 +10,8 @@ use Rattle.cn_core.specs.Place.{is_overflowing, some_unfit, some_overflowing}
 use Rattle.cn_core.specs.Refusal.{incorrect_at, too_large}
 use Rattle.cn_core.specs.Scale.{scale, scale_fits}
 use Rattle.cn_core.specs.Value.{value, records_from}
-use Rattle.cn_core.proofs.Fronts.{place_of, and-left, and-right}
+use Rattle.cn_core.specs.Judging.{place_of}
+use Rattle.cn_core.proofs.Fronts.{and-left, and-right}
 use Rattle.cn_core.proofs.OpenUnits.{in_ranks, length-records}
 use Rattle.cn_judge.specs.Private.Walk.{Open, closed, left_open, sum_of, opens_of, top_rank, fault_of, faults, leading_rank, multiplies_by}
 use Rattle.cn_judge.proofs.OpenSums.{group, take_while-group, closed-group, first_not_smaller-top, opens-records, ranks_of}

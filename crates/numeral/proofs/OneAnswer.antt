@@ -4,11 +4,12 @@ use Rattle.std.specs.Bool.{MatchBool}
 use Rattle.chinese_number.specs.declared.ChineseVariant.{ChineseVariant}
 use Rattle.chinese_number.specs.declared.ChineseCase.{ChineseCase}
 use Rattle.chinese_number.specs.Written.{is_printable}
+use Rattle.chinese_number.specs.Whole.{holds}
 use Rattle.chinese_number.proofs.Reading.{Reads-same}
 use Rattle.numeral.specs.declared.question.Method.{Method}
 use Rattle.numeral.specs.declared.question.Method.TheVariants.{Naive, Units}
 use Rattle.numeral.specs.Question.{Question, read, print, kind_of, question_of}
-use Rattle.numeral.specs.Answer.{holds, reading_text, Answers, AnswersPrint, AnswersAny, AreReplies}
+use Rattle.numeral.specs.Answer.{reading_text, Answers, AnswersPrint, AnswersAny, AreReplies}
 
 -- at most one list is such
 abbrev IsSingle : (List ℕ → Type 0) → Type 0

@@ -9,7 +9,9 @@ use Rattle.chinese_number.proofs.Reading.{the_answer, Reads-the_answer}
 use Rattle.numeral.specs.declared.question.Method.{Method}
 use Rattle.numeral.specs.declared.question.Method.TheVariants.{Naive, Units}
 use Rattle.numeral.specs.Question.{Question, read, print, kind_of, question_of}
-use Rattle.numeral.specs.Answer.{bad_line, holds, reading_text, refusal_text, unprintable, Answers, AnswersPrint, AnswersAny, AreReplies}
+use Rattle.chinese_number.specs.Refusal.{refusal_text}
+use Rattle.chinese_number.specs.Whole.{holds}
+use Rattle.numeral.specs.Answer.{bad_line, reading_text, unprintable, Answers, AnswersPrint, AnswersAny, AreReplies}
 use Rattle.numeral.specs.Leaves.{Wrote, WroteBeginning}
 
 -- each line has an answer

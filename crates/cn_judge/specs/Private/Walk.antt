@@ -6,7 +6,7 @@ use Rattle.cn_core.specs.Characters.{rank}
 use Rattle.cn_core.specs.Scale.{scale}
 use Rattle.cn_core.specs.Numeral.{may_precede, is_numeral, opened}
 use Rattle.cn_core.specs.Value.{value}
-use Rattle.cn_core.specs.Place.{is_overflowing, is_unfit, is_unit_from_hundred, is_unit_above_ge}
+use Rattle.cn_core.specs.Place.{is_overflowing, is_tail, is_unfit}
 use Rattle.cn_core.specs.Refusal.{Refusal, incorrect_at, too_large}
 use Rattle.cn_judge.specs.declared.walk.Next.{Next}
 use Rattle.cn_judge.specs.declared.walk.Next.TheVariants.{AtDigit, AtUnit}
@@ -106,10 +106,6 @@ front_answer method mark rest = if is_numeral (mark ∷ rest) then fitting (valu
 abbrev pub refused_or : Option Refusal → Result ℕ Refusal → Result ℕ Refusal
 refused_or (Some refusal) answer = Err (further refusal)
 refused_or None answer = answer
-
--- the last of three marks or more stands apart
-abbrev pub is_tail : Mark → Mark → Bool
-is_tail second last = is_unit_from_hundred second && not (is_unit_above_ge last)
 
 -- the last mark's part in the answer, where it stands apart after a unit of this rank
 abbrev pub tail_answer : ChineseCountMethod → ℕ → ℕ → Mark → Result ℕ Refusal → Result ℕ Refusal
