@@ -10,9 +10,9 @@ use Rattle.cn_core.specs.Mark.{Mark, digit, unit, other}
 use Rattle.cn_core.specs.Naive.{decimal_digits, decimal_value}
 use Rattle.cn_core.specs.Numeral.{opened, starts_with_digit}
 use Rattle.cn_core.specs.Spelling.{spelling}
-use Rattle.cn_core.specs.Typed.{Reads, sign_len, signed_by, typed_answer, naive_reading}
+use Rattle.cn_core.specs.Typed.{Reads, sign_len, is_minus, typed_answer, naive_reading}
 use Rattle.cn_core.specs.Value.{numeral_value}
-use Rattle.cn_core.specs.Whole.{Kind, Holds}
+use Rattle.cn_core.specs.Whole.{signed_number, Kind, Holds}
 use Rattle.cn_core.specs.Written.{mark_char, written, written_bytes, naive_text, spelled_text, is_printable}
 use Rattle.cn_core.proofs.Beginnings.{starts-alike}
 use Rattle.cn_core.proofs.Fronts.{and-left, list_all-front}
@@ -72,7 +72,7 @@ Reads-beginning kind method variant case number count whole none held printable 
     let front = take b.0 marks in
     let bytes = encode_utf8_all (take count (spelled_text variant case method number)) in
     let j = Judges-beginning method (nat_abs number) front (drop b.0 marks) small square b.1 (take-append-drop b.0 marks) in
-    let beginning = signed_by (written_sign negative) (numeral_value method front) in
+    let beginning = signed_number (is_minus (written_sign negative)) (numeral_value method front) in
     (beginning, subst (Reads kind method bytes) (held_by-Holds kind beginning (Holds-smaller kind number (numeral_value method front) none held j.1)) (Reads-parts kind method bytes (written_sign negative) front (Ok (numeral_value method front)) b.2 j.0))
 
 -- and as plain digits
@@ -89,7 +89,7 @@ naive_reading-beginning kind variant case number count whole none held longer =
     let bytes = encode_utf8_all (take count (naive_text variant case number)) in
     let most = front-le b.0 marks in
     let digits = list_all-front is_digit front (drop b.0 marks) (subst (λ l. list_all is_digit l ≡ true) (sym (take-append-drop b.0 marks)) d.digits) in
-    let beginning = signed_by (written_sign negative) (decimal_value front) in (
+    let beginning = signed_number (is_minus (written_sign negative)) (decimal_value front) in (
       beginning,
       naive_reading-parts kind bytes (written_sign negative) front b.2
           ∙ ap (typed_answer kind bytes (written_sign negative)) (naive_answer-digits front b.1 digits (omega (arith, most, d.value, small)))

@@ -8,8 +8,8 @@ use Rattle.cn_core.specs.Characters.{digit_of, sign_of}
 use Rattle.cn_core.specs.Mark.{digit, mark_of}
 use Rattle.cn_core.specs.Naive.{naive_answer}
 use Rattle.cn_core.specs.Text.{text_of, marks_of}
-use Rattle.cn_core.specs.Typed.{leading_sign, sign_len, signed_by, held_by, typed_answer, naive_reading}
-use Rattle.cn_core.specs.Whole.{Kind}
+use Rattle.cn_core.specs.Typed.{leading_sign, sign_len, is_minus, held_by, typed_answer, naive_reading}
+use Rattle.cn_core.specs.Whole.{signed_number, Kind}
 use Rattle.chinese_number.proofs.PlainDigits.{answered, naive_answer-zeros}
 use Rattle.chinese_number.proofs.Reading.{naive_reading-parts}
 
@@ -28,8 +28,8 @@ simple_minus = refl
 -- a digit is no sign
 pub sign_no_digit : (c value : ℕ) → digit_of c ≡ Some value → sign_of c ≡ None
 unfolding sign_of
-sign_no_digit c value h = by (c == 0x6B63) (c == 0x8CA0) (c == 0x8D1F) refl refl refl where
-  by : (p m s : Bool) → (c == 0x6B63) ≡ p → (c == 0x8CA0) ≡ m → (c == 0x8D1F) ≡ s → (if p then Some Plus else (if m || s then Some Minus else None)) ≡ None
+sign_no_digit c value h = by (0x6B63 == c) (0x8CA0 == c) (0x8D1F == c) refl refl refl where
+  by : (p m s : Bool) → (0x6B63 == c) ≡ p → (0x8CA0 == c) ≡ m → (0x8D1F == c) ≡ s → (if p || false then Some Plus else (if m || (s || false) then Some Minus else None)) ≡ None
   by true m s e f g = let is : c ≡ 0x6B63 = grind (arith, nat_tests) in let d : digit_of 0x6B63 ≡ Some value = rw is at h in cc (plus)
   by false true s e f g = let is : c ≡ 0x8CA0 = grind (arith, nat_tests) in let d : digit_of 0x8CA0 ≡ Some value = rw is at h in cc (minus)
   by false false true e f g = let is : c ≡ 0x8D1F = grind (arith, nat_tests) in let d : digit_of 0x8D1F ≡ Some value = rw is at h in cc (simple_minus)
@@ -68,6 +68,6 @@ naive_reading-zeros kind bytes more zeros number z parts h =
     let rest = marks_of (drop (sign_len sign) text) in
     let w = with_zeros kind.signed text zeros (text_of more) z sign refl parts in
     let a = answered kind bytes sign number (naive_answer rest) h in
-    let same : held_by kind (signed_by sign a.0) ≡ Ok number = ap (typed_answer kind bytes sign) (sym a.1) ∙ h in
+    let same : held_by kind (signed_number (is_minus sign) a.0) ≡ Ok number = ap (typed_answer kind bytes sign) (sym a.1) ∙ h in
     naive_reading-parts kind more sign (marks_of zeros ++ rest) (record { sign_is = w.0; marks_is = w.1 })
     ∙ ap (typed_answer kind more sign) (naive_answer-zeros (marks_of zeros) rest a.0 (marks_of-zeros zeros z) a.1) ∙ same

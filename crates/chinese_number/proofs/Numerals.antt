@@ -7,9 +7,9 @@ use Rattle.cn_core.specs.Numeral.{IsNumeral, is_numeral}
 use Rattle.cn_core.specs.Place.{IsPlace, body, is_early, some_unfit}
 use Rattle.cn_core.specs.Refusal.{Refusal, empty, incorrect_at, too_large, too_small}
 use Rattle.cn_core.specs.Text.{marks_of}
-use Rattle.cn_core.specs.Typed.{Reads, signed_by, held_by, typed_answer}
+use Rattle.cn_core.specs.Typed.{Reads, is_minus, held_by, typed_answer}
 use Rattle.cn_core.specs.Value.{numeral_value}
-use Rattle.cn_core.specs.Whole.{Kind, Holds}
+use Rattle.cn_core.specs.Whole.{signed_number, Kind, Holds}
 use Rattle.chinese_number.specs.Parts.{sign_at, unsigned_text}
 use Rattle.chinese_number.proofs.Reading.{IsWhole, Reads-parts, held_by-Holds, Holds-held_by, held_is, size_of}
 use Rattle.chinese_number.proofs.SpelledMarks.{Judges-numeral}
@@ -90,24 +90,24 @@ refused_at method (mark ∷ rest) place h =
 -- exactly numerals whose scales and signed value fit are answered by that value
 pub Reads-number : (kind : Kind) (method : ChineseCountMethod) (bytes : List ℕ) (number : ℤ) → Reads kind method bytes (Ok number)
     → let marks = marks_of (unsigned_text kind bytes) in
-    IsNumeral marks × (some_unfit method marks ≡ false) × (signed_by (sign_at kind bytes) (numeral_value method marks) ≡ number) × Holds kind number
+    IsNumeral marks × (some_unfit method marks ≡ false) × (signed_number (is_minus (sign_at kind bytes)) (numeral_value method marks) ≡ number) × Holds kind number
 Reads-number kind method bytes number (judged, is, answer) = by judged is (sym answer) where
   marks : List Mark
   marks = marks_of (unsigned_text kind bytes)
 
   by : (judged : Result ℕ Refusal) → Judges method marks judged → typed_answer kind bytes (sign_at kind bytes) judged ≡ Ok number
-      → IsNumeral marks × (some_unfit method marks ≡ false) × (signed_by (sign_at kind bytes) (numeral_value method marks) ≡ number) × Holds kind number
+      → IsNumeral marks × (some_unfit method marks ≡ false) × (signed_number (is_minus (sign_at kind bytes)) (numeral_value method marks) ≡ number) × Holds kind number
   by (Err empty) is h = cc
   by (Err (incorrect_at place)) is h = cc
   by (Err too_large) is h = cc
   by (Err too_small) is h = cc
   by (Ok magnitude) is h =
       let j = IsJudged-number method marks magnitude is in
-      (j.numeral, j.fits, ap (signed_by (sign_at kind bytes)) j.value ∙ held_is kind (signed_by (sign_at kind bytes) magnitude) number h, Holds-held_by kind (signed_by (sign_at kind bytes) magnitude) number h)
+      (j.numeral, j.fits, ap (signed_number (is_minus (sign_at kind bytes))) j.value ∙ held_is kind (signed_number (is_minus (sign_at kind bytes)) magnitude) number h, Holds-held_by kind (signed_number (is_minus (sign_at kind bytes)) magnitude) number h)
 
 pub Reads-numeral : (kind : Kind) (method : ChineseCountMethod) (bytes : List ℕ) (number : ℤ) → IsWhole kind
     → let marks = marks_of (unsigned_text kind bytes) in
-    IsNumeral marks × (some_unfit method marks ≡ false) × (signed_by (sign_at kind bytes) (numeral_value method marks) ≡ number) × Holds kind number
+    IsNumeral marks × (some_unfit method marks ≡ false) × (signed_number (is_minus (sign_at kind bytes)) (numeral_value method marks) ≡ number) × Holds kind number
     → Reads kind method bytes (Ok number)
 Reads-numeral kind method bytes number whole (numeral, fits, is, held) =
     let sign = sign_at kind bytes in

@@ -15,8 +15,8 @@ use Rattle.cn_core.specs.Naive.{decimal_digits, decimal_value, digit_value, naiv
 use Rattle.cn_core.specs.Numeral.{opened, starts_with_digit}
 use Rattle.cn_core.specs.Refusal.{Refusal, empty, incorrect_at, too_large, too_small}
 use Rattle.cn_core.specs.Text.{marks_of}
-use Rattle.cn_core.specs.Typed.{naive_reading, signed_by, held_by, typed_answer}
-use Rattle.cn_core.specs.Whole.{Kind, Holds}
+use Rattle.cn_core.specs.Typed.{naive_reading, is_minus, held_by, typed_answer}
+use Rattle.cn_core.specs.Whole.{signed_number, Kind, Holds}
 use Rattle.cn_core.specs.Written.{written_bytes, naive_text}
 use Rattle.cn_core.proofs.Fronts.{list_all-both}
 use Rattle.chinese_number.specs.Digits.{is_digit}
@@ -108,18 +108,18 @@ answered kind bytes sign number (Err too_small) h = cc
 -- exactly digits whose signed value fits are answered by that value
 pub naive_reading-number : (kind : Kind) (bytes : List ℕ) (number : ℤ) → naive_reading kind bytes ≡ Ok number
     → let marks = marks_of (unsigned_text kind bytes) in
-    (0 < length marks) × (list_all is_digit marks ≡ true) × (signed_by (sign_at kind bytes) (decimal_value marks) ≡ number) × Holds kind number
+    (0 < length marks) × (list_all is_digit marks ≡ true) × (signed_number (is_minus (sign_at kind bytes)) (decimal_value marks) ≡ number) × Holds kind number
 naive_reading-number kind bytes number h =
     let sign = sign_at kind bytes in
     let marks = marks_of (unsigned_text kind bytes) in
     let a = answered kind bytes sign number (naive_answer marks) h in
     let plain = IsPlain-answered marks a.0 a.1 in
-    let held : held_by kind (signed_by sign a.0) ≡ Ok number = ap (typed_answer kind bytes sign) (sym a.1) ∙ h in
-    (plain.some, plain.digits, ap (signed_by sign) plain.value ∙ held_is kind (signed_by sign a.0) number held, Holds-held_by kind (signed_by sign a.0) number held)
+    let held : held_by kind (signed_number (is_minus sign) a.0) ≡ Ok number = ap (typed_answer kind bytes sign) (sym a.1) ∙ h in
+    (plain.some, plain.digits, ap (signed_number (is_minus sign)) plain.value ∙ held_is kind (signed_number (is_minus sign) a.0) number held, Holds-held_by kind (signed_number (is_minus sign) a.0) number held)
 
 pub naive_reading-digits : (kind : Kind) (bytes : List ℕ) (number : ℤ) → IsWhole kind
     → let marks = marks_of (unsigned_text kind bytes) in
-    (0 < length marks) × (list_all is_digit marks ≡ true) × (signed_by (sign_at kind bytes) (decimal_value marks) ≡ number) × Holds kind number
+    (0 < length marks) × (list_all is_digit marks ≡ true) × (signed_number (is_minus (sign_at kind bytes)) (decimal_value marks) ≡ number) × Holds kind number
     → naive_reading kind bytes ≡ Ok number
 naive_reading-digits kind bytes number whole (some, digits, is, held) =
     let sign = sign_at kind bytes in

@@ -14,11 +14,12 @@ use Rattle.cn_core.specs.Numeral.{opened, starts_with_digit}
 use Rattle.cn_core.specs.Refusal.{Refusal, empty, incorrect_at, too_large, too_small}
 use Rattle.cn_core.specs.Spelling.{spelling}
 use Rattle.cn_core.specs.Text.{text_of, marks_of}
-use Rattle.cn_core.specs.Typed.{Reads, leading_sign, sign_len, signed_by, held_by, typed_answer, naive_reading}
-use Rattle.cn_core.specs.Whole.{Kind, Holds}
+use Rattle.cn_core.specs.Typed.{Reads, leading_sign, sign_len, is_minus, held_by, typed_answer, naive_reading}
+use Rattle.cn_core.specs.Whole.{signed_number, Kind, Holds}
 use Rattle.cn_core.specs.Written.{mark_char, written_bytes, spelled_text, is_printable}
+use Rattle.cn_core.specs.Judging.{judge}
 use Rattle.cn_core.proofs.Fronts.{and-left}
-use Rattle.cn_core.proofs.Judging.{judge, Judges-judge, Judges-same}
+use Rattle.cn_core.proofs.Judging.{Judges-judge, Judges-same}
 use Rattle.cn_core.proofs.ReadBack.{spelling-is_numeral}
 use Rattle.chinese_number.proofs.Printed.{is_printed, IsReadBack-marks, text_of-written, minus_is_sign, no_sign}
 use Rattle.chinese_number.proofs.SpelledMarks.{below_square, spelling-printed, Judges-spelling}
@@ -91,19 +92,19 @@ not_below_zero n = by (int_lt (pos n) (pos 0)) refl where
   by true e = absurd (omega (arith, ints))
   by false e = refl
 
-pub signed_by-written : (number : ℤ) → signed_by (written_sign (int_lt number (pos 0))) (nat_abs number) ≡ number
-signed_by-written (pos n) = rw (not_below_zero n)
-signed_by-written (negsuc n) = refl
+pub signed_number-written : (number : ℤ) → signed_number (is_minus (written_sign (int_lt number (pos 0)))) (nat_abs number) ≡ number
+signed_number-written (pos n) = rw (not_below_zero n)
+signed_number-written (negsuc n) = refl
 
 -- with this sign a type that holds the number, and 0, holds each smaller magnitude too
 pub Holds-smaller : (kind : Kind) (number : ℤ) (magnitude : ℕ) → Holds kind (pos 0) → Holds kind number → magnitude ≤ nat_abs number
-    → Holds kind (signed_by (written_sign (int_lt number (pos 0))) magnitude)
+    → Holds kind (signed_number (is_minus (written_sign (int_lt number (pos 0)))) magnitude)
 Holds-smaller kind (pos n) magnitude none held low = rw (not_below_zero n) (omega (arith, ints, none.0), omega (arith, ints, held.1, low))
 Holds-smaller kind (negsuc n) zero none held low = none
 Holds-smaller kind (negsuc n) (suc magnitude) none held low = (omega (arith, ints, held.0, low), omega (arith, ints, none.1))
 
 -- a sign leaves the magnitude as it was
-pub size_of : (sign : Option Sign) (magnitude : ℕ) → nat_abs (signed_by sign magnitude) ≡ magnitude
+pub size_of : (sign : Option Sign) (magnitude : ℕ) → nat_abs (signed_number (is_minus sign) magnitude) ≡ magnitude
 size_of None magnitude = refl
 size_of (Some Plus) magnitude = refl
 size_of (Some Minus) zero = refl
@@ -125,7 +126,7 @@ HasParts-written kind variant case false marks minus h s = record {
 -- a number is answered where its magnitude is judged
 pub typed_answer-held : (kind : Kind) (number : ℤ) (bytes : List ℕ) → Holds kind number
     → typed_answer kind bytes (written_sign (int_lt number (pos 0))) (Ok (nat_abs number)) ≡ Ok number
-typed_answer-held kind number bytes held = ap (held_by kind) (signed_by-written number) ∙ held_by-Holds kind number held
+typed_answer-held kind number bytes held = ap (held_by kind) (signed_number-written number) ∙ held_by-Holds kind number held
 
 -- what is known of the kind of an integer type
 pub record IsWhole (kind : Kind) : Type 0 where
@@ -182,7 +183,7 @@ Holds-answered kind method bytes number (judged, is, answer) = by judged answer 
   sign = leading_sign kind.signed (text_of bytes)
 
   by : (judged : Result ℕ Refusal) → Ok number ≡ typed_answer kind bytes sign judged → Holds kind number
-  by (Ok magnitude) h = Holds-held_by kind (signed_by sign magnitude) number (sym h)
+  by (Ok magnitude) h = Holds-held_by kind (signed_number (is_minus sign) magnitude) number (sym h)
   by (Err empty) h = cc
   by (Err (incorrect_at place)) h = cc
   by (Err too_large) h = cc

@@ -12,9 +12,9 @@ use Rattle.cn_core.specs.Numeral.{is_numeral}
 use Rattle.cn_core.specs.Place.{body, is_early, some_unfit}
 use Rattle.cn_core.specs.Refusal.{Refusal, empty, incorrect_at, too_large, too_small}
 use Rattle.cn_core.specs.Text.{marks_of}
-use Rattle.cn_core.specs.Typed.{Reads, signed_by, held_by, typed_answer, naive_reading}
+use Rattle.cn_core.specs.Typed.{Reads, is_minus, held_by, typed_answer, naive_reading}
 use Rattle.cn_core.specs.Value.{numeral_value}
-use Rattle.cn_core.specs.Whole.{Kind}
+use Rattle.cn_core.specs.Whole.{signed_number, Kind}
 use Rattle.chinese_number.specs.Parts.{sign_at, unsigned_text}
 use Rattle.chinese_number.proofs.Reading.{Reads-parts}
 
@@ -85,7 +85,7 @@ held_not_empty kind number h = by (int_lt kind.greatest number) (int_lt number k
   by false false h = cc
 
 typed_empty : (kind : Kind) (bytes : List ℕ) (sign : Option Sign) (judged : Result ℕ Refusal) → typed_answer kind bytes sign judged ≡ Err empty → judged ≡ Err empty
-typed_empty kind bytes sign (Ok number) h = absurd (held_not_empty kind (signed_by sign number) h)
+typed_empty kind bytes sign (Ok number) h = absurd (held_not_empty kind (signed_number (is_minus sign) number) h)
 typed_empty kind bytes sign (Err empty) h = refl
 typed_empty kind bytes sign (Err (incorrect_at place)) h = cc
 typed_empty kind bytes None (Err too_large) h = cc

@@ -8,9 +8,9 @@ use Rattle.cn_core.specs.Mark.{digit}
 use Rattle.cn_core.specs.Numeral.{IsNumeral}
 use Rattle.cn_core.specs.Place.{some_unfit}
 use Rattle.cn_core.specs.Text.{text_of, marks_of}
-use Rattle.cn_core.specs.Typed.{Reads, signed_by}
+use Rattle.cn_core.specs.Typed.{Reads, is_minus}
 use Rattle.cn_core.specs.Value.{numeral_value}
-use Rattle.cn_core.specs.Whole.{Kind, Holds}
+use Rattle.cn_core.specs.Whole.{signed_number, Kind, Holds}
 use Rattle.chinese_number.proofs.Reading.{IsWhole, HasParts, Reads-parts, held_by-Holds, size_of}
 use Rattle.chinese_number.proofs.SpelledMarks.{Judges-numeral}
 
@@ -24,10 +24,10 @@ HasParts-sign kind bytes rest character sign signed text is = record {
 -- it gives the signed value
 pub Reads-signed : (kind : Kind) (method : ChineseCountMethod) (bytes rest : List ℕ) (character : ℕ) (sign : Sign) → IsWhole kind → kind.signed ≡ true → text_of bytes ≡ character ∷ rest
     → sign_of character ≡ Some sign → IsNumeral (marks_of rest) → some_unfit method (marks_of rest) ≡ false
-    → let number = signed_by (Some sign) (numeral_value method (marks_of rest)) in Holds kind number → Reads kind method bytes (Ok number)
+    → let number = signed_number (is_minus (Some sign)) (numeral_value method (marks_of rest)) in Holds kind number → Reads kind method bytes (Ok number)
 Reads-signed kind method bytes rest character sign whole signed text is numeral fits held =
     let size = numeral_value method (marks_of rest) in
-    let number = signed_by (Some sign) size in
+    let number = signed_number (is_minus (Some sign)) size in
     let small : size < 2 ^ 128 = omega (arith, whole.fits number held, size_of (Some sign) size) in
     subst (Reads kind method bytes) (held_by-Holds kind number held)
     (Reads-parts kind method bytes (Some sign) (marks_of rest) (Ok size) (HasParts-sign kind bytes rest character sign signed text is)

@@ -1,20 +1,21 @@
 -- Texts whose units are below 億 are judged alike by all methods.
-use Rattle.std.proofs.Common.{◌≡◌, ℕ, zero, suc, ◌+◌, ◌-◌, ◌*◌, ◌/◌, ◌^◌, ◌<◌, max, ℤ, Bool, true, false, not, ◌&&◌, ◌||◌, ◌==◌, nat_lt, nat_le, if◌then◌else◌, List, [], ◌∷◌, length, map, take, drop, take_while, Result, Ok, Err, is_ok, refl, sym, ap, ap₂, ◌∙◌, arith}
+use Rattle.std.proofs.Common.{◌≡◌, ℕ, zero, suc, ◌+◌, ◌-◌, ◌*◌, ◌/◌, ◌^◌, ◌<◌, max, ℤ, Bool, true, false, not, ◌&&◌, ◌||◌, ◌==◌, nat_lt, nat_le, if◌then◌else◌, List, [], ◌∷◌, length, map, reverse, take, drop, take_while, Result, Ok, Err, is_ok, refl, sym, ap, ap₂, ◌∙◌, arith}
 use Rattle.std.proofs.lemmas.Bool.Decides.{nat_tests}
 use Rattle.std.specs.List.{prefix_len}
 use Rattle.cn_core.specs.declared.method.ChineseCountMethod.{ChineseCountMethod}
 use Rattle.cn_core.specs.Judge.{Judges, numeral_answer}
 use Rattle.cn_core.specs.Mark.{Mark, digit, unit, other}
 use Rattle.cn_core.specs.Numeral.{is_numeral, opened}
-use Rattle.cn_core.specs.Place.{body, is_below, is_early, is_overflowing, some_unfit, some_overflowing, is_unit_from_hundred, is_unit_above_ge}
+use Rattle.cn_core.specs.Place.{body, is_below, is_early, is_overflowing, some_unfit, some_overflowing, ends_apart}
 use Rattle.cn_core.specs.Refusal.{Refusal, incorrect_at, too_large}
 use Rattle.cn_core.specs.Scale.{scale, scale_fits}
 use Rattle.cn_core.specs.Text.{text_of, marks_of}
 use Rattle.cn_core.specs.Typed.{Reads, leading_sign, sign_len}
 use Rattle.cn_core.specs.Value.{value, colloquial_value, product, records_from}
 use Rattle.cn_core.specs.Whole.{Kind}
-use Rattle.cn_core.proofs.Fronts.{and-left, and-right, place_of}
-use Rattle.cn_core.proofs.Judging.{judge, Judges-judge, Judges-same, Judges-by_walk}
+use Rattle.cn_core.specs.Judging.{place_of, judge}
+use Rattle.cn_core.proofs.Fronts.{and-left, and-right}
+use Rattle.cn_core.proofs.Judging.{Judges-judge, Judges-same, Judges-by_walk}
 use Rattle.chinese_number.specs.Methods.{names_no_unit_above_wan}
 use Rattle.chinese_number.proofs.Methods.{exponent-low, scale-low}
 
@@ -113,14 +114,10 @@ module _ (one second : ChineseCountMethod) where
       ap₂ (λ (u : Bool) (number : ℕ). if not u && nat_lt number (2 ^ 128) then Ok number else Err too_large) (unfit-same marks h) (colloquial-same (opened marks) (opened-small marks h))
 
   body-small : (marks : List Mark) → small marks ≡ true → small (body marks) ≡ true
-  body-small [] h = h
-  body-small (a ∷ []) h = h
-  body-small (a ∷ b ∷ []) h = h
-  body-small (a ∷ b ∷ c ∷ []) h = by (is_unit_from_hundred b && not (is_unit_above_ge c)) where
-    by : (t : Bool) → small (a ∷ b ∷ (if t then [] else c ∷ [])) ≡ true
-    by true = rw (and-left (is_below 5 a) _ h, and-left (is_below 5 b) _ (and-right (is_below 5 a) _ h))
+  body-small marks h = by (ends_apart (reverse marks)) where
+    by : (b : Bool) → small (if b then take (length marks - 1) marks else marks) ≡ true
+    by true = take-small (length marks - 1) marks h
     by false = h
-  body-small (a ∷ b ∷ c ∷ d ∷ rest) h = rw (and-left (is_below 5 a) _ h) (body-small (b ∷ c ∷ d ∷ rest) (and-right (is_below 5 a) _ h))
 
   judge-same : (marks : List Mark) → small marks ≡ true → judge one marks ≡ judge second marks
   judge-same [] h = refl

@@ -1,5 +1,6 @@
 -- The spot of a refusal is that of a character.
-use Rattle.std.proofs.Common.{◌≡◌, ◌⊎◌, inl, inr, ℕ, zero, suc, ◌+◌, ◌-◌, ◌^◌, ◌<◌, ◌≤◌, ℤ, int_lt, Bool, true, false, not, ◌&&◌, nat_lt, nat_le, if◌then◌else◌, List, [], ◌∷◌, length, filter, take, drop, slice_get, chars, Option, Some, None, Result, Ok, Err, is_ok, refl, sym, ap, subst, ◌∙◌, arith, length-drop}
+use Rattle.std.proofs.Common.{◌≡◌, ◌⊎◌, inl, inr, ℕ, zero, suc, ◌+◌, ◌-◌, ◌^◌, ◌<◌, ◌≤◌, ℤ, int_lt, Bool, true, false, not, ◌&&◌, nat_lt, nat_le, if◌then◌else◌, List, [], ◌∷◌, length, filter, reverse, take, drop, slice_get, chars, Option, Some, None, Result, Ok, Err, is_ok, refl, sym, ap, subst, ◌∙◌, arith, length-drop}
+use Rattle.std.proofs.lemmas.List.{length-reverse, length-take-le}
 use Rattle.std.specs.Char.{is_whitespace, is_not_whitespace}
 use Rattle.std.specs.Option.{option_or}
 use Rattle.cn_core.specs.declared.method.ChineseCountMethod.{ChineseCountMethod}
@@ -9,13 +10,13 @@ use Rattle.cn_core.specs.Judge.{Judges, RefusesBody, numeral_answer, last_mark_a
 use Rattle.cn_core.specs.Mark.{Mark, digit, unit, other}
 use Rattle.cn_core.specs.Naive.{naive_answer, first_fault, refused_or, decimal_value}
 use Rattle.cn_core.specs.Numeral.{is_numeral, Completable}
-use Rattle.cn_core.specs.Place.{body, is_early, some_unfit, is_unit_from_hundred, is_unit_above_ge}
+use Rattle.cn_core.specs.Place.{body, ends_apart, is_early, some_unfit}
 use Rattle.cn_core.specs.Refusal.{Refusal, empty, incorrect_at, too_large, too_small}
 use Rattle.cn_core.specs.Spot.{spot, spot_among}
 use Rattle.cn_core.specs.Text.{text_of, marks_of}
-use Rattle.cn_core.specs.Typed.{Reads, leading_sign, sign_len, signed_by, held_by, typed_answer, naive_reading}
+use Rattle.cn_core.specs.Typed.{Reads, leading_sign, sign_len, is_minus, held_by, typed_answer, naive_reading}
 use Rattle.cn_core.specs.Value.{numeral_value}
-use Rattle.cn_core.specs.Whole.{Kind}
+use Rattle.cn_core.specs.Whole.{signed_number, Kind}
 use Rattle.chinese_number.specs.Places.{PointsAt}
 use Rattle.chinese_number.proofs.Refusals.{by_ways}
 
@@ -52,16 +53,22 @@ PointsAt-spot bytes place h =
     let p = PointsAmong-spot (chars bytes) place h in
     record { character = p.character; there = p.there; visible = p.visible; before = p.before }
 
+apart-long : (turned : List Mark) → ends_apart turned ≡ true → 2 < length turned
+apart-long [] h = cc
+apart-long (a ∷ []) h = cc
+apart-long (a ∷ b ∷ []) h = cc
+apart-long (a ∷ b ∷ c ∷ rest) h = omega arith
+
 -- a refusal's place is one of the text
 length-body : (marks : List Mark) → (0 < length marks → 0 < length (body marks)) × (length (body marks) ≤ length marks)
-length-body [] = (λ h. h, omega arith)
-length-body (a ∷ []) = (λ h. h, omega arith)
-length-body (a ∷ b ∷ []) = (λ h. h, omega arith)
-length-body (a ∷ b ∷ c ∷ []) = by (is_unit_from_hundred b && not (is_unit_above_ge c)) where
-  by : (t : Bool) → (0 < 3 → 0 < length (a ∷ b ∷ (if t then [] else c ∷ []))) × (length (a ∷ b ∷ (if t then [] else c ∷ [])) ≤ 3)
-  by true = (λ h. omega arith, omega arith)
-  by false = (λ h. omega arith, omega arith)
-length-body (a ∷ b ∷ c ∷ d ∷ rest) = let ih = length-body (b ∷ c ∷ d ∷ rest) in (λ h. omega arith, omega (arith, ih.1))
+length-body marks = by (ends_apart (reverse marks)) refl where
+  by : (b : Bool) → ends_apart (reverse marks) ≡ b
+      → (0 < length marks → 0 < length (if b then take (length marks - 1) marks else marks)) × (length (if b then take (length marks - 1) marks else marks) ≤ length marks)
+  by true e =
+      let long = apart-long (reverse marks) e in
+      let same = length-reverse marks in
+      let kept = length-take-le (length marks - 1) marks (omega arith) in (λ h. omega (arith, long, same, kept), omega (arith, kept))
+  by false e = (λ h. h, omega arith)
 
 numeral_place : (method : ChineseCountMethod) (marks : List Mark) (place : ℕ) → Err (incorrect_at place) ≡ numeral_answer method marks → ⊥
 numeral_place method marks place h = by (not (some_unfit method marks) && nat_lt (numeral_value method marks) (2 ^ 128)) h where
@@ -120,7 +127,7 @@ no_place kind number place h = by (int_lt kind.greatest number) (int_lt number k
 
 place_behind : (kind : Kind) (bytes : List ℕ) (sign : Option Sign) (judged : Result ℕ Refusal) (at_spot : ℕ) → typed_answer kind bytes sign judged ≡ Err (incorrect_at at_spot)
     → (place : ℕ) × (judged ≡ Err (incorrect_at place)) × (spot bytes (place + sign_len sign) ≡ at_spot)
-place_behind kind bytes sign (Ok number) at_spot h = absurd (no_place kind (signed_by sign number) at_spot h)
+place_behind kind bytes sign (Ok number) at_spot h = absurd (no_place kind (signed_number (is_minus sign) number) at_spot h)
 place_behind kind bytes sign (Err empty) at_spot h = cc
 place_behind kind bytes sign (Err (incorrect_at place)) at_spot h = (place, refl, cc)
 place_behind kind bytes None (Err too_large) at_spot h = cc

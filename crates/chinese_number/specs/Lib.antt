@@ -4,6 +4,7 @@ pub mod Parts
 pub mod Places
 pub use Rattle.cn_core.specs.Characters
 pub use Rattle.cn_core.specs.Judge
+pub use Rattle.cn_core.specs.Judging
 pub use Rattle.cn_core.specs.Mark
 pub use Rattle.cn_core.specs.Naive
 pub use Rattle.cn_core.specs.Numeral

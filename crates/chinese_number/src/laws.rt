@@ -12,7 +12,8 @@ mod signs;
 mod white_space;
 
 pub use answers::{
-    each_string_has_one_answer, each_text_has_one_judgement, numerals_alone_are_read,
+    each_string_has_one_answer, each_text_has_one_judgement, judgements_can_be_computed,
+    numerals_alone_are_read,
 };
 pub use enums::{equal_values_are_the_same_variant, units_compare_by_rank};
 pub use methods::{

@@ -1,5 +1,6 @@
 pub mod Characters
 pub mod Judge
+pub mod Judging
 pub mod Mark
 pub mod Naive
 pub mod Numeral

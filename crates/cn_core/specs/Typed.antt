@@ -1,5 +1,5 @@
 -- What is answered of a string that is read as a number of a type.
-use Rattle.std.specs.Prelude.{◌≡◌, ℕ, ◌+◌, ℤ, pos, neg_ℤ, int_lt, Bool, true, List, ◌∷◌, drop, Option, Some, None, Result, Ok, Err, if◌then◌else◌}
+use Rattle.std.specs.Prelude.{◌≡◌, ℕ, ◌+◌, ℤ, int_lt, Bool, true, false, List, ◌∷◌, drop, Option, Some, None, Result, Ok, Err, if◌then◌else◌}
 use Rattle.cn_core.specs.declared.method.ChineseCountMethod.{ChineseCountMethod}
 use Rattle.cn_core.specs.declared.sign.Sign.{Sign}
 use Rattle.cn_core.specs.declared.sign.Sign.TheVariants.{Minus}
@@ -9,7 +9,7 @@ use Rattle.cn_core.specs.Naive.{naive_answer}
 use Rattle.cn_core.specs.Refusal.{Refusal, incorrect_at, too_large, too_small}
 use Rattle.cn_core.specs.Spot.{spot}
 use Rattle.cn_core.specs.Text.{text_of, marks_of}
-use Rattle.cn_core.specs.Whole.{Kind}
+use Rattle.cn_core.specs.Whole.{Kind, signed_number}
 
 -- the one sign at the start of a text that is read for a signed type
 abbrev pub leading_sign : Bool → List ℕ → Option Sign
@@ -21,10 +21,10 @@ abbrev pub sign_len : Option Sign → ℕ
 sign_len None = 0
 sign_len (Some sign) = 1
 
--- the number with this sign and magnitude
-abbrev pub signed_by : Option Sign → ℕ → ℤ
-signed_by (Some Minus) magnitude = neg_ℤ (pos magnitude)
-signed_by sign magnitude = pos magnitude
+-- the sign is a minus; no sign is none
+abbrev pub is_minus : Option Sign → Bool
+is_minus (Some Minus) = true
+is_minus sign = false
 
 -- how a number is refused whose magnitude is too large
 abbrev pub too_far : Option Sign → Refusal
@@ -39,7 +39,7 @@ held_by kind number =
 -- the answer for a type and a string, given by its bytes: from the sign, and from the answer to what follows it,
 -- whose place counts on from the sign and is told by where it stands in the string
 abbrev pub typed_answer : Kind → List ℕ → Option Sign → Result ℕ Refusal → Result ℤ Refusal
-typed_answer kind bytes sign (Ok magnitude) = held_by kind (signed_by sign magnitude)
+typed_answer kind bytes sign (Ok magnitude) = held_by kind (signed_number (is_minus sign) magnitude)
 typed_answer kind bytes sign (Err too_large) = Err (too_far sign)
 typed_answer kind bytes sign (Err (incorrect_at place)) = Err (incorrect_at (spot bytes (place + sign_len sign)))
 typed_answer kind bytes sign (Err refusal) = Err refusal

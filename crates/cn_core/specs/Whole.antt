@@ -1,5 +1,5 @@
 -- What is known of an integer type.
-use Rattle.std.specs.Prelude.{ℕ, ◌-◌, ◌^◌, ℤ, pos, neg_ℤ, ◌≤ℤ◌, Bool, true, false}
+use Rattle.std.specs.Prelude.{ℕ, ◌-◌, ◌^◌, ℤ, pos, neg_ℤ, ◌≤ℤ◌, int_le, ◌&&◌, Bool, true, false}
 
 -- whether the type is signed, and its least and greatest number
 pub record Kind : Type 0 where
@@ -19,7 +19,11 @@ signed_kind bits = record { signed = true; least = neg_ℤ (pos (2 ^ (bits - 1))
 abbrev pub Holds : Kind → ℤ → Type 0
 Holds kind number = (kind.least ≤ℤ number) × (number ≤ℤ kind.greatest)
 
--- the number with this sign and magnitude
+-- the same, as a test
+abbrev pub holds : Kind → ℤ → Bool
+holds kind number = int_le kind.least number && int_le number kind.greatest
+
+-- the number that is below zero or not, with this magnitude
 abbrev pub signed_number : Bool → ℕ → ℤ
 signed_number false magnitude = pos magnitude
 signed_number true magnitude = neg_ℤ (pos magnitude)

@@ -9,18 +9,17 @@ use Rattle.cn_core.specs.Refusal.{Refusal, incorrect_at, too_large}
 use Rattle.cn_core.specs.Scale.{scale_fits}
 use Rattle.cn_core.specs.Text.{marks_of}
 use Rattle.cn_core.specs.Value.{value}
-use Rattle.cn_core.proofs.Judging.{judge}
 use Rattle.cn_judge.specs.declared.walk.Next.{Next}
 use Rattle.cn_judge.specs.Private.Walk.{sum_of, opens_of, faults, fitting, front_answer, refused_or, walked_answer, tail_answer, HasTail, HasNoTail, digit_next}
-use Rattle.cn_judge.specs.Private.Stack.{Sized, sized, total_sum}
+use Rattle.cn_judge.specs.Private.Stack.{Sized, total_sum}
 use Rattle.cn_judge.specs.Private.Walked.{IsWalked}
-use Rattle.cn_judge.proofs.Stacks.{total-sized}
 use Rattle.cn_judge.proofs.OpenSums.{total-value}
 use Rattle.cn_judge.proofs.Faults.{plain, plain-walked}
 use Rattle.cn_judge.proofs.Steps.{sound-none}
 use Rattle.cn_judge.proofs.Tails.{judge-one, judge-two, judge-plain, judge-tail}
 use Rattle.cn_judge.proofs.WalkSteps.{digit-low, marks-length, marks-append}
 use Rattle.cn_core.specs.Judge.{Judges}
+use Rattle.cn_core.specs.Judging.{judge}
 use Rattle.std.specs.Result.{IsErr, IsErrAnd}
 use Rattle.cn_judge.specs.Answer.{answer_of, refusal_of}
 use Rattle.cn_judge.specs.declared.error.ChineseToNumberError.{ChineseToNumberError}
@@ -56,8 +55,7 @@ front-fits method first walked sum units next d w numeral =
     ∙ ap (λ (b : Bool). if b then fitting (value method (opened (first ∷ marks_of walked))) else Err (incorrect_at 0)) numeral.0
     ∙ ap (λ l. fitting (value method l)) numeral.1
     ∙ ap fitting (sym (total-value method (digit d ∷ marks_of walked)))
-    ∙ ap fitting (sym (total-sized method (opens_of method (marks_of walked)) (sum_of (marks_of walked) + d)))
-    ∙ ap (λ s. fitting (total_sum (s + d) (sized method (opens_of method (marks_of walked))))) (sym w.sum_is)
+    ∙ ap (λ s. fitting (total_sum (s + d) (opens_of method (marks_of walked)))) (sym w.sum_is)
     ∙ ap (λ o. fitting (total_sum (sum + d) o)) (sym w.units_are)
 
 pub fitting-some : (number sum : ℕ) → (sum < 2 ^ 128) × (number ≡ sum) → fitting sum ≡ Ok number

@@ -9,8 +9,8 @@ use Rattle.cn_core.specs.Place.{is_below, is_unfit, is_overflowing, some_unfit, 
 use Rattle.cn_core.specs.Refusal.{Refusal, incorrect_at, too_large}
 use Rattle.cn_core.specs.Scale.{scale_fits}
 use Rattle.cn_core.specs.Value.{value}
-use Rattle.cn_core.proofs.Fronts.{place_of, each-from_completable}
-use Rattle.cn_core.proofs.Judging.{judge_body}
+use Rattle.cn_core.specs.Judging.{place_of, judge_body}
+use Rattle.cn_core.proofs.Fronts.{each-from_completable}
 use Rattle.cn_judge.specs.Private.Walk.{fitting, front_answer, refused_or, walked_answer, fault_of, further_or, faults}
 use Rattle.cn_judge.proofs.OpenSums.{take_while-group, group-value}
 

@@ -4,11 +4,12 @@ use Rattle.std.proofs.lemmas.Grind.{common_steps}
 use Rattle.cn_core.specs.declared.method.ChineseCountMethod.{ChineseCountMethod}
 use Rattle.cn_core.specs.Scale.{scale}
 use Rattle.cn_judge.specs.declared.open_units.OpenUnit.{OpenUnit}
-use Rattle.cn_judge.specs.Private.Walk.{Open, closed, left_open, total, top_rank}
+use Rattle.cn_core.specs.Mark.{Mark, digit, unit, other}
+use Rattle.cn_judge.specs.Private.Walk.{opens_of}
 use Rattle.cn_core.proofs.ScaleLaws.{scale-pos}
 use Rattle.cn_core.proofs.Fronts.{and-left, and-right}
 use Rattle.std.proofs.lemmas.Bool.Decides.{nat_tests}
-use Rattle.cn_judge.specs.Private.Stack.{Sized, sized, stack_of, opened_at, no_unit, ClosesTop, all_positive, closed_sum, not_closed, top_of, total_sum}
+use Rattle.cn_judge.specs.Private.Stack.{Sized, stack_of, opened_at, no_unit, ClosesTop, all_positive, closed_sum, not_closed, top_of, total_sum}
 
 pub length-stack : (entries : List OpenUnit) (len : ℕ) → length (stack_of entries len) ≡ len
 length-stack entries zero = refl
@@ -53,7 +54,7 @@ total-grows (top ∷ units) sum h =
     let ih = total-grows units (sum * top.1 + top.2) (and-right (nat_lt 0 top.1) _ h) in
     let g = sum_grows sum top.1 top.2 p in omega (arith, ih, g)
 
-closed-grows : (limit : ℕ) (units : List Sized) (sum : ℕ) → all_positive units ≡ true → sum ≤ closed_sum limit sum units
+pub closed-grows : (limit : ℕ) (units : List Sized) (sum : ℕ) → all_positive units ≡ true → sum ≤ closed_sum limit sum units
 closed-grows limit [] sum h = omega arith
 closed-grows limit (top ∷ units) sum h = by (nat_lt top.0 limit) (closed-grows limit units (sum * top.1 + top.2) (and-right (nat_lt 0 top.1) _ h)) where
   by : (b : Bool) → sum * top.1 + top.2 ≤ closed_sum limit (sum * top.1 + top.2) units → sum ≤ (if b then closed_sum limit (sum * top.1 + top.2) units else sum)
@@ -94,37 +95,22 @@ total-past sum (top ∷ units) after some h p =
     let grows = total-grows units (sum * top.1 + top.2) (and-right (nat_lt 0 top.1) _ p) in
     λ small. h.1 (omega (arith, small, grows))
 
--- the same of the open units of a walk
-pub closed-sized : (method : ChineseCountMethod) (limit : ℕ) (opens : List Open) (sum : ℕ) → closed_sum limit sum (sized method opens) ≡ closed method limit sum opens
-closed-sized method limit [] sum = refl
-closed-sized method limit (top ∷ opens) sum = ap (λ n. if nat_lt top.0 limit then n else sum) (closed-sized method limit opens (sum * scale method top.0 + top.1))
-
-pub left-sized : (method : ChineseCountMethod) (limit : ℕ) (opens : List Open) → not_closed limit (sized method opens) ≡ sized method (left_open limit opens)
-left-sized method limit [] = refl
-left-sized method limit (top ∷ opens) = by (nat_lt top.0 limit) (left-sized method limit opens) where
-  by : (b : Bool) → not_closed limit (sized method opens) ≡ sized method (left_open limit opens)
-      → (if b then not_closed limit (sized method opens) else (top.0, scale method top.0, top.1) ∷ sized method opens) ≡ sized method (if b then left_open limit opens else top ∷ opens)
+-- the scales of a walk's open units are above 0
+pub positive-left : (limit : ℕ) (units : List Sized) → all_positive units ≡ true → all_positive (not_closed limit units) ≡ true
+positive-left limit [] h = h
+positive-left limit (top ∷ units) h = by (nat_lt top.0 limit) (positive-left limit units (and-right (nat_lt 0 top.1) _ h)) where
+  by : (b : Bool) → all_positive (not_closed limit units) ≡ true → all_positive (if b then not_closed limit units else top ∷ units) ≡ true
   by true ih = ih
-  by false ih = refl
+  by false ih = h
 
-pub total-sized : (method : ChineseCountMethod) (opens : List Open) (sum : ℕ) → total_sum sum (sized method opens) ≡ total method sum opens
-total-sized method [] sum = refl
-total-sized method (top ∷ opens) sum = total-sized method opens (sum * scale method top.0 + top.1)
-
-pub top-sized : (method : ChineseCountMethod) (opens : List Open) → top_of (sized method opens) ≡ top_rank opens
-top-sized method [] = refl
-top-sized method (top ∷ opens) = refl
-
-pub length-sized : (method : ChineseCountMethod) (opens : List Open) → length (sized method opens) ≡ length opens
-length-sized method [] = refl
-length-sized method (top ∷ opens) = ap suc (length-sized method opens)
-
-pub positive-sized : (method : ChineseCountMethod) (opens : List Open) → all_positive (sized method opens) ≡ true
-positive-sized method [] = refl
-positive-sized method (top ∷ opens) =
-    let p = scale-pos method top.0 in
-    let t : nat_lt 0 (scale method top.0) ≡ true = test (scale method top.0) p in
-    rw t (positive-sized method opens) where
+pub positive-opens : (method : ChineseCountMethod) (marks : List Mark) → all_positive (opens_of method marks) ≡ true
+positive-opens method [] = refl
+positive-opens method (digit value ∷ rest) = positive-opens method rest
+positive-opens method (other ∷ rest) = positive-opens method rest
+positive-opens method (unit rank ∷ rest) =
+    let p = scale-pos method rank in
+    let t : nat_lt 0 (scale method rank) ≡ true = test (scale method rank) p in
+    rw t (positive-left (rank + 1) (opens_of method rest) (positive-opens method rest)) where
       test : (n : ℕ) → 0 < n → nat_lt 0 n ≡ true
       test n h = grind (arith, nat_tests)
 

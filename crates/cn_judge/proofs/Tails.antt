@@ -1,25 +1,43 @@
 -- The rule on the last mark, over the answer to the list without it.
-use Rattle.std.proofs.Common.{◌≡◌, ℕ, ◌+◌, ◌-◌, ◌*◌, ◌/◌, ◌^◌, max, Bool, true, false, not, ◌&&◌, ◌||◌, nat_le, nat_lt, ◌==◌, List, [], ◌∷◌, ◌++◌, length, Some, Result, Ok, Err, is_ok, refl, sym, ap, ◌∙◌, arith, if◌then◌else◌}
+use Rattle.std.proofs.Common.{◌≡◌, ℕ, ◌+◌, ◌-◌, ◌*◌, ◌/◌, ◌^◌, ◌<◌, max, Bool, true, false, not, ◌&&◌, ◌||◌, nat_le, nat_lt, ◌==◌, List, [], ◌∷◌, ◌++◌, length, length-append, reverse, take, Some, Result, Ok, Err, is_ok, refl, sym, ap, ◌∙◌, arith, if◌then◌else◌}
 use Rattle.std.specs.Option.{option_map_or}
 use Rattle.std.proofs.lemmas.Bool.Decides.{nat_tests}
+use Rattle.std.proofs.lemmas.List.{length-reverse, reverse-append}
+use Rattle.std.proofs.Math.Seq.{take-append-add}
 use Rattle.cn_core.specs.declared.method.ChineseCountMethod.{ChineseCountMethod}
 use Rattle.cn_core.specs.Mark.{Mark, digit, unit, other}
 use Rattle.cn_core.specs.Numeral.{is_numeral, opened, may_precede, each_may_precede, first_not_smaller, multiplies_upwards, counts_a_unit, starts_with_digit}
-use Rattle.cn_core.specs.Place.{body, some_unfit, is_unfit, is_early}
+use Rattle.cn_core.specs.Place.{body, ends_apart, is_tail, some_unfit, is_unfit, is_early}
 use Rattle.cn_core.specs.Refusal.{Refusal, incorrect_at, too_large}
 use Rattle.cn_core.specs.Scale.{scale}
 use Rattle.cn_core.specs.Value.{value, colloquial_value, weight, records_from}
 use Rattle.cn_core.specs.Judge.{numeral_answer, last_mark_answer}
-use Rattle.cn_core.proofs.Fronts.{place_of, and-left, and-right}
-use Rattle.cn_core.proofs.Judging.{judge, judge_body}
+use Rattle.cn_core.specs.Judging.{place_of, judge, judge_body}
+use Rattle.cn_core.proofs.Fronts.{and-left, and-right}
 use Rattle.cn_judge.proofs.Faults.{plain, numeral_tail}
-use Rattle.cn_judge.specs.Private.Walk.{fitting, is_tail, tail_answer}
+use Rattle.cn_judge.specs.Private.Walk.{fitting, tail_answer}
 
+apart-last : (ys : List Mark) (s l : Mark) → 0 < length ys → ends_apart (l ∷ s ∷ ys) ≡ is_tail s l
+apart-last [] s l some = absurd (omega (arith, some))
+apart-last (y ∷ ys) s l some = refl
+
+take-last : (front : List Mark) (s l : Mark) → take (length (front ++ s ∷ l ∷ []) - 1) (front ++ s ∷ l ∷ []) ≡ front ++ s ∷ []
+take-last front s l =
+    let long = length-append front (s ∷ l ∷ []) in
+    let less : length (front ++ s ∷ l ∷ []) - 1 ≡ length front + 1 = omega (arith, long) in
+    ap (λ n. take n (front ++ s ∷ l ∷ [])) less ∙ take-append-add front (s ∷ l ∷ []) 1
+
+-- a list of three marks or more, by its last two
 body-tail : (x : Mark) (xs : List Mark) (s l : Mark) → body (x ∷ xs ++ s ∷ l ∷ []) ≡ x ∷ xs ++ s ∷ (if is_tail s l then [] else l ∷ [])
-body-tail x [] s l = refl
-body-tail x (y ∷ []) s l = refl
-body-tail x (y ∷ z ∷ []) s l = ap (λ m. x ∷ m) (body-tail y (z ∷ []) s l)
-body-tail x (y ∷ z ∷ w ∷ ws) s l = ap (λ m. x ∷ m) (body-tail y (z ∷ w ∷ ws) s l)
+body-tail x xs s l =
+    let marks : List Mark = x ∷ xs ++ s ∷ l ∷ [] in
+    let turned : reverse marks ≡ l ∷ s ∷ reverse (x ∷ xs) = reverse-append (x ∷ xs) (s ∷ l ∷ []) in
+    let some : 0 < length (reverse (x ∷ xs)) = let same = length-reverse (x ∷ xs) in omega (arith, same) in
+    ap (λ (b : Bool). if b then take (length marks - 1) marks else marks) (ap ends_apart turned ∙ apart-last (reverse (x ∷ xs)) s l some)
+    ∙ by (is_tail s l) where
+      by : (b : Bool) → (if b then take (length (x ∷ xs ++ s ∷ l ∷ []) - 1) (x ∷ xs ++ s ∷ l ∷ []) else x ∷ xs ++ s ∷ l ∷ []) ≡ x ∷ xs ++ s ∷ (if b then [] else l ∷ [])
+      by true = take-last (x ∷ xs) s l
+      by false = refl
 
 -- a list that ends with a unit, with and without a digit after it
 records-tail : (least : ℕ) (xs : List Mark) (r d : ℕ) → records_from least (xs ++ unit r ∷ digit d ∷ []) ≡ records_from least (xs ++ unit r ∷ [])

@@ -11,15 +11,15 @@ use Rattle.cn_core.specs.Text.{text_of, marks_of}
 use Rattle.cn_core.proofs.OpenUnits.{in_ranks-marks, digit_of-low}
 use Rattle.cn_judge.specs.declared.walk.Next.{Next}
 use Rattle.cn_judge.specs.declared.walk.Next.TheVariants.{AtDigit}
-use Rattle.cn_judge.specs.Private.Walk.{closed, left_open, sum_of, opens_of, top_rank, fault_of, faults, leading_rank, multiplies_by, unit_next, further_or}
+use Rattle.cn_judge.specs.Private.Walk.{sum_of, opens_of, fault_of, faults, leading_rank, multiplies_by, unit_next, further_or}
 use Rattle.std.specs.Char.{is_whitespace, is_not_whitespace}
 use Rattle.cn_core.specs.Spot.{spot}
 use Rattle.cn_judge.specs.Private.Piece.{StandsAt, EndsWith, spotted}
 use Rattle.cn_judge.proofs.Walking.{filter-append}
 use Rattle.cn_judge.proofs.Pieces.{spot-at}
-use Rattle.cn_judge.specs.Private.Stack.{Sized, sized, closed_sum, not_closed, all_positive, top_of}
+use Rattle.cn_judge.specs.Private.Stack.{Sized, closed_sum, not_closed, all_positive, top_of}
 use Rattle.cn_judge.specs.Private.Walked.{IsWalked}
-use Rattle.cn_judge.proofs.Stacks.{closed-sized, left-sized, top-sized, length-sized, positive-sized}
+use Rattle.cn_judge.proofs.Stacks.{positive-opens}
 use Rattle.cn_judge.proofs.Steps.{sound-none, unit-past, unit-alone, unit-same, unit-step, opens-next, opens-room}
 
 pub rank-low : (u : NumeralUnit) → rank u < 16
@@ -45,29 +45,28 @@ leading : (u : ℕ) (marks : List Mark) {a b : Option ℕ} → a ≡ b → b ≡
 leading u marks p q h = sym (ap (multiplies_by u) (p ∙ q)) ∙ sym h
 
 sum_same : (method : ChineseCountMethod) (u : ℕ) (walked : List ℕ) (sum : ℕ) (units : List Sized) (next : Next) → IsWalked method walked sum units next
-    → closed_sum u sum units ≡ closed method u (sum_of (marks_of walked)) (opens_of method (marks_of walked))
+    → closed_sum u sum units ≡ closed_sum u (sum_of (marks_of walked)) (opens_of method (marks_of walked))
 sum_same method u walked sum units next w =
     ap (λ s. closed_sum u s units) w.sum_is ∙ ap (closed_sum u (sum_of (marks_of walked))) w.units_are
-    ∙ closed-sized method u (opens_of method (marks_of walked)) (sum_of (marks_of walked))
 
 left_same : (method : ChineseCountMethod) (u : ℕ) (walked : List ℕ) (sum : ℕ) (units after : List Sized) (next : Next) → after ≡ not_closed u units → IsWalked method walked sum units next
-    → after ≡ sized method (left_open u (opens_of method (marks_of walked)))
-left_same method u walked sum units after next gives w = gives ∙ ap (not_closed u) w.units_are ∙ left-sized method u (opens_of method (marks_of walked))
+    → after ≡ not_closed u (opens_of method (marks_of walked))
+left_same method u walked sum units after next gives w = gives ∙ ap (not_closed u) w.units_are
 
 top_same : (method : ChineseCountMethod) (u : ℕ) (walked : List ℕ) (sum : ℕ) (units after : List Sized) (next : Next) → after ≡ not_closed u units → IsWalked method walked sum units next
-    → top_of after ≡ top_rank (left_open u (opens_of method (marks_of walked)))
-top_same method u walked sum units after next gives w = ap top_of (left_same method u walked sum units after next gives w) ∙ top-sized method (left_open u (opens_of method (marks_of walked)))
+    → top_of after ≡ top_of (not_closed u (opens_of method (marks_of walked)))
+top_same method u walked sum units after next gives w = ap top_of (left_same method u walked sum units after next gives w)
 
 not_top : (method : ChineseCountMethod) (u : ℕ) (walked : List ℕ) (sum : ℕ) (units after : List Sized) (next : Next) → after ≡ not_closed u units → ((true ≡ false) ↔ (top_of after ≡ Some u))
-    → IsWalked method walked sum units next → top_rank (left_open u (opens_of method (marks_of walked))) ≢ Some u
+    → IsWalked method walked sum units next → top_of (not_closed u (opens_of method (marks_of walked))) ≢ Some u
 not_top method u walked sum units after next gives differs w same = let t = differs.1 (top_same method u walked sum units after next gives w ∙ same) in cc
 
 fits_same : (method : ChineseCountMethod) (u : ℕ) (walked : List ℕ) (sum : ℕ) (units : List Sized) (next : Next) → closed_sum u sum units < 2 ^ 128 → IsWalked method walked sum units next
-    → closed method u (sum_of (marks_of walked)) (opens_of method (marks_of walked)) < 2 ^ 128
+    → closed_sum u (sum_of (marks_of walked)) (opens_of method (marks_of walked)) < 2 ^ 128
 fits_same method u walked sum units next fits w = let same = sum_same method u walked sum units next w in omega (arith, same, fits)
 
 pub walked-positive : (method : ChineseCountMethod) (walked : List ℕ) (sum : ℕ) (units : List Sized) (next : Next) → IsWalked method walked sum units next → all_positive units ≡ true
-walked-positive method walked sum units next w = ap all_positive w.units_are ∙ positive-sized method (opens_of method (marks_of walked))
+walked-positive method walked sum units next w = ap all_positive w.units_are ∙ positive-opens method (marks_of walked)
 
 pub walked-past : (method : ChineseCountMethod) (u sum : ℕ) (units : List Sized) (next : Next) (a : Option ℕ) → a ≡ unit_next next → true ≡ multiplies_by u a
     → ¬ (closed_sum u sum units < 2 ^ 128)
@@ -101,19 +100,19 @@ walked-step method u sum units after next a b is h fits alone gives top fit walk
 
 pub walked-opens : (method : ChineseCountMethod) (u sum size below : ℕ) (units after : List Sized) (next : Next)
     → size ≡ scale method u → below ≡ closed_sum u sum units → after ≡ not_closed u units → ((true ≡ false) ↔ (top_of after ≡ Some u))
-    → (walked : List ℕ) → IsWalked method walked sum units next → (u, size, below) ∷ after ≡ sized method (opens_of method (unit u ∷ marks_of walked))
+    → (walked : List ℕ) → IsWalked method walked sum units next → (u, size, below) ∷ after ≡ opens_of method (unit u ∷ marks_of walked)
 walked-opens method u sum size below units after next size_is below_is gives top walked w =
     ap (λ n. (u, n, below) ∷ after) size_is
     ∙ ap (λ n. (u, scale method u, n) ∷ after) (below_is ∙ sum_same method u walked sum units next w)
-    ∙ ap (λ l. (u, scale method u, closed method u (sum_of (marks_of walked)) (opens_of method (marks_of walked))) ∷ l) (left_same method u walked sum units after next gives w)
-    ∙ ap (sized method) (sym (opens-next method u (marks_of walked) (not_top method u walked sum units after next gives top w)))
+    ∙ ap (λ l. (u, scale method u, closed_sum u (sum_of (marks_of walked)) (opens_of method (marks_of walked))) ∷ l) (left_same method u walked sum units after next gives w)
+    ∙ sym (opens-next method u (marks_of walked) (not_top method u walked sum units after next gives top w))
 
 pub walked-room : (method : ChineseCountMethod) (u sum : ℕ) (units after : List Sized) (next : Next) → u < 16
     → after ≡ not_closed u units → ((true ≡ false) ↔ (top_of after ≡ Some u))
     → (walked : List ℕ) → IsWalked method walked sum units next → length after < 16
 walked-room method u sum units after next low gives top walked w =
     let room = opens-room method u (marks_of walked) (in_ranks-marks walked) low (not_top method u walked sum units after next gives top w) in
-    let same = ap length (left_same method u walked sum units after next gives w) ∙ length-sized method (left_open u (opens_of method (marks_of walked))) in
+    let same = ap length (left_same method u walked sum units after next gives w) in
     omega (arith, room, same)
 
 -- a scale that does not fit

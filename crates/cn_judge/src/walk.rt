@@ -7,7 +7,7 @@ ghost use Rattle.cn_core.specs.Text.{marks_of, text_of};
 ghost use Rattle.cn_judge.specs.Answer.{refusal_of};
 ghost use Rattle.cn_judge.specs.Private.Marked.{marked, unit_mark};
 ghost use Rattle.cn_judge.specs.Private.Piece.{spotted};
-ghost use Rattle.cn_judge.specs.Private.Stack.{Sized, sized};
+ghost use Rattle.cn_judge.specs.Private.Stack.{Sized};
 ghost use Rattle.cn_judge.specs.Private.Walk.{faults, digit_next, unit_next, multiplies_by, opens_of, fault_of, fault_refusal};
 ghost use Rattle.cn_judge.specs.Private.Walked.{IsWalked};
 
@@ -90,7 +90,7 @@ fn step_unit(
     ensures { (walked : List ℕ) → IsWalked method walked standing.sum units.old standing.next
         → MatchResult result
         (λ _. (fault_of method (unit_mark unit) (marks_of walked) ≡ None)
-        × (units.new ≡ sized method (opens_of method (unit_mark unit ∷ marks_of walked))))
+        × (units.new ≡ opens_of method (unit_mark unit ∷ marks_of walked)))
         (λ fault. fault_of method (unit_mark unit) (marks_of walked) ≡ Some (fault_refusal fault)) }
 {
     let after = unit_after(standing.next);

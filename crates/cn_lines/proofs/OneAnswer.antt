@@ -3,12 +3,14 @@ use Rattle.std.proofs.Common.{◌≡◌, ◌++◌, codes, encode_utf8_all, ℕ, 
 use Rattle.std.specs.Bool.{MatchBool}
 use Rattle.chinese_number.specs.declared.ChineseVariant.{ChineseVariant}
 use Rattle.chinese_number.specs.declared.ChineseCase.{ChineseCase}
+use Rattle.chinese_number.specs.Refusal.{refusal_text}
+use Rattle.chinese_number.specs.Whole.{holds}
 use Rattle.chinese_number.specs.Written.{spelled_text, is_printable}
 use Rattle.chinese_number.proofs.Reading.{the_answer, Reads-same, Reads-the_answer}
 use Rattle.cn_lines.specs.declared.question.Method.{Method}
 use Rattle.cn_lines.specs.declared.question.Method.TheVariants.{Naive, Units}
 use Rattle.cn_lines.specs.Question.{Question, read, print, kind_of, question_of}
-use Rattle.cn_lines.specs.Answer.{bad_line, holds, reading_text, refusal_text, unprintable, Answers, AnswersPrint, AnswersAny, AreReplies}
+use Rattle.cn_lines.specs.Answer.{bad_line, reading_text, unprintable, Answers, AnswersPrint, AnswersAny, AreReplies}
 
 -- at most one list is such
 abbrev IsSingle : (List ℕ → Type 0) → Type 0

@@ -1,23 +1,16 @@
 -- What is answered to lines.
-use Rattle.std.specs.Prelude.{◌≡◌, ◌++◌, ◌&&◌, ℕ, ℤ, pos, int_le, int_lt, Bool, List, [], ◌∷◌, codes, decimal, encode_utf8_all, Option, Some, None, Result, Ok, Err, if◌then◌else◌}
+use Rattle.std.specs.Prelude.{◌≡◌, ◌++◌, ℕ, ℤ, pos, int_lt, List, [], ◌∷◌, codes, encode_utf8_all, Option, Some, None, Result, Ok, Err, if◌then◌else◌}
 use Rattle.std.specs.Bool.{MatchBool}
 use Rattle.std.specs.Fmt.{signed_decimal}
 use Rattle.chinese_number.specs.declared.ChineseVariant.{ChineseVariant}
 use Rattle.chinese_number.specs.declared.ChineseCase.{ChineseCase}
-use Rattle.chinese_number.specs.Refusal.{Refusal, empty, incorrect_at, too_large, too_small}
+use Rattle.chinese_number.specs.Refusal.{Refusal, too_large, too_small, refusal_text}
 use Rattle.chinese_number.specs.Typed.{Reads, naive_reading}
-use Rattle.chinese_number.specs.Whole.{Kind}
+use Rattle.chinese_number.specs.Whole.{Kind, holds}
 use Rattle.chinese_number.specs.Written.{naive_text, spelled_text, is_printable}
 use Rattle.cn_lines.specs.declared.question.Method.{Method}
 use Rattle.cn_lines.specs.declared.question.Method.TheVariants.{Naive, Units}
 use Rattle.cn_lines.specs.Question.{Question, read, print, kind_of, question_of}
-
--- the text of a refusal
-abbrev pub refusal_text : Refusal → List ℕ
-refusal_text empty = codes "a chinese number cannot be empty"
-refusal_text (incorrect_at place) = codes "the chinese number is incorrect (position: " ++ (decimal place ++ codes ")")
-refusal_text too_large = codes "number is too large"
-refusal_text too_small = codes "number is too small"
 
 -- what is answered to a text that was read
 abbrev pub reading_text : Result ℤ Refusal → List ℕ
@@ -27,10 +20,6 @@ reading_text (Err refusal) = codes "err " ++ refusal_text refusal
 -- the answer to a line that asks nothing
 abbrev pub bad_line : List ℕ
 bad_line = codes "bad line"
-
--- whether a type of this kind holds the number
-abbrev pub holds : Kind → ℤ → Bool
-holds kind number = int_le kind.least number && int_le number kind.greatest
 
 -- the answer to a text that is to be read
 abbrev pub AnswersRead : Kind → Method → List ℕ → List ℕ → Type 0

@@ -2,14 +2,15 @@
 ghost use Rattle.std.specs.Prelude.{◌≡◌, ◌↔◌, ℕ, ℤ, false, List, Result, Ok};
 ghost use Rattle.chinese_number.specs.Parts.{sign_at, unsigned_text};
 ghost use Rattle.cn_core.specs.Judge.{Judges};
+ghost use Rattle.cn_core.specs.Judging.{judge};
 ghost use Rattle.cn_core.specs.Mark.{Mark};
 ghost use Rattle.cn_core.specs.Numeral.{IsNumeral};
 ghost use Rattle.cn_core.specs.Place.{some_unfit};
 ghost use Rattle.cn_core.specs.Refusal.{Refusal};
 ghost use Rattle.cn_core.specs.Text.{marks_of};
-ghost use Rattle.cn_core.specs.Typed.{Reads, signed_by};
+ghost use Rattle.cn_core.specs.Typed.{Reads, is_minus};
 ghost use Rattle.cn_core.specs.Value.{numeral_value};
-ghost use Rattle.cn_core.specs.Whole.{Kind, Holds};
+ghost use Rattle.cn_core.specs.Whole.{signed_number, Kind, Holds};
 ghost use Rattle.cn_core.specs.declared.method.ChineseCountMethod.{ChineseCountMethod};
 
 use cn_core::Whole;
@@ -21,6 +22,15 @@ pub fn each_text_has_one_judgement()
     ensures { (method : ChineseCountMethod) (marks : List Mark)
         → (answer : Result ℕ Refusal) × Judges method marks answer
         × ((other : Result ℕ Refusal) → Judges method marks other → other ≡ answer) }
+{}
+
+/// The judgement of a text is the one that `judge` computes, and no other.
+///
+/// For whoever writes tests or tables of their own: `Judges` speaks of all fronts that a text could
+/// have, and `judge` looks at the text alone, once from right to left: 二十十 is refused at place 1.
+pub fn judgements_can_be_computed()
+    ensures { (method : ChineseCountMethod) (marks : List Mark) (answer : Result ℕ Refusal)
+        → Judges method marks answer ↔ (judge method marks ≡ answer) }
 {}
 
 /// Each string has one answer, for each type and method.
@@ -43,6 +53,6 @@ pub fn numerals_alone_are_read<T: Whole>()
         → let marks = marks_of (unsigned_text T.kind bytes) in
         Reads T.kind method bytes (Ok number)
         ↔ (IsNumeral marks × (some_unfit method marks ≡ false)
-        × (signed_by (sign_at T.kind bytes) (numeral_value method marks) ≡ number)
+        × (signed_number (is_minus (sign_at T.kind bytes)) (numeral_value method marks) ≡ number)
         × Holds T.kind number) }
 {}

@@ -6,8 +6,8 @@ ghost use Rattle.chinese_number.specs.Parts.{sign_at, sign_text, unsigned_text};
 ghost use Rattle.cn_core.specs.Characters.{digit_of};
 ghost use Rattle.cn_core.specs.Naive.{decimal_value};
 ghost use Rattle.cn_core.specs.Text.{text_of, marks_of};
-ghost use Rattle.cn_core.specs.Typed.{naive_reading, signed_by};
-ghost use Rattle.cn_core.specs.Whole.{Kind, Holds};
+ghost use Rattle.cn_core.specs.Typed.{naive_reading, is_minus};
+ghost use Rattle.cn_core.specs.Whole.{signed_number, Kind, Holds};
 ghost use Rattle.cn_core.specs.Written.{naive_text};
 ghost use Rattle.cn_core.specs.declared.case.ChineseCase.{ChineseCase};
 ghost use Rattle.cn_core.specs.declared.script.ChineseVariant.{ChineseVariant};
@@ -25,7 +25,7 @@ pub fn digits_alone_are_read<T: Whole>()
         → let marks = marks_of (unsigned_text T.kind bytes) in
         (naive_reading T.kind bytes ≡ Ok number)
         ↔ ((0 < length marks) × IsTrue (list_all is_digit marks)
-        × (signed_by (sign_at T.kind bytes) (decimal_value marks) ≡ number)
+        × (signed_number (is_minus (sign_at T.kind bytes)) (decimal_value marks) ≡ number)
         × Holds T.kind number) }
 {}
 

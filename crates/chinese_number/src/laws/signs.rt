@@ -5,9 +5,9 @@ ghost use Rattle.cn_core.specs.Numeral.{IsNumeral};
 ghost use Rattle.cn_core.specs.Place.{some_unfit};
 ghost use Rattle.cn_core.specs.Refusal.{Refusal};
 ghost use Rattle.cn_core.specs.Text.{text_of, marks_of};
-ghost use Rattle.cn_core.specs.Typed.{Reads, signed_by};
+ghost use Rattle.cn_core.specs.Typed.{Reads, is_minus};
 ghost use Rattle.cn_core.specs.Value.{numeral_value};
-ghost use Rattle.cn_core.specs.Whole.{Holds};
+ghost use Rattle.cn_core.specs.Whole.{signed_number, Holds};
 ghost use Rattle.cn_core.specs.declared.method.ChineseCountMethod.{ChineseCountMethod};
 ghost use Rattle.cn_core.specs.declared.sign.Sign.TheVariants.{Minus};
 ghost use Rattle.cn_core.specs.declared.sign.Sign.{Sign};
@@ -22,7 +22,7 @@ pub fn a_sign_gives_the_signed_value<T: Whole>()
     ensures { (method : ChineseCountMethod) (bytes rest : List ℕ) (character : ℕ) (sign : Sign)
         → IsTrue T.SIGNED → text_of bytes ≡ character ∷ rest → sign_of character ≡ Some sign
         → IsNumeral (marks_of rest) → some_unfit method (marks_of rest) ≡ false
-        → let number = signed_by (Some sign) (numeral_value method (marks_of rest)) in
+        → let number = signed_number (is_minus (Some sign)) (numeral_value method (marks_of rest)) in
         Holds T.kind number
         → (answer : Result ℤ Refusal) → Reads T.kind method bytes answer ↔ (answer ≡ Ok number) }
 {}

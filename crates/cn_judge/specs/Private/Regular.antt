@@ -9,12 +9,12 @@ use Rattle.cn_core.specs.declared.unit.Unit.TheVariants.{Ge}
 use Rattle.cn_core.specs.Characters.{rank}
 use Rattle.cn_core.specs.Mark.{Mark, digit, unit, other}
 use Rattle.cn_core.specs.Numeral.{may_precede, each_may_precede, starts_with_digit}
-use Rattle.cn_core.specs.Place.{some_unfit}
+use Rattle.cn_core.specs.Place.{is_tail, some_unfit}
 use Rattle.cn_core.specs.Scale.{exponent}
 use Rattle.cn_core.specs.Value.{value, records_from, record_units}
 use Rattle.cn_judge.specs.declared.open_groups.OpenGroup.{OpenGroup}
 use Rattle.cn_judge.specs.declared.quick.Standing.{Standing}
-use Rattle.cn_judge.specs.Private.Walk.{is_tail, HasNoTail}
+use Rattle.cn_judge.specs.Private.Walk.{HasNoTail}
 
 -- an open group: its unit's rank, and the exponent of the power of ten that it and the units below it make;
 -- the last opened stands first

@@ -1,21 +1,13 @@
 -- The open units as the walk keeps them, each with its scale, in an array whose last entry is the top.
 use Rattle.std.specs.Prelude.{◌≡◌, ℕ, zero, suc, ◌+◌, ◌*◌, ◌^◌, ◌<◌, SomeIff, Bool, nat_lt, List, [], ◌∷◌, Option, Some, None, slice_index_or, if◌then◌else◌}
 use Rattle.std.specs.List.{list_all}
-use Rattle.cn_core.specs.declared.method.ChineseCountMethod.{ChineseCountMethod}
 use Rattle.cn_core.specs.declared.unit.Unit.TheVariants.{Ge}
 use Rattle.cn_core.specs.Characters.{rank}
-use Rattle.cn_core.specs.Scale.{scale}
 use Rattle.cn_judge.specs.declared.open_units.OpenUnit.{OpenUnit}
-use Rattle.cn_judge.specs.Private.Walk.{Open}
 
 -- an open unit: its rank, its scale, and the sum that it was opened over; the top stands first
 abbrev pub Sized : Type 0
 Sized = ℕ × ℕ × ℕ
-
--- the open units of a walk, with their scales
-abbrev pub sized : ChineseCountMethod → List Open → List Sized
-sized method [] = []
-sized method (top ∷ opens) = (top.0, scale method top.0, top.1) ∷ sized method opens
 
 -- each scale is above 0
 abbrev pub all_positive : List Sized → Bool

@@ -6,32 +6,14 @@ use Rattle.cn_core.specs.Characters.{rank}
 use Rattle.cn_core.specs.Scale.{scale}
 use Rattle.cn_core.specs.Numeral.{may_precede, is_numeral, opened}
 use Rattle.cn_core.specs.Value.{value}
-use Rattle.cn_core.specs.Place.{is_overflowing, is_unfit, is_unit_from_hundred, is_unit_above_ge}
+use Rattle.cn_core.specs.Place.{is_overflowing, is_tail, is_unfit}
 use Rattle.cn_core.specs.Refusal.{Refusal, incorrect_at, too_large}
+use Rattle.cn_judge.specs.Private.Stack.{Sized, closed_sum, not_closed}
 use Rattle.cn_judge.specs.declared.walk.Next.{Next}
 use Rattle.cn_judge.specs.declared.walk.Next.TheVariants.{AtDigit, AtUnit}
 use Rattle.cn_judge.specs.declared.walk.Fault.{Fault}
 use Rattle.cn_judge.specs.declared.walk.Fault.TheVariants.{Incorrect, PastLimit}
 use Rattle.std.specs.Option.{option_map_or}
-
--- an open unit: its rank, and the sum that it was opened over; the last opened stands first
-abbrev pub Open : Type 0
-Open = ℕ × ℕ
-
--- the sum once each open unit below a rank is closed: it multiplies the sum, and adds it to the one below
-abbrev pub closed : ChineseCountMethod → ℕ → ℕ → List Open → ℕ
-closed method limit sum [] = sum
-closed method limit sum (top ∷ opens) = if nat_lt top.0 limit then closed method limit (sum * scale method top.0 + top.1) opens else sum
-
--- the units that are then still open
-abbrev pub left_open : ℕ → List Open → List Open
-left_open limit [] = []
-left_open limit (top ∷ opens) = if nat_lt top.0 limit then left_open limit opens else top ∷ opens
-
--- the sum once all are closed
-abbrev pub total : ChineseCountMethod → ℕ → List Open → ℕ
-total method sum [] = sum
-total method sum (top ∷ opens) = total method (sum * scale method top.0 + top.1) opens
 
 -- the digits up to the first unit
 abbrev pub sum_of : List Mark → ℕ
@@ -40,17 +22,13 @@ sum_of (digit value ∷ rest) = sum_of rest + value
 sum_of (unit rank ∷ rest) = 0
 sum_of (other ∷ rest) = sum_of rest
 
--- the units that are open after this end of a list
-abbrev pub opens_of : ChineseCountMethod → List Mark → List Open
+-- the units that are open after this end of a list, the last opened first, each with its scale and the sum that it
+-- was opened over
+abbrev pub opens_of : ChineseCountMethod → List Mark → List Sized
 opens_of method [] = []
 opens_of method (unit rank ∷ rest) =
-    (rank, closed method (rank + 1) (sum_of rest) (opens_of method rest)) ∷ left_open (rank + 1) (opens_of method rest)
+    (rank, scale method rank, closed_sum (rank + 1) (sum_of rest) (opens_of method rest)) ∷ not_closed (rank + 1) (opens_of method rest)
 opens_of method (mark ∷ rest) = opens_of method rest
-
--- the first open unit's rank
-abbrev pub top_rank : List Open → Option ℕ
-top_rank [] = None
-top_rank (top ∷ opens) = Some top.0
 
 -- the fault of a mark, where there is none to its right; places count from the mark
 abbrev pub fault_of : ChineseCountMethod → Mark → List Mark → Option Refusal
@@ -106,10 +84,6 @@ front_answer method mark rest = if is_numeral (mark ∷ rest) then fitting (valu
 abbrev pub refused_or : Option Refusal → Result ℕ Refusal → Result ℕ Refusal
 refused_or (Some refusal) answer = Err (further refusal)
 refused_or None answer = answer
-
--- the last of three marks or more stands apart
-abbrev pub is_tail : Mark → Mark → Bool
-is_tail second last = is_unit_from_hundred second && not (is_unit_above_ge last)
 
 -- the last mark's part in the answer, where it stands apart after a unit of this rank
 abbrev pub tail_answer : ChineseCountMethod → ℕ → ℕ → Mark → Result ℕ Refusal → Result ℕ Refusal

@@ -1,4 +1,5 @@
-use Rattle.cn_core.proofs.Judging.{judge, Judges-judge, Judges-same}
+use Rattle.cn_core.specs.Judging.{judge}
+use Rattle.cn_core.proofs.Judging.{Judges-judge, Judges-same}
 use Rattle.chinese_number.proofs.laws.answers.each_text_has_one_judgement.Goals as goal
 
 pub returns : goal.returns

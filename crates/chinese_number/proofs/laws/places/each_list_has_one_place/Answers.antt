@@ -1,4 +1,5 @@
-use Rattle.cn_core.proofs.Fronts.{place_of, IsPlace-place_of, IsPlace-same}
+use Rattle.cn_core.specs.Judging.{place_of}
+use Rattle.cn_core.proofs.Fronts.{IsPlace-place_of, IsPlace-same}
 use Rattle.chinese_number.proofs.laws.places.each_list_has_one_place.Goals as goal
 
 pub returns : goal.returns
