@@ -7,19 +7,19 @@ const NOTHING: Reading = Reading {
 };
 
 // A text, and the codes of a type and a way; the status, the halves of the number, and the place.
-static READ: [(&str, [u32; 2], u32, [u64; 2], usize); 7] = [
-    ("一百二", [0, 2], 0, [120, 0], 0),
-    ("負一百二", [5, 3], 0, [u64::MAX - 119, u64::MAX], 0),
-    ("零〇1兩", [4, 0], 0, [12, 0], 0),
-    ("　", [9, 4], 1, [0, 0], 0),
-    (" 二 十 十 ", [4, 2], 2, [0, 0], 3),
-    ("負一百二十九", [5, 1], 4, [0, 0], 0),
-    ("一", [10, 0], 8, [0, 0], 0),
+static READ: [(&str, u32, u32, u32, u64, u64, usize); 7] = [
+    ("一百二", 0, 2, 0, 120, 0, 0),
+    ("負一百二", 5, 3, 0, u64::MAX - 119, u64::MAX, 0),
+    ("零〇1兩", 4, 0, 0, 12, 0, 0),
+    ("　", 9, 4, 1, 0, 0, 0),
+    (" 二 十 十 ", 4, 2, 2, 0, 0, 3),
+    ("負一百二十九", 5, 1, 4, 0, 0, 0),
+    ("一", 10, 0, 8, 0, 0, 0),
 ];
 
 #[test]
 fn reads(rt: HostRuntime) {
-    for (text, [kind, way], status, [low, high], place) in &READ {
+    for (text, kind, way, status, low, high, place) in &READ {
         let mut reading = NOTHING;
         let answer = chinese_number_read(text.as_bytes(), *kind, *way, &mut reading);
         assert_eq!(rt; answer, *status, "{text}");
@@ -41,27 +41,20 @@ fn reads_utf8_and_no_other_bytes(rt: HostRuntime) {
 
 // A number in halves, the codes of a type, a way, a script and a case, and the bytes of the room; the status,
 // and the text or how long it would be.
-static PRINTED: [([u64; 2], [u32; 4], usize, u32, &str, usize); 8] = [
-    ([123, 0], [0, 0, 0, 1], 9, 0, "一二三", 9),
-    ([123, 0], [5, 1, 1, 0], 16, 0, "壹佰贰拾叁", 15),
-    ([u64::MAX - 11, u64::MAX], [9, 4, 0, 1], 12, 0, "負十二", 9),
-    ([123, 0], [0, 0, 0, 1], 8, 6, "", 9),
-    ([10_000_000_000_000_000, 0], [3, 1, 0, 1], 48, 3, "", 0),
-    (
-        [u64::MAX - 9_999_999_999_999_999, u64::MAX],
-        [8, 1, 0, 1],
-        48,
-        4,
-        "",
-        0,
-    ),
-    ([300, 0], [0, 0, 0, 1], 16, 7, "", 0),
-    ([3, 0], [0, 5, 0, 1], 16, 8, "", 0),
+static PRINTED: [(u64, u64, u32, u32, u32, u32, usize, u32, &str, usize); 8] = [
+    (123, 0, 0, 0, 0, 1, 9, 0, "一二三", 9),
+    (123, 0, 5, 1, 1, 0, 16, 0, "壹佰贰拾叁", 15),
+    (u64::MAX - 11, u64::MAX, 9, 4, 0, 1, 12, 0, "負十二", 9),
+    (123, 0, 0, 0, 0, 1, 8, 6, "", 9),
+    (10_000_000_000_000_000, 0, 3, 1, 0, 1, 48, 3, "", 0),
+    (0xffdc_790d_903f_0000, u64::MAX, 8, 1, 0, 1, 48, 4, "", 0),
+    (300, 0, 0, 0, 0, 1, 16, 7, "", 0),
+    (3, 0, 0, 5, 0, 1, 16, 8, "", 0),
 ];
 
 #[test]
 fn prints(rt: HostRuntime) {
-    for ([low, high], [kind, way, script, case], size, status, text, wanted) in &PRINTED {
+    for (low, high, kind, way, script, case, size, status, text, wanted) in &PRINTED {
         let mut bytes = [7; 48];
         let (room, _) = bytes.split_at_mut(*size);
         let mut len = 0;
