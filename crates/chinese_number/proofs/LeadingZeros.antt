@@ -8,7 +8,7 @@ use Rattle.cn_core.specs.Characters.{digit_of, sign_of}
 use Rattle.cn_core.specs.Mark.{digit, mark_of}
 use Rattle.cn_core.specs.Naive.{naive_answer}
 use Rattle.cn_core.specs.Text.{text_of, marks_of}
-use Rattle.cn_core.specs.Typed.{leading_sign, sign_len, is_minus, held_by, typed_answer, naive_reading}
+use Rattle.cn_core.specs.Typed.{leading_sign, sign_len, is_minus, typed_number, typed_answer, naive_reading}
 use Rattle.cn_core.specs.Whole.{signed_number, Kind}
 use Rattle.chinese_number.proofs.PlainDigits.{answered, naive_answer-zeros}
 use Rattle.chinese_number.proofs.Reading.{naive_reading-parts}
@@ -68,6 +68,6 @@ naive_reading-zeros kind bytes more zeros number z parts h =
     let rest = marks_of (drop (sign_len sign) text) in
     let w = with_zeros kind.signed text zeros (text_of more) z sign refl parts in
     let a = answered kind bytes sign number (naive_answer rest) h in
-    let same : held_by kind (signed_number (is_minus sign) a.0) ≡ Ok number = ap (typed_answer kind bytes sign) (sym a.1) ∙ h in
+    let same : typed_number kind (signed_number (is_minus sign) a.0) ≡ Ok number = ap (typed_answer kind bytes sign) (sym a.1) ∙ h in
     naive_reading-parts kind more sign (marks_of zeros ++ rest) (record { sign_is = w.0; marks_is = w.1 })
     ∙ ap (typed_answer kind more sign) (naive_answer-zeros (marks_of zeros) rest a.0 (marks_of-zeros zeros z) a.1) ∙ same

@@ -8,7 +8,7 @@ use Rattle.cn_core.specs.declared.method.ChineseCountMethod.{ChineseCountMethod}
 use Rattle.cn_core.specs.declared.method.ChineseCountMethod.TheVariants.{Low, TenThousand, Middle, High}
 use Rattle.cn_core.specs.Mark.{Mark, unit}
 use Rattle.cn_core.specs.Scale.{scale, exponent}
-use Rattle.cn_core.specs.Spelling.{spelling, shortened, spelled_within, greatest_unit, after_unit}
+use Rattle.cn_core.specs.Spelling.{spelling, short_spelling, spelling_within, greatest_unit, after_unit}
 use Rattle.cn_core.proofs.ScaleLaws.{IsGreatest-unit, greatest-scale, scale-mono, scale-pos}
 use Rattle.cn_core.proofs.Spellings.{spelled-step}
 use Rattle.cn_core.proofs.Sums.{spelled-digit}
@@ -55,10 +55,10 @@ greatest-same one second limit bound number agree ten small =
 abbrev cut : ℕ → ℕ → ℕ → List Mark → List Mark → List Mark
 cut number rank size front back = front ++ unit rank ∷ after_unit (number % size) size back
 
-spelled-same : (one second : ChineseCountMethod) (limit bound : ℕ) → Agree one second limit bound → (steps number : ℕ) → number < bound → spelled_within steps one number ≡ spelled_within steps second number
+spelled-same : (one second : ChineseCountMethod) (limit bound : ℕ) → Agree one second limit bound → (steps number : ℕ) → number < bound → spelling_within steps one number ≡ spelling_within steps second number
 spelled-same one second limit bound agree zero number small = refl
 spelled-same one second limit bound agree (suc steps) number small = by (dec_lt number 10) (spelled-same one second limit bound agree steps) where
-  by : Dec (number < 10) → ((n : ℕ) → n < bound → spelled_within steps one n ≡ spelled_within steps second n) → spelled_within (suc steps) one number ≡ spelled_within (suc steps) second number
+  by : Dec (number < 10) → ((n : ℕ) → n < bound → spelling_within steps one n ≡ spelling_within steps second n) → spelling_within (suc steps) one number ≡ spelling_within (suc steps) second number
   by (yes h) ih = spelled-digit (suc steps) one number h ∙ sym (spelled-digit (suc steps) second number h)
   by (no h) ih =
       let ten : 10 ≤ number = omega (arith, h) in
@@ -72,11 +72,11 @@ spelled-same one second limit bound agree (suc steps) number small = by (dec_lt 
       let back = ih (number % size) (omega (arith, less, fits, small)) in
       spelled-step steps one number ten
       ∙ ap₂ (cut number rank size) front back
-      ∙ ap₂ (λ r s. cut number r s (spelled_within steps second (number / s)) (spelled_within steps second (number % s))) ranks sizes
+      ∙ ap₂ (λ r s. cut number r s (spelling_within steps second (number / s)) (spelling_within steps second (number % s))) ranks sizes
       ∙ sym (spelled-step steps second number ten)
 
 spelling-same : (one second : ChineseCountMethod) (limit bound number : ℕ) → Agree one second limit bound → number < bound → spelling one number ≡ spelling second number
-spelling-same one second limit bound number agree small = ap shortened (spelled-same one second limit bound agree number number small)
+spelling-same one second limit bound number agree small = ap short_spelling (spelled-same one second limit bound agree number number small)
 
 -- up to 萬 the methods agree
 pub exponent-low : (method : ChineseCountMethod) (rank : ℕ) → rank ≤ 4 → exponent method rank ≡ rank

@@ -7,11 +7,11 @@ use Rattle.cn_core.specs.Numeral.{IsNumeral, is_numeral}
 use Rattle.cn_core.specs.Place.{IsPlace, body, is_early, some_unfit}
 use Rattle.cn_core.specs.Refusal.{Refusal, empty, incorrect_at, too_large, too_small}
 use Rattle.cn_core.specs.Text.{marks_of}
-use Rattle.cn_core.specs.Typed.{Reads, is_minus, held_by, typed_answer}
+use Rattle.cn_core.specs.Typed.{Reads, is_minus, typed_number, typed_answer}
 use Rattle.cn_core.specs.Value.{numeral_value}
 use Rattle.cn_core.specs.Whole.{signed_number, Kind, Holds}
 use Rattle.chinese_number.specs.Parts.{sign_at, unsigned_text}
-use Rattle.chinese_number.proofs.Reading.{IsWhole, Reads-parts, held_by-Holds, Holds-held_by, held_is, size_of}
+use Rattle.chinese_number.proofs.Reading.{IsWhole, Reads-parts, typed_number-Holds, Holds-typed_number, held_is, size_of}
 use Rattle.chinese_number.proofs.SpelledMarks.{Judges-numeral}
 
 -- what a text that is judged as a number is like
@@ -103,7 +103,7 @@ Reads-number kind method bytes number (judged, is, answer) = by judged is (sym a
   by (Err too_small) is h = cc
   by (Ok magnitude) is h =
       let j = IsJudged-number method marks magnitude is in
-      (j.numeral, j.fits, ap (signed_number (is_minus (sign_at kind bytes))) j.value ∙ held_is kind (signed_number (is_minus (sign_at kind bytes)) magnitude) number h, Holds-held_by kind (signed_number (is_minus (sign_at kind bytes)) magnitude) number h)
+      (j.numeral, j.fits, ap (signed_number (is_minus (sign_at kind bytes))) j.value ∙ held_is kind (signed_number (is_minus (sign_at kind bytes)) magnitude) number h, Holds-typed_number kind (signed_number (is_minus (sign_at kind bytes)) magnitude) number h)
 
 pub Reads-numeral : (kind : Kind) (method : ChineseCountMethod) (bytes : List ℕ) (number : ℤ) → IsWhole kind
     → let marks = marks_of (unsigned_text kind bytes) in
@@ -114,5 +114,5 @@ Reads-numeral kind method bytes number whole (numeral, fits, is, held) =
     let marks = marks_of (unsigned_text kind bytes) in
     let size = numeral_value method marks in
     let small : size < 2 ^ 128 = omega (arith, whole.fits number held, size_of sign size, ap nat_abs is) in
-    subst (Reads kind method bytes) (ap (held_by kind) is ∙ held_by-Holds kind number held)
+    subst (Reads kind method bytes) (ap (typed_number kind) is ∙ typed_number-Holds kind number held)
     (Reads-parts kind method bytes sign marks (Ok size) (record { sign_is = refl; marks_is = refl }) (Judges-numeral method marks size numeral fits refl small))

@@ -12,17 +12,17 @@ use Rattle.cn_core.specs.declared.script.ChineseVariant.{ChineseVariant}
 use Rattle.cn_core.specs.declared.sign.Sign.{Sign}
 use Rattle.cn_core.specs.Mark.{Mark, digit, unit, other}
 use Rattle.cn_core.specs.Naive.{decimal_digits, decimal_value, digit_value, naive_answer, first_fault, fault_at, refused_or}
-use Rattle.cn_core.specs.Numeral.{opened, starts_with_digit}
+use Rattle.cn_core.specs.Numeral.{with_first_digit, starts_with_digit}
 use Rattle.cn_core.specs.Refusal.{Refusal, empty, incorrect_at, too_large, too_small}
 use Rattle.cn_core.specs.Text.{marks_of}
-use Rattle.cn_core.specs.Typed.{naive_reading, is_minus, held_by, typed_answer}
+use Rattle.cn_core.specs.Typed.{naive_reading, is_minus, typed_number, typed_answer}
 use Rattle.cn_core.specs.Whole.{signed_number, Kind, Holds}
-use Rattle.cn_core.specs.Written.{written_bytes, naive_text}
+use Rattle.cn_core.specs.Written.{signed_bytes, naive_text}
 use Rattle.cn_core.proofs.Fronts.{list_all-both}
 use Rattle.chinese_number.specs.Digits.{is_digit}
 use Rattle.chinese_number.specs.Parts.{sign_at, unsigned_text}
 use Rattle.chinese_number.proofs.Printed.{is_printed}
-use Rattle.chinese_number.proofs.Reading.{IsWhole, HasParts-written, naive_reading-parts, typed_answer-held, minus_is_signed, written_sign, held_by-Holds, Holds-held_by, held_is, size_of}
+use Rattle.chinese_number.proofs.Reading.{IsWhole, HasParts-signed_text, naive_reading-parts, typed_answer-held, minus_is_signed, written_sign, typed_number-Holds, Holds-typed_number, held_is, size_of}
 
 -- one more digit in the sum
 abbrev step : ℕ → Mark → ℕ
@@ -114,8 +114,8 @@ naive_reading-number kind bytes number h =
     let marks = marks_of (unsigned_text kind bytes) in
     let a = answered kind bytes sign number (naive_answer marks) h in
     let plain = IsPlain-answered marks a.0 a.1 in
-    let held : held_by kind (signed_number (is_minus sign) a.0) ≡ Ok number = ap (typed_answer kind bytes sign) (sym a.1) ∙ h in
-    (plain.some, plain.digits, ap (signed_number (is_minus sign)) plain.value ∙ held_is kind (signed_number (is_minus sign) a.0) number held, Holds-held_by kind (signed_number (is_minus sign) a.0) number held)
+    let held : typed_number kind (signed_number (is_minus sign) a.0) ≡ Ok number = ap (typed_answer kind bytes sign) (sym a.1) ∙ h in
+    (plain.some, plain.digits, ap (signed_number (is_minus sign)) plain.value ∙ held_is kind (signed_number (is_minus sign) a.0) number held, Holds-typed_number kind (signed_number (is_minus sign) a.0) number held)
 
 pub naive_reading-digits : (kind : Kind) (bytes : List ℕ) (number : ℤ) → IsWhole kind
     → let marks = marks_of (unsigned_text kind bytes) in
@@ -125,7 +125,7 @@ naive_reading-digits kind bytes number whole (some, digits, is, held) =
     let sign = sign_at kind bytes in
     let marks = marks_of (unsigned_text kind bytes) in
     let small : decimal_value marks < 2 ^ 128 = omega (arith, whole.fits number held, size_of sign (decimal_value marks), ap nat_abs is) in
-    ap (typed_answer kind bytes sign) (naive_answer-digits marks some digits small) ∙ ap (held_by kind) is ∙ held_by-Holds kind number held
+    ap (typed_answer kind bytes sign) (naive_answer-digits marks some digits small) ∙ ap (typed_number kind) is ∙ typed_number-Holds kind number held
 
 -- zeros in front leave the answer as it was
 zeros_sum : (zeros : List Mark) → All (λ mark. mark ≡ digit 0) zeros → (list_all is_digit zeros ≡ true) × (fold step 0 zeros ≡ 0)
@@ -173,7 +173,7 @@ IsDecimal-more n bytes high h =
 pub decimal_is : (n : ℕ) → n < 2 ^ 128 → IsDecimal n (decimal n)
 decimal_is n small = decimal_by_steps_wide IsDecimal IsDecimal-one IsDecimal-more n (omega (arith, small))
 
-pub starts : (bytes : List ℕ) → 0 < length bytes → starts_with_digit (opened (map (λ byte. digit (byte - 48)) bytes)) ≡ true
+pub starts : (bytes : List ℕ) → 0 < length bytes → starts_with_digit (with_first_digit (map (λ byte. digit (byte - 48)) bytes)) ≡ true
 starts [] h = absurd (omega (arith, h))
 starts (byte ∷ rest) h = refl
 
@@ -182,16 +182,16 @@ long [] h = absurd (omega (arith, h))
 long (byte ∷ rest) h = omega arith
 
 -- what is printed as plain digits is read back
-pub naive_reading-written : (kind : Kind) (variant : ChineseVariant) (case : ChineseCase) (number : ℤ) → IsWhole kind → Holds kind number
-    → naive_reading kind (written_bytes variant case (int_lt number (pos 0)) (decimal_digits (nat_abs number))) ≡ Ok number
-naive_reading-written kind variant case number whole held =
+pub naive_reading-signed_text : (kind : Kind) (variant : ChineseVariant) (case : ChineseCase) (number : ℤ) → IsWhole kind → Holds kind number
+    → naive_reading kind (signed_bytes variant case (int_lt number (pos 0)) (decimal_digits (nat_abs number))) ≡ Ok number
+naive_reading-signed_text kind variant case number whole held =
     let small = whole.fits number held in
     let d = decimal_is (nat_abs number) small in
     let negative = int_lt number (pos 0) in
     let marks = decimal_digits (nat_abs number) in
-    let bytes = written_bytes variant case negative marks in
+    let bytes = signed_bytes variant case negative marks in
     naive_reading-parts kind bytes (written_sign negative) marks
-    (HasParts-written kind variant case negative marks (minus_is_signed kind number whole held) d.printed (starts (decimal (nat_abs number)) d.some))
+    (HasParts-signed_text kind variant case negative marks (minus_is_signed kind number whole held) d.printed (starts (decimal (nat_abs number)) d.some))
     ∙ ap (typed_answer kind bytes (written_sign negative)) (naive_answer-digits marks (long (decimal (nat_abs number)) d.some) d.digits (omega (arith, d.value, small)) ∙ ap Ok d.value)
     ∙ typed_answer-held kind number bytes held
 
@@ -199,5 +199,5 @@ naive_reading-written kind variant case number whole held =
 pub same_from_digits : (kind : Kind) (variant : ChineseVariant) (case : ChineseCase) (one second : ℤ) → IsWhole kind → Holds kind one → Holds kind second
     → encode_utf8_all (naive_text variant case one) ≡ encode_utf8_all (naive_text variant case second) → one ≡ second
 same_from_digits kind variant case one second whole held_one held_second same =
-    let answers : Ok one ≡ Ok second = sym (naive_reading-written kind variant case one whole held_one) ∙ ap (naive_reading kind) same ∙ naive_reading-written kind variant case second whole held_second in
+    let answers : Ok one ≡ Ok second = sym (naive_reading-signed_text kind variant case one whole held_one) ∙ ap (naive_reading kind) same ∙ naive_reading-signed_text kind variant case second whole held_second in
     cc

@@ -13,9 +13,9 @@ use Rattle.cn_core.specs.declared.script.ChineseVariant.TheVariants.{Traditional
 use Rattle.cn_core.specs.declared.sign.Sign.TheVariants.{Minus}
 use Rattle.cn_core.specs.Characters.{digit_of, rank_of, sign_of, digit_char, unit_char, minus_char}
 use Rattle.cn_core.specs.Mark.{Mark, digit, unit, other, mark_of}
-use Rattle.cn_core.specs.Numeral.{opened, starts_with_digit}
+use Rattle.cn_core.specs.Numeral.{with_first_digit, starts_with_digit}
 use Rattle.cn_core.specs.Text.{text_of, marks_of}
-use Rattle.cn_core.specs.Written.{mark_char, written, written_bytes}
+use Rattle.cn_core.specs.Written.{mark_char, signed_text, signed_bytes}
 use Rattle.cn_core.proofs.Fronts.{and-left, and-right, both}
 
 -- a digit of one place, or a unit
@@ -120,14 +120,14 @@ minus_is_sign Traditional = refl
 minus_is_sign Simple = refl
 
 -- the text of what is written is what is written
-pub text_of-written : (variant : ChineseVariant) (case : ChineseCase) (negative : Bool) (marks : List Mark) → list_all is_printed marks ≡ true
-    → text_of (written_bytes variant case negative marks) ≡ written variant case negative marks
-text_of-written variant case true marks h =
+pub text_of-signed_text : (variant : ChineseVariant) (case : ChineseCase) (negative : Bool) (marks : List Mark) → list_all is_printed marks ≡ true
+    → text_of (signed_bytes variant case negative marks) ≡ signed_text variant case negative marks
+text_of-signed_text variant case true marks h =
     let r = IsReadBack-more (minus_char variant) (map (mark_char variant case) marks) marks (minus_scalar variant) (minus_dark variant) (IsReadBack-marks variant case marks h) in
-    ap (filter is_not_whitespace) (chars-encodes (written variant case true marks) r.scalars) ∙ r.kept
-text_of-written variant case false marks h =
+    ap (filter is_not_whitespace) (chars-encodes (signed_text variant case true marks) r.scalars) ∙ r.kept
+text_of-signed_text variant case false marks h =
     let r = IsReadBack-marks variant case marks h in
-    ap (filter is_not_whitespace) (chars-encodes (written variant case false marks) r.scalars) ∙ r.kept
+    ap (filter is_not_whitespace) (chars-encodes (signed_text variant case false marks) r.scalars) ∙ r.kept
 
 -- a digit is no sign, nor is 十
 digits_no_sign : (variant : ChineseVariant) (case : ChineseCase) → each_below (λ value. is_none (sign_of (digit_char variant case value))) 10 ≡ true
@@ -149,7 +149,7 @@ none_from_is_none None h = refl
 none_from_is_none (Some x) h = cc
 
 -- so what a numeral starts with is no sign
-pub no_sign : (variant : ChineseVariant) (case : ChineseCase) (mark : Mark) (rest : List Mark) → is_printed mark ≡ true → starts_with_digit (opened (mark ∷ rest)) ≡ true
+pub no_sign : (variant : ChineseVariant) (case : ChineseCase) (mark : Mark) (rest : List Mark) → is_printed mark ≡ true → starts_with_digit (with_first_digit (mark ∷ rest)) ≡ true
     → sign_of (mark_char variant case mark) ≡ None
 no_sign variant case (digit value) rest h s =
     none_from_is_none _ (each_below-at (λ value. is_none (sign_of (digit_char variant case value))) 10 value (digits_no_sign variant case) (grind (arith, nat_tests)))

@@ -10,23 +10,23 @@ use Rattle.cn_core.specs.declared.sign.Sign.TheVariants.{Plus, Minus}
 use Rattle.cn_core.specs.Judge.{Judges}
 use Rattle.cn_core.specs.Mark.{Mark}
 use Rattle.cn_core.specs.Naive.{naive_answer}
-use Rattle.cn_core.specs.Numeral.{opened, starts_with_digit}
+use Rattle.cn_core.specs.Numeral.{with_first_digit, starts_with_digit}
 use Rattle.cn_core.specs.Refusal.{Refusal, empty, incorrect_at, too_large, too_small}
 use Rattle.cn_core.specs.Spelling.{spelling}
 use Rattle.cn_core.specs.Text.{text_of, marks_of}
-use Rattle.cn_core.specs.Typed.{Reads, leading_sign, sign_len, is_minus, held_by, typed_answer, naive_reading}
+use Rattle.cn_core.specs.Typed.{Reads, leading_sign, sign_len, is_minus, typed_number, typed_answer, naive_reading}
 use Rattle.cn_core.specs.Whole.{signed_number, Kind, Holds}
-use Rattle.cn_core.specs.Written.{mark_char, written_bytes, spelled_text, is_printable}
+use Rattle.cn_core.specs.Written.{mark_char, signed_bytes, spelled_text, is_printable}
 use Rattle.cn_core.specs.Judging.{judge}
 use Rattle.cn_core.proofs.Fronts.{and-left}
 use Rattle.cn_core.proofs.Judging.{Judges-judge, Judges-same}
 use Rattle.cn_core.proofs.ReadBack.{spelling-is_numeral}
-use Rattle.chinese_number.proofs.Printed.{is_printed, IsReadBack-marks, text_of-written, minus_is_sign, no_sign}
+use Rattle.chinese_number.proofs.Printed.{is_printed, IsReadBack-marks, text_of-signed_text, minus_is_sign, no_sign}
 use Rattle.chinese_number.proofs.SpelledMarks.{below_square, spelling-printed, Judges-spelling}
 
 -- a number that the type holds
-pub held_by-Holds : (kind : Kind) (number : ℤ) → Holds kind number → held_by kind number ≡ Ok number
-held_by-Holds kind number h =
+pub typed_number-Holds : (kind : Kind) (number : ℤ) → Holds kind number → typed_number kind number ≡ Ok number
+typed_number-Holds kind number h =
     let high : int_lt kind.greatest number ≡ false = not_below kind.greatest number h.1 in
     let low : int_lt number kind.least ≡ false = not_below number kind.least h.0 in
     rw (high, low) where
@@ -37,8 +37,8 @@ held_by-Holds kind number h =
         by false e = refl
 
 -- and what is answered is such a number
-pub Holds-held_by : (kind : Kind) (number answer : ℤ) → held_by kind number ≡ Ok answer → Holds kind answer
-Holds-held_by kind number answer h = by (int_lt kind.greatest number) (int_lt number kind.least) refl refl h where
+pub Holds-typed_number : (kind : Kind) (number answer : ℤ) → typed_number kind number ≡ Ok answer → Holds kind answer
+Holds-typed_number kind number answer h = by (int_lt kind.greatest number) (int_lt number kind.least) refl refl h where
   by : (a b : Bool) → int_lt kind.greatest number ≡ a → int_lt number kind.least ≡ b
       → (if a then Err too_large else (if b then Err too_small else Ok number)) ≡ Ok answer → Holds kind answer
   by true b p q h = cc
@@ -48,7 +48,7 @@ Holds-held_by kind number answer h = by (int_lt kind.greatest number) (int_lt nu
     at_most x y e = omega (arith, ints)
 
 -- that is, the number itself
-pub held_is : (kind : Kind) (number answer : ℤ) → held_by kind number ≡ Ok answer → number ≡ answer
+pub held_is : (kind : Kind) (number answer : ℤ) → typed_number kind number ≡ Ok answer → number ≡ answer
 held_is kind number answer h = by (int_lt kind.greatest number) (int_lt number kind.least) h where
   by : (a b : Bool) → (if a then Err too_large else (if b then Err too_small else Ok number)) ≡ Ok answer → number ≡ answer
   by true b h = cc
@@ -75,7 +75,7 @@ pub naive_reading-parts : (kind : Kind) (bytes : List ℕ) (sign : Option Sign) 
 naive_reading-parts kind bytes sign marks parts = rw (parts.sign_is, parts.marks_is)
 
 -- what a numeral starts with is no sign
-unsigned_start : (variant : ChineseVariant) (case : ChineseCase) (signed : Bool) (marks : List Mark) → list_all is_printed marks ≡ true → starts_with_digit (opened marks) ≡ true
+unsigned_start : (variant : ChineseVariant) (case : ChineseCase) (signed : Bool) (marks : List Mark) → list_all is_printed marks ≡ true → starts_with_digit (with_first_digit marks) ≡ true
     → leading_sign signed (map (mark_char variant case) marks) ≡ None
 unsigned_start variant case false marks h s = refl
 unsigned_start variant case true [] h s = refl
@@ -92,9 +92,9 @@ not_below_zero n = by (int_lt (pos n) (pos 0)) refl where
   by true e = absurd (omega (arith, ints))
   by false e = refl
 
-pub signed_number-written : (number : ℤ) → signed_number (is_minus (written_sign (int_lt number (pos 0)))) (nat_abs number) ≡ number
-signed_number-written (pos n) = rw (not_below_zero n)
-signed_number-written (negsuc n) = refl
+pub signed_number-signed_text : (number : ℤ) → signed_number (is_minus (written_sign (int_lt number (pos 0)))) (nat_abs number) ≡ number
+signed_number-signed_text (pos n) = rw (not_below_zero n)
+signed_number-signed_text (negsuc n) = refl
 
 -- with this sign a type that holds the number, and 0, holds each smaller magnitude too
 pub Holds-smaller : (kind : Kind) (number : ℤ) (magnitude : ℕ) → Holds kind (pos 0) → Holds kind number → magnitude ≤ nat_abs number
@@ -111,22 +111,22 @@ size_of (Some Minus) zero = refl
 size_of (Some Minus) (suc magnitude) = refl
 
 -- the parts of a written text are those that it was written from
-pub HasParts-written : (kind : Kind) (variant : ChineseVariant) (case : ChineseCase) (negative : Bool) (marks : List Mark)
-    → (negative ≡ true → kind.signed ≡ true) → list_all is_printed marks ≡ true → starts_with_digit (opened marks) ≡ true
-    → HasParts kind (written_bytes variant case negative marks) (written_sign negative) marks
-HasParts-written kind variant case true marks minus h s = record {
-  sign_is = rw (text_of-written variant case true marks h, minus refl) (minus_is_sign variant);
-  marks_is = rw (text_of-written variant case true marks h) (IsReadBack-marks variant case marks h).marks_same;
+pub HasParts-signed_text : (kind : Kind) (variant : ChineseVariant) (case : ChineseCase) (negative : Bool) (marks : List Mark)
+    → (negative ≡ true → kind.signed ≡ true) → list_all is_printed marks ≡ true → starts_with_digit (with_first_digit marks) ≡ true
+    → HasParts kind (signed_bytes variant case negative marks) (written_sign negative) marks
+HasParts-signed_text kind variant case true marks minus h s = record {
+  sign_is = rw (text_of-signed_text variant case true marks h, minus refl) (minus_is_sign variant);
+  marks_is = rw (text_of-signed_text variant case true marks h) (IsReadBack-marks variant case marks h).marks_same;
 }
-HasParts-written kind variant case false marks minus h s = record {
-  sign_is = rw (text_of-written variant case false marks h) (unsigned_start variant case kind.signed marks h s);
-  marks_is = rw (text_of-written variant case false marks h) (IsReadBack-marks variant case marks h).marks_same;
+HasParts-signed_text kind variant case false marks minus h s = record {
+  sign_is = rw (text_of-signed_text variant case false marks h) (unsigned_start variant case kind.signed marks h s);
+  marks_is = rw (text_of-signed_text variant case false marks h) (IsReadBack-marks variant case marks h).marks_same;
 }
 
 -- a number is answered where its magnitude is judged
 pub typed_answer-held : (kind : Kind) (number : ℤ) (bytes : List ℕ) → Holds kind number
     → typed_answer kind bytes (written_sign (int_lt number (pos 0))) (Ok (nat_abs number)) ≡ Ok number
-typed_answer-held kind number bytes held = ap (held_by kind) (signed_number-written number) ∙ held_by-Holds kind number held
+typed_answer-held kind number bytes held = ap (typed_number kind) (signed_number-signed_text number) ∙ typed_number-Holds kind number held
 
 -- what is known of the kind of an integer type
 pub record IsWhole (kind : Kind) : Type 0 where
@@ -155,7 +155,7 @@ Reads-spelled kind method variant case number whole held printable =
     let n = spelling-is_numeral method (nat_abs number) square in
     subst (λ answer. Reads kind method bytes answer) (typed_answer-held kind number bytes held)
     (Reads-parts kind method bytes (written_sign negative) marks (Ok (nat_abs number))
-    (HasParts-written kind variant case negative marks (minus_is_signed kind number whole held) (spelling-printed method (nat_abs number) square) (and-left (starts_with_digit (opened marks)) _ n.0))
+    (HasParts-signed_text kind variant case negative marks (minus_is_signed kind number whole held) (spelling-printed method (nat_abs number) square) (and-left (starts_with_digit (with_first_digit marks)) _ n.0))
     (Judges-spelling method (nat_abs number) small square))
 
 -- and no other number is
@@ -183,7 +183,7 @@ Holds-answered kind method bytes number (judged, is, answer) = by judged answer 
   sign = leading_sign kind.signed (text_of bytes)
 
   by : (judged : Result ℕ Refusal) → Ok number ≡ typed_answer kind bytes sign judged → Holds kind number
-  by (Ok magnitude) h = Holds-held_by kind (signed_number (is_minus sign) magnitude) number (sym h)
+  by (Ok magnitude) h = Holds-typed_number kind (signed_number (is_minus sign) magnitude) number (sym h)
   by (Err empty) h = cc
   by (Err (incorrect_at place)) h = cc
   by (Err too_large) h = cc

@@ -12,7 +12,7 @@ use Rattle.cn_core.specs.Numeral.{is_numeral}
 use Rattle.cn_core.specs.Place.{body, is_early, some_unfit}
 use Rattle.cn_core.specs.Refusal.{Refusal, empty, incorrect_at, too_large, too_small}
 use Rattle.cn_core.specs.Text.{marks_of}
-use Rattle.cn_core.specs.Typed.{Reads, is_minus, held_by, typed_answer, naive_reading}
+use Rattle.cn_core.specs.Typed.{Reads, is_minus, typed_number, typed_answer, naive_reading}
 use Rattle.cn_core.specs.Value.{numeral_value}
 use Rattle.cn_core.specs.Whole.{signed_number, Kind}
 use Rattle.chinese_number.specs.Parts.{sign_at, unsigned_text}
@@ -77,7 +77,7 @@ no_marks : (text : List ℕ) → marks_of text ≡ [] → text ≡ []
 no_marks [] h = refl
 no_marks (c ∷ text) h = cc
 
-held_not_empty : (kind : Kind) (number : ℤ) → held_by kind number ≢ Err empty
+held_not_empty : (kind : Kind) (number : ℤ) → typed_number kind number ≢ Err empty
 held_not_empty kind number h = by (int_lt kind.greatest number) (int_lt number kind.least) h where
   by : (a b : Bool) → ¬ ((if a then Err too_large else (if b then Err too_small else Ok number)) ≡ Err empty)
   by true b h = cc
@@ -120,7 +120,7 @@ naive_not_small : (marks : List Mark) → naive_answer marks ≢ Err too_small
 naive_not_small [] e = cc
 naive_not_small (mark ∷ rest) e = true≢false (sym (fault_some (mark ∷ rest) 0 (mark ∷ rest) (decimal_value (mark ∷ rest))) ∙ ap is_of_some e)
 
-held_not_small : (kind : Kind) (number : ℕ) → kind.least ≡ pos 0 → held_by kind (pos number) ≢ Err too_small
+held_not_small : (kind : Kind) (number : ℕ) → kind.least ≡ pos 0 → typed_number kind (pos number) ≢ Err too_small
 held_not_small kind number zero_least h = by (int_lt kind.greatest (pos number)) (int_lt (pos number) kind.least) refl h where
   below : int_lt (pos number) kind.least ≡ true → ⊥
   below e = let low : int_lt (pos number) (pos 0) ≡ true = rw zero_least at e in omega (arith, ints, low)

@@ -5,7 +5,7 @@ use Rattle.std.specs.List.{prefix_len}
 use Rattle.cn_core.specs.declared.method.ChineseCountMethod.{ChineseCountMethod}
 use Rattle.cn_core.specs.Judge.{Judges, numeral_answer}
 use Rattle.cn_core.specs.Mark.{Mark, digit, unit, other}
-use Rattle.cn_core.specs.Numeral.{is_numeral, opened}
+use Rattle.cn_core.specs.Numeral.{is_numeral, with_first_digit}
 use Rattle.cn_core.specs.Place.{body, is_below, is_early, is_overflowing, some_unfit, some_overflowing, ends_apart}
 use Rattle.cn_core.specs.Refusal.{Refusal, incorrect_at, too_large}
 use Rattle.cn_core.specs.Scale.{scale, scale_fits}
@@ -55,11 +55,11 @@ module _ (one second : ChineseCountMethod) where
   colloquial-same (unit rank ∷ digit number ∷ mark ∷ rest) h = colloquial-same (digit number ∷ mark ∷ rest) (and-right (nat_lt rank 5) _ h)
   colloquial-same (unit rank ∷ digit number ∷ []) h = ap (λ s. if nat_lt rank 2 then number else number * s / 10) (scales-same rank (and-left (nat_lt rank 5) _ h))
 
-  opened-small : (marks : List Mark) → small marks ≡ true → small (opened marks) ≡ true
-  opened-small [] h = h
-  opened-small (digit number ∷ rest) h = h
-  opened-small (other ∷ rest) h = h
-  opened-small (unit rank ∷ rest) h = by (rank == 1) where
+  with_first_digit-small : (marks : List Mark) → small marks ≡ true → small (with_first_digit marks) ≡ true
+  with_first_digit-small [] h = h
+  with_first_digit-small (digit number ∷ rest) h = h
+  with_first_digit-small (other ∷ rest) h = h
+  with_first_digit-small (unit rank ∷ rest) h = by (rank == 1) where
     by : (b : Bool) → small ((if b then digit 10 else unit rank) ∷ rest) ≡ true
     by true = and-right (nat_lt rank 5) _ h
     by false = h
@@ -111,7 +111,7 @@ module _ (one second : ChineseCountMethod) where
 
   numeral_answer-same : (marks : List Mark) → small marks ≡ true → numeral_answer one marks ≡ numeral_answer second marks
   numeral_answer-same marks h =
-      ap₂ (λ (u : Bool) (number : ℕ). if not u && nat_lt number (2 ^ 128) then Ok number else Err too_large) (unfit-same marks h) (colloquial-same (opened marks) (opened-small marks h))
+      ap₂ (λ (u : Bool) (number : ℕ). if not u && nat_lt number (2 ^ 128) then Ok number else Err too_large) (unfit-same marks h) (colloquial-same (with_first_digit marks) (with_first_digit-small marks h))
 
   body-small : (marks : List Mark) → small marks ≡ true → small (body marks) ≡ true
   body-small marks h = by (ends_apart (reverse marks)) where

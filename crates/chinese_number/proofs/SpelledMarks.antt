@@ -11,13 +11,13 @@ use Rattle.cn_core.specs.Mark.{Mark, digit, unit, other}
 use Rattle.cn_core.specs.Numeral.{IsNumeral, is_numeral}
 use Rattle.cn_core.specs.Place.{body, is_unfit, some_unfit}
 use Rattle.cn_core.specs.Scale.{scale, exponent, scale_fits}
-use Rattle.cn_core.specs.Spelling.{spelling, spelled_within, after_unit}
+use Rattle.cn_core.specs.Spelling.{spelling, spelling_within, after_unit}
 use Rattle.cn_core.specs.Value.{numeral_value}
 use Rattle.cn_core.specs.Written.{is_printable}
 use Rattle.cn_core.proofs.Beginnings.{beginning-is_numeral}
 use Rattle.cn_core.proofs.Fronts.{and-left, and-right, both, list_all-both}
 use Rattle.cn_core.proofs.ReadBack.{spelling-is_numeral}
-use Rattle.cn_core.proofs.Spellings.{Spells-spelled_within, IsCut, after_unit-all, spelled-by, shortened-by}
+use Rattle.cn_core.proofs.Spellings.{Spells-spelling_within, IsCut, after_unit-all, spelled-by, short_spelling-by}
 use Rattle.cn_core.proofs.Sums.{all_below}
 use Rattle.chinese_number.proofs.Printed.{is_printed}
 
@@ -29,8 +29,8 @@ below_square Middle number small h = omega (arith, small)
 below_square High number small h = let much : 2 ^ 128 ≤ scale High 15 * scale High 15 = leb-true _ _ refl in omega (arith, small, much)
 
 -- digits of one place and units alone
-spelled_within-printed : (method : ChineseCountMethod) (steps number : ℕ) → number ≤ steps → number < scale method 15 * scale method 15 → list_all is_printed (spelled_within steps method number) ≡ true
-spelled_within-printed method = spelled-by method (λ number marks. list_all is_printed marks ≡ true) one step where
+spelling_within-printed : (method : ChineseCountMethod) (steps number : ℕ) → number ≤ steps → number < scale method 15 * scale method 15 → list_all is_printed (spelling_within steps method number) ≡ true
+spelling_within-printed method = spelled-by method (λ number marks. list_all is_printed marks ≡ true) one step where
   one : (number : ℕ) → number < 10 → list_all is_printed (digit number ∷ []) ≡ true
   one number h = let low : nat_lt number 10 ≡ true = grind (arith, nat_tests) in rw low
 
@@ -44,8 +44,8 @@ spelled_within-printed method = spelled-by method (λ number marks. list_all is_
 
 pub spelling-printed : (method : ChineseCountMethod) (number : ℕ) → number < scale method 15 * scale method 15 → list_all is_printed (spelling method number) ≡ true
 spelling-printed method number small =
-    let h = spelled_within-printed method number number (omega arith) small in
-    shortened-by (λ l. list_all is_printed l ≡ true) (spelled_within number method number) h (λ rest ten. ap (list_all is_printed) (sym ten) ∙ h)
+    let h = spelling_within-printed method number number (omega arith) small in
+    short_spelling-by (λ l. list_all is_printed l ≡ true) (spelling_within number method number) h (λ rest ten. ap (list_all is_printed) (sym ten) ∙ h)
 
 -- a unit whose scale does not fit is above each number of 128 bits
 unfit_scale : (method : ChineseCountMethod) (rank number : ℕ) → scale_fits method rank ≡ false → number < 2 ^ 128 → number < scale method rank
@@ -67,9 +67,9 @@ fits-from_below method (unit rank ∷ rest) h = by (scale_fits method rank) refl
 -- a spelling names no unit whose scale does not fit
 pub spelling-fits : (method : ChineseCountMethod) (number : ℕ) → number < 2 ^ 128 → number < scale method 15 * scale method 15 → some_unfit method (spelling method number) ≡ false
 spelling-fits method number small square =
-    let marks = spelled_within number method number in
-    let h = fits-from_below method marks (λ rank unfit. (Spells-spelled_within method number number (omega arith) square).below rank (unfit_scale method rank number unfit small)) in
-    shortened-by (λ l. some_unfit method l ≡ false) marks h (λ rest ten. ap (some_unfit method) (sym ten) ∙ h)
+    let marks = spelling_within number method number in
+    let h = fits-from_below method marks (λ rank unfit. (Spells-spelling_within method number number (omega arith) square).below rank (unfit_scale method rank number unfit small)) in
+    short_spelling-by (λ l. some_unfit method l ≡ false) marks h (λ rest ten. ap (some_unfit method) (sym ten) ∙ h)
 
 -- nor does a beginning of what names none
 some_unfit-front : (method : ChineseCountMethod) (front back : List Mark) → some_unfit method (front ++ back) ≡ false → some_unfit method front ≡ false

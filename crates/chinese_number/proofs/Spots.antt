@@ -14,7 +14,7 @@ use Rattle.cn_core.specs.Place.{body, ends_apart, is_early, some_unfit}
 use Rattle.cn_core.specs.Refusal.{Refusal, empty, incorrect_at, too_large, too_small}
 use Rattle.cn_core.specs.Spot.{spot, spot_among}
 use Rattle.cn_core.specs.Text.{text_of, marks_of}
-use Rattle.cn_core.specs.Typed.{Reads, leading_sign, sign_len, is_minus, held_by, typed_answer, naive_reading}
+use Rattle.cn_core.specs.Typed.{Reads, leading_sign, sign_len, is_minus, typed_number, typed_answer, naive_reading}
 use Rattle.cn_core.specs.Value.{numeral_value}
 use Rattle.cn_core.specs.Whole.{signed_number, Kind}
 use Rattle.chinese_number.specs.Places.{PointsAt}
@@ -118,7 +118,7 @@ naive_place (mark ∷ rest) place h = by (first_fault (mark ∷ rest) 0 (mark �
       let l = fault_place (mark ∷ rest) 0 (mark ∷ rest) place (e ∙ ap Some is) in omega (arith, l)
 
 -- the place that a typed answer came from
-no_place : (kind : Kind) (number : ℤ) (place : ℕ) → held_by kind number ≡ Err (incorrect_at place) → ⊥
+no_place : (kind : Kind) (number : ℤ) (place : ℕ) → typed_number kind number ≡ Err (incorrect_at place) → ⊥
 no_place kind number place h = by (int_lt kind.greatest number) (int_lt number kind.least) h where
   by : (a b : Bool) → (if a then Err too_large else (if b then Err too_small else Ok number)) ≡ Err (incorrect_at place) → ⊥
   by true b h = cc

@@ -10,13 +10,13 @@ use Rattle.cn_core.specs.declared.script.ChineseVariant.{ChineseVariant}
 use Rattle.cn_core.specs.Refusal.{Refusal}
 use Rattle.cn_core.specs.Spelling.{spelling}
 use Rattle.cn_core.specs.Whole.{Kind, Holds, unsigned_kind, signed_kind}
-use Rattle.cn_core.specs.Written.{written, naive_text, spelled_text, is_printable}
+use Rattle.cn_core.specs.Written.{signed_text, naive_text, spelled_text, is_printable}
 use Rattle.cn_core.specs.Mark.{Mark}
 use Rattle.cn_core.proofs.Fronts.{and-left, and-right}
 use Rattle.cn_spell.proofs.NaiveTexts.{three-naive}
 use Rattle.cn_spell.proofs.Tables.{three-minus}
 use Rattle.cn_spell.proofs.ThreeBytes.{takes_three, IsUtf8-three}
-use Rattle.chinese_number.proofs.PlainDigits.{naive_reading-written}
+use Rattle.chinese_number.proofs.PlainDigits.{naive_reading-signed_text}
 use Rattle.chinese_number.proofs.Printed.{is_printed, IsReadBack-marks}
 use Rattle.chinese_number.proofs.Reading.{IsWhole, Reads-same, Reads-spelled}
 use Rattle.chinese_number.proofs.SpelledMarks.{below_square, spelling-printed}
@@ -48,9 +48,9 @@ utf8-three : (text : List ℕ) → list_all takes_three text ≡ true → IsUtf8
 utf8-three [] h = IsUtf8-nil
 utf8-three (c ∷ text) h = IsUtf8-append _ _ (IsUtf8-three c (and-left (takes_three c) _ h)) (utf8-three text (and-right (takes_three c) _ h))
 
-utf8-written : (variant : ChineseVariant) (case : ChineseCase) (negative : Bool) (marks : List Mark) → list_all is_printed marks ≡ true → IsUtf8 (encode_utf8_all (written variant case negative marks))
-utf8-written variant case true marks h = IsUtf8-append _ _ (IsUtf8-three _ (three-minus variant)) (utf8-scalars _ (IsReadBack-marks variant case marks h).scalars)
-utf8-written variant case false marks h = utf8-scalars _ (IsReadBack-marks variant case marks h).scalars
+utf8-signed_text : (variant : ChineseVariant) (case : ChineseCase) (negative : Bool) (marks : List Mark) → list_all is_printed marks ≡ true → IsUtf8 (encode_utf8_all (signed_text variant case negative marks))
+utf8-signed_text variant case true marks h = IsUtf8-append _ _ (IsUtf8-three _ (three-minus variant)) (utf8-scalars _ (IsReadBack-marks variant case marks h).scalars)
+utf8-signed_text variant case false marks h = utf8-scalars _ (IsReadBack-marks variant case marks h).scalars
 
 -- a number that is printed in a way is read in it
 read-by : (kind : Kind) (way : Way) (script : ChineseVariant) (case : ChineseCase) (number : ℤ) (old new : List ℕ) (len : ℕ) → IsWhole kind → Holds kind number
@@ -61,7 +61,7 @@ read-by kind Digits script case number old new len whole held h =
     let text = put-text (encode_utf8_all (naive_text script case number)) old new len h in
     rw text (
       utf8-three (naive_text script case number) (three-naive script case (int_lt number (pos 0)) (nat_abs number) (omega (arith, small))),
-      λ answer r. r ∙ naive_reading-written kind script case number whole held,
+      λ answer r. r ∙ naive_reading-signed_text kind script case number whole held,
     )
 read-by kind (Units method) script case number old new len whole held h = by (is_printable method number) refl h where
   small : nat_abs number < 2 ^ 128
@@ -74,7 +74,7 @@ read-by kind (Units method) script case number old new len whole held h = by (is
       let text = put-text (encode_utf8_all (spelled_text script case method number)) old new len h in
       let marks = spelling-printed method (nat_abs number) (below_square method number small e) in
       rw text (
-        utf8-written script case (int_lt number (pos 0)) (spelling method (nat_abs number)) marks,
+        utf8-signed_text script case (int_lt number (pos 0)) (spelling method (nat_abs number)) marks,
         λ answer r. Reads-same kind method (encode_utf8_all (spelled_text script case method number)) answer (Ok number) r (Reads-spelled kind method script case number whole held e),
       )
   by false e h = absurd (other (int_lt number (pos 0)) h.0) where

@@ -5,7 +5,7 @@ use Rattle.std.specs.Option.{option_map_or}
 use Rattle.std.proofs.lemmas.Bool.Decides.{nat_tests}
 use Rattle.cn_core.specs.declared.method.ChineseCountMethod.{ChineseCountMethod}
 use Rattle.cn_core.specs.Mark.{Mark, digit, unit, other}
-use Rattle.cn_core.specs.Numeral.{IsNumeral, opened, may_precede, each_may_precede, starts_with_digit, first_not_smaller, groups_strictly, multiplies_upwards, counts_a_unit}
+use Rattle.cn_core.specs.Numeral.{IsNumeral, with_first_digit, may_precede, each_may_precede, starts_with_digit, first_not_smaller, groups_strictly, multiplies_upwards, counts_a_unit}
 use Rattle.cn_core.specs.Scale.{scale}
 use Rattle.cn_core.specs.Spelling.{spelling}
 use Rattle.cn_core.specs.Value.{colloquial_value, numeral_value}
@@ -63,8 +63,8 @@ IsOpened-front method number mark front back h = (
 
 pub beginning-is_numeral : (method : ChineseCountMethod) (number : ℕ) (front back : List Mark) → number < scale method 15 * scale method 15 → 0 < length front → front ++ back ≡ spelling method number
     → IsNumeral front × (numeral_value method front ≤ number)
-beginning-is_numeral method number front back small some same = by front some (subst (λ l. IsOpened method number (opened l)) (sym same) (IsOpened-spelling method number small)) where
-  by : (front : List Mark) → 0 < length front → IsOpened method number (opened (front ++ back)) → IsNumeral front × (numeral_value method front ≤ number)
+beginning-is_numeral method number front back small some same = by front some (subst (λ l. IsOpened method number (with_first_digit l)) (sym same) (IsOpened-spelling method number small)) where
+  by : (front : List Mark) → 0 < length front → IsOpened method number (with_first_digit (front ++ back)) → IsNumeral front × (numeral_value method front ≤ number)
   by [] some h = absurd (omega (arith, some))
   by (digit value ∷ front) some h = IsOpened-front method number (digit value) front back h
   by (unit rank ∷ front) some h = IsOpened-front method number (if rank == 1 then digit 10 else unit rank) front back h

@@ -7,14 +7,14 @@ use Rattle.std.proofs.lemmas.Nat.{div-mul-add, mod-mul-add}
 use Rattle.cn_core.specs.declared.method.ChineseCountMethod.{ChineseCountMethod}
 use Rattle.cn_core.specs.Mark.{Mark, digit, unit}
 use Rattle.cn_core.specs.Scale.{scale}
-use Rattle.cn_core.specs.Spelling.{spelled_within, greatest_unit, after_unit}
+use Rattle.cn_core.specs.Spelling.{spelling_within, greatest_unit, after_unit}
 use Rattle.cn_core.proofs.ScaleLaws.{IsGreatest-unit, greatest-scale, scale-ten}
 use Rattle.cn_core.proofs.Spellings.{IsCut-greatest, spelled-step}
 use Rattle.cn_core.proofs.Sums.{spelled-digit}
 
 -- the spelling of a number as a part of another, nothing for 0
 abbrev pub part : ChineseCountMethod → ℕ → List Mark
-part method number = if number == 0 then [] else spelled_within number method number
+part method number = if number == 0 then [] else spelling_within number method number
 
 -- 零 after a unit of this size, where what stands below leaves the next place empty
 abbrev pub gap : ℕ → ℕ → List Mark
@@ -22,12 +22,12 @@ gap below size = if nat_lt 0 below && nat_lt below (size / 10) then digit 0 ∷ 
 
 -- more steps than the number change nothing
 pub spelled-fuel : (steps more : ℕ) (method : ChineseCountMethod) (number : ℕ) → number ≤ steps → number ≤ more → number < scale method 15 * scale method 15
-    → spelled_within steps method number ≡ spelled_within more method number
+    → spelling_within steps method number ≡ spelling_within more method number
 spelled-fuel zero more method number a b small = let e : number ≡ 0 = omega (arith, a) in rw e (sym (spelled-digit more method 0 (omega arith)))
 spelled-fuel (suc steps) zero method number a b small = let e : number ≡ 0 = omega (arith, b) in rw e (spelled-digit (suc steps) method 0 (omega arith))
 spelled-fuel (suc steps) (suc more) method number a b small = by (dec_lt number 10) (λ n. spelled-fuel steps more method n) where
-  by : Dec (number < 10) → ((n : ℕ) → n ≤ steps → n ≤ more → n < scale method 15 * scale method 15 → spelled_within steps method n ≡ spelled_within more method n)
-      → spelled_within (suc steps) method number ≡ spelled_within (suc more) method number
+  by : Dec (number < 10) → ((n : ℕ) → n ≤ steps → n ≤ more → n < scale method 15 * scale method 15 → spelling_within steps method n ≡ spelling_within more method n)
+      → spelling_within (suc steps) method number ≡ spelling_within (suc more) method number
   by (yes h) rest = spelled-digit (suc steps) method number h ∙ sym (spelled-digit (suc more) method number h)
   by (no h) rest =
       let ten : 10 ≤ number = omega (arith, h) in
@@ -51,11 +51,11 @@ greatest-is method number rank ten size high above = by (dec_lt (greatest_unit m
       absurd (omega (arith, greatest-scale method number ten, above (greatest_unit method number) more g.high))
   by (no l) (no m) = omega (arith, l, m)
 
-after_unit-gap : (method : ChineseCountMethod) (below size steps : ℕ) → spelled_within steps method below ≡ spelled_within below method below
-    → after_unit below size (spelled_within steps method below) ≡ gap below size ++ part method below
+after_unit-gap : (method : ChineseCountMethod) (below size steps : ℕ) → spelling_within steps method below ≡ spelling_within below method below
+    → after_unit below size (spelling_within steps method below) ≡ gap below size ++ part method below
 after_unit-gap method below size steps e = rw e refl
 
-pub part-some : (method : ChineseCountMethod) (number : ℕ) → 0 < number → part method number ≡ spelled_within number method number
+pub part-some : (method : ChineseCountMethod) (number : ℕ) → 0 < number → part method number ≡ spelling_within number method number
 part-some method number h = let e : (number == 0) ≡ false = grind (arith, nat_tests) in rw e refl
 
 -- the spelling of a number whose greatest unit has this rank
@@ -72,8 +72,8 @@ part-cut method high below rank one last pos low above small =
     let g : greatest_unit method number ≡ rank = greatest-is method number rank (omega (arith, reach, ten)) (omega (arith, reach)) last above in
     let q : number / size ≡ high = div-mul-add high size below low in
     let r : number % size ≡ below = mod-mul-add high size below low in
-    let high_fuel : spelled_within number method high ≡ spelled_within high method high = spelled-fuel number high method high (omega (arith, more)) (omega arith) (omega (arith, more, small)) in
-    let low_fuel : spelled_within number method below ≡ spelled_within below method below = spelled-fuel number below method below (omega arith) (omega arith) (omega (arith, small)) in
+    let high_fuel : spelling_within number method high ≡ spelling_within high method high = spelled-fuel number high method high (omega (arith, more)) (omega arith) (omega (arith, more, small)) in
+    let low_fuel : spelling_within number method below ≡ spelling_within below method below = spelled-fuel number below method below (omega arith) (omega arith) (omega (arith, small)) in
     part-some method number (omega (arith, reach, ten))
     ∙ spelled-fuel number (suc number) method number (omega arith) (omega arith) small
     ∙ rw (spelled-step number method number (omega (arith, reach, ten)), g, q, r, high_fuel, after_unit-gap method below size number low_fuel, part-some method high pos) refl

@@ -6,7 +6,7 @@ use Rattle.std.proofs.lemmas.Nat.{pow-add}
 use Rattle.cn_core.specs.declared.method.ChineseCountMethod.{ChineseCountMethod}
 use Rattle.cn_core.specs.Mark.{Mark, digit, unit, other}
 use Rattle.cn_core.specs.Scale.{scale, exponent}
-use Rattle.cn_core.specs.Spelling.{spelled_within, after_unit}
+use Rattle.cn_core.specs.Spelling.{spelling_within, after_unit}
 use Rattle.cn_core.specs.Value.{value, colloquial_value, product, records_from}
 use Rattle.cn_core.proofs.ScaleLaws.{exponent-some, scale-pos}
 use Rattle.cn_core.proofs.Spellings.{Spells, Spells-digit, Spells-step, IsCut, after_unit-by, spelled-by}
@@ -148,5 +148,5 @@ IsLed-step method number rank front back cut f b =
       nothing true = omega arith
       nothing false = omega arith
 
-pub IsLed-spelled_within : (method : ChineseCountMethod) (steps number : ℕ) → number ≤ steps → number < scale method 15 * scale method 15 → IsLed method number (spelled_within steps method number)
-IsLed-spelled_within method = spelled-by method (IsLed method) (IsLed-digit method) (IsLed-step method)
+pub IsLed-spelling_within : (method : ChineseCountMethod) (steps number : ℕ) → number ≤ steps → number < scale method 15 * scale method 15 → IsLed method number (spelling_within steps method number)
+IsLed-spelling_within method = spelled-by method (IsLed method) (IsLed-digit method) (IsLed-step method)

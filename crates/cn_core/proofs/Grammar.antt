@@ -8,7 +8,7 @@ use Rattle.cn_core.specs.Mark.{Mark, digit, unit, other}
 use Rattle.cn_core.specs.Numeral.{may_precede, each_may_precede, starts_with_digit, first_not_smaller, groups_strictly, multiplies_upwards, counts_a_unit}
 use Rattle.cn_core.specs.Place.{is_below}
 use Rattle.cn_core.specs.Scale.{scale}
-use Rattle.cn_core.specs.Spelling.{spelled_within, after_unit}
+use Rattle.cn_core.specs.Spelling.{spelling_within, after_unit}
 use Rattle.cn_core.proofs.Fronts.{and-left, and-right, both, list_all-both, zero_precedes}
 use Rattle.cn_core.proofs.Sums.{all_below}
 use Rattle.cn_core.proofs.Spellings.{Spells, Spells-digit, Spells-step, IsCut, after_unit-by, after_unit-all, spelled-by}
@@ -116,6 +116,6 @@ IsRegular-step method number rank front back cut f b =
       no_ge = list_all-both is_no_ge front (unit rank ∷ after) f.no_ge (both (nat_le 1 rank) _ above no_ge);
     }
 
-pub IsRegular-spelled_within : (method : ChineseCountMethod) (steps number : ℕ) → number ≤ steps → number < scale method 15 * scale method 15 → IsRegular method number (spelled_within steps method number)
-IsRegular-spelled_within method =
+pub IsRegular-spelling_within : (method : ChineseCountMethod) (steps number : ℕ) → number ≤ steps → number < scale method 15 * scale method 15 → IsRegular method number (spelling_within steps method number)
+IsRegular-spelling_within method =
     spelled-by method (IsRegular method) (λ number low. record { spells = Spells-digit method number; rules = refl; starts = refl; no_ge = refl }) (IsRegular-step method)

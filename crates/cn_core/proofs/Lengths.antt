@@ -6,9 +6,9 @@ use Rattle.std.proofs.lemmas.Nat.{pow-add}
 use Rattle.cn_core.specs.declared.method.ChineseCountMethod.{ChineseCountMethod}
 use Rattle.cn_core.specs.Mark.{Mark, digit, unit}
 use Rattle.cn_core.specs.Scale.{scale, exponent}
-use Rattle.cn_core.specs.Spelling.{spelled_within, after_unit, spelling}
+use Rattle.cn_core.specs.Spelling.{spelling_within, after_unit, spelling}
 use Rattle.cn_core.proofs.ScaleLaws.{exponent-some}
-use Rattle.cn_core.proofs.Spellings.{IsCut, spelled-by, after_unit-by, shortened-by}
+use Rattle.cn_core.proofs.Spellings.{IsCut, spelled-by, after_unit-by, short_spelling-by}
 
 -- how many marks a number of so many decimal digits has
 abbrev HasLength : ℕ → List Mark → Type 0
@@ -41,6 +41,6 @@ HasLength-step method number rank front back cut f b digits some h =
 pub length-spelling : (method : ChineseCountMethod) (number digits : ℕ) → 1 ≤ digits → number < 10 ^ digits → number < scale method 15 * scale method 15
     → length (spelling method number) + 1 ≤ 2 * digits
 length-spelling method number digits some h small =
-    let marks = spelled_within number method number in
+    let marks = spelling_within number method number in
     let whole = spelled-by method HasLength (λ n low k some below. omega (arith, some)) (HasLength-step method) number number (omega arith) small digits some h in
-    shortened-by (λ l. length l + 1 ≤ 2 * digits) marks whole (λ rest ten. let e = ap length ten in omega (arith, e, whole))
+    short_spelling-by (λ l. length l + 1 ≤ 2 * digits) marks whole (λ rest ten. let e = ap length ten in omega (arith, e, whole))

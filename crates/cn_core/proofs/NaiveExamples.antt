@@ -11,7 +11,7 @@ use Rattle.cn_core.specs.Refusal.{empty, incorrect_at, too_large, too_small}
 use Rattle.cn_core.specs.Text.{text_of}
 use Rattle.cn_core.specs.Typed.{naive_reading}
 use Rattle.cn_core.specs.Whole.{unsigned_kind, signed_kind}
-use Rattle.cn_core.specs.Written.{written}
+use Rattle.cn_core.specs.Written.{signed_text}
 
 -- a string by its bytes
 abbrev string : List ℕ → List ℕ
@@ -22,19 +22,19 @@ unfolding chars encode_utf8
 white_space = refl
 
 -- written
-lower_digits : written Traditional Lower false (decimal_digits 1203) ≡ codes "一二零三"
+lower_digits : signed_text Traditional Lower false (decimal_digits 1203) ≡ codes "一二零三"
 unfolding digits digit_char
 lower_digits = refl
 
-upper_simple_digits : written Simple Upper false (decimal_digits 9876543210) ≡ codes "玖捌柒陆伍肆叁贰壹零"
+upper_simple_digits : signed_text Simple Upper false (decimal_digits 9876543210) ≡ codes "玖捌柒陆伍肆叁贰壹零"
 unfolding digits digit_char
 upper_simple_digits = refl
 
-minus_five : written Simple Upper true (decimal_digits 5) ≡ codes "负伍"
+minus_five : signed_text Simple Upper true (decimal_digits 5) ≡ codes "负伍"
 unfolding digits digit_char minus_char
 minus_five = refl
 
-zero_is_written : written Traditional Lower false (decimal_digits 0) ≡ codes "零"
+zero_is_written : signed_text Traditional Lower false (decimal_digits 0) ≡ codes "零"
 unfolding digits digit_char
 zero_is_written = refl
 

@@ -7,15 +7,15 @@ use Rattle.std.proofs.Math.Nat.{mul-le-mul_left, le-div_iff_mul-le}
 use Rattle.cn_core.specs.declared.method.ChineseCountMethod.{ChineseCountMethod}
 use Rattle.cn_core.specs.declared.method.ChineseCountMethod.TheVariants.{Low, TenThousand, Middle, High}
 use Rattle.cn_core.specs.Mark.{Mark, digit, unit, other}
-use Rattle.cn_core.specs.Numeral.{IsNumeral, opened, may_precede, each_may_precede, starts_with_digit, first_not_smaller, groups_strictly, multiplies_upwards, counts_a_unit}
+use Rattle.cn_core.specs.Numeral.{IsNumeral, with_first_digit, may_precede, each_may_precede, starts_with_digit, first_not_smaller, groups_strictly, multiplies_upwards, counts_a_unit}
 use Rattle.cn_core.specs.Scale.{scale}
-use Rattle.cn_core.specs.Spelling.{spelling, spelled_within}
+use Rattle.cn_core.specs.Spelling.{spelling, spelling_within}
 use Rattle.cn_core.specs.Value.{value, colloquial_value, numeral_value, weight, product, records_from}
 use Rattle.cn_core.proofs.Fronts.{and-left, and-right, both}
 use Rattle.cn_core.proofs.ScaleLaws.{scale-ten}
-use Rattle.cn_core.proofs.Ends.{EachOutweighsEnd, front-value, IsLed-spelled_within}
-use Rattle.cn_core.proofs.Spellings.{shortened-by}
-use Rattle.cn_core.proofs.Grammar.{is_no_ge, IsRegular-spelled_within}
+use Rattle.cn_core.proofs.Ends.{EachOutweighsEnd, front-value, IsLed-spelling_within}
+use Rattle.cn_core.proofs.Spellings.{short_spelling-by}
+use Rattle.cn_core.proofs.Grammar.{is_no_ge, IsRegular-spelling_within}
 
 -- a last digit counts at least as much after a unit
 value-colloquial : (method : ChineseCountMethod) (marks : List Mark) → value method marks ≤ colloquial_value method marks
@@ -82,31 +82,31 @@ IsOpened-ten method number rest h =
       ten_precedes (unit rank ∷ rest) = refl
       ten_precedes (other ∷ rest) = refl
 
-opened-digit : (marks : List Mark) → starts_with_digit marks ≡ true → opened marks ≡ marks
-opened-digit [] h = cc
-opened-digit (digit value ∷ rest) h = refl
-opened-digit (unit rank ∷ rest) h = cc
-opened-digit (other ∷ rest) h = cc
+with_first_digit-digit : (marks : List Mark) → starts_with_digit marks ≡ true → with_first_digit marks ≡ marks
+with_first_digit-digit [] h = cc
+with_first_digit-digit (digit value ∷ rest) h = refl
+with_first_digit-digit (unit rank ∷ rest) h = cc
+with_first_digit-digit (other ∷ rest) h = cc
 
-pub IsOpened-spelling : (method : ChineseCountMethod) (number : ℕ) → number < scale method 15 * scale method 15 → IsOpened method number (opened (spelling method number))
+pub IsOpened-spelling : (method : ChineseCountMethod) (number : ℕ) → number < scale method 15 * scale method 15 → IsOpened method number (with_first_digit (spelling method number))
 IsOpened-spelling method number small =
-    let regular = IsRegular-spelled_within method number number (omega arith) small in
-    let marks = spelled_within number method number in
+    let regular = IsRegular-spelling_within method number number (omega arith) small in
+    let marks = spelling_within number method number in
     let h : IsOpened method number marks = record {
       sum = regular.spells.sum;
       rules = regular.rules;
       starts = regular.starts;
       no_ge = regular.no_ge;
-      ends = (IsLed-spelled_within method number number (omega arith) small).ends;
+      ends = (IsLed-spelling_within method number number (omega arith) small).ends;
     } in
-    shortened-by (λ l. IsOpened method number (opened l)) marks (subst (IsOpened method number) (sym (opened-digit marks h.starts)) h)
+    short_spelling-by (λ l. IsOpened method number (with_first_digit l)) marks (subst (IsOpened method number) (sym (with_first_digit-digit marks h.starts)) h)
     (λ rest ten. IsOpened-ten method number rest (subst (IsOpened method number) ten h))
 
 -- every spelling is a numeral of its number
 pub spelling-is_numeral : (method : ChineseCountMethod) (number : ℕ) → number < scale method 15 * scale method 15
     → IsNumeral (spelling method number) × (numeral_value method (spelling method number) ≡ number)
 spelling-is_numeral method number small =
-    let marks = opened (spelling method number) in
+    let marks = with_first_digit (spelling method number) in
     let h = IsOpened-spelling method number small in
     let most : colloquial_value method marks ≤ value method marks = rw append-nil at (front-value method marks [] (rw append-nil h.ends)) in
     (both _ _ h.starts h.rules, omega (arith, most, value-colloquial method marks, h.sum))

@@ -8,7 +8,7 @@ use Rattle.cn_core.specs.declared.method.ChineseCountMethod.{ChineseCountMethod}
 use Rattle.cn_core.specs.Mark.{Mark, digit, unit, other}
 use Rattle.cn_core.specs.Place.{is_below}
 use Rattle.cn_core.specs.Scale.{scale}
-use Rattle.cn_core.specs.Spelling.{spelled_within, greatest_unit, after_unit, shortened}
+use Rattle.cn_core.specs.Spelling.{spelling_within, greatest_unit, after_unit, short_spelling}
 use Rattle.cn_core.specs.Value.{value}
 use Rattle.cn_core.proofs.Fronts.{and-left, and-right, both, list_all-both}
 use Rattle.cn_core.proofs.ScaleLaws.{IsGreatest-unit, greatest-scale, greatest-square, scale-ten, scale-mono}
@@ -52,11 +52,11 @@ pub after_unit-all : (test : Mark → Bool) (remainder size : ℕ) (marks : List
 after_unit-all test remainder size marks none h = after_unit-by (λ l. list_all test l ≡ true) remainder size marks (λ nothing. refl) (λ some gap. both (test (digit 0)) _ none h) (λ some full. h)
 
 pub spelled-step : (steps : ℕ) (method : ChineseCountMethod) (number : ℕ) → 10 ≤ number
-    → spelled_within (suc steps) method number
-    ≡ spelled_within steps method (number / scale method (greatest_unit method number))
+    → spelling_within (suc steps) method number
+    ≡ spelling_within steps method (number / scale method (greatest_unit method number))
     ++ unit (greatest_unit method number) ∷ after_unit (number % scale method (greatest_unit method number)) (scale method (greatest_unit method number))
-    (spelled_within steps method (number % scale method (greatest_unit method number)))
-spelled-step steps method number h = let test : nat_lt number 10 ≡ false = grind (arith, nat_tests) in rw (test, spelled_within)
+    (spelling_within steps method (number % scale method (greatest_unit method number)))
+spelled-step steps method number h = let test : nat_lt number 10 ≡ false = grind (arith, nat_tests) in rw (test, spelling_within)
 
 -- the parts of a number at its greatest unit
 pub record IsCut (method : ChineseCountMethod) (number rank : ℕ) : Type 0 where
@@ -94,10 +94,10 @@ IsCut-greatest method number h small =
 pub spelled-by : (method : ChineseCountMethod) (P : ℕ → List Mark → Type 0) → ((number : ℕ) → number < 10 → P number (digit number ∷ []))
     → ((number rank : ℕ) (front back : List Mark) → IsCut method number rank → P (number / scale method rank) front → P (number % scale method rank) back
     → P number (front ++ unit rank ∷ after_unit (number % scale method rank) (scale method rank) back))
-    → (steps number : ℕ) → number ≤ steps → number < scale method 15 * scale method 15 → P number (spelled_within steps method number)
+    → (steps number : ℕ) → number ≤ steps → number < scale method 15 * scale method 15 → P number (spelling_within steps method number)
 spelled-by method P one step zero number fuel small = one number (omega (arith, fuel))
 spelled-by method P one step (suc steps) number fuel small = by (dec_lt number 10) (spelled-by method P one step steps) where
-  by : Dec (number < 10) → ((n : ℕ) → n ≤ steps → n < scale method 15 * scale method 15 → P n (spelled_within steps method n)) → P number (spelled_within (suc steps) method number)
+  by : Dec (number < 10) → ((n : ℕ) → n ≤ steps → n < scale method 15 * scale method 15 → P n (spelling_within steps method n)) → P number (spelling_within (suc steps) method number)
   by (yes h) rest = rw (spelled-digit (suc steps) method number h) (one number h)
   by (no h) rest =
       let ten : 10 ≤ number = omega (arith, h) in
@@ -133,19 +133,19 @@ Spells-step method number rank front back cut f b = record {
       list_all-both (is_below more) front (unit rank ∷ after_unit (number % scale method rank) (scale method rank) back) (f.below more (omega (arith, h, cut.smaller)))
       (rw test (after_unit-all (is_below more) (number % scale method rank) (scale method rank) back refl (b.below more (omega (arith, h, cut.size, cut.remainder)))))
 
-pub Spells-spelled_within : (method : ChineseCountMethod) (steps number : ℕ) → number ≤ steps → number < scale method 15 * scale method 15
-    → Spells method number (spelled_within steps method number)
-Spells-spelled_within method = spelled-by method (Spells method) (λ number low. Spells-digit method number) (Spells-step method)
+pub Spells-spelling_within : (method : ChineseCountMethod) (steps number : ℕ) → number ≤ steps → number < scale method 15 * scale method 15
+    → Spells method number (spelling_within steps method number)
+Spells-spelling_within method = spelled-by method (Spells method) (λ number low. Spells-digit method number) (Spells-step method)
 
 -- what holds of a list, and of what 一十 at its start becomes, holds of it once it is shortened
-pub shortened-by : (P : List Mark → Type 0) (marks : List Mark) → P marks → ((rest : List Mark) → marks ≡ digit 1 ∷ unit 1 ∷ rest → P (unit 1 ∷ rest)) → P (shortened marks)
-shortened-by P [] h ten = h
-shortened-by P (unit rank ∷ rest) h ten = h
-shortened-by P (other ∷ rest) h ten = h
-shortened-by P (digit first ∷ []) h ten = h
-shortened-by P (digit first ∷ digit second ∷ rest) h ten = h
-shortened-by P (digit first ∷ other ∷ rest) h ten = h
-shortened-by P (digit first ∷ unit rank ∷ rest) h ten = by (first == 1 && rank == 1) refl where
+pub short_spelling-by : (P : List Mark → Type 0) (marks : List Mark) → P marks → ((rest : List Mark) → marks ≡ digit 1 ∷ unit 1 ∷ rest → P (unit 1 ∷ rest)) → P (short_spelling marks)
+short_spelling-by P [] h ten = h
+short_spelling-by P (unit rank ∷ rest) h ten = h
+short_spelling-by P (other ∷ rest) h ten = h
+short_spelling-by P (digit first ∷ []) h ten = h
+short_spelling-by P (digit first ∷ digit second ∷ rest) h ten = h
+short_spelling-by P (digit first ∷ other ∷ rest) h ten = h
+short_spelling-by P (digit first ∷ unit rank ∷ rest) h ten = by (first == 1 && rank == 1) refl where
   by : (b : Bool) → (first == 1 && rank == 1) ≡ b → P (if b then unit rank ∷ rest else digit first ∷ unit rank ∷ rest)
   by true e =
       let one : first ≡ 1 = let f = and-left (first == 1) _ e in grind (arith, nat_tests) in

@@ -16,21 +16,21 @@ mark_char variant case (unit rank) = unit_char variant case rank
 mark_char variant case other = 0xFFFD
 
 -- the characters of a number, by its sign and its magnitude's spelling
-abbrev pub written : ChineseVariant → ChineseCase → Bool → List Mark → List ℕ
-written variant case negative marks =
+abbrev pub signed_text : ChineseVariant → ChineseCase → Bool → List Mark → List ℕ
+signed_text variant case negative marks =
     (if negative then minus_char variant ∷ [] else []) ++ map (mark_char variant case) marks
 
 -- the bytes of that text
-abbrev pub written_bytes : ChineseVariant → ChineseCase → Bool → List Mark → List ℕ
-written_bytes variant case negative marks = encode_utf8_all (written variant case negative marks)
+abbrev pub signed_bytes : ChineseVariant → ChineseCase → Bool → List Mark → List ℕ
+signed_bytes variant case negative marks = encode_utf8_all (signed_text variant case negative marks)
 
 -- the characters of a number as plain digits, after the minus sign where it is below zero
 abbrev pub naive_text : ChineseVariant → ChineseCase → ℤ → List ℕ
-naive_text variant case number = written variant case (int_lt number (pos 0)) (decimal_digits (nat_abs number))
+naive_text variant case number = signed_text variant case (int_lt number (pos 0)) (decimal_digits (nat_abs number))
 
 -- the characters of a number by its spelling, after the minus sign where it is below zero
 abbrev pub spelled_text : ChineseVariant → ChineseCase → ChineseCountMethod → ℤ → List ℕ
-spelled_text variant case method number = written variant case (int_lt number (pos 0)) (spelling method (nat_abs number))
+spelled_text variant case method number = signed_text variant case (int_lt number (pos 0)) (spelling method (nat_abs number))
 
 -- the numbers that a method writes: each one, but by `Low` those with a magnitude below 10^16
 abbrev pub is_printable : ChineseCountMethod → ℤ → Bool

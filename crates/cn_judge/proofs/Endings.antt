@@ -3,7 +3,7 @@ use Rattle.std.proofs.Common.{◌≡◌, ◌≢◌, inl, inr, ℕ, ◌+◌, ◌-
 use Rattle.std.proofs.lemmas.Bool.Decides.{nat_tests}
 use Rattle.cn_core.specs.declared.method.ChineseCountMethod.{ChineseCountMethod}
 use Rattle.cn_core.specs.Mark.{Mark, digit, unit, other, mark_of}
-use Rattle.cn_core.specs.Numeral.{each_may_precede, is_numeral, opened, starts_with_digit}
+use Rattle.cn_core.specs.Numeral.{each_may_precede, is_numeral, with_first_digit, starts_with_digit}
 use Rattle.cn_core.specs.Place.{some_unfit, is_unit_from_hundred, is_unit_above_ge, is_unfit}
 use Rattle.cn_core.specs.Refusal.{Refusal, incorrect_at, too_large}
 use Rattle.cn_core.specs.Scale.{scale_fits}
@@ -11,7 +11,7 @@ use Rattle.cn_core.specs.Text.{marks_of}
 use Rattle.cn_core.specs.Value.{value}
 use Rattle.cn_judge.specs.declared.walk.Next.{Next}
 use Rattle.cn_judge.specs.Private.Walk.{sum_of, opens_of, faults, fitting, front_answer, refused_or, walked_answer, tail_answer, HasTail, HasNoTail, digit_next}
-use Rattle.cn_judge.specs.Private.Stack.{Sized, total_sum}
+use Rattle.cn_judge.specs.Private.Stack.{StackEntry, total_sum}
 use Rattle.cn_judge.specs.Private.Walked.{IsWalked}
 use Rattle.cn_judge.proofs.OpenSums.{total-value}
 use Rattle.cn_judge.proofs.Faults.{plain, plain-walked}
@@ -44,15 +44,15 @@ first-stops c value is next h marks each starts =
           let b : nat_lt 9 value ≡ false = grind (arith, nat_tests) in
           rw (a, b)
 
-pub walked-each : (method : ChineseCountMethod) (walked : List ℕ) (sum : ℕ) (units : List Sized) (next : Next) → IsWalked method walked sum units next → each_may_precede (marks_of walked) ≡ true
+pub walked-each : (method : ChineseCountMethod) (walked : List ℕ) (sum : ℕ) (units : List StackEntry) (next : Next) → IsWalked method walked sum units next → each_may_precede (marks_of walked) ≡ true
 walked-each method walked sum units next w = (sound-none method (marks_of walked) w.sound).each
 
-pub front-fits : (method : ChineseCountMethod) (first : Mark) (walked : List ℕ) (sum : ℕ) (units : List Sized) (next : Next) (d : ℕ) → IsWalked method walked sum units next
-    → (is_numeral (first ∷ marks_of walked) ≡ true) × (opened (first ∷ marks_of walked) ≡ digit d ∷ marks_of walked)
+pub front-fits : (method : ChineseCountMethod) (first : Mark) (walked : List ℕ) (sum : ℕ) (units : List StackEntry) (next : Next) (d : ℕ) → IsWalked method walked sum units next
+    → (is_numeral (first ∷ marks_of walked) ≡ true) × (with_first_digit (first ∷ marks_of walked) ≡ digit d ∷ marks_of walked)
     → walked_answer method first (marks_of walked) ≡ fitting (total_sum (sum + d) units)
 front-fits method first walked sum units next d w numeral =
     ap (λ f. refused_or f (front_answer method first (marks_of walked))) w.sound
-    ∙ ap (λ (b : Bool). if b then fitting (value method (opened (first ∷ marks_of walked))) else Err (incorrect_at 0)) numeral.0
+    ∙ ap (λ (b : Bool). if b then fitting (value method (with_first_digit (first ∷ marks_of walked))) else Err (incorrect_at 0)) numeral.0
     ∙ ap (λ l. fitting (value method l)) numeral.1
     ∙ ap fitting (sym (total-value method (digit d ∷ marks_of walked)))
     ∙ ap (λ s. fitting (total_sum (s + d) (opens_of method (marks_of walked)))) (sym w.sum_is)

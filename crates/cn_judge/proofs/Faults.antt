@@ -4,7 +4,7 @@ use Rattle.std.proofs.lemmas.Bool.Decides.{nat_tests}
 use Rattle.cn_core.specs.declared.method.ChineseCountMethod.{ChineseCountMethod}
 use Rattle.cn_core.specs.declared.method.ChineseCountMethod.TheVariants.{Low, TenThousand, Middle, High}
 use Rattle.cn_core.specs.Mark.{Mark, digit, unit, other}
-use Rattle.cn_core.specs.Numeral.{is_numeral, opened, may_precede, each_may_precede}
+use Rattle.cn_core.specs.Numeral.{is_numeral, with_first_digit, may_precede, each_may_precede}
 use Rattle.cn_core.specs.Place.{is_below, is_unfit, is_overflowing, some_unfit, some_overflowing, is_early}
 use Rattle.cn_core.specs.Refusal.{Refusal, incorrect_at, too_large}
 use Rattle.cn_core.specs.Scale.{scale_fits}
@@ -116,19 +116,19 @@ overflow-value method (mark ∷ rest) h =
     or_cases (2 ^ 128 ≤ value method (mark ∷ rest)) (is_overflowing method mark rest) (some_overflowing method rest) h
     (λ here. let l = overflow_here method mark rest here in omega (arith, l, more)) (λ later. let l = overflow-value method rest later in omega (arith, l, more))
 
-pub opened_value : (method : ChineseCountMethod) (mark : Mark) (rest : List Mark) → value method rest ≤ value method (opened (mark ∷ rest))
+pub opened_value : (method : ChineseCountMethod) (mark : Mark) (rest : List Mark) → value method rest ≤ value method (with_first_digit (mark ∷ rest))
 opened_value method (digit number) rest = value_more method (digit number) rest
 opened_value method other rest = omega arith
 opened_value method (unit rank) rest = value_more method (if rank == 1 then digit 10 else unit rank) rest
 
 abbrev pub plain : ChineseCountMethod → List Mark → Result ℕ Refusal
 plain method marks =
-    if is_numeral marks then (if not (some_unfit method marks) && nat_lt (value method (opened marks)) (2 ^ 128) then Ok (value method (opened marks)) else Err too_large)
+    if is_numeral marks then (if not (some_unfit method marks) && nat_lt (value method (with_first_digit marks)) (2 ^ 128) then Ok (value method (with_first_digit marks)) else Err too_large)
     else judge_body method marks
 
 -- a numeral that fits
 pub plain-numeral : (method : ChineseCountMethod) (marks : List Mark) (number : ℕ) → is_numeral marks ≡ true → some_unfit method marks ≡ false
-    → value method (opened marks) ≡ number → number < 2 ^ 128 → plain method marks ≡ Ok number
+    → value method (with_first_digit marks) ≡ number → number < 2 ^ 128 → plain method marks ≡ Ok number
 plain-numeral method marks number numeral fit same fits =
     let test : nat_lt number (2 ^ 128) ≡ true = grind (arith, nat_tests) in rw (numeral, fit, same, test)
 
@@ -177,10 +177,10 @@ placed_cases false place answer = refl
 pub plain-walked : (method : ChineseCountMethod) (mark : Mark) (rest : List Mark) → plain method (mark ∷ rest) ≡ walked_answer method mark rest
 plain-walked method mark rest = by (is_numeral (mark ∷ rest)) (each_may_precede rest) refl refl ∙ ap (λ f. refused_or f (front_answer method mark rest)) (sym (faults-at method rest)) where
   by : (k e : Bool) → is_numeral (mark ∷ rest) ≡ k → each_may_precede rest ≡ e
-      → (if k then (if not (is_unfit method mark || some_unfit method rest) && nat_lt (value method (opened (mark ∷ rest))) (2 ^ 128) then Ok (value method (opened (mark ∷ rest))) else Err too_large)
+      → (if k then (if not (is_unfit method mark || some_unfit method rest) && nat_lt (value method (with_first_digit (mark ∷ rest))) (2 ^ 128) then Ok (value method (with_first_digit (mark ∷ rest))) else Err too_large)
       else (if is_early method (mark ∷ rest) (if e then 0 else suc (place_of rest)) then Err too_large else Err (incorrect_at (if e then 0 else suc (place_of rest)))))
       ≡ refused_or (faults_by e (some_unfit method rest || some_overflowing method rest) (is_early_at method rest (place_of rest)) (place_of rest))
-      (if k then fitting (value method (opened (mark ∷ rest))) else Err (incorrect_at 0))
+      (if k then fitting (value method (with_first_digit (mark ∷ rest))) else Err (incorrect_at 0))
   by true true p q =
       numeral_cases (some_unfit method rest) (some_overflowing method rest) (is_unfit method mark) _ (numeral_fits method mark rest p)
       (λ h. let a = overflow-value method rest h in let b = opened_value method mark rest in omega (arith, a, b))

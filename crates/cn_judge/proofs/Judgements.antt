@@ -3,7 +3,7 @@ use Rattle.std.proofs.Common.{◌≡◌, ◌≢◌, ℕ, zero, suc, ◌+◌, ◌
 use Rattle.std.specs.Char.{is_whitespace, is_not_whitespace}
 use Rattle.cn_core.specs.declared.method.ChineseCountMethod.{ChineseCountMethod}
 use Rattle.cn_core.specs.Mark.{Mark, digit, mark_of}
-use Rattle.cn_core.specs.Numeral.{may_precede, is_numeral, opened}
+use Rattle.cn_core.specs.Numeral.{may_precede, is_numeral, with_first_digit}
 use Rattle.cn_core.specs.Place.{is_overflowing, is_unfit}
 use Rattle.cn_core.specs.Refusal.{Refusal, empty, incorrect_at, too_large, too_small}
 use Rattle.cn_core.specs.Spot.{spot_among, spot}
@@ -14,7 +14,7 @@ use Rattle.cn_judge.specs.declared.mark.Mark.{Mark as ReadMark}
 use Rattle.cn_judge.specs.declared.mark.Mark.TheVariants.{Digit, Unit, Other}
 use Rattle.cn_judge.specs.Private.Marked.{marked}
 use Rattle.cn_judge.specs.Private.Judged.{after_first, JudgesAt}
-use Rattle.cn_judge.specs.Private.Piece.{StandsAt, EndsWith, spotted}
+use Rattle.cn_judge.specs.Private.Piece.{StandsAt, EndsWith, answer_at}
 use Rattle.cn_judge.specs.Private.Walk.{walked_answer, tail_answer, faults, fault_of, front_answer, refused_or, further_or, fitting, HasTail, HasNoTail}
 use Rattle.cn_judge.proofs.Endings.{judged_plain, judged_tail}
 use Rattle.cn_judge.proofs.Pieces.{StandsAt-dark, spot-at, spot-rest}
@@ -22,14 +22,14 @@ use Rattle.cn_judge.proofs.Walking.{filter-append}
 use Rattle.cn_judge.proofs.WalkSteps.{marks-length}
 
 -- places count on from the first character
-pub spotted-first : (skipped : ℕ) (text rest : List ℕ) (index c : ℕ) (answer : Result ℕ Refusal) → StandsAt text (c ∷ chars rest) index 0 → is_whitespace c ≡ false
-    → after_first (skipped + index) rest answer ≡ spotted skipped text answer
-spotted-first skipped text rest index c (Ok number) at dark = refl
-spotted-first skipped text rest index c (Err empty) at dark = refl
-spotted-first skipped text rest index c (Err too_large) at dark = refl
-spotted-first skipped text rest index c (Err too_small) at dark = refl
-spotted-first skipped text rest index c (Err (incorrect_at zero)) at dark = ap (λ n. Err (incorrect_at (skipped + n))) (sym (spot-at text (chars rest) c index 0 at dark))
-spotted-first skipped text rest index c (Err (incorrect_at (suc place))) at dark =
+pub answer_at-first : (skipped : ℕ) (text rest : List ℕ) (index c : ℕ) (answer : Result ℕ Refusal) → StandsAt text (c ∷ chars rest) index 0 → is_whitespace c ≡ false
+    → after_first (skipped + index) rest answer ≡ answer_at skipped text answer
+answer_at-first skipped text rest index c (Ok number) at dark = refl
+answer_at-first skipped text rest index c (Err empty) at dark = refl
+answer_at-first skipped text rest index c (Err too_large) at dark = refl
+answer_at-first skipped text rest index c (Err too_small) at dark = refl
+answer_at-first skipped text rest index c (Err (incorrect_at zero)) at dark = ap (λ n. Err (incorrect_at (skipped + n))) (sym (spot-at text (chars rest) c index 0 at dark))
+answer_at-first skipped text rest index c (Err (incorrect_at (suc place))) at dark =
     let next : spot text (place + (0 + 1)) ≡ index + 1 + spot rest place = spot-rest text rest (index + 1) (0 + 1) place (StandsAt-dark text (chars rest) c index 0 at dark) in
     let same : place + (0 + 1) ≡ suc place = omega arith in
     let there : spot text (suc place) ≡ index + 1 + spot rest place = rw same at next in
@@ -94,7 +94,7 @@ front-same method char_index first before rest more parts = by (faults method (m
   by : (f : Option Refusal) → faults method (marks_of (text_of before)) ≡ f
       → after_first char_index before (refused_or f (front_answer method first (marks_of (text_of before))))
       ≡ after_first char_index rest (refused_or f (front_answer method first (marks_of (text_of before))))
-  by None e = front (is_numeral (first ∷ marks_of (text_of before))) _ (value method (opened (first ∷ marks_of (text_of before))))
+  by None e = front (is_numeral (first ∷ marks_of (text_of before))) _ (value method (with_first_digit (first ∷ marks_of (text_of before))))
   by (Some empty) e = refl
   by (Some too_large) e = refl
   by (Some too_small) e = refl
@@ -112,7 +112,7 @@ pub JudgesAt-plain : (method : ChineseCountMethod) (skipped : ℕ) (text rest : 
 JudgesAt-plain method skipped text rest index c answer at dark none is = (
   walked_answer method (mark_of c) (marks_of (text_of rest)),
   judged_plain method (text_of text) (text_of rest) c _ (text-first text rest index c at dark) none refl,
-  is ∙ spotted-first skipped text rest index c _ at dark,
+  is ∙ answer_at-first skipped text rest index c _ at dark,
 )
 
 -- one does
@@ -123,7 +123,7 @@ pub JudgesAt-tail : (method : ChineseCountMethod) (skipped : ℕ) (text rest bod
 JudgesAt-tail method skipped text rest body index c rank last answer at dark tail is = (
   tail_answer method (length (text_of body) + 1) rank last (walked_answer method (mark_of c) (marks_of (text_of body))),
   judged_tail method (text_of text) (text_of rest) (text_of body) c last rank _ _ _ (text-first text rest index c at dark) tail refl refl refl,
-  is ∙ spotted-first skipped text rest index c _ at dark,
+  is ∙ answer_at-first skipped text rest index c _ at dark,
 )
 
 -- the last character's part: what the front is refused for stays

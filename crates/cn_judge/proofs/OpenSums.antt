@@ -9,11 +9,11 @@ use Rattle.cn_core.specs.Place.{is_below}
 use Rattle.cn_core.specs.Scale.{scale}
 use Rattle.cn_core.specs.Value.{value, product, records_from}
 use Rattle.cn_judge.specs.Private.Walk.{sum_of, opens_of}
-use Rattle.cn_judge.specs.Private.Stack.{Sized, all_positive, closed_sum, not_closed, total_sum, top_of}
+use Rattle.cn_judge.specs.Private.Stack.{StackEntry, all_positive, closed_sum, still_open, total_sum, top_of}
 use Rattle.cn_judge.proofs.Stacks.{closed-grows, total-grows, positive-opens, positive-left}
 use Rattle.cn_core.proofs.OpenUnits.{first_not_smaller-record}
 
-abbrev pub ranks_of : List Sized → List ℕ
+abbrev pub ranks_of : List StackEntry → List ℕ
 ranks_of opens = map (λ top. top.0) opens
 
 -- the records from a rank on
@@ -43,11 +43,11 @@ records-left least limit (unit rank ∷ rest) = by (nat_le least rank) (nat_lt r
       let same : max (max least limit) (rank + 1) ≡ max (max least (rank + 1)) limit = omega arith in
       rw (t, same) ih
 
-left-ranks : (limit : ℕ) (opens : List Sized) → ranks_of (not_closed limit opens) ≡ from_rank limit (ranks_of opens)
+left-ranks : (limit : ℕ) (opens : List StackEntry) → ranks_of (still_open limit opens) ≡ from_rank limit (ranks_of opens)
 left-ranks limit [] = refl
 left-ranks limit (top ∷ opens) = by (nat_lt top.0 limit) (left-ranks limit opens) where
-  by : (b : Bool) → ranks_of (not_closed limit opens) ≡ from_rank limit (ranks_of opens)
-      → ranks_of (if b then not_closed limit opens else top ∷ opens) ≡ (if b then from_rank limit (ranks_of opens) else top.0 ∷ ranks_of opens)
+  by : (b : Bool) → ranks_of (still_open limit opens) ≡ from_rank limit (ranks_of opens)
+      → ranks_of (if b then still_open limit opens else top ∷ opens) ≡ (if b then from_rank limit (ranks_of opens) else top.0 ∷ ranks_of opens)
   by true ih = ih
   by false ih = refl
 
@@ -62,14 +62,14 @@ opens-records method (unit rank ∷ rest) =
     (left-ranks (rank + 1) (opens_of method rest) ∙ ap (from_rank (rank + 1)) (opens-records method rest) ∙ records-left 0 (rank + 1) rest))
 
 -- each open unit has its scale
-abbrev pub AreScaled : ChineseCountMethod → List Sized → Type 0
+abbrev pub AreScaled : ChineseCountMethod → List StackEntry → Type 0
 AreScaled method [] = Unit {0}
 AreScaled method (top ∷ opens) = (top.1 ≡ scale method top.0) × AreScaled method opens
 
-scaled-left : (method : ChineseCountMethod) (limit : ℕ) (opens : List Sized) → AreScaled method opens → AreScaled method (not_closed limit opens)
+scaled-left : (method : ChineseCountMethod) (limit : ℕ) (opens : List StackEntry) → AreScaled method opens → AreScaled method (still_open limit opens)
 scaled-left method limit [] h = h
 scaled-left method limit (top ∷ opens) h = by (nat_lt top.0 limit) (scaled-left method limit opens (h.1)) where
-  by : (b : Bool) → AreScaled method (not_closed limit opens) → AreScaled method (if b then not_closed limit opens else top ∷ opens)
+  by : (b : Bool) → AreScaled method (still_open limit opens) → AreScaled method (if b then still_open limit opens else top ∷ opens)
   by true ih = ih
   by false ih = h
 
@@ -80,7 +80,7 @@ scaled-opens method (other ∷ rest) = scaled-opens method rest
 scaled-opens method (unit rank ∷ rest) = (refl, scaled-left method (rank + 1) (opens_of method rest) (scaled-opens method rest))
 
 -- a sum carries through what closes
-total-add : (method : ChineseCountMethod) (opens : List Sized) (sum more : ℕ) → AreScaled method opens
+total-add : (method : ChineseCountMethod) (opens : List StackEntry) (sum more : ℕ) → AreScaled method opens
     → total_sum (sum + more) opens ≡ total_sum sum opens + more * product (map (scale method) (ranks_of opens))
 total-add method [] sum more h = omega arith
 total-add method (top ∷ opens) sum more h =
@@ -88,12 +88,12 @@ total-add method (top ∷ opens) sum more h =
     let same : (sum + more) * top.1 + top.2 ≡ sum * top.1 + top.2 + more * top.1 = grind arith in
     rw (same, ih, ← (h.0)) (grind arith)
 
-total-closed : (limit : ℕ) (opens : List Sized) (sum : ℕ) → total_sum (closed_sum limit sum opens) (not_closed limit opens) ≡ total_sum sum opens
+total-closed : (limit : ℕ) (opens : List StackEntry) (sum : ℕ) → total_sum (closed_sum limit sum opens) (still_open limit opens) ≡ total_sum sum opens
 total-closed limit [] sum = refl
 total-closed limit (top ∷ opens) sum = by (nat_lt top.0 limit) (total-closed limit opens (sum * top.1 + top.2)) where
   by : (b : Bool)
-      → total_sum (closed_sum limit (sum * top.1 + top.2) opens) (not_closed limit opens) ≡ total_sum (sum * top.1 + top.2) opens
-      → total_sum (if b then closed_sum limit (sum * top.1 + top.2) opens else sum) (if b then not_closed limit opens else top ∷ opens)
+      → total_sum (closed_sum limit (sum * top.1 + top.2) opens) (still_open limit opens) ≡ total_sum (sum * top.1 + top.2) opens
+      → total_sum (if b then closed_sum limit (sum * top.1 + top.2) opens else sum) (if b then still_open limit opens else top ∷ opens)
       ≡ total_sum (sum * top.1 + top.2) opens
   by true ih = ih
   by false ih = refl
@@ -107,17 +107,17 @@ total-value method (digit number ∷ rest) =
     rw (add, ih, opens-records method rest) (omega arith)
 total-value method (other ∷ rest) = total-value method rest
 total-value method (unit rank ∷ rest) =
-    ap (λ sum. total_sum sum (not_closed (rank + 1) (opens_of method rest))) (omega arith)
+    ap (λ sum. total_sum sum (still_open (rank + 1) (opens_of method rest))) (omega arith)
     ∙ total-closed (rank + 1) (opens_of method rest) (sum_of rest) ∙ total-value method rest
 
 -- closing further
-closed-closed : (low high : ℕ) (opens : List Sized) (sum : ℕ) → low ≤ high
-    → closed_sum high (closed_sum low sum opens) (not_closed low opens) ≡ closed_sum high sum opens
+closed-closed : (low high : ℕ) (opens : List StackEntry) (sum : ℕ) → low ≤ high
+    → closed_sum high (closed_sum low sum opens) (still_open low opens) ≡ closed_sum high sum opens
 closed-closed low high [] sum h = refl
 closed-closed low high (top ∷ opens) sum h = by (nat_lt top.0 low) refl (closed-closed low high opens (sum * top.1 + top.2) h) where
   by : (b : Bool) → nat_lt top.0 low ≡ b
-      → closed_sum high (closed_sum low (sum * top.1 + top.2) opens) (not_closed low opens) ≡ closed_sum high (sum * top.1 + top.2) opens
-      → closed_sum high (if b then closed_sum low (sum * top.1 + top.2) opens else sum) (if b then not_closed low opens else top ∷ opens)
+      → closed_sum high (closed_sum low (sum * top.1 + top.2) opens) (still_open low opens) ≡ closed_sum high (sum * top.1 + top.2) opens
+      → closed_sum high (if b then closed_sum low (sum * top.1 + top.2) opens else sum) (if b then still_open low opens else top ∷ opens)
       ≡ (if nat_lt top.0 high then closed_sum high (sum * top.1 + top.2) opens else sum)
   by true e ih = let t : nat_lt top.0 high ≡ true = grind (arith, nat_tests) in rw t ih
   by false e ih = refl
@@ -149,7 +149,7 @@ records-group least limit (unit rank ∷ rest) h = by (nat_le least rank) (nat_l
   by true false p q ih = rw q
   by false false p q ih = absurd (let m : rank < least = grind (arith, nat_tests) in let n : limit ≤ rank = grind (arith, nat_tests) in omega (arith, m, n, h))
 
-closed-add : (method : ChineseCountMethod) (limit : ℕ) (opens : List Sized) (sum more : ℕ) → AreScaled method opens
+closed-add : (method : ChineseCountMethod) (limit : ℕ) (opens : List StackEntry) (sum more : ℕ) → AreScaled method opens
     → closed_sum limit (sum + more) opens ≡ closed_sum limit sum opens + more * product (map (scale method) (below_rank limit (ranks_of opens)))
 closed-add method limit [] sum more h = omega arith
 closed-add method limit (top ∷ opens) sum more h = by (nat_lt top.0 limit) (closed-add method limit opens (sum * top.1 + top.2) (more * top.1) (h.1)) where
@@ -174,7 +174,7 @@ closed-group method limit (digit number ∷ rest) =
 closed-group method limit (other ∷ rest) = closed-group method limit rest
 closed-group method limit (unit rank ∷ rest) = by (nat_lt rank limit) refl (closed-group method limit rest) where
   by : (b : Bool) → nat_lt rank limit ≡ b → closed_sum limit (sum_of rest) (opens_of method rest) ≡ value method (group limit rest)
-      → (if b then closed_sum limit (0 * scale method rank + closed_sum (rank + 1) (sum_of rest) (opens_of method rest)) (not_closed (rank + 1) (opens_of method rest)) else 0)
+      → (if b then closed_sum limit (0 * scale method rank + closed_sum (rank + 1) (sum_of rest) (opens_of method rest)) (still_open (rank + 1) (opens_of method rest)) else 0)
       ≡ value method (if b then unit rank ∷ group limit rest else [])
   by true e ih =
       let none : 0 * scale method rank + closed_sum (rank + 1) (sum_of rest) (opens_of method rest) ≡ closed_sum (rank + 1) (sum_of rest) (opens_of method rest) = omega arith in
@@ -188,18 +188,18 @@ group-value method limit marks =
     let a = closed-group method limit marks in
     let b = total-closed limit (opens_of method marks) (sum_of marks) in
     let c = total-value method marks in
-    let d = total-grows (not_closed limit (opens_of method marks)) (closed_sum limit (sum_of marks) (opens_of method marks)) (positive-left limit (opens_of method marks) (positive-opens method marks)) in
+    let d = total-grows (still_open limit (opens_of method marks)) (closed_sum limit (sum_of marks) (opens_of method marks)) (positive-left limit (opens_of method marks) (positive-opens method marks)) in
     omega (arith, a, b, c, d)
 
-top-find : (limit : ℕ) (opens : List Sized) → find (λ next. nat_le limit next) (ranks_of opens) ≡ top_of (not_closed limit opens)
+top-find : (limit : ℕ) (opens : List StackEntry) → find (λ next. nat_le limit next) (ranks_of opens) ≡ top_of (still_open limit opens)
 top-find limit [] = refl
 top-find limit (top ∷ opens) = by (nat_lt top.0 limit) refl (top-find limit opens) where
-  by : (b : Bool) → nat_lt top.0 limit ≡ b → find (λ next. nat_le limit next) (ranks_of opens) ≡ top_of (not_closed limit opens)
-      → find (λ next. nat_le limit next) (top.0 ∷ ranks_of opens) ≡ top_of (if b then not_closed limit opens else top ∷ opens)
+  by : (b : Bool) → nat_lt top.0 limit ≡ b → find (λ next. nat_le limit next) (ranks_of opens) ≡ top_of (still_open limit opens)
+      → find (λ next. nat_le limit next) (top.0 ∷ ranks_of opens) ≡ top_of (if b then still_open limit opens else top ∷ opens)
   by true e ih = let t : nat_le limit top.0 ≡ false = grind (arith, nat_tests) in rw t ih
   by false e ih = let t : nat_le limit top.0 ≡ true = grind (arith, nat_tests) in rw t
 
 -- the first unit that is not smaller is the top once the smaller are closed
-pub first_not_smaller-top : (method : ChineseCountMethod) (rank : ℕ) (marks : List Mark) → first_not_smaller rank marks ≡ top_of (not_closed rank (opens_of method marks))
+pub first_not_smaller-top : (method : ChineseCountMethod) (rank : ℕ) (marks : List Mark) → first_not_smaller rank marks ≡ top_of (still_open rank (opens_of method marks))
 first_not_smaller-top method rank marks =
     first_not_smaller-record 0 rank marks (omega arith) ∙ ap (find (λ next. nat_le rank next)) (sym (opens-records method marks)) ∙ top-find rank (opens_of method marks)

@@ -7,7 +7,7 @@ use Rattle.cn_core.specs.Mark.{Mark, digit, unit, other, mark_of}
 use Rattle.cn_core.specs.Text.{text_of, marks_of}
 use Rattle.cn_core.specs.Naive.{naive_answer, first_fault, fault_at, decimal_value, digit_value, refused_or}
 use Rattle.cn_core.specs.Spot.{spot}
-use Rattle.cn_judge.specs.Private.Piece.{StandsAt, spotted}
+use Rattle.cn_judge.specs.Private.Piece.{StandsAt, answer_at}
 use Rattle.cn_judge.proofs.Pieces.{StandsAt-white, StandsAt-dark, spot-at}
 use Rattle.cn_judge.proofs.Walking.{digit-dark}
 use Rattle.std.specs.Char.{is_whitespace}
@@ -114,10 +114,10 @@ IsReading-digit skipped bytes ahead after char_index number c value total is_emp
 -- one that makes the number too great
 pub IsReading-great : (skipped : ℕ) (bytes ahead after : List ℕ) (char_index number c value : ℕ) (is_empty : Bool) → IsReading skipped bytes ahead char_index number is_empty
     → chars ahead ≡ c ∷ chars after → digit value ≡ mark_of c → 2 ^ 128 ≤ number * 10 + value
-    → spotted skipped bytes (naive_answer (marks_of (text_of bytes))) ≡ Err too_large
+    → answer_at skipped bytes (naive_answer (marks_of (text_of bytes))) ≡ Err too_large
 IsReading-great skipped bytes ahead after char_index number c value is_empty r parts mark great =
     let next = ahead-dark ahead after c (digit value) parts (digit-dark c value mark) mark in
-    ap (spotted skipped bytes) (HasRead-great _ _ _ _ _ (rw next at r.read) great)
+    ap (answer_at skipped bytes) (HasRead-great _ _ _ _ _ (rw next at r.read) great)
 
 no_digit : (marks rest : List Mark) (mark : Mark) (place number : ℕ) → HasRead marks (mark ∷ rest) place number → ((value : ℕ) → mark ≢ digit value)
     → naive_answer marks ≡ Err (incorrect_at place)
@@ -128,9 +128,9 @@ no_digit marks rest other place number read none = some_marks marks (incorrect_a
 -- it is neither white space nor a digit
 pub IsReading-incorrect : (skipped : ℕ) (bytes ahead after : List ℕ) (char_index number c : ℕ) (mark : Mark) (is_empty : Bool) → IsReading skipped bytes ahead char_index number is_empty
     → chars ahead ≡ c ∷ chars after → is_whitespace c ≡ false → mark ≡ mark_of c → ((value : ℕ) → mark ≢ digit value)
-    → spotted skipped bytes (naive_answer (marks_of (text_of bytes))) ≡ Err (incorrect_at char_index)
+    → answer_at skipped bytes (naive_answer (marks_of (text_of bytes))) ≡ Err (incorrect_at char_index)
 IsReading-incorrect skipped bytes ahead after char_index number c mark is_empty r parts dark same none =
     let next = ahead-dark ahead after c mark parts dark same in
     let spot_is : spot bytes r.place ≡ r.index = spot-at bytes (chars after) c r.index r.place (rw parts at r.at) dark in
-    ap (spotted skipped bytes) (no_digit _ _ mark _ _ (rw next at r.read) none)
+    ap (answer_at skipped bytes) (no_digit _ _ mark _ _ (rw next at r.read) none)
     ∙ ap (λ n. Err (incorrect_at n)) (ap (λ n. skipped + n) spot_is ∙ sym r.char_index_is)

@@ -7,7 +7,7 @@ use Rattle.std.proofs.lemmas.Bool.Decides.{nat_tests}
 use Rattle.cn_core.specs.declared.method.ChineseCountMethod.{ChineseCountMethod}
 use Rattle.cn_core.specs.Judge.{Judges}
 use Rattle.cn_core.specs.Mark.{Mark, digit, unit, other, mark_of}
-use Rattle.cn_core.specs.Numeral.{may_precede, each_may_precede, is_numeral, opened, starts_with_digit, multiplies_upwards, counts_a_unit, groups_strictly}
+use Rattle.cn_core.specs.Numeral.{may_precede, each_may_precede, is_numeral, with_first_digit, starts_with_digit, multiplies_upwards, counts_a_unit, groups_strictly}
 use Rattle.cn_core.specs.Place.{some_unfit}
 use Rattle.cn_core.specs.Scale.{scale, exponent}
 use Rattle.cn_core.specs.Text.{text_of, marks_of}
@@ -15,7 +15,7 @@ use Rattle.cn_core.specs.Value.{value, weight, product, records_from, record_uni
 use Rattle.cn_core.proofs.Fronts.{and-left, and-right}
 use Rattle.cn_core.proofs.Judging.{Judges-by_walk}
 use Rattle.cn_core.proofs.OpenUnits.{first_not_smaller-record, in_ranks, length-records}
-use Rattle.cn_judge.specs.declared.quick.Standing.{Standing}
+use Rattle.cn_judge.specs.declared.quick.QuickState.{QuickState}
 use Rattle.cn_judge.specs.Private.Regular.{Group, IsRegular, StandsRegular, LeavesNoTail, MayOpen, exponents, groups_of, top_exponent, is_below_top, is_regular_mark, first_group, not_smaller, with_last}
 use Rattle.cn_judge.specs.Private.Walk.{HasNoTail}
 use Rattle.cn_judge.proofs.OpenSums.{from_rank}
@@ -258,10 +258,10 @@ regular-group method marks held left after total sum last at_digit rank all more
 
 -- the first mark
 pub first-digit : (d : ℕ) (marks : List Mark) (at_digit : Bool) → each_may_precede marks ≡ true → at_digit ≡ starts_with_digit marks → true ≡ ((d == 0) || not at_digit)
-    → (is_numeral (digit d ∷ marks) ≡ true) × (opened (digit d ∷ marks) ≡ digit d ∷ marks)
+    → (is_numeral (digit d ∷ marks) ≡ true) × (with_first_digit (digit d ∷ marks) ≡ digit d ∷ marks)
 first-digit d marks at_digit each at h = (both (may_precede (digit d) marks) _ (digit-precedes d marks at_digit at h) each, refl)
 
-pub first-ten : (marks : List Mark) → each_may_precede marks ≡ true → (is_numeral (unit 1 ∷ marks) ≡ true) × (opened (unit 1 ∷ marks) ≡ digit 10 ∷ marks)
+pub first-ten : (marks : List Mark) → each_may_precede marks ≡ true → (is_numeral (unit 1 ∷ marks) ≡ true) × (with_first_digit (unit 1 ∷ marks) ≡ digit 10 ∷ marks)
 first-ten marks each = (both (may_precede (digit 10) marks) _ (ten marks) each, refl) where
   ten : (marks : List Mark) → may_precede (digit 10) marks ≡ true
   ten [] = refl
@@ -272,12 +272,12 @@ first-ten marks each = (both (may_precede (digit 10) marks) _ (ten marks) each, 
 -- the number of the whole
 pub judges-regular : (method : ChineseCountMethod) (marks : List Mark) (held : List Group) (total sum last : ℕ) (at_digit : Bool) (first : Mark) (d more n : ℕ)
     → IsRegular method marks held total sum last at_digit
-    → (is_numeral (first ∷ marks) ≡ true) × (opened (first ∷ marks) ≡ digit d ∷ marks)
+    → (is_numeral (first ∷ marks) ≡ true) × (with_first_digit (first ∷ marks) ≡ digit d ∷ marks)
     → more ≡ sum + d * 10 ^ last → n ≡ total + more * 10 ^ top_exponent held → n < 2 ^ 128
     → Judges method (first ∷ marks) (Ok n)
 judges-regular method marks held total sum last at_digit first d more n s numeral add number fits =
     let outer : top_exponent held ≡ exponents method (records_from (first_group method) marks) = ap top_exponent s.groups_are ∙ top-groups method (records_from (first_group method) marks) in
-    let same : value method (opened (first ∷ marks)) ≡ n =
+    let same : value method (with_first_digit (first ∷ marks)) ≡ n =
     ap (value method) numeral.1 ∙ value-digit method marks total sum last d s.low s.number s.records
     ∙ ap (λ k. total + k * 10 ^ exponents method (records_from (first_group method) marks)) (sym add) ∙ ap (λ e. total + more * 10 ^ e) (sym outer) ∙ sym number in
     let fit : some_unfit method (first ∷ marks) ≡ false = ap (λ b. b || some_unfit method marks) (numeral_fits method first marks numeral.0) ∙ s.fit in
@@ -286,7 +286,7 @@ judges-regular method marks held total sum last at_digit first d more n s numera
 
 pub judges-option : (method : ChineseCountMethod) (marks : List Mark) (held : List Group) (total sum last : ℕ) (at_digit : Bool) (first : Mark) (d more : ℕ) (result : Option ℕ)
     → IsRegular method marks held total sum last at_digit
-    → (is_numeral (first ∷ marks) ≡ true) × (opened (first ∷ marks) ≡ digit d ∷ marks)
+    → (is_numeral (first ∷ marks) ≡ true) × (with_first_digit (first ∷ marks) ≡ digit d ∷ marks)
     → more ≡ sum + d * 10 ^ last → IfSome result (λ n. (n ≡ total + more * 10 ^ top_exponent held) × (n < 2 ^ 128))
     → IfSome result (λ n. Judges method (first ∷ marks) (Ok n))
 judges-option method marks held total sum last at_digit first d more None s numeral add h = tt
@@ -294,49 +294,49 @@ judges-option method marks held total sum last at_digit first d more (Some n) s 
     judges-regular method marks held total sum last at_digit first d more n s numeral add h.0 h.1
 
 -- where the walk stands in a string of which this piece is still ahead: each mark took three bytes
-pub record HasStepped (method : ChineseCountMethod) (bytes ahead : List ℕ) (held : List Group) (standing : Standing) : Type 0 where
+pub record HasStepped (method : ChineseCountMethod) (bytes ahead : List ℕ) (held : List Group) (state : QuickState) : Type 0 where
   pub after : List ℕ
   pub parts : chars bytes ≡ chars ahead ++ after
   pub dark : filter is_not_whitespace after ≡ after
   pub size : length ahead + 3 * length (marks_of after) ≡ length bytes
-  pub state : StandsRegular method (marks_of after) held standing
+  pub stands : StandsRegular method (marks_of after) held state
 
-pub stepped-none : (method : ChineseCountMethod) (bytes : List ℕ) (held : List Group) (standing : Standing) → StandsRegular method [] held standing → HasStepped method bytes bytes held standing
-stepped-none method bytes held standing s = record {
+pub stepped-none : (method : ChineseCountMethod) (bytes : List ℕ) (held : List Group) (state : QuickState) → StandsRegular method [] held state → HasStepped method bytes bytes held state
+stepped-none method bytes held state s = record {
   after = [];
   parts = sym (append-nil (chars bytes));
   dark = refl;
   size = omega arith;
-  state = s;
+  stands = s;
 }
 
 dark-more : (c : ℕ) (after : List ℕ) → is_whitespace c ≡ false → filter is_not_whitespace after ≡ after → filter is_not_whitespace (c ∷ after) ≡ c ∷ after
 dark-more c after dark h = rw dark (ap (λ l. c ∷ l) h)
 
-pub stepped-second : (method : ChineseCountMethod) (bytes ahead : List ℕ) (held : List Group) (standing : Standing) (second : ℕ) (s : HasStepped method bytes ahead held standing)
+pub stepped-second : (method : ChineseCountMethod) (bytes ahead : List ℕ) (held : List Group) (state : QuickState) (second : ℕ) (s : HasStepped method bytes ahead held state)
     → second + 3 ≡ length bytes → (length ahead == second) ≡ (length (marks_of s.after) == 1)
-stepped-second method bytes ahead held standing second s is = same (length bytes) (length ahead) (length (marks_of s.after)) second s.size is where
+stepped-second method bytes ahead held state second s is = same (length bytes) (length ahead) (length (marks_of s.after)) second s.size is where
   same : (b a m n : ℕ) → a + 3 * m ≡ b → n + 3 ≡ b → (a == n) ≡ (m == 1)
   same b a m n e is = grind (arith, nat_tests)
 
-pub stepped-more : (method : ChineseCountMethod) (bytes ahead before : List ℕ) (held left : List Group) (standing next : Standing) (c : ℕ) (mark : Mark)
-    → (s : HasStepped method bytes ahead held standing) → chars ahead ≡ chars before ++ c ∷ [] → mark ≡ mark_of c → is_whitespace c ≡ false
+pub stepped-more : (method : ChineseCountMethod) (bytes ahead before : List ℕ) (held left : List Group) (state next : QuickState) (c : ℕ) (mark : Mark)
+    → (s : HasStepped method bytes ahead held state) → chars ahead ≡ chars before ++ c ∷ [] → mark ≡ mark_of c → is_whitespace c ≡ false
     → length before + 3 ≡ length ahead → StandsRegular method (mark ∷ marks_of s.after) left next
     → HasStepped method bytes before left next
-stepped-more method bytes ahead before held left standing next c mark s parts is dark size state = record {
+stepped-more method bytes ahead before held left state next c mark s parts is dark size stands = record {
   after = c ∷ s.after;
   parts = s.parts ∙ ap (λ l. l ++ s.after) parts ∙ append_assoc (chars before) (c ∷ []) s.after;
   dark = dark-more c s.after dark s.dark;
   size = (let e = s.size in omega (arith, e, size));
-  state = rw is at state;
+  stands = rw is at stands;
 }
 
 -- the whole string, once its first character is read
-pub stepped-all : (method : ChineseCountMethod) (bytes ahead before : List ℕ) (held : List Group) (standing : Standing) (c : ℕ) (mark : Mark) (result : Option ℕ)
-    → (s : HasStepped method bytes ahead held standing) → chars ahead ≡ chars before ++ c ∷ [] → mark ≡ mark_of c → is_whitespace c ≡ false → length before ≡ 0
+pub stepped-all : (method : ChineseCountMethod) (bytes ahead before : List ℕ) (held : List Group) (state : QuickState) (c : ℕ) (mark : Mark) (result : Option ℕ)
+    → (s : HasStepped method bytes ahead held state) → chars ahead ≡ chars before ++ c ∷ [] → mark ≡ mark_of c → is_whitespace c ≡ false → length before ≡ 0
     → IfSome result (λ n. Judges method (mark ∷ marks_of s.after) (Ok n)) → IfSome result (λ n. Judges method (marks_of (text_of bytes)) (Ok n))
-stepped-all method bytes ahead before held standing c mark None s parts is dark none h = tt
-stepped-all method bytes ahead before held standing c mark (Some n) s parts is dark none h =
+stepped-all method bytes ahead before held state c mark None s parts is dark none h = tt
+stepped-all method bytes ahead before held state c mark (Some n) s parts is dark none h =
     let all : chars bytes ≡ c ∷ s.after = s.parts ∙ ap (λ l. l ++ s.after) (parts ∙ ap (λ l. l ++ c ∷ []) (chars-from_empty before none)) in
     let text : text_of bytes ≡ c ∷ s.after = ap (filter is_not_whitespace) all ∙ dark-more c s.after dark s.dark in
     rw text (rw is at h)

@@ -4,7 +4,7 @@ use Rattle.std.proofs.lemmas.Bool.Decides.{nat_tests}
 use Rattle.cn_core.specs.Naive.{naive_answer}
 use Rattle.cn_core.specs.Refusal.{too_large}
 use Rattle.cn_core.specs.Text.{text_of, marks_of}
-use Rattle.cn_judge.specs.Private.Piece.{spotted}
+use Rattle.cn_judge.specs.Private.Piece.{answer_at}
 use Rattle.cn_judge.specs.Private.PlainPiece.{IsPiece, IsRun, StartsWith, no_digit, one_more}
 use Rattle.cn_judge.specs.declared.naive.Piece.{Piece}
 use Rattle.cn_judge.specs.declared.naive.Piece.TheVariants.{Digits, White, Wrong}
@@ -49,13 +49,13 @@ IsReading-run skipped bytes ahead rest char_index number count weight value tota
 -- a run that makes the number too great
 pub IsReading-run-great : (skipped : ℕ) (bytes ahead rest : List ℕ) (char_index number count weight value : ℕ) (is_empty : Bool)
     → IsReading skipped bytes ahead char_index number is_empty → IsRun ahead rest count weight value → number < 2 ^ 128 → 2 ^ 128 ≤ number * weight + value
-    → spotted skipped bytes (naive_answer (marks_of (text_of bytes))) ≡ Err too_large
+    → answer_at skipped bytes (naive_answer (marks_of (text_of bytes))) ≡ Err too_large
 IsReading-run-great skipped bytes ahead rest char_index number count weight value is_empty r no_digit fits great = absurd (omega (arith, fits, great))
 IsReading-run-great skipped bytes ahead rest char_index number count weight value is_empty r (one_more between after c next before room sum run parts mark) fits great =
     by (nat_lt (number * room + sum) (2 ^ 128)) refl (IsReading-run-great skipped bytes ahead between char_index number before room sum is_empty r run fits) where
       by : (b : Bool) → nat_lt (number * room + sum) (2 ^ 128) ≡ b
-          → (2 ^ 128 ≤ number * room + sum → spotted skipped bytes (naive_answer (marks_of (text_of bytes))) ≡ Err too_large)
-          → spotted skipped bytes (naive_answer (marks_of (text_of bytes))) ≡ Err too_large
+          → (2 ^ 128 ≤ number * room + sum → answer_at skipped bytes (naive_answer (marks_of (text_of bytes))) ≡ Err too_large)
+          → answer_at skipped bytes (naive_answer (marks_of (text_of bytes))) ≡ Err too_large
       by true test earlier =
           let taken = HasTaken-run skipped bytes ahead between char_index number before room sum is_empty r run (grind (arith, nat_tests)) in
           IsReading-great _ _ _ _ _ _ c next _ taken.reading parts mark (omega (arith, great, more_sum number room sum next))

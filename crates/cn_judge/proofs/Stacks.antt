@@ -9,7 +9,7 @@ use Rattle.cn_judge.specs.Private.Walk.{opens_of}
 use Rattle.cn_core.proofs.ScaleLaws.{scale-pos}
 use Rattle.cn_core.proofs.Fronts.{and-left, and-right}
 use Rattle.std.proofs.lemmas.Bool.Decides.{nat_tests}
-use Rattle.cn_judge.specs.Private.Stack.{Sized, stack_of, opened_at, no_unit, ClosesTop, all_positive, closed_sum, not_closed, top_of, total_sum}
+use Rattle.cn_judge.specs.Private.Stack.{StackEntry, stack_of, opened_at, no_unit, ClosesTop, all_positive, closed_sum, still_open, top_of, total_sum}
 
 pub length-stack : (entries : List OpenUnit) (len : ℕ) → length (stack_of entries len) ≡ len
 length-stack entries zero = refl
@@ -29,7 +29,7 @@ pub stack-push : (entries : List OpenUnit) (len : ℕ) (e : OpenUnit) → len < 
 stack-push entries len e h = rw (add-one, set_same entries len e h, stack-set entries len len e (omega arith))
 
 -- the top closes
-pub ClosesTop-view : (units : List Sized) (entries : List OpenUnit) (sum len : ℕ) (result : Option ℕ) → stack_of entries len ≡ units → 0 < length units
+pub ClosesTop-view : (units : List StackEntry) (entries : List OpenUnit) (sum len : ℕ) (result : Option ℕ) → stack_of entries len ≡ units → 0 < length units
     → SomeIff result (sum * (slice_index_or entries (len - 1) no_unit).size + (slice_index_or entries (len - 1) no_unit).below < 2 ^ 128)
     (sum * (slice_index_or entries (len - 1) no_unit).size + (slice_index_or entries (len - 1) no_unit).below)
     → ClosesTop sum units (stack_of entries (len - 1)) result
@@ -46,7 +46,7 @@ some_same a b h = cc
 sum_grows : (sum size more : ℕ) → 0 < size → sum ≤ sum * size + more
 sum_grows sum size more h = grind arith
 
-pub total-grows : (units : List Sized) (sum : ℕ) → all_positive units ≡ true → sum ≤ total_sum sum units
+pub total-grows : (units : List StackEntry) (sum : ℕ) → all_positive units ≡ true → sum ≤ total_sum sum units
 total-grows [] sum h = omega arith
 total-grows (top ∷ units) sum h =
     let t : nat_lt 0 top.1 ≡ true = and-left (nat_lt 0 top.1) _ h in
@@ -54,7 +54,7 @@ total-grows (top ∷ units) sum h =
     let ih = total-grows units (sum * top.1 + top.2) (and-right (nat_lt 0 top.1) _ h) in
     let g = sum_grows sum top.1 top.2 p in omega (arith, ih, g)
 
-pub closed-grows : (limit : ℕ) (units : List Sized) (sum : ℕ) → all_positive units ≡ true → sum ≤ closed_sum limit sum units
+pub closed-grows : (limit : ℕ) (units : List StackEntry) (sum : ℕ) → all_positive units ≡ true → sum ≤ closed_sum limit sum units
 closed-grows limit [] sum h = omega arith
 closed-grows limit (top ∷ units) sum h = by (nat_lt top.0 limit) (closed-grows limit units (sum * top.1 + top.2) (and-right (nat_lt 0 top.1) _ h)) where
   by : (b : Bool) → sum * top.1 + top.2 ≤ closed_sum limit (sum * top.1 + top.2) units → sum ≤ (if b then closed_sum limit (sum * top.1 + top.2) units else sum)
@@ -65,8 +65,8 @@ closed-grows limit (top ∷ units) sum h = by (nat_lt top.0 limit) (closed-grows
   by false ih = omega arith
 
 -- a step of closing what is smaller
-pub closed-step : (limit t sum more : ℕ) (before after : List Sized) → Some t ≡ top_of before → t < limit → ClosesTop sum before after (Some more) → all_positive before ≡ true
-    → (closed_sum limit more after ≡ closed_sum limit sum before) × (not_closed limit after ≡ not_closed limit before) × (all_positive after ≡ true) × (more < 2 ^ 128)
+pub closed-step : (limit t sum more : ℕ) (before after : List StackEntry) → Some t ≡ top_of before → t < limit → ClosesTop sum before after (Some more) → all_positive before ≡ true
+    → (closed_sum limit more after ≡ closed_sum limit sum before) × (still_open limit after ≡ still_open limit before) × (all_positive after ≡ true) × (more < 2 ^ 128)
 closed-step limit t sum more [] after is low h p = cc
 closed-step limit t sum more (top ∷ units) after is low h p =
     let same = some_same t top.0 is in
@@ -74,7 +74,7 @@ closed-step limit t sum more (top ∷ units) after is low h p =
     let e = h.1.1 in
     (rw (h.0, test, e) refl, rw (h.0, test) refl, rw (h.0) (and-right (nat_lt 0 top.1) _ p), omega (arith, h.1.0, e))
 
-pub closed-past : (limit t sum : ℕ) (before after : List Sized) → Some t ≡ top_of before → t < limit → ClosesTop sum before after None → all_positive before ≡ true
+pub closed-past : (limit t sum : ℕ) (before after : List StackEntry) → Some t ≡ top_of before → t < limit → ClosesTop sum before after None → all_positive before ≡ true
     → ¬ (closed_sum limit sum before < 2 ^ 128)
 closed-past limit t sum [] after is low h p = cc
 closed-past limit t sum (top ∷ units) after is low h p =
@@ -84,22 +84,22 @@ closed-past limit t sum (top ∷ units) after is low h p =
     rw test (λ small. h.1 (omega (arith, small, grows)))
 
 -- a step of closing all
-pub total-step : (sum more : ℕ) (before after : List Sized) → 0 < length before → ClosesTop sum before after (Some more) → all_positive before ≡ true
+pub total-step : (sum more : ℕ) (before after : List StackEntry) → 0 < length before → ClosesTop sum before after (Some more) → all_positive before ≡ true
     → (total_sum more after ≡ total_sum sum before) × (all_positive after ≡ true) × (length after < length before) × (more < 2 ^ 128)
 total-step sum more [] after some h p = absurd (omega (arith, some))
 total-step sum more (top ∷ units) after some h p = let e = h.1.1 in (rw (h.0, e) refl, rw (h.0) (and-right (nat_lt 0 top.1) _ p), rw (h.0) (omega arith), omega (arith, h.1.0, e))
 
-pub total-past : (sum : ℕ) (before after : List Sized) → 0 < length before → ClosesTop sum before after None → all_positive before ≡ true → ¬ (total_sum sum before < 2 ^ 128)
+pub total-past : (sum : ℕ) (before after : List StackEntry) → 0 < length before → ClosesTop sum before after None → all_positive before ≡ true → ¬ (total_sum sum before < 2 ^ 128)
 total-past sum [] after some h p = absurd (omega (arith, some))
 total-past sum (top ∷ units) after some h p =
     let grows = total-grows units (sum * top.1 + top.2) (and-right (nat_lt 0 top.1) _ p) in
     λ small. h.1 (omega (arith, small, grows))
 
 -- the scales of a walk's open units are above 0
-pub positive-left : (limit : ℕ) (units : List Sized) → all_positive units ≡ true → all_positive (not_closed limit units) ≡ true
+pub positive-left : (limit : ℕ) (units : List StackEntry) → all_positive units ≡ true → all_positive (still_open limit units) ≡ true
 positive-left limit [] h = h
 positive-left limit (top ∷ units) h = by (nat_lt top.0 limit) (positive-left limit units (and-right (nat_lt 0 top.1) _ h)) where
-  by : (b : Bool) → all_positive (not_closed limit units) ≡ true → all_positive (if b then not_closed limit units else top ∷ units) ≡ true
+  by : (b : Bool) → all_positive (still_open limit units) ≡ true → all_positive (if b then still_open limit units else top ∷ units) ≡ true
   by true ih = ih
   by false ih = h
 
@@ -115,20 +115,20 @@ positive-opens method (unit rank ∷ rest) =
       test n h = grind (arith, nat_tests)
 
 -- nothing smaller is left
-pub closed-stop : (limit t sum : ℕ) (units : List Sized) → Some t ≡ top_of units → limit ≤ t → (closed_sum limit sum units ≡ sum) × (not_closed limit units ≡ units)
+pub closed-stop : (limit t sum : ℕ) (units : List StackEntry) → Some t ≡ top_of units → limit ≤ t → (closed_sum limit sum units ≡ sum) × (still_open limit units ≡ units)
 closed-stop limit t sum [] is high = cc
 closed-stop limit t sum (top ∷ units) is high =
     let same = some_same t top.0 is in
     let test : nat_lt top.0 limit ≡ false = grind (arith, nat_tests) in
     (rw test refl, rw test refl)
 
-pub closed-none : (limit sum : ℕ) (units : List Sized) → None ≡ top_of units → (closed_sum limit sum units ≡ sum) × (not_closed limit units ≡ units)
+pub closed-none : (limit sum : ℕ) (units : List StackEntry) → None ≡ top_of units → (closed_sum limit sum units ≡ sum) × (still_open limit units ≡ units)
 closed-none limit sum [] is = (refl, refl)
 closed-none limit sum (top ∷ units) is = cc
 
-pub total-none : (sum : ℕ) (entries : List OpenUnit) (len : ℕ) (units : List Sized) → stack_of entries len ≡ units → len ≡ 0 → total_sum sum units ≡ sum
+pub total-none : (sum : ℕ) (entries : List OpenUnit) (len : ℕ) (units : List StackEntry) → stack_of entries len ≡ units → len ≡ 0 → total_sum sum units ≡ sum
 total-none sum entries zero units is none = rw (← is) refl
 total-none sum entries (suc len) units is none = absurd (omega (arith, none))
 
-pub some_entries : (entries : List OpenUnit) (len : ℕ) (units : List Sized) → stack_of entries len ≡ units → 0 < len → 0 < length units
+pub some_entries : (entries : List OpenUnit) (len : ℕ) (units : List StackEntry) → stack_of entries len ≡ units → 0 < len → 0 < length units
 some_entries entries len units is some = let same = ap length is in omega (arith, same, length-stack entries len, some)

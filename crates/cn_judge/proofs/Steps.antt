@@ -14,7 +14,7 @@ use Rattle.cn_core.specs.Judging.{place_of}
 use Rattle.cn_core.proofs.Fronts.{and-left, and-right}
 use Rattle.cn_core.proofs.OpenUnits.{in_ranks, length-records}
 use Rattle.cn_judge.specs.Private.Walk.{sum_of, opens_of, fault_of, faults, leading_rank, multiplies_by}
-use Rattle.cn_judge.specs.Private.Stack.{Sized, closed_sum, not_closed, top_of}
+use Rattle.cn_judge.specs.Private.Stack.{StackEntry, closed_sum, still_open, top_of}
 use Rattle.cn_judge.proofs.OpenSums.{group, take_while-group, closed-group, first_not_smaller-top, opens-records, ranks_of}
 use Rattle.cn_judge.proofs.Faults.{faults_by, faults-at, is_early_at}
 
@@ -115,47 +115,47 @@ abbrev pub above : ℕ → Option ℕ → Bool
 above rank top = option_map_or (λ next. nat_lt rank next) top true
 
 precedes-unit : (method : ChineseCountMethod) (u : ℕ) (marks : List Mark)
-    → may_precede (unit u) marks ≡ (multiplies_upwards (unit u) marks && counts_a_unit (unit u) marks && above u (top_of (not_closed u (opens_of method marks))))
+    → may_precede (unit u) marks ≡ (multiplies_upwards (unit u) marks && counts_a_unit (unit u) marks && above u (top_of (still_open u (opens_of method marks))))
 precedes-unit method u marks = ap (λ o. multiplies_upwards (unit u) marks && counts_a_unit (unit u) marks && option_map_or (λ next. nat_lt u next) o true) (first_not_smaller-top method u marks)
 
-pub top-above : (u : ℕ) (opens : List Sized) → top_of (not_closed u opens) ≢ Some u → above u (top_of (not_closed u opens)) ≡ true
+pub top-above : (u : ℕ) (opens : List StackEntry) → top_of (still_open u opens) ≢ Some u → above u (top_of (still_open u opens)) ≡ true
 top-above u [] h = refl
 top-above u (top ∷ opens) h = by (nat_lt top.0 u) refl h (top-above u opens) where
-  by : (b : Bool) → nat_lt top.0 u ≡ b → top_of (if b then not_closed u opens else top ∷ opens) ≢ Some u
-      → (top_of (not_closed u opens) ≢ Some u → above u (top_of (not_closed u opens)) ≡ true)
-      → above u (top_of (if b then not_closed u opens else top ∷ opens)) ≡ true
+  by : (b : Bool) → nat_lt top.0 u ≡ b → top_of (if b then still_open u opens else top ∷ opens) ≢ Some u
+      → (top_of (still_open u opens) ≢ Some u → above u (top_of (still_open u opens)) ≡ true)
+      → above u (top_of (if b then still_open u opens else top ∷ opens)) ≡ true
   by true e h ih = ih h
   by false e h ih = let other : top.0 ≢ u = λ same. h (ap Some same) in grind (arith, nat_tests)
 
-pub closed-next : (u : ℕ) (opens : List Sized) (sum : ℕ) → top_of (not_closed u opens) ≢ Some u
-    → (closed_sum (u + 1) sum opens ≡ closed_sum u sum opens) × (not_closed (u + 1) opens ≡ not_closed u opens)
+pub closed-next : (u : ℕ) (opens : List StackEntry) (sum : ℕ) → top_of (still_open u opens) ≢ Some u
+    → (closed_sum (u + 1) sum opens ≡ closed_sum u sum opens) × (still_open (u + 1) opens ≡ still_open u opens)
 closed-next u [] sum h = (refl, refl)
 closed-next u (top ∷ opens) sum h = by (nat_lt top.0 u) refl h (closed-next u opens (sum * top.1 + top.2)) where
-  by : (b : Bool) → nat_lt top.0 u ≡ b → top_of (if b then not_closed u opens else top ∷ opens) ≢ Some u
-      → (top_of (not_closed u opens) ≢ Some u
-      → (closed_sum (u + 1) (sum * top.1 + top.2) opens ≡ closed_sum u (sum * top.1 + top.2) opens) × (not_closed (u + 1) opens ≡ not_closed u opens))
+  by : (b : Bool) → nat_lt top.0 u ≡ b → top_of (if b then still_open u opens else top ∷ opens) ≢ Some u
+      → (top_of (still_open u opens) ≢ Some u
+      → (closed_sum (u + 1) (sum * top.1 + top.2) opens ≡ closed_sum u (sum * top.1 + top.2) opens) × (still_open (u + 1) opens ≡ still_open u opens))
       → ((if nat_lt top.0 (u + 1) then closed_sum (u + 1) (sum * top.1 + top.2) opens else sum) ≡ (if b then closed_sum u (sum * top.1 + top.2) opens else sum))
-      × ((if nat_lt top.0 (u + 1) then not_closed (u + 1) opens else top ∷ opens) ≡ (if b then not_closed u opens else top ∷ opens))
+      × ((if nat_lt top.0 (u + 1) then still_open (u + 1) opens else top ∷ opens) ≡ (if b then still_open u opens else top ∷ opens))
   by true e h ih = let t : nat_lt top.0 (u + 1) ≡ true = grind (arith, nat_tests) in rw t (ih h)
   by false e h ih =
       let other : top.0 ≢ u = λ same. h (ap Some same) in
       let t : nat_lt top.0 (u + 1) ≡ false = grind (arith, nat_tests) in rw t (refl, refl)
 
 -- what the walk holds once the unit is open
-pub opens-next : (method : ChineseCountMethod) (u : ℕ) (marks : List Mark) → top_of (not_closed u (opens_of method marks)) ≢ Some u
-    → opens_of method (unit u ∷ marks) ≡ (u, scale method u, closed_sum u (sum_of marks) (opens_of method marks)) ∷ not_closed u (opens_of method marks)
+pub opens-next : (method : ChineseCountMethod) (u : ℕ) (marks : List Mark) → top_of (still_open u (opens_of method marks)) ≢ Some u
+    → opens_of method (unit u ∷ marks) ≡ (u, scale method u, closed_sum u (sum_of marks) (opens_of method marks)) ∷ still_open u (opens_of method marks)
 opens-next method u marks h = let n = closed-next u (opens_of method marks) (sum_of marks) h in rw (n.0, n.1)
 
 -- there is room for one more
-pub opens-room : (method : ChineseCountMethod) (u : ℕ) (marks : List Mark) → in_ranks marks ≡ true → u < 16 → top_of (not_closed u (opens_of method marks)) ≢ Some u
-    → length (not_closed u (opens_of method marks)) < 16
+pub opens-room : (method : ChineseCountMethod) (u : ℕ) (marks : List Mark) → in_ranks marks ≡ true → u < 16 → top_of (still_open u (opens_of method marks)) ≢ Some u
+    → length (still_open u (opens_of method marks)) < 16
 opens-room method u marks low small h =
     let test : nat_lt u 16 ≡ true = grind (arith, nat_tests) in
     let ranks : in_ranks (unit u ∷ marks) ≡ true = rw test low in
     let all = length-records 0 (unit u ∷ marks) (omega arith) ranks in
     let same : length (ranks_of (opens_of method (unit u ∷ marks))) ≡ length (records_from 0 (unit u ∷ marks)) = ap length (opens-records method (unit u ∷ marks)) in
-    let mapped : length (ranks_of (opens_of method (unit u ∷ marks))) ≡ length (opens_of method (unit u ∷ marks)) = length-map (opens_of method (unit u ∷ marks)) (λ (top : Sized). top.0) in
-    let next : length (opens_of method (unit u ∷ marks)) ≡ suc (length (not_closed u (opens_of method marks))) = ap length (opens-next method u marks h) in
+    let mapped : length (ranks_of (opens_of method (unit u ∷ marks))) ≡ length (opens_of method (unit u ∷ marks)) = length-map (opens_of method (unit u ∷ marks)) (λ (top : StackEntry). top.0) in
+    let next : length (opens_of method (unit u ∷ marks)) ≡ suc (length (still_open u (opens_of method marks))) = ap length (opens-next method u marks h) in
     omega (arith, all, same, mapped, next)
 
 -- the steps at a unit
@@ -177,13 +177,13 @@ fault_by method u marks b sound h fits rules =
 pub unit-alone : (method : ChineseCountMethod) (u : ℕ) (marks : List Mark) → IsSound method marks → multiplies_by u (leading_rank marks) ≡ true
     → closed_sum u (sum_of marks) (opens_of method marks) < 2 ^ 128 → u ≡ 0 → leading_rank marks ≡ None → fault_of method (unit u) marks ≡ Some (incorrect_at 0)
 unit-alone method u marks sound h fits z none =
-    fault_by method u marks false sound h fits (precedes-unit method u marks ∙ ap (λ b. multiplies_upwards (unit u) marks && b && above u (top_of (not_closed u (opens_of method marks)))) (counts-none u marks z none) ∙ off (multiplies_upwards (unit u) marks) _) where
+    fault_by method u marks false sound h fits (precedes-unit method u marks ∙ ap (λ b. multiplies_upwards (unit u) marks && b && above u (top_of (still_open u (opens_of method marks)))) (counts-none u marks z none) ∙ off (multiplies_upwards (unit u) marks) _) where
       off : (a b : Bool) → (a && false && b) ≡ false
       off true b = refl
       off false b = refl
 
 pub unit-same : (method : ChineseCountMethod) (u : ℕ) (marks : List Mark) → IsSound method marks → multiplies_by u (leading_rank marks) ≡ true
-    → closed_sum u (sum_of marks) (opens_of method marks) < 2 ^ 128 → top_of (not_closed u (opens_of method marks)) ≡ Some u → fault_of method (unit u) marks ≡ Some (incorrect_at 0)
+    → closed_sum u (sum_of marks) (opens_of method marks) < 2 ^ 128 → top_of (still_open u (opens_of method marks)) ≡ Some u → fault_of method (unit u) marks ≡ Some (incorrect_at 0)
 unit-same method u marks sound h fits top =
     fault_by method u marks false sound h fits (precedes-unit method u marks ∙ ap (λ o. multiplies_upwards (unit u) marks && counts_a_unit (unit u) marks && above u o) top ∙ last (multiplies_upwards (unit u) marks) _ _ (self u)) where
       self : (u : ℕ) → nat_lt u u ≡ false
@@ -195,7 +195,7 @@ unit-same method u marks sound h fits top =
       last false b c h = refl
 
 unit-keeps : (method : ChineseCountMethod) (u : ℕ) (marks : List Mark) → multiplies_by u (leading_rank marks) ≡ true → (u ≡ 0 → leading_rank marks ≢ None)
-    → top_of (not_closed u (opens_of method marks)) ≢ Some u → may_precede (unit u) marks ≡ true
+    → top_of (still_open u (opens_of method marks)) ≢ Some u → may_precede (unit u) marks ≡ true
 unit-keeps method u marks h some top =
     precedes-unit method u marks ∙ all _ _ _ (multiplies-leading u marks ∙ h) (counts-either u marks h some) (top-above u (opens_of method marks) top) where
       all : (a b c : Bool) → a ≡ true → b ≡ true → c ≡ true → (a && b && c) ≡ true
@@ -204,7 +204,7 @@ unit-keeps method u marks h some top =
       all false b c p q r = cc
 
 pub unit-step : (method : ChineseCountMethod) (u : ℕ) (marks : List Mark) (b : Bool) → IsSound method marks → multiplies_by u (leading_rank marks) ≡ true
-    → closed_sum u (sum_of marks) (opens_of method marks) < 2 ^ 128 → (u ≡ 0 → leading_rank marks ≢ None) → top_of (not_closed u (opens_of method marks)) ≢ Some u
+    → closed_sum u (sum_of marks) (opens_of method marks) < 2 ^ 128 → (u ≡ 0 → leading_rank marks ≢ None) → top_of (still_open u (opens_of method marks)) ≢ Some u
     → scale_fits method u ≡ b → fault_of method (unit u) marks ≡ (if b then None else Some too_large)
 unit-step method u marks true sound h fits some top fit = fault_by method u marks true sound h fits (unit-keeps method u marks h some top) ∙ rw fit
 unit-step method u marks false sound h fits some top fit = fault_by method u marks true sound h fits (unit-keeps method u marks h some top) ∙ rw fit

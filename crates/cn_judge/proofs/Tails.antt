@@ -6,7 +6,7 @@ use Rattle.std.proofs.lemmas.List.{length-reverse, reverse-append}
 use Rattle.std.proofs.Math.Seq.{take-append-add}
 use Rattle.cn_core.specs.declared.method.ChineseCountMethod.{ChineseCountMethod}
 use Rattle.cn_core.specs.Mark.{Mark, digit, unit, other}
-use Rattle.cn_core.specs.Numeral.{is_numeral, opened, may_precede, each_may_precede, first_not_smaller, multiplies_upwards, counts_a_unit, starts_with_digit}
+use Rattle.cn_core.specs.Numeral.{is_numeral, with_first_digit, may_precede, each_may_precede, first_not_smaller, multiplies_upwards, counts_a_unit, starts_with_digit}
 use Rattle.cn_core.specs.Place.{body, ends_apart, is_tail, some_unfit, is_unfit, is_early}
 use Rattle.cn_core.specs.Refusal.{Refusal, incorrect_at, too_large}
 use Rattle.cn_core.specs.Scale.{scale}
@@ -122,10 +122,10 @@ abbrev pub first_read : Mark → Mark
 first_read (unit rank) = if rank == 1 then digit 10 else unit rank
 first_read mark = mark
 
-pub opened-first : (x : Mark) (rest : List Mark) → opened (x ∷ rest) ≡ first_read x ∷ rest
-opened-first (digit n) rest = refl
-opened-first (unit n) rest = refl
-opened-first other rest = refl
+pub with_first_digit-first : (x : Mark) (rest : List Mark) → with_first_digit (x ∷ rest) ≡ first_read x ∷ rest
+with_first_digit-first (digit n) rest = refl
+with_first_digit-first (unit n) rest = refl
+with_first_digit-first other rest = refl
 
 starts_same : (x : Mark) (p q : List Mark) → starts_with_digit (x ∷ p) ≡ starts_with_digit (x ∷ q)
 starts_same (digit n) p q = refl
@@ -134,10 +134,10 @@ starts_same other p q = refl
 
 numeral-tail : (x : Mark) (xs : List Mark) (r d : ℕ) → is_numeral (x ∷ xs ++ unit r ∷ digit d ∷ []) ≡ is_numeral (x ∷ xs ++ unit r ∷ [])
 numeral-tail x xs r d =
-    ap (λ l. starts_with_digit l && each_may_precede l) (opened-first x (xs ++ unit r ∷ digit d ∷ []))
+    ap (λ l. starts_with_digit l && each_may_precede l) (with_first_digit-first x (xs ++ unit r ∷ digit d ∷ []))
     ∙ ap (λ b. b && each_may_precede (first_read x ∷ xs ++ unit r ∷ digit d ∷ [])) (starts_same (first_read x) (xs ++ unit r ∷ digit d ∷ []) (xs ++ unit r ∷ []))
     ∙ ap (λ b. starts_with_digit (first_read x ∷ xs ++ unit r ∷ []) && b) (each-tail (first_read x ∷ xs) r d)
-    ∙ ap (λ l. starts_with_digit l && each_may_precede l) (sym (opened-first x (xs ++ unit r ∷ [])))
+    ∙ ap (λ l. starts_with_digit l && each_may_precede l) (sym (with_first_digit-first x (xs ++ unit r ∷ [])))
 
 unfit-tail : (method : ChineseCountMethod) (xs : List Mark) (r d : ℕ) → some_unfit method (xs ++ unit r ∷ digit d ∷ []) ≡ some_unfit method (xs ++ unit r ∷ [])
 unfit-tail method [] r d = refl
@@ -155,10 +155,10 @@ body_kept method x rest same number =
     ap (by_body method (x ∷ rest)) same ∙ by (is_numeral (x ∷ rest)) refl where
       by : (k : Bool) → is_numeral (x ∷ rest) ≡ k
           → (if k then numeral_answer method (x ∷ rest) else (if k then last_mark_answer method (x ∷ rest) else judge_body method (x ∷ rest)))
-          ≡ (if k then (if not (some_unfit method (x ∷ rest)) && nat_lt (value method (opened (x ∷ rest))) (2 ^ 128) then Ok (value method (opened (x ∷ rest))) else Err too_large) else judge_body method (x ∷ rest))
+          ≡ (if k then (if not (some_unfit method (x ∷ rest)) && nat_lt (value method (with_first_digit (x ∷ rest))) (2 ^ 128) then Ok (value method (with_first_digit (x ∷ rest))) else Err too_large) else judge_body method (x ∷ rest))
       by true e =
-          let starts : starts_with_digit (first_read x ∷ rest) ≡ true = ap starts_with_digit (sym (opened-first x rest)) ∙ and-left (starts_with_digit (opened (x ∷ rest))) _ e in
-          let same_number : colloquial_value method (opened (x ∷ rest)) ≡ value method (opened (x ∷ rest)) = rw (opened-first x rest) (number starts) in
+          let starts : starts_with_digit (first_read x ∷ rest) ≡ true = ap starts_with_digit (sym (with_first_digit-first x rest)) ∙ and-left (starts_with_digit (with_first_digit (x ∷ rest))) _ e in
+          let same_number : colloquial_value method (with_first_digit (x ∷ rest)) ≡ value method (with_first_digit (x ∷ rest)) = rw (with_first_digit-first x rest) (number starts) in
           ap (λ n. if not (some_unfit method (x ∷ rest)) && nat_lt n (2 ^ 128) then Ok n else Err too_large) same_number
       by false e = refl
 
@@ -208,21 +208,21 @@ digit_tail : (method : ChineseCountMethod) (x : Mark) (xs : List Mark) (r d plac
 digit_tail method x xs r d place h =
     let apart : body (x ∷ xs ++ unit r ∷ digit d ∷ []) ≡ x ∷ xs ++ unit r ∷ [] = body-tail x xs (unit r) (digit d) ∙ ap (λ (b : Bool). x ∷ xs ++ unit r ∷ (if b && true then [] else digit d ∷ [])) h in
     let big : nat_lt r 2 ≡ false = grind (arith, nat_tests) in
-    let number : colloquial_value method (opened (x ∷ xs ++ unit r ∷ digit d ∷ [])) ≡ value method (opened (x ∷ xs ++ unit r ∷ [])) + d * scale method r / 10 =
-    ap (colloquial_value method) (opened-first x (xs ++ unit r ∷ digit d ∷ [])) ∙ colloquial-tail method (first_read x ∷ xs) r d big
-    ∙ ap (λ l. value method l + d * scale method r / 10) (sym (opened-first x (xs ++ unit r ∷ []))) in
+    let number : colloquial_value method (with_first_digit (x ∷ xs ++ unit r ∷ digit d ∷ [])) ≡ value method (with_first_digit (x ∷ xs ++ unit r ∷ [])) + d * scale method r / 10 =
+    ap (colloquial_value method) (with_first_digit-first x (xs ++ unit r ∷ digit d ∷ [])) ∙ colloquial-tail method (first_read x ∷ xs) r d big
+    ∙ ap (λ l. value method l + d * scale method r / 10) (sym (with_first_digit-first x (xs ++ unit r ∷ []))) in
     ap (by_body method (x ∷ xs ++ unit r ∷ digit d ∷ [])) apart
     ∙ ap (λ (k : Bool). if k then numeral_answer method (x ∷ xs ++ unit r ∷ digit d ∷ []) else (if is_numeral (x ∷ xs ++ unit r ∷ []) then last_mark_answer method (x ∷ xs ++ unit r ∷ digit d ∷ []) else judge_body method (x ∷ xs ++ unit r ∷ []))) (numeral-tail x xs r d)
     ∙ by (is_numeral (x ∷ xs ++ unit r ∷ [])) number where
-      by : (k : Bool) → colloquial_value method (opened (x ∷ xs ++ unit r ∷ digit d ∷ [])) ≡ value method (opened (x ∷ xs ++ unit r ∷ [])) + d * scale method r / 10
+      by : (k : Bool) → colloquial_value method (with_first_digit (x ∷ xs ++ unit r ∷ digit d ∷ [])) ≡ value method (with_first_digit (x ∷ xs ++ unit r ∷ [])) + d * scale method r / 10
           → (if k then numeral_answer method (x ∷ xs ++ unit r ∷ digit d ∷ []) else (if k then last_mark_answer method (x ∷ xs ++ unit r ∷ digit d ∷ []) else judge_body method (x ∷ xs ++ unit r ∷ [])))
           ≡ tail_answer method place r (digit d)
-          (if k then (if not (some_unfit method (x ∷ xs ++ unit r ∷ [])) && nat_lt (value method (opened (x ∷ xs ++ unit r ∷ []))) (2 ^ 128) then Ok (value method (opened (x ∷ xs ++ unit r ∷ []))) else Err too_large)
+          (if k then (if not (some_unfit method (x ∷ xs ++ unit r ∷ [])) && nat_lt (value method (with_first_digit (x ∷ xs ++ unit r ∷ []))) (2 ^ 128) then Ok (value method (with_first_digit (x ∷ xs ++ unit r ∷ []))) else Err too_large)
           else judge_body method (x ∷ xs ++ unit r ∷ []))
       by true number =
           ap (λ n. if not (some_unfit method (x ∷ xs ++ unit r ∷ digit d ∷ [])) && nat_lt n (2 ^ 128) then Ok n else Err too_large) number
-          ∙ ap (λ (b : Bool). if not b && nat_lt (value method (opened (x ∷ xs ++ unit r ∷ [])) + d * scale method r / 10) (2 ^ 128) then Ok (value method (opened (x ∷ xs ++ unit r ∷ [])) + d * scale method r / 10) else Err too_large) (unfit-tail method (x ∷ xs) r d)
-          ∙ sum_cases (some_unfit method (x ∷ xs ++ unit r ∷ [])) method place r d (value method (opened (x ∷ xs ++ unit r ∷ [])))
+          ∙ ap (λ (b : Bool). if not b && nat_lt (value method (with_first_digit (x ∷ xs ++ unit r ∷ [])) + d * scale method r / 10) (2 ^ 128) then Ok (value method (with_first_digit (x ∷ xs ++ unit r ∷ [])) + d * scale method r / 10) else Err too_large) (unfit-tail method (x ∷ xs) r d)
+          ∙ sum_cases (some_unfit method (x ∷ xs ++ unit r ∷ [])) method place r d (value method (with_first_digit (x ∷ xs ++ unit r ∷ [])))
       by false number = body_refused method place r (digit d) (x ∷ xs ++ unit r ∷ [])
 
 -- a mark that may stand before nothing ends no numeral
@@ -249,9 +249,9 @@ last_stop : (method : ChineseCountMethod) (x : Mark) (xs : List Mark) (r place :
     ≡ tail_answer method place r l (plain method (x ∷ xs ++ unit r ∷ []))
 last_stop method x xs r place l h at_place stop =
     let apart : body (x ∷ xs ++ unit r ∷ l ∷ []) ≡ x ∷ xs ++ unit r ∷ [] = body-tail x xs (unit r) l ∙ ap (λ (b : Bool). x ∷ xs ++ unit r ∷ (if b then [] else l ∷ [])) h in
-    let number : colloquial_value method (opened (x ∷ xs ++ unit r ∷ [])) ≡ value method (opened (x ∷ xs ++ unit r ∷ [])) =
-    ap (colloquial_value method) (opened-first x (xs ++ unit r ∷ [])) ∙ colloquial-unit method (first_read x ∷ xs) r ∙ ap (value method) (sym (opened-first x (xs ++ unit r ∷ []))) in
-    rw (apart, number, ← at_place) (by (is_numeral (x ∷ xs ++ unit r ∷ [])) (some_unfit method (x ∷ xs ++ unit r ∷ [])) (nat_lt (value method (opened (x ∷ xs ++ unit r ∷ []))) (2 ^ 128)) (value method (opened (x ∷ xs ++ unit r ∷ [])))) where
+    let number : colloquial_value method (with_first_digit (x ∷ xs ++ unit r ∷ [])) ≡ value method (with_first_digit (x ∷ xs ++ unit r ∷ [])) =
+    ap (colloquial_value method) (with_first_digit-first x (xs ++ unit r ∷ [])) ∙ colloquial-unit method (first_read x ∷ xs) r ∙ ap (value method) (sym (with_first_digit-first x (xs ++ unit r ∷ []))) in
+    rw (apart, number, ← at_place) (by (is_numeral (x ∷ xs ++ unit r ∷ [])) (some_unfit method (x ∷ xs ++ unit r ∷ [])) (nat_lt (value method (with_first_digit (x ∷ xs ++ unit r ∷ []))) (2 ^ 128)) (value method (with_first_digit (x ∷ xs ++ unit r ∷ [])))) where
       by : (k u t : Bool) (number : ℕ)
           → (if k then (if is_ok (if not u && t then Ok number else Err too_large) then Err (incorrect_at place) else Err too_large) else judge_body method (x ∷ xs ++ unit r ∷ []))
           ≡ tail_answer method place r l (if k then (if not u && t then Ok number else Err too_large) else judge_body method (x ∷ xs ++ unit r ∷ []))

@@ -4,7 +4,7 @@ ghost use Rattle.cn_core.specs.Text.{text_of, marks_of};
 ghost use Rattle.cn_core.specs.Naive.{naive_answer};
 ghost use Rattle.cn_core.specs.Typed.{naive_reading};
 ghost use Rattle.cn_judge.specs.Answer.{answer_of};
-ghost use Rattle.cn_judge.specs.Private.Piece.{spotted};
+ghost use Rattle.cn_judge.specs.Private.Piece.{answer_at};
 ghost use Rattle.cn_judge.specs.Private.PlainPiece.{IsPiece, IsRun, StartsWith, piece_len};
 
 use crate::ChineseToNumberError;
@@ -98,7 +98,7 @@ fn split_first_piece(text: &str) -> Option<(Piece, &str)>
 // The answer to plain digits without sign, which stand after so many characters of the caller's string.
 fn judge_naive(skipped: usize, text: &str) -> Result<u128, ChineseToNumberError>
     requires { skipped + length text.now < 2 ^ 64 }
-    ensures { answer_of (λ n. n) result ≡ spotted skipped text.now (naive_answer (marks_of (text_of text.now))) }
+    ensures { answer_of (λ n. n) result ≡ answer_at skipped text.now (naive_answer (marks_of (text_of text.now))) }
 {
     let mut rest = text;
     let mut char_index = skipped;

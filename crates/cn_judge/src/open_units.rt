@@ -1,12 +1,12 @@
 // The units that a walk from the back has met and that a unit further left can still join.
 ghost use Rattle.std.specs.Prelude.{◌≡◌, ◌+◌, ◌*◌, ◌^◌, ◌<◌, ◌≤◌, ◌↔◌, [], ◌∷◌, length, Some, false, IsTrue, IfSome, IfNone, SomeIff, option_map};
 ghost use Rattle.cn_core.specs.Characters.{rank};
-ghost use Rattle.cn_judge.specs.Private.Stack.{ClosesTop, all_positive, closed_sum, not_closed, top_of, total_sum};
+ghost use Rattle.cn_judge.specs.Private.Stack.{ClosesTop, all_positive, closed_sum, still_open, top_of, total_sum};
 
 use cn_core::Unit;
 use std::marker::Model;
 
-// A unit, its scale, and the sum that it was opened over.
+// A unit, its scale, and the sum that it was with_first_digit over.
 #[derive(Copy, Clone)]
 struct OpenUnit {
     unit: Unit,
@@ -14,7 +14,7 @@ struct OpenUnit {
     below: u128,
 }
 
-/// The units that are still open, the last opened on top. Their ranks fall from the bottom to the top, so
+/// The units that are still open, the last with_first_digit on top. Their ranks fall from the bottom to the top, so
 /// there are never more than the 16 ranks.
 #[derive(Drop)]
 pub struct OpenUnits {
@@ -103,7 +103,7 @@ impl OpenUnits {
     pub fn close_below(&mut self, unit: Unit, sum: u128) -> Option<u128>
         requires { IsTrue (all_positive self.old) }
         ensures sum { SomeIff result (closed_sum (rank unit) sum self.old < 2 ^ 128) (closed_sum (rank unit) sum self.old) }
-        ensures left { IfSome result (λ _. self.new ≡ not_closed (rank unit) self.old) }
+        ensures left { IfSome result (λ _. self.new ≡ still_open (rank unit) self.old) }
     {
         let mut closed = sum;
         'closing: while let Some(top) = self.top() {

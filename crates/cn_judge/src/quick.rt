@@ -25,7 +25,7 @@ ghost use Rattle.std.specs.Prelude.{
 ghost use Rattle.cn_core.specs.Characters.{rank};
 ghost use Rattle.cn_core.specs.Judge.{Judges};
 ghost use Rattle.cn_core.specs.Mark.{Mark as NumeralMark, digit};
-ghost use Rattle.cn_core.specs.Numeral.{each_may_precede, is_numeral, opened, starts_with_digit};
+ghost use Rattle.cn_core.specs.Numeral.{each_may_precede, is_numeral, with_first_digit, starts_with_digit};
 ghost use Rattle.cn_core.specs.Text.{text_of, marks_of};
 ghost use Rattle.cn_judge.specs.Private.Marked.{marked, unit_mark};
 ghost use Rattle.cn_judge.specs.Private.Regular.{Group, LeavesNoTail, MayOpen, StandsRegular, first_group, top_exponent};
@@ -37,7 +37,7 @@ use cn_core::{ChineseCountMethod, Unit, exponent, power_of_ten};
 
 /// Where a quick walk stands between two characters.
 #[derive(Copy, Clone)]
-pub struct Standing {
+pub struct QuickState {
     /// The sum of the digits before the last unit that opened a group.
     pub total: u128,
     /// The sum of the digits since then, as if no group was open.
@@ -77,12 +77,12 @@ fn place(unit: Unit) -> u64
 }
 
 // The section's sum with one more digit, if it fits.
-fn add_digit(standing: Standing, value: u8) -> Option<u64>
-    ensures { IfSome result (λ sum. sum ≡ standing.sum + value * 10 ^ rank standing.last) }
+fn add_digit(state: QuickState, value: u8) -> Option<u64>
+    ensures { IfSome result (λ sum. sum ≡ state.sum + value * 10 ^ rank state.last) }
 {
-    standing
+    state
         .sum
-        .checked_add(value as u64 * place(standing.last))
+        .checked_add(value as u64 * place(state.last))
 }
 
 // The sum so far with a section that the open units multiply, if it fits.
@@ -106,59 +106,59 @@ fn digit_may_precede(value: u8, at_digit: bool) -> bool
 }
 
 // One more digit.
-fn step_digit(standing: Standing, value: u8) -> Option<Standing>
+fn step_digit(state: QuickState, value: u8) -> Option<QuickState>
     requires { (method : ChineseCountMethod) × (marks : List NumeralMark) × (groups : List Group)
-        × StandsRegular method marks groups standing }
-    ensures { (method : ChineseCountMethod) (marks : List NumeralMark) (groups : List Group) → StandsRegular method marks groups standing
+        × StandsRegular method marks groups state }
+    ensures { (method : ChineseCountMethod) (marks : List NumeralMark) (groups : List Group) → StandsRegular method marks groups state
         → IfSome result (StandsRegular method (digit value ∷ marks) groups) }
 {
-    if !digit_may_precede(value, standing.at_digit) {
+    if !digit_may_precede(value, state.at_digit) {
         return None;
     }
-    Some(Standing {
-        total: standing.total,
-        sum: add_digit(standing, value)?,
-        last: standing.last,
+    Some(QuickState {
+        total: state.total,
+        sum: add_digit(state, value)?,
+        last: state.last,
         at_digit: true,
     })
 }
 
 // Whether a unit of a section is greater than the section's last unit, and has a digit after it unless it is the
 // section's first.
-fn extends_section(standing: Standing, unit: Unit) -> bool
-    ensures { result ≡ (nat_lt (rank standing.last) (rank unit) && (standing.at_digit || rank standing.last == 0)) }
+fn extends_section(state: QuickState, unit: Unit) -> bool
+    ensures { result ≡ (nat_lt (rank state.last) (rank unit) && (state.at_digit || rank state.last == 0)) }
 {
-    unit > standing.last && (standing.at_digit || standing.last == Unit::Ge)
+    unit > state.last && (state.at_digit || state.last == Unit::Ge)
 }
 
 // One more unit of a section.
-fn step_section_unit(standing: Standing, unit: Unit) -> Option<Standing>
-    ensures { (method : ChineseCountMethod) (marks : List NumeralMark) (groups : List Group) → StandsRegular method marks groups standing
+fn step_section_unit(state: QuickState, unit: Unit) -> Option<QuickState>
+    ensures { (method : ChineseCountMethod) (marks : List NumeralMark) (groups : List Group) → StandsRegular method marks groups state
         → rank unit < first_group method
         → LeavesNoTail (unit_mark unit) marks
         → IfSome result (StandsRegular method (unit_mark unit ∷ marks) groups) }
 {
-    if !extends_section(standing, unit) {
+    if !extends_section(state, unit) {
         return None;
     }
-    Some(Standing {
-        total: standing.total,
-        sum: standing.sum,
+    Some(QuickState {
+        total: state.total,
+        sum: state.sum,
         last: unit,
         at_digit: false,
     })
 }
 
 // Whether a unit may open a group there; it closes what is smaller.
-fn makes_way(groups: &mut OpenGroups, standing: Standing, unit: Unit) -> bool
-    ensures { (method : ChineseCountMethod) (marks : List NumeralMark) → StandsRegular method marks groups.old standing → first_group method ≤ rank unit
+fn makes_way(groups: &mut OpenGroups, state: QuickState, unit: Unit) -> bool
+    ensures { (method : ChineseCountMethod) (marks : List NumeralMark) → StandsRegular method marks groups.old state → first_group method ≤ rank unit
         → IsTrue result → MayOpen method marks groups.new (rank unit) }
 {
-    if standing.at_digit {
+    if state.at_digit {
         groups.close_below(unit);
         groups.is_below_top(unit)
     } else {
-        standing.last == Unit::Ge && groups.is_below_top(unit)
+        state.last == Unit::Ge && groups.is_below_top(unit)
     }
 }
 
@@ -166,16 +166,16 @@ fn makes_way(groups: &mut OpenGroups, standing: Standing, unit: Unit) -> bool
 fn step_group(
     method: ChineseCountMethod,
     groups: &mut OpenGroups,
-    standing: Standing,
+    state: QuickState,
     unit: Unit,
-) -> Option<Standing>
-    requires { (marks : List NumeralMark) × StandsRegular method marks groups.old standing × (first_group method ≤ rank unit) }
-    ensures { (marks : List NumeralMark) → StandsRegular method marks groups.old standing
+) -> Option<QuickState>
+    requires { (marks : List NumeralMark) × StandsRegular method marks groups.old state × (first_group method ≤ rank unit) }
+    ensures { (marks : List NumeralMark) → StandsRegular method marks groups.old state
         → LeavesNoTail (unit_mark unit) marks
         → IfSome result (StandsRegular method (unit_mark unit ∷ marks) groups.new) }
 {
-    let total = add_section(groups, standing.total, standing.sum)?;
-    if !makes_way(groups, standing, unit) {
+    let total = add_section(groups, state.total, state.sum)?;
+    if !makes_way(groups, state, unit) {
         return None;
     }
     let all = groups.exponent().checked_add(exponent(method, unit))?;
@@ -183,7 +183,7 @@ fn step_group(
         return None;
     }
     groups.open(unit, all as u8);
-    Some(Standing {
+    Some(QuickState {
         total,
         sum: 0,
         last: Unit::Ge,
@@ -192,10 +192,10 @@ fn step_group(
 }
 
 // Whether a digit that is the text's last character would stand apart after this unit.
-fn leaves_tail(unit: Unit, standing: Standing, is_second: bool) -> bool
-    ensures { result ≡ (nat_le 2 (rank unit) && standing.at_digit && is_second) }
+fn leaves_tail(unit: Unit, state: QuickState, is_second: bool) -> bool
+    ensures { result ≡ (nat_le 2 (rank unit) && state.at_digit && is_second) }
 {
-    unit >= Unit::Bai && standing.at_digit && is_second
+    unit >= Unit::Bai && state.at_digit && is_second
 }
 
 // Whether a unit opens a group: each from 萬 up does, but by `Low` none, since there each is ten of the one before.
@@ -212,21 +212,21 @@ fn opens_group(method: ChineseCountMethod, unit: Unit) -> bool
 fn step_unit(
     method: ChineseCountMethod,
     groups: &mut OpenGroups,
-    standing: Standing,
+    state: QuickState,
     unit: Unit,
     is_second: bool,
-) -> Option<Standing>
-    requires { (marks : List NumeralMark) × StandsRegular method marks groups.old standing }
-    ensures { (marks : List NumeralMark) → StandsRegular method marks groups.old standing → is_second ≡ (length marks == 1)
+) -> Option<QuickState>
+    requires { (marks : List NumeralMark) × StandsRegular method marks groups.old state }
+    ensures { (marks : List NumeralMark) → StandsRegular method marks groups.old state → is_second ≡ (length marks == 1)
         → IfSome result (StandsRegular method (unit_mark unit ∷ marks) groups.new) }
 {
-    if leaves_tail(unit, standing, is_second) {
+    if leaves_tail(unit, state, is_second) {
         return None;
     }
     if opens_group(method, unit) {
-        step_group(method, groups, standing, unit)
+        step_group(method, groups, state, unit)
     } else {
-        step_section_unit(standing, unit)
+        step_section_unit(state, unit)
     }
 }
 
@@ -234,17 +234,17 @@ fn step_unit(
 fn step(
     method: ChineseCountMethod,
     groups: &mut OpenGroups,
-    standing: Standing,
+    state: QuickState,
     mark: Mark,
     is_second: bool,
-) -> Option<Standing>
-    requires { (marks : List NumeralMark) × StandsRegular method marks groups.old standing }
-    ensures { (marks : List NumeralMark) → StandsRegular method marks groups.old standing → is_second ≡ (length marks == 1)
+) -> Option<QuickState>
+    requires { (marks : List NumeralMark) × StandsRegular method marks groups.old state }
+    ensures { (marks : List NumeralMark) → StandsRegular method marks groups.old state → is_second ≡ (length marks == 1)
         → IfSome result (StandsRegular method (marked mark ∷ marks) groups.new) }
 {
     match mark {
-        Mark::Digit(value) => step_digit(standing, value),
-        Mark::Unit(unit) => step_unit(method, groups, standing, unit, is_second),
+        Mark::Digit(value) => step_digit(state, value),
+        Mark::Unit(unit) => step_unit(method, groups, state, unit, is_second),
         Mark::Other => None,
     }
 }
@@ -252,7 +252,7 @@ fn step(
 // The digit at the start of a text, where 十 is ten, if what follows lets it stand there.
 fn first_digit(first: Mark, at_digit: bool) -> Option<u8>
     ensures { (marks : List NumeralMark) → each_may_precede marks ≡ true → at_digit ≡ starts_with_digit marks
-        → IfSome result (λ value. (is_numeral (marked first ∷ marks) ≡ true) × (opened (marked first ∷ marks) ≡ digit value ∷ marks)) }
+        → IfSome result (λ value. (is_numeral (marked first ∷ marks) ≡ true) × (with_first_digit (marked first ∷ marks) ≡ digit value ∷ marks)) }
 {
     match first {
         Mark::Digit(value) if digit_may_precede(value, at_digit) => Some(value),
@@ -262,13 +262,13 @@ fn first_digit(first: Mark, at_digit: bool) -> Option<u8>
 }
 
 // The number of a numeral by its first character, once the others are walked.
-fn finish(groups: &OpenGroups, standing: Standing, first: Mark) -> Option<u128>
-    requires { (method : ChineseCountMethod) × (marks : List NumeralMark) × StandsRegular method marks groups.now standing }
-    ensures { (method : ChineseCountMethod) (marks : List NumeralMark) → StandsRegular method marks groups.now standing
+fn finish(groups: &OpenGroups, state: QuickState, first: Mark) -> Option<u128>
+    requires { (method : ChineseCountMethod) × (marks : List NumeralMark) × StandsRegular method marks groups.now state }
+    ensures { (method : ChineseCountMethod) (marks : List NumeralMark) → StandsRegular method marks groups.now state
         → IfSome result (λ n. Judges method (marked first ∷ marks) (Ok n)) }
 {
-    let digit = first_digit(first, standing.at_digit)?;
-    add_section(groups, standing.total, add_digit(standing, digit)?)
+    let digit = first_digit(first, state.at_digit)?;
+    add_section(groups, state.total, add_digit(state, digit)?)
 }
 
 /// The number of a regular numeral: of digits and units above 個 that take three bytes each, where no last digit
@@ -278,7 +278,7 @@ pub fn read_quickly(method: ChineseCountMethod, text: &str) -> Option<u128>
     ensures { IfSome result (λ n. Judges method (marks_of (text_of text.now)) (Ok n)) }
 {
     let mut groups = OpenGroups::new();
-    let mut standing = Standing {
+    let mut state = QuickState {
         total: 0,
         sum: 0,
         last: Unit::Ge,
@@ -289,10 +289,10 @@ pub fn read_quickly(method: ChineseCountMethod, text: &str) -> Option<u128>
     'walking: loop {
         let (mark, before) = split_last_known(ahead)?;
         if before.is_empty() {
-            return finish(&groups, standing, mark);
+            return finish(&groups, state, mark);
         }
         let is_second = ahead.len() == second;
-        standing = step(method, &mut groups, standing, mark, is_second)?;
+        state = step(method, &mut groups, state, mark, is_second)?;
         ahead = before;
     }
 }

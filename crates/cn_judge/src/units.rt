@@ -22,7 +22,7 @@ ghost use Rattle.cn_core.specs.Characters.{rank};
 ghost use Rattle.cn_core.specs.Mark.{Mark as NumeralMark, digit, mark_of};
 ghost use Rattle.cn_core.specs.Scale.{scale, scale_fits};
 ghost use Rattle.cn_core.specs.Text.{text_of, marks_of};
-ghost use Rattle.cn_core.specs.Numeral.{each_may_precede, is_numeral, opened, starts_with_digit};
+ghost use Rattle.cn_core.specs.Numeral.{each_may_precede, is_numeral, with_first_digit, starts_with_digit};
 ghost use Rattle.cn_core.specs.Place.{is_unit_from_hundred, is_unit_above_ge};
 ghost use Rattle.cn_core.specs.Typed.{Reads};
 ghost use Rattle.cn_judge.specs.Answer.{answer_of};
@@ -46,7 +46,7 @@ use cn_core::{ChineseCountMethod, Unit, Whole, scale};
 fn first_digit(first: char, next: Next) -> Option<u8>
     ensures { (marks : List NumeralMark) → each_may_precede marks ≡ true → digit_next next ≡ starts_with_digit marks
         → MatchOption result (is_numeral (mark_of first ∷ marks) ≡ false)
-        (λ value. (is_numeral (mark_of first ∷ marks) ≡ true) × (opened (mark_of first ∷ marks) ≡ digit value ∷ marks)) }
+        (λ value. (is_numeral (mark_of first ∷ marks) ≡ true) × (with_first_digit (mark_of first ∷ marks) ≡ digit value ∷ marks)) }
 {
     match mark_of(first) {
         Mark::Digit(value) => {
@@ -72,11 +72,11 @@ fn judge_plain(
         ≡ after_first char_index rest.now (walked_answer method (mark_of first) (marks_of (text_of rest.now))) }
 {
     let mut units = OpenUnits::new();
-    let standing = walk(method, char_index + 1, rest, &mut units)?;
-    let Some(digit) = first_digit(first, standing.next) else {
+    let state = walk(method, char_index + 1, rest, &mut units)?;
+    let Some(digit) = first_digit(first, state.next) else {
         return Err(ChineseToNumberError::ChineseNumberIncorrect { char_index });
     };
-    match units.finish(standing.sum, digit) {
+    match units.finish(state.sum, digit) {
         Some(number) => Ok(number),
         None => Err(ChineseToNumberError::Overflow),
     }

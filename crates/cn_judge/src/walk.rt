@@ -6,8 +6,8 @@ ghost use Rattle.cn_core.specs.Refusal.{Refusal};
 ghost use Rattle.cn_core.specs.Text.{marks_of, text_of};
 ghost use Rattle.cn_judge.specs.Answer.{refusal_of};
 ghost use Rattle.cn_judge.specs.Private.Marked.{marked, unit_mark};
-ghost use Rattle.cn_judge.specs.Private.Piece.{spotted};
-ghost use Rattle.cn_judge.specs.Private.Stack.{Sized};
+ghost use Rattle.cn_judge.specs.Private.Piece.{answer_at};
+ghost use Rattle.cn_judge.specs.Private.Stack.{StackEntry};
 ghost use Rattle.cn_judge.specs.Private.Walk.{faults, digit_next, unit_next, multiplies_by, opens_of, fault_of, fault_refusal};
 ghost use Rattle.cn_judge.specs.Private.Walked.{IsWalked};
 
@@ -28,7 +28,7 @@ pub enum Next {
 
 /// Where a walk stands between two characters: the sum of the digits since the last unit, and what was met.
 #[derive(Copy, Clone)]
-pub struct Standing {
+pub struct WalkState {
     pub sum: u128,
     pub next: Next,
 }
@@ -37,7 +37,7 @@ pub struct Standing {
 #[derive(Copy, Clone)]
 pub enum Fault {
     Incorrect,
-    PastLimit,
+    TooLarge,
 }
 
 // The unit that has just been met, if it was one.
@@ -83,22 +83,22 @@ fn counts_a_unit(unit: Unit, after: Option<Unit>) -> bool
 fn step_unit(
     method: ChineseCountMethod,
     units: &mut OpenUnits,
-    standing: Standing,
+    state: WalkState,
     unit: Unit,
 ) -> Result<(), Fault>
-    requires { (walked : List ℕ) × IsWalked method walked standing.sum units.old standing.next }
-    ensures { (walked : List ℕ) → IsWalked method walked standing.sum units.old standing.next
+    requires { (walked : List ℕ) × IsWalked method walked state.sum units.old state.next }
+    ensures { (walked : List ℕ) → IsWalked method walked state.sum units.old state.next
         → MatchResult result
         (λ _. (fault_of method (unit_mark unit) (marks_of walked) ≡ None)
         × (units.new ≡ opens_of method (unit_mark unit ∷ marks_of walked)))
         (λ fault. fault_of method (unit_mark unit) (marks_of walked) ≡ Some (fault_refusal fault)) }
 {
-    let after = unit_after(standing.next);
+    let after = unit_after(state.next);
     if !multiplies_upwards(unit, after) {
         return Err(Fault::Incorrect); // rule 4
     }
-    let Some(below) = units.close_below(unit, standing.sum) else {
-        return Err(Fault::PastLimit); // its group is too large
+    let Some(below) = units.close_below(unit, state.sum) else {
+        return Err(Fault::TooLarge); // its group is too large
     };
     if !counts_a_unit(unit, after) {
         return Err(Fault::Incorrect); // rule 5
@@ -107,26 +107,26 @@ fn step_unit(
         return Err(Fault::Incorrect); // rule 6
     }
     let Some(size) = scale(method, unit) else {
-        return Err(Fault::PastLimit); // its scale does not fit
+        return Err(Fault::TooLarge); // its scale does not fit
     };
     units.open(unit, size, below);
     Ok(())
 }
 
 // The sum with one more digit, where what was walked holds no fault.
-fn step_digit(standing: Standing, value: u8) -> Result<u128, Fault>
+fn step_digit(state: WalkState, value: u8) -> Result<u128, Fault>
     requires { value < 10 }
-    ensures { (method : ChineseCountMethod) (walked : List ℕ) (units : List Sized)
-        → IsWalked method walked standing.sum units standing.next
+    ensures { (method : ChineseCountMethod) (walked : List ℕ) (units : List StackEntry)
+        → IsWalked method walked state.sum units state.next
         → MatchResult result
-        (λ sum. (fault_of method (digit value) (marks_of walked) ≡ None) × (sum ≡ standing.sum + value))
+        (λ sum. (fault_of method (digit value) (marks_of walked) ≡ None) × (sum ≡ state.sum + value))
         (λ fault. fault_of method (digit value) (marks_of walked) ≡ Some (fault_refusal fault)) }
 {
-    if !separates_digits(value, standing.next) {
+    if !separates_digits(value, state.next) {
         return Err(Fault::Incorrect); // rule 3
     }
     if value == 0 {
-        return Ok(standing.sum);
+        return Ok(state.sum);
     }
     Ok(value as u128)
 }
@@ -135,27 +135,27 @@ fn step_digit(standing: Standing, value: u8) -> Result<u128, Fault>
 fn step(
     method: ChineseCountMethod,
     units: &mut OpenUnits,
-    standing: Standing,
+    state: WalkState,
     mark: Mark,
-) -> Result<Standing, Fault>
+) -> Result<WalkState, Fault>
     requires { (c : ℕ) × (walked : List ℕ) × (marked mark ≡ mark_of c)
-        × IsWalked method walked standing.sum units.old standing.next }
+        × IsWalked method walked state.sum units.old state.next }
     ensures { (c : ℕ) (walked : List ℕ) → marked mark ≡ mark_of c
-        → IsWalked method walked standing.sum units.old standing.next
+        → IsWalked method walked state.sum units.old state.next
         → MatchResult result
         (λ after. IsWalked method (c ∷ walked) after.sum units.new after.next)
         (λ fault. fault_of method (mark_of c) (marks_of walked) ≡ Some (fault_refusal fault)) }
 {
     match mark {
-        Mark::Digit(value) => match step_digit(standing, value) {
-            Ok(sum) => Ok(Standing {
+        Mark::Digit(value) => match step_digit(state, value) {
+            Ok(sum) => Ok(WalkState {
                 sum,
                 next: Next::AtDigit,
             }),
             Err(fault) => Err(fault),
         },
-        Mark::Unit(unit) => match step_unit(method, units, standing, unit) {
-            Ok(()) => Ok(Standing {
+        Mark::Unit(unit) => match step_unit(method, units, state, unit) {
+            Ok(()) => Ok(WalkState {
                 sum: 0,
                 next: Next::AtUnit(unit),
             }),
@@ -171,22 +171,22 @@ pub fn walk(
     skipped: usize,
     text: &str,
     units: &mut OpenUnits,
-) -> Result<Standing, ChineseToNumberError>
+) -> Result<WalkState, ChineseToNumberError>
     requires room { skipped + length text.now < 2 ^ 64 }
     requires none_open { units.old ≡ [] }
-    ensures { MatchResult result (λ standing. IsWalked method (text_of text.now) standing.sum units.new standing.next)
+    ensures { MatchResult result (λ state. IsWalked method (text_of text.now) state.sum units.new state.next)
         (λ error. (fault : Refusal) × (faults method (marks_of (text_of text.now)) ≡ Some fault)
-        × (Err (refusal_of error) ≡ spotted skipped text.now (Err fault))) }
+        × (Err (refusal_of error) ≡ answer_at skipped text.now (Err fault))) }
 {
-    let mut standing = Standing {
+    let mut state = WalkState {
         sum: 0,
         next: Next::AtEnd,
     };
     let mut ahead = text;
     'walking: while let Some((mark, before)) = split_last_mark(ahead) {
-        match step(method, units, standing, mark) {
-            Ok(after) => standing = after,
-            Err(Fault::PastLimit) => return Err(ChineseToNumberError::Overflow),
+        match step(method, units, state, mark) {
+            Ok(after) => state = after,
+            Err(Fault::TooLarge) => return Err(ChineseToNumberError::Overflow),
             Err(Fault::Incorrect) => {
                 let char_index = skipped + count_chars(before);
                 return Err(ChineseToNumberError::ChineseNumberIncorrect { char_index });
@@ -194,5 +194,5 @@ pub fn walk(
         }
         ahead = before;
     }
-    Ok(standing)
+    Ok(state)
 }

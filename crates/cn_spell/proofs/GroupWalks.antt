@@ -10,7 +10,7 @@ use Rattle.cn_core.specs.declared.method.ChineseCountMethod.{ChineseCountMethod}
 use Rattle.cn_core.specs.declared.method.ChineseCountMethod.TheVariants.{Low, TenThousand, Middle, High}
 use Rattle.cn_core.specs.Mark.{Mark, digit, unit}
 use Rattle.cn_core.specs.Scale.{exponent}
-use Rattle.cn_core.specs.Spelling.{spelling, shortened, spelled_within}
+use Rattle.cn_core.specs.Spelling.{spelling, short_spelling, spelling_within}
 use Rattle.cn_core.proofs.Cuts.{part, part-some}
 use Rattle.cn_core.proofs.Fronts.{and-left, and-right}
 use Rattle.cn_core.proofs.Sums.{spelled-digit}
@@ -167,26 +167,26 @@ rank-start High place some pos four =
 -- a number of four digits is spelled alike by each method
 same-small : (method : ChineseCountMethod) (g : ℕ) → g < 10 ^ 4 → spelling method g ≡ spelling Low g
 same-small method g small = elim (dec_lt 0 g) [
-  | yes pos ↦ ap shortened (sym (part-some method g pos) ∙ group-is method g small ∙ sym (group-is Low g small) ∙ part-some Low g pos)
+  | yes pos ↦ ap short_spelling (sym (part-some method g pos) ∙ group-is method g small ∙ sym (group-is Low g small) ∙ part-some Low g pos)
   | no none ↦ let z : g ≡ 0 = omega (arith, none) in rw (z, spelled-digit 0 method 0 (omega arith)) refl
 ]
 
 -- 一 before 十 is left out by the group alone
-shortened-over : (g rank : ℕ) (rest : List Mark) → 0 < g → g < 10 ^ 4 → (rank == 1) ≡ false → shortened (part Low g ++ (unit rank ∷ rest)) ≡ shortened (part Low g) ++ (unit rank ∷ rest)
-shortened-over g rank rest pos small other = by (top-of g 4 small pos) where
-  flat : (d : ℕ) → shortened (digit d ∷ unit rank ∷ rest) ≡ digit d ∷ unit rank ∷ rest
+short_spelling-over : (g rank : ℕ) (rest : List Mark) → 0 < g → g < 10 ^ 4 → (rank == 1) ≡ false → short_spelling (part Low g ++ (unit rank ∷ rest)) ≡ short_spelling (part Low g) ++ (unit rank ∷ rest)
+short_spelling-over g rank rest pos small other = by (top-of g 4 small pos) where
+  flat : (d : ℕ) → short_spelling (digit d ∷ unit rank ∷ rest) ≡ digit d ∷ unit rank ∷ rest
   flat d = let f : (d == 1 && rank == 1) ≡ false = rw other (never (d == 1)) in rw f refl where
     never : (b : Bool) → (b && false) ≡ false
     never true = refl
     never false = refl
 
-  deep : (d place : ℕ) (more : List Mark) → shortened ((digit d ∷ unit place ∷ more) ++ (unit rank ∷ rest)) ≡ shortened (digit d ∷ unit place ∷ more) ++ (unit rank ∷ rest)
+  deep : (d place : ℕ) (more : List Mark) → short_spelling ((digit d ∷ unit place ∷ more) ++ (unit rank ∷ rest)) ≡ short_spelling (digit d ∷ unit place ∷ more) ++ (unit rank ∷ rest)
   deep d place more = choice (d == 1 && place == 1) where
     choice : (b : Bool) → (if b then unit place ∷ (more ++ (unit rank ∷ rest)) else digit d ∷ unit place ∷ (more ++ (unit rank ∷ rest))) ≡ (if b then unit place ∷ more else digit d ∷ unit place ∷ more) ++ (unit rank ∷ rest)
     choice true = refl
     choice false = refl
 
-  by : (top : ℕ) × (top < 4) × (10 ^ top ≤ g) × (g < 10 ^ suc top) → shortened (part Low g ++ (unit rank ∷ rest)) ≡ shortened (part Low g) ++ (unit rank ∷ rest)
+  by : (top : ℕ) × (top < 4) × (10 ^ top ≤ g) × (g < 10 ^ suc top) → short_spelling (part Low g ++ (unit rank ∷ rest)) ≡ short_spelling (part Low g) ++ (unit rank ∷ rest)
   by (zero, within, reach, less) =
       let one : part Low g ≡ digit (g / 10 ^ 0) ∷ [] = part-top g 0 (omega arith) less reach ∙ ap (λ marks. digit (g / 10 ^ 0) ∷ marks) (part-none Low g) in
       rw one (flat (g / 10 ^ 0))
@@ -214,12 +214,12 @@ front-over method number place lead filled some most four small split lead_some 
       let head = over-head method (widths_of method) place filled (max filled 1) (single method) (omega (arith, under, pos)) in
       let parts = group-front method place lead below filled some most four lead_pos small (lower-less number place) fills in
       let some_number : 0 < number = let p : 1 ≤ 10 ^ place = one-le-pow place 10 (omega arith) in let q : 1 * 10 ^ place ≤ lead * 10 ^ place = mul-le-mul_right (10 ^ place) lead_pos in omega (arith, whole, p, q) in
-      let spelled : part method number ≡ spelled_within number method number = part-some method number some_number in
+      let spelled : part method number ≡ spelling_within number method number = part-some method number some_number in
       let tail : front method place filled ++ part method below ≡ unit (rank_at method place) ∷ (head.0 ++ part method below) = ap (λ marks. marks ++ part method below) head.1 in
       let alike : part method lead ≡ part Low lead = group-is method lead small ∙ sym (group-is Low lead small) in
-      ap shortened (sym spelled ∙ ap (λ n. part method n) whole ∙ parts ∙ ap (λ marks. marks ++ (front method place filled ++ part method below)) alike ∙ ap (λ marks. part Low lead ++ marks) tail)
-      ∙ shortened-over lead (rank_at method place) (head.0 ++ part method below) lead_pos small (rank-start method place some pos four)
-      ∙ ap (λ marks. shortened marks ++ (unit (rank_at method place) ∷ (head.0 ++ part method below))) (part-some Low lead lead_pos)
+      ap short_spelling (sym spelled ∙ ap (λ n. part method n) whole ∙ parts ∙ ap (λ marks. marks ++ (front method place filled ++ part method below)) alike ∙ ap (λ marks. part Low lead ++ marks) tail)
+      ∙ short_spelling-over lead (rank_at method place) (head.0 ++ part method below) lead_pos small (rank-start method place some pos four)
+      ∙ ap (λ marks. short_spelling marks ++ (unit (rank_at method place) ∷ (head.0 ++ part method below))) (part-some Low lead lead_pos)
       ∙ ap (λ marks. spelling Low lead ++ marks) (sym tail)
 
 pub spelling-front : (method : ChineseCountMethod) (number count lead filled : ℕ) → count ≤ groups_within method → lead < front_limit method → lead ≡ number / 10 ^ (4 * count) → (0 < count → 0 < lead)

@@ -10,7 +10,7 @@ use Rattle.cn_core.specs.declared.case.ChineseCase.{ChineseCase}
 use Rattle.cn_core.specs.Characters.{digit_char}
 use Rattle.cn_core.specs.Mark.{digit}
 use Rattle.cn_core.specs.Naive.{decimal_digits}
-use Rattle.cn_core.specs.Written.{mark_char, written}
+use Rattle.cn_core.specs.Written.{mark_char, signed_text}
 use Rattle.cn_spell.specs.Working.Places.{places_of}
 use Rattle.cn_spell.specs.Working.Sign.{sign_characters, sign_count}
 use Rattle.cn_spell.proofs.Signs.{length-sign}
@@ -53,24 +53,24 @@ three-decimal variant case = decimal_by_steps_wide (λ number bytes. list_all (�
       let last : 48 + number % 10 - 48 ≡ number % 10 = omega arith in
       rw (list_all-append (λ byte. takes_three (digit_char variant case (byte - 48))) bytes ((48 + number % 10) ∷ []), rest, last, three-digit variant case (number % 10) (omega arith)) refl
 
-pub three-naive : (variant : ChineseVariant) (case : ChineseCase) (negative : Bool) (number : ℕ) → number < 10 ^ 64 → list_all takes_three (written variant case negative (decimal_digits number)) ≡ true
+pub three-naive : (variant : ChineseVariant) (case : ChineseCase) (negative : Bool) (number : ℕ) → number < 10 ^ 64 → list_all takes_three (signed_text variant case negative (decimal_digits number)) ≡ true
 three-naive variant case negative number small = by negative where
   digits : list_all takes_three (map (mark_char variant case) (decimal_digits number)) ≡ true
   digits =
       list_all-map takes_three (mark_char variant case) (decimal_digits number) ∙ list_all-map (λ mark. takes_three (mark_char variant case mark)) (λ byte. digit (byte - 48)) (decimal number)
       ∙ three-decimal variant case number small
 
-  by : (negative : Bool) → list_all takes_three (written variant case negative (decimal_digits number)) ≡ true
+  by : (negative : Bool) → list_all takes_three (signed_text variant case negative (decimal_digits number)) ≡ true
   by true = rw (three-minus variant, digits) refl
   by false = digits
 
 -- the sign and the digits
 pub naive-is : (variant : ChineseVariant) (case : ChineseCase) (negative : Bool) (number : ℕ)
-    → sign_characters variant negative ++ digit_characters variant case (places_of number) ≡ written variant case negative (decimal_digits number)
+    → sign_characters variant negative ++ digit_characters variant case (places_of number) ≡ signed_text variant case negative (decimal_digits number)
 naive-is variant case negative number = ap (λ digits. sign_characters variant negative ++ digits) (digit_characters-all variant case number)
 
 pub length-naive : (variant : ChineseVariant) (case : ChineseCase) (negative : Bool) (number : ℕ)
-    → length (written variant case negative (decimal_digits number)) ≡ sign_count negative + length (places_of number)
+    → length (signed_text variant case negative (decimal_digits number)) ≡ sign_count negative + length (places_of number)
 length-naive variant case negative number =
     ap length (sym (naive-is variant case negative number)) ∙ length-append (sign_characters variant negative) (digit_characters variant case (places_of number))
     ∙ ap₂ (λ a b. a + b) (length-sign variant negative) (length-digit_characters variant case (places_of number))

@@ -6,7 +6,7 @@ use Rattle.cn_core.specs.declared.script.ChineseVariant.{ChineseVariant}
 use Rattle.cn_core.specs.declared.case.ChineseCase.{ChineseCase}
 use Rattle.cn_core.specs.declared.method.ChineseCountMethod.{ChineseCountMethod}
 use Rattle.cn_core.specs.Spelling.{spelling}
-use Rattle.cn_core.specs.Written.{written, spelled_text}
+use Rattle.cn_core.specs.Written.{signed_text, spelled_text}
 use Rattle.cn_spell.specs.Working.Sign.{sign_characters, sign_count}
 
 -- the test for a number below zero
@@ -27,7 +27,7 @@ sign_count-le false = omega arith
 -- the text of a number, by its sign and its magnitude
 pub spelled-is : (method : ChineseCountMethod) (variant used : ChineseVariant) (case other : ChineseCase) (negative : Bool) (magnitude : ℕ) (number : ℤ)
     → used ≡ variant → other ≡ case → (IsTrue negative ↔ (number <ℤ pos 0)) → magnitude ≡ nat_abs number
-    → written used other negative (spelling method magnitude) ≡ spelled_text variant case method number
+    → signed_text used other negative (spelling method magnitude) ≡ spelled_text variant case method number
 spelled-is method variant used case other negative magnitude number v k below value =
-    ap₂ (λ x y. written x y negative (spelling method magnitude)) v k
-    ∙ ap₂ (λ b n. written variant case b (spelling method n)) (negative-is negative number below) value
+    ap₂ (λ x y. signed_text x y negative (spelling method magnitude)) v k
+    ∙ ap₂ (λ b n. signed_text variant case b (spelling method n)) (negative-is negative number below) value

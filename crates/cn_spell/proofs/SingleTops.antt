@@ -6,7 +6,7 @@ use Rattle.std.proofs.Math.Nat.{mod-eq_of_lt, one-le-pow, pow-le-pow_right, mul-
 use Rattle.std.proofs.lemmas.Nat.{div-add-mod'}
 use Rattle.cn_core.specs.declared.method.ChineseCountMethod.TheVariants.{Low}
 use Rattle.cn_core.specs.Mark.{Mark, digit, unit}
-use Rattle.cn_core.specs.Spelling.{spelling, shortened, spelled_within}
+use Rattle.cn_core.specs.Spelling.{spelling, short_spelling, spelling_within}
 use Rattle.cn_core.proofs.Cuts.{part, part-some}
 use Rattle.cn_core.proofs.Sums.{spelled-digit}
 use Rattle.cn_spell.specs.Working.Groups.{kept, place_marks, top_marks}
@@ -32,8 +32,8 @@ some-top number place reach =
       lower-all : (number place : ℕ) → number ≡ number / 10 ^ place * 10 ^ place + number % 10 ^ place
       lower-all number place = sym (div-add-mod' number (10 ^ place))
 
-shortened-top : (place d : ℕ) (rest : List Mark) → nat_lt 0 place ≡ true → shortened (digit d ∷ unit place ∷ rest) ≡ top_marks place d ++ rest
-shortened-top place d rest high = rw high (by (d == 1 && place == 1)) where
+short_spelling-top : (place d : ℕ) (rest : List Mark) → nat_lt 0 place ≡ true → short_spelling (digit d ∷ unit place ∷ rest) ≡ top_marks place d ++ rest
+short_spelling-top place d rest high = rw high (by (d == 1 && place == 1)) where
   by : (b : Bool) → (if b then unit place ∷ rest else digit d ∷ unit place ∷ rest) ≡ ((if b then [] else digit d ∷ []) ++ (unit place ∷ [])) ++ rest
   by true = refl
   by false = refl
@@ -67,8 +67,8 @@ spelled-top number (suc p) within less reach =
     let some : 0 < number = let one : 1 ≤ 10 ^ place = one-le-pow place 10 (omega arith) in omega (arith, one, high) in
     let t : nat_lt 0 place ≡ true = grind (arith, nat_tests) in
     let parts : part Low number ≡ digit (number / 10 ^ place) ∷ unit place ∷ so_far Low number place = rw t at (part-top number place within less high) in
-    let spelled : part Low number ≡ spelled_within number Low number = part-some Low number some in
-    ap shortened (sym spelled ∙ parts) ∙ shortened-top place (number / 10 ^ place) (so_far Low number place) t
+    let spelled : part Low number ≡ spelling_within number Low number = part-some Low number some in
+    ap short_spelling (sym spelled ∙ parts) ∙ short_spelling-top place (number / 10 ^ place) (so_far Low number place) t
 
 -- the highest place of a number
 pub top-of : (number count : ℕ) → number < 10 ^ count → 0 < number → (top : ℕ) × (top < count) × (10 ^ top ≤ number) × (number < 10 ^ suc top)

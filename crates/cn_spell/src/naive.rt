@@ -1,7 +1,7 @@
 // Printing by plain decimal digits.
 ghost use Rattle.std.specs.Prelude.{◌≡◌, nat_abs, IfOk};
 ghost use Rattle.cn_core.specs.Naive.{decimal_digits};
-ghost use Rattle.cn_core.specs.Written.{written, naive_text};
+ghost use Rattle.cn_core.specs.Written.{signed_text, naive_text};
 ghost use Rattle.cn_spell.specs.Puts.{PutsInFront};
 ghost use Rattle.cn_spell.specs.Writes.{Writes};
 
@@ -41,7 +41,7 @@ impl<'a> Plain<'a> {
 }
 
 impl Text for Plain<'_> {
-    ghost says = { λ plain. written plain.characters.variant plain.characters.case plain.negative (decimal_digits plain.digits.now) };
+    ghost says = { λ plain. signed_text plain.characters.variant plain.characters.case plain.negative (decimal_digits plain.digits.now) };
 
     ghost most = { λ plain. 120 };
 

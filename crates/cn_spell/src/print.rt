@@ -1,7 +1,7 @@
 // Printing by units.
 ghost use Rattle.std.specs.Prelude.{◌≡◌, pos, IfOk, IsTrue};
 ghost use Rattle.cn_core.specs.Spelling.{spelling};
-ghost use Rattle.cn_core.specs.Written.{written, spelled_text, is_printable};
+ghost use Rattle.cn_core.specs.Written.{signed_text, spelled_text, is_printable};
 ghost use Rattle.cn_spell.specs.Prints.{Prints, most_bytes};
 ghost use Rattle.cn_spell.specs.Writes.{Writes};
 
@@ -36,7 +36,7 @@ fn signed_text<M: KnownMethod, A: Allocator>(
     magnitude: u128,
 ) -> Result<String<A>, AllocError>
     requires { IsTrue (is_printable M.stands_for (pos magnitude)) }
-    ensures { IfOk result (Writes (written characters.variant characters.case negative (spelling M.stands_for magnitude)) (most_bytes M.stands_for)) }
+    ensures { IfOk result (Writes (signed_text characters.variant characters.case negative (spelling M.stands_for magnitude)) (most_bytes M.stands_for)) }
 {
     let mut taken = [0; MOST];
     let text = Spelled::<M>::of(&mut taken, characters, negative, magnitude);
@@ -52,7 +52,7 @@ fn print_magnitude<A: Allocator>(
     magnitude: u128,
 ) -> Result<String<A>, AllocError>
     requires { IsTrue (is_printable method (pos magnitude)) }
-    ensures { IfOk result (Writes (written characters.variant characters.case negative (spelling method magnitude)) (most_bytes method)) }
+    ensures { IfOk result (Writes (signed_text characters.variant characters.case negative (spelling method magnitude)) (most_bytes method)) }
 {
     match method {
         ChineseCountMethod::Low => signed_text::<ByLow, A>(alloc, characters, negative, magnitude),

@@ -1,7 +1,7 @@
 // Printing by units into a room that the caller lends.
 ghost use Rattle.std.specs.Prelude.{pos, IsTrue};
 ghost use Rattle.cn_core.specs.Spelling.{spelling};
-ghost use Rattle.cn_core.specs.Written.{written, spelled_text, is_printable};
+ghost use Rattle.cn_core.specs.Written.{signed_text, spelled_text, is_printable};
 ghost use Rattle.cn_spell.specs.Prints.{most_bytes};
 ghost use Rattle.cn_spell.specs.Puts.{PutsInFront};
 
@@ -20,7 +20,7 @@ fn put_signed<M: KnownMethod>(
     magnitude: u128,
 ) -> usize
     requires { IsTrue (is_printable M.stands_for (pos magnitude)) }
-    ensures { PutsInFront (written characters.variant characters.case negative (spelling M.stands_for magnitude)) (most_bytes M.stands_for) room.old room.new result }
+    ensures { PutsInFront (signed_text characters.variant characters.case negative (spelling M.stands_for magnitude)) (most_bytes M.stands_for) room.old room.new result }
 {
     let mut taken = [0; MOST];
     let text = Spelled::<M>::of(&mut taken, characters, negative, magnitude);
@@ -36,7 +36,7 @@ fn put_magnitude(
     magnitude: u128,
 ) -> usize
     requires { IsTrue (is_printable method (pos magnitude)) }
-    ensures { PutsInFront (written characters.variant characters.case negative (spelling method magnitude)) (most_bytes method) room.old room.new result }
+    ensures { PutsInFront (signed_text characters.variant characters.case negative (spelling method magnitude)) (most_bytes method) room.old room.new result }
 {
     match method {
         ChineseCountMethod::Low => put_signed::<ByLow>(room, characters, negative, magnitude),

@@ -1,7 +1,7 @@
 // The text of a number by units.
 ghost use Rattle.std.specs.Prelude.{◌≡◌, ◌^◌, ◌≤◌, ◌<◌, pos, IsTrue};
 ghost use Rattle.cn_core.specs.Spelling.{spelling};
-ghost use Rattle.cn_core.specs.Written.{written, is_printable};
+ghost use Rattle.cn_core.specs.Written.{signed_text, is_printable};
 ghost use Rattle.cn_spell.specs.Prints.{most_bytes};
 ghost use Rattle.cn_spell.specs.Working.Groups.{groups_within, front_limit};
 
@@ -38,7 +38,7 @@ impl<'a, M: KnownMethod> Spelled<'a, M> {
         magnitude: u128,
     ) -> Self
         requires { IsTrue (is_printable M.stands_for (pos magnitude)) }
-        ensures says { ⟦<Spelled<'a, M> as Text>⟧.says result ≡ written characters.variant characters.case negative (spelling M.stands_for magnitude) }
+        ensures says { ⟦<Spelled<'a, M> as Text>⟧.says result ≡ signed_text characters.variant characters.case negative (spelling M.stands_for magnitude) }
         ensures most { ⟦<Spelled<'a, M> as Text>⟧.most result ≡ most_bytes M.stands_for }
     {
         Spelled {
@@ -51,7 +51,7 @@ impl<'a, M: KnownMethod> Spelled<'a, M> {
 }
 
 impl<M: KnownMethod> Text for Spelled<'_, M> {
-    ghost says = { λ spelled. written spelled.characters.variant spelled.characters.case spelled.negative (spelling M.stands_for spelled.groups.number) };
+    ghost says = { λ spelled. signed_text spelled.characters.variant spelled.characters.case spelled.negative (spelling M.stands_for spelled.groups.number) };
 
     ghost most = { λ spelled. most_bytes M.stands_for };
 

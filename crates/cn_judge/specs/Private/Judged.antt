@@ -5,7 +5,7 @@ use Rattle.cn_core.specs.Judge.{Judges}
 use Rattle.cn_core.specs.Refusal.{Refusal, incorrect_at}
 use Rattle.cn_core.specs.Spot.{spot}
 use Rattle.cn_core.specs.Text.{text_of, marks_of}
-use Rattle.cn_judge.specs.Private.Piece.{spotted}
+use Rattle.cn_judge.specs.Private.Piece.{answer_at}
 
 -- the answer to a text by its first character, which has `char_index` characters in front, and what follows it
 abbrev pub after_first : ℕ → List ℕ → Result ℕ Refusal → Result ℕ Refusal
@@ -16,4 +16,4 @@ after_first char_index rest answer = answer
 -- the answer is the judgement of the piece, which has `skipped` characters in front
 abbrev pub JudgesAt : ChineseCountMethod → ℕ → List ℕ → Result ℕ Refusal → Type 0
 JudgesAt method skipped bytes answer =
-    (judged : Result ℕ Refusal) × Judges method (marks_of (text_of bytes)) judged × (answer ≡ spotted skipped bytes judged)
+    (judged : Result ℕ Refusal) × Judges method (marks_of (text_of bytes)) judged × (answer ≡ answer_at skipped bytes judged)

@@ -20,6 +20,6 @@ pub record EndsWith (bytes : List ℕ) (c : ℕ) (before : List ℕ) : Type 0 wh
 
 -- the answer to a piece of a string, whose place is told by where it stands in the string, when so many
 -- characters of the string stand before the piece
-abbrev pub spotted : ℕ → List ℕ → Result ℕ Refusal → Result ℕ Refusal
-spotted skipped bytes (Err (incorrect_at place)) = Err (incorrect_at (skipped + spot bytes place))
-spotted skipped bytes answer = answer
+abbrev pub answer_at : ℕ → List ℕ → Result ℕ Refusal → Result ℕ Refusal
+answer_at skipped bytes (Err (incorrect_at place)) = Err (incorrect_at (skipped + spot bytes place))
+answer_at skipped bytes answer = answer

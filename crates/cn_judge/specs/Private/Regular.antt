@@ -13,7 +13,7 @@ use Rattle.cn_core.specs.Place.{is_tail, some_unfit}
 use Rattle.cn_core.specs.Scale.{exponent}
 use Rattle.cn_core.specs.Value.{value, records_from, record_units}
 use Rattle.cn_judge.specs.declared.open_groups.OpenGroup.{OpenGroup}
-use Rattle.cn_judge.specs.declared.quick.Standing.{Standing}
+use Rattle.cn_judge.specs.declared.quick.QuickState.{QuickState}
 use Rattle.cn_judge.specs.Private.Walk.{HasNoTail}
 
 -- an open group: its unit's rank, and the exponent of the power of ten that it and the units below it make;
@@ -103,6 +103,6 @@ pub record MayOpen (method : ChineseCountMethod) (marks : List Mark) (left : Lis
   pub left_are : left ≡ groups_of method (records_from (rank + 1) marks)
   pub precedes : may_precede (unit rank) marks ≡ true
 
-abbrev pub StandsRegular : ChineseCountMethod → List Mark → List Group → Standing → Type 0
-StandsRegular method marks groups standing =
-    IsRegular method marks groups standing.total standing.sum (rank standing.last) standing.at_digit
+abbrev pub StandsRegular : ChineseCountMethod → List Mark → List Group → QuickState → Type 0
+StandsRegular method marks groups state =
+    IsRegular method marks groups state.total state.sum (rank state.last) state.at_digit

@@ -2,11 +2,11 @@
 use Rattle.std.specs.Prelude.{ℕ, ℤ, Option, Result, Ok, Err}
 use Rattle.cn_core.specs.declared.sign.Sign.{Sign}
 use Rattle.cn_core.specs.Refusal.{Refusal, too_large}
-use Rattle.cn_core.specs.Typed.{held_by, is_minus, too_far}
+use Rattle.cn_core.specs.Typed.{typed_number, is_minus, too_far}
 use Rattle.cn_core.specs.Whole.{signed_number, Kind}
 
 -- the answer from the sign, and from the answer to what follows it
 abbrev pub with_sign : Kind → Option Sign → Result ℕ Refusal → Result ℤ Refusal
-with_sign kind sign (Ok magnitude) = held_by kind (signed_number (is_minus sign) magnitude)
+with_sign kind sign (Ok magnitude) = typed_number kind (signed_number (is_minus sign) magnitude)
 with_sign kind sign (Err too_large) = Err (too_far sign)
 with_sign kind sign (Err refusal) = Err refusal

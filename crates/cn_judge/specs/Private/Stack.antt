@@ -6,30 +6,30 @@ use Rattle.cn_core.specs.Characters.{rank}
 use Rattle.cn_judge.specs.declared.open_units.OpenUnit.{OpenUnit}
 
 -- an open unit: its rank, its scale, and the sum that it was opened over; the top stands first
-abbrev pub Sized : Type 0
-Sized = ℕ × ℕ × ℕ
+abbrev pub StackEntry : Type 0
+StackEntry = ℕ × ℕ × ℕ
 
 -- each scale is above 0
-abbrev pub all_positive : List Sized → Bool
+abbrev pub all_positive : List StackEntry → Bool
 all_positive units = list_all (λ top. nat_lt 0 top.1) units
 
 -- the rank on top
-abbrev pub top_of : List Sized → Option ℕ
+abbrev pub top_of : List StackEntry → Option ℕ
 top_of [] = None
 top_of (top ∷ units) = Some top.0
 
 -- the sum once each open unit below a rank is closed: it multiplies the sum, and adds it to the one below
-abbrev pub closed_sum : ℕ → ℕ → List Sized → ℕ
+abbrev pub closed_sum : ℕ → ℕ → List StackEntry → ℕ
 closed_sum limit sum [] = sum
 closed_sum limit sum (top ∷ units) = if nat_lt top.0 limit then closed_sum limit (sum * top.1 + top.2) units else sum
 
 -- the units that are then still open
-abbrev pub not_closed : ℕ → List Sized → List Sized
-not_closed limit [] = []
-not_closed limit (top ∷ units) = if nat_lt top.0 limit then not_closed limit units else top ∷ units
+abbrev pub still_open : ℕ → List StackEntry → List StackEntry
+still_open limit [] = []
+still_open limit (top ∷ units) = if nat_lt top.0 limit then still_open limit units else top ∷ units
 
 -- the sum once all are closed
-abbrev pub total_sum : ℕ → List Sized → ℕ
+abbrev pub total_sum : ℕ → List StackEntry → ℕ
 total_sum sum [] = sum
 total_sum sum (top ∷ units) = total_sum (sum * top.1 + top.2) units
 
@@ -37,15 +37,15 @@ total_sum sum (top ∷ units) = total_sum (sum * top.1 + top.2) units
 abbrev pub no_unit : OpenUnit
 no_unit = record { unit = Ge; size = 0; below = 0 }
 
-abbrev pub opened_at : OpenUnit → Sized
+abbrev pub opened_at : OpenUnit → StackEntry
 opened_at entry = (rank entry.unit, entry.size, entry.below)
 
 -- the first entries, the last of them first
-abbrev pub stack_of : List OpenUnit → ℕ → List Sized
+abbrev pub stack_of : List OpenUnit → ℕ → List StackEntry
 stack_of entries zero = []
 stack_of entries (suc len) = opened_at (slice_index_or entries len no_unit) ∷ stack_of entries len
 
 -- the top closes: the sum is multiplied and joins the one below, if that fits
-abbrev pub ClosesTop : ℕ → List Sized → List Sized → Option ℕ → Type 0
+abbrev pub ClosesTop : ℕ → List StackEntry → List StackEntry → Option ℕ → Type 0
 ClosesTop sum [] after result = Unit {0}
 ClosesTop sum (top ∷ units) after result = (after ≡ units) × SomeIff result (sum * top.1 + top.2 < 2 ^ 128) (sum * top.1 + top.2)

@@ -4,15 +4,15 @@ use Rattle.cn_core.specs.declared.method.ChineseCountMethod.{ChineseCountMethod}
 use Rattle.cn_core.specs.Mark.{Mark, digit, unit, other}
 use Rattle.cn_core.specs.Characters.{rank}
 use Rattle.cn_core.specs.Scale.{scale}
-use Rattle.cn_core.specs.Numeral.{may_precede, is_numeral, opened}
+use Rattle.cn_core.specs.Numeral.{may_precede, is_numeral, with_first_digit}
 use Rattle.cn_core.specs.Value.{value}
 use Rattle.cn_core.specs.Place.{is_overflowing, is_tail, is_unfit}
 use Rattle.cn_core.specs.Refusal.{Refusal, incorrect_at, too_large}
-use Rattle.cn_judge.specs.Private.Stack.{Sized, closed_sum, not_closed}
+use Rattle.cn_judge.specs.Private.Stack.{StackEntry, closed_sum, still_open}
 use Rattle.cn_judge.specs.declared.walk.Next.{Next}
 use Rattle.cn_judge.specs.declared.walk.Next.TheVariants.{AtDigit, AtUnit}
 use Rattle.cn_judge.specs.declared.walk.Fault.{Fault}
-use Rattle.cn_judge.specs.declared.walk.Fault.TheVariants.{Incorrect, PastLimit}
+use Rattle.cn_judge.specs.declared.walk.Fault.TheVariants.{Incorrect, TooLarge}
 use Rattle.std.specs.Option.{option_map_or}
 
 -- the digits up to the first unit
@@ -24,10 +24,10 @@ sum_of (other ∷ rest) = sum_of rest
 
 -- the units that are open after this end of a list, the last opened first, each with its scale and the sum that it
 -- was opened over
-abbrev pub opens_of : ChineseCountMethod → List Mark → List Sized
+abbrev pub opens_of : ChineseCountMethod → List Mark → List StackEntry
 opens_of method [] = []
 opens_of method (unit rank ∷ rest) =
-    (rank, scale method rank, closed_sum (rank + 1) (sum_of rest) (opens_of method rest)) ∷ not_closed (rank + 1) (opens_of method rest)
+    (rank, scale method rank, closed_sum (rank + 1) (sum_of rest) (opens_of method rest)) ∷ still_open (rank + 1) (opens_of method rest)
 opens_of method (mark ∷ rest) = opens_of method rest
 
 -- the fault of a mark, where there is none to its right; places count from the mark
@@ -71,7 +71,7 @@ unit_next next = None
 -- a fault, as a refusal at its own place
 abbrev pub fault_refusal : Fault → Refusal
 fault_refusal Incorrect = incorrect_at 0
-fault_refusal PastLimit = too_large
+fault_refusal TooLarge = too_large
 
 -- a text that is walked as it stands
 abbrev pub fitting : ℕ → Result ℕ Refusal
@@ -79,7 +79,7 @@ fitting number = if nat_lt number (2 ^ 128) then Ok number else Err too_large
 
 -- the answer at the first mark, where what follows has no fault
 abbrev pub front_answer : ChineseCountMethod → Mark → List Mark → Result ℕ Refusal
-front_answer method mark rest = if is_numeral (mark ∷ rest) then fitting (value method (opened (mark ∷ rest))) else Err (incorrect_at 0)
+front_answer method mark rest = if is_numeral (mark ∷ rest) then fitting (value method (with_first_digit (mark ∷ rest))) else Err (incorrect_at 0)
 
 abbrev pub refused_or : Option Refusal → Result ℕ Refusal → Result ℕ Refusal
 refused_or (Some refusal) answer = Err (further refusal)

@@ -6,7 +6,7 @@ use Rattle.cn_judge.proofs.quick.read_quickly.Given as goal
 
 abbrev pub invariant-walking : goal.invariant-walking
 invariant-walking l = record {
-  stepped : HasStepped l.method l.fn.text l.ahead l.groups l.standing;
+  stepped : HasStepped l.method l.fn.text l.ahead l.groups l.state;
   utf8 : shadow (Utf8 l.ahead);
 }
 

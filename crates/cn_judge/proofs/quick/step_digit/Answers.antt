@@ -4,5 +4,5 @@ use Rattle.cn_judge.proofs.quick.step_digit.Goals as goal
 
 pub returns : goal.returns
 returns c = λ method marks groups s.
-    regular-digit method marks groups c.args.standing.total c.args.standing.sum (rank c.args.standing.last) c.args.standing.at_digit c.args.value _ s
+    regular-digit method marks groups c.args.state.total c.args.state.sum (rank c.args.state.last) c.args.state.at_digit c.args.value _ s
     c.if-not-digit_may_precede.ensures c.in_ok-add_digit.ensures

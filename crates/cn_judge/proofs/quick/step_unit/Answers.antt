@@ -13,11 +13,11 @@ step_group-requires c =
 pub returns-then-opens_group : goal.returns-then-opens_group
 returns-then-opens_group c = λ marks s second.
     c.step_group.ensures marks s
-    (leaves-unit (rank c.args.unit) c.args.standing.at_digit c.args.is_second marks s.regular s.after_digit second c.if-leaves_tail.ensures)
+    (leaves-unit (rank c.args.unit) c.args.state.at_digit c.args.is_second marks s.regular s.after_digit second c.if-leaves_tail.ensures)
 
 pub returns-else-opens_group : goal.returns-else-opens_group
 returns-else-opens_group c = λ marks s second.
     let opens = c.if-opens_group.ensures in
     let small : rank c.args.unit < first_group c.args.method = grind (arith, nat_tests, opens) in
     c.step_section_unit.ensures c.args.method marks _ s small
-    (leaves-unit (rank c.args.unit) c.args.standing.at_digit c.args.is_second marks s.regular s.after_digit second c.if-leaves_tail.ensures)
+    (leaves-unit (rank c.args.unit) c.args.state.at_digit c.args.is_second marks s.regular s.after_digit second c.if-leaves_tail.ensures)

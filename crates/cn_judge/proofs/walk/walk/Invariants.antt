@@ -6,7 +6,7 @@ use Rattle.cn_judge.proofs.walk.walk.Given as goal
 
 abbrev pub invariant-walking : goal.invariant-walking
 invariant-walking l = record {
-  walked : HasWalked l.method l.fn.text l.ahead l.standing.sum l.units l.standing.next;
+  walked : HasWalked l.method l.fn.text l.ahead l.state.sum l.units l.state.next;
   within : length l.ahead ≤ length l.fn.text;
   utf8 : shadow (Utf8 l.ahead);
 }

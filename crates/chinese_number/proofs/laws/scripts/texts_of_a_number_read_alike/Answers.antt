@@ -2,7 +2,7 @@ use Rattle.std.proofs.Common.{encode_utf8_all, Ok, sym, ◌∙◌}
 use Rattle.cn_core.specs.declared.case.ChineseCase.{ChineseCase}
 use Rattle.cn_core.specs.declared.script.ChineseVariant.{ChineseVariant}
 use Rattle.cn_core.specs.Written.{spelled_text}
-use Rattle.chinese_number.proofs.PlainDigits.{naive_reading-written}
+use Rattle.chinese_number.proofs.PlainDigits.{naive_reading-signed_text}
 use Rattle.chinese_number.proofs.Reading.{IsWhole-laws, Reads-spelled, Reads-alike}
 use Rattle.chinese_number.proofs.laws.scripts.texts_of_a_number_read_alike.Goals as goal
 
@@ -19,5 +19,5 @@ returns g c =
             Reads-alike g.T.Whole.kind method (bytes second other) (bytes one first) answer (Ok number) right left,
           );
       digits = λ one second first other number held.
-          naive_reading-written g.T.Whole.kind one first number whole held ∙ sym (naive_reading-written g.T.Whole.kind second other number whole held);
+          naive_reading-signed_text g.T.Whole.kind one first number whole held ∙ sym (naive_reading-signed_text g.T.Whole.kind second other number whole held);
     }

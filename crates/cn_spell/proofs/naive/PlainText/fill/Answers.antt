@@ -3,7 +3,7 @@ use Rattle.std.specs.Char.{encode_utf8}
 use Rattle.std.proofs.lemmas.List.{take_all}
 use Rattle.cn_core.specs.Characters.{digit_char}
 use Rattle.cn_core.specs.Naive.{decimal_digits}
-use Rattle.cn_core.specs.Written.{written}
+use Rattle.cn_core.specs.Written.{signed_text}
 use Rattle.cn_spell.specs.Working.Places.{places_of}
 use Rattle.cn_spell.specs.Working.Room.{Shows}
 use Rattle.cn_spell.specs.Working.Sign.{sign_characters}
@@ -37,8 +37,8 @@ returns-clause-bytes c =
     let places : List ℕ = places_of self.digits.now in
     let room = c.put_sign.new.room in
     let end : l.place ≡ length places = omega (arith, c.len-place-end.ensures.len, l.auto.place-end, c.loop-place-test.false) in
-    let shown : sign_characters variant self.negative ++ digit_characters variant case (take l.place places) ≡ written variant case self.negative (decimal_digits self.digits.now) =
+    let shown : sign_characters variant self.negative ++ digit_characters variant case (take l.place places) ≡ signed_text variant case self.negative (decimal_digits self.digits.now) =
     ap (λ digits. sign_characters variant self.negative ++ digit_characters variant case digits) (take_all l.place places (omega (arith, end))) ∙ naive-is variant case self.negative self.digits.now in
-    let shows : Shows room.free room.bytes.now (written variant case self.negative (decimal_digits self.digits.now)) =
+    let shows : Shows room.free room.bytes.now (signed_text variant case self.negative (decimal_digits self.digits.now)) =
     subst (λ cs. Shows room.free room.bytes.now cs) shown (c.put_sign.ensures.shows _ l.invariant.shows) in
     search (rules, shows, Shows-full)

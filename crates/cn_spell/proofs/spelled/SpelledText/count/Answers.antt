@@ -2,7 +2,7 @@ use Rattle.std.proofs.Common.{rules, if◌then◌else◌, ◌+◌, ◌*◌, ◌�
 use Rattle.std.proofs.lemmas.List.{length-map}
 use Rattle.cn_core.specs.Characters.{minus_char}
 use Rattle.cn_core.specs.Spelling.{spelling}
-use Rattle.cn_core.specs.Written.{mark_char, written}
+use Rattle.cn_core.specs.Written.{mark_char, signed_text}
 use Rattle.cn_spell.specs.Prints.{most_bytes}
 use Rattle.cn_spell.specs.Working.Room.{Counts}
 use Rattle.cn_spell.proofs.Bounds.{marks-fit, most_bytes-le}
@@ -39,7 +39,7 @@ returns-clause-bytes g c =
     let variant = self.characters.variant in
     let count = c.put_spelling.new.pen.characters in
     let shown : Counts count (map (mark_char variant self.characters.case) (spelling g.M.KnownMethod.stands_for self.groups.number)) = rw c.method.ensures at c.put_spelling.ensures.marks in
-    let more : Counts (if self.negative then count + 1 else count) (written variant self.characters.case self.negative (spelling g.M.KnownMethod.stands_for self.groups.number)) =
+    let more : Counts (if self.negative then count + 1 else count) (signed_text variant self.characters.case self.negative (spelling g.M.KnownMethod.stands_for self.groups.number)) =
     Counts-if self.negative (minus_char variant) (λ e. rw e refl) (λ e. rw e refl) (three-minus variant) shown in
     more.bytes
 
