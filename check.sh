@@ -1,6 +1,6 @@
 #!/usr/bin/env bash
-# Runs the gate, `rt ci`, and what stands beside it; stops at the first failure, and says how long each part took. The
-# gate's last line, which counts what passed, is held back to the end.
+# Runs the gate, `rt ci`, and what stands beside it; stops at the first failure, and says how long
+# each part took. The gate's last line, which counts what passed, is held back to the end.
 set -euo pipefail
 cd "$(dirname "$0")"
 

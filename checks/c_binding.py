@@ -3,9 +3,10 @@
 
 Usage: c_binding.py C_FOLDER OUT
 
-OUT is the folder that `bindings/archive.sh` filled. `example.c` meets each status, `sixteen_bits.c` prints and reads back
-each number of 16 bits in four threads; both by the archive and by the shared object. Then they run under valgrind, and with
-the sanitizers for addresses and for undefined behaviour. What is not there is left out, and named; one compiler has to be.
+OUT is the folder that `bindings/archive.sh` filled. `example.c` meets each status, `sixteen_bits.c`
+prints and reads back each number of 16 bits in four threads; both by the archive and by the shared
+object. Then they run under valgrind, and with the sanitizers for addresses and for undefined
+behaviour. What is not there is left out, and named; one compiler has to be.
 """
 import shutil
 import subprocess

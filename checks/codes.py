@@ -3,9 +3,10 @@
 
 Usage: codes.py CN_C BINDINGS
 
-The tables of `codes.rt` give a type, way, script or case its place as its code, and `status.rt` names the statuses. The
-header, the Rust crate and the Python file name each of them once, with the same number, and no other. Alike, too, are the
-most bytes of a text, which a clause of `printing.rt` bounds, and the version of all three.
+The tables of `codes.rt` give a type, way, script or case its place as its code, and `status.rt`
+names the statuses. The header, the Rust crate and the Python file name each of them once, with the
+same number, and no other. Alike, too, are the most bytes of a text, which a clause of `printing.rt`
+bounds, and the version of all three.
 """
 import re
 import sys

@@ -3,8 +3,8 @@
 
 Usage: dialogue.py PROGRAM
 
-Each answer must come before the next line is sent, so a program that waits for more input than one line before it
-answers stops the dialogue, and the script fails after some seconds.
+Each answer must come before the next line is sent, so a program that waits for more input than one
+line before it answers stops the dialogue, and the script fails after some seconds.
 """
 import os
 import select

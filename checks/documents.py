@@ -3,8 +3,9 @@
 
 Usage: documents.py NUMERAL
 
-- Each row of a table in README.md and docs/ whose second cell is an answer of the program is asked: where the first cell
-  is no line of the program, it is a text that is read as an `i64` by `ten_thousand`.
+- Each row of a table in README.md and docs/ whose second cell is an answer of the program is asked:
+  where the first cell is no line of the program, it is a text that is read as an `i64` by
+  `ten_thousand`.
 - The example in the comment of each of the 96 calls by name is asked, with its type and method.
 - Each block of Rust in README.md stands, line by line, in the source of `cheque`.
 """

@@ -3,9 +3,10 @@
 
 Usage: edits.py CRATES
 
-An edit belongs to the function in whose text an `old:` line of it stands: in the body, since a contract that is changed
-shows nothing; or, of a law, whose body does nothing, in the statement. Where a body is no text of its own, the edit
-writes the whole function anew between two of its lines.
+An edit belongs to the function in whose text an `old:` line of it stands: in the body, since a
+contract that is changed shows nothing; or, of a law, whose body does nothing, in the statement.
+Where a body is no text of its own, the edit writes the whole function anew between two of its
+lines.
 """
 import re
 import sys

@@ -3,9 +3,9 @@
 
 Usage: names.py CRATES SIGNATURES
 
-The name of a call says its type and its method. So no line `pub use .. as ..` may give a call another's name: its contract
-would stand at a definition with another name. SIGNATURES is the test of the Rust crate in `bindings/` that gives each of
-its calls a type: there too, each stands once.
+The name of a call says its type and its method. So no line `pub use .. as ..` may give a call
+another's name: its contract would stand at a definition with another name. SIGNATURES is the test
+of the Rust crate in `bindings/` that gives each of its calls a type: there too, each stands once.
 """
 import re
 import sys

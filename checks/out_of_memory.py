@@ -3,10 +3,10 @@
 
 Usage: out_of_memory.py PROGRAM REFUSE_GROWTH.so
 
-Each growth is refused by itself and with the next one.
-Each line has one growth, of exactly as many bytes as its text. Where that is refused the line has to say that memory
-was short, and every other line has to stay as it is; so a second growth of a line would be seen. At the end stand the
-calls that refuse their number by name: they ask for no memory.
+Each growth is refused by itself and with the next one. Each line has one growth, of exactly as many
+bytes as its text. Where that is refused the line has to say that memory was short, and every other
+line has to stay as it is; so a second growth of a line would be seen. At the end stand the calls
+that refuse their number by name: they ask for no memory.
 """
 import os
 import subprocess

@@ -3,9 +3,10 @@
 
 Usage: python_binding.py PYTHON_FOLDER OUT
 
-OUT is the folder that `bindings/archive.sh` filled. The ends of each type go there and back by each way, script and case;
-texts are refused as the rules say, with their place; numbers of any length and arguments of another kind are refused; four
-threads call at once; and where the shared object is not found, the message says what to do.
+OUT is the folder that `bindings/archive.sh` filled. The ends of each type go there and back by each
+way, script and case; texts are refused as the rules say, with their place; numbers of any length
+and arguments of another kind are refused; four threads call at once; and where the shared object is
+not found, the message says what to do.
 """
 import doctest
 import os

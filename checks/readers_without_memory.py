@@ -3,7 +3,8 @@
 
 Usage: readers_without_memory.py CRATE_FOLDER
 
-Readers take no memory, so all tests have to pass. Each reader that callers can name has to stand in that module.
+Readers take no memory, so all tests have to pass. Each reader that callers can name has to stand in
+that module.
 """
 import pathlib
 import re

@@ -3,8 +3,9 @@
 
 Usage: rust_binding.py RUST_FOLDER CN_VECTORS OUT
 
-OUT is the folder that `bindings/archive.sh` filled. All is done in a copy, with no network, and a warning is a failure: each
-set of features, the crate's tests and examples, and the vectors. Where there is no cargo, that is said and nothing is run.
+OUT is the folder that `bindings/archive.sh` filled. All is done in a copy, with no network, and a
+warning is a failure: each set of features, the crate's tests and examples, and the vectors. Where
+there is no cargo, that is said and nothing is run.
 """
 import os
 import re
@@ -15,7 +16,8 @@ import tempfile
 from pathlib import Path
 
 MODULES = ("each_printer", "printing", "printing_digits", "upstream_printing", "without_memory")
-# Of the proved library alone: running out of memory, its quick way, a proof, a table that is not public here, very long texts.
+# Of the proved library alone: running out of memory, its quick way, a proof, a table that is not
+# public here, very long texts.
 LEFT_OUT = ("calls", "error_texts", "lib", "long", "reading_at_once", "reading_back", "scales")
 FEATURES = ("", "std", "number-to-chinese", "chinese-to-number", "number-to-chinese,chinese-to-number")
 

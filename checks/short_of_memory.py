@@ -3,12 +3,13 @@
 
 Usage: short_of_memory.py NUMERAL REFUSE_GROWTH.so < LINES
 
-Let the first k lines take G(k) growths. With growth n refused, where G(k) < n <= G(k + 1), the program has to end with
-status 2, after exactly the answers of the first k lines; where n <= G(0) there is no room for output, and nothing is
-read or written. It never answers a line with out of memory.
+Let the first k lines take G(k) growths. With growth n refused, where G(k) < n <= G(k + 1), the
+program has to end with status 2, after exactly the answers of the first k lines; where n <= G(0)
+there is no room for output, and nothing is read or written. It never answers a line with out of
+memory.
 
-How many growths a run takes is compared too: the room for output and the room for an answer are each taken once and used
-again, and each line that is printed takes one.
+How many growths a run takes is compared too: the room for output and the room for an answer are
+each taken once and used again, and each line that is printed takes one.
 """
 import os
 import subprocess

@@ -5,8 +5,8 @@
 //! cn_bench read u64 naive 1000
 //! ```
 //!
-//! The last word says how often it goes over all ten thousand numbers. It is to be timed from outside, less
-//! the time with 0, in which only the numbers and their texts are made.
+//! The last word says how often it goes over all ten thousand numbers. It is to be timed from
+//! outside, less the time with 0, in which only the numbers and their texts are made.
 #![tactic(auto)]
 
 mod numbers;

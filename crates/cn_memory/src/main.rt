@@ -1,7 +1,8 @@
-//! Makes each call that takes memory once, and prints what came of it in a line: its text, or the error.
+//! Makes each call that takes memory once, and prints what came of it in a line: its text, or the
+//! error.
 //!
-//! Each line takes one growth, so that `checks/out_of_memory.py` can refuse them in turn. The last lines take
-//! none: they refuse their number by name.
+//! Each line takes one growth, so that `checks/out_of_memory.py` can refuse them in turn. The last
+//! lines take none: they refuse their number by name.
 #![tactic(auto)]
 
 use chinese_number::ChineseCase::Lower;

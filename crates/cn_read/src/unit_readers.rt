@@ -1,5 +1,7 @@
-// Unit readers of the twelve types: a line each over the generic one. Those of 8 and 16 bits read by `Low`.
+// Unit readers of the twelve types: a line each over the generic one. Those of 8 and 16 bits read
+// by `Low`.
 ghost use Rattle.std.specs.Prelude.{pos};
+ghost use Rattle.cn_core.specs.declared.method.ChineseCountMethod.TheVariants.{Low, TenThousand, Middle, High};
 ghost use Rattle.cn_core.specs.Typed.{Reads};
 ghost use Rattle.cn_core.specs.Whole.{signed_kind, unsigned_kind};
 ghost use Rattle.cn_judge.specs.Answer.{answer_of};
@@ -13,7 +15,7 @@ use cn_judge::{ChineseToNumberError, read};
 /// that is no numeral is incorrect; [`ChineseToNumberError`] says when each comes, and which comes
 /// first.
 pub fn from_chinese_to_u8(text: &str) -> Result<u8, ChineseToNumberError>
-    ensures { Reads (unsigned_kind 8) ChineseCountMethod.Low text.now (answer_of pos result) }
+    ensures { Reads (unsigned_kind 8) Low text.now (answer_of pos result) }
 {
     read::<u8>(ChineseCountMethod::Low, text)
 }
@@ -24,7 +26,7 @@ pub fn from_chinese_to_u8(text: &str) -> Result<u8, ChineseToNumberError>
 /// that is no numeral is incorrect; [`ChineseToNumberError`] says when each comes, and which comes
 /// first.
 pub fn from_chinese_to_u16(text: &str) -> Result<u16, ChineseToNumberError>
-    ensures { Reads (unsigned_kind 16) ChineseCountMethod.Low text.now (answer_of pos result) }
+    ensures { Reads (unsigned_kind 16) Low text.now (answer_of pos result) }
 {
     read::<u16>(ChineseCountMethod::Low, text)
 }
@@ -35,7 +37,7 @@ pub fn from_chinese_to_u16(text: &str) -> Result<u16, ChineseToNumberError>
 /// that is no numeral is incorrect; [`ChineseToNumberError`] says when each comes, and which comes
 /// first.
 pub fn from_chinese_to_u32_low(text: &str) -> Result<u32, ChineseToNumberError>
-    ensures { Reads (unsigned_kind 32) ChineseCountMethod.Low text.now (answer_of pos result) }
+    ensures { Reads (unsigned_kind 32) Low text.now (answer_of pos result) }
 {
     read::<u32>(ChineseCountMethod::Low, text)
 }
@@ -46,7 +48,7 @@ pub fn from_chinese_to_u32_low(text: &str) -> Result<u32, ChineseToNumberError>
 /// that is no numeral is incorrect; [`ChineseToNumberError`] says when each comes, and which comes
 /// first.
 pub fn from_chinese_to_u32_ten_thousand(text: &str) -> Result<u32, ChineseToNumberError>
-    ensures { Reads (unsigned_kind 32) ChineseCountMethod.TenThousand text.now (answer_of pos result) }
+    ensures { Reads (unsigned_kind 32) TenThousand text.now (answer_of pos result) }
 {
     read::<u32>(ChineseCountMethod::TenThousand, text)
 }
@@ -57,7 +59,7 @@ pub fn from_chinese_to_u32_ten_thousand(text: &str) -> Result<u32, ChineseToNumb
 /// that is no numeral is incorrect; [`ChineseToNumberError`] says when each comes, and which comes
 /// first.
 pub fn from_chinese_to_u32_middle(text: &str) -> Result<u32, ChineseToNumberError>
-    ensures { Reads (unsigned_kind 32) ChineseCountMethod.Middle text.now (answer_of pos result) }
+    ensures { Reads (unsigned_kind 32) Middle text.now (answer_of pos result) }
 {
     read::<u32>(ChineseCountMethod::Middle, text)
 }
@@ -68,7 +70,7 @@ pub fn from_chinese_to_u32_middle(text: &str) -> Result<u32, ChineseToNumberErro
 /// that is no numeral is incorrect; [`ChineseToNumberError`] says when each comes, and which comes
 /// first.
 pub fn from_chinese_to_u32_high(text: &str) -> Result<u32, ChineseToNumberError>
-    ensures { Reads (unsigned_kind 32) ChineseCountMethod.High text.now (answer_of pos result) }
+    ensures { Reads (unsigned_kind 32) High text.now (answer_of pos result) }
 {
     read::<u32>(ChineseCountMethod::High, text)
 }
@@ -79,7 +81,7 @@ pub fn from_chinese_to_u32_high(text: &str) -> Result<u32, ChineseToNumberError>
 /// that is no numeral is incorrect; [`ChineseToNumberError`] says when each comes, and which comes
 /// first.
 pub fn from_chinese_to_u64_low(text: &str) -> Result<u64, ChineseToNumberError>
-    ensures { Reads (unsigned_kind 64) ChineseCountMethod.Low text.now (answer_of pos result) }
+    ensures { Reads (unsigned_kind 64) Low text.now (answer_of pos result) }
 {
     read::<u64>(ChineseCountMethod::Low, text)
 }
@@ -90,7 +92,7 @@ pub fn from_chinese_to_u64_low(text: &str) -> Result<u64, ChineseToNumberError>
 /// that is no numeral is incorrect; [`ChineseToNumberError`] says when each comes, and which comes
 /// first.
 pub fn from_chinese_to_u64_ten_thousand(text: &str) -> Result<u64, ChineseToNumberError>
-    ensures { Reads (unsigned_kind 64) ChineseCountMethod.TenThousand text.now (answer_of pos result) }
+    ensures { Reads (unsigned_kind 64) TenThousand text.now (answer_of pos result) }
 {
     read::<u64>(ChineseCountMethod::TenThousand, text)
 }
@@ -101,7 +103,7 @@ pub fn from_chinese_to_u64_ten_thousand(text: &str) -> Result<u64, ChineseToNumb
 /// that is no numeral is incorrect; [`ChineseToNumberError`] says when each comes, and which comes
 /// first.
 pub fn from_chinese_to_u64_middle(text: &str) -> Result<u64, ChineseToNumberError>
-    ensures { Reads (unsigned_kind 64) ChineseCountMethod.Middle text.now (answer_of pos result) }
+    ensures { Reads (unsigned_kind 64) Middle text.now (answer_of pos result) }
 {
     read::<u64>(ChineseCountMethod::Middle, text)
 }
@@ -112,7 +114,7 @@ pub fn from_chinese_to_u64_middle(text: &str) -> Result<u64, ChineseToNumberErro
 /// that is no numeral is incorrect; [`ChineseToNumberError`] says when each comes, and which comes
 /// first.
 pub fn from_chinese_to_u64_high(text: &str) -> Result<u64, ChineseToNumberError>
-    ensures { Reads (unsigned_kind 64) ChineseCountMethod.High text.now (answer_of pos result) }
+    ensures { Reads (unsigned_kind 64) High text.now (answer_of pos result) }
 {
     read::<u64>(ChineseCountMethod::High, text)
 }
@@ -123,7 +125,7 @@ pub fn from_chinese_to_u64_high(text: &str) -> Result<u64, ChineseToNumberError>
 /// text that is no numeral is incorrect; [`ChineseToNumberError`] says when each comes, and which
 /// comes first.
 pub fn from_chinese_to_u128_low(text: &str) -> Result<u128, ChineseToNumberError>
-    ensures { Reads (unsigned_kind 128) ChineseCountMethod.Low text.now (answer_of pos result) }
+    ensures { Reads (unsigned_kind 128) Low text.now (answer_of pos result) }
 {
     read::<u128>(ChineseCountMethod::Low, text)
 }
@@ -134,7 +136,7 @@ pub fn from_chinese_to_u128_low(text: &str) -> Result<u128, ChineseToNumberError
 /// text that is no numeral is incorrect; [`ChineseToNumberError`] says when each comes, and which
 /// comes first.
 pub fn from_chinese_to_u128_ten_thousand(text: &str) -> Result<u128, ChineseToNumberError>
-    ensures { Reads (unsigned_kind 128) ChineseCountMethod.TenThousand text.now (answer_of pos result) }
+    ensures { Reads (unsigned_kind 128) TenThousand text.now (answer_of pos result) }
 {
     read::<u128>(ChineseCountMethod::TenThousand, text)
 }
@@ -145,7 +147,7 @@ pub fn from_chinese_to_u128_ten_thousand(text: &str) -> Result<u128, ChineseToNu
 /// text that is no numeral is incorrect; [`ChineseToNumberError`] says when each comes, and which
 /// comes first.
 pub fn from_chinese_to_u128_middle(text: &str) -> Result<u128, ChineseToNumberError>
-    ensures { Reads (unsigned_kind 128) ChineseCountMethod.Middle text.now (answer_of pos result) }
+    ensures { Reads (unsigned_kind 128) Middle text.now (answer_of pos result) }
 {
     read::<u128>(ChineseCountMethod::Middle, text)
 }
@@ -156,7 +158,7 @@ pub fn from_chinese_to_u128_middle(text: &str) -> Result<u128, ChineseToNumberEr
 /// text that is no numeral is incorrect; [`ChineseToNumberError`] says when each comes, and which
 /// comes first.
 pub fn from_chinese_to_u128_high(text: &str) -> Result<u128, ChineseToNumberError>
-    ensures { Reads (unsigned_kind 128) ChineseCountMethod.High text.now (answer_of pos result) }
+    ensures { Reads (unsigned_kind 128) High text.now (answer_of pos result) }
 {
     read::<u128>(ChineseCountMethod::High, text)
 }
@@ -167,7 +169,7 @@ pub fn from_chinese_to_u128_high(text: &str) -> Result<u128, ChineseToNumberErro
 /// text that is no numeral is incorrect; [`ChineseToNumberError`] says when each comes, and which
 /// comes first.
 pub fn from_chinese_to_usize_low(text: &str) -> Result<usize, ChineseToNumberError>
-    ensures { Reads (unsigned_kind 64) ChineseCountMethod.Low text.now (answer_of pos result) }
+    ensures { Reads (unsigned_kind 64) Low text.now (answer_of pos result) }
 {
     read::<usize>(ChineseCountMethod::Low, text)
 }
@@ -178,7 +180,7 @@ pub fn from_chinese_to_usize_low(text: &str) -> Result<usize, ChineseToNumberErr
 /// text that is no numeral is incorrect; [`ChineseToNumberError`] says when each comes, and which
 /// comes first.
 pub fn from_chinese_to_usize_ten_thousand(text: &str) -> Result<usize, ChineseToNumberError>
-    ensures { Reads (unsigned_kind 64) ChineseCountMethod.TenThousand text.now (answer_of pos result) }
+    ensures { Reads (unsigned_kind 64) TenThousand text.now (answer_of pos result) }
 {
     read::<usize>(ChineseCountMethod::TenThousand, text)
 }
@@ -189,7 +191,7 @@ pub fn from_chinese_to_usize_ten_thousand(text: &str) -> Result<usize, ChineseTo
 /// text that is no numeral is incorrect; [`ChineseToNumberError`] says when each comes, and which
 /// comes first.
 pub fn from_chinese_to_usize_middle(text: &str) -> Result<usize, ChineseToNumberError>
-    ensures { Reads (unsigned_kind 64) ChineseCountMethod.Middle text.now (answer_of pos result) }
+    ensures { Reads (unsigned_kind 64) Middle text.now (answer_of pos result) }
 {
     read::<usize>(ChineseCountMethod::Middle, text)
 }
@@ -200,7 +202,7 @@ pub fn from_chinese_to_usize_middle(text: &str) -> Result<usize, ChineseToNumber
 /// text that is no numeral is incorrect; [`ChineseToNumberError`] says when each comes, and which
 /// comes first.
 pub fn from_chinese_to_usize_high(text: &str) -> Result<usize, ChineseToNumberError>
-    ensures { Reads (unsigned_kind 64) ChineseCountMethod.High text.now (answer_of pos result) }
+    ensures { Reads (unsigned_kind 64) High text.now (answer_of pos result) }
 {
     read::<usize>(ChineseCountMethod::High, text)
 }
@@ -211,7 +213,7 @@ pub fn from_chinese_to_usize_high(text: &str) -> Result<usize, ChineseToNumberEr
 /// overflow, one below `i8::MIN` an underflow, and a text that is no numeral is incorrect;
 /// [`ChineseToNumberError`] says when each comes, and which comes first.
 pub fn from_chinese_to_i8(text: &str) -> Result<i8, ChineseToNumberError>
-    ensures { Reads (signed_kind 8) ChineseCountMethod.Low text.now (answer_of (λ z. z) result) }
+    ensures { Reads (signed_kind 8) Low text.now (answer_of (λ z. z) result) }
 {
     read::<i8>(ChineseCountMethod::Low, text)
 }
@@ -222,7 +224,7 @@ pub fn from_chinese_to_i8(text: &str) -> Result<i8, ChineseToNumberError>
 /// overflow, one below `i16::MIN` an underflow, and a text that is no numeral is incorrect;
 /// [`ChineseToNumberError`] says when each comes, and which comes first.
 pub fn from_chinese_to_i16(text: &str) -> Result<i16, ChineseToNumberError>
-    ensures { Reads (signed_kind 16) ChineseCountMethod.Low text.now (answer_of (λ z. z) result) }
+    ensures { Reads (signed_kind 16) Low text.now (answer_of (λ z. z) result) }
 {
     read::<i16>(ChineseCountMethod::Low, text)
 }
@@ -233,7 +235,7 @@ pub fn from_chinese_to_i16(text: &str) -> Result<i16, ChineseToNumberError>
 /// overflow, one below `i32::MIN` an underflow, and a text that is no numeral is incorrect;
 /// [`ChineseToNumberError`] says when each comes, and which comes first.
 pub fn from_chinese_to_i32_low(text: &str) -> Result<i32, ChineseToNumberError>
-    ensures { Reads (signed_kind 32) ChineseCountMethod.Low text.now (answer_of (λ z. z) result) }
+    ensures { Reads (signed_kind 32) Low text.now (answer_of (λ z. z) result) }
 {
     read::<i32>(ChineseCountMethod::Low, text)
 }
@@ -244,7 +246,7 @@ pub fn from_chinese_to_i32_low(text: &str) -> Result<i32, ChineseToNumberError>
 /// overflow, one below `i32::MIN` an underflow, and a text that is no numeral is incorrect;
 /// [`ChineseToNumberError`] says when each comes, and which comes first.
 pub fn from_chinese_to_i32_ten_thousand(text: &str) -> Result<i32, ChineseToNumberError>
-    ensures { Reads (signed_kind 32) ChineseCountMethod.TenThousand text.now (answer_of (λ z. z) result) }
+    ensures { Reads (signed_kind 32) TenThousand text.now (answer_of (λ z. z) result) }
 {
     read::<i32>(ChineseCountMethod::TenThousand, text)
 }
@@ -255,7 +257,7 @@ pub fn from_chinese_to_i32_ten_thousand(text: &str) -> Result<i32, ChineseToNumb
 /// overflow, one below `i32::MIN` an underflow, and a text that is no numeral is incorrect;
 /// [`ChineseToNumberError`] says when each comes, and which comes first.
 pub fn from_chinese_to_i32_middle(text: &str) -> Result<i32, ChineseToNumberError>
-    ensures { Reads (signed_kind 32) ChineseCountMethod.Middle text.now (answer_of (λ z. z) result) }
+    ensures { Reads (signed_kind 32) Middle text.now (answer_of (λ z. z) result) }
 {
     read::<i32>(ChineseCountMethod::Middle, text)
 }
@@ -266,7 +268,7 @@ pub fn from_chinese_to_i32_middle(text: &str) -> Result<i32, ChineseToNumberErro
 /// overflow, one below `i32::MIN` an underflow, and a text that is no numeral is incorrect;
 /// [`ChineseToNumberError`] says when each comes, and which comes first.
 pub fn from_chinese_to_i32_high(text: &str) -> Result<i32, ChineseToNumberError>
-    ensures { Reads (signed_kind 32) ChineseCountMethod.High text.now (answer_of (λ z. z) result) }
+    ensures { Reads (signed_kind 32) High text.now (answer_of (λ z. z) result) }
 {
     read::<i32>(ChineseCountMethod::High, text)
 }
@@ -277,7 +279,7 @@ pub fn from_chinese_to_i32_high(text: &str) -> Result<i32, ChineseToNumberError>
 /// overflow, one below `i64::MIN` an underflow, and a text that is no numeral is incorrect;
 /// [`ChineseToNumberError`] says when each comes, and which comes first.
 pub fn from_chinese_to_i64_low(text: &str) -> Result<i64, ChineseToNumberError>
-    ensures { Reads (signed_kind 64) ChineseCountMethod.Low text.now (answer_of (λ z. z) result) }
+    ensures { Reads (signed_kind 64) Low text.now (answer_of (λ z. z) result) }
 {
     read::<i64>(ChineseCountMethod::Low, text)
 }
@@ -288,7 +290,7 @@ pub fn from_chinese_to_i64_low(text: &str) -> Result<i64, ChineseToNumberError>
 /// overflow, one below `i64::MIN` an underflow, and a text that is no numeral is incorrect;
 /// [`ChineseToNumberError`] says when each comes, and which comes first.
 pub fn from_chinese_to_i64_ten_thousand(text: &str) -> Result<i64, ChineseToNumberError>
-    ensures { Reads (signed_kind 64) ChineseCountMethod.TenThousand text.now (answer_of (λ z. z) result) }
+    ensures { Reads (signed_kind 64) TenThousand text.now (answer_of (λ z. z) result) }
 {
     read::<i64>(ChineseCountMethod::TenThousand, text)
 }
@@ -299,7 +301,7 @@ pub fn from_chinese_to_i64_ten_thousand(text: &str) -> Result<i64, ChineseToNumb
 /// overflow, one below `i64::MIN` an underflow, and a text that is no numeral is incorrect;
 /// [`ChineseToNumberError`] says when each comes, and which comes first.
 pub fn from_chinese_to_i64_middle(text: &str) -> Result<i64, ChineseToNumberError>
-    ensures { Reads (signed_kind 64) ChineseCountMethod.Middle text.now (answer_of (λ z. z) result) }
+    ensures { Reads (signed_kind 64) Middle text.now (answer_of (λ z. z) result) }
 {
     read::<i64>(ChineseCountMethod::Middle, text)
 }
@@ -310,7 +312,7 @@ pub fn from_chinese_to_i64_middle(text: &str) -> Result<i64, ChineseToNumberErro
 /// overflow, one below `i64::MIN` an underflow, and a text that is no numeral is incorrect;
 /// [`ChineseToNumberError`] says when each comes, and which comes first.
 pub fn from_chinese_to_i64_high(text: &str) -> Result<i64, ChineseToNumberError>
-    ensures { Reads (signed_kind 64) ChineseCountMethod.High text.now (answer_of (λ z. z) result) }
+    ensures { Reads (signed_kind 64) High text.now (answer_of (λ z. z) result) }
 {
     read::<i64>(ChineseCountMethod::High, text)
 }
@@ -321,7 +323,7 @@ pub fn from_chinese_to_i64_high(text: &str) -> Result<i64, ChineseToNumberError>
 /// overflow, one below `i128::MIN` an underflow, and a text that is no numeral is incorrect;
 /// [`ChineseToNumberError`] says when each comes, and which comes first.
 pub fn from_chinese_to_i128_low(text: &str) -> Result<i128, ChineseToNumberError>
-    ensures { Reads (signed_kind 128) ChineseCountMethod.Low text.now (answer_of (λ z. z) result) }
+    ensures { Reads (signed_kind 128) Low text.now (answer_of (λ z. z) result) }
 {
     read::<i128>(ChineseCountMethod::Low, text)
 }
@@ -332,7 +334,7 @@ pub fn from_chinese_to_i128_low(text: &str) -> Result<i128, ChineseToNumberError
 /// overflow, one below `i128::MIN` an underflow, and a text that is no numeral is incorrect;
 /// [`ChineseToNumberError`] says when each comes, and which comes first.
 pub fn from_chinese_to_i128_ten_thousand(text: &str) -> Result<i128, ChineseToNumberError>
-    ensures { Reads (signed_kind 128) ChineseCountMethod.TenThousand text.now (answer_of (λ z. z) result) }
+    ensures { Reads (signed_kind 128) TenThousand text.now (answer_of (λ z. z) result) }
 {
     read::<i128>(ChineseCountMethod::TenThousand, text)
 }
@@ -343,7 +345,7 @@ pub fn from_chinese_to_i128_ten_thousand(text: &str) -> Result<i128, ChineseToNu
 /// overflow, one below `i128::MIN` an underflow, and a text that is no numeral is incorrect;
 /// [`ChineseToNumberError`] says when each comes, and which comes first.
 pub fn from_chinese_to_i128_middle(text: &str) -> Result<i128, ChineseToNumberError>
-    ensures { Reads (signed_kind 128) ChineseCountMethod.Middle text.now (answer_of (λ z. z) result) }
+    ensures { Reads (signed_kind 128) Middle text.now (answer_of (λ z. z) result) }
 {
     read::<i128>(ChineseCountMethod::Middle, text)
 }
@@ -354,7 +356,7 @@ pub fn from_chinese_to_i128_middle(text: &str) -> Result<i128, ChineseToNumberEr
 /// overflow, one below `i128::MIN` an underflow, and a text that is no numeral is incorrect;
 /// [`ChineseToNumberError`] says when each comes, and which comes first.
 pub fn from_chinese_to_i128_high(text: &str) -> Result<i128, ChineseToNumberError>
-    ensures { Reads (signed_kind 128) ChineseCountMethod.High text.now (answer_of (λ z. z) result) }
+    ensures { Reads (signed_kind 128) High text.now (answer_of (λ z. z) result) }
 {
     read::<i128>(ChineseCountMethod::High, text)
 }
@@ -365,7 +367,7 @@ pub fn from_chinese_to_i128_high(text: &str) -> Result<i128, ChineseToNumberErro
 /// overflow, one below `isize::MIN` an underflow, and a text that is no numeral is incorrect;
 /// [`ChineseToNumberError`] says when each comes, and which comes first.
 pub fn from_chinese_to_isize_low(text: &str) -> Result<isize, ChineseToNumberError>
-    ensures { Reads (signed_kind 64) ChineseCountMethod.Low text.now (answer_of (λ z. z) result) }
+    ensures { Reads (signed_kind 64) Low text.now (answer_of (λ z. z) result) }
 {
     read::<isize>(ChineseCountMethod::Low, text)
 }
@@ -376,7 +378,7 @@ pub fn from_chinese_to_isize_low(text: &str) -> Result<isize, ChineseToNumberErr
 /// overflow, one below `isize::MIN` an underflow, and a text that is no numeral is incorrect;
 /// [`ChineseToNumberError`] says when each comes, and which comes first.
 pub fn from_chinese_to_isize_ten_thousand(text: &str) -> Result<isize, ChineseToNumberError>
-    ensures { Reads (signed_kind 64) ChineseCountMethod.TenThousand text.now (answer_of (λ z. z) result) }
+    ensures { Reads (signed_kind 64) TenThousand text.now (answer_of (λ z. z) result) }
 {
     read::<isize>(ChineseCountMethod::TenThousand, text)
 }
@@ -387,7 +389,7 @@ pub fn from_chinese_to_isize_ten_thousand(text: &str) -> Result<isize, ChineseTo
 /// overflow, one below `isize::MIN` an underflow, and a text that is no numeral is incorrect;
 /// [`ChineseToNumberError`] says when each comes, and which comes first.
 pub fn from_chinese_to_isize_middle(text: &str) -> Result<isize, ChineseToNumberError>
-    ensures { Reads (signed_kind 64) ChineseCountMethod.Middle text.now (answer_of (λ z. z) result) }
+    ensures { Reads (signed_kind 64) Middle text.now (answer_of (λ z. z) result) }
 {
     read::<isize>(ChineseCountMethod::Middle, text)
 }
@@ -398,7 +400,7 @@ pub fn from_chinese_to_isize_middle(text: &str) -> Result<isize, ChineseToNumber
 /// overflow, one below `isize::MIN` an underflow, and a text that is no numeral is incorrect;
 /// [`ChineseToNumberError`] says when each comes, and which comes first.
 pub fn from_chinese_to_isize_high(text: &str) -> Result<isize, ChineseToNumberError>
-    ensures { Reads (signed_kind 64) ChineseCountMethod.High text.now (answer_of (λ z. z) result) }
+    ensures { Reads (signed_kind 64) High text.now (answer_of (λ z. z) result) }
 {
     read::<isize>(ChineseCountMethod::High, text)
 }

@@ -1,4 +1,5 @@
-// Each of the 48 printers by a number whose text tells it from those of its type that do not write alike.
+// Each of the 48 printers by a number whose text tells it from those of its type that do not write
+// alike.
 use crate::calls::writes;
 use chinese_number::ChineseCase::Lower;
 use chinese_number::ChineseVariant::Traditional;

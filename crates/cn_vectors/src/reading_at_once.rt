@@ -1,4 +1,5 @@
-// That printed texts are read at once: the contract of the quick way lets it leave any text to the walk.
+// That printed texts are read at once: the contract of the quick way lets it leave any text to the
+// walk.
 use chinese_number::ChineseCase::{Lower, Upper};
 use chinese_number::ChineseVariant::{Simple, Traditional};
 use chinese_number::{

@@ -47,8 +47,8 @@ static PAIRS: [(ChineseVariant, ChineseCase); 4] = [
     (ChineseVariant::Simple, ChineseCase::Lower),
 ];
 
-// All texts of a number are read as it: digit by digit and by each method, in each script and case. `Low` writes none
-// from 10^16 on.
+// All texts of a number are read as it: digit by digit and by each method, in each script and case.
+// `Low` writes none from 10^16 on.
 fn reads_back<T: NumberToChinese + PartialEq + Debug>(
     rt: &(impl Abort + AllocGlobal),
     number: T,

@@ -1,5 +1,5 @@
-// Readers take no memory: `checks/readers_without_memory.py` runs the tests of this module once more, with the first
-// request for memory of each refused.
+// Readers take no memory: `checks/readers_without_memory.py` runs the tests of this module once
+// more, with the first request for memory of each refused.
 mod each_reader;
 mod numerals;
 mod plain_digits;

@@ -1,5 +1,5 @@
-// Each of the 48 readers, and the trait at each type. The texts tell the methods apart: the greatest unit whose scale
-// fits, and the next one.
+// Each of the 48 readers, and the trait at each type. The texts tell the methods apart: the
+// greatest unit whose scale fits, and the next one.
 use crate::calls::Answer;
 use chinese_number::ChineseCountMethod::{High, Low, Middle, TenThousand};
 use chinese_number::ChineseToNumberError::{ChineseNumberEmpty, Overflow, Underflow};
