@@ -8,8 +8,8 @@ ghost use Rattle.cn_c.specs.declared.number.Number.{Number};
 ghost use Rattle.cn_c.specs.declared.reading.Reading.{Reading};
 ghost use Rattle.cn_c.specs.declared.status.TheConstants.{DONE};
 
-/// What `chinese_number_print` writes is UTF-8, and `chinese_number_read_utf8` reads it, as the same
-/// type and in the same way, as the same number.
+/// What `chinese_number_print` writes is UTF-8, and `chinese_number_read_utf8` reads it, as the
+/// same type and in the same way, as the same number.
 ///
 /// For amounts that cross from one language to another.
 pub fn printed_numbers_read_back()

@@ -1,5 +1,5 @@
-//! Chinese numerals for C, and for languages that call C: calls that print and read whole numbers of
-//! each type by each method.
+//! Chinese numerals for C, and for languages that call C: calls that print and read whole numbers
+//! of each type by each method.
 //!
 //! `bindings/c/chinese_number.h` declares them.
 #![tactic(auto)]

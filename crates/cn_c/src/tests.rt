@@ -39,8 +39,8 @@ fn reads_utf8_and_no_other_bytes(rt: HostRuntime) {
     assert_eq!(rt; chinese_number_read(b"\xe4\xb8", 0, 0, &mut reading), 5);
 }
 
-// A number in halves, the codes of a type, a way, a script and a case, and the bytes of the room; the status,
-// and the text or how long it would be.
+// A number in halves, the codes of a type, a way, a script and a case, and the bytes of the room;
+// the status, and the text or how long it would be.
 static PRINTED: [(u64, u64, u32, u32, u32, u32, usize, u32, &str, usize); 8] = [
     (123, 0, 0, 0, 0, 1, 9, 0, "一二三", 9),
     (123, 0, 5, 1, 1, 0, 16, 0, "壹佰贰拾叁", 15),
