@@ -50,8 +50,8 @@ enum {
 enum {
     CN_DIGITS = 0,
     CN_LOW = 1,          /* each unit is ten times the one before: 億 is 10^5 */
-    CN_TEN_THOUSAND = 2, /* from 萬 on each is 10^4 times the one before: 億 is 10^8, 兆 is 10^12. In use today */
-    CN_MIDDLE = 3,       /* from 億 on each is 10^8 times the one before: 兆 is 10^16, 京 is 10^24 */
+    CN_TEN_THOUSAND = 2, /* after 萬 each is 10^4 times the one before: 億 is 10^8, 兆 is 10^12. In use today */
+    CN_MIDDLE = 3,       /* after 億 each is 10^8 times the one before: 兆 is 10^16, 京 is 10^24 */
     CN_HIGH = 4          /* from 億 on each is the square of the one before: 兆 is 10^16, 京 is 10^32 */
 };
 

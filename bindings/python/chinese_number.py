@@ -44,8 +44,10 @@ class Kind(Enum):
 class Way(Enum):
     """How a number is written: as plain digits (一二三), or with units (一百二十三) by one of four methods.
 
-    LOW: each unit is ten times the one before. From 萬 on: TEN_THOUSAND, in use today, each is 10**4 times the one before.
-    From 億 on: MIDDLE, each is 10**8 times the one before; HIGH, each is the square of the one before.
+    LOW: each unit is ten times the one before.
+    TEN_THOUSAND, in use today: after 萬 each unit is 10**4 times the one before.
+    MIDDLE: after 億 each unit is 10**8 times the one before.
+    HIGH: from 億 on each unit is the square of the one before.
     """
 
     DIGITS = 0

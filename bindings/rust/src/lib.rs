@@ -55,9 +55,9 @@ pub enum ChineseCase {
 pub enum ChineseCountMethod {
     /// Each unit is ten times the one before: 億 is 10^5.
     Low,
-    /// From 萬 on each unit is 10^4 times the one before: 億 is 10^8, 兆 is 10^12.
+    /// After 萬 each unit is 10^4 times the one before: 億 is 10^8, 兆 is 10^12.
     TenThousand,
-    /// From 億 on each unit is 10^8 times the one before: 兆 is 10^16, 京 is 10^24.
+    /// After 億 each unit is 10^8 times the one before: 兆 is 10^16, 京 is 10^24.
     Middle,
     /// From 億 on each unit is the square of the one before: 兆 is 10^16, 京 is 10^32.
     High,

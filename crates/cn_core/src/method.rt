@@ -7,9 +7,9 @@ ghost use Rattle.std.specs.Prelude.{◌≡◌, [], ◌∷◌};
 pub enum ChineseCountMethod {
     /// Each unit is ten of the one before: 億 is 10^5, 兆 is 10^6, 極 is 10^15.
     Low,
-    /// From 萬 on each unit is 10^4 of the one before: 億 is 10^8, 兆 is 10^12, 京 is 10^16.
+    /// After 萬 each unit is 10^4 of the one before: 億 is 10^8, 兆 is 10^12, 京 is 10^16.
     TenThousand,
-    /// From 億 on each unit is 10^8 of the one before: 億 is 10^8, 兆 is 10^16, 京 is 10^24.
+    /// After 億 each unit is 10^8 of the one before: 億 is 10^8, 兆 is 10^16, 京 is 10^24.
     Middle,
     /// From 億 on each unit is the square of the one before: 億 is 10^8, 兆 is 10^16, 京 is 10^32.
     High,

@@ -14,7 +14,8 @@ ghost use Rattle.cn_core.specs.declared.script.ChineseVariant.{ChineseVariant};
 
 use cn_core::Whole;
 
-/// Every spelling is a numeral of its magnitude.
+/// Every spelling of a number that the type holds and the method writes is a numeral of its
+/// magnitude.
 ///
 /// For a normaliser for speech: what it writes is a numeral by the rules, for any reader. 110 is
 /// 一百一十 by each method.
