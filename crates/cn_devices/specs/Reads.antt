@@ -9,7 +9,10 @@ next_count count = (count + 1) % 2 ^ 64
 abbrev pub count_after : ℕ → ℕ → ℕ
 count_after given count = if given == 0 then next_count count else count
 
--- what a read does to the count, and to whether the last read was such a one; nothing where it failed
+-- what a read does to the count, and to whether the last read was such a one; nothing where it
+-- failed
 abbrev pub Counts : {E : Type 0} → ℕ → ℕ → Bool → Bool → Result ℕ E → Type 0
 Counts old new was_ended is_ended result =
-    MatchResult result (λ given. (new ≡ count_after given old) × (is_ended ≡ (given == 0))) (λ _. (new ≡ old) × (is_ended ≡ was_ended))
+    MatchResult result
+    (λ given. (new ≡ count_after given old) × (is_ended ≡ (given == 0)))
+    (λ _. (new ≡ old) × (is_ended ≡ was_ended))

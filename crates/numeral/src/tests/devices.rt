@@ -8,7 +8,7 @@ use crate::memory_sink::MemorySink;
 use crate::memory_source::MemorySource;
 use crate::program::answer_all;
 use crate::std_device::Device;
-use cn_devices::gathering::Gathering;
+use cn_devices::buffered_sink::BufferedSink;
 use std::cell::Cell;
 use std::io;
 use std::io::{ErrorKind, Read, Write};
@@ -99,10 +99,10 @@ fn an_interrupted_call_is_a_fault(rt: HostRuntime) {
 #[test]
 fn an_interrupted_flush_is_a_fault(rt: HostRuntime) -> Result<(), Fail> {
     let mut reader = MemorySource::new(b"hello\n", 9, None);
-    let mut writer = Gathering::new(rt.alloc(), Device::new(Interrupted { calls: 0 }))?;
+    let mut writer = BufferedSink::new(rt.alloc(), Device::new(Interrupted { calls: 0 }))?;
     ends(&rt, &mut reader, &mut writer, Err(RunError::Write));
     let mut reader = MemorySource::new(b"hello", 9, None);
-    let mut writer = Gathering::new(rt.alloc(), Device::new(Interrupted { calls: 0 }))?;
+    let mut writer = BufferedSink::new(rt.alloc(), Device::new(Interrupted { calls: 0 }))?;
     ends(&rt, &mut reader, &mut writer, Ok(()));
     assert_eq!(rt; writer.flush(), Err(DeviceFault));
     Ok(())
@@ -139,7 +139,7 @@ fn answers_go_out_together(rt: HostRuntime) -> Result<(), Fail> {
     assert_eq!(rt; (writes.get(), flushes.get()), (0, 1));
 
     let mut reader = MemorySource::new(b"hello\nhello\nhello\n", 99, None);
-    let mut writer = Gathering::new(rt.alloc(), device)?;
+    let mut writer = BufferedSink::new(rt.alloc(), device)?;
     assert_eq!(rt; answer_all(rt.alloc(), &mut reader, &mut writer), 0);
     assert_eq!(rt; (writes.get(), flushes.get()), (1, 4));
     Ok(())

@@ -5,7 +5,7 @@ use crate::fault::DeviceFault;
 use crate::memory_source::MemorySource;
 use crate::program::answer_all;
 use crate::std_device::Device;
-use cn_devices::gathering::Gathering;
+use cn_devices::buffered_sink::BufferedSink;
 use std::cell::Cell;
 use std::io;
 use std::io::{ErrorKind, Write};
@@ -47,7 +47,7 @@ fn a_failed_flush_is_no_failed_write(rt: HostRuntime) {
 fn a_failed_flush_at_the_end_is_status_one(rt: HostRuntime) -> Result<(), Fail> {
     let last = Cell::new([0; 9]);
     let mut reader = MemorySource::new(b"hello", 9, None);
-    let mut writer = Gathering::new(rt.alloc(), Device::new(Stuck { last: &last }))?;
+    let mut writer = BufferedSink::new(rt.alloc(), Device::new(Stuck { last: &last }))?;
     assert_eq!(rt; answer_all(rt.alloc(), &mut reader, &mut writer), 1);
     assert_eq!(rt; last.get(), *b"bad line\n");
     Ok(())
