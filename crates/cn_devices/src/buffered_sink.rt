@@ -55,12 +55,12 @@ impl<W: Sink> BufferedSink<W> {
     // Writes what is buffered. What has gone out before an error is not written again, and the rest
     // is kept.
     fn write_out(&mut self) -> Result<(), DeviceFault>
-        requires works { W.failed self.old.inner ≡ false }
-        ensures fails { W.failed self.new.inner ≡ is_err result }
+        requires works { (W.state self.old.inner).failed ≡ false }
+        ensures fails { (W.state self.new.inner).failed ≡ is_err result }
         ensures bytes { Keeps
-            (append_known (W.contents self.old.inner)
+            (append_known (W.state self.old.inner).contents
             (drop self.old.written self.old.buffer.items))
-            (append_known (W.contents self.new.inner)
+            (append_known (W.state self.new.inner).contents
             (drop self.new.written self.new.buffer.items)) }
         ensures empty { OnOk result (self.new.buffer.items ≡ []) }
         ensures start { OnOk result (self.new.written ≡ 0) }
@@ -76,14 +76,13 @@ impl<W: Sink> BufferedSink<W> {
 }
 
 impl<W: Sink> Sink for BufferedSink<W> {
-    // The bytes of the sink behind it, and those that are still to go out.
-    ghost contents = { λ s. append_known (W.contents s.inner) (drop s.written s.buffer.items) };
-
-    ghost failed = { λ s. W.failed s.inner };
-
-    ghost holds_back = { λ s. not (vec_len s.buffer == 0) || W.holds_back s.inner };
-
-    ghost flush_failed = { λ s. vec_len s.buffer == 0 && W.flush_failed s.inner };
+    // Its contents are the bytes of the sink behind it, and those that are still to go out.
+    ghost state = { λ s. record {
+      contents = append_known (W.state s.inner).contents (drop s.written s.buffer.items);
+      failed = (W.state s.inner).failed;
+      holds_back = not (vec_len s.buffer == 0) || (W.state s.inner).holds_back;
+      flush_failed = vec_len s.buffer == 0 && (W.state s.inner).flush_failed;
+    } };
 
     fn write(&mut self, bytes: &[u8]) -> Result<usize, DeviceFault> {
         if self.try_append(bytes) {

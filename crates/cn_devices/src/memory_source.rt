@@ -1,6 +1,6 @@
 ghost use Rattle.std.specs.Prelude.{◌≡◌, ◌==◌, ◌<◌, ◌≤◌, ◌-◌, Some, min, length, unwrap_or, false, is_err, IfOk, OnOk};
 ghost use Rattle.std.specs.Io.KnownBytes.{ReadConsumes};
-ghost use Rattle.cn_devices.specs.Reads.{Counts};
+ghost use Rattle.cn_devices.specs.Devices.{Counts};
 
 use crate::device::Source;
 use crate::empty_reads::EmptyReads;
@@ -43,15 +43,13 @@ impl<'a> MemorySource<'a> {
 }
 
 impl Source for MemorySource<'_> {
-    ghost remaining = { λ s. Some s.rest.now };
-
-    ghost failed = { λ s. s.failed };
+    ghost state = { λ s. record {
+      remaining = Some s.rest.now;
+      failed = s.failed;
+      empty = s.empty;
+    } };
 
     ghost reads_left = { λ s. length s.rest.now };
-
-    ghost empty_reads = { λ s. s.empty.count };
-
-    ghost ended = { λ s. s.empty.ended };
 
     fn read(&mut self, buffer: &mut [u8]) -> Result<usize, DeviceFault>
         requires some { 0 < length buffer.old }
@@ -62,8 +60,7 @@ impl Source for MemorySource<'_> {
             result buffer.new }
         ensures ends { IfOk result (λ n.
             0 < n → length self.new.rest.now < length self.old.rest.now) }
-        ensures counts { Counts self.old.empty.count self.new.empty.count
-            self.old.empty.ended self.new.empty.ended result }
+        ensures counts { Counts self.old.empty self.new.empty result }
         ensures only { is_err result ≡ (self.old.fails_in == 1) }
         ensures falls { OnOk result (self.new.fails_in ≡ self.old.fails_in - 1) }
         ensures most { IfOk result (λ n.

@@ -68,8 +68,8 @@ fn ends<R: Source, W: Sink>(
     writer: &mut W,
     wanted: Result<(), RunError>,
 )
-    requires reads { R.failed reader.old ≡ false }
-    requires writes { W.failed writer.old ≡ false }
+    requires reads { (R.state reader.old).failed ≡ false }
+    requires writes { (W.state writer.old).failed ≡ false }
 {
     assert_eq!(rt; run(rt.alloc(), reader, writer), wanted);
 }
@@ -95,7 +95,7 @@ fn an_interrupted_call_is_a_fault(rt: HostRuntime) {
     ends(&rt, &mut reader, &mut writer, Err(RunError::Read));
 }
 
-// Under gathered output the write comes with the next flush: before a read, or at the end.
+// Under buffered output the write comes with the next flush: before a read, or at the end.
 #[test]
 fn an_interrupted_flush_is_a_fault(rt: HostRuntime) -> Result<(), Fail> {
     let mut reader = MemorySource::new(b"hello\n", 9, None);
@@ -145,7 +145,8 @@ fn answers_go_out_together(rt: HostRuntime) -> Result<(), Fail> {
     Ok(())
 }
 
-// The most bytes that a read moves and the read that fails, the same of writes, the status and what is written.
+// The most bytes that a read moves and the read that fails, the same of writes, the status and what
+// is written.
 type Program = (usize, Option<u64>, usize, Option<u64>, u8, &'static str);
 
 static PROGRAMS: [Program; 3] = [

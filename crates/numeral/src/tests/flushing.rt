@@ -1,4 +1,5 @@
-// A writer that takes every write and cannot be flushed: no write fails, and the program's last flush tells.
+// A writer that takes every write and cannot be flushed: no write fails, and the program's last
+// flush tells.
 use crate::device::Sink;
 use crate::engine::run;
 use crate::fault::DeviceFault;
@@ -20,8 +21,8 @@ struct Stuck<'a> {
 impl Write for Stuck<'_> {
     fn write(&mut self, bytes: &[u8]) -> io::Result<usize> {
         let mut last = [0; 9];
-        for (place, byte) in last.iter_mut().zip(bytes) {
-            *place = *byte;
+        for (shown, byte) in last.iter_mut().zip(bytes) {
+            *shown = *byte;
         }
         self.last.set(last);
         Ok(bytes.len())
