@@ -1,37 +1,13 @@
 -- What a writer holds together with the bytes that are buffered for it.
-use Rattle.std.proofs.Common.{◌≡◌, ℕ, ◌+◌, List, [], ◌++◌, Option, None, Some, Result, Ok, Err, append-nil, refl, sym, ap, subst, ◌∙◌, append_assoc, take, drop, length, ◌-◌, ◌≤◌}
+use Rattle.std.proofs.Common.{◌≡◌, ℕ, ◌+◌, List, [], ◌++◌, Option, None, Some, Result, Ok, Err, append-nil, sym, ap, subst, ◌∙◌, take, drop, length, ◌-◌, ◌≤◌}
 use Rattle.std.proofs.lemmas.List.{take-append-drop, drop-drop, take_all, length-drop}
+use Rattle.std.proofs.KnownBytes.{Keeps-refl}
 use Rattle.std.proofs.Math.Nat.{le_refl}
-use Rattle.std.specs.Io.KnownBytes.{Keeps, Appends, WriteAppends, append_known}
-
-pub kept-alike : (a : Option (List ℕ)) → Keeps a a
-kept-alike None = tt
-kept-alike (Some bytes) = refl
-
-pub kept-twice : (a b c : Option (List ℕ)) → Keeps a b → Keeps b c → Keeps a c
-kept-twice None b c first second = tt
-kept-twice (Some x) None c first second = absurd first
-kept-twice (Some x) (Some y) None first second = absurd second
-kept-twice (Some x) (Some y) (Some z) first second = second ∙ first
-
--- a call that keeps the writer's bytes
-pub kept-before : (a b : Option (List ℕ)) (buffered : List ℕ) → Keeps a b → Keeps (append_known a buffered) (append_known b buffered)
-kept-before None b buffered kept = tt
-kept-before (Some x) None buffered kept = absurd kept
-kept-before (Some x) (Some y) buffered kept = ap (λ bytes. bytes ++ buffered) kept
+use Rattle.std.specs.Io.KnownBytes.{Keeps, WriteAppends, append_known}
 
 -- a call that leaves both as they were
 pub kept-same : (a : Option (List ℕ)) {buffered left : List ℕ} → buffered ≡ left → Keeps (append_known a buffered) (append_known a left)
-kept-same None same = tt
-kept-same (Some x) same = ap (λ bytes. x ++ bytes) (sym same)
-
--- a call that moves the front of what is buffered to the writer
-pub kept-moved : (a b : Option (List ℕ)) (front rest buffered : List ℕ)
-    → Appends a b front → buffered ≡ front ++ rest → Keeps (append_known a buffered) (append_known b rest)
-kept-moved None b front rest buffered moved parts = tt
-kept-moved (Some x) None front rest buffered moved parts = absurd moved
-kept-moved (Some x) (Some y) front rest buffered moved parts =
-    ap (λ bytes. bytes ++ rest) moved ∙ append_assoc x front rest ∙ ap (λ bytes. x ++ bytes) (sym parts)
+kept-same a {buffered = buffered} same = subst (λ left. Keeps (append_known a buffered) (append_known a left)) same (Keeps-refl _)
 
 -- what is left once the writer has taken the front of what was left
 pub left_after : (all left : List ℕ) (gone count : ℕ) → left ≡ drop gone all → left ≡ take count left ++ drop (gone + count) all

@@ -1,5 +1,5 @@
 // Reads the input block by block, and answers its lines.
-ghost use Rattle.std.specs.Prelude.{◌≡◌, ◌<◌, ◌≤◌, ◌||◌, ◌++◌, [], ◌∷◌, true, false, length, take, drop, slice_index, OnOk, OnErr, IfOk, IfSome, MatchOption, string_bytes};
+ghost use Rattle.std.specs.Prelude.{◌≡◌, ◌<◌, ◌≤◌, ◌++◌, [], ◌∷◌, false, length, take, drop, slice_index, OnOk, OnErr, IfOk, IfSome, MatchOption, string_bytes};
 ghost use Rattle.std.specs.Io.KnownBytes.{Keeps, ReadConsumes};
 ghost use Rattle.cn_lines.specs.Lines.{HasNoFeed, last_line, lines};
 ghost use Rattle.cn_lines.specs.Answer.{Answers};

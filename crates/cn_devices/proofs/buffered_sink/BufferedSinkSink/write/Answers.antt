@@ -1,5 +1,6 @@
 use Rattle.std.proofs.Common.{◌≡◌, [], drop, ap, sym, ◌∙◌}
-use Rattle.cn_devices.proofs.Buffered.{kept-same, kept-twice, written_through}
+use Rattle.std.proofs.KnownBytes.{Keeps-trans}
+use Rattle.cn_devices.proofs.Buffered.{kept-same, written_through}
 use Rattle.cn_devices.proofs.buffered_sink.BufferedSinkSink.write.Goals as goal
 
 pub returns-clause-bytes : goal.returns-clause-bytes
@@ -12,4 +13,4 @@ returns-clause-bytes g c =
     let none : drop c.write_out.new.self.written c.write_out.new.self.buffer.items ≡ [] =
     ap (λ gone. drop gone c.write_out.new.self.buffer.items) out.start ∙ out.empty in
     rw (nothing, sym first.buffer, sym first.written, sym first.inner)
-    (written_through _ _ _ _ _ _ (rw second.inner (kept-twice _ _ _ out.bytes (kept-same _ none))) c.write.ensures.bytes)
+    (written_through _ _ _ _ _ _ (rw second.inner (Keeps-trans _ _ _ out.bytes (kept-same _ none))) c.write.ensures.bytes)
