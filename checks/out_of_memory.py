@@ -26,7 +26,7 @@ def lines_with(program, library, first, more):
 
 def check(ample, growing, first, refused):
     """Holds a run against the one with ample memory, of which the first lines grow: the lines from this one on, as
-    many as were refused, are short of memory, and all others are as they were."""
+    many as were refused, are out of memory, and all others are as they were."""
     lines, sizes = refused
     hit = range(first - 1, min(first - 1 + len(sizes), growing))
     if sizes != [len(ample[place][1].encode()) for place in hit]:

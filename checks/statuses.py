@@ -4,7 +4,7 @@
 Usage: statuses.py PROGRAM
 
 0 at the end of the input, 1 where the input cannot be read or the output not be written, 2 where
-memory is short; then the lines before the one in hand are answered, and nothing else is written.
+memory runs out; then the lines before the one in hand are answered, and nothing else is written.
 Answers go to standard output alone, and standard error stays empty, whatever the status.
 """
 import os

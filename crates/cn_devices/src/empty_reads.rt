@@ -1,5 +1,5 @@
 ghost use Rattle.std.specs.Prelude.{◌≡◌, ◌==◌, false};
-ghost use Rattle.cn_devices.specs.Reads.{count_after};
+ghost use Rattle.cn_devices.specs.Devices.{count_after};
 
 /// How many reads of a source gave no byte, and whether the last one gave none.
 #[derive(Drop)]

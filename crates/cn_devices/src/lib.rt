@@ -1,13 +1,13 @@
-//! What the program `numeral` reads from and writes to: sources and sinks of bytes, over std and over memory, and a sink
-//! that gathers its output.
+//! What the program `numeral` reads from and writes to: sources and sinks of bytes, over std and
+//! over memory, and a sink that buffers its output.
 //!
 //! What stands here serves that program alone, which hands the devices and their faults on.
 #![tactic(auto)]
 
+pub mod buffered_sink;
 pub mod device;
 mod empty_reads;
 pub mod fault;
-pub mod gathering;
 pub mod memory_sink;
 pub mod memory_source;
 pub mod std_device;

@@ -1,6 +1,6 @@
 ghost use Rattle.std.specs.Prelude.{◌≡◌, ◌==◌, ◌<◌, ◌≤◌, ◌-◌, Some, min, length, unwrap_or, false, is_err, IfOk, OnOk};
 ghost use Rattle.std.specs.Io.KnownBytes.{ReadConsumes};
-ghost use Rattle.cn_devices.specs.Reads.{Counts};
+ghost use Rattle.cn_devices.specs.Devices.{Counts};
 
 use crate::device::Source;
 use crate::empty_reads::EmptyReads;
@@ -43,27 +43,28 @@ impl<'a> MemorySource<'a> {
 }
 
 impl Source for MemorySource<'_> {
-    ghost remaining = { λ s. Some s.rest.now };
-
-    ghost failed = { λ s. s.failed };
+    ghost state = { λ s. record {
+      remaining = Some s.rest.now;
+      failed = s.failed;
+      empty = s.empty;
+    } };
 
     ghost reads_left = { λ s. length s.rest.now };
 
-    ghost empty_reads = { λ s. s.empty.count };
-
-    ghost ended = { λ s. s.empty.ended };
-
     fn read(&mut self, buffer: &mut [u8]) -> Result<usize, DeviceFault>
-        requires room { 0 < length buffer.old }
+        requires some { 0 < length buffer.old }
         requires works { self.old.failed ≡ false }
         ensures bound { IfOk result (λ n. n ≤ length buffer.new) }
         ensures fails { self.new.failed ≡ is_err result }
-        ensures bytes { ReadConsumes (Some self.old.rest.now) (Some self.new.rest.now) result buffer.new }
-        ensures ends { IfOk result (λ n. 0 < n → length self.new.rest.now < length self.old.rest.now) }
-        ensures counts { Counts self.old.empty.count self.new.empty.count self.old.empty.ended self.new.empty.ended result }
+        ensures bytes { ReadConsumes (Some self.old.rest.now) (Some self.new.rest.now)
+            result buffer.new }
+        ensures ends { IfOk result (λ n.
+            0 < n → length self.new.rest.now < length self.old.rest.now) }
+        ensures counts { Counts self.old.empty self.new.empty result }
         ensures only { is_err result ≡ (self.old.fails_in == 1) }
         ensures falls { OnOk result (self.new.fails_in ≡ self.old.fails_in - 1) }
-        ensures most { IfOk result (λ n. n ≡ min (min (length self.old.rest.now) (length buffer.old)) self.old.most) }
+        ensures most { IfOk result (λ n.
+            n ≡ min (min (length self.old.rest.now) (length buffer.old)) self.old.most) }
         ensures same { self.new.most ≡ self.old.most }
     {
         if self.fails_in == 1 {

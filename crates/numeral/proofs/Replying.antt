@@ -1,6 +1,7 @@
 -- What stands written when lines are answered one after the other.
-use Rattle.std.proofs.Common.{◌++◌, ℕ, Option, List, [], ◌∷◌, refl, sym, ap, ◌∙◌, subst, append_assoc}
+use Rattle.std.proofs.Common.{◌++◌, ℕ, List, [], ◌∷◌, refl, sym, ap, ◌∙◌, subst, append_assoc}
 use Rattle.std.proofs.KnownBytes.{Appends-trans, Appends-nil}
+use Rattle.cn_devices.specs.Devices.{SinkState}
 use Rattle.cn_lines.specs.Answer.{AreReplies}
 use Rattle.cn_lines.proofs.OneAnswer.{some_replies}
 use Rattle.numeral.specs.Leaves.{Wrote, WroteBeginning}
@@ -10,23 +11,23 @@ AreReplies-append [] ys a b p q = subst (AreReplies ys) (ap (λ l. l ++ b) (sym 
 AreReplies-append (x ∷ xs) ys a b p q =
     (p.0, p.1 ++ b, p.2, AreReplies-append xs ys p.1 b p.3 q, ap (λ l. l ++ b) p.4 ∙ append_assoc p.0 (10 ∷ p.1) b)
 
-pub Wrote-none : (now : Option (List ℕ)) → Wrote now now []
-Wrote-none now = ([], refl, Appends-nil now)
+pub Wrote-none : (now : SinkState) → Wrote now now []
+Wrote-none now = ([], refl, Appends-nil now.contents)
 
-pub Wrote-append : (old now new : Option (List ℕ)) (xs ys : List (List ℕ)) → Wrote old now xs → Wrote now new ys → Wrote old new (xs ++ ys)
+pub Wrote-append : (old now new : SinkState) (xs ys : List (List ℕ)) → Wrote old now xs → Wrote now new ys → Wrote old new (xs ++ ys)
 Wrote-append old now new xs ys p q =
-    (p.0 ++ q.0, AreReplies-append xs ys p.0 q.0 p.1 q.1, Appends-trans old now new p.0 q.0 p.2 q.2)
+    (p.0 ++ q.0, AreReplies-append xs ys p.0 q.0 p.1 q.1, Appends-trans old.contents now.contents new.contents p.0 q.0 p.2 q.2)
 
-pub WroteBeginning-after : (old now new : Option (List ℕ)) (xs ys : List (List ℕ)) → Wrote old now xs → WroteBeginning now new ys
+pub WroteBeginning-after : (old now new : SinkState) (xs ys : List (List ℕ)) → Wrote old now xs → WroteBeginning now new ys
     → WroteBeginning old new (xs ++ ys)
 WroteBeginning-after old now new xs ys p q = (
   p.0 ++ q.0,
   q.1,
   subst (AreReplies (xs ++ ys)) (sym (append_assoc p.0 q.0 q.1)) (AreReplies-append xs ys p.0 (q.0 ++ q.1) p.1 q.2),
-  Appends-trans old now new p.0 q.0 p.2 q.3,
+  Appends-trans old.contents now.contents new.contents p.0 q.0 p.2 q.3,
 )
 
-pub WroteBeginning-before : (old new : Option (List ℕ)) (xs ys : List (List ℕ)) → WroteBeginning old new xs → WroteBeginning old new (xs ++ ys)
+pub WroteBeginning-before : (old new : SinkState) (xs ys : List (List ℕ)) → WroteBeginning old new xs → WroteBeginning old new (xs ++ ys)
 WroteBeginning-before old new xs ys p =
     let more = some_replies ys in (
       p.0,

@@ -28,12 +28,12 @@ use crate::fault::RunError;
 use crate::program::answer_all;
 use crate::program_status::status;
 use crate::std_device::Device;
-use cn_devices::gathering::Gathering;
+use cn_devices::buffered_sink::BufferedSink;
 pub use cn_devices::{device, fault, memory_sink, memory_source, std_device};
 use std::process::ExitCode;
 
 fn main(rt: HostRuntime) -> ExitCode {
-    let Ok(mut writer) = Gathering::new(rt.alloc(), Device::new(rt.stdout())) else {
+    let Ok(mut writer) = BufferedSink::new(rt.alloc(), Device::new(rt.stdout())) else {
         return ExitCode::from(status(&Err(RunError::Memory), false));
     };
     let mut reader = Device::new(rt.stdin());

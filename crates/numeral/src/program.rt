@@ -1,7 +1,8 @@
 // What the program does with its input and output.
-ghost use Rattle.std.specs.Prelude.{◌≡◌, ◌≤◌, ◌||◌, ℕ, List, true, false, IfSome};
+ghost use Rattle.std.specs.Prelude.{◌≡◌, ◌≤◌, ℕ, List, true, false, IfSome};
 ghost use Rattle.std.specs.Io.KnownBytes.{Consumes};
-ghost use Rattle.numeral.specs.Leaves.{Wrote, WroteBeginning, WroteFirst, EndedOnce, EndedAtMostOnce};
+ghost use Rattle.cn_devices.specs.Devices.{IsHandedOn};
+ghost use Rattle.numeral.specs.Leaves.{Wrote, WroteBeginning, WroteFirst, EndedOnce, EndedAtMostOnce, any_failed};
 ghost use Rattle.cn_lines.specs.Lines.{lines};
 
 use crate::device::{Sink, Source};
@@ -9,28 +10,30 @@ use crate::engine::run;
 use crate::program_status::status;
 use std::alloc::Global;
 
-/// Answers the lines of the reader on the writer, hands all of it on, and gives the status of the program.
+/// Answers the lines of the reader on the writer, hands all of it on, and gives the status of the
+/// program.
 ///
-/// What was written is a beginning of the answers to the lines read, and none of it is held back unless a write or
-/// the last flush failed. After a read that gave nothing no more is read. After 0 nothing failed, the input was read
-/// to its end, and what was written is exactly the answers to its lines. 1 comes only where a read, a write or the
-/// last flush failed. After 2 the answers to the first k lines read were written, whole, and a further line was read.
+/// What was written is a beginning of the answers to the lines read, and none of it is held back
+/// unless a write or the last flush failed. After a read that gave nothing no more is read. After 0
+/// nothing failed, the input was read to its end, and what was written is exactly the answers to
+/// its lines. 1 comes only where a read, a write or the last flush failed. After 2 the answers to
+/// the first k lines read were written, whole, and a further line was read.
 pub(crate) fn answer_all<R: Source, W: Sink>(alloc: Global, reader: &mut R, writer: &mut W) -> u8
-    requires reads { R.failed reader.old ≡ false }
-    requires writes { W.failed writer.old ≡ false }
+    requires reads { (R.state reader.old).failed ≡ false }
+    requires writes { (W.state writer.old).failed ≡ false }
     ensures beginning { (bytes : List ℕ)
-        × Consumes (R.remaining reader.old) (R.remaining reader.new) bytes
-        × WroteBeginning (W.contents writer.old) (W.contents writer.new) (lines bytes) }
-    ensures whole { result ≡ 0 → IfSome (R.remaining reader.old) (λ input.
-        Wrote (W.contents writer.old) (W.contents writer.new) (lines input)) }
-    ensures ended { result ≡ 0 → EndedOnce (R.empty_reads reader.old) (R.empty_reads reader.new) (R.ended reader.new) }
-    ensures stops { EndedAtMostOnce (R.empty_reads reader.old) (R.empty_reads reader.new) (R.ended reader.new) }
-    ensures out { W.holds_back writer.new ≡ true → (W.failed writer.new || W.flush_failed writer.new) ≡ true }
-    ensures works { result ≡ 0 → (R.failed reader.new || W.failed writer.new || W.flush_failed writer.new) ≡ false }
-    ensures fault { result ≡ 1 → (R.failed reader.new || W.failed writer.new || W.flush_failed writer.new) ≡ true }
+        × Consumes (R.state reader.old).remaining (R.state reader.new).remaining bytes
+        × WroteBeginning (W.state writer.old) (W.state writer.new) (lines bytes) }
+    ensures whole { result ≡ 0 → IfSome (R.state reader.old).remaining (λ input.
+        Wrote (W.state writer.old) (W.state writer.new) (lines input)) }
+    ensures ended { result ≡ 0 → EndedOnce (R.state reader.old) (R.state reader.new) }
+    ensures stops { EndedAtMostOnce (R.state reader.old) (R.state reader.new) }
+    ensures out { IsHandedOn (W.state writer.new) }
+    ensures works { result ≡ 0 → any_failed (R.state reader.new) (W.state writer.new) ≡ false }
+    ensures fault { result ≡ 1 → any_failed (R.state reader.new) (W.state writer.new) ≡ true }
     ensures memory { result ≡ 2 → (bytes : List ℕ)
-        × Consumes (R.remaining reader.old) (R.remaining reader.new) bytes
-        × WroteFirst (W.contents writer.old) (W.contents writer.new) bytes }
+        × Consumes (R.state reader.old).remaining (R.state reader.new).remaining bytes
+        × WroteFirst (W.state writer.old) (W.state writer.new) bytes }
     ensures no_other { result ≤ 2 }
 {
     let outcome = run(alloc, reader, writer);

@@ -1,4 +1,5 @@
-// What no clause says: that the worked lines are answered as they should be, and what a run leaves at each fault.
+// What no clause says: that the worked lines are answered as they should be, and what a run leaves
+// at each fault.
 mod devices;
 mod faults;
 mod flushing;
@@ -143,7 +144,8 @@ fn leaves(
     );
 }
 
-// Asserts that a run over this input ends well and writes this output, at most so many bytes a call.
+// Asserts that a run over this input ends well and writes this output, at most so many bytes a
+// call.
 fn ends_well(rt: &(impl Abort + AllocGlobal), input: &[u8], most: usize, output: &[u8]) {
     let calls = Calls {
         most,
@@ -153,7 +155,8 @@ fn ends_well(rt: &(impl Abort + AllocGlobal), input: &[u8], most: usize, output:
     leaves(rt, input, calls, Ok(()), output);
 }
 
-// Asserts that these lines are answered as they should be, by each of these numbers of bytes a call.
+// Asserts that these lines are answered as they should be, by each of these numbers of bytes a
+// call.
 fn answers_rows(
     rt: &(impl Abort + AllocGlobal),
     rows: &[(&str, &str)],

@@ -8,7 +8,7 @@ use crate::memory_sink::MemorySink;
 use crate::memory_source::MemorySource;
 use crate::program::answer_all;
 use crate::std_device::Device;
-use cn_devices::gathering::Gathering;
+use cn_devices::buffered_sink::BufferedSink;
 use std::cell::Cell;
 use std::io;
 use std::io::{ErrorKind, Read, Write};
@@ -68,8 +68,8 @@ fn ends<R: Source, W: Sink>(
     writer: &mut W,
     wanted: Result<(), RunError>,
 )
-    requires reads { R.failed reader.old ≡ false }
-    requires writes { W.failed writer.old ≡ false }
+    requires reads { (R.state reader.old).failed ≡ false }
+    requires writes { (W.state writer.old).failed ≡ false }
 {
     assert_eq!(rt; run(rt.alloc(), reader, writer), wanted);
 }
@@ -95,14 +95,14 @@ fn an_interrupted_call_is_a_fault(rt: HostRuntime) {
     ends(&rt, &mut reader, &mut writer, Err(RunError::Read));
 }
 
-// Under gathered output the write comes with the next flush: before a read, or at the end.
+// Under buffered output the write comes with the next flush: before a read, or at the end.
 #[test]
 fn an_interrupted_flush_is_a_fault(rt: HostRuntime) -> Result<(), Fail> {
     let mut reader = MemorySource::new(b"hello\n", 9, None);
-    let mut writer = Gathering::new(rt.alloc(), Device::new(Interrupted { calls: 0 }))?;
+    let mut writer = BufferedSink::new(rt.alloc(), Device::new(Interrupted { calls: 0 }))?;
     ends(&rt, &mut reader, &mut writer, Err(RunError::Write));
     let mut reader = MemorySource::new(b"hello", 9, None);
-    let mut writer = Gathering::new(rt.alloc(), Device::new(Interrupted { calls: 0 }))?;
+    let mut writer = BufferedSink::new(rt.alloc(), Device::new(Interrupted { calls: 0 }))?;
     ends(&rt, &mut reader, &mut writer, Ok(()));
     assert_eq!(rt; writer.flush(), Err(DeviceFault));
     Ok(())
@@ -139,13 +139,14 @@ fn answers_go_out_together(rt: HostRuntime) -> Result<(), Fail> {
     assert_eq!(rt; (writes.get(), flushes.get()), (0, 1));
 
     let mut reader = MemorySource::new(b"hello\nhello\nhello\n", 99, None);
-    let mut writer = Gathering::new(rt.alloc(), device)?;
+    let mut writer = BufferedSink::new(rt.alloc(), device)?;
     assert_eq!(rt; answer_all(rt.alloc(), &mut reader, &mut writer), 0);
     assert_eq!(rt; (writes.get(), flushes.get()), (1, 4));
     Ok(())
 }
 
-// The most bytes that a read moves and the read that fails, the same of writes, the status and what is written.
+// The most bytes that a read moves and the read that fails, the same of writes, the status and what
+// is written.
 type Program = (usize, Option<u64>, usize, Option<u64>, u8, &'static str);
 
 static PROGRAMS: [Program; 3] = [

@@ -67,7 +67,8 @@ fn each_write_fails(rt: HostRuntime) -> Result<(), AllocError> {
     Ok(())
 }
 
-// A run by one byte a call: its input, the read and the write that fail, its answer and what it writes.
+// A run by one byte a call: its input, the read and the write that fail, its answer and what it
+// writes.
 type Unfinished = (
     &'static str,
     Option<u64>,

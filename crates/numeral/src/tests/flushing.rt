@@ -1,11 +1,12 @@
-// A writer that takes every write and cannot be flushed: no write fails, and the program's last flush tells.
+// A writer that takes every write and cannot be flushed: no write fails, and the program's last
+// flush tells.
 use crate::device::Sink;
 use crate::engine::run;
 use crate::fault::DeviceFault;
 use crate::memory_source::MemorySource;
 use crate::program::answer_all;
 use crate::std_device::Device;
-use cn_devices::gathering::Gathering;
+use cn_devices::buffered_sink::BufferedSink;
 use std::cell::Cell;
 use std::io;
 use std::io::{ErrorKind, Write};
@@ -20,8 +21,8 @@ struct Stuck<'a> {
 impl Write for Stuck<'_> {
     fn write(&mut self, bytes: &[u8]) -> io::Result<usize> {
         let mut last = [0; 9];
-        for (place, byte) in last.iter_mut().zip(bytes) {
-            *place = *byte;
+        for (shown, byte) in last.iter_mut().zip(bytes) {
+            *shown = *byte;
         }
         self.last.set(last);
         Ok(bytes.len())
@@ -47,7 +48,7 @@ fn a_failed_flush_is_no_failed_write(rt: HostRuntime) {
 fn a_failed_flush_at_the_end_is_status_one(rt: HostRuntime) -> Result<(), Fail> {
     let last = Cell::new([0; 9]);
     let mut reader = MemorySource::new(b"hello", 9, None);
-    let mut writer = Gathering::new(rt.alloc(), Device::new(Stuck { last: &last }))?;
+    let mut writer = BufferedSink::new(rt.alloc(), Device::new(Stuck { last: &last }))?;
     assert_eq!(rt; answer_all(rt.alloc(), &mut reader, &mut writer), 1);
     assert_eq!(rt; last.get(), *b"bad line\n");
     Ok(())

@@ -1,5 +1,5 @@
-// Long lines and long numbers. A contract allows out of memory at any time, so it alone rules out no body that gives
-// up at some length.
+// Long lines and long numbers. A contract allows out of memory at any time, so it alone rules out
+// no body that gives up at some length.
 use super::{answers_rows, ends_well};
 use std::alloc::AllocError;
 

@@ -6,7 +6,7 @@ pub loop-rest-preserved : goal.loop-rest-preserved
 loop-rest-preserved g c =
     let i = c.loop-rest.invariant in (
       i.0 ++ take c.in-Ok.count c.loop-rest.rest.now,
-      rw (c.unwritten-rest.ensures, append_assoc, take-append-drop) i.1,
+      rw (c.bytes_after-rest.ensures, append_assoc, take-append-drop) i.1,
       Appends-trans _ _ _ _ _ i.2 c.in-Ok.ensures.bytes,
       c.in-Ok.ensures.fails,
     )

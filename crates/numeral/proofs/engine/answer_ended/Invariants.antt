@@ -1,12 +1,12 @@
 use Rattle.std.proofs.Common.{◌≡◌, ◌++◌, List, ℕ, length, false}
 use Rattle.numeral.proofs.State.{State}
-use Rattle.numeral.proofs.engine.feed.Given as goal
+use Rattle.numeral.proofs.engine.answer_ended.Given as goal
 
 abbrev pub invariant-lines : goal.invariant-lines
 invariant-lines g l =
     (seen : List ℕ) × (l.fn.block ≡ seen ++ l.rest)
-    × State (g.W.Sink.contents l.fn.writer) (g.W.Sink.contents l.writer) (l.fn.room.line.items ++ seen) l.room.line.items
-    × (g.W.Sink.failed l.writer ≡ false)
+    × State (g.W.Sink.state l.fn.writer) (g.W.Sink.state l.writer) (l.fn.buffers.line.items ++ seen) l.buffers.line.items
+    × ((g.W.Sink.state l.writer).failed ≡ false)
 
 abbrev pub decreases-lines : goal.decreases-lines
 decreases-lines g l = length l.rest

@@ -1,0 +1,109 @@
+// Output that is buffered and goes out in few writes: when the buffer is full, and at a flush.
+// Unlike std's buffered writer it tries no write again that was interrupted.
+ghost use Rattle.std.specs.Prelude.{◌≡◌, ◌↔◌, ◌+◌, ◌≤◌, ◌==◌, ◌||◌, ◌&&◌, ◌++◌, [], drop, false, if◌then◌else◌, is_err, length, not, IfOk, IsTrue, OnOk, vec_capacity, vec_len};
+ghost use Rattle.std.specs.Io.KnownBytes.{Keeps, append_known};
+ghost use Rattle.cn_devices.specs.declared.buffered_sink.TheConstants.{CAPACITY};
+
+use crate::device::Sink;
+use crate::fault::DeviceFault;
+use std::alloc::{AllocError, Global};
+
+// How many bytes are buffered at most.
+const CAPACITY: usize = 65536;
+
+/// A sink behind a buffer for its next bytes.
+#[derive(Drop)]
+pub struct BufferedSink<W> {
+    inner: W,
+    buffer: Vec<u8>,
+    // how many bytes of the buffer have gone out
+    written: usize,
+    ghost within: { written ≤ vec_len buffer },
+    ghost fits: { vec_len buffer ≤ CAPACITY },
+    ghost reserved: { CAPACITY ≤ vec_capacity buffer },
+}
+
+impl<W: Sink> BufferedSink<W> {
+    /// Takes the memory of its buffer at once: the only error is running out of it.
+    pub fn new(alloc: Global, inner: W) -> Result<BufferedSink<W>, AllocError>
+    where
+        W: Drop,
+        ensures inner { IfOk result (λ sink. sink.inner ≡ inner) }
+        ensures buffer { IfOk result (λ sink. sink.buffer.items ≡ []) }
+        ensures written { IfOk result (λ sink. sink.written ≡ 0) }
+    {
+        let buffer = Vec::with_capacity(alloc, CAPACITY)?;
+        Ok(BufferedSink {
+            inner,
+            buffer,
+            written: 0,
+        })
+    }
+
+    // Appends the bytes to the buffer, if all of them fit. No memory is asked for, so nothing else
+    // stops it.
+    fn try_append(&mut self, bytes: &[u8]) -> bool
+        ensures takes { IsTrue result ↔ (vec_len self.old.buffer + length bytes.now ≤ CAPACITY) }
+        ensures buffer { self.new.buffer.items
+            ≡ (if result then self.old.buffer.items ++ bytes.now else self.old.buffer.items) }
+        ensures written { self.new.written ≡ self.old.written }
+        ensures inner { self.new.inner ≡ self.old.inner }
+    {
+        bytes.len() <= CAPACITY - self.buffer.len() && self.buffer.extend_from_slice(bytes).is_ok()
+    }
+
+    // Writes what is buffered. What has gone out before an error is not written again, and the rest
+    // is kept.
+    fn write_out(&mut self) -> Result<(), DeviceFault>
+        requires works { (W.state self.old.inner).failed ≡ false }
+        ensures fails { (W.state self.new.inner).failed ≡ is_err result }
+        ensures bytes { Keeps
+            (append_known (W.state self.old.inner).contents
+            (drop self.old.written self.old.buffer.items))
+            (append_known (W.state self.new.inner).contents
+            (drop self.new.written self.new.buffer.items)) }
+        ensures empty { OnOk result (self.new.buffer.items ≡ []) }
+        ensures start { OnOk result (self.new.written ≡ 0) }
+    {
+        'writes: while self.written < self.buffer.len() {
+            let count = self.inner.write(&self.buffer[self.written..])?;
+            self.written += count;
+        }
+        self.written = 0;
+        self.buffer.clear();
+        Ok(())
+    }
+}
+
+impl<W: Sink> Sink for BufferedSink<W> {
+    // Its contents are the bytes of the sink behind it, and those that are still to go out.
+    ghost state = { λ s. record {
+      contents = append_known (W.state s.inner).contents (drop s.written s.buffer.items);
+      failed = (W.state s.inner).failed;
+      holds_back = not (vec_len s.buffer == 0) || (W.state s.inner).holds_back;
+      flush_failed = vec_len s.buffer == 0 && (W.state s.inner).flush_failed;
+    } };
+
+    fn write(&mut self, bytes: &[u8]) -> Result<usize, DeviceFault> {
+        if self.try_append(bytes) {
+            return Ok(bytes.len());
+        }
+        self.write_out()?;
+        if self.try_append(bytes) {
+            return Ok(bytes.len());
+        }
+        self.inner.write(bytes)
+    }
+
+    fn flush(&mut self) -> Result<(), DeviceFault> {
+        if self.inner.has_failed() {
+            return Err(DeviceFault);
+        }
+        self.write_out()?;
+        self.inner.flush()
+    }
+
+    fn has_failed(&self) -> bool {
+        self.inner.has_failed()
+    }
+}
