@@ -23,14 +23,15 @@ digit_rows =
 -- the characters that are read as each unit, from rank 0 to rank 15
 abbrev pub unit_rows : List (List ℕ)
 unit_rows =
-    codes "個个" ∷ codes "十拾" ∷ codes "百佰" ∷ codes "千仟" ∷ codes "萬万" ∷ codes "億亿" ∷ codes "兆" ∷ codes "京"
-    ∷ codes "垓" ∷ codes "秭" ∷ codes "穰" ∷ codes "溝沟" ∷ codes "澗涧" ∷ codes "正" ∷ codes "載载" ∷ codes "極极" ∷ []
+    codes "個个" ∷ codes "十拾" ∷ codes "百佰" ∷ codes "千仟" ∷ codes "萬万" ∷ codes "億亿"
+    ∷ codes "兆" ∷ codes "京" ∷ codes "垓" ∷ codes "秭" ∷ codes "穰" ∷ codes "溝沟" ∷ codes "澗涧"
+    ∷ codes "正" ∷ codes "載载" ∷ codes "極极" ∷ []
 
--- the value of a digit character
+-- the value of a digit character: 2 of 兩
 unfoldable pub digit_of : ℕ → Option ℕ
 digit_of c = row_with c digit_rows
 
--- the rank of a unit character
+-- the rank of a unit character: 1 of 拾
 unfoldable pub rank_of : ℕ → Option ℕ
 rank_of c = row_with c unit_rows
 

@@ -1,5 +1,5 @@
--- The judgement of a text, as a function. Contracts cite `Judges`, which says what the judgement is and speaks of all
--- fronts; the law `judgements_can_be_computed` says that it is this.
+-- The judgement of a text, as a function. Contracts cite `Judges`, which says what the judgement is
+-- and speaks of all fronts; the law `judgements_can_be_computed` says that it is this.
 use Rattle.std.specs.Prelude.{ℕ, suc, List, [], ◌∷◌, Result, Err, if◌then◌else◌}
 use Rattle.cn_core.specs.declared.method.ChineseCountMethod.{ChineseCountMethod}
 use Rattle.cn_core.specs.Mark.{Mark}
@@ -15,7 +15,9 @@ place_of (mark ∷ rest) = if each_may_precede rest then 0 else suc (place_of re
 
 -- of a body that is no numeral: its place is at fault, unless the body is too large before that
 abbrev pub judge_body : ChineseCountMethod → List Mark → Result ℕ Refusal
-judge_body method marks = let place = place_of marks in if is_early method marks place then Err too_large else Err (incorrect_at place)
+judge_body method marks =
+    let place = place_of marks in
+    if is_early method marks place then Err too_large else Err (incorrect_at place)
 
 -- the judgement of a text without sign
 abbrev pub judge : ChineseCountMethod → List Mark → Result ℕ Refusal
@@ -23,4 +25,5 @@ judge method [] = Err empty
 judge method (mark ∷ rest) =
     let marks = mark ∷ rest in
     if is_numeral marks then numeral_answer method marks
-    else (if is_numeral (body marks) then last_mark_answer method marks else judge_body method (body marks))
+    else (if is_numeral (body marks) then last_mark_answer method marks
+    else judge_body method (body marks))

@@ -2,12 +2,13 @@
 use Rattle.std.specs.Prelude.{ℕ, zero, suc, List, [], ◌∷◌, chars, if◌then◌else◌}
 use Rattle.std.specs.Char.{is_whitespace}
 
--- how many of these characters stand before the one that is no white space
--- and has exactly `place` such characters in front
+-- how many of these characters stand before the one that is no white space and has exactly `place`
+-- such characters in front: in ␠一␠二 the place 1 is 二, which stands after 3
 abbrev pub spot_among : List ℕ → ℕ → ℕ
 spot_among [] place = 0
 spot_among (c ∷ rest) zero = if is_whitespace c then suc (spot_among rest zero) else 0
-spot_among (c ∷ rest) (suc place) = suc (spot_among rest (if is_whitespace c then suc place else place))
+spot_among (c ∷ rest) (suc place) =
+    suc (spot_among rest (if is_whitespace c then suc place else place))
 
 -- the same of the characters of a string, given by its bytes
 abbrev pub spot : List ℕ → ℕ → ℕ

@@ -13,7 +13,11 @@ unsigned_kind bits = record { signed = false; least = pos 0; greatest = pos (2 ^
 
 -- a signed type of so many bits: from -2^(bits - 1) to 2^(bits - 1) - 1
 abbrev pub signed_kind : ℕ → Kind
-signed_kind bits = record { signed = true; least = neg_ℤ (pos (2 ^ (bits - 1))); greatest = pos (2 ^ (bits - 1) - 1) }
+signed_kind bits = record {
+  signed = true;
+  least = neg_ℤ (pos (2 ^ (bits - 1)));
+  greatest = pos (2 ^ (bits - 1) - 1);
+}
 
 -- a type of this kind holds the number
 abbrev pub Holds : Kind → ℤ → Type 0
@@ -23,7 +27,7 @@ Holds kind number = (kind.least ≤ℤ number) × (number ≤ℤ kind.greatest)
 abbrev pub holds : Kind → ℤ → Bool
 holds kind number = int_le kind.least number && int_le number kind.greatest
 
--- the number that is below zero or not, with this magnitude
+-- the number that is below zero or not, with this magnitude; 0 is one number
 abbrev pub signed_number : Bool → ℕ → ℤ
 signed_number false magnitude = pos magnitude
 signed_number true magnitude = neg_ℤ (pos magnitude)

@@ -26,11 +26,13 @@ signed_bytes variant case negative marks = encode_utf8_all (signed_text variant 
 
 -- the characters of a number as plain digits, after the minus sign where it is below zero
 abbrev pub naive_text : ChineseVariant → ChineseCase → ℤ → List ℕ
-naive_text variant case number = signed_text variant case (int_lt number (pos 0)) (decimal_digits (nat_abs number))
+naive_text variant case number =
+    signed_text variant case (int_lt number (pos 0)) (decimal_digits (nat_abs number))
 
 -- the characters of a number by its spelling, after the minus sign where it is below zero
 abbrev pub spelled_text : ChineseVariant → ChineseCase → ChineseCountMethod → ℤ → List ℕ
-spelled_text variant case method number = signed_text variant case (int_lt number (pos 0)) (spelling method (nat_abs number))
+spelled_text variant case method number =
+    signed_text variant case (int_lt number (pos 0)) (spelling method (nat_abs number))
 
 -- the numbers that a method writes: each one, but by `Low` those with a magnitude below 10^16
 abbrev pub is_printable : ChineseCountMethod → ℤ → Bool

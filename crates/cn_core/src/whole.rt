@@ -1,5 +1,6 @@
 ghost use Rattle.std.specs.Prelude.{◌≡◌, ◌↔◌, ◌^◌, ◌<◌, ◌≤◌, ℤ, pos, ◌<ℤ◌, nat_abs, Bool, true, false, IsTrue, IsSome, IfSome};
 ghost use Rattle.cn_core.specs.Whole.{Kind, Holds, signed_number};
+ghost use Rattle.cn_core.specs.WholeLaws.{IsWholeType, zero-held, from-zero, narrow-magnitudes, magnitude-fits};
 
 mod signed;
 mod unsigned;
@@ -63,15 +64,20 @@ pub trait Whole: Copy {
     // The type holds each number from its least to its greatest.
     ghost holds_each: { (z : ℤ) → Holds kind z → (x : Self) × (number x ≡ z) };
 
-    ghost holds_zero: { Holds kind (pos 0) };
+    // What each type shows by computing; the laws below follow from it.
+    ghost is_whole: { IsWholeType SIGNED NARROW kind };
 
-    ghost signed_is: { kind.signed ≡ SIGNED };
+    ghost signed_is: { kind.signed ≡ SIGNED } = { is_whole.sign };
 
-    ghost unsigned_from_zero: { SIGNED ≡ false → kind.least ≡ pos 0 };
+    ghost holds_zero: { Holds kind (pos 0) } = { zero-held _ _ _ is_whole };
+
+    ghost unsigned_from_zero: { SIGNED ≡ false → kind.least ≡ pos 0 } = { from-zero _ _ _ is_whole };
 
     // A type is narrow exactly where no magnitude that it holds is above 65535.
-    ghost narrow_is: { NARROW ≡ true ↔ ((z : ℤ) → Holds kind z → nat_abs z ≤ 65535) };
+    ghost narrow_is: { NARROW ≡ true
+        ↔ ((z : ℤ) → Holds kind z → nat_abs z ≤ 65535) } = { narrow-magnitudes _ _ _ is_whole };
 
     // Each magnitude fits 128 bits.
-    ghost magnitude_fits: { (z : ℤ) → Holds kind z → nat_abs z < 2 ^ 128 };
+    ghost magnitude_fits: { (z : ℤ) → Holds kind z
+        → nat_abs z < 2 ^ 128 } = { magnitude-fits _ _ _ is_whole };
 }

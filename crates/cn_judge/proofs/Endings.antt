@@ -1,16 +1,16 @@
 -- The answer at the front, and where the last mark stands apart.
-use Rattle.std.proofs.Common.{◌≡◌, ◌≢◌, inl, inr, ℕ, ◌+◌, ◌-◌, ◌^◌, ◌<◌, Bool, true, false, not, ◌&&◌, ◌||◌, ◌==◌, nat_lt, List, [], ◌∷◌, ◌++◌, length, Option, Some, None, Result, Ok, Err, refl, sym, ap, ◌∙◌, arith, if◌then◌else◌, append_assoc, length-append}
+use Rattle.std.proofs.Common.{◌≡◌, ◌≢◌, inl, inr, ℕ, ◌+◌, ◌-◌, ◌^◌, ◌<◌, Bool, true, false, not, ◌||◌, ◌==◌, nat_lt, List, [], ◌∷◌, ◌++◌, length, Option, Some, None, Result, Ok, Err, refl, sym, ap, ◌∙◌, arith, if◌then◌else◌, append_assoc, length-append}
 use Rattle.std.proofs.lemmas.Bool.Decides.{nat_tests}
 use Rattle.cn_core.specs.declared.method.ChineseCountMethod.{ChineseCountMethod}
 use Rattle.cn_core.specs.Mark.{Mark, digit, unit, other, mark_of}
 use Rattle.cn_core.specs.Numeral.{each_may_precede, is_numeral, with_first_digit, starts_with_digit}
-use Rattle.cn_core.specs.Place.{some_unfit, is_unit_from_hundred, is_unit_above_ge, is_unfit}
-use Rattle.cn_core.specs.Refusal.{Refusal, incorrect_at, too_large}
+use Rattle.cn_core.specs.Place.{some_unfit, is_tail, is_unfit}
+use Rattle.cn_core.specs.Refusal.{Refusal, incorrect_at}
 use Rattle.cn_core.specs.Scale.{scale_fits}
 use Rattle.cn_core.specs.Text.{marks_of}
 use Rattle.cn_core.specs.Value.{value}
-use Rattle.cn_judge.specs.declared.walk.Next.{Next}
-use Rattle.cn_judge.specs.Private.Walk.{sum_of, opens_of, faults, fitting, front_answer, refused_or, walked_answer, tail_answer, HasTail, HasNoTail, digit_next}
+use Rattle.cn_judge.specs.declared.mark.Mark.{Mark as ReadMark}
+use Rattle.cn_judge.specs.Private.Walk.{opens_of, faults, number_answer, front_answer, refused_or, walked_answer, tail_answer, HasTail, HasNoTail, digit_next}
 use Rattle.cn_judge.specs.Private.Stack.{StackEntry, total_sum}
 use Rattle.cn_judge.specs.Private.Walked.{IsWalked}
 use Rattle.cn_judge.proofs.OpenSums.{total-value}
@@ -21,11 +21,14 @@ use Rattle.cn_judge.proofs.WalkSteps.{digit-low, marks-length, marks-append}
 use Rattle.cn_core.specs.Judge.{Judges}
 use Rattle.cn_core.specs.Judging.{judge}
 use Rattle.std.specs.Result.{IsErr, IsErrAnd}
+use Rattle.std.specs.Option.{SomeIff, ok_or}
+use Rattle.cn_judge.specs.Private.Judged.{after_first}
 use Rattle.cn_judge.specs.Answer.{answer_of, refusal_of}
 use Rattle.cn_judge.specs.declared.error.ChineseToNumberError.{ChineseToNumberError}
+use Rattle.cn_judge.specs.declared.error.ChineseToNumberError.TheVariants.{Overflow}
 use Rattle.cn_core.proofs.Judging.{Judges-by_walk}
 
-pub first-stops : (c value : ℕ) → digit value ≡ mark_of c → (next : Next) → false ≡ (value == 0 || not (digit_next next))
+pub first-stops : (c value : ℕ) → digit value ≡ mark_of c → (next : Option ReadMark) → false ≡ (value == 0 || not (digit_next next))
     → (marks : List Mark) → each_may_precede marks ≡ true → digit_next next ≡ starts_with_digit marks → is_numeral (mark_of c ∷ marks) ≡ false
 first-stops c value is next h marks each starts =
     let parts = both (value == 0) (digit_next next) h in
@@ -44,25 +47,25 @@ first-stops c value is next h marks each starts =
           let b : nat_lt 9 value ≡ false = grind (arith, nat_tests) in
           rw (a, b)
 
-pub walked-each : (method : ChineseCountMethod) (walked : List ℕ) (sum : ℕ) (units : List StackEntry) (next : Next) → IsWalked method walked sum units next → each_may_precede (marks_of walked) ≡ true
+pub walked-each : (method : ChineseCountMethod) (walked : List ℕ) (sum : ℕ) (units : List StackEntry) (next : Option ReadMark) → IsWalked method walked sum units next → each_may_precede (marks_of walked) ≡ true
 walked-each method walked sum units next w = (sound-none method (marks_of walked) w.sound).each
 
-pub front-fits : (method : ChineseCountMethod) (first : Mark) (walked : List ℕ) (sum : ℕ) (units : List StackEntry) (next : Next) (d : ℕ) → IsWalked method walked sum units next
+pub front-fits : (method : ChineseCountMethod) (first : Mark) (walked : List ℕ) (sum : ℕ) (units : List StackEntry) (next : Option ReadMark) (d : ℕ) → IsWalked method walked sum units next
     → (is_numeral (first ∷ marks_of walked) ≡ true) × (with_first_digit (first ∷ marks_of walked) ≡ digit d ∷ marks_of walked)
-    → walked_answer method first (marks_of walked) ≡ fitting (total_sum (sum + d) units)
+    → walked_answer method first (marks_of walked) ≡ number_answer (total_sum (sum + d) units)
 front-fits method first walked sum units next d w numeral =
     ap (λ f. refused_or f (front_answer method first (marks_of walked))) w.sound
-    ∙ ap (λ (b : Bool). if b then fitting (value method (with_first_digit (first ∷ marks_of walked))) else Err (incorrect_at 0)) numeral.0
-    ∙ ap (λ l. fitting (value method l)) numeral.1
-    ∙ ap fitting (sym (total-value method (digit d ∷ marks_of walked)))
-    ∙ ap (λ s. fitting (total_sum (s + d) (opens_of method (marks_of walked)))) (sym w.sum_is)
-    ∙ ap (λ o. fitting (total_sum (sum + d) o)) (sym w.units_are)
+    ∙ ap (λ (b : Bool). if b then number_answer (value method (with_first_digit (first ∷ marks_of walked))) else Err (incorrect_at 0)) numeral.0
+    ∙ ap (λ l. number_answer (value method l)) numeral.1
+    ∙ ap number_answer (sym (total-value method (digit d ∷ marks_of walked)))
+    ∙ ap (λ s. number_answer (total_sum (s + d) (opens_of method (marks_of walked)))) (sym w.sum_is)
+    ∙ ap (λ o. number_answer (total_sum (sum + d) o)) (sym w.units_are)
 
-pub fitting-some : (number sum : ℕ) → (sum < 2 ^ 128) × (number ≡ sum) → fitting sum ≡ Ok number
-fitting-some number sum h = let test : nat_lt sum (2 ^ 128) ≡ true = grind (arith, nat_tests, h.0) in rw test (ap Ok (sym h.1))
-
-pub fitting-none : (sum : ℕ) → ¬ (sum < 2 ^ 128) → fitting sum ≡ Err too_large
-fitting-none sum h = let test : nat_lt sum (2 ^ 128) ≡ false = grind (arith, nat_tests) in rw test
+-- a sum that is found where it fits
+pub number_answer-ok_or : (char_index sum : ℕ) (rest : List ℕ) (found : Option ℕ) → SomeIff found (sum < 2 ^ 128) sum
+    → answer_of (λ n. n) (ok_or found Overflow) ≡ after_first char_index rest (number_answer sum)
+number_answer-ok_or char_index sum rest (Some number) h = let test : nat_lt sum (2 ^ 128) ≡ true = grind (arith, nat_tests, h.0) in rw test (ap Ok h.1)
+number_answer-ok_or char_index sum rest None h = let test : nat_lt sum (2 ^ 128) ≡ false = grind (arith, nat_tests) in rw test refl
 
 -- where no mark stands apart, the marks are read as they stand
 pub judge-plain_end : (method : ChineseCountMethod) (first : Mark) (marks : List Mark) → HasNoTail marks → judge method (first ∷ marks) ≡ plain method (first ∷ marks)
@@ -139,12 +142,11 @@ tail-stops method place rank number other none = refl
 
 pub has-tail : (text before more : List ℕ) (last second rank : ℕ) (last_mark second_mark : Mark) → text ≡ before ++ last ∷ [] → before ≡ more ++ second ∷ []
     → last_mark ≡ mark_of last → second_mark ≡ mark_of second
-    → second_mark ≡ unit rank → is_unit_from_hundred second_mark ≡ true → false ≡ is_unit_above_ge last_mark
-    → HasTail (marks_of text) (marks_of before) rank last_mark
-has-tail text before more last second rank last_mark second_mark parts more_parts last_is second_is is hundred above = (
+    → second_mark ≡ unit rank → is_tail second_mark last_mark ≡ true → HasTail (marks_of text) (marks_of before) rank last_mark
+has-tail text before more last second rank last_mark second_mark parts more_parts last_is second_is is apart = (
   ap marks_of parts ∙ marks-append before (last ∷ []) ∙ ap (λ m. marks_of before ++ m ∷ []) (sym last_is),
   (marks_of more, ap marks_of more_parts ∙ marks-append more (second ∷ []) ∙ ap (λ m. marks_of more ++ m ∷ []) (sym second_is ∙ is)),
-  ap (λ b. is_unit_from_hundred (unit rank) && not b) (sym above) ∙ ap (λ m. is_unit_from_hundred m && true) (sym is) ∙ ap (λ b. b && true) hundred,
+  ap (λ m. is_tail m last_mark) (sym is) ∙ apart,
 )
 
 -- an error that is handed on

@@ -11,7 +11,7 @@ use Rattle.cn_core.specs.Scale.{scale_fits}
 use Rattle.cn_core.specs.Value.{value}
 use Rattle.cn_core.specs.Judging.{place_of, judge_body}
 use Rattle.cn_core.proofs.Fronts.{each-from_completable}
-use Rattle.cn_judge.specs.Private.Walk.{fitting, front_answer, refused_or, walked_answer, fault_of, further_or, faults}
+use Rattle.cn_judge.specs.Private.Walk.{number_answer, front_answer, refused_or, walked_answer, fault_of, further_or, faults}
 use Rattle.cn_judge.proofs.OpenSums.{take_while-group, group-value}
 
 -- an early overflow, where the list's own place counts too
@@ -158,7 +158,7 @@ early_suc method mark rest place =
     ∙ ap (λ n. some_unfit method (drop (suc place) rest) || some_overflowing method (drop n (mark ∷ rest))) b
 
 numeral_cases : (u o n : Bool) (number : ℕ) → n ≡ false → (o ≡ true → 2 ^ 128 ≤ number)
-    → (if not (n || u) && nat_lt number (2 ^ 128) then Ok number else Err too_large) ≡ refused_or (if u || o then Some too_large else None) (fitting number)
+    → (if not (n || u) && nat_lt number (2 ^ 128) then Ok number else Err too_large) ≡ refused_or (if u || o then Some too_large else None) (number_answer number)
 numeral_cases true o true number h great = cc
 numeral_cases false o true number h great = cc
 numeral_cases true o false number h great = refl
@@ -180,7 +180,7 @@ plain-walked method mark rest = by (is_numeral (mark ∷ rest)) (each_may_preced
       → (if k then (if not (is_unfit method mark || some_unfit method rest) && nat_lt (value method (with_first_digit (mark ∷ rest))) (2 ^ 128) then Ok (value method (with_first_digit (mark ∷ rest))) else Err too_large)
       else (if is_early method (mark ∷ rest) (if e then 0 else suc (place_of rest)) then Err too_large else Err (incorrect_at (if e then 0 else suc (place_of rest)))))
       ≡ refused_or (faults_by e (some_unfit method rest || some_overflowing method rest) (is_early_at method rest (place_of rest)) (place_of rest))
-      (if k then fitting (value method (with_first_digit (mark ∷ rest))) else Err (incorrect_at 0))
+      (if k then number_answer (value method (with_first_digit (mark ∷ rest))) else Err (incorrect_at 0))
   by true true p q =
       numeral_cases (some_unfit method rest) (some_overflowing method rest) (is_unfit method mark) _ (numeral_fits method mark rest p)
       (λ h. let a = overflow-value method rest h in let b = opened_value method mark rest in omega (arith, a, b))

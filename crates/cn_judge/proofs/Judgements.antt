@@ -15,7 +15,7 @@ use Rattle.cn_judge.specs.declared.mark.Mark.TheVariants.{Digit, Unit, Other}
 use Rattle.cn_judge.specs.Private.Marked.{marked}
 use Rattle.cn_judge.specs.Private.Judged.{after_first, JudgesAt}
 use Rattle.cn_judge.specs.Private.Piece.{StandsAt, EndsWith, answer_at}
-use Rattle.cn_judge.specs.Private.Walk.{walked_answer, tail_answer, faults, fault_of, front_answer, refused_or, further_or, fitting, HasTail, HasNoTail}
+use Rattle.cn_judge.specs.Private.Walk.{walked_answer, tail_answer, faults, fault_of, front_answer, refused_or, further_or, number_answer, HasTail, HasNoTail}
 use Rattle.cn_judge.proofs.Endings.{judged_plain, judged_tail}
 use Rattle.cn_judge.proofs.Pieces.{StandsAt-dark, spot-at, spot-rest}
 use Rattle.cn_judge.proofs.Walking.{filter-append}
@@ -159,8 +159,8 @@ not-digit Other none value e = cc
 
 -- the answer where the last character is a digit
 pub last-adds : (method : ChineseCountMethod) (char_index place rank number value : ℕ) (rest : List ℕ) (mark : ReadMark) (walked answer : Result ℕ Refusal)
-    → walked ≡ Ok number → mark ≡ Digit value → fitting (number + value * scale method rank / 10) ≡ answer → after_first char_index rest answer ≡ answer
+    → walked ≡ Ok number → mark ≡ Digit value → answer ≡ after_first char_index rest (number_answer (number + value * scale method rank / 10))
     → answer ≡ after_first char_index rest (tail_answer method place rank (marked mark) walked)
-last-adds method char_index place rank number value rest mark walked answer w m f same =
-    sym (ap (after_first char_index rest)
-    (ap (tail_answer method place rank (marked mark)) w ∙ ap (λ x. tail_answer method place rank (marked x) (Ok number)) m ∙ f) ∙ same)
+last-adds method char_index place rank number value rest mark walked answer w m is =
+    is ∙ sym (ap (after_first char_index rest)
+    (ap (tail_answer method place rank (marked mark)) w ∙ ap (λ x. tail_answer method place rank (marked x) (Ok number)) m))

@@ -9,7 +9,7 @@ use Rattle.cn_core.specs.Text.{text_of}
 use Rattle.cn_core.specs.Typed.{typed_answer, sign_len}
 use Rattle.cn_core.specs.Whole.{Kind}
 use Rattle.cn_judge.specs.Private.Piece.{StandsAt, EndsWith, answer_at}
-use Rattle.cn_judge.specs.Private.Signed.{with_sign}
+use Rattle.cn_judge.specs.Private.Signed.{signed_answer}
 use Rattle.cn_judge.proofs.Walking.{filter-append}
 
 -- one character further
@@ -73,7 +73,7 @@ spot-rest bytes rest index place p at = rw (at.parts, ← at.place_is, ← at.in
 
 -- the answer for a type, from the answer to what follows the sign
 pub typed-rest : (kind : Kind) (bytes rest : List ℕ) (skipped : ℕ) (sign : Option Sign) (judged : Result ℕ Refusal)
-    → StandsAt bytes (chars rest) skipped (sign_len sign) → with_sign kind sign (answer_at skipped rest judged) ≡ typed_answer kind bytes sign judged
+    → StandsAt bytes (chars rest) skipped (sign_len sign) → signed_answer kind sign (answer_at skipped rest judged) ≡ typed_answer kind bytes sign judged
 typed-rest kind bytes rest skipped sign (Ok number) at = refl
 typed-rest kind bytes rest skipped sign (Err empty) at = refl
 typed-rest kind bytes rest skipped sign (Err too_large) at = refl

@@ -15,7 +15,7 @@ use Rattle.cn_core.specs.Judge.{numeral_answer, last_mark_answer}
 use Rattle.cn_core.specs.Judging.{place_of, judge, judge_body}
 use Rattle.cn_core.proofs.Fronts.{and-left, and-right}
 use Rattle.cn_judge.proofs.Faults.{plain, numeral_tail}
-use Rattle.cn_judge.specs.Private.Walk.{fitting, tail_answer}
+use Rattle.cn_judge.specs.Private.Walk.{number_answer, tail_answer}
 
 apart-last : (ys : List Mark) (s l : Mark) → 0 < length ys → ends_apart (l ∷ s ∷ ys) ≡ is_tail s l
 apart-last [] s l some = absurd (omega (arith, some))
@@ -191,7 +191,7 @@ sum_cases : (unfit : Bool) (method : ChineseCountMethod) (place rank number befo
 sum_cases true method place rank number before = refl
 sum_cases false method place rank number before = by (nat_lt before (2 ^ 128)) refl where
   by : (b : Bool) → nat_lt before (2 ^ 128) ≡ b
-      → fitting (before + number * scale method rank / 10) ≡ tail_answer method place rank (digit number) (if b then Ok before else Err too_large)
+      → number_answer (before + number * scale method rank / 10) ≡ tail_answer method place rank (digit number) (if b then Ok before else Err too_large)
   by true e = refl
   by false e = rw (great (number * scale method rank / 10)) where
     great : (x : ℕ) → nat_lt (before + x) (2 ^ 128) ≡ false

@@ -1,5 +1,6 @@
 -- The steps of the walk, over what its state says.
-use Rattle.std.proofs.Common.{◌≡◌, ◌≢◌, ◌↔◌, ℕ, suc, ◌+◌, ◌^◌, ◌<◌, Bool, true, false, IsTrue, List, [], ◌∷◌, length, Option, Some, None, refl, sym, ap, ◌∙◌, arith, if◌then◌else◌, lit<, ◌++◌, append_assoc, filter, chars, Err}
+use Rattle.std.proofs.Common.{◌≡◌, ◌≢◌, ◌↔◌, ℕ, suc, ◌+◌, ◌^◌, ◌<◌, Bool, true, false, IsTrue, List, [], ◌∷◌, length, Option, Some, None, refl, sym, ap, ◌∙◌, arith, if◌then◌else◌, lit<, ◌++◌, append_assoc, filter, chars, Result, Ok, Err, subst}
+use Rattle.std.specs.Result.{IsErr, IsErrAnd, MatchResult}
 use Rattle.cn_core.specs.declared.method.ChineseCountMethod.{ChineseCountMethod}
 use Rattle.cn_core.specs.declared.unit.Unit.{Unit as NumeralUnit}
 use Rattle.cn_core.specs.declared.unit.Unit.TheVariants.{Ge, Shi, Bai, Qian, Wan, Yi, Zhao, Jing, Gai, Zi, Rang, Gou, Jian, Zheng, Zai, Ji}
@@ -9,8 +10,9 @@ use Rattle.cn_core.specs.Refusal.{Refusal, incorrect_at, too_large}
 use Rattle.cn_core.specs.Scale.{scale, scale_fits}
 use Rattle.cn_core.specs.Text.{text_of, marks_of}
 use Rattle.cn_core.proofs.OpenUnits.{in_ranks-marks, digit_of-low}
-use Rattle.cn_judge.specs.declared.walk.Next.{Next}
-use Rattle.cn_judge.specs.declared.walk.Next.TheVariants.{AtDigit}
+use Rattle.cn_judge.specs.declared.walk.Fault.{Fault}
+use Rattle.cn_judge.specs.declared.mark.Mark.{Mark as ReadMark}
+use Rattle.cn_judge.specs.declared.mark.Mark.TheVariants.{Digit}
 use Rattle.cn_judge.specs.Private.Walk.{sum_of, opens_of, fault_of, faults, leading_rank, multiplies_by, unit_next, further_or}
 use Rattle.std.specs.Char.{is_whitespace, is_not_whitespace}
 use Rattle.cn_core.specs.Spot.{spot}
@@ -44,52 +46,52 @@ rank-low Ji = lit< tt
 leading : (u : ℕ) (marks : List Mark) {a b : Option ℕ} → a ≡ b → b ≡ leading_rank marks → true ≡ multiplies_by u a → multiplies_by u (leading_rank marks) ≡ true
 leading u marks p q h = sym (ap (multiplies_by u) (p ∙ q)) ∙ sym h
 
-sum_same : (method : ChineseCountMethod) (u : ℕ) (walked : List ℕ) (sum : ℕ) (units : List StackEntry) (next : Next) → IsWalked method walked sum units next
+sum_same : (method : ChineseCountMethod) (u : ℕ) (walked : List ℕ) (sum : ℕ) (units : List StackEntry) (next : Option ReadMark) → IsWalked method walked sum units next
     → closed_sum u sum units ≡ closed_sum u (sum_of (marks_of walked)) (opens_of method (marks_of walked))
 sum_same method u walked sum units next w =
     ap (λ s. closed_sum u s units) w.sum_is ∙ ap (closed_sum u (sum_of (marks_of walked))) w.units_are
 
-left_same : (method : ChineseCountMethod) (u : ℕ) (walked : List ℕ) (sum : ℕ) (units after : List StackEntry) (next : Next) → after ≡ still_open u units → IsWalked method walked sum units next
+left_same : (method : ChineseCountMethod) (u : ℕ) (walked : List ℕ) (sum : ℕ) (units after : List StackEntry) (next : Option ReadMark) → after ≡ still_open u units → IsWalked method walked sum units next
     → after ≡ still_open u (opens_of method (marks_of walked))
 left_same method u walked sum units after next gives w = gives ∙ ap (still_open u) w.units_are
 
-top_same : (method : ChineseCountMethod) (u : ℕ) (walked : List ℕ) (sum : ℕ) (units after : List StackEntry) (next : Next) → after ≡ still_open u units → IsWalked method walked sum units next
+top_same : (method : ChineseCountMethod) (u : ℕ) (walked : List ℕ) (sum : ℕ) (units after : List StackEntry) (next : Option ReadMark) → after ≡ still_open u units → IsWalked method walked sum units next
     → top_of after ≡ top_of (still_open u (opens_of method (marks_of walked)))
 top_same method u walked sum units after next gives w = ap top_of (left_same method u walked sum units after next gives w)
 
-not_top : (method : ChineseCountMethod) (u : ℕ) (walked : List ℕ) (sum : ℕ) (units after : List StackEntry) (next : Next) → after ≡ still_open u units → ((true ≡ false) ↔ (top_of after ≡ Some u))
+not_top : (method : ChineseCountMethod) (u : ℕ) (walked : List ℕ) (sum : ℕ) (units after : List StackEntry) (next : Option ReadMark) → after ≡ still_open u units → ((true ≡ false) ↔ (top_of after ≡ Some u))
     → IsWalked method walked sum units next → top_of (still_open u (opens_of method (marks_of walked))) ≢ Some u
 not_top method u walked sum units after next gives differs w same = let t = differs.1 (top_same method u walked sum units after next gives w ∙ same) in cc
 
-fits_same : (method : ChineseCountMethod) (u : ℕ) (walked : List ℕ) (sum : ℕ) (units : List StackEntry) (next : Next) → closed_sum u sum units < 2 ^ 128 → IsWalked method walked sum units next
+fits_same : (method : ChineseCountMethod) (u : ℕ) (walked : List ℕ) (sum : ℕ) (units : List StackEntry) (next : Option ReadMark) → closed_sum u sum units < 2 ^ 128 → IsWalked method walked sum units next
     → closed_sum u (sum_of (marks_of walked)) (opens_of method (marks_of walked)) < 2 ^ 128
 fits_same method u walked sum units next fits w = let same = sum_same method u walked sum units next w in omega (arith, same, fits)
 
-pub walked-positive : (method : ChineseCountMethod) (walked : List ℕ) (sum : ℕ) (units : List StackEntry) (next : Next) → IsWalked method walked sum units next → all_positive units ≡ true
+pub walked-positive : (method : ChineseCountMethod) (walked : List ℕ) (sum : ℕ) (units : List StackEntry) (next : Option ReadMark) → IsWalked method walked sum units next → all_positive units ≡ true
 walked-positive method walked sum units next w = ap all_positive w.units_are ∙ positive-opens method (marks_of walked)
 
-pub walked-past : (method : ChineseCountMethod) (u sum : ℕ) (units : List StackEntry) (next : Next) (a : Option ℕ) → a ≡ unit_next next → true ≡ multiplies_by u a
+pub walked-past : (method : ChineseCountMethod) (u sum : ℕ) (units : List StackEntry) (next : Option ReadMark) (a : Option ℕ) → a ≡ unit_next next → true ≡ multiplies_by u a
     → ¬ (closed_sum u sum units < 2 ^ 128)
     → (walked : List ℕ) → IsWalked method walked sum units next → fault_of method (unit u) (marks_of walked) ≡ Some too_large
 walked-past method u sum units next a is h past walked w =
     unit-past method u (marks_of walked) (sound-none method _ w.sound) (leading u _ is w.after_unit h)
     (λ fits. past (let same = sum_same method u walked sum units next w in omega (arith, same, fits)))
 
-pub walked-alone : (method : ChineseCountMethod) (u sum : ℕ) (units : List StackEntry) (next : Next) (a : Option ℕ) → a ≡ unit_next next → true ≡ multiplies_by u a
+pub walked-alone : (method : ChineseCountMethod) (u sum : ℕ) (units : List StackEntry) (next : Option ReadMark) (a : Option ℕ) → a ≡ unit_next next → true ≡ multiplies_by u a
     → closed_sum u sum units < 2 ^ 128 → ((false ≡ false) ↔ ((u ≡ 0) × (a ≡ None)))
     → (walked : List ℕ) → IsWalked method walked sum units next → fault_of method (unit u) (marks_of walked) ≡ Some (incorrect_at 0)
 walked-alone method u sum units next a is h fits alone walked w =
     unit-alone method u (marks_of walked) (sound-none method _ w.sound) (leading u _ is w.after_unit h) (fits_same method u walked sum units next fits w)
     (alone.0 refl).0 (sym (is ∙ w.after_unit) ∙ (alone.0 refl).1)
 
-pub walked-same : (method : ChineseCountMethod) (u sum : ℕ) (units after : List StackEntry) (next : Next) (a : Option ℕ) → a ≡ unit_next next → true ≡ multiplies_by u a
+pub walked-same : (method : ChineseCountMethod) (u sum : ℕ) (units after : List StackEntry) (next : Option ReadMark) (a : Option ℕ) → a ≡ unit_next next → true ≡ multiplies_by u a
     → closed_sum u sum units < 2 ^ 128 → after ≡ still_open u units → ((false ≡ false) ↔ (top_of after ≡ Some u))
     → (walked : List ℕ) → IsWalked method walked sum units next → fault_of method (unit u) (marks_of walked) ≡ Some (incorrect_at 0)
 walked-same method u sum units after next a is h fits gives top walked w =
     unit-same method u (marks_of walked) (sound-none method _ w.sound) (leading u _ is w.after_unit h) (fits_same method u walked sum units next fits w)
     (sym (top_same method u walked sum units after next gives w) ∙ top.0 refl)
 
-pub walked-step : (method : ChineseCountMethod) (u sum : ℕ) (units after : List StackEntry) (next : Next) (a : Option ℕ) (b : Bool) → a ≡ unit_next next → true ≡ multiplies_by u a
+pub walked-step : (method : ChineseCountMethod) (u sum : ℕ) (units after : List StackEntry) (next : Option ReadMark) (a : Option ℕ) (b : Bool) → a ≡ unit_next next → true ≡ multiplies_by u a
     → closed_sum u sum units < 2 ^ 128 → ((true ≡ false) ↔ ((u ≡ 0) × (a ≡ None)))
     → after ≡ still_open u units → ((true ≡ false) ↔ (top_of after ≡ Some u)) → scale_fits method u ≡ b
     → (walked : List ℕ) → IsWalked method walked sum units next → fault_of method (unit u) (marks_of walked) ≡ (if b then None else Some too_large)
@@ -98,7 +100,7 @@ walked-step method u sum units after next a b is h fits alone gives top fit walk
     (λ z none. let t = alone.1 (z, is ∙ w.after_unit ∙ none) in cc)
     (not_top method u walked sum units after next gives top w) fit
 
-pub walked-opens : (method : ChineseCountMethod) (u sum size below : ℕ) (units after : List StackEntry) (next : Next)
+pub walked-opens : (method : ChineseCountMethod) (u sum size below : ℕ) (units after : List StackEntry) (next : Option ReadMark)
     → size ≡ scale method u → below ≡ closed_sum u sum units → after ≡ still_open u units → ((true ≡ false) ↔ (top_of after ≡ Some u))
     → (walked : List ℕ) → IsWalked method walked sum units next → (u, size, below) ∷ after ≡ opens_of method (unit u ∷ marks_of walked)
 walked-opens method u sum size below units after next size_is below_is gives top walked w =
@@ -107,7 +109,7 @@ walked-opens method u sum size below units after next size_is below_is gives top
     ∙ ap (λ l. (u, scale method u, closed_sum u (sum_of (marks_of walked)) (opens_of method (marks_of walked))) ∷ l) (left_same method u walked sum units after next gives w)
     ∙ sym (opens-next method u (marks_of walked) (not_top method u walked sum units after next gives top w))
 
-pub walked-room : (method : ChineseCountMethod) (u sum : ℕ) (units after : List StackEntry) (next : Next) → u < 16
+pub walked-room : (method : ChineseCountMethod) (u sum : ℕ) (units after : List StackEntry) (next : Option ReadMark) → u < 16
     → after ≡ still_open u units → ((true ≡ false) ↔ (top_of after ≡ Some u))
     → (walked : List ℕ) → IsWalked method walked sum units next → length after < 16
 walked-room method u sum units after next low gives top walked w =
@@ -146,8 +148,8 @@ digit-low c value h = by (digit_of c) (rank_of c) refl h where
   by None None e h = cc
 
 -- one more digit
-pub walked-digit : (method : ChineseCountMethod) (c value sum total : ℕ) (units : List StackEntry) (next : Next) (walked : List ℕ) → digit value ≡ mark_of c → IsWalked method walked sum units next
-    → (fault_of method (digit value) (marks_of walked) ≡ None) × (total ≡ sum + value) → IsWalked method (c ∷ walked) total units AtDigit
+pub walked-digit : (method : ChineseCountMethod) (c value sum total : ℕ) (units : List StackEntry) (next : Option ReadMark) (walked : List ℕ) → digit value ≡ mark_of c → IsWalked method walked sum units next
+    → (fault_of method (digit value) (marks_of walked) ≡ None) × (total ≡ sum + value) → IsWalked method (c ∷ walked) total units (Some (Digit value))
 walked-digit method c value sum total units next walked is w h = record {
   sum_is = rw (← is) (h.1 ∙ ap (λ n. n + value) w.sum_is);
   units_are = rw (← is) w.units_are;
@@ -156,8 +158,14 @@ walked-digit method c value sum total units next walked is w h = record {
   sound = rw (← is) (ap (λ f. further_or f (fault_of method (digit value) (marks_of walked))) w.sound ∙ h.0);
 }
 
+-- a fault that is handed on
+pub handed-on : {A : Type 0} (r : Result A Fault) (fault : Fault) (Right : A → Type 0) (Wrong : Fault → Type 0)
+    → IsErr r × IsErrAnd r (λ f. f ≡ fault) → Wrong fault → MatchResult r Right Wrong
+handed-on (Ok a) fault Right Wrong h w = absurd h.1
+handed-on (Err f) fault Right Wrong h w = subst Wrong (sym h.1) w
+
 -- where a walk stands in a string of which this piece is still ahead
-pub record HasWalked (method : ChineseCountMethod) (bytes ahead : List ℕ) (sum : ℕ) (units : List StackEntry) (next : Next) : Type 0 where
+pub record HasWalked (method : ChineseCountMethod) (bytes ahead : List ℕ) (sum : ℕ) (units : List StackEntry) (next : Option ReadMark) : Type 0 where
   pub after : List ℕ
   pub parts : chars bytes ≡ chars ahead ++ after
   pub state : IsWalked method (filter is_not_whitespace after) sum units next
@@ -192,11 +200,11 @@ text-parts bytes before after c at dark =
     ∙ marks-append (text_of before) (filter is_not_whitespace (c ∷ at.more))
     ∙ ap (λ l. marks_of (text_of before) ++ marks_of l) (kept-dark c at.more after dark at.kept)
 
-fault_here : (method : ChineseCountMethod) (walked : List ℕ) (sum : ℕ) (units : List StackEntry) (next : Next) (c : ℕ) (r : Refusal) → IsWalked method walked sum units next
+fault_here : (method : ChineseCountMethod) (walked : List ℕ) (sum : ℕ) (units : List StackEntry) (next : Option ReadMark) (c : ℕ) (r : Refusal) → IsWalked method walked sum units next
     → fault_of method (mark_of c) (marks_of walked) ≡ Some r → faults method (marks_of (c ∷ walked)) ≡ Some r
 fault_here method walked sum units next c r w h = ap (λ f. further_or f (fault_of method (mark_of c) (marks_of walked))) w.sound ∙ h
 
-pub HasWalked-past : (method : ChineseCountMethod) (skipped : ℕ) (bytes ahead before : List ℕ) (sum : ℕ) (units : List StackEntry) (next : Next) (c : ℕ) → HasWalked method bytes ahead sum units next
+pub HasWalked-past : (method : ChineseCountMethod) (skipped : ℕ) (bytes ahead before : List ℕ) (sum : ℕ) (units : List StackEntry) (next : Option ReadMark) (c : ℕ) → HasWalked method bytes ahead sum units next
     → EndsWith ahead c before
     → ((walked : List ℕ) → IsWalked method walked sum units next → fault_of method (mark_of c) (marks_of walked) ≡ Some too_large)
     → StopsAt method skipped bytes too_large
@@ -209,7 +217,7 @@ HasWalked-past method skipped bytes ahead before sum units next c h e step =
       refl,
     )
 
-pub HasWalked-wrong : (method : ChineseCountMethod) (skipped : ℕ) (bytes ahead before : List ℕ) (sum : ℕ) (units : List StackEntry) (next : Next) (c char_index : ℕ) → HasWalked method bytes ahead sum units next
+pub HasWalked-wrong : (method : ChineseCountMethod) (skipped : ℕ) (bytes ahead before : List ℕ) (sum : ℕ) (units : List StackEntry) (next : Option ReadMark) (c char_index : ℕ) → HasWalked method bytes ahead sum units next
     → EndsWith ahead c before
     → ((walked : List ℕ) → IsWalked method walked sum units next → fault_of method (mark_of c) (marks_of walked) ≡ Some (incorrect_at 0))
     → char_index ≡ skipped + length (chars before)

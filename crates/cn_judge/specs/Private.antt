@@ -1,4 +1,5 @@
--- Words that contracts of private functions alone cite: how a text is taken apart, and where a walk stands.
+-- Words that contracts of private functions alone cite: how a text is taken apart, and where a walk
+-- stands.
 pub mod Judged
 pub mod Marked
 pub mod Piece

@@ -1,8 +1,9 @@
-//! Reads a text as a number of any integer type, by units or as plain digits, exactly as the definitions of
-//! `cn_core` judge it. No reader takes memory.
+//! Reads a text as a number of any integer type, by units or as plain digits, exactly as the
+//! definitions of `cn_core` judge it. No reader takes memory.
 //!
-//! What stands here serves the crates above it alone: `cn_read` gives the two readers their public names, and
-//! hands on the error; the quick way is public so that `cn_vectors` can hold it against what printers write.
+//! What stands here serves the crates above it alone: `cn_read` gives the two readers their public
+//! names, and hands on the error; the quick way is public so that `cn_vectors` can hold it against
+//! what printers write.
 #![tactic(auto)]
 
 mod ends;
@@ -14,7 +15,6 @@ mod open_units;
 mod quick;
 mod sign;
 mod text;
-mod typed;
 mod units;
 mod walk;
 

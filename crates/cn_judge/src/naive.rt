@@ -11,12 +11,12 @@ use crate::ChineseToNumberError;
 use crate::ends::split_first_digit;
 use crate::mark::{Mark, mark_of};
 use crate::open_units::multiply_add;
-use crate::sign::split_sign;
+use crate::sign::{signed_answer, split_sign};
 use crate::text::split_first_char;
-use crate::typed::with_sign;
 use cn_core::Whole;
 
-// Digits that stand side by side: how many, the power of ten that they make room for, and their number.
+// Digits that stand side by side: how many, the power of ten that they make room for, and their
+// number.
 #[derive(Copy, Clone)]
 struct Run {
     count: usize,
@@ -82,23 +82,25 @@ fn piece_of(c: char) -> Piece
 // What a text starts with, and what stands after it. Digits of three bytes are found quickly.
 #[inline(always)]
 fn split_first_piece(text: &str) -> Option<(Piece, &str)>
-    ensures parts { MatchOption result (chars text.now ≡ []) (λ r. StartsWith r.0 text.now r.1.now) }
-    ensures within { IfSome result (λ r. (piece_len r.0 + length r.1.now ≤ length text.now) × (0 < piece_len r.0)) }
+    ensures parts { MatchOption result (chars text.now ≡ [])
+        (λ r. StartsWith r.0 text.now r.1.now) }
+    ensures within { IfSome result
+        (λ r. (piece_len r.0 + length r.1.now ≤ length text.now) × (0 < piece_len r.0)) }
 {
     let (run, after) = split_run(text);
     if run.count > 0 {
         return Some((Piece::Digits(run), after));
     }
-    match split_first_char(text) {
-        Some((c, after)) => Some((piece_of(c), after)),
-        None => None,
-    }
+    let (c, after) = split_first_char(text)?;
+    Some((piece_of(c), after))
 }
 
-// The answer to plain digits without sign, which stand after so many characters of the caller's string.
+// The answer to plain digits without sign, which stand after so many characters of the caller's
+// string.
 fn judge_naive(skipped: usize, text: &str) -> Result<u128, ChineseToNumberError>
     requires { skipped + length text.now < 2 ^ 64 }
-    ensures { answer_of (λ n. n) result ≡ answer_at skipped text.now (naive_answer (marks_of (text_of text.now))) }
+    ensures { answer_of (λ n. n) result
+        ≡ answer_at skipped text.now (naive_answer (marks_of (text_of text.now))) }
 {
     let mut rest = text;
     let mut char_index = skipped;
@@ -134,5 +136,5 @@ pub fn read_naive<T: Whole>(text: &str) -> Result<T, ChineseToNumberError>
     ensures { answer_of T.number result ≡ naive_reading T.kind text.now }
 {
     let after = split_sign(T::SIGNED, text);
-    with_sign(after.sign, judge_naive(after.skipped, after.rest))
+    signed_answer(after.sign, judge_naive(after.skipped, after.rest))
 }

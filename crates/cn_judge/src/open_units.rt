@@ -6,7 +6,7 @@ ghost use Rattle.cn_judge.specs.Private.Stack.{ClosesTop, all_positive, closed_s
 use cn_core::Unit;
 use std::marker::Model;
 
-// A unit, its scale, and the sum that it was with_first_digit over.
+// A unit, its scale, and the sum that it was opened over.
 #[derive(Copy, Clone)]
 struct OpenUnit {
     unit: Unit,
@@ -14,8 +14,8 @@ struct OpenUnit {
     below: u128,
 }
 
-/// The units that are still open, the last with_first_digit on top. Their ranks fall from the bottom to the top, so
-/// there are never more than the 16 ranks.
+/// The units that are still open, the last one on top. Their ranks fall from the bottom to the
+/// top, so there are never more than the 16 ranks.
 #[derive(Drop)]
 pub struct OpenUnits {
     entries: [OpenUnit; 16],
@@ -34,7 +34,8 @@ impl Model for OpenUnits {
     ghost invariant = { λ s. s.len ≤ 16 };
 }
 
-/// A product and a sum, if they fit. Where both factors are below 2^64 the product does, and is found faster.
+/// A product and a sum, if they fit. Where both factors are below 2^64 the product does, and is
+/// found faster.
 pub fn multiply_add(factor: u128, size: u128, more: u128) -> Option<u128>
     ensures { SomeIff result (factor * size + more < 2 ^ 128) (factor * size + more) }
 {
@@ -79,7 +80,8 @@ impl OpenUnits {
         }
     }
 
-    /// Rule 6, once all smaller units are closed: the first that is not smaller, now on top, is greater.
+    /// Rule 6, once all smaller units are closed: the first that is not smaller, now on top, is
+    /// greater.
     pub fn groups_strictly(&self, unit: Unit) -> bool
         ensures { result ≡ false ↔ (top_of self.now ≡ Some (rank unit)) }
     {
@@ -102,7 +104,8 @@ impl OpenUnits {
     /// The sum once each open unit that is smaller than this one is closed, if it fits.
     pub fn close_below(&mut self, unit: Unit, sum: u128) -> Option<u128>
         requires { IsTrue (all_positive self.old) }
-        ensures sum { SomeIff result (closed_sum (rank unit) sum self.old < 2 ^ 128) (closed_sum (rank unit) sum self.old) }
+        ensures sum { SomeIff result (closed_sum (rank unit) sum self.old < 2 ^ 128)
+            (closed_sum (rank unit) sum self.old) }
         ensures left { IfSome result (λ _. self.new ≡ still_open (rank unit) self.old) }
     {
         let mut closed = sum;
@@ -110,10 +113,7 @@ impl OpenUnits {
             if top >= unit {
                 break;
             }
-            closed = match self.close_top(closed) {
-                Some(more) => more,
-                None => return None,
-            };
+            closed = self.close_top(closed)?;
         }
         Some(closed)
     }
@@ -125,21 +125,17 @@ impl OpenUnits {
     {
         let mut closed = sum;
         'closing: while self.len > 0 {
-            closed = match self.close_top(closed) {
-                Some(more) => more,
-                None => return None,
-            };
+            closed = self.close_top(closed)?;
         }
         Some(closed)
     }
+
     /// The sum once a first digit is added and all are closed, if it fits.
     pub fn finish(&mut self, sum: u128, digit: u8) -> Option<u128>
         requires { IsTrue (all_positive self.old) }
-        ensures { SomeIff result (total_sum (sum + digit) self.old < 2 ^ 128) (total_sum (sum + digit) self.old) }
+        ensures { SomeIff result (total_sum (sum + digit) self.old < 2 ^ 128)
+            (total_sum (sum + digit) self.old) }
     {
-        match sum.checked_add(digit as u128) {
-            Some(more) => self.close_all(more),
-            None => None,
-        }
+        self.close_all(sum.checked_add(digit as u128)?)
     }
 }

@@ -1,11 +1,14 @@
-// The sign at the start of a text.
+// The sign at the start of a text: it is taken off first, and put back at the end.
 ghost use Rattle.std.specs.Prelude.{◌≡◌, ◌+◌, ◌≤◌, length, chars};
 ghost use Rattle.cn_core.specs.Text.{text_of};
 ghost use Rattle.cn_core.specs.Typed.{leading_sign, sign_len};
+ghost use Rattle.cn_judge.specs.Answer.{answer_of};
 ghost use Rattle.cn_judge.specs.Private.Piece.{StandsAt};
+ghost use Rattle.cn_judge.specs.Private.Signed.{signed_answer};
 
+use crate::ChineseToNumberError;
 use crate::text::split_first;
-use cn_core::{Sign, sign_of};
+use cn_core::{Sign, Whole, sign_of};
 
 /// A text without its sign.
 #[derive(Copy, Clone)]
@@ -37,5 +40,25 @@ pub fn split_sign(signed: bool, text: &str) -> AfterSign<'_>
         sign: None,
         skipped: 0,
         rest: text,
+    }
+}
+
+/// The answer for a type, from the sign and the answer to what stands after it.
+pub fn signed_answer<T: Whole>(
+    sign: Option<Sign>,
+    judged: Result<u128, ChineseToNumberError>,
+) -> Result<T, ChineseToNumberError>
+    ensures { answer_of T.number result ≡ signed_answer T.kind sign (answer_of (λ n. n) judged) }
+{
+    let negative = matches!(sign, Some(Sign::Minus));
+    let too_far = if negative {
+        ChineseToNumberError::Underflow
+    } else {
+        ChineseToNumberError::Overflow
+    };
+    match judged {
+        Ok(magnitude) => T::from_magnitude(negative, magnitude).ok_or(too_far),
+        Err(ChineseToNumberError::Overflow) => Err(too_far),
+        Err(error) => Err(error),
     }
 }

@@ -1,5 +1,5 @@
-// A numeral without sign, read by its first character, the walk over what follows, and a last digit that
-// stands apart.
+// A numeral without sign, read by its first character, the walk over what follows, and a last digit
+// that stands apart.
 ghost use Rattle.std.specs.Prelude.{
   ◌≡◌,
   ℕ,
@@ -23,7 +23,7 @@ ghost use Rattle.cn_core.specs.Mark.{Mark as NumeralMark, digit, mark_of};
 ghost use Rattle.cn_core.specs.Scale.{scale, scale_fits};
 ghost use Rattle.cn_core.specs.Text.{text_of, marks_of};
 ghost use Rattle.cn_core.specs.Numeral.{each_may_precede, is_numeral, with_first_digit, starts_with_digit};
-ghost use Rattle.cn_core.specs.Place.{is_unit_from_hundred, is_unit_above_ge};
+ghost use Rattle.cn_core.specs.Place.{is_tail};
 ghost use Rattle.cn_core.specs.Typed.{Reads};
 ghost use Rattle.cn_judge.specs.Answer.{answer_of};
 ghost use Rattle.cn_judge.specs.Private.Judged.{after_first, JudgesAt};
@@ -36,17 +36,18 @@ use crate::ends::split_last_mark;
 use crate::mark::{Mark, mark_of};
 use crate::open_units::OpenUnits;
 use crate::quick::read_quickly;
-use crate::sign::split_sign;
+use crate::sign::{signed_answer, split_sign};
 use crate::text::{count_chars, split_first};
-use crate::typed::with_sign;
-use crate::walk::{Next, separates_digits, walk};
+use crate::walk::{separates_digits, walk};
 use cn_core::{ChineseCountMethod, Unit, Whole, scale};
 
 // Rule 1: the digit at the start of a text, where 十 is ten; it keeps rule 3 as any other.
-fn first_digit(first: char, next: Next) -> Option<u8>
-    ensures { (marks : List NumeralMark) → each_may_precede marks ≡ true → digit_next next ≡ starts_with_digit marks
+fn first_digit(first: char, next: Option<Mark>) -> Option<u8>
+    ensures { (marks : List NumeralMark) → each_may_precede marks ≡ true
+        → digit_next next ≡ starts_with_digit marks
         → MatchOption result (is_numeral (mark_of first ∷ marks) ≡ false)
-        (λ value. (is_numeral (mark_of first ∷ marks) ≡ true) × (with_first_digit (mark_of first ∷ marks) ≡ digit value ∷ marks)) }
+        (λ value. (is_numeral (mark_of first ∷ marks) ≡ true)
+        × (with_first_digit (mark_of first ∷ marks) ≡ digit value ∷ marks)) }
 {
     match mark_of(first) {
         Mark::Digit(value) => {
@@ -69,38 +70,17 @@ fn judge_plain(
 ) -> Result<u128, ChineseToNumberError>
     requires { char_index + 1 + length rest.now < 2 ^ 64 }
     ensures { answer_of (λ n. n) result
-        ≡ after_first char_index rest.now (walked_answer method (mark_of first) (marks_of (text_of rest.now))) }
+        ≡ after_first char_index rest.now
+        (walked_answer method (mark_of first) (marks_of (text_of rest.now))) }
 {
     let mut units = OpenUnits::new();
     let state = walk(method, char_index + 1, rest, &mut units)?;
     let Some(digit) = first_digit(first, state.next) else {
         return Err(ChineseToNumberError::ChineseNumberIncorrect { char_index });
     };
-    match units.finish(state.sum, digit) {
-        Some(number) => Ok(number),
-        None => Err(ChineseToNumberError::Overflow),
-    }
-}
-
-// A unit from 百 up.
-fn unit_from_hundred(mark: Mark) -> Option<Unit>
-    ensures { MatchOption result (is_unit_from_hundred (marked mark) ≡ false)
-        (λ unit. (marked mark ≡ unit_mark unit) × (is_unit_from_hundred (marked mark) ≡ true)) }
-{
-    match mark {
-        Mark::Unit(unit) if unit >= Unit::Bai => Some(unit),
-        _ => None,
-    }
-}
-
-// Whether the mark is a unit above 個.
-fn is_unit_above_ge(mark: Mark) -> bool
-    ensures { result ≡ is_unit_above_ge (marked mark) }
-{
-    match mark {
-        Mark::Unit(unit) => unit > Unit::Ge,
-        _ => false,
-    }
+    units
+        .finish(state.sum, digit)
+        .ok_or(ChineseToNumberError::Overflow)
 }
 
 // A last character that stands apart: it follows a unit from 百 up and is no unit above 個.
@@ -113,25 +93,31 @@ struct Tail<'a> {
     last: Mark,
 }
 
+// The unit at a body's end, where the mark after it stands apart.
+fn unit_before(second: Mark, last: Mark) -> Option<Unit>
+    ensures { MatchOption result (is_tail (marked second) (marked last) ≡ false)
+        (λ unit. (marked second ≡ unit_mark unit)
+        × (is_tail (marked second) (marked last) ≡ true)) }
+{
+    match (second, last) {
+        (Mark::Unit(_), Mark::Unit(above)) if above > Unit::Ge => None,
+        (Mark::Unit(unit), _) if unit >= Unit::Bai => Some(unit),
+        _ => None,
+    }
+}
+
 // The last character where it stands apart.
 fn split_tail(text: &str) -> Option<Tail<'_>>
     ensures tail { MatchOption result (HasNoTail (marks_of (text_of text.now)))
-        (λ t. HasTail (marks_of (text_of text.now)) (marks_of (text_of t.body.now)) (rank t.unit) (marked t.last)) }
-    ensures end { IfSome result (λ t. (c : ℕ) × EndsWith text.now c t.body.now × (marked t.last ≡ mark_of c)) }
+        (λ t. HasTail (marks_of (text_of text.now)) (marks_of (text_of t.body.now))
+        (rank t.unit) (marked t.last)) }
+    ensures end { IfSome result
+        (λ t. (c : ℕ) × EndsWith text.now c t.body.now × (marked t.last ≡ mark_of c)) }
     ensures shorter { IfSome result (λ t. length t.body.now < length text.now) }
 {
-    let Some((last, body)) = split_last_mark(text) else {
-        return None;
-    };
-    let Some((second, _)) = split_last_mark(body) else {
-        return None;
-    };
-    let Some(unit) = unit_from_hundred(second) else {
-        return None;
-    };
-    if is_unit_above_ge(last) {
-        return None;
-    }
+    let (last, body) = split_last_mark(text)?;
+    let (second, _) = split_last_mark(body)?;
+    let unit = unit_before(second, last)?;
     Some(Tail { body, unit, last })
 }
 
@@ -170,10 +156,7 @@ fn judge(
         let char_index = char_index + 1 + count_chars(tail.body);
         return Err(ChineseToNumberError::ChineseNumberIncorrect { char_index });
     };
-    match add_tail(method, number, tail.unit, digit) {
-        Some(sum) => Ok(sum),
-        None => Err(ChineseToNumberError::Overflow),
-    }
+    add_tail(method, number, tail.unit, digit).ok_or(ChineseToNumberError::Overflow)
 }
 
 // The same; a regular numeral is read at once, and any other text is walked from the beginning.
@@ -196,5 +179,5 @@ pub fn read<T: Whole>(method: ChineseCountMethod, text: &str) -> Result<T, Chine
     ensures { Reads T.kind method text.now (answer_of T.number result) }
 {
     let after = split_sign(T::SIGNED, text);
-    with_sign(after.sign, judge_quickly(method, after.skipped, after.rest))
+    signed_answer(after.sign, judge_quickly(method, after.skipped, after.rest))
 }

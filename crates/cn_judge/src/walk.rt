@@ -18,19 +18,13 @@ use crate::open_units::OpenUnits;
 use crate::text::count_chars;
 use cn_core::{ChineseCountMethod, Unit, scale};
 
-/// What a walk from the back has just met.
-#[derive(Copy, Clone)]
-pub enum Next {
-    AtEnd,
-    AtDigit,
-    AtUnit(Unit),
-}
-
-/// Where a walk stands between two characters: the sum of the digits since the last unit, and what was met.
+/// Where a walk stands between two characters.
 #[derive(Copy, Clone)]
 pub struct WalkState {
+    /// The sum of the digits since the last unit.
     pub sum: u128,
-    pub next: Next,
+    /// The mark that was met last; none at the end of the text.
+    pub next: Option<Mark>,
 }
 
 // Why a walk stops at a character.
@@ -41,20 +35,20 @@ pub enum Fault {
 }
 
 // The unit that has just been met, if it was one.
-fn unit_after(next: Next) -> Option<Unit>
+fn unit_after(next: Option<Mark>) -> Option<Unit>
     ensures { option_map rank result ≡ unit_next next }
 {
     match next {
-        Next::AtUnit(unit) => Some(unit),
+        Some(Mark::Unit(unit)) => Some(unit),
         _ => None,
     }
 }
 
 // Rule 3: no digit from 1 to 9 stands directly before a digit.
-pub fn separates_digits(value: u8, next: Next) -> bool
+pub fn separates_digits(value: u8, next: Option<Mark>) -> bool
     ensures { result ≡ (value == 0 || not (digit_next next)) }
 {
-    value == 0 || !matches!(next, Next::AtDigit)
+    value == 0 || !matches!(next, Some(Mark::Digit(_)))
 }
 
 // Rule 4: a unit directly before a unit is smaller than it, except 十 directly before 個.
@@ -74,12 +68,14 @@ fn counts_a_unit(unit: Unit, after: Option<Unit>) -> bool
     unit != Unit::Ge || after.is_some()
 }
 
-// One more unit, where what was walked holds no fault: it is opened over the sum that it leaves below it.
+// One more unit, where what was walked holds no fault: it is opened over the sum that it leaves
+// below it.
 //
-// The order is the one of `is_early`: a group that is too large is answered before rules 5 and 6 are
-// asked, since only the closed sum says which unit is on top; after rule 4, since a unit directly before
-// a unit that it may not stand before closes no group; and before the scale, since a unit that breaks a
-// rule is refused whatever its scale. So 極 in front of 極 is refused by rule 4.
+// The order is the one of `is_early`: a group that is too large is answered before rules 5 and 6
+// are asked, since only the closed sum says which unit is on top; after rule 4, since a unit
+// directly before a unit that it may not stand before closes no group; and before the scale, since
+// a unit that breaks a rule is refused whatever its scale. So 極 in front of 極 is refused by rule
+// 4.
 fn step_unit(
     method: ChineseCountMethod,
     units: &mut OpenUnits,
@@ -119,7 +115,8 @@ fn step_digit(state: WalkState, value: u8) -> Result<u128, Fault>
     ensures { (method : ChineseCountMethod) (walked : List ℕ) (units : List StackEntry)
         → IsWalked method walked state.sum units state.next
         → MatchResult result
-        (λ sum. (fault_of method (digit value) (marks_of walked) ≡ None) × (sum ≡ state.sum + value))
+        (λ sum. (fault_of method (digit value) (marks_of walked) ≡ None)
+        × (sum ≡ state.sum + value))
         (λ fault. fault_of method (digit value) (marks_of walked) ≡ Some (fault_refusal fault)) }
 {
     if !separates_digits(value, state.next) {
@@ -147,20 +144,20 @@ fn step(
         (λ fault. fault_of method (mark_of c) (marks_of walked) ≡ Some (fault_refusal fault)) }
 {
     match mark {
-        Mark::Digit(value) => match step_digit(state, value) {
-            Ok(sum) => Ok(WalkState {
+        Mark::Digit(value) => {
+            let sum = step_digit(state, value)?;
+            Ok(WalkState {
                 sum,
-                next: Next::AtDigit,
-            }),
-            Err(fault) => Err(fault),
-        },
-        Mark::Unit(unit) => match step_unit(method, units, state, unit) {
-            Ok(()) => Ok(WalkState {
+                next: Some(mark),
+            })
+        }
+        Mark::Unit(unit) => {
+            step_unit(method, units, state, unit)?;
+            Ok(WalkState {
                 sum: 0,
-                next: Next::AtUnit(unit),
-            }),
-            Err(fault) => Err(fault),
-        },
+                next: Some(mark),
+            })
+        }
         Mark::Other => Err(Fault::Incorrect), // rule 2
     }
 }
@@ -174,14 +171,12 @@ pub fn walk(
 ) -> Result<WalkState, ChineseToNumberError>
     requires room { skipped + length text.now < 2 ^ 64 }
     requires none_open { units.old ≡ [] }
-    ensures { MatchResult result (λ state. IsWalked method (text_of text.now) state.sum units.new state.next)
+    ensures { MatchResult result
+        (λ state. IsWalked method (text_of text.now) state.sum units.new state.next)
         (λ error. (fault : Refusal) × (faults method (marks_of (text_of text.now)) ≡ Some fault)
         × (Err (refusal_of error) ≡ answer_at skipped text.now (Err fault))) }
 {
-    let mut state = WalkState {
-        sum: 0,
-        next: Next::AtEnd,
-    };
+    let mut state = WalkState { sum: 0, next: None };
     let mut ahead = text;
     'walking: while let Some((mark, before)) = split_last_mark(ahead) {
         match step(method, units, state, mark) {

@@ -32,7 +32,8 @@ pub fn spellings_are_numerals<T: Whole>()
 /// For amounts on cheques and invoices: 1,280,500 is written 一百二十八萬零五百 by `TenThousand`,
 /// and that reads as 1,280,500 and as nothing else.
 pub fn spellings_read_back<T: Whole>()
-    ensures { (variant : ChineseVariant) (case : ChineseCase) (method : ChineseCountMethod) (number : ℤ)
+    ensures { (variant : ChineseVariant) (case : ChineseCase) (method : ChineseCountMethod)
+        (number : ℤ)
         → Holds T.kind number → IsTrue (is_printable method number) → (answer : Result ℤ Refusal)
         → Reads T.kind method (encode_utf8_all (spelled_text variant case method number)) answer
         ↔ (answer ≡ Ok number) }
@@ -81,5 +82,6 @@ pub fn beginnings_are_read<T: Whole>()
     ensures digits { (variant : ChineseVariant) (case : ChineseCase) (number : ℤ) (count : ℕ)
         → Holds T.kind number → let digits = naive_text variant case number in
         sign_length T.kind (encode_utf8_all digits) < count
-        → (beginning : ℤ) × (naive_reading T.kind (encode_utf8_all (take count digits)) ≡ Ok beginning) }
+        → (beginning : ℤ)
+        × (naive_reading T.kind (encode_utf8_all (take count digits)) ≡ Ok beginning) }
 {}

@@ -1,8 +1,6 @@
 // The signed types of up to 64 bits.
 ghost use Rattle.std.specs.Prelude.{refl, true, false};
-ghost use Rattle.std.proofs.Common.{rules};
 ghost use Rattle.cn_core.specs.Whole.{signed_kind};
-ghost use Rattle.cn_core.specs.WholeLaws.{signed_narrow, signed_wide, signed_fits};
 
 use crate::Whole;
 
@@ -43,15 +41,7 @@ impl Whole for i8 {
 
     ghost holds_each = { λ z h. (z, refl) };
 
-    ghost signed_is = { refl };
-
-    ghost holds_zero = { Prim.search rules };
-
-    ghost unsigned_from_zero = { Prim.search rules };
-
-    ghost narrow_is = { Prim.search (rules, signed_narrow) };
-
-    ghost magnitude_fits = { Prim.search (rules, signed_fits) };
+    ghost is_whole = { record { sign = refl; zero = refl; low = refl; width = refl; fits = refl } };
 }
 
 impl Whole for i16 {
@@ -91,15 +81,7 @@ impl Whole for i16 {
 
     ghost holds_each = { λ z h. (z, refl) };
 
-    ghost signed_is = { refl };
-
-    ghost holds_zero = { Prim.search rules };
-
-    ghost unsigned_from_zero = { Prim.search rules };
-
-    ghost narrow_is = { Prim.search (rules, signed_narrow) };
-
-    ghost magnitude_fits = { Prim.search (rules, signed_fits) };
+    ghost is_whole = { record { sign = refl; zero = refl; low = refl; width = refl; fits = refl } };
 }
 
 impl Whole for i32 {
@@ -139,15 +121,7 @@ impl Whole for i32 {
 
     ghost holds_each = { λ z h. (z, refl) };
 
-    ghost signed_is = { refl };
-
-    ghost holds_zero = { Prim.search rules };
-
-    ghost unsigned_from_zero = { Prim.search rules };
-
-    ghost narrow_is = { Prim.search (rules, signed_wide) };
-
-    ghost magnitude_fits = { Prim.search (rules, signed_fits) };
+    ghost is_whole = { record { sign = refl; zero = refl; low = refl; width = refl; fits = refl } };
 }
 
 impl Whole for i64 {
@@ -187,15 +161,7 @@ impl Whole for i64 {
 
     ghost holds_each = { λ z h. (z, refl) };
 
-    ghost signed_is = { refl };
-
-    ghost holds_zero = { Prim.search rules };
-
-    ghost unsigned_from_zero = { Prim.search rules };
-
-    ghost narrow_is = { Prim.search (rules, signed_wide) };
-
-    ghost magnitude_fits = { Prim.search (rules, signed_fits) };
+    ghost is_whole = { record { sign = refl; zero = refl; low = refl; width = refl; fits = refl } };
 }
 
 impl Whole for isize {
@@ -235,13 +201,5 @@ impl Whole for isize {
 
     ghost holds_each = { λ z h. (z, refl) };
 
-    ghost signed_is = { refl };
-
-    ghost holds_zero = { Prim.search rules };
-
-    ghost unsigned_from_zero = { Prim.search rules };
-
-    ghost narrow_is = { Prim.search (rules, signed_wide) };
-
-    ghost magnitude_fits = { Prim.search (rules, signed_fits) };
+    ghost is_whole = { record { sign = refl; zero = refl; low = refl; width = refl; fits = refl } };
 }

@@ -1,8 +1,7 @@
 // The unsigned types of up to 64 bits.
 ghost use Rattle.std.specs.Prelude.{refl, pos, false, true};
-ghost use Rattle.std.proofs.Common.{rules};
 ghost use Rattle.cn_core.specs.Whole.{unsigned_kind};
-ghost use Rattle.cn_core.specs.WholeLaws.{pos_same, unsigned_holds, unsigned_narrow, unsigned_wide, unsigned_fits};
+ghost use Rattle.cn_core.specs.WholeLaws.{pos_same, unsigned_holds};
 
 use crate::Whole;
 
@@ -43,15 +42,7 @@ impl Whole for u8 {
 
     ghost holds_each = { λ z h. unsigned_holds z h.0 };
 
-    ghost signed_is = { refl };
-
-    ghost holds_zero = { Prim.search rules };
-
-    ghost unsigned_from_zero = { λ _. refl };
-
-    ghost narrow_is = { Prim.search (rules, unsigned_narrow) };
-
-    ghost magnitude_fits = { Prim.search (rules, unsigned_fits) };
+    ghost is_whole = { record { sign = refl; zero = refl; low = refl; width = refl; fits = refl } };
 }
 
 impl Whole for u16 {
@@ -91,15 +82,7 @@ impl Whole for u16 {
 
     ghost holds_each = { λ z h. unsigned_holds z h.0 };
 
-    ghost signed_is = { refl };
-
-    ghost holds_zero = { Prim.search rules };
-
-    ghost unsigned_from_zero = { λ _. refl };
-
-    ghost narrow_is = { Prim.search (rules, unsigned_narrow) };
-
-    ghost magnitude_fits = { Prim.search (rules, unsigned_fits) };
+    ghost is_whole = { record { sign = refl; zero = refl; low = refl; width = refl; fits = refl } };
 }
 
 impl Whole for u32 {
@@ -139,15 +122,7 @@ impl Whole for u32 {
 
     ghost holds_each = { λ z h. unsigned_holds z h.0 };
 
-    ghost signed_is = { refl };
-
-    ghost holds_zero = { Prim.search rules };
-
-    ghost unsigned_from_zero = { λ _. refl };
-
-    ghost narrow_is = { Prim.search (rules, unsigned_wide) };
-
-    ghost magnitude_fits = { Prim.search (rules, unsigned_fits) };
+    ghost is_whole = { record { sign = refl; zero = refl; low = refl; width = refl; fits = refl } };
 }
 
 impl Whole for u64 {
@@ -187,15 +162,7 @@ impl Whole for u64 {
 
     ghost holds_each = { λ z h. unsigned_holds z h.0 };
 
-    ghost signed_is = { refl };
-
-    ghost holds_zero = { Prim.search rules };
-
-    ghost unsigned_from_zero = { λ _. refl };
-
-    ghost narrow_is = { Prim.search (rules, unsigned_wide) };
-
-    ghost magnitude_fits = { Prim.search (rules, unsigned_fits) };
+    ghost is_whole = { record { sign = refl; zero = refl; low = refl; width = refl; fits = refl } };
 }
 
 impl Whole for usize {
@@ -235,13 +202,5 @@ impl Whole for usize {
 
     ghost holds_each = { λ z h. unsigned_holds z h.0 };
 
-    ghost signed_is = { refl };
-
-    ghost holds_zero = { Prim.search rules };
-
-    ghost unsigned_from_zero = { λ _. refl };
-
-    ghost narrow_is = { Prim.search (rules, unsigned_wide) };
-
-    ghost magnitude_fits = { Prim.search (rules, unsigned_fits) };
+    ghost is_whole = { record { sign = refl; zero = refl; low = refl; width = refl; fits = refl } };
 }

@@ -1,8 +1,7 @@
 // The types of 128 bits.
 ghost use Rattle.std.specs.Prelude.{refl, pos, false, true};
-ghost use Rattle.std.proofs.Common.{rules};
 ghost use Rattle.cn_core.specs.Whole.{unsigned_kind, signed_kind};
-ghost use Rattle.cn_core.specs.WholeLaws.{pos_same, unsigned_holds, unsigned_wide, signed_wide, unsigned_fits, signed_fits};
+ghost use Rattle.cn_core.specs.WholeLaws.{pos_same, unsigned_holds};
 
 use crate::Whole;
 
@@ -47,15 +46,7 @@ impl Whole for u128 {
 
     ghost holds_each = { λ z h. unsigned_holds z h.0 };
 
-    ghost signed_is = { refl };
-
-    ghost holds_zero = { Prim.search rules };
-
-    ghost unsigned_from_zero = { λ _. refl };
-
-    ghost narrow_is = { Prim.search (rules, unsigned_wide) };
-
-    ghost magnitude_fits = { Prim.search (rules, unsigned_fits) };
+    ghost is_whole = { record { sign = refl; zero = refl; low = refl; width = refl; fits = refl } };
 }
 
 impl Whole for i128 {
@@ -99,13 +90,5 @@ impl Whole for i128 {
 
     ghost holds_each = { λ z h. (z, refl) };
 
-    ghost signed_is = { refl };
-
-    ghost holds_zero = { Prim.search rules };
-
-    ghost unsigned_from_zero = { Prim.search rules };
-
-    ghost narrow_is = { Prim.search (rules, signed_wide) };
-
-    ghost magnitude_fits = { Prim.search (rules, signed_fits) };
+    ghost is_whole = { record { sign = refl; zero = refl; low = refl; width = refl; fits = refl } };
 }

@@ -18,8 +18,8 @@ pub record EndsWith (bytes : List ℕ) (c : ℕ) (before : List ℕ) : Type 0 wh
   pub blank : filter is_not_whitespace white ≡ []
   pub dark : is_whitespace c ≡ false
 
--- the answer to a piece of a string, whose place is told by where it stands in the string, when so many
--- characters of the string stand before the piece
+-- the answer to a piece of a string, whose place is told by where it stands in the string, when so
+-- many characters of the string stand before the piece
 abbrev pub answer_at : ℕ → List ℕ → Result ℕ Refusal → Result ℕ Refusal
 answer_at skipped bytes (Err (incorrect_at place)) = Err (incorrect_at (skipped + spot bytes place))
 answer_at skipped bytes answer = answer

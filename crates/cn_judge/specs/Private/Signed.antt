@@ -6,7 +6,7 @@ use Rattle.cn_core.specs.Typed.{typed_number, is_minus, too_far}
 use Rattle.cn_core.specs.Whole.{signed_number, Kind}
 
 -- the answer from the sign, and from the answer to what follows it
-abbrev pub with_sign : Kind → Option Sign → Result ℕ Refusal → Result ℤ Refusal
-with_sign kind sign (Ok magnitude) = typed_number kind (signed_number (is_minus sign) magnitude)
-with_sign kind sign (Err too_large) = Err (too_far sign)
-with_sign kind sign (Err refusal) = Err refusal
+abbrev pub signed_answer : Kind → Option Sign → Result ℕ Refusal → Result ℤ Refusal
+signed_answer kind sign (Ok magnitude) = typed_number kind (signed_number (is_minus sign) magnitude)
+signed_answer kind sign (Err too_large) = Err (too_far sign)
+signed_answer kind sign (Err refusal) = Err refusal

@@ -1,4 +1,5 @@
--- The open units as the walk keeps them, each with its scale, in an array whose last entry is the top.
+-- The open units as the walk keeps them, each with its scale, in an array whose last entry is the
+-- top.
 use Rattle.std.specs.Prelude.{◌≡◌, ℕ, zero, suc, ◌+◌, ◌*◌, ◌^◌, ◌<◌, SomeIff, Bool, nat_lt, List, [], ◌∷◌, Option, Some, None, slice_index_or, if◌then◌else◌}
 use Rattle.std.specs.List.{list_all}
 use Rattle.cn_core.specs.declared.unit.Unit.TheVariants.{Ge}
@@ -18,10 +19,12 @@ abbrev pub top_of : List StackEntry → Option ℕ
 top_of [] = None
 top_of (top ∷ units) = Some top.0
 
--- the sum once each open unit below a rank is closed: it multiplies the sum, and adds it to the one below
+-- the sum once each open unit below a rank is closed: it multiplies the sum, and adds it to the one
+-- below
 abbrev pub closed_sum : ℕ → ℕ → List StackEntry → ℕ
 closed_sum limit sum [] = sum
-closed_sum limit sum (top ∷ units) = if nat_lt top.0 limit then closed_sum limit (sum * top.1 + top.2) units else sum
+closed_sum limit sum (top ∷ units) =
+    if nat_lt top.0 limit then closed_sum limit (sum * top.1 + top.2) units else sum
 
 -- the units that are then still open
 abbrev pub still_open : ℕ → List StackEntry → List StackEntry
@@ -48,4 +51,5 @@ stack_of entries (suc len) = opened_at (slice_index_or entries len no_unit) ∷ 
 -- the top closes: the sum is multiplied and joins the one below, if that fits
 abbrev pub ClosesTop : ℕ → List StackEntry → List StackEntry → Option ℕ → Type 0
 ClosesTop sum [] after result = Unit {0}
-ClosesTop sum (top ∷ units) after result = (after ≡ units) × SomeIff result (sum * top.1 + top.2 < 2 ^ 128) (sum * top.1 + top.2)
+ClosesTop sum (top ∷ units) after result =
+    let more = sum * top.1 + top.2 in (after ≡ units) × SomeIff result (more < 2 ^ 128) more

@@ -2,7 +2,7 @@ use Rattle.std.proofs.Common.{◌≡◌, drop, sym, ap, ◌∙◌}
 use Rattle.cn_core.specs.Naive.{naive_answer}
 use Rattle.cn_core.specs.Text.{text_of, marks_of}
 use Rattle.cn_core.specs.Typed.{leading_sign, sign_len, typed_answer}
-use Rattle.cn_judge.specs.Private.Signed.{with_sign}
+use Rattle.cn_judge.specs.Private.Signed.{signed_answer}
 use Rattle.cn_judge.proofs.Pieces.{text_of-rest, typed-rest}
 use Rattle.cn_judge.proofs.naive.read_naive.Goals as goal
 
@@ -13,8 +13,8 @@ returns g c =
     let after = c.split_sign-after in
     let sign_is : after.result.sign ≡ leading_sign kind.signed (text_of bytes) =
     after.ensures.sign ∙ ap (λ s. leading_sign s (text_of bytes)) (c.SIGNED.ensures ∙ sym g.met.T.Whole.signed_is) in
-    c.with_sign.ensures
-    ∙ ap (with_sign kind after.result.sign) c.judge_naive.ensures
+    c.signed_answer.ensures
+    ∙ ap (signed_answer kind after.result.sign) c.judge_naive.ensures
     ∙ typed-rest kind bytes _ _ after.result.sign _ after.ensures.rest
     ∙ ap (λ text. typed_answer kind bytes after.result.sign (naive_answer (marks_of text))) (sym (text_of-rest _ _ _ _ after.ensures.rest))
     ∙ ap (λ sign. typed_answer kind bytes sign (naive_answer (marks_of (drop (sign_len sign) (text_of bytes))))) sign_is

@@ -1,11 +1,12 @@
-use Rattle.std.proofs.Common.{◌+◌, length, refl, sym, ap, ◌∙◌}
+use Rattle.std.proofs.Common.{◌+◌, length, sym, ap, ◌∙◌}
 use Rattle.cn_core.specs.Characters.{rank}
 use Rattle.cn_core.specs.Mark.{mark_of}
 use Rattle.cn_core.specs.Text.{text_of}
+use Rattle.cn_judge.specs.Answer.{answer_of}
 use Rattle.cn_judge.specs.Private.Judged.{after_first}
 use Rattle.cn_judge.specs.Private.Marked.{marked}
 use Rattle.cn_judge.specs.Private.Walk.{tail_answer}
-use Rattle.cn_judge.proofs.Endings.{tail-stops, tail-fits, err-same, fitting-some, fitting-none}
+use Rattle.cn_judge.proofs.Endings.{tail-stops, tail-fits, err-same, number_answer-ok_or}
 use Rattle.cn_judge.proofs.Judgements.{JudgesAt-empty, JudgesAt-plain, JudgesAt-tail, front-same, front-number, tail-refused, last-wrong, last-adds, not-digit}
 use Rattle.cn_judge.proofs.WalkSteps.{digit-low}
 use Rattle.cn_judge.proofs.units.judge.Goals as goal
@@ -45,16 +46,10 @@ add_tail-requires-clause-fits c =
     tail-fits c.args.method (mark_of c.in-Some.first.character) _ _ _ _ _ c.in-Some-split_tail.ensures.tail
     (sym (front-number (c.args.skipped + c.in-Some.first.skipped) _ c.in-Some-split_tail.tail.body.now _ c.in_ok-number.ensures))
 
-pub returns-in-Some-add_tail : goal.returns-in-Some-add_tail
-returns-in-Some-add_tail c =
+pub returns : goal.returns
+returns c =
+    let char_index = c.args.skipped + c.in-Some.first.skipped in
     JudgesAt-tail c.args.method _ _ _ _ _ _ _ _ _ c.in-Some.ensures.parts c.in-Some.ensures.dark c.in-Some-split_tail.ensures.tail
-    (last-adds c.args.method _ _ _ _ _ _ c.in-Some-split_tail.tail.last _ _
-    (front-number (c.args.skipped + c.in-Some.first.skipped) _ c.in-Some-split_tail.tail.body.now _ c.in_ok-number.ensures)
-    c.in-Digit.is (fitting-some _ _ c.in-Some-add_tail.ensures) refl)
-
-pub returns-in-None : goal.returns-in-None
-returns-in-None c =
-    JudgesAt-tail c.args.method _ _ _ _ _ _ _ _ _ c.in-Some.ensures.parts c.in-Some.ensures.dark c.in-Some-split_tail.ensures.tail
-    (last-adds c.args.method _ _ _ _ _ _ c.in-Some-split_tail.tail.last _ _
-    (front-number (c.args.skipped + c.in-Some.first.skipped) _ c.in-Some-split_tail.tail.body.now _ c.in_ok-number.ensures)
-    c.in-Digit.is (fitting-none _ c.in-None.ensures) refl)
+    (last-adds c.args.method char_index _ _ _ _ _ c.in-Some-split_tail.tail.last _ _
+    (front-number char_index _ c.in-Some-split_tail.tail.body.now _ c.in_ok-number.ensures) c.in-Digit.is
+    (ap (answer_of (λ n. n)) c.ok_or.ensures.value ∙ number_answer-ok_or char_index _ _ _ c.add_tail.ensures))

@@ -1,7 +1,7 @@
 use Rattle.std.proofs.Common.{◌≡◌, sym, ap, ◌∙◌}
 use Rattle.cn_core.specs.Text.{text_of}
 use Rattle.cn_core.specs.Typed.{leading_sign, typed_answer}
-use Rattle.cn_judge.specs.Private.Signed.{with_sign}
+use Rattle.cn_judge.specs.Private.Signed.{signed_answer}
 use Rattle.cn_judge.proofs.Pieces.{text_of-rest, typed-rest}
 use Rattle.cn_judge.proofs.units.read.Goals as goal
 
@@ -15,7 +15,7 @@ returns g c =
     after.ensures.sign ∙ ap (λ s. leading_sign s (text_of bytes)) (c.SIGNED.ensures ∙ sym g.met.T.Whole.signed_is) in (
       judged.0,
       rw (← sign_is, text_of-rest _ _ _ _ after.ensures.rest) judged.1,
-      c.with_sign.ensures ∙ ap (with_sign kind after.result.sign) judged.2
+      c.signed_answer.ensures ∙ ap (signed_answer kind after.result.sign) judged.2
           ∙ typed-rest kind bytes _ _ after.result.sign _ after.ensures.rest
           ∙ ap (λ sign. typed_answer kind bytes sign judged.0) sign_is,
     )

@@ -2,11 +2,11 @@ use Rattle.std.proofs.Common.{arith, ◌∙◌}
 use Rattle.cn_judge.proofs.Stacks.{total-step, total-past, total-none, some_entries}
 use Rattle.cn_judge.proofs.open_units.OpenUnits.close_all.Goals as goal
 
-pub returns-in-None : goal.returns-in-None
-returns-in-None c =
+pub returns-in_err-closed : goal.returns-in_err-closed
+returns-in_err-closed c =
     let inv = c.closing.invariant in
-    let past = total-past _ _ _ (some_entries _ _ _ c.self.view_is c.closing-test.true) c.in-None.ensures inv.positive in
-    λ small. past (omega (arith, inv.sum, small))
+    let past = total-past _ _ _ (some_entries _ _ _ c.self.view_is c.closing-test.true) c.in_err-closed.ensures inv.positive in
+    rw c.from_residual.ensures (λ small. past (omega (arith, inv.sum, small)))
 
 pub returns : goal.returns
 returns c =
@@ -17,5 +17,5 @@ returns c =
 pub closing-preserved : goal.closing-preserved
 closing-preserved c =
     let inv = c.closing.invariant in
-    let step = total-step _ _ _ _ (some_entries _ _ _ c.self.view_is c.closing-test.true) c.in-Some.ensures inv.positive in
+    let step = total-step _ _ _ _ (some_entries _ _ _ c.self.view_is c.closing-test.true) c.in_ok-closed.ensures inv.positive in
     record { sum = step.0 ∙ inv.sum; positive = step.1; fits = step.3 }
