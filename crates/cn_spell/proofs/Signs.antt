@@ -1,12 +1,11 @@
 -- The minus sign of a number below zero.
-use Rattle.std.proofs.Common.{◌≡◌, ◌↔◌, ℕ, nat_abs, ap₂, ◌∙◌, ℤ, pos, negsuc, ◌<ℤ◌, int_lt, Bool, true, false, IsTrue, nat_lt, ◌≤◌, length, refl, sym, arith}
+use Rattle.std.proofs.Common.{◌≡◌, ◌↔◌, ℕ, nat_abs, ap₂, ◌∙◌, ℤ, pos, negsuc, ◌<ℤ◌, int_lt, Bool, true, false, IsTrue, nat_lt, ◌≤◌, List, length, refl, sym, arith}
 use Rattle.std.proofs.lemmas.Bool.Decides.{nat_tests}
 use Rattle.std.proofs.lemmas.Int.{ints}
 use Rattle.cn_core.specs.declared.script.ChineseVariant.{ChineseVariant}
 use Rattle.cn_core.specs.declared.case.ChineseCase.{ChineseCase}
-use Rattle.cn_core.specs.declared.method.ChineseCountMethod.{ChineseCountMethod}
-use Rattle.cn_core.specs.Spelling.{spelling}
-use Rattle.cn_core.specs.Written.{signed_text, spelled_text}
+use Rattle.cn_core.specs.Mark.{Mark}
+use Rattle.cn_core.specs.Written.{signed_text}
 use Rattle.cn_spell.specs.Working.Sign.{sign_characters, sign_count}
 
 -- the test for a number below zero
@@ -24,10 +23,10 @@ pub sign_count-le : (negative : Bool) → sign_count negative ≤ 1
 sign_count-le true = omega arith
 sign_count-le false = omega arith
 
--- the text of a number, by its sign and its magnitude
-pub spelled-is : (method : ChineseCountMethod) (variant used : ChineseVariant) (case other : ChineseCase) (negative : Bool) (magnitude : ℕ) (number : ℤ)
+-- the text of a number, by its sign and the marks of its magnitude
+pub signed-is : (marks : ℕ → List Mark) (variant used : ChineseVariant) (case other : ChineseCase) (negative : Bool) (magnitude : ℕ) (number : ℤ)
     → used ≡ variant → other ≡ case → (IsTrue negative ↔ (number <ℤ pos 0)) → magnitude ≡ nat_abs number
-    → signed_text used other negative (spelling method magnitude) ≡ spelled_text variant case method number
-spelled-is method variant used case other negative magnitude number v k below value =
-    ap₂ (λ x y. signed_text x y negative (spelling method magnitude)) v k
-    ∙ ap₂ (λ b n. signed_text variant case b (spelling method n)) (negative-is negative number below) value
+    → signed_text used other negative (marks magnitude) ≡ signed_text variant case (int_lt number (pos 0)) (marks (nat_abs number))
+signed-is marks variant used case other negative magnitude number v k below value =
+    ap₂ (λ x y. signed_text x y negative (marks magnitude)) v k
+    ∙ ap₂ (λ b n. signed_text variant case b (marks n)) (negative-is negative number below) value

@@ -55,7 +55,8 @@ impl Characters {
     #[inline(always)]
     fn at(self, place: usize) -> [u8; 3]
         requires { place < 27 }
-        ensures bytes { result ≡ encode_utf8 (slice_index (table_characters self.variant self.case) place) }
+        ensures bytes { result
+            ≡ encode_utf8 (slice_index (table_characters self.variant self.case) place) }
         ensures utf8 { IsUtf8 result }
     {
         let start = 3 * place;

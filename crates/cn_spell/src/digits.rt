@@ -2,46 +2,41 @@
 ghost use Rattle.std.specs.Prelude.{◌≡◌, ◌+◌, ◌<◌, ◌≤◌, ◌^◌, ℕ, ◌++◌, take, length, slice_index};
 ghost use Rattle.cn_spell.specs.Working.Places.{places_of, places_value, lowest, HoldsPlaces};
 
+use crate::groups::{GROUP, PART};
 use std::marker::Model;
 
 // A number of 128 bits has at most 39 digits.
-const MOST: usize = 39;
-
-// A group has four digits, and a part four groups: it fits 64 bits.
-const GROUP: u64 = 10_000;
-
-const PART: u128 = 10_000_000_000_000_000;
+pub const MOST: usize = 39;
 
 /// A magnitude, by its decimal digits: the lowest first, and no 0 in front.
 #[derive(Drop)]
-pub struct Digits {
-    places: [u8; MOST],
+pub struct Digits<'a> {
+    places: &'a [u8; MOST],
     len: usize,
 }
 
-impl Model for Digits {
+impl<'a> Model for Digits<'a> {
     ghost Value = { ℕ };
 
-    ghost view = { λ digits. places_value (take digits.len digits.places) };
+    ghost view = { λ digits. places_value (take digits.len digits.places.now) };
 
-    ghost invariant = { λ digits. HoldsPlaces digits.len (take digits.len digits.places) };
+    ghost invariant = { λ digits. HoldsPlaces digits.len (take digits.len digits.places.now) };
 }
 
-impl Digits {
-    /// Takes the digits off; at most two of the divisions are of 128 bits.
-    pub fn of(magnitude: u128) -> Self
+impl<'a> Digits<'a> {
+    /// Takes the digits off into an array; at most two of the divisions are of 128 bits.
+    pub fn of(places: &'a mut [u8; MOST], magnitude: u128) -> Self
         ensures { result ≡ magnitude }
     {
-        let mut places = [0; MOST];
         let mut len = 0;
         let mut above = magnitude;
         while above > u64::MAX as u128 {
             let next = above / PART;
-            put_part(&mut places, len, (above - next * PART) as u64);
+            put_part(places, len, (above - next * PART) as u64);
             len += 16;
             above = next;
         }
-        let len = put_front(&mut places, len, above as u64);
+        let len = put_front(places, len, above as u64);
         Digits { places, len }
     }
 
@@ -95,7 +90,8 @@ fn put_part(places: &mut [u8], place: usize, part: u64)
     put_group(places, place + 12, high / GROUP);
 }
 
-// The digits of the front, which begins with no 0, from the place on; the result is the place after them.
+// The digits of the front, which begins with no 0, from the place on; the result is the place after
+// them.
 fn put_front(places: &mut [u8], place: usize, front: u64) -> usize
     requires { place + length (places_of front) ≤ length places.old }
     ensures digits { take result places.new ≡ take place places.old ++ places_of front }

@@ -9,9 +9,9 @@ use cn_core::ChineseCountMethod;
 pub const MOST: usize = 9;
 
 // A group has four digits, and a part four groups: it fits 64 bits.
-const GROUP: u64 = 10_000;
+pub const GROUP: u64 = 10_000;
 
-const PART: u128 = 10_000_000_000_000_000;
+pub const PART: u128 = 10_000_000_000_000_000;
 
 /// A magnitude, by its lowest groups of four digits and what stands in front of them.
 #[derive(Clone, Copy)]
@@ -42,8 +42,8 @@ impl<'a> Groups<'a> {
     }
 }
 
-// Takes off all groups but the highest, and none for `Low`; at most two of the divisions are of 128 bits. The
-// result is how many groups these are, and what stands in front of them.
+// Takes off all groups but the highest, and none for `Low`; at most two of the divisions are of 128
+// bits. The result is how many groups these are, and what stands in front of them.
 #[inline(always)]
 fn take_groups(
     groups: &mut [u16; MOST],

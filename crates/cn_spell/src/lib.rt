@@ -1,8 +1,8 @@
-//! The printer of any integer type, by units or as plain digits. It serves the crates above it alone:
-//! users take the calls of `chinese_number`.
+//! The printer of any integer type, by units or as plain digits. It serves the crates above it
+//! alone: users take the calls of `chinese_number`.
 //!
-//! It counts its characters, asks once for three bytes for each or takes the front of a room that the
-//! caller lends, and fills them from the last to the first.
+//! It counts its characters, asks once for three bytes for each or takes the front of a room that
+//! the caller lends, and fills them from the last to the first.
 #![tactic(auto)]
 
 mod characters;

@@ -3,47 +3,50 @@ ghost use Rattle.std.specs.Prelude.{◌≡◌, nat_abs, IfOk};
 ghost use Rattle.cn_core.specs.Naive.{decimal_digits};
 ghost use Rattle.cn_core.specs.Written.{signed_text, naive_text};
 ghost use Rattle.cn_spell.specs.Puts.{PutsInFront};
-ghost use Rattle.cn_spell.specs.Writes.{Writes};
+ghost use Rattle.cn_spell.specs.Writes.{Writes, most_plain_bytes};
 
 use crate::characters::Characters;
-use crate::digits::Digits;
+use crate::digits::{Digits, MOST};
 use crate::room::Room;
 use crate::sign::put_sign;
 use crate::text::{Text, new_string, put_in_front};
 use cn_core::{ChineseCase, ChineseVariant, Whole};
 use std::alloc::{AllocError, Allocator};
 
-// The digits of a magnitude, and its sign.
+// A sign, and the digits of a magnitude.
 #[derive(Drop)]
 struct Plain<'a> {
     characters: Characters,
     negative: bool,
-    digits: &'a Digits,
+    digits: Digits<'a>,
 }
 
 impl<'a> Plain<'a> {
+    // Takes the magnitude's digits into an array.
     #[inline(always)]
-    fn of<T: Whole>(
-        digits: &'a Digits,
-        variant: ChineseVariant,
-        case: ChineseCase,
-        value: T,
+    fn of(
+        taken: &'a mut [u8; MOST],
+        characters: Characters,
+        negative: bool,
+        magnitude: u128,
     ) -> Self
-        requires { digits.now ≡ nat_abs (T.number value) }
-        ensures { ⟦<Plain<'a> as Text>⟧.says result ≡ naive_text variant case (T.number value) }
+        ensures { ⟦<Plain<'a> as Text>⟧.says result
+            ≡ signed_text characters.variant characters.case negative (decimal_digits magnitude) }
     {
         Plain {
-            characters: Characters::new(variant, case),
-            negative: value.is_negative(),
-            digits,
+            characters,
+            negative,
+            digits: Digits::of(taken, magnitude),
         }
     }
 }
 
 impl Text for Plain<'_> {
-    ghost says = { λ plain. signed_text plain.characters.variant plain.characters.case plain.negative (decimal_digits plain.digits.now) };
+    ghost says = { λ plain.
+        signed_text plain.characters.variant plain.characters.case plain.negative
+        (decimal_digits plain.digits) };
 
-    ghost most = { λ plain. 120 };
+    ghost most = { λ plain. most_plain_bytes };
 
     #[inline(always)]
     fn count(&self) -> usize {
@@ -67,21 +70,42 @@ pub fn print_naive<T: Whole, A: Allocator>(
     case: ChineseCase,
     value: T,
 ) -> Result<String<A>, AllocError>
-    ensures { IfOk result (Writes (naive_text variant case (T.number value)) 120) }
+    ensures { IfOk result (Writes (naive_text variant case (T.number value)) most_plain_bytes) }
 {
-    let digits = Digits::of(value.magnitude());
-    new_string(alloc, &Plain::of(&digits, variant, case, value))
+    let characters = Characters::new(variant, case);
+    let mut taken = [0; MOST];
+    let text = Plain::of(
+        &mut taken,
+        characters,
+        value.is_negative(),
+        value.magnitude(),
+    );
+    new_string(alloc, &text)
 }
 
-/// The same at the front of a room, where it fits; the result is how many bytes it has.
+// The text of a sign and a magnitude at the front of a room, where it fits.
+fn put_signed(room: &mut [u8], characters: Characters, negative: bool, magnitude: u128) -> usize
+    ensures { PutsInFront
+        (signed_text characters.variant characters.case negative (decimal_digits magnitude))
+        most_plain_bytes room.old room.new result }
+{
+    let mut taken = [0; MOST];
+    put_in_front(
+        room,
+        &Plain::of(&mut taken, characters, negative, magnitude),
+    )
+}
+
+/// The text of a number at the front of a room, where it fits; the result is how many bytes it has.
 pub fn put_naive<T: Whole>(
     room: &mut [u8],
     variant: ChineseVariant,
     case: ChineseCase,
     value: T,
 ) -> usize
-    ensures { PutsInFront (naive_text variant case (T.number value)) 120 room.old room.new result }
+    ensures { PutsInFront (naive_text variant case (T.number value)) most_plain_bytes
+        room.old room.new result }
 {
-    let digits = Digits::of(value.magnitude());
-    put_in_front(room, &Plain::of(&digits, variant, case, value))
+    let characters = Characters::new(variant, case);
+    put_signed(room, characters, value.is_negative(), value.magnitude())
 }

@@ -30,16 +30,21 @@ pub trait Pen {
         requires room { 3 ≤ left self.old }
         ensures lender { lender self.new ≡ lender self.old }
         ensures room { left self.new + 3 * length (kept is_kept (digit value)) ≡ left self.old }
-        ensures marks { (marks : List Mark) → shows self.old characters.variant characters.case marks
-            → shows self.new characters.variant characters.case (kept is_kept (digit value) ++ marks) };
+        ensures marks { (marks : List Mark)
+            → shows self.old characters.variant characters.case marks
+            → shows self.new characters.variant characters.case
+            (kept is_kept (digit value) ++ marks) };
 
     // The same for a unit.
     fn put_unit_if(&mut self, characters: Characters, is_kept: bool, value: Unit)
         requires room { 3 ≤ left self.old }
         ensures lender { lender self.new ≡ lender self.old }
-        ensures room { left self.new + 3 * length (kept is_kept (unit (rank value))) ≡ left self.old }
-        ensures marks { (marks : List Mark) → shows self.old characters.variant characters.case marks
-            → shows self.new characters.variant characters.case (kept is_kept (unit (rank value)) ++ marks) };
+        ensures room { left self.new + 3 * length (kept is_kept (unit (rank value)))
+            ≡ left self.old }
+        ensures marks { (marks : List Mark)
+            → shows self.old characters.variant characters.case marks
+            → shows self.new characters.variant characters.case
+            (kept is_kept (unit (rank value)) ++ marks) };
 }
 
 /// Counts characters and writes none.
@@ -51,7 +56,8 @@ pub struct Count {
 impl Pen for Count {
     ghost left = { λ count. 3 * (2 ^ 64 - 1 - count.characters) };
 
-    ghost shows = { λ count variant case marks. Counts count.characters (map (mark_char variant case) marks) };
+    ghost shows = { λ count variant case marks.
+        Counts count.characters (map (mark_char variant case) marks) };
 
     ghost lender = { λ count. 0 };
 
@@ -69,7 +75,8 @@ impl Pen for Count {
 impl Pen for Room<'_> {
     ghost left = { λ room. room.free };
 
-    ghost shows = { λ room variant case marks. Shows room.free room.bytes.now (map (mark_char variant case) marks) };
+    ghost shows = { λ room variant case marks.
+        Shows room.free room.bytes.now (map (mark_char variant case) marks) };
 
     ghost lender = { λ room. room.bytes.ghost_name };
 

@@ -1,4 +1,5 @@
-// Digits whose places have units of their own: all of them by `Low`, the four of a group by each method.
+// Digits whose places have units of their own: all of them by `Low`, the four of a group by each
+// method.
 ghost use Rattle.std.specs.Prelude.{◌≡◌, ◌+◌, ◌*◌, ◌^◌, ◌<◌, ◌≤◌, List, ◌++◌, length};
 ghost use Rattle.cn_core.specs.declared.method.ChineseCountMethod.TheVariants.{Low};
 ghost use Rattle.cn_core.specs.Mark.{Mark};
@@ -19,7 +20,8 @@ fn put_place<P: Pen>(pen: &mut P, characters: Characters, place: usize, digit: u
     ensures lender { P.lender pen.new ≡ P.lender pen.old }
     ensures room { P.left pen.new + 3 * length (place_marks place digit is_gap) ≡ P.left pen.old }
     ensures marks { (marks : List Mark) → P.shows pen.old characters.variant characters.case marks
-        → P.shows pen.new characters.variant characters.case (place_marks place digit is_gap ++ marks) }
+        → P.shows pen.new characters.variant characters.case
+        (place_marks place digit is_gap ++ marks) }
 {
     let unit = unit_at(ChineseCountMethod::Low, place);
     pen.put_unit_if(characters, (digit > 0) & (place > 0), unit);

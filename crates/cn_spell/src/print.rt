@@ -36,7 +36,9 @@ fn signed_text<M: KnownMethod, A: Allocator>(
     magnitude: u128,
 ) -> Result<String<A>, AllocError>
     requires { IsTrue (is_printable M.stands_for (pos magnitude)) }
-    ensures { IfOk result (Writes (signed_text characters.variant characters.case negative (spelling M.stands_for magnitude)) (most_bytes M.stands_for)) }
+    ensures { IfOk result (Writes
+        (signed_text characters.variant characters.case negative (spelling M.stands_for magnitude))
+        (most_bytes M.stands_for)) }
 {
     let mut taken = [0; MOST];
     let text = Spelled::<M>::of(&mut taken, characters, negative, magnitude);
@@ -52,7 +54,9 @@ fn print_magnitude<A: Allocator>(
     magnitude: u128,
 ) -> Result<String<A>, AllocError>
     requires { IsTrue (is_printable method (pos magnitude)) }
-    ensures { IfOk result (Writes (signed_text characters.variant characters.case negative (spelling method magnitude)) (most_bytes method)) }
+    ensures { IfOk result (Writes
+        (signed_text characters.variant characters.case negative (spelling method magnitude))
+        (most_bytes method)) }
 {
     match method {
         ChineseCountMethod::Low => signed_text::<ByLow, A>(alloc, characters, negative, magnitude),
@@ -77,7 +81,8 @@ pub fn print_by_units<T: Whole, A: Allocator>(
     value: T,
 ) -> Result<String<A>, AllocError>
     requires { IsTrue (is_printable method (T.number value)) }
-    ensures { IfOk result (Writes (spelled_text variant case method (T.number value)) (most_bytes method)) }
+    ensures { IfOk result (Writes
+        (spelled_text variant case method (T.number value)) (most_bytes method)) }
 {
     let characters = Characters::new(variant, case);
     print_magnitude(

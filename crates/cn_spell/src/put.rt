@@ -20,7 +20,9 @@ fn put_signed<M: KnownMethod>(
     magnitude: u128,
 ) -> usize
     requires { IsTrue (is_printable M.stands_for (pos magnitude)) }
-    ensures { PutsInFront (signed_text characters.variant characters.case negative (spelling M.stands_for magnitude)) (most_bytes M.stands_for) room.old room.new result }
+    ensures { PutsInFront
+        (signed_text characters.variant characters.case negative (spelling M.stands_for magnitude))
+        (most_bytes M.stands_for) room.old room.new result }
 {
     let mut taken = [0; MOST];
     let text = Spelled::<M>::of(&mut taken, characters, negative, magnitude);
@@ -36,7 +38,9 @@ fn put_magnitude(
     magnitude: u128,
 ) -> usize
     requires { IsTrue (is_printable method (pos magnitude)) }
-    ensures { PutsInFront (signed_text characters.variant characters.case negative (spelling method magnitude)) (most_bytes method) room.old room.new result }
+    ensures { PutsInFront
+        (signed_text characters.variant characters.case negative (spelling method magnitude))
+        (most_bytes method) room.old room.new result }
 {
     match method {
         ChineseCountMethod::Low => put_signed::<ByLow>(room, characters, negative, magnitude),
@@ -48,8 +52,8 @@ fn put_magnitude(
     }
 }
 
-/// The spelling of a number that the method writes, at the front of a room, where it fits; the result is how
-/// many bytes it has.
+/// The spelling of a number that the method writes, at the front of a room, where it fits; the
+/// result is how many bytes it has.
 pub fn put_by_units<T: Whole>(
     room: &mut [u8],
     variant: ChineseVariant,
@@ -58,7 +62,8 @@ pub fn put_by_units<T: Whole>(
     value: T,
 ) -> usize
     requires { IsTrue (is_printable method (T.number value)) }
-    ensures { PutsInFront (spelled_text variant case method (T.number value)) (most_bytes method) room.old room.new result }
+    ensures { PutsInFront (spelled_text variant case method (T.number value)) (most_bytes method)
+        room.old room.new result }
 {
     let characters = Characters::new(variant, case);
     put_magnitude(

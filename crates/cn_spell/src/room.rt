@@ -36,12 +36,14 @@ impl<'a> Room<'a> {
         ensures lender { self.new.bytes.ghost_name ≡ self.old.bytes.ghost_name }
         ensures length { length self.new.bytes.now ≡ length self.old.bytes.now }
         ensures free { self.new.free ≡ self.old.free - 3 }
-        ensures text { drop self.new.free self.new.bytes.now ≡ character ++ drop self.old.free self.old.bytes.now }
+        ensures text { drop self.new.free self.new.bytes.now
+            ≡ character ++ drop self.old.free self.old.bytes.now }
     {
         self.put_if(true, character);
     }
 
-    /// Puts it there where it is kept; its bytes are written in either case, so that nothing branches.
+    /// Puts it there where it is kept; its bytes are written in either case, so that nothing
+    /// branches.
     #[inline(always)]
     pub fn put_if(&mut self, is_kept: bool, character: [u8; 3])
         requires { 3 ≤ self.old.free }
@@ -49,7 +51,8 @@ impl<'a> Room<'a> {
         ensures length { length self.new.bytes.now ≡ length self.old.bytes.now }
         ensures free { self.new.free ≡ (if is_kept then self.old.free - 3 else self.old.free) }
         ensures text { drop self.new.free self.new.bytes.now
-            ≡ (if is_kept then character ++ drop self.old.free self.old.bytes.now else drop self.old.free self.old.bytes.now) }
+            ≡ (if is_kept then character ++ drop self.old.free self.old.bytes.now
+            else drop self.old.free self.old.bytes.now) }
     {
         let start = self.free - 3;
         self.bytes[start] = character[0];

@@ -12,7 +12,8 @@ pub fn put_sign(room: &mut Room, characters: Characters, negative: bool)
     requires { 3 * sign_count negative ≤ room.old.free }
     ensures lender { room.new.bytes.ghost_name ≡ room.old.bytes.ghost_name }
     ensures shows { (rest : List ℕ) → Shows room.old.free room.old.bytes.now rest
-        → Shows room.new.free room.new.bytes.now (sign_characters characters.variant negative ++ rest) }
+        → Shows room.new.free room.new.bytes.now
+        (sign_characters characters.variant negative ++ rest) }
 {
     if negative {
         room.put(characters.minus());

@@ -1,4 +1,13 @@
 // A magnitude's spelling, written from its lowest digit up.
+//
+// 100_100_000 by `TenThousand` has the groups 0000, 0010 and, in front of them, 1. What is put,
+// from the last character to the first:
+//
+//     0000   nothing
+//     0010   萬, the group's own unit, which nothing is written below; then 十 and 一
+//     1      億, its unit, and 零 in front of 一十萬, since the group below has no 千; then 一
+//
+// So the text is 一億零一十萬.
 ghost use Rattle.std.specs.Prelude.{◌≡◌, ℕ, ◌+◌, ◌*◌, ◌%◌, ◌^◌, ◌<◌, ◌≤◌, List, [], ◌++◌, length};
 ghost use Rattle.cn_core.specs.Mark.{Mark};
 ghost use Rattle.cn_core.specs.Spelling.{spelling};
@@ -12,8 +21,8 @@ use crate::places::{put_group, put_places};
 use crate::units::{unit_at, widths};
 use cn_core::ChineseCountMethod;
 
-// Puts the units that a digit at a place stands before, in front of what is written: it has digits at the
-// places below `filled` alone. 零 stands behind them where the next place below is empty.
+// Puts the units that a digit at a place stands before, in front of what is written: it has digits
+// at the places below `filled` alone. 零 stands behind them where the next place below is empty.
 #[inline(always)]
 fn put_units<P: Pen>(
     pen: &mut P,
@@ -42,8 +51,8 @@ fn put_units<P: Pen>(
     }
 }
 
-// The same for a group that begins at the place, soon done where the group below is not empty: then the
-// group's own unit is the only one.
+// The same for a group that begins at the place, soon done where the group below is not empty: then
+// the group's own unit is the only one.
 #[inline(always)]
 fn put_front<P: Pen>(
     pen: &mut P,
@@ -98,8 +107,10 @@ pub fn put_spelling<P: Pen>(
     requires room { 3 * length (spelling method groups.now.number) ≤ P.left pen.old }
     requires empty { P.shows pen.old characters.variant characters.case [] }
     ensures lender { P.lender pen.new ≡ P.lender pen.old }
-    ensures room { P.left pen.new + 3 * length (spelling method groups.now.number) ≡ P.left pen.old }
-    ensures marks { P.shows pen.new characters.variant characters.case (spelling method groups.now.number) }
+    ensures room { P.left pen.new + 3 * length (spelling method groups.now.number)
+        ≡ P.left pen.old }
+    ensures marks { P.shows pen.new characters.variant characters.case
+        (spelling method groups.now.number) }
 {
     let mut filled = 0;
     for index in 0..groups.count {

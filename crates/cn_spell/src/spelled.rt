@@ -38,7 +38,9 @@ impl<'a, M: KnownMethod> Spelled<'a, M> {
         magnitude: u128,
     ) -> Self
         requires { IsTrue (is_printable M.stands_for (pos magnitude)) }
-        ensures says { ⟦<Spelled<'a, M> as Text>⟧.says result ≡ signed_text characters.variant characters.case negative (spelling M.stands_for magnitude) }
+        ensures says { ⟦<Spelled<'a, M> as Text>⟧.says result
+            ≡ signed_text characters.variant characters.case negative
+            (spelling M.stands_for magnitude) }
         ensures most { ⟦<Spelled<'a, M> as Text>⟧.most result ≡ most_bytes M.stands_for }
     {
         Spelled {
@@ -51,7 +53,9 @@ impl<'a, M: KnownMethod> Spelled<'a, M> {
 }
 
 impl<M: KnownMethod> Text for Spelled<'_, M> {
-    ghost says = { λ spelled. signed_text spelled.characters.variant spelled.characters.case spelled.negative (spelling M.stands_for spelled.groups.number) };
+    ghost says = { λ spelled.
+        signed_text spelled.characters.variant spelled.characters.case spelled.negative
+        (spelling M.stands_for spelled.groups.number) };
 
     ghost most = { λ spelled. most_bytes M.stands_for };
 

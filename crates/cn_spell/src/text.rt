@@ -38,7 +38,8 @@ pub fn new_string<X: Text, A: Allocator>(alloc: A, text: &X) -> Result<String<A>
     Ok(unsafe { String::from_utf8_unchecked(bytes) })
 }
 
-/// The text at the front of a room, where it fits. The result is how many bytes it has, in either case.
+/// The text at the front of a room, where it fits. The result is how many bytes it has, in either
+/// case.
 #[inline(always)]
 pub fn put_in_front<X: Text>(room: &mut [u8], text: &X) -> usize
     ensures { PutsInFront (X.says text.now) (X.most text.now) room.old room.new result }

@@ -18,7 +18,8 @@ front_limit method = 10 ^ 4
 pub record HoldsGroups (number : ℕ) (groups : List ℕ) (count front : ℕ) : Type 0 where
   pub few : count ≤ 9
   pub split : front ≡ number / 10 ^ (4 * count)
-  pub each : (index : ℕ) → index < count → slice_index groups index ≡ number / 10 ^ (4 * index) % 10 ^ 4
+  pub each : (index : ℕ) → index < count
+      → slice_index groups index ≡ number / 10 ^ (4 * index) % 10 ^ 4
   pub some : 0 < count → 0 < front
 
 -- a mark where it is kept
@@ -27,7 +28,9 @@ kept is_kept mark = if is_kept then mark ∷ [] else []
 
 -- a digit at a place with a unit of its own: nothing for 0, but 零 where that is asked for
 abbrev pub place_marks : ℕ → ℕ → Bool → List Mark
-place_marks place value is_gap = kept (nat_lt 0 value || is_gap) (digit value) ++ kept (nat_lt 0 value && nat_lt 0 place) (unit place)
+place_marks place value is_gap =
+    kept (nat_lt 0 value || is_gap) (digit value)
+    ++ kept (nat_lt 0 value && nat_lt 0 place) (unit place)
 
 -- a group: 零 stands at a place of 0 over one that is not, where the group has a digit in front
 abbrev pub group_marks : ℕ → List Mark
@@ -40,4 +43,5 @@ group_marks group =
 -- the highest digit and its unit, but no 一 before 十
 abbrev pub top_marks : ℕ → ℕ → List Mark
 top_marks place value =
-    (if value == 1 && place == 1 then [] else digit value ∷ []) ++ kept (nat_lt 0 place) (unit place)
+    (if value == 1 && place == 1 then [] else digit value ∷ [])
+    ++ kept (nat_lt 0 place) (unit place)

@@ -19,10 +19,17 @@ places_within method = 39
 -- the rank of the unit whose group begins at a place
 abbrev pub rank_at : ChineseCountMethod → ℕ → ℕ
 rank_at Low place = place
-rank_at TenThousand place = if place % 4 == 0 then (if place == 0 then 0 else place / 4 + 3) else place % 4
-rank_at Middle place = if place % 4 == 0 then (if place % 8 == 0 then (if place == 0 then 0 else place / 8 + 4) else 4) else place % 4
+rank_at TenThousand place =
+    if place % 4 == 0 then (if place == 0 then 0 else place / 4 + 3) else place % 4
+rank_at Middle place =
+    if place % 4 == 0
+    then (if place % 8 == 0 then (if place == 0 then 0 else place / 8 + 4) else 4)
+    else place % 4
 rank_at High place =
-    if place % 4 == 0 then (if place % 8 == 0 then (if place % 16 == 0 then (if place == 0 then 0 else place / 32 + 6) else 5) else 4)
+    if place % 4 == 0
+    then (if place % 8 == 0
+    then (if place % 16 == 0 then (if place == 0 then 0 else place / 32 + 6) else 5)
+    else 4)
     else place % 4
 
 -- where the group of this width begins that holds the place
@@ -32,16 +39,20 @@ start_of width place = place - place % width
 -- the unit at a start, and 零 where the places from `filled` on are empty below it
 abbrev pub unit_front : ChineseCountMethod → ℕ → ℕ → ℕ → List Mark
 unit_front method filled above start =
-    unit (rank_at method start) ∷ (if above == filled && nat_lt filled start then digit 0 ∷ [] else [])
+    unit (rank_at method start)
+    ∷ (if above == filled && nat_lt filled start then digit 0 ∷ [] else [])
 
--- the units of the groups of these widths that hold the place: those that begin above what is written
+-- the units of the groups of these widths that hold the place: those that begin above what is
+-- written
 abbrev pub units_over : ChineseCountMethod → ℕ → ℕ → ℕ → List ℕ → List Mark
 units_over method place filled above [] = []
 units_over method place filled above (width ∷ widths) =
     if nat_le above (start_of width place)
-    then units_over method place filled (start_of width place + 1) widths ++ unit_front method filled above (start_of width place)
+    then units_over method place filled (start_of width place + 1) widths
+    ++ unit_front method filled above (start_of width place)
     else units_over method place filled above widths
 
--- what stands between the digit of a place and what is written, whose digits fill the places below `filled`
+-- what stands between the digit of a place and what is written, whose digits fill the places below
+-- `filled`
 abbrev pub front : ChineseCountMethod → ℕ → ℕ → List Mark
 front method place filled = units_over method place filled (max filled 1) (widths_of method)

@@ -15,10 +15,10 @@ pub loop-place-preserved : goal.loop-place-preserved
 loop-place-preserved c =
     let l = c.loop-place in
     let characters = c.args.self.now.characters in
-    let places : List ℕ = places_of c.args.self.now.digits.now in
+    let places : List ℕ = places_of c.args.self.now.digits in
     let less : l.place < length places = omega (arith, c.len-place-end.ensures.len, c.loop-place-test.true) in
     let put = c.put.ensures in
-    let three : 3 ≤ l.room.free = omega (arith, l.invariant.free, less, c.requires, length-naive characters.variant characters.case c.args.self.now.negative c.args.self.now.digits.now) in
+    let three : 3 ≤ l.room.free = omega (arith, l.invariant.free, less, c.requires, length-naive characters.variant characters.case c.args.self.now.negative c.args.self.now.digits) in
     record {
       shows = rw (digit_characters-more characters.variant characters.case places l.place less)
           (Shows-if true (digit_char characters.variant characters.case (slice_index places l.place)) three put.free put.text put.length
@@ -34,11 +34,11 @@ returns-clause-bytes c =
     let self = c.args.self.now in
     let variant = self.characters.variant in
     let case = self.characters.case in
-    let places : List ℕ = places_of self.digits.now in
+    let places : List ℕ = places_of self.digits in
     let room = c.put_sign.new.room in
     let end : l.place ≡ length places = omega (arith, c.len-place-end.ensures.len, l.auto.place-end, c.loop-place-test.false) in
-    let shown : sign_characters variant self.negative ++ digit_characters variant case (take l.place places) ≡ signed_text variant case self.negative (decimal_digits self.digits.now) =
-    ap (λ digits. sign_characters variant self.negative ++ digit_characters variant case digits) (take_all l.place places (omega (arith, end))) ∙ naive-is variant case self.negative self.digits.now in
-    let shows : Shows room.free room.bytes.now (signed_text variant case self.negative (decimal_digits self.digits.now)) =
+    let shown : sign_characters variant self.negative ++ digit_characters variant case (take l.place places) ≡ signed_text variant case self.negative (decimal_digits self.digits) =
+    ap (λ digits. sign_characters variant self.negative ++ digit_characters variant case digits) (take_all l.place places (omega (arith, end))) ∙ naive-is variant case self.negative self.digits in
+    let shows : Shows room.free room.bytes.now (signed_text variant case self.negative (decimal_digits self.digits)) =
     subst (λ cs. Shows room.free room.bytes.now cs) shown (c.put_sign.ensures.shows _ l.invariant.shows) in
     search (rules, shows, Shows-full)
