@@ -1,12 +1,13 @@
 #!/usr/bin/env python3
-"""The codes and statuses by which other languages call the library: those of the sources of `cn_c`, in each language.
+"""The codes, statuses and error texts of the library's other faces: those of its own sources.
 
 Usage: codes.py CN_C BINDINGS
 
 The tables of `codes.rt` give a type, way, script or case its place as its code, and `status.rt`
 names the statuses. The header, the Rust crate and the Python file name each of them once, with the
 same number, and no other. Alike, too, are the most bytes of a text, which a clause of `printing.rt`
-bounds, and the version of all three.
+bounds, and the version of all three. The texts of refusals are those of `Refusal.antt` wherever
+they are written again.
 """
 import re
 import sys
@@ -30,6 +31,16 @@ VERSIONS = (
     ("rust/Cargo.toml", r'^version = "(.*)"'),
     (PYTHON, r'^__version__ = "(.*)"'),
 )
+# Where the texts of refusals are written again, from the repository's top.
+REFUSALS = "crates/cn_core/specs/Refusal.antt"
+OF_READERS = (
+    "bindings/rust/src/read.rs",
+    "bindings/python/chinese_number.py",
+    "bindings/web/chinese-number.mjs",
+    "crates/numeral/src/main.rt",
+    "docs/RULES.md",
+)
+OF_PRINTERS = ("bindings/rust/src/print.rs",)
 
 
 def text_of(path):
@@ -69,6 +80,19 @@ def of_language(language, text):
     return found
 
 
+def compare_refusals(top):
+    """Each text of a refusal, up to the position that one of them has, stands in each file."""
+    found = re.findall(r'^refusal_text \S.*?codes "([^"(]*)', text_of(top / REFUSALS), re.M | re.S)
+    texts = [text.strip() for text in found]
+    if len(texts) != 4:
+        sys.exit(f"codes: {REFUSALS} has the texts {texts}, and not four")
+    for files, wanted in ((OF_READERS, texts), (OF_PRINTERS, texts[2:])):
+        for file in files:
+            for text in wanted:
+                if not re.search(f"(?:[\"'`]|err ){text}", text_of(top / file)):
+                    sys.exit(f"codes: {file} lacks the text {text!r} of {REFUSALS}")
+
+
 def main():
     if len(sys.argv) != 3 or sys.argv[1].startswith("-"):
         sys.exit(__doc__)
@@ -88,6 +112,7 @@ def main():
     versions.add(".".join(re.findall(r"^#define CN_VERSION_\w+ (\d+)", texts[HEADER], re.MULTILINE)))
     if len(versions) != 1:
         sys.exit(f"codes: versions {sorted(versions)}")
+    compare_refusals(bindings.resolve().parent)
     print(f"codes: {sum(map(len, wanted))} codes and statuses, alike in C, Rust and Python, of version {versions.pop()}")
 
 
