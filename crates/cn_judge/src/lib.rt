@@ -5,7 +5,6 @@
 //! hands on the error; the quick way is public so that `cn_vectors` can hold it against what printers write.
 #![tactic(auto)]
 
-mod ends;
 mod error;
 mod mark;
 mod naive;
