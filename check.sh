@@ -21,6 +21,7 @@ time python3 checks/names.py crates bindings/rust/tests/interface.rs
 time python3 checks/edits.py crates
 time python3 checks/codes.py crates/cn_c bindings
 time python3 checks/quotes.py README.md bindings
+time python3 checks/mark_table.py crates/cn_core/src/characters_read.rt --check crates/cn_judge/src/mark.rt
 time gate
 
 # The programs that the gate has proved and built.

@@ -62,9 +62,9 @@ is_false false h = refl
 
 -- the slot of a key
 abbrev pub slot : ℕ → ℕ
-slot key = key * 9487029 / 16777216 % 256
+slot key = key * 953497 / 33554432 % 128
 
-pub slot-low : (key : ℕ) → slot key < 256
+pub slot-low : (key : ℕ) → slot key < 128
 slot-low key = omega arith
 
 five : (a b c d e : Bool) → (a && b && c && d && e) ≡ true → (a ≡ true) × (b ≡ true) × (c ≡ true) × (d ≡ true) × (e ≡ true)
@@ -87,27 +87,27 @@ entry-right entry h =
       lt : (a b : ℕ) → nat_lt a b ≡ true → a < b
       lt a b h = grind (arith, nat_tests)
 
--- the entry whose key is that of three bytes
-pub entry-known : (first second third key : ℕ) (entry : ℕ × ReadMark) → first < 256 → second < 256 → third < 256 → key ≡ first + second * 256 + third * 65536
-    → entry ≡ get_or MARKS (slot key) entry → entry.0 ≡ key → IsKnown first second third entry.1
-entry-known first second third key entry a b c is at found =
+-- the entry at the slot of its key
+pub entry-known : (key : ℕ) (entry : ℕ × ReadMark) → entry ≡ get_or MARKS (slot key) entry → entry.0 ≡ key → IsKnown key entry.1
+entry-known key entry at found =
     let right = entry-right entry (ap is_right at ∙ all_at is_right MARKS (slot key) entry all_right (slot-low key)) in
-    let one : entry.0 % 256 ≡ first = omega (arith, a, b, c, is, found) in
-    let two : entry.0 / 256 % 256 ≡ second = omega (arith, a, b, c, is, found) in
-    let three : entry.0 / 65536 ≡ third = omega (arith, a, b, c, is, found) in
     record {
       code = code_of entry.0;
-      sum = (let heavy = right.2 in omega (arith, heavy, one, two, three));
-      low = (let low = right.3 in omega (arith, low, one));
-      high = (let high = right.4 in omega (arith, high, one));
+      sum = (let heavy = right.2 in omega (arith, heavy, found));
+      low = (let low = right.3 in omega (arith, low, found));
+      high = (let high = right.4 in omega (arith, high, found));
       mark_is = right.0;
       dark = right.1;
     }
 
--- the bytes of a character
-pub known-code : (code : ℕ) (result : Option ReadMark) → IfSome result (IsKnown (224 + code / 64 / 64) (128 + code / 64 % 64) (128 + code % 64)) → IfSome result (λ mark. marked mark ≡ mark_of code)
-known-code code None k = tt
-known-code code (Some mark) k =
+-- the key of a character
+pub known-code : (code key : ℕ) (result : Option ReadMark) → code < 65536 → key ≡ 224 + code / 64 / 64 + (128 + code / 64 % 64) * 256 + (128 + code % 64) * 65536
+    → IfSome result (IsKnown key) → IfSome result (λ mark. marked mark ≡ mark_of code)
+known-code code key None low is k = tt
+known-code code key (Some mark) low is k =
     let sum = k.sum in
-    let same : k.code ≡ code = omega (arith, sum) in
+    let one : key % 256 ≡ 224 + code / 64 / 64 = omega (arith, is, low) in
+    let two : key / 256 % 256 ≡ 128 + code / 64 % 64 = omega (arith, is, low) in
+    let three : key / 65536 ≡ 128 + code % 64 = omega (arith, is, low) in
+    let same : k.code ≡ code = omega (arith, sum, one, two, three) in
     k.mark_is ∙ ap mark_of same

@@ -1,5 +1,5 @@
 -- The steps of a walk over a regular numeral, by the definitions of numerals and of their value.
-use Rattle.std.proofs.Common.{◌≡◌, ◌⊎◌, inl, inr, ℕ, ◌+◌, ◌-◌, ◌*◌, ◌^◌, ◌<◌, ◌≤◌, Bool, true, false, not, ◌&&◌, ◌||◌, ◌==◌, nat_le, nat_lt, List, [], ◌∷◌, ◌++◌, length, map, filter, chars, append_assoc, append-nil, Option, Some, None, IfSome, Ok, refl, sym, ap, ◌∙◌, arith, if◌then◌else◌}
+use Rattle.std.proofs.Common.{◌≡◌, ◌⊎◌, inl, inr, ℕ, ◌+◌, ◌*◌, ◌^◌, ◌<◌, ◌≤◌, Bool, true, false, not, ◌&&◌, ◌||◌, ◌==◌, nat_le, nat_lt, List, [], ◌∷◌, ◌++◌, length, map, filter, chars, append_assoc, append-nil, Option, Some, None, IfSome, Ok, refl, sym, ap, ◌∙◌, arith, if◌then◌else◌}
 use Rattle.std.specs.Char.{is_whitespace, is_not_whitespace}
 use Rattle.std.specs.List.{list_all}
 use Rattle.std.specs.Option.{option_map_or}
@@ -332,11 +332,11 @@ stepped-more method bytes ahead before held left state next c mark s parts is da
 }
 
 -- the whole string, once its first character is read
-pub stepped-all : (method : ChineseCountMethod) (bytes ahead before : List ℕ) (held : List Group) (state : QuickState) (c : ℕ) (mark : Mark) (result : Option ℕ)
-    → (s : HasStepped method bytes ahead held state) → chars ahead ≡ chars before ++ c ∷ [] → mark ≡ mark_of c → is_whitespace c ≡ false → length before ≡ 0
+pub stepped-all : (method : ChineseCountMethod) (bytes ahead rest : List ℕ) (held : List Group) (state : QuickState) (c : ℕ) (mark : Mark) (result : Option ℕ)
+    → (s : HasStepped method bytes ahead held state) → chars ahead ≡ c ∷ chars rest → mark ≡ mark_of c → is_whitespace c ≡ false → length rest ≡ 0
     → IfSome result (λ n. Judges method (mark ∷ marks_of s.after) (Ok n)) → IfSome result (λ n. Judges method (marks_of (text_of bytes)) (Ok n))
-stepped-all method bytes ahead before held state c mark None s parts is dark none h = tt
-stepped-all method bytes ahead before held state c mark (Some n) s parts is dark none h =
-    let all : chars bytes ≡ c ∷ s.after = s.parts ∙ ap (λ l. l ++ s.after) (parts ∙ ap (λ l. l ++ c ∷ []) (chars-from_empty before none)) in
+stepped-all method bytes ahead rest held state c mark None s parts is dark none h = tt
+stepped-all method bytes ahead rest held state c mark (Some n) s parts is dark none h =
+    let all : chars bytes ≡ c ∷ s.after = s.parts ∙ ap (λ l. l ++ s.after) (parts ∙ ap (λ l. c ∷ l) (chars-from_empty rest none)) in
     let text : text_of bytes ≡ c ∷ s.after = ap (filter is_not_whitespace) all ∙ dark-more c s.after dark s.dark in
     rw text (rw is at h)

@@ -1,5 +1,6 @@
 -- Characters of three bytes, by what the bytes add up to.
-use Rattle.std.proofs.Common.{◌≡◌, ℕ, ◌+◌, ◌*◌, ◌/◌, ◌<◌, ◌≤◌, Bool, true, false, cond, ltb, List, [], ◌∷◌, ◌++◌, length, get_or, take, drop, chars, encode_utf8, IsUtf8, refl, sym, ap, ◌∙◌, subst, arith, append-nil, add-zero, length-drop}
+use Rattle.std.proofs.Common.{◌≡◌, ℕ, ◌+◌, ◌*◌, ◌/◌, ◌%◌, ◌<◌, ◌≤◌, Bool, true, false, cond, ltb, List, [], ◌∷◌, ◌++◌, length, get_or, take, drop, chars, encode_utf8, IsUtf8, refl, sym, ap, ◌∙◌, subst, arith, append-nil, add-zero, length-drop}
+use Rattle.std.specs.Int.{w32, from_le_bytes}
 use Rattle.std.specs.Str.{IsCharBoundary}
 use Rattle.std.proofs.lemmas.Str.{IsUtf8-take, IsUtf8-drop, IsUtf8-past_char, IsCharBoundary-from_drop, chars_past_char}
 use Rattle.std.proofs.lemmas.List.{take-append-drop}
@@ -94,3 +95,34 @@ last-three bytes before start a b d code whole boundary long cut p q r low sum =
       is_nil : (xs : List ℕ) → length xs ≡ 0 → xs ≡ []
       is_nil [] e = refl
       is_nil (x ∷ xs) e = absurd (omega (arith, e))
+
+-- a key by its bytes, the first of them lowest
+pub record HasBytes (key a b d : ℕ) : Type 0 where
+  pub one : key % 256 ≡ a
+  pub two : key / 256 % 256 ≡ b
+  pub three : key / 65536 ≡ d
+
+pub key-bytes : (a b d : ℕ) → a < 256 → b < 256 → HasBytes (a + b * 256 + d * 65536) a b d
+key-bytes a b d p q = record { one = omega (arith, p, q); two = omega (arith, p, q); three = omega (arith, p, q) }
+
+-- the last four bytes without the first of them
+pub word-bytes : (bytes four : List ℕ) (front start word : ℕ) → ((i : ℕ) → get_or bytes i 0 < 256) → start ≡ front + 1 → four ≡ drop front bytes → word ≡ from_le_bytes w32 four
+    → HasBytes (word / 256) (get_or bytes start 0) (get_or bytes (start + 1) 0) (get_or bytes (start + 2) 0)
+word-bytes bytes four front start word below next last is =
+    let e = at 0 front (omega arith) in
+    let f = at 1 start (omega (arith, next)) in
+    let g = at 2 (start + 1) (omega (arith, next)) in
+    let h = at 3 (start + 2) (omega (arith, next)) in
+    let p = below front in
+    let q = below start in
+    let r = below (start + 1) in
+    record {
+      one = omega (arith, is, e, f, g, h, p, q, r);
+      two = omega (arith, is, e, f, g, h, p, q, r);
+      three = omega (arith, is, e, f, g, h, p, q, r);
+    } where
+      at : (i j : ℕ) → front + i ≡ j → get_or four i 0 ≡ get_or bytes j 0
+      at i j e = ap (λ l. get_or l i 0) last ∙ get_or-drop front bytes i 0 ∙ ap (λ n. get_or bytes n 0) e
+
+pub boundary-at : (bytes : List ℕ) (start : ℕ) → start ≤ length bytes → 224 ≤ get_or bytes start 0 → IsCharBoundary bytes start
+boundary-at bytes start le low = (le, λ _ _. omega (arith, low))

@@ -20,6 +20,12 @@ chars-back bytes front c whole before parts =
     (encodes-chars bytes whole ∙ parts ∙ ap (λ l. l ++ encode_utf8 c) (sym (encodes-chars front before))
     ∙ ap (λ l. encode_utf8_all (chars front) ++ l) (sym (append-nil (encode_utf8 c))) ∙ sym (encodes-append (chars front) (c ∷ [])))
 
+-- the last character is the first
+pub only-back : (bytes after : List ℕ) (c : ℕ) → chars bytes ≡ c ∷ chars after → length after ≡ 0 → chars bytes ≡ chars after ++ c ∷ []
+only-back bytes after c parts none =
+    let empty = chars-from_empty after none in
+    parts ∙ ap (λ l. c ∷ l) empty ∙ ap (λ l. l ++ c ∷ []) (sym empty)
+
 pub filter-append : (p : ℕ → Bool) (xs ys : List ℕ) → filter p (xs ++ ys) ≡ filter p xs ++ filter p ys
 filter-append p [] ys = refl
 filter-append p (x ∷ xs) ys = elim (p x) as (λ b. cond b (x ∷ filter p (xs ++ ys)) (filter p (xs ++ ys)) ≡ cond b (x ∷ filter p xs) (filter p xs) ++ filter p ys)

@@ -6,7 +6,6 @@
 //! what printers write.
 #![tactic(auto)]
 
-mod ends;
 mod error;
 mod mark;
 mod naive;

@@ -8,11 +8,10 @@ ghost use Rattle.cn_judge.specs.Private.Piece.{answer_at};
 ghost use Rattle.cn_judge.specs.Private.PlainPiece.{IsPiece, IsRun, StartsWith, piece_len};
 
 use crate::ChineseToNumberError;
-use crate::ends::split_first_digit;
 use crate::mark::{Mark, mark_of};
 use crate::open_units::multiply_add;
 use crate::sign::{signed_answer, split_sign};
-use crate::text::split_first_char;
+use crate::text::{split_first_char, split_first_digit};
 use cn_core::Whole;
 
 // Digits that stand side by side: how many, the power of ten that they make room for, and their

@@ -13,8 +13,8 @@ struct OpenGroup {
     exponent: u8,
 }
 
-/// The units from 萬 up that are still open, the last opened on top. Their ranks fall from the bottom to the
-/// top, so there are never more than the 16 ranks.
+/// The units from 萬 up that are still open, the last opened on top. Their ranks fall from the
+/// bottom to the top, so there are never more than the 16 ranks.
 #[derive(Drop)]
 pub struct OpenGroups {
     entries: [OpenGroup; 16],

@@ -1,5 +1,6 @@
-// A quick way for regular numerals: one pass from the back over characters of three bytes, with the digits of
-// a section in 64 bits. What it does not take is left to the walk, which judges from the beginning.
+// A quick way for regular numerals: one pass from the back over characters of three bytes, with the
+// digits of a section in 64 bits. What it does not take is left to the walk, which judges from the
+// beginning.
 ghost use Rattle.std.specs.Prelude.{
   ◌≡◌,
   ◌≤◌,
@@ -30,9 +31,9 @@ ghost use Rattle.cn_core.specs.Text.{text_of, marks_of};
 ghost use Rattle.cn_judge.specs.Private.Marked.{marked, unit_mark};
 ghost use Rattle.cn_judge.specs.Private.Regular.{Group, LeavesNoTail, MayOpen, StandsRegular, first_group, top_exponent};
 
-use crate::ends::split_last_known;
 use crate::mark::Mark;
 use crate::open_groups::OpenGroups;
+use crate::text::{split_first_known, split_last_known};
 use cn_core::{ChineseCountMethod, Unit, exponent, power_of_ten};
 
 /// Where a quick walk stands between two characters.
@@ -80,14 +81,13 @@ fn place(unit: Unit) -> u64
 fn add_digit(state: QuickState, value: u8) -> Option<u64>
     ensures { IfSome result (λ sum. sum ≡ state.sum + value * 10 ^ rank state.last) }
 {
-    state
-        .sum
-        .checked_add(value as u64 * place(state.last))
+    state.sum.checked_add(value as u64 * place(state.last))
 }
 
 // The sum so far with a section that the open units multiply, if it fits.
 fn add_section(groups: &OpenGroups, total: u128, sum: u64) -> Option<u128>
-    ensures { IfSome result (λ n. (n ≡ total + sum * 10 ^ top_exponent groups.now) × (n < 2 ^ 128)) }
+    ensures { IfSome result (λ n. (n ≡ total + sum * 10 ^ top_exponent groups.now)
+        × (n < 2 ^ 128)) }
 {
     let exponent = groups.exponent();
     let size = power_of_ten(exponent)?;
@@ -109,7 +109,8 @@ fn digit_may_precede(value: u8, at_digit: bool) -> bool
 fn step_digit(state: QuickState, value: u8) -> Option<QuickState>
     requires { (method : ChineseCountMethod) × (marks : List NumeralMark) × (groups : List Group)
         × StandsRegular method marks groups state }
-    ensures { (method : ChineseCountMethod) (marks : List NumeralMark) (groups : List Group) → StandsRegular method marks groups state
+    ensures { (method : ChineseCountMethod) (marks : List NumeralMark) (groups : List Group)
+        → StandsRegular method marks groups state
         → IfSome result (StandsRegular method (digit value ∷ marks) groups) }
 {
     if !digit_may_precede(value, state.at_digit) {
@@ -123,17 +124,19 @@ fn step_digit(state: QuickState, value: u8) -> Option<QuickState>
     })
 }
 
-// Whether a unit of a section is greater than the section's last unit, and has a digit after it unless it is the
-// section's first.
+// Whether a unit of a section is greater than the section's last unit, and has a digit after it
+// unless it is the section's first.
 fn extends_section(state: QuickState, unit: Unit) -> bool
-    ensures { result ≡ (nat_lt (rank state.last) (rank unit) && (state.at_digit || rank state.last == 0)) }
+    ensures { result ≡ (nat_lt (rank state.last) (rank unit)
+        && (state.at_digit || rank state.last == 0)) }
 {
     unit > state.last && (state.at_digit || state.last == Unit::Ge)
 }
 
 // One more unit of a section.
 fn step_section_unit(state: QuickState, unit: Unit) -> Option<QuickState>
-    ensures { (method : ChineseCountMethod) (marks : List NumeralMark) (groups : List Group) → StandsRegular method marks groups state
+    ensures { (method : ChineseCountMethod) (marks : List NumeralMark) (groups : List Group)
+        → StandsRegular method marks groups state
         → rank unit < first_group method
         → LeavesNoTail (unit_mark unit) marks
         → IfSome result (StandsRegular method (unit_mark unit ∷ marks) groups) }
@@ -151,7 +154,8 @@ fn step_section_unit(state: QuickState, unit: Unit) -> Option<QuickState>
 
 // Whether a unit may open a group there; it closes what is smaller.
 fn makes_way(groups: &mut OpenGroups, state: QuickState, unit: Unit) -> bool
-    ensures { (method : ChineseCountMethod) (marks : List NumeralMark) → StandsRegular method marks groups.old state → first_group method ≤ rank unit
+    ensures { (method : ChineseCountMethod) (marks : List NumeralMark)
+        → StandsRegular method marks groups.old state → first_group method ≤ rank unit
         → IsTrue result → MayOpen method marks groups.new (rank unit) }
 {
     if state.at_digit {
@@ -169,7 +173,8 @@ fn step_group(
     state: QuickState,
     unit: Unit,
 ) -> Option<QuickState>
-    requires { (marks : List NumeralMark) × StandsRegular method marks groups.old state × (first_group method ≤ rank unit) }
+    requires { (marks : List NumeralMark) × StandsRegular method marks groups.old state
+        × (first_group method ≤ rank unit) }
     ensures { (marks : List NumeralMark) → StandsRegular method marks groups.old state
         → LeavesNoTail (unit_mark unit) marks
         → IfSome result (StandsRegular method (unit_mark unit ∷ marks) groups.new) }
@@ -198,7 +203,8 @@ fn leaves_tail(unit: Unit, state: QuickState, is_second: bool) -> bool
     unit >= Unit::Bai && state.at_digit && is_second
 }
 
-// Whether a unit opens a group: each from 萬 up does, but by `Low` none, since there each is ten of the one before.
+// Whether a unit opens a group: each from 萬 up does, but by `Low` none, since there each is ten of
+// the one before.
 fn opens_group(method: ChineseCountMethod, unit: Unit) -> bool
     ensures { result ≡ nat_le (first_group method) (rank unit) }
 {
@@ -217,7 +223,8 @@ fn step_unit(
     is_second: bool,
 ) -> Option<QuickState>
     requires { (marks : List NumeralMark) × StandsRegular method marks groups.old state }
-    ensures { (marks : List NumeralMark) → StandsRegular method marks groups.old state → is_second ≡ (length marks == 1)
+    ensures { (marks : List NumeralMark) → StandsRegular method marks groups.old state
+        → is_second ≡ (length marks == 1)
         → IfSome result (StandsRegular method (unit_mark unit ∷ marks) groups.new) }
 {
     if leaves_tail(unit, state, is_second) {
@@ -239,7 +246,8 @@ fn step(
     is_second: bool,
 ) -> Option<QuickState>
     requires { (marks : List NumeralMark) × StandsRegular method marks groups.old state }
-    ensures { (marks : List NumeralMark) → StandsRegular method marks groups.old state → is_second ≡ (length marks == 1)
+    ensures { (marks : List NumeralMark) → StandsRegular method marks groups.old state
+        → is_second ≡ (length marks == 1)
         → IfSome result (StandsRegular method (marked mark ∷ marks) groups.new) }
 {
     match mark {
@@ -251,8 +259,10 @@ fn step(
 
 // The digit at the start of a text, where 十 is ten, if what follows lets it stand there.
 fn first_digit(first: Mark, at_digit: bool) -> Option<u8>
-    ensures { (marks : List NumeralMark) → each_may_precede marks ≡ true → at_digit ≡ starts_with_digit marks
-        → IfSome result (λ value. (is_numeral (marked first ∷ marks) ≡ true) × (with_first_digit (marked first ∷ marks) ≡ digit value ∷ marks)) }
+    ensures { (marks : List NumeralMark) → each_may_precede marks ≡ true
+        → at_digit ≡ starts_with_digit marks
+        → IfSome result (λ value. (is_numeral (marked first ∷ marks) ≡ true)
+        × (with_first_digit (marked first ∷ marks) ≡ digit value ∷ marks)) }
 {
     match first {
         Mark::Digit(value) if digit_may_precede(value, at_digit) => Some(value),
@@ -263,17 +273,19 @@ fn first_digit(first: Mark, at_digit: bool) -> Option<u8>
 
 // The number of a numeral by its first character, once the others are walked.
 fn finish(groups: &OpenGroups, state: QuickState, first: Mark) -> Option<u128>
-    requires { (method : ChineseCountMethod) × (marks : List NumeralMark) × StandsRegular method marks groups.now state }
-    ensures { (method : ChineseCountMethod) (marks : List NumeralMark) → StandsRegular method marks groups.now state
+    requires { (method : ChineseCountMethod) × (marks : List NumeralMark)
+        × StandsRegular method marks groups.now state }
+    ensures { (method : ChineseCountMethod) (marks : List NumeralMark)
+        → StandsRegular method marks groups.now state
         → IfSome result (λ n. Judges method (marked first ∷ marks) (Ok n)) }
 {
     let digit = first_digit(first, state.at_digit)?;
     add_section(groups, state.total, add_digit(state, digit)?)
 }
 
-/// The number of a regular numeral: of digits and units above 個 that take three bytes each, where no last digit
-/// stands apart, a section's units rise to the front, each behind a digit, and all is within 128 bits. `None` says
-/// nothing of a text.
+/// The number of a regular numeral: of digits and units above 個 that take three bytes each, where
+/// no last digit stands apart, a section's units rise to the front, each behind a digit, and all is
+/// within 128 bits. `None` says nothing of a text.
 pub fn read_quickly(method: ChineseCountMethod, text: &str) -> Option<u128>
     ensures { IfSome result (λ n. Judges method (marks_of (text_of text.now)) (Ok n)) }
 {
@@ -286,13 +298,12 @@ pub fn read_quickly(method: ChineseCountMethod, text: &str) -> Option<u128>
     };
     let second = text.len().checked_sub(3)?;
     let mut ahead = text;
-    'walking: loop {
+    'walking: while ahead.len() > 3 {
         let (mark, before) = split_last_known(ahead)?;
-        if before.is_empty() {
-            return finish(&groups, state, mark);
-        }
         let is_second = ahead.len() == second;
         state = step(method, &mut groups, state, mark, is_second)?;
         ahead = before;
     }
+    let (first, _) = split_first_known(ahead)?;
+    finish(&groups, state, first)
 }

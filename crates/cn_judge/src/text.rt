@@ -1,12 +1,34 @@
-// Walking a text: its characters from either end, and those that are no white space.
-ghost use Rattle.std.specs.Prelude.{◌≡◌, ◌+◌, ◌*◌, ◌<◌, ◌≤◌, [], ◌∷◌, ◌++◌, length, chars, false, IfSome, IfNone, MatchOption};
-ghost use Rattle.cn_core.specs.Text.{text_of};
+// Walking a text: its characters from either end, and those that are no white space. Their marks
+// too: of characters of three bytes quickly, of any other as it comes.
+ghost use Rattle.std.specs.Prelude.{
+  ◌≡◌,
+  ℕ,
+  ◌+◌,
+  ◌*◌,
+  ◌<◌,
+  ◌≤◌,
+  [],
+  ◌∷◌,
+  ◌++◌,
+  length,
+  chars,
+  false,
+  IfSome,
+  IfNone,
+  MatchOption,
+};
 ghost use Rattle.std.specs.Char.{is_whitespace};
+ghost use Rattle.cn_core.specs.Mark.{digit, mark_of};
+ghost use Rattle.cn_core.specs.Text.{text_of};
+ghost use Rattle.cn_judge.specs.Private.Marked.{marked};
 ghost use Rattle.cn_judge.specs.Private.Piece.{StandsAt, EndsWith};
+
+use crate::mark::{Mark, known_mark, mark_of};
 
 /// The first character, and what stands after it.
 pub fn split_first_char(text: &str) -> Option<(char, &str)>
-    ensures parts { MatchOption result (chars text.now ≡ []) (λ r. chars text.now ≡ r.0 ∷ chars r.1.now) }
+    ensures parts { MatchOption result (chars text.now ≡ [])
+        (λ r. chars text.now ≡ r.0 ∷ chars r.1.now) }
     ensures shorter { IfSome result (λ r. length r.1.now < length text.now) }
 {
     let mut chars = text.chars();
@@ -31,7 +53,8 @@ pub fn split_first(text: &str) -> Option<First<'_>>
     ensures parts { MatchOption result (text_of text.now ≡ [])
         (λ first. StandsAt text.now (first.character ∷ chars first.rest.now) first.skipped 0) }
     ensures dark { IfSome result (λ first. is_whitespace first.character ≡ false) }
-    ensures within { IfSome result (λ first. first.skipped + length first.rest.now < length text.now) }
+    ensures within { IfSome result
+        (λ first. first.skipped + length first.rest.now < length text.now) }
 {
     let mut rest = text;
     let mut skipped = 0;
@@ -51,7 +74,8 @@ pub fn split_first(text: &str) -> Option<First<'_>>
 
 /// The last character, and what stands before it.
 pub fn split_last_char(text: &str) -> Option<(char, &str)>
-    ensures parts { MatchOption result (chars text.now ≡ []) (λ r. chars text.now ≡ chars r.1.now ++ r.0 ∷ []) }
+    ensures parts { MatchOption result (chars text.now ≡ [])
+        (λ r. chars text.now ≡ chars r.1.now ++ r.0 ∷ []) }
     ensures shorter { IfSome result (λ r. length r.1.now < length text.now) }
 {
     let mut chars = text.chars();
@@ -83,4 +107,94 @@ pub fn count_chars(text: &str) -> usize
     ensures within { result ≤ length text.now }
 {
     text.chars().count()
+}
+
+/// The mark of the last character where the table of marks has it, and what stands before it. The
+/// character and the byte in front are loaded at once, so a text of one character is left to
+/// `split_first_known`.
+#[inline(always)]
+pub fn split_last_known(text: &str) -> Option<(Mark, &str)>
+    ensures parts { IfSome result (λ r. (c : ℕ) × (chars text.now ≡ chars r.1.now ++ c ∷ [])
+        × (marked r.0 ≡ mark_of c) × (is_whitespace c ≡ false)) }
+    ensures shorter { IfSome result (λ r. length r.1.now + 3 ≡ length text.now) }
+{
+    let bytes = text.as_bytes();
+    let four = bytes.last_chunk::<4>()?;
+    let mark = known_mark(u32::from_le_bytes(*four) / 256)?;
+    let (before, _) = text.split_at(bytes.len() - 3);
+    Some((mark, before))
+}
+
+/// The mark of the first character where the table of marks has it, and what stands after it.
+#[inline(always)]
+pub fn split_first_known(text: &str) -> Option<(Mark, &str)>
+    ensures parts { IfSome result (λ r. (c : ℕ) × (chars text.now ≡ c ∷ chars r.1.now)
+        × (marked r.0 ≡ mark_of c) × (is_whitespace c ≡ false)) }
+    ensures shorter { IfSome result (λ r. length r.1.now + 3 ≡ length text.now) }
+{
+    let bytes = text.as_bytes();
+    if bytes.len() < 3 {
+        return None;
+    }
+    let key = bytes[0] as u32 + bytes[1] as u32 * 256 + bytes[2] as u32 * 65_536;
+    let mark = known_mark(key)?;
+    let (_, after) = text.split_at(3);
+    Some((mark, after))
+}
+
+// The mark of the only character where the table of marks has it, and the nothing before it.
+#[inline(always)]
+fn split_only_known(text: &str) -> Option<(Mark, &str)>
+    ensures parts { IfSome result (λ r. (c : ℕ) × (chars text.now ≡ chars r.1.now ++ c ∷ [])
+        × (marked r.0 ≡ mark_of c) × (is_whitespace c ≡ false)) }
+    ensures shorter { IfSome result (λ r. length r.1.now + 3 ≡ length text.now) }
+{
+    if text.len() > 3 {
+        return None;
+    }
+    let (mark, after) = split_first_known(text)?;
+    Some((mark, after))
+}
+
+/// The mark of the last character that is no white space, and what stands before it.
+#[inline(always)]
+pub fn split_last_mark(text: &str) -> Option<(Mark, &str)>
+    ensures parts { IfSome result (λ r. (c : ℕ) × EndsWith text.now c r.1.now
+        × (marked r.0 ≡ mark_of c)) }
+    ensures none { IfNone result (text_of text.now ≡ []) }
+    ensures shorter { IfSome result (λ r. length r.1.now < length text.now) }
+{
+    if let Some((mark, before)) = split_last_known(text) {
+        return Some((mark, before));
+    }
+    if let Some((mark, before)) = split_only_known(text) {
+        return Some((mark, before));
+    }
+    split_last_slowly(text)
+}
+
+// The same, whatever the character.
+fn split_last_slowly(text: &str) -> Option<(Mark, &str)>
+    ensures parts { IfSome result (λ r. (c : ℕ) × EndsWith text.now c r.1.now
+        × (marked r.0 ≡ mark_of c)) }
+    ensures none { IfNone result (text_of text.now ≡ []) }
+    ensures shorter { IfSome result (λ r. length r.1.now < length text.now) }
+{
+    match split_last(text) {
+        Some((c, before)) => Some((mark_of(c), before)),
+        None => None,
+    }
+}
+
+/// The first character where it is a digit of three bytes, and what stands after it.
+#[inline(always)]
+pub fn split_first_digit(text: &str) -> Option<(u8, &str)>
+    ensures parts { IfSome result (λ r. (c : ℕ) × (chars text.now ≡ c ∷ chars r.1.now)
+        × (digit r.0 ≡ mark_of c)) }
+    ensures shorter { IfSome result (λ r. length r.1.now < length text.now) }
+{
+    match split_first_known(text) {
+        Some((Mark::Digit(value), after)) => Some((value, after)),
+        _ => None,
+    }
 }

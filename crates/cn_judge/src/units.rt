@@ -32,12 +32,11 @@ ghost use Rattle.cn_judge.specs.Private.Piece.{EndsWith};
 ghost use Rattle.cn_judge.specs.Private.Walk.{digit_next, walked_answer, HasNoTail, HasTail};
 
 use crate::ChineseToNumberError;
-use crate::ends::split_last_mark;
 use crate::mark::{Mark, mark_of};
 use crate::open_units::OpenUnits;
 use crate::quick::read_quickly;
 use crate::sign::{signed_answer, split_sign};
-use crate::text::{count_chars, split_first};
+use crate::text::{count_chars, split_first, split_last_mark};
 use crate::walk::{separates_digits, walk};
 use cn_core::{ChineseCountMethod, Unit, Whole, scale};
 

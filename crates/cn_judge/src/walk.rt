@@ -12,10 +12,9 @@ ghost use Rattle.cn_judge.specs.Private.Walk.{faults, digit_next, unit_next, mul
 ghost use Rattle.cn_judge.specs.Private.Walked.{IsWalked};
 
 use crate::ChineseToNumberError;
-use crate::ends::split_last_mark;
 use crate::mark::Mark;
 use crate::open_units::OpenUnits;
-use crate::text::count_chars;
+use crate::text::{count_chars, split_last_mark};
 use cn_core::{ChineseCountMethod, Unit, scale};
 
 /// Where a walk stands between two characters.

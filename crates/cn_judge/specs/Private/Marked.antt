@@ -1,5 +1,5 @@
 -- A mark of the code, as the definitions of numerals speak of it.
-use Rattle.std.specs.Prelude.{◌≡◌, ℕ, ◌+◌, ◌*◌, ◌<◌, ◌≤◌, false}
+use Rattle.std.specs.Prelude.{◌≡◌, ℕ, ◌+◌, ◌*◌, ◌/◌, ◌%◌, ◌<◌, ◌≤◌, false}
 use Rattle.std.specs.Char.{is_whitespace}
 use Rattle.cn_core.specs.declared.unit.Unit.{Unit as NumeralUnit}
 use Rattle.cn_core.specs.Characters.{rank}
@@ -17,11 +17,11 @@ marked Other = other
 abbrev pub unit_mark : NumeralUnit → Mark
 unit_mark which = unit (rank which)
 
--- these three bytes are a character that is no white space, and this is its mark
-pub record IsKnown (first second third : ℕ) (mark : ReadMark) : Type 0 where
+-- the bytes with this key, the first of them lowest, are a character that is no white space, and this is its mark
+pub record IsKnown (key : ℕ) (mark : ReadMark) : Type 0 where
   pub code : ℕ
-  pub sum : code + 925824 ≡ first * 4096 + second * 64 + third
-  pub low : 224 ≤ first
-  pub high : first < 240
+  pub sum : code + 925824 ≡ key % 256 * 4096 + key / 256 % 256 * 64 + key / 65536
+  pub low : 224 ≤ key % 256
+  pub high : key % 256 < 240
   pub mark_is : marked mark ≡ mark_of code
   pub dark : is_whitespace code ≡ false

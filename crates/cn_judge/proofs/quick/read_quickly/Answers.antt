@@ -4,12 +4,12 @@ use Rattle.cn_judge.specs.Private.Marked.{marked}
 use Rattle.cn_judge.proofs.RegularSteps.{stepped-all, stepped-more, stepped-second}
 use Rattle.cn_judge.proofs.quick.read_quickly.Goals as goal
 
-pub returns-then-is_empty : goal.returns-then-is_empty
-returns-then-is_empty c =
+pub returns : goal.returns
+returns c =
     let s = c.walking.invariant.stepped in
-    let parts = c.in_ok-mark.ensures.parts in
-    let none : length c.in_ok-mark.before.now ≡ 0 = search rules in
-    stepped-all c.args.method _ _ _ _ _ parts.0 (marked c.in_ok-mark.mark) _ s parts.1 parts.2 parts.3 none (c.finish.ensures c.args.method (marks_of s.after) s.stands)
+    let parts = c.in_ok-first.ensures.parts in
+    let none : length c.in_ok-first.field-0-1.now ≡ 0 = search rules in
+    stepped-all c.args.method _ _ _ _ _ parts.0 (marked c.in_ok-first.first) _ s parts.1 parts.2 parts.3 none (c.finish.ensures c.args.method (marks_of s.after) s.stands)
 
 pub walking-preserved : goal.walking-preserved
 walking-preserved c =

@@ -1,4 +1,4 @@
-use Rattle.std.proofs.Common.{◌≡◌, ◌<◌, ◌≤◌, sym, arith, nat_le}
+use Rattle.std.proofs.Common.{◌<◌, ◌≤◌, arith}
 use Rattle.std.proofs.lemmas.Bool.Decides.{nat_tests}
 use Rattle.cn_core.specs.Characters.{rank}
 use Rattle.cn_judge.specs.Private.Regular.{first_group}
