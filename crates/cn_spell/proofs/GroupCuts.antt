@@ -8,8 +8,8 @@ use Rattle.std.proofs.lemmas.List.{get_or-set_same, get_or-set_other}
 -- what is left after so many more groups
 pub cut-more : (number count more above : ℕ) → above ≡ number / 10 ^ (4 * count) → above / 10 ^ (4 * more) ≡ number / 10 ^ (4 * (count + more))
 cut-more number count more above split =
-    let places : 4 * (count + more) ≡ 4 * count + 4 * more = omega arith in
-    let power : 10 ^ (4 * (count + more)) ≡ 10 ^ (4 * count) * 10 ^ (4 * more) = ap (λ n. 10 ^ n) places ∙ pow-add 10 (4 * count) (4 * more) in
+    let positions : 4 * (count + more) ≡ 4 * count + 4 * more = omega arith in
+    let power : 10 ^ (4 * (count + more)) ≡ 10 ^ (4 * count) * 10 ^ (4 * more) = ap (λ n. 10 ^ n) positions ∙ pow-add 10 (4 * count) (4 * more) in
     ap (λ n. n / 10 ^ (4 * more)) split ∙ div-div-eq-div-mul number (10 ^ (4 * count)) (10 ^ (4 * more)) ∙ ap (λ n. number / n) (sym power)
 
 -- a number of 39 digits at most has few groups in front of which something stands

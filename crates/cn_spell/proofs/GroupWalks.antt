@@ -1,4 +1,4 @@
--- A number's spelling by groups of four places.
+-- A number's spelling by groups of four positions.
 use Rattle.std.proofs.Common.{◌≡◌, ℕ, zero, suc, ◌+◌, ◌-◌, ◌*◌, ◌/◌, ◌%◌, ◌^◌, ◌<◌, ◌≤◌, max, Bool, true, false, ◌==◌, ◌&&◌, nat_le, nat_lt, List, [], ◌∷◌, ◌++◌, length, refl, sym, ap, subst, ◌∙◌, arith, length-append, append-nil, if◌then◌else◌}
 use Rattle.std.proofs.lemmas.Bool.Decides.{nat_tests}
 use Rattle.std.proofs.Math.Arith.{mod-mul}
@@ -15,13 +15,13 @@ use Rattle.cn_core.proofs.Cuts.{part, part-some}
 use Rattle.cn_core.proofs.Fronts.{and-left, and-right}
 use Rattle.cn_core.proofs.Sums.{spelled-digit}
 use Rattle.cn_spell.specs.Working.Groups.{groups_within, front_limit, kept, group_marks}
-use Rattle.cn_spell.specs.Working.Units.{widths_of, places_within, rank_at, start_of, units_over, front}
+use Rattle.cn_spell.specs.Working.Units.{widths_of, positions_within, rank_at, start_of, units_over, front}
 use Rattle.cn_spell.proofs.Walks.{Fills, is_chain_of_four, group-over}
-use Rattle.cn_spell.proofs.Tops.{places-few, filled_of, Filled, lower-less, part-none, parts-grow, over-none, over-head, single, front-zero}
+use Rattle.cn_spell.proofs.Tops.{positions-few, filled_of, Filled, lower-less, part-none, parts-grow, over-none, over-head, single, front-zero}
 use Rattle.cn_spell.proofs.Single.{so_far, group-is}
 use Rattle.cn_spell.proofs.SingleTops.{part-top, top-of}
 
--- the methods whose groups have four places
+-- the methods whose groups have four positions
 abbrev pub HasGroups : ChineseCountMethod → Type 0
 HasGroups method = (is_chain_of_four method 64 (widths_of method) ≡ true) × (44 ≤ exponent method 15 + exponent method 15)
 
@@ -31,71 +31,71 @@ has-groups TenThousand some = (refl, omega arith)
 has-groups Middle some = (refl, omega arith)
 has-groups High some = (refl, omega arith)
 
-starts-within : (method : ChineseCountMethod) (place : ℕ) → place ≤ 4 * groups_within method → place < places_within method
-starts-within Low place h = omega (arith, h)
-starts-within TenThousand place h = omega (arith, h)
-starts-within Middle place h = omega (arith, h)
-starts-within High place h = omega (arith, h)
+starts-within : (method : ChineseCountMethod) (position : ℕ) → position ≤ 4 * groups_within method → position < positions_within method
+starts-within Low position h = omega (arith, h)
+starts-within TenThousand position h = omega (arith, h)
+starts-within Middle position h = omega (arith, h)
+starts-within High position h = omega (arith, h)
 
 -- a group in front of what stands below it: its own spelling, and the units of the groups that it is the first to fill
-group-front : (method : ChineseCountMethod) (place g below filled : ℕ) → 0 < groups_within method → place ≤ 4 * groups_within method → place % 4 ≡ 0 → 0 < g → g < 10 ^ 4 → below < 10 ^ place → Fills filled below
-    → part method (g * 10 ^ place + below) ≡ part method g ++ (front method place filled ++ part method below)
-group-front method place g below filled some most four pos ten small fills =
+group-front : (method : ChineseCountMethod) (position g below filled : ℕ) → 0 < groups_within method → position ≤ 4 * groups_within method → position % 4 ≡ 0 → 0 < g → g < 10 ^ 4 → below < 10 ^ position → Fills filled below
+    → part method (g * 10 ^ position + below) ≡ part method g ++ (front method position filled ++ part method below)
+group-front method position g below filled some most four pos ten small fills =
     let has = has-groups method some in
-    let within = starts-within method place most in
-    let all : place % 64 ≡ place = mod-eq_of_lt (omega (arith, within, places-few method)) in
-    let over = group-over method (widths_of method) 64 place g below filled filled (max filled 1) has.0 within (omega (arith, within, places-few method, has.1)) four pos ten (rw all small) fills
+    let within = starts-within method position most in
+    let all : position % 64 ≡ position = mod-eq_of_lt (omega (arith, within, positions-few method)) in
+    let over = group-over method (widths_of method) 64 position g below filled filled (max filled 1) has.0 within (omega (arith, within, positions-few method, has.1)) four pos ten (rw all small) fills
     (omega (arith, all)) (λ some. omega (arith, some)) (λ none. omega (arith, none)) in
     rw all at over
 
--- the group at a place
+-- the group at a position
 abbrev pub group_at : ℕ → ℕ → ℕ
-group_at number place = number / 10 ^ place % 10 ^ 4
+group_at number position = number / 10 ^ position % 10 ^ 4
 
-group-split : (number place : ℕ) → number % 10 ^ (place + 4) ≡ group_at number place * 10 ^ place + number % 10 ^ place
-group-split number place =
-    let e : 10 ^ (place + 4) ≡ 10 ^ 4 * 10 ^ place = pow-add 10 place 4 ∙ omega arith in
-    rw e (mod-mul number (omega arith) (one-le-pow place 10 (omega arith)))
+group-split : (number position : ℕ) → number % 10 ^ (position + 4) ≡ group_at number position * 10 ^ position + number % 10 ^ position
+group-split number position =
+    let e : 10 ^ (position + 4) ≡ 10 ^ 4 * 10 ^ position = pow-add 10 position 4 ∙ omega arith in
+    rw e (mod-mul number (omega arith) (one-le-pow position 10 (omega arith)))
 
 -- a group that is not empty stands in front
-pub group-more : (method : ChineseCountMethod) (number place filled : ℕ) → 0 < groups_within method → place ≤ 4 * groups_within method → place % 4 ≡ 0 → 0 < group_at number place → Fills filled (number % 10 ^ place)
-    → part method (number % 10 ^ (place + 4)) ≡ group_marks (group_at number place) ++ (front method place filled ++ part method (number % 10 ^ place))
-group-more method number place filled some most four pos fills =
-    let small : group_at number place < 10 ^ 4 = mod-lt (number / 10 ^ place) (omega arith) in
-    ap (λ n. part method n) (group-split number place)
-    ∙ group-front method place (group_at number place) (number % 10 ^ place) filled some most four pos small (lower-less number place) fills
-    ∙ ap (λ marks. marks ++ (front method place filled ++ part method (number % 10 ^ place))) (group-is method (group_at number place) small)
+pub group-more : (method : ChineseCountMethod) (number position filled : ℕ) → 0 < groups_within method → position ≤ 4 * groups_within method → position % 4 ≡ 0 → 0 < group_at number position → Fills filled (number % 10 ^ position)
+    → part method (number % 10 ^ (position + 4)) ≡ group_marks (group_at number position) ++ (front method position filled ++ part method (number % 10 ^ position))
+group-more method number position filled some most four pos fills =
+    let small : group_at number position < 10 ^ 4 = mod-lt (number / 10 ^ position) (omega arith) in
+    ap (λ n. part method n) (group-split number position)
+    ∙ group-front method position (group_at number position) (number % 10 ^ position) filled some most four pos small (lower-less number position) fills
+    ∙ ap (λ marks. marks ++ (front method position filled ++ part method (number % 10 ^ position))) (group-is method (group_at number position) small)
 
-pub Fills-group : (number place size : ℕ) → 0 < size → group_at number place < 10 ^ size → 10 ^ size ≤ 10 * group_at number place → Fills (place + size) (number % 10 ^ (place + 4))
-Fills-group number place size some below reach =
-    let g = group_at number place in
-    let split = group-split number place in
-    let power : 10 ^ (place + size) ≡ 10 ^ size * 10 ^ place = pow-add 10 place size ∙ omega arith in
-    let most : (g + 1) * 10 ^ place ≤ 10 ^ size * 10 ^ place = mul-le-mul_right (10 ^ place) (omega (arith, below)) in
-    let less = lower-less number place in
+pub Fills-group : (number position size : ℕ) → 0 < size → group_at number position < 10 ^ size → 10 ^ size ≤ 10 * group_at number position → Fills (position + size) (number % 10 ^ (position + 4))
+Fills-group number position size some below reach =
+    let g = group_at number position in
+    let split = group-split number position in
+    let power : 10 ^ (position + size) ≡ 10 ^ size * 10 ^ position = pow-add 10 position size ∙ omega arith in
+    let most : (g + 1) * 10 ^ position ≤ 10 ^ size * 10 ^ position = mul-le-mul_right (10 ^ position) (omega (arith, below)) in
+    let less = lower-less number position in
     record {
       below = omega (arith, split, power, most, less);
       reach = λ pos.
           let one : size ≡ (size - 1) + 1 = omega (arith, some) in
           let tenth : 10 ^ size ≡ 10 ^ (size - 1) * 10 = ap (λ n. 10 ^ n) one ∙ pow-add 10 (size - 1) 1 in
           let lead : 10 ^ (size - 1) ≤ g = omega (arith, tenth, reach) in
-          let e : place + size - 1 ≡ place + (size - 1) = omega (arith, some) in
-          let lower : 10 ^ (place + (size - 1)) ≡ 10 ^ (size - 1) * 10 ^ place = pow-add 10 place (size - 1) ∙ omega arith in
-          let least : 10 ^ (size - 1) * 10 ^ place ≤ g * 10 ^ place = mul-le-mul_right (10 ^ place) lead in
+          let e : position + size - 1 ≡ position + (size - 1) = omega (arith, some) in
+          let lower : 10 ^ (position + (size - 1)) ≡ 10 ^ (size - 1) * 10 ^ position = pow-add 10 position (size - 1) ∙ omega arith in
+          let least : 10 ^ (size - 1) * 10 ^ position ≤ g * 10 ^ position = mul-le-mul_right (10 ^ position) lead in
           rw e (omega (arith, lower, least, split));
     }
 
 -- an empty group adds nothing
-group-none : (number place : ℕ) → group_at number place ≡ 0 → number % 10 ^ (place + 4) ≡ number % 10 ^ place
-group-none number place none = group-split number place ∙ ap (λ g. g * 10 ^ place + number % 10 ^ place) none ∙ omega arith
+group-none : (number position : ℕ) → group_at number position ≡ 0 → number % 10 ^ (position + 4) ≡ number % 10 ^ position
+group-none number position none = group-split number position ∙ ap (λ g. g * 10 ^ position + number % 10 ^ position) none ∙ omega arith
 
-pub group-same : (method : ChineseCountMethod) (number place : ℕ) → group_at number place ≡ 0 → part method (number % 10 ^ (place + 4)) ≡ part method (number % 10 ^ place)
-group-same method number place none = ap (λ n. part method n) (group-none number place none)
+pub group-same : (method : ChineseCountMethod) (number position : ℕ) → group_at number position ≡ 0 → part method (number % 10 ^ (position + 4)) ≡ part method (number % 10 ^ position)
+group-same method number position none = ap (λ n. part method n) (group-none number position none)
 
-pub Fills-same_group : (number place filled : ℕ) → group_at number place ≡ 0 → Fills filled (number % 10 ^ place) → Fills filled (number % 10 ^ (place + 4))
-Fills-same_group number place filled none fills = subst (Fills filled) (sym (group-none number place none)) fills
+pub Fills-same_group : (number position filled : ℕ) → group_at number position ≡ 0 → Fills filled (number % 10 ^ position) → Fills filled (number % 10 ^ (position + 4))
+Fills-same_group number position filled none fills = subst (Fills filled) (sym (group-none number position none)) fills
 
--- the widths are whole groups, and at last single places
+-- the widths are whole groups, and at last single positions
 abbrev are_fours : List ℕ → Bool
 are_fours [] = false
 are_fours (width ∷ []) = width == 1
@@ -107,59 +107,59 @@ fours TenThousand some = refl
 fours Middle some = refl
 fours High some = refl
 
-over-near : (method : ChineseCountMethod) (widths : List ℕ) (place filled : ℕ) → are_fours widths ≡ true → place % 4 ≡ 0 → 0 < filled → filled ≤ place → place < filled + 4
-    → units_over method place filled filled widths ≡ unit (rank_at method place) ∷ kept (nat_lt filled place) (digit 0)
-over-near method [] place filled h four some under near = absurd (let e : false ≡ true = h in cc)
-over-near method (width ∷ []) place filled h four some under near =
+over-near : (method : ChineseCountMethod) (widths : List ℕ) (position filled : ℕ) → are_fours widths ≡ true → position % 4 ≡ 0 → 0 < filled → filled ≤ position → position < filled + 4
+    → units_over method position filled filled widths ≡ unit (rank_at method position) ∷ kept (nat_lt filled position) (digit 0)
+over-near method [] position filled h four some under near = absurd (let e : false ≡ true = h in cc)
+over-near method (width ∷ []) position filled h four some under near =
     let one : width ≡ 1 = grind (arith, nat_tests, h) in
-    let start : start_of width place ≡ place = rw one (omega arith) in
-    let reach : nat_le filled place ≡ true = grind (arith, nat_tests, under) in
+    let start : start_of width position ≡ position = rw one (omega arith) in
+    let reach : nat_le filled position ≡ true = grind (arith, nat_tests, under) in
     let equal : (filled == filled) ≡ true = grind (arith, nat_tests) in
     rw (start, reach, equal) refl
-over-near method (width ∷ next ∷ widths) place filled h four some under near =
-    by (over-near method (next ∷ widths) place filled (and-right (width % 4 == 0) _ h) four some under near) (dec_lt (start_of width place) place) where
-      by : units_over method place filled filled (next ∷ widths) ≡ unit (rank_at method place) ∷ kept (nat_lt filled place) (digit 0) → Dec (start_of width place < place)
-          → units_over method place filled filled (width ∷ next ∷ widths) ≡ unit (rank_at method place) ∷ kept (nat_lt filled place) (digit 0)
+over-near method (width ∷ next ∷ widths) position filled h four some under near =
+    by (over-near method (next ∷ widths) position filled (and-right (width % 4 == 0) _ h) four some under near) (dec_lt (start_of width position) position) where
+      by : units_over method position filled filled (next ∷ widths) ≡ unit (rank_at method position) ∷ kept (nat_lt filled position) (digit 0) → Dec (start_of width position < position)
+          → units_over method position filled filled (width ∷ next ∷ widths) ≡ unit (rank_at method position) ∷ kept (nat_lt filled position) (digit 0)
       by deeper (yes inside) =
           let test4 = and-left (width % 4 == 0) _ h in
           let of_four : width % 4 ≡ 0 = grind (arith, nat_tests, test4) in
-          let rest : place % width % 4 ≡ 0 = mod-mod_of_dvd 4 place (dvd_of_mod-eq-zero 4 of_four) ∙ four in
-          let short : start_of width place < filled = omega (arith, inside, rest, near) in
-          let test : nat_le filled (start_of width place) ≡ false = grind (arith, nat_tests, short) in
+          let rest : position % width % 4 ≡ 0 = mod-mod_of_dvd 4 position (dvd_of_mod-eq-zero 4 of_four) ∙ four in
+          let short : start_of width position < filled = omega (arith, inside, rest, near) in
+          let test : nat_le filled (start_of width position) ≡ false = grind (arith, nat_tests, short) in
           rw test deeper
       by deeper (no outside) =
-          let start : start_of width place ≡ place = omega (arith, outside) in
-          let reach : nat_le filled place ≡ true = grind (arith, nat_tests, under) in
+          let start : start_of width position ≡ position = omega (arith, outside) in
+          let reach : nat_le filled position ≡ true = grind (arith, nat_tests, under) in
           let equal : (filled == filled) ≡ true = grind (arith, nat_tests) in
-          rw (start, reach, equal, over-none method (next ∷ widths) place filled (place + 1) (omega arith)) refl
+          rw (start, reach, equal, over-none method (next ∷ widths) position filled (position + 1) (omega arith)) refl
 
 -- over a group that is not empty, the only unit is the group's own
-pub front-near : (method : ChineseCountMethod) (place filled : ℕ) → 0 < place → place ≤ 4 * groups_within method → place % 4 ≡ 0 → filled ≤ place → place < filled + 4
-    → front method place filled ≡ unit (rank_at method place) ∷ kept (nat_lt filled place) (digit 0)
-front-near method place filled pos most four under near =
+pub front-near : (method : ChineseCountMethod) (position filled : ℕ) → 0 < position → position ≤ 4 * groups_within method → position % 4 ≡ 0 → filled ≤ position → position < filled + 4
+    → front method position filled ≡ unit (rank_at method position) ∷ kept (nat_lt filled position) (digit 0)
+front-near method position filled pos most four under near =
     let some : 0 < filled = omega (arith, pos, four, near) in
     let same : max filled 1 ≡ filled = omega (arith, some) in
-    rw same (over-near method (widths_of method) place filled (fours method (omega (arith, pos, most))) four some under near)
+    rw same (over-near method (widths_of method) position filled (fours method (omega (arith, pos, most))) four some under near)
 
 -- no such unit is 十
-rank-start : (method : ChineseCountMethod) (place : ℕ) → 0 < groups_within method → 0 < place → place % 4 ≡ 0 → (rank_at method place == 1) ≡ false
-rank-start Low place some pos four = absurd (omega (arith, some))
-rank-start TenThousand place some pos four =
-    let a : (place % 4 == 0) ≡ true = grind (arith, nat_tests, four) in
-    let b : (place == 0) ≡ false = grind (arith, nat_tests, pos) in
+rank-start : (method : ChineseCountMethod) (position : ℕ) → 0 < groups_within method → 0 < position → position % 4 ≡ 0 → (rank_at method position == 1) ≡ false
+rank-start Low position some pos four = absurd (omega (arith, some))
+rank-start TenThousand position some pos four =
+    let a : (position % 4 == 0) ≡ true = grind (arith, nat_tests, four) in
+    let b : (position == 0) ≡ false = grind (arith, nat_tests, pos) in
     rw (a, b) (grind (arith, nat_tests))
-rank-start Middle place some pos four =
-    let a : (place % 4 == 0) ≡ true = grind (arith, nat_tests, four) in
-    let b : (place == 0) ≡ false = grind (arith, nat_tests, pos) in
-    rw (a, b) (by (place % 8 == 0)) where
-      by : (c : Bool) → ((if c then place / 8 + 4 else 4) == 1) ≡ false
+rank-start Middle position some pos four =
+    let a : (position % 4 == 0) ≡ true = grind (arith, nat_tests, four) in
+    let b : (position == 0) ≡ false = grind (arith, nat_tests, pos) in
+    rw (a, b) (by (position % 8 == 0)) where
+      by : (c : Bool) → ((if c then position / 8 + 4 else 4) == 1) ≡ false
       by true = grind (arith, nat_tests)
       by false = refl
-rank-start High place some pos four =
-    let a : (place % 4 == 0) ≡ true = grind (arith, nat_tests, four) in
-    let b : (place == 0) ≡ false = grind (arith, nat_tests, pos) in
-    rw (a, b) (by (place % 8 == 0) (place % 16 == 0)) where
-      by : (c d : Bool) → ((if c then (if d then place / 32 + 6 else 5) else 4) == 1) ≡ false
+rank-start High position some pos four =
+    let a : (position % 4 == 0) ≡ true = grind (arith, nat_tests, four) in
+    let b : (position == 0) ≡ false = grind (arith, nat_tests, pos) in
+    rw (a, b) (by (position % 8 == 0) (position % 16 == 0)) where
+      by : (c d : Bool) → ((if c then (if d then position / 32 + 6 else 5) else 4) == 1) ≡ false
       by true true = grind (arith, nat_tests)
       by true false = refl
       by false d = refl
@@ -180,9 +180,9 @@ short_spelling-over g rank rest pos small other = by (top-of g 4 small pos) wher
     never true = refl
     never false = refl
 
-  deep : (d place : ℕ) (more : List Mark) → short_spelling ((digit d ∷ unit place ∷ more) ++ (unit rank ∷ rest)) ≡ short_spelling (digit d ∷ unit place ∷ more) ++ (unit rank ∷ rest)
-  deep d place more = choice (d == 1 && place == 1) where
-    choice : (b : Bool) → (if b then unit place ∷ (more ++ (unit rank ∷ rest)) else digit d ∷ unit place ∷ (more ++ (unit rank ∷ rest))) ≡ (if b then unit place ∷ more else digit d ∷ unit place ∷ more) ++ (unit rank ∷ rest)
+  deep : (d position : ℕ) (more : List Mark) → short_spelling ((digit d ∷ unit position ∷ more) ++ (unit rank ∷ rest)) ≡ short_spelling (digit d ∷ unit position ∷ more) ++ (unit rank ∷ rest)
+  deep d position more = choice (d == 1 && position == 1) where
+    choice : (b : Bool) → (if b then unit position ∷ (more ++ (unit rank ∷ rest)) else digit d ∷ unit position ∷ (more ++ (unit rank ∷ rest))) ≡ (if b then unit position ∷ more else digit d ∷ unit position ∷ more) ++ (unit rank ∷ rest)
     choice true = refl
     choice false = refl
 
@@ -190,36 +190,36 @@ short_spelling-over g rank rest pos small other = by (top-of g 4 small pos) wher
   by (zero, within, reach, less) =
       let one : part Low g ≡ digit (g / 10 ^ 0) ∷ [] = part-top g 0 (omega arith) less reach ∙ ap (λ marks. digit (g / 10 ^ 0) ∷ marks) (part-none Low g) in
       rw one (flat (g / 10 ^ 0))
-  by (suc place, within, reach, less) =
-      let high : nat_lt 0 (suc place) ≡ true = grind (arith, nat_tests) in
-      let one : part Low g ≡ digit (g / 10 ^ suc place) ∷ unit (suc place) ∷ so_far Low g (suc place) = rw high at (part-top g (suc place) (omega (arith, within)) less reach) in
-      rw one (deep (g / 10 ^ suc place) (suc place) (so_far Low g (suc place)))
+  by (suc position, within, reach, less) =
+      let high : nat_lt 0 (suc position) ≡ true = grind (arith, nat_tests) in
+      let one : part Low g ≡ digit (g / 10 ^ suc position) ∷ unit (suc position) ∷ so_far Low g (suc position) = rw high at (part-top g (suc position) (omega (arith, within)) less reach) in
+      rw one (deep (g / 10 ^ suc position) (suc position) (so_far Low g (suc position)))
 
 -- what stands in front of the groups is spelled like a number of its own
-front-over : (method : ChineseCountMethod) (number place lead filled : ℕ) → 0 < groups_within method → place ≤ 4 * groups_within method → place % 4 ≡ 0 → lead < 10 ^ 4 → lead ≡ number / 10 ^ place → (0 < place → 0 < lead)
-    → Fills filled (number % 10 ^ place) → filled ≤ place → spelling method number ≡ spelling Low lead ++ (front method place filled ++ part method (number % 10 ^ place))
-front-over method number place lead filled some most four small split lead_some fills under = by (dec_lt 0 place) where
-  whole : number ≡ lead * 10 ^ place + number % 10 ^ place
-  whole = sym (div-add-mod' number (10 ^ place)) ∙ ap (λ n. n * 10 ^ place + number % 10 ^ place) (sym split)
+front-over : (method : ChineseCountMethod) (number position lead filled : ℕ) → 0 < groups_within method → position ≤ 4 * groups_within method → position % 4 ≡ 0 → lead < 10 ^ 4 → lead ≡ number / 10 ^ position → (0 < position → 0 < lead)
+    → Fills filled (number % 10 ^ position) → filled ≤ position → spelling method number ≡ spelling Low lead ++ (front method position filled ++ part method (number % 10 ^ position))
+front-over method number position lead filled some most four small split lead_some fills under = by (dec_lt 0 position) where
+  whole : number ≡ lead * 10 ^ position + number % 10 ^ position
+  whole = sym (div-add-mod' number (10 ^ position)) ∙ ap (λ n. n * 10 ^ position + number % 10 ^ position) (sym split)
 
-  by : Dec (0 < place) → spelling method number ≡ spelling Low lead ++ (front method place filled ++ part method (number % 10 ^ place))
+  by : Dec (0 < position) → spelling method number ≡ spelling Low lead ++ (front method position filled ++ part method (number % 10 ^ position))
   by (no none) =
-      let z : place ≡ 0 = omega (arith, none) in
+      let z : position ≡ 0 = omega (arith, none) in
       let f : filled ≡ 0 = omega (arith, z, under) in
       let same : number ≡ lead = let e : number / 10 ^ 0 ≡ number = omega arith in sym (split ∙ ap (λ n. number / 10 ^ n) z ∙ e) in
       rw (z, f, front-zero method, part-none method number, append-nil (spelling Low lead)) (ap (λ n. spelling method n) same ∙ same-small method lead small)
   by (yes pos) =
       let lead_pos : 0 < lead = lead_some pos in
-      let below = number % 10 ^ place in
-      let head = over-head method (widths_of method) place filled (max filled 1) (single method) (omega (arith, under, pos)) in
-      let parts = group-front method place lead below filled some most four lead_pos small (lower-less number place) fills in
-      let some_number : 0 < number = let p : 1 ≤ 10 ^ place = one-le-pow place 10 (omega arith) in let q : 1 * 10 ^ place ≤ lead * 10 ^ place = mul-le-mul_right (10 ^ place) lead_pos in omega (arith, whole, p, q) in
+      let below = number % 10 ^ position in
+      let head = over-head method (widths_of method) position filled (max filled 1) (single method) (omega (arith, under, pos)) in
+      let parts = group-front method position lead below filled some most four lead_pos small (lower-less number position) fills in
+      let some_number : 0 < number = let p : 1 ≤ 10 ^ position = one-le-pow position 10 (omega arith) in let q : 1 * 10 ^ position ≤ lead * 10 ^ position = mul-le-mul_right (10 ^ position) lead_pos in omega (arith, whole, p, q) in
       let spelled : part method number ≡ spelling_within number method number = part-some method number some_number in
-      let tail : front method place filled ++ part method below ≡ unit (rank_at method place) ∷ (head.0 ++ part method below) = ap (λ marks. marks ++ part method below) head.1 in
+      let tail : front method position filled ++ part method below ≡ unit (rank_at method position) ∷ (head.0 ++ part method below) = ap (λ marks. marks ++ part method below) head.1 in
       let alike : part method lead ≡ part Low lead = group-is method lead small ∙ sym (group-is Low lead small) in
-      ap short_spelling (sym spelled ∙ ap (λ n. part method n) whole ∙ parts ∙ ap (λ marks. marks ++ (front method place filled ++ part method below)) alike ∙ ap (λ marks. part Low lead ++ marks) tail)
-      ∙ short_spelling-over lead (rank_at method place) (head.0 ++ part method below) lead_pos small (rank-start method place some pos four)
-      ∙ ap (λ marks. short_spelling marks ++ (unit (rank_at method place) ∷ (head.0 ++ part method below))) (part-some Low lead lead_pos)
+      ap short_spelling (sym spelled ∙ ap (λ n. part method n) whole ∙ parts ∙ ap (λ marks. marks ++ (front method position filled ++ part method below)) alike ∙ ap (λ marks. part Low lead ++ marks) tail)
+      ∙ short_spelling-over lead (rank_at method position) (head.0 ++ part method below) lead_pos small (rank-start method position some pos four)
+      ∙ ap (λ marks. short_spelling marks ++ (unit (rank_at method position) ∷ (head.0 ++ part method below))) (part-some Low lead lead_pos)
       ∙ ap (λ marks. spelling Low lead ++ marks) (sym tail)
 
 pub spelling-front : (method : ChineseCountMethod) (number count lead filled : ℕ) → count ≤ groups_within method → lead < front_limit method → lead ≡ number / 10 ^ (4 * count) → (0 < count → 0 < lead)
@@ -240,13 +240,13 @@ spelling-front High number count lead filled most small split some fills under =
 pub room-group : (method : ChineseCountMethod) (number count index lead : ℕ) → count ≤ groups_within method → lead < front_limit method → lead ≡ number / 10 ^ (4 * count) → (0 < count → 0 < lead) → index < count
     → length (part method (number % 10 ^ (4 * index + 4))) + 1 ≤ length (spelling method number)
 room-group method number count index lead most small split some less =
-    let place = 4 * count in
-    let held = Filled number place in
-    let filled = filled_of number place in
-    let steps : 4 * index + 4 + (place - (4 * index + 4)) ≡ place = omega (arith, less) in
-    let within = starts-within method place (omega (arith, most)) in
-    let grows : length (part method (number % 10 ^ (4 * index + 4))) ≤ length (part method (number % 10 ^ place)) = rw steps at (parts-grow method number (4 * index + 4) (place - (4 * index + 4)) (omega (arith, steps, within))) in
+    let position = 4 * count in
+    let held = Filled number position in
+    let filled = filled_of number position in
+    let steps : 4 * index + 4 + (position - (4 * index + 4)) ≡ position = omega (arith, less) in
+    let within = starts-within method position (omega (arith, most)) in
+    let grows : length (part method (number % 10 ^ (4 * index + 4))) ≤ length (part method (number % 10 ^ position)) = rw steps at (parts-grow method number (4 * index + 4) (position - (4 * index + 4)) (omega (arith, steps, within))) in
     let whole = ap length (spelling-front method number count lead filled most small split some held.1 held.0) in
-    let head = over-head method (widths_of method) place filled (max filled 1) (single method) (omega (arith, held.0, less)) in
+    let head = over-head method (widths_of method) position filled (max filled 1) (single method) (omega (arith, held.0, less)) in
     let one = ap length head.1 in
-    omega (arith, grows, whole, one, length-append (spelling Low lead) (front method place filled ++ part method (number % 10 ^ place)), length-append (front method place filled) (part method (number % 10 ^ place)))
+    omega (arith, grows, whole, one, length-append (spelling Low lead) (front method position filled ++ part method (number % 10 ^ position)), length-append (front method position filled) (part method (number % 10 ^ position)))

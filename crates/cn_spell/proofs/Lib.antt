@@ -3,7 +3,7 @@ pub mod GroupCuts
 pub mod GroupWalks
 pub mod NaiveTexts
 pub mod Pens
-pub mod PlacesLemmas
+pub mod PositionsLemmas
 pub mod Rooms
 pub mod Signs
 pub mod Single

@@ -11,7 +11,7 @@ use Rattle.cn_core.specs.Characters.{digit_char}
 use Rattle.cn_core.specs.Mark.{digit}
 use Rattle.cn_core.specs.Naive.{decimal_digits}
 use Rattle.cn_core.specs.Written.{mark_char, signed_text}
-use Rattle.cn_spell.specs.Working.Places.{places_of}
+use Rattle.cn_spell.specs.Working.Positions.{positions_of}
 use Rattle.cn_spell.specs.Working.Sign.{sign_characters, sign_count}
 use Rattle.cn_spell.proofs.Signs.{length-sign}
 use Rattle.cn_spell.proofs.Tables.{three-digit, three-minus}
@@ -22,10 +22,10 @@ abbrev pub digit_characters : ChineseVariant → ChineseCase → List ℕ → Li
 digit_characters variant case digits = map (digit_char variant case) (reverse digits)
 
 -- the next of them stands in front
-pub digit_characters-more : (variant : ChineseVariant) (case : ChineseCase) (digits : List ℕ) (place : ℕ) → place < length digits
-    → digit_characters variant case (take (place + 1) digits) ≡ digit_char variant case (slice_index digits place) ∷ digit_characters variant case (take place digits)
-digit_characters-more variant case digits place h =
-    ap (digit_characters variant case) (take_more digits place 0 h) ∙ ap (map (digit_char variant case)) (reverse-append (take place digits) (slice_index digits place ∷ []))
+pub digit_characters-more : (variant : ChineseVariant) (case : ChineseCase) (digits : List ℕ) (position : ℕ) → position < length digits
+    → digit_characters variant case (take (position + 1) digits) ≡ digit_char variant case (slice_index digits position) ∷ digit_characters variant case (take position digits)
+digit_characters-more variant case digits position h =
+    ap (digit_characters variant case) (take_more digits position 0 h) ∙ ap (map (digit_char variant case)) (reverse-append (take position digits) (slice_index digits position ∷ []))
 
 same-characters : (variant : ChineseVariant) (case : ChineseCase) (bytes : List ℕ)
     → map (digit_char variant case) (map (λ byte. byte - 48) bytes) ≡ map (mark_char variant case) (map (λ byte. digit (byte - 48)) bytes)
@@ -34,7 +34,7 @@ same-characters variant case (byte ∷ bytes) = ap (λ rest. digit_char variant 
 
 -- all of them are the number's digits
 pub digit_characters-all : (variant : ChineseVariant) (case : ChineseCase) (number : ℕ)
-    → digit_characters variant case (places_of number) ≡ map (mark_char variant case) (decimal_digits number)
+    → digit_characters variant case (positions_of number) ≡ map (mark_char variant case) (decimal_digits number)
 digit_characters-all variant case number =
     ap (map (digit_char variant case)) (reverse-reverse (map (λ byte. byte - 48) (decimal number))) ∙ same-characters variant case (decimal number)
 
@@ -66,11 +66,11 @@ three-naive variant case negative number small = by negative where
 
 -- the sign and the digits
 pub naive-is : (variant : ChineseVariant) (case : ChineseCase) (negative : Bool) (number : ℕ)
-    → sign_characters variant negative ++ digit_characters variant case (places_of number) ≡ signed_text variant case negative (decimal_digits number)
+    → sign_characters variant negative ++ digit_characters variant case (positions_of number) ≡ signed_text variant case negative (decimal_digits number)
 naive-is variant case negative number = ap (λ digits. sign_characters variant negative ++ digits) (digit_characters-all variant case number)
 
 pub length-naive : (variant : ChineseVariant) (case : ChineseCase) (negative : Bool) (number : ℕ)
-    → length (signed_text variant case negative (decimal_digits number)) ≡ sign_count negative + length (places_of number)
+    → length (signed_text variant case negative (decimal_digits number)) ≡ sign_count negative + length (positions_of number)
 length-naive variant case negative number =
-    ap length (sym (naive-is variant case negative number)) ∙ length-append (sign_characters variant negative) (digit_characters variant case (places_of number))
-    ∙ ap₂ (λ a b. a + b) (length-sign variant negative) (length-digit_characters variant case (places_of number))
+    ap length (sym (naive-is variant case negative number)) ∙ length-append (sign_characters variant negative) (digit_characters variant case (positions_of number))
+    ∙ ap₂ (λ a b. a + b) (length-sign variant negative) (length-digit_characters variant case (positions_of number))

@@ -1,4 +1,4 @@
--- The characters of the tables take three bytes each, and stand at their places.
+-- The characters of the tables take three bytes each, and stand at their positions.
 use Rattle.std.proofs.Common.{◌≡◌, ℕ, zero, suc, ◌+◌, ◌*◌, ◌<◌, true, List, [], ◌∷◌, ◌++◌, length, slice_index, encode_utf8_all, refl, ap, sym, ◌∙◌, arith}
 use denote.Enum.Declared.{tag_of}
 use Rattle.std.specs.List.{list_all}
@@ -34,7 +34,7 @@ three-table Simple Upper = refl
 pub length-bytes : (variant : ChineseVariant) (case : ChineseCase) → length (encode_utf8_all (table_characters variant case)) ≡ 81
 length-bytes variant case = length-encode_all (table_characters variant case) (three-table variant case) ∙ ap (λ n. 3 * n) (length-table variant case)
 
--- a digit stands at its place
+-- a digit stands at its position
 pub digit-at : (variant : ChineseVariant) (case : ChineseCase) (digit : ℕ) → digit < 10 → slice_index (table_characters variant case) digit ≡ digit_char variant case digit
 unfolding digit_char
 digit-at Traditional Lower digit h = slice_index-front (printed_digits Traditional Lower) (printed_units Traditional Lower ++ minus_char Traditional ∷ []) digit h
@@ -45,7 +45,7 @@ digit-at Simple Upper digit h = slice_index-front (printed_digits Simple Upper) 
 pub tag-rank : (unit : NumeralUnit) → tag_of the_type unit ≡ rank unit
 tag-rank = elim [ Ge ↦ refl | Shi ↦ refl | Bai ↦ refl | Qian ↦ refl | Wan ↦ refl | Yi ↦ refl | Zhao ↦ refl | Jing ↦ refl | Gai ↦ refl | Zi ↦ refl | Rang ↦ refl | Gou ↦ refl | Jian ↦ refl | Zheng ↦ refl | Zai ↦ refl | Ji ↦ refl ]
 
--- a unit stands ten places behind its rank
+-- a unit stands ten positions behind its rank
 pub unit-at : (variant : ChineseVariant) (case : ChineseCase) (unit : NumeralUnit) → slice_index (table_characters variant case) (10 + rank unit) ≡ unit_char variant case (rank unit)
 unfolding unit_char
 unit-at Traditional Lower = elim [ Ge ↦ refl | Shi ↦ refl | Bai ↦ refl | Qian ↦ refl | Wan ↦ refl | Yi ↦ refl | Zhao ↦ refl | Jing ↦ refl | Gai ↦ refl | Zi ↦ refl | Rang ↦ refl | Gou ↦ refl | Jian ↦ refl | Zheng ↦ refl | Zai ↦ refl | Ji ↦ refl ]

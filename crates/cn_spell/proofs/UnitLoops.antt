@@ -6,24 +6,24 @@ use Rattle.cn_core.specs.Mark.{Mark}
 use Rattle.cn_spell.specs.Working.Units.{start_of, unit_front, units_over}
 
 -- the loop over the widths: a group that begins above what is written
-pub front-then : (method : ChineseCountMethod) (place filled above index : ℕ) (widths : List ℕ) (done all : List Mark) → index < length widths
-    → above ≤ start_of (slice_index widths index) place → all ≡ units_over method place filled above (drop index widths) ++ done
-    → all ≡ units_over method place filled (start_of (slice_index widths index) place + 1) (drop (index + 1) widths) ++ (unit_front method filled above (start_of (slice_index widths index) place) ++ done)
-front-then method place filled above index widths done all less reach e =
-    let start = start_of (slice_index widths index) place in
+pub front-then : (method : ChineseCountMethod) (position filled above index : ℕ) (widths : List ℕ) (done all : List Mark) → index < length widths
+    → above ≤ start_of (slice_index widths index) position → all ≡ units_over method position filled above (drop index widths) ++ done
+    → all ≡ units_over method position filled (start_of (slice_index widths index) position + 1) (drop (index + 1) widths) ++ (unit_front method filled above (start_of (slice_index widths index) position) ++ done)
+front-then method position filled above index widths done all less reach e =
+    let start = start_of (slice_index widths index) position in
     let test : nat_le above start ≡ true = grind (arith, nat_tests, reach) in
-    let first : units_over method place filled above (slice_index widths index ∷ drop (index + 1) widths) ≡ units_over method place filled (start + 1) (drop (index + 1) widths) ++ unit_front method filled above start =
+    let first : units_over method position filled above (slice_index widths index ∷ drop (index + 1) widths) ≡ units_over method position filled (start + 1) (drop (index + 1) widths) ++ unit_front method filled above start =
     rw test refl in
     let items : drop index widths ≡ slice_index widths index ∷ drop (index + 1) widths = rw (add-one, drop-cons widths index 0 less) refl in
-    e ∙ ap (λ ws. units_over method place filled above ws ++ done) items ∙ ap (λ marks. marks ++ done) first
-    ∙ append_assoc (units_over method place filled (start + 1) (drop (index + 1) widths)) (unit_front method filled above start) done
+    e ∙ ap (λ ws. units_over method position filled above ws ++ done) items ∙ ap (λ marks. marks ++ done) first
+    ∙ append_assoc (units_over method position filled (start + 1) (drop (index + 1) widths)) (unit_front method filled above start) done
 
 -- and one whose unit is written already
-pub front-else : (method : ChineseCountMethod) (place filled above index : ℕ) (widths : List ℕ) (done all : List Mark) → index < length widths
-    → start_of (slice_index widths index) place < above → all ≡ units_over method place filled above (drop index widths) ++ done
-    → all ≡ units_over method place filled above (drop (index + 1) widths) ++ done
-front-else method place filled above index widths done all less reach e =
-    let test : nat_le above (start_of (slice_index widths index) place) ≡ false = grind (arith, nat_tests, reach) in
-    let first : units_over method place filled above (slice_index widths index ∷ drop (index + 1) widths) ≡ units_over method place filled above (drop (index + 1) widths) = rw test refl in
+pub front-else : (method : ChineseCountMethod) (position filled above index : ℕ) (widths : List ℕ) (done all : List Mark) → index < length widths
+    → start_of (slice_index widths index) position < above → all ≡ units_over method position filled above (drop index widths) ++ done
+    → all ≡ units_over method position filled above (drop (index + 1) widths) ++ done
+front-else method position filled above index widths done all less reach e =
+    let test : nat_le above (start_of (slice_index widths index) position) ≡ false = grind (arith, nat_tests, reach) in
+    let first : units_over method position filled above (slice_index widths index ∷ drop (index + 1) widths) ≡ units_over method position filled above (drop (index + 1) widths) = rw test refl in
     let items : drop index widths ≡ slice_index widths index ∷ drop (index + 1) widths = rw (add-one, drop-cons widths index 0 less) refl in
-    e ∙ ap (λ ws. units_over method place filled above ws ++ done) items ∙ ap (λ marks. marks ++ done) first
+    e ∙ ap (λ ws. units_over method position filled above ws ++ done) items ∙ ap (λ marks. marks ++ done) first

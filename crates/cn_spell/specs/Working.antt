@@ -1,7 +1,7 @@
 -- Words that private contracts alone cite: how a number's digits and the room of its text are held,
 -- and how the printer walks over them. No public contract names them.
 pub mod Groups
-pub mod Places
+pub mod Positions
 pub mod Room
 pub mod Sign
 pub mod Table

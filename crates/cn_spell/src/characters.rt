@@ -53,13 +53,13 @@ impl Characters {
     }
 
     #[inline(always)]
-    fn at(self, place: usize) -> [u8; 3]
-        requires { place < 27 }
+    fn at(self, position: usize) -> [u8; 3]
+        requires { position < 27 }
         ensures bytes { result
-            ≡ encode_utf8 (slice_index (table_characters self.variant self.case) place) }
+            ≡ encode_utf8 (slice_index (table_characters self.variant self.case) position) }
         ensures utf8 { IsUtf8 result }
     {
-        let start = 3 * place;
+        let start = 3 * position;
         [
             self.table[start],
             self.table[start + 1],

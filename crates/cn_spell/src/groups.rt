@@ -1,7 +1,7 @@
 // A magnitude as groups of four decimal digits.
 ghost use Rattle.std.specs.Prelude.{◌≡◌, ◌*◌, ◌/◌, ◌%◌, ◌^◌, ◌+◌, ◌<◌, ◌≤◌, ℕ, length, slice_index};
 ghost use Rattle.cn_spell.specs.Working.Groups.{groups_within, front_limit, HoldsGroups};
-ghost use Rattle.cn_spell.specs.Working.Units.{places_within};
+ghost use Rattle.cn_spell.specs.Working.Units.{positions_within};
 
 use cn_core::ChineseCountMethod;
 
@@ -27,7 +27,7 @@ impl<'a> Groups<'a> {
     /// Takes a number that the method writes into an array.
     #[inline(always)]
     pub fn of(groups: &'a mut [u16; MOST], method: ChineseCountMethod, number: u128) -> Self
-        requires { number < 10 ^ places_within method }
+        requires { number < 10 ^ positions_within method }
         ensures number { result.number ≡ number }
         ensures count { result.count ≤ groups_within method }
         ensures front { result.front < front_limit method }
@@ -50,7 +50,7 @@ fn take_groups(
     method: ChineseCountMethod,
     magnitude: u128,
 ) -> (usize, u64)
-    requires { magnitude < 10 ^ places_within method }
+    requires { magnitude < 10 ^ positions_within method }
     ensures holds { HoldsGroups magnitude groups.new result.0 result.1 }
     ensures count { result.0 ≤ groups_within method }
     ensures front { result.1 < front_limit method }

@@ -12,7 +12,7 @@ mod groups;
 mod known_method;
 mod naive;
 mod pen;
-mod places;
+mod positions;
 mod print;
 mod put;
 mod room;

@@ -56,8 +56,8 @@ impl Text for Plain<'_> {
     #[inline(always)]
     fn fill(&self, bytes: &mut [u8]) {
         let mut room = Room::new(bytes);
-        for place in 0..self.digits.len() {
-            room.put(self.characters.digit(self.digits.at(place)));
+        for position in 0..self.digits.len() {
+            room.put(self.characters.digit(self.digits.at(position)));
         }
         put_sign(&mut room, self.characters, self.negative);
     }

@@ -13,13 +13,13 @@ use crate::characters::Characters;
 use crate::room::Room;
 use cn_core::Unit;
 
-/// Takes digits and units, from the last to the first.
+/// Puts digits and units, from the last to the first.
 pub trait Pen {
-    // How many bytes of characters it can still take.
+    // How many bytes of characters it can still put.
     ghost left: { Self → ℕ };
 
-    // What it has taken are these marks, in a script and case.
-    ghost shows: { Self → ChineseVariant → ChineseCase → List Mark → Type 0 };
+    // What it has put are these marks, in a script and case.
+    ghost has_put: { Self → ChineseVariant → ChineseCase → List Mark → Type 0 };
 
     // Whose bytes it writes.
     ghost lender: { Self → GName };
@@ -31,8 +31,8 @@ pub trait Pen {
         ensures lender { lender self.new ≡ lender self.old }
         ensures room { left self.new + 3 * length (kept is_kept (digit value)) ≡ left self.old }
         ensures marks { (marks : List Mark)
-            → shows self.old characters.variant characters.case marks
-            → shows self.new characters.variant characters.case
+            → has_put self.old characters.variant characters.case marks
+            → has_put self.new characters.variant characters.case
             (kept is_kept (digit value) ++ marks) };
 
     // The same for a unit.
@@ -42,8 +42,8 @@ pub trait Pen {
         ensures room { left self.new + 3 * length (kept is_kept (unit (rank value)))
             ≡ left self.old }
         ensures marks { (marks : List Mark)
-            → shows self.old characters.variant characters.case marks
-            → shows self.new characters.variant characters.case
+            → has_put self.old characters.variant characters.case marks
+            → has_put self.new characters.variant characters.case
             (kept is_kept (unit (rank value)) ++ marks) };
 }
 
@@ -56,7 +56,7 @@ pub struct Count {
 impl Pen for Count {
     ghost left = { λ count. 3 * (2 ^ 64 - 1 - count.characters) };
 
-    ghost shows = { λ count variant case marks.
+    ghost has_put = { λ count variant case marks.
         Counts count.characters (map (mark_char variant case) marks) };
 
     ghost lender = { λ count. 0 };
@@ -75,7 +75,7 @@ impl Pen for Count {
 impl Pen for Room<'_> {
     ghost left = { λ room. room.free };
 
-    ghost shows = { λ room variant case marks.
+    ghost has_put = { λ room variant case marks.
         Shows room.free room.bytes.now (map (mark_char variant case) marks) };
 
     ghost lender = { λ room. room.bytes.ghost_name };

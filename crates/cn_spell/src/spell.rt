@@ -4,43 +4,45 @@
 // from the last character to the first:
 //
 //     0000   nothing
-//     0010   萬, the group's own unit, which nothing is written below; then 十 and 一
-//     1      億, its unit, and 零 in front of 一十萬, since the group below has no 千; then 一
+//     0010   萬, its unit, then 十 and 一
+//     1      零, since no digit is written at 10^7, then 億, its unit, and 一
 //
 // So the text is 一億零一十萬.
 ghost use Rattle.std.specs.Prelude.{◌≡◌, ℕ, ◌+◌, ◌*◌, ◌%◌, ◌^◌, ◌<◌, ◌≤◌, List, [], ◌++◌, length};
 ghost use Rattle.cn_core.specs.Mark.{Mark};
 ghost use Rattle.cn_core.specs.Spelling.{spelling};
 ghost use Rattle.cn_spell.specs.Working.Groups.{groups_within, front_limit};
-ghost use Rattle.cn_spell.specs.Working.Units.{places_within, front};
+ghost use Rattle.cn_spell.specs.Working.Units.{positions_within, front};
 
 use crate::characters::Characters;
 use crate::groups::Groups;
 use crate::pen::Pen;
-use crate::places::{put_group, put_places};
+use crate::positions::{put_group, put_positions};
 use crate::units::{unit_at, widths};
 use cn_core::ChineseCountMethod;
 
-// Puts the units that a digit at a place stands before, in front of what is written: it has digits
-// at the places below `filled` alone. 零 stands behind them where the next place below is empty.
+// Puts the units that a digit at a position stands before, in front of what is written: it has
+// digits at the positions below `filled` alone. 零 stands behind them where the next position below
+// is empty.
 #[inline(always)]
 fn put_units<P: Pen>(
     pen: &mut P,
     characters: Characters,
     method: ChineseCountMethod,
-    place: usize,
+    position: usize,
     filled: usize,
 )
-    requires place { place < places_within method }
-    requires room { 3 * length (front method place filled) ≤ P.left pen.old }
+    requires position { position < positions_within method }
+    requires room { 3 * length (front method position filled) ≤ P.left pen.old }
     ensures lender { P.lender pen.new ≡ P.lender pen.old }
-    ensures room { P.left pen.new + 3 * length (front method place filled) ≡ P.left pen.old }
-    ensures marks { (marks : List Mark) → P.shows pen.old characters.variant characters.case marks
-        → P.shows pen.new characters.variant characters.case (front method place filled ++ marks) }
+    ensures room { P.left pen.new + 3 * length (front method position filled) ≡ P.left pen.old }
+    ensures marks { (marks : List Mark) → P.has_put pen.old characters.variant characters.case marks
+        → P.has_put pen.new characters.variant characters.case
+        (front method position filled ++ marks) }
 {
     let mut above = filled.max(1);
     for width in widths(method) {
-        let start = place - place % *width;
+        let start = position - position % *width;
         if start >= above {
             if above == filled && filled < start {
                 pen.put_digit_if(characters, true, 0);
@@ -51,31 +53,32 @@ fn put_units<P: Pen>(
     }
 }
 
-// The same for a group that begins at the place, soon done where the group below is not empty: then
-// the group's own unit is the only one.
+// The same for a group that begins at the position, soon done where the group below is not empty:
+// then the group's own unit is the only one.
 #[inline(always)]
-fn put_front<P: Pen>(
+fn put_group_units<P: Pen>(
     pen: &mut P,
     characters: Characters,
     method: ChineseCountMethod,
-    place: usize,
+    position: usize,
     filled: usize,
 )
-    requires group { place % 4 ≡ 0 }
-    requires place { place ≤ 4 * groups_within method }
-    requires filled { filled ≤ place }
-    requires room { 3 * length (front method place filled) ≤ P.left pen.old }
+    requires group { position % 4 ≡ 0 }
+    requires position { position ≤ 4 * groups_within method }
+    requires filled { filled ≤ position }
+    requires room { 3 * length (front method position filled) ≤ P.left pen.old }
     ensures lender { P.lender pen.new ≡ P.lender pen.old }
-    ensures room { P.left pen.new + 3 * length (front method place filled) ≡ P.left pen.old }
-    ensures marks { (marks : List Mark) → P.shows pen.old characters.variant characters.case marks
-        → P.shows pen.new characters.variant characters.case (front method place filled ++ marks) }
+    ensures room { P.left pen.new + 3 * length (front method position filled) ≡ P.left pen.old }
+    ensures marks { (marks : List Mark) → P.has_put pen.old characters.variant characters.case marks
+        → P.has_put pen.new characters.variant characters.case
+        (front method position filled ++ marks) }
 {
-    if place > 0 {
-        if filled + 4 > place {
-            pen.put_digit_if(characters, filled < place, 0);
-            pen.put_unit_if(characters, true, unit_at(method, place));
+    if position > 0 {
+        if filled + 4 > position {
+            pen.put_digit_if(characters, filled < position, 0);
+            pen.put_unit_if(characters, true, unit_at(method, position));
         } else {
-            put_units(pen, characters, method, place, filled);
+            put_units(pen, characters, method, position, filled);
         }
     }
 }
@@ -105,22 +108,22 @@ pub fn put_spelling<P: Pen>(
     requires count { groups.now.count ≤ groups_within method }
     requires front { groups.now.front < front_limit method }
     requires room { 3 * length (spelling method groups.now.number) ≤ P.left pen.old }
-    requires empty { P.shows pen.old characters.variant characters.case [] }
+    requires empty { P.has_put pen.old characters.variant characters.case [] }
     ensures lender { P.lender pen.new ≡ P.lender pen.old }
     ensures room { P.left pen.new + 3 * length (spelling method groups.now.number)
         ≡ P.left pen.old }
-    ensures marks { P.shows pen.new characters.variant characters.case
+    ensures marks { P.has_put pen.new characters.variant characters.case
         (spelling method groups.now.number) }
 {
     let mut filled = 0;
     for index in 0..groups.count {
         let group = groups.groups[index];
         if group > 0 {
-            put_front(pen, characters, method, 4 * index, filled);
+            put_group_units(pen, characters, method, 4 * index, filled);
             put_group(pen, characters, group);
             filled = 4 * index + digits_of(group);
         }
     }
-    put_front(pen, characters, method, 4 * groups.count, filled);
-    put_places(pen, characters, groups.front);
+    put_group_units(pen, characters, method, 4 * groups.count, filled);
+    put_positions(pen, characters, groups.front);
 }

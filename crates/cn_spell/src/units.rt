@@ -1,8 +1,8 @@
-// The units of a method, by the decimal places at which their groups begin.
+// The units of a method, by the decimal positions at which their groups begin.
 ghost use Rattle.std.specs.Prelude.{◌≡◌, ◌<◌, ◌≤◌, ◌*◌, ◌+◌, length};
 ghost use Rattle.cn_core.specs.Characters.{rank};
 ghost use Rattle.cn_core.specs.Mark.{Mark};
-ghost use Rattle.cn_spell.specs.Working.Units.{widths_of, places_within, rank_at, front};
+ghost use Rattle.cn_spell.specs.Working.Units.{widths_of, positions_within, rank_at, front};
 
 use cn_core::Unit::{
     Bai, Gai, Ge, Gou, Ji, Jian, Jing, Qian, Rang, Shi, Wan, Yi, Zai, Zhao, Zheng, Zi,
@@ -31,17 +31,17 @@ static HIGH: [Unit; 39] = [
     Wan, Shi, Bai,
 ];
 
-/// The unit whose group begins at a place: 萬 at the fourth, by all methods but `Low`.
+/// The unit whose group begins at a position: 萬 at the fourth, by all methods but `Low`.
 #[inline(always)]
-pub fn unit_at(method: ChineseCountMethod, place: usize) -> Unit
-    requires { place < places_within method }
-    ensures { rank result ≡ rank_at method place }
+pub fn unit_at(method: ChineseCountMethod, position: usize) -> Unit
+    requires { position < positions_within method }
+    ensures { rank result ≡ rank_at method position }
 {
     match method {
-        ChineseCountMethod::Low => LOW[place],
-        ChineseCountMethod::TenThousand => TEN_THOUSAND[place],
-        ChineseCountMethod::Middle => MIDDLE[place],
-        ChineseCountMethod::High => HIGH[place],
+        ChineseCountMethod::Low => LOW[position],
+        ChineseCountMethod::TenThousand => TEN_THOUSAND[position],
+        ChineseCountMethod::Middle => MIDDLE[position],
+        ChineseCountMethod::High => HIGH[position],
     }
 }
 
@@ -53,7 +53,7 @@ static MIDDLE_WIDTHS: [usize; 3] = [8, 4, 1];
 
 static HIGH_WIDTHS: [usize; 5] = [32, 16, 8, 4, 1];
 
-/// How many places a unit's group has, the widest group first.
+/// How many positions a unit's group has, the widest group first.
 #[inline(always)]
 pub fn widths(method: ChineseCountMethod) -> &'static [usize]
     ensures { result.now ≡ widths_of method }

@@ -11,15 +11,15 @@ pub loop-width-preserved : goal.loop-width-preserved
 loop-width-preserved g c =
     let l = c.loop-width in
     let widths = c.widths-width-items.result.now in
-    let place = c.args.place in
+    let position = c.args.position in
     let filled = c.args.filled in
     let method = c.args.method in
-    let start : ℕ = start_of (slice_index widths l.width-index) place in
+    let start : ℕ = start_of (slice_index widths l.width-index) position in
     elim c.if-start-above.branch [
       | then-start-above w ↦
           let test : Bool = l.above == filled && nat_lt filled start in
-          let zero : Wrote (g.P.Pen.left c.args.pen.now) (g.P.Pen.left w.if-above-filled.pen) (g.P.Pen.lender c.args.pen.now) (g.P.Pen.lender w.if-above-filled.pen) (g.P.Pen.shows c.args.pen.now c.args.characters.variant c.args.characters.case)
-          (g.P.Pen.shows w.if-above-filled.pen c.args.characters.variant c.args.characters.case) ((if test then digit 0 ∷ [] else []) ++ l.invariant.0) = elim w.if-above-filled.branch [
+          let zero : Wrote (g.P.Pen.left c.args.pen.now) (g.P.Pen.left w.if-above-filled.pen) (g.P.Pen.lender c.args.pen.now) (g.P.Pen.lender w.if-above-filled.pen) (g.P.Pen.has_put c.args.pen.now c.args.characters.variant c.args.characters.case)
+          (g.P.Pen.has_put w.if-above-filled.pen c.args.characters.variant c.args.characters.case) ((if test then digit 0 ∷ [] else []) ++ l.invariant.0) = elim w.if-above-filled.branch [
             | then-above-filled+then-filled-start v ↦
                 let flag : (l.above == filled && nat_lt filled start) ≡ true = grind (arith, nat_tests, v.if-above-filled.true, v.if-filled-start.true) in
                 rw (v.pen-is, flag) (Wrote-more (digit 0) l.invariant.2 v.put_digit_if.ensures.room v.put_digit_if.ensures.lender v.put_digit_if.ensures.marks)
@@ -31,12 +31,12 @@ loop-width-preserved g c =
                 rw (v.pen-is, flag) l.invariant.2
           ] in (
             unit_front method filled l.above start ++ l.invariant.0,
-            rw w.above-is (front-then method place filled l.above l.width-index widths l.invariant.0 _ c.loop-width-test.true w.if-start-above.true l.invariant.1),
+            rw w.above-is (front-then method position filled l.above l.width-index widths l.invariant.0 _ c.loop-width-test.true w.if-start-above.true l.invariant.1),
             rw (w.pen-is, ← w.unit_at.ensures) (Wrote-more (unit _) zero w.put_unit_if.ensures.room w.put_unit_if.ensures.lender w.put_unit_if.ensures.marks),
           )
       | else-start-above w ↦ (
         l.invariant.0,
-        rw w.above-is (front-else method place filled l.above l.width-index widths l.invariant.0 _ c.loop-width-test.true w.if-start-above.false l.invariant.1),
+        rw w.above-is (front-else method position filled l.above l.width-index widths l.invariant.0 _ c.loop-width-test.true w.if-start-above.false l.invariant.1),
         rw w.pen-is l.invariant.2,
       )
     ]

@@ -7,5 +7,5 @@ use Rattle.cn_spell.proofs.spell.put_units.Given as goal
 abbrev pub invariant-loop-width : goal.invariant-loop-width
 invariant-loop-width g l =
     (done : List Mark)
-    × (front l.method l.place l.filled ≡ units_over l.method l.place l.filled l.above (drop l.width-index l.width-items) ++ done)
-    × Wrote (g.P.Pen.left l.fn.pen) (g.P.Pen.left l.pen) (g.P.Pen.lender l.fn.pen) (g.P.Pen.lender l.pen) (g.P.Pen.shows l.fn.pen l.characters.variant l.characters.case) (g.P.Pen.shows l.pen l.characters.variant l.characters.case) done
+    × (front l.method l.position l.filled ≡ units_over l.method l.position l.filled l.above (drop l.width-index l.width-items) ++ done)
+    × Wrote (g.P.Pen.left l.fn.pen) (g.P.Pen.left l.pen) (g.P.Pen.lender l.fn.pen) (g.P.Pen.lender l.pen) (g.P.Pen.has_put l.fn.pen l.characters.variant l.characters.case) (g.P.Pen.has_put l.pen l.characters.variant l.characters.case) done

@@ -15,12 +15,12 @@ bounds-self-start-3 c = omega (arith, ap length c.args.self.is_table, length-byt
 
 pub returns-clause-bytes : goal.returns-clause-bytes
 returns-clause-bytes c =
-    let less : c.args.place < length (table_characters c.args.self.variant c.args.self.case) = omega (arith, length-table c.args.self.variant c.args.self.case, c.requires) in
-    rw c.args.self.is_table (bytes-at (table_characters c.args.self.variant c.args.self.case) c.args.place _ (three-table c.args.self.variant c.args.self.case) less refl)
+    let less : c.args.position < length (table_characters c.args.self.variant c.args.self.case) = omega (arith, length-table c.args.self.variant c.args.self.case, c.requires) in
+    rw c.args.self.is_table (bytes-at (table_characters c.args.self.variant c.args.self.case) c.args.position _ (three-table c.args.self.variant c.args.self.case) less refl)
 
 pub returns-clause-utf8 : goal.returns-clause-utf8
 returns-clause-utf8 c =
     let all = table_characters c.args.self.variant c.args.self.case in
     let three = three-table c.args.self.variant c.args.self.case in
-    let less : c.args.place < length all = omega (arith, length-table c.args.self.variant c.args.self.case, c.requires) in
-    rw (c.args.self.is_table, bytes-at all c.args.place _ three less refl) (IsUtf8-three _ (passes-at takes_three all c.args.place three less))
+    let less : c.args.position < length all = omega (arith, length-table c.args.self.variant c.args.self.case, c.requires) in
+    rw (c.args.self.is_table, bytes-at all c.args.position _ three less refl) (IsUtf8-three _ (passes-at takes_three all c.args.position three less))

@@ -1,5 +1,5 @@
 use Rattle.std.proofs.Common.{◌<◌, ◌^◌, subst}
-use Rattle.cn_spell.proofs.PlacesLemmas.{holds-less}
+use Rattle.cn_spell.proofs.PositionsLemmas.{holds-less}
 use Rattle.cn_spell.proofs.digits.Digits.len.Goals as goal
 
 pub returns-clause-magnitude : goal.returns-clause-magnitude

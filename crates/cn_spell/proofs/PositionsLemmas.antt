@@ -10,33 +10,33 @@ use Rattle.std.proofs.Math.Arith.{mod-mul}
 use Rattle.std.proofs.lemmas.Nat.{div-mul-add, mod-mul-add}
 use Rattle.std.proofs.lemmas.Fmt.{decimal_step_wide, decimal_by_steps_wide, decimal_digit, length-decimal-le_wide}
 use Rattle.std.proofs.lemmas.List.{map-append, length-map, reverse-append, length-reverse}
-use Rattle.cn_spell.specs.Working.Places.{places_of, places_value, lowest, is_digit, HoldsPlaces}
+use Rattle.cn_spell.specs.Working.Positions.{positions_of, positions_value, lowest, is_digit, HoldsPositions}
 
-pub places-step : (number : ℕ) → 10 ≤ number → number < 10 ^ 64 → places_of number ≡ number % 10 ∷ places_of (number / 10)
-places-step number ten small =
+pub positions-step : (number : ℕ) → 10 ≤ number → number < 10 ^ 64 → positions_of number ≡ number % 10 ∷ positions_of (number / 10)
+positions-step number ten small =
     let value : ℕ → ℕ = λ byte. byte - 48 in
     let last : 48 + number % 10 - 48 ≡ number % 10 = omega arith in
     ap (λ bytes. reverse (map value bytes)) (decimal_step_wide number ten small)
     ∙ ap reverse (map-append value (decimal (number / 10)) ((48 + number % 10) ∷ []))
     ∙ reverse-append (map value (decimal (number / 10))) (value (48 + number % 10) ∷ [])
-    ∙ ap (λ digit. digit ∷ places_of (number / 10)) last
+    ∙ ap (λ digit. digit ∷ positions_of (number / 10)) last
 
-pub places-digit : (number : ℕ) → number < 10 → places_of number ≡ number ∷ []
-places-digit number small =
+pub positions-digit : (number : ℕ) → number < 10 → positions_of number ≡ number ∷ []
+positions-digit number small =
     let value : ℕ → ℕ = λ byte. byte - 48 in
     let only : 48 + number - 48 ≡ number = omega arith in
     ap (λ bytes. reverse (map value bytes)) (decimal_digit number small) ∙ ap (λ digit. digit ∷ []) only
 
 -- so many digits, and then those of what is left
-pub places-lowest : (count number : ℕ) → 10 ^ count ≤ number → number < 10 ^ 64 → places_of number ≡ lowest count number ++ places_of (number / 10 ^ count)
-places-lowest zero number reach small = let e : number / 1 ≡ number = omega arith in rw e refl
-places-lowest (suc count) number reach small =
+pub positions-lowest : (count number : ℕ) → 10 ^ count ≤ number → number < 10 ^ 64 → positions_of number ≡ lowest count number ++ positions_of (number / 10 ^ count)
+positions-lowest zero number reach small = let e : number / 1 ≡ number = omega arith in rw e refl
+positions-lowest (suc count) number reach small =
     let one : 1 ≤ 10 ^ count = one-le-pow count 10 (omega arith) in
     let power : 10 ^ suc count ≡ 10 * 10 ^ count = omega arith in
     let below : 10 ^ count ≤ number / 10 = omega (arith, reach, power) in
     let rest : number / 10 / 10 ^ count ≡ number / 10 ^ suc count = div-div-eq-div-mul number 10 (10 ^ count) ∙ ap (λ p. number / p) (sym power) in
-    places-step number (omega (arith, reach, one, power)) small
-    ∙ ap (λ front. number % 10 ∷ front) (places-lowest count (number / 10) below (omega (arith, small)) ∙ ap (λ left. lowest count (number / 10) ++ places_of left) rest)
+    positions-step number (omega (arith, reach, one, power)) small
+    ∙ ap (λ front. number % 10 ∷ front) (positions-lowest count (number / 10) below (omega (arith, small)) ∙ ap (λ left. lowest count (number / 10) ++ positions_of left) rest)
 
 pub lowest-append : (count more number : ℕ) → lowest (count + more) number ≡ lowest count number ++ lowest more (number / 10 ^ count)
 lowest-append zero more number = let e : number / 1 ≡ number = omega arith in let z : 0 + more ≡ more = omega arith in rw (e, z) refl
@@ -50,16 +50,16 @@ pub length-lowest : (count number : ℕ) → length (lowest count number) ≡ co
 length-lowest zero number = refl
 length-lowest (suc count) number = ap suc (length-lowest count (number / 10))
 
-pub length-places-le : (count number : ℕ) → 1 ≤ count → number < 10 ^ count → number < 10 ^ 64 → length (places_of number) ≤ count
-length-places-le count number some fits small =
+pub length-positions-le : (count number : ℕ) → 1 ≤ count → number < 10 ^ count → number < 10 ^ 64 → length (positions_of number) ≤ count
+length-positions-le count number some fits small =
     let value : ℕ → ℕ = λ byte. byte - 48 in
     omega (arith, length-reverse (map value (decimal number)), length-map (decimal number) value, length-decimal-le_wide count number some fits small)
 
 -- a number has a digit
-pub length-places-some : (number : ℕ) → number < 10 ^ 64 → 1 ≤ length (places_of number)
-length-places-some number small = elim (dec_lt number 10) [
-  | yes low ↦ rw (places-digit number low) (omega arith)
-  | no high ↦ rw (places-step number (omega (arith, high)) small) (omega arith)
+pub length-positions-some : (number : ℕ) → number < 10 ^ 64 → 1 ≤ length (positions_of number)
+length-positions-some number small = elim (dec_lt number 10) [
+  | yes low ↦ rw (positions-digit number low) (omega arith)
+  | no high ↦ rw (positions-step number (omega (arith, high)) small) (omega arith)
 ]
 
 -- what stands above does not matter
@@ -80,13 +80,13 @@ chunk-done done chunk rest more left whole put split same =
     ap (λ front. front ++ rest) put ∙ append_assoc done chunk rest ∙ ap (λ back. done ++ back) (sym split) ∙ same
 
 -- the length of a number's digits, by so many and those of what is left
-pub length-split : (count number : ℕ) → 10 ^ count ≤ number → number < 10 ^ 64 → length (places_of number) ≡ count + length (places_of (number / 10 ^ count))
+pub length-split : (count number : ℕ) → 10 ^ count ≤ number → number < 10 ^ 64 → length (positions_of number) ≡ count + length (positions_of (number / 10 ^ count))
 length-split count number reach small =
-    ap length (places-lowest count number reach small) ∙ length-append (lowest count number) (places_of (number / 10 ^ count))
-    ∙ ap (λ n. n + length (places_of (number / 10 ^ count))) (length-lowest count number)
+    ap length (positions-lowest count number reach small) ∙ length-append (lowest count number) (positions_of (number / 10 ^ count))
+    ∙ ap (λ n. n + length (positions_of (number / 10 ^ count))) (length-lowest count number)
 
 -- each of them is a digit
-pub all-digits : (number : ℕ) → number < 10 ^ 64 → list_all is_digit (places_of number) ≡ true
+pub all-digits : (number : ℕ) → number < 10 ^ 64 → list_all is_digit (positions_of number) ≡ true
 all-digits = decimal_by_steps_wide (λ number bytes. list_all is_digit (reverse (map (λ byte. byte - 48) bytes)) ≡ true) one more where
   one : (number : ℕ) → number < 10 → list_all is_digit (reverse (map (λ byte. byte - 48) ((48 + number) ∷ []))) ≡ true
   one number small = let e : 48 + number - 48 ≡ number = omega arith in let t : nat_lt number 10 ≡ true = grind (arith, nat_tests, small) in rw (e, t) refl
@@ -116,13 +116,13 @@ part-done done part =
     regroup done (lowest 4 (part % 10 ^ 8 % 10 ^ 4)) (lowest 4 (part % 10 ^ 8 / 10 ^ 4)) (lowest 4 (part / 10 ^ 8 % 10 ^ 4)) (lowest 4 (part / 10 ^ 8 / 10 ^ 4))
     ∙ ap (λ digits. done ++ digits) (lowest-part part)
 
-pub value-places : (number : ℕ) → number < 10 ^ 64 → places_value (places_of number) ≡ number
-value-places = decimal_by_steps_wide (λ number bytes. places_value (reverse (map (λ byte. byte - 48) bytes)) ≡ number) one more where
-  one : (number : ℕ) → number < 10 → places_value (reverse (map (λ byte. byte - 48) ((48 + number) ∷ []))) ≡ number
+pub value-positions : (number : ℕ) → number < 10 ^ 64 → positions_value (positions_of number) ≡ number
+value-positions = decimal_by_steps_wide (λ number bytes. positions_value (reverse (map (λ byte. byte - 48) bytes)) ≡ number) one more where
+  one : (number : ℕ) → number < 10 → positions_value (reverse (map (λ byte. byte - 48) ((48 + number) ∷ []))) ≡ number
   one number small = omega arith
 
-  more : (number : ℕ) (bytes : List ℕ) → 10 ≤ number → places_value (reverse (map (λ byte. byte - 48) bytes)) ≡ number / 10
-      → places_value (reverse (map (λ byte. byte - 48) (bytes ++ ((48 + number % 10) ∷ [])))) ≡ number
+  more : (number : ℕ) (bytes : List ℕ) → 10 ≤ number → positions_value (reverse (map (λ byte. byte - 48) bytes)) ≡ number / 10
+      → positions_value (reverse (map (λ byte. byte - 48) (bytes ++ ((48 + number % 10) ∷ [])))) ≡ number
   more number bytes ten rest =
       let value : ℕ → ℕ = λ byte. byte - 48 in
       let e : reverse (map value (bytes ++ ((48 + number % 10) ∷ []))) ≡ value (48 + number % 10) ∷ reverse (map value bytes) =
@@ -130,31 +130,31 @@ value-places = decimal_by_steps_wide (λ number bytes. places_value (reverse (ma
       rw e (omega (arith, rest))
 
 -- the digits of a number, as they are held
-pub holds : (number len : ℕ) (places : List ℕ) → number < 10 ^ 39 → places ≡ places_of number → len ≡ length (places_of number) → HoldsPlaces len places
-holds number len places small same size =
+pub holds : (number len : ℕ) (positions : List ℕ) → number < 10 ^ 39 → positions ≡ positions_of number → len ≡ length (positions_of number) → HoldsPositions len positions
+holds number len positions small same size =
     let wide : number < 10 ^ 64 = omega (arith, small) in
-    let value : places_value places ≡ number = ap places_value same ∙ value-places number wide in
+    let value : positions_value positions ≡ number = ap positions_value same ∙ value-positions number wide in
     record {
-      some = omega (arith, size, length-places-some number wide);
-      bound = omega (arith, size, length-places-le 39 number (omega arith) small wide);
+      some = omega (arith, size, length-positions-some number wide);
+      bound = omega (arith, size, length-positions-le 39 number (omega arith) small wide);
       count = ap length same ∙ sym size;
       digits = rw same (all-digits number wide);
-      whole = same ∙ ap places_of (sym value);
+      whole = same ∙ ap positions_of (sym value);
     }
 
 -- so many digits make a number below that power of ten
-pub value-less : (places : List ℕ) → list_all is_digit places ≡ true → places_value places < 10 ^ length places
+pub value-less : (positions : List ℕ) → list_all is_digit positions ≡ true → positions_value positions < 10 ^ length positions
 value-less [] h = omega arith
-value-less (digit ∷ places) h =
+value-less (digit ∷ positions) h =
     let t : is_digit digit ≡ true = and-left (is_digit digit) _ h in
     let small : digit < 10 = grind (arith, nat_tests, t) in
-    let power : 10 ^ suc (length places) ≡ 10 * 10 ^ length places = omega arith in
-    let rest = value-less places (and-right (is_digit digit) _ h) in
-    let whole : digit + 10 * places_value places < 10 ^ suc (length places) = omega (arith, small, rest, power) in
+    let power : 10 ^ suc (length positions) ≡ 10 * 10 ^ length positions = omega arith in
+    let rest = value-less positions (and-right (is_digit digit) _ h) in
+    let whole : digit + 10 * positions_value positions < 10 ^ suc (length positions) = omega (arith, small, rest, power) in
     whole
 
-pub holds-less : (len : ℕ) (places : List ℕ) → HoldsPlaces len places → places_value places < 10 ^ 39
-holds-less len places held =
-    let few : length places ≤ 39 = omega (arith, held.bound, held.count) in
-    let p : 10 ^ length places ≤ 10 ^ 39 = pow-le-pow_right (omega arith) few in
-    omega (arith, p, value-less places held.digits)
+pub holds-less : (len : ℕ) (positions : List ℕ) → HoldsPositions len positions → positions_value positions < 10 ^ 39
+holds-less len positions held =
+    let few : length positions ≤ 39 = omega (arith, held.bound, held.count) in
+    let p : 10 ^ length positions ≤ 10 ^ 39 = pow-le-pow_right (omega arith) few in
+    omega (arith, p, value-less positions held.digits)

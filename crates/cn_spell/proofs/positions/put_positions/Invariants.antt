@@ -1,0 +1,21 @@
+use Rattle.std.proofs.Common.{◌≡◌, ◌+◌, ◌*◌, ◌/◌, ◌^◌, ◌<◌, ◌≤◌, List, ◌++◌, length}
+use Rattle.cn_core.specs.declared.method.ChineseCountMethod.TheVariants.{Low}
+use Rattle.cn_core.specs.Mark.{Mark}
+use Rattle.cn_spell.proofs.Single.{so_far, below_of}
+use Rattle.cn_spell.proofs.positions.put_positions.Given as goal
+
+abbrev pub invariant-loop-left : goal.invariant-loop-left
+invariant-loop-left g l = record {
+  split : l.left ≡ l.number / 10 ^ l.position;
+  reach : 0 < l.position → 10 ^ l.position ≤ l.number;
+  within : l.position < 16;
+  below : l.below ≡ below_of l.number l.position;
+  digit : l.below < 10;
+  room : g.P.Pen.left l.pen + 3 * length (so_far Low l.number l.position) ≡ g.P.Pen.left l.fn.pen;
+  lender : g.P.Pen.lender l.pen ≡ g.P.Pen.lender l.fn.pen;
+  marks : (marks : List Mark) → g.P.Pen.has_put l.fn.pen l.characters.variant l.characters.case marks
+      → g.P.Pen.has_put l.pen l.characters.variant l.characters.case (so_far Low l.number l.position ++ marks);
+}
+
+abbrev pub decreases-loop-left : goal.decreases-loop-left
+decreases-loop-left g l = l.left
