@@ -6,6 +6,6 @@ use Rattle.numeral.proofs.engine.answer_line.Goals as goal
 pub returns : goal.returns
 returns g c =
     let put = c.write_all.ensures in
-    let text : c.as_bytes.result.now ≡ string_bytes c.answer.new.room ++ 10 ∷ [] = c.as_bytes.ensures.value ∙ c.in_ok-put_line_feed.ensures in
-    Replies-put (Unit {0}) (Unit {0}) _ _ _ c.args.line.now (string_bytes c.answer.new.room) _ c.in_ok-answer.ensures
+    let text : c.as_bytes.result.now ≡ string_bytes c.answer.new.answer ++ 10 ∷ [] = c.as_bytes.ensures.value ∙ c.in_ok-put_line_feed.ensures in
+    Replies-put (Unit {0}) (Unit {0}) _ _ _ c.args.line.now (string_bytes c.answer.new.answer) _ c.in_ok-answer.ensures
     (rw text at put)
