@@ -20,10 +20,7 @@ fn put_bad_line(answer: &mut String) -> Result<(), AllocError>
 }
 
 // Reads a text as a number of a type.
-fn read_as<T: Whole>(
-    method: Method,
-    text: &str,
-) -> Result<SignedMagnitude, ChineseToNumberError>
+fn read_as<T: Whole>(method: Method, text: &str) -> Result<SignedMagnitude, ChineseToNumberError>
     ensures { ReadsBy method T.kind text.now (answer_of stands_for result) }
 {
     let value: T = match method {

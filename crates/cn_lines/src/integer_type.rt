@@ -40,7 +40,10 @@ impl Model for IntegerType {
     ghost view = { λ s. kind_between s.signed s.below s.above };
 
     ghost inverse = { λ kind. record {
-        signed = kind.signed; below = nat_abs kind.least; above = nat_abs kind.greatest } };
+      signed = kind.signed;
+      below = nat_abs kind.least;
+      above = nat_abs kind.greatest;
+    } };
 
     ghost invariant = { λ s. IsWithin (kind_between s.signed s.below s.above) (widest s.signed) };
 }
