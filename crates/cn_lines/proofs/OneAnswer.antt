@@ -1,16 +1,17 @@
 -- A line has one answer, and an input one output.
-use Rattle.std.proofs.Common.{◌≡◌, ◌++◌, codes, encode_utf8_all, ℕ, ℤ, Bool, true, false, Option, Some, None, List, [], ◌∷◌, refl, sym, ap, ◌∙◌}
+use Rattle.std.proofs.Common.{◌≡◌, ◌++◌, codes, encode_utf8_all, ℕ, ℤ, Bool, true, false, Option, Some, None, Result, List, [], ◌∷◌, refl, sym, ap, ◌∙◌}
 use Rattle.std.specs.Bool.{MatchBool}
 use Rattle.chinese_number.specs.declared.ChineseVariant.{ChineseVariant}
 use Rattle.chinese_number.specs.declared.ChineseCase.{ChineseCase}
-use Rattle.chinese_number.specs.Refusal.{refusal_text}
-use Rattle.chinese_number.specs.Whole.{holds}
+use Rattle.chinese_number.specs.Refusal.{Refusal, refusal_text}
+use Rattle.chinese_number.specs.Typed.{naive_reading}
+use Rattle.chinese_number.specs.Whole.{Kind, holds}
 use Rattle.chinese_number.specs.Written.{spelled_text, is_printable}
 use Rattle.chinese_number.proofs.Reading.{the_answer, Reads-same, Reads-the_answer}
 use Rattle.cn_lines.specs.declared.question.Method.{Method}
 use Rattle.cn_lines.specs.declared.question.Method.TheVariants.{Naive, Units}
-use Rattle.cn_lines.specs.Question.{Question, read, print, kind_of, question_of}
-use Rattle.cn_lines.specs.Answer.{bad_line, reading_text, unprintable, Answers, AnswersPrint, AnswersAny, AreReplies}
+use Rattle.cn_lines.specs.Question.{Question, read, print, question_of}
+use Rattle.cn_lines.specs.Answer.{bad_line, reading_text, unprintable, Answers, AnswersPrint, ReadsBy, AnswersAny, AreReplies}
 
 -- at most one list is such
 abbrev IsSingle : (List ℕ → Type 0) → Type 0
@@ -28,13 +29,17 @@ single_printing Naive variant case number = single _
 single_printing (Units method) variant case number =
     single_either (is_printable method number) (λ answer. answer ≡ _) (λ answer. answer ≡ _) (single _) (single _)
 
+single_reading : (method : Method) (kind : Kind) (text : List ℕ) (a b : Result ℤ Refusal)
+    → ReadsBy method kind text a → ReadsBy method kind text b → a ≡ b
+single_reading Naive kind text a b p q = p ∙ sym q
+single_reading (Units method) kind text a b p q = Reads-same kind method text a b p q
+
 single_to_question : (question : Option Question) → IsSingle (AnswersAny question)
 single_to_question None = single _
-single_to_question (Some (read integer Naive text)) = single _
-single_to_question (Some (read integer (Units method) text)) =
-    λ a b (x, is_x, a_is) (y, is_y, b_is). a_is ∙ ap reading_text (Reads-same (kind_of integer) method text x y is_x is_y) ∙ sym b_is
-single_to_question (Some (print integer method variant case number)) =
-    single_either (holds (kind_of integer) number) (AnswersPrint method variant case number) (λ answer. answer ≡ _)
+single_to_question (Some (read kind method text)) =
+    λ a b (x, is_x, a_is) (y, is_y, b_is). a_is ∙ ap reading_text (single_reading method kind text x y is_x is_y) ∙ sym b_is
+single_to_question (Some (print kind method variant case number)) =
+    single_either (holds kind number) (AnswersPrint method variant case number) (λ answer. answer ≡ _)
     (single_printing method variant case number) (single _)
 
 pub single_answer : (line : List ℕ) → IsSingle (Answers line)
@@ -63,12 +68,11 @@ some_printing (Units method) variant case number =
 some_to_question : (question : Option Question)
     → (answer : List ℕ) × AnswersAny question answer
 some_to_question None = (_, refl)
-some_to_question (Some (read integer Naive text)) = (_, refl)
-some_to_question (Some (read integer (Units method) text)) =
-    let kind = kind_of integer in
-    (reading_text (the_answer kind method text), (the_answer kind method text, Reads-the_answer kind method text, refl))
-some_to_question (Some (print integer method variant case number)) =
-    either_way (holds (kind_of integer) number) (AnswersPrint method variant case number) (λ answer. answer ≡ bad_line)
+some_to_question (Some (read kind Naive text)) = (_, (naive_reading kind text, refl, refl))
+some_to_question (Some (read kind (Units method) text)) =
+    (_, (the_answer kind method text, Reads-the_answer kind method text, refl))
+some_to_question (Some (print kind method variant case number)) =
+    either_way (holds kind number) (AnswersPrint method variant case number) (λ answer. answer ≡ bad_line)
     (some_printing method variant case number) (_, refl)
 
 pub some_answer : (line : List ℕ) → (answer : List ℕ) × Answers line answer

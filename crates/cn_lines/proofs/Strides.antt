@@ -1,4 +1,4 @@
--- The place of a byte, seen a stride at a time.
+-- The position of a byte, seen a stride at a time.
 use Rattle.std.proofs.Common.{◌≡◌, ◌≢◌, ◌+◌, ◌-◌, ◌<◌, ◌≤◌, ◌++◌, ℕ, suc, Bool, true, false, not, cond, eqb, ltb, List, [], ◌∷◌, refl, map, length, position, unwrap_or, take, drop, get_or, rules, sym, ap, ◌∙◌, arith}
 use Rattle.std.proofs.lemmas.Simd.{chunk-drop, first_set_mask_l}
 use Rattle.std.proofs.lemmas.List.Folds.{prefix_len-append}
@@ -13,7 +13,7 @@ use Rattle.std.proofs.lemmas.Bool.{false≢true}
 use lib.Count.{count_trailing_zeros}
 use lib.Lanes.{mask_l}
 
--- the first place that passes, or else the length
+-- the first position that passes, or else the length
 pub first_or_length : (p : ℕ → Bool) (bytes : List ℕ) → unwrap_or (position p bytes) (length bytes) ≡ position_or_len p bytes
 first_or_length p bytes =
     let most : position_or_len p bytes ≤ length bytes = prefix_len-le-length (λ b. not (p b)) bytes in
@@ -21,17 +21,17 @@ first_or_length p bytes =
     elim [ true ↦ λ e. rw e refl | false ↦ λ e. rw e (search (rules, nat_tests, e, most)) ] in
     go (ltb (position_or_len p bytes) (length bytes)) refl
 
--- where no bit of the mask is set, the place is the length
-pub place_of_none : (p : ℕ → Bool) (xs : List ℕ) (n mask : ℕ) → length xs ≡ n → n ≤ 64 → mask ≡ mask_l (map p xs) → mask ≡ 0
+-- where no bit of the mask is set, the position is the length
+pub position_of_none : (p : ℕ → Bool) (xs : List ℕ) (n mask : ℕ) → length xs ≡ n → n ≤ 64 → mask ≡ mask_l (map p xs) → mask ≡ 0
     → n ≡ position_or_len p xs
-place_of_none p xs n mask long short is none =
+position_of_none p xs n mask long short is none =
     let e : eqb (mask_l (map p xs)) 0 ≡ true = eq-eqb _ _ (sym is ∙ none) in
     sym (ap (λ b. cond b n (count_trailing_zeros 64 (mask_l (map p xs)))) e) ∙ first_set_mask_l p xs n long short
 
 -- else it is that of the lowest bit
-pub place_of_some : (p : ℕ → Bool) (xs : List ℕ) (n mask : ℕ) → length xs ≡ n → n ≤ 64 → mask ≡ mask_l (map p xs) → mask ≢ 0
+pub position_of_some : (p : ℕ → Bool) (xs : List ℕ) (n mask : ℕ) → length xs ≡ n → n ≤ 64 → mask ≡ mask_l (map p xs) → mask ≢ 0
     → count_trailing_zeros 64 mask ≡ position_or_len p xs
-place_of_some p xs n mask long short is some =
+position_of_some p xs n mask long short is some =
     let e : eqb (mask_l (map p xs)) 0 ≡ false = ne_eqb _ _ (λ h. some (is ∙ h)) in
     ap (count_trailing_zeros 64) is ∙ sym (ap (λ b. cond b n (count_trailing_zeros 64 (mask_l (map p xs)))) e) ∙ first_set_mask_l p xs n long short
 
@@ -55,8 +55,8 @@ stride_is bytes start n stride within chunk =
       parts = chunk-drop start n bytes ∙ ap (λ l. l ++ drop (start + n) bytes) (sym same);
     }
 
-module _ (p : ℕ → Bool) (bytes : List ℕ) (start n place : ℕ) (stride : List ℕ) (within : start ≤ length bytes)
-    (chunk : IsFirstChunk (take (length bytes - start) (drop start bytes)) stride n) (is : place ≡ position_or_len p stride)
+module _ (p : ℕ → Bool) (bytes : List ℕ) (start n found : ℕ) (stride : List ℕ) (within : start ≤ length bytes)
+    (chunk : IsFirstChunk (take (length bytes - start) (drop start bytes)) stride n) (is : found ≡ position_or_len p stride)
     (so_far : position_or_len p bytes ≡ start + position_or_len p (drop start bytes)) where
   split : position_or_len p (drop start bytes)
       ≡ cond (eqb (position_or_len p stride) (length stride)) (length stride + position_or_len p (drop (start + n) bytes)) (position_or_len p stride)
@@ -64,16 +64,16 @@ module _ (p : ℕ → Bool) (bytes : List ℕ) (start n place : ℕ) (stride : L
       ap (position_or_len p) (stride_is bytes start n stride within chunk).parts ∙ prefix_len-append (λ b. not (p b)) stride (drop (start + n) bytes)
 
   -- it stands in the stride
-  pub place_found : place < n → start + place ≡ position_or_len p bytes
-  place_found inside =
+  pub position_found : found < n → start + found ≡ position_or_len p bytes
+  position_found inside =
       let long = (stride_is bytes start n stride within chunk).long in
       let e : eqb (position_or_len p stride) (length stride) ≡ false = ne_eqb _ _ (λ h. omega (arith, h, is, long)) in
       omega (arith, so_far, split ∙ ap (λ b. cond b (length stride + position_or_len p (drop (start + n) bytes)) (position_or_len p stride)) e)
 
   -- it stands after the stride
-  pub place_further : n ≤ place
+  pub position_further : n ≤ found
       → (start + n ≤ length bytes) × (position_or_len p bytes ≡ start + n + position_or_len p (drop (start + n) bytes))
-  place_further outside =
+  position_further outside =
       let s = stride_is bytes start n stride within chunk in
       let long = s.long in
       let most : position_or_len p stride ≤ length stride = prefix_len-le-length (λ b. not (p b)) stride in

@@ -10,7 +10,7 @@ use Rattle.chinese_number.specs.Whole.{Kind, holds}
 use Rattle.chinese_number.specs.Written.{naive_text, spelled_text, is_printable}
 use Rattle.cn_lines.specs.declared.question.Method.{Method}
 use Rattle.cn_lines.specs.declared.question.Method.TheVariants.{Naive, Units}
-use Rattle.cn_lines.specs.Question.{Question, read, print, kind_of, question_of}
+use Rattle.cn_lines.specs.Question.{Question, read, print, question_of}
 
 -- what is answered to a text that was read
 abbrev pub reading_text : Result ℤ Refusal → List ℕ
@@ -21,11 +21,16 @@ reading_text (Err refusal) = codes "err " ++ refusal_text refusal
 abbrev pub bad_line : List ℕ
 bad_line = codes "bad line"
 
+-- what a text is read as
+abbrev pub ReadsBy : Method → Kind → List ℕ → Result ℤ Refusal → Type 0
+ReadsBy Naive kind text reading = reading ≡ naive_reading kind text
+ReadsBy (Units method) kind text reading = Reads kind method text reading
+
 -- the answer to a text that is to be read
 abbrev pub AnswersRead : Kind → Method → List ℕ → List ℕ → Type 0
-AnswersRead kind Naive text answer = answer ≡ reading_text (naive_reading kind text)
-AnswersRead kind (Units method) text answer =
-    (reading : Result ℤ Refusal) × Reads kind method text reading × (answer ≡ reading_text reading)
+AnswersRead kind method text answer =
+    (reading : Result ℤ Refusal) × ReadsBy method kind text reading
+    × (answer ≡ reading_text reading)
 
 -- why a method does not write a number
 abbrev pub unprintable : ℤ → Refusal
@@ -36,19 +41,22 @@ abbrev pub AnswersPrint : Method → ChineseVariant → ChineseCase → ℤ → 
 AnswersPrint Naive variant case number answer =
     answer ≡ codes "ok " ++ encode_utf8_all (naive_text variant case number)
 AnswersPrint (Units method) variant case number answer =
-    MatchBool (is_printable method number) (answer ≡ codes "ok " ++ encode_utf8_all (spelled_text variant case method number))
+    MatchBool (is_printable method number)
+    (answer ≡ codes "ok " ++ encode_utf8_all (spelled_text variant case method number))
     (answer ≡ codes "err " ++ refusal_text (unprintable number))
 
 -- the answer to a number that is to be printed
-abbrev pub AnswersPrinting : Kind → Method → ChineseVariant → ChineseCase → ℤ → List ℕ → Type 0
+abbrev pub AnswersPrinting :
+    Kind → Method → ChineseVariant → ChineseCase → ℤ → List ℕ → Type 0
 AnswersPrinting kind method variant case number answer =
-    MatchBool (holds kind number) (AnswersPrint method variant case number answer) (answer ≡ bad_line)
+    MatchBool (holds kind number) (AnswersPrint method variant case number answer)
+    (answer ≡ bad_line)
 
 -- the answer to a question
 abbrev pub AnswersQuestion : Question → List ℕ → Type 0
-AnswersQuestion (read integer method text) answer = AnswersRead (kind_of integer) method text answer
-AnswersQuestion (print integer method variant case number) answer =
-    AnswersPrinting (kind_of integer) method variant case number answer
+AnswersQuestion (read kind method text) answer = AnswersRead kind method text answer
+AnswersQuestion (print kind method variant case number) answer =
+    AnswersPrinting kind method variant case number answer
 
 -- the answer to what is asked, if anything is
 abbrev pub AnswersAny : Option Question → List ℕ → Type 0
@@ -63,4 +71,5 @@ Answers line answer = AnswersAny (question_of line) answer
 abbrev pub AreReplies : List (List ℕ) → List ℕ → Type 0
 AreReplies [] bytes = bytes ≡ []
 AreReplies (line ∷ lines) bytes =
-    (answer : List ℕ) × (rest : List ℕ) × Answers line answer × AreReplies lines rest × (bytes ≡ answer ++ 10 ∷ rest)
+    (answer : List ℕ) × (rest : List ℕ) × Answers line answer × AreReplies lines rest
+    × (bytes ≡ answer ++ 10 ∷ rest)

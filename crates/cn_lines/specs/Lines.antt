@@ -24,7 +24,8 @@ onto_rest byte (line ∷ lines) rest = rest
 -- what stands after the last line feed
 unfoldable pub unended : List ℕ → List ℕ
 unended [] = []
-unended (byte ∷ bytes) = if byte == 10 then unended bytes else onto_rest byte (ended bytes) (unended bytes)
+unended (byte ∷ bytes) =
+    if byte == 10 then unended bytes else onto_rest byte (ended bytes) (unended bytes)
 
 -- a last line, if it has a byte
 abbrev pub last_line : List ℕ → List (List ℕ)

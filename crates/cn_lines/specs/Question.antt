@@ -9,8 +9,6 @@ use Rattle.chinese_number.specs.declared.ChineseCase.{ChineseCase}
 use Rattle.chinese_number.specs.declared.ChineseCase.TheVariants.{Upper, Lower}
 use Rattle.chinese_number.specs.declared.ChineseCountMethod.TheVariants.{Low, TenThousand, Middle, High}
 use Rattle.chinese_number.specs.Whole.{Kind, unsigned_kind, signed_kind, signed_number}
-use Rattle.cn_lines.specs.declared.question.IntegerType.{IntegerType}
-use Rattle.cn_lines.specs.declared.question.IntegerType.TheVariants.{U8, U16, U32, U64, U128, Usize, I8, I16, I32, I64, I128, Isize}
 use Rattle.cn_lines.specs.declared.question.Method.{Method}
 use Rattle.cn_lines.specs.declared.question.Method.TheVariants.{Naive, Units}
 
@@ -20,39 +18,29 @@ o >>= f = option_and_then f o
 
 -- what a line asks: to read a text as a number of a type, or to print a number of a type
 pub data Question : Type 0 where
-  read : IntegerType → Method → List ℕ → Question
-  print : IntegerType → Method → ChineseVariant → ChineseCase → ℤ → Question
+  read : Kind → Method → List ℕ → Question
+  print : Kind → Method → ChineseVariant → ChineseCase → ℤ → Question
 
 -- what stands beside the name in a table
 abbrev pub named : {A : Type 0} → List ℕ → List (List ℕ × A) → Option A
 named name [] = None
 named name (row ∷ rows) = if bytes_eq name row.0 then Some row.1 else named name rows
 
--- the integer type of a name
-abbrev pub type_named : List ℕ → Option IntegerType
+-- the integer type of a name: whether it is signed, and what it holds
+abbrev pub type_named : List ℕ → Option Kind
 type_named name = named name
-    ((codes "u8", U8) ∷ (codes "u16", U16) ∷ (codes "u32", U32) ∷ (codes "u64", U64) ∷ (codes "u128", U128) ∷ (codes "usize", Usize)
-    ∷ (codes "i8", I8) ∷ (codes "i16", I16) ∷ (codes "i32", I32) ∷ (codes "i64", I64) ∷ (codes "i128", I128) ∷ (codes "isize", Isize) ∷ [])
-
--- whether an integer type is signed, and what it holds
-abbrev pub kind_of : IntegerType → Kind
-kind_of U8 = unsigned_kind 8
-kind_of U16 = unsigned_kind 16
-kind_of U32 = unsigned_kind 32
-kind_of U64 = unsigned_kind 64
-kind_of U128 = unsigned_kind 128
-kind_of Usize = unsigned_kind 64
-kind_of I8 = signed_kind 8
-kind_of I16 = signed_kind 16
-kind_of I32 = signed_kind 32
-kind_of I64 = signed_kind 64
-kind_of I128 = signed_kind 128
-kind_of Isize = signed_kind 64
+    ((codes "u8", unsigned_kind 8) ∷ (codes "i8", signed_kind 8)
+    ∷ (codes "u16", unsigned_kind 16) ∷ (codes "i16", signed_kind 16)
+    ∷ (codes "u32", unsigned_kind 32) ∷ (codes "i32", signed_kind 32)
+    ∷ (codes "u64", unsigned_kind 64) ∷ (codes "i64", signed_kind 64)
+    ∷ (codes "u128", unsigned_kind 128) ∷ (codes "i128", signed_kind 128)
+    ∷ (codes "usize", unsigned_kind 64) ∷ (codes "isize", signed_kind 64) ∷ [])
 
 -- the method of a name
 abbrev pub method_named : List ℕ → Option Method
 method_named name = named name
-    ((codes "naive", Naive) ∷ (codes "low", Units Low) ∷ (codes "ten_thousand", Units TenThousand) ∷ (codes "middle", Units Middle)
+    ((codes "naive", Naive) ∷ (codes "low", Units Low)
+    ∷ (codes "ten_thousand", Units TenThousand) ∷ (codes "middle", Units Middle)
     ∷ (codes "high", Units High) ∷ [])
 
 -- the script of a name
@@ -73,7 +61,9 @@ value_of digits = value_after 0 digits
 
 -- the magnitude of at least one decimal digit
 abbrev pub magnitude_of : List ℕ → Option ℕ
-magnitude_of digits = if nat_lt 0 (length digits) && list_all is_ascii_digit digits then Some (value_of digits) else None
+magnitude_of digits =
+    if nat_lt 0 (length digits) && list_all is_ascii_digit digits then Some (value_of digits)
+    else None
 
 -- the number of decimal digits after at most one minus sign
 abbrev pub number_of : List ℕ → Option ℤ
@@ -84,7 +74,8 @@ number_of (byte ∷ digits) =
 
 -- the first field, which a space ends, and all that follows the space
 abbrev pub cut : List ℕ → Option (List ℕ × List ℕ)
-cut bytes = option_map (λ end. (take end bytes, drop (end + 1) bytes)) (position (λ byte. byte == 32) bytes)
+cut bytes =
+    option_map (λ end. (take end bytes, drop (end + 1) bytes)) (position (λ byte. byte == 32) bytes)
 
 -- the text of these bytes, if they are UTF-8
 abbrev pub text_of : List ℕ → Option (List ℕ)
@@ -95,10 +86,10 @@ abbrev pub read_question : List ℕ → Option Question
 read_question fields = do
   type ← cut fields
   method ← cut type.1
-  integer ← type_named type.0
+  kind ← type_named type.0
   way ← method_named method.0
   text ← text_of method.1
-  Some (read integer way text)
+  Some (read kind way text)
 
 -- <type> <method> <script> <case> <decimal>
 abbrev pub print_question : List ℕ → Option Question
@@ -107,12 +98,12 @@ print_question fields = do
   method ← cut type.1
   script ← cut method.1
   letters ← cut script.1
-  integer ← type_named type.0
+  kind ← type_named type.0
   way ← method_named method.0
   variant ← script_named script.0
   case ← case_named letters.0
   number ← number_of letters.1
-  Some (print integer way variant case number)
+  Some (print kind way variant case number)
 
 -- by the first word of a line
 abbrev pub question_after : List ℕ → List ℕ → Option Question

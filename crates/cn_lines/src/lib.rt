@@ -4,6 +4,7 @@
 #![tactic(auto)]
 
 pub mod answer;
+mod integer_type;
 pub mod laws;
 pub mod lines;
 mod numerals;

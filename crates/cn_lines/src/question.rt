@@ -1,32 +1,15 @@
 // What a line asks.
-ghost use Rattle.std.specs.Prelude.{◌≡◌, ◌==◌, ◌+◌, ◌*◌, ◌^◌, ◌<◌, ◌≤◌, position, length, IsTrue, SomeIff, IfNone, IfSome, MatchOption};
+ghost use Rattle.std.specs.Prelude.{◌≡◌, ◌==◌, ◌+◌, ◌*◌, ◌^◌, ◌<◌, ◌≤◌, ◌∷◌, position, length, IsTrue, SomeIff, IfNone, IfSome, MatchOption};
 ghost use Rattle.std.specs.List.{list_all};
 ghost use Rattle.std.specs.Char.{is_ascii_digit};
-ghost use Rattle.chinese_number.specs.Whole.{signed_number};
 ghost use Rattle.cn_lines.specs.Question.{cut, type_named, method_named, script_named, case_named, value_of, value_after, magnitude_of, number_of, read, print, read_question, print_question};
 ghost use Rattle.cn_lines.specs.Answer.{bad_line, AnswersAny};
-ghost use Rattle.cn_lines.specs.Private.{IsBeyondAll};
+ghost use Rattle.cn_lines.specs.Private.{IsBeyondAll, stands_for};
 
+use crate::integer_type::{IntegerType, SignedMagnitude};
 use crate::numerals::{ChineseCase, ChineseCountMethod, ChineseVariant};
-use crate::search::first_place;
+use crate::search::first_position;
 use crate::text::text_of;
-
-/// The twelve integer types.
-#[derive(Clone, Copy)]
-pub(crate) enum IntegerType {
-    U8,
-    U16,
-    U32,
-    U64,
-    U128,
-    Usize,
-    I8,
-    I16,
-    I32,
-    I64,
-    I128,
-    Isize,
-}
 
 /// How a number is read or printed: by its plain digits, or with units by a counting method.
 #[derive(Clone, Copy)]
@@ -37,12 +20,45 @@ pub(crate) enum Method {
 
 /// The first field, which a space ends, and all that follows the space.
 pub(crate) fn cut(bytes: &[u8]) -> Option<(&[u8], &[u8])>
-    ensures { MatchOption result (cut bytes.now ≡ None) (λ r. cut bytes.now ≡ Some (r.0.now, r.1.now)) }
+    ensures { MatchOption result (cut bytes.now ≡ None)
+        (λ r. cut bytes.now ≡ Some (r.0.now, r.1.now)) }
 {
-    let Some(end) = first_place(b' ', bytes) else {
+    let Some(end) = first_position(b' ', bytes) else {
         return None;
     };
     Some((&bytes[..end], &bytes[end + 1..]))
+}
+
+// The unsigned type whose name ends so.
+#[inline(always)]
+fn unsigned_type(width: &[u8]) -> Option<IntegerType>
+    ensures { result ≡ type_named (117 ∷ width.now) }
+{
+    match width {
+        b"8" => Some(IntegerType::of::<u8>()),
+        b"16" => Some(IntegerType::of::<u16>()),
+        b"32" => Some(IntegerType::of::<u32>()),
+        b"64" => Some(IntegerType::of::<u64>()),
+        b"128" => Some(IntegerType::of::<u128>()),
+        b"size" => Some(IntegerType::of::<usize>()),
+        _ => None,
+    }
+}
+
+// The signed type whose name ends so.
+#[inline(always)]
+fn signed_type(width: &[u8]) -> Option<IntegerType>
+    ensures { result ≡ type_named (105 ∷ width.now) }
+{
+    match width {
+        b"8" => Some(IntegerType::of::<i8>()),
+        b"16" => Some(IntegerType::of::<i16>()),
+        b"32" => Some(IntegerType::of::<i32>()),
+        b"64" => Some(IntegerType::of::<i64>()),
+        b"128" => Some(IntegerType::of::<i128>()),
+        b"size" => Some(IntegerType::of::<isize>()),
+        _ => None,
+    }
 }
 
 #[inline(always)]
@@ -50,18 +66,8 @@ fn type_named(name: &[u8]) -> Option<IntegerType>
     ensures { result ≡ type_named name.now }
 {
     match name {
-        b"u8" => Some(IntegerType::U8),
-        b"u16" => Some(IntegerType::U16),
-        b"u32" => Some(IntegerType::U32),
-        b"u64" => Some(IntegerType::U64),
-        b"u128" => Some(IntegerType::U128),
-        b"usize" => Some(IntegerType::Usize),
-        b"i8" => Some(IntegerType::I8),
-        b"i16" => Some(IntegerType::I16),
-        b"i32" => Some(IntegerType::I32),
-        b"i64" => Some(IntegerType::I64),
-        b"i128" => Some(IntegerType::I128),
-        b"isize" => Some(IntegerType::Isize),
+        [b'u', width @ ..] => unsigned_type(width),
+        [b'i', width @ ..] => signed_type(width),
         _ => None,
     }
 }
@@ -132,10 +138,13 @@ fn push_digit(number: u128, digit: u8) -> Option<u128>
     number.checked_mul(10)?.checked_add(digit as u128)
 }
 
-// The number that more decimal digits write after those of another. There is none, too, where it passes 128 bits.
+// The number that more decimal digits write after those of another. There is none, too, where it
+// passes 128 bits.
 fn longer_value(start: u128, digits: &[u8]) -> Option<u128>
-    ensures none { IfNone result (IsTrue (list_all is_ascii_digit digits.now) → 2 ^ 128 ≤ value_after start digits.now) }
-    ensures some { IfSome result (λ n. IsTrue (list_all is_ascii_digit digits.now) × (n ≡ value_after start digits.now)) }
+    ensures none { IfNone result
+        (IsTrue (list_all is_ascii_digit digits.now) → 2 ^ 128 ≤ value_after start digits.now) }
+    ensures some { IfSome result (λ n. IsTrue (list_all is_ascii_digit digits.now)
+        × (n ≡ value_after start digits.now)) }
 {
     let mut value = start;
     for digit in digits {
@@ -192,18 +201,12 @@ pub(crate) fn asked_reading(fields: &[u8]) -> Option<Reading<'_>>
     })
 }
 
-/// The sign and the magnitude of a number.
-#[derive(Clone, Copy)]
-pub(crate) struct SignedMagnitude {
-    pub(crate) negative: bool,
-    pub(crate) magnitude: u128,
-}
-
-// A decimal number. There is none, too, where its magnitude passes 128 bits, since no type holds it.
+// A decimal number. There is none, too, where its magnitude passes 128 bits, since no type holds
+// it.
 #[inline(always)]
 fn number_of(field: &[u8]) -> Option<SignedMagnitude>
     ensures none { IfNone result (IfSome (number_of field.now) IsBeyondAll) }
-    ensures some { IfSome result (λ n. number_of field.now ≡ Some (signed_number n.negative n.magnitude)) }
+    ensures some { IfSome result (λ n. number_of field.now ≡ Some (stands_for n)) }
 {
     let (negative, digits) = match field {
         [b'-', digits @ ..] => (true, digits),
@@ -231,7 +234,7 @@ pub(crate) struct Printing {
 pub(crate) fn asked_printing(fields: &[u8]) -> Option<Printing>
     ensures none { IfNone result (AnswersAny (print_question fields.now) bad_line) }
     ensures some { IfSome result (λ p. print_question fields.now
-        ≡ Some (print p.integer p.method p.variant p.case (signed_number p.number.negative p.number.magnitude))) }
+        ≡ Some (print p.integer p.method p.variant p.case (stands_for p.number))) }
 {
     let (integer, rest) = cut(fields)?;
     let (method, rest) = cut(rest)?;

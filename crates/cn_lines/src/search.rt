@@ -4,27 +4,27 @@ ghost use Rattle.std.specs.List.{position_or_len};
 
 use std::simd::prelude::*;
 
-// How many bytes are looked at in one step, where the place is likely to be far.
+// How many bytes are looked at in one step, where the position is likely to be far.
 const STRIDE: usize = 64;
 
-/// The place of the first byte of this value.
-pub(crate) fn first_place(byte: u8, bytes: &[u8]) -> Option<usize>
+/// The position of the first byte of this value.
+pub(crate) fn first_position(byte: u8, bytes: &[u8]) -> Option<usize>
     ensures { result ≡ position (λ b. b == byte) bytes.now }
 {
     bytes.iter().position(|b| *b == byte)
 }
 
 // The same, or the length.
-fn near_place(byte: u8, bytes: &[u8]) -> usize
-    ensures place { result ≡ position_or_len (λ b. b == byte) bytes.now }
+fn near_position(byte: u8, bytes: &[u8]) -> usize
+    ensures position { result ≡ position_or_len (λ b. b == byte) bytes.now }
     ensures bound { result ≤ length bytes.now }
 {
-    first_place(byte, bytes).unwrap_or(bytes.len())
+    first_position(byte, bytes).unwrap_or(bytes.len())
 }
 
-// The place in a stride, or its length. Its bytes are compared side by side.
+// The position in a stride, or its length. Its bytes are compared side by side.
 #[inline(always)]
-fn place_in_stride(byte: u8, stride: &[u8; STRIDE]) -> usize
+fn position_in_stride(byte: u8, stride: &[u8; STRIDE]) -> usize
     ensures { result ≡ position_or_len (λ b. b == byte) stride.now }
 {
     let found = u8x64::from_array(*stride)
@@ -36,18 +36,18 @@ fn place_in_stride(byte: u8, stride: &[u8; STRIDE]) -> usize
     found.trailing_zeros() as usize
 }
 
-/// The place of the first byte of this value, or the length, where it is likely to be far.
-pub(crate) fn far_place(byte: u8, bytes: &[u8]) -> usize
-    ensures place { result ≡ position_or_len (λ b. b == byte) bytes.now }
+/// The position of the first byte of this value, or the length, where it is likely to be far.
+pub(crate) fn far_position(byte: u8, bytes: &[u8]) -> usize
+    ensures position { result ≡ position_or_len (λ b. b == byte) bytes.now }
     ensures bound { result ≤ length bytes.now }
 {
     let mut start = 0;
     'strides: while let Some(stride) = bytes[start..].first_chunk::<STRIDE>() {
-        let place = place_in_stride(byte, stride);
-        if place < STRIDE {
-            return start + place;
+        let position = position_in_stride(byte, stride);
+        if position < STRIDE {
+            return start + position;
         }
         start += STRIDE;
     }
-    start + near_place(byte, &bytes[start..])
+    start + near_position(byte, &bytes[start..])
 }

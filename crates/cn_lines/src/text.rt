@@ -4,7 +4,8 @@ ghost use Rattle.cn_lines.specs.Question.{text_of};
 
 use std::str;
 
-// How many bytes at the start are characters of three bytes from U+1000 to U+CFFF, as most numerals are.
+// How many bytes at the start are characters of three bytes from U+1000 to U+CFFF, as most numerals
+// are.
 fn common_len(bytes: &[u8]) -> usize
     ensures bound { result ≤ length bytes.now }
     ensures front { IsUtf8 (take result bytes.now) }

@@ -1,0 +1,82 @@
+// What integer types hold.
+ghost use Rattle.std.specs.Prelude.{◌≡◌, ◌↔◌, ◌<ℤ◌, pos, IsTrue};
+ghost use Rattle.chinese_number.specs.Whole.{holds};
+ghost use Rattle.cn_lines.specs.Private.{IsWithin, stands_for, widest};
+
+use crate::numerals::Whole;
+use std::marker::Model;
+
+/// The sign and the magnitude of a number.
+#[derive(Clone, Copy)]
+pub(crate) struct SignedMagnitude {
+    pub(crate) negative: bool,
+    pub(crate) magnitude: u128,
+}
+
+impl SignedMagnitude {
+    /// Whether the number is below zero.
+    pub(crate) fn is_negative(self) -> bool
+        ensures { IsTrue result ↔ (stands_for self <ℤ pos 0) }
+    {
+        self.negative && self.magnitude > 0
+    }
+}
+
+/// An integer type, by the greatest magnitude that it holds below zero, and above.
+#[derive(Clone, Copy)]
+pub(crate) struct IntegerType {
+    signed: bool,
+    below: u128,
+    above: u128,
+}
+
+impl Model for IntegerType {
+    ghost use Rattle.std.specs.Prelude.{nat_abs};
+    ghost use Rattle.chinese_number.specs.Whole.{Kind};
+    ghost use Rattle.cn_lines.specs.Private.{IsWithin, kind_between, widest};
+
+    ghost Value = { Kind };
+
+    ghost view = { λ s. kind_between s.signed s.below s.above };
+
+    ghost inverse = { λ kind. record {
+      signed = kind.signed;
+      below = nat_abs kind.least;
+      above = nat_abs kind.greatest;
+    } };
+
+    ghost invariant = { λ s. IsWithin (kind_between s.signed s.below s.above) (widest s.signed) };
+}
+
+impl IntegerType {
+    /// The type `T`.
+    pub(crate) fn of<T: Whole>() -> Self
+        requires { IsWithin T.kind (widest T.SIGNED) }
+        ensures { result ≡ T.kind }
+    {
+        IntegerType {
+            signed: T::SIGNED,
+            below: T::least().magnitude(),
+            above: T::greatest().magnitude(),
+        }
+    }
+
+    /// Whether the type is signed.
+    pub(crate) fn is_signed(self) -> bool
+        ensures { result ≡ self.signed }
+    {
+        self.signed
+    }
+
+    /// Whether the type holds a number.
+    pub(crate) fn holds(self, number: SignedMagnitude) -> bool
+        ensures { result ≡ holds self (stands_for number) }
+    {
+        let most = if number.negative {
+            self.below
+        } else {
+            self.above
+        };
+        number.magnitude <= most
+    }
+}
