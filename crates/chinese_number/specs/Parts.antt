@@ -1,5 +1,5 @@
--- The parts of a string that is read for a type: the sign that the type takes off, and the text that
--- follows it.
+-- The parts of a string that is read for a type: the sign that the type takes off, and the text
+-- that follows it.
 use Rattle.std.specs.Prelude.{ℕ, List, take, drop, Option}
 use Rattle.cn_core.specs.declared.sign.Sign.{Sign}
 use Rattle.cn_core.specs.Text.{text_of}

@@ -8,8 +8,8 @@ abbrev pub without_spot : Result ℤ Refusal → Result ℤ Refusal
 without_spot (Err (incorrect_at spot)) = Err (incorrect_at 0)
 without_spot answer = answer
 
--- the character at this spot of a string, given by its bytes, is no white space, and exactly so many
--- such characters stand before it
+-- the character at this spot of a string, given by its bytes, is no white space, and exactly so
+-- many such characters stand before it
 pub record PointsAt (bytes : List ℕ) (spot place : ℕ) : Type 0 where
   pub character : ℕ
   pub there : slice_get (chars bytes) spot ≡ Some character

@@ -37,8 +37,8 @@ typed_number kind number =
     if int_lt kind.greatest number then Err too_large
     else (if int_lt number kind.least then Err too_small else Ok number)
 
--- the answer for a type and a string, given by its bytes: from the sign, and from the answer to what
--- follows it, whose place counts on from the sign and is told by where it stands in the string
+-- the answer for a type and a string, given by its bytes: from the sign, and from the answer to
+-- what follows it, whose place counts on from the sign and is told by where it stands in the string
 abbrev pub typed_answer : Kind → List ℕ → Option Sign → Result ℕ Refusal → Result ℤ Refusal
 typed_answer kind bytes sign (Ok magnitude) =
     typed_number kind (signed_number (is_minus sign) magnitude)

@@ -1,10 +1,12 @@
 // The free printers by `Low`, one for each integer type.
 //
-// The types of 8 and 16 bits hold no number from 10^5 on, where the methods begin to differ: any method would
-// write the same text, and no body that prints by another one is wrong. Theirs is `Low`, as in their contracts.
+// The types of 8 and 16 bits hold no number from 10^5 on, where the methods begin to differ: any
+// method would write the same text, and no body that prints by another one is wrong. Theirs is
+// `Low`, as in their contracts.
 ghost use Rattle.std.specs.Prelude.{IfOk, pos};
+ghost use Rattle.cn_core.specs.declared.method.ChineseCountMethod.TheVariants.{Low};
 ghost use Rattle.cn_core.specs.Written.{spelled_text};
-ghost use Rattle.cn_spell.specs.Prints.{Prints};
+ghost use Rattle.cn_spell.specs.Prints.{Prints, most_bytes};
 ghost use Rattle.cn_spell.specs.Writes.{Writes};
 
 use cn_core::{ChineseCase, ChineseCountMethod, ChineseVariant};
@@ -20,7 +22,7 @@ pub fn from_u8_to_chinese(
     case: ChineseCase,
     value: u8,
 ) -> Result<String, AllocError>
-    ensures { IfOk result (Writes (spelled_text variant case ChineseCountMethod.Low (pos value)) 96) }
+    ensures { IfOk result (Writes (spelled_text variant case Low (pos value)) (most_bytes Low)) }
 {
     print_by_units::<u8, _>(alloc, variant, case, ChineseCountMethod::Low, value)
 }
@@ -34,7 +36,7 @@ pub fn from_u16_to_chinese(
     case: ChineseCase,
     value: u16,
 ) -> Result<String, AllocError>
-    ensures { IfOk result (Writes (spelled_text variant case ChineseCountMethod.Low (pos value)) 96) }
+    ensures { IfOk result (Writes (spelled_text variant case Low (pos value)) (most_bytes Low)) }
 {
     print_by_units::<u16, _>(alloc, variant, case, ChineseCountMethod::Low, value)
 }
@@ -48,7 +50,7 @@ pub fn from_u32_to_chinese_low(
     case: ChineseCase,
     value: u32,
 ) -> Result<String, AllocError>
-    ensures { IfOk result (Writes (spelled_text variant case ChineseCountMethod.Low (pos value)) 96) }
+    ensures { IfOk result (Writes (spelled_text variant case Low (pos value)) (most_bytes Low)) }
 {
     print_by_units::<u32, _>(alloc, variant, case, ChineseCountMethod::Low, value)
 }
@@ -63,7 +65,7 @@ pub fn from_u64_to_chinese_low(
     case: ChineseCase,
     value: u64,
 ) -> Result<String, NumberToChineseError>
-    ensures { Prints variant case ChineseCountMethod.Low (pos value) result }
+    ensures { Prints variant case Low (pos value) result }
 {
     print_or_refuse::<u64, _>(alloc, variant, case, ChineseCountMethod::Low, value)
 }
@@ -78,7 +80,7 @@ pub fn from_u128_to_chinese_low(
     case: ChineseCase,
     value: u128,
 ) -> Result<String, NumberToChineseError>
-    ensures { Prints variant case ChineseCountMethod.Low (pos value) result }
+    ensures { Prints variant case Low (pos value) result }
 {
     print_or_refuse::<u128, _>(alloc, variant, case, ChineseCountMethod::Low, value)
 }
@@ -93,7 +95,7 @@ pub fn from_usize_to_chinese_low(
     case: ChineseCase,
     value: usize,
 ) -> Result<String, NumberToChineseError>
-    ensures { Prints variant case ChineseCountMethod.Low (pos value) result }
+    ensures { Prints variant case Low (pos value) result }
 {
     print_or_refuse::<usize, _>(alloc, variant, case, ChineseCountMethod::Low, value)
 }
@@ -107,7 +109,7 @@ pub fn from_i8_to_chinese(
     case: ChineseCase,
     value: i8,
 ) -> Result<String, AllocError>
-    ensures { IfOk result (Writes (spelled_text variant case ChineseCountMethod.Low value) 96) }
+    ensures { IfOk result (Writes (spelled_text variant case Low value) (most_bytes Low)) }
 {
     print_by_units::<i8, _>(alloc, variant, case, ChineseCountMethod::Low, value)
 }
@@ -121,7 +123,7 @@ pub fn from_i16_to_chinese(
     case: ChineseCase,
     value: i16,
 ) -> Result<String, AllocError>
-    ensures { IfOk result (Writes (spelled_text variant case ChineseCountMethod.Low value) 96) }
+    ensures { IfOk result (Writes (spelled_text variant case Low value) (most_bytes Low)) }
 {
     print_by_units::<i16, _>(alloc, variant, case, ChineseCountMethod::Low, value)
 }
@@ -135,7 +137,7 @@ pub fn from_i32_to_chinese_low(
     case: ChineseCase,
     value: i32,
 ) -> Result<String, AllocError>
-    ensures { IfOk result (Writes (spelled_text variant case ChineseCountMethod.Low value) 96) }
+    ensures { IfOk result (Writes (spelled_text variant case Low value) (most_bytes Low)) }
 {
     print_by_units::<i32, _>(alloc, variant, case, ChineseCountMethod::Low, value)
 }
@@ -150,7 +152,7 @@ pub fn from_i64_to_chinese_low(
     case: ChineseCase,
     value: i64,
 ) -> Result<String, NumberToChineseError>
-    ensures { Prints variant case ChineseCountMethod.Low value result }
+    ensures { Prints variant case Low value result }
 {
     print_or_refuse::<i64, _>(alloc, variant, case, ChineseCountMethod::Low, value)
 }
@@ -165,7 +167,7 @@ pub fn from_i128_to_chinese_low(
     case: ChineseCase,
     value: i128,
 ) -> Result<String, NumberToChineseError>
-    ensures { Prints variant case ChineseCountMethod.Low value result }
+    ensures { Prints variant case Low value result }
 {
     print_or_refuse::<i128, _>(alloc, variant, case, ChineseCountMethod::Low, value)
 }
@@ -180,7 +182,7 @@ pub fn from_isize_to_chinese_low(
     case: ChineseCase,
     value: isize,
 ) -> Result<String, NumberToChineseError>
-    ensures { Prints variant case ChineseCountMethod.Low value result }
+    ensures { Prints variant case Low value result }
 {
     print_or_refuse::<isize, _>(alloc, variant, case, ChineseCountMethod::Low, value)
 }

@@ -1,6 +1,8 @@
 // The free printers by `Middle`, one for each integer type from 32 bits up.
 ghost use Rattle.std.specs.Prelude.{IfOk, pos};
+ghost use Rattle.cn_core.specs.declared.method.ChineseCountMethod.TheVariants.{Middle};
 ghost use Rattle.cn_core.specs.Written.{spelled_text};
+ghost use Rattle.cn_spell.specs.Prints.{most_bytes};
 ghost use Rattle.cn_spell.specs.Writes.{Writes};
 
 use cn_core::{ChineseCase, ChineseCountMethod, ChineseVariant};
@@ -16,7 +18,7 @@ pub fn from_u32_to_chinese_middle(
     case: ChineseCase,
     value: u32,
 ) -> Result<String, AllocError>
-    ensures { IfOk result (Writes (spelled_text variant case ChineseCountMethod.Middle (pos value)) 234) }
+    ensures { IfOk result (Writes (spelled_text variant case Middle (pos value)) (most_bytes Middle)) }
 {
     print_by_units::<u32, _>(alloc, variant, case, ChineseCountMethod::Middle, value)
 }
@@ -30,7 +32,7 @@ pub fn from_u64_to_chinese_middle(
     case: ChineseCase,
     value: u64,
 ) -> Result<String, AllocError>
-    ensures { IfOk result (Writes (spelled_text variant case ChineseCountMethod.Middle (pos value)) 234) }
+    ensures { IfOk result (Writes (spelled_text variant case Middle (pos value)) (most_bytes Middle)) }
 {
     print_by_units::<u64, _>(alloc, variant, case, ChineseCountMethod::Middle, value)
 }
@@ -45,7 +47,7 @@ pub fn from_u128_to_chinese_middle(
     case: ChineseCase,
     value: u128,
 ) -> Result<String, AllocError>
-    ensures { IfOk result (Writes (spelled_text variant case ChineseCountMethod.Middle (pos value)) 234) }
+    ensures { IfOk result (Writes (spelled_text variant case Middle (pos value)) (most_bytes Middle)) }
 {
     print_by_units::<u128, _>(alloc, variant, case, ChineseCountMethod::Middle, value)
 }
@@ -60,7 +62,7 @@ pub fn from_usize_to_chinese_middle(
     case: ChineseCase,
     value: usize,
 ) -> Result<String, AllocError>
-    ensures { IfOk result (Writes (spelled_text variant case ChineseCountMethod.Middle (pos value)) 234) }
+    ensures { IfOk result (Writes (spelled_text variant case Middle (pos value)) (most_bytes Middle)) }
 {
     print_by_units::<usize, _>(alloc, variant, case, ChineseCountMethod::Middle, value)
 }
@@ -74,7 +76,7 @@ pub fn from_i32_to_chinese_middle(
     case: ChineseCase,
     value: i32,
 ) -> Result<String, AllocError>
-    ensures { IfOk result (Writes (spelled_text variant case ChineseCountMethod.Middle value) 234) }
+    ensures { IfOk result (Writes (spelled_text variant case Middle value) (most_bytes Middle)) }
 {
     print_by_units::<i32, _>(alloc, variant, case, ChineseCountMethod::Middle, value)
 }
@@ -89,7 +91,7 @@ pub fn from_i64_to_chinese_middle(
     case: ChineseCase,
     value: i64,
 ) -> Result<String, AllocError>
-    ensures { IfOk result (Writes (spelled_text variant case ChineseCountMethod.Middle value) 234) }
+    ensures { IfOk result (Writes (spelled_text variant case Middle value) (most_bytes Middle)) }
 {
     print_by_units::<i64, _>(alloc, variant, case, ChineseCountMethod::Middle, value)
 }
@@ -104,7 +106,7 @@ pub fn from_i128_to_chinese_middle(
     case: ChineseCase,
     value: i128,
 ) -> Result<String, AllocError>
-    ensures { IfOk result (Writes (spelled_text variant case ChineseCountMethod.Middle value) 234) }
+    ensures { IfOk result (Writes (spelled_text variant case Middle value) (most_bytes Middle)) }
 {
     print_by_units::<i128, _>(alloc, variant, case, ChineseCountMethod::Middle, value)
 }
@@ -119,7 +121,7 @@ pub fn from_isize_to_chinese_middle(
     case: ChineseCase,
     value: isize,
 ) -> Result<String, AllocError>
-    ensures { IfOk result (Writes (spelled_text variant case ChineseCountMethod.Middle value) 234) }
+    ensures { IfOk result (Writes (spelled_text variant case Middle value) (most_bytes Middle)) }
 {
     print_by_units::<isize, _>(alloc, variant, case, ChineseCountMethod::Middle, value)
 }

@@ -1,7 +1,7 @@
 // The free printers of plain digits, one for each integer type.
 ghost use Rattle.std.specs.Prelude.{IfOk, pos};
 ghost use Rattle.cn_core.specs.Written.{naive_text};
-ghost use Rattle.cn_spell.specs.Writes.{Writes};
+ghost use Rattle.cn_spell.specs.Writes.{Writes, most_plain_bytes};
 
 use cn_core::{ChineseCase, ChineseVariant};
 use cn_spell::print_naive;
@@ -16,7 +16,7 @@ pub fn from_u8_to_chinese_naive(
     case: ChineseCase,
     value: u8,
 ) -> Result<String, AllocError>
-    ensures { IfOk result (Writes (naive_text variant case (pos value)) 120) }
+    ensures { IfOk result (Writes (naive_text variant case (pos value)) most_plain_bytes) }
 {
     print_naive::<u8, _>(alloc, variant, case, value)
 }
@@ -30,7 +30,7 @@ pub fn from_u16_to_chinese_naive(
     case: ChineseCase,
     value: u16,
 ) -> Result<String, AllocError>
-    ensures { IfOk result (Writes (naive_text variant case (pos value)) 120) }
+    ensures { IfOk result (Writes (naive_text variant case (pos value)) most_plain_bytes) }
 {
     print_naive::<u16, _>(alloc, variant, case, value)
 }
@@ -44,7 +44,7 @@ pub fn from_u32_to_chinese_naive(
     case: ChineseCase,
     value: u32,
 ) -> Result<String, AllocError>
-    ensures { IfOk result (Writes (naive_text variant case (pos value)) 120) }
+    ensures { IfOk result (Writes (naive_text variant case (pos value)) most_plain_bytes) }
 {
     print_naive::<u32, _>(alloc, variant, case, value)
 }
@@ -58,7 +58,7 @@ pub fn from_u64_to_chinese_naive(
     case: ChineseCase,
     value: u64,
 ) -> Result<String, AllocError>
-    ensures { IfOk result (Writes (naive_text variant case (pos value)) 120) }
+    ensures { IfOk result (Writes (naive_text variant case (pos value)) most_plain_bytes) }
 {
     print_naive::<u64, _>(alloc, variant, case, value)
 }
@@ -72,7 +72,7 @@ pub fn from_u128_to_chinese_naive(
     case: ChineseCase,
     value: u128,
 ) -> Result<String, AllocError>
-    ensures { IfOk result (Writes (naive_text variant case (pos value)) 120) }
+    ensures { IfOk result (Writes (naive_text variant case (pos value)) most_plain_bytes) }
 {
     print_naive::<u128, _>(alloc, variant, case, value)
 }
@@ -86,7 +86,7 @@ pub fn from_usize_to_chinese_naive(
     case: ChineseCase,
     value: usize,
 ) -> Result<String, AllocError>
-    ensures { IfOk result (Writes (naive_text variant case (pos value)) 120) }
+    ensures { IfOk result (Writes (naive_text variant case (pos value)) most_plain_bytes) }
 {
     print_naive::<usize, _>(alloc, variant, case, value)
 }
@@ -100,7 +100,7 @@ pub fn from_i8_to_chinese_naive(
     case: ChineseCase,
     value: i8,
 ) -> Result<String, AllocError>
-    ensures { IfOk result (Writes (naive_text variant case value) 120) }
+    ensures { IfOk result (Writes (naive_text variant case value) most_plain_bytes) }
 {
     print_naive::<i8, _>(alloc, variant, case, value)
 }
@@ -114,7 +114,7 @@ pub fn from_i16_to_chinese_naive(
     case: ChineseCase,
     value: i16,
 ) -> Result<String, AllocError>
-    ensures { IfOk result (Writes (naive_text variant case value) 120) }
+    ensures { IfOk result (Writes (naive_text variant case value) most_plain_bytes) }
 {
     print_naive::<i16, _>(alloc, variant, case, value)
 }
@@ -128,7 +128,7 @@ pub fn from_i32_to_chinese_naive(
     case: ChineseCase,
     value: i32,
 ) -> Result<String, AllocError>
-    ensures { IfOk result (Writes (naive_text variant case value) 120) }
+    ensures { IfOk result (Writes (naive_text variant case value) most_plain_bytes) }
 {
     print_naive::<i32, _>(alloc, variant, case, value)
 }
@@ -142,7 +142,7 @@ pub fn from_i64_to_chinese_naive(
     case: ChineseCase,
     value: i64,
 ) -> Result<String, AllocError>
-    ensures { IfOk result (Writes (naive_text variant case value) 120) }
+    ensures { IfOk result (Writes (naive_text variant case value) most_plain_bytes) }
 {
     print_naive::<i64, _>(alloc, variant, case, value)
 }
@@ -156,7 +156,7 @@ pub fn from_i128_to_chinese_naive(
     case: ChineseCase,
     value: i128,
 ) -> Result<String, AllocError>
-    ensures { IfOk result (Writes (naive_text variant case value) 120) }
+    ensures { IfOk result (Writes (naive_text variant case value) most_plain_bytes) }
 {
     print_naive::<i128, _>(alloc, variant, case, value)
 }
@@ -170,7 +170,7 @@ pub fn from_isize_to_chinese_naive(
     case: ChineseCase,
     value: isize,
 ) -> Result<String, AllocError>
-    ensures { IfOk result (Writes (naive_text variant case value) 120) }
+    ensures { IfOk result (Writes (naive_text variant case value) most_plain_bytes) }
 {
     print_naive::<isize, _>(alloc, variant, case, value)
 }

@@ -1,6 +1,8 @@
 // The free printers by `TenThousand`, one for each integer type from 32 bits up.
 ghost use Rattle.std.specs.Prelude.{IfOk, pos};
+ghost use Rattle.cn_core.specs.declared.method.ChineseCountMethod.TheVariants.{TenThousand};
 ghost use Rattle.cn_core.specs.Written.{spelled_text};
+ghost use Rattle.cn_spell.specs.Prints.{most_bytes};
 ghost use Rattle.cn_spell.specs.Writes.{Writes};
 
 use cn_core::{ChineseCase, ChineseCountMethod, ChineseVariant};
@@ -16,7 +18,7 @@ pub fn from_u32_to_chinese_ten_thousand(
     case: ChineseCase,
     value: u32,
 ) -> Result<String, AllocError>
-    ensures { IfOk result (Writes (spelled_text variant case ChineseCountMethod.TenThousand (pos value)) 234) }
+    ensures { IfOk result (Writes (spelled_text variant case TenThousand (pos value)) (most_bytes TenThousand)) }
 {
     print_by_units::<u32, _>(alloc, variant, case, ChineseCountMethod::TenThousand, value)
 }
@@ -31,7 +33,7 @@ pub fn from_u64_to_chinese_ten_thousand(
     case: ChineseCase,
     value: u64,
 ) -> Result<String, AllocError>
-    ensures { IfOk result (Writes (spelled_text variant case ChineseCountMethod.TenThousand (pos value)) 234) }
+    ensures { IfOk result (Writes (spelled_text variant case TenThousand (pos value)) (most_bytes TenThousand)) }
 {
     print_by_units::<u64, _>(alloc, variant, case, ChineseCountMethod::TenThousand, value)
 }
@@ -46,7 +48,7 @@ pub fn from_u128_to_chinese_ten_thousand(
     case: ChineseCase,
     value: u128,
 ) -> Result<String, AllocError>
-    ensures { IfOk result (Writes (spelled_text variant case ChineseCountMethod.TenThousand (pos value)) 234) }
+    ensures { IfOk result (Writes (spelled_text variant case TenThousand (pos value)) (most_bytes TenThousand)) }
 {
     print_by_units::<u128, _>(alloc, variant, case, ChineseCountMethod::TenThousand, value)
 }
@@ -61,7 +63,7 @@ pub fn from_usize_to_chinese_ten_thousand(
     case: ChineseCase,
     value: usize,
 ) -> Result<String, AllocError>
-    ensures { IfOk result (Writes (spelled_text variant case ChineseCountMethod.TenThousand (pos value)) 234) }
+    ensures { IfOk result (Writes (spelled_text variant case TenThousand (pos value)) (most_bytes TenThousand)) }
 {
     print_by_units::<usize, _>(alloc, variant, case, ChineseCountMethod::TenThousand, value)
 }
@@ -75,7 +77,7 @@ pub fn from_i32_to_chinese_ten_thousand(
     case: ChineseCase,
     value: i32,
 ) -> Result<String, AllocError>
-    ensures { IfOk result (Writes (spelled_text variant case ChineseCountMethod.TenThousand value) 234) }
+    ensures { IfOk result (Writes (spelled_text variant case TenThousand value) (most_bytes TenThousand)) }
 {
     print_by_units::<i32, _>(alloc, variant, case, ChineseCountMethod::TenThousand, value)
 }
@@ -90,7 +92,7 @@ pub fn from_i64_to_chinese_ten_thousand(
     case: ChineseCase,
     value: i64,
 ) -> Result<String, AllocError>
-    ensures { IfOk result (Writes (spelled_text variant case ChineseCountMethod.TenThousand value) 234) }
+    ensures { IfOk result (Writes (spelled_text variant case TenThousand value) (most_bytes TenThousand)) }
 {
     print_by_units::<i64, _>(alloc, variant, case, ChineseCountMethod::TenThousand, value)
 }
@@ -105,7 +107,7 @@ pub fn from_i128_to_chinese_ten_thousand(
     case: ChineseCase,
     value: i128,
 ) -> Result<String, AllocError>
-    ensures { IfOk result (Writes (spelled_text variant case ChineseCountMethod.TenThousand value) 234) }
+    ensures { IfOk result (Writes (spelled_text variant case TenThousand value) (most_bytes TenThousand)) }
 {
     print_by_units::<i128, _>(alloc, variant, case, ChineseCountMethod::TenThousand, value)
 }
@@ -120,7 +122,7 @@ pub fn from_isize_to_chinese_ten_thousand(
     case: ChineseCase,
     value: isize,
 ) -> Result<String, AllocError>
-    ensures { IfOk result (Writes (spelled_text variant case ChineseCountMethod.TenThousand value) 234) }
+    ensures { IfOk result (Writes (spelled_text variant case TenThousand value) (most_bytes TenThousand)) }
 {
     print_by_units::<isize, _>(alloc, variant, case, ChineseCountMethod::TenThousand, value)
 }

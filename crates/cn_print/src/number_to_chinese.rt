@@ -1,7 +1,7 @@
 ghost use Rattle.std.specs.Prelude.{IfOk};
 ghost use Rattle.cn_core.specs.Written.{naive_text};
 ghost use Rattle.cn_spell.specs.Prints.{Prints};
-ghost use Rattle.cn_spell.specs.Writes.{Writes};
+ghost use Rattle.cn_spell.specs.Writes.{Writes, most_plain_bytes};
 
 use cn_core::{ChineseCase, ChineseCountMethod, ChineseVariant, Whole};
 use cn_spell::{NumberToChineseError, print_naive, print_or_refuse};
@@ -15,7 +15,8 @@ pub trait NumberToChinese: Whole {
     /// Writes the number by the units of a method, after the minus sign where it is below zero.
     ///
     /// ```text
-    /// 123i8.to_chinese(alloc, ChineseVariant::Simple, ChineseCase::Upper, ChineseCountMethod::Low)   // 壹佰贰拾叁
+    /// 123i8.to_chinese(alloc, ChineseVariant::Simple, ChineseCase::Upper, ChineseCountMethod::Low)
+    /// // 壹佰贰拾叁
     /// ```
     ///
     /// `Low` refuses a number from 10^16 up with `Overflow` and one from -10^16 down with
@@ -42,7 +43,7 @@ pub trait NumberToChinese: Whole {
         variant: ChineseVariant,
         case: ChineseCase,
     ) -> Result<String, AllocError>
-        ensures { IfOk result (Writes (naive_text variant case (Self.number self)) 120) };
+        ensures { IfOk result (Writes (naive_text variant case (Self.number self)) most_plain_bytes) };
 }
 
 impl<T: Whole> NumberToChinese for T {

@@ -17,7 +17,8 @@ marked Other = other
 abbrev pub unit_mark : NumeralUnit → Mark
 unit_mark which = unit (rank which)
 
--- the bytes with this key, the first of them lowest, are a character that is no white space, and this is its mark
+-- the bytes with this key, the first of them lowest, are a character that is no white space, and
+-- this is its mark
 pub record IsKnown (key : ℕ) (mark : ReadMark) : Type 0 where
   pub code : ℕ
   pub sum : code + 925824 ≡ key % 256 * 4096 + key / 256 % 256 * 64 + key / 65536

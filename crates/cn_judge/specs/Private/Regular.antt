@@ -1,5 +1,5 @@
--- Where a walk over a regular numeral stands: the units from 萬 up that are open, the sum so far, and the
--- section since the last of these units.
+-- Where a walk over a regular numeral stands: the units from 萬 up that are open, the sum so far,
+-- and the section since the last of these units.
 use Rattle.std.specs.Prelude.{◌≡◌, ℕ, zero, suc, ◌+◌, ◌*◌, ◌^◌, ◌<◌, Bool, true, false, ◌&&◌, ◌==◌, nat_lt, List, [], ◌∷◌, slice_index_or, Option, Some, None, if◌then◌else◌}
 use Rattle.std.specs.List.{list_all}
 use Rattle.std.specs.Option.{option_map_or}
@@ -16,8 +16,8 @@ use Rattle.cn_judge.specs.declared.open_groups.OpenGroup.{OpenGroup}
 use Rattle.cn_judge.specs.declared.quick.QuickState.{QuickState}
 use Rattle.cn_judge.specs.Private.Walk.{HasNoTail}
 
--- an open group: its unit's rank, and the exponent of the power of ten that it and the units below it make;
--- the last opened stands first
+-- an open group: its unit's rank, and the exponent of the power of ten that it and the units below
+-- it make; the last opened stands first
 abbrev pub Group : Type 0
 Group = ℕ × ℕ
 
@@ -52,7 +52,8 @@ has_smaller_top rank groups = option_map_or (λ top. nat_lt top rank) (rank_on_t
 -- the open units that are not smaller than a rank
 abbrev pub not_smaller : ℕ → List Group → List Group
 not_smaller limit [] = []
-not_smaller limit (top ∷ groups) = if nat_lt top.0 limit then not_smaller limit groups else top ∷ groups
+not_smaller limit (top ∷ groups) =
+    if nat_lt top.0 limit then not_smaller limit groups else top ∷ groups
 
 abbrev pub no_group : OpenGroup
 no_group = record { unit = Ge; exponent = 0 }
@@ -63,9 +64,11 @@ group_at entry = (rank entry.unit, entry.exponent)
 -- the first entries, the last of them first
 abbrev pub entries_of : List OpenGroup → ℕ → List Group
 entries_of entries zero = []
-entries_of entries (suc len) = group_at (slice_index_or entries len no_group) ∷ entries_of entries len
+entries_of entries (suc len) =
+    group_at (slice_index_or entries len no_group) ∷ entries_of entries len
 
--- the rank of the least unit that opens a group: 萬, but none by Low, where each unit is ten of the one before
+-- the rank of the least unit that opens a group: 萬, but none by Low, where each unit is ten of the
+-- one before
 abbrev pub first_group : ChineseCountMethod → ℕ
 first_group Low = 16
 first_group method = 4
@@ -85,13 +88,15 @@ abbrev pub LeavesNoTail : Mark → List Mark → Type 0
 LeavesNoTail mark (last ∷ []) = is_tail mark last ≡ false
 LeavesNoTail mark marks = Unit {0}
 
--- where the walk stands after these marks: they are regular and keep all rules, and their value is the sum so
--- far, and the section's times what the open units make
-pub record IsRegular (method : ChineseCountMethod) (marks : List Mark) (groups : List Group) (total sum last : ℕ) (at_digit : Bool) : Type 0 where
+-- where the walk stands after these marks: they are regular and keep all rules, and their value is
+-- the sum so far, and the section's times what the open units make
+pub record IsRegular (method : ChineseCountMethod) (marks : List Mark) (groups : List Group)
+    (total sum last : ℕ) (at_digit : Bool) : Type 0 where
   pub regular : list_all is_regular_mark marks ≡ true
   pub rules : each_may_precede marks ≡ true
   pub fit : some_unfit method marks ≡ false
-  pub number : value method marks ≡ total + sum * 10 ^ exponents method (records_from (first_group method) marks)
+  pub number : value method marks
+      ≡ total + sum * 10 ^ exponents method (records_from (first_group method) marks)
   pub records : record_units marks ≡ with_last last (records_from (first_group method) marks)
   pub groups_are : groups ≡ groups_of method (records_from (first_group method) marks)
   pub after_digit : at_digit ≡ starts_with_digit marks
@@ -99,7 +104,8 @@ pub record IsRegular (method : ChineseCountMethod) (marks : List Mark) (groups :
   pub plain_end : HasNoTail marks
 
 -- a unit may open a group there, over the units that are left
-pub record MayOpen (method : ChineseCountMethod) (marks : List Mark) (left : List Group) (rank : ℕ) : Type 0 where
+pub record MayOpen (method : ChineseCountMethod) (marks : List Mark) (left : List Group) (rank : ℕ)
+    : Type 0 where
   pub left_are : left ≡ groups_of method (records_from (rank + 1) marks)
   pub precedes : may_precede (unit rank) marks ≡ true
 
