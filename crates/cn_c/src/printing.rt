@@ -22,7 +22,8 @@ pub struct Style {
 // Prints a value of a type.
 fn print_by<T: Whole>(value: T, style: Style, room: &mut [u8], len: &mut usize) -> u32
     requires { len.old ≡ 0 }
-    ensures printed { PrintsBy style.way style.script style.case (T.number value) room.old result room.new len.new }
+    ensures printed { PrintsBy style.way style.script style.case (T.number value)
+        room.old result room.new len.new }
     ensures bound { len.new ≤ 234 }
 {
     let Style { way, script, case } = style;
@@ -45,8 +46,8 @@ fn print_as<T: Whole>(
     len: &mut usize,
 ) -> u32
     requires { len.old ≡ 0 }
-    ensures printed { PrintsNumber T.kind style.way style.script style.case (signed_number number.negative number.magnitude)
-        room.old result room.new len.new }
+    ensures printed { PrintsNumber T.kind style.way style.script style.case
+        (signed_number number.negative number.magnitude) room.old result room.new len.new }
     ensures bound { len.new ≤ 234 }
 {
     match T::from_magnitude(number.negative, number.magnitude) {
@@ -57,8 +58,8 @@ fn print_as<T: Whole>(
 
 fn print_kind(kind: Kind, number: Number, style: Style, room: &mut [u8], len: &mut usize) -> u32
     requires { len.old ≡ 0 }
-    ensures printed { PrintsNumber (the_kind kind) style.way style.script style.case (number_of (the_kind kind).signed number)
-        room.old result room.new len.new }
+    ensures printed { PrintsNumber (the_kind kind) style.way style.script style.case
+        (number_of (the_kind kind).signed number) room.old result room.new len.new }
     ensures bound { len.new ≤ 234 }
 {
     let signed = is_signed(kind);
