@@ -47,8 +47,7 @@ fn print_as<T: Whole>(
 ) -> u32
     requires { len.old ≡ 0 }
     ensures printed { PrintsNumber T.kind style.way style.script style.case
-        (signed_number number.negative number.magnitude)
-        room.old result room.new len.new }
+        (signed_number number.negative number.magnitude) room.old result room.new len.new }
     ensures bound { len.new ≤ 234 }
 {
     match T::from_magnitude(number.negative, number.magnitude) {
@@ -60,8 +59,7 @@ fn print_as<T: Whole>(
 fn print_kind(kind: Kind, number: Number, style: Style, room: &mut [u8], len: &mut usize) -> u32
     requires { len.old ≡ 0 }
     ensures printed { PrintsNumber (the_kind kind) style.way style.script style.case
-        (number_of (the_kind kind).signed number)
-        room.old result room.new len.new }
+        (number_of (the_kind kind).signed number) room.old result room.new len.new }
     ensures bound { len.new ≤ 234 }
 {
     let signed = is_signed(kind);
