@@ -3,10 +3,11 @@
 
 Usage: mark_table.py CHARACTERS [--check MARK]
 
-CHARACTERS is `characters_read.rt` of `cn_core`, which says what each character is read as. Without --check the rows of the
-table are printed, as they stand in `mark.rt`. Where two characters fall on one slot, the least multiplier from the one in
-use on that parts them all is said first: it then stands in `entry`, and in `MarkTable.slot`. With --check the script fails
-where the table of MARK, which is `mark.rt`, or its multiplier, differs.
+CHARACTERS is `characters_read.rt` of `cn_core`, which says what each character is read as. Without
+--check the rows of the table are printed, as they stand in `mark.rt`. Where two characters fall on
+one slot, the least multiplier from the one in use on that parts them all is said first: it then
+stands in `entry`, and in `MarkTable.slot`. With --check the script fails where the table of MARK,
+which is `mark.rt`, or its multiplier, differs.
 """
 import re
 import sys

@@ -18,7 +18,8 @@ pub fn from_u32_to_chinese_middle(
     case: ChineseCase,
     value: u32,
 ) -> Result<String, AllocError>
-    ensures { IfOk result (Writes (spelled_text variant case Middle (pos value)) (most_bytes Middle)) }
+    ensures { IfOk result (Writes (spelled_text variant case Middle (pos value))
+        (most_bytes Middle)) }
 {
     print_by_units::<u32, _>(alloc, variant, case, ChineseCountMethod::Middle, value)
 }
@@ -32,7 +33,8 @@ pub fn from_u64_to_chinese_middle(
     case: ChineseCase,
     value: u64,
 ) -> Result<String, AllocError>
-    ensures { IfOk result (Writes (spelled_text variant case Middle (pos value)) (most_bytes Middle)) }
+    ensures { IfOk result (Writes (spelled_text variant case Middle (pos value))
+        (most_bytes Middle)) }
 {
     print_by_units::<u64, _>(alloc, variant, case, ChineseCountMethod::Middle, value)
 }
@@ -47,7 +49,8 @@ pub fn from_u128_to_chinese_middle(
     case: ChineseCase,
     value: u128,
 ) -> Result<String, AllocError>
-    ensures { IfOk result (Writes (spelled_text variant case Middle (pos value)) (most_bytes Middle)) }
+    ensures { IfOk result (Writes (spelled_text variant case Middle (pos value))
+        (most_bytes Middle)) }
 {
     print_by_units::<u128, _>(alloc, variant, case, ChineseCountMethod::Middle, value)
 }
@@ -62,7 +65,8 @@ pub fn from_usize_to_chinese_middle(
     case: ChineseCase,
     value: usize,
 ) -> Result<String, AllocError>
-    ensures { IfOk result (Writes (spelled_text variant case Middle (pos value)) (most_bytes Middle)) }
+    ensures { IfOk result (Writes (spelled_text variant case Middle (pos value))
+        (most_bytes Middle)) }
 {
     print_by_units::<usize, _>(alloc, variant, case, ChineseCountMethod::Middle, value)
 }

@@ -18,7 +18,8 @@ pub fn from_u32_to_chinese_ten_thousand(
     case: ChineseCase,
     value: u32,
 ) -> Result<String, AllocError>
-    ensures { IfOk result (Writes (spelled_text variant case TenThousand (pos value)) (most_bytes TenThousand)) }
+    ensures { IfOk result (Writes (spelled_text variant case TenThousand (pos value))
+        (most_bytes TenThousand)) }
 {
     print_by_units::<u32, _>(alloc, variant, case, ChineseCountMethod::TenThousand, value)
 }
@@ -33,7 +34,8 @@ pub fn from_u64_to_chinese_ten_thousand(
     case: ChineseCase,
     value: u64,
 ) -> Result<String, AllocError>
-    ensures { IfOk result (Writes (spelled_text variant case TenThousand (pos value)) (most_bytes TenThousand)) }
+    ensures { IfOk result (Writes (spelled_text variant case TenThousand (pos value))
+        (most_bytes TenThousand)) }
 {
     print_by_units::<u64, _>(alloc, variant, case, ChineseCountMethod::TenThousand, value)
 }
@@ -48,7 +50,8 @@ pub fn from_u128_to_chinese_ten_thousand(
     case: ChineseCase,
     value: u128,
 ) -> Result<String, AllocError>
-    ensures { IfOk result (Writes (spelled_text variant case TenThousand (pos value)) (most_bytes TenThousand)) }
+    ensures { IfOk result (Writes (spelled_text variant case TenThousand (pos value))
+        (most_bytes TenThousand)) }
 {
     print_by_units::<u128, _>(alloc, variant, case, ChineseCountMethod::TenThousand, value)
 }
@@ -63,7 +66,8 @@ pub fn from_usize_to_chinese_ten_thousand(
     case: ChineseCase,
     value: usize,
 ) -> Result<String, AllocError>
-    ensures { IfOk result (Writes (spelled_text variant case TenThousand (pos value)) (most_bytes TenThousand)) }
+    ensures { IfOk result (Writes (spelled_text variant case TenThousand (pos value))
+        (most_bytes TenThousand)) }
 {
     print_by_units::<usize, _>(alloc, variant, case, ChineseCountMethod::TenThousand, value)
 }
@@ -77,7 +81,8 @@ pub fn from_i32_to_chinese_ten_thousand(
     case: ChineseCase,
     value: i32,
 ) -> Result<String, AllocError>
-    ensures { IfOk result (Writes (spelled_text variant case TenThousand value) (most_bytes TenThousand)) }
+    ensures { IfOk result (Writes (spelled_text variant case TenThousand value)
+        (most_bytes TenThousand)) }
 {
     print_by_units::<i32, _>(alloc, variant, case, ChineseCountMethod::TenThousand, value)
 }
@@ -92,7 +97,8 @@ pub fn from_i64_to_chinese_ten_thousand(
     case: ChineseCase,
     value: i64,
 ) -> Result<String, AllocError>
-    ensures { IfOk result (Writes (spelled_text variant case TenThousand value) (most_bytes TenThousand)) }
+    ensures { IfOk result (Writes (spelled_text variant case TenThousand value)
+        (most_bytes TenThousand)) }
 {
     print_by_units::<i64, _>(alloc, variant, case, ChineseCountMethod::TenThousand, value)
 }
@@ -107,7 +113,8 @@ pub fn from_i128_to_chinese_ten_thousand(
     case: ChineseCase,
     value: i128,
 ) -> Result<String, AllocError>
-    ensures { IfOk result (Writes (spelled_text variant case TenThousand value) (most_bytes TenThousand)) }
+    ensures { IfOk result (Writes (spelled_text variant case TenThousand value)
+        (most_bytes TenThousand)) }
 {
     print_by_units::<i128, _>(alloc, variant, case, ChineseCountMethod::TenThousand, value)
 }
@@ -122,7 +129,8 @@ pub fn from_isize_to_chinese_ten_thousand(
     case: ChineseCase,
     value: isize,
 ) -> Result<String, AllocError>
-    ensures { IfOk result (Writes (spelled_text variant case TenThousand value) (most_bytes TenThousand)) }
+    ensures { IfOk result (Writes (spelled_text variant case TenThousand value)
+        (most_bytes TenThousand)) }
 {
     print_by_units::<isize, _>(alloc, variant, case, ChineseCountMethod::TenThousand, value)
 }
