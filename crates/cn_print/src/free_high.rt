@@ -20,7 +20,7 @@ pub fn from_u32_to_chinese_high(
 ) -> Result<String, AllocError>
     ensures { IfOk result (Writes (spelled_text variant case High (pos value)) (most_bytes High)) }
 {
-    print_by_units::<u32, _>(alloc, variant, case, ChineseCountMethod::High, value)
+    print_by_units::<u32>(alloc, variant, case, ChineseCountMethod::High, value)
 }
 
 /// Writes a `u64` by `High`: 10_000_000_000_000_000 is `一兆` in traditional script and lower case.
@@ -34,7 +34,7 @@ pub fn from_u64_to_chinese_high(
 ) -> Result<String, AllocError>
     ensures { IfOk result (Writes (spelled_text variant case High (pos value)) (most_bytes High)) }
 {
-    print_by_units::<u64, _>(alloc, variant, case, ChineseCountMethod::High, value)
+    print_by_units::<u64>(alloc, variant, case, ChineseCountMethod::High, value)
 }
 
 /// Writes a `u128` by `High`: 1_000_000_000_000_000_000_000_000 is `一億兆` in traditional script
@@ -49,7 +49,7 @@ pub fn from_u128_to_chinese_high(
 ) -> Result<String, AllocError>
     ensures { IfOk result (Writes (spelled_text variant case High (pos value)) (most_bytes High)) }
 {
-    print_by_units::<u128, _>(alloc, variant, case, ChineseCountMethod::High, value)
+    print_by_units::<u128>(alloc, variant, case, ChineseCountMethod::High, value)
 }
 
 /// Writes a `usize` by `High`: 10_000_000_000_000_000 is `一兆` in traditional script and lower
@@ -64,7 +64,7 @@ pub fn from_usize_to_chinese_high(
 ) -> Result<String, AllocError>
     ensures { IfOk result (Writes (spelled_text variant case High (pos value)) (most_bytes High)) }
 {
-    print_by_units::<usize, _>(alloc, variant, case, ChineseCountMethod::High, value)
+    print_by_units::<usize>(alloc, variant, case, ChineseCountMethod::High, value)
 }
 
 /// Writes an `i32` by `High`: -100_000 is `負十萬` in traditional script and lower case.
@@ -78,7 +78,7 @@ pub fn from_i32_to_chinese_high(
 ) -> Result<String, AllocError>
     ensures { IfOk result (Writes (spelled_text variant case High value) (most_bytes High)) }
 {
-    print_by_units::<i32, _>(alloc, variant, case, ChineseCountMethod::High, value)
+    print_by_units::<i32>(alloc, variant, case, ChineseCountMethod::High, value)
 }
 
 /// Writes an `i64` by `High`: -10_000_000_000_000_000 is `負一兆` in traditional script and lower
@@ -93,7 +93,7 @@ pub fn from_i64_to_chinese_high(
 ) -> Result<String, AllocError>
     ensures { IfOk result (Writes (spelled_text variant case High value) (most_bytes High)) }
 {
-    print_by_units::<i64, _>(alloc, variant, case, ChineseCountMethod::High, value)
+    print_by_units::<i64>(alloc, variant, case, ChineseCountMethod::High, value)
 }
 
 /// Writes an `i128` by `High`: -1_000_000_000_000_000_000_000_000 is `負一億兆` in traditional
@@ -108,7 +108,7 @@ pub fn from_i128_to_chinese_high(
 ) -> Result<String, AllocError>
     ensures { IfOk result (Writes (spelled_text variant case High value) (most_bytes High)) }
 {
-    print_by_units::<i128, _>(alloc, variant, case, ChineseCountMethod::High, value)
+    print_by_units::<i128>(alloc, variant, case, ChineseCountMethod::High, value)
 }
 
 /// Writes an `isize` by `High`: -10_000_000_000_000_000 is `負一兆` in traditional script and lower
@@ -123,5 +123,5 @@ pub fn from_isize_to_chinese_high(
 ) -> Result<String, AllocError>
     ensures { IfOk result (Writes (spelled_text variant case High value) (most_bytes High)) }
 {
-    print_by_units::<isize, _>(alloc, variant, case, ChineseCountMethod::High, value)
+    print_by_units::<isize>(alloc, variant, case, ChineseCountMethod::High, value)
 }

@@ -24,7 +24,7 @@ pub fn from_u8_to_chinese(
 ) -> Result<String, AllocError>
     ensures { IfOk result (Writes (spelled_text variant case Low (pos value)) (most_bytes Low)) }
 {
-    print_by_units::<u8, _>(alloc, variant, case, ChineseCountMethod::Low, value)
+    print_by_units::<u8>(alloc, variant, case, ChineseCountMethod::Low, value)
 }
 
 /// Writes a `u16` by `Low`: 12 is `十二` in traditional script and lower case.
@@ -38,7 +38,7 @@ pub fn from_u16_to_chinese(
 ) -> Result<String, AllocError>
     ensures { IfOk result (Writes (spelled_text variant case Low (pos value)) (most_bytes Low)) }
 {
-    print_by_units::<u16, _>(alloc, variant, case, ChineseCountMethod::Low, value)
+    print_by_units::<u16>(alloc, variant, case, ChineseCountMethod::Low, value)
 }
 
 /// Writes a `u32` by `Low`: 100_000 is `一億` in traditional script and lower case.
@@ -52,7 +52,7 @@ pub fn from_u32_to_chinese_low(
 ) -> Result<String, AllocError>
     ensures { IfOk result (Writes (spelled_text variant case Low (pos value)) (most_bytes Low)) }
 {
-    print_by_units::<u32, _>(alloc, variant, case, ChineseCountMethod::Low, value)
+    print_by_units::<u32>(alloc, variant, case, ChineseCountMethod::Low, value)
 }
 
 /// Writes a `u64` by `Low`: 100_000 is `一億` in traditional script and lower case.
@@ -67,7 +67,7 @@ pub fn from_u64_to_chinese_low(
 ) -> Result<String, NumberToChineseError>
     ensures { Prints variant case Low (pos value) result }
 {
-    print_or_refuse::<u64, _>(alloc, variant, case, ChineseCountMethod::Low, value)
+    print_or_refuse::<u64>(alloc, variant, case, ChineseCountMethod::Low, value)
 }
 
 /// Writes a `u128` by `Low`: 100_000 is `一億` in traditional script and lower case.
@@ -82,7 +82,7 @@ pub fn from_u128_to_chinese_low(
 ) -> Result<String, NumberToChineseError>
     ensures { Prints variant case Low (pos value) result }
 {
-    print_or_refuse::<u128, _>(alloc, variant, case, ChineseCountMethod::Low, value)
+    print_or_refuse::<u128>(alloc, variant, case, ChineseCountMethod::Low, value)
 }
 
 /// Writes a `usize` by `Low`: 100_000 is `一億` in traditional script and lower case.
@@ -97,7 +97,7 @@ pub fn from_usize_to_chinese_low(
 ) -> Result<String, NumberToChineseError>
     ensures { Prints variant case Low (pos value) result }
 {
-    print_or_refuse::<usize, _>(alloc, variant, case, ChineseCountMethod::Low, value)
+    print_or_refuse::<usize>(alloc, variant, case, ChineseCountMethod::Low, value)
 }
 
 /// Writes an `i8` by `Low`: -12 is `負十二` in traditional script and lower case.
@@ -111,7 +111,7 @@ pub fn from_i8_to_chinese(
 ) -> Result<String, AllocError>
     ensures { IfOk result (Writes (spelled_text variant case Low value) (most_bytes Low)) }
 {
-    print_by_units::<i8, _>(alloc, variant, case, ChineseCountMethod::Low, value)
+    print_by_units::<i8>(alloc, variant, case, ChineseCountMethod::Low, value)
 }
 
 /// Writes an `i16` by `Low`: -12 is `負十二` in traditional script and lower case.
@@ -125,7 +125,7 @@ pub fn from_i16_to_chinese(
 ) -> Result<String, AllocError>
     ensures { IfOk result (Writes (spelled_text variant case Low value) (most_bytes Low)) }
 {
-    print_by_units::<i16, _>(alloc, variant, case, ChineseCountMethod::Low, value)
+    print_by_units::<i16>(alloc, variant, case, ChineseCountMethod::Low, value)
 }
 
 /// Writes an `i32` by `Low`: -100_000 is `負一億` in traditional script and lower case.
@@ -139,7 +139,7 @@ pub fn from_i32_to_chinese_low(
 ) -> Result<String, AllocError>
     ensures { IfOk result (Writes (spelled_text variant case Low value) (most_bytes Low)) }
 {
-    print_by_units::<i32, _>(alloc, variant, case, ChineseCountMethod::Low, value)
+    print_by_units::<i32>(alloc, variant, case, ChineseCountMethod::Low, value)
 }
 
 /// Writes an `i64` by `Low`: -100_000 is `負一億` in traditional script and lower case.
@@ -154,7 +154,7 @@ pub fn from_i64_to_chinese_low(
 ) -> Result<String, NumberToChineseError>
     ensures { Prints variant case Low value result }
 {
-    print_or_refuse::<i64, _>(alloc, variant, case, ChineseCountMethod::Low, value)
+    print_or_refuse::<i64>(alloc, variant, case, ChineseCountMethod::Low, value)
 }
 
 /// Writes an `i128` by `Low`: -100_000 is `負一億` in traditional script and lower case.
@@ -169,7 +169,7 @@ pub fn from_i128_to_chinese_low(
 ) -> Result<String, NumberToChineseError>
     ensures { Prints variant case Low value result }
 {
-    print_or_refuse::<i128, _>(alloc, variant, case, ChineseCountMethod::Low, value)
+    print_or_refuse::<i128>(alloc, variant, case, ChineseCountMethod::Low, value)
 }
 
 /// Writes an `isize` by `Low`: -100_000 is `負一億` in traditional script and lower case.
@@ -184,5 +184,5 @@ pub fn from_isize_to_chinese_low(
 ) -> Result<String, NumberToChineseError>
     ensures { Prints variant case Low value result }
 {
-    print_or_refuse::<isize, _>(alloc, variant, case, ChineseCountMethod::Low, value)
+    print_or_refuse::<isize>(alloc, variant, case, ChineseCountMethod::Low, value)
 }

@@ -21,7 +21,7 @@ pub fn from_u32_to_chinese_middle(
     ensures { IfOk result (Writes (spelled_text variant case Middle (pos value))
         (most_bytes Middle)) }
 {
-    print_by_units::<u32, _>(alloc, variant, case, ChineseCountMethod::Middle, value)
+    print_by_units::<u32>(alloc, variant, case, ChineseCountMethod::Middle, value)
 }
 
 /// Writes a `u64` by `Middle`: 1_000_000_000_000 is `一萬億` in traditional script and lower case.
@@ -36,7 +36,7 @@ pub fn from_u64_to_chinese_middle(
     ensures { IfOk result (Writes (spelled_text variant case Middle (pos value))
         (most_bytes Middle)) }
 {
-    print_by_units::<u64, _>(alloc, variant, case, ChineseCountMethod::Middle, value)
+    print_by_units::<u64>(alloc, variant, case, ChineseCountMethod::Middle, value)
 }
 
 /// Writes a `u128` by `Middle`: 1_000_000_000_000_000_000_000_000 is `一京` in traditional script
@@ -52,7 +52,7 @@ pub fn from_u128_to_chinese_middle(
     ensures { IfOk result (Writes (spelled_text variant case Middle (pos value))
         (most_bytes Middle)) }
 {
-    print_by_units::<u128, _>(alloc, variant, case, ChineseCountMethod::Middle, value)
+    print_by_units::<u128>(alloc, variant, case, ChineseCountMethod::Middle, value)
 }
 
 /// Writes a `usize` by `Middle`: 1_000_000_000_000 is `一萬億` in traditional script and lower
@@ -68,7 +68,7 @@ pub fn from_usize_to_chinese_middle(
     ensures { IfOk result (Writes (spelled_text variant case Middle (pos value))
         (most_bytes Middle)) }
 {
-    print_by_units::<usize, _>(alloc, variant, case, ChineseCountMethod::Middle, value)
+    print_by_units::<usize>(alloc, variant, case, ChineseCountMethod::Middle, value)
 }
 
 /// Writes an `i32` by `Middle`: -100_000 is `負十萬` in traditional script and lower case.
@@ -82,7 +82,7 @@ pub fn from_i32_to_chinese_middle(
 ) -> Result<String, AllocError>
     ensures { IfOk result (Writes (spelled_text variant case Middle value) (most_bytes Middle)) }
 {
-    print_by_units::<i32, _>(alloc, variant, case, ChineseCountMethod::Middle, value)
+    print_by_units::<i32>(alloc, variant, case, ChineseCountMethod::Middle, value)
 }
 
 /// Writes an `i64` by `Middle`: -1_000_000_000_000 is `負一萬億` in traditional script and lower
@@ -97,7 +97,7 @@ pub fn from_i64_to_chinese_middle(
 ) -> Result<String, AllocError>
     ensures { IfOk result (Writes (spelled_text variant case Middle value) (most_bytes Middle)) }
 {
-    print_by_units::<i64, _>(alloc, variant, case, ChineseCountMethod::Middle, value)
+    print_by_units::<i64>(alloc, variant, case, ChineseCountMethod::Middle, value)
 }
 
 /// Writes an `i128` by `Middle`: -1_000_000_000_000_000_000_000_000 is `負一京` in traditional
@@ -112,7 +112,7 @@ pub fn from_i128_to_chinese_middle(
 ) -> Result<String, AllocError>
     ensures { IfOk result (Writes (spelled_text variant case Middle value) (most_bytes Middle)) }
 {
-    print_by_units::<i128, _>(alloc, variant, case, ChineseCountMethod::Middle, value)
+    print_by_units::<i128>(alloc, variant, case, ChineseCountMethod::Middle, value)
 }
 
 /// Writes an `isize` by `Middle`: -1_000_000_000_000 is `負一萬億` in traditional script and lower
@@ -127,5 +127,5 @@ pub fn from_isize_to_chinese_middle(
 ) -> Result<String, AllocError>
     ensures { IfOk result (Writes (spelled_text variant case Middle value) (most_bytes Middle)) }
 {
-    print_by_units::<isize, _>(alloc, variant, case, ChineseCountMethod::Middle, value)
+    print_by_units::<isize>(alloc, variant, case, ChineseCountMethod::Middle, value)
 }

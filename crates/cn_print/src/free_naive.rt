@@ -18,7 +18,7 @@ pub fn from_u8_to_chinese_naive(
 ) -> Result<String, AllocError>
     ensures { IfOk result (Writes (naive_text variant case (pos value)) most_plain_bytes) }
 {
-    print_naive::<u8, _>(alloc, variant, case, value)
+    print_naive::<u8>(alloc, variant, case, value)
 }
 
 /// Writes a `u16` digit by digit: 120 is `一二零` in traditional script and lower case.
@@ -32,7 +32,7 @@ pub fn from_u16_to_chinese_naive(
 ) -> Result<String, AllocError>
     ensures { IfOk result (Writes (naive_text variant case (pos value)) most_plain_bytes) }
 {
-    print_naive::<u16, _>(alloc, variant, case, value)
+    print_naive::<u16>(alloc, variant, case, value)
 }
 
 /// Writes a `u32` digit by digit: 120 is `一二零` in traditional script and lower case.
@@ -46,7 +46,7 @@ pub fn from_u32_to_chinese_naive(
 ) -> Result<String, AllocError>
     ensures { IfOk result (Writes (naive_text variant case (pos value)) most_plain_bytes) }
 {
-    print_naive::<u32, _>(alloc, variant, case, value)
+    print_naive::<u32>(alloc, variant, case, value)
 }
 
 /// Writes a `u64` digit by digit: 120 is `一二零` in traditional script and lower case.
@@ -60,7 +60,7 @@ pub fn from_u64_to_chinese_naive(
 ) -> Result<String, AllocError>
     ensures { IfOk result (Writes (naive_text variant case (pos value)) most_plain_bytes) }
 {
-    print_naive::<u64, _>(alloc, variant, case, value)
+    print_naive::<u64>(alloc, variant, case, value)
 }
 
 /// Writes a `u128` digit by digit: 120 is `一二零` in traditional script and lower case.
@@ -74,7 +74,7 @@ pub fn from_u128_to_chinese_naive(
 ) -> Result<String, AllocError>
     ensures { IfOk result (Writes (naive_text variant case (pos value)) most_plain_bytes) }
 {
-    print_naive::<u128, _>(alloc, variant, case, value)
+    print_naive::<u128>(alloc, variant, case, value)
 }
 
 /// Writes a `usize` digit by digit: 120 is `一二零` in traditional script and lower case.
@@ -88,7 +88,7 @@ pub fn from_usize_to_chinese_naive(
 ) -> Result<String, AllocError>
     ensures { IfOk result (Writes (naive_text variant case (pos value)) most_plain_bytes) }
 {
-    print_naive::<usize, _>(alloc, variant, case, value)
+    print_naive::<usize>(alloc, variant, case, value)
 }
 
 /// Writes an `i8` digit by digit: -120 is `負一二零` in traditional script and lower case.
@@ -102,7 +102,7 @@ pub fn from_i8_to_chinese_naive(
 ) -> Result<String, AllocError>
     ensures { IfOk result (Writes (naive_text variant case value) most_plain_bytes) }
 {
-    print_naive::<i8, _>(alloc, variant, case, value)
+    print_naive::<i8>(alloc, variant, case, value)
 }
 
 /// Writes an `i16` digit by digit: -120 is `負一二零` in traditional script and lower case.
@@ -116,7 +116,7 @@ pub fn from_i16_to_chinese_naive(
 ) -> Result<String, AllocError>
     ensures { IfOk result (Writes (naive_text variant case value) most_plain_bytes) }
 {
-    print_naive::<i16, _>(alloc, variant, case, value)
+    print_naive::<i16>(alloc, variant, case, value)
 }
 
 /// Writes an `i32` digit by digit: -120 is `負一二零` in traditional script and lower case.
@@ -130,7 +130,7 @@ pub fn from_i32_to_chinese_naive(
 ) -> Result<String, AllocError>
     ensures { IfOk result (Writes (naive_text variant case value) most_plain_bytes) }
 {
-    print_naive::<i32, _>(alloc, variant, case, value)
+    print_naive::<i32>(alloc, variant, case, value)
 }
 
 /// Writes an `i64` digit by digit: -120 is `負一二零` in traditional script and lower case.
@@ -144,7 +144,7 @@ pub fn from_i64_to_chinese_naive(
 ) -> Result<String, AllocError>
     ensures { IfOk result (Writes (naive_text variant case value) most_plain_bytes) }
 {
-    print_naive::<i64, _>(alloc, variant, case, value)
+    print_naive::<i64>(alloc, variant, case, value)
 }
 
 /// Writes an `i128` digit by digit: -120 is `負一二零` in traditional script and lower case.
@@ -158,7 +158,7 @@ pub fn from_i128_to_chinese_naive(
 ) -> Result<String, AllocError>
     ensures { IfOk result (Writes (naive_text variant case value) most_plain_bytes) }
 {
-    print_naive::<i128, _>(alloc, variant, case, value)
+    print_naive::<i128>(alloc, variant, case, value)
 }
 
 /// Writes an `isize` digit by digit: -120 is `負一二零` in traditional script and lower case.
@@ -172,5 +172,5 @@ pub fn from_isize_to_chinese_naive(
 ) -> Result<String, AllocError>
     ensures { IfOk result (Writes (naive_text variant case value) most_plain_bytes) }
 {
-    print_naive::<isize, _>(alloc, variant, case, value)
+    print_naive::<isize>(alloc, variant, case, value)
 }

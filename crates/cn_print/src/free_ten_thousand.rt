@@ -21,7 +21,7 @@ pub fn from_u32_to_chinese_ten_thousand(
     ensures { IfOk result (Writes (spelled_text variant case TenThousand (pos value))
         (most_bytes TenThousand)) }
 {
-    print_by_units::<u32, _>(alloc, variant, case, ChineseCountMethod::TenThousand, value)
+    print_by_units::<u32>(alloc, variant, case, ChineseCountMethod::TenThousand, value)
 }
 
 /// Writes a `u64` by `TenThousand`: 1_000_000_000_000 is `一兆` in traditional script and lower
@@ -37,7 +37,7 @@ pub fn from_u64_to_chinese_ten_thousand(
     ensures { IfOk result (Writes (spelled_text variant case TenThousand (pos value))
         (most_bytes TenThousand)) }
 {
-    print_by_units::<u64, _>(alloc, variant, case, ChineseCountMethod::TenThousand, value)
+    print_by_units::<u64>(alloc, variant, case, ChineseCountMethod::TenThousand, value)
 }
 
 /// Writes a `u128` by `TenThousand`: 1_000_000_000_000 is `一兆` in traditional script and lower
@@ -53,7 +53,7 @@ pub fn from_u128_to_chinese_ten_thousand(
     ensures { IfOk result (Writes (spelled_text variant case TenThousand (pos value))
         (most_bytes TenThousand)) }
 {
-    print_by_units::<u128, _>(alloc, variant, case, ChineseCountMethod::TenThousand, value)
+    print_by_units::<u128>(alloc, variant, case, ChineseCountMethod::TenThousand, value)
 }
 
 /// Writes a `usize` by `TenThousand`: 1_000_000_000_000 is `一兆` in traditional script and lower
@@ -69,7 +69,7 @@ pub fn from_usize_to_chinese_ten_thousand(
     ensures { IfOk result (Writes (spelled_text variant case TenThousand (pos value))
         (most_bytes TenThousand)) }
 {
-    print_by_units::<usize, _>(alloc, variant, case, ChineseCountMethod::TenThousand, value)
+    print_by_units::<usize>(alloc, variant, case, ChineseCountMethod::TenThousand, value)
 }
 
 /// Writes an `i32` by `TenThousand`: -100_000 is `負十萬` in traditional script and lower case.
@@ -84,7 +84,7 @@ pub fn from_i32_to_chinese_ten_thousand(
     ensures { IfOk result (Writes (spelled_text variant case TenThousand value)
         (most_bytes TenThousand)) }
 {
-    print_by_units::<i32, _>(alloc, variant, case, ChineseCountMethod::TenThousand, value)
+    print_by_units::<i32>(alloc, variant, case, ChineseCountMethod::TenThousand, value)
 }
 
 /// Writes an `i64` by `TenThousand`: -1_000_000_000_000 is `負一兆` in traditional script and lower
@@ -100,7 +100,7 @@ pub fn from_i64_to_chinese_ten_thousand(
     ensures { IfOk result (Writes (spelled_text variant case TenThousand value)
         (most_bytes TenThousand)) }
 {
-    print_by_units::<i64, _>(alloc, variant, case, ChineseCountMethod::TenThousand, value)
+    print_by_units::<i64>(alloc, variant, case, ChineseCountMethod::TenThousand, value)
 }
 
 /// Writes an `i128` by `TenThousand`: -1_000_000_000_000 is `負一兆` in traditional script and
@@ -116,7 +116,7 @@ pub fn from_i128_to_chinese_ten_thousand(
     ensures { IfOk result (Writes (spelled_text variant case TenThousand value)
         (most_bytes TenThousand)) }
 {
-    print_by_units::<i128, _>(alloc, variant, case, ChineseCountMethod::TenThousand, value)
+    print_by_units::<i128>(alloc, variant, case, ChineseCountMethod::TenThousand, value)
 }
 
 /// Writes an `isize` by `TenThousand`: -1_000_000_000_000 is `負一兆` in traditional script and
@@ -132,5 +132,5 @@ pub fn from_isize_to_chinese_ten_thousand(
     ensures { IfOk result (Writes (spelled_text variant case TenThousand value)
         (most_bytes TenThousand)) }
 {
-    print_by_units::<isize, _>(alloc, variant, case, ChineseCountMethod::TenThousand, value)
+    print_by_units::<isize>(alloc, variant, case, ChineseCountMethod::TenThousand, value)
 }

@@ -11,7 +11,7 @@ use crate::room::Room;
 use crate::sign::put_sign;
 use crate::text::{Text, new_string, put_in_front};
 use cn_core::{ChineseCase, ChineseVariant, Whole};
-use std::alloc::{AllocError, Allocator};
+use std::alloc::{AllocError, Global};
 
 // A sign, and the digits of a magnitude.
 #[derive(Drop)]
@@ -64,12 +64,12 @@ impl Text for Plain<'_> {
 }
 
 /// The text of a number by its decimal digits, in one request for memory.
-pub fn print_naive<T: Whole, A: Allocator>(
-    alloc: A,
+pub fn print_naive<T: Whole>(
+    alloc: Global,
     variant: ChineseVariant,
     case: ChineseCase,
     value: T,
-) -> Result<String<A>, AllocError>
+) -> Result<String, AllocError>
     ensures { IfOk result (Writes (naive_text variant case (T.number value)) most_plain_bytes) }
 {
     let characters = Characters::new(variant, case);

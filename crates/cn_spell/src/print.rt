@@ -12,7 +12,7 @@ use crate::known_method::{ByHigh, ByLow, ByMiddle, ByTenThousand, KnownMethod};
 use crate::spelled::Spelled;
 use crate::text::new_string;
 use cn_core::{ChineseCase, ChineseCountMethod, ChineseVariant, Whole};
-use std::alloc::{AllocError, Allocator};
+use std::alloc::{AllocError, Global};
 
 // `Low` writes magnitudes of at most sixteen digits.
 const LOW_LIMIT: u128 = 10_000_000_000_000_000;
@@ -29,12 +29,12 @@ pub fn is_printable<T: Whole>(method: ChineseCountMethod, value: T) -> bool
 }
 
 // The text of a sign and a magnitude, in one request for memory.
-fn signed_text<M: KnownMethod, A: Allocator>(
-    alloc: A,
+fn signed_text<M: KnownMethod>(
+    alloc: Global,
     characters: Characters,
     negative: bool,
     magnitude: u128,
-) -> Result<String<A>, AllocError>
+) -> Result<String, AllocError>
     requires { IsTrue (is_printable M.stands_for (pos magnitude)) }
     ensures { IfOk result (Writes
         (signed_text characters.variant characters.case negative (spelling M.stands_for magnitude))
@@ -46,40 +46,40 @@ fn signed_text<M: KnownMethod, A: Allocator>(
 }
 
 // The same by a method that is given.
-fn print_magnitude<A: Allocator>(
-    alloc: A,
+fn print_magnitude(
+    alloc: Global,
     characters: Characters,
     method: ChineseCountMethod,
     negative: bool,
     magnitude: u128,
-) -> Result<String<A>, AllocError>
+) -> Result<String, AllocError>
     requires { IsTrue (is_printable method (pos magnitude)) }
     ensures { IfOk result (Writes
         (signed_text characters.variant characters.case negative (spelling method magnitude))
         (most_bytes method)) }
 {
     match method {
-        ChineseCountMethod::Low => signed_text::<ByLow, A>(alloc, characters, negative, magnitude),
+        ChineseCountMethod::Low => signed_text::<ByLow>(alloc, characters, negative, magnitude),
         ChineseCountMethod::TenThousand => {
-            signed_text::<ByTenThousand, A>(alloc, characters, negative, magnitude)
+            signed_text::<ByTenThousand>(alloc, characters, negative, magnitude)
         }
         ChineseCountMethod::Middle => {
-            signed_text::<ByMiddle, A>(alloc, characters, negative, magnitude)
+            signed_text::<ByMiddle>(alloc, characters, negative, magnitude)
         }
         ChineseCountMethod::High => {
-            signed_text::<ByHigh, A>(alloc, characters, negative, magnitude)
+            signed_text::<ByHigh>(alloc, characters, negative, magnitude)
         }
     }
 }
 
 /// The spelling of a number that the method writes.
-pub fn print_by_units<T: Whole, A: Allocator>(
-    alloc: A,
+pub fn print_by_units<T: Whole>(
+    alloc: Global,
     variant: ChineseVariant,
     case: ChineseCase,
     method: ChineseCountMethod,
     value: T,
-) -> Result<String<A>, AllocError>
+) -> Result<String, AllocError>
     requires { IsTrue (is_printable method (T.number value)) }
     ensures { IfOk result (Writes
         (spelled_text variant case method (T.number value)) (most_bytes method)) }
@@ -95,13 +95,13 @@ pub fn print_by_units<T: Whole, A: Allocator>(
 }
 
 /// The same for any number: what the method does not write is refused before memory is asked for.
-pub fn print_or_refuse<T: Whole, A: Allocator>(
-    alloc: A,
+pub fn print_or_refuse<T: Whole>(
+    alloc: Global,
     variant: ChineseVariant,
     case: ChineseCase,
     method: ChineseCountMethod,
     value: T,
-) -> Result<String<A>, NumberToChineseError>
+) -> Result<String, NumberToChineseError>
     ensures { Prints variant case method (T.number value) result }
 {
     if !is_printable(method, value) {

@@ -4,7 +4,7 @@ ghost use Rattle.std.specs.Str.{IsUtf8};
 ghost use Rattle.cn_spell.specs.Puts.{PutsInFront};
 ghost use Rattle.cn_spell.specs.Writes.{Writes};
 
-use std::alloc::{AllocError, Allocator};
+use std::alloc::{AllocError, Global};
 
 /// A text of characters that take three bytes each.
 pub trait Text {
@@ -30,7 +30,7 @@ pub trait Text {
 
 /// The text in one request for memory.
 #[inline(always)]
-pub fn new_string<X: Text, A: Allocator>(alloc: A, text: &X) -> Result<String<A>, AllocError>
+pub fn new_string<X: Text>(alloc: Global, text: &X) -> Result<String, AllocError>
     ensures { IfOk result (Writes (X.says text.now) (X.most text.now)) }
 {
     let mut bytes = vec![in alloc; 0u8; 3 * text.count()]?;
