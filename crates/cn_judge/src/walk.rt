@@ -43,7 +43,7 @@ fn unit_after(next: Option<Mark>) -> Option<Unit>
     }
 }
 
-// Rule 3: no digit from 1 to 9 stands directly before a digit.
+/// Rule 3: no digit from 1 to 9 stands directly before a digit.
 pub fn separates_digits(value: u8, next: Option<Mark>) -> bool
     ensures { result ≡ (value == 0 || not (digit_next next)) }
 {
