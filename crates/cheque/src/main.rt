@@ -3,9 +3,9 @@
 
 ghost use Rattle.std.specs.Prelude.{◌≡◌, pos, Ok, Err, IfOk, MatchOption, string_bytes, encode_utf8_all};
 ghost use Rattle.chinese_number.specs.Refusal.{Refusal};
-ghost use Rattle.chinese_number.specs.Typed.{Reads};
+ghost use Rattle.chinese_number.specs.Reading.{Reads};
 ghost use Rattle.chinese_number.specs.Whole.{unsigned_kind};
-ghost use Rattle.chinese_number.specs.Written.{spelled_text};
+ghost use Rattle.chinese_number.specs.Printing.{spelled_text};
 ghost use Rattle.chinese_number.specs.declared.ChineseCase.TheVariants.{Upper};
 ghost use Rattle.chinese_number.specs.declared.ChineseCountMethod.TheVariants.{TenThousand};
 ghost use Rattle.chinese_number.specs.declared.ChineseVariant.TheVariants.{Simple};

@@ -10,10 +10,10 @@ use Rattle.cn_core.specs.Mark.{Mark, digit, unit, other}
 use Rattle.cn_core.specs.Naive.{decimal_digits, decimal_value}
 use Rattle.cn_core.specs.Numeral.{with_first_digit, starts_with_digit}
 use Rattle.cn_core.specs.Spelling.{spelling}
-use Rattle.cn_core.specs.Typed.{Reads, sign_len, is_minus, typed_answer, naive_reading}
+use Rattle.cn_core.specs.Reading.{Reads, sign_len, is_minus, typed_answer, naive_reading}
 use Rattle.cn_core.specs.Value.{numeral_value}
 use Rattle.cn_core.specs.Whole.{signed_number, Kind, Holds}
-use Rattle.cn_core.specs.Written.{mark_char, signed_text, signed_bytes, naive_text, spelled_text, is_printable}
+use Rattle.cn_core.specs.Printing.{mark_char, signed_text, signed_bytes, naive_text, spelled_text, is_printable}
 use Rattle.cn_core.proofs.Beginnings.{starts-alike}
 use Rattle.cn_core.proofs.Fronts.{and-left, list_all-front}
 use Rattle.cn_core.proofs.ReadBack.{spelling-is_numeral}

@@ -8,7 +8,7 @@ use Rattle.cn_core.specs.Characters.{digit_of, sign_of}
 use Rattle.cn_core.specs.Mark.{digit, mark_of}
 use Rattle.cn_core.specs.Naive.{naive_answer}
 use Rattle.cn_core.specs.Text.{text_of, marks_of}
-use Rattle.cn_core.specs.Typed.{leading_sign, sign_len, is_minus, typed_number, typed_answer, naive_reading}
+use Rattle.cn_core.specs.Reading.{leading_sign, sign_len, is_minus, typed_number, typed_answer, naive_reading}
 use Rattle.cn_core.specs.Whole.{signed_number, Kind}
 use Rattle.chinese_number.proofs.PlainDigits.{answered, naive_answer-zeros}
 use Rattle.chinese_number.proofs.Reading.{naive_reading-parts}

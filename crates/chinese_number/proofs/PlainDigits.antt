@@ -15,9 +15,9 @@ use Rattle.cn_core.specs.Naive.{decimal_digits, decimal_value, digit_value, naiv
 use Rattle.cn_core.specs.Numeral.{with_first_digit, starts_with_digit}
 use Rattle.cn_core.specs.Refusal.{Refusal, empty, incorrect_at, too_large, too_small}
 use Rattle.cn_core.specs.Text.{marks_of}
-use Rattle.cn_core.specs.Typed.{naive_reading, is_minus, typed_number, typed_answer}
+use Rattle.cn_core.specs.Reading.{naive_reading, is_minus, typed_number, typed_answer}
 use Rattle.cn_core.specs.Whole.{signed_number, Kind, Holds}
-use Rattle.cn_core.specs.Written.{signed_bytes, naive_text}
+use Rattle.cn_core.specs.Printing.{signed_bytes, naive_text}
 use Rattle.cn_core.proofs.Fronts.{list_all-both}
 use Rattle.chinese_number.specs.Digits.{is_digit}
 use Rattle.chinese_number.specs.Parts.{sign_at, unsigned_text}

@@ -15,7 +15,7 @@ use Rattle.cn_core.specs.Characters.{digit_of, rank_of, sign_of, digit_char, uni
 use Rattle.cn_core.specs.Mark.{Mark, digit, unit, other, mark_of}
 use Rattle.cn_core.specs.Numeral.{with_first_digit, starts_with_digit}
 use Rattle.cn_core.specs.Text.{text_of, marks_of}
-use Rattle.cn_core.specs.Written.{mark_char, signed_text, signed_bytes}
+use Rattle.cn_core.specs.Printing.{mark_char, signed_text, signed_bytes}
 use Rattle.cn_core.proofs.Fronts.{and-left, and-right, both}
 
 -- a digit of one place, or a unit

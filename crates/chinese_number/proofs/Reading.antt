@@ -14,9 +14,9 @@ use Rattle.cn_core.specs.Numeral.{with_first_digit, starts_with_digit}
 use Rattle.cn_core.specs.Refusal.{Refusal, empty, incorrect_at, too_large, too_small}
 use Rattle.cn_core.specs.Spelling.{spelling}
 use Rattle.cn_core.specs.Text.{text_of, marks_of}
-use Rattle.cn_core.specs.Typed.{Reads, leading_sign, sign_len, is_minus, typed_number, typed_answer, naive_reading}
+use Rattle.cn_core.specs.Reading.{Reads, leading_sign, sign_len, is_minus, typed_number, typed_answer, naive_reading}
 use Rattle.cn_core.specs.Whole.{signed_number, Kind, Holds}
-use Rattle.cn_core.specs.Written.{mark_char, signed_bytes, spelled_text, is_printable}
+use Rattle.cn_core.specs.Printing.{mark_char, signed_bytes, spelled_text, is_printable}
 use Rattle.cn_core.specs.Judging.{judge}
 use Rattle.cn_core.proofs.Fronts.{and-left}
 use Rattle.cn_core.proofs.Judging.{Judges-judge, Judges-same}

@@ -12,7 +12,7 @@ use Rattle.cn_core.specs.Numeral.{is_numeral}
 use Rattle.cn_core.specs.Place.{body, is_early, some_unfit}
 use Rattle.cn_core.specs.Refusal.{Refusal, empty, incorrect_at, too_large, too_small}
 use Rattle.cn_core.specs.Text.{marks_of}
-use Rattle.cn_core.specs.Typed.{Reads, is_minus, typed_number, typed_answer, naive_reading}
+use Rattle.cn_core.specs.Reading.{Reads, is_minus, typed_number, typed_answer, naive_reading}
 use Rattle.cn_core.specs.Value.{numeral_value}
 use Rattle.cn_core.specs.Whole.{signed_number, Kind}
 use Rattle.chinese_number.specs.Parts.{sign_at, unsigned_text}

@@ -3,7 +3,7 @@ use Rattle.std.proofs.Common.{◌≡◌, suc, Bool, true, false, List, [], ◌�
 use Rattle.cn_core.specs.declared.case.ChineseCase.{ChineseCase}
 use Rattle.cn_core.specs.declared.script.ChineseVariant.{ChineseVariant}
 use Rattle.cn_core.specs.Mark.{Mark}
-use Rattle.cn_core.specs.Written.{mark_char, signed_text}
+use Rattle.cn_core.specs.Printing.{mark_char, signed_text}
 
 length-marks : (variant : ChineseVariant) (case : ChineseCase) (marks : List Mark) → length (map (mark_char variant case) marks) ≡ length marks
 length-marks variant case [] = refl

@@ -8,7 +8,7 @@ use Rattle.cn_core.specs.Mark.{digit}
 use Rattle.cn_core.specs.Numeral.{IsNumeral}
 use Rattle.cn_core.specs.Place.{some_unfit}
 use Rattle.cn_core.specs.Text.{text_of, marks_of}
-use Rattle.cn_core.specs.Typed.{Reads, is_minus}
+use Rattle.cn_core.specs.Reading.{Reads, is_minus}
 use Rattle.cn_core.specs.Value.{numeral_value}
 use Rattle.cn_core.specs.Whole.{signed_number, Kind, Holds}
 use Rattle.chinese_number.proofs.Reading.{IsWhole, HasParts, Reads-parts, typed_number-Holds, size_of}

@@ -10,7 +10,7 @@ use Rattle.cn_core.specs.Place.{body, is_below, is_early, is_overflowing, some_u
 use Rattle.cn_core.specs.Refusal.{Refusal, incorrect_at, too_large}
 use Rattle.cn_core.specs.Scale.{scale, scale_fits}
 use Rattle.cn_core.specs.Text.{text_of, marks_of}
-use Rattle.cn_core.specs.Typed.{Reads, leading_sign, sign_len}
+use Rattle.cn_core.specs.Reading.{Reads, leading_sign, sign_len}
 use Rattle.cn_core.specs.Value.{value, colloquial_value, product, records_from}
 use Rattle.cn_core.specs.Whole.{Kind}
 use Rattle.cn_core.specs.Judging.{place_of, judge}

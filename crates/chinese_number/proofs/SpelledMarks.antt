@@ -13,7 +13,7 @@ use Rattle.cn_core.specs.Place.{body, is_unfit, some_unfit}
 use Rattle.cn_core.specs.Scale.{scale, exponent, scale_fits}
 use Rattle.cn_core.specs.Spelling.{spelling, spelling_within, after_unit}
 use Rattle.cn_core.specs.Value.{numeral_value}
-use Rattle.cn_core.specs.Written.{is_printable}
+use Rattle.cn_core.specs.Printing.{is_printable}
 use Rattle.cn_core.proofs.Beginnings.{beginning-is_numeral}
 use Rattle.cn_core.proofs.Fronts.{and-left, and-right, both, list_all-both}
 use Rattle.cn_core.proofs.ReadBack.{spelling-is_numeral}

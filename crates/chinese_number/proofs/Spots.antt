@@ -14,7 +14,7 @@ use Rattle.cn_core.specs.Place.{body, ends_apart, is_early, some_unfit}
 use Rattle.cn_core.specs.Refusal.{Refusal, empty, incorrect_at, too_large, too_small}
 use Rattle.cn_core.specs.Spot.{spot, spot_among}
 use Rattle.cn_core.specs.Text.{text_of, marks_of}
-use Rattle.cn_core.specs.Typed.{Reads, leading_sign, sign_len, is_minus, typed_number, typed_answer, naive_reading}
+use Rattle.cn_core.specs.Reading.{Reads, leading_sign, sign_len, is_minus, typed_number, typed_answer, naive_reading}
 use Rattle.cn_core.specs.Value.{numeral_value}
 use Rattle.cn_core.specs.Whole.{signed_number, Kind}
 use Rattle.chinese_number.specs.Places.{PointsAt}

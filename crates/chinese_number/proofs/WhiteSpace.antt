@@ -6,7 +6,7 @@ use Rattle.cn_core.specs.Judge.{Judges}
 use Rattle.cn_core.specs.Naive.{naive_answer}
 use Rattle.cn_core.specs.Refusal.{Refusal, empty, incorrect_at, too_large, too_small}
 use Rattle.cn_core.specs.Text.{text_of, marks_of}
-use Rattle.cn_core.specs.Typed.{Reads, leading_sign, sign_len, typed_answer, naive_reading}
+use Rattle.cn_core.specs.Reading.{Reads, leading_sign, sign_len, typed_answer, naive_reading}
 use Rattle.cn_core.specs.Whole.{Kind}
 use Rattle.cn_core.proofs.Judging.{Judges-same}
 use Rattle.chinese_number.specs.Places.{without_spot}

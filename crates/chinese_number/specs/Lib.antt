@@ -14,10 +14,10 @@ pub use Rattle.cn_core.specs.Scale
 pub use Rattle.cn_core.specs.Spelling
 pub use Rattle.cn_core.specs.Spot
 pub use Rattle.cn_core.specs.Text
-pub use Rattle.cn_core.specs.Typed
+pub use Rattle.cn_core.specs.Reading
 pub use Rattle.cn_core.specs.Value
 pub use Rattle.cn_core.specs.Whole
-pub use Rattle.cn_core.specs.Written
+pub use Rattle.cn_core.specs.Printing
 pub use Rattle.cn_print.specs.ErrorText as PrintErrorText
 pub use Rattle.cn_print.specs.Prints
 pub use Rattle.cn_print.specs.Writes

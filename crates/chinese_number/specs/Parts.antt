@@ -3,7 +3,7 @@
 use Rattle.std.specs.Prelude.{ℕ, List, take, drop, Option}
 use Rattle.cn_core.specs.declared.sign.Sign.{Sign}
 use Rattle.cn_core.specs.Text.{text_of}
-use Rattle.cn_core.specs.Typed.{leading_sign, sign_len}
+use Rattle.cn_core.specs.Reading.{leading_sign, sign_len}
 use Rattle.cn_core.specs.Whole.{Kind}
 
 -- the sign, if there is one

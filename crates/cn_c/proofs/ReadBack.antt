@@ -10,7 +10,7 @@ use Rattle.cn_core.specs.declared.script.ChineseVariant.{ChineseVariant}
 use Rattle.cn_core.specs.Refusal.{Refusal}
 use Rattle.cn_core.specs.Spelling.{spelling}
 use Rattle.cn_core.specs.Whole.{Kind, Holds, unsigned_kind, signed_kind}
-use Rattle.cn_core.specs.Written.{signed_text, naive_text, spelled_text, is_printable}
+use Rattle.cn_core.specs.Printing.{signed_text, naive_text, spelled_text, is_printable}
 use Rattle.cn_core.specs.Mark.{Mark}
 use Rattle.cn_core.proofs.Fronts.{and-left, and-right}
 use Rattle.cn_spell.proofs.NaiveTexts.{three-naive}

@@ -9,9 +9,9 @@ use Rattle.cn_core.specs.Characters.{digit_of, rank_of, sign_of, digit_char, min
 use Rattle.cn_core.specs.Naive.{decimal_digits}
 use Rattle.cn_core.specs.Refusal.{empty, incorrect_at, too_large, too_small}
 use Rattle.cn_core.specs.Text.{text_of}
-use Rattle.cn_core.specs.Typed.{naive_reading}
+use Rattle.cn_core.specs.Reading.{naive_reading}
 use Rattle.cn_core.specs.Whole.{unsigned_kind, signed_kind}
-use Rattle.cn_core.specs.Written.{signed_text}
+use Rattle.cn_core.specs.Printing.{signed_text}
 
 -- a string by its bytes
 abbrev string : List ℕ → List ℕ

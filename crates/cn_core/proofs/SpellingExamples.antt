@@ -4,7 +4,7 @@ use Rattle.cn_core.specs.declared.method.ChineseCountMethod.TheVariants.{Low, Te
 use Rattle.cn_core.specs.declared.script.ChineseVariant.TheVariants.{Traditional, Simple}
 use Rattle.cn_core.specs.declared.case.ChineseCase.TheVariants.{Upper, Lower}
 use Rattle.cn_core.specs.Characters.{digit_char, unit_char, minus_char}
-use Rattle.cn_core.specs.Written.{spelled_text}
+use Rattle.cn_core.specs.Printing.{spelled_text}
 
 zero : spelled_text Traditional Lower TenThousand (pos 0) ≡ codes "零"
 unfolding digit_char unit_char minus_char

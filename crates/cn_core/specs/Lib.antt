@@ -5,13 +5,13 @@ pub mod Mark
 pub mod Naive
 pub mod Numeral
 pub mod Place
+pub mod Printing
+pub mod Reading
 pub mod Refusal
 pub mod Scale
 pub mod Spelling
 pub mod Spot
 pub mod Text
-pub mod Typed
 pub mod Value
 pub mod Whole
 pub mod WholeLaws
-pub mod Written

@@ -6,7 +6,7 @@ use Rattle.cn_core.specs.declared.sign.Sign.{Sign}
 use Rattle.cn_core.specs.Refusal.{Refusal, empty, incorrect_at, too_large, too_small}
 use Rattle.cn_core.specs.Spot.{spot_among, spot}
 use Rattle.cn_core.specs.Text.{text_of}
-use Rattle.cn_core.specs.Typed.{typed_answer, sign_len}
+use Rattle.cn_core.specs.Reading.{typed_answer, sign_len}
 use Rattle.cn_core.specs.Whole.{Kind}
 use Rattle.cn_judge.specs.Private.Piece.{StandsAt, EndsWith, answer_at}
 use Rattle.cn_judge.specs.Private.Signed.{signed_answer}

@@ -1,7 +1,7 @@
 // The sign at the start of a text: it is taken off first, and put back at the end.
 ghost use Rattle.std.specs.Prelude.{◌≡◌, ◌+◌, ◌≤◌, length, chars};
 ghost use Rattle.cn_core.specs.Text.{text_of};
-ghost use Rattle.cn_core.specs.Typed.{leading_sign, sign_len};
+ghost use Rattle.cn_core.specs.Reading.{leading_sign, sign_len};
 ghost use Rattle.cn_judge.specs.Answer.{answer_of};
 ghost use Rattle.cn_judge.specs.Private.Piece.{StandsAt};
 ghost use Rattle.cn_judge.specs.Private.Signed.{signed_answer};

@@ -24,7 +24,7 @@ ghost use Rattle.cn_core.specs.Scale.{scale, scale_fits};
 ghost use Rattle.cn_core.specs.Text.{text_of, marks_of};
 ghost use Rattle.cn_core.specs.Numeral.{each_may_precede, is_numeral, with_first_digit, starts_with_digit};
 ghost use Rattle.cn_core.specs.Place.{is_tail};
-ghost use Rattle.cn_core.specs.Typed.{Reads};
+ghost use Rattle.cn_core.specs.Reading.{Reads};
 ghost use Rattle.cn_judge.specs.Answer.{answer_of};
 ghost use Rattle.cn_judge.specs.Private.Judged.{after_first, JudgesAt};
 ghost use Rattle.cn_judge.specs.Private.Marked.{marked, unit_mark};

@@ -4,9 +4,9 @@ use Rattle.std.specs.Bool.{MatchBool}
 use Rattle.chinese_number.specs.declared.ChineseVariant.{ChineseVariant}
 use Rattle.chinese_number.specs.declared.ChineseCase.{ChineseCase}
 use Rattle.chinese_number.specs.Refusal.{Refusal, refusal_text}
-use Rattle.chinese_number.specs.Typed.{naive_reading}
+use Rattle.chinese_number.specs.Reading.{naive_reading}
 use Rattle.chinese_number.specs.Whole.{Kind, holds}
-use Rattle.chinese_number.specs.Written.{spelled_text, is_printable}
+use Rattle.chinese_number.specs.Printing.{spelled_text, is_printable}
 use Rattle.chinese_number.proofs.Reading.{the_answer, Reads-same, Reads-the_answer}
 use Rattle.cn_lines.specs.declared.question.Method.{Method}
 use Rattle.cn_lines.specs.declared.question.Method.TheVariants.{Naive, Units}

@@ -5,9 +5,9 @@ use Rattle.std.specs.Fmt.{signed_decimal}
 use Rattle.chinese_number.specs.declared.ChineseVariant.{ChineseVariant}
 use Rattle.chinese_number.specs.declared.ChineseCase.{ChineseCase}
 use Rattle.chinese_number.specs.Refusal.{Refusal, too_large, too_small, refusal_text}
-use Rattle.chinese_number.specs.Typed.{Reads, naive_reading}
+use Rattle.chinese_number.specs.Reading.{Reads, naive_reading}
 use Rattle.chinese_number.specs.Whole.{Kind, holds}
-use Rattle.chinese_number.specs.Written.{naive_text, spelled_text, is_printable}
+use Rattle.chinese_number.specs.Printing.{naive_text, spelled_text, is_printable}
 use Rattle.cn_lines.specs.declared.question.Method.{Method}
 use Rattle.cn_lines.specs.declared.question.Method.TheVariants.{Naive, Units}
 use Rattle.cn_lines.specs.Question.{Question, read, print, question_of}

@@ -5,7 +5,7 @@
 // `Low`, as in their contracts.
 ghost use Rattle.std.specs.Prelude.{IfOk, pos};
 ghost use Rattle.cn_core.specs.declared.method.ChineseCountMethod.TheVariants.{Low};
-ghost use Rattle.cn_core.specs.Written.{spelled_text};
+ghost use Rattle.cn_core.specs.Printing.{spelled_text};
 ghost use Rattle.cn_spell.specs.Prints.{Prints, most_bytes};
 ghost use Rattle.cn_spell.specs.Writes.{Writes};
 

@@ -1,6 +1,6 @@
 // The free printers of plain digits, one for each integer type.
 ghost use Rattle.std.specs.Prelude.{IfOk, pos};
-ghost use Rattle.cn_core.specs.Written.{naive_text};
+ghost use Rattle.cn_core.specs.Printing.{naive_text};
 ghost use Rattle.cn_spell.specs.Writes.{Writes, most_plain_bytes};
 
 use cn_core::{ChineseCase, ChineseVariant};

@@ -1,7 +1,7 @@
 // The free printers by `TenThousand`, one for each integer type from 32 bits up.
 ghost use Rattle.std.specs.Prelude.{IfOk, pos};
 ghost use Rattle.cn_core.specs.declared.method.ChineseCountMethod.TheVariants.{TenThousand};
-ghost use Rattle.cn_core.specs.Written.{spelled_text};
+ghost use Rattle.cn_core.specs.Printing.{spelled_text};
 ghost use Rattle.cn_spell.specs.Prints.{most_bytes};
 ghost use Rattle.cn_spell.specs.Writes.{Writes};
 

@@ -1,5 +1,5 @@
 ghost use Rattle.std.specs.Prelude.{IfOk};
-ghost use Rattle.cn_core.specs.Written.{naive_text};
+ghost use Rattle.cn_core.specs.Printing.{naive_text};
 ghost use Rattle.cn_spell.specs.Prints.{Prints};
 ghost use Rattle.cn_spell.specs.Writes.{Writes, most_plain_bytes};
 

@@ -1,6 +1,6 @@
 // Naive readers of the twelve types: a line each over the generic one.
 ghost use Rattle.std.specs.Prelude.{◌≡◌, pos};
-ghost use Rattle.cn_core.specs.Typed.{naive_reading};
+ghost use Rattle.cn_core.specs.Reading.{naive_reading};
 ghost use Rattle.cn_core.specs.Whole.{signed_kind, unsigned_kind};
 ghost use Rattle.cn_judge.specs.Answer.{answer_of};
 

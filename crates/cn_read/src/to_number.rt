@@ -1,5 +1,5 @@
 ghost use Rattle.std.specs.Prelude.{◌≡◌, ℕ, List};
-ghost use Rattle.cn_core.specs.Typed.{naive_reading, Reads};
+ghost use Rattle.cn_core.specs.Reading.{naive_reading, Reads};
 ghost use Rattle.cn_judge.specs.Answer.{answer_of};
 
 use cn_core::{ChineseCountMethod, Whole};

@@ -2,7 +2,7 @@
 // by `Low`.
 ghost use Rattle.std.specs.Prelude.{pos};
 ghost use Rattle.cn_core.specs.declared.method.ChineseCountMethod.TheVariants.{Low, TenThousand, Middle, High};
-ghost use Rattle.cn_core.specs.Typed.{Reads};
+ghost use Rattle.cn_core.specs.Reading.{Reads};
 ghost use Rattle.cn_core.specs.Whole.{signed_kind, unsigned_kind};
 ghost use Rattle.cn_judge.specs.Answer.{answer_of};
 

@@ -4,7 +4,7 @@ use Rattle.std.proofs.lemmas.Bool.Decides.{nat_tests}
 use Rattle.cn_core.specs.declared.method.ChineseCountMethod.{ChineseCountMethod}
 use Rattle.cn_core.specs.declared.method.ChineseCountMethod.TheVariants.{Low, TenThousand, Middle, High}
 use Rattle.cn_core.specs.Spelling.{spelling}
-use Rattle.cn_core.specs.Written.{is_printable}
+use Rattle.cn_core.specs.Printing.{is_printable}
 use Rattle.cn_core.proofs.Lengths.{length-spelling}
 use Rattle.cn_spell.specs.Prints.{most_bytes}
 use Rattle.cn_spell.specs.Working.Units.{positions_within}

@@ -10,7 +10,7 @@ use Rattle.cn_core.specs.declared.case.ChineseCase.{ChineseCase}
 use Rattle.cn_core.specs.Characters.{digit_char}
 use Rattle.cn_core.specs.Mark.{digit}
 use Rattle.cn_core.specs.Naive.{decimal_digits}
-use Rattle.cn_core.specs.Written.{mark_char, signed_text}
+use Rattle.cn_core.specs.Printing.{mark_char, signed_text}
 use Rattle.cn_spell.specs.Working.Positions.{positions_of}
 use Rattle.cn_spell.specs.Working.Sign.{sign_characters, sign_count}
 use Rattle.cn_spell.proofs.Signs.{length-sign}

@@ -5,7 +5,7 @@ use Rattle.cn_core.specs.declared.script.ChineseVariant.{ChineseVariant}
 use Rattle.cn_core.specs.declared.case.ChineseCase.{ChineseCase}
 use Rattle.cn_core.specs.declared.method.ChineseCountMethod.{ChineseCountMethod}
 use Rattle.cn_core.specs.declared.method.ChineseCountMethod.TheVariants.{Low}
-use Rattle.cn_core.specs.Written.{spelled_text, is_printable}
+use Rattle.cn_core.specs.Printing.{spelled_text, is_printable}
 use Rattle.cn_spell.specs.declared.error.NumberToChineseError.{NumberToChineseError}
 use Rattle.cn_spell.specs.declared.error.NumberToChineseError.TheVariants.{Overflow, Underflow, OutOfMemory}
 use Rattle.cn_spell.specs.Writes.{Writes}

@@ -1,7 +1,7 @@
 // Printing by plain decimal digits.
 ghost use Rattle.std.specs.Prelude.{◌≡◌, nat_abs, IfOk};
 ghost use Rattle.cn_core.specs.Naive.{decimal_digits};
-ghost use Rattle.cn_core.specs.Written.{signed_text, naive_text};
+ghost use Rattle.cn_core.specs.Printing.{signed_text, naive_text};
 ghost use Rattle.cn_spell.specs.Puts.{PutsInFront};
 ghost use Rattle.cn_spell.specs.Writes.{Writes, most_plain_bytes};
 

@@ -5,7 +5,7 @@ ghost use Rattle.cn_core.specs.declared.script.ChineseVariant.{ChineseVariant};
 ghost use Rattle.cn_core.specs.declared.case.ChineseCase.{ChineseCase};
 ghost use Rattle.cn_core.specs.Characters.{rank};
 ghost use Rattle.cn_core.specs.Mark.{Mark, digit, unit};
-ghost use Rattle.cn_core.specs.Written.{mark_char};
+ghost use Rattle.cn_core.specs.Printing.{mark_char};
 ghost use Rattle.cn_spell.specs.Working.Groups.{kept};
 ghost use Rattle.cn_spell.specs.Working.Room.{Counts, Shows};
 

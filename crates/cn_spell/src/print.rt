@@ -1,7 +1,7 @@
 // Printing by units.
 ghost use Rattle.std.specs.Prelude.{◌≡◌, pos, IfOk, IsTrue};
 ghost use Rattle.cn_core.specs.Spelling.{spelling};
-ghost use Rattle.cn_core.specs.Written.{signed_text, spelled_text, is_printable};
+ghost use Rattle.cn_core.specs.Printing.{signed_text, spelled_text, is_printable};
 ghost use Rattle.cn_spell.specs.Prints.{Prints, most_bytes};
 ghost use Rattle.cn_spell.specs.Writes.{Writes};
 

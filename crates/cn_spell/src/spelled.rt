@@ -1,7 +1,7 @@
 // The text of a number by units.
 ghost use Rattle.std.specs.Prelude.{◌≡◌, ◌^◌, ◌≤◌, ◌<◌, pos, IsTrue};
 ghost use Rattle.cn_core.specs.Spelling.{spelling};
-ghost use Rattle.cn_core.specs.Written.{signed_text, is_printable};
+ghost use Rattle.cn_core.specs.Printing.{signed_text, is_printable};
 ghost use Rattle.cn_spell.specs.Prints.{most_bytes};
 ghost use Rattle.cn_spell.specs.Working.Groups.{groups_within, front_limit};
 

@@ -2,7 +2,7 @@
 use Rattle.std.proofs.Common.{◌≡◌, ◌↔◌, ℕ, ℤ, List, Result, Ok, Err, ap, subst, ◌∙◌}
 use Rattle.chinese_number.specs.declared.ChineseCountMethod.{ChineseCountMethod}
 use Rattle.chinese_number.specs.Refusal.{Refusal}
-use Rattle.chinese_number.specs.Typed.{Reads, naive_reading}
+use Rattle.chinese_number.specs.Reading.{Reads, naive_reading}
 use Rattle.chinese_number.specs.Whole.{Kind}
 use Rattle.chinese_number.specs.Answer.{answer_of}
 use Rattle.chinese_number.specs.declared.ChineseToNumberError.{ChineseToNumberError}

@@ -8,7 +8,7 @@ ghost use Rattle.cn_core.specs.Numeral.{IsNumeral};
 ghost use Rattle.cn_core.specs.Place.{some_unfit};
 ghost use Rattle.cn_core.specs.Refusal.{Refusal};
 ghost use Rattle.cn_core.specs.Text.{marks_of};
-ghost use Rattle.cn_core.specs.Typed.{Reads, is_minus};
+ghost use Rattle.cn_core.specs.Reading.{Reads, is_minus};
 ghost use Rattle.cn_core.specs.Value.{numeral_value};
 ghost use Rattle.cn_core.specs.Whole.{signed_number, Kind, Holds};
 ghost use Rattle.cn_core.specs.declared.method.ChineseCountMethod.{ChineseCountMethod};

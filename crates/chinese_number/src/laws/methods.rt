@@ -5,7 +5,7 @@ ghost use Rattle.chinese_number.specs.Parts.{unsigned_text};
 ghost use Rattle.cn_core.specs.Refusal.{Refusal};
 ghost use Rattle.cn_core.specs.Spelling.{spelling};
 ghost use Rattle.cn_core.specs.Text.{marks_of};
-ghost use Rattle.cn_core.specs.Typed.{Reads};
+ghost use Rattle.cn_core.specs.Reading.{Reads};
 ghost use Rattle.cn_core.specs.Whole.{Kind};
 ghost use Rattle.cn_core.specs.declared.method.ChineseCountMethod.{ChineseCountMethod};
 ghost use Rattle.cn_core.specs.declared.method.ChineseCountMethod.TheVariants.{Low, TenThousand, Middle, High};

@@ -6,9 +6,9 @@ ghost use Rattle.chinese_number.specs.Parts.{sign_at, sign_text, unsigned_text};
 ghost use Rattle.cn_core.specs.Characters.{digit_of};
 ghost use Rattle.cn_core.specs.Naive.{decimal_value};
 ghost use Rattle.cn_core.specs.Text.{text_of, marks_of};
-ghost use Rattle.cn_core.specs.Typed.{naive_reading, is_minus};
+ghost use Rattle.cn_core.specs.Reading.{naive_reading, is_minus};
 ghost use Rattle.cn_core.specs.Whole.{signed_number, Kind, Holds};
-ghost use Rattle.cn_core.specs.Written.{naive_text};
+ghost use Rattle.cn_core.specs.Printing.{naive_text};
 ghost use Rattle.cn_core.specs.declared.case.ChineseCase.{ChineseCase};
 ghost use Rattle.cn_core.specs.declared.script.ChineseVariant.{ChineseVariant};
 

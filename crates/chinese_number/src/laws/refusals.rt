@@ -2,7 +2,7 @@
 ghost use Rattle.std.specs.Prelude.{◌≡◌, ◌≢◌, ◌↔◌, [], ℕ, List, Err, IsTrue, not};
 ghost use Rattle.chinese_number.specs.Parts.{unsigned_text};
 ghost use Rattle.cn_core.specs.Refusal.{empty, too_small};
-ghost use Rattle.cn_core.specs.Typed.{Reads, naive_reading};
+ghost use Rattle.cn_core.specs.Reading.{Reads, naive_reading};
 ghost use Rattle.cn_core.specs.Whole.{Kind};
 ghost use Rattle.cn_core.specs.declared.method.ChineseCountMethod.{ChineseCountMethod};
 

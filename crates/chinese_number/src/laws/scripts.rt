@@ -1,9 +1,9 @@
 // The scripts and cases agree.
 ghost use Rattle.std.specs.Prelude.{◌≡◌, ◌↔◌, ℤ, Result, IsTrue, length, encode_utf8_all};
 ghost use Rattle.cn_core.specs.Refusal.{Refusal};
-ghost use Rattle.cn_core.specs.Typed.{Reads, naive_reading};
+ghost use Rattle.cn_core.specs.Reading.{Reads, naive_reading};
 ghost use Rattle.cn_core.specs.Whole.{Holds};
-ghost use Rattle.cn_core.specs.Written.{naive_text, spelled_text, is_printable};
+ghost use Rattle.cn_core.specs.Printing.{naive_text, spelled_text, is_printable};
 ghost use Rattle.cn_core.specs.declared.case.ChineseCase.{ChineseCase};
 ghost use Rattle.cn_core.specs.declared.method.ChineseCountMethod.{ChineseCountMethod};
 ghost use Rattle.cn_core.specs.declared.script.ChineseVariant.{ChineseVariant};

@@ -2,7 +2,7 @@
 use Rattle.std.specs.Prelude.{ℕ, ℤ, Option, Result, Ok, Err}
 use Rattle.cn_core.specs.declared.sign.Sign.{Sign}
 use Rattle.cn_core.specs.Refusal.{Refusal, too_large}
-use Rattle.cn_core.specs.Typed.{typed_number, is_minus, too_far}
+use Rattle.cn_core.specs.Reading.{typed_number, is_minus, too_far}
 use Rattle.cn_core.specs.Whole.{signed_number, Kind}
 
 -- the answer from the sign, and from the answer to what follows it

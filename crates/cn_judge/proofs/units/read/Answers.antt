@@ -1,6 +1,6 @@
 use Rattle.std.proofs.Common.{◌≡◌, sym, ap, ◌∙◌}
 use Rattle.cn_core.specs.Text.{text_of}
-use Rattle.cn_core.specs.Typed.{leading_sign, typed_answer}
+use Rattle.cn_core.specs.Reading.{leading_sign, typed_answer}
 use Rattle.cn_judge.specs.Private.Signed.{signed_answer}
 use Rattle.cn_judge.proofs.Pieces.{text_of-rest, typed-rest}
 use Rattle.cn_judge.proofs.units.read.Goals as goal

@@ -1,5 +1,5 @@
 use Rattle.std.proofs.Common.{encode_utf8_all, ap}
-use Rattle.cn_core.specs.Written.{naive_text, spelled_text}
+use Rattle.cn_core.specs.Printing.{naive_text, spelled_text}
 use Rattle.chinese_number.proofs.PlainDigits.{same_from_digits}
 use Rattle.chinese_number.proofs.Reading.{IsWhole-laws, same_from_text}
 use Rattle.chinese_number.proofs.laws.read_back.one_text_for_each_number.Goals as goal

@@ -1,5 +1,5 @@
 use Rattle.std.proofs.Common.{encode_utf8_all, Ok}
-use Rattle.cn_core.specs.Written.{spelled_text}
+use Rattle.cn_core.specs.Printing.{spelled_text}
 use Rattle.chinese_number.proofs.Reading.{IsWhole-laws, Holds-answered, Reads-spelled, Reads-only}
 use Rattle.chinese_number.proofs.laws.read_back.reading_then_printing_is_idempotent.Goals as goal
 

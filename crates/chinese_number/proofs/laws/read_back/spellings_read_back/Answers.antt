@@ -1,5 +1,5 @@
 use Rattle.std.proofs.Common.{encode_utf8_all, Ok}
-use Rattle.cn_core.specs.Written.{spelled_text}
+use Rattle.cn_core.specs.Printing.{spelled_text}
 use Rattle.chinese_number.proofs.Reading.{IsWhole-laws, Reads-spelled, Reads-only}
 use Rattle.chinese_number.proofs.laws.read_back.spellings_read_back.Goals as goal
 

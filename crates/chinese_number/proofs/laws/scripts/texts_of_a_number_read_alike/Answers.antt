@@ -1,7 +1,7 @@
 use Rattle.std.proofs.Common.{encode_utf8_all, Ok, sym, ◌∙◌}
 use Rattle.cn_core.specs.declared.case.ChineseCase.{ChineseCase}
 use Rattle.cn_core.specs.declared.script.ChineseVariant.{ChineseVariant}
-use Rattle.cn_core.specs.Written.{spelled_text}
+use Rattle.cn_core.specs.Printing.{spelled_text}
 use Rattle.chinese_number.proofs.PlainDigits.{naive_reading-signed_text}
 use Rattle.chinese_number.proofs.Reading.{IsWhole-laws, Reads-spelled, Reads-alike}
 use Rattle.chinese_number.proofs.laws.scripts.texts_of_a_number_read_alike.Goals as goal

@@ -1,6 +1,6 @@
 use Rattle.std.proofs.Common.{Some, Ok, ◌∙◌}
 use Rattle.cn_core.specs.Text.{marks_of}
-use Rattle.cn_core.specs.Typed.{is_minus}
+use Rattle.cn_core.specs.Reading.{is_minus}
 use Rattle.cn_core.specs.Whole.{signed_number}
 use Rattle.cn_core.specs.Value.{numeral_value}
 use Rattle.chinese_number.proofs.Reading.{IsWhole-laws, Reads-only}

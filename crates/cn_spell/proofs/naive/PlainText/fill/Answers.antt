@@ -3,7 +3,7 @@ use Rattle.std.specs.Char.{encode_utf8}
 use Rattle.std.proofs.lemmas.List.{take_all}
 use Rattle.cn_core.specs.Characters.{digit_char}
 use Rattle.cn_core.specs.Naive.{decimal_digits}
-use Rattle.cn_core.specs.Written.{signed_text}
+use Rattle.cn_core.specs.Printing.{signed_text}
 use Rattle.cn_spell.specs.Working.Positions.{positions_of}
 use Rattle.cn_spell.specs.Working.Room.{Shows}
 use Rattle.cn_spell.specs.Working.Sign.{sign_characters}

@@ -2,7 +2,7 @@ use Rattle.std.proofs.Common.{rules, if◌then◌else◌, ◌+◌, ◌*◌, ◌�
 use Rattle.std.proofs.lemmas.List.{length-map}
 use Rattle.cn_core.specs.Characters.{minus_char}
 use Rattle.cn_core.specs.Spelling.{spelling}
-use Rattle.cn_core.specs.Written.{mark_char, signed_text}
+use Rattle.cn_core.specs.Printing.{mark_char, signed_text}
 use Rattle.cn_spell.specs.Prints.{most_bytes}
 use Rattle.cn_spell.specs.Working.Room.{Counts}
 use Rattle.cn_spell.proofs.Bounds.{marks-fit, most_bytes-le}
