@@ -47,6 +47,16 @@ static POWERS_OF_TEN: [u128; 39] = [
     100_000_000_000_000_000_000_000_000_000_000_000_000,
 ];
 
+// The exponents by method and unit: a line for `Low`, `TenThousand`, `Middle` and `High`.
+static EXPONENTS: [[u16; 16]; 4] = [
+    [0, 1, 2, 3, 4, 5, 6, 7, 8, 9, 10, 11, 12, 13, 14, 15],
+    [0, 1, 2, 3, 4, 8, 12, 16, 20, 24, 28, 32, 36, 40, 44, 48],
+    [0, 1, 2, 3, 4, 8, 16, 24, 32, 40, 48, 56, 64, 72, 80, 88],
+    [
+        0, 1, 2, 3, 4, 8, 16, 32, 64, 128, 256, 512, 1024, 2048, 4096, 8192,
+    ],
+];
+
 /// The exponent of the power of ten that a unit stands for.
 ///
 /// ```text
@@ -55,14 +65,7 @@ static POWERS_OF_TEN: [u128; 39] = [
 pub fn exponent(method: ChineseCountMethod, unit: Unit) -> usize
     ensures { result ≡ exponent method (rank unit) }
 {
-    let rank = unit as usize;
-    match method {
-        _ if rank <= 4 => rank,
-        ChineseCountMethod::Low => rank,
-        ChineseCountMethod::TenThousand => 4 * (rank - 3),
-        ChineseCountMethod::Middle => 8 * (rank - 4),
-        ChineseCountMethod::High => 4 << (rank - 4),
-    }
+    EXPONENTS[method as usize][unit as usize] as usize
 }
 
 /// The power of ten with this exponent; `None` exactly where it does not fit `u128`.
