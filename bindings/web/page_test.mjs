@@ -188,10 +188,11 @@ async function marksTheCharacter() {
   }
 }
 
-// A long text scrolls, and the mirror with it, also where an input method wrote its end.
+// A long text scrolls, in narrow boxes too where no font has its characters, and the mirror with it,
+// also where an input method wrote its end.
 async function scrolls() {
   const together = () => value('numeral.scrollLeft > 500 && Math.abs(mirror.scrollLeft - numeral.scrollLeft) < 1');
-  await type('numeral', `${'零'.repeat(60)}xx`);
+  await type('numeral', `${'零'.repeat(200)}xx`);
   await painted();
   assert(await together());
   await tab.send('Input.imeSetComposition', { text: 'y', selectionStart: 1, selectionEnd: 1 });
@@ -201,7 +202,7 @@ async function scrolls() {
   // A mark that comes where there was none, in a field that does not scroll.
   await choose('method', 'naive');
   await choose('type', 'i64');
-  await type('numeral', `負${'零'.repeat(60)}`);
+  await type('numeral', `負${'零'.repeat(200)}`);
   await painted();
   assert.equal(await marked(), null);
   await choose('type', 'u64');
