@@ -1,47 +1,39 @@
 -- The text of plain digits, from its lowest digit up.
-use Rattle.std.proofs.Common.{◌≡◌, ℕ, ◌+◌, ◌-◌, ◌^◌, ◌%◌, ◌<◌, ◌≤◌, Bool, true, false, List, [], ◌∷◌, ◌++◌, length, map, take, slice_index, refl, ap, ap₂, sym, ◌∙◌, arith, length-append}
+use Rattle.std.proofs.Common.{◌≡◌, ℕ, ◌+◌, ◌-◌, ◌^◌, ◌%◌, ◌<◌, ◌≤◌, Bool, true, false, List, [], ◌∷◌, ◌++◌, length, map, take, slice_index, refl, ap, ◌∙◌, arith}
 use Rattle.std.specs.Prelude.{decimal, reverse}
 use Rattle.std.specs.List.{list_all}
 use Rattle.std.proofs.lemmas.Fmt.{decimal_by_steps_wide}
-use Rattle.std.proofs.lemmas.List.{length-map, length-reverse, reverse-append, reverse-reverse, take_more}
+use Rattle.std.proofs.lemmas.List.{reverse-append, reverse-reverse, take_more}
 use Rattle.std.proofs.lemmas.List.Folds.{list_all-append, list_all-map}
 use Rattle.cn_core.specs.declared.script.ChineseVariant.{ChineseVariant}
 use Rattle.cn_core.specs.declared.case.ChineseCase.{ChineseCase}
 use Rattle.cn_core.specs.Characters.{digit_char}
-use Rattle.cn_core.specs.Mark.{digit}
+use Rattle.cn_core.specs.Mark.{Mark, digit}
 use Rattle.cn_core.specs.Naive.{decimal_digits}
 use Rattle.cn_core.specs.Printing.{mark_char, signed_text}
 use Rattle.cn_spell.specs.Working.Positions.{positions_of}
-use Rattle.cn_spell.specs.Working.Sign.{sign_characters, sign_count}
-use Rattle.cn_spell.proofs.Signs.{length-sign}
 use Rattle.cn_spell.proofs.Tables.{three-digit, three-minus}
 use Rattle.cn_spell.proofs.ThreeBytes.{takes_three}
 
--- the characters of these digits, which are told from the lowest up
-abbrev pub digit_characters : ChineseVariant → ChineseCase → List ℕ → List ℕ
-digit_characters variant case digits = map (digit_char variant case) (reverse digits)
+-- these digits as marks, which are told from the lowest up
+abbrev pub digit_marks : List ℕ → List Mark
+digit_marks digits = map digit (reverse digits)
 
 -- the next of them stands in front
-pub digit_characters-more : (variant : ChineseVariant) (case : ChineseCase) (digits : List ℕ) (position : ℕ) → position < length digits
-    → digit_characters variant case (take (position + 1) digits) ≡ digit_char variant case (slice_index digits position) ∷ digit_characters variant case (take position digits)
-digit_characters-more variant case digits position h =
-    ap (digit_characters variant case) (take_more digits position 0 h) ∙ ap (map (digit_char variant case)) (reverse-append (take position digits) (slice_index digits position ∷ []))
+pub digit_marks-more : (digits : List ℕ) (position : ℕ) → position < length digits
+    → digit_marks (take (position + 1) digits) ≡ digit (slice_index digits position) ∷ digit_marks (take position digits)
+digit_marks-more digits position h =
+    ap digit_marks (take_more digits position 0 h) ∙ ap (map digit) (reverse-append (take position digits) (slice_index digits position ∷ []))
 
-same-characters : (variant : ChineseVariant) (case : ChineseCase) (bytes : List ℕ)
-    → map (digit_char variant case) (map (λ byte. byte - 48) bytes) ≡ map (mark_char variant case) (map (λ byte. digit (byte - 48)) bytes)
-same-characters variant case [] = refl
-same-characters variant case (byte ∷ bytes) = ap (λ rest. digit_char variant case (byte - 48) ∷ rest) (same-characters variant case bytes)
+same-marks : (bytes : List ℕ) → map digit (map (λ byte. byte - 48) bytes) ≡ map (λ byte. digit (byte - 48)) bytes
+same-marks [] = refl
+same-marks (byte ∷ bytes) = ap (λ rest. digit (byte - 48) ∷ rest) (same-marks bytes)
 
 -- all of them are the number's digits
-pub digit_characters-all : (variant : ChineseVariant) (case : ChineseCase) (number : ℕ)
-    → digit_characters variant case (positions_of number) ≡ map (mark_char variant case) (decimal_digits number)
-digit_characters-all variant case number =
-    ap (map (digit_char variant case)) (reverse-reverse (map (λ byte. byte - 48) (decimal number))) ∙ same-characters variant case (decimal number)
+pub digit_marks-all : (number : ℕ) → digit_marks (positions_of number) ≡ decimal_digits number
+digit_marks-all number = ap (map digit) (reverse-reverse (map (λ byte. byte - 48) (decimal number))) ∙ same-marks (decimal number)
 
-pub length-digit_characters : (variant : ChineseVariant) (case : ChineseCase) (digits : List ℕ) → length (digit_characters variant case digits) ≡ length digits
-length-digit_characters variant case digits = length-map (reverse digits) (digit_char variant case) ∙ length-reverse digits
-
--- each of them takes three bytes
+-- each of their characters takes three bytes
 three-decimal : (variant : ChineseVariant) (case : ChineseCase) (number : ℕ) → number < 10 ^ 64 → list_all (λ byte. takes_three (digit_char variant case (byte - 48))) (decimal number) ≡ true
 three-decimal variant case = decimal_by_steps_wide (λ number bytes. list_all (λ byte. takes_three (digit_char variant case (byte - 48))) bytes ≡ true) one more where
   one : (number : ℕ) → number < 10 → list_all (λ byte. takes_three (digit_char variant case (byte - 48))) ((48 + number) ∷ []) ≡ true
@@ -63,14 +55,3 @@ three-naive variant case negative number small = by negative where
   by : (negative : Bool) → list_all takes_three (signed_text variant case negative (decimal_digits number)) ≡ true
   by true = rw (three-minus variant, digits) refl
   by false = digits
-
--- the sign and the digits
-pub naive-is : (variant : ChineseVariant) (case : ChineseCase) (negative : Bool) (number : ℕ)
-    → sign_characters variant negative ++ digit_characters variant case (positions_of number) ≡ signed_text variant case negative (decimal_digits number)
-naive-is variant case negative number = ap (λ digits. sign_characters variant negative ++ digits) (digit_characters-all variant case number)
-
-pub length-naive : (variant : ChineseVariant) (case : ChineseCase) (negative : Bool) (number : ℕ)
-    → length (signed_text variant case negative (decimal_digits number)) ≡ sign_count negative + length (positions_of number)
-length-naive variant case negative number =
-    ap length (sym (naive-is variant case negative number)) ∙ length-append (sign_characters variant negative) (digit_characters variant case (positions_of number))
-    ∙ ap₂ (λ a b. a + b) (length-sign variant negative) (length-digit_characters variant case (positions_of number))

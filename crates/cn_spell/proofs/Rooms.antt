@@ -93,6 +93,10 @@ Shows-if false c three e t l same utf8 h = record { text = t ∙ h.text; utf8 = 
 pub Shows-full : (free : ℕ) (bytes cs : List ℕ) → Shows free bytes cs → length bytes ≡ 3 * length cs → bytes ≡ encode_utf8_all cs
 Shows-full free bytes cs h l = let none : free ≡ 0 = omega (arith, h.size, l) in rw none at h.text
 
+-- which are UTF-8
+pub Shows-utf8 : (free : ℕ) (bytes cs : List ℕ) → Shows free bytes cs → length bytes ≡ 3 * length cs → IsUtf8 bytes
+Shows-utf8 free bytes cs h l = let none : free ≡ 0 = omega (arith, h.size, l) in rw none at h.utf8
+
 -- the same for a count
 pub Counts-if : (is_kept : Bool) (c : ℕ) {count next : ℕ} {cs : List ℕ} → (is_kept ≡ true → next ≡ count + 1) → (is_kept ≡ false → next ≡ count) → takes_three c ≡ true → Counts count cs
     → Counts next ((if is_kept then c ∷ [] else []) ++ cs)

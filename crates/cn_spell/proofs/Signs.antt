@@ -1,12 +1,11 @@
 -- The minus sign of a number below zero.
-use Rattle.std.proofs.Common.{◌≡◌, ◌↔◌, ℕ, nat_abs, ap₂, ◌∙◌, ℤ, pos, negsuc, ◌<ℤ◌, int_lt, Bool, true, false, IsTrue, nat_lt, ◌≤◌, List, length, refl, sym, arith}
+use Rattle.std.proofs.Common.{◌≡◌, ◌↔◌, ℕ, nat_abs, ap₂, ◌∙◌, ℤ, pos, negsuc, ◌<ℤ◌, int_lt, Bool, true, false, IsTrue, nat_lt, List, refl, sym, arith}
 use Rattle.std.proofs.lemmas.Bool.Decides.{nat_tests}
 use Rattle.std.proofs.lemmas.Int.{ints}
 use Rattle.cn_core.specs.declared.script.ChineseVariant.{ChineseVariant}
 use Rattle.cn_core.specs.declared.case.ChineseCase.{ChineseCase}
 use Rattle.cn_core.specs.Mark.{Mark}
 use Rattle.cn_core.specs.Printing.{signed_text}
-use Rattle.cn_spell.specs.Working.Sign.{sign_characters, sign_count}
 
 -- the test for a number below zero
 pub negative-is : (negative : Bool) (number : ℤ) → (IsTrue negative ↔ (number <ℤ pos 0)) → negative ≡ int_lt number (pos 0)
@@ -14,14 +13,6 @@ negative-is true (pos n) h = absurd (omega (arith, ints, h.0 refl))
 negative-is false (pos n) h = let none : nat_lt n 0 ≡ false = grind (arith, nat_tests) in sym none
 negative-is true (negsuc n) h = refl
 negative-is false (negsuc n) h = h.1 (search (arith, ints))
-
-pub length-sign : (variant : ChineseVariant) (negative : Bool) → length (sign_characters variant negative) ≡ sign_count negative
-length-sign variant true = refl
-length-sign variant false = refl
-
-pub sign_count-le : (negative : Bool) → sign_count negative ≤ 1
-sign_count-le true = omega arith
-sign_count-le false = omega arith
 
 -- the text of a number, by its sign and the marks of its magnitude
 pub signed-is : (marks : ℕ → List Mark) (variant used : ChineseVariant) (case other : ChineseCase) (negative : Bool) (magnitude : ℕ) (number : ℤ)

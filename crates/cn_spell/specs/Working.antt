@@ -3,6 +3,5 @@
 pub mod Groups
 pub mod Positions
 pub mod Room
-pub mod Sign
 pub mod Table
 pub mod Units

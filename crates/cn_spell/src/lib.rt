@@ -16,7 +16,6 @@ mod positions;
 mod print;
 mod put;
 mod room;
-mod sign;
 mod spell;
 mod spelled;
 mod text;

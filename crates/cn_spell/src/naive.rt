@@ -7,8 +7,8 @@ ghost use Rattle.cn_spell.specs.Writes.{Writes, most_plain_bytes};
 
 use crate::characters::Characters;
 use crate::digits::{Digits, MOST};
+use crate::pen::Pen;
 use crate::room::Room;
-use crate::sign::put_sign;
 use crate::text::{Text, new_string, put_in_front};
 use cn_core::{ChineseCase, ChineseVariant, Whole};
 use std::alloc::{AllocError, Global};
@@ -55,11 +55,11 @@ impl Text for Plain<'_> {
 
     #[inline(always)]
     fn fill(&self, bytes: &mut [u8]) {
-        let mut room = Room::new(bytes);
+        let mut room = Room::new(bytes, &self.characters);
         for position in 0..self.digits.len() {
-            room.put(self.characters.digit(self.digits.at(position)));
+            room.put_digit_if(true, self.digits.at(position));
         }
-        put_sign(&mut room, self.characters, self.negative);
+        room.put_sign(self.negative);
     }
 }
 

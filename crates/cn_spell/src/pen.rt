@@ -6,10 +6,10 @@ ghost use Rattle.cn_core.specs.declared.case.ChineseCase.{ChineseCase};
 ghost use Rattle.cn_core.specs.Characters.{rank};
 ghost use Rattle.cn_core.specs.Mark.{Mark, digit, unit};
 ghost use Rattle.cn_core.specs.Printing.{mark_char};
+ghost use Rattle.cn_spell.specs.declared.characters.Characters.{Characters};
 ghost use Rattle.cn_spell.specs.Working.Groups.{kept};
 ghost use Rattle.cn_spell.specs.Working.Room.{Counts, Shows};
 
-use crate::characters::Characters;
 use crate::room::Room;
 use cn_core::Unit;
 
@@ -18,33 +18,31 @@ pub trait Pen {
     // How many bytes of characters it can still put.
     ghost left: { Self → ℕ };
 
-    // What it has put are these marks, in a script and case.
-    ghost has_put: { Self → ChineseVariant → ChineseCase → List Mark → Type 0 };
+    // What it has put are these marks.
+    ghost has_put: { Self → List Mark → Type 0 };
 
-    // Whose bytes it writes.
-    ghost lender: { Self → GName };
+    // What stays while it puts them.
+    ghost Setting: { Type 0 };
+
+    ghost setting: { Self → Setting };
 
     // Puts a digit where it is kept; there is room for it in either case.
-    fn put_digit_if(&mut self, characters: Characters, is_kept: bool, value: u8)
+    fn put_digit_if(&mut self, is_kept: bool, value: u8)
         requires value { value < 10 }
         requires room { 3 ≤ left self.old }
-        ensures lender { lender self.new ≡ lender self.old }
+        ensures setting { setting self.new ≡ setting self.old }
         ensures room { left self.new + 3 * length (kept is_kept (digit value)) ≡ left self.old }
-        ensures marks { (marks : List Mark)
-            → has_put self.old characters.variant characters.case marks
-            → has_put self.new characters.variant characters.case
-            (kept is_kept (digit value) ++ marks) };
+        ensures marks { (marks : List Mark) → has_put self.old marks
+            → has_put self.new (kept is_kept (digit value) ++ marks) };
 
     // The same for a unit.
-    fn put_unit_if(&mut self, characters: Characters, is_kept: bool, value: Unit)
+    fn put_unit_if(&mut self, is_kept: bool, value: Unit)
         requires room { 3 ≤ left self.old }
-        ensures lender { lender self.new ≡ lender self.old }
+        ensures setting { setting self.new ≡ setting self.old }
         ensures room { left self.new + 3 * length (kept is_kept (unit (rank value)))
             ≡ left self.old }
-        ensures marks { (marks : List Mark)
-            → has_put self.old characters.variant characters.case marks
-            → has_put self.new characters.variant characters.case
-            (kept is_kept (unit (rank value)) ++ marks) };
+        ensures marks { (marks : List Mark) → has_put self.old marks
+            → has_put self.new (kept is_kept (unit (rank value)) ++ marks) };
 }
 
 /// Counts characters and writes none.
@@ -53,21 +51,24 @@ pub struct Count {
     pub characters: usize,
 }
 
+// It counts the same in each script and case.
 impl Pen for Count {
     ghost left = { λ count. 3 * (2 ^ 64 - 1 - count.characters) };
 
-    ghost has_put = { λ count variant case marks.
-        Counts count.characters (map (mark_char variant case) marks) };
+    ghost has_put = { λ count marks. (variant : ChineseVariant) → (case : ChineseCase)
+        → Counts count.characters (map (mark_char variant case) marks) };
 
-    ghost lender = { λ count. 0 };
+    ghost Setting = { Unit {0} };
+
+    ghost setting = { λ count. tt };
 
     #[inline(always)]
-    fn put_digit_if(&mut self, _characters: Characters, is_kept: bool, _value: u8) {
+    fn put_digit_if(&mut self, is_kept: bool, _value: u8) {
         self.characters += is_kept as usize;
     }
 
     #[inline(always)]
-    fn put_unit_if(&mut self, _characters: Characters, is_kept: bool, _value: Unit) {
+    fn put_unit_if(&mut self, is_kept: bool, _value: Unit) {
         self.characters += is_kept as usize;
     }
 }
@@ -75,18 +76,21 @@ impl Pen for Count {
 impl Pen for Room<'_> {
     ghost left = { λ room. room.free };
 
-    ghost has_put = { λ room variant case marks.
-        Shows room.free room.bytes.now (map (mark_char variant case) marks) };
+    ghost has_put = { λ room marks. Shows room.free room.bytes.now
+        (map (mark_char room.characters.now.variant room.characters.now.case) marks) };
 
-    ghost lender = { λ room. room.bytes.ghost_name };
+    // Whose bytes it fills, in which characters.
+    ghost Setting = { GName × Characters };
+
+    ghost setting = { λ room. (room.bytes.ghost_name, room.characters.now) };
 
     #[inline(always)]
-    fn put_digit_if(&mut self, characters: Characters, is_kept: bool, value: u8) {
-        self.put_if(is_kept, characters.digit(value));
+    fn put_digit_if(&mut self, is_kept: bool, value: u8) {
+        self.put_if(is_kept, self.characters.digit(value));
     }
 
     #[inline(always)]
-    fn put_unit_if(&mut self, characters: Characters, is_kept: bool, value: Unit) {
-        self.put_if(is_kept, characters.unit(value));
+    fn put_unit_if(&mut self, is_kept: bool, value: Unit) {
+        self.put_if(is_kept, self.characters.unit(value));
     }
 }

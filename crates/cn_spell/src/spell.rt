@@ -14,7 +14,6 @@ ghost use Rattle.cn_core.specs.Spelling.{spelling};
 ghost use Rattle.cn_spell.specs.Working.Groups.{groups_within, front_limit};
 ghost use Rattle.cn_spell.specs.Working.Units.{positions_within, front};
 
-use crate::characters::Characters;
 use crate::groups::Groups;
 use crate::pen::Pen;
 use crate::positions::{put_group, put_positions};
@@ -25,29 +24,22 @@ use cn_core::ChineseCountMethod;
 // digits at the positions below `filled` alone. 零 stands behind them where the next position below
 // is empty.
 #[inline(always)]
-fn put_units<P: Pen>(
-    pen: &mut P,
-    characters: Characters,
-    method: ChineseCountMethod,
-    position: usize,
-    filled: usize,
-)
+fn put_units<P: Pen>(pen: &mut P, method: ChineseCountMethod, position: usize, filled: usize)
     requires position { position < positions_within method }
     requires room { 3 * length (front method position filled) ≤ P.left pen.old }
-    ensures lender { P.lender pen.new ≡ P.lender pen.old }
+    ensures setting { P.setting pen.new ≡ P.setting pen.old }
     ensures room { P.left pen.new + 3 * length (front method position filled) ≡ P.left pen.old }
-    ensures marks { (marks : List Mark) → P.has_put pen.old characters.variant characters.case marks
-        → P.has_put pen.new characters.variant characters.case
-        (front method position filled ++ marks) }
+    ensures marks { (marks : List Mark) → P.has_put pen.old marks
+        → P.has_put pen.new (front method position filled ++ marks) }
 {
     let mut above = filled.max(1);
     for width in widths(method) {
         let start = position - position % *width;
         if start >= above {
             if above == filled && filled < start {
-                pen.put_digit_if(characters, true, 0);
+                pen.put_digit_if(true, 0);
             }
-            pen.put_unit_if(characters, true, unit_at(method, start));
+            pen.put_unit_if(true, unit_at(method, start));
             above = start + 1;
         }
     }
@@ -56,29 +48,22 @@ fn put_units<P: Pen>(
 // The same for a group that begins at the position, soon done where the group below is not empty:
 // then the group's own unit is the only one.
 #[inline(always)]
-fn put_group_units<P: Pen>(
-    pen: &mut P,
-    characters: Characters,
-    method: ChineseCountMethod,
-    position: usize,
-    filled: usize,
-)
+fn put_group_units<P: Pen>(pen: &mut P, method: ChineseCountMethod, position: usize, filled: usize)
     requires group { position % 4 ≡ 0 }
     requires position { position ≤ 4 * groups_within method }
     requires filled { filled ≤ position }
     requires room { 3 * length (front method position filled) ≤ P.left pen.old }
-    ensures lender { P.lender pen.new ≡ P.lender pen.old }
+    ensures setting { P.setting pen.new ≡ P.setting pen.old }
     ensures room { P.left pen.new + 3 * length (front method position filled) ≡ P.left pen.old }
-    ensures marks { (marks : List Mark) → P.has_put pen.old characters.variant characters.case marks
-        → P.has_put pen.new characters.variant characters.case
-        (front method position filled ++ marks) }
+    ensures marks { (marks : List Mark) → P.has_put pen.old marks
+        → P.has_put pen.new (front method position filled ++ marks) }
 {
     if position > 0 {
         if filled + 4 > position {
-            pen.put_digit_if(characters, filled < position, 0);
-            pen.put_unit_if(characters, true, unit_at(method, position));
+            pen.put_digit_if(filled < position, 0);
+            pen.put_unit_if(true, unit_at(method, position));
         } else {
-            put_units(pen, characters, method, position, filled);
+            put_units(pen, method, position, filled);
         }
     }
 }
@@ -98,32 +83,26 @@ fn digits_of(group: u16) -> usize
 
 /// Puts a magnitude's spelling, from its lowest group up.
 #[inline(always)]
-pub fn put_spelling<P: Pen>(
-    pen: &mut P,
-    characters: Characters,
-    method: ChineseCountMethod,
-    groups: &Groups,
-)
+pub fn put_spelling<P: Pen>(pen: &mut P, method: ChineseCountMethod, groups: &Groups)
     requires number { groups.now.number < 10 ^ 39 }
     requires count { groups.now.count ≤ groups_within method }
     requires front { groups.now.front < front_limit method }
     requires room { 3 * length (spelling method groups.now.number) ≤ P.left pen.old }
-    requires empty { P.has_put pen.old characters.variant characters.case [] }
-    ensures lender { P.lender pen.new ≡ P.lender pen.old }
+    requires empty { P.has_put pen.old [] }
+    ensures setting { P.setting pen.new ≡ P.setting pen.old }
     ensures room { P.left pen.new + 3 * length (spelling method groups.now.number)
         ≡ P.left pen.old }
-    ensures marks { P.has_put pen.new characters.variant characters.case
-        (spelling method groups.now.number) }
+    ensures marks { P.has_put pen.new (spelling method groups.now.number) }
 {
     let mut filled = 0;
     for index in 0..groups.count {
         let group = groups.groups[index];
         if group > 0 {
-            put_group_units(pen, characters, method, 4 * index, filled);
-            put_group(pen, characters, group);
+            put_group_units(pen, method, 4 * index, filled);
+            put_group(pen, group);
             filled = 4 * index + digits_of(group);
         }
     }
-    put_group_units(pen, characters, method, 4 * groups.count, filled);
-    put_positions(pen, characters, groups.front);
+    put_group_units(pen, method, 4 * groups.count, filled);
+    put_positions(pen, groups.front);
 }

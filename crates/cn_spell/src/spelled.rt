@@ -10,7 +10,6 @@ use crate::groups::{Groups, MOST};
 use crate::known_method::KnownMethod;
 use crate::pen::Count;
 use crate::room::Room;
-use crate::sign::put_sign;
 use crate::spell::put_spelling;
 use crate::text::Text;
 use std::marker::PhantomData;
@@ -63,16 +62,15 @@ impl<M: KnownMethod> Text for Spelled<'_, M> {
     fn count(&self) -> usize {
         let groups = self.groups;
         let mut counted = Count { characters: 0 };
-        put_spelling(&mut counted, self.characters, M::method(), &groups);
+        put_spelling(&mut counted, M::method(), &groups);
         counted.characters + self.negative as usize
     }
 
     #[inline(always)]
     fn fill(&self, bytes: &mut [u8]) {
         let groups = self.groups;
-        let characters = self.characters;
-        let mut room = Room::new(bytes);
-        put_spelling(&mut room, characters, M::method(), &groups);
-        put_sign(&mut room, characters, self.negative);
+        let mut room = Room::new(bytes, &self.characters);
+        put_spelling(&mut room, M::method(), &groups);
+        room.put_sign(self.negative);
     }
 }

@@ -26,7 +26,7 @@ loop-left-preserved g c =
       below = rw one (ap (λ n. n % 10) l.invariant.split);
       digit = omega arith;
       room = omega (arith, ap length step, length-append marks (so_far Low number l.position), c.put_position.ensures.room, l.invariant.room);
-      lender = c.put_position.ensures.lender ∙ l.invariant.lender;
+      setting = c.put_position.ensures.setting ∙ l.invariant.setting;
       marks = λ rest h. rw (step, append_assoc) (c.put_position.ensures.marks _ (l.invariant.marks rest h));
     }
 
@@ -42,8 +42,8 @@ returns-clause-room g c =
     let spelled = ap length (spelled-last c.args.number l.position l.left l.invariant.within l.invariant.split (omega arith) l.invariant.reach) in
     omega (arith, spelled, length-append (top_marks l.position l.left) (so_far Low c.args.number l.position), l.invariant.room, c.put_top.ensures.room)
 
-pub returns-clause-lender : goal.returns-clause-lender
-returns-clause-lender g c = c.put_top.ensures.lender ∙ c.loop-left.invariant.lender
+pub returns-clause-setting : goal.returns-clause-setting
+returns-clause-setting g c = c.put_top.ensures.setting ∙ c.loop-left.invariant.setting
 
 pub returns-clause-marks : goal.returns-clause-marks
 returns-clause-marks g c =

@@ -12,9 +12,9 @@ invariant-loop-left g l = record {
   below : l.below ≡ below_of l.number l.position;
   digit : l.below < 10;
   room : g.P.Pen.left l.pen + 3 * length (so_far Low l.number l.position) ≡ g.P.Pen.left l.fn.pen;
-  lender : g.P.Pen.lender l.pen ≡ g.P.Pen.lender l.fn.pen;
-  marks : (marks : List Mark) → g.P.Pen.has_put l.fn.pen l.characters.variant l.characters.case marks
-      → g.P.Pen.has_put l.pen l.characters.variant l.characters.case (so_far Low l.number l.position ++ marks);
+  setting : g.P.Pen.setting l.pen ≡ g.P.Pen.setting l.fn.pen;
+  marks : (marks : List Mark) → g.P.Pen.has_put l.fn.pen marks
+      → g.P.Pen.has_put l.pen (so_far Low l.number l.position ++ marks);
 }
 
 abbrev pub decreases-loop-left : goal.decreases-loop-left

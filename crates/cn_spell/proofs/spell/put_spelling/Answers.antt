@@ -55,7 +55,7 @@ loop-index-preserved g c =
             fills = Fills-group number position size w.digits_of.ensures.some below reach;
             under = omega (arith, w.digits_of.ensures.most);
             room = omega (arith, same, length-append (group_marks (group_at number position)) (front method position l.filled ++ part method (number % 10 ^ position)), length-append (front method position l.filled) (part method (number % 10 ^ position)), l.invariant.room, w.put_group_units.ensures.room, w.put_group.ensures.room);
-            lender = w.put_group.ensures.lender ∙ w.put_group_units.ensures.lender ∙ l.invariant.lender;
+            setting = w.put_group.ensures.setting ∙ w.put_group_units.ensures.setting ∙ l.invariant.setting;
             marks = rw value at marks;
           })
       | else-group-gt0 w ↦
@@ -65,7 +65,7 @@ loop-index-preserved g c =
             fills = Fills-same_group number position l.filled none l.invariant.fills;
             under = omega (arith, l.invariant.under);
             room = l.invariant.room;
-            lender = l.invariant.lender;
+            setting = l.invariant.setting;
             marks = l.invariant.marks;
           })
     ]
@@ -103,8 +103,8 @@ returns-clause-room g c =
     let spelled = ap length (spelling-front method number groups.count groups.front l.filled c.requires.count c.requires.front groups.holds.split groups.holds.some (rw end at l.invariant.fills) (omega (arith, end, l.invariant.under))) in
     omega (arith, spelled, length-append (spelling Low groups.front) (front method position l.filled ++ part method (number % 10 ^ position)), length-append (front method position l.filled) (part method (number % 10 ^ position)), rw end at l.invariant.room, c.put_group_units-2.ensures.room, c.put_positions.ensures.room)
 
-pub returns-clause-lender : goal.returns-clause-lender
-returns-clause-lender g c = c.put_positions.ensures.lender ∙ c.put_group_units-2.ensures.lender ∙ c.loop-index.invariant.lender
+pub returns-clause-setting : goal.returns-clause-setting
+returns-clause-setting g c = c.put_positions.ensures.setting ∙ c.put_group_units-2.ensures.setting ∙ c.loop-index.invariant.setting
 
 pub returns-clause-marks : goal.returns-clause-marks
 returns-clause-marks g c =

@@ -8,6 +8,6 @@ invariant-loop-index g l = record {
   fills : Fills l.filled (l.groups.number % 10 ^ (4 * l.index));
   under : l.filled ≤ 4 * l.index;
   room : g.P.Pen.left l.pen + 3 * length (part l.method (l.groups.number % 10 ^ (4 * l.index))) ≡ g.P.Pen.left l.fn.pen;
-  lender : g.P.Pen.lender l.pen ≡ g.P.Pen.lender l.fn.pen;
-  marks : g.P.Pen.has_put l.pen l.characters.variant l.characters.case (part l.method (l.groups.number % 10 ^ (4 * l.index)));
+  setting : g.P.Pen.setting l.pen ≡ g.P.Pen.setting l.fn.pen;
+  marks : g.P.Pen.has_put l.pen (part l.method (l.groups.number % 10 ^ (4 * l.index)));
 }

@@ -18,11 +18,11 @@ loop-width-preserved g c =
     elim c.if-start-above.branch [
       | then-start-above w ↦
           let test : Bool = l.above == filled && nat_lt filled start in
-          let zero : Wrote (g.P.Pen.left c.args.pen.now) (g.P.Pen.left w.if-above-filled.pen) (g.P.Pen.lender c.args.pen.now) (g.P.Pen.lender w.if-above-filled.pen) (g.P.Pen.has_put c.args.pen.now c.args.characters.variant c.args.characters.case)
-          (g.P.Pen.has_put w.if-above-filled.pen c.args.characters.variant c.args.characters.case) ((if test then digit 0 ∷ [] else []) ++ l.invariant.0) = elim w.if-above-filled.branch [
+          let zero : Wrote (g.P.Pen.left c.args.pen.now) (g.P.Pen.left w.if-above-filled.pen) (g.P.Pen.setting c.args.pen.now) (g.P.Pen.setting w.if-above-filled.pen) (g.P.Pen.has_put c.args.pen.now)
+          (g.P.Pen.has_put w.if-above-filled.pen) ((if test then digit 0 ∷ [] else []) ++ l.invariant.0) = elim w.if-above-filled.branch [
             | then-above-filled+then-filled-start v ↦
                 let flag : (l.above == filled && nat_lt filled start) ≡ true = grind (arith, nat_tests, v.if-above-filled.true, v.if-filled-start.true) in
-                rw (v.pen-is, flag) (Wrote-more (digit 0) l.invariant.2 v.put_digit_if.ensures.room v.put_digit_if.ensures.lender v.put_digit_if.ensures.marks)
+                rw (v.pen-is, flag) (Wrote-more (digit 0) l.invariant.2 v.put_digit_if.ensures.room v.put_digit_if.ensures.setting v.put_digit_if.ensures.marks)
             | else-above-filled v ↦
                 let flag : (l.above == filled && nat_lt filled start) ≡ false = elim v.else-above-filled.branch [
                   | else-above-filled-via-then-above-filled+else-filled-start u ↦ grind (arith, nat_tests, u.if-above-filled.true, u.if-filled-start.false)
@@ -32,7 +32,7 @@ loop-width-preserved g c =
           ] in (
             unit_front method filled l.above start ++ l.invariant.0,
             rw w.above-is (front-then method position filled l.above l.width-index widths l.invariant.0 _ c.loop-width-test.true w.if-start-above.true l.invariant.1),
-            rw (w.pen-is, ← w.unit_at.ensures) (Wrote-more (unit _) zero w.put_unit_if.ensures.room w.put_unit_if.ensures.lender w.put_unit_if.ensures.marks),
+            rw (w.pen-is, ← w.unit_at.ensures) (Wrote-more (unit _) zero w.put_unit_if.ensures.room w.put_unit_if.ensures.setting w.put_unit_if.ensures.marks),
           )
       | else-start-above w ↦ (
         l.invariant.0,
@@ -41,5 +41,5 @@ loop-width-preserved g c =
       )
     ]
 
-pub returns-clause-lender : goal.returns-clause-lender
-returns-clause-lender g c = c.loop-width.invariant.2.lender
+pub returns-clause-setting : goal.returns-clause-setting
+returns-clause-setting g c = c.loop-width.invariant.2.setting

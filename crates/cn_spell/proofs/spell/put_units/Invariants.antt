@@ -8,4 +8,4 @@ abbrev pub invariant-loop-width : goal.invariant-loop-width
 invariant-loop-width g l =
     (done : List Mark)
     × (front l.method l.position l.filled ≡ units_over l.method l.position l.filled l.above (drop l.width-index l.width-items) ++ done)
-    × Wrote (g.P.Pen.left l.fn.pen) (g.P.Pen.left l.pen) (g.P.Pen.lender l.fn.pen) (g.P.Pen.lender l.pen) (g.P.Pen.has_put l.fn.pen l.characters.variant l.characters.case) (g.P.Pen.has_put l.pen l.characters.variant l.characters.case) done
+    × Wrote (g.P.Pen.left l.fn.pen) (g.P.Pen.left l.pen) (g.P.Pen.setting l.fn.pen) (g.P.Pen.setting l.pen) (g.P.Pen.has_put l.fn.pen) (g.P.Pen.has_put l.pen) done

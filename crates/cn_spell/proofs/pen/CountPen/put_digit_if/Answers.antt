@@ -7,6 +7,4 @@ use Rattle.cn_spell.proofs.pen.CountPen.put_digit_if.Goals as goal
 
 pub returns-clause-marks : goal.returns-clause-marks
 returns-clause-marks c =
-    let variant = c.args._characters.variant in
-    let case = c.args._characters.case in
-    λ marks h. rw (kept-char variant case c.args.is_kept (digit c.args._value) marks) (Counts-if c.args.is_kept (digit_char variant case c.args._value) (λ e. rw e refl) (λ e. rw e (omega arith)) (three-digit variant case c.args._value c.requires.value) h)
+    λ marks h variant case. rw (kept-char variant case c.args.is_kept (digit c.args._value) marks) (Counts-if c.args.is_kept (digit_char variant case c.args._value) (λ e. rw e refl) (λ e. rw e (omega arith)) (three-digit variant case c.args._value c.requires.value) (h variant case))

@@ -5,8 +5,7 @@ use Rattle.cn_spell.proofs.pen.RoomPen.put_digit_if.Goals as goal
 
 pub returns-clause-marks : goal.returns-clause-marks
 returns-clause-marks c =
-    let variant = c.args.characters.variant in
-    let case = c.args.characters.case in
+    let characters = c.args.self.now.characters.now in
     let put = c.put_if.ensures in
-    λ marks h. rw (kept-char variant case c.args.is_kept (digit c.args.value) marks)
-    (Shows-if c.args.is_kept (digit_char variant case c.args.value) c.requires.room put.free put.text put.length c.digit.ensures.bytes c.digit.ensures.utf8 h)
+    λ marks h. rw (put.characters, kept-char characters.variant characters.case c.args.is_kept (digit c.args.value) marks)
+    (Shows-if c.args.is_kept (digit_char characters.variant characters.case c.args.value) c.requires.room put.free put.text put.length c.digit.ensures.bytes c.digit.ensures.utf8 h)

@@ -5,8 +5,7 @@ use Rattle.cn_spell.proofs.pen.RoomPen.put_unit_if.Goals as goal
 
 pub returns-clause-marks : goal.returns-clause-marks
 returns-clause-marks c =
-    let variant = c.args.characters.variant in
-    let case = c.args.characters.case in
+    let characters = c.args.self.now.characters.now in
     let put = c.put_if.ensures in
-    λ marks h. rw (kept-char variant case c.args.is_kept (unit (rank c.args.value)) marks)
-    (Shows-if c.args.is_kept (unit_char variant case (rank c.args.value)) c.requires.room put.free put.text put.length c.unit.ensures.bytes c.unit.ensures.utf8 h)
+    λ marks h. rw (put.characters, kept-char characters.variant characters.case c.args.is_kept (unit (rank c.args.value)) marks)
+    (Shows-if c.args.is_kept (unit_char characters.variant characters.case (rank c.args.value)) c.requires.room put.free put.text put.length c.unit.ensures.bytes c.unit.ensures.utf8 h)

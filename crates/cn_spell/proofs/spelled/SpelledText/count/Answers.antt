@@ -21,42 +21,21 @@ pub overflow_add-result : goal.overflow_add-result
 overflow_add-result g c =
     let self = c.args.self.now in
     let method = g.M.KnownMethod.stands_for in
-    let shown : Counts c.put_spelling.new.pen.characters (map (mark_char self.characters.variant self.characters.case) (spelling method self.groups.number)) = rw c.method.ensures at c.put_spelling.ensures.marks in
+    let shown : Counts c.put_spelling.new.pen.characters (map (mark_char self.characters.variant self.characters.case) (spelling method self.groups.number)) = rw c.method.ensures at c.put_spelling.ensures.marks self.characters.variant self.characters.case in
     let few : c.put_spelling.new.pen.characters ≤ 77 =
     omega (arith, marks-fit method (pos self.groups.number) self.printable self.small, most_bytes-le method, shown.size, length-map (spelling method self.groups.number) (mark_char self.characters.variant self.characters.case)) in
     search rules
 
-pub returns-clause-count : goal.returns-clause-count
-returns-clause-count g c =
+pub returns : goal.returns
+returns g c =
     let self = c.args.self.now in
     let variant = self.characters.variant in
-    let shown : Counts c.put_spelling.new.pen.characters (map (mark_char variant self.characters.case) (spelling g.M.KnownMethod.stands_for self.groups.number)) = rw c.method.ensures at c.put_spelling.ensures.marks in
-    (Counts-if self.negative (minus_char variant) (λ e. rw e refl) (λ e. rw e (omega arith)) (three-minus variant) shown).size
-
-pub returns-clause-bytes : goal.returns-clause-bytes
-returns-clause-bytes g c =
-    let self = c.args.self.now in
-    let variant = self.characters.variant in
+    let case = self.characters.case in
+    let method = g.M.KnownMethod.stands_for in
     let count = c.put_spelling.new.pen.characters in
-    let shown : Counts count (map (mark_char variant self.characters.case) (spelling g.M.KnownMethod.stands_for self.groups.number)) = rw c.method.ensures at c.put_spelling.ensures.marks in
-    let more : Counts (if self.negative then count + 1 else count) (signed_text variant self.characters.case self.negative (spelling g.M.KnownMethod.stands_for self.groups.number)) =
+    let shown : Counts count (map (mark_char variant case) (spelling method self.groups.number)) = rw c.method.ensures at c.put_spelling.ensures.marks variant case in
+    let signed : Counts (if self.negative then count + 1 else count) (signed_text variant case self.negative (spelling method self.groups.number)) =
     Counts-if self.negative (minus_char variant) (λ e. rw e refl) (λ e. rw e refl) (three-minus variant) shown in
-    more.bytes
-
-pub returns-clause-most : goal.returns-clause-most
-returns-clause-most g c =
-    let self = c.args.self.now in
-    let method = g.M.KnownMethod.stands_for in
-    let shown : Counts c.put_spelling.new.pen.characters (map (mark_char self.characters.variant self.characters.case) (spelling method self.groups.number)) = rw c.method.ensures at c.put_spelling.ensures.marks in
-    let few : 3 * (c.put_spelling.new.pen.characters + 1) ≤ most_bytes method =
-    omega (arith, marks-fit method (pos self.groups.number) self.printable self.small, shown.size, length-map (spelling method self.groups.number) (mark_char self.characters.variant self.characters.case)) in
-    search (rules, few)
-
-pub returns-clause-bound : goal.returns-clause-bound
-returns-clause-bound g c =
-    let self = c.args.self.now in
-    let method = g.M.KnownMethod.stands_for in
-    let shown : Counts c.put_spelling.new.pen.characters (map (mark_char self.characters.variant self.characters.case) (spelling method self.groups.number)) = rw c.method.ensures at c.put_spelling.ensures.marks in
-    let few : c.put_spelling.new.pen.characters ≤ 77 =
-    omega (arith, marks-fit method (pos self.groups.number) self.printable self.small, most_bytes-le method, shown.size, length-map (spelling method self.groups.number) (mark_char self.characters.variant self.characters.case)) in
-    search (rules, few)
+    let few : 3 * (count + 1) ≤ most_bytes method =
+    omega (arith, marks-fit method (pos self.groups.number) self.printable self.small, shown.size, length-map (spelling method self.groups.number) (mark_char variant case)) in
+    record { count = search (rules, signed.size); bytes = signed.bytes; most = search (rules, few); bound = search (rules, few, most_bytes-le method) }
