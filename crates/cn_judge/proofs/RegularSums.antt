@@ -1,5 +1,5 @@
 -- What the digits of a regular numeral count: the power of ten of its section, and that of the open units.
-use Rattle.std.proofs.Common.{◌≡◌, ℕ, suc, ◌+◌, ◌*◌, ◌^◌, ◌<◌, ◌≤◌, max, Bool, true, false, ◌==◌, nat_le, nat_lt, List, [], ◌∷◌, length, map, find, refl, sym, ap, ◌∙◌, arith, if◌then◌else◌}
+use Rattle.std.proofs.Common.{◌≡◌, ℕ, suc, ◌+◌, ◌*◌, ◌^◌, ◌<◌, ◌≤◌, Bool, true, false, ◌==◌, nat_le, nat_lt, List, [], ◌∷◌, length, map, find, refl, sym, ap, ◌∙◌, arith, if◌then◌else◌}
 use Rattle.std.specs.Option.{option_map_or}
 use Rattle.std.proofs.lemmas.Bool.Decides.{nat_tests}
 use Rattle.std.proofs.lemmas.Nat.{pow-add}
@@ -109,37 +109,26 @@ pub records-first : (rank least : ℕ) (marks : List Mark) → rank < least → 
 records-first rank least [] h = refl
 records-first rank least (digit value ∷ rest) h = records-first rank least rest h
 records-first rank least (other ∷ rest) h = records-first rank least rest h
-records-first rank least (unit next ∷ rest) h = by (nat_le least next) refl (records-first rank (max least (next + 1)) rest (omega (arith, h))) where
-  by : (b : Bool) → nat_le least next ≡ b → is_first rank (records_from (max least (next + 1)) rest) ≡ true
-      → is_first rank (if b then next ∷ records_from (max least (next + 1)) rest else records_from (max least (next + 1)) rest) ≡ true
-  by true e ih = let low : least ≤ next = grind (arith, nat_tests) in test rank next (omega (arith, h, low)) where
-    test : (a b : ℕ) → a < b → nat_lt a b ≡ true
-    test a b h = grind (arith, nat_tests)
-  by false e ih = ih
+records-first rank least (unit next ∷ rest) h = grind (arith, nat_tests, records-first rank least rest h)
 
 -- the records with one more unit
 pub records-unit : (rank : ℕ) (marks : List Mark) → records_from 0 (unit rank ∷ marks) ≡ rank ∷ records_from (rank + 1) marks
-records-unit rank marks =
-    let t : nat_le 0 rank ≡ true = grind (arith, nat_tests) in
-    let m : max 0 (rank + 1) ≡ rank + 1 = omega arith in rw (t, m)
+records-unit rank marks = grind (arith, nat_tests)
 
 pub records-great : (least rank : ℕ) (marks : List Mark) → least ≤ rank → records_from least (unit rank ∷ marks) ≡ rank ∷ records_from (rank + 1) marks
-records-great least rank marks h =
-    let t : nat_le least rank ≡ true = grind (arith, nat_tests) in
-    let m : max least (rank + 1) ≡ rank + 1 = omega (arith, h) in rw (t, m)
+records-great least rank marks h = grind (arith, nat_tests)
 
 pub records-small : (least rank : ℕ) (marks : List Mark) → rank < least → records_from least (unit rank ∷ marks) ≡ records_from least marks
-records-small least rank marks h =
-    let t : nat_le least rank ≡ false = grind (arith, nat_tests) in
-    let m : max least (rank + 1) ≡ least = omega (arith, h) in rw (t, m)
+records-small least rank marks h = grind (arith, nat_tests)
 
 -- and the records above a unit
 pub records-above : (least rank last : ℕ) (marks : List Mark) → records_from 0 marks ≡ with_last last (records_from least marks) → last < rank + 1
     → records_from (rank + 1) marks ≡ from_rank (rank + 1) (records_from least marks)
 records-above least rank last marks records low =
-    let m : max 0 (rank + 1) ≡ rank + 1 = omega arith in
-    let left = rw m at (records-left 0 (rank + 1) marks) in
-    sym left ∙ ap (from_rank (rank + 1)) records ∙ last-left (rank + 1) last (records_from least marks) low
+    sym (records-left 0 (rank + 1) marks (omega arith)) ∙ ap (from_rank (rank + 1)) records ∙ last-left (rank + 1) last (records_from least marks) low
 
 pub records-above_small : (least rank : ℕ) (marks : List Mark) → rank < least → from_rank (rank + 1) (records_from least marks) ≡ records_from least marks
-records-above_small least rank marks low = let m : max least (rank + 1) ≡ least = omega (arith, low) in rw m at (records-left least (rank + 1) marks)
+records-above_small least rank marks low =
+    let first = records-first rank least marks low in
+    let same = first-left rank (records_from least marks) first in
+    next-left rank (records_from least marks) (ap (is_first rank) same ∙ first) ∙ same
