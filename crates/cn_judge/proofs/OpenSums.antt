@@ -30,11 +30,7 @@ records-left least limit (unit rank ∷ rest) h =
 
 left-ranks : (limit : ℕ) (opens : List StackEntry) → ranks_of (still_open limit opens) ≡ from_rank limit (ranks_of opens)
 left-ranks limit [] = refl
-left-ranks limit (top ∷ opens) = by (nat_lt top.0 limit) (left-ranks limit opens) where
-  by : (b : Bool) → ranks_of (still_open limit opens) ≡ from_rank limit (ranks_of opens)
-      → ranks_of (if b then still_open limit opens else top ∷ opens) ≡ (if b then from_rank limit (ranks_of opens) else top.0 ∷ ranks_of opens)
-  by true ih = ih
-  by false ih = refl
+left-ranks limit (top ∷ opens) = grind (arith, nat_tests, left-ranks limit opens)
 
 -- the open ranks are the record units, nearest first
 pub opens-records : (method : ChineseCountMethod) (marks : List Mark) → ranks_of (opens_of method marks) ≡ records_from 0 marks
@@ -42,9 +38,9 @@ opens-records method [] = refl
 opens-records method (digit value ∷ rest) = opens-records method rest
 opens-records method (other ∷ rest) = opens-records method rest
 opens-records method (unit rank ∷ rest) =
-    let test : nat_le 0 rank ≡ true = grind (arith, nat_tests) in
-    rw test (ap (λ ranks. rank ∷ ranks)
-    (left-ranks (rank + 1) (opens_of method rest) ∙ ap (from_rank (rank + 1)) (opens-records method rest) ∙ records-left 0 (rank + 1) rest (omega arith)))
+    ap (λ ranks. rank ∷ ranks)
+    (left-ranks (rank + 1) (opens_of method rest) ∙ ap (from_rank (rank + 1)) (opens-records method rest) ∙ records-left 0 (rank + 1) rest (omega arith))
+    ∙ grind (arith, nat_tests)
 
 -- each open unit has its scale
 abbrev pub AreScaled : ChineseCountMethod → List StackEntry → Type 0
@@ -75,13 +71,7 @@ total-add method (top ∷ opens) sum more h =
 
 total-closed : (limit : ℕ) (opens : List StackEntry) (sum : ℕ) → total_sum (closed_sum limit sum opens) (still_open limit opens) ≡ total_sum sum opens
 total-closed limit [] sum = refl
-total-closed limit (top ∷ opens) sum = by (nat_lt top.0 limit) (total-closed limit opens (sum * top.1 + top.2)) where
-  by : (b : Bool)
-      → total_sum (closed_sum limit (sum * top.1 + top.2) opens) (still_open limit opens) ≡ total_sum (sum * top.1 + top.2) opens
-      → total_sum (if b then closed_sum limit (sum * top.1 + top.2) opens else sum) (if b then still_open limit opens else top ∷ opens)
-      ≡ total_sum (sum * top.1 + top.2) opens
-  by true ih = ih
-  by false ih = refl
+total-closed limit (top ∷ opens) sum = grind (arith, nat_tests, total-closed limit opens (sum * top.1 + top.2))
 
 -- closing all gives the value
 pub total-value : (method : ChineseCountMethod) (marks : List Mark) → total_sum (sum_of marks) (opens_of method marks) ≡ value method marks
@@ -99,13 +89,7 @@ total-value method (unit rank ∷ rest) =
 closed-closed : (low high : ℕ) (opens : List StackEntry) (sum : ℕ) → low ≤ high
     → closed_sum high (closed_sum low sum opens) (still_open low opens) ≡ closed_sum high sum opens
 closed-closed low high [] sum h = refl
-closed-closed low high (top ∷ opens) sum h = by (nat_lt top.0 low) refl (closed-closed low high opens (sum * top.1 + top.2) h) where
-  by : (b : Bool) → nat_lt top.0 low ≡ b
-      → closed_sum high (closed_sum low (sum * top.1 + top.2) opens) (still_open low opens) ≡ closed_sum high (sum * top.1 + top.2) opens
-      → closed_sum high (if b then closed_sum low (sum * top.1 + top.2) opens else sum) (if b then still_open low opens else top ∷ opens)
-      ≡ (if nat_lt top.0 high then closed_sum high (sum * top.1 + top.2) opens else sum)
-  by true e ih = let t : nat_lt top.0 high ≡ true = grind (arith, nat_tests) in rw t ih
-  by false e ih = refl
+closed-closed low high (top ∷ opens) sum h = grind (arith, nat_tests, closed-closed low high opens (sum * top.1 + top.2) h)
 
 -- what stands before the first unit that is not smaller
 abbrev pub group : ℕ → List Mark → List Mark

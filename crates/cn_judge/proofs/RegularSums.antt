@@ -78,31 +78,18 @@ first-groups method rank (next ∷ ranks) = refl
 pub first-strict : (rank : ℕ) (ranks : List ℕ)
     → option_map_or (λ next. nat_lt rank next) (find (λ next. nat_le rank next) ranks) true ≡ is_first rank (from_rank rank ranks)
 first-strict rank [] = refl
-first-strict rank (next ∷ ranks) = by (nat_lt next rank) refl (first-strict rank ranks) where
-  by : (b : Bool) → nat_lt next rank ≡ b
-      → option_map_or (λ next. nat_lt rank next) (find (λ next. nat_le rank next) ranks) true ≡ is_first rank (from_rank rank ranks)
-      → option_map_or (λ next. nat_lt rank next) (find (λ next. nat_le rank next) (next ∷ ranks)) true ≡ is_first rank (if b then from_rank rank ranks else next ∷ ranks)
-  by true e ih = let t : nat_le rank next ≡ false = grind (arith, nat_tests) in rw t ih
-  by false e ih = let t : nat_le rank next ≡ true = grind (arith, nat_tests) in rw t refl
+first-strict rank (next ∷ ranks) = grind (arith, nat_tests, first-strict rank ranks)
 
 pub first-left : (rank : ℕ) (ranks : List ℕ) → is_first rank ranks ≡ true → from_rank rank ranks ≡ ranks
 first-left rank [] h = refl
-first-left rank (next ∷ ranks) h = let t : nat_lt next rank ≡ false = grind (arith, nat_tests) in rw t
+first-left rank (next ∷ ranks) h = grind (arith, nat_tests, h)
 
 pub next-left : (rank : ℕ) (ranks : List ℕ) → is_first rank (from_rank rank ranks) ≡ true → from_rank (rank + 1) ranks ≡ from_rank rank ranks
 next-left rank [] h = refl
-next-left rank (next ∷ ranks) h = by (nat_lt next rank) refl h (next-left rank ranks) where
-  by : (b : Bool) → nat_lt next rank ≡ b → is_first rank (if b then from_rank rank ranks else next ∷ ranks) ≡ true
-      → (is_first rank (from_rank rank ranks) ≡ true → from_rank (rank + 1) ranks ≡ from_rank rank ranks)
-      → (if nat_lt next (rank + 1) then from_rank (rank + 1) ranks else next ∷ ranks) ≡ (if b then from_rank rank ranks else next ∷ ranks)
-  by true e h ih = let t : nat_lt next (rank + 1) ≡ true = grind (arith, nat_tests) in rw t (ih h)
-  by false e h ih = let t : nat_lt next (rank + 1) ≡ false = grind (arith, nat_tests) in rw t
+next-left rank (next ∷ ranks) h = grind (arith, nat_tests, h, next-left rank ranks)
 
 pub last-left : (rank last : ℕ) (ranks : List ℕ) → last < rank → from_rank rank (with_last last ranks) ≡ from_rank rank ranks
-last-left rank last ranks low = by (last == 0) where
-  by : (b : Bool) → from_rank rank (if b then ranks else last ∷ ranks) ≡ from_rank rank ranks
-  by true = refl
-  by false = let t : nat_lt last rank ≡ true = grind (arith, nat_tests) in rw t
+last-left rank last ranks low = grind (arith, nat_tests)
 
 -- the records from a rank on are greater than what is below it
 pub records-first : (rank least : ℕ) (marks : List Mark) → rank < least → is_first rank (records_from least marks) ≡ true
