@@ -12,7 +12,7 @@ use Rattle.cn_core.specs.Numeral.{with_first_digit, starts_with_digit}
 use Rattle.cn_core.specs.Spelling.{spelling}
 use Rattle.cn_core.specs.Reading.{Reads, sign_len, is_minus, typed_answer, naive_reading}
 use Rattle.cn_core.specs.Value.{numeral_value}
-use Rattle.cn_core.specs.Whole.{signed_number, Kind, Holds}
+use Rattle.cn_core.specs.Whole.{signed_number, Kind, holds}
 use Rattle.cn_core.specs.Printing.{mark_char, signed_text, signed_bytes, naive_text, spelled_text, is_printable}
 use Rattle.cn_core.proofs.Beginnings.{starts-alike}
 use Rattle.cn_core.proofs.Fronts.{and-left, list_all-front}
@@ -21,7 +21,7 @@ use Rattle.chinese_number.specs.Digits.{is_digit}
 use Rattle.chinese_number.specs.Parts.{sign_length}
 use Rattle.chinese_number.proofs.PlainDigits.{decimal_is, starts, front-le, naive_answer-digits}
 use Rattle.chinese_number.proofs.Printed.{is_printed}
-use Rattle.chinese_number.proofs.Reading.{IsWhole, HasParts, HasParts-signed_text, Holds-smaller, Reads-parts, naive_reading-parts, typed_number-Holds, minus_is_signed, written_sign}
+use Rattle.chinese_number.proofs.Reading.{IsWhole, HasParts, HasParts-signed_text, held-smaller, Reads-parts, naive_reading-parts, typed_number-held, minus_is_signed, written_sign}
 use Rattle.chinese_number.proofs.SpelledMarks.{below_square, spelling-printed, Judges-beginning}
 
 -- it is written from a beginning of the marks
@@ -59,7 +59,7 @@ HasParts-beginning kind variant case negative marks count minus printed s longer
     )
 
 -- by units
-pub Reads-beginning : (kind : Kind) (method : ChineseCountMethod) (variant : ChineseVariant) (case : ChineseCase) (number : ℤ) (count : ℕ) → IsWhole kind → Holds kind (pos 0) → Holds kind number
+pub Reads-beginning : (kind : Kind) (method : ChineseCountMethod) (variant : ChineseVariant) (case : ChineseCase) (number : ℤ) (count : ℕ) → IsWhole kind → holds kind (pos 0) ≡ true → holds kind number ≡ true
     → is_printable method number ≡ true → let text = spelled_text variant case method number in sign_length kind (encode_utf8_all text) < count
     → (beginning : ℤ) × Reads kind method (encode_utf8_all (take count text)) (Ok beginning)
 Reads-beginning kind method variant case number count whole none held printable longer =
@@ -73,10 +73,10 @@ Reads-beginning kind method variant case number count whole none held printable 
     let bytes = encode_utf8_all (take count (spelled_text variant case method number)) in
     let j = Judges-beginning method (nat_abs number) front (drop b.0 marks) small square b.1 (take-append-drop b.0 marks) in
     let beginning = signed_number (is_minus (written_sign negative)) (numeral_value method front) in
-    (beginning, subst (Reads kind method bytes) (typed_number-Holds kind beginning (Holds-smaller kind number (numeral_value method front) none held j.1)) (Reads-parts kind method bytes (written_sign negative) front (Ok (numeral_value method front)) b.2 j.0))
+    (beginning, subst (Reads kind method bytes) (typed_number-held kind beginning (held-smaller kind number (numeral_value method front) none held j.1)) (Reads-parts kind method bytes (written_sign negative) front (Ok (numeral_value method front)) b.2 j.0))
 
 -- and as plain digits
-pub naive_reading-beginning : (kind : Kind) (variant : ChineseVariant) (case : ChineseCase) (number : ℤ) (count : ℕ) → IsWhole kind → Holds kind (pos 0) → Holds kind number
+pub naive_reading-beginning : (kind : Kind) (variant : ChineseVariant) (case : ChineseCase) (number : ℤ) (count : ℕ) → IsWhole kind → holds kind (pos 0) ≡ true → holds kind number ≡ true
     → let text = naive_text variant case number in sign_length kind (encode_utf8_all text) < count
     → (beginning : ℤ) × (naive_reading kind (encode_utf8_all (take count text)) ≡ Ok beginning)
 naive_reading-beginning kind variant case number count whole none held longer =
@@ -93,5 +93,5 @@ naive_reading-beginning kind variant case number count whole none held longer =
       beginning,
       naive_reading-parts kind bytes (written_sign negative) front b.2
           ∙ ap (typed_answer kind bytes (written_sign negative)) (naive_answer-digits front b.1 digits (omega (arith, most, d.value, small)))
-          ∙ typed_number-Holds kind beginning (Holds-smaller kind number (decimal_value front) none held (omega (arith, most, d.value))),
+          ∙ typed_number-held kind beginning (held-smaller kind number (decimal_value front) none held (omega (arith, most, d.value))),
     )

@@ -9,9 +9,9 @@ use Rattle.cn_core.specs.Refusal.{Refusal, empty, incorrect_at, too_large, too_s
 use Rattle.cn_core.specs.Text.{marks_of}
 use Rattle.cn_core.specs.Reading.{Reads, is_minus, typed_number, typed_answer}
 use Rattle.cn_core.specs.Value.{numeral_value}
-use Rattle.cn_core.specs.Whole.{signed_number, Kind, Holds}
+use Rattle.cn_core.specs.Whole.{signed_number, Kind, holds}
 use Rattle.chinese_number.specs.Parts.{sign_at, unsigned_text}
-use Rattle.chinese_number.proofs.Reading.{IsWhole, Reads-parts, typed_number-Holds, Holds-typed_number, held_is, size_of}
+use Rattle.chinese_number.proofs.Reading.{IsWhole, Reads-parts, typed_number-held, held-typed_number, held_is, size_of}
 use Rattle.chinese_number.proofs.SpelledMarks.{Judges-numeral}
 
 -- what a text that is judged as a number is like
@@ -90,29 +90,29 @@ refused_at method (mark ∷ rest) place h =
 -- exactly numerals whose scales and signed value fit are answered by that value
 pub Reads-number : (kind : Kind) (method : ChineseCountMethod) (bytes : List ℕ) (number : ℤ) → Reads kind method bytes (Ok number)
     → let marks = marks_of (unsigned_text kind bytes) in
-    IsNumeral marks × (some_unfit method marks ≡ false) × (signed_number (is_minus (sign_at kind bytes)) (numeral_value method marks) ≡ number) × Holds kind number
+    IsNumeral marks × (some_unfit method marks ≡ false) × (signed_number (is_minus (sign_at kind bytes)) (numeral_value method marks) ≡ number) × holds kind number ≡ true
 Reads-number kind method bytes number (judged, is, answer) = by judged is (sym answer) where
   marks : List Mark
   marks = marks_of (unsigned_text kind bytes)
 
   by : (judged : Result ℕ Refusal) → Judges method marks judged → typed_answer kind bytes (sign_at kind bytes) judged ≡ Ok number
-      → IsNumeral marks × (some_unfit method marks ≡ false) × (signed_number (is_minus (sign_at kind bytes)) (numeral_value method marks) ≡ number) × Holds kind number
+      → IsNumeral marks × (some_unfit method marks ≡ false) × (signed_number (is_minus (sign_at kind bytes)) (numeral_value method marks) ≡ number) × holds kind number ≡ true
   by (Err empty) is h = cc
   by (Err (incorrect_at place)) is h = cc
   by (Err too_large) is h = cc
   by (Err too_small) is h = cc
   by (Ok magnitude) is h =
       let j = IsJudged-number method marks magnitude is in
-      (j.numeral, j.fits, ap (signed_number (is_minus (sign_at kind bytes))) j.value ∙ held_is kind (signed_number (is_minus (sign_at kind bytes)) magnitude) number h, Holds-typed_number kind (signed_number (is_minus (sign_at kind bytes)) magnitude) number h)
+      (j.numeral, j.fits, ap (signed_number (is_minus (sign_at kind bytes))) j.value ∙ held_is kind (signed_number (is_minus (sign_at kind bytes)) magnitude) number h, held-typed_number kind (signed_number (is_minus (sign_at kind bytes)) magnitude) number h)
 
 pub Reads-numeral : (kind : Kind) (method : ChineseCountMethod) (bytes : List ℕ) (number : ℤ) → IsWhole kind
     → let marks = marks_of (unsigned_text kind bytes) in
-    IsNumeral marks × (some_unfit method marks ≡ false) × (signed_number (is_minus (sign_at kind bytes)) (numeral_value method marks) ≡ number) × Holds kind number
+    IsNumeral marks × (some_unfit method marks ≡ false) × (signed_number (is_minus (sign_at kind bytes)) (numeral_value method marks) ≡ number) × holds kind number ≡ true
     → Reads kind method bytes (Ok number)
 Reads-numeral kind method bytes number whole (numeral, fits, is, held) =
     let sign = sign_at kind bytes in
     let marks = marks_of (unsigned_text kind bytes) in
     let size = numeral_value method marks in
     let small : size < 2 ^ 128 = omega (arith, whole.fits number held, size_of sign size, ap nat_abs is) in
-    subst (Reads kind method bytes) (ap (typed_number kind) is ∙ typed_number-Holds kind number held)
+    subst (Reads kind method bytes) (ap (typed_number kind) is ∙ typed_number-held kind number held)
     (Reads-parts kind method bytes sign marks (Ok size) (record { sign_is = refl; marks_is = refl }) (Judges-numeral method marks size numeral fits refl small))

@@ -16,13 +16,13 @@ use Rattle.cn_core.specs.Numeral.{with_first_digit, starts_with_digit}
 use Rattle.cn_core.specs.Refusal.{Refusal, empty, incorrect_at, too_large, too_small}
 use Rattle.cn_core.specs.Text.{marks_of}
 use Rattle.cn_core.specs.Reading.{naive_reading, is_minus, typed_number, typed_answer}
-use Rattle.cn_core.specs.Whole.{signed_number, Kind, Holds}
+use Rattle.cn_core.specs.Whole.{signed_number, Kind, holds}
 use Rattle.cn_core.specs.Printing.{signed_bytes, naive_text}
 use Rattle.cn_core.proofs.Fronts.{list_all-both}
 use Rattle.chinese_number.specs.Digits.{is_digit}
 use Rattle.chinese_number.specs.Parts.{sign_at, unsigned_text}
 use Rattle.chinese_number.proofs.Printed.{is_printed}
-use Rattle.chinese_number.proofs.Reading.{IsWhole, HasParts-signed_text, naive_reading-parts, typed_answer-held, minus_is_signed, written_sign, typed_number-Holds, Holds-typed_number, held_is, size_of}
+use Rattle.chinese_number.proofs.Reading.{IsWhole, HasParts-signed_text, naive_reading-parts, typed_answer-held, minus_is_signed, written_sign, typed_number-held, held-typed_number, held_is, size_of}
 
 -- one more digit in the sum
 abbrev step : ℕ → Mark → ℕ
@@ -108,24 +108,24 @@ answered kind bytes sign number (Err too_small) h = cc
 -- exactly digits whose signed value fits are answered by that value
 pub naive_reading-number : (kind : Kind) (bytes : List ℕ) (number : ℤ) → naive_reading kind bytes ≡ Ok number
     → let marks = marks_of (unsigned_text kind bytes) in
-    (0 < length marks) × (list_all is_digit marks ≡ true) × (signed_number (is_minus (sign_at kind bytes)) (decimal_value marks) ≡ number) × Holds kind number
+    (0 < length marks) × (list_all is_digit marks ≡ true) × (signed_number (is_minus (sign_at kind bytes)) (decimal_value marks) ≡ number) × holds kind number ≡ true
 naive_reading-number kind bytes number h =
     let sign = sign_at kind bytes in
     let marks = marks_of (unsigned_text kind bytes) in
     let a = answered kind bytes sign number (naive_answer marks) h in
     let plain = IsPlain-answered marks a.0 a.1 in
     let held : typed_number kind (signed_number (is_minus sign) a.0) ≡ Ok number = ap (typed_answer kind bytes sign) (sym a.1) ∙ h in
-    (plain.some, plain.digits, ap (signed_number (is_minus sign)) plain.value ∙ held_is kind (signed_number (is_minus sign) a.0) number held, Holds-typed_number kind (signed_number (is_minus sign) a.0) number held)
+    (plain.some, plain.digits, ap (signed_number (is_minus sign)) plain.value ∙ held_is kind (signed_number (is_minus sign) a.0) number held, held-typed_number kind (signed_number (is_minus sign) a.0) number held)
 
 pub naive_reading-digits : (kind : Kind) (bytes : List ℕ) (number : ℤ) → IsWhole kind
     → let marks = marks_of (unsigned_text kind bytes) in
-    (0 < length marks) × (list_all is_digit marks ≡ true) × (signed_number (is_minus (sign_at kind bytes)) (decimal_value marks) ≡ number) × Holds kind number
+    (0 < length marks) × (list_all is_digit marks ≡ true) × (signed_number (is_minus (sign_at kind bytes)) (decimal_value marks) ≡ number) × holds kind number ≡ true
     → naive_reading kind bytes ≡ Ok number
 naive_reading-digits kind bytes number whole (some, digits, is, held) =
     let sign = sign_at kind bytes in
     let marks = marks_of (unsigned_text kind bytes) in
     let small : decimal_value marks < 2 ^ 128 = omega (arith, whole.fits number held, size_of sign (decimal_value marks), ap nat_abs is) in
-    ap (typed_answer kind bytes sign) (naive_answer-digits marks some digits small) ∙ ap (typed_number kind) is ∙ typed_number-Holds kind number held
+    ap (typed_answer kind bytes sign) (naive_answer-digits marks some digits small) ∙ ap (typed_number kind) is ∙ typed_number-held kind number held
 
 -- zeros in front leave the answer as it was
 zeros_sum : (zeros : List Mark) → All (λ mark. mark ≡ digit 0) zeros → (list_all is_digit zeros ≡ true) × (fold step 0 zeros ≡ 0)
@@ -182,7 +182,7 @@ long [] h = absurd (omega (arith, h))
 long (byte ∷ rest) h = omega arith
 
 -- what is printed as plain digits is read back
-pub naive_reading-signed_text : (kind : Kind) (variant : ChineseVariant) (case : ChineseCase) (number : ℤ) → IsWhole kind → Holds kind number
+pub naive_reading-signed_text : (kind : Kind) (variant : ChineseVariant) (case : ChineseCase) (number : ℤ) → IsWhole kind → holds kind number ≡ true
     → naive_reading kind (signed_bytes variant case (int_lt number (pos 0)) (decimal_digits (nat_abs number))) ≡ Ok number
 naive_reading-signed_text kind variant case number whole held =
     let small = whole.fits number held in
@@ -196,7 +196,7 @@ naive_reading-signed_text kind variant case number whole held =
     ∙ typed_answer-held kind number bytes held
 
 -- so two numbers with one such text are one
-pub same_from_digits : (kind : Kind) (variant : ChineseVariant) (case : ChineseCase) (one second : ℤ) → IsWhole kind → Holds kind one → Holds kind second
+pub same_from_digits : (kind : Kind) (variant : ChineseVariant) (case : ChineseCase) (one second : ℤ) → IsWhole kind → holds kind one ≡ true → holds kind second ≡ true
     → encode_utf8_all (naive_text variant case one) ≡ encode_utf8_all (naive_text variant case second) → one ≡ second
 same_from_digits kind variant case one second whole held_one held_second same =
     let answers : Ok one ≡ Ok second = sym (naive_reading-signed_text kind variant case one whole held_one) ∙ ap (naive_reading kind) same ∙ naive_reading-signed_text kind variant case second whole held_second in

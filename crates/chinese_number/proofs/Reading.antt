@@ -1,5 +1,5 @@
 -- The answer to a string, from its text; and to the written text of a number.
-use Rattle.std.proofs.Common.{◌≡◌, ℕ, zero, suc, ◌^◌, ◌<◌, ◌≤◌, ℤ, pos, negsuc, nat_abs, ◌≤ℤ◌, int_lt, Bool, true, false, if◌then◌else◌, List, [], ◌∷◌, map, drop, encode_utf8_all, Option, Some, None, Result, Ok, Err, refl, sym, ap, subst, ◌∙◌, arith}
+use Rattle.std.proofs.Common.{◌≡◌, ℕ, zero, suc, ◌^◌, ◌<◌, ◌≤◌, ℤ, pos, negsuc, nat_abs, int_lt, Bool, true, false, List, [], ◌∷◌, map, drop, encode_utf8_all, Option, Some, None, Result, Ok, Err, refl, sym, ap, subst, ◌∙◌, arith}
 use Rattle.std.proofs.lemmas.Int.{ints}
 use Rattle.std.specs.List.{list_all}
 use Rattle.cn_core.specs.declared.case.ChineseCase.{ChineseCase}
@@ -15,7 +15,7 @@ use Rattle.cn_core.specs.Refusal.{Refusal, empty, incorrect_at, too_large, too_s
 use Rattle.cn_core.specs.Spelling.{spelling}
 use Rattle.cn_core.specs.Text.{text_of, marks_of}
 use Rattle.cn_core.specs.Reading.{Reads, leading_sign, sign_len, is_minus, typed_number, typed_answer, naive_reading}
-use Rattle.cn_core.specs.Whole.{signed_number, Kind, Holds}
+use Rattle.cn_core.specs.Whole.{signed_number, Kind, holds}
 use Rattle.cn_core.specs.Printing.{mark_char, signed_bytes, spelled_text, is_printable}
 use Rattle.cn_core.specs.Judging.{judge}
 use Rattle.cn_core.proofs.Fronts.{and-left}
@@ -25,35 +25,16 @@ use Rattle.chinese_number.proofs.Printed.{is_printed, IsReadBack-marks, text_of-
 use Rattle.chinese_number.proofs.SpelledMarks.{below_square, spelling-printed, Judges-spelling}
 
 -- a number that the type holds
-pub typed_number-Holds : (kind : Kind) (number : ℤ) → Holds kind number → typed_number kind number ≡ Ok number
-typed_number-Holds kind number h =
-    let high : int_lt kind.greatest number ≡ false = not_below kind.greatest number h.1 in
-    let low : int_lt number kind.least ≡ false = not_below number kind.least h.0 in
-    rw (high, low) where
-      not_below : (x y : ℤ) → y ≤ℤ x → int_lt x y ≡ false
-      not_below x y h = by (int_lt x y) refl where
-        by : (b : Bool) → int_lt x y ≡ b → b ≡ false
-        by true e = absurd (omega (arith, ints))
-        by false e = refl
+pub typed_number-held : (kind : Kind) (number : ℤ) → holds kind number ≡ true → typed_number kind number ≡ Ok number
+typed_number-held kind number h = grind (arith, ints, h)
 
 -- and what is answered is such a number
-pub Holds-typed_number : (kind : Kind) (number answer : ℤ) → typed_number kind number ≡ Ok answer → Holds kind answer
-Holds-typed_number kind number answer h = by (int_lt kind.greatest number) (int_lt number kind.least) refl refl h where
-  by : (a b : Bool) → int_lt kind.greatest number ≡ a → int_lt number kind.least ≡ b
-      → (if a then Err too_large else (if b then Err too_small else Ok number)) ≡ Ok answer → Holds kind answer
-  by true b p q h = cc
-  by false true p q h = cc
-  by false false p q h = let e : number ≡ answer = cc in let held : Holds kind number = (at_most number kind.least q, at_most kind.greatest number p) in subst (Holds kind) e held where
-    at_most : (x y : ℤ) → int_lt x y ≡ false → y ≤ℤ x
-    at_most x y e = omega (arith, ints)
+pub held-typed_number : (kind : Kind) (number answer : ℤ) → typed_number kind number ≡ Ok answer → holds kind answer ≡ true
+held-typed_number kind number answer h = grind (arith, ints, h)
 
 -- that is, the number itself
 pub held_is : (kind : Kind) (number answer : ℤ) → typed_number kind number ≡ Ok answer → number ≡ answer
-held_is kind number answer h = by (int_lt kind.greatest number) (int_lt number kind.least) h where
-  by : (a b : Bool) → (if a then Err too_large else (if b then Err too_small else Ok number)) ≡ Ok answer → number ≡ answer
-  by true b h = cc
-  by false true h = cc
-  by false false h = cc
+held_is kind number answer h = grind (arith, ints, h)
 
 -- a string has one answer
 pub Reads-same : (kind : Kind) (method : ChineseCountMethod) (bytes : List ℕ) (a b : Result ℤ Refusal) → Reads kind method bytes a → Reads kind method bytes b → a ≡ b
@@ -87,21 +68,18 @@ written_sign true = Some Minus
 written_sign false = None
 
 not_below_zero : (n : ℕ) → int_lt (pos n) (pos 0) ≡ false
-not_below_zero n = by (int_lt (pos n) (pos 0)) refl where
-  by : (b : Bool) → int_lt (pos n) (pos 0) ≡ b → b ≡ false
-  by true e = absurd (omega (arith, ints))
-  by false e = refl
+not_below_zero n = grind (arith, ints)
 
 pub signed_number-signed_text : (number : ℤ) → signed_number (is_minus (written_sign (int_lt number (pos 0)))) (nat_abs number) ≡ number
 signed_number-signed_text (pos n) = rw (not_below_zero n)
 signed_number-signed_text (negsuc n) = refl
 
 -- with this sign a type that holds the number, and 0, holds each smaller magnitude too
-pub Holds-smaller : (kind : Kind) (number : ℤ) (magnitude : ℕ) → Holds kind (pos 0) → Holds kind number → magnitude ≤ nat_abs number
-    → Holds kind (signed_number (is_minus (written_sign (int_lt number (pos 0)))) magnitude)
-Holds-smaller kind (pos n) magnitude none held low = rw (not_below_zero n) (omega (arith, ints, none.0), omega (arith, ints, held.1, low))
-Holds-smaller kind (negsuc n) zero none held low = none
-Holds-smaller kind (negsuc n) (suc magnitude) none held low = (omega (arith, ints, held.0, low), omega (arith, ints, none.1))
+pub held-smaller : (kind : Kind) (number : ℤ) (magnitude : ℕ) → holds kind (pos 0) ≡ true → holds kind number ≡ true → magnitude ≤ nat_abs number
+    → holds kind (signed_number (is_minus (written_sign (int_lt number (pos 0)))) magnitude) ≡ true
+held-smaller kind (pos n) magnitude none held low = rw (not_below_zero n) (grind (arith, ints, none, held, low))
+held-smaller kind (negsuc n) zero none held low = none
+held-smaller kind (negsuc n) (suc magnitude) none held low = grind (arith, ints, none, held, low)
 
 -- a sign leaves the magnitude as it was
 pub size_of : (sign : Option Sign) (magnitude : ℕ) → nat_abs (signed_number (is_minus sign) magnitude) ≡ magnitude
@@ -124,27 +102,27 @@ HasParts-signed_text kind variant case false marks minus h s = record {
 }
 
 -- a number is answered where its magnitude is judged
-pub typed_answer-held : (kind : Kind) (number : ℤ) (bytes : List ℕ) → Holds kind number
+pub typed_answer-held : (kind : Kind) (number : ℤ) (bytes : List ℕ) → holds kind number ≡ true
     → typed_answer kind bytes (written_sign (int_lt number (pos 0))) (Ok (nat_abs number)) ≡ Ok number
-typed_answer-held kind number bytes held = ap (typed_number kind) (signed_number-signed_text number) ∙ typed_number-Holds kind number held
+typed_answer-held kind number bytes held = ap (typed_number kind) (signed_number-signed_text number) ∙ typed_number-held kind number held
 
 -- what is known of the kind of an integer type
 pub record IsWhole (kind : Kind) : Type 0 where
   pub from_zero : kind.signed ≡ false → kind.least ≡ pos 0
-  pub fits : (z : ℤ) → Holds kind z → nat_abs z < 2 ^ 128
+  pub fits : (z : ℤ) → holds kind z ≡ true → nat_abs z < 2 ^ 128
 
 -- by the laws of the type
-pub IsWhole-laws : (kind : Kind) (signed : Bool) → kind.signed ≡ signed → (signed ≡ false → kind.least ≡ pos 0) → ((z : ℤ) → Holds kind z → nat_abs z < 2 ^ 128) → IsWhole kind
+pub IsWhole-laws : (kind : Kind) (signed : Bool) → kind.signed ≡ signed → (signed ≡ false → kind.least ≡ pos 0) → ((z : ℤ) → holds kind z ≡ true → nat_abs z < 2 ^ 128) → IsWhole kind
 IsWhole-laws kind signed same zero_least fits = record { from_zero = λ e. zero_least (sym same ∙ e); fits = fits }
 
-pub minus_is_signed : (kind : Kind) (number : ℤ) → IsWhole kind → Holds kind number → int_lt number (pos 0) ≡ true → kind.signed ≡ true
+pub minus_is_signed : (kind : Kind) (number : ℤ) → IsWhole kind → holds kind number ≡ true → int_lt number (pos 0) ≡ true → kind.signed ≡ true
 minus_is_signed kind number whole held below = by kind.signed refl where
   by : (b : Bool) → kind.signed ≡ b → b ≡ true
   by true e = refl
-  by false e = absurd (let zero_least = whole.from_zero e in let least : pos 0 ≤ℤ number = rw zero_least at held.0 in omega (arith, ints, least, below))
+  by false e = absurd (grind (arith, ints, whole.from_zero e, held, below))
 
 -- every written spelling is read back
-pub Reads-spelled : (kind : Kind) (method : ChineseCountMethod) (variant : ChineseVariant) (case : ChineseCase) (number : ℤ) → IsWhole kind → Holds kind number → is_printable method number ≡ true
+pub Reads-spelled : (kind : Kind) (method : ChineseCountMethod) (variant : ChineseVariant) (case : ChineseCase) (number : ℤ) → IsWhole kind → holds kind number ≡ true → is_printable method number ≡ true
     → Reads kind method (encode_utf8_all (spelled_text variant case method number)) (Ok number)
 Reads-spelled kind method variant case number whole held printable =
     let small = whole.fits number held in
@@ -177,20 +155,20 @@ Reads-the_answer kind method bytes =
     (judge method marks, Judges-judge method marks, refl)
 
 -- what is answered is a number of the type
-pub Holds-answered : (kind : Kind) (method : ChineseCountMethod) (bytes : List ℕ) (number : ℤ) → Reads kind method bytes (Ok number) → Holds kind number
-Holds-answered kind method bytes number (judged, is, answer) = by judged answer where
+pub held-answered : (kind : Kind) (method : ChineseCountMethod) (bytes : List ℕ) (number : ℤ) → Reads kind method bytes (Ok number) → holds kind number ≡ true
+held-answered kind method bytes number (judged, is, answer) = by judged answer where
   sign : Option Sign
   sign = leading_sign kind.signed (text_of bytes)
 
-  by : (judged : Result ℕ Refusal) → Ok number ≡ typed_answer kind bytes sign judged → Holds kind number
-  by (Ok magnitude) h = Holds-typed_number kind (signed_number (is_minus sign) magnitude) number (sym h)
+  by : (judged : Result ℕ Refusal) → Ok number ≡ typed_answer kind bytes sign judged → holds kind number ≡ true
+  by (Ok magnitude) h = held-typed_number kind (signed_number (is_minus sign) magnitude) number (sym h)
   by (Err empty) h = cc
   by (Err (incorrect_at place)) h = cc
   by (Err too_large) h = cc
   by (Err too_small) h = cc
 
 -- two numbers with one text are one
-pub same_from_text : (kind : Kind) (method : ChineseCountMethod) (variant : ChineseVariant) (case : ChineseCase) (one second : ℤ) → IsWhole kind → Holds kind one → Holds kind second
+pub same_from_text : (kind : Kind) (method : ChineseCountMethod) (variant : ChineseVariant) (case : ChineseCase) (one second : ℤ) → IsWhole kind → holds kind one ≡ true → holds kind second ≡ true
     → is_printable method one ≡ true → is_printable method second ≡ true
     → encode_utf8_all (spelled_text variant case method one) ≡ encode_utf8_all (spelled_text variant case method second) → one ≡ second
 same_from_text kind method variant case one second whole held_one held_second p q same =

@@ -31,13 +31,8 @@ module _ (one second : ChineseCountMethod) where
   product-same least (digit number ∷ rest) h = product-same least rest h
   product-same least (other ∷ rest) h = product-same least rest h
   product-same least (unit rank ∷ rest) h =
-      by (nat_le least rank) (scales-same rank (and-left (nat_lt rank 5) _ h)) (product-same (max least (rank + 1)) rest (and-right (nat_lt rank 5) _ h)) where
-        by : (b : Bool) → scale one rank ≡ scale second rank
-            → product (map (scale one) (records_from (max least (rank + 1)) rest)) ≡ product (map (scale second) (records_from (max least (rank + 1)) rest))
-            → product (map (scale one) (if b then rank ∷ records_from (max least (rank + 1)) rest else records_from (max least (rank + 1)) rest))
-            ≡ product (map (scale second) (if b then rank ∷ records_from (max least (rank + 1)) rest else records_from (max least (rank + 1)) rest))
-        by true s ih = ap₂ (λ x y. x * y) s ih
-        by false s ih = ih
+      let others = and-right (nat_lt rank 5) _ h in
+      grind (arith, nat_tests, scales-same rank (and-left (nat_lt rank 5) _ h), product-same (rank + 1) rest others, product-same least rest others)
 
   value-same : (marks : List Mark) → small marks ≡ true → value one marks ≡ value second marks
   value-same [] h = refl

@@ -9,7 +9,7 @@ use Rattle.cn_core.specs.declared.case.ChineseCase.{ChineseCase}
 use Rattle.cn_core.specs.declared.script.ChineseVariant.{ChineseVariant}
 use Rattle.cn_core.specs.Refusal.{Refusal}
 use Rattle.cn_core.specs.Spelling.{spelling}
-use Rattle.cn_core.specs.Whole.{Kind, Holds, unsigned_kind, signed_kind}
+use Rattle.cn_core.specs.Whole.{Kind, holds, unsigned_kind, signed_kind}
 use Rattle.cn_core.specs.Printing.{signed_text, naive_text, spelled_text, is_printable}
 use Rattle.cn_core.specs.Mark.{Mark}
 use Rattle.cn_core.proofs.Fronts.{and-left, and-right}
@@ -53,7 +53,7 @@ utf8-signed_text variant case true marks h = IsUtf8-append _ _ (IsUtf8-three _ (
 utf8-signed_text variant case false marks h = utf8-scalars _ (IsReadBack-marks variant case marks h).scalars
 
 -- a number that is printed in a way is read in it
-read-by : (kind : Kind) (way : Way) (script : ChineseVariant) (case : ChineseCase) (number : ℤ) (old new : List ℕ) (len : ℕ) → IsWhole kind → Holds kind number
+read-by : (kind : Kind) (way : Way) (script : ChineseVariant) (case : ChineseCase) (number : ℤ) (old new : List ℕ) (len : ℕ) → IsWhole kind → holds kind number ≡ true
     → PrintsBy way script case number old DONE new len
     → IsUtf8 (take len new) × ((answer : Result ℤ Refusal) → ReadsBy kind way (take len new) answer → answer ≡ Ok number)
 read-by kind Digits script case number old new len whole held h =
@@ -85,15 +85,13 @@ read-by kind (Units method) script case number old new len whole held h = by (is
 -- each type is one of whole numbers below 2^128
 unsigned-whole : (bits : ℕ) → 2 ^ bits ≤ 2 ^ 128 → IsWhole (unsigned_kind bits)
 unsigned-whole bits few = record { from_zero = λ e. refl; fits = fits } where
-  fits : (z : ℤ) → Holds (unsigned_kind bits) z → nat_abs z < 2 ^ 128
-  fits (pos n) held = omega (arith, ints, held.1, few)
-  fits (negsuc n) held = absurd (omega (arith, ints, held.0))
+  fits : (z : ℤ) → holds (unsigned_kind bits) z ≡ true → nat_abs z < 2 ^ 128
+  fits z held = grind (arith, ints, held, few)
 
 signed-whole : (bits : ℕ) → 2 ^ (bits - 1) ≤ 2 ^ 127 → IsWhole (signed_kind bits)
 signed-whole bits few = record { from_zero = λ e. cc; fits = fits } where
-  fits : (z : ℤ) → Holds (signed_kind bits) z → nat_abs z < 2 ^ 128
-  fits (pos n) held = omega (arith, ints, held.1, few)
-  fits (negsuc n) held = omega (arith, ints, held.0, few)
+  fits : (z : ℤ) → holds (signed_kind bits) z ≡ true → nat_abs z < 2 ^ 128
+  fits z held = grind (arith, ints, held, few)
 
 whole : (kind : KindCode) → IsWhole (the_kind kind)
 whole U8 = unsigned-whole 8 (omega arith)
@@ -107,19 +105,13 @@ whole I32 = signed-whole 32 (omega arith)
 whole I64 = signed-whole 64 (omega arith)
 whole I128 = signed-whole 128 (omega arith)
 
-held-from_tests : (kind : Kind) (number : ℤ) → (int_le kind.least number && int_le number kind.greatest) ≡ true → Holds kind number
-held-from_tests kind number e =
-    let low = and-left (int_le kind.least number) _ e in
-    let high = and-right (int_le kind.least number) _ e in
-    (omega (arith, ints, low), omega (arith, ints, high))
-
 -- and so it is told
 read-as : (kind : KindCode) (way : Way) (script : ChineseVariant) (case : ChineseCase) (number : Number) (old new : List ℕ) (len : ℕ)
     → PrintsNumber (the_kind kind) way script case (number_of (the_kind kind).signed number) old DONE new len
     → IsUtf8 (take len new)
     × ((status : ℕ) (reading : Reading) → IsReadAs (Some kind) (Some way) (take len new) status reading
     → (status ≡ DONE) × (number_of (the_kind kind).signed reading.number ≡ number_of (the_kind kind).signed number) × (reading.char_index ≡ 0))
-read-as code way script case number old new len = by (int_le kind.least value && int_le value kind.greatest) refl where
+read-as code way script case number old new len = by (holds kind value) refl where
   kind : Kind
   kind = the_kind code
 
@@ -130,12 +122,12 @@ read-as code way script case number old new len = by (int_le kind.least value &&
       → (status ≡ DONE) × (number_of kind.signed reading.number ≡ value) × (reading.char_index ≡ 0)
   told status reading answer e tells = rw e at tells
 
-  by : (b : Bool) → (int_le kind.least value && int_le value kind.greatest) ≡ b → MatchBool b (PrintsBy way script case value old DONE new len) (Refuses 7 old DONE new len)
+  by : (b : Bool) → holds kind value ≡ b → MatchBool b (PrintsBy way script case value old DONE new len) (Refuses 7 old DONE new len)
       → IsUtf8 (take len new)
       × ((status : ℕ) (reading : Reading) → IsReadAs (Some code) (Some way) (take len new) status reading
       → (status ≡ DONE) × (number_of kind.signed reading.number ≡ value) × (reading.char_index ≡ 0))
   by true e h =
-      let back = read-by kind way script case value old new len (whole code) (held-from_tests kind value e) h in (
+      let back = read-by kind way script case value old new len (whole code) e h in (
         back.0,
         λ status reading is.
             let read : ReadsInto kind way (take len new) status reading = rw (is_utf8-from_IsUtf8 (take len new) back.0) at is in

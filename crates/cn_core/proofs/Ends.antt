@@ -1,5 +1,6 @@
 -- A beginning of a spelling has at most its value, even where a last digit counts a tenth of the unit before it.
-use Rattle.std.proofs.Common.{◌≡◌, ℕ, zero, suc, ◌+◌, ◌-◌, ◌*◌, ◌/◌, ◌%◌, ◌^◌, ◌<◌, ◌≤◌, max, Bool, true, false, nat_le, nat_lt, List, [], ◌∷◌, ◌++◌, map, refl, sym, ap, ◌∙◌, arith, if◌then◌else◌}
+use Rattle.std.proofs.Common.{◌≡◌, ℕ, zero, suc, ◌+◌, ◌-◌, ◌*◌, ◌/◌, ◌%◌, ◌^◌, ◌<◌, ◌≤◌, Bool, true, false, nat_lt, List, [], ◌∷◌, ◌++◌, map, refl, sym, ap, ◌∙◌, arith, if◌then◌else◌}
+use Rattle.std.proofs.lemmas.Bool.Decides.{nat_tests}
 use Rattle.std.proofs.Math.Decide.{dec_le}
 use Rattle.std.proofs.Math.Nat.{mul-pos, mul_assoc, mul-le-mul_left, mul-le-mul_right, lt_of_mul-lt-mul_right, div-le_of_le-mul, pow-le-pow_right, le_trans}
 use Rattle.std.proofs.lemmas.Nat.{pow-add}
@@ -20,14 +21,9 @@ weight-more : (method : ChineseCountMethod) (least : ℕ) (marks back : List Mar
 weight-more method least [] back = let p = product-pos method (records_from least back) in omega (arith, p)
 weight-more method least (digit number ∷ marks) back = weight-more method least marks back
 weight-more method least (other ∷ marks) back = weight-more method least marks back
-weight-more method least (unit rank ∷ marks) back = by (nat_le least rank) (weight-more method (max least (rank + 1)) marks back) where
-  factors : List Mark → List ℕ
-  factors l = records_from (max least (rank + 1)) l
-
-  by : (b : Bool) → product (map (scale method) (factors marks)) ≤ product (map (scale method) (factors (marks ++ back)))
-      → product (map (scale method) (if b then rank ∷ factors marks else factors marks)) ≤ product (map (scale method) (if b then rank ∷ factors (marks ++ back) else factors (marks ++ back)))
-  by true h = mul-le-mul_left (scale method rank) h
-  by false h = h
+weight-more method least (unit rank ∷ marks) back =
+    let later = mul-le-mul_left (scale method rank) (weight-more method (rank + 1) marks back) in
+    grind (arith, nat_tests, later, weight-more method least marks back)
 
 value-more : (method : ChineseCountMethod) (marks back : List Mark) → value method marks ≤ value method (marks ++ back)
 value-more method [] back = omega arith

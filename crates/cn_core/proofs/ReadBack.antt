@@ -1,5 +1,5 @@
 -- Every spelling is a numeral of its number.
-use Rattle.std.proofs.Common.{◌≡◌, ℕ, ◌+◌, ◌*◌, ◌/◌, ◌<◌, ◌≤◌, max, Bool, true, false, ◌&&◌, nat_le, nat_lt, List, [], ◌∷◌, map, refl, sym, ap, subst, ◌∙◌, arith, append-nil, if◌then◌else◌}
+use Rattle.std.proofs.Common.{◌≡◌, ℕ, ◌+◌, ◌*◌, ◌/◌, ◌<◌, ◌≤◌, Bool, true, false, ◌&&◌, nat_lt, List, [], ◌∷◌, map, refl, sym, ap, subst, ◌∙◌, arith, append-nil, if◌then◌else◌}
 use Rattle.std.specs.Option.{option_map_or}
 use Rattle.std.specs.List.{list_all}
 use Rattle.std.proofs.lemmas.Bool.Decides.{nat_tests}
@@ -39,14 +39,7 @@ records-above_ten : (rest : List Mark) → list_all is_no_ge rest ≡ true → o
 records-above_ten [] n h = refl
 records-above_ten (digit value ∷ rest) n h = records-above_ten rest n h
 records-above_ten (other ∷ rest) n h = records-above_ten rest n h
-records-above_ten (unit rank ∷ rest) n h =
-    let one : nat_le 1 rank ≡ true = and-left (nat_le 1 rank) _ n in
-    let past : nat_lt rank 1 ≡ false = grind (arith, nat_tests) in
-    let more : nat_lt 1 rank ≡ true = rw past at h in
-    let two : nat_le 2 rank ≡ true = grind (arith, nat_tests) in
-    let none : nat_le 0 rank ≡ true = grind (arith, nat_tests) in
-    let e : max 2 (rank + 1) ≡ max 0 (rank + 1) = grind (arith, nat_tests) in
-    rw (two, none, e)
+records-above_ten (unit rank ∷ rest) n h = grind (arith, nat_tests, n, h)
 
 scale_ten : (method : ChineseCountMethod) → scale method 1 ≡ 10
 scale_ten Low = refl

@@ -1,5 +1,5 @@
 -- What is known of an integer type.
-use Rattle.std.specs.Prelude.{ℕ, ◌-◌, ◌^◌, ℤ, pos, neg_ℤ, ◌≤ℤ◌, int_le, ◌&&◌, Bool, true, false}
+use Rattle.std.specs.Prelude.{ℕ, ◌-◌, ◌^◌, ℤ, pos, neg_ℤ, int_le, ◌&&◌, Bool, true, false}
 
 -- whether the type is signed, and its least and greatest number
 pub record Kind : Type 0 where
@@ -20,10 +20,6 @@ signed_kind bits = record {
 }
 
 -- a type of this kind holds the number
-abbrev pub Holds : Kind → ℤ → Type 0
-Holds kind number = (kind.least ≤ℤ number) × (number ≤ℤ kind.greatest)
-
--- the same, as a test
 abbrev pub holds : Kind → ℤ → Bool
 holds kind number = int_le kind.least number && int_le number kind.greatest
 

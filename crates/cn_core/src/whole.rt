@@ -1,6 +1,6 @@
 ghost use Rattle.std.specs.Prelude.{◌≡◌, ◌↔◌, ◌^◌, ◌<◌, ◌≤◌, ℤ, pos, ◌<ℤ◌, nat_abs, Bool, true, false, IsTrue, IsSome, IfSome};
-ghost use Rattle.cn_core.specs.Whole.{Kind, Holds, signed_number};
-ghost use Rattle.cn_core.specs.WholeLaws.{IsWholeType, zero-held, from-zero, narrow-magnitudes, magnitude-fits};
+ghost use Rattle.cn_core.specs.Whole.{Kind, holds, signed_number};
+ghost use Rattle.cn_core.specs.WholeLaws.{IsWholeType, from-zero, narrow-magnitudes, magnitude-fits};
 
 mod signed;
 mod unsigned;
@@ -49,35 +49,35 @@ pub trait Whole: Copy {
     /// The number without its sign: 128 for `i8::MIN`.
     fn magnitude(self) -> u128
         ensures value { result ≡ nat_abs (number self) }
-        ensures held { Holds kind (number self) };
+        ensures held { IsTrue (holds kind (number self)) };
 
     /// The value with this sign and magnitude; `None` exactly where the type does not hold it.
     ///
     /// A negative 0 is 0.
     fn from_magnitude(negative: bool, magnitude: u128) -> Option<Self>
         ensures value { IfSome result (λ x. number x ≡ signed_number negative magnitude) }
-        ensures held { IsSome result ↔ Holds kind (signed_number negative magnitude) };
+        ensures held { IsSome result ↔ IsTrue (holds kind (signed_number negative magnitude)) };
 
     // The laws: a value is its number, which is its sign and its magnitude.
     ghost same_number: { (x y : Self) → number x ≡ number y → x ≡ y };
 
     // The type holds each number from its least to its greatest.
-    ghost holds_each: { (z : ℤ) → Holds kind z → (x : Self) × (number x ≡ z) };
+    ghost holds_each: { (z : ℤ) → IsTrue (holds kind z) → (x : Self) × (number x ≡ z) };
 
     // What each type shows by computing; the laws below follow from it.
     ghost is_whole: { IsWholeType SIGNED NARROW kind };
 
     ghost signed_is: { kind.signed ≡ SIGNED } = { is_whole.sign };
 
-    ghost holds_zero: { Holds kind (pos 0) } = { zero-held _ _ _ is_whole };
+    ghost holds_zero: { IsTrue (holds kind (pos 0)) } = { is_whole.zero };
 
     ghost unsigned_from_zero: { SIGNED ≡ false → kind.least ≡ pos 0 } = { from-zero _ _ _ is_whole };
 
     // A type is narrow exactly where no magnitude that it holds is above 65535.
-    ghost narrow_is: { NARROW ≡ true
-        ↔ ((z : ℤ) → Holds kind z → nat_abs z ≤ 65535) } = { narrow-magnitudes _ _ _ is_whole };
+    ghost narrow_is: { NARROW ≡ true ↔ ((z : ℤ)
+        → IsTrue (holds kind z) → nat_abs z ≤ 65535) } = { narrow-magnitudes _ _ _ is_whole };
 
     // Each magnitude fits 128 bits.
-    ghost magnitude_fits: { (z : ℤ) → Holds kind z
+    ghost magnitude_fits: { (z : ℤ) → IsTrue (holds kind z)
         → nat_abs z < 2 ^ 128 } = { magnitude-fits _ _ _ is_whole };
 }

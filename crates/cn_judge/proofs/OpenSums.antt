@@ -1,5 +1,5 @@
 -- The three facts of a walk from the right.
-use Rattle.std.proofs.Common.{◌≡◌, ℕ, ◌+◌, ◌*◌, ◌<◌, ◌≤◌, max, Bool, true, false, nat_le, nat_lt, List, [], ◌∷◌, map, take_while, find, refl, sym, ap, ◌∙◌, arith, if◌then◌else◌}
+use Rattle.std.proofs.Common.{◌≡◌, ℕ, ◌+◌, ◌*◌, ◌≤◌, Bool, true, false, nat_le, nat_lt, List, [], ◌∷◌, map, take_while, find, refl, sym, ap, ◌∙◌, arith, if◌then◌else◌}
 use Rattle.std.proofs.lemmas.Bool.Decides.{nat_tests}
 use Rattle.std.proofs.lemmas.List.Sums.{take_while-cons}
 use Rattle.cn_core.specs.declared.method.ChineseCountMethod.{ChineseCountMethod}
@@ -9,8 +9,8 @@ use Rattle.cn_core.specs.Place.{is_below}
 use Rattle.cn_core.specs.Scale.{scale}
 use Rattle.cn_core.specs.Value.{value, product, records_from}
 use Rattle.cn_judge.specs.Private.Walk.{sum_of, opens_of}
-use Rattle.cn_judge.specs.Private.Stack.{StackEntry, all_positive, closed_sum, still_open, total_sum, top_of}
-use Rattle.cn_judge.proofs.Stacks.{closed-grows, total-grows, positive-opens, positive-left}
+use Rattle.cn_judge.specs.Private.Stack.{StackEntry, closed_sum, still_open, total_sum, top_of}
+use Rattle.cn_judge.proofs.Stacks.{total-grows, positive-opens, positive-left}
 use Rattle.cn_core.proofs.OpenUnits.{first_not_smaller-record}
 
 abbrev pub ranks_of : List StackEntry → List ℕ
@@ -21,35 +21,16 @@ abbrev pub from_rank : ℕ → List ℕ → List ℕ
 from_rank limit [] = []
 from_rank limit (rank ∷ ranks) = if nat_lt rank limit then from_rank limit ranks else rank ∷ ranks
 
-pub records-left : (least limit : ℕ) (marks : List Mark) → from_rank limit (records_from least marks) ≡ records_from (max least limit) marks
-records-left least limit [] = refl
-records-left least limit (digit value ∷ rest) = records-left least limit rest
-records-left least limit (other ∷ rest) = records-left least limit rest
-records-left least limit (unit rank ∷ rest) = by (nat_le least rank) (nat_lt rank limit) refl refl (records-left (max least (rank + 1)) limit rest) where
-  by : (a b : Bool) → nat_le least rank ≡ a → nat_lt rank limit ≡ b
-      → from_rank limit (records_from (max least (rank + 1)) rest) ≡ records_from (max (max least (rank + 1)) limit) rest
-      → from_rank limit (if a then rank ∷ records_from (max least (rank + 1)) rest else records_from (max least (rank + 1)) rest)
-      ≡ (if nat_le (max least limit) rank then rank ∷ records_from (max (max least limit) (rank + 1)) rest else records_from (max (max least limit) (rank + 1)) rest)
-  by true true p q ih =
-      let t : nat_le (max least limit) rank ≡ false = grind (arith, nat_tests) in
-      let same : max (max least limit) (rank + 1) ≡ max (max least (rank + 1)) limit = omega arith in
-      rw (q, t, same) ih
-  by true false p q ih =
-      let t : nat_le (max least limit) rank ≡ true = grind (arith, nat_tests) in
-      let same : max (max least limit) (rank + 1) ≡ max least (rank + 1) = grind (arith, nat_tests) in
-      rw (q, t, same)
-  by false b p q ih =
-      let t : nat_le (max least limit) rank ≡ false = grind (arith, nat_tests) in
-      let same : max (max least limit) (rank + 1) ≡ max (max least (rank + 1)) limit = omega arith in
-      rw (t, same) ih
+pub records-left : (least limit : ℕ) (marks : List Mark) → least ≤ limit → from_rank limit (records_from least marks) ≡ records_from limit marks
+records-left least limit [] h = refl
+records-left least limit (digit value ∷ rest) h = records-left least limit rest h
+records-left least limit (other ∷ rest) h = records-left least limit rest h
+records-left least limit (unit rank ∷ rest) h =
+    grind (arith, nat_tests, records-left (rank + 1) limit rest, records-left least limit rest h)
 
 left-ranks : (limit : ℕ) (opens : List StackEntry) → ranks_of (still_open limit opens) ≡ from_rank limit (ranks_of opens)
 left-ranks limit [] = refl
-left-ranks limit (top ∷ opens) = by (nat_lt top.0 limit) (left-ranks limit opens) where
-  by : (b : Bool) → ranks_of (still_open limit opens) ≡ from_rank limit (ranks_of opens)
-      → ranks_of (if b then still_open limit opens else top ∷ opens) ≡ (if b then from_rank limit (ranks_of opens) else top.0 ∷ ranks_of opens)
-  by true ih = ih
-  by false ih = refl
+left-ranks limit (top ∷ opens) = grind (arith, nat_tests, left-ranks limit opens)
 
 -- the open ranks are the record units, nearest first
 pub opens-records : (method : ChineseCountMethod) (marks : List Mark) → ranks_of (opens_of method marks) ≡ records_from 0 marks
@@ -57,9 +38,9 @@ opens-records method [] = refl
 opens-records method (digit value ∷ rest) = opens-records method rest
 opens-records method (other ∷ rest) = opens-records method rest
 opens-records method (unit rank ∷ rest) =
-    let test : nat_le 0 rank ≡ true = grind (arith, nat_tests) in
-    rw test (ap (λ ranks. rank ∷ ranks)
-    (left-ranks (rank + 1) (opens_of method rest) ∙ ap (from_rank (rank + 1)) (opens-records method rest) ∙ records-left 0 (rank + 1) rest))
+    ap (λ ranks. rank ∷ ranks)
+    (left-ranks (rank + 1) (opens_of method rest) ∙ ap (from_rank (rank + 1)) (opens-records method rest) ∙ records-left 0 (rank + 1) rest (omega arith))
+    ∙ grind (arith, nat_tests)
 
 -- each open unit has its scale
 abbrev pub AreScaled : ChineseCountMethod → List StackEntry → Type 0
@@ -90,13 +71,7 @@ total-add method (top ∷ opens) sum more h =
 
 total-closed : (limit : ℕ) (opens : List StackEntry) (sum : ℕ) → total_sum (closed_sum limit sum opens) (still_open limit opens) ≡ total_sum sum opens
 total-closed limit [] sum = refl
-total-closed limit (top ∷ opens) sum = by (nat_lt top.0 limit) (total-closed limit opens (sum * top.1 + top.2)) where
-  by : (b : Bool)
-      → total_sum (closed_sum limit (sum * top.1 + top.2) opens) (still_open limit opens) ≡ total_sum (sum * top.1 + top.2) opens
-      → total_sum (if b then closed_sum limit (sum * top.1 + top.2) opens else sum) (if b then still_open limit opens else top ∷ opens)
-      ≡ total_sum (sum * top.1 + top.2) opens
-  by true ih = ih
-  by false ih = refl
+total-closed limit (top ∷ opens) sum = grind (arith, nat_tests, total-closed limit opens (sum * top.1 + top.2))
 
 -- closing all gives the value
 pub total-value : (method : ChineseCountMethod) (marks : List Mark) → total_sum (sum_of marks) (opens_of method marks) ≡ value method marks
@@ -114,13 +89,7 @@ total-value method (unit rank ∷ rest) =
 closed-closed : (low high : ℕ) (opens : List StackEntry) (sum : ℕ) → low ≤ high
     → closed_sum high (closed_sum low sum opens) (still_open low opens) ≡ closed_sum high sum opens
 closed-closed low high [] sum h = refl
-closed-closed low high (top ∷ opens) sum h = by (nat_lt top.0 low) refl (closed-closed low high opens (sum * top.1 + top.2) h) where
-  by : (b : Bool) → nat_lt top.0 low ≡ b
-      → closed_sum high (closed_sum low (sum * top.1 + top.2) opens) (still_open low opens) ≡ closed_sum high (sum * top.1 + top.2) opens
-      → closed_sum high (if b then closed_sum low (sum * top.1 + top.2) opens else sum) (if b then still_open low opens else top ∷ opens)
-      ≡ (if nat_lt top.0 high then closed_sum high (sum * top.1 + top.2) opens else sum)
-  by true e ih = let t : nat_lt top.0 high ≡ true = grind (arith, nat_tests) in rw t ih
-  by false e ih = refl
+closed-closed low high (top ∷ opens) sum h = grind (arith, nat_tests, closed-closed low high opens (sum * top.1 + top.2) h)
 
 -- what stands before the first unit that is not smaller
 abbrev pub group : ℕ → List Mark → List Mark
@@ -140,14 +109,8 @@ records-group : (least limit : ℕ) (marks : List Mark) → least ≤ limit → 
 records-group least limit [] h = refl
 records-group least limit (digit value ∷ rest) h = records-group least limit rest h
 records-group least limit (other ∷ rest) h = records-group least limit rest h
-records-group least limit (unit rank ∷ rest) h = by (nat_le least rank) (nat_lt rank limit) refl refl (records-group (max least (rank + 1)) limit rest) where
-  by : (a b : Bool) → nat_le least rank ≡ a → nat_lt rank limit ≡ b
-      → (max least (rank + 1) ≤ limit → records_from (max least (rank + 1)) (group limit rest) ≡ below_rank limit (records_from (max least (rank + 1)) rest))
-      → records_from least (if b then unit rank ∷ group limit rest else []) ≡ below_rank limit (if a then rank ∷ records_from (max least (rank + 1)) rest else records_from (max least (rank + 1)) rest)
-  by true true p q ih = let m : max least (rank + 1) ≤ limit = grind (arith, nat_tests) in rw (p, q, ih m)
-  by false true p q ih = let m : max least (rank + 1) ≤ limit = grind (arith, nat_tests) in rw (p, ih m)
-  by true false p q ih = rw q
-  by false false p q ih = absurd (let m : rank < least = grind (arith, nat_tests) in let n : limit ≤ rank = grind (arith, nat_tests) in omega (arith, m, n, h))
+records-group least limit (unit rank ∷ rest) h =
+    grind (arith, nat_tests, records-group (rank + 1) limit rest, records-group least limit rest h)
 
 closed-add : (method : ChineseCountMethod) (limit : ℕ) (opens : List StackEntry) (sum more : ℕ) → AreScaled method opens
     → closed_sum limit (sum + more) opens ≡ closed_sum limit sum opens + more * product (map (scale method) (below_rank limit (ranks_of opens)))

@@ -1,5 +1,5 @@
 -- What the digits of a regular numeral count: the power of ten of its section, and that of the open units.
-use Rattle.std.proofs.Common.{◌≡◌, ℕ, suc, ◌+◌, ◌*◌, ◌^◌, ◌<◌, ◌≤◌, max, Bool, true, false, ◌==◌, nat_le, nat_lt, List, [], ◌∷◌, length, map, find, refl, sym, ap, ◌∙◌, arith, if◌then◌else◌}
+use Rattle.std.proofs.Common.{◌≡◌, ℕ, suc, ◌+◌, ◌*◌, ◌^◌, ◌<◌, ◌≤◌, Bool, true, false, ◌==◌, nat_le, nat_lt, List, [], ◌∷◌, length, map, find, refl, sym, ap, ◌∙◌, arith, if◌then◌else◌}
 use Rattle.std.specs.Option.{option_map_or}
 use Rattle.std.proofs.lemmas.Bool.Decides.{nat_tests}
 use Rattle.std.proofs.lemmas.Nat.{pow-add}
@@ -78,68 +78,44 @@ first-groups method rank (next ∷ ranks) = refl
 pub first-strict : (rank : ℕ) (ranks : List ℕ)
     → option_map_or (λ next. nat_lt rank next) (find (λ next. nat_le rank next) ranks) true ≡ is_first rank (from_rank rank ranks)
 first-strict rank [] = refl
-first-strict rank (next ∷ ranks) = by (nat_lt next rank) refl (first-strict rank ranks) where
-  by : (b : Bool) → nat_lt next rank ≡ b
-      → option_map_or (λ next. nat_lt rank next) (find (λ next. nat_le rank next) ranks) true ≡ is_first rank (from_rank rank ranks)
-      → option_map_or (λ next. nat_lt rank next) (find (λ next. nat_le rank next) (next ∷ ranks)) true ≡ is_first rank (if b then from_rank rank ranks else next ∷ ranks)
-  by true e ih = let t : nat_le rank next ≡ false = grind (arith, nat_tests) in rw t ih
-  by false e ih = let t : nat_le rank next ≡ true = grind (arith, nat_tests) in rw t refl
+first-strict rank (next ∷ ranks) = grind (arith, nat_tests, first-strict rank ranks)
 
 pub first-left : (rank : ℕ) (ranks : List ℕ) → is_first rank ranks ≡ true → from_rank rank ranks ≡ ranks
 first-left rank [] h = refl
-first-left rank (next ∷ ranks) h = let t : nat_lt next rank ≡ false = grind (arith, nat_tests) in rw t
+first-left rank (next ∷ ranks) h = grind (arith, nat_tests, h)
 
 pub next-left : (rank : ℕ) (ranks : List ℕ) → is_first rank (from_rank rank ranks) ≡ true → from_rank (rank + 1) ranks ≡ from_rank rank ranks
 next-left rank [] h = refl
-next-left rank (next ∷ ranks) h = by (nat_lt next rank) refl h (next-left rank ranks) where
-  by : (b : Bool) → nat_lt next rank ≡ b → is_first rank (if b then from_rank rank ranks else next ∷ ranks) ≡ true
-      → (is_first rank (from_rank rank ranks) ≡ true → from_rank (rank + 1) ranks ≡ from_rank rank ranks)
-      → (if nat_lt next (rank + 1) then from_rank (rank + 1) ranks else next ∷ ranks) ≡ (if b then from_rank rank ranks else next ∷ ranks)
-  by true e h ih = let t : nat_lt next (rank + 1) ≡ true = grind (arith, nat_tests) in rw t (ih h)
-  by false e h ih = let t : nat_lt next (rank + 1) ≡ false = grind (arith, nat_tests) in rw t
+next-left rank (next ∷ ranks) h = grind (arith, nat_tests, h, next-left rank ranks)
 
 pub last-left : (rank last : ℕ) (ranks : List ℕ) → last < rank → from_rank rank (with_last last ranks) ≡ from_rank rank ranks
-last-left rank last ranks low = by (last == 0) where
-  by : (b : Bool) → from_rank rank (if b then ranks else last ∷ ranks) ≡ from_rank rank ranks
-  by true = refl
-  by false = let t : nat_lt last rank ≡ true = grind (arith, nat_tests) in rw t
+last-left rank last ranks low = grind (arith, nat_tests)
 
 -- the records from a rank on are greater than what is below it
 pub records-first : (rank least : ℕ) (marks : List Mark) → rank < least → is_first rank (records_from least marks) ≡ true
 records-first rank least [] h = refl
 records-first rank least (digit value ∷ rest) h = records-first rank least rest h
 records-first rank least (other ∷ rest) h = records-first rank least rest h
-records-first rank least (unit next ∷ rest) h = by (nat_le least next) refl (records-first rank (max least (next + 1)) rest (omega (arith, h))) where
-  by : (b : Bool) → nat_le least next ≡ b → is_first rank (records_from (max least (next + 1)) rest) ≡ true
-      → is_first rank (if b then next ∷ records_from (max least (next + 1)) rest else records_from (max least (next + 1)) rest) ≡ true
-  by true e ih = let low : least ≤ next = grind (arith, nat_tests) in test rank next (omega (arith, h, low)) where
-    test : (a b : ℕ) → a < b → nat_lt a b ≡ true
-    test a b h = grind (arith, nat_tests)
-  by false e ih = ih
+records-first rank least (unit next ∷ rest) h = grind (arith, nat_tests, records-first rank least rest h)
 
 -- the records with one more unit
 pub records-unit : (rank : ℕ) (marks : List Mark) → records_from 0 (unit rank ∷ marks) ≡ rank ∷ records_from (rank + 1) marks
-records-unit rank marks =
-    let t : nat_le 0 rank ≡ true = grind (arith, nat_tests) in
-    let m : max 0 (rank + 1) ≡ rank + 1 = omega arith in rw (t, m)
+records-unit rank marks = grind (arith, nat_tests)
 
 pub records-great : (least rank : ℕ) (marks : List Mark) → least ≤ rank → records_from least (unit rank ∷ marks) ≡ rank ∷ records_from (rank + 1) marks
-records-great least rank marks h =
-    let t : nat_le least rank ≡ true = grind (arith, nat_tests) in
-    let m : max least (rank + 1) ≡ rank + 1 = omega (arith, h) in rw (t, m)
+records-great least rank marks h = grind (arith, nat_tests)
 
 pub records-small : (least rank : ℕ) (marks : List Mark) → rank < least → records_from least (unit rank ∷ marks) ≡ records_from least marks
-records-small least rank marks h =
-    let t : nat_le least rank ≡ false = grind (arith, nat_tests) in
-    let m : max least (rank + 1) ≡ least = omega (arith, h) in rw (t, m)
+records-small least rank marks h = grind (arith, nat_tests)
 
 -- and the records above a unit
 pub records-above : (least rank last : ℕ) (marks : List Mark) → records_from 0 marks ≡ with_last last (records_from least marks) → last < rank + 1
     → records_from (rank + 1) marks ≡ from_rank (rank + 1) (records_from least marks)
 records-above least rank last marks records low =
-    let m : max 0 (rank + 1) ≡ rank + 1 = omega arith in
-    let left = rw m at (records-left 0 (rank + 1) marks) in
-    sym left ∙ ap (from_rank (rank + 1)) records ∙ last-left (rank + 1) last (records_from least marks) low
+    sym (records-left 0 (rank + 1) marks (omega arith)) ∙ ap (from_rank (rank + 1)) records ∙ last-left (rank + 1) last (records_from least marks) low
 
 pub records-above_small : (least rank : ℕ) (marks : List Mark) → rank < least → from_rank (rank + 1) (records_from least marks) ≡ records_from least marks
-records-above_small least rank marks low = let m : max least (rank + 1) ≡ least = omega (arith, low) in rw m at (records-left least (rank + 1) marks)
+records-above_small least rank marks low =
+    let first = records-first rank least marks low in
+    let same = first-left rank (records_from least marks) first in
+    next-left rank (records_from least marks) (ap (is_first rank) same ∙ first) ∙ same

@@ -1,5 +1,5 @@
 -- The rule on the last mark, over the answer to the list without it.
-use Rattle.std.proofs.Common.{◌≡◌, ℕ, ◌+◌, ◌-◌, ◌*◌, ◌/◌, ◌^◌, ◌<◌, max, Bool, true, false, not, ◌&&◌, ◌||◌, nat_le, nat_lt, ◌==◌, List, [], ◌∷◌, ◌++◌, length, length-append, reverse, take, Some, Result, Ok, Err, is_ok, refl, sym, ap, ◌∙◌, arith, if◌then◌else◌}
+use Rattle.std.proofs.Common.{◌≡◌, ℕ, ◌+◌, ◌-◌, ◌*◌, ◌/◌, ◌^◌, ◌<◌, Bool, true, false, not, ◌&&◌, ◌||◌, nat_le, nat_lt, ◌==◌, List, [], ◌∷◌, ◌++◌, length, length-append, reverse, take, Some, Result, Ok, Err, is_ok, refl, sym, ap, ap₂, ◌∙◌, arith, if◌then◌else◌}
 use Rattle.std.specs.Option.{option_map_or}
 use Rattle.std.proofs.lemmas.Bool.Decides.{nat_tests}
 use Rattle.std.proofs.lemmas.List.{length-reverse, reverse-append}
@@ -44,7 +44,7 @@ records-tail : (least : ℕ) (xs : List Mark) (r d : ℕ) → records_from least
 records-tail least [] r d = refl
 records-tail least (digit n ∷ xs) r d = records-tail least xs r d
 records-tail least (other ∷ xs) r d = records-tail least xs r d
-records-tail least (unit k ∷ xs) r d = ap (λ later. if nat_le least k then k ∷ later else later) (records-tail (max least (k + 1)) xs r d)
+records-tail least (unit k ∷ xs) r d = ap₂ (λ later same. if nat_le least k then k ∷ later else same) (records-tail (k + 1) xs r d) (records-tail least xs r d)
 
 colloquial-tail : (method : ChineseCountMethod) (xs : List Mark) (r d : ℕ) → nat_lt r 2 ≡ false
     → colloquial_value method (xs ++ unit r ∷ digit d ∷ []) ≡ value method (xs ++ unit r ∷ []) + d * scale method r / 10

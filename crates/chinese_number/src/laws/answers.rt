@@ -1,5 +1,5 @@
 // Which answer a string has.
-ghost use Rattle.std.specs.Prelude.{◌≡◌, ◌↔◌, ℕ, ℤ, false, List, Result, Ok};
+ghost use Rattle.std.specs.Prelude.{◌≡◌, ◌↔◌, ℕ, ℤ, false, List, Result, Ok, IsTrue};
 ghost use Rattle.chinese_number.specs.Parts.{sign_at, unsigned_text};
 ghost use Rattle.cn_core.specs.Judge.{Judges};
 ghost use Rattle.cn_core.specs.Judging.{judge};
@@ -10,7 +10,7 @@ ghost use Rattle.cn_core.specs.Refusal.{Refusal};
 ghost use Rattle.cn_core.specs.Text.{marks_of};
 ghost use Rattle.cn_core.specs.Reading.{Reads, is_minus};
 ghost use Rattle.cn_core.specs.Value.{numeral_value};
-ghost use Rattle.cn_core.specs.Whole.{signed_number, Kind, Holds};
+ghost use Rattle.cn_core.specs.Whole.{signed_number, Kind, holds};
 ghost use Rattle.cn_core.specs.declared.method.ChineseCountMethod.{ChineseCountMethod};
 
 use cn_core::Whole;
@@ -54,5 +54,5 @@ pub fn numerals_alone_are_read<T: Whole>()
         Reads T.kind method bytes (Ok number)
         ↔ (IsNumeral marks × (some_unfit method marks ≡ false)
         × (signed_number (is_minus (sign_at T.kind bytes)) (numeral_value method marks) ≡ number)
-        × Holds T.kind number) }
+        × IsTrue (holds T.kind number)) }
 {}

@@ -7,7 +7,7 @@ ghost use Rattle.cn_core.specs.Characters.{digit_of};
 ghost use Rattle.cn_core.specs.Naive.{decimal_value};
 ghost use Rattle.cn_core.specs.Text.{text_of, marks_of};
 ghost use Rattle.cn_core.specs.Reading.{naive_reading, is_minus};
-ghost use Rattle.cn_core.specs.Whole.{signed_number, Kind, Holds};
+ghost use Rattle.cn_core.specs.Whole.{signed_number, Kind, holds};
 ghost use Rattle.cn_core.specs.Printing.{naive_text};
 ghost use Rattle.cn_core.specs.declared.case.ChineseCase.{ChineseCase};
 ghost use Rattle.cn_core.specs.declared.script.ChineseVariant.{ChineseVariant};
@@ -26,7 +26,7 @@ pub fn digits_alone_are_read<T: Whole>()
         (naive_reading T.kind bytes ≡ Ok number)
         ↔ ((0 < length marks) × IsTrue (list_all is_digit marks)
         × (signed_number (is_minus (sign_at T.kind bytes)) (decimal_value marks) ≡ number)
-        × Holds T.kind number) }
+        × IsTrue (holds T.kind number)) }
 {}
 
 /// Plain digits are read back: what is printed of a number, in any script and case, is answered by
@@ -34,7 +34,8 @@ pub fn digits_alone_are_read<T: Whole>()
 ///
 /// For dates and serial numbers, which are read digit by digit: 2025 is 二零二五.
 pub fn naive_texts_read_back<T: Whole>()
-    ensures { (variant : ChineseVariant) (case : ChineseCase) (number : ℤ) → Holds T.kind number
+    ensures { (variant : ChineseVariant) (case : ChineseCase) (number : ℤ)
+        → IsTrue (holds T.kind number)
         → naive_reading T.kind (encode_utf8_all (naive_text variant case number)) ≡ Ok number }
 {}
 

@@ -6,7 +6,7 @@ ghost use Rattle.cn_core.specs.Refusal.{Refusal};
 ghost use Rattle.cn_core.specs.Spelling.{spelling};
 ghost use Rattle.cn_core.specs.Reading.{Reads, naive_reading};
 ghost use Rattle.cn_core.specs.Value.{numeral_value};
-ghost use Rattle.cn_core.specs.Whole.{Holds};
+ghost use Rattle.cn_core.specs.Whole.{holds};
 ghost use Rattle.cn_core.specs.Printing.{naive_text, spelled_text, is_printable};
 ghost use Rattle.cn_core.specs.declared.case.ChineseCase.{ChineseCase};
 ghost use Rattle.cn_core.specs.declared.method.ChineseCountMethod.{ChineseCountMethod};
@@ -21,7 +21,7 @@ use cn_core::Whole;
 /// 一百一十 by each method.
 pub fn spellings_are_numerals<T: Whole>()
     ensures { (method : ChineseCountMethod) (number : ℤ)
-        → Holds T.kind number → IsTrue (is_printable method number)
+        → IsTrue (holds T.kind number) → IsTrue (is_printable method number)
         → IsNumeral (spelling method (nat_abs number))
         × (numeral_value method (spelling method (nat_abs number)) ≡ nat_abs number) }
 {}
@@ -33,8 +33,8 @@ pub fn spellings_are_numerals<T: Whole>()
 /// and that reads as 1,280,500 and as nothing else.
 pub fn spellings_read_back<T: Whole>()
     ensures { (variant : ChineseVariant) (case : ChineseCase) (method : ChineseCountMethod)
-        (number : ℤ)
-        → Holds T.kind number → IsTrue (is_printable method number) → (answer : Result ℤ Refusal)
+        (number : ℤ) → IsTrue (holds T.kind number) → IsTrue (is_printable method number)
+        → (answer : Result ℤ Refusal)
         → Reads T.kind method (encode_utf8_all (spelled_text variant case method number)) answer
         ↔ (answer ≡ Ok number) }
 {}
@@ -45,12 +45,12 @@ pub fn spellings_read_back<T: Whole>()
 /// For amounts on cheques and invoices: no two amounts look alike.
 pub fn one_text_for_each_number<T: Whole>()
     ensures units { (variant : ChineseVariant) (case : ChineseCase) (method : ChineseCountMethod)
-        (one other : ℤ) → Holds T.kind one → Holds T.kind other
+        (one other : ℤ) → IsTrue (holds T.kind one) → IsTrue (holds T.kind other)
         → IsTrue (is_printable method one) → IsTrue (is_printable method other)
         → (encode_utf8_all (spelled_text variant case method one)
         ≡ encode_utf8_all (spelled_text variant case method other)) ↔ (one ≡ other) }
     ensures digits { (variant : ChineseVariant) (case : ChineseCase) (one other : ℤ)
-        → Holds T.kind one → Holds T.kind other
+        → IsTrue (holds T.kind one) → IsTrue (holds T.kind other)
         → (encode_utf8_all (naive_text variant case one)
         ≡ encode_utf8_all (naive_text variant case other)) ↔ (one ≡ other) }
 {}
@@ -75,12 +75,12 @@ pub fn reading_then_printing_is_idempotent<T: Whole>()
 /// of no fault at 負一, 負一百 or 負一百二.
 pub fn beginnings_are_read<T: Whole>()
     ensures units { (variant : ChineseVariant) (case : ChineseCase) (method : ChineseCountMethod)
-        (number : ℤ) (count : ℕ) → Holds T.kind number → IsTrue (is_printable method number)
-        → let text = spelled_text variant case method number in
-        sign_length T.kind (encode_utf8_all text) < count
+        (number : ℤ) (count : ℕ) → IsTrue (holds T.kind number)
+        → IsTrue (is_printable method number) → let text = spelled_text variant case method number
+        in sign_length T.kind (encode_utf8_all text) < count
         → (beginning : ℤ) × Reads T.kind method (encode_utf8_all (take count text)) (Ok beginning) }
     ensures digits { (variant : ChineseVariant) (case : ChineseCase) (number : ℤ) (count : ℕ)
-        → Holds T.kind number → let digits = naive_text variant case number in
+        → IsTrue (holds T.kind number) → let digits = naive_text variant case number in
         sign_length T.kind (encode_utf8_all digits) < count
         → (beginning : ℤ)
         × (naive_reading T.kind (encode_utf8_all (take count digits)) ≡ Ok beginning) }

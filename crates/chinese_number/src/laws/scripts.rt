@@ -2,7 +2,7 @@
 ghost use Rattle.std.specs.Prelude.{◌≡◌, ◌↔◌, ℤ, Result, IsTrue, length, encode_utf8_all};
 ghost use Rattle.cn_core.specs.Refusal.{Refusal};
 ghost use Rattle.cn_core.specs.Reading.{Reads, naive_reading};
-ghost use Rattle.cn_core.specs.Whole.{Holds};
+ghost use Rattle.cn_core.specs.Whole.{holds};
 ghost use Rattle.cn_core.specs.Printing.{naive_text, spelled_text, is_printable};
 ghost use Rattle.cn_core.specs.declared.case.ChineseCase.{ChineseCase};
 ghost use Rattle.cn_core.specs.declared.method.ChineseCountMethod.{ChineseCountMethod};
@@ -29,11 +29,12 @@ pub fn texts_of_a_number_are_equally_long()
 pub fn texts_of_a_number_read_alike<T: Whole>()
     ensures units { (one other : ChineseVariant) (first second : ChineseCase)
         (method : ChineseCountMethod) (number : ℤ)
-        → Holds T.kind number → IsTrue (is_printable method number) → (answer : Result ℤ Refusal)
+        → IsTrue (holds T.kind number) → IsTrue (is_printable method number)
+        → (answer : Result ℤ Refusal)
         → Reads T.kind method (encode_utf8_all (spelled_text one first method number)) answer
         ↔ Reads T.kind method (encode_utf8_all (spelled_text other second method number)) answer }
     ensures digits { (one other : ChineseVariant) (first second : ChineseCase) (number : ℤ)
-        → Holds T.kind number
+        → IsTrue (holds T.kind number)
         → naive_reading T.kind (encode_utf8_all (naive_text one first number))
         ≡ naive_reading T.kind (encode_utf8_all (naive_text other second number)) }
 {}

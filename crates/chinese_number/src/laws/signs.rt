@@ -7,7 +7,7 @@ ghost use Rattle.cn_core.specs.Refusal.{Refusal};
 ghost use Rattle.cn_core.specs.Text.{text_of, marks_of};
 ghost use Rattle.cn_core.specs.Reading.{Reads, is_minus};
 ghost use Rattle.cn_core.specs.Value.{numeral_value};
-ghost use Rattle.cn_core.specs.Whole.{signed_number, Holds};
+ghost use Rattle.cn_core.specs.Whole.{signed_number, holds};
 ghost use Rattle.cn_core.specs.declared.method.ChineseCountMethod.{ChineseCountMethod};
 ghost use Rattle.cn_core.specs.declared.sign.Sign.TheVariants.{Minus};
 ghost use Rattle.cn_core.specs.declared.sign.Sign.{Sign};
@@ -23,7 +23,7 @@ pub fn a_sign_gives_the_signed_value<T: Whole>()
         → IsTrue T.SIGNED → text_of bytes ≡ character ∷ rest → sign_of character ≡ Some sign
         → IsNumeral (marks_of rest) → some_unfit method (marks_of rest) ≡ false
         → let number = signed_number (is_minus (Some sign)) (numeral_value method (marks_of rest)) in
-        Holds T.kind number
+        IsTrue (holds T.kind number)
         → (answer : Result ℤ Refusal) → Reads T.kind method bytes answer ↔ (answer ≡ Ok number) }
 {}
 

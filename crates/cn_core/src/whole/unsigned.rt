@@ -40,7 +40,7 @@ impl Whole for u8 {
 
     ghost same_number = { pos_same };
 
-    ghost holds_each = { λ z h. unsigned_holds z h.0 };
+    ghost holds_each = { unsigned_holds 8 };
 
     ghost is_whole = { record { sign = refl; zero = refl; low = refl; width = refl; fits = refl } };
 }
@@ -80,7 +80,7 @@ impl Whole for u16 {
 
     ghost same_number = { pos_same };
 
-    ghost holds_each = { λ z h. unsigned_holds z h.0 };
+    ghost holds_each = { unsigned_holds 16 };
 
     ghost is_whole = { record { sign = refl; zero = refl; low = refl; width = refl; fits = refl } };
 }
@@ -120,7 +120,7 @@ impl Whole for u32 {
 
     ghost same_number = { pos_same };
 
-    ghost holds_each = { λ z h. unsigned_holds z h.0 };
+    ghost holds_each = { unsigned_holds 32 };
 
     ghost is_whole = { record { sign = refl; zero = refl; low = refl; width = refl; fits = refl } };
 }
@@ -160,7 +160,7 @@ impl Whole for u64 {
 
     ghost same_number = { pos_same };
 
-    ghost holds_each = { λ z h. unsigned_holds z h.0 };
+    ghost holds_each = { unsigned_holds 64 };
 
     ghost is_whole = { record { sign = refl; zero = refl; low = refl; width = refl; fits = refl } };
 }
@@ -200,7 +200,7 @@ impl Whole for usize {
 
     ghost same_number = { pos_same };
 
-    ghost holds_each = { λ z h. unsigned_holds z h.0 };
+    ghost holds_each = { unsigned_holds 64 };
 
     ghost is_whole = { record { sign = refl; zero = refl; low = refl; width = refl; fits = refl } };
 }

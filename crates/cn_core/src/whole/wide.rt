@@ -44,7 +44,7 @@ impl Whole for u128 {
 
     ghost same_number = { pos_same };
 
-    ghost holds_each = { λ z h. unsigned_holds z h.0 };
+    ghost holds_each = { unsigned_holds 128 };
 
     ghost is_whole = { record { sign = refl; zero = refl; low = refl; width = refl; fits = refl } };
 }

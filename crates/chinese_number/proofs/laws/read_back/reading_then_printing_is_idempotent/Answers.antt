@@ -1,6 +1,6 @@
 use Rattle.std.proofs.Common.{encode_utf8_all, Ok}
 use Rattle.cn_core.specs.Printing.{spelled_text}
-use Rattle.chinese_number.proofs.Reading.{IsWhole-laws, Holds-answered, Reads-spelled, Reads-only}
+use Rattle.chinese_number.proofs.Reading.{IsWhole-laws, held-answered, Reads-spelled, Reads-only}
 use Rattle.chinese_number.proofs.laws.read_back.reading_then_printing_is_idempotent.Goals as goal
 
 pub returns : goal.returns
@@ -8,4 +8,4 @@ returns g c = λ variant case method bytes number is printable answer.
     let laws = g.met.T.Whole in
     let whole = IsWhole-laws g.T.Whole.kind g.T.Whole.SIGNED laws.signed_is laws.unsigned_from_zero laws.magnitude_fits in
     Reads-only g.T.Whole.kind method (encode_utf8_all (spelled_text variant case method number)) answer (Ok number)
-    (Reads-spelled g.T.Whole.kind method variant case number whole (Holds-answered g.T.Whole.kind method bytes number is) printable)
+    (Reads-spelled g.T.Whole.kind method variant case number whole (held-answered g.T.Whole.kind method bytes number is) printable)
