@@ -1,64 +1,47 @@
 // Long texts: they are made here, since no page would hold them.
-use crate::calls::read_u128;
+use crate::calls::{Answer, read_u128, reads};
 use chinese_number::ChineseCountMethod::{Low, TenThousand};
 use chinese_number::ChineseToNumberError::{ChineseNumberEmpty, ChineseNumberIncorrect, Overflow};
 use std::alloc::{AllocError, Global};
 use std::test::Fail;
 
-// A text many times over, below 2^24 times: by doubling it.
-fn repeated(alloc: Global, text: &str, times: u32) -> Result<String, AllocError> {
-    let mut long = String::new(alloc);
-    let mut piece = String::from_str(alloc, text)?;
-    for bit in 0u32..24 {
-        if times >> bit & 1 == 1 {
-            long.push_str(piece.as_str())?;
-        }
-        if times >> bit > 1 {
-            let same = piece.clone()?;
-            piece.push_str(same.as_str())?;
-        }
-    }
-    Ok(long)
-}
+// What stands before and behind so many 零, and the answer.
+static ZEROS: [(&str, usize, &str, Answer<u128>); 5] = [
+    ("一百", 5_000, "五", Ok(105)),
+    ("", 5_000, "二", Ok(2)),
+    (
+        "五",
+        5_000,
+        "",
+        Err(ChineseNumberIncorrect { char_index: 0 }),
+    ),
+    ("一百", 50_000, "五", Ok(105)),
+    ("", 10_000_000, "", Ok(0)),
+];
 
 #[test]
 fn zeros_without_end(rt: HostRuntime) -> Result<(), Fail> {
-    let alloc = rt.alloc();
-    for (first, zeros, last, answer) in [
-        ("一百", 5_000, "五", Ok(105)),
-        ("", 5_000, "二", Ok(2)),
-        (
-            "五",
-            5_000,
-            "",
-            Err(ChineseNumberIncorrect { char_index: 0 }),
-        ),
-        ("一百", 50_000, "五", Ok(105)),
-        ("", 10_000_000, "", Ok(0)),
-    ] {
-        let mut text = String::from_str(alloc, first)?;
-        text.push_str(repeated(alloc, "零", zeros)?.as_str())?;
-        text.push_str(last)?;
-        assert_eq!(rt; read_u128(TenThousand, text.as_str()), answer, "{zeros}");
+    for (first, times, last, answer) in &ZEROS {
+        let zeros = "零".repeat(rt.alloc(), *times)?;
+        let text = format!(in rt.alloc(); "{first}{zeros}{last}")?;
+        reads(&rt, first, read_u128(TenThousand, text.as_str()), answer);
     }
     Ok(())
 }
 
 #[test]
 fn white_space_without_end(rt: HostRuntime) -> Result<(), Fail> {
-    let alloc = rt.alloc();
-    let white = repeated(alloc, "\u{3000}", 1_000)?;
-    let mut text = white.clone()?;
-    for character in ["二", "十", "十"] {
-        text.push_str(character)?;
-        text.push_str(white.as_str())?;
-    }
-    let incorrect = Err(ChineseNumberIncorrect { char_index: 2001 });
-    assert_eq!(rt; read_u128(TenThousand, text.as_str()), incorrect);
-    assert_eq!(rt;
-        read_u128(TenThousand, white.as_str()),
-        Err(ChineseNumberEmpty)
+    let white = "\u{3000}".repeat(rt.alloc(), 1_000)?;
+    let text = format!(in rt.alloc(); "{white}二{white}十{white}十{white}")?;
+    let answer = read_u128(TenThousand, text.as_str());
+    reads(
+        &rt,
+        "二十十",
+        answer,
+        &Err(ChineseNumberIncorrect { char_index: 2001 }),
     );
+    let answer = read_u128(TenThousand, white.as_str());
+    reads(&rt, "", answer, &Err(ChineseNumberEmpty));
     Ok(())
 }
 
@@ -66,36 +49,28 @@ fn white_space_without_end(rt: HostRuntime) -> Result<(), Fail> {
 fn chain(alloc: Global, first: &str, units: &str) -> Result<String, AllocError> {
     let mut text = String::from_str(alloc, first)?;
     for unit in units.chars() {
-        let before = text.clone()?;
-        text.push(unit)?;
-        text.push_str(before.as_str())?;
+        text = format!(in alloc; "{text}{unit}{text}")?;
     }
     Ok(text)
 }
 
+// A chain from 一十 to 垓.
+const TO_GAI: u128 = 10 * 101 * 1_001 * 10_001 * 100_001 * 1_000_001 * 10_000_001 * 100_000_001;
+
+// What a chain starts with, its units, how many characters it has, and the answer.
+static CHAINS: [(&str, &str, usize, Answer<u128>); 4] = [
+    ("一十", "百", 5, Ok(1010)),
+    ("一十", "百千萬億兆京垓", 383, Ok(TO_GAI)),
+    ("一十", "百千萬億兆京垓秭", 767, Err(Overflow)),
+    ("零十", "百千萬億兆京垓秭穰溝澗正載極", 49_151, Ok(0)),
+];
+
 #[test]
 fn chains(rt: HostRuntime) -> Result<(), Fail> {
-    let alloc = rt.alloc();
-    let eight: u128 = [
-        101u128,
-        1_001,
-        10_001,
-        100_001,
-        1_000_001,
-        10_000_001,
-        100_000_001,
-    ]
-    .iter()
-    .fold(10, |product, factor| product.wrapping_mul(*factor));
-    for (first, units, characters, answer) in [
-        ("一十", "百", 5, Ok(1010)),
-        ("一十", "百千萬億兆京垓", 383, Ok(eight)),
-        ("一十", "百千萬億兆京垓秭", 767, Err(Overflow)),
-        ("零十", "百千萬億兆京垓秭穰溝澗正載極", 49_151, Ok(0)),
-    ] {
-        let text = chain(alloc, first, units)?;
-        assert_eq!(rt; text.as_str().chars().count(), characters);
-        assert_eq!(rt; read_u128(Low, text.as_str()), answer, "{units}");
+    for (first, units, characters, answer) in &CHAINS {
+        let text = chain(rt.alloc(), first, units)?;
+        assert_eq!(rt; text.as_str().chars().count(), *characters);
+        reads(&rt, units, read_u128(Low, text.as_str()), answer);
     }
     Ok(())
 }

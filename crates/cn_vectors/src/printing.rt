@@ -12,7 +12,6 @@ use chinese_number::{
     from_u128_to_chinese_low,
 };
 use std::process::Abort;
-use std::test::Fail;
 
 // The least `i128` by `TenThousand`.
 pub const LEAST: &str =
@@ -212,11 +211,10 @@ static LENGTHS: [(ChineseCountMethod, i128, usize); 6] = [
 ];
 
 #[test]
-fn three_bytes_for_each_character(rt: HostRuntime) -> Result<(), Fail> {
+fn three_bytes_for_each_character(rt: HostRuntime) {
     for (method, number, characters) in &LENGTHS {
-        let text = print_i128(rt.alloc(), *method, *number)?;
+        let text = print_i128(rt.alloc(), *method, *number).expect(&rt, "printed");
         assert_eq!(rt; text.as_str().chars().count(), *characters);
         assert_eq!(rt; text.len(), 3 * *characters);
     }
-    Ok(())
 }

@@ -1,50 +1,43 @@
 // The scales of the units, as powers of ten.
+use chinese_number::ChineseCountMethod::{High, Low, Middle, TenThousand};
 use chinese_number::{ChineseCountMethod, Unit, scale};
+use std::process::Abort;
 
-const UNITS: [Unit; 16] = [
-    Unit::Ge,
-    Unit::Shi,
-    Unit::Bai,
-    Unit::Qian,
-    Unit::Wan,
-    Unit::Yi,
-    Unit::Zhao,
-    Unit::Jing,
-    Unit::Gai,
-    Unit::Zi,
-    Unit::Rang,
-    Unit::Gou,
-    Unit::Jian,
-    Unit::Zheng,
-    Unit::Zai,
-    Unit::Ji,
+// The power of a unit by `Low`, `TenThousand`, `Middle` and `High`; a `u128` holds them up to 38.
+static POWERS: [(Unit, u32, u32, u32, u32); 16] = [
+    (Unit::Ge, 0, 0, 0, 0),
+    (Unit::Shi, 1, 1, 1, 1),
+    (Unit::Bai, 2, 2, 2, 2),
+    (Unit::Qian, 3, 3, 3, 3),
+    (Unit::Wan, 4, 4, 4, 4),
+    (Unit::Yi, 5, 8, 8, 8),
+    (Unit::Zhao, 6, 12, 16, 16),
+    (Unit::Jing, 7, 16, 24, 32),
+    (Unit::Gai, 8, 20, 32, 64),
+    (Unit::Zi, 9, 24, 40, 128),
+    (Unit::Rang, 10, 28, 48, 256),
+    (Unit::Gou, 11, 32, 56, 512),
+    (Unit::Jian, 12, 36, 64, 1024),
+    (Unit::Zheng, 13, 40, 72, 2048),
+    (Unit::Zai, 14, 44, 80, 4096),
+    (Unit::Ji, 15, 48, 88, 8192),
 ];
+
+// The scale of this unit is this power of ten, if a `u128` holds it.
+fn is_scale(rt: &impl Abort, method: ChineseCountMethod, unit: Unit, power: u32) {
+    assert_eq!(rt;
+        scale(method, unit),
+        10u128.checked_pow(power),
+        "{method:?} {unit:?}"
+    );
+}
 
 #[test]
 fn scales_of_all_units(rt: HostRuntime) {
-    for (method, powers) in [
-        (
-            ChineseCountMethod::Low,
-            [0, 1, 2, 3, 4, 5, 6, 7, 8, 9, 10, 11, 12, 13, 14, 15].as_slice(),
-        ),
-        (
-            ChineseCountMethod::TenThousand,
-            [0, 1, 2, 3, 4, 8, 12, 16, 20, 24, 28, 32, 36].as_slice(),
-        ),
-        (
-            ChineseCountMethod::Middle,
-            [0, 1, 2, 3, 4, 8, 16, 24, 32].as_slice(),
-        ),
-        (
-            ChineseCountMethod::High,
-            [0, 1, 2, 3, 4, 8, 16, 32].as_slice(),
-        ),
-    ] {
-        for (rank, unit) in UNITS.iter().enumerate() {
-            let wanted = powers
-                .get(rank)
-                .and_then(|power| 10u128.checked_pow(*power));
-            assert_eq!(rt; scale(method, *unit), wanted, "{method:?} {unit:?}");
-        }
+    for (unit, low, ten_thousand, middle, high) in &POWERS {
+        is_scale(&rt, Low, *unit, *low);
+        is_scale(&rt, TenThousand, *unit, *ten_thousand);
+        is_scale(&rt, Middle, *unit, *middle);
+        is_scale(&rt, High, *unit, *high);
     }
 }

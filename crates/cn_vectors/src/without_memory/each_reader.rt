@@ -87,26 +87,12 @@ fn same<T: Whole>(rt: &impl Abort, text: &str, answer: Answer<T>, wanted: &Answe
     assert_eq!(rt; answer, wanted.map(Some), "{text}");
 }
 
-// The answers to the texts of these rows.
-fn same_rows<T: Whole>(rt: &impl Abort, rows: &Rows, answers: [Answer<T>; 4]) {
-    for ((text, wanted), answer) in rows.iter().zip(answers.iter()) {
-        same(rt, text, *answer, wanted);
-    }
-}
-
 // Each of these readers reads these rows.
 macro_rules! each_reads {
     ($rt:ident, $rows:ident; $($reader:ident)+) => {
-        $(same_rows(
-            &$rt,
-            &$rows,
-            [
-                $reader($rows[0].0),
-                $reader($rows[1].0),
-                $reader($rows[2].0),
-                $reader($rows[3].0),
-            ],
-        );)+
+        for (text, wanted) in &$rows {
+            $(same(&$rt, text, $reader(text), wanted);)+
+        }
     };
 }
 

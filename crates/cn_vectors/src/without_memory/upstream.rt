@@ -2,6 +2,7 @@
 use crate::calls::{Answer, read_i128, read_u128, reads};
 use chinese_number::ChineseCountMethod::{High, Low, Middle, TenThousand};
 use chinese_number::{ChineseCountMethod, ChineseToNumber};
+use std::process::Abort;
 
 static BY_EACH_METHOD: [(&str, Answer<u128>); 21] = [
     ("零", Ok(0)),
@@ -45,23 +46,20 @@ static BY_MIDDLE_AND_HIGH: [(&str, Answer<u128>); 7] = [
     ("一萬兆", Ok(100_000_000_000_000_000_000)),
 ];
 
+// Each of these methods reads these rows.
+fn alike(rt: &impl Abort, methods: &[ChineseCountMethod], rows: &[(&str, Answer<u128>)]) {
+    for method in methods {
+        for (text, wanted) in rows {
+            reads(rt, text, read_u128(*method, text), wanted);
+        }
+    }
+}
+
 #[test]
 fn alike_by_several_methods(rt: HostRuntime) {
-    for method in ChineseCountMethod::variants() {
-        for (text, wanted) in &BY_EACH_METHOD {
-            reads(&rt, text, read_u128(method, text), wanted);
-        }
-    }
-    for method in [TenThousand, Middle, High] {
-        for (text, wanted) in &BY_ALL_BUT_LOW {
-            reads(&rt, text, read_u128(method, text), wanted);
-        }
-    }
-    for method in [Middle, High] {
-        for (text, wanted) in &BY_MIDDLE_AND_HIGH {
-            reads(&rt, text, read_u128(method, text), wanted);
-        }
-    }
+    alike(&rt, &[Low, TenThousand, Middle, High], &BY_EACH_METHOD);
+    alike(&rt, &[TenThousand, Middle, High], &BY_ALL_BUT_LOW);
+    alike(&rt, &[Middle, High], &BY_MIDDLE_AND_HIGH);
 }
 
 static BY_ONE_METHOD: [(ChineseCountMethod, &str, Answer<u128>); 24] = [

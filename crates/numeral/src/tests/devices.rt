@@ -13,7 +13,6 @@ use std::cell::Cell;
 use std::io;
 use std::io::{ErrorKind, Read, Write};
 use std::process::Abort;
-use std::test::Fail;
 
 // Takes nothing.
 #[derive(Drop)]
@@ -97,15 +96,16 @@ fn an_interrupted_call_is_a_fault(rt: HostRuntime) {
 
 // Under buffered output the write comes with the next flush: before a read, or at the end.
 #[test]
-fn an_interrupted_flush_is_a_fault(rt: HostRuntime) -> Result<(), Fail> {
+fn an_interrupted_flush_is_a_fault(rt: HostRuntime) {
     let mut reader = MemorySource::new(b"hello\n", 9, None);
-    let mut writer = BufferedSink::new(rt.alloc(), Device::new(Interrupted { calls: 0 }))?;
+    let writer = Device::new(Interrupted { calls: 0 });
+    let mut writer = BufferedSink::new(rt.alloc(), writer).expect(&rt, "memory");
     ends(&rt, &mut reader, &mut writer, Err(RunError::Write));
     let mut reader = MemorySource::new(b"hello", 9, None);
-    let mut writer = BufferedSink::new(rt.alloc(), Device::new(Interrupted { calls: 0 }))?;
+    let writer = Device::new(Interrupted { calls: 0 });
+    let mut writer = BufferedSink::new(rt.alloc(), writer).expect(&rt, "memory");
     ends(&rt, &mut reader, &mut writer, Ok(()));
     assert_eq!(rt; writer.flush(), Err(DeviceFault));
-    Ok(())
 }
 
 // Counts its calls.
@@ -127,9 +127,9 @@ impl Write for Counting<'_> {
     }
 }
 
-// A flush is the writer's own, and many answers go out in one write before the read that follows.
+// A flush is the writer's own.
 #[test]
-fn answers_go_out_together(rt: HostRuntime) -> Result<(), Fail> {
+fn a_flush_is_handed_on(rt: HostRuntime) {
     let (writes, flushes) = (Cell::new(0), Cell::new(0));
     let mut device = Device::new(Counting {
         writes: &writes,
@@ -137,12 +137,20 @@ fn answers_go_out_together(rt: HostRuntime) -> Result<(), Fail> {
     });
     assert_eq!(rt; device.flush(), Ok(()));
     assert_eq!(rt; (writes.get(), flushes.get()), (0, 1));
+}
 
+// Many answers go out in one write, before the read that follows.
+#[test]
+fn answers_go_out_together(rt: HostRuntime) {
+    let (writes, flushes) = (Cell::new(0), Cell::new(0));
+    let device = Device::new(Counting {
+        writes: &writes,
+        flushes: &flushes,
+    });
     let mut reader = MemorySource::new(b"hello\nhello\nhello\n", 99, None);
-    let mut writer = BufferedSink::new(rt.alloc(), device)?;
+    let mut writer = BufferedSink::new(rt.alloc(), device).expect(&rt, "memory");
     assert_eq!(rt; answer_all(rt.alloc(), &mut reader, &mut writer), 0);
-    assert_eq!(rt; (writes.get(), flushes.get()), (1, 4));
-    Ok(())
+    assert_eq!(rt; (writes.get(), flushes.get()), (1, 3));
 }
 
 // The most bytes that a read moves and the read that fails, the same of writes, the status and what

@@ -10,7 +10,6 @@ use cn_devices::buffered_sink::BufferedSink;
 use std::cell::Cell;
 use std::io;
 use std::io::{ErrorKind, Write};
-use std::test::Fail;
 
 // Shows the front of the last write, and cannot be flushed.
 #[derive(Drop)]
@@ -45,11 +44,11 @@ fn a_failed_flush_is_no_failed_write(rt: HostRuntime) {
 }
 
 #[test]
-fn a_failed_flush_at_the_end_is_status_one(rt: HostRuntime) -> Result<(), Fail> {
+fn a_failed_flush_at_the_end_is_status_one(rt: HostRuntime) {
     let last = Cell::new([0; 9]);
     let mut reader = MemorySource::new(b"hello", 9, None);
-    let mut writer = BufferedSink::new(rt.alloc(), Device::new(Stuck { last: &last }))?;
+    let writer = Device::new(Stuck { last: &last });
+    let mut writer = BufferedSink::new(rt.alloc(), writer).expect(&rt, "memory");
     assert_eq!(rt; answer_all(rt.alloc(), &mut reader, &mut writer), 1);
     assert_eq!(rt; last.get(), *b"bad line\n");
-    Ok(())
 }

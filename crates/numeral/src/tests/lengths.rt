@@ -67,11 +67,8 @@ static LONG: [(&str, &str, &str, &str); 6] = [
 #[test]
 fn answers_long_lines(rt: HostRuntime) -> Result<(), AllocError> {
     for (start, repeated, end, answer) in &LONG {
-        let mut line = String::from_str(rt.alloc(), start)?;
-        for _ in 0..10_000 {
-            line.push_str(repeated)?;
-        }
-        line.push_str(end)?;
+        let middle = repeated.repeat(rt.alloc(), 10_000)?;
+        let line = format!(in rt.alloc(); "{start}{middle}{end}")?;
         ends_well(&rt, line.as_bytes(), 4096, answer.as_bytes());
     }
     Ok(())
