@@ -14,8 +14,7 @@ use Rattle.cn_core.specs.Printing.{mark_char, signed_text}
 use Rattle.cn_spell.specs.Working.Positions.{positions_of}
 use Rattle.cn_spell.specs.Working.Sign.{sign_characters, sign_count}
 use Rattle.cn_spell.proofs.Signs.{length-sign}
-use Rattle.cn_spell.proofs.Tables.{three-digit, three-minus}
-use Rattle.cn_spell.proofs.ThreeBytes.{takes_three}
+use Rattle.cn_spell.proofs.ThreeBytes.{takes_three, three-digit, three-minus}
 
 -- the characters of these digits, which are told from the lowest up
 abbrev pub digit_characters : ChineseVariant → ChineseCase → List ℕ → List ℕ

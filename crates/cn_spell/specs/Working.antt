@@ -4,5 +4,4 @@ pub mod Groups
 pub mod Positions
 pub mod Room
 pub mod Sign
-pub mod Table
 pub mod Units

@@ -1,6 +1,6 @@
 use Rattle.std.proofs.Common.{◌∙◌, ap}
 use Rattle.std.specs.Char.{encode_utf8}
-use Rattle.cn_spell.proofs.Tables.{digit-at}
+use Rattle.cn_core.proofs.Characters.{digit-at}
 use Rattle.cn_spell.proofs.characters.Characters.digit.Goals as goal
 
 pub returns-clause-bytes : goal.returns-clause-bytes
