@@ -42,6 +42,7 @@ fn character_at(variant: ChineseVariant, case: ChineseCase, position: usize) -> 
 /// ```text
 /// digit_char(ChineseVariant::Simple, ChineseCase::Upper, 2) == '贰'
 /// ```
+#[tactic(auto, using(crate::proofs::Characters::digit_at))]
 pub fn digit_char(variant: ChineseVariant, case: ChineseCase, digit: u8) -> char
     requires { digit < 10 }
     ensures { result ≡ digit_char variant case digit }
@@ -54,6 +55,7 @@ pub fn digit_char(variant: ChineseVariant, case: ChineseCase, digit: u8) -> char
 /// ```text
 /// unit_char(ChineseVariant::Simple, ChineseCase::Upper, Unit::Shi) == '拾'
 /// ```
+#[tactic(auto, using(crate::proofs::Characters::unit_at))]
 pub fn unit_char(variant: ChineseVariant, case: ChineseCase, unit: Unit) -> char
     ensures { result ≡ unit_char variant case (rank unit) }
 {

@@ -12,7 +12,7 @@ use Rattle.cn_core.specs.declared.case.ChineseCase.{ChineseCase}
 use Rattle.cn_core.specs.declared.case.ChineseCase.TheVariants.{Upper, Lower}
 use Rattle.cn_core.specs.declared.unit.Unit.{Unit as NumeralUnit}
 use Rattle.cn_core.specs.Characters.{printed_characters, rank, digit_char, unit_char, minus_char}
-use Rattle.cn_core.proofs.Characters.{length-printed, digit-at, unit-at, rank-low}
+use Rattle.cn_core.proofs.Characters.{length-printed, digit_at, rank_at, rank-low}
 use Rattle.cn_core.proofs.Fronts.{and-left, and-right}
 
 -- from 0x800 up, below the surrogates
@@ -81,12 +81,12 @@ length-bytes variant case = length-encode_all (printed_characters variant case) 
 
 pub three-digit : (variant : ChineseVariant) (case : ChineseCase) (digit : ℕ) → digit < 10 → takes_three (digit_char variant case digit) ≡ true
 three-digit variant case digit h =
-    ap takes_three (sym (digit-at variant case digit h))
+    ap takes_three (sym (digit_at variant case digit h))
     ∙ passes-at takes_three (printed_characters variant case) digit (three-printed variant case) (omega (arith, h, length-printed variant case))
 
 pub three-unit : (variant : ChineseVariant) (case : ChineseCase) (unit : NumeralUnit) → takes_three (unit_char variant case (rank unit)) ≡ true
 three-unit variant case unit =
-    ap takes_three (sym (unit-at variant case (rank unit) (rank-low unit)))
+    ap takes_three (sym (rank_at variant case (rank unit) (rank-low unit)))
     ∙ passes-at takes_three (printed_characters variant case) (10 + rank unit) (three-printed variant case) (omega (arith, rank-low unit, length-printed variant case))
 
 pub three-minus : (variant : ChineseVariant) → takes_three (minus_char variant) ≡ true

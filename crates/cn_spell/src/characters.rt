@@ -44,6 +44,7 @@ impl Characters {
 
     /// The character of a digit from 0 to 9.
     #[inline(always)]
+    #[tactic(auto, using(cn_core::proofs::Characters::digit_at))]
     pub fn digit(self, digit: u8) -> [u8; 3]
         requires { digit < 10 }
         ensures bytes { result ≡ encode_utf8 (digit_char self.variant self.case digit) }
@@ -54,6 +55,7 @@ impl Characters {
 
     /// The character of a unit.
     #[inline(always)]
+    #[tactic(auto, using(cn_core::proofs::Characters::unit_at))]
     pub fn unit(self, unit: Unit) -> [u8; 3]
         ensures bytes { result ≡ encode_utf8 (unit_char self.variant self.case (rank unit)) }
         ensures utf8 { IsUtf8 result }
