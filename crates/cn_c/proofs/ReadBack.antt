@@ -14,8 +14,7 @@ use Rattle.cn_core.specs.Printing.{signed_text, naive_text, spelled_text, is_pri
 use Rattle.cn_core.specs.Mark.{Mark}
 use Rattle.cn_core.proofs.Fronts.{and-left, and-right}
 use Rattle.cn_spell.proofs.NaiveTexts.{three-naive}
-use Rattle.cn_spell.proofs.Tables.{three-minus}
-use Rattle.cn_spell.proofs.ThreeBytes.{takes_three, IsUtf8-three}
+use Rattle.cn_spell.proofs.ThreeBytes.{takes_three, IsUtf8-three, three-minus}
 use Rattle.chinese_number.proofs.PlainDigits.{naive_reading-signed_text}
 use Rattle.chinese_number.proofs.Printed.{is_printed, IsReadBack-marks}
 use Rattle.chinese_number.proofs.Reading.{IsWhole, Reads-same, Reads-spelled}

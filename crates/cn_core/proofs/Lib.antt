@@ -1,4 +1,5 @@
 pub mod Beginnings
+pub mod Characters
 pub mod Cuts
 pub mod Ends
 pub mod Fronts

@@ -14,7 +14,9 @@ pub mod whole;
 
 pub use case::ChineseCase;
 pub use characters_read::{digit_of, sign_of, unit_of};
-pub use characters_written::{digit_char, minus_char, unit_char};
+pub use characters_written::{
+    FIRST_UNIT, MINUS_SIGN, digit_char, minus_char, printed_characters, unit_char,
+};
 pub use method::ChineseCountMethod;
 pub use scales::{exponent, power_of_ten, scale};
 pub use script::ChineseVariant;

@@ -1,10 +1,8 @@
 -- The steps of the walk, over what its state says.
-use Rattle.std.proofs.Common.{◌≡◌, ◌≢◌, ◌↔◌, ℕ, suc, ◌+◌, ◌^◌, ◌<◌, Bool, true, false, IsTrue, List, [], ◌∷◌, length, Option, Some, None, refl, sym, ap, ◌∙◌, arith, if◌then◌else◌, lit<, ◌++◌, append_assoc, filter, chars, Result, Ok, Err, subst}
+use Rattle.std.proofs.Common.{◌≡◌, ◌≢◌, ◌↔◌, ℕ, suc, ◌+◌, ◌^◌, ◌<◌, Bool, true, false, IsTrue, List, [], ◌∷◌, length, Option, Some, None, refl, sym, ap, ◌∙◌, arith, if◌then◌else◌, ◌++◌, append_assoc, filter, chars, Result, Ok, Err, subst}
 use Rattle.std.specs.Result.{IsErr, IsErrAnd, MatchResult}
 use Rattle.cn_core.specs.declared.method.ChineseCountMethod.{ChineseCountMethod}
-use Rattle.cn_core.specs.declared.unit.Unit.{Unit as NumeralUnit}
-use Rattle.cn_core.specs.declared.unit.Unit.TheVariants.{Ge, Shi, Bai, Qian, Wan, Yi, Zhao, Jing, Gai, Zi, Rang, Gou, Jian, Zheng, Zai, Ji}
-use Rattle.cn_core.specs.Characters.{rank, digit_of, rank_of}
+use Rattle.cn_core.specs.Characters.{digit_of, rank_of}
 use Rattle.cn_core.specs.Mark.{Mark, digit, unit, mark_of, mark_from}
 use Rattle.cn_core.specs.Refusal.{Refusal, incorrect_at, too_large}
 use Rattle.cn_core.specs.Scale.{scale, scale_fits}
@@ -23,24 +21,6 @@ use Rattle.cn_judge.specs.Private.Stack.{StackEntry, closed_sum, still_open, all
 use Rattle.cn_judge.specs.Private.Walked.{IsWalked}
 use Rattle.cn_judge.proofs.Stacks.{positive-opens}
 use Rattle.cn_judge.proofs.Steps.{sound-none, unit-past, unit-alone, unit-same, unit-step, opens-next, opens-room}
-
-pub rank-low : (u : NumeralUnit) → rank u < 16
-rank-low Ge = lit< tt
-rank-low Shi = lit< tt
-rank-low Bai = lit< tt
-rank-low Qian = lit< tt
-rank-low Wan = lit< tt
-rank-low Yi = lit< tt
-rank-low Zhao = lit< tt
-rank-low Jing = lit< tt
-rank-low Gai = lit< tt
-rank-low Zi = lit< tt
-rank-low Rang = lit< tt
-rank-low Gou = lit< tt
-rank-low Jian = lit< tt
-rank-low Zheng = lit< tt
-rank-low Zai = lit< tt
-rank-low Ji = lit< tt
 
 -- what the tests on the way say of the marks
 leading : (u : ℕ) (marks : List Mark) {a b : Option ℕ} → a ≡ b → b ≡ leading_rank marks → true ≡ multiplies_by u a → multiplies_by u (leading_rank marks) ≡ true

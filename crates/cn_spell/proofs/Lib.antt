@@ -8,7 +8,6 @@ pub mod Rooms
 pub mod Signs
 pub mod Single
 pub mod SingleTops
-pub mod Tables
 pub mod ThreeBytes
 pub mod Tops
 pub mod UnitLoops

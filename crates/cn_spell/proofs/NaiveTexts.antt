@@ -12,8 +12,7 @@ use Rattle.cn_core.specs.Mark.{Mark, digit}
 use Rattle.cn_core.specs.Naive.{decimal_digits}
 use Rattle.cn_core.specs.Printing.{mark_char, signed_text}
 use Rattle.cn_spell.specs.Working.Positions.{positions_of}
-use Rattle.cn_spell.proofs.Tables.{three-digit, three-minus}
-use Rattle.cn_spell.proofs.ThreeBytes.{takes_three}
+use Rattle.cn_spell.proofs.ThreeBytes.{takes_three, three-digit, three-minus}
 
 -- these digits as marks, which are told from the lowest up
 abbrev pub digit_marks : List ℕ → List Mark

@@ -1,11 +1,18 @@
--- Characters that take three bytes.
-use Rattle.std.proofs.Common.{◌≡◌, ℕ, zero, suc, ◌+◌, ◌*◌, ◌/◌, ◌%◌, ◌<◌, Bool, true, false, ◌&&◌, nat_lt, nat_le, List, [], ◌∷◌, length, slice_index, encode_utf8_all, refl, arith}
+-- Characters that take three bytes, as those do that are printed.
+use Rattle.std.proofs.Common.{◌≡◌, ℕ, zero, suc, ◌+◌, ◌*◌, ◌/◌, ◌%◌, ◌<◌, Bool, true, false, ◌&&◌, nat_lt, nat_le, List, [], ◌∷◌, length, slice_index, encode_utf8_all, refl, ap, sym, ◌∙◌, arith}
 use Rattle.std.specs.Char.{encode_utf8}
 use Rattle.std.specs.List.{list_all}
 use Rattle.std.specs.Str.{IsUtf8}
 use Rattle.std.proofs.Math.Utf8.{scalar, low_scalar}
 use Rattle.std.proofs.lemmas.Bool.Decides.{nat_tests}
 use Rattle.std.proofs.lemmas.Str.{IsUtf8-encode}
+use Rattle.cn_core.specs.declared.script.ChineseVariant.{ChineseVariant}
+use Rattle.cn_core.specs.declared.script.ChineseVariant.TheVariants.{Traditional, Simple}
+use Rattle.cn_core.specs.declared.case.ChineseCase.{ChineseCase}
+use Rattle.cn_core.specs.declared.case.ChineseCase.TheVariants.{Upper, Lower}
+use Rattle.cn_core.specs.declared.unit.Unit.{Unit as NumeralUnit}
+use Rattle.cn_core.specs.Characters.{printed_characters, rank, digit_char, unit_char, minus_char}
+use Rattle.cn_core.proofs.Characters.{length-printed, digit_at, rank_at, rank-low}
 use Rattle.cn_core.proofs.Fronts.{and-left, and-right}
 
 -- from 0x800 up, below the surrogates
@@ -61,3 +68,28 @@ bytes-at (c ∷ cs) (suc k) start h less e =
     let b : start + 1 ≡ suc (suc (suc (3 * k + 1))) = omega (arith, e) in
     let d : start + 2 ≡ suc (suc (suc (3 * k + 2))) = omega (arith, e) in
     rw (b, d, a, one) (bytes-at cs k (3 * k) (and-right (takes_three c) _ h) (omega (arith, less)) refl)
+
+pub three-printed : (variant : ChineseVariant) (case : ChineseCase) → list_all takes_three (printed_characters variant case) ≡ true
+unfolding minus_char
+three-printed Traditional Lower = refl
+three-printed Traditional Upper = refl
+three-printed Simple Lower = refl
+three-printed Simple Upper = refl
+
+pub length-bytes : (variant : ChineseVariant) (case : ChineseCase) → length (encode_utf8_all (printed_characters variant case)) ≡ 81
+length-bytes variant case = length-encode_all (printed_characters variant case) (three-printed variant case) ∙ ap (λ n. 3 * n) (length-printed variant case)
+
+pub three-digit : (variant : ChineseVariant) (case : ChineseCase) (digit : ℕ) → digit < 10 → takes_three (digit_char variant case digit) ≡ true
+three-digit variant case digit h =
+    ap takes_three (sym (digit_at variant case digit h))
+    ∙ passes-at takes_three (printed_characters variant case) digit (three-printed variant case) (omega (arith, h, length-printed variant case))
+
+pub three-unit : (variant : ChineseVariant) (case : ChineseCase) (unit : NumeralUnit) → takes_three (unit_char variant case (rank unit)) ≡ true
+three-unit variant case unit =
+    ap takes_three (sym (rank_at variant case (rank unit) (rank-low unit)))
+    ∙ passes-at takes_three (printed_characters variant case) (10 + rank unit) (three-printed variant case) (omega (arith, rank-low unit, length-printed variant case))
+
+pub three-minus : (variant : ChineseVariant) → takes_three (minus_char variant) ≡ true
+unfolding minus_char
+three-minus Traditional = refl
+three-minus Simple = refl

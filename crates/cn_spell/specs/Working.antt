@@ -3,5 +3,4 @@
 pub mod Groups
 pub mod Positions
 pub mod Room
-pub mod Table
 pub mod Units

@@ -1,34 +1,9 @@
 // The characters of one script and case, as the three bytes that each takes.
 ghost use Rattle.std.specs.Prelude.{◌≡◌, ◌<◌, slice_index, encode_utf8, encode_utf8_all};
 ghost use Rattle.std.specs.Str.{IsUtf8};
-ghost use Rattle.cn_core.specs.Characters.{rank, digit_char, unit_char, minus_char};
-ghost use Rattle.cn_spell.specs.Working.Table.{table_characters};
+ghost use Rattle.cn_core.specs.Characters.{rank, digit_char, unit_char, minus_char, printed_characters};
 
-use cn_core::{ChineseCase, ChineseVariant, Unit};
-
-static LOWER_TRADITIONAL: &str = "零一二三四五六七八九個十百千萬億兆京垓秭穰溝澗正載極負";
-
-static LOWER_SIMPLE: &str = "零一二三四五六七八九个十百千万亿兆京垓秭穰沟涧正载极负";
-
-static UPPER_TRADITIONAL: &str = "零壹貳參肆伍陸柒捌玖個拾佰仟萬億兆京垓秭穰溝澗正載極負";
-
-static UPPER_SIMPLE: &str = "零壹贰叁肆伍陆柒捌玖个拾佰仟万亿兆京垓秭穰沟涧正载极负";
-
-// Where the units and the minus sign begin in these tables.
-const UNITS: usize = 10;
-
-const MINUS: usize = 26;
-
-fn table(variant: ChineseVariant, case: ChineseCase) -> &'static [u8]
-    ensures { result.now ≡ encode_utf8_all (table_characters variant case) }
-{
-    match (case, variant) {
-        (ChineseCase::Lower, ChineseVariant::Traditional) => LOWER_TRADITIONAL.as_bytes(),
-        (ChineseCase::Lower, ChineseVariant::Simple) => LOWER_SIMPLE.as_bytes(),
-        (ChineseCase::Upper, ChineseVariant::Traditional) => UPPER_TRADITIONAL.as_bytes(),
-        (ChineseCase::Upper, ChineseVariant::Simple) => UPPER_SIMPLE.as_bytes(),
-    }
-}
+use cn_core::{ChineseCase, ChineseVariant, FIRST_UNIT, MINUS_SIGN, Unit, printed_characters};
 
 /// The characters of a script and case.
 #[derive(Clone, Copy)]
@@ -36,7 +11,7 @@ pub struct Characters {
     pub variant: ChineseVariant,
     pub case: ChineseCase,
     table: &'static [u8],
-    ghost is_table: { table.now ≡ encode_utf8_all (table_characters variant case) },
+    ghost is_table: { table.now ≡ encode_utf8_all (printed_characters variant case) },
 }
 
 impl Characters {
@@ -48,7 +23,7 @@ impl Characters {
         Characters {
             variant,
             case,
-            table: table(variant, case),
+            table: printed_characters(variant, case).as_bytes(),
         }
     }
 
@@ -56,7 +31,7 @@ impl Characters {
     fn at(self, position: usize) -> [u8; 3]
         requires { position < 27 }
         ensures bytes { result
-            ≡ encode_utf8 (slice_index (table_characters self.variant self.case) position) }
+            ≡ encode_utf8 (slice_index (printed_characters self.variant self.case) position) }
         ensures utf8 { IsUtf8 result }
     {
         let start = 3 * position;
@@ -69,6 +44,7 @@ impl Characters {
 
     /// The character of a digit from 0 to 9.
     #[inline(always)]
+    #[tactic(auto, using(cn_core::proofs::Characters::digit_at))]
     pub fn digit(self, digit: u8) -> [u8; 3]
         requires { digit < 10 }
         ensures bytes { result ≡ encode_utf8 (digit_char self.variant self.case digit) }
@@ -79,11 +55,12 @@ impl Characters {
 
     /// The character of a unit.
     #[inline(always)]
+    #[tactic(auto, using(cn_core::proofs::Characters::unit_at))]
     pub fn unit(self, unit: Unit) -> [u8; 3]
         ensures bytes { result ≡ encode_utf8 (unit_char self.variant self.case (rank unit)) }
         ensures utf8 { IsUtf8 result }
     {
-        self.at(UNITS + unit as usize)
+        self.at(FIRST_UNIT + unit as usize)
     }
 
     /// The minus sign.
@@ -92,6 +69,6 @@ impl Characters {
         ensures bytes { result ≡ encode_utf8 (minus_char self.variant) }
         ensures utf8 { IsUtf8 result }
     {
-        self.at(MINUS)
+        self.at(MINUS_SIGN)
     }
 }

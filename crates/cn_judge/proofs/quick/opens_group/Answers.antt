@@ -1,8 +1,8 @@
 use Rattle.std.proofs.Common.{◌≡◌, ℕ, ◌<◌, false, nat_le, arith, rules}
 use Rattle.std.proofs.lemmas.Bool.Decides.{nat_tests}
 use Rattle.cn_core.specs.Characters.{rank}
+use Rattle.cn_core.proofs.Characters.{rank-low}
 use Rattle.cn_judge.proofs.RegularSums.{first_group-other}
-use Rattle.cn_judge.proofs.WalkSteps.{rank-low}
 use Rattle.cn_judge.proofs.quick.opens_group.Goals as goal
 
 pub returns-in-Low : goal.returns-in-Low

@@ -1,6 +1,6 @@
 use Rattle.std.proofs.Common.{arith}
 use Rattle.cn_core.specs.Characters.{rank}
-use Rattle.cn_judge.proofs.WalkSteps.{rank-low}
+use Rattle.cn_core.proofs.Characters.{rank-low}
 use Rattle.cn_judge.proofs.RegularSteps.{regular-group, group-room}
 use Rattle.cn_judge.proofs.quick.step_group.Goals as goal
 

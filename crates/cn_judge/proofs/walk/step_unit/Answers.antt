@@ -1,6 +1,7 @@
 use Rattle.std.proofs.Common.{◌∙◌, true, false}
 use Rattle.cn_core.specs.Characters.{rank}
-use Rattle.cn_judge.proofs.WalkSteps.{rank-low, walked-positive, walked-past, walked-alone, walked-same, walked-step, walked-opens, walked-room, unfit}
+use Rattle.cn_core.proofs.Characters.{rank-low}
+use Rattle.cn_judge.proofs.WalkSteps.{walked-positive, walked-past, walked-alone, walked-same, walked-step, walked-opens, walked-room, unfit}
 use Rattle.cn_judge.proofs.walk.step_unit.Goals as goal
 
 pub close_below-requires : goal.close_below-requires

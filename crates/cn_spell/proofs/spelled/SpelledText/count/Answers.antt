@@ -7,7 +7,7 @@ use Rattle.cn_spell.specs.Prints.{most_bytes}
 use Rattle.cn_spell.specs.Working.Room.{Counts}
 use Rattle.cn_spell.proofs.Bounds.{marks-fit, most_bytes-le}
 use Rattle.cn_spell.proofs.Rooms.{Counts-if}
-use Rattle.cn_spell.proofs.Tables.{three-minus}
+use Rattle.cn_spell.proofs.ThreeBytes.{three-minus}
 use Rattle.cn_spell.proofs.spelled.SpelledText.count.Goals as goal
 
 pub put_spelling-requires-clause-room : goal.put_spelling-requires-clause-room

@@ -1,7 +1,0 @@
-use Rattle.std.proofs.Common.{◌∙◌, ap}
-use Rattle.std.specs.Char.{encode_utf8}
-use Rattle.cn_spell.proofs.Tables.{digit-at}
-use Rattle.cn_spell.proofs.characters.Characters.digit.Goals as goal
-
-pub returns-clause-bytes : goal.returns-clause-bytes
-returns-clause-bytes c = c.at.ensures.bytes ∙ ap encode_utf8 (digit-at c.args.self.variant c.args.self.case c.args.digit c.requires)
