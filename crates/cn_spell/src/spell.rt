@@ -20,35 +20,11 @@ use crate::positions::{put_group, put_positions};
 use crate::units::{unit_at, widths};
 use cn_core::ChineseCountMethod;
 
-// Puts the units that a digit at a position stands before, in front of what is written: it has
-// digits at the positions below `filled` alone. 零 stands behind them where the next position below
-// is empty.
+// Puts the units before which a group stands that begins at the position. What is written has digits
+// at the positions below `filled` alone, and 零 stands behind the units where the next position below
+// is empty. Where the group below has a digit, the group's own unit is the only one.
 #[inline(always)]
 fn put_units<P: Pen>(pen: &mut P, method: ChineseCountMethod, position: usize, filled: usize)
-    requires position { position < positions_within method }
-    requires room { 3 * length (front method position filled) ≤ P.left pen.old }
-    ensures setting { P.setting pen.new ≡ P.setting pen.old }
-    ensures room { P.left pen.new + 3 * length (front method position filled) ≡ P.left pen.old }
-    ensures marks { (marks : List Mark) → P.has_put pen.old marks
-        → P.has_put pen.new (front method position filled ++ marks) }
-{
-    let mut above = filled.max(1);
-    for width in widths(method) {
-        let start = position - position % *width;
-        if start >= above {
-            if above == filled && filled < start {
-                pen.put_digit_if(true, 0);
-            }
-            pen.put_unit_if(true, unit_at(method, start));
-            above = start + 1;
-        }
-    }
-}
-
-// The same for a group that begins at the position, soon done where the group below is not empty:
-// then the group's own unit is the only one.
-#[inline(always)]
-fn put_group_units<P: Pen>(pen: &mut P, method: ChineseCountMethod, position: usize, filled: usize)
     requires group { position % 4 ≡ 0 }
     requires position { position ≤ 4 * groups_within method }
     requires filled { filled ≤ position }
@@ -58,12 +34,23 @@ fn put_group_units<P: Pen>(pen: &mut P, method: ChineseCountMethod, position: us
     ensures marks { (marks : List Mark) → P.has_put pen.old marks
         → P.has_put pen.new (front method position filled ++ marks) }
 {
-    if position > 0 {
-        if filled + 4 > position {
-            pen.put_digit_if(filled < position, 0);
-            pen.put_unit_if(true, unit_at(method, position));
-        } else {
-            put_units(pen, method, position, filled);
+    if position == 0 {
+        return;
+    }
+    if filled + 4 > position {
+        pen.put_digit_if(filled < position, 0);
+        pen.put_unit_if(true, unit_at(method, position));
+        return;
+    }
+    let mut above = filled.max(1);
+    for width in widths(method) {
+        let start = position - position % *width;
+        if start >= above {
+            if above == filled && filled < start {
+                pen.put_digit_if(true, 0);
+            }
+            pen.put_unit_if(true, unit_at(method, start));
+            above = start + 1;
         }
     }
 }
@@ -98,11 +85,11 @@ pub fn put_spelling<P: Pen>(pen: &mut P, method: ChineseCountMethod, groups: &Gr
     for index in 0..groups.count {
         let group = groups.groups[index];
         if group > 0 {
-            put_group_units(pen, method, 4 * index, filled);
+            put_units(pen, method, 4 * index, filled);
             put_group(pen, group);
             filled = 4 * index + digits_of(group);
         }
     }
-    put_group_units(pen, method, 4 * groups.count, filled);
+    put_units(pen, method, 4 * groups.count, filled);
     put_positions(pen, groups.front);
 }

@@ -8,8 +8,8 @@ use Rattle.cn_spell.proofs.GroupWalks.{group_at, group-more, group-same, Fills-g
 use Rattle.cn_spell.proofs.spell.put_spelling.Goals.{then-group-gt0, else-group-gt0}
 use Rattle.cn_spell.proofs.spell.put_spelling.Goals as goal
 
-pub put_group_units-requires-clause-room : goal.put_group_units-requires-clause-room
-put_group_units-requires-clause-room g c =
+pub put_units-requires-clause-room : goal.put_units-requires-clause-room
+put_units-requires-clause-room g c =
     let l = c.loop-index in
     let method = c.args.method in
     let groups = c.args.groups.now in
@@ -31,7 +31,7 @@ put_group-requires-clause-room g c =
     let room = room-group method number groups.count l.index groups.front c.requires.count c.requires.front groups.holds.split groups.holds.some c.loop-index-test.true in
     let more = group-more method number position l.filled (omega (arith, c.requires.count, c.loop-index-test.true)) (omega (arith, c.requires.count, c.loop-index-test.true)) (omega arith) (omega (arith, value, c.if-group-gt0.true)) l.invariant.fills in
     let same = ap (λ n. length (group_marks n)) value in
-    omega (arith, same, room, ap length more, length-append (group_marks (group_at number position)) (front method position l.filled ++ part method (number % 10 ^ position)), length-append (front method position l.filled) (part method (number % 10 ^ position)), l.invariant.room, c.requires.room, c.put_group_units.ensures.room)
+    omega (arith, same, room, ap length more, length-append (group_marks (group_at number position)) (front method position l.filled ++ part method (number % 10 ^ position)), length-append (front method position l.filled) (part method (number % 10 ^ position)), l.invariant.room, c.requires.room, c.put_units.ensures.room)
 
 pub loop-index-preserved : goal.loop-index-preserved
 loop-index-preserved g c =
@@ -50,12 +50,12 @@ loop-index-preserved g c =
           let below : group_at number position < 10 ^ size = omega (arith, value, w.digits_of.ensures.below) in
           let reach : 10 ^ size ≤ 10 * group_at number position = omega (arith, value, w.digits_of.ensures.reach) in
           let same = ap (λ n. length (group_marks n)) value in
-          let marks = w.put_group.ensures.marks (front method position l.filled ++ part method (number % 10 ^ position)) (w.put_group_units.ensures.marks (part method (number % 10 ^ position)) l.invariant.marks) in
+          let marks = w.put_group.ensures.marks (front method position l.filled ++ part method (number % 10 ^ position)) (w.put_units.ensures.marks (part method (number % 10 ^ position)) l.invariant.marks) in
           rw (w.pen-is, w.filled-is, next, more) (record {
             fills = Fills-group number position size w.digits_of.ensures.some below reach;
             under = omega (arith, w.digits_of.ensures.most);
-            room = omega (arith, same, length-append (group_marks (group_at number position)) (front method position l.filled ++ part method (number % 10 ^ position)), length-append (front method position l.filled) (part method (number % 10 ^ position)), l.invariant.room, w.put_group_units.ensures.room, w.put_group.ensures.room);
-            setting = w.put_group.ensures.setting ∙ w.put_group_units.ensures.setting ∙ l.invariant.setting;
+            room = omega (arith, same, length-append (group_marks (group_at number position)) (front method position l.filled ++ part method (number % 10 ^ position)), length-append (front method position l.filled) (part method (number % 10 ^ position)), l.invariant.room, w.put_units.ensures.room, w.put_group.ensures.room);
+            setting = w.put_group.ensures.setting ∙ w.put_units.ensures.setting ∙ l.invariant.setting;
             marks = rw value at marks;
           })
       | else-group-gt0 w ↦
@@ -70,8 +70,8 @@ loop-index-preserved g c =
           })
     ]
 
-pub put_group_units-requires-2-clause-room : goal.put_group_units-requires-2-clause-room
-put_group_units-requires-2-clause-room g c =
+pub put_units-requires-2-clause-room : goal.put_units-requires-2-clause-room
+put_units-requires-2-clause-room g c =
     let l = c.loop-index in
     let method = c.args.method in
     let groups = c.args.groups.now in
@@ -90,7 +90,7 @@ put_positions-requires-clause-room g c =
     let end : l.index ≡ groups.count = omega (arith, l.auto.index-end, c.loop-index-test.false) in
     let position : ℕ = 4 * groups.count in
     let spelled = ap length (spelling-front method number groups.count groups.front l.filled c.requires.count c.requires.front groups.holds.split groups.holds.some (rw end at l.invariant.fills) (omega (arith, end, l.invariant.under))) in
-    omega (arith, spelled, length-append (spelling Low groups.front) (front method position l.filled ++ part method (number % 10 ^ position)), length-append (front method position l.filled) (part method (number % 10 ^ position)), rw end at l.invariant.room, c.requires.room, c.put_group_units-2.ensures.room)
+    omega (arith, spelled, length-append (spelling Low groups.front) (front method position l.filled ++ part method (number % 10 ^ position)), length-append (front method position l.filled) (part method (number % 10 ^ position)), rw end at l.invariant.room, c.requires.room, c.put_units-2.ensures.room)
 
 pub returns-clause-room : goal.returns-clause-room
 returns-clause-room g c =
@@ -101,10 +101,10 @@ returns-clause-room g c =
     let end : l.index ≡ groups.count = omega (arith, l.auto.index-end, c.loop-index-test.false) in
     let position : ℕ = 4 * groups.count in
     let spelled = ap length (spelling-front method number groups.count groups.front l.filled c.requires.count c.requires.front groups.holds.split groups.holds.some (rw end at l.invariant.fills) (omega (arith, end, l.invariant.under))) in
-    omega (arith, spelled, length-append (spelling Low groups.front) (front method position l.filled ++ part method (number % 10 ^ position)), length-append (front method position l.filled) (part method (number % 10 ^ position)), rw end at l.invariant.room, c.put_group_units-2.ensures.room, c.put_positions.ensures.room)
+    omega (arith, spelled, length-append (spelling Low groups.front) (front method position l.filled ++ part method (number % 10 ^ position)), length-append (front method position l.filled) (part method (number % 10 ^ position)), rw end at l.invariant.room, c.put_units-2.ensures.room, c.put_positions.ensures.room)
 
 pub returns-clause-setting : goal.returns-clause-setting
-returns-clause-setting g c = c.put_positions.ensures.setting ∙ c.put_group_units-2.ensures.setting ∙ c.loop-index.invariant.setting
+returns-clause-setting g c = c.put_positions.ensures.setting ∙ c.put_units-2.ensures.setting ∙ c.loop-index.invariant.setting
 
 pub returns-clause-marks : goal.returns-clause-marks
 returns-clause-marks g c =
@@ -115,4 +115,4 @@ returns-clause-marks g c =
     let end : l.index ≡ groups.count = omega (arith, l.auto.index-end, c.loop-index-test.false) in
     let position : ℕ = 4 * groups.count in
     let spelled = spelling-front method number groups.count groups.front l.filled c.requires.count c.requires.front groups.holds.split groups.holds.some (rw end at l.invariant.fills) (omega (arith, end, l.invariant.under)) in
-    rw spelled (c.put_positions.ensures.marks (front method position l.filled ++ part method (number % 10 ^ position)) (c.put_group_units-2.ensures.marks (part method (number % 10 ^ position)) (rw end at l.invariant.marks)))
+    rw spelled (c.put_positions.ensures.marks (front method position l.filled ++ part method (number % 10 ^ position)) (c.put_units-2.ensures.marks (part method (number % 10 ^ position)) (rw end at l.invariant.marks)))

@@ -1,11 +1,27 @@
-use Rattle.std.proofs.Common.{Bool, ◌≡◌, ℕ, ◌&&◌, ◌==◌, nat_lt, true, false, [], ◌∷◌, ◌++◌, slice_index, if◌then◌else◌, arith}
+use Rattle.std.proofs.Common.{Bool, ◌≡◌, ℕ, ◌&&◌, ◌==◌, nat_lt, true, false, [], ◌∷◌, ◌++◌, length, slice_index, ap, if◌then◌else◌, arith}
 use Rattle.std.proofs.lemmas.Bool.Decides.{nat_tests}
 use Rattle.cn_core.specs.Mark.{digit, unit}
 use Rattle.cn_spell.specs.Working.Units.{start_of, unit_front}
+use Rattle.cn_spell.proofs.GroupWalks.{front-near}
 use Rattle.cn_spell.proofs.Pens.{Wrote, Wrote-more}
 use Rattle.cn_spell.proofs.UnitLoops.{front-then, front-else}
 use Rattle.cn_spell.proofs.spell.put_units.Goals.{then-start-above, else-start-above, then-above-filled+then-filled-start, else-above-filled, else-above-filled-via-then-above-filled+else-filled-start, else-above-filled-via-else-above-filled}
 use Rattle.cn_spell.proofs.spell.put_units.Goals as goal
+
+pub put_unit_if-requires : goal.put_unit_if-requires
+put_unit_if-requires g c =
+    let own = front-near c.args.method c.args.position c.args.filled (omega arith) c.requires.position c.requires.group c.requires.filled (omega arith) in
+    record { room = omega (arith, ap length own, c.put_digit_if.ensures.room, c.requires.room) }
+
+pub returns-then-filled-position-clause-room : goal.returns-then-filled-position-clause-room
+returns-then-filled-position-clause-room g c =
+    let own = front-near c.args.method c.args.position c.args.filled (omega arith) c.requires.position c.requires.group c.requires.filled (omega arith) in
+    omega (arith, ap length own, c.put_digit_if.ensures.room, c.put_unit_if.ensures.room)
+
+pub returns-then-filled-position-clause-marks : goal.returns-then-filled-position-clause-marks
+returns-then-filled-position-clause-marks g c =
+    let own = front-near c.args.method c.args.position c.args.filled (omega arith) c.requires.position c.requires.group c.requires.filled (omega arith) in
+    λ marks h. rw (own, ← c.unit_at.ensures) (c.put_unit_if.ensures.marks _ (c.put_digit_if.ensures.marks marks h))
 
 pub loop-width-preserved : goal.loop-width-preserved
 loop-width-preserved g c =
@@ -22,7 +38,7 @@ loop-width-preserved g c =
           (g.P.Pen.has_put w.if-above-filled.pen) ((if test then digit 0 ∷ [] else []) ++ l.invariant.0) = elim w.if-above-filled.branch [
             | then-above-filled+then-filled-start v ↦
                 let flag : (l.above == filled && nat_lt filled start) ≡ true = grind (arith, nat_tests, v.if-above-filled.true, v.if-filled-start.true) in
-                rw (v.pen-is, flag) (Wrote-more (digit 0) l.invariant.2 v.put_digit_if.ensures.room v.put_digit_if.ensures.setting v.put_digit_if.ensures.marks)
+                rw (v.pen-is, flag) (Wrote-more (digit 0) l.invariant.2 v.put_digit_if-then-filled-start.ensures.room v.put_digit_if-then-filled-start.ensures.setting v.put_digit_if-then-filled-start.ensures.marks)
             | else-above-filled v ↦
                 let flag : (l.above == filled && nat_lt filled start) ≡ false = elim v.else-above-filled.branch [
                   | else-above-filled-via-then-above-filled+else-filled-start u ↦ grind (arith, nat_tests, u.if-above-filled.true, u.if-filled-start.false)
@@ -32,7 +48,7 @@ loop-width-preserved g c =
           ] in (
             unit_front method filled l.above start ++ l.invariant.0,
             rw w.above-is (front-then method position filled l.above l.width-index widths l.invariant.0 _ c.loop-width-test.true w.if-start-above.true l.invariant.1),
-            rw (w.pen-is, ← w.unit_at.ensures) (Wrote-more (unit _) zero w.put_unit_if.ensures.room w.put_unit_if.ensures.setting w.put_unit_if.ensures.marks),
+            rw (w.pen-is, ← w.unit_at-then-start-above.ensures) (Wrote-more (unit _) zero w.put_unit_if-then-start-above.ensures.room w.put_unit_if-then-start-above.ensures.setting w.put_unit_if-then-start-above.ensures.marks),
           )
       | else-start-above w ↦ (
         l.invariant.0,
