@@ -32,10 +32,10 @@ time python3 checks/documents.py $numeral
 time python3 checks/dialogue.py $numeral
 time python3 checks/statuses.py $numeral
 time python3 checks/readers_without_memory.py crates/cn_vectors
-time bash bindings/web/test.sh $numeral
 
-# The library for other languages, made of what the gate has proved.
+# The library for other languages and for browsers, made of what the gate has proved.
 time bash bindings/archive.sh "$scratch/bindings"
+time bash bindings/web/test.sh $numeral
 time python3 checks/c_binding.py bindings/c "$scratch/bindings"
 time python3 checks/rust_binding.py bindings/rust crates/cn_vectors "$scratch/bindings"
 time python3 checks/python_binding.py bindings/python "$scratch/bindings"

@@ -16,8 +16,8 @@ words() {
     LC_ALL=C sort -u | tr '\n' ' ' | sed 's/ $//'
 }
 
+"$(dirname "$0")/library.sh"
 cd "$(dirname "$0")/../crates/cn_c"
-rt lib
 scratch=$(mktemp -d)
 trap 'rm -rf "$scratch"' EXIT
 whole=(-Wl,--whole-archive out/libcn_c.a -Wl,--no-whole-archive)

@@ -17,25 +17,14 @@ quietly() {
     }
 }
 
-# The gate has no place for a crate of this target. So rt proves cn_c and what is below it, or takes up what is proved,
-# and rattle, told of the same libraries in the same words, builds over a copy of that work: the proofs serve every
-# target, so no module is checked anew, and the last line names this one.
-cd "$web/../../crates/cn_c"
-quietly rt lib
-cp -r out/incremental "$scratch/incremental"
-libraries=()
-for name in $(sed -n 's/^cn_c staticlib: *//p' ../../crates.txt); do libraries+=(--extern "$name=../$name/out/rlib/$name.rlib"); done
-for folder in ../*/out/rlib; do libraries+=(-L "dependency=$folder"); done
-quietly "$kit/bin/rattle" build --crate-name cn_c src/lib.rt --crate-type staticlib --links cn_c= \
-    --extern "std=$kit/rlibs/std.rlib" -L "dependency=$kit/rlibs" "${libraries[@]}" \
-    --antt-project "$kit/rattle/logic/antt-project.json" --logic-built "$kit/logic_built" \
-    --incremental "$scratch/incremental" --target "$target" --toolchain "$kit/toolchain" -o "$scratch/libcn_c.a"
+# The gate has no place for a crate of this target, so it is built here; the last line names the target.
+quietly "$web/../library.sh" "$target"
 grep "^crate cn_c: " "$scratch/log"
 grep "^logic=proved .* target=$target " "$scratch/log"
 
 # No call was seen to need 2 KiB of stack. It lies below all else in the memory, so one that is too deep traps.
 quietly "$kit/bin/rattle-link" --target "$target" --toolchain "$kit/toolchain" --stack 65536 \
-    -o "$out/chinese-number.64.wasm" "$scratch/libcn_c.a"
+    -o "$out/chinese-number.64.wasm" "$web/../../crates/cn_c/out/libcn_c.$target.a"
 rm -f "$out/chinese-number.32.wasm"
 if command -v wasm-opt > /dev/null; then
     wasm-opt --enable-memory64 --enable-bulk-memory --memory64-lowering \
