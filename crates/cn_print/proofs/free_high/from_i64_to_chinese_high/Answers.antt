@@ -1,0 +1,5 @@
+use Rattle.std.proofs.Common.{rules}
+use Rattle.cn_print.proofs.free_high.from_i64_to_chinese_high.Goals as goal
+
+pub returns : goal.returns
+returns c = search rules

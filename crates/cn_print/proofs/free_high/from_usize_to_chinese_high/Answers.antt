@@ -1,0 +1,4 @@
+use Rattle.cn_print.proofs.free_high.from_usize_to_chinese_high.Goals as goal
+
+pub returns : goal.returns
+returns c = c.print_by_units.ensures

@@ -1,0 +1,5 @@
+use Rattle.std.proofs.Common.{rules}
+use Rattle.cn_print.proofs.free_low.from_i32_to_chinese_low.Goals as goal
+
+pub returns : goal.returns
+returns c = search rules

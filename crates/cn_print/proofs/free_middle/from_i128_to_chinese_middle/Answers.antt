@@ -1,0 +1,5 @@
+use Rattle.std.proofs.Common.{rules}
+use Rattle.cn_print.proofs.free_middle.from_i128_to_chinese_middle.Goals as goal
+
+pub returns : goal.returns
+returns c = search rules

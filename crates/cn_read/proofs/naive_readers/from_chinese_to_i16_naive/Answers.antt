@@ -1,0 +1,5 @@
+use Rattle.std.proofs.Common.{rules}
+use Rattle.cn_read.proofs.naive_readers.from_chinese_to_i16_naive.Goals as goal
+
+pub returns : goal.returns
+returns c = search rules

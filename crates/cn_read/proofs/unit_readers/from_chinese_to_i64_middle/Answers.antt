@@ -1,0 +1,4 @@
+use Rattle.cn_read.proofs.unit_readers.from_chinese_to_i64_middle.Goals as goal
+
+pub returns : goal.returns
+returns c = c.read.ensures

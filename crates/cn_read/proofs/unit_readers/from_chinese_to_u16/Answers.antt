@@ -1,0 +1,5 @@
+use Rattle.std.proofs.Common.{rules}
+use Rattle.cn_read.proofs.unit_readers.from_chinese_to_u16.Goals as goal
+
+pub returns : goal.returns
+returns c = search rules
