@@ -1,5 +1,5 @@
 #!/usr/bin/env python3
-"""Counts the must-fail edits: each public function and each method of an implementation has one of its own.
+"""Counts the must-fail edits: each public function and each method of an implementation or a public trait has one of its own.
 
 Usage: edits.py CRATES
 
@@ -12,7 +12,7 @@ import re
 import sys
 from pathlib import Path
 
-HEAD = re.compile(r'(\s*)(pub )?(?:const )?(?:unsafe )?(?:extern "C" )?fn (\w+)')
+HEAD = re.compile(r'(\s*)(pub )?(?:final )?(?:const )?(?:unsafe )?(?:extern "C" )?fn (\w+)')
 FILE = re.compile(r"^file: (.*)\n((?:(?:old|new): .*\n?)*)", re.MULTILINE)
 
 
@@ -37,10 +37,10 @@ def is_open(root, path):
 
 
 def in_implementations(lines):
-    """The lines that stand in an implementation of a trait."""
+    """The lines that stand in an implementation of a trait, or in a public trait."""
     inside, found = False, set()
     for at, line in enumerate(lines):
-        inside = line != "}" and (inside or re.match(r"impl\b.* for ", line) is not None)
+        inside = line != "}" and (inside or re.match(r"impl\b.* for |pub trait ", line) is not None)
         if inside:
             found.add(at)
     return found

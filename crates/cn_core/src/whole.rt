@@ -34,22 +34,26 @@ pub trait Whole: Copy {
     // The number that a value stands for.
     ghost number: { Self → ℤ };
 
-    /// The least value of the type: -128 for `i8`.
-    fn least() -> Self
-        ensures { number result ≡ kind.least };
-
-    /// The greatest value of the type: 127 for `i8`.
-    fn greatest() -> Self
-        ensures { number result ≡ kind.greatest };
+    /// Whether the number is below zero, and its magnitude: `(true, 128)` for `i8::MIN`.
+    fn sign_and_magnitude(self) -> (bool, u128)
+        ensures sign { IsTrue result.0 ↔ (number self <ℤ pos 0) }
+        ensures value { result.1 ≡ nat_abs (number self) }
+        ensures held { IsTrue (holds kind (number self)) };
 
     /// Whether the number is below zero.
-    fn is_negative(self) -> bool
-        ensures { IsTrue result ↔ (number self <ℤ pos 0) };
+    final fn is_negative(self) -> bool
+        ensures { IsTrue result ↔ (number self <ℤ pos 0) }
+    {
+        self.sign_and_magnitude().0
+    }
 
     /// The number without its sign: 128 for `i8::MIN`.
-    fn magnitude(self) -> u128
+    final fn magnitude(self) -> u128
         ensures value { result ≡ nat_abs (number self) }
-        ensures held { IsTrue (holds kind (number self)) };
+        ensures held { IsTrue (holds kind (number self)) }
+    {
+        self.sign_and_magnitude().1
+    }
 
     /// The value with this sign and magnitude; `None` exactly where the type does not hold it.
     ///

@@ -1,9 +1,8 @@
 // What integer types hold.
-ghost use Rattle.std.specs.Prelude.{◌≡◌, ◌↔◌, ◌<ℤ◌, pos, IsTrue};
+ghost use Rattle.std.specs.Prelude.{◌≡◌, ◌↔◌, ◌+◌, ◌^◌, ◌<◌, ◌<ℤ◌, pos, IsTrue, false, true};
 ghost use Rattle.chinese_number.specs.Whole.{holds};
-ghost use Rattle.cn_lines.specs.Private.{IsWithin, stands_for, widest};
+ghost use Rattle.cn_lines.specs.Private.{kind_between, stands_for};
 
-use crate::numerals::Whole;
 use std::marker::Model;
 
 /// The sign and the magnitude of a number.
@@ -49,15 +48,26 @@ impl Model for IntegerType {
 }
 
 impl IntegerType {
-    /// The type `T`.
-    pub(crate) fn of<T: Whole>() -> Self
-        requires { IsWithin T.kind (widest T.SIGNED) }
-        ensures { result ≡ T.kind }
+    /// The unsigned type with this greatest number.
+    pub(crate) fn unsigned(greatest: u128) -> Self
+        ensures { result ≡ kind_between false 0 greatest }
     {
         IntegerType {
-            signed: T::SIGNED,
-            below: T::least().magnitude(),
-            above: T::greatest().magnitude(),
+            signed: false,
+            below: 0,
+            above: greatest,
+        }
+    }
+
+    /// The signed type with this greatest number: its least is one further from zero.
+    pub(crate) fn signed(greatest: u128) -> Self
+        requires { greatest < 2 ^ 127 }
+        ensures { result ≡ kind_between true (greatest + 1) greatest }
+    {
+        IntegerType {
+            signed: true,
+            below: greatest + 1,
+            above: greatest,
         }
     }
 

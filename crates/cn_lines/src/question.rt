@@ -35,12 +35,12 @@ fn unsigned_type(width: &[u8]) -> Option<IntegerType>
     ensures { result ≡ type_named (117 ∷ width.now) }
 {
     match width {
-        b"8" => Some(IntegerType::of::<u8>()),
-        b"16" => Some(IntegerType::of::<u16>()),
-        b"32" => Some(IntegerType::of::<u32>()),
-        b"64" => Some(IntegerType::of::<u64>()),
-        b"128" => Some(IntegerType::of::<u128>()),
-        b"size" => Some(IntegerType::of::<usize>()),
+        b"8" => Some(IntegerType::unsigned(u8::MAX as u128)),
+        b"16" => Some(IntegerType::unsigned(u16::MAX as u128)),
+        b"32" => Some(IntegerType::unsigned(u32::MAX as u128)),
+        b"64" => Some(IntegerType::unsigned(u64::MAX as u128)),
+        b"128" => Some(IntegerType::unsigned(u128::MAX)),
+        b"size" => Some(IntegerType::unsigned(usize::MAX as u128)),
         _ => None,
     }
 }
@@ -51,12 +51,12 @@ fn signed_type(width: &[u8]) -> Option<IntegerType>
     ensures { result ≡ type_named (105 ∷ width.now) }
 {
     match width {
-        b"8" => Some(IntegerType::of::<i8>()),
-        b"16" => Some(IntegerType::of::<i16>()),
-        b"32" => Some(IntegerType::of::<i32>()),
-        b"64" => Some(IntegerType::of::<i64>()),
-        b"128" => Some(IntegerType::of::<i128>()),
-        b"size" => Some(IntegerType::of::<isize>()),
+        b"8" => Some(IntegerType::signed(i8::MAX as u128)),
+        b"16" => Some(IntegerType::signed(i16::MAX as u128)),
+        b"32" => Some(IntegerType::signed(i32::MAX as u128)),
+        b"64" => Some(IntegerType::signed(i64::MAX as u128)),
+        b"128" => Some(IntegerType::signed(i128::MAX as u128)),
+        b"size" => Some(IntegerType::signed(isize::MAX as u128)),
         _ => None,
     }
 }

@@ -95,23 +95,27 @@ fn every_narrow_number(rt: HostRuntime) {
 }
 
 // The least and the greatest number of a type.
-fn reads_back_ends<T: NumberToChinese + PartialEq + Debug>(rt: &(impl Abort + AllocGlobal)) {
-    reads_back(rt, T::least());
-    reads_back(rt, T::greatest());
+fn reads_back_ends<T: NumberToChinese + PartialEq + Debug>(
+    rt: &(impl Abort + AllocGlobal),
+    least: T,
+    greatest: T,
+) {
+    reads_back(rt, least);
+    reads_back(rt, greatest);
 }
 
 #[test]
 fn the_ends_of_each_type(rt: HostRuntime) {
-    reads_back_ends::<u8>(&rt);
-    reads_back_ends::<u16>(&rt);
-    reads_back_ends::<u32>(&rt);
-    reads_back_ends::<u64>(&rt);
-    reads_back_ends::<u128>(&rt);
-    reads_back_ends::<usize>(&rt);
-    reads_back_ends::<i8>(&rt);
-    reads_back_ends::<i16>(&rt);
-    reads_back_ends::<i32>(&rt);
-    reads_back_ends::<i64>(&rt);
-    reads_back_ends::<i128>(&rt);
-    reads_back_ends::<isize>(&rt);
+    reads_back_ends(&rt, u8::MIN, u8::MAX);
+    reads_back_ends(&rt, u16::MIN, u16::MAX);
+    reads_back_ends(&rt, u32::MIN, u32::MAX);
+    reads_back_ends(&rt, u64::MIN, u64::MAX);
+    reads_back_ends(&rt, u128::MIN, u128::MAX);
+    reads_back_ends(&rt, usize::MIN, usize::MAX);
+    reads_back_ends(&rt, i8::MIN, i8::MAX);
+    reads_back_ends(&rt, i16::MIN, i16::MAX);
+    reads_back_ends(&rt, i32::MIN, i32::MAX);
+    reads_back_ends(&rt, i64::MIN, i64::MAX);
+    reads_back_ends(&rt, i128::MIN, i128::MAX);
+    reads_back_ends(&rt, isize::MIN, isize::MAX);
 }

@@ -17,20 +17,8 @@ impl Whole for i8 {
 
     ghost number = { λ x. x };
 
-    fn least() -> i8 {
-        i8::MIN
-    }
-
-    fn greatest() -> i8 {
-        i8::MAX
-    }
-
-    fn is_negative(self) -> bool {
-        self < 0
-    }
-
-    fn magnitude(self) -> u128 {
-        self.unsigned_abs() as u128
+    fn sign_and_magnitude(self) -> (bool, u128) {
+        (self < 0, self.unsigned_abs() as u128)
     }
 
     fn from_magnitude(negative: bool, magnitude: u128) -> Option<i8> {
@@ -57,20 +45,8 @@ impl Whole for i16 {
 
     ghost number = { λ x. x };
 
-    fn least() -> i16 {
-        i16::MIN
-    }
-
-    fn greatest() -> i16 {
-        i16::MAX
-    }
-
-    fn is_negative(self) -> bool {
-        self < 0
-    }
-
-    fn magnitude(self) -> u128 {
-        self.unsigned_abs() as u128
+    fn sign_and_magnitude(self) -> (bool, u128) {
+        (self < 0, self.unsigned_abs() as u128)
     }
 
     fn from_magnitude(negative: bool, magnitude: u128) -> Option<i16> {
@@ -97,20 +73,8 @@ impl Whole for i32 {
 
     ghost number = { λ x. x };
 
-    fn least() -> i32 {
-        i32::MIN
-    }
-
-    fn greatest() -> i32 {
-        i32::MAX
-    }
-
-    fn is_negative(self) -> bool {
-        self < 0
-    }
-
-    fn magnitude(self) -> u128 {
-        self.unsigned_abs() as u128
+    fn sign_and_magnitude(self) -> (bool, u128) {
+        (self < 0, self.unsigned_abs() as u128)
     }
 
     fn from_magnitude(negative: bool, magnitude: u128) -> Option<i32> {
@@ -137,20 +101,8 @@ impl Whole for i64 {
 
     ghost number = { λ x. x };
 
-    fn least() -> i64 {
-        i64::MIN
-    }
-
-    fn greatest() -> i64 {
-        i64::MAX
-    }
-
-    fn is_negative(self) -> bool {
-        self < 0
-    }
-
-    fn magnitude(self) -> u128 {
-        self.unsigned_abs() as u128
+    fn sign_and_magnitude(self) -> (bool, u128) {
+        (self < 0, self.unsigned_abs() as u128)
     }
 
     fn from_magnitude(negative: bool, magnitude: u128) -> Option<i64> {
@@ -177,20 +129,8 @@ impl Whole for isize {
 
     ghost number = { λ x. x };
 
-    fn least() -> isize {
-        isize::MIN
-    }
-
-    fn greatest() -> isize {
-        isize::MAX
-    }
-
-    fn is_negative(self) -> bool {
-        self < 0
-    }
-
-    fn magnitude(self) -> u128 {
-        self.unsigned_abs() as u128
+    fn sign_and_magnitude(self) -> (bool, u128) {
+        (self < 0, self.unsigned_abs() as u128)
     }
 
     fn from_magnitude(negative: bool, magnitude: u128) -> Option<isize> {

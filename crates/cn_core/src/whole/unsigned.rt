@@ -18,20 +18,8 @@ impl Whole for u8 {
 
     ghost number = { λ x. pos x };
 
-    fn least() -> u8 {
-        u8::MIN
-    }
-
-    fn greatest() -> u8 {
-        u8::MAX
-    }
-
-    fn is_negative(self) -> bool {
-        false
-    }
-
-    fn magnitude(self) -> u128 {
-        self as u128
+    fn sign_and_magnitude(self) -> (bool, u128) {
+        (false, self as u128)
     }
 
     fn from_magnitude(negative: bool, magnitude: u128) -> Option<u8> {
@@ -58,20 +46,8 @@ impl Whole for u16 {
 
     ghost number = { λ x. pos x };
 
-    fn least() -> u16 {
-        u16::MIN
-    }
-
-    fn greatest() -> u16 {
-        u16::MAX
-    }
-
-    fn is_negative(self) -> bool {
-        false
-    }
-
-    fn magnitude(self) -> u128 {
-        self as u128
+    fn sign_and_magnitude(self) -> (bool, u128) {
+        (false, self as u128)
     }
 
     fn from_magnitude(negative: bool, magnitude: u128) -> Option<u16> {
@@ -98,20 +74,8 @@ impl Whole for u32 {
 
     ghost number = { λ x. pos x };
 
-    fn least() -> u32 {
-        u32::MIN
-    }
-
-    fn greatest() -> u32 {
-        u32::MAX
-    }
-
-    fn is_negative(self) -> bool {
-        false
-    }
-
-    fn magnitude(self) -> u128 {
-        self as u128
+    fn sign_and_magnitude(self) -> (bool, u128) {
+        (false, self as u128)
     }
 
     fn from_magnitude(negative: bool, magnitude: u128) -> Option<u32> {
@@ -138,20 +102,8 @@ impl Whole for u64 {
 
     ghost number = { λ x. pos x };
 
-    fn least() -> u64 {
-        u64::MIN
-    }
-
-    fn greatest() -> u64 {
-        u64::MAX
-    }
-
-    fn is_negative(self) -> bool {
-        false
-    }
-
-    fn magnitude(self) -> u128 {
-        self as u128
+    fn sign_and_magnitude(self) -> (bool, u128) {
+        (false, self as u128)
     }
 
     fn from_magnitude(negative: bool, magnitude: u128) -> Option<u64> {
@@ -178,20 +130,8 @@ impl Whole for usize {
 
     ghost number = { λ x. pos x };
 
-    fn least() -> usize {
-        usize::MIN
-    }
-
-    fn greatest() -> usize {
-        usize::MAX
-    }
-
-    fn is_negative(self) -> bool {
-        false
-    }
-
-    fn magnitude(self) -> u128 {
-        self as u128
+    fn sign_and_magnitude(self) -> (bool, u128) {
+        (false, self as u128)
     }
 
     fn from_magnitude(negative: bool, magnitude: u128) -> Option<usize> {

@@ -18,20 +18,8 @@ impl Whole for u128 {
 
     ghost number = { λ x. pos x };
 
-    fn least() -> u128 {
-        u128::MIN
-    }
-
-    fn greatest() -> u128 {
-        u128::MAX
-    }
-
-    fn is_negative(self) -> bool {
-        false
-    }
-
-    fn magnitude(self) -> u128 {
-        self
+    fn sign_and_magnitude(self) -> (bool, u128) {
+        (false, self)
     }
 
     fn from_magnitude(negative: bool, magnitude: u128) -> Option<u128> {
@@ -62,20 +50,8 @@ impl Whole for i128 {
 
     ghost number = { λ x. x };
 
-    fn least() -> i128 {
-        i128::MIN
-    }
-
-    fn greatest() -> i128 {
-        i128::MAX
-    }
-
-    fn is_negative(self) -> bool {
-        self < 0
-    }
-
-    fn magnitude(self) -> u128 {
-        self.unsigned_abs()
+    fn sign_and_magnitude(self) -> (bool, u128) {
+        (self < 0, self.unsigned_abs())
     }
 
     fn from_magnitude(negative: bool, magnitude: u128) -> Option<i128> {
