@@ -13,5 +13,6 @@ pub mod Stacks
 pub mod Steps
 pub mod Tails
 pub mod ThreeBytes
+pub mod UnitOrder
 pub mod Walking
 pub mod WalkSteps

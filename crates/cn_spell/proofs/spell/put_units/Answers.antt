@@ -4,9 +4,14 @@ use Rattle.cn_core.specs.Mark.{digit, unit}
 use Rattle.cn_spell.specs.Working.Units.{start_of, unit_front}
 use Rattle.cn_spell.proofs.GroupWalks.{front-near}
 use Rattle.cn_spell.proofs.Pens.{Wrote, Wrote-more}
-use Rattle.cn_spell.proofs.UnitLoops.{front-then, front-else}
+use Rattle.cn_spell.proofs.UnitLoops.{front-then, front-else, front-room, front-done}
 use Rattle.cn_spell.proofs.spell.put_units.Goals.{then-start-above, else-start-above, then-above-filled+then-filled-start, else-above-filled, else-above-filled-via-then-above-filled+else-filled-start, else-above-filled-via-else-above-filled}
 use Rattle.cn_spell.proofs.spell.put_units.Goals as goal
+
+pub put_digit_if-requires-clause-room : goal.put_digit_if-requires-clause-room
+put_digit_if-requires-clause-room g c =
+    let own = front-near c.args.method c.args.position c.args.filled (omega arith) c.requires.position c.requires.group c.requires.filled (omega arith) in
+    omega (arith, ap length own, c.requires.room)
 
 pub put_unit_if-requires : goal.put_unit_if-requires
 put_unit_if-requires g c =
@@ -22,6 +27,25 @@ pub returns-then-filled-position-clause-marks : goal.returns-then-filled-positio
 returns-then-filled-position-clause-marks g c =
     let own = front-near c.args.method c.args.position c.args.filled (omega arith) c.requires.position c.requires.group c.requires.filled (omega arith) in
     λ marks h. rw (own, ← c.unit_at.ensures) (c.put_unit_if.ensures.marks _ (c.put_digit_if.ensures.marks marks h))
+
+pub put_digit_if-requires-then-filled-start-clause-room : goal.put_digit_if-requires-then-filled-start-clause-room
+put_digit_if-requires-then-filled-start-clause-room g c =
+    let l = c.loop-width in
+    let own = front-room c.args.method c.args.position c.args.filled l.above l.width-index c.widths-width-items.result.now l.invariant.0 _ _ _ c.loop-width-test.true c.if-start-above.true l.invariant.1 c.requires.room l.invariant.2.room in
+    omega (arith, own)
+
+pub put_unit_if-requires-then-start-above : goal.put_unit_if-requires-then-start-above
+put_unit_if-requires-then-start-above g c =
+    let l = c.loop-width in
+    let own = front-room c.args.method c.args.position c.args.filled l.above l.width-index c.widths-width-items.result.now l.invariant.0 _ _ _ c.loop-width-test.true c.if-start-above.true l.invariant.1 c.requires.room l.invariant.2.room in
+    record {
+      room = elim c.if-above-filled.branch [
+        | then-above-filled+then-filled-start v ↦
+            let flag : (l.above == c.args.filled && nat_lt c.args.filled (start_of (slice_index c.widths-width-items.result.now l.width-index) c.args.position)) ≡ true = grind (arith, nat_tests, v.if-above-filled.true, v.if-filled-start.true) in
+            rw v.pen-is (omega (arith, rw flag at own, v.put_digit_if-then-filled-start.ensures.room))
+        | else-above-filled v ↦ rw v.pen-is (omega (arith, own))
+      ];
+    }
 
 pub loop-width-preserved : goal.loop-width-preserved
 loop-width-preserved g c =
@@ -59,3 +83,15 @@ loop-width-preserved g c =
 
 pub returns-clause-setting : goal.returns-clause-setting
 returns-clause-setting g c = c.loop-width.invariant.2.setting
+
+pub returns-clause-room : goal.returns-clause-room
+returns-clause-room g c =
+    let l = c.loop-width in
+    let own = front-done c.args.method c.args.position c.args.filled l.above l.width-index c.widths-width-items.result.now l.invariant.0 _ c.loop-width-test.false l.invariant.1 in
+    omega (arith, ap length own, l.invariant.2.room)
+
+pub returns-clause-marks : goal.returns-clause-marks
+returns-clause-marks g c =
+    let l = c.loop-width in
+    let own = front-done c.args.method c.args.position c.args.filled l.above l.width-index c.widths-width-items.result.now l.invariant.0 _ c.loop-width-test.false l.invariant.1 in
+    λ marks h. rw own (l.invariant.2.marks marks h)

@@ -1,4 +1,5 @@
 use Rattle.std.proofs.Common.{arith}
+use Rattle.std.proofs.lemmas.Grind.{common_steps}
 use Rattle.cn_spell.proofs.NaiveTexts.{three-naive}
 use Rattle.cn_spell.proofs.ThreeBytes.{length-encode_all}
 use Rattle.cn_spell.proofs.naive.PlainText.count.Goals as goal
@@ -7,3 +8,6 @@ pub returns-clause-bytes : goal.returns-clause-bytes
 returns-clause-bytes c =
     let self = c.args.self.now in
     length-encode_all _ (three-naive self.characters.variant self.characters.case self.negative self.digits (omega (arith, c.len.ensures.magnitude)))
+
+pub returns-clause-count : goal.returns-clause-count
+returns-clause-count c = grind (arith, common_steps)
