@@ -117,7 +117,6 @@ fn answer_ended<W: Sink>(
 }
 
 // Answers what is kept at the end of the input, if it is a line.
-#[tactic(auto, using(crate::proofs::State::Replies_last))]
 fn answer_last<W: Sink>(
     alloc: Global,
     writer: &mut W,
