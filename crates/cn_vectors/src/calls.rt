@@ -22,6 +22,7 @@ macro_rules! by_method {
     };
 }
 
+/// What the reader of `u64` by this method answers.
 pub fn read_u64(method: ChineseCountMethod, text: &str) -> Answer<u64> {
     by_method!(
         method,
@@ -33,6 +34,7 @@ pub fn read_u64(method: ChineseCountMethod, text: &str) -> Answer<u64> {
     )
 }
 
+/// What the reader of `u128` by this method answers.
 pub fn read_u128(method: ChineseCountMethod, text: &str) -> Answer<u128> {
     by_method!(
         method,
@@ -44,6 +46,7 @@ pub fn read_u128(method: ChineseCountMethod, text: &str) -> Answer<u128> {
     )
 }
 
+/// What the reader of `i128` by this method answers.
 pub fn read_i128(method: ChineseCountMethod, text: &str) -> Answer<i128> {
     by_method!(
         method,
@@ -55,6 +58,7 @@ pub fn read_i128(method: ChineseCountMethod, text: &str) -> Answer<i128> {
     )
 }
 
+/// What the printer of `u128` by this method writes, in traditional script and lower case.
 pub fn print_u128(alloc: Global, method: ChineseCountMethod, number: u128) -> Printed {
     by_method!(
         method,
@@ -69,6 +73,7 @@ pub fn print_u128(alloc: Global, method: ChineseCountMethod, number: u128) -> Pr
     )
 }
 
+/// What the printer of `i128` by this method writes, in traditional script and lower case.
 pub fn print_i128(alloc: Global, method: ChineseCountMethod, number: i128) -> Printed {
     by_method!(
         method,
@@ -83,7 +88,7 @@ pub fn print_i128(alloc: Global, method: ChineseCountMethod, number: i128) -> Pr
     )
 }
 
-// What a reader answers to a text is this answer.
+/// Asserts that what a reader answers to a text is this answer.
 pub fn reads<T: Copy + PartialEq + Debug>(
     rt: &impl Abort,
     text: &str,
@@ -93,7 +98,7 @@ pub fn reads<T: Copy + PartialEq + Debug>(
     assert_eq!(rt; answer, *wanted, "{text}");
 }
 
-// What a printer writes is this text.
+/// Asserts that what a printer writes is this text.
 pub fn writes<E: Debug + Drop>(rt: &impl Abort, printed: Result<String, E>, text: &str) {
     assert_eq!(rt; printed.expect(rt, text).as_str(), text);
 }
