@@ -28,6 +28,15 @@ pub trait Whole: Copy {
 
     ghost NARROW: { Bool };
 
+    // The least and the greatest value.
+    const MIN: Self;
+
+    const MAX: Self;
+
+    ghost MIN: { Self };
+
+    ghost MAX: { Self };
+
     // Whether the type is signed, and its least and greatest number.
     ghost kind: { Kind };
 
@@ -55,6 +64,20 @@ pub trait Whole: Copy {
         self.sign_and_magnitude().1
     }
 
+    /// The least value of the type.
+    final fn least() -> Self
+        ensures { number result ≡ kind.least }
+    {
+        Self::MIN
+    }
+
+    /// The greatest value of the type.
+    final fn greatest() -> Self
+        ensures { number result ≡ kind.greatest }
+    {
+        Self::MAX
+    }
+
     /// The value with this sign and magnitude; `None` exactly where the type does not hold it.
     ///
     /// A negative 0 is 0.
@@ -67,6 +90,10 @@ pub trait Whole: Copy {
 
     // The type holds each number from its least to its greatest.
     ghost holds_each: { (z : ℤ) → IsTrue (holds kind z) → (x : Self) × (number x ≡ z) };
+
+    ghost least_is: { number MIN ≡ kind.least };
+
+    ghost greatest_is: { number MAX ≡ kind.greatest };
 
     // What each type shows by computing; the laws below follow from it.
     ghost is_whole: { IsWholeType SIGNED NARROW kind };

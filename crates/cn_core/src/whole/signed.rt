@@ -1,5 +1,5 @@
 // The signed types of up to 64 bits.
-ghost use Rattle.std.specs.Prelude.{refl, true, false};
+ghost use Rattle.std.specs.Prelude.{refl, true, false, pos, negsuc};
 ghost use Rattle.cn_core.specs.Whole.{signed_kind};
 
 use crate::Whole;
@@ -12,6 +12,14 @@ impl Whole for i8 {
     ghost SIGNED = { true };
 
     ghost NARROW = { true };
+
+    const MIN: i8 = i8::MIN;
+
+    const MAX: i8 = i8::MAX;
+
+    ghost MIN = { negsuc 127 };
+
+    ghost MAX = { pos 127 };
 
     ghost kind = { signed_kind 8 };
 
@@ -30,6 +38,10 @@ impl Whole for i8 {
     ghost holds_each = { λ z h. (z, refl) };
 
     ghost is_whole = { record { sign = refl; zero = refl; low = refl; width = refl; fits = refl } };
+
+    ghost least_is = { refl };
+
+    ghost greatest_is = { refl };
 }
 
 impl Whole for i16 {
@@ -40,6 +52,14 @@ impl Whole for i16 {
     ghost SIGNED = { true };
 
     ghost NARROW = { true };
+
+    const MIN: i16 = i16::MIN;
+
+    const MAX: i16 = i16::MAX;
+
+    ghost MIN = { negsuc 32767 };
+
+    ghost MAX = { pos 32767 };
 
     ghost kind = { signed_kind 16 };
 
@@ -58,6 +78,10 @@ impl Whole for i16 {
     ghost holds_each = { λ z h. (z, refl) };
 
     ghost is_whole = { record { sign = refl; zero = refl; low = refl; width = refl; fits = refl } };
+
+    ghost least_is = { refl };
+
+    ghost greatest_is = { refl };
 }
 
 impl Whole for i32 {
@@ -68,6 +92,14 @@ impl Whole for i32 {
     ghost SIGNED = { true };
 
     ghost NARROW = { false };
+
+    const MIN: i32 = i32::MIN;
+
+    const MAX: i32 = i32::MAX;
+
+    ghost MIN = { negsuc 2147483647 };
+
+    ghost MAX = { pos 2147483647 };
 
     ghost kind = { signed_kind 32 };
 
@@ -86,6 +118,10 @@ impl Whole for i32 {
     ghost holds_each = { λ z h. (z, refl) };
 
     ghost is_whole = { record { sign = refl; zero = refl; low = refl; width = refl; fits = refl } };
+
+    ghost least_is = { refl };
+
+    ghost greatest_is = { refl };
 }
 
 impl Whole for i64 {
@@ -96,6 +132,14 @@ impl Whole for i64 {
     ghost SIGNED = { true };
 
     ghost NARROW = { false };
+
+    const MIN: i64 = i64::MIN;
+
+    const MAX: i64 = i64::MAX;
+
+    ghost MIN = { negsuc 9223372036854775807 };
+
+    ghost MAX = { pos 9223372036854775807 };
 
     ghost kind = { signed_kind 64 };
 
@@ -114,6 +158,10 @@ impl Whole for i64 {
     ghost holds_each = { λ z h. (z, refl) };
 
     ghost is_whole = { record { sign = refl; zero = refl; low = refl; width = refl; fits = refl } };
+
+    ghost least_is = { refl };
+
+    ghost greatest_is = { refl };
 }
 
 impl Whole for isize {
@@ -124,6 +172,14 @@ impl Whole for isize {
     ghost SIGNED = { true };
 
     ghost NARROW = { false };
+
+    const MIN: isize = isize::MIN;
+
+    const MAX: isize = isize::MAX;
+
+    ghost MIN = { negsuc 9223372036854775807 };
+
+    ghost MAX = { pos 9223372036854775807 };
 
     ghost kind = { signed_kind 64 };
 
@@ -142,4 +198,8 @@ impl Whole for isize {
     ghost holds_each = { λ z h. (z, refl) };
 
     ghost is_whole = { record { sign = refl; zero = refl; low = refl; width = refl; fits = refl } };
+
+    ghost least_is = { refl };
+
+    ghost greatest_is = { refl };
 }

@@ -1,5 +1,5 @@
 // The unsigned types of up to 64 bits.
-ghost use Rattle.std.specs.Prelude.{refl, pos, false, true};
+ghost use Rattle.std.specs.Prelude.{refl, pos, negsuc, false, true};
 ghost use Rattle.cn_core.specs.Whole.{unsigned_kind};
 ghost use Rattle.cn_core.specs.WholeLaws.{pos_same, unsigned_holds};
 
@@ -13,6 +13,14 @@ impl Whole for u8 {
     ghost SIGNED = { false };
 
     ghost NARROW = { true };
+
+    const MIN: u8 = u8::MIN;
+
+    const MAX: u8 = u8::MAX;
+
+    ghost MIN = { 0 };
+
+    ghost MAX = { 255 };
 
     ghost kind = { unsigned_kind 8 };
 
@@ -31,6 +39,10 @@ impl Whole for u8 {
     ghost holds_each = { unsigned_holds 8 };
 
     ghost is_whole = { record { sign = refl; zero = refl; low = refl; width = refl; fits = refl } };
+
+    ghost least_is = { refl };
+
+    ghost greatest_is = { refl };
 }
 
 impl Whole for u16 {
@@ -41,6 +53,14 @@ impl Whole for u16 {
     ghost SIGNED = { false };
 
     ghost NARROW = { true };
+
+    const MIN: u16 = u16::MIN;
+
+    const MAX: u16 = u16::MAX;
+
+    ghost MIN = { 0 };
+
+    ghost MAX = { 65535 };
 
     ghost kind = { unsigned_kind 16 };
 
@@ -59,6 +79,10 @@ impl Whole for u16 {
     ghost holds_each = { unsigned_holds 16 };
 
     ghost is_whole = { record { sign = refl; zero = refl; low = refl; width = refl; fits = refl } };
+
+    ghost least_is = { refl };
+
+    ghost greatest_is = { refl };
 }
 
 impl Whole for u32 {
@@ -69,6 +93,14 @@ impl Whole for u32 {
     ghost SIGNED = { false };
 
     ghost NARROW = { false };
+
+    const MIN: u32 = u32::MIN;
+
+    const MAX: u32 = u32::MAX;
+
+    ghost MIN = { 0 };
+
+    ghost MAX = { 4294967295 };
 
     ghost kind = { unsigned_kind 32 };
 
@@ -87,6 +119,10 @@ impl Whole for u32 {
     ghost holds_each = { unsigned_holds 32 };
 
     ghost is_whole = { record { sign = refl; zero = refl; low = refl; width = refl; fits = refl } };
+
+    ghost least_is = { refl };
+
+    ghost greatest_is = { refl };
 }
 
 impl Whole for u64 {
@@ -97,6 +133,14 @@ impl Whole for u64 {
     ghost SIGNED = { false };
 
     ghost NARROW = { false };
+
+    const MIN: u64 = u64::MIN;
+
+    const MAX: u64 = u64::MAX;
+
+    ghost MIN = { 0 };
+
+    ghost MAX = { 18446744073709551615 };
 
     ghost kind = { unsigned_kind 64 };
 
@@ -115,6 +159,10 @@ impl Whole for u64 {
     ghost holds_each = { unsigned_holds 64 };
 
     ghost is_whole = { record { sign = refl; zero = refl; low = refl; width = refl; fits = refl } };
+
+    ghost least_is = { refl };
+
+    ghost greatest_is = { refl };
 }
 
 impl Whole for usize {
@@ -125,6 +173,14 @@ impl Whole for usize {
     ghost SIGNED = { false };
 
     ghost NARROW = { false };
+
+    const MIN: usize = usize::MIN;
+
+    const MAX: usize = usize::MAX;
+
+    ghost MIN = { 0 };
+
+    ghost MAX = { 18446744073709551615 };
 
     ghost kind = { unsigned_kind 64 };
 
@@ -143,4 +199,8 @@ impl Whole for usize {
     ghost holds_each = { unsigned_holds 64 };
 
     ghost is_whole = { record { sign = refl; zero = refl; low = refl; width = refl; fits = refl } };
+
+    ghost least_is = { refl };
+
+    ghost greatest_is = { refl };
 }

@@ -1,5 +1,5 @@
 // The types of 128 bits.
-ghost use Rattle.std.specs.Prelude.{refl, pos, false, true};
+ghost use Rattle.std.specs.Prelude.{refl, pos, negsuc, false, true};
 ghost use Rattle.cn_core.specs.Whole.{unsigned_kind, signed_kind};
 ghost use Rattle.cn_core.specs.WholeLaws.{pos_same, unsigned_holds};
 
@@ -13,6 +13,14 @@ impl Whole for u128 {
     ghost SIGNED = { false };
 
     ghost NARROW = { false };
+
+    const MIN: u128 = u128::MIN;
+
+    const MAX: u128 = u128::MAX;
+
+    ghost MIN = { 0 };
+
+    ghost MAX = { 340282366920938463463374607431768211455 };
 
     ghost kind = { unsigned_kind 128 };
 
@@ -35,6 +43,10 @@ impl Whole for u128 {
     ghost holds_each = { unsigned_holds 128 };
 
     ghost is_whole = { record { sign = refl; zero = refl; low = refl; width = refl; fits = refl } };
+
+    ghost least_is = { refl };
+
+    ghost greatest_is = { refl };
 }
 
 impl Whole for i128 {
@@ -45,6 +57,14 @@ impl Whole for i128 {
     ghost SIGNED = { true };
 
     ghost NARROW = { false };
+
+    const MIN: i128 = i128::MIN;
+
+    const MAX: i128 = i128::MAX;
+
+    ghost MIN = { negsuc 170141183460469231731687303715884105727 };
+
+    ghost MAX = { pos 170141183460469231731687303715884105727 };
 
     ghost kind = { signed_kind 128 };
 
@@ -67,4 +87,8 @@ impl Whole for i128 {
     ghost holds_each = { λ z h. (z, refl) };
 
     ghost is_whole = { record { sign = refl; zero = refl; low = refl; width = refl; fits = refl } };
+
+    ghost least_is = { refl };
+
+    ghost greatest_is = { refl };
 }
