@@ -29,10 +29,10 @@ use Rattle.cn_judge.specs.declared.error.ChineseToNumberError.{ChineseToNumberEr
 use Rattle.cn_judge.specs.declared.error.ChineseToNumberError.TheVariants.{Overflow}
 use Rattle.cn_core.proofs.Judging.{Judges-by_walk}
 
-pub first-stops : (c value : ℕ) → digit value ≡ mark_of c → (next : Option ReadMark) → false ≡ (value == 0 || not (digit_next next))
-    → (marks : List Mark) → each_may_precede marks ≡ true → digit_next next ≡ starts_with_digit marks → is_numeral (mark_of c ∷ marks) ≡ false
-first-stops c value is next h marks each starts =
-    let parts = both (value == 0) (digit_next next) h in
+pub first-stops : (c value : ℕ) → digit value ≡ mark_of c → (at_digit : Bool) → false ≡ (value == 0 || not at_digit)
+    → (marks : List Mark) → each_may_precede marks ≡ true → at_digit ≡ starts_with_digit marks → is_numeral (mark_of c ∷ marks) ≡ false
+first-stops c value is at_digit h marks each starts =
+    let parts = both (value == 0) at_digit h in
     ap (λ m. is_numeral (m ∷ marks)) (sym is) ∙ by parts.0 marks (sym starts ∙ parts.1) where
       both : (a b : Bool) → false ≡ (a || not b) → (a ≡ false) × (b ≡ true)
       both true b h = cc

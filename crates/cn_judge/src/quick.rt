@@ -34,6 +34,8 @@ ghost use Rattle.cn_judge.specs.Private.Regular.{Group, LeavesNoTail, MayOpen, S
 use crate::mark::Mark;
 use crate::open_groups::OpenGroups;
 use crate::text::{split_first_known, split_last_known};
+use crate::units::first_digit;
+use crate::walk::separates_digits;
 use cn_core::{ChineseCountMethod, Unit, exponent, power_of_ten};
 
 /// Where a quick walk stands between two characters.
@@ -49,32 +51,15 @@ pub struct QuickState {
     pub at_digit: bool,
 }
 
-// The powers of ten by their exponents, as far as units of a section go.
-static PLACES: [u64; 16] = [
-    1,
-    10,
-    100,
-    1_000,
-    10_000,
-    100_000,
-    1_000_000,
-    10_000_000,
-    100_000_000,
-    1_000_000_000,
-    10_000_000_000,
-    100_000_000_000,
-    1_000_000_000_000,
-    10_000_000_000_000,
-    100_000_000_000_000,
-    1_000_000_000_000_000,
-];
-
 // The number that a unit of a section stands for.
 fn place(unit: Unit) -> u64
     ensures value { result ≡ 10 ^ rank unit }
     ensures most { result ≤ 10 ^ 15 }
 {
-    PLACES[unit as usize]
+    let Some(power) = power_of_ten(unit as usize) else {
+        unreachable!()
+    };
+    power as u64
 }
 
 // The section's sum with one more digit, if it fits.
@@ -98,13 +83,6 @@ fn add_section(groups: &OpenGroups, total: u128, sum: u64) -> Option<u128>
     }
 }
 
-// Whether a digit may stand before what follows it.
-fn digit_may_precede(value: u8, at_digit: bool) -> bool
-    ensures { result ≡ ((value == 0) || not at_digit) }
-{
-    value == 0 || !at_digit
-}
-
 // One more digit.
 fn step_digit(state: QuickState, value: u8) -> Option<QuickState>
     requires { (method : ChineseCountMethod) × (marks : List NumeralMark) × (groups : List Group)
@@ -113,7 +91,7 @@ fn step_digit(state: QuickState, value: u8) -> Option<QuickState>
         → StandsRegular method marks groups state
         → IfSome result (StandsRegular method (digit value ∷ marks) groups) }
 {
-    if !digit_may_precede(value, state.at_digit) {
+    if !separates_digits(value, state.at_digit) {
         return None;
     }
     Some(QuickState {
@@ -254,20 +232,6 @@ fn step(
         Mark::Digit(value) => step_digit(state, value),
         Mark::Unit(unit) => step_unit(method, groups, state, unit, is_second),
         Mark::Other => None,
-    }
-}
-
-// The digit at the start of a text, where 十 is ten, if what follows lets it stand there.
-fn first_digit(first: Mark, at_digit: bool) -> Option<u8>
-    ensures { (marks : List NumeralMark) → each_may_precede marks ≡ true
-        → at_digit ≡ starts_with_digit marks
-        → IfSome result (λ value. (is_numeral (marked first ∷ marks) ≡ true)
-        × (with_first_digit (marked first ∷ marks) ≡ digit value ∷ marks)) }
-{
-    match first {
-        Mark::Digit(value) if digit_may_precede(value, at_digit) => Some(value),
-        Mark::Unit(Unit::Shi) => Some(10),
-        _ => None,
     }
 }
 

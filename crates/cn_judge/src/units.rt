@@ -13,6 +13,7 @@ ghost use Rattle.std.specs.Prelude.{
   true,
   false,
   length,
+  IfNone,
   IfSome,
   IsTrue,
   MatchOption,
@@ -37,20 +38,22 @@ use crate::open_units::OpenUnits;
 use crate::quick::read_quickly;
 use crate::sign::{signed_answer, split_sign};
 use crate::text::{count_chars, split_first, split_last_mark};
-use crate::walk::{separates_digits, walk};
+use crate::walk::{is_at_digit, separates_digits, walk};
 use cn_core::{ChineseCountMethod, Unit, Whole, scale};
 
-// Rule 1: the digit at the start of a text, where 十 is ten; it keeps rule 3 as any other.
-fn first_digit(first: char, next: Option<Mark>) -> Option<u8>
-    ensures { (marks : List NumeralMark) → each_may_precede marks ≡ true
-        → digit_next next ≡ starts_with_digit marks
-        → MatchOption result (is_numeral (mark_of first ∷ marks) ≡ false)
-        (λ value. (is_numeral (mark_of first ∷ marks) ≡ true)
-        × (with_first_digit (mark_of first ∷ marks) ≡ digit value ∷ marks)) }
+/// Rule 1: the digit at the start of a text, where 十 is ten; it keeps rule 3 as any other.
+pub fn first_digit(first: Mark, at_digit: bool) -> Option<u8>
+    ensures some { (marks : List NumeralMark) → each_may_precede marks ≡ true
+        → at_digit ≡ starts_with_digit marks
+        → IfSome result (λ value. (is_numeral (marked first ∷ marks) ≡ true)
+        × (with_first_digit (marked first ∷ marks) ≡ digit value ∷ marks)) }
+    ensures none { (c : ℕ) (marks : List NumeralMark) → marked first ≡ mark_of c
+        → each_may_precede marks ≡ true → at_digit ≡ starts_with_digit marks
+        → IfNone result (is_numeral (mark_of c ∷ marks) ≡ false) }
 {
-    match mark_of(first) {
+    match first {
         Mark::Digit(value) => {
-            if !separates_digits(value, next) {
+            if !separates_digits(value, at_digit) {
                 return None;
             }
             Some(value)
@@ -74,7 +77,7 @@ fn judge_plain(
 {
     let mut units = OpenUnits::new();
     let state = walk(method, char_index + 1, rest, &mut units)?;
-    let Some(digit) = first_digit(first, state.next) else {
+    let Some(digit) = first_digit(mark_of(first), is_at_digit(state.next)) else {
         return Err(ChineseToNumberError::ChineseNumberIncorrect { char_index });
     };
     units

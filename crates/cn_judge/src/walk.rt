@@ -43,11 +43,18 @@ fn unit_after(next: Option<Mark>) -> Option<Unit>
     }
 }
 
-/// Rule 3: no digit from 1 to 9 stands directly before a digit.
-pub fn separates_digits(value: u8, next: Option<Mark>) -> bool
-    ensures { result ≡ (value == 0 || not (digit_next next)) }
+/// Whether the mark that has just been met is a digit.
+pub fn is_at_digit(next: Option<Mark>) -> bool
+    ensures { result ≡ digit_next next }
 {
-    value == 0 || !matches!(next, Some(Mark::Digit(_)))
+    matches!(next, Some(Mark::Digit(_)))
+}
+
+/// Rule 3: no digit from 1 to 9 stands directly before a digit.
+pub fn separates_digits(value: u8, at_digit: bool) -> bool
+    ensures { result ≡ (value == 0 || not at_digit) }
+{
+    value == 0 || !at_digit
 }
 
 // Rule 4: a unit directly before a unit is smaller than it, except 十 directly before 個.
@@ -118,7 +125,7 @@ fn step_digit(state: WalkState, value: u8) -> Result<u128, Fault>
         × (sum ≡ state.sum + value))
         (λ fault. fault_of method (digit value) (marks_of walked) ≡ Some (fault_refusal fault)) }
 {
-    if !separates_digits(value, state.next) {
+    if !separates_digits(value, is_at_digit(state.next)) {
         return Err(Fault::Incorrect); // rule 3
     }
     if value == 0 {
