@@ -2,7 +2,7 @@
 ghost use Rattle.std.specs.Prelude.{◌≡◌, ◌+◌, ◌<◌, ◌≤◌, ◌^◌, ℕ, ◌++◌, take, length, slice_index};
 ghost use Rattle.cn_spell.specs.Working.Positions.{positions_of, positions_value, lowest, HoldsPositions};
 
-use crate::groups::{GROUP, PART};
+use crate::groups::{GROUP, split_part};
 use std::marker::Model;
 
 // A number of 128 bits has at most 39 digits.
@@ -25,15 +25,15 @@ impl<'a> Model for Digits<'a> {
 }
 
 impl<'a> Digits<'a> {
-    /// Takes the digits off into an array; at most two of the divisions are of 128 bits.
+    /// Takes the digits off into an array.
     pub fn of(positions: &'a mut [u8; MOST], magnitude: u128) -> Self
         ensures { result ≡ magnitude }
     {
         let mut len = 0;
         let mut above = magnitude;
         while above > u64::MAX as u128 {
-            let next = above / PART;
-            put_part(positions, len, (above - next * PART) as u64);
+            let (next, part) = split_part(above);
+            put_part(positions, len, part);
             len += 16;
             above = next;
         }

@@ -11,7 +11,8 @@ pub const MOST: usize = 9;
 // A group has four digits, and a part four groups: it fits 64 bits.
 pub const GROUP: u64 = 10_000;
 
-pub const PART: u128 = 10_000_000_000_000_000;
+// 5^16.
+const FIVES: u64 = 152_587_890_625;
 
 /// A magnitude, by its lowest groups of four digits and what stands in front of them.
 #[derive(Clone, Copy)]
@@ -42,8 +43,8 @@ impl<'a> Groups<'a> {
     }
 }
 
-// Takes off all groups but the highest, and none for `Low`; at most two of the divisions are of 128
-// bits. The result is how many groups these are, and what stands in front of them.
+// Takes off all groups but the highest, and none for `Low`. The result is how many groups these are,
+// and what stands in front of them.
 #[inline(always)]
 fn take_groups(
     groups: &mut [u16; MOST],
@@ -61,8 +62,8 @@ fn take_groups(
     let mut count = 0;
     let mut above = magnitude;
     while above > u64::MAX as u128 {
-        let next = above / PART;
-        put_part(groups, count, (above - next * PART) as u64);
+        let (next, part) = split_part(above);
+        put_part(groups, count, part);
         count += 4;
         above = next;
     }
@@ -73,6 +74,23 @@ fn take_groups(
         front /= GROUP;
     }
     (count, front)
+}
+
+// What stands in front of the lowest four groups, and their number. 10^16 is 2^16 times 5^16, so this
+// takes three divisions of 64 bits by 5^16, of 26 bits at a time, in place of one of 128 bits.
+#[inline(always)]
+pub fn split_part(number: u128) -> (u128, u64)
+    ensures front { result.0 ≡ number / 10 ^ 16 }
+    ensures part { result.1 ≡ number % 10 ^ 16 }
+{
+    let high = (number / (1 << 68)) as u64;
+    let middle = (number / (1 << 42) % (1 << 26)) as u64;
+    let low = (number / (1 << 16) % (1 << 26)) as u64;
+    let middle = high % FIVES * (1 << 26) + middle;
+    let low = middle % FIVES * (1 << 26) + low;
+    let lower = middle / FIVES * (1 << 26) + low / FIVES;
+    let front = (high / FIVES) as u128 * (1 << 52) + lower as u128;
+    (front, low % FIVES * (1 << 16) + (number % (1 << 16)) as u64)
 }
 
 // The four groups of a part, from the index on.

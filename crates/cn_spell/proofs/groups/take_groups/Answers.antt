@@ -1,4 +1,4 @@
-use Rattle.std.proofs.Common.{◌≡◌, ◌+◌, ◌-◌, ◌*◌, ◌/◌, ◌%◌, ◌^◌, ◌≤◌, refl, ap, ◌∙◌, arith, length-set}
+use Rattle.std.proofs.Common.{◌+◌, ◌/◌, ◌%◌, ◌^◌, ◌≤◌, refl, ap, ◌∙◌, arith, length-set}
 use Rattle.cn_spell.proofs.GroupCuts.{cut-more, cut-few, each-more, each-part}
 use Rattle.cn_spell.proofs.groups.take_groups.Goals as goal
 
@@ -12,10 +12,10 @@ pub loop-above-preserved : goal.loop-above-preserved
 loop-above-preserved c =
     let l = c.loop-above in
     let number = c.args.magnitude in
-    let part : l.above - l.above / 10 ^ 16 * 10 ^ 16 ≡ l.above % 10 ^ 16 = omega arith in
+    let part = c.split_part-next.ensures.part in
     let put = c.put_part.ensures in
     record {
-      split = cut-more number l.count 4 l.above l.invariant.split;
+      split = c.split_part-next.ensures.front ∙ cut-more number l.count 4 l.above l.invariant.split;
       each = each-part number l.count l.above l.groups c.put_part.new.groups l.invariant.split l.invariant.each put.lower
           (put.first ∙ ap (λ n. n % 10 ^ 4) part) (put.second ∙ ap (λ n. n / 10 ^ 4 % 10 ^ 4) part) (put.third ∙ ap (λ n. n / 10 ^ 8 % 10 ^ 4) part) (put.fourth ∙ ap (λ n. n / 10 ^ 12) part);
       some = λ h. omega arith;

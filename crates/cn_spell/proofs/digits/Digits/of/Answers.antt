@@ -1,4 +1,4 @@
-use Rattle.std.proofs.Common.{◌≡◌, ◌-◌, ◌*◌, ◌/◌, ◌%◌, ◌^◌, ◌<◌, ◌≤◌, ◌++◌, take, ap, ◌∙◌, arith}
+use Rattle.std.proofs.Common.{◌^◌, ◌<◌, ◌≤◌, ◌++◌, take, length, ap, ◌∙◌, arith}
 use Rattle.cn_spell.specs.Working.Positions.{positions_of, positions_value, lowest}
 use Rattle.cn_spell.proofs.PositionsLemmas.{positions-lowest, lowest-low, chunk-done, length-split, length-positions-le, holds, value-positions}
 use Rattle.cn_spell.proofs.digits.Digits.of.Goals as goal
@@ -13,14 +13,13 @@ pub loop-above-preserved : goal.loop-above-preserved
 loop-above-preserved c =
     let above = c.loop-above.above in
     let len = c.loop-above.len in
-    let next = above / 10 ^ 16 in
+    let split = c.split_part-next.ensures in
     let reach : 10 ^ 16 ≤ above = omega arith in
     let small : above < 10 ^ 64 = omega arith in
-    let part : above - next * 10 ^ 16 ≡ above % 10 ^ 16 = omega arith in
-    let put = c.put_part.ensures ∙ ap (λ n. take len c.loop-above.positions ++ lowest 16 n) part ∙ ap (λ low. take len c.loop-above.positions ++ low) (lowest-low 16 0 above) in
+    let put = c.put_part.ensures ∙ ap (λ n. take len c.loop-above.positions ++ lowest 16 n) split.part ∙ ap (λ low. take len c.loop-above.positions ++ low) (lowest-low 16 0 above) in
     record {
-      digits = chunk-done (take len c.loop-above.positions) (lowest 16 above) (positions_of next) _ (positions_of above) _ put (positions-lowest 16 above reach small) c.loop-above.invariant.digits;
-      end = omega (arith, length-split 16 above reach small, c.loop-above.invariant.end);
+      digits = chunk-done (take len c.loop-above.positions) (lowest 16 above) (positions_of c.split_part-next.result.0) _ (positions_of above) _ put (rw split.front (positions-lowest 16 above reach small)) c.loop-above.invariant.digits;
+      end = omega (arith, ap (λ n. length (positions_of n)) split.front, length-split 16 above reach small, c.loop-above.invariant.end);
     }
 
 pub put_rest-len-requires : goal.put_rest-len-requires
