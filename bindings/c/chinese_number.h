@@ -50,7 +50,7 @@ enum {
 enum {
     CN_DIGITS = 0,
     CN_LOW = 1,          /* each unit is ten times the one before: 億 is 10^5 */
-    CN_TEN_THOUSAND = 2, /* after 萬 each is 10^4 times the one before: 億 is 10^8, 兆 is 10^12. In use today */
+    CN_TEN_THOUSAND = 2, /* the one to use: after 萬 each is 10^4 times the one before. 10^12 is 兆, as in Taiwan; by the next two 萬億, as on the mainland */
     CN_MIDDLE = 3,       /* after 億 each is 10^8 times the one before: 兆 is 10^16, 京 is 10^24 */
     CN_HIGH = 4          /* from 億 on each is the square of the one before: 兆 is 10^16, 京 is 10^32 */
 };

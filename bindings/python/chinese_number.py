@@ -45,7 +45,8 @@ class Way(Enum):
     """How a number is written: as plain digits (一二三), or with units (一百二十三) by one of four methods.
 
     LOW: each unit is ten times the one before.
-    TEN_THOUSAND, in use today: after 萬 each unit is 10**4 times the one before.
+    TEN_THOUSAND, the one to use: after 萬 each unit is 10**4 times the one before. At 10**12 it
+    writes 兆, as in Taiwan, where MIDDLE and HIGH write 萬億, as on the mainland.
     MIDDLE: after 億 each unit is 10**8 times the one before.
     HIGH: from 億 on each unit is the square of the one before.
     """

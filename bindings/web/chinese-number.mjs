@@ -17,7 +17,7 @@ export const METHODS = Object.freeze(/** @type {const} */ (['naive', 'low', 'ten
 /** The scripts. */
 export const SCRIPTS = Object.freeze(/** @type {const} */ (['traditional', 'simple']));
 
-/** The cases: 'upper' has the forms of cheques. */
+/** The cases: 'upper' has the characters of cheques. */
 export const LETTER_CASES = Object.freeze(/** @type {const} */ (['upper', 'lower']));
 
 const STATUSES = ['done', 'empty', 'incorrect', 'tooLarge', 'tooSmall', 'notUtf8', 'noRoom', 'notHeld', 'unknown'];

@@ -19,9 +19,9 @@ pub enum ChineseToNumberError {
     ChineseNumberIncorrect { char_index: usize },
     /// The number is greater than the type's greatest: `二百五十六` as a `u8`.
     ///
-    /// To a unit reader also where a unit that the text names has a scale past 128 bits, as in
-    /// `零極` by `TenThousand`; and where such a unit, or a group of that size, is met from the
-    /// right before a fault, as in `極極`. To a naive reader also where the digits pass 128 bits,
+    /// To a unit reader also where a numeral names a unit whose scale is past 128 bits, as `零極` by
+    /// `TenThousand`; and where such a unit, or a group of that size, is met from the right before a
+    /// fault, as in `極極`. To a naive reader also where the digits pass 128 bits,
     /// whatever follows.
     Overflow,
     /// The number is less than the type's least, or what would be an overflow stands after a minus.

@@ -1,5 +1,5 @@
-//! Tests alone, by the public calls: worked examples, the upstream crate's vectors, and callers who
-//! print and read back.
+//! Tests alone, by the public calls and one of the quick way: worked examples, the upstream crate's
+//! vectors, and callers who print and read back.
 #![tactic(auto)]
 
 #[cfg(test)]

@@ -4,7 +4,7 @@ ghost use Rattle.std.specs.Prelude.{◌≡◌, Ok, IfOk};
 use chinese_number::laws::{naive_texts_read_back, spellings_read_back};
 use chinese_number::{
     ChineseCase, ChineseCountMethod, ChineseToNumber, ChineseToNumberError, ChineseVariant,
-    NumberToChinese, NumberToChineseError,
+    NumberToChinese, NumberToChineseError, Whole,
 };
 use std::alloc::{AllocError, Global};
 use std::fmt::Debug;
@@ -94,12 +94,21 @@ fn every_narrow_number(rt: HostRuntime) {
     }
 }
 
-// The least and the greatest number of a type.
+// The least and the greatest number of a type, as a caller has them who knows its bound alone.
+fn ends_of<T: Whole>() -> (T, T)
+    ensures least { T.number result.0 ≡ T.kind.least }
+    ensures greatest { T.number result.1 ≡ T.kind.greatest }
+{
+    (T::least(), T::greatest())
+}
+
+// The ends of a type, which std gives too, are read back.
 fn reads_back_ends<T: NumberToChinese + PartialEq + Debug>(
     rt: &(impl Abort + AllocGlobal),
     least: T,
     greatest: T,
 ) {
+    assert_eq!(rt; ends_of::<T>(), (least, greatest));
     reads_back(rt, least);
     reads_back(rt, greatest);
 }
