@@ -1,19 +1,27 @@
 #!/usr/bin/env python3
-"""Counts the must-fail edits: each public function and each method of an implementation or a public trait has one of its own.
+"""Holds the must-fail edits: who has one, what each turns, and how it is named.
 
 Usage: edits.py CRATES
 
-An edit belongs to the function in whose text an `old:` line of it stands: in the body, since a
-contract that is changed shows nothing; or, of a law, whose body does nothing, in the statement.
-Where a body is no text of its own, the edit writes the whole function anew between two of its
-lines.
+- Each public function and each method of an implementation or a public trait has an edit of its
+  own: in its body, or, of a law, whose body does nothing, in its statement.
+- Each edit turns one value and keeps the shape of the code, or has a twin: a line behind a `new:`,
+  of the same shape as it and with the right value. checks/twins.py shows that twins are proved.
+- Each is named by its function first (of a method also by its type and then the function; of a
+  table or a constant by its name or a function that cites it), and then by its fault.
 """
 import re
 import sys
+from collections import namedtuple
 from pathlib import Path
 
-HEAD = re.compile(r'(\s*)(pub )?(?:final )?(?:const )?(?:unsafe )?(?:extern "C" )?fn (\w+)')
-FILE = re.compile(r"^file: (.*)\n((?:(?:old|new): .*\n?)*)", re.MULTILINE)
+import edit_files
+
+HEAD = re.compile(r'(\s*)(pub )?(?:pub\(crate\) )?(?:final )?(?:const )?(?:unsafe )?(?:extern "C" )?fn (\w+)')
+TABLE = re.compile(r"\s*(?:pub )?(?:static|const) (\w+)")
+HOLDER = re.compile(r"(?:impl\b(?:.* for |(?:<.*?>)? )|(?:pub )?trait )(?:\w+::)*(\w+)")
+# What a line may belong to: where its head, its body and what follows it begin.
+Item = namedtuple("Item", "file name holder is_asked start body end")
 
 
 def functions_of(lines):
@@ -30,76 +38,121 @@ def functions_of(lines):
         yield head[3], head[2] is not None, start, body, end + 1
 
 
-def is_open(root, path):
-    """Whether the crate's root opens the file's module, or all of it is laws."""
-    module = path.relative_to(root.parent).parts[0].removesuffix(".rt")
-    return re.search(rf"^pub mod {module};", root.read_text(encoding="utf-8"), re.MULTILINE) is not None
-
-
-def in_implementations(lines):
-    """The lines that stand in an implementation of a trait, or in a public trait."""
-    inside, found = False, set()
-    for at, line in enumerate(lines):
-        inside = line != "}" and (inside or re.match(r"impl\b.* for |pub trait ", line) is not None)
-        if inside:
-            found.add(at)
+def holders_of(lines):
+    """Of each line the type or the trait in whose block it stands, in small letters; and whether all in it is public."""
+    name, is_public, found = "", False, []
+    for line in lines:
+        head = HOLDER.match(line)
+        if head is not None:
+            name, is_public = snake(head[1]), re.match(r"impl\b.* for |pub trait ", line) is not None
+        elif line == "}":
+            name, is_public = "", False
+        found.append((name, is_public))
     return found
 
 
-def changes_of(crate, texts):
-    """How many edits there are, and of each the file, the lines of its `old:` and the functions that it writes anew."""
-    edits, changes = sorted((crate / "must-fail").glob("*.edit")), []
-    for edit in edits:
-        for file, pairs in FILE.findall(edit.read_text(encoding="utf-8")):
-            text = texts.get(file, "")
-            places = [text.find(old) for old in re.findall(r"^old: (.*)$", pairs, re.MULTILINE)]
-            lines = [text.count("\n", 0, at) for at in places if at >= 0]
-            changes.append((file, lines, re.findall(r"\bfn (\w+)\(", pairs)))
-    return len(edits), changes
+def snake(name):
+    return re.sub(r"(?<=[a-z0-9])([A-Z])", r"_\1", name).lower()
 
 
-def turns(change, file, name, start, first, end):
-    """Whether the change is one of this function, whose text that may be changed stands from `first` to `end`."""
-    changed, lines, written = change
-    if changed != file or not lines:
-        return False
-    return any(first <= line < end for line in lines) or (name in written and min(lines) <= start <= max(lines))
-
-
-def bare_functions(crate, root, texts, changes):
-    """The public functions without an edit, and how many functions and laws there are."""
+def items_of(crate, root, texts):
+    """The functions of a crate, and its tables and constants."""
     handed_on = set(re.findall(r"\w+", " ".join(re.findall(r"^pub use ([^;]*);", texts["src/" + root.name], re.MULTILINE))))
-    bare, counts = [], [0, 0]
     for file, text in texts.items():
         lines = text.split("\n")
-        implemented, opened = in_implementations(lines), is_open(root, crate / file)
+        module = Path(file).parts[1].removesuffix(".rt")
+        is_open = re.search(rf"^pub mod {module};", texts["src/" + root.name], re.MULTILINE) is not None
+        holders = holders_of(lines)
         for name, public, start, body, end in functions_of(lines):
-            if start not in implemented and not (public and (opened or name in handed_on)):
-                continue
-            law = lines[end - 1].strip() == "{}"
-            counts[law] += 1
-            if not any(turns(change, file, name, start, start if law else body, end) for change in changes):
-                bare.append(f"{crate.name}/{file}:{start + 1} {name}")
-    return bare, counts
+            holder, is_public = holders[start]
+            yield Item(file, name, holder, is_public or public and (is_open or name in handed_on), start, body, end)
+        for start, line in enumerate(lines):
+            if TABLE.match(line) and " fn " not in line:
+                end = next(at for at in range(start, len(lines)) if lines[at].endswith(";"))
+                yield Item(file, TABLE.match(line)[1].lower(), holders[start][0], False, start, start, end + 1)
+
+
+def is_law(item, texts):
+    return texts[item.file].split("\n")[item.end - 1].strip() == "{}"
+
+
+def turned_items(changes, items, texts):
+    """What an edit turns: the items in which its lines stand, and those that it writes anew between two of them."""
+    for item in items:
+        ours = [change for change in changes if change.file == item.file and change.old in texts[item.file]]
+        lines = [texts[item.file].split(change.old)[0].count("\n") for change in ours]
+        anew = any(re.search(rf"\bfn {item.name}\(", change.new) for change in ours)
+        first = item.start if is_law(item, texts) else item.body
+        if any(first <= line < item.end for line in lines) or anew and min(lines) <= item.start <= max(lines):
+            yield item
+
+
+def fault_of_form(changes, texts):
+    """What is wrong with the form of an edit, if anything is."""
+    try:
+        made, twin = (edit_files.applied(changes, texts, twin=right) for right in (False, True))
+    except ValueError as error:
+        return str(error)
+    is_turn = edit_files.differ_in_one_value({file: texts[file] for file in made}, made)
+    if all(change.twin is None for change in changes):
+        return None if is_turn else "it turns more than one value and has no twin"
+    if is_turn:
+        return "it turns one value, so its twin is the source"
+    return None if edit_files.differ_in_one_value(twin, made) else "it and its twin differ in more than one value"
+
+
+def citing(owners, items, texts):
+    """The functions that cite one of these tables and constants in their file."""
+    for item in items:
+        body = "\n".join(texts[item.file].split("\n")[item.body : item.end])
+        if any(owner.file == item.file and re.search(rf"\b{owner.name.upper()}\b", body) for owner in owners):
+            yield item
+
+
+def is_named(name, changes, owners, items, texts):
+    """Whether an edit's name begins with that of something that it turns; with the type's, where that is all."""
+    if owners:
+        return any(name.startswith((f"{item.name}_", f"{item.holder}_{item.name}_")) for item in [*owners, *citing(owners, items, texts)])
+    file, old = changes[0].file, changes[0].old
+    holders = holders_of(texts[file].split("\n"))
+    return name.startswith(holders[texts[file].split(old)[0].count("\n")][0] + "_")
+
+
+def look_at(crate):
+    """What is wrong with the edits of a crate, and how many edits, twins, functions and laws there are."""
+    root = next(path for path in (crate / "src/lib.rt", crate / "src/main.rt") if path.exists())
+    texts = {
+        path.relative_to(crate).as_posix(): path.read_text(encoding="utf-8")
+        for path in sorted(crate.glob("src/**/*.rt"))
+        if not {"tests", "tests.rt"} & set(path.parts)
+    }
+    items = list(items_of(crate, root, texts))
+    asked = {item for item in items if item.is_asked}
+    bare, wrong, twins, edits = set(asked), [], 0, sorted((crate / "must-fail").glob("*.edit"))
+    for path in edits:
+        changes = edit_files.read(path)
+        owners = list(turned_items(changes, items, texts))
+        bare -= set(owners)
+        twins += any(change.twin is not None for change in changes)
+        fault = fault_of_form(changes, texts)
+        if fault is None and not is_named(path.stem, changes, owners, items, texts):
+            fault = "it is not named by what it turns: " + ", ".join(item.name for item in owners)
+        if fault is not None:
+            wrong.append(f"{crate.name}/{path.stem}: {fault}")
+    wrong += [f"{crate.name}/{item.file}:{item.start + 1}: {item.name} has no edit" for item in sorted(bare)]
+    laws = sum(is_law(item, texts) for item in asked)
+    return wrong, (len(edits), twins, len(asked) - laws, laws)
 
 
 def main():
     if len(sys.argv) != 2 or sys.argv[1].startswith("-"):
         sys.exit(__doc__)
-    edits, functions, laws, bare = 0, 0, 0, []
-    for crate in sorted(path.parent for path in Path(sys.argv[1]).glob("*/must-fail")):
-        root = next(path for path in (crate / "src/lib.rt", crate / "src/main.rt") if path.exists())
-        texts = {
-            path.relative_to(crate).as_posix(): path.read_text(encoding="utf-8")
-            for path in sorted(crate.glob("src/**/*.rt"))
-            if not {"tests", "tests.rt"} & set(path.parts)
-        }
-        count, changes = changes_of(crate, texts)
-        without, (of_functions, of_laws) = bare_functions(crate, root, texts, changes)
-        edits, functions, laws, bare = edits + count, functions + of_functions, laws + of_laws, bare + without
-    if bare:
-        sys.exit("edits: none of\n" + "\n".join(bare))
-    print(f"edits: {edits}, among them one of each of {functions} public functions and methods, and of {laws} laws")
+    looked = [look_at(path.parent) for path in sorted(Path(sys.argv[1]).glob("*/must-fail"))]
+    wrong = [line for lines, _ in looked for line in lines]
+    if wrong:
+        sys.exit("edits:\n" + "\n".join(wrong))
+    edits, twins, functions, laws = map(sum, zip(*(counts for _, counts in looked)))
+    print(f"edits: {edits}, {twins} of them with a twin, among them one of each of {functions} public functions and methods, and of {laws} laws")
 
 
 main()
