@@ -10,7 +10,7 @@ use Rattle.cn_core.specs.Scale.{scale_fits}
 use Rattle.cn_core.specs.Text.{marks_of}
 use Rattle.cn_core.specs.Value.{value}
 use Rattle.cn_judge.specs.declared.mark.Mark.{Mark as ReadMark}
-use Rattle.cn_judge.specs.Private.Walk.{opens_of, faults, number_answer, front_answer, further, refused_or, walked_answer, tail_answer, HasTail, HasNoTail, digit_next}
+use Rattle.cn_judge.specs.Private.Walk.{opens_of, faults, number_answer, front_answer, further, refused_or, walked_answer, tail_answer, HasTail, HasNoTail}
 use Rattle.cn_judge.specs.Private.Stack.{StackEntry, total_sum}
 use Rattle.cn_judge.specs.Private.Walked.{IsWalked}
 use Rattle.cn_judge.proofs.OpenSums.{total-value}

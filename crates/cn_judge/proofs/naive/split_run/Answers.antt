@@ -22,12 +22,3 @@ gathering-preserved c =
       small = omega (arith, inv.small, low);
       utf8 = search rules;
     }
-
-pub overflow_mul-run : goal.overflow_mul-run
-overflow_mul-run c = omega arith
-
-pub overflow_mul-run-in-gathering : goal.overflow_mul-run-in-gathering
-overflow_mul-run-in-gathering c = omega arith
-
-pub overflow_add-run-in-gathering : goal.overflow_add-run-in-gathering
-overflow_add-run-in-gathering c = omega arith

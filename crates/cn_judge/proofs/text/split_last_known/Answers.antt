@@ -1,21 +1,7 @@
-use Rattle.std.proofs.Common.{◌≡◌, ℕ, ◌-◌, ◌+◌, ◌≤◌, ◌<◌, IsUtf8, chars, length, get_or, take, sym, ap, ◌∙◌, subst, arith}
+use Rattle.std.proofs.Common.{◌≡◌, ℕ, ◌-◌, ◌+◌, ◌≤◌, ◌<◌, IsUtf8, chars, length, get_or, take, sym, ap, ◌∙◌, arith}
 use Rattle.std.specs.Str.{IsCharBoundary}
 use Rattle.cn_judge.proofs.ThreeBytes.{boundary-at, last-three, word-bytes}
 use Rattle.cn_judge.proofs.text.split_last_known.Goals as goal
-
-pub split_at-requires : goal.split_at-requires
-split_at-requires c =
-    let bytes = c.as_bytes-bytes.result.now in
-    let same = c.as_bytes-bytes.ensures.value in
-    let known = c.in_ok-mark.ensures in
-    let four = c.in_ok-four.four.now in
-    let cases = c.in_ok-four.ensures.cases in
-    let below : (i : ℕ) → get_or bytes i 0 < 256 = λ i. rw same (c.type_inv.text i).fits in
-    let next : length bytes - 3 ≡ length bytes - 4 + 1 = omega (arith, cases.0) in
-    let key = word-bytes bytes four (length bytes - 4) (length bytes - 3) _ below next cases.1.same c.from_le_bytes.ensures in
-    let low : 224 ≤ get_or bytes (length bytes - 3) 0 = let at = known.low in omega (arith, key.one, at) in
-    let boundary : IsCharBoundary bytes (length bytes - 3) = boundary-at bytes (length bytes - 3) (omega arith) low in
-    subst (λ l. IsCharBoundary l (length bytes - 3)) same boundary
 
 pub returns-clause-parts : goal.returns-clause-parts
 returns-clause-parts c =

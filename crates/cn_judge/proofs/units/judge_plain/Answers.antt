@@ -1,9 +1,8 @@
 use Rattle.std.proofs.Common.{sym, ap, ◌∙◌}
 use Rattle.cn_core.specs.Mark.{mark_of}
-use Rattle.cn_core.specs.Text.{text_of, marks_of}
 use Rattle.cn_judge.specs.Answer.{answer_of}
 use Rattle.cn_judge.specs.Private.Judged.{after_first}
-use Rattle.cn_judge.proofs.Endings.{walked-each, front-fits, front-stops, walk-stops, err-same, number_answer-ok_or}
+use Rattle.cn_judge.proofs.Endings.{walked-each, front-fits, number_answer-ok_or}
 use Rattle.cn_judge.proofs.WalkSteps.{walked-positive}
 use Rattle.cn_judge.proofs.units.judge_plain.Goals as goal
 
@@ -18,14 +17,3 @@ returns c =
     ap (answer_of (λ n. n)) c.ok_or.ensures.value ∙ number_answer-ok_or c.args.char_index _ c.args.rest.now _ c.finish.ensures
     ∙ sym (ap (after_first c.args.char_index c.args.rest.now)
     (front-fits c.args.method (mark_of c.args.first) _ _ _ _ _ w first))
-
-pub returns-in_err-state : goal.returns-in_err-state
-returns-in_err-state c =
-    let stop = c.in_err-state.ensures in
-    err-same _ _ c.from_residual.ensures ∙ stop.2 ∙ walk-stops c.args.method c.args.char_index (mark_of c.args.first) _ (marks_of (text_of c.args.rest.now)) stop.0 stop.1
-
-pub returns-in_default : goal.returns-in_default
-returns-in_default c =
-    let w = c.in_ok-state.ensures in
-    sym (ap (after_first c.args.char_index c.args.rest.now)
-    (front-stops c.args.method (mark_of c.args.first) _ _ _ _ w (c.in_default.ensures.none _ _ c.mark_of.ensures (walked-each c.args.method _ _ _ _ w) (c.is_at_digit.ensures ∙ w.after_digit))))
