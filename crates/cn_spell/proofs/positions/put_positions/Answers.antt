@@ -42,9 +42,6 @@ returns-clause-room g c =
     let spelled = ap length (spelled-last c.args.number l.position l.left l.invariant.within l.invariant.split (omega arith) l.invariant.reach) in
     omega (arith, spelled, length-append (top_marks l.position l.left) (so_far Low c.args.number l.position), l.invariant.room, c.put_top.ensures.room)
 
-pub returns-clause-setting : goal.returns-clause-setting
-returns-clause-setting g c = c.put_top.ensures.setting ∙ c.loop-left.invariant.setting
-
 pub returns-clause-marks : goal.returns-clause-marks
 returns-clause-marks g c =
     let l = c.loop-left in
