@@ -245,12 +245,12 @@ digit-over method (width ∷ widths) outer position d below inner filled above l
           ∙ ap (λ marks. digit d ∷ (marks ++ part method below)) (if-then (units_over method position filled (start + 1) widths ++ unit_front method filled above start) (units_over method position filled above widths) test)
       | yes short ↦
           let test : nat_le above start ≡ false = grind (arith, nat_tests, short) in
-          let otherwise = if-else (units_over method position filled (start + 1) widths ++ unit_front method filled above start) (units_over method position filled above widths) in
+          let otherwise = if-else {b = nat_le above start} (units_over method position filled (start + 1) widths ++ unit_front method filled above start) (units_over method position filled above widths) test in
           elim (dec_lt 0 size) [
             | no none_in ↦
                 let same : position % outer ≡ position % width = omega (arith, none_in, rest_in) in
                 let more = digit-over method widths width position d below inner filled above rest within pos ten (rw same at small) fills (rw same at is_above) some none in
-                ap (λ n. part method (d * 10 ^ n + below)) same ∙ more ∙ ap (λ marks. digit d ∷ (marks ++ part method below)) (otherwise test)
+                ap (λ n. part method (d * 10 ^ n + below)) same ∙ more ∙ ap (λ marks. digit d ∷ (marks ++ part method below)) otherwise
             | yes some_in ↦
                 let deep : size < inner = omega (arith, short, is_start, is_above, some_in) in
                 let least : 10 ^ size ≤ below = let p : 10 ^ size ≤ 10 ^ (inner - 1) = pow-le-pow_right (omega arith) (omega (arith, deep)) in omega (arith, p, fills.reach (omega (arith, deep))) in
@@ -260,7 +260,7 @@ digit-over method (width ∷ widths) outer position d below inner filled above l
                 ap (λ n. part method (n + below)) whole
                 ∙ join method (d * 10 ^ (position % width)) below size width (rank_at method start) d (units_over method position filled above widths) (Stands-stands method outer width position stand some_in) least
                 (omega (arith, fits, whole)) (omega (arith, few, whole)) more
-                ∙ ap (λ marks. digit d ∷ (marks ++ part method below)) (otherwise test)
+                ∙ ap (λ marks. digit d ∷ (marks ++ part method below)) otherwise
           ]
     ]
 
@@ -370,12 +370,12 @@ group-over method (width ∷ next ∷ widths) outer position g below inner fille
           ∙ ap (λ marks. part method g ++ (marks ++ part method below)) (if-then (units_over method position filled (start + 1) (next ∷ widths) ++ unit_front method filled above start) (units_over method position filled above (next ∷ widths)) test)
       | yes short ↦
           let test : nat_le above start ≡ false = grind (arith, nat_tests, short) in
-          let otherwise = if-else (units_over method position filled (start + 1) (next ∷ widths) ++ unit_front method filled above start) (units_over method position filled above (next ∷ widths)) in
+          let otherwise = if-else {b = nat_le above start} (units_over method position filled (start + 1) (next ∷ widths) ++ unit_front method filled above start) (units_over method position filled above (next ∷ widths)) test in
           elim (dec_lt 0 size) [
             | no none_in ↦
                 let same : position % outer ≡ position % width = omega (arith, none_in, rest_in) in
                 let more = group-over method (next ∷ widths) width position g below inner filled above rest within room four pos ten (rw same at small) fills (rw same at is_above) some none in
-                ap (λ n. part method (g * 10 ^ n + below)) same ∙ more ∙ ap (λ marks. part method g ++ (marks ++ part method below)) (otherwise test)
+                ap (λ n. part method (g * 10 ^ n + below)) same ∙ more ∙ ap (λ marks. part method g ++ (marks ++ part method below)) otherwise
             | yes some_in ↦
                 let deep : size < inner = omega (arith, short, is_start, is_above, some_in) in
                 let least : 10 ^ size ≤ below = let p : 10 ^ size ≤ 10 ^ (inner - 1) = pow-le-pow_right (omega arith) (omega (arith, deep)) in omega (arith, p, fills.reach (omega (arith, deep))) in
@@ -385,6 +385,6 @@ group-over method (width ∷ next ∷ widths) outer position g below inner fille
                 ap (λ n. part method (n + below)) whole
                 ∙ join-group method (g * 10 ^ (position % width)) below size width (rank_at method start) (part method g) (units_over method position filled above (next ∷ widths)) (Stands-stands method outer width position stand some_in) least
                 (omega (arith, fits, whole)) (omega (arith, few, whole)) more
-                ∙ ap (λ marks. part method g ++ (marks ++ part method below)) (otherwise test)
+                ∙ ap (λ marks. part method g ++ (marks ++ part method below)) otherwise
           ]
     ]

@@ -1,13 +1,15 @@
 -- What a printed text is.
-use Rattle.std.specs.Prelude.{◌≡◌, ℕ, ◌+◌, ◌*◌, ◌≤◌, List, length, encode_utf8_all, string_bytes, string_len}
+use Rattle.std.specs.Prelude.{◌≡◌, ℕ, ◌+◌, ◌*◌, ◌≤◌, List, length, encode_utf8_all, string_bytes, string_len, string_capacity}
 use Rattle.std.specs.declared.string.String.{String}
 
 -- the most bytes of plain digits, three for each character: the sign and 39 digits
 abbrev pub most_plain_bytes : ℕ
 most_plain_bytes = 3 * (1 + 39)
 
--- the text is these characters, three bytes for each, and has at most so many bytes
+-- the text is these characters, three bytes for each, and has at most so many bytes; it holds no
+-- more memory than its bytes
 pub record Writes {Z : Type 0} (characters : List ℕ) (most : ℕ) (text : String Z) : Type 0 where
   pub bytes : string_bytes text ≡ encode_utf8_all characters
   pub len : string_len text ≡ 3 * length characters
   pub bound : string_len text ≤ most
+  pub capacity : string_capacity text ≡ string_len text

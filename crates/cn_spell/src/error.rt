@@ -35,7 +35,7 @@ impl Error for NumberToChineseError {}
 impl From<AllocError> for NumberToChineseError {
     ghost from_gives = { λ _ error. error ≡ OutOfMemory };
 
-    fn from(_error: AllocError) -> NumberToChineseError {
-        NumberToChineseError::OutOfMemory
+    fn from(_error: AllocError) -> Self {
+        Self::OutOfMemory
     }
 }

@@ -72,11 +72,10 @@ pub fn print_naive<T: Whole>(
 ) -> Result<String, AllocError>
     ensures { IfOk result (Writes (naive_text variant case (T.number value)) most_plain_bytes) }
 {
-    let characters = Characters::new(variant, case);
     let mut taken = [0; MOST];
     let text = Plain::of(
         &mut taken,
-        characters,
+        Characters::new(variant, case),
         value.is_negative(),
         value.magnitude(),
     );

@@ -1,5 +1,5 @@
 // A text that says how many characters it has, and fills a room of its size.
-ghost use Rattle.std.specs.Prelude.{◌≡◌, ℕ, ◌*◌, ◌≤◌, List, length, encode_utf8_all, IfOk};
+ghost use Rattle.std.specs.Prelude.{◌≡◌, ℕ, ◌*◌, ◌≤◌, List, length, encode_utf8_all, vec_len, vec_capacity, IfOk};
 ghost use Rattle.std.specs.Str.{IsUtf8};
 ghost use Rattle.cn_spell.specs.Puts.{PutsInFront};
 ghost use Rattle.cn_spell.specs.Writes.{Writes};
@@ -28,12 +28,25 @@ pub trait Text {
         ensures utf8 { IsUtf8 bytes.new };
 }
 
+// So many bytes, in a room that has no more.
+#[inline(always)]
+fn zeros(alloc: Global, len: usize) -> Result<Vec<u8>, AllocError>
+    ensures len { IfOk result (λ bytes. vec_len bytes ≡ len) }
+    ensures capacity { IfOk result (λ bytes. vec_capacity bytes ≡ len) }
+{
+    let mut bytes = Vec::with_capacity(alloc, len)?;
+    for _ in 0..len {
+        bytes.push_reserved(0);
+    }
+    Ok(bytes)
+}
+
 /// The text in one request for memory.
 #[inline(always)]
 pub fn new_string<X: Text>(alloc: Global, text: &X) -> Result<String, AllocError>
     ensures { IfOk result (Writes (X.says text.now) (X.most text.now)) }
 {
-    let mut bytes = vec![in alloc; 0u8; 3 * text.count()]?;
+    let mut bytes = zeros(alloc, 3 * text.count())?;
     text.fill(&mut bytes);
     Ok(unsafe { String::from_utf8_unchecked(bytes) })
 }

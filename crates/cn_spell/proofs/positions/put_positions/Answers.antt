@@ -27,7 +27,7 @@ loop-left-preserved g c =
       digit = omega arith;
       room = omega (arith, ap length step, length-append marks (so_far Low number l.position), c.put_position.ensures.room, l.invariant.room);
       setting = c.put_position.ensures.setting ∙ l.invariant.setting;
-      marks = λ rest h. rw (step, append_assoc) (c.put_position.ensures.marks _ (l.invariant.marks rest h));
+      marks = λ rest h. rw (step, append_assoc marks (so_far Low number l.position) rest) (c.put_position.ensures.marks _ (l.invariant.marks rest h));
     }
 
 pub put_top-requires-clause-room : goal.put_top-requires-clause-room
@@ -42,11 +42,8 @@ returns-clause-room g c =
     let spelled = ap length (spelled-last c.args.number l.position l.left l.invariant.within l.invariant.split (omega arith) l.invariant.reach) in
     omega (arith, spelled, length-append (top_marks l.position l.left) (so_far Low c.args.number l.position), l.invariant.room, c.put_top.ensures.room)
 
-pub returns-clause-setting : goal.returns-clause-setting
-returns-clause-setting g c = c.put_top.ensures.setting ∙ c.loop-left.invariant.setting
-
 pub returns-clause-marks : goal.returns-clause-marks
 returns-clause-marks g c =
     let l = c.loop-left in
     let spelled = spelled-last c.args.number l.position l.left l.invariant.within l.invariant.split (omega arith) l.invariant.reach in
-    λ rest h. rw (spelled, append_assoc) (c.put_top.ensures.marks _ (l.invariant.marks rest h))
+    λ rest h. rw (spelled, append_assoc (top_marks l.position l.left) (so_far Low c.args.number l.position) rest) (c.put_top.ensures.marks _ (l.invariant.marks rest h))

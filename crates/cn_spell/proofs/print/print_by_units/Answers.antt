@@ -2,12 +2,8 @@ use Rattle.std.proofs.Common.{subst, IfOk}
 use Rattle.cn_core.specs.Spelling.{spelling}
 use Rattle.cn_spell.specs.Prints.{most_bytes}
 use Rattle.cn_spell.specs.Writes.{Writes}
-use Rattle.cn_spell.proofs.Bounds.{printable}
 use Rattle.cn_spell.proofs.Signs.{signed-is}
 use Rattle.cn_spell.proofs.print.print_by_units.Goals as goal
-
-pub print_magnitude-requires : goal.print_magnitude-requires
-print_magnitude-requires g c = printable c.args.method (g.T.Whole.number c.args.value) c.magnitude.result c.magnitude.ensures.value c.requires
 
 pub returns : goal.returns
 returns g c =

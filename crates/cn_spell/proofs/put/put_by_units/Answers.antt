@@ -2,12 +2,8 @@ use Rattle.std.proofs.Common.{subst}
 use Rattle.cn_core.specs.Spelling.{spelling}
 use Rattle.cn_spell.specs.Prints.{most_bytes}
 use Rattle.cn_spell.specs.Puts.{PutsInFront}
-use Rattle.cn_spell.proofs.Bounds.{printable}
 use Rattle.cn_spell.proofs.Signs.{signed-is}
 use Rattle.cn_spell.proofs.put.put_by_units.Goals as goal
-
-pub put_magnitude-requires : goal.put_magnitude-requires
-put_magnitude-requires g c = printable c.args.method (g.T.Whole.number c.args.value) c.magnitude.result c.magnitude.ensures.value c.requires
 
 pub returns : goal.returns
 returns g c =

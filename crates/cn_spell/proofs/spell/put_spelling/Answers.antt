@@ -103,9 +103,6 @@ returns-clause-room g c =
     let spelled = ap length (spelling-front method number groups.count groups.front l.filled c.requires.count c.requires.front groups.holds.split groups.holds.some (rw end at l.invariant.fills) (omega (arith, end, l.invariant.under))) in
     omega (arith, spelled, length-append (spelling Low groups.front) (front method position l.filled ++ part method (number % 10 ^ position)), length-append (front method position l.filled) (part method (number % 10 ^ position)), rw end at l.invariant.room, c.put_units-2.ensures.room, c.put_positions.ensures.room)
 
-pub returns-clause-setting : goal.returns-clause-setting
-returns-clause-setting g c = c.put_positions.ensures.setting ∙ c.put_units-2.ensures.setting ∙ c.loop-index.invariant.setting
-
 pub returns-clause-marks : goal.returns-clause-marks
 returns-clause-marks g c =
     let l = c.loop-index in

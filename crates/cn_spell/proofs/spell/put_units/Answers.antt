@@ -81,9 +81,6 @@ loop-width-preserved g c =
       )
     ]
 
-pub returns-clause-setting : goal.returns-clause-setting
-returns-clause-setting g c = c.loop-width.invariant.2.setting
-
 pub returns-clause-room : goal.returns-clause-room
 returns-clause-room g c =
     let l = c.loop-width in
