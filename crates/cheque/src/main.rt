@@ -1,4 +1,4 @@
-//! Writes the amount of a cheque, and reads the number of a chapter from its heading.
+//! Writes an amount in upper case, and reads the number of a chapter from its heading.
 #![tactic(auto)]
 
 ghost use Rattle.std.specs.Prelude.{◌≡◌, pos, Ok, Err, IfOk, MatchOption, string_bytes, encode_utf8_all};
@@ -17,8 +17,8 @@ use chinese_number::{
 use std::alloc::{AllocError, Global};
 use std::io;
 
-/// The amount in capitals, as it stands on a cheque.
-fn cheque_amount(alloc: Global, yuan: u64) -> Result<String, AllocError>
+/// An amount in upper case. (On a cheque 15 has to be 壹拾伍, and not 拾伍 as here.)
+fn amount_in_words(alloc: Global, yuan: u64) -> Result<String, AllocError>
     ensures { IfOk result (λ text. string_bytes text
         ≡ encode_utf8_all (spelled_text Simple Upper TenThousand (pos yuan))) }
 {
@@ -38,7 +38,7 @@ fn chapter_number(text: &str) -> Option<u16>
 }
 
 fn main(rt: HostRuntime) -> io::Result<()> {
-    let amount = cheque_amount(rt.alloc(), 1_280_500)?;
+    let amount = amount_in_words(rt.alloc(), 1_280_500)?;
     println!(rt; "{amount}元整")?;
     let heading = "第二十三回";
     let digits = heading.trim_start_matches('第').trim_end_matches('回');

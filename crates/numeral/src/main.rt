@@ -13,8 +13,8 @@
 //! follows the third. The other errors are `a chinese number cannot be empty`,
 //! `number is too large` and `number is too small`.
 //!
-//! The status is 0 where all was read and answered, 1 where a read or a write failed, and 2 where
-//! memory ran out.
+//! The status is 0 where all was read and answered, 1 where a read, a write or the last flush
+//! failed, and 2 where memory ran out.
 #![tactic(auto)]
 
 pub mod engine;

@@ -27,7 +27,7 @@ pub fn each_text_has_one_judgement()
 /// The judgement of a text is the one that `judge` computes, and no other.
 ///
 /// For whoever writes tests or tables of their own: `Judges` speaks of all fronts that a text could
-/// have, and `judge` looks at the text alone, once from right to left: 二十十 is refused at place 1.
+/// have, and `judge` looks at the text alone: 二十十 is refused at place 1.
 pub fn judgements_can_be_computed()
     ensures { (method : ChineseCountMethod) (marks : List Mark) (answer : Result ℕ Refusal)
         → Judges method marks answer ↔ (judge method marks ≡ answer) }

@@ -60,8 +60,8 @@ pub fn refusals_name_the_last_place()
 
 /// 零 with what stands after a place is a numeral: past the mark at fault nothing is wrong.
 ///
-/// For form validators: they mark one character, and what follows it can stay. In 二十十 that is
-/// the last 十.
+/// For form validators: they mark one character, and what follows it in the body can stay. In 二十十
+/// that is the last 十.
 pub fn nothing_is_wrong_after_a_place()
     ensures { (marks : List Mark) (place : ℕ)
         → IsPlace marks place → IsNumeral (digit 0 ∷ drop (place + 1) marks) }

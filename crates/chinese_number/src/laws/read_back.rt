@@ -29,8 +29,8 @@ pub fn spellings_are_numerals<T: Whole>()
 /// What is printed is read back: the written spelling of a number, in any script and case, is
 /// answered by that number and by nothing else.
 ///
-/// For amounts on cheques and invoices: 1,280,500 is written 一百二十八萬零五百 by `TenThousand`,
-/// and that reads as 1,280,500 and as nothing else.
+/// For whoever prints amounts: 1,280,500 is written 一百二十八萬零五百 by `TenThousand`, and that reads
+/// as 1,280,500 and as nothing else.
 pub fn spellings_read_back<T: Whole>()
     ensures { (variant : ChineseVariant) (case : ChineseCase) (method : ChineseCountMethod)
         (number : ℤ) → IsTrue (holds T.kind number) → IsTrue (is_printable method number)
@@ -42,7 +42,7 @@ pub fn spellings_read_back<T: Whole>()
 /// One text for each number: two numbers have the same written text, by one method or as plain
 /// digits and in one script and case, exactly where they are equal.
 ///
-/// For amounts on cheques and invoices: no two amounts look alike.
+/// For whoever prints amounts: no two amounts look alike.
 pub fn one_text_for_each_number<T: Whole>()
     ensures units { (variant : ChineseVariant) (case : ChineseCase) (method : ChineseCountMethod)
         (one other : ℤ) → IsTrue (holds T.kind one) → IsTrue (holds T.kind other)

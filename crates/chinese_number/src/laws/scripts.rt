@@ -12,8 +12,7 @@ use cn_core::Whole;
 
 /// The four texts of a number, by script and case, have equally many characters.
 ///
-/// For forms of cheques and invoices: they leave room for one of them. 123 has five characters in
-/// each.
+/// For forms: they leave room for one of them. 123 has five characters in each.
 pub fn texts_of_a_number_are_equally_long()
     ensures units { (one other : ChineseVariant) (first second : ChineseCase)
         (method : ChineseCountMethod) (number : ℤ)

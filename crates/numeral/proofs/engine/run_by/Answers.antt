@@ -54,10 +54,11 @@ returns-clause-leaves g c =
     let old = g.W.Sink.state c.args.writer.now in
     let read = g.W.Sink.state c.flush_and_read.new.writer in
     let flushed = State-flushed old (g.W.Sink.state c.reads.writer) read i.0 c.reads.buffers.line.items i.2 c.flush_and_read.ensures.kept in
-    let e : take c.in_ok-count.count c.flush_and_read.new.block ≡ [] = ap (λ n. take n c.flush_and_read.new.block) c.if-count-eq0.true in (
+    let none : c.in_ok-count.count ≡ 0 = omega arith in
+    let e : take c.in_ok-count.count c.flush_and_read.new.block ≡ [] = ap (λ n. take n c.flush_and_read.new.block) none in (
       i.0,
       subst (Consumes given left.remaining) (ap (λ l. i.0 ++ l) e ∙ append-nil i.0)
           (Consumes-trans given (g.R.Source.state c.reads.reader).remaining left.remaining i.0 _ i.1 c.in_ok-count.ensures.bytes.0),
       Leaves-finished (Unit {0}) left old read (g.W.Sink.state c.answer_last.new.writer) i.0 c.reads.buffers.line.items c.answer_last.result flushed c.in_ok-count.ensures.fails.0
-          (c.in_ok-count.ensures.bytes.1 c.if-count-eq0.true (omega arith)) c.answer_last.ensures.replies c.answer_last.ensures.some,
+          (c.in_ok-count.ensures.bytes.1 none (omega arith)) c.answer_last.ensures.replies c.answer_last.ensures.some,
     )
