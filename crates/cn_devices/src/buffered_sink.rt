@@ -108,10 +108,10 @@ impl<W: Sink> Sink for BufferedSink<W> {
             return Ok(bytes.len());
         }
         self.write_out()?;
-        if self.try_append(bytes) {
-            return Ok(bytes.len());
+        if !self.try_append(bytes) {
+            return self.inner.write(bytes);
         }
-        self.inner.write(bytes)
+        Ok(bytes.len())
     }
 
     fn flush(&mut self) -> Result<(), DeviceFault> {
