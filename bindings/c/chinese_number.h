@@ -2,7 +2,7 @@
  *
  * Link libchinese_number.a or libchinese_number.so, which bindings/archive.sh makes: for Linux on x86-64-v2 and later. They
  * need at most memcpy and memset of the C library and __udivti3 of the compiler's. No call takes memory, opens a file, reads
- * the locale or keeps anything between calls, so any number of threads may call at once, and signal handlers too.
+ * the locale or keeps anything between calls, so any number of threads may call at once.
  *
  * What the caller must see to, since nothing tests it:
  * - no pointer is NULL, not that of an empty text or room either;

@@ -25,16 +25,16 @@ use Rattle.cn_c.specs.declared.codes.Way.{Way}
 use Rattle.cn_c.specs.declared.codes.Way.TheVariants.{Digits, Units}
 use Rattle.cn_c.specs.declared.number.Number.{Number}
 use Rattle.cn_c.specs.declared.reading.Reading.{Reading}
-use Rattle.cn_c.specs.declared.status.TheConstants.{DONE, TOO_SMALL, TOO_LARGE}
+use Rattle.cn_c.specs.Codes.{CN_DONE, CN_TOO_SMALL, CN_TOO_LARGE}
 use Rattle.cn_c.specs.Halves.{number_of}
 use Rattle.cn_c.specs.Kinds.{the_kind}
 use Rattle.cn_c.specs.Prints.{Refuses, Puts, PrintsBy, PrintsNumber, IsPrintedAs}
 use Rattle.cn_c.specs.Reads.{ReadsBy, Tells, ReadsInto, IsReadAs}
 
 -- what is put where all goes well
-put-text : (text old new : List ℕ) (len : ℕ) → Puts text old DONE new len → take len new ≡ text
+put-text : (text old new : List ℕ) (len : ℕ) → Puts text old CN_DONE new len → take len new ≡ text
 put-text text old new len = by (nat_le (length text) (length old)) where
-  by : (b : Bool) → MatchBool b ((DONE ≡ 0) × (new ≡ text ++ drop (length text) old) × (len ≡ length text)) ((DONE ≡ 6) × (new ≡ old) × (len ≡ length text)) → take len new ≡ text
+  by : (b : Bool) → MatchBool b ((CN_DONE ≡ 0) × (new ≡ text ++ drop (length text) old) × (len ≡ length text)) ((CN_DONE ≡ 6) × (new ≡ old) × (len ≡ length text)) → take len new ≡ text
   by true p = rw (p.1, p.2) (take-append_seam text (drop (length text) old))
   by false p = absurd (omega (arith, p.0))
 
@@ -53,7 +53,7 @@ utf8-signed_text variant case false marks h = utf8-scalars _ (IsReadBack-marks v
 
 -- a number that is printed in a way is read in it
 read-by : (kind : Kind) (way : Way) (script : ChineseVariant) (case : ChineseCase) (number : ℤ) (old new : List ℕ) (len : ℕ) → IsWhole kind → holds kind number ≡ true
-    → PrintsBy way script case number old DONE new len
+    → PrintsBy way script case number old CN_DONE new len
     → IsUtf8 (take len new) × ((answer : Result ℤ Refusal) → ReadsBy kind way (take len new) answer → answer ≡ Ok number)
 read-by kind Digits script case number old new len whole held h =
     let small = whole.fits number held in
@@ -67,7 +67,7 @@ read-by kind (Units method) script case number old new len whole held h = by (is
   small = whole.fits number held
 
   by : (b : Bool) → is_printable method number ≡ b
-      → MatchBool b (Puts (encode_utf8_all (spelled_text script case method number)) old DONE new len) (Refuses (if int_lt number (pos 0) then TOO_SMALL else TOO_LARGE) old DONE new len)
+      → MatchBool b (Puts (encode_utf8_all (spelled_text script case method number)) old CN_DONE new len) (Refuses (if int_lt number (pos 0) then CN_TOO_SMALL else CN_TOO_LARGE) old CN_DONE new len)
       → IsUtf8 (take len new) × ((answer : Result ℤ Refusal) → ReadsBy kind (Units method) (take len new) answer → answer ≡ Ok number)
   by true e h =
       let text = put-text (encode_utf8_all (spelled_text script case method number)) old new len h in
@@ -77,7 +77,7 @@ read-by kind (Units method) script case number old new len whole held h = by (is
         λ answer r. Reads-same kind method (encode_utf8_all (spelled_text script case method number)) answer (Ok number) r (Reads-spelled kind method script case number whole held e),
       )
   by false e h = absurd (other (int_lt number (pos 0)) h.0) where
-    other : (b : Bool) → DONE ≡ (if b then TOO_SMALL else TOO_LARGE) → ⊥
+    other : (b : Bool) → CN_DONE ≡ (if b then CN_TOO_SMALL else CN_TOO_LARGE) → ⊥
     other true e = omega (arith, e)
     other false e = omega (arith, e)
 
@@ -106,10 +106,10 @@ whole I128 = signed-whole 128 (omega arith)
 
 -- and so it is told
 read-as : (kind : KindCode) (way : Way) (script : ChineseVariant) (case : ChineseCase) (number : Number) (old new : List ℕ) (len : ℕ)
-    → PrintsNumber (the_kind kind) way script case (number_of (the_kind kind).signed number) old DONE new len
+    → PrintsNumber (the_kind kind) way script case (number_of (the_kind kind).signed number) old CN_DONE new len
     → IsUtf8 (take len new)
     × ((status : ℕ) (reading : Reading) → IsReadAs (Some kind) (Some way) (take len new) status reading
-    → (status ≡ DONE) × (number_of (the_kind kind).signed reading.number ≡ number_of (the_kind kind).signed number) × (reading.char_index ≡ 0))
+    → (status ≡ CN_DONE) × (number_of (the_kind kind).signed reading.number ≡ number_of (the_kind kind).signed number) × (reading.char_index ≡ 0))
 read-as code way script case number old new len = by (holds kind value) refl where
   kind : Kind
   kind = the_kind code
@@ -118,13 +118,13 @@ read-as code way script case number old new len = by (holds kind value) refl whe
   value = number_of kind.signed number
 
   told : (status : ℕ) (reading : Reading) (answer : Result ℤ Refusal) → answer ≡ Ok value → Tells kind.signed answer status reading
-      → (status ≡ DONE) × (number_of kind.signed reading.number ≡ value) × (reading.char_index ≡ 0)
+      → (status ≡ CN_DONE) × (number_of kind.signed reading.number ≡ value) × (reading.char_index ≡ 0)
   told status reading answer e tells = rw e at tells
 
-  by : (b : Bool) → holds kind value ≡ b → MatchBool b (PrintsBy way script case value old DONE new len) (Refuses 7 old DONE new len)
+  by : (b : Bool) → holds kind value ≡ b → MatchBool b (PrintsBy way script case value old CN_DONE new len) (Refuses 7 old CN_DONE new len)
       → IsUtf8 (take len new)
       × ((status : ℕ) (reading : Reading) → IsReadAs (Some code) (Some way) (take len new) status reading
-      → (status ≡ DONE) × (number_of kind.signed reading.number ≡ value) × (reading.char_index ≡ 0))
+      → (status ≡ CN_DONE) × (number_of kind.signed reading.number ≡ value) × (reading.char_index ≡ 0))
   by true e h =
       let back = read-by kind way script case value old new len (whole code) e h in (
         back.0,
@@ -135,10 +135,10 @@ read-as code way script case number old new len = by (holds kind value) refl whe
   by false e h = absurd (omega (arith, h.0))
 
 pub read-back : (number : Number) (kind : Option KindCode) (way : Option Way) (script : Option ChineseVariant) (case : Option ChineseCase) (old new : List ℕ) (len : ℕ)
-    → IsPrintedAs number kind way script case old DONE new len
+    → IsPrintedAs number kind way script case old CN_DONE new len
     → IsUtf8 (take len new)
     × ((status : ℕ) (reading : Reading) → IsReadAs kind way (take len new) status reading
-    → (status ≡ DONE) × MatchOption kind ⊥ (λ kind. number_of (the_kind kind).signed reading.number ≡ number_of (the_kind kind).signed number) × (reading.char_index ≡ 0))
+    → (status ≡ CN_DONE) × MatchOption kind ⊥ (λ kind. number_of (the_kind kind).signed reading.number ≡ number_of (the_kind kind).signed number) × (reading.char_index ≡ 0))
 read-back number (Some kind) (Some way) (Some script) (Some case) old new len h = read-as kind way script case number old new len h
 read-back number None way script case old new len h = absurd (omega (arith, h.0))
 read-back number (Some kind) None script case old new len h = absurd (omega (arith, h.0))

@@ -1,12 +1,12 @@
 // What users can count on, as the contract of a function that does nothing.
 ghost use Rattle.std.specs.Prelude.{◌≡◌, ℕ, List, take};
 ghost use Rattle.std.specs.Str.{IsUtf8};
+ghost use Rattle.cn_c.specs.Codes.{CN_DONE};
 ghost use Rattle.cn_c.specs.Kinds.{AreSame};
 ghost use Rattle.cn_c.specs.Prints.{IsPrinted};
 ghost use Rattle.cn_c.specs.Reads.{IsRead};
 ghost use Rattle.cn_c.specs.declared.number.Number.{Number};
 ghost use Rattle.cn_c.specs.declared.reading.Reading.{Reading};
-ghost use Rattle.cn_c.specs.declared.status.TheConstants.{DONE};
 
 /// What `chinese_number_print` writes is UTF-8, and `chinese_number_read_utf8` reads it, as the
 /// same type and in the same way, as the same number.
@@ -14,8 +14,8 @@ ghost use Rattle.cn_c.specs.declared.status.TheConstants.{DONE};
 /// For amounts that cross from one language to another.
 pub fn printed_numbers_read_back()
     ensures { (number : Number) (kind way script case : ℕ) (old new : List ℕ) (len : ℕ)
-        → IsPrinted number kind way script case old DONE new len
+        → IsPrinted number kind way script case old CN_DONE new len
         → IsUtf8 (take len new)
         × ((status : ℕ) (reading : Reading) → IsRead (take len new) kind way status reading
-        → (status ≡ DONE) × AreSame kind reading.number number × (reading.char_index ≡ 0)) }
+        → (status ≡ CN_DONE) × AreSame kind reading.number number × (reading.char_index ≡ 0)) }
 {}

@@ -1,7 +1,7 @@
 // Output that is buffered and goes out in few writes: when the buffer is full, and at a flush.
 // Unlike std's buffered writer it tries no write again that was interrupted.
-ghost use Rattle.std.specs.Prelude.{◌≡◌, ◌↔◌, ◌+◌, ◌≤◌, ◌==◌, ◌||◌, ◌&&◌, ◌++◌, [], drop, false, if◌then◌else◌, is_err, length, not, IfOk, IsTrue, OnOk, vec_capacity, vec_len};
-ghost use Rattle.std.specs.Io.KnownBytes.{Keeps, append_known};
+ghost use Rattle.std.specs.Prelude.{◌≡◌, ◌↔◌, ◌+◌, ◌<◌, ◌≤◌, ◌==◌, ◌||◌, ◌&&◌, ◌++◌, [], drop, false, if◌then◌else◌, is_err, length, not, IfOk, IsTrue, OnOk, vec_capacity, vec_len};
+ghost use Rattle.std.specs.Io.KnownBytes.{Keeps, WriteAppends, append_known};
 ghost use Rattle.cn_devices.specs.declared.buffered_sink.TheConstants.{CAPACITY};
 
 use crate::device::Sink;
@@ -31,6 +31,7 @@ impl<W: Sink> BufferedSink<W> {
         ensures inner { IfOk result (λ sink. sink.inner ≡ inner) }
         ensures buffer { IfOk result (λ sink. sink.buffer.items ≡ []) }
         ensures written { IfOk result (λ sink. sink.written ≡ 0) }
+        ensures memory { IfOk result (λ sink. vec_capacity sink.buffer ≡ 65536) }
     {
         let buffer = Vec::with_capacity(alloc, CAPACITY)?;
         Ok(BufferedSink {
@@ -84,15 +85,33 @@ impl<W: Sink> Sink for BufferedSink<W> {
       flush_failed = vec_len s.buffer == 0 && (W.state s.inner).flush_failed;
     } };
 
-    fn write(&mut self, bytes: &[u8]) -> Result<usize, DeviceFault> {
+    // Bytes that fit 65,536 with those that are buffered go behind them, and nothing goes on.
+    fn write(&mut self, bytes: &[u8]) -> Result<usize, DeviceFault>
+        requires some { 0 < length bytes.now }
+        requires works { (W.state self.old.inner).failed ≡ false }
+        ensures bound { IfOk result (λ n. n ≤ length bytes.now) }
+        ensures progress { IfOk result (λ n. 0 < n) }
+        ensures fails { (W.state self.new.inner).failed ≡ is_err result }
+        ensures bytes { WriteAppends
+            (append_known (W.state self.old.inner).contents
+            (drop self.old.written self.old.buffer.items))
+            (append_known (W.state self.new.inner).contents
+            (drop self.new.written self.new.buffer.items)) result bytes.now }
+        ensures unflushed { OnOk result
+            ((vec_len self.new.buffer == 0 && (W.state self.new.inner).flush_failed) ≡ false) }
+        ensures buffers { vec_len self.old.buffer + length bytes.now ≤ 65536
+            → (result ≡ Ok (length bytes.now))
+            × (self.new.buffer.items ≡ self.old.buffer.items ++ bytes.now)
+            × (self.new.inner ≡ self.old.inner) }
+    {
         if self.try_append(bytes) {
             return Ok(bytes.len());
         }
         self.write_out()?;
-        if self.try_append(bytes) {
-            return Ok(bytes.len());
+        if !self.try_append(bytes) {
+            return self.inner.write(bytes);
         }
-        self.inner.write(bytes)
+        Ok(bytes.len())
     }
 
     fn flush(&mut self) -> Result<(), DeviceFault> {

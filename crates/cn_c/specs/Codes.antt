@@ -1,0 +1,63 @@
+-- What each code names and what each status says, as in `chinese_number.h`.
+use Rattle.std.specs.Prelude.{ℕ, List, [], ◌∷◌}
+use Rattle.chinese_number.specs.declared.ChineseCase.{ChineseCase}
+use Rattle.chinese_number.specs.declared.ChineseCase.TheVariants.{Upper, Lower}
+use Rattle.chinese_number.specs.declared.ChineseCountMethod.TheVariants.{Low, TenThousand, Middle, High}
+use Rattle.chinese_number.specs.declared.ChineseVariant.{ChineseVariant}
+use Rattle.chinese_number.specs.declared.ChineseVariant.TheVariants.{Traditional, Simple}
+use Rattle.cn_c.specs.declared.codes.Kind.{Kind}
+use Rattle.cn_c.specs.declared.codes.Kind.TheVariants.{U8, U16, U32, U64, U128, I8, I16, I32, I64, I128}
+use Rattle.cn_c.specs.declared.codes.Way.{Way}
+use Rattle.cn_c.specs.declared.codes.Way.TheVariants.{Digits, Units}
+
+-- the integer types, in the order of their codes from 0 on
+abbrev pub kinds : List Kind
+kinds = U8 ∷ U16 ∷ U32 ∷ U64 ∷ U128 ∷ I8 ∷ I16 ∷ I32 ∷ I64 ∷ I128 ∷ []
+
+-- the ways, likewise
+abbrev pub ways : List Way
+ways = Digits ∷ Units Low ∷ Units TenThousand ∷ Units Middle ∷ Units High ∷ []
+
+-- the scripts
+abbrev pub scripts : List ChineseVariant
+scripts = Traditional ∷ Simple ∷ []
+
+-- the cases
+abbrev pub cases : List ChineseCase
+cases = Upper ∷ Lower ∷ []
+
+-- the number was read, or the text was written
+abbrev pub CN_DONE : ℕ
+CN_DONE = 0
+
+-- nothing is left of the text
+abbrev pub CN_EMPTY : ℕ
+CN_EMPTY = 1
+
+-- a character cannot stand where it stands
+abbrev pub CN_INCORRECT : ℕ
+CN_INCORRECT = 2
+
+-- the number is too large
+abbrev pub CN_TOO_LARGE : ℕ
+CN_TOO_LARGE = 3
+
+-- the number is too small
+abbrev pub CN_TOO_SMALL : ℕ
+CN_TOO_SMALL = 4
+
+-- the bytes are no UTF-8
+abbrev pub CN_NOT_UTF8 : ℕ
+CN_NOT_UTF8 = 5
+
+-- the text does not fit the room
+abbrev pub CN_NO_ROOM : ℕ
+CN_NO_ROOM = 6
+
+-- the type does not hold the number
+abbrev pub CN_NOT_HELD : ℕ
+CN_NOT_HELD = 7
+
+-- a code names nothing
+abbrev pub CN_UNKNOWN : ℕ
+CN_UNKNOWN = 8
