@@ -102,10 +102,10 @@ def fault_of_form(changes, texts):
 
 
 def citing(owners, items, texts):
-    """The functions that cite one of these tables and constants in their file."""
+    """The functions that cite one of these tables and constants."""
     for item in items:
         body = "\n".join(texts[item.file].split("\n")[item.body : item.end])
-        if any(owner.file == item.file and re.search(rf"\b{owner.name.upper()}\b", body) for owner in owners):
+        if any(re.search(rf"\b{owner.name.upper()}\b", body) for owner in owners):
             yield item
 
 
