@@ -1,4 +1,5 @@
--- What holds of every integer type.
+-- What holds of every integer type: but for `farthest` and `IsWholeType` these are proofs, and
+-- nothing hangs on them. They stand in `specs`, since the code of a trait may cite no `proofs`.
 use Rattle.std.proofs.Common.{◌≡◌, ◌↔◌, ℕ, ◌^◌, ◌<◌, ◌≤◌, max, nat_le, nat_lt, ℤ, pos, negsuc, nat_abs, Bool, true, false, if◌then◌else◌, refl, sym, ap, ◌∙◌, arith}
 use Rattle.std.proofs.lemmas.Bool.Decides.{nat_tests}
 use Rattle.std.proofs.lemmas.Int.{ints}

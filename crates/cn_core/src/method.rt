@@ -2,7 +2,8 @@ ghost use Rattle.std.specs.Prelude.{◌≡◌, [], ◌∷◌};
 
 /// The method by which units stand for powers of ten. Up to 萬, 10^4, all four agree.
 ///
-/// `TenThousand` is the one in use today; take another only for old texts that were written by it.
+/// Use `TenThousand`. Below 10^12 it writes what `Middle` and `High` write; at 10^12 it writes 兆, as
+/// in Taiwan, and they 萬億, as on the mainland.
 #[derive(Debug, Copy, Clone, Eq, PartialEq, Hash)]
 pub enum ChineseCountMethod {
     /// Each unit is ten of the one before: 億 is 10^5, 兆 is 10^6, 極 is 10^15.

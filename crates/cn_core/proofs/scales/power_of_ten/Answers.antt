@@ -1,5 +1,6 @@
+use Rattle.std.proofs.Common.{rules}
 use Rattle.cn_core.proofs.Powers.{entry_is_power}
 use Rattle.cn_core.proofs.scales.power_of_ten.Goals as goal
 
 pub returns : goal.returns
-returns c = rw c.copied.ensures (entry_is_power _ _ c.get.ensures.lookup)
+returns c = search (rules, entry_is_power)
