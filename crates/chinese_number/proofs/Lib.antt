@@ -7,7 +7,6 @@ pub mod PlainDigits
 pub mod Printed
 pub mod Reading
 pub mod Refusals
-pub mod Scripts
 pub mod Signs
 pub mod SmallUnits
 pub mod SpelledMarks

@@ -1,5 +1,5 @@
 -- Methods spell alike where they have the same units.
-use Rattle.std.proofs.Common.{◌≡◌, ◌≢◌, ℕ, zero, suc, ◌+◌, ◌/◌, ◌%◌, ◌^◌, ◌<◌, ◌≤◌, false, nat_le, List, ◌∷◌, ◌++◌, refl, sym, ap, ap₂, ◌∙◌, arith}
+use Rattle.std.proofs.Common.{◌≡◌, ℕ, zero, suc, ◌+◌, ◌/◌, ◌%◌, ◌^◌, ◌<◌, ◌≤◌, false, nat_le, List, ◌∷◌, ◌++◌, refl, sym, ap, ap₂, ◌∙◌, arith}
 use Rattle.std.proofs.Math.Decide.{dec_lt}
 use Rattle.std.proofs.Math.Nat.{div-le_self, mod-lt}
 use Rattle.std.proofs.lemmas.Bool.{leb-true}
@@ -115,13 +115,3 @@ three_alike number small = (
 pub two_alike : (number : ℕ) → number < 10 ^ 24 → spelling Middle number ≡ spelling High number
 two_alike number small =
     spelling-same Middle High 6 (10 ^ 24) number (record { low = omega arith; same = up_to_next Middle High 5 (up_to_next Middle High 4 (scale-low Middle High) refl) refl; one_next = leb-true _ _ refl; second_next = leb-true _ _ refl }) small
-
--- and at the bounds they do not
-pub low_otherwise : (spelling Low (10 ^ 5) ≢ spelling TenThousand (10 ^ 5)) × (spelling Low (10 ^ 5) ≢ spelling Middle (10 ^ 5)) × (spelling Low (10 ^ 5) ≢ spelling High (10 ^ 5))
-low_otherwise = (λ e. cc, λ e. cc, λ e. cc)
-
-pub ten_thousand_otherwise : (spelling TenThousand (10 ^ 12) ≢ spelling Middle (10 ^ 12)) × (spelling TenThousand (10 ^ 12) ≢ spelling High (10 ^ 12))
-ten_thousand_otherwise = (λ e. cc, λ e. cc)
-
-pub middle_otherwise : spelling Middle (10 ^ 24) ≢ spelling High (10 ^ 24)
-middle_otherwise e = cc

@@ -3,10 +3,9 @@ use Rattle.std.proofs.Common.{◌≡◌, ℕ, ℤ, List, drop, Option, Result, O
 use Rattle.cn_core.specs.declared.method.ChineseCountMethod.{ChineseCountMethod}
 use Rattle.cn_core.specs.declared.sign.Sign.{Sign}
 use Rattle.cn_core.specs.Judge.{Judges}
-use Rattle.cn_core.specs.Naive.{naive_answer}
 use Rattle.cn_core.specs.Refusal.{Refusal, empty, incorrect_at, too_large, too_small}
 use Rattle.cn_core.specs.Text.{text_of, marks_of}
-use Rattle.cn_core.specs.Reading.{Reads, leading_sign, sign_len, typed_answer, naive_reading}
+use Rattle.cn_core.specs.Reading.{Reads, leading_sign, sign_len, typed_answer}
 use Rattle.cn_core.specs.Whole.{Kind}
 use Rattle.cn_core.proofs.Judging.{Judges-same}
 use Rattle.chinese_number.specs.Places.{without_spot}
@@ -29,10 +28,3 @@ Reads-same_text kind method one other same first second (x, is_x, first_is) (y, 
     ap without_spot (first_is ∙ ap (λ text. typed_answer kind one (sign text) x) same)
     ∙ without_spot-same kind one other (sign (text_of other)) x
     ∙ ap without_spot (ap (typed_answer kind other (sign (text_of other))) judged ∙ sym second_is)
-
-pub naive_reading-same_text : (kind : Kind) (one other : List ℕ) → text_of one ≡ text_of other → without_spot (naive_reading kind one) ≡ without_spot (naive_reading kind other)
-naive_reading-same_text kind one other same =
-    let sign = λ (text : List ℕ). leading_sign kind.signed text in
-    let judged = λ (text : List ℕ). naive_answer (marks_of (drop (sign_len (sign text)) text)) in
-    ap (λ text. without_spot (typed_answer kind one (sign text) (judged text))) same
-    ∙ without_spot-same kind one other (sign (text_of other)) (judged (text_of other))
