@@ -69,7 +69,7 @@ def items_of(crate, root, texts):
         for start, line in enumerate(lines):
             if TABLE.match(line) and " fn " not in line:
                 end = next(at for at in range(start, len(lines)) if lines[at].endswith(";"))
-                yield Item(file, TABLE.match(line)[1].lower(), holders[start][0], False, start, start, end + 1)
+                yield Item(file, TABLE.match(line)[1], holders[start][0], False, start, start, end + 1)
 
 
 def is_law(item, texts):
@@ -105,17 +105,19 @@ def citing(owners, items, texts):
     """The functions that cite one of these tables and constants."""
     for item in items:
         body = "\n".join(texts[item.file].split("\n")[item.body : item.end])
-        if any(re.search(rf"\b{owner.name.upper()}\b", body) for owner in owners):
+        if any(owner.name.isupper() and re.search(rf"\b{owner.name}\b", body) for owner in owners):
             yield item
 
 
 def is_named(name, changes, owners, items, texts):
-    """Whether an edit's name begins with that of something that it turns; with the type's, where that is all."""
-    if owners:
-        return any(name.startswith((f"{item.name}_", f"{item.holder}_{item.name}_")) for item in [*owners, *citing(owners, items, texts)])
+    """Whether an edit's name begins with that of something that it turns; with the type's, where it turns no function."""
+    found = [*owners, *citing(owners, items, texts)]
+    if any(name.startswith((f"{item.name.lower()}_", f"{item.holder}_{item.name.lower()}_")) for item in found):
+        return True
     file, old = changes[0].file, changes[0].old
     holders = holders_of(texts[file].split("\n"))
-    return name.startswith(holders[texts[file].split(old)[0].count("\n")][0] + "_")
+    holder, _ = holders[texts[file].split(old)[0].count("\n")]
+    return all(item.name.isupper() for item in owners) and bool(holder) and name.startswith(f"{holder}_")
 
 
 def look_at(crate):
