@@ -5,12 +5,12 @@ use Rattle.cn_core.specs.declared.method.ChineseCountMethod.{ChineseCountMethod}
 use Rattle.cn_core.specs.Mark.{Mark, digit, unit, other, mark_of}
 use Rattle.cn_core.specs.Numeral.{each_may_precede, is_numeral, with_first_digit, starts_with_digit}
 use Rattle.cn_core.specs.Place.{some_unfit, is_tail, is_unfit}
-use Rattle.cn_core.specs.Refusal.{Refusal, empty, incorrect_at, too_large, too_small}
+use Rattle.cn_core.specs.Refusal.{Refusal, incorrect_at}
 use Rattle.cn_core.specs.Scale.{scale_fits}
 use Rattle.cn_core.specs.Text.{marks_of}
 use Rattle.cn_core.specs.Value.{value}
 use Rattle.cn_judge.specs.declared.mark.Mark.{Mark as ReadMark}
-use Rattle.cn_judge.specs.Private.Walk.{opens_of, faults, number_answer, front_answer, further, refused_or, walked_answer, tail_answer, HasTail, HasNoTail}
+use Rattle.cn_judge.specs.Private.Walk.{opens_of, faults, number_answer, front_answer, refused_or, walked_answer, tail_answer, HasTail, HasNoTail}
 use Rattle.cn_judge.specs.Private.Stack.{StackEntry, total_sum}
 use Rattle.cn_judge.specs.Private.Walked.{IsWalked}
 use Rattle.cn_judge.proofs.OpenSums.{total-value}
@@ -23,7 +23,6 @@ use Rattle.cn_core.specs.Judging.{judge}
 use Rattle.std.specs.Result.{IsErr, IsErrAnd}
 use Rattle.std.specs.Option.{SomeIff, ok_or}
 use Rattle.cn_judge.specs.Private.Judged.{after_first}
-use Rattle.cn_judge.specs.Private.Piece.{answer_at}
 use Rattle.cn_judge.specs.Answer.{answer_of, refusal_of}
 use Rattle.cn_judge.specs.declared.error.ChineseToNumberError.{ChineseToNumberError}
 use Rattle.cn_judge.specs.declared.error.ChineseToNumberError.TheVariants.{Overflow}
@@ -61,22 +60,6 @@ front-fits method first walked sum units next d w numeral =
     ∙ ap number_answer (sym (total-value method (digit d ∷ marks_of walked)))
     ∙ ap (λ s. number_answer (total_sum (s + d) (opens_of method (marks_of walked)))) (sym w.sum_is)
     ∙ ap (λ o. number_answer (total_sum (sum + d) o)) (sym w.units_are)
-
--- and where it stops before the front, at the front, or in what follows
-pub front-stops : (method : ChineseCountMethod) (first : Mark) (walked : List ℕ) (sum : ℕ) (units : List StackEntry) (next : Option ReadMark) → IsWalked method walked sum units next
-    → is_numeral (first ∷ marks_of walked) ≡ false → walked_answer method first (marks_of walked) ≡ Err (incorrect_at 0)
-front-stops method first walked sum units next w numeral =
-    ap (λ f. refused_or f (front_answer method first (marks_of walked))) w.sound
-    ∙ ap (λ (b : Bool). if b then number_answer (value method (with_first_digit (first ∷ marks_of walked))) else Err (incorrect_at 0)) numeral
-
-pub walk-stops : (method : ChineseCountMethod) (char_index : ℕ) (first : Mark) (rest : List ℕ) (marks : List Mark) (fault : Refusal) → faults method marks ≡ Some fault
-    → answer_at (char_index + 1) rest (Err fault) ≡ after_first char_index rest (walked_answer method first marks)
-walk-stops method char_index first rest marks fault h = same fault ∙ ap (λ f. after_first char_index rest (refused_or f (front_answer method first marks))) (sym h) where
-  same : (fault : Refusal) → answer_at (char_index + 1) rest (Err fault) ≡ after_first char_index rest (Err (further fault))
-  same empty = refl
-  same (incorrect_at place) = refl
-  same too_large = refl
-  same too_small = refl
 
 -- a sum that is found where it fits
 pub number_answer-ok_or : (char_index sum : ℕ) (rest : List ℕ) (found : Option ℕ) → SomeIff found (sum < 2 ^ 128) sum
@@ -164,25 +147,6 @@ has-tail text before more last second rank last_mark second_mark parts more_part
   ap marks_of parts ∙ marks-append before (last ∷ []) ∙ ap (λ m. marks_of before ++ m ∷ []) (sym last_is),
   (marks_of more, ap marks_of more_parts ∙ marks-append more (second ∷ []) ∙ ap (λ m. marks_of more ++ m ∷ []) (sym second_is ∙ is)),
   ap (λ m. is_tail m last_mark) (sym is) ∙ apart,
-)
-
--- no last mark stands apart: where there is none, where there is one alone, and where two are told to go together
-pub none-left : (text : List ℕ) → text ≡ [] → HasNoTail (marks_of text)
-none-left text e = rw e (inl (omega arith))
-
-pub one-left : (text before : List ℕ) (last : ℕ) → text ≡ before ++ last ∷ [] → before ≡ [] → HasNoTail (marks_of text)
-one-left text before last parts e = rw (parts, e) (inl (omega arith))
-
-pub no-tail : (text before more : List ℕ) (last second : ℕ) (last_mark second_mark : Mark) → text ≡ before ++ last ∷ [] → before ≡ more ++ second ∷ []
-    → last_mark ≡ mark_of last → second_mark ≡ mark_of second → is_tail second_mark last_mark ≡ false → HasNoTail (marks_of text)
-no-tail text before more last second last_mark second_mark parts more_parts last_is second_is joined = inr (
-  marks_of more,
-  second_mark,
-  last_mark,
-  ap marks_of parts ∙ marks-append before (last ∷ []) ∙ ap (λ m. marks_of before ++ m ∷ []) (sym last_is)
-      ∙ ap (λ l. l ++ last_mark ∷ []) (ap marks_of more_parts ∙ marks-append more (second ∷ []) ∙ ap (λ m. marks_of more ++ m ∷ []) (sym second_is))
-      ∙ append_assoc (marks_of more) (second_mark ∷ []) (last_mark ∷ []),
-  joined,
 )
 
 -- an error that is handed on

@@ -1,5 +1,5 @@
 -- The table of marks has characters of three bytes, none of them white space, each with its own mark.
-use Rattle.std.proofs.Common.{◌≡◌, ℕ, ◌+◌, ◌-◌, ◌*◌, ◌/◌, ◌%◌, ◌<◌, ◌≤◌, nat_le, nat_lt, ◌==◌, ◌&&◌, not, Bool, true, false, List, [], ◌∷◌, length, get_or, Option, Some, None, IfSome, refl, ap, ◌∙◌, arith, zero, suc}
+use Rattle.std.proofs.Common.{◌≡◌, ℕ, ◌+◌, ◌-◌, ◌*◌, ◌/◌, ◌%◌, ◌<◌, ◌≤◌, nat_le, nat_lt, ◌==◌, ◌&&◌, not, Bool, true, false, List, [], ◌∷◌, length, get_or, refl, ap, ◌∙◌, arith, zero, suc}
 use Rattle.std.specs.Char.{is_whitespace}
 use Rattle.std.specs.List.{list_all}
 use Rattle.std.proofs.lemmas.Bool.Decides.{nat_tests}
@@ -99,15 +99,3 @@ entry-known key entry at found =
       mark_is = right.0;
       dark = right.1;
     }
-
--- the key of a character
-pub known-code : (code key : ℕ) (result : Option ReadMark) → code < 65536 → key ≡ 224 + code / 64 / 64 + (128 + code / 64 % 64) * 256 + (128 + code % 64) * 65536
-    → IfSome result (IsKnown key) → IfSome result (λ mark. marked mark ≡ mark_of code)
-known-code code key None low is k = tt
-known-code code key (Some mark) low is k =
-    let sum = k.sum in
-    let one : key % 256 ≡ 224 + code / 64 / 64 = omega (arith, is, low) in
-    let two : key / 256 % 256 ≡ 128 + code / 64 % 64 = omega (arith, is, low) in
-    let three : key / 65536 ≡ 128 + code % 64 = omega (arith, is, low) in
-    let same : k.code ≡ code = omega (arith, sum, one, two, three) in
-    k.mark_is ∙ ap mark_of same

@@ -89,24 +89,6 @@ pub record EndsBlank (bytes ahead : List ℕ) : Type 0 where
 pub parts-next : (bytes ahead before white : List ℕ) (c : ℕ) → chars bytes ≡ chars ahead ++ white → chars ahead ≡ chars before ++ c ∷ [] → chars bytes ≡ chars before ++ c ∷ white
 parts-next bytes ahead before white c p q = p ∙ ap (λ l. l ++ white) q ∙ append_assoc (chars before) (c ∷ []) white
 
-pub EndsBlank-white : (bytes ahead before : List ℕ) (c : ℕ) → EndsBlank bytes ahead → chars ahead ≡ chars before ++ c ∷ [] → is_whitespace c ≡ true → EndsBlank bytes before
-EndsBlank-white bytes ahead before c e q white = record {
-  white = c ∷ e.white;
-  parts = parts-next bytes ahead before e.white c e.parts q;
-  blank = rw white e.blank;
-}
-
-pub EndsBlank-dark : (bytes ahead before : List ℕ) (c : ℕ) → EndsBlank bytes ahead → chars ahead ≡ chars before ++ c ∷ [] → is_whitespace c ≡ false → EndsWith bytes c before
-EndsBlank-dark bytes ahead before c e q dark = record {
-  white = e.white;
-  parts = parts-next bytes ahead before e.white c e.parts q;
-  blank = e.blank;
-  dark = dark;
-}
-
-pub EndsBlank-none : (bytes ahead : List ℕ) → EndsBlank bytes ahead → chars ahead ≡ [] → text_of bytes ≡ []
-EndsBlank-none bytes ahead e none = rw (e.parts, none) e.blank
-
 -- the text of a string by its last character
 pub text-last : (bytes before : List ℕ) (c : ℕ) → EndsWith bytes c before → text_of bytes ≡ text_of before ++ c ∷ []
 text-last bytes before c e = rw (e.parts, filter-append, e.dark, e.blank)

@@ -64,22 +64,6 @@ leaves-digit d [] = tt
 leaves-digit d (last ∷ []) = refl
 leaves-digit d (a ∷ b ∷ rest) = tt
 
-pub leaves-unit : (rank : ℕ) (at_digit is_second : Bool) (marks : List Mark) → list_all is_regular_mark marks ≡ true → at_digit ≡ starts_with_digit marks
-    → is_second ≡ (length marks == 1) → false ≡ (nat_le 2 rank && at_digit && is_second) → LeavesNoTail (unit rank) marks
-leaves-unit rank at_digit is_second [] regular at second h = tt
-leaves-unit rank at_digit is_second (a ∷ b ∷ rest) regular at second h = tt
-leaves-unit rank at_digit is_second (other ∷ []) regular at second h = cc
-leaves-unit rank at_digit is_second (unit n ∷ []) regular at second h =
-    let t : nat_lt 0 n ≡ true = and-left (nat_lt 0 n) _ (and-left (nat_lt 0 n && nat_lt n 16) _ regular) in
-    let u : nat_le 1 n ≡ true = grind (arith, nat_tests) in rw u (off (nat_le 2 rank)) where
-      off : (b : Bool) → (b && false) ≡ false
-      off true = refl
-      off false = refl
-leaves-unit rank at_digit is_second (digit n ∷ []) regular at second h = by (nat_le 2 rank) (sym h) where
-  by : (b : Bool) → (b && at_digit && is_second) ≡ false → (b && true) ≡ false
-  by true h = cc
-  by false h = refl
-
 -- at the end of a text
 pub regular-none : (method : ChineseCountMethod) → IsRegular method [] [] 0 0 0 false
 regular-none method = record {
@@ -201,17 +185,6 @@ pub may_open-digit : (method : ChineseCountMethod) (marks : List Mark) (held lef
     → MayOpen method marks left rank
 may_open-digit method marks held left total sum last at_digit rank s great at gives top =
     may_open method marks held left total sum last at_digit rank s great gives top (inl (sym s.after_digit ∙ at))
-
-pub may_open-unit : (method : ChineseCountMethod) (marks : List Mark) (held : List Group) (total sum last : ℕ) (at_digit : Bool) (rank : ℕ)
-    → IsRegular method marks held total sum last at_digit → first_group method ≤ rank → last ≡ 0 → true ≡ is_below_top rank held
-    → MayOpen method marks held rank
-may_open-unit method marks held total sum last at_digit rank s great none top =
-    let ranks = records_from (first_group method) marks in
-    let first : is_first rank ranks ≡ true = sym (top ∙ ap (is_below_top rank) s.groups_are ∙ first-groups method rank ranks) in
-    let kept : held ≡ not_smaller rank held =
-    s.groups_are ∙ ap (groups_of method) (sym (first-left rank ranks first)) ∙ sym (left-groups method rank ranks) ∙ ap (not_smaller rank) (sym s.groups_are) in
-    may_open method marks held held total sum last at_digit rank s great kept top
-    (inr (ap (is_first rank) (s.records ∙ ap (λ n. with_last n ranks) none) ∙ first))
 
 -- there is room for it
 ranked : (marks : List Mark) → list_all is_regular_mark marks ≡ true → in_ranks marks ≡ true

@@ -24,12 +24,6 @@ exponent-small TenThousand rank h = let t : nat_le rank 4 ≡ true = grind (arit
 exponent-small Middle rank h = let t : nat_le rank 4 ≡ true = grind (arith, nat_tests) in rw t
 exponent-small High rank h = let t : nat_le rank 4 ≡ true = grind (arith, nat_tests) in rw t
 
-pub first_group-other : (method : ChineseCountMethod) → (method ≡ Low → ⊥) → first_group method ≡ 4
-first_group-other Low h = absurd (h refl)
-first_group-other TenThousand h = refl
-first_group-other Middle h = refl
-first_group-other High h = refl
-
 pub first_group-within : (method : ChineseCountMethod) → (0 < first_group method) × (first_group method ≤ 16)
 first_group-within Low = (omega arith, omega arith)
 first_group-within TenThousand = (omega arith, omega arith)

@@ -1,5 +1,5 @@
 -- The open units in an array.
-use Rattle.std.proofs.Common.{◌≡◌, ℕ, nat_lt, Bool, Option, Some, None, SomeIff, if◌then◌else◌, zero, suc, ◌+◌, ◌-◌, ◌*◌, ◌^◌, ◌<◌, ◌≤◌, true, false, List, [], ◌∷◌, length, slice_index_or, slice_set, refl, ap, arith, add-one}
+use Rattle.std.proofs.Common.{◌≡◌, ℕ, nat_lt, Bool, Some, None, if◌then◌else◌, zero, suc, ◌+◌, ◌*◌, ◌^◌, ◌<◌, ◌≤◌, true, false, List, [], ◌∷◌, length, slice_index_or, slice_set, refl, ap, arith, add-one}
 use Rattle.std.proofs.lemmas.Grind.{common_steps}
 use Rattle.cn_core.specs.declared.method.ChineseCountMethod.{ChineseCountMethod}
 use Rattle.cn_core.specs.Scale.{scale}
@@ -28,17 +28,6 @@ stack-set entries i (suc len) e h = rw (set_other entries i len e (omega arith),
 pub stack-push : (entries : List OpenUnit) (len : ℕ) (e : OpenUnit) → len < length entries → stack_of (slice_set entries len e) (len + 1) ≡ opened_at e ∷ stack_of entries len
 stack-push entries len e h = rw (add-one, set_same entries len e h, stack-set entries len len e (omega arith))
 
--- the top closes
-pub ClosesTop-view : (units : List StackEntry) (entries : List OpenUnit) (sum len : ℕ) (result : Option ℕ) → stack_of entries len ≡ units → 0 < length units
-    → SomeIff result (sum * (slice_index_or entries (len - 1) no_unit).size + (slice_index_or entries (len - 1) no_unit).below < 2 ^ 128)
-    (sum * (slice_index_or entries (len - 1) no_unit).size + (slice_index_or entries (len - 1) no_unit).below)
-    → ClosesTop sum units (stack_of entries (len - 1)) result
-ClosesTop-view units entries sum zero result is some s = absurd (let same = ap length is in omega (arith, some, same))
-ClosesTop-view units entries sum (suc len) result is some s =
-    let down : suc len - 1 ≡ len = omega arith in
-    let t = rw down at s in
-    rw (← is, down) (refl, t)
-
 some_same : (a b : ℕ) → Some a ≡ Some b → a ≡ b
 some_same a b h = cc
 
@@ -64,16 +53,6 @@ closed-grows limit (top ∷ units) sum h = by (nat_lt top.0 limit) (closed-grows
       let g = sum_grows sum top.1 top.2 p in omega (arith, g, ih)
   by false ih = omega arith
 
--- a step of closing what is smaller
-pub closed-step : (limit t sum more : ℕ) (before after : List StackEntry) → Some t ≡ top_of before → t < limit → ClosesTop sum before after (Some more) → all_positive before ≡ true
-    → (closed_sum limit more after ≡ closed_sum limit sum before) × (still_open limit after ≡ still_open limit before) × (all_positive after ≡ true) × (more < 2 ^ 128)
-closed-step limit t sum more [] after is low h p = cc
-closed-step limit t sum more (top ∷ units) after is low h p =
-    let same = some_same t top.0 is in
-    let test : nat_lt top.0 limit ≡ true = grind (arith, nat_tests) in
-    let e = h.1.1 in
-    (rw (h.0, test, e) refl, rw (h.0, test) refl, rw (h.0) (and-right (nat_lt 0 top.1) _ p), omega (arith, h.1.0, e))
-
 pub closed-past : (limit t sum : ℕ) (before after : List StackEntry) → Some t ≡ top_of before → t < limit → ClosesTop sum before after None → all_positive before ≡ true
     → ¬ (closed_sum limit sum before < 2 ^ 128)
 closed-past limit t sum [] after is low h p = cc
@@ -82,12 +61,6 @@ closed-past limit t sum (top ∷ units) after is low h p =
     let test : nat_lt top.0 limit ≡ true = grind (arith, nat_tests) in
     let grows = closed-grows limit units (sum * top.1 + top.2) (and-right (nat_lt 0 top.1) _ p) in
     rw test (λ small. h.1 (omega (arith, small, grows)))
-
--- a step of closing all
-pub total-step : (sum more : ℕ) (before after : List StackEntry) → 0 < length before → ClosesTop sum before after (Some more) → all_positive before ≡ true
-    → (total_sum more after ≡ total_sum sum before) × (all_positive after ≡ true) × (length after < length before) × (more < 2 ^ 128)
-total-step sum more [] after some h p = absurd (omega (arith, some))
-total-step sum more (top ∷ units) after some h p = let e = h.1.1 in (rw (h.0, e) refl, rw (h.0) (and-right (nat_lt 0 top.1) _ p), rw (h.0) (omega arith), omega (arith, h.1.0, e))
 
 pub total-past : (sum : ℕ) (before after : List StackEntry) → 0 < length before → ClosesTop sum before after None → all_positive before ≡ true → ¬ (total_sum sum before < 2 ^ 128)
 total-past sum [] after some h p = absurd (omega (arith, some))
@@ -113,22 +86,6 @@ positive-opens method (unit rank ∷ rest) =
     rw t (positive-left (rank + 1) (opens_of method rest) (positive-opens method rest)) where
       test : (n : ℕ) → 0 < n → nat_lt 0 n ≡ true
       test n h = grind (arith, nat_tests)
-
--- nothing smaller is left
-pub closed-stop : (limit t sum : ℕ) (units : List StackEntry) → Some t ≡ top_of units → limit ≤ t → (closed_sum limit sum units ≡ sum) × (still_open limit units ≡ units)
-closed-stop limit t sum [] is high = cc
-closed-stop limit t sum (top ∷ units) is high =
-    let same = some_same t top.0 is in
-    let test : nat_lt top.0 limit ≡ false = grind (arith, nat_tests) in
-    (rw test refl, rw test refl)
-
-pub closed-none : (limit sum : ℕ) (units : List StackEntry) → None ≡ top_of units → (closed_sum limit sum units ≡ sum) × (still_open limit units ≡ units)
-closed-none limit sum [] is = (refl, refl)
-closed-none limit sum (top ∷ units) is = cc
-
-pub total-none : (sum : ℕ) (entries : List OpenUnit) (len : ℕ) (units : List StackEntry) → stack_of entries len ≡ units → len ≡ 0 → total_sum sum units ≡ sum
-total-none sum entries zero units is none = rw (← is) refl
-total-none sum entries (suc len) units is none = absurd (omega (arith, none))
 
 pub some_entries : (entries : List OpenUnit) (len : ℕ) (units : List StackEntry) → stack_of entries len ≡ units → 0 < len → 0 < length units
 some_entries entries len units is some = let same = ap length is in omega (arith, same, length-stack entries len, some)

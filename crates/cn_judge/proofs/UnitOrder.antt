@@ -1,10 +1,7 @@
 -- Units compare as their ranks do.
-use Rattle.std.proofs.Common.{◌≡◌, ℕ, ◌<◌, ◌≤◌, ◌==◌, true, false, nat_le, nat_lt, Some, refl, ap, ◌∙◌, arith}
+use Rattle.std.proofs.Common.{◌≡◌, ℕ, ◌<◌, false, nat_le, Some, refl, ap, ◌∙◌, arith}
 use Rattle.std.proofs.lemmas.Bool.Decides.{nat_tests}
-use Rattle.std.specs.Ordering.{nat_cmp, partial_lt, partial_gt, partial_ge, is_some_and, is_lt, is_gt, is_ge}
-use denote.Enum.Bare.{sameb}
-use denote.Enum.Declared.{tag_of}
-use Rattle.cn_core.specs.contracts.unit.Unit.{the_type}
+use Rattle.std.specs.Ordering.{nat_cmp, partial_ge, is_some_and, is_ge}
 use Rattle.cn_core.specs.contracts.unit.UnitPartialOrd.TheImpl.{partial_cmp-value}
 use Rattle.cn_core.specs.declared.unit.Unit.{Unit as NumeralUnit}
 use Rattle.cn_core.specs.declared.unit.Unit.TheVariants.{Ge, Shi, Bai, Qian, Wan, Yi, Zhao, Jing, Gai, Zi, Rang, Gou, Jian, Zheng, Zai, Ji}
@@ -34,28 +31,10 @@ compared =
     (each _ refl refl refl refl refl refl refl refl refl refl refl refl refl refl refl refl)
     (each _ refl refl refl refl refl refl refl refl refl refl refl refl refl refl refl refl)
 
-pub is_lower : (a b : NumeralUnit) → partial_lt partial_cmp-value.it a b ≡ nat_lt (rank a) (rank b)
-is_lower a b = ap (is_some_and is_lt) (compared a b) ∙ by (rank a) (rank b) where
-  by : (x y : ℕ) → is_lt (nat_cmp x y) ≡ nat_lt x y
-  by x y = grind (arith, nat_tests)
-
-pub is_higher : (a b : NumeralUnit) → partial_gt partial_cmp-value.it a b ≡ nat_lt (rank b) (rank a)
-is_higher a b = ap (is_some_and is_gt) (compared a b) ∙ by (rank a) (rank b) where
-  by : (x y : ℕ) → is_gt (nat_cmp x y) ≡ nat_lt y x
-  by x y = grind (arith, nat_tests)
-
 is_not_lower : (a b : NumeralUnit) → partial_ge partial_cmp-value.it a b ≡ nat_le (rank b) (rank a)
 is_not_lower a b = ap (is_some_and is_ge) (compared a b) ∙ by (rank a) (rank b) where
   by : (x y : ℕ) → is_ge (nat_cmp x y) ≡ nat_le y x
   by x y = grind (arith, nat_tests)
-
-pub is_same : (a b : NumeralUnit) → sameb the_type a b ≡ (rank a == rank b)
-is_same a b = rw (tag-rank a, tag-rank b) refl where
-  tag-rank : (unit : NumeralUnit) → tag_of the_type unit ≡ rank unit
-  tag-rank = each _ refl refl refl refl refl refl refl refl refl refl refl refl refl refl refl refl
-
-pub at_least : (a b : NumeralUnit) → true ≡ partial_ge partial_cmp-value.it a b → rank b ≤ rank a
-at_least a b h = let e = h ∙ is_not_lower a b in grind (arith, nat_tests, e)
 
 pub below : (a b : NumeralUnit) → false ≡ partial_ge partial_cmp-value.it a b → rank a < rank b
 below a b h = let e = h ∙ is_not_lower a b in grind (arith, nat_tests, e)
