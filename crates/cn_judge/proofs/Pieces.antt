@@ -86,9 +86,6 @@ pub record EndsBlank (bytes ahead : List ℕ) : Type 0 where
   pub parts : chars bytes ≡ chars ahead ++ white
   pub blank : filter is_not_whitespace white ≡ []
 
-pub parts-next : (bytes ahead before white : List ℕ) (c : ℕ) → chars bytes ≡ chars ahead ++ white → chars ahead ≡ chars before ++ c ∷ [] → chars bytes ≡ chars before ++ c ∷ white
-parts-next bytes ahead before white c p q = p ∙ ap (λ l. l ++ white) q ∙ append_assoc (chars before) (c ∷ []) white
-
 -- the text of a string by its last character
 pub text-last : (bytes before : List ℕ) (c : ℕ) → EndsWith bytes c before → text_of bytes ≡ text_of before ++ c ∷ []
 text-last bytes before c e = rw (e.parts, filter-append, e.dark, e.blank)

@@ -1,5 +1,5 @@
 -- The steps of a walk over a regular numeral, by the definitions of numerals and of their value.
-use Rattle.std.proofs.Common.{◌≡◌, ◌⊎◌, inl, inr, ℕ, ◌+◌, ◌*◌, ◌^◌, ◌<◌, ◌≤◌, Bool, true, false, not, ◌&&◌, ◌||◌, ◌==◌, nat_le, nat_lt, List, [], ◌∷◌, ◌++◌, length, map, filter, chars, append_assoc, append-nil, Option, Some, None, IfSome, Ok, refl, sym, ap, ◌∙◌, arith, if◌then◌else◌}
+use Rattle.std.proofs.Common.{◌≡◌, ◌⊎◌, inl, inr, ℕ, ◌+◌, ◌*◌, ◌^◌, ◌<◌, ◌≤◌, Bool, true, false, not, ◌&&◌, ◌||◌, ◌==◌, nat_le, nat_lt, List, [], ◌∷◌, ◌++◌, length, map, filter, chars, append_assoc, Option, Some, None, IfSome, Ok, refl, sym, ap, ◌∙◌, arith, if◌then◌else◌}
 use Rattle.std.specs.Char.{is_whitespace, is_not_whitespace}
 use Rattle.std.specs.List.{list_all}
 use Rattle.std.specs.Option.{option_map_or}
@@ -7,7 +7,7 @@ use Rattle.std.proofs.lemmas.Bool.Decides.{nat_tests}
 use Rattle.cn_core.specs.declared.method.ChineseCountMethod.{ChineseCountMethod}
 use Rattle.cn_core.specs.Judge.{Judges}
 use Rattle.cn_core.specs.Mark.{Mark, digit, unit, other, mark_of}
-use Rattle.cn_core.specs.Numeral.{may_precede, each_may_precede, is_numeral, with_first_digit, starts_with_digit, multiplies_upwards, counts_a_unit, groups_strictly}
+use Rattle.cn_core.specs.Numeral.{may_precede, is_numeral, with_first_digit, starts_with_digit, multiplies_upwards, counts_a_unit, groups_strictly}
 use Rattle.cn_core.specs.Place.{some_unfit}
 use Rattle.cn_core.specs.Scale.{scale, exponent}
 use Rattle.cn_core.specs.Text.{text_of, marks_of}
@@ -63,20 +63,6 @@ leaves-digit : (d : ℕ) (marks : List Mark) → LeavesNoTail (digit d) marks
 leaves-digit d [] = tt
 leaves-digit d (last ∷ []) = refl
 leaves-digit d (a ∷ b ∷ rest) = tt
-
--- at the end of a text
-pub regular-none : (method : ChineseCountMethod) → IsRegular method [] [] 0 0 0 false
-regular-none method = record {
-  regular = refl;
-  rules = refl;
-  fit = refl;
-  number = refl;
-  records = refl;
-  groups_are = refl;
-  after_digit = refl;
-  low = (first_group-within method).0;
-  plain_end = inl (omega arith);
-}
 
 -- one more digit
 value-digit : (method : ChineseCountMethod) (marks : List Mark) (total sum last d : ℕ) → last < first_group method
@@ -229,19 +215,6 @@ regular-group method marks held left after total sum last at_digit rank all more
       none : (n p : ℕ) → n ≡ n + 0 * p
       none n p = omega arith
 
--- the first mark
-pub first-digit : (d : ℕ) (marks : List Mark) (at_digit : Bool) → each_may_precede marks ≡ true → at_digit ≡ starts_with_digit marks → true ≡ ((d == 0) || not at_digit)
-    → (is_numeral (digit d ∷ marks) ≡ true) × (with_first_digit (digit d ∷ marks) ≡ digit d ∷ marks)
-first-digit d marks at_digit each at h = (both (may_precede (digit d) marks) _ (digit-precedes d marks at_digit at h) each, refl)
-
-pub first-ten : (marks : List Mark) → each_may_precede marks ≡ true → (is_numeral (unit 1 ∷ marks) ≡ true) × (with_first_digit (unit 1 ∷ marks) ≡ digit 10 ∷ marks)
-first-ten marks each = (both (may_precede (digit 10) marks) _ (ten marks) each, refl) where
-  ten : (marks : List Mark) → may_precede (digit 10) marks ≡ true
-  ten [] = refl
-  ten (digit n ∷ rest) = refl
-  ten (unit n ∷ rest) = refl
-  ten (other ∷ rest) = refl
-
 -- the number of the whole
 pub judges-regular : (method : ChineseCountMethod) (marks : List Mark) (held : List Group) (total sum last : ℕ) (at_digit : Bool) (first : Mark) (d more n : ℕ)
     → IsRegular method marks held total sum last at_digit
@@ -273,15 +246,6 @@ pub record HasStepped (method : ChineseCountMethod) (bytes ahead : List ℕ) (he
   pub dark : filter is_not_whitespace after ≡ after
   pub size : length ahead + 3 * length (marks_of after) ≡ length bytes
   pub stands : StandsRegular method (marks_of after) held state
-
-pub stepped-none : (method : ChineseCountMethod) (bytes : List ℕ) (held : List Group) (state : QuickState) → StandsRegular method [] held state → HasStepped method bytes bytes held state
-stepped-none method bytes held state s = record {
-  after = [];
-  parts = sym (append-nil (chars bytes));
-  dark = refl;
-  size = omega arith;
-  stands = s;
-}
 
 dark-more : (c : ℕ) (after : List ℕ) → is_whitespace c ≡ false → filter is_not_whitespace after ≡ after → filter is_not_whitespace (c ∷ after) ≡ c ∷ after
 dark-more c after dark h = rw dark (ap (λ l. c ∷ l) h)

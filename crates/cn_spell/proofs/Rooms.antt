@@ -2,7 +2,7 @@
 use Rattle.std.proofs.Common.{◌≡◌, ℕ, zero, suc, ◌+◌, ◌-◌, ◌*◌, ◌≤◌, Bool, true, false, List, [], ◌∷◌, ◌++◌, length, map, drop, set, encode_utf8_all, slice_index, if◌then◌else◌, refl, ap, ap₂, ◌∙◌, arith}
 use Rattle.std.specs.Char.{encode_utf8}
 use Rattle.std.specs.Str.{IsUtf8}
-use Rattle.std.proofs.lemmas.Str.{IsUtf8-nil, IsUtf8-append}
+use Rattle.std.proofs.lemmas.Str.{IsUtf8-append}
 use Rattle.cn_core.specs.declared.script.ChineseVariant.{ChineseVariant}
 use Rattle.cn_core.specs.declared.case.ChineseCase.{ChineseCase}
 use Rattle.cn_core.specs.Mark.{Mark}
@@ -66,17 +66,6 @@ put-if items character free taken true three within size e = rw e (put-text item
 put-if items character free taken false three within size e =
     let same : free - 0 ≡ free = omega arith in
     rw (e, same) (unput-text items character free three within)
-
--- an empty room shows nothing
-pub Shows-nil : (free : ℕ) (bytes : List ℕ) → free ≡ length bytes → Shows free bytes []
-Shows-nil free bytes e =
-    let none : drop free bytes ≡ [] = drop-none bytes free (omega (arith, e)) in
-    record { text = none; utf8 = rw none IsUtf8-nil; size = omega (arith, e) } where
-      drop-none : (items : List ℕ) (n : ℕ) → length items ≤ n → drop n items ≡ []
-      drop-none [] zero h = refl
-      drop-none [] (suc n) h = refl
-      drop-none (x ∷ items) zero h = absurd (omega (arith, h))
-      drop-none (x ∷ items) (suc n) h = drop-none items n (omega (arith, h))
 
 -- a character more, where it is kept
 pub Shows-if : (is_kept : Bool) (c : ℕ) {free next : ℕ} {bytes after character cs : List ℕ} → 3 ≤ free → next ≡ (if is_kept then free - 3 else free)
