@@ -1,4 +1,5 @@
 pub mod Beginnings
+pub mod CharIndexes
 pub mod LeadingZeros
 pub mod Methods
 pub mod Numerals
@@ -10,5 +11,4 @@ pub mod Refusals
 pub mod Signs
 pub mod SmallUnits
 pub mod SpelledMarks
-pub mod Spots
 pub mod WhiteSpace

@@ -2,6 +2,7 @@ pub mod Digits
 pub mod Methods
 pub mod Parts
 pub mod Places
+pub use Rattle.cn_core.specs.CharIndex
 pub use Rattle.cn_core.specs.Characters
 pub use Rattle.cn_core.specs.Judge
 pub use Rattle.cn_core.specs.Judging
@@ -9,15 +10,14 @@ pub use Rattle.cn_core.specs.Mark
 pub use Rattle.cn_core.specs.Naive
 pub use Rattle.cn_core.specs.Numeral
 pub use Rattle.cn_core.specs.Place
+pub use Rattle.cn_core.specs.Printing
+pub use Rattle.cn_core.specs.Reading
 pub use Rattle.cn_core.specs.Refusal
 pub use Rattle.cn_core.specs.Scale
 pub use Rattle.cn_core.specs.Spelling
-pub use Rattle.cn_core.specs.Spot
 pub use Rattle.cn_core.specs.Text
-pub use Rattle.cn_core.specs.Reading
 pub use Rattle.cn_core.specs.Value
 pub use Rattle.cn_core.specs.Whole
-pub use Rattle.cn_core.specs.Printing
 pub use Rattle.cn_print.specs.ErrorText as PrintErrorText
 pub use Rattle.cn_print.specs.Prints
 pub use Rattle.cn_print.specs.Writes

@@ -1,3 +1,4 @@
+pub mod CharIndex
 pub mod Characters
 pub mod Judge
 pub mod Judging
@@ -10,7 +11,6 @@ pub mod Reading
 pub mod Refusal
 pub mod Scale
 pub mod Spelling
-pub mod Spot
 pub mod Text
 pub mod Value
 pub mod Whole

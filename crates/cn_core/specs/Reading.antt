@@ -7,7 +7,7 @@ use Rattle.cn_core.specs.Characters.{sign_of}
 use Rattle.cn_core.specs.Judge.{Judges}
 use Rattle.cn_core.specs.Naive.{naive_answer}
 use Rattle.cn_core.specs.Refusal.{Refusal, incorrect_at, too_large, too_small}
-use Rattle.cn_core.specs.Spot.{spot}
+use Rattle.cn_core.specs.CharIndex.{char_index_of}
 use Rattle.cn_core.specs.Text.{text_of, marks_of}
 use Rattle.cn_core.specs.Whole.{Kind, signed_number}
 
@@ -38,13 +38,13 @@ typed_number kind number =
     else (if int_lt number kind.least then Err too_small else Ok number)
 
 -- the answer for a type and a string, given by its bytes: from the sign, and from the answer to
--- what follows it, whose place counts on from the sign and is told by where it stands in the string
+-- what follows it, whose place counts on from the sign and is told by its char_index in the string
 abbrev pub typed_answer : Kind → List ℕ → Option Sign → Result ℕ Refusal → Result ℤ Refusal
 typed_answer kind bytes sign (Ok magnitude) =
     typed_number kind (signed_number (is_minus sign) magnitude)
 typed_answer kind bytes sign (Err too_large) = Err (too_far sign)
 typed_answer kind bytes sign (Err (incorrect_at place)) =
-    Err (incorrect_at (spot bytes (place + sign_len sign)))
+    Err (incorrect_at (char_index_of bytes (place + sign_len sign)))
 typed_answer kind bytes sign (Err refusal) = Err refusal
 
 -- the answer to a string that is read with units

@@ -22,7 +22,7 @@ use Rattle.cn_core.specs.Judge.{Judges}
 use Rattle.cn_core.specs.Judging.{judge}
 use Rattle.std.specs.Result.{IsErr, IsErrAnd}
 use Rattle.std.specs.Option.{SomeIff, ok_or}
-use Rattle.cn_judge.specs.Private.Judged.{after_first}
+use Rattle.cn_judge.specs.Judged.{after_first}
 use Rattle.cn_judge.specs.Answer.{answer_of, refusal_of}
 use Rattle.cn_judge.specs.declared.error.ChineseToNumberError.{ChineseToNumberError}
 use Rattle.cn_judge.specs.declared.error.ChineseToNumberError.TheVariants.{Overflow}

@@ -6,18 +6,18 @@ use Rattle.cn_core.specs.Mark.{Mark, digit, mark_of}
 use Rattle.cn_core.specs.Numeral.{may_precede, is_numeral, with_first_digit}
 use Rattle.cn_core.specs.Place.{is_overflowing, is_unfit}
 use Rattle.cn_core.specs.Refusal.{Refusal, empty, incorrect_at, too_large, too_small}
-use Rattle.cn_core.specs.Spot.{spot_among, spot}
+use Rattle.cn_core.specs.CharIndex.{char_index_among, char_index_of}
 use Rattle.cn_core.specs.Text.{text_of, marks_of}
 use Rattle.cn_core.specs.Value.{value}
 use Rattle.cn_core.specs.Scale.{scale}
 use Rattle.cn_judge.specs.declared.mark.Mark.{Mark as ReadMark}
 use Rattle.cn_judge.specs.declared.mark.Mark.TheVariants.{Digit, Unit, Other}
-use Rattle.cn_judge.specs.Private.Marked.{marked}
-use Rattle.cn_judge.specs.Private.Judged.{after_first, JudgesAt}
-use Rattle.cn_judge.specs.Private.Piece.{StandsAt, EndsWith, answer_at}
+use Rattle.cn_judge.specs.Marked.{marked}
+use Rattle.cn_judge.specs.Judged.{after_first, JudgesAt}
+use Rattle.cn_judge.specs.Piece.{StandsAt, EndsWith, answer_at}
 use Rattle.cn_judge.specs.Private.Walk.{walked_answer, tail_answer, faults, fault_of, front_answer, refused_or, further_or, number_answer, HasTail, HasNoTail}
 use Rattle.cn_judge.proofs.Endings.{judged_plain, judged_tail}
-use Rattle.cn_judge.proofs.Pieces.{StandsAt-dark, spot-at, spot-rest}
+use Rattle.cn_judge.proofs.Pieces.{StandsAt-dark, char_index-at, char_index-rest}
 use Rattle.cn_judge.proofs.Walking.{filter-append}
 use Rattle.cn_judge.proofs.WalkSteps.{marks-length}
 
@@ -28,12 +28,12 @@ answer_at-first skipped text rest index c (Ok number) at dark = refl
 answer_at-first skipped text rest index c (Err empty) at dark = refl
 answer_at-first skipped text rest index c (Err too_large) at dark = refl
 answer_at-first skipped text rest index c (Err too_small) at dark = refl
-answer_at-first skipped text rest index c (Err (incorrect_at zero)) at dark = ap (λ n. Err (incorrect_at (skipped + n))) (sym (spot-at text (chars rest) c index 0 at dark))
+answer_at-first skipped text rest index c (Err (incorrect_at zero)) at dark = ap (λ n. Err (incorrect_at (skipped + n))) (sym (char_index-at text (chars rest) c index 0 at dark))
 answer_at-first skipped text rest index c (Err (incorrect_at (suc place))) at dark =
-    let next : spot text (place + (0 + 1)) ≡ index + 1 + spot rest place = spot-rest text rest (index + 1) (0 + 1) place (StandsAt-dark text (chars rest) c index 0 at dark) in
+    let next : char_index_of text (place + (0 + 1)) ≡ index + 1 + char_index_of rest place = char_index-rest text rest (index + 1) (0 + 1) place (StandsAt-dark text (chars rest) c index 0 at dark) in
     let same : place + (0 + 1) ≡ suc place = omega arith in
-    let there : spot text (suc place) ≡ index + 1 + spot rest place = rw same at next in
-    let sum : skipped + index + 1 + spot rest place ≡ skipped + spot text (suc place) = omega (arith, there) in
+    let there : char_index_of text (suc place) ≡ index + 1 + char_index_of rest place = rw same at next in
+    let sum : skipped + index + 1 + char_index_of rest place ≡ skipped + char_index_of text (suc place) = omega (arith, there) in
     ap (λ n. Err (incorrect_at n)) sum
 
 -- the text of a string by its first character
@@ -61,16 +61,16 @@ faults-low method (mark ∷ rest) place h = by (faults method rest) h (λ q e. f
   by (Some (incorrect_at q)) h low = let same : suc q ≡ place = cc in let l = low q refl in omega (arith, l, same)
 
 -- what stands after a place's character does not move it
-spot-prefix : (xs ys : List ℕ) (place : ℕ) → place < length (filter is_not_whitespace xs) → spot_among (xs ++ ys) place ≡ spot_among xs place
-spot-prefix [] ys place low = absurd (omega (arith, low))
-spot-prefix (c ∷ xs) ys zero low = by (is_whitespace c) refl (spot-prefix xs ys 0) where
-  by : (b : Bool) → is_whitespace c ≡ b → (0 < length (filter is_not_whitespace xs) → spot_among (xs ++ ys) 0 ≡ spot_among xs 0)
-      → (if b then suc (spot_among (xs ++ ys) 0) else 0) ≡ (if b then suc (spot_among xs 0) else 0)
+char_index-prefix : (xs ys : List ℕ) (place : ℕ) → place < length (filter is_not_whitespace xs) → char_index_among (xs ++ ys) place ≡ char_index_among xs place
+char_index-prefix [] ys place low = absurd (omega (arith, low))
+char_index-prefix (c ∷ xs) ys zero low = by (is_whitespace c) refl (char_index-prefix xs ys 0) where
+  by : (b : Bool) → is_whitespace c ≡ b → (0 < length (filter is_not_whitespace xs) → char_index_among (xs ++ ys) 0 ≡ char_index_among xs 0)
+      → (if b then suc (char_index_among (xs ++ ys) 0) else 0) ≡ (if b then suc (char_index_among xs 0) else 0)
   by true white ih = ap suc (ih (rw white at low))
   by false dark ih = refl
-spot-prefix (c ∷ xs) ys (suc place) low = by (is_whitespace c) refl (λ p. spot-prefix xs ys p) where
-  by : (b : Bool) → is_whitespace c ≡ b → ((p : ℕ) → p < length (filter is_not_whitespace xs) → spot_among (xs ++ ys) p ≡ spot_among xs p)
-      → suc (spot_among (xs ++ ys) (if b then suc place else place)) ≡ suc (spot_among xs (if b then suc place else place))
+char_index-prefix (c ∷ xs) ys (suc place) low = by (is_whitespace c) refl (λ p. char_index-prefix xs ys p) where
+  by : (b : Bool) → is_whitespace c ≡ b → ((p : ℕ) → p < length (filter is_not_whitespace xs) → char_index_among (xs ++ ys) p ≡ char_index_among xs p)
+      → suc (char_index_among (xs ++ ys) (if b then suc place else place)) ≡ suc (char_index_among xs (if b then suc place else place))
   by true white ih = ap suc (ih (suc place) (rw white at low))
   by false dark ih = let l = rw dark at low in ap suc (ih place (omega (arith, l)))
 
@@ -85,11 +85,11 @@ front-same method char_index first before rest more parts = by (faults method (m
   front true false number = refl
   front false b number = refl
 
-  moved : (place : ℕ) → faults method (marks_of (text_of before)) ≡ Some (incorrect_at place) → spot before place ≡ spot rest place
+  moved : (place : ℕ) → faults method (marks_of (text_of before)) ≡ Some (incorrect_at place) → char_index_of before place ≡ char_index_of rest place
   moved place e =
       let low = faults-low method (marks_of (text_of before)) place e in
       let size = marks-length (text_of before) in
-      rw parts (sym (spot-prefix (chars before) more place (omega (arith, low, size))))
+      rw parts (sym (char_index-prefix (chars before) more place (omega (arith, low, size))))
 
   by : (f : Option Refusal) → faults method (marks_of (text_of before)) ≡ f
       → after_first char_index before (refused_or f (front_answer method first (marks_of (text_of before))))
@@ -148,8 +148,8 @@ pub last-wrong : (char_index index : ℕ) (rest body : List ℕ) (c : ℕ) → E
 last-wrong char_index index rest body c e at =
     let stands : StandsAt rest (c ∷ e.white) (length (chars body)) (length (text_of body)) =
     record { front = chars body; parts = e.parts; index_is = refl; place_is = refl } in
-    let spot_is : spot rest (length (text_of body)) ≡ length (chars body) = spot-at rest e.white c _ _ stands e.dark in
-    rw add-one (ap (λ n. Err (incorrect_at n)) (at ∙ ap (λ n. char_index + 1 + n) (sym spot_is)))
+    let index_is : char_index_of rest (length (text_of body)) ≡ length (chars body) = char_index-at rest e.white c _ _ stands e.dark in
+    rw add-one (ap (λ n. Err (incorrect_at n)) (at ∙ ap (λ n. char_index + 1 + n) (sym index_is)))
 
 -- a mark of the code that is no digit
 pub not-digit : (mark : ReadMark) → ((x : ℕ) → mark ≡ Digit x → ⊥) → (value : ℕ) → marked mark ≢ digit value

@@ -2,12 +2,9 @@ pub mod Endings
 pub mod Faults
 pub mod Judgements
 pub mod MarkTable
-pub mod OpenGroups
 pub mod OpenSums
 pub mod Pieces
 pub mod PlainDigits
-pub mod RegularSteps
-pub mod RegularSums
 pub mod Runs
 pub mod Stacks
 pub mod Steps

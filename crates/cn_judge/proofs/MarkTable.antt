@@ -8,7 +8,7 @@ use Rattle.cn_core.specs.Mark.{Mark, digit, unit, other, mark_of}
 use Rattle.cn_core.proofs.Fronts.{and-left, and-right}
 use Rattle.cn_judge.specs.declared.mark.Mark.{Mark as ReadMark}
 use Rattle.cn_judge.specs.declared.mark.TheConstants.{MARKS}
-use Rattle.cn_judge.specs.Private.Marked.{IsKnown, marked}
+use Rattle.cn_judge.specs.Marked.{IsKnown, marked}
 
 all_at : {X : Type 0} (p : X → Bool) (xs : List X) (i : ℕ) (d : X) → list_all p xs ≡ true → i < length xs → p (get_or xs i d) ≡ true
 all_at p [] i d h low = absurd (omega (arith, low))

@@ -6,9 +6,9 @@ use Rattle.std.specs.Option.{option_or}
 use Rattle.cn_core.specs.Mark.{Mark, digit, unit, other, mark_of}
 use Rattle.cn_core.specs.Text.{text_of, marks_of}
 use Rattle.cn_core.specs.Naive.{naive_answer, first_fault, fault_at, decimal_value, digit_value, refused_or}
-use Rattle.cn_core.specs.Spot.{spot}
-use Rattle.cn_judge.specs.Private.Piece.{StandsAt, answer_at}
-use Rattle.cn_judge.proofs.Pieces.{StandsAt-white, StandsAt-dark, spot-at}
+use Rattle.cn_core.specs.CharIndex.{char_index_of}
+use Rattle.cn_judge.specs.Piece.{StandsAt, answer_at}
+use Rattle.cn_judge.proofs.Pieces.{StandsAt-white, StandsAt-dark, char_index-at}
 use Rattle.cn_judge.proofs.Walking.{digit-dark}
 use Rattle.std.specs.Char.{is_whitespace}
 use Rattle.cn_core.specs.Refusal.{Refusal, incorrect_at, too_large}
@@ -131,6 +131,6 @@ pub IsReading-incorrect : (skipped : ℕ) (bytes ahead after : List ℕ) (char_i
     → answer_at skipped bytes (naive_answer (marks_of (text_of bytes))) ≡ Err (incorrect_at char_index)
 IsReading-incorrect skipped bytes ahead after char_index number c mark is_empty r parts dark same none =
     let next = ahead-dark ahead after c mark parts dark same in
-    let spot_is : spot bytes r.place ≡ r.index = spot-at bytes (chars after) c r.index r.place (rw parts at r.at) dark in
+    let index_is : char_index_of bytes r.place ≡ r.index = char_index-at bytes (chars after) c r.index r.place (rw parts at r.at) dark in
     ap (answer_at skipped bytes) (no_digit _ _ mark _ _ (rw next at r.read) none)
-    ∙ ap (λ n. Err (incorrect_at n)) (ap (λ n. skipped + n) spot_is ∙ sym r.char_index_is)
+    ∙ ap (λ n. Err (incorrect_at n)) (ap (λ n. skipped + n) index_is ∙ sym r.char_index_is)

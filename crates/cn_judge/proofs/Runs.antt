@@ -4,7 +4,7 @@ use Rattle.std.proofs.lemmas.Bool.Decides.{nat_tests}
 use Rattle.cn_core.specs.Naive.{naive_answer}
 use Rattle.cn_core.specs.Refusal.{too_large}
 use Rattle.cn_core.specs.Text.{text_of, marks_of}
-use Rattle.cn_judge.specs.Private.Piece.{answer_at}
+use Rattle.cn_judge.specs.Piece.{answer_at}
 use Rattle.cn_judge.specs.Private.PlainPiece.{IsPiece, IsRun, StartsWith, no_digit, one_more}
 use Rattle.cn_judge.specs.declared.naive.Piece.{Piece}
 use Rattle.cn_judge.specs.declared.naive.Piece.TheVariants.{Digits, White, Wrong}

@@ -13,10 +13,10 @@ use Rattle.cn_judge.specs.declared.mark.Mark.{Mark as ReadMark}
 use Rattle.cn_judge.specs.declared.mark.Mark.TheVariants.{Digit}
 use Rattle.cn_judge.specs.Private.Walk.{sum_of, opens_of, fault_of, faults, leading_rank, multiplies_by, unit_next, further_or}
 use Rattle.std.specs.Char.{is_whitespace, is_not_whitespace}
-use Rattle.cn_core.specs.Spot.{spot}
-use Rattle.cn_judge.specs.Private.Piece.{StandsAt, EndsWith, answer_at}
+use Rattle.cn_core.specs.CharIndex.{char_index_of}
+use Rattle.cn_judge.specs.Piece.{StandsAt, EndsWith, answer_at}
 use Rattle.cn_judge.proofs.Walking.{filter-append}
-use Rattle.cn_judge.proofs.Pieces.{spot-at}
+use Rattle.cn_judge.proofs.Pieces.{char_index-at}
 use Rattle.cn_judge.specs.Private.Stack.{StackEntry, closed_sum, still_open, all_positive, top_of}
 use Rattle.cn_judge.specs.Private.Walked.{IsWalked}
 use Rattle.cn_judge.proofs.Stacks.{positive-opens}
@@ -207,10 +207,10 @@ HasWalked-wrong method skipped bytes ahead before sum units next c char_index h 
     let at = ends-at bytes ahead before h.after c h.parts e in
     let stands : StandsAt bytes (c ∷ at.more) (length (chars before)) (length (text_of before)) =
     record { front = chars before; parts = at.parts; index_is = refl; place_is = refl } in
-    let spot_is : spot bytes (length (text_of before)) ≡ length (chars before) = spot-at bytes at.more c _ _ stands e.dark in (
+    let index_is : char_index_of bytes (length (text_of before)) ≡ length (chars before) = char_index-at bytes at.more c _ _ stands e.dark in (
       incorrect_at (length (text_of before)),
       ap (faults method) (text-parts bytes before h.after c at e.dark)
           ∙ wrong-front method (marks_of (text_of before)) (marks_of (c ∷ walked)) (fault_here method walked sum units next c (incorrect_at 0) h.state (step walked h.state))
           ∙ ap (λ n. Some (incorrect_at n)) (marks-length (text_of before)),
-      ap (λ n. Err (incorrect_at n)) (place ∙ ap (λ n. skipped + n) (sym spot_is)),
+      ap (λ n. Err (incorrect_at n)) (place ∙ ap (λ n. skipped + n) (sym index_is)),
     )

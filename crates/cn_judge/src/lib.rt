@@ -1,23 +1,23 @@
 //! Reads a text as a number of any integer type, by units or as plain digits, exactly as the
 //! definitions of `cn_core` judge it. No reader takes memory.
 //!
-//! What stands here serves the crates above it alone: `cn_read` gives the two readers their public
-//! names, and hands on the error; the quick way is public so that `cn_vectors` can hold it against
-//! what printers write.
+//! What stands here serves the crates above it alone: `cn_read` gives the readers their public
+//! names, and hands on the error; `cn_quick` shares marks, signs and the rules on the first digit.
 #![tactic(auto)]
 
 mod error;
+mod judge;
 mod mark;
 mod naive;
-mod open_groups;
 mod open_units;
-mod quick;
 mod sign;
 mod text;
-mod units;
 mod walk;
 
 pub use error::ChineseToNumberError;
+pub use judge::{first_digit, judge_text, read};
+pub use mark::Mark;
 pub use naive::read_naive;
-pub use quick::read_quickly;
-pub use units::read;
+pub use sign::{AfterSign, signed_answer, split_sign};
+pub use text::{split_first_known, split_last_known};
+pub use walk::separates_digits;

@@ -1,7 +1,7 @@
 // What a character of a numeral is, by a look-up without a search.
 ghost use Rattle.std.specs.Prelude.{◌≡◌, ◌*◌, ◌/◌, ◌%◌, slice_index_or, IfSome};
 ghost use Rattle.cn_core.specs.Mark.{mark_of};
-ghost use Rattle.cn_judge.specs.Private.Marked.{IsKnown, marked};
+ghost use Rattle.cn_judge.specs.Marked.{IsKnown, marked};
 
 use cn_core::{Unit, digit_of, unit_of};
 
@@ -14,7 +14,7 @@ pub enum Mark {
 }
 
 // The characters of digits and units that take three bytes, each with its mark at its slot. The key
-// has the three bytes, the first of them lowest. 無, which is neither, stands at the slots of none.
+// has the three bytes, the first of them lowest. 無, which is neither, fills the empty slots.
 static MARKS: [(u32, Mark); 128] = [
     (0x9fbbe4, Mark::Unit(Unit::Qian)), // 仟
     (0x838de5, Mark::Unit(Unit::Qian)), // 千

@@ -4,7 +4,7 @@ ghost use Rattle.cn_core.specs.Text.{text_of, marks_of};
 ghost use Rattle.cn_core.specs.Naive.{naive_answer};
 ghost use Rattle.cn_core.specs.Reading.{naive_reading};
 ghost use Rattle.cn_judge.specs.Answer.{answer_of};
-ghost use Rattle.cn_judge.specs.Private.Piece.{answer_at};
+ghost use Rattle.cn_judge.specs.Piece.{answer_at};
 ghost use Rattle.cn_judge.specs.Private.PlainPiece.{IsPiece, IsRun, StartsWith, piece_len};
 
 use crate::ChineseToNumberError;

@@ -3,8 +3,8 @@ ghost use Rattle.std.specs.Prelude.{◌≡◌, ◌+◌, ◌≤◌, length, chars
 ghost use Rattle.cn_core.specs.Text.{text_of};
 ghost use Rattle.cn_core.specs.Reading.{leading_sign, sign_len};
 ghost use Rattle.cn_judge.specs.Answer.{answer_of};
-ghost use Rattle.cn_judge.specs.Private.Piece.{StandsAt};
-ghost use Rattle.cn_judge.specs.Private.Signed.{signed_answer};
+ghost use Rattle.cn_judge.specs.Piece.{StandsAt};
+ghost use Rattle.cn_judge.specs.Signed.{signed_answer};
 
 use crate::ChineseToNumberError;
 use crate::text::split_first;

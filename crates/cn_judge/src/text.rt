@@ -1,27 +1,11 @@
 // Walking a text: its characters from either end, and those that are no white space. Their marks
 // too: of characters of three bytes quickly, of any other as it comes.
-ghost use Rattle.std.specs.Prelude.{
-  ◌≡◌,
-  ℕ,
-  ◌+◌,
-  ◌*◌,
-  ◌<◌,
-  ◌≤◌,
-  [],
-  ◌∷◌,
-  ◌++◌,
-  length,
-  chars,
-  false,
-  IfSome,
-  IfNone,
-  MatchOption,
-};
+ghost use Rattle.std.specs.Prelude.{◌≡◌, ℕ, ◌+◌, ◌*◌, ◌<◌, ◌≤◌, [], ◌∷◌, ◌++◌, length, chars, false, IfSome, IfNone, MatchOption};
 ghost use Rattle.std.specs.Char.{is_whitespace};
 ghost use Rattle.cn_core.specs.Mark.{digit, mark_of};
 ghost use Rattle.cn_core.specs.Text.{text_of};
-ghost use Rattle.cn_judge.specs.Private.Marked.{marked};
-ghost use Rattle.cn_judge.specs.Private.Piece.{StandsAt, EndsWith};
+ghost use Rattle.cn_judge.specs.Marked.{marked};
+ghost use Rattle.cn_judge.specs.Piece.{StandsAt, EndsWith};
 
 use crate::mark::{Mark, known_mark, mark_of};
 

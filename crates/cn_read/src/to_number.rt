@@ -2,8 +2,9 @@ ghost use Rattle.std.specs.Prelude.{◌≡◌, ℕ, List};
 ghost use Rattle.cn_core.specs.Reading.{naive_reading, Reads};
 ghost use Rattle.cn_judge.specs.Answer.{answer_of};
 
+use crate::read;
 use cn_core::{ChineseCountMethod, Whole};
-use cn_judge::{ChineseToNumberError, read, read_naive};
+use cn_judge::{ChineseToNumberError, read_naive};
 
 /// A text that is read as a number of the integer type `T`, which the expected result picks.
 ///

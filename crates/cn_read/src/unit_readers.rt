@@ -6,8 +6,9 @@ ghost use Rattle.cn_core.specs.Reading.{Reads};
 ghost use Rattle.cn_core.specs.Whole.{signed_kind, unsigned_kind};
 ghost use Rattle.cn_judge.specs.Answer.{answer_of};
 
+use crate::read;
 use cn_core::ChineseCountMethod;
-use cn_judge::{ChineseToNumberError, read};
+use cn_judge::ChineseToNumberError;
 
 /// Reads a numeral by `Low` as a `u8`: `一百二` is 120.
 ///

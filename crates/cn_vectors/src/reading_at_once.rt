@@ -5,7 +5,7 @@ use chinese_number::ChineseVariant::{Simple, Traditional};
 use chinese_number::{
     ChineseCase, ChineseCountMethod, ChineseVariant, NumberToChinese, NumberToChineseError,
 };
-use cn_judge::read_quickly;
+use cn_quick::read_quickly;
 use std::process::Abort;
 
 static NUMBERS: [u128; 21] = [

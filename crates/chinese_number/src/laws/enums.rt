@@ -14,8 +14,8 @@ use cn_core::{ChineseCase, ChineseCountMethod, ChineseVariant, Sign, Unit};
 use cn_print::NumberToChineseError;
 use cn_read::ChineseToNumberError;
 
-/// Two values of an enum are equal exactly where they are the same variant, with the same spot
-/// where there is one.
+/// Two values of an enum are equal exactly where they are the same variant, with the same
+/// char_index where there is one.
 ///
 /// For callers who compare scripts, cases, methods, units, signs or errors.
 pub fn equal_values_are_the_same_variant()

@@ -38,8 +38,8 @@ pub fn methods_spell_otherwise_from()
     ensures middle { spelling Middle (10 ^ 24) ≢ spelling High (10 ^ 24) }
 {}
 
-/// A string that names no unit above 萬 has the same answer under all four methods, the spot of a
-/// refusal included. The sign that its type takes off does not count.
+/// A string that names no unit above 萬 has the same answer under all four methods, the char_index
+/// of a refusal included. The sign that its type takes off does not count.
 ///
 /// For readers of dates and chapter numbers: there no method has to be chosen.
 pub fn small_units_read_alike()

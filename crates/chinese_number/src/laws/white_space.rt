@@ -1,7 +1,7 @@
 // White space does not matter, but where a refusal points.
 ghost use Rattle.std.specs.Prelude.{◌≡◌, ◌+◌, ℕ, ℤ, List, Result, Err};
 ghost use Rattle.chinese_number.specs.Parts.{sign_length, unsigned_text};
-ghost use Rattle.chinese_number.specs.Places.{without_spot, PointsAt};
+ghost use Rattle.chinese_number.specs.Places.{without_char_index, PointsAt};
 ghost use Rattle.cn_core.specs.Judge.{Judges};
 ghost use Rattle.cn_core.specs.Naive.{naive_answer};
 ghost use Rattle.cn_core.specs.Refusal.{Refusal, incorrect_at};
@@ -18,26 +18,27 @@ pub fn white_space_does_not_matter()
     ensures units { (kind : Kind) (method : ChineseCountMethod) (one other : List ℕ)
         → text_of one ≡ text_of other → (first second : Result ℤ Refusal)
         → Reads kind method one first → Reads kind method other second
-        → without_spot first ≡ without_spot second }
+        → without_char_index first ≡ without_char_index second }
     ensures digits { (kind : Kind) (one other : List ℕ) → text_of one ≡ text_of other
-        → without_spot (naive_reading kind one) ≡ without_spot (naive_reading kind other) }
+        → without_char_index (naive_reading kind one)
+        ≡ without_char_index (naive_reading kind other) }
 {}
 
-/// A refusal points at a character: the one at its spot is no white space, and before it stand
-/// exactly as many other characters that are no white space as its place says, the sign's among
-/// them.
+/// A refusal points at a character: the one at its char_index is no white space, and before it
+/// stand exactly as many other characters that are no white space as its place says, the sign's
+/// among them.
 ///
-/// For form validators: they mark the character that the spot names. In ` 二 十 十 ` it is at 3, in
-/// `二十十` at 1.
+/// For form validators: they mark the character that the char_index names. In ` 二 十 十 ` it is at
+/// 3, in `二十十` at 1.
 pub fn refusals_point_at_characters()
-    ensures units { (kind : Kind) (method : ChineseCountMethod) (bytes : List ℕ) (spot : ℕ)
-        → Reads kind method bytes (Err (incorrect_at spot))
+    ensures units { (kind : Kind) (method : ChineseCountMethod) (bytes : List ℕ) (char_index : ℕ)
+        → Reads kind method bytes (Err (incorrect_at char_index))
         → (place : ℕ)
         × Judges method (marks_of (unsigned_text kind bytes)) (Err (incorrect_at place))
-        × PointsAt bytes spot (place + sign_length kind bytes) }
-    ensures digits { (kind : Kind) (bytes : List ℕ) (spot : ℕ)
-        → naive_reading kind bytes ≡ Err (incorrect_at spot)
+        × PointsAt bytes char_index (place + sign_length kind bytes) }
+    ensures digits { (kind : Kind) (bytes : List ℕ) (char_index : ℕ)
+        → naive_reading kind bytes ≡ Err (incorrect_at char_index)
         → (place : ℕ)
         × (naive_answer (marks_of (unsigned_text kind bytes)) ≡ Err (incorrect_at place))
-        × PointsAt bytes spot (place + sign_length kind bytes) }
+        × PointsAt bytes char_index (place + sign_length kind bytes) }
 {}

@@ -2,7 +2,7 @@ use Rattle.std.proofs.Common.{◌≡◌, drop, sym, ap, ◌∙◌}
 use Rattle.cn_core.specs.Naive.{naive_answer}
 use Rattle.cn_core.specs.Text.{text_of, marks_of}
 use Rattle.cn_core.specs.Reading.{leading_sign, sign_len, typed_answer}
-use Rattle.cn_judge.specs.Private.Signed.{signed_answer}
+use Rattle.cn_judge.specs.Signed.{signed_answer}
 use Rattle.cn_judge.proofs.Pieces.{text_of-rest, typed-rest}
 use Rattle.cn_judge.proofs.naive.read_naive.Goals as goal
 

@@ -1,7 +1,7 @@
 use Rattle.std.proofs.Common.{◌+◌, ◌≤◌, length, chars}
 use denote.Shadow.{shadow}
 use denote.Text.{Utf8}
-use Rattle.cn_judge.specs.Private.Piece.{StandsAt}
+use Rattle.cn_judge.specs.Piece.{StandsAt}
 use Rattle.cn_judge.proofs.text.split_first.Given as goal
 
 abbrev pub invariant-skipping : goal.invariant-skipping

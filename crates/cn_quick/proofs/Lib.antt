@@ -1,0 +1,3 @@
+pub mod ExponentEntries
+pub mod RegularSteps
+pub mod RegularSums

@@ -1,0 +1,114 @@
+-- Where a walk over a regular numeral stands: the units from 萬 up that are open, the sum so far,
+-- and the section since the last of these units.
+use Rattle.std.specs.Prelude.{◌≡◌, ℕ, zero, suc, ◌+◌, ◌*◌, ◌^◌, ◌<◌, Bool, true, false, ◌&&◌, ◌==◌, nat_lt, List, [], ◌∷◌, slice_index_or, Option, Some, None, if◌then◌else◌}
+use Rattle.std.specs.List.{list_all}
+use Rattle.std.specs.Option.{option_map_or}
+use Rattle.cn_core.specs.declared.method.ChineseCountMethod.{ChineseCountMethod}
+use Rattle.cn_core.specs.declared.method.ChineseCountMethod.TheVariants.{Low}
+use Rattle.cn_core.specs.declared.unit.Unit.TheVariants.{Ge}
+use Rattle.cn_core.specs.Characters.{rank}
+use Rattle.cn_core.specs.Mark.{Mark, digit, unit, other}
+use Rattle.cn_core.specs.Numeral.{may_precede, each_may_precede, starts_with_digit}
+use Rattle.cn_core.specs.Place.{is_tail, some_unfit}
+use Rattle.cn_core.specs.Scale.{exponent}
+use Rattle.cn_core.specs.Value.{value, records_from, record_units}
+use Rattle.cn_quick.specs.declared.open_exponents.OpenExponent.{OpenExponent}
+use Rattle.cn_quick.specs.declared.quick.QuickState.{QuickState}
+use Rattle.cn_judge.specs.Private.Walk.{HasNoTail}
+
+-- an open unit: its rank, and the exponent of the power of ten that it and the units below it make;
+-- the last opened stands first
+abbrev pub OpenEntry : Type 0
+OpenEntry = ℕ × ℕ
+
+-- the exponent of the power of ten that the scales of these ranks make
+abbrev pub exponents : ChineseCountMethod → List ℕ → ℕ
+exponents method [] = 0
+exponents method (rank ∷ ranks) = exponent method rank + exponents method ranks
+
+-- the open units of these ranks
+abbrev pub entries_for : ChineseCountMethod → List ℕ → List OpenEntry
+entries_for method [] = []
+entries_for method (rank ∷ ranks) = (rank, exponents method (rank ∷ ranks)) ∷ entries_for method ranks
+
+-- what a digit counts beside the section that it stands in
+abbrev pub top_exponent : List OpenEntry → ℕ
+top_exponent [] = 0
+top_exponent (top ∷ units) = top.1
+
+-- the rank on top
+abbrev pub rank_on_top : List OpenEntry → Option ℕ
+rank_on_top [] = None
+rank_on_top (top ∷ units) = Some top.0
+
+-- a unit of this rank is smaller than the one on top, or none is open
+abbrev pub is_below_top : ℕ → List OpenEntry → Bool
+is_below_top rank units = option_map_or (λ top. nat_lt rank top) (rank_on_top units) true
+
+-- the unit on top is smaller than this rank
+abbrev pub has_smaller_top : ℕ → List OpenEntry → Bool
+has_smaller_top rank units = option_map_or (λ top. nat_lt top rank) (rank_on_top units) false
+
+-- the open units that are not smaller than a rank
+abbrev pub not_smaller : ℕ → List OpenEntry → List OpenEntry
+not_smaller limit [] = []
+not_smaller limit (top ∷ units) =
+    if nat_lt top.0 limit then not_smaller limit units else top ∷ units
+
+abbrev pub no_entry : OpenExponent
+no_entry = record { unit = Ge; exponent = 0 }
+
+abbrev pub entry_at : OpenExponent → OpenEntry
+entry_at entry = (rank entry.unit, entry.exponent)
+
+-- the first entries, the last of them first
+abbrev pub entries_of : List OpenExponent → ℕ → List OpenEntry
+entries_of entries zero = []
+entries_of entries (suc len) =
+    entry_at (slice_index_or entries len no_entry) ∷ entries_of entries len
+
+-- the rank of the least unit that closes a section: 萬, but none by Low, where each unit is ten of
+-- the one before
+abbrev pub closing_rank : ChineseCountMethod → ℕ
+closing_rank Low = 16
+closing_rank method = 4
+
+-- the record units: the last unit of the section, if it is above 個, before those that close one
+abbrev pub with_last : ℕ → List ℕ → List ℕ
+with_last last ranks = if last == 0 then ranks else last ∷ ranks
+
+-- a digit, or a unit above 個
+abbrev pub is_regular_mark : Mark → Bool
+is_regular_mark (digit number) = true
+is_regular_mark (unit rank) = nat_lt 0 rank && nat_lt rank 16
+is_regular_mark other = false
+
+-- a mark that may be put in front without the last mark standing apart
+abbrev pub LeavesNoTail : Mark → List Mark → Type 0
+LeavesNoTail mark (last ∷ []) = is_tail mark last ≡ false
+LeavesNoTail mark marks = Unit {0}
+
+-- where the walk stands after these marks: they are regular and keep all rules, and their value is
+-- the sum so far, and the section's times what the open units make
+pub record IsRegular (method : ChineseCountMethod) (marks : List Mark) (units : List OpenEntry)
+    (total sum last : ℕ) (at_digit : Bool) : Type 0 where
+  pub regular : list_all is_regular_mark marks ≡ true
+  pub rules : each_may_precede marks ≡ true
+  pub fit : some_unfit method marks ≡ false
+  pub number : value method marks
+      ≡ total + sum * 10 ^ exponents method (records_from (closing_rank method) marks)
+  pub records : record_units marks ≡ with_last last (records_from (closing_rank method) marks)
+  pub entries_are : units ≡ entries_for method (records_from (closing_rank method) marks)
+  pub after_digit : at_digit ≡ starts_with_digit marks
+  pub low : last < closing_rank method
+  pub plain_end : HasNoTail marks
+
+-- a unit may close a section there, over the units that are left open
+pub record MayOpen (method : ChineseCountMethod) (marks : List Mark) (left : List OpenEntry)
+    (rank : ℕ) : Type 0 where
+  pub left_are : left ≡ entries_for method (records_from (rank + 1) marks)
+  pub precedes : may_precede (unit rank) marks ≡ true
+
+abbrev pub StandsRegular : ChineseCountMethod → List Mark → List OpenEntry → QuickState → Type 0
+StandsRegular method marks units state =
+    IsRegular method marks units state.total state.sum (rank state.last) state.at_digit
