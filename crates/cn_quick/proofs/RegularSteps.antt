@@ -15,7 +15,7 @@ use Rattle.cn_core.specs.Value.{value, weight, product, records_from, record_uni
 use Rattle.cn_core.proofs.Fronts.{and-left, and-right}
 use Rattle.cn_core.proofs.Judging.{Judges-by_walk}
 use Rattle.cn_core.proofs.OpenUnits.{first_not_smaller-record, in_ranks, length-records}
-use Rattle.cn_quick.specs.declared.quick.QuickState.{QuickState}
+use Rattle.cn_quick.specs.declared.QuickState.{QuickState}
 use Rattle.cn_quick.specs.Private.Regular.{OpenEntry, IsRegular, StandsRegular, LeavesNoTail, MayOpen, exponents, entries_for, top_exponent, is_below_top, is_regular_mark, closing_rank, not_smaller, with_last}
 use Rattle.cn_judge.specs.Private.Walk.{HasNoTail}
 use Rattle.cn_judge.proofs.OpenSums.{from_rank}

@@ -13,7 +13,7 @@ use Rattle.cn_core.specs.Place.{is_tail, some_unfit}
 use Rattle.cn_core.specs.Scale.{exponent}
 use Rattle.cn_core.specs.Value.{value, records_from, record_units}
 use Rattle.cn_quick.specs.declared.open_exponents.OpenExponent.{OpenExponent}
-use Rattle.cn_quick.specs.declared.quick.QuickState.{QuickState}
+use Rattle.cn_quick.specs.declared.QuickState.{QuickState}
 use Rattle.cn_judge.specs.Private.Walk.{HasNoTail}
 
 -- an open unit: its rank, and the exponent of the power of ten that it and the units below it make;

@@ -2,7 +2,7 @@ use Rattle.std.proofs.Common.{◌≡◌, length, arith, rules}
 use Rattle.cn_core.specs.Text.{marks_of}
 use Rattle.cn_judge.specs.Marked.{marked}
 use Rattle.cn_quick.proofs.RegularSteps.{stepped-all, stepped-more, stepped-second}
-use Rattle.cn_quick.proofs.quick.read_quickly.Goals as goal
+use Rattle.cn_quick.proofs.read_quickly.Goals as goal
 
 pub returns : goal.returns
 returns c =

@@ -1,7 +1,7 @@
 use Rattle.std.proofs.Common.{sym, ◌∙◌}
 use Rattle.cn_core.specs.Characters.{rank}
 use Rattle.cn_quick.proofs.RegularSteps.{may_open-digit}
-use Rattle.cn_quick.proofs.quick.makes_way.Goals as goal
+use Rattle.cn_quick.proofs.makes_way.Goals as goal
 
 pub returns-then-state : goal.returns-then-state
 returns-then-state c = λ method marks s great top.

@@ -1,6 +1,6 @@
 use Rattle.cn_core.specs.Characters.{rank}
 use Rattle.cn_quick.proofs.RegularSteps.{regular-digit}
-use Rattle.cn_quick.proofs.quick.step_digit.Goals as goal
+use Rattle.cn_quick.proofs.step_digit.Goals as goal
 
 pub returns : goal.returns
 returns c = λ method marks units s.

@@ -1,6 +1,6 @@
 use Rattle.cn_core.specs.Characters.{rank}
 use Rattle.cn_quick.proofs.RegularSteps.{regular-small}
-use Rattle.cn_quick.proofs.quick.step_section_unit.Goals as goal
+use Rattle.cn_quick.proofs.step_section_unit.Goals as goal
 
 pub returns : goal.returns
 returns c = λ method marks units s small leaves.

@@ -2,7 +2,7 @@ use Rattle.std.proofs.Common.{arith}
 use Rattle.cn_core.specs.Characters.{rank}
 use Rattle.cn_core.proofs.Characters.{rank-low}
 use Rattle.cn_quick.proofs.RegularSteps.{regular-closed, open-room}
-use Rattle.cn_quick.proofs.quick.close_section.Goals as goal
+use Rattle.cn_quick.proofs.close_section.Goals as goal
 
 pub open-requires : goal.open-requires
 open-requires c =

@@ -2,7 +2,7 @@ use Rattle.std.proofs.Common.{length}
 use denote.Shadow.{shadow}
 use denote.Text.{Utf8}
 use Rattle.cn_quick.proofs.RegularSteps.{HasStepped}
-use Rattle.cn_quick.proofs.quick.read_quickly.Given as goal
+use Rattle.cn_quick.proofs.read_quickly.Given as goal
 
 abbrev pub invariant-walking : goal.invariant-walking
 invariant-walking l = record {

@@ -1,6 +1,6 @@
 use Rattle.cn_judge.specs.Marked.{marked}
 use Rattle.cn_quick.proofs.RegularSteps.{judges-option}
-use Rattle.cn_quick.proofs.quick.finish.Goals as goal
+use Rattle.cn_quick.proofs.finish.Goals as goal
 
 pub returns : goal.returns
 returns c = λ method marks s.
