@@ -14,6 +14,12 @@ open-requires c =
 pub returns : goal.returns
 returns c = λ marks s leaves.
     let great = c.requires.2 in
-    regular-closed c.args.method marks _ _ _ _ _ _ _ (rank c.args.unit) _ _ s great (rank-low c.args.unit) leaves c.in_ok-total.ensures.0
+    regular-closed c.args.method marks _ _ _ _ _ _ _ (rank c.args.unit) _ _ s
+    great (rank-low c.args.unit) leaves c.in_ok-total.ensures.0
     (c.makes_way.ensures c.args.method marks s great c.if-not-makes_way.false)
-    (omega (arith, c.in_ok-all.ensures, c.exponent.ensures, c.exponent-2.ensures)) c.if-all-gt38.false c.open.ensures
+    (omega (
+      arith,
+      c.in_ok-all.ensures,
+      c.exponent.ensures,
+      c.exponent-2.ensures,
+    )) c.if-all-gt38.false c.open.ensures
