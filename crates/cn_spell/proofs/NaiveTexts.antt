@@ -15,22 +15,22 @@ use Rattle.cn_spell.specs.Working.Positions.{positions_of}
 use Rattle.cn_spell.proofs.ThreeBytes.{takes_three, three-digit, three-minus}
 
 -- these digits as marks, which are told from the lowest up
-abbrev pub digit_marks : List ℕ → List Mark
-digit_marks digits = map digit (reverse digits)
+abbrev pub plain_marks : List ℕ → List Mark
+plain_marks digits = map digit (reverse digits)
 
 -- the next of them stands in front
-pub digit_marks-more : (digits : List ℕ) (position : ℕ) → position < length digits
-    → digit_marks (take (position + 1) digits) ≡ digit (slice_index digits position) ∷ digit_marks (take position digits)
-digit_marks-more digits position h =
-    ap digit_marks (take_more digits position 0 h) ∙ ap (map digit) (reverse-append (take position digits) (slice_index digits position ∷ []))
+pub plain_marks-more : (digits : List ℕ) (position : ℕ) → position < length digits
+    → plain_marks (take (position + 1) digits) ≡ digit (slice_index digits position) ∷ plain_marks (take position digits)
+plain_marks-more digits position h =
+    ap plain_marks (take_more digits position 0 h) ∙ ap (map digit) (reverse-append (take position digits) (slice_index digits position ∷ []))
 
 same-marks : (bytes : List ℕ) → map digit (map (λ byte. byte - 48) bytes) ≡ map (λ byte. digit (byte - 48)) bytes
 same-marks [] = refl
 same-marks (byte ∷ bytes) = ap (λ rest. digit (byte - 48) ∷ rest) (same-marks bytes)
 
 -- all of them are the number's digits
-pub digit_marks-all : (number : ℕ) → digit_marks (positions_of number) ≡ decimal_digits number
-digit_marks-all number = ap (map digit) (reverse-reverse (map (λ byte. byte - 48) (decimal number))) ∙ same-marks (decimal number)
+pub plain_marks-all : (number : ℕ) → plain_marks (positions_of number) ≡ decimal_digits number
+plain_marks-all number = ap (map digit) (reverse-reverse (map (λ byte. byte - 48) (decimal number))) ∙ same-marks (decimal number)
 
 -- each of their characters takes three bytes
 three-decimal : (variant : ChineseVariant) (case : ChineseCase) (number : ℕ) → number < 10 ^ 64 → list_all (λ byte. takes_three (digit_char variant case (byte - 48))) (decimal number) ≡ true

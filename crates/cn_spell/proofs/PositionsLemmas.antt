@@ -101,7 +101,7 @@ all-digits = decimal_by_steps_wide (λ number bytes. list_all is_digit (reverse 
       ap reverse (map-append value bytes ((48 + number % 10) ∷ [])) ∙ reverse-append (map value bytes) (value (48 + number % 10) ∷ []) ∙ ap (λ digit. digit ∷ reverse (map value bytes)) last in
       rw (e, t) rest
 
--- sixteen digits in four groups
+-- sixteen digits in four sections
 pub lowest-part : (part : ℕ) → lowest 4 (part % 10 ^ 8 % 10 ^ 4) ++ (lowest 4 (part % 10 ^ 8 / 10 ^ 4) ++ (lowest 4 (part / 10 ^ 8 % 10 ^ 4) ++ lowest 4 (part / 10 ^ 8 / 10 ^ 4))) ≡ lowest 16 part
 lowest-part part = ap₂ (λ low high. low ++ high) (two (part % 10 ^ 8) ∙ lowest-low 8 0 part) (two (part / 10 ^ 8)) ∙ sym (lowest-append 8 8 part) where
   two : (n : ℕ) → lowest 4 (n % 10 ^ 4) ++ lowest 4 (n / 10 ^ 4) ≡ lowest 8 n

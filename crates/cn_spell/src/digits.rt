@@ -2,7 +2,7 @@
 ghost use Rattle.std.specs.Prelude.{◌≡◌, ◌+◌, ◌<◌, ◌≤◌, ◌^◌, ℕ, ◌++◌, take, length, slice_index};
 ghost use Rattle.cn_spell.specs.Working.Positions.{positions_of, positions_value, lowest, HoldsPositions};
 
-use crate::groups::{GROUP, split_part};
+use crate::sections::{SECTION, split_part};
 use std::marker::Model;
 
 // A number of 128 bits has at most 39 digits.
@@ -33,7 +33,7 @@ impl<'a> Digits<'a> {
         let mut above = magnitude;
         while above > u64::MAX as u128 {
             let (next, part) = split_part(above);
-            put_part(positions, len, part);
+            put_sixteen(positions, len, part);
             len += 16;
             above = next;
         }
@@ -63,14 +63,14 @@ impl<'a> Digits<'a> {
     }
 }
 
-// The four digits of a group, from the position on.
-fn put_group(positions: &mut [u8], position: usize, group: u64)
-    requires group { group < 10 ^ 4 }
+// The four digits of a section, from the position on.
+fn put_four(positions: &mut [u8], position: usize, section: u64)
+    requires section { section < 10 ^ 4 }
     requires room { position + 4 ≤ length positions.old }
-    ensures { take (position + 4) positions.new ≡ take position positions.old ++ lowest 4 group }
+    ensures { take (position + 4) positions.new ≡ take position positions.old ++ lowest 4 section }
 {
-    let low = group % 100;
-    let high = group / 100;
+    let low = section % 100;
+    let high = section / 100;
     positions[position] = (low % 10) as u8;
     positions[position + 1] = (low / 10) as u8;
     positions[position + 2] = (high % 10) as u8;
@@ -78,32 +78,32 @@ fn put_group(positions: &mut [u8], position: usize, group: u64)
 }
 
 // The sixteen digits of a part, from the position on.
-fn put_part(positions: &mut [u8], position: usize, part: u64)
+fn put_sixteen(positions: &mut [u8], position: usize, part: u64)
     requires part { part < 10 ^ 16 }
     requires room { position + 16 ≤ length positions.old }
     ensures { take (position + 16) positions.new ≡ take position positions.old ++ lowest 16 part }
 {
-    let low = part % (GROUP * GROUP);
-    let high = part / (GROUP * GROUP);
-    put_group(positions, position, low % GROUP);
-    put_group(positions, position + 4, low / GROUP);
-    put_group(positions, position + 8, high % GROUP);
-    put_group(positions, position + 12, high / GROUP);
+    let low = part % (SECTION * SECTION);
+    let high = part / (SECTION * SECTION);
+    put_four(positions, position, low % SECTION);
+    put_four(positions, position + 4, low / SECTION);
+    put_four(positions, position + 8, high % SECTION);
+    put_four(positions, position + 12, high / SECTION);
 }
 
-// The digits of the front, which begins with no 0, from the position on; the result is the position
+// The digits of what is left above, which begins with no 0, from the position on; the result is the position
 // after them.
-fn put_rest(positions: &mut [u8], position: usize, front: u64) -> usize
-    requires { position + length (positions_of front) ≤ length positions.old }
-    ensures digits { take result positions.new ≡ take position positions.old ++ positions_of front }
-    ensures end { result ≡ position + length (positions_of front) }
+fn put_rest(positions: &mut [u8], position: usize, above: u64) -> usize
+    requires { position + length (positions_of above) ≤ length positions.old }
+    ensures digits { take result positions.new ≡ take position positions.old ++ positions_of above }
+    ensures end { result ≡ position + length (positions_of above) }
 {
-    let mut left = front;
+    let mut left = above;
     let mut position = position;
-    while left >= GROUP {
-        put_group(positions, position, left % GROUP);
+    while left >= SECTION {
+        put_four(positions, position, left % SECTION);
         position += 4;
-        left /= GROUP;
+        left /= SECTION;
     }
     while left >= 10 {
         positions[position] = (left % 10) as u8;

@@ -2,14 +2,14 @@
 ghost use Rattle.std.specs.Prelude.{◌≡◌, nat_abs, IfOk};
 ghost use Rattle.cn_core.specs.Naive.{decimal_digits};
 ghost use Rattle.cn_core.specs.Printing.{signed_text, naive_text};
-ghost use Rattle.cn_spell.specs.Puts.{PutsInFront};
+ghost use Rattle.cn_spell.specs.Puts.{PutsText};
 ghost use Rattle.cn_spell.specs.Writes.{Writes, most_plain_bytes};
 
 use crate::characters::Characters;
 use crate::digits::{Digits, MOST};
 use crate::pen::Pen;
 use crate::room::Room;
-use crate::text::{Text, new_string, put_in_front};
+use crate::text::{Text, new_string, put_text};
 use cn_core::{ChineseCase, ChineseVariant, Whole};
 use std::alloc::{AllocError, Global};
 
@@ -82,29 +82,30 @@ pub fn print_naive<T: Whole>(
     new_string(alloc, &text)
 }
 
-// The text of a sign and a magnitude at the front of a room, where it fits.
-fn put_signed(room: &mut [u8], characters: Characters, negative: bool, magnitude: u128) -> usize
-    ensures { PutsInFront
+// The text of a sign and a magnitude at the beginning of a room, where it fits.
+fn put_plain(room: &mut [u8], characters: Characters, negative: bool, magnitude: u128) -> usize
+    ensures { PutsText
         (signed_text characters.variant characters.case negative (decimal_digits magnitude))
         most_plain_bytes room.old room.new result }
 {
     let mut taken = [0; MOST];
-    put_in_front(
+    put_text(
         room,
         &Plain::of(&mut taken, characters, negative, magnitude),
     )
 }
 
-/// The text of a number at the front of a room, where it fits; the result is how many bytes it has.
+/// The text of a number at the beginning of a room, where it fits; the result is how many bytes it
+/// has.
 pub fn put_naive<T: Whole>(
     room: &mut [u8],
     variant: ChineseVariant,
     case: ChineseCase,
     value: T,
 ) -> usize
-    ensures { PutsInFront (naive_text variant case (T.number value)) most_plain_bytes
+    ensures { PutsText (naive_text variant case (T.number value)) most_plain_bytes
         room.old room.new result }
 {
     let characters = Characters::new(variant, case);
-    put_signed(room, characters, value.is_negative(), value.magnitude())
+    put_plain(room, characters, value.is_negative(), value.magnitude())
 }

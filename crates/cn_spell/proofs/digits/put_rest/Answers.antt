@@ -4,8 +4,8 @@ use Rattle.cn_spell.specs.Working.Positions.{positions_of, lowest}
 use Rattle.cn_spell.proofs.PositionsLemmas.{positions-step, positions-digit, positions-lowest, lowest-low, chunk-done, length-split, length-positions-some}
 use Rattle.cn_spell.proofs.digits.put_rest.Goals as goal
 
-pub put_group-requires-clause-room : goal.put_group-requires-clause-room
-put_group-requires-clause-room c =
+pub put_four-requires-clause-room : goal.put_four-requires-clause-room
+put_four-requires-clause-room c =
     let left = c.loop-left.left in
     omega (arith, length-split 4 left (omega arith) (omega arith), c.loop-left.invariant.end, c.requires, c.loop-left.auto.positions)
 
@@ -15,7 +15,7 @@ loop-left-preserved c =
     let position = c.loop-left.position in
     let reach : 10 ^ 4 ≤ left = omega arith in
     let small : left < 10 ^ 64 = omega arith in
-    let put = c.put_group.ensures ∙ ap (λ group. take position c.loop-left.positions ++ group) (lowest-low 4 0 left) in
+    let put = c.put_four.ensures ∙ ap (λ section. take position c.loop-left.positions ++ section) (lowest-low 4 0 left) in
     record {
       digits = chunk-done (take position c.loop-left.positions) (lowest 4 left) (positions_of (left / 10 ^ 4)) _ (positions_of left) _ put (positions-lowest 4 left reach small) c.loop-left.invariant.digits;
       end = omega (arith, length-split 4 left reach small, c.loop-left.invariant.end);

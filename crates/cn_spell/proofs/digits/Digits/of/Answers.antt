@@ -3,8 +3,8 @@ use Rattle.cn_spell.specs.Working.Positions.{positions_of, positions_value, lowe
 use Rattle.cn_spell.proofs.PositionsLemmas.{positions-lowest, lowest-low, chunk-done, length-split, length-positions-le, holds, value-positions}
 use Rattle.cn_spell.proofs.digits.Digits.of.Goals as goal
 
-pub put_part-requires-clause-room : goal.put_part-requires-clause-room
-put_part-requires-clause-room c =
+pub put_sixteen-requires-clause-room : goal.put_sixteen-requires-clause-room
+put_sixteen-requires-clause-room c =
     let above = c.loop-above.above in
     let most = length-positions-le 39 c.args.magnitude (omega arith) (omega arith) (omega arith) in
     omega (arith, most, length-split 16 above (omega arith) (omega arith), c.loop-above.invariant.end)
@@ -16,10 +16,10 @@ loop-above-preserved c =
     let split = c.split_part-next.ensures in
     let reach : 10 ^ 16 ≤ above = omega arith in
     let small : above < 10 ^ 64 = omega arith in
-    let put = c.put_part.ensures ∙ ap (λ n. take len c.loop-above.positions ++ lowest 16 n) split.part ∙ ap (λ low. take len c.loop-above.positions ++ low) (lowest-low 16 0 above) in
+    let put = c.put_sixteen.ensures ∙ ap (λ n. take len c.loop-above.positions ++ lowest 16 n) split.part ∙ ap (λ low. take len c.loop-above.positions ++ low) (lowest-low 16 0 above) in
     record {
-      digits = chunk-done (take len c.loop-above.positions) (lowest 16 above) (positions_of c.split_part-next.result.0) _ (positions_of above) _ put (rw split.front (positions-lowest 16 above reach small)) c.loop-above.invariant.digits;
-      end = omega (arith, ap (λ n. length (positions_of n)) split.front, length-split 16 above reach small, c.loop-above.invariant.end);
+      digits = chunk-done (take len c.loop-above.positions) (lowest 16 above) (positions_of c.split_part-next.result.0) _ (positions_of above) _ put (rw split.above (positions-lowest 16 above reach small)) c.loop-above.invariant.digits;
+      end = omega (arith, ap (λ n. length (positions_of n)) split.above, length-split 16 above reach small, c.loop-above.invariant.end);
     }
 
 pub put_rest-len-requires : goal.put_rest-len-requires

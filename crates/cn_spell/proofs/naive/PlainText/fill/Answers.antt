@@ -4,7 +4,7 @@ use Rattle.cn_core.specs.Naive.{decimal_digits}
 use Rattle.cn_core.specs.Printing.{signed_text}
 use Rattle.cn_spell.specs.Working.Positions.{positions_of}
 use Rattle.cn_spell.specs.Working.Room.{Shows}
-use Rattle.cn_spell.proofs.NaiveTexts.{digit_marks, digit_marks-more, digit_marks-all}
+use Rattle.cn_spell.proofs.NaiveTexts.{plain_marks, plain_marks-more, plain_marks-all}
 use Rattle.cn_spell.proofs.Rooms.{Shows-full, Shows-utf8}
 use Rattle.cn_spell.proofs.naive.PlainText.fill.Goals as goal
 
@@ -15,7 +15,7 @@ loop-position-preserved c =
     let less : l.position < length positions = omega (arith, c.len-position-end.ensures.len, c.loop-position-test.true) in
     let put = c.put_digit_if.ensures in
     record {
-      shows = rw (digit_marks-more positions l.position less, ← c.at.ensures.value) (put.marks _ l.invariant.shows);
+      shows = rw (plain_marks-more positions l.position less, ← c.at.ensures.value) (put.marks _ l.invariant.shows);
       free = omega (arith, put.room, l.invariant.free);
       characters = ap (λ s. s.1) put.setting ∙ l.invariant.characters;
       lender = ap (λ s. s.0) put.setting ∙ l.invariant.lender;
@@ -28,7 +28,7 @@ returns c =
     let positions : List ℕ = positions_of self.digits in
     let room = c.put_sign.new.self in
     let end : l.position ≡ length positions = omega (arith, c.len-position-end.ensures.len, l.auto.position-end, c.loop-position-test.false) in
-    let marks : digit_marks (take l.position positions) ≡ decimal_digits self.digits = ap digit_marks (take_all l.position positions (omega (arith, end))) ∙ digit_marks-all self.digits in
+    let marks : plain_marks (take l.position positions) ≡ decimal_digits self.digits = ap plain_marks (take_all l.position positions (omega (arith, end))) ∙ plain_marks-all self.digits in
     let shows : Shows room.free room.bytes.now (signed_text self.characters.variant self.characters.case self.negative (decimal_digits self.digits)) =
     subst (λ used. Shows room.free room.bytes.now (signed_text used.variant used.case self.negative (decimal_digits self.digits))) l.invariant.characters
     (c.put_sign.ensures.shows _ (rw marks at l.invariant.shows)) in
