@@ -1,7 +1,6 @@
 pub mod Bounds
 pub mod NaiveTexts
 pub mod Pens
-pub mod PositionsLemmas
 pub mod Rooms
 pub mod SectionCuts
 pub mod SectionWalks

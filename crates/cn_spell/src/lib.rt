@@ -6,7 +6,6 @@
 #![tactic(auto)]
 
 mod characters;
-mod digits;
 mod error;
 mod known_method;
 mod naive;

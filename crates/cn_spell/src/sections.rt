@@ -1,5 +1,5 @@
 // A magnitude as sections of four decimal digits.
-ghost use Rattle.std.specs.Prelude.{◌≡◌, ◌*◌, ◌/◌, ◌%◌, ◌^◌, ◌+◌, ◌<◌, ◌≤◌, ℕ, length, slice_index};
+ghost use Rattle.std.specs.Prelude.{◌≡◌, ◌*◌, ◌/◌, ◌%◌, ◌^◌, ◌+◌, ◌<◌, ◌≤◌, max, ℕ, length, slice_index};
 ghost use Rattle.cn_spell.specs.Working.Sections.{sections_within, above_limit, HoldsSections};
 ghost use Rattle.cn_spell.specs.Working.Units.{powers_within};
 
@@ -111,4 +111,16 @@ fn put_part(sections: &mut [u16], index: usize, part: u64)
     sections[index + 1] = (low / SECTION) as u16;
     sections[index + 2] = (high % SECTION) as u16;
     sections[index + 3] = (high / SECTION) as u16;
+}
+
+/// How many digits a section has; 0 has one.
+#[inline(always)]
+pub fn digits_of(section: u16) -> usize
+    requires { section < 10 ^ 4 }
+    ensures some { 0 < result }
+    ensures most { result ≤ 4 }
+    ensures below { section < 10 ^ result }
+    ensures reach { 10 ^ result ≤ 10 * max section 1 }
+{
+    1 + (section >= 10) as usize + (section >= 100) as usize + (section >= 1000) as usize
 }

@@ -16,7 +16,7 @@ ghost use Rattle.cn_spell.specs.Working.Units.{powers_within, units_behind};
 
 use crate::pen::Pen;
 use crate::powers::{put_above, put_section};
-use crate::sections::Sections;
+use crate::sections::{Sections, digits_of};
 use crate::units::{unit_at, widths};
 use cn_core::ChineseCountMethod;
 
@@ -53,19 +53,6 @@ fn put_units<P: Pen>(pen: &mut P, method: ChineseCountMethod, power: usize, fill
             above = start + 1;
         }
     }
-}
-
-// How many digits a section has that is not empty.
-#[inline(always)]
-fn digits_of(section: u16) -> usize
-    requires some { 0 < section }
-    requires section { section < 10 ^ 4 }
-    ensures some { 0 < result }
-    ensures most { result ≤ 4 }
-    ensures below { section < 10 ^ result }
-    ensures reach { 10 ^ result ≤ 10 * section }
-{
-    1 + (section >= 10) as usize + (section >= 100) as usize + (section >= 1000) as usize
 }
 
 /// Puts a magnitude's spelling, from its lowest section up.

@@ -1,5 +1,5 @@
 -- A number by its sections of four digits, and the marks that they are written by.
-use Rattle.std.specs.Prelude.{◌≡◌, ℕ, ◌*◌, ◌/◌, ◌%◌, ◌^◌, ◌≤◌, ◌<◌, Bool, false, ◌==◌, ◌&&◌, ◌||◌, nat_le, nat_lt, List, [], ◌∷◌, ◌++◌, slice_index, if◌then◌else◌}
+use Rattle.std.specs.Prelude.{◌≡◌, ℕ, zero, suc, ◌*◌, ◌/◌, ◌%◌, ◌^◌, ◌≤◌, ◌<◌, Bool, false, ◌==◌, ◌&&◌, ◌||◌, nat_le, nat_lt, List, [], ◌∷◌, ◌++◌, slice_index, if◌then◌else◌}
 use Rattle.cn_core.specs.declared.method.ChineseCountMethod.{ChineseCountMethod}
 use Rattle.cn_core.specs.declared.method.ChineseCountMethod.TheVariants.{Low}
 use Rattle.cn_core.specs.Mark.{Mark, digit, unit}
@@ -21,6 +21,11 @@ pub record HoldsSections (number : ℕ) (sections : List ℕ) (count above : ℕ
   pub each : (index : ℕ) → index < count
       → slice_index sections index ≡ number / 10 ^ (4 * index) % 10 ^ 4
   pub some : 0 < count → 0 < above
+
+-- so many of a number's lowest digits, 零 too where it has fewer
+abbrev pub lowest_marks : ℕ → ℕ → List Mark
+lowest_marks zero number = []
+lowest_marks (suc count) number = digit (number / 10 ^ count % 10) ∷ lowest_marks count number
 
 -- a mark where it is kept
 abbrev pub kept : Bool → Mark → List Mark
