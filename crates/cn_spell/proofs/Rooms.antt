@@ -7,7 +7,7 @@ use Rattle.cn_core.specs.declared.script.ChineseVariant.{ChineseVariant}
 use Rattle.cn_core.specs.declared.case.ChineseCase.{ChineseCase}
 use Rattle.cn_core.specs.Mark.{Mark}
 use Rattle.cn_core.specs.Printing.{mark_char}
-use Rattle.cn_spell.specs.Working.Groups.{kept}
+use Rattle.cn_spell.specs.Working.Sections.{kept}
 use Rattle.cn_spell.specs.Working.Room.{Counts, Shows}
 use Rattle.cn_spell.proofs.ThreeBytes.{takes_three, encode-three}
 

@@ -48,13 +48,13 @@ length-encode_all (c ∷ cs) h =
     let rest = length-encode_all cs (and-right (takes_three c) _ h) in
     rw one (omega (arith, rest))
 
--- a test that each passes is passed at each position
+-- a test that each passes is passed at each index
 pub passes-at : (test : ℕ → Bool) (xs : List ℕ) (k : ℕ) → list_all test xs ≡ true → k < length xs → test (slice_index xs k) ≡ true
 passes-at test [] k h less = absurd (omega (arith, less))
 passes-at test (x ∷ xs) zero h less = and-left (test x) _ h
 passes-at test (x ∷ xs) (suc k) h less = passes-at test xs k (and-right (test x) _ h) (omega (arith, less))
 
--- the bytes of the character at a position
+-- the bytes of the character at an index
 pub bytes-at : (cs : List ℕ) (k start : ℕ) → list_all takes_three cs ≡ true → k < length cs → start ≡ 3 * k
     → slice_index (encode_utf8_all cs) start ∷ slice_index (encode_utf8_all cs) (start + 1) ∷ slice_index (encode_utf8_all cs) (start + 2) ∷ [] ≡ encode_utf8 (slice_index cs k)
 bytes-at [] k start h less e = absurd (omega (arith, less))

@@ -7,7 +7,7 @@ ghost use Rattle.cn_core.specs.Characters.{rank};
 ghost use Rattle.cn_core.specs.Mark.{Mark, digit, unit};
 ghost use Rattle.cn_core.specs.Printing.{mark_char};
 ghost use Rattle.cn_spell.specs.declared.characters.Characters.{Characters};
-ghost use Rattle.cn_spell.specs.Working.Groups.{kept};
+ghost use Rattle.cn_spell.specs.Working.Sections.{kept};
 ghost use Rattle.cn_spell.specs.Working.Room.{Counts, Shows};
 
 use crate::room::Room;

@@ -7,8 +7,8 @@ ghost use Rattle.cn_spell.specs.Writes.{Writes};
 
 use crate::NumberToChineseError;
 use crate::characters::Characters;
-use crate::groups::MOST;
 use crate::known_method::{ByHigh, ByLow, ByMiddle, ByTenThousand, KnownMethod};
+use crate::sections::MOST;
 use crate::spelled::Spelled;
 use crate::text::new_string;
 use cn_core::{ChineseCase, ChineseCountMethod, ChineseVariant, Whole};

@@ -3,16 +3,16 @@ ghost use Rattle.std.specs.Prelude.{pos, IsTrue};
 ghost use Rattle.cn_core.specs.Spelling.{spelling};
 ghost use Rattle.cn_core.specs.Printing.{signed_text, spelled_text, is_printable};
 ghost use Rattle.cn_spell.specs.Prints.{most_bytes};
-ghost use Rattle.cn_spell.specs.Puts.{PutsInFront};
+ghost use Rattle.cn_spell.specs.Puts.{PutsText};
 
 use crate::characters::Characters;
-use crate::groups::MOST;
 use crate::known_method::{ByHigh, ByLow, ByMiddle, ByTenThousand, KnownMethod};
+use crate::sections::MOST;
 use crate::spelled::Spelled;
-use crate::text::put_in_front;
+use crate::text::put_text;
 use cn_core::{ChineseCase, ChineseCountMethod, ChineseVariant, Whole};
 
-// The text of a sign and a magnitude at the front of a room, where it fits.
+// The text of a sign and a magnitude at the beginning of a room, where it fits.
 fn put_signed<M: KnownMethod>(
     room: &mut [u8],
     characters: Characters,
@@ -20,13 +20,13 @@ fn put_signed<M: KnownMethod>(
     magnitude: u128,
 ) -> usize
     requires { IsTrue (is_printable M.stands_for (pos magnitude)) }
-    ensures { PutsInFront
+    ensures { PutsText
         (signed_text characters.variant characters.case negative (spelling M.stands_for magnitude))
         (most_bytes M.stands_for) room.old room.new result }
 {
     let mut taken = [0; MOST];
     let text = Spelled::<M>::of(&mut taken, characters, negative, magnitude);
-    put_in_front(room, &text)
+    put_text(room, &text)
 }
 
 // The same by a method that is given.
@@ -38,7 +38,7 @@ fn put_magnitude(
     magnitude: u128,
 ) -> usize
     requires { IsTrue (is_printable method (pos magnitude)) }
-    ensures { PutsInFront
+    ensures { PutsText
         (signed_text characters.variant characters.case negative (spelling method magnitude))
         (most_bytes method) room.old room.new result }
 {
@@ -52,7 +52,7 @@ fn put_magnitude(
     }
 }
 
-/// The spelling of a number that the method writes, at the front of a room, where it fits; the
+/// The spelling of a number that the method writes, at the beginning of a room, where it fits; the
 /// result is how many bytes it has.
 pub fn put_by_units<T: Whole>(
     room: &mut [u8],
@@ -62,7 +62,7 @@ pub fn put_by_units<T: Whole>(
     value: T,
 ) -> usize
     requires { IsTrue (is_printable method (T.number value)) }
-    ensures { PutsInFront (spelled_text variant case method (T.number value)) (most_bytes method)
+    ensures { PutsText (spelled_text variant case method (T.number value)) (most_bytes method)
         room.old room.new result }
 {
     let characters = Characters::new(variant, case);

@@ -1,6 +1,6 @@
 // A magnitude's spelling, written from its lowest digit up.
 //
-// 100_100_000 by `TenThousand` has the groups 0000, 0010 and, in front of them, 1. What is put,
+// 100_100_000 by `TenThousand` has the sections 0000, 0010 and, in front of them, 1. What is put,
 // from the last character to the first:
 //
 //     0000   nothing
@@ -11,40 +11,40 @@
 ghost use Rattle.std.specs.Prelude.{◌≡◌, ℕ, ◌+◌, ◌*◌, ◌%◌, ◌^◌, ◌<◌, ◌≤◌, List, [], ◌++◌, length};
 ghost use Rattle.cn_core.specs.Mark.{Mark};
 ghost use Rattle.cn_core.specs.Spelling.{spelling};
-ghost use Rattle.cn_spell.specs.Working.Groups.{groups_within, front_limit};
-ghost use Rattle.cn_spell.specs.Working.Units.{positions_within, front};
+ghost use Rattle.cn_spell.specs.Working.Sections.{sections_within, above_limit};
+ghost use Rattle.cn_spell.specs.Working.Units.{powers_within, units_behind};
 
-use crate::groups::Groups;
 use crate::pen::Pen;
-use crate::positions::{put_group, put_positions};
+use crate::powers::{put_above, put_section};
+use crate::sections::{Sections, digits_of};
 use crate::units::{unit_at, widths};
 use cn_core::ChineseCountMethod;
 
-// Puts the units before which a group stands that begins at the position. What is written has digits
-// at the positions below `filled` alone, and 零 stands behind the units where the next position below
-// is empty. Where the group below has a digit, the group's own unit is the only one.
+// Puts the units behind a section that begins at the power. What is written has digits at the
+// powers below `filled` alone, and 零 stands behind the units where the next power below is empty.
+// Where the section below has a digit, the section's own unit is the only one.
 #[inline(always)]
-fn put_units<P: Pen>(pen: &mut P, method: ChineseCountMethod, position: usize, filled: usize)
-    requires group { position % 4 ≡ 0 }
-    requires position { position ≤ 4 * groups_within method }
-    requires filled { filled ≤ position }
-    requires room { 3 * length (front method position filled) ≤ P.left pen.old }
+fn put_units<P: Pen>(pen: &mut P, method: ChineseCountMethod, power: usize, filled: usize)
+    requires section { power % 4 ≡ 0 }
+    requires power { power ≤ 4 * sections_within method }
+    requires filled { filled ≤ power }
+    requires room { 3 * length (units_behind method power filled) ≤ P.left pen.old }
     ensures setting { P.setting pen.new ≡ P.setting pen.old }
-    ensures room { P.left pen.new + 3 * length (front method position filled) ≡ P.left pen.old }
+    ensures room { P.left pen.new + 3 * length (units_behind method power filled) ≡ P.left pen.old }
     ensures marks { (marks : List Mark) → P.has_put pen.old marks
-        → P.has_put pen.new (front method position filled ++ marks) }
+        → P.has_put pen.new (units_behind method power filled ++ marks) }
 {
-    if position == 0 {
+    if power == 0 {
         return;
     }
-    if filled + 4 > position {
-        pen.put_digit_if(filled < position, 0);
-        pen.put_unit_if(true, unit_at(method, position));
+    if filled + 4 > power {
+        pen.put_digit_if(filled < power, 0);
+        pen.put_unit_if(true, unit_at(method, power));
         return;
     }
     let mut above = filled.max(1);
     for width in widths(method) {
-        let start = position - position % *width;
+        let start = power - power % *width;
         if start >= above {
             if above == filled && filled < start {
                 pen.put_digit_if(true, 0);
@@ -55,41 +55,28 @@ fn put_units<P: Pen>(pen: &mut P, method: ChineseCountMethod, position: usize, f
     }
 }
 
-// How many digits a group has that is not empty.
+/// Puts a magnitude's spelling, from its lowest section up.
 #[inline(always)]
-fn digits_of(group: u16) -> usize
-    requires some { 0 < group }
-    requires group { group < 10 ^ 4 }
-    ensures some { 0 < result }
-    ensures most { result ≤ 4 }
-    ensures below { group < 10 ^ result }
-    ensures reach { 10 ^ result ≤ 10 * group }
-{
-    1 + (group >= 10) as usize + (group >= 100) as usize + (group >= 1000) as usize
-}
-
-/// Puts a magnitude's spelling, from its lowest group up.
-#[inline(always)]
-pub fn put_spelling<P: Pen>(pen: &mut P, method: ChineseCountMethod, groups: &Groups)
-    requires number { groups.now.number < 10 ^ 39 }
-    requires count { groups.now.count ≤ groups_within method }
-    requires front { groups.now.front < front_limit method }
-    requires room { 3 * length (spelling method groups.now.number) ≤ P.left pen.old }
+pub fn put_spelling<P: Pen>(pen: &mut P, method: ChineseCountMethod, sections: &Sections)
+    requires number { sections.now.number < 10 ^ 39 }
+    requires count { sections.now.count ≤ sections_within method }
+    requires above { sections.now.above < above_limit method }
+    requires room { 3 * length (spelling method sections.now.number) ≤ P.left pen.old }
     requires empty { P.has_put pen.old [] }
     ensures setting { P.setting pen.new ≡ P.setting pen.old }
-    ensures room { P.left pen.new + 3 * length (spelling method groups.now.number)
+    ensures room { P.left pen.new + 3 * length (spelling method sections.now.number)
         ≡ P.left pen.old }
-    ensures marks { P.has_put pen.new (spelling method groups.now.number) }
+    ensures marks { P.has_put pen.new (spelling method sections.now.number) }
 {
     let mut filled = 0;
-    for index in 0..groups.count {
-        let group = groups.groups[index];
-        if group > 0 {
+    for index in 0..sections.count {
+        let section = sections.sections[index];
+        if section > 0 {
             put_units(pen, method, 4 * index, filled);
-            put_group(pen, group);
-            filled = 4 * index + digits_of(group);
+            put_section(pen, section);
+            filled = 4 * index + digits_of(section);
         }
     }
-    put_units(pen, method, 4 * groups.count, filled);
-    put_positions(pen, groups.front);
+    put_units(pen, method, 4 * sections.count, filled);
+    put_above(pen, sections.above);
 }

@@ -1,7 +1,7 @@
 // A text that says how many characters it has, and fills a room of its size.
 ghost use Rattle.std.specs.Prelude.{◌≡◌, ℕ, ◌*◌, ◌≤◌, List, length, encode_utf8_all, vec_len, vec_capacity, IfOk};
 ghost use Rattle.std.specs.Str.{IsUtf8};
-ghost use Rattle.cn_spell.specs.Puts.{PutsInFront};
+ghost use Rattle.cn_spell.specs.Puts.{PutsText};
 ghost use Rattle.cn_spell.specs.Writes.{Writes};
 
 use std::alloc::{AllocError, Global};
@@ -51,16 +51,16 @@ pub fn new_string<X: Text>(alloc: Global, text: &X) -> Result<String, AllocError
     Ok(unsafe { String::from_utf8_unchecked(bytes) })
 }
 
-/// The text at the front of a room, where it fits. The result is how many bytes it has, in either
-/// case.
+/// The text at the beginning of a room, where it fits. The result is how many bytes it has, in
+/// either case.
 #[inline(always)]
-pub fn put_in_front<X: Text>(room: &mut [u8], text: &X) -> usize
-    ensures { PutsInFront (X.says text.now) (X.most text.now) room.old room.new result }
+pub fn put_text<X: Text>(room: &mut [u8], text: &X) -> usize
+    ensures { PutsText (X.says text.now) (X.most text.now) room.old room.new result }
 {
     let len = 3 * text.count();
     if len <= room.len() {
-        let (front, _) = room.split_at_mut(len);
-        text.fill(front);
+        let (taken, _) = room.split_at_mut(len);
+        text.fill(taken);
     }
     len
 }
