@@ -21,18 +21,19 @@ use Rattle.chinese_number.proofs.Reading.{IsWhole, Reads-same, Reads-spelled}
 use Rattle.chinese_number.proofs.SpelledMarks.{below_square, spelling-printed}
 use Rattle.cn_c.specs.declared.codes.Kind.{Kind as KindCode}
 use Rattle.cn_c.specs.declared.codes.Kind.TheVariants.{U8, U16, U32, U64, U128, I8, I16, I32, I64, I128}
-use Rattle.cn_c.specs.declared.codes.Way.{Way}
-use Rattle.cn_c.specs.declared.codes.Way.TheVariants.{Digits, Units}
+use Rattle.cn_ways.specs.declared.Way.{Way}
+use Rattle.cn_ways.specs.declared.Way.TheVariants.{Digits, Units}
 use Rattle.cn_c.specs.declared.number.Number.{Number}
 use Rattle.cn_c.specs.declared.reading.Reading.{Reading}
+use Rattle.cn_ways.specs.Ways.{ReadsBy}
 use Rattle.cn_c.specs.Codes.{CN_DONE, CN_TOO_SMALL, CN_TOO_LARGE}
 use Rattle.cn_c.specs.Halves.{number_of}
 use Rattle.cn_c.specs.Kinds.{the_kind}
-use Rattle.cn_c.specs.Prints.{Refuses, Puts, PrintsBy, PrintsNumber, IsPrintedAs}
-use Rattle.cn_c.specs.Reads.{ReadsBy, Tells, ReadsInto, IsReadAs}
+use Rattle.cn_c.specs.Prints.{PutsNothing, PutsText, PrintsBy, PrintsNumber, IsPrintedAs}
+use Rattle.cn_c.specs.Reads.{Tells, ReadsInto, IsReadAs}
 
 -- what is put where all goes well
-put-text : (text old new : List ℕ) (len : ℕ) → Puts text old CN_DONE new len → take len new ≡ text
+put-text : (text old new : List ℕ) (len : ℕ) → PutsText text old CN_DONE new len → take len new ≡ text
 put-text text old new len = by (nat_le (length text) (length old)) where
   by : (b : Bool) → MatchBool b ((CN_DONE ≡ 0) × (new ≡ text ++ drop (length text) old) × (len ≡ length text)) ((CN_DONE ≡ 6) × (new ≡ old) × (len ≡ length text)) → take len new ≡ text
   by true p = rw (p.1, p.2) (take-append_seam text (drop (length text) old))
@@ -67,7 +68,7 @@ read-by kind (Units method) script case number old new len whole held h = by (is
   small = whole.fits number held
 
   by : (b : Bool) → is_printable method number ≡ b
-      → MatchBool b (Puts (encode_utf8_all (spelled_text script case method number)) old CN_DONE new len) (Refuses (if int_lt number (pos 0) then CN_TOO_SMALL else CN_TOO_LARGE) old CN_DONE new len)
+      → MatchBool b (PutsText (encode_utf8_all (spelled_text script case method number)) old CN_DONE new len) (PutsNothing (if int_lt number (pos 0) then CN_TOO_SMALL else CN_TOO_LARGE) old CN_DONE new len)
       → IsUtf8 (take len new) × ((answer : Result ℤ Refusal) → ReadsBy kind (Units method) (take len new) answer → answer ≡ Ok number)
   by true e h =
       let text = put-text (encode_utf8_all (spelled_text script case method number)) old new len h in
@@ -121,7 +122,7 @@ read-as code way script case number old new len = by (holds kind value) refl whe
       → (status ≡ CN_DONE) × (number_of kind.signed reading.number ≡ value) × (reading.char_index ≡ 0)
   told status reading answer e tells = rw e at tells
 
-  by : (b : Bool) → holds kind value ≡ b → MatchBool b (PrintsBy way script case value old CN_DONE new len) (Refuses 7 old CN_DONE new len)
+  by : (b : Bool) → holds kind value ≡ b → MatchBool b (PrintsBy way script case value old CN_DONE new len) (PutsNothing 7 old CN_DONE new len)
       → IsUtf8 (take len new)
       × ((status : ℕ) (reading : Reading) → IsReadAs (Some code) (Some way) (take len new) status reading
       → (status ≡ CN_DONE) × (number_of kind.signed reading.number ≡ value) × (reading.char_index ≡ 0))

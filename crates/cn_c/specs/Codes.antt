@@ -7,8 +7,8 @@ use Rattle.chinese_number.specs.declared.ChineseVariant.{ChineseVariant}
 use Rattle.chinese_number.specs.declared.ChineseVariant.TheVariants.{Traditional, Simple}
 use Rattle.cn_c.specs.declared.codes.Kind.{Kind}
 use Rattle.cn_c.specs.declared.codes.Kind.TheVariants.{U8, U16, U32, U64, U128, I8, I16, I32, I64, I128}
-use Rattle.cn_c.specs.declared.codes.Way.{Way}
-use Rattle.cn_c.specs.declared.codes.Way.TheVariants.{Digits, Units}
+use Rattle.cn_ways.specs.declared.Way.{Way}
+use Rattle.cn_ways.specs.declared.Way.TheVariants.{Digits, Units}
 
 -- the integer types, in the order of their codes from 0 on
 abbrev pub kinds : List Kind

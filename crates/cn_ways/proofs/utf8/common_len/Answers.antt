@@ -1,6 +1,6 @@
 use Rattle.std.proofs.Common.{rules, arith}
-use Rattle.cn_lines.proofs.Characters.{one_more_character}
-use Rattle.cn_lines.proofs.text.common_len.Goals as goal
+use Rattle.cn_ways.proofs.Characters.{one_more_character}
+use Rattle.cn_ways.proofs.utf8.common_len.Goals as goal
 
 pub characters-preserved : goal.characters-preserved
 characters-preserved c =

@@ -1,6 +1,6 @@
 // Bytes that are text.
-ghost use Rattle.std.specs.Prelude.{◌≡◌, ◌≤◌, ◌<◌, ◌+◌, length, take, drop, slice_index, IsUtf8, IfNone, IfSome, MatchOption};
-ghost use Rattle.cn_lines.specs.Question.{text_of};
+ghost use Rattle.std.specs.Prelude.{◌≡◌, ◌≤◌, ◌<◌, ◌+◌, true, false, length, take, drop, slice_index, IsUtf8, MatchOption};
+ghost use Rattle.std.specs.Str.{is_utf8};
 
 use std::str;
 
@@ -25,8 +25,9 @@ fn common_len(bytes: &[u8]) -> usize
 }
 
 /// The text of these bytes, if they are UTF-8.
-pub(crate) fn text_of(bytes: &[u8]) -> Option<&str>
-    ensures { MatchOption result (text_of bytes.now ≡ None) (λ r. text_of bytes.now ≡ Some r.now) }
+pub fn utf8_text(bytes: &[u8]) -> Option<&str>
+    ensures { MatchOption result (is_utf8 bytes.now ≡ false)
+        (λ text. (is_utf8 bytes.now ≡ true) × (text.now ≡ bytes.now)) }
 {
     let len = common_len(bytes);
     if len == bytes.len() {

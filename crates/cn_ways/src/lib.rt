@@ -1,0 +1,13 @@
+//! What the faces of the library share: the way in which a number is read or written, a number by
+//! its sign and its magnitude, and bytes that are text.
+//!
+//! For the program and the calls for C. Callers in Rattle use `chinese_number`.
+#![tactic(auto)]
+
+mod signed_magnitude;
+mod utf8;
+mod way;
+
+pub use signed_magnitude::SignedMagnitude;
+pub use utf8::utf8_text;
+pub use way::{Way, read_by, way_named};

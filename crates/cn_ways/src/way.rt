@@ -1,0 +1,42 @@
+// The ways in which a number is read or written.
+ghost use Rattle.std.specs.Prelude.{◌≡◌};
+ghost use Rattle.chinese_number.specs.Answer.{answer_of};
+ghost use Rattle.cn_ways.specs.Ways.{ReadsBy, way_named};
+
+use chinese_number::{ChineseCountMethod, ChineseToNumber, ChineseToNumberError, Whole};
+
+/// How a number is written: as its plain digits, or with units by a method.
+#[derive(Clone, Copy)]
+pub enum Way {
+    Digits,
+    Units(ChineseCountMethod),
+}
+
+/// The way of a name, as the program has it.
+pub fn way_named(name: &[u8]) -> Option<Way>
+    ensures { result ≡ way_named name.now }
+{
+    if name == b"naive".as_slice() {
+        Some(Way::Digits)
+    } else if name == b"low".as_slice() {
+        Some(Way::Units(ChineseCountMethod::Low))
+    } else if name == b"ten_thousand".as_slice() {
+        Some(Way::Units(ChineseCountMethod::TenThousand))
+    } else if name == b"middle".as_slice() {
+        Some(Way::Units(ChineseCountMethod::Middle))
+    } else if name == b"high".as_slice() {
+        Some(Way::Units(ChineseCountMethod::High))
+    } else {
+        None
+    }
+}
+
+/// Reads a text in a way, as a number of a type.
+pub fn read_by<T: Whole>(way: Way, text: &str) -> Result<T, ChineseToNumberError>
+    ensures { ReadsBy T.kind way text.now (answer_of T.number result) }
+{
+    match way {
+        Way::Digits => text.to_number_naive(),
+        Way::Units(method) => text.to_number(method),
+    }
+}
