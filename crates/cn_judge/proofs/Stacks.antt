@@ -5,38 +5,43 @@ use Rattle.cn_core.specs.declared.method.ChineseCountMethod.{ChineseCountMethod}
 use Rattle.cn_core.specs.Scale.{scale}
 use Rattle.cn_judge.specs.declared.open_units.OpenUnit.{OpenUnit}
 use Rattle.cn_core.specs.Mark.{Mark, digit, unit, other}
+use Rattle.cn_judge.specs.Entries.{stacked}
 use Rattle.cn_judge.specs.Private.Walk.{opens_of}
 use Rattle.cn_core.proofs.ScaleLaws.{scale-pos}
 use Rattle.cn_core.proofs.Fronts.{and-left, and-right}
 use Rattle.std.proofs.lemmas.Bool.Decides.{nat_tests}
 use Rattle.cn_judge.specs.Private.Stack.{StackEntry, stack_of, opened_at, no_unit, ClosesTop, all_positive, closed_sum, still_open, top_of, total_sum}
 
-pub length-stack : (entries : List OpenUnit) (len : ℕ) → length (stack_of entries len) ≡ len
-length-stack entries zero = refl
-length-stack entries (suc len) = ap suc (length-stack entries len)
+pub length-stacked : {Entry Meaning : Type 0} (meaning : Entry → Meaning) (none : Entry)
+    (entries : List Entry) (len : ℕ) → length (stacked meaning none entries len) ≡ len
+length-stacked meaning none entries zero = refl
+length-stacked meaning none entries (suc len) = ap suc (length-stacked meaning none entries len)
 
-set_other : (entries : List OpenUnit) (i k : ℕ) (e : OpenUnit) → k < i
-    → slice_index_or (slice_set entries i e) k no_unit ≡ slice_index_or entries k no_unit
-set_other entries i k e h = grind (arith, common_steps)
+set_other : {Entry : Type 0} (none : Entry) (entries : List Entry) (i k : ℕ) (e : Entry) → k < i
+    → slice_index_or (slice_set entries i e) k none ≡ slice_index_or entries k none
+set_other none entries i k e h = grind (arith, common_steps)
 
-set_same : (entries : List OpenUnit) (i : ℕ) (e : OpenUnit) → i < length entries
-    → slice_index_or (slice_set entries i e) i no_unit ≡ e
-set_same entries i e h = grind (arith, common_steps)
+set_same : {Entry : Type 0} (none : Entry) (entries : List Entry) (i : ℕ) (e : Entry)
+    → i < length entries → slice_index_or (slice_set entries i e) i none ≡ e
+set_same none entries i e h = grind (arith, common_steps)
 
-stack-set : (entries : List OpenUnit) (i len : ℕ) (e : OpenUnit) → len ≤ i
-    → stack_of (slice_set entries i e) len ≡ stack_of entries len
-stack-set entries i zero e h = refl
-stack-set entries i (suc len) e h = rw (
-  set_other entries i len e (omega arith),
-  stack-set entries i len e (omega arith),
+stacked-set : {Entry Meaning : Type 0} (meaning : Entry → Meaning) (none : Entry)
+    (entries : List Entry) (i len : ℕ) (e : Entry) → len ≤ i
+    → stacked meaning none (slice_set entries i e) len ≡ stacked meaning none entries len
+stacked-set meaning none entries i zero e h = refl
+stacked-set meaning none entries i (suc len) e h = rw (
+  set_other none entries i len e (omega arith),
+  stacked-set meaning none entries i len e (omega arith),
 )
 
-pub stack-push : (entries : List OpenUnit) (len : ℕ) (e : OpenUnit) → len < length entries
-    → stack_of (slice_set entries len e) (len + 1) ≡ opened_at e ∷ stack_of entries len
-stack-push entries len e h = rw (
+pub stacked-push : {Entry Meaning : Type 0} (meaning : Entry → Meaning) (none : Entry)
+    (entries : List Entry) (len : ℕ) (e : Entry) → len < length entries
+    → stacked meaning none (slice_set entries len e) (len + 1)
+    ≡ meaning e ∷ stacked meaning none entries len
+stacked-push meaning none entries len e h = rw (
   add-one,
-  set_same entries len e h,
-  stack-set entries len len e (omega arith),
+  set_same none entries len e h,
+  stacked-set meaning none entries len len e (omega arith),
 )
 
 some_same : (a b : ℕ) → Some a ≡ Some b → a ≡ b
@@ -113,4 +118,4 @@ positive-opens method (unit rank ∷ rest) =
 pub some_entries : (entries : List OpenUnit) (len : ℕ) (units : List StackEntry)
     → stack_of entries len ≡ units → 0 < len → 0 < length units
 some_entries entries len units is some = let same =
-    ap length is in omega (arith, same, length-stack entries len, some)
+    ap length is in omega (arith, same, length-stacked opened_at no_unit entries len, some)
