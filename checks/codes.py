@@ -35,6 +35,7 @@ VERSIONS = (
 REFUSALS = "crates/cn_core/specs/Refusal.antt"
 OF_READERS = (
     "bindings/rust/src/read.rs",
+    "bindings/rust/tests/interface.rs",
     "bindings/python/chinese_number.py",
     "bindings/web/chinese-number.mjs",
     "crates/numeral/src/main.rt",

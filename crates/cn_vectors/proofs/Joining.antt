@@ -1,8 +1,6 @@
--- What a caller who prints and then reads concludes of the reader's result.
-use Rattle.std.proofs.Common.{◌≡◌, ◌↔◌, ℕ, ℤ, List, Result, Ok, Err, ap, subst, ◌∙◌}
-use Rattle.chinese_number.specs.declared.ChineseCountMethod.{ChineseCountMethod}
-use Rattle.chinese_number.specs.Refusal.{Refusal}
-use Rattle.chinese_number.specs.Reading.{Reads, naive_reading}
+-- What a caller who prints plain digits and then reads them concludes of the reader's result.
+use Rattle.std.proofs.Common.{◌≡◌, ℕ, ℤ, List, Result, Ok, Err, ap, ◌∙◌}
+use Rattle.chinese_number.specs.Reading.{naive_reading}
 use Rattle.chinese_number.specs.Whole.{Kind}
 use Rattle.chinese_number.specs.Answer.{answer_of}
 use Rattle.chinese_number.specs.declared.ChineseToNumberError.{ChineseToNumberError}
@@ -13,13 +11,7 @@ module _ {T : Type 0} (number : T → ℤ) (same : (x y : T) → number x ≡ nu
   result_is (Ok x) h = let e : number x ≡ number value = cc in ap Ok (same x value e)
   result_is (Err error) h = cc
 
-  -- so it is where the string that was read is one that is answered by that number: as plain digits
+  -- so it is where the string that was read is one that is answered by that number
   pub naive_result_is : (kind : Kind) (bytes text written : List ℕ) → answer_of number result ≡ naive_reading kind bytes → bytes ≡ text → text ≡ written
       → naive_reading kind written ≡ Ok (number value) → result ≡ Ok value
   naive_result_is kind bytes text written read lent printed law = result_is result (read ∙ ap (naive_reading kind) (lent ∙ printed) ∙ law)
-
-  -- and with units
-  pub unit_result_is : (kind : Kind) (method : ChineseCountMethod) (bytes text written : List ℕ) → Reads kind method bytes (answer_of number result) → bytes ≡ text → text ≡ written
-      → ((answer : Result ℤ Refusal) → Reads kind method written answer ↔ (answer ≡ Ok (number value))) → result ≡ Ok value
-  unit_result_is kind method bytes text written read lent printed law =
-      result_is result ((law (answer_of number result)).0 (subst (λ t. Reads kind method t (answer_of number result)) (lent ∙ printed) read))
