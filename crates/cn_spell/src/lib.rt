@@ -12,7 +12,6 @@ mod naive;
 mod pen;
 mod powers;
 mod print;
-mod put;
 mod room;
 mod sections;
 mod spell;
@@ -22,5 +21,4 @@ mod units;
 
 pub use error::NumberToChineseError;
 pub use naive::{print_naive, put_naive};
-pub use print::{is_printable, print_by_units, print_or_refuse};
-pub use put::put_by_units;
+pub use print::{is_printable, print_by_units, print_or_refuse, put_by_units};
