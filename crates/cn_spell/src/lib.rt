@@ -7,12 +7,9 @@
 
 mod characters;
 mod error;
-mod known_method;
 mod naive;
 mod pen;
-mod powers;
 mod print;
-mod room;
 mod sections;
 mod spell;
 mod spelled;

@@ -8,8 +8,7 @@ ghost use Rattle.cn_spell.specs.Working.Sections.{lowest_marks};
 ghost use Rattle.cn_spell.specs.Writes.{Writes, most_plain_bytes};
 
 use crate::characters::Characters;
-use crate::pen::Pen;
-use crate::room::Room;
+use crate::pen::{Pen, Room};
 use crate::sections::{MOST, Sections, digits_of};
 use crate::text::{LentRoom, NewString, Target, Text};
 use cn_core::{ChineseCase, ChineseCountMethod, ChineseVariant, Whole};

@@ -8,9 +8,8 @@ ghost use Rattle.cn_spell.specs.Writes.{Writes};
 
 use crate::NumberToChineseError;
 use crate::characters::Characters;
-use crate::known_method::{ByHigh, ByLow, ByMiddle, ByTenThousand, KnownMethod};
 use crate::sections::MOST;
-use crate::spelled::Spelled;
+use crate::spelled::{ByHigh, ByLow, ByMiddle, ByTenThousand, KnownMethod, Spelled};
 use crate::text::{LentRoom, NewString, Target};
 use cn_core::{ChineseCase, ChineseCountMethod, ChineseVariant, Whole};
 use std::alloc::{AllocError, Global};
