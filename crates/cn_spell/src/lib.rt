@@ -7,13 +7,9 @@
 
 mod characters;
 mod error;
-mod known_method;
 mod naive;
 mod pen;
-mod powers;
 mod print;
-mod put;
-mod room;
 mod sections;
 mod spell;
 mod spelled;
@@ -22,5 +18,4 @@ mod units;
 
 pub use error::NumberToChineseError;
 pub use naive::{print_naive, put_naive};
-pub use print::{is_printable, print_by_units, print_or_refuse};
-pub use put::put_by_units;
+pub use print::{is_printable, print_by_units, print_or_refuse, put_by_units};

@@ -8,10 +8,9 @@ ghost use Rattle.cn_spell.specs.Working.Sections.{lowest_marks};
 ghost use Rattle.cn_spell.specs.Writes.{Writes, most_plain_bytes};
 
 use crate::characters::Characters;
-use crate::pen::Pen;
-use crate::room::Room;
+use crate::pen::{Pen, Room};
 use crate::sections::{MOST, Sections, digits_of};
-use crate::text::{Text, new_string, put_text};
+use crate::text::{LentRoom, NewString, Target, Text};
 use cn_core::{ChineseCase, ChineseCountMethod, ChineseVariant, Whole};
 use std::alloc::{AllocError, Global};
 
@@ -88,6 +87,30 @@ impl Text for Plain<'_> {
     }
 }
 
+// The text of a sign and a magnitude.
+fn plain_magnitude<P: Target>(
+    target: &mut P,
+    characters: Characters,
+    negative: bool,
+    magnitude: u128,
+) -> P::Answer
+    ensures { P.took
+        (signed_text characters.variant characters.case negative (decimal_digits magnitude))
+        most_plain_bytes target.old target.new result }
+{
+    let mut taken = [0; MOST];
+    target.take(&Plain::of(&mut taken, characters, negative, magnitude))
+}
+
+// The same of a number.
+#[inline(always)]
+fn plain_number<P: Target, T: Whole>(target: &mut P, characters: Characters, value: T) -> P::Answer
+    ensures { P.took (naive_text characters.variant characters.case (T.number value))
+        most_plain_bytes target.old target.new result }
+{
+    plain_magnitude(target, characters, value.is_negative(), value.magnitude())
+}
+
 /// The text of a number by its decimal digits, in one request for memory.
 pub fn print_naive<T: Whole>(
     alloc: Global,
@@ -97,31 +120,11 @@ pub fn print_naive<T: Whole>(
 ) -> Result<String, AllocError>
     ensures { IfOk result (Writes (naive_text variant case (T.number value)) most_plain_bytes) }
 {
-    let mut taken = [0; MOST];
-    let text = Plain::of(
-        &mut taken,
-        Characters::new(variant, case),
-        value.is_negative(),
-        value.magnitude(),
-    );
-    new_string(alloc, &text)
+    let mut string = NewString { alloc };
+    plain_number(&mut string, Characters::new(variant, case), value)
 }
 
-// The text of a sign and a magnitude at the beginning of a room, where it fits.
-fn put_plain(room: &mut [u8], characters: Characters, negative: bool, magnitude: u128) -> usize
-    ensures { PutsText
-        (signed_text characters.variant characters.case negative (decimal_digits magnitude))
-        most_plain_bytes room.old room.new result }
-{
-    let mut taken = [0; MOST];
-    put_text(
-        room,
-        &Plain::of(&mut taken, characters, negative, magnitude),
-    )
-}
-
-/// The text of a number at the beginning of a room, where it fits; the result is how many bytes it
-/// has.
+/// The same at the beginning of a room, where it fits; the result is how many bytes it has.
 pub fn put_naive<T: Whole>(
     room: &mut [u8],
     variant: ChineseVariant,
@@ -131,6 +134,6 @@ pub fn put_naive<T: Whole>(
     ensures { PutsText (naive_text variant case (T.number value)) most_plain_bytes
         room.old room.new result }
 {
-    let characters = Characters::new(variant, case);
-    put_plain(room, characters, value.is_negative(), value.magnitude())
+    let mut lent = LentRoom { bytes: room };
+    plain_number(&mut lent, Characters::new(variant, case), value)
 }

@@ -1,18 +1,71 @@
 // The text of a number by units.
 ghost use Rattle.std.specs.Prelude.{◌≡◌, ◌^◌, ◌≤◌, ◌<◌, pos, IsTrue};
+ghost use Rattle.cn_core.specs.declared.method.ChineseCountMethod.{ChineseCountMethod};
+ghost use Rattle.cn_core.specs.declared.method.ChineseCountMethod.TheVariants as method;
 ghost use Rattle.cn_core.specs.Spelling.{spelling};
 ghost use Rattle.cn_core.specs.Printing.{signed_text, is_printable};
 ghost use Rattle.cn_spell.specs.Prints.{most_bytes};
 ghost use Rattle.cn_spell.specs.Working.Sections.{sections_within, above_limit};
 
 use crate::characters::Characters;
-use crate::known_method::KnownMethod;
-use crate::pen::Count;
-use crate::room::Room;
+use crate::pen::{Count, Room};
 use crate::sections::{MOST, Sections};
 use crate::spell::put_spelling;
 use crate::text::Text;
+use cn_core::ChineseCountMethod;
 use std::marker::PhantomData;
+
+/// A method that the compiler knows, so that a printer is compiled for each.
+pub trait KnownMethod {
+    ghost stands_for: { ChineseCountMethod };
+
+    fn method() -> ChineseCountMethod
+        ensures { result ≡ stands_for };
+}
+
+pub struct ByLow;
+
+impl KnownMethod for ByLow {
+    ghost stands_for = { method.Low };
+
+    #[inline(always)]
+    fn method() -> ChineseCountMethod {
+        ChineseCountMethod::Low
+    }
+}
+
+pub struct ByTenThousand;
+
+impl KnownMethod for ByTenThousand {
+    ghost stands_for = { method.TenThousand };
+
+    #[inline(always)]
+    fn method() -> ChineseCountMethod {
+        ChineseCountMethod::TenThousand
+    }
+}
+
+pub struct ByMiddle;
+
+impl KnownMethod for ByMiddle {
+    ghost stands_for = { method.Middle };
+
+    #[inline(always)]
+    fn method() -> ChineseCountMethod {
+        ChineseCountMethod::Middle
+    }
+}
+
+pub struct ByHigh;
+
+impl KnownMethod for ByHigh {
+    ghost stands_for = { method.High };
+
+    #[inline(always)]
+    fn method() -> ChineseCountMethod {
+        ChineseCountMethod::High
+    }
+}
 
 /// A sign, and a magnitude that the method writes.
 #[derive(Drop)]

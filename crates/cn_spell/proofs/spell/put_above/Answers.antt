@@ -3,7 +3,7 @@ use Rattle.cn_core.specs.declared.method.ChineseCountMethod.TheVariants.{Low}
 use Rattle.cn_spell.specs.Working.Sections.{digit_marks, top_marks}
 use Rattle.cn_spell.proofs.Single.{so_far}
 use Rattle.cn_spell.proofs.SingleTops.{next-power, step-power, room-power, spelled-last}
-use Rattle.cn_spell.proofs.powers.put_above.Goals as goal
+use Rattle.cn_spell.proofs.spell.put_above.Goals as goal
 
 pub put_digit-requires-clause-room : goal.put_digit-requires-clause-room
 put_digit-requires-clause-room g c =

@@ -1,6 +1,6 @@
 use Rattle.std.proofs.Common.{◌≡◌, length, arith}
 use Rattle.cn_spell.proofs.Rooms.{put-if}
-use Rattle.cn_spell.proofs.room.Room.put_if.Goals as goal
+use Rattle.cn_spell.proofs.pen.Room.put_if.Goals as goal
 
 pub returns-clause-text : goal.returns-clause-text
 returns-clause-text c =

@@ -2,7 +2,7 @@ use Rattle.std.proofs.Common.{◌≡◌, ◌+◌, ◌*◌, ◌/◌, ◌^◌, ◌
 use Rattle.cn_core.specs.declared.method.ChineseCountMethod.TheVariants.{Low}
 use Rattle.cn_core.specs.Mark.{Mark}
 use Rattle.cn_spell.proofs.Single.{so_far, below_of}
-use Rattle.cn_spell.proofs.powers.put_above.Given as goal
+use Rattle.cn_spell.proofs.spell.put_above.Given as goal
 
 abbrev pub invariant-loop-left : goal.invariant-loop-left
 invariant-loop-left g l = record {

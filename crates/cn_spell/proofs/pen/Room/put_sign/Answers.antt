@@ -1,7 +1,7 @@
 use Rattle.std.proofs.Common.{true}
 use Rattle.cn_core.specs.Characters.{minus_char}
 use Rattle.cn_spell.proofs.Rooms.{Shows-if}
-use Rattle.cn_spell.proofs.room.Room.put_sign.Goals as goal
+use Rattle.cn_spell.proofs.pen.Room.put_sign.Goals as goal
 
 pub returns-then-negative-clause-shows : goal.returns-then-negative-clause-shows
 returns-then-negative-clause-shows c =
