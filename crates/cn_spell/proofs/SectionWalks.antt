@@ -14,7 +14,7 @@ use Rattle.cn_core.specs.Spelling.{spelling, short_spelling, spelling_within}
 use Rattle.cn_core.proofs.Cuts.{part, part-some}
 use Rattle.cn_core.proofs.Fronts.{and-left, and-right}
 use Rattle.cn_core.proofs.Sums.{spelled-digit}
-use Rattle.cn_spell.specs.Working.Sections.{sections_within, above_limit, kept, section_marks}
+use Rattle.cn_spell.specs.Working.Sections.{HoldsSections, sections_within, above_limit, kept, section_marks}
 use Rattle.cn_spell.specs.Working.Units.{widths_of, powers_within, rank_at, start_of, units_over, units_behind}
 use Rattle.cn_spell.proofs.Walks.{Fills, is_chain_of_four, section-over}
 use Rattle.cn_spell.proofs.Tops.{powers-few, filled_of, Filled, lower-less, part-none, parts-grow, over-none, over-head, single, behind-zero}
@@ -222,7 +222,7 @@ above-over method number power lead filled some most four small split lead_some 
       ∙ ap (λ marks. short_spelling marks ++ (unit (rank_at method power) ∷ (head.0 ++ part method below))) (part-some Low lead lead_pos)
       ∙ ap (λ marks. spelling Low lead ++ marks) (sym tail)
 
-pub spelling-above : (method : ChineseCountMethod) (number count lead filled : ℕ) → count ≤ sections_within method → lead < above_limit method → lead ≡ number / 10 ^ (4 * count) → (0 < count → 0 < lead)
+spelling-above : (method : ChineseCountMethod) (number count lead filled : ℕ) → count ≤ sections_within method → lead < above_limit method → lead ≡ number / 10 ^ (4 * count) → (0 < count → 0 < lead)
     → Fills filled (number % 10 ^ (4 * count)) → filled ≤ 4 * count → spelling method number ≡ spelling Low lead ++ (units_behind method (4 * count) filled ++ part method (number % 10 ^ (4 * count)))
 spelling-above Low number count lead filled most small split some fills under =
     let z : count ≡ 0 = omega (arith, most) in
@@ -237,7 +237,7 @@ spelling-above High number count lead filled most small split some fills under =
     above-over High number (4 * count) lead filled (omega arith) (omega (arith, most)) (omega arith) small split (λ pos. some (omega (arith, pos))) fills under
 
 -- there is a mark in front of each section
-pub room-section : (method : ChineseCountMethod) (number count index lead : ℕ) → count ≤ sections_within method → lead < above_limit method → lead ≡ number / 10 ^ (4 * count) → (0 < count → 0 < lead) → index < count
+room-section : (method : ChineseCountMethod) (number count index lead : ℕ) → count ≤ sections_within method → lead < above_limit method → lead ≡ number / 10 ^ (4 * count) → (0 < count → 0 < lead) → index < count
     → length (part method (number % 10 ^ (4 * index + 4))) + 1 ≤ length (spelling method number)
 room-section method number count index lead most small split some less =
     let power = 4 * count in
@@ -250,3 +250,60 @@ room-section method number count index lead most small split some less =
     let head = over-head method (widths_of method) power filled (max filled 1) (single method) (omega (arith, held.0, less)) in
     let one = ap length head.1 in
     omega (arith, grows, whole, one, length-append (spelling Low lead) (units_behind method power filled ++ part method (number % 10 ^ power)), length-append (units_behind method power filled) (part method (number % 10 ^ power)))
+
+-- the same with the section that is put next and the units behind it
+pub room-more : (method : ChineseCountMethod) (number count index lead filled : ℕ)
+    {sections : List ℕ} → HoldsSections number sections count lead
+    → count ≤ sections_within method → lead < above_limit method → index < count
+    → 0 < section_at number (4 * index) → Fills filled (number % 10 ^ (4 * index))
+    → length (section_marks (section_at number (4 * index)))
+    + (length (units_behind method (4 * index) filled)
+    + length (part method (number % 10 ^ (4 * index)))) + 1
+    ≤ length (spelling method number)
+room-more method number count index lead filled held most small less some fills =
+    let power = 4 * index in
+    let section = section_marks (section_at number power) in
+    let units = units_behind method power filled in
+    let below = part method (number % 10 ^ power) in
+    let room = room-section method number count index lead most small held.split held.some less in
+    let more = section-more method number power filled (omega (arith, most, less))
+    (omega (arith, most, less)) (omega arith) some fills in
+    omega (
+      arith,
+      room,
+      ap length more,
+      length-append section (units ++ below),
+      length-append units below,
+    )
+
+-- the spelling, once all sections are put
+pub spelling-end : (method : ChineseCountMethod) (number count index lead filled : ℕ)
+    {sections : List ℕ} → HoldsSections number sections count lead
+    → count ≤ sections_within method → lead < above_limit method → index ≤ count → count ≤ index
+    → Fills filled (number % 10 ^ (4 * index)) → filled ≤ 4 * index
+    → spelling method number ≡ spelling Low lead
+    ++ (units_behind method (4 * count) filled ++ part method (number % 10 ^ (4 * index)))
+spelling-end method number count index lead filled held most small reached past fills under =
+    let end : index ≡ count = omega (arith, reached, past) in
+    rw end (spelling-above method number count lead filled most small held.split held.some
+    (rw end at fills) (rw end at under))
+
+-- and its length
+pub length-end : (method : ChineseCountMethod) (number count index lead filled : ℕ)
+    {sections : List ℕ} → HoldsSections number sections count lead
+    → count ≤ sections_within method → lead < above_limit method → index ≤ count → count ≤ index
+    → Fills filled (number % 10 ^ (4 * index)) → filled ≤ 4 * index
+    → length (spelling method number) ≡ length (spelling Low lead)
+    + (length (units_behind method (4 * count) filled)
+    + length (part method (number % 10 ^ (4 * index))))
+length-end method number count index lead filled held most small reached past fills under =
+    let units = units_behind method (4 * count) filled in
+    let below = part method (number % 10 ^ (4 * index)) in
+    let whole = spelling-end method number count index lead filled held most small reached past
+    fills under in
+    omega (
+      arith,
+      ap length whole,
+      length-append (spelling Low lead) (units ++ below),
+      length-append units below,
+    )

@@ -170,12 +170,12 @@ Fills-above inner size below fills deep = record { below = under; reach = λ pos
       let found : 10 ^ (inner - size - 1) < below / 10 ^ size + 1 = lt_of_mul-lt-mul_right (10 ^ size) step in
       omega (arith, found)
 
--- a digit joins what stands above the powers of a unit that is written already
-join : (method : ChineseCountMethod) (lead below size width rank d : ℕ) (marks : List Mark) → Stands method size width rank → 10 ^ size ≤ below
+-- a digit or a section joins what stands above the powers of a unit that is written already
+join : (method : ChineseCountMethod) (lead below size width rank : ℕ) (front marks : List Mark) → Stands method size width rank → 10 ^ size ≤ below
     → lead * 10 ^ size + below < 10 ^ (size + width) → lead * 10 ^ size + below < scale method 15 * scale method 15
-    → part method (lead + below / 10 ^ size) ≡ digit d ∷ (marks ++ part method (below / 10 ^ size))
-    → part method (lead * 10 ^ size + below) ≡ digit d ∷ (marks ++ part method below)
-join method lead below size width rank d marks unit_is least fits few known =
+    → part method (lead + below / 10 ^ size) ≡ front ++ (marks ++ part method (below / 10 ^ size))
+    → part method (lead * 10 ^ size + below) ≡ front ++ (marks ++ part method below)
+join method lead below size width rank front marks unit_is least fits few known =
     let size_pos : 0 < 10 ^ size = one-le-pow size 10 (omega arith) in
     let high = below / 10 ^ size in
     let low = below % 10 ^ size in
@@ -186,8 +186,9 @@ join method lead below size width rank d marks unit_is least fits few known =
     let tail : List Mark = unit rank ∷ (gap low (10 ^ size) ++ part method low) in
     let one : part method ((lead + high) * 10 ^ size + low) ≡ part method (lead + high) ++ tail = cut method (lead + high) low size width rank unit_is (omega (arith, some)) less (omega (arith, fits, whole)) (omega (arith, few, whole)) in
     let two : part method (high * 10 ^ size + low) ≡ part method high ++ tail = cut method high low size width rank unit_is some less (omega (arith, fits, split)) (omega (arith, few, split)) in
-    ap (λ n. part method n) whole ∙ one ∙ ap (λ front. front ++ tail) known ∙ ap (λ rest. digit d ∷ rest) (append_assoc marks (part method high) tail)
-    ∙ ap (λ rest. digit d ∷ (marks ++ rest)) (sym two ∙ ap (λ n. part method n) (sym split))
+    ap (λ n. part method n) whole ∙ one ∙ ap (λ done. done ++ tail) known
+    ∙ append_assoc front (marks ++ part method high) tail ∙ ap (λ rest. front ++ rest) (append_assoc marks (part method high) tail)
+    ∙ ap (λ rest. front ++ (marks ++ rest)) (sym two ∙ ap (λ n. part method n) (sym split))
 
 -- a digit in front of what stands below it: the units of the groups that it is the first to fill stand between
 pub digit-over : (method : ChineseCountMethod) (widths : List ℕ) (outer power d below inner filled above : ℕ) → is_chain method outer widths ≡ true → power < powers_within method → 0 < d → d < 10
@@ -258,7 +259,7 @@ digit-over method (width ∷ widths) outer power d below inner filled above link
                 let more = digit-over method widths width power d (below / 10 ^ size) (inner - size) filled above rest within pos ten high_small (Fills-above inner size below fills deep)
                 (omega (arith, is_above, is_start, deep)) (λ z. some (omega (arith, deep))) (λ z. absurd (omega (arith, z, deep))) in
                 ap (λ n. part method (n + below)) whole
-                ∙ join method (d * 10 ^ (power % width)) below size width (rank_at method start) d (units_over method power filled above widths) (Stands-stands method outer width power stand some_in) least
+                ∙ join method (d * 10 ^ (power % width)) below size width (rank_at method start) (digit d ∷ []) (units_over method power filled above widths) (Stands-stands method outer width power stand some_in) least
                 (omega (arith, fits, whole)) (omega (arith, few, whole)) more
                 ∙ ap (λ marks. digit d ∷ (marks ++ part method below)) otherwise
           ]
@@ -270,25 +271,6 @@ is_chain_of_four method outer [] = false
 is_chain_of_four method outer (width ∷ []) = outer == 4 && width == 1
 is_chain_of_four method outer (width ∷ next ∷ widths) =
     nat_lt 0 width && outer % width == 0 && width % 4 == 0 && all_stand method outer width (powers_within method) && is_chain_of_four method width (next ∷ widths)
-
-join-section : (method : ChineseCountMethod) (lead below size width rank : ℕ) (section marks : List Mark) → Stands method size width rank → 10 ^ size ≤ below
-    → lead * 10 ^ size + below < 10 ^ (size + width) → lead * 10 ^ size + below < scale method 15 * scale method 15
-    → part method (lead + below / 10 ^ size) ≡ section ++ (marks ++ part method (below / 10 ^ size))
-    → part method (lead * 10 ^ size + below) ≡ section ++ (marks ++ part method below)
-join-section method lead below size width rank section marks unit_is least fits few known =
-    let size_pos : 0 < 10 ^ size = one-le-pow size 10 (omega arith) in
-    let high = below / 10 ^ size in
-    let low = below % 10 ^ size in
-    let less : low < 10 ^ size = mod-lt below size_pos in
-    let split : below ≡ high * 10 ^ size + low = omega (arith, div-add-mod below (10 ^ size)) in
-    let some : 0 < high = elim (dec_lt 0 high) [ yes p ↦ p | no p ↦ absurd (let z : high ≡ 0 = omega (arith, p) in let e : below ≡ 0 * 10 ^ size + low = rw z at split in omega (arith, e, less, least)) ] in
-    let whole : lead * 10 ^ size + below ≡ (lead + high) * 10 ^ size + low = omega (arith, split) in
-    let tail : List Mark = unit rank ∷ (gap low (10 ^ size) ++ part method low) in
-    let one : part method ((lead + high) * 10 ^ size + low) ≡ part method (lead + high) ++ tail = cut method (lead + high) low size width rank unit_is (omega (arith, some)) less (omega (arith, fits, whole)) (omega (arith, few, whole)) in
-    let two : part method (high * 10 ^ size + low) ≡ part method high ++ tail = cut method high low size width rank unit_is some less (omega (arith, fits, split)) (omega (arith, few, split)) in
-    ap (λ n. part method n) whole ∙ one ∙ ap (λ front. front ++ tail) known
-    ∙ append_assoc section (marks ++ part method high) tail ∙ ap (λ rest. section ++ rest) (append_assoc marks (part method high) tail)
-    ∙ ap (λ rest. section ++ (marks ++ rest)) (sym two ∙ ap (λ n. part method n) (sym split))
 
 -- a unit stands at no start below what is written
 past-one : (method : ChineseCountMethod) (power filled above : ℕ) → power < above → units_over method power filled above (1 ∷ []) ≡ []
@@ -383,7 +365,7 @@ section-over method (width ∷ next ∷ widths) outer power g below inner filled
                 let more = section-over method (next ∷ widths) width power g (below / 10 ^ size) (inner - size) filled above rest within room four pos ten high_small (Fills-above inner size below fills deep)
                 (omega (arith, is_above, is_start, deep)) (λ z. some (omega (arith, deep))) (λ z. absurd (omega (arith, z, deep))) in
                 ap (λ n. part method (n + below)) whole
-                ∙ join-section method (g * 10 ^ (power % width)) below size width (rank_at method start) (part method g) (units_over method power filled above (next ∷ widths)) (Stands-stands method outer width power stand some_in) least
+                ∙ join method (g * 10 ^ (power % width)) below size width (rank_at method start) (part method g) (units_over method power filled above (next ∷ widths)) (Stands-stands method outer width power stand some_in) least
                 (omega (arith, fits, whole)) (omega (arith, few, whole)) more
                 ∙ ap (λ marks. part method g ++ (marks ++ part method below)) otherwise
           ]

@@ -87,30 +87,6 @@ impl Text for Plain<'_> {
     }
 }
 
-// The text of a sign and a magnitude.
-fn plain_magnitude<P: Target>(
-    target: &mut P,
-    characters: Characters,
-    negative: bool,
-    magnitude: u128,
-) -> P::Answer
-    ensures { P.took
-        (signed_text characters.variant characters.case negative (decimal_digits magnitude))
-        most_plain_bytes target.old target.new result }
-{
-    let mut taken = [0; MOST];
-    target.take(&Plain::of(&mut taken, characters, negative, magnitude))
-}
-
-// The same of a number.
-#[inline(always)]
-fn plain_number<P: Target, T: Whole>(target: &mut P, characters: Characters, value: T) -> P::Answer
-    ensures { P.took (naive_text characters.variant characters.case (T.number value))
-        most_plain_bytes target.old target.new result }
-{
-    plain_magnitude(target, characters, value.is_negative(), value.magnitude())
-}
-
 /// The text of a number by its decimal digits, in one request for memory.
 pub fn print_naive<T: Whole>(
     alloc: Global,
@@ -120,8 +96,25 @@ pub fn print_naive<T: Whole>(
 ) -> Result<String, AllocError>
     ensures { IfOk result (Writes (naive_text variant case (T.number value)) most_plain_bytes) }
 {
-    let mut string = NewString { alloc };
-    plain_number(&mut string, Characters::new(variant, case), value)
+    let mut taken = [0; MOST];
+    let text = Plain::of(
+        &mut taken,
+        Characters::new(variant, case),
+        value.is_negative(),
+        value.magnitude(),
+    );
+    NewString { alloc }.take(&text)
+}
+
+// The text of a sign and a magnitude in a room that is lent: one body for all types.
+fn put_plain(room: &mut [u8], characters: Characters, negative: bool, magnitude: u128) -> usize
+    ensures { PutsText
+        (signed_text characters.variant characters.case negative (decimal_digits magnitude))
+        most_plain_bytes room.old room.new result }
+{
+    let mut taken = [0; MOST];
+    let text = Plain::of(&mut taken, characters, negative, magnitude);
+    LentRoom { bytes: room }.take(&text)
 }
 
 /// The same at the beginning of a room, where it fits; the result is how many bytes it has.
@@ -134,6 +127,6 @@ pub fn put_naive<T: Whole>(
     ensures { PutsText (naive_text variant case (T.number value)) most_plain_bytes
         room.old room.new result }
 {
-    let mut lent = LentRoom { bytes: room };
-    plain_number(&mut lent, Characters::new(variant, case), value)
+    let characters = Characters::new(variant, case);
+    put_plain(room, characters, value.is_negative(), value.magnitude())
 }

@@ -1,37 +1,31 @@
 use Rattle.std.proofs.Common.{◌≡◌, ℕ, ◌+◌, ◌*◌, ◌%◌, ◌^◌, ◌<◌, ◌≤◌, ◌++◌, length, ap, ◌∙◌, arith, length-append}
-use Rattle.cn_core.specs.declared.method.ChineseCountMethod.TheVariants.{Low}
-use Rattle.cn_core.specs.Spelling.{spelling}
 use Rattle.cn_core.proofs.Cuts.{part}
 use Rattle.cn_spell.specs.Working.Sections.{section_marks}
 use Rattle.cn_spell.specs.Working.Units.{units_behind}
-use Rattle.cn_spell.proofs.SectionWalks.{section_at, section-more, section-same, Fills-section, Fills-same_section, spelling-above, room-section}
+use Rattle.cn_spell.proofs.SectionWalks.{section_at, section-more, section-same, Fills-section, Fills-same_section, room-more, spelling-end, length-end}
 use Rattle.cn_spell.proofs.spell.put_spelling.Goals.{then-section-gt0, else-section-gt0}
 use Rattle.cn_spell.proofs.spell.put_spelling.Goals as goal
 
 pub put_units-requires-clause-room : goal.put_units-requires-clause-room
 put_units-requires-clause-room g c =
     let l = c.loop-index in
-    let method = c.args.method in
     let sections = c.args.sections.now in
-    let number : ℕ = sections.number in
-    let power : ℕ = 4 * l.index in
     let value = sections.holds.each l.index c.loop-index-test.true in
-    let room = room-section method number sections.count l.index sections.above c.requires.count c.requires.above sections.holds.split sections.holds.some c.loop-index-test.true in
-    let more = section-more method number power l.filled (omega (arith, c.requires.count, c.loop-index-test.true)) (omega (arith, c.requires.count, c.loop-index-test.true)) (omega arith) (omega (arith, value, c.if-section-gt0.true)) l.invariant.fills in
-    omega (arith, room, ap length more, length-append (section_marks (section_at number power)) (units_behind method power l.filled ++ part method (number % 10 ^ power)), length-append (units_behind method power l.filled) (part method (number % 10 ^ power)), l.invariant.room, c.requires.room)
+    let room = room-more c.args.method sections.number sections.count l.index sections.above l.filled
+    sections.holds c.requires.count c.requires.above c.loop-index-test.true
+    (omega (arith, value, c.if-section-gt0.true)) l.invariant.fills in
+    omega (arith, room, l.invariant.room, c.requires.room)
 
 pub put_section-requires-clause-room : goal.put_section-requires-clause-room
 put_section-requires-clause-room g c =
     let l = c.loop-index in
-    let method = c.args.method in
     let sections = c.args.sections.now in
-    let number : ℕ = sections.number in
-    let power : ℕ = 4 * l.index in
     let value = sections.holds.each l.index c.loop-index-test.true in
-    let room = room-section method number sections.count l.index sections.above c.requires.count c.requires.above sections.holds.split sections.holds.some c.loop-index-test.true in
-    let more = section-more method number power l.filled (omega (arith, c.requires.count, c.loop-index-test.true)) (omega (arith, c.requires.count, c.loop-index-test.true)) (omega arith) (omega (arith, value, c.if-section-gt0.true)) l.invariant.fills in
+    let room = room-more c.args.method sections.number sections.count l.index sections.above l.filled
+    sections.holds c.requires.count c.requires.above c.loop-index-test.true
+    (omega (arith, value, c.if-section-gt0.true)) l.invariant.fills in
     let same = ap (λ n. length (section_marks n)) value in
-    omega (arith, same, room, ap length more, length-append (section_marks (section_at number power)) (units_behind method power l.filled ++ part method (number % 10 ^ power)), length-append (units_behind method power l.filled) (part method (number % 10 ^ power)), l.invariant.room, c.requires.room, c.put_units.ensures.room)
+    omega (arith, same, room, l.invariant.room, c.requires.room, c.put_units.ensures.room)
 
 pub loop-index-preserved : goal.loop-index-preserved
 loop-index-preserved g c =
@@ -73,43 +67,35 @@ loop-index-preserved g c =
 pub put_units-requires-2-clause-room : goal.put_units-requires-2-clause-room
 put_units-requires-2-clause-room g c =
     let l = c.loop-index in
-    let method = c.args.method in
     let sections = c.args.sections.now in
-    let number : ℕ = sections.number in
-    let end : l.index ≡ sections.count = omega (arith, l.auto.index-end, c.loop-index-test.false) in
-    let power : ℕ = 4 * sections.count in
-    let spelled = ap length (spelling-above method number sections.count sections.above l.filled c.requires.count c.requires.above sections.holds.split sections.holds.some (rw end at l.invariant.fills) (omega (arith, end, l.invariant.under))) in
-    omega (arith, spelled, length-append (spelling Low sections.above) (units_behind method power l.filled ++ part method (number % 10 ^ power)), length-append (units_behind method power l.filled) (part method (number % 10 ^ power)), rw end at l.invariant.room, c.requires.room)
+    let whole = length-end c.args.method sections.number sections.count l.index sections.above l.filled
+    sections.holds c.requires.count c.requires.above l.auto.index-end c.loop-index-test.false
+    l.invariant.fills l.invariant.under in
+    omega (arith, whole, l.invariant.room, c.requires.room)
 
 pub put_above-requires-clause-room : goal.put_above-requires-clause-room
 put_above-requires-clause-room g c =
     let l = c.loop-index in
-    let method = c.args.method in
     let sections = c.args.sections.now in
-    let number : ℕ = sections.number in
-    let end : l.index ≡ sections.count = omega (arith, l.auto.index-end, c.loop-index-test.false) in
-    let power : ℕ = 4 * sections.count in
-    let spelled = ap length (spelling-above method number sections.count sections.above l.filled c.requires.count c.requires.above sections.holds.split sections.holds.some (rw end at l.invariant.fills) (omega (arith, end, l.invariant.under))) in
-    omega (arith, spelled, length-append (spelling Low sections.above) (units_behind method power l.filled ++ part method (number % 10 ^ power)), length-append (units_behind method power l.filled) (part method (number % 10 ^ power)), rw end at l.invariant.room, c.requires.room, c.put_units-2.ensures.room)
+    let whole = length-end c.args.method sections.number sections.count l.index sections.above l.filled
+    sections.holds c.requires.count c.requires.above l.auto.index-end c.loop-index-test.false
+    l.invariant.fills l.invariant.under in
+    omega (arith, whole, l.invariant.room, c.requires.room, c.put_units-2.ensures.room)
 
 pub returns-clause-room : goal.returns-clause-room
 returns-clause-room g c =
     let l = c.loop-index in
-    let method = c.args.method in
     let sections = c.args.sections.now in
-    let number : ℕ = sections.number in
-    let end : l.index ≡ sections.count = omega (arith, l.auto.index-end, c.loop-index-test.false) in
-    let power : ℕ = 4 * sections.count in
-    let spelled = ap length (spelling-above method number sections.count sections.above l.filled c.requires.count c.requires.above sections.holds.split sections.holds.some (rw end at l.invariant.fills) (omega (arith, end, l.invariant.under))) in
-    omega (arith, spelled, length-append (spelling Low sections.above) (units_behind method power l.filled ++ part method (number % 10 ^ power)), length-append (units_behind method power l.filled) (part method (number % 10 ^ power)), rw end at l.invariant.room, c.put_units-2.ensures.room, c.put_above.ensures.room)
+    let whole = length-end c.args.method sections.number sections.count l.index sections.above l.filled
+    sections.holds c.requires.count c.requires.above l.auto.index-end c.loop-index-test.false
+    l.invariant.fills l.invariant.under in
+    omega (arith, whole, l.invariant.room, c.put_units-2.ensures.room, c.put_above.ensures.room)
 
 pub returns-clause-marks : goal.returns-clause-marks
 returns-clause-marks g c =
     let l = c.loop-index in
-    let method = c.args.method in
     let sections = c.args.sections.now in
-    let number : ℕ = sections.number in
-    let end : l.index ≡ sections.count = omega (arith, l.auto.index-end, c.loop-index-test.false) in
-    let power : ℕ = 4 * sections.count in
-    let spelled = spelling-above method number sections.count sections.above l.filled c.requires.count c.requires.above sections.holds.split sections.holds.some (rw end at l.invariant.fills) (omega (arith, end, l.invariant.under)) in
-    rw spelled (c.put_above.ensures.marks (units_behind method power l.filled ++ part method (number % 10 ^ power)) (c.put_units-2.ensures.marks (part method (number % 10 ^ power)) (rw end at l.invariant.marks)))
+    let spelled = spelling-end c.args.method sections.number sections.count l.index sections.above l.filled
+    sections.holds c.requires.count c.requires.above l.auto.index-end c.loop-index-test.false
+    l.invariant.fills l.invariant.under in
+    rw spelled (c.put_above.ensures.marks _ (c.put_units-2.ensures.marks _ l.invariant.marks))
