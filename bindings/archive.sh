@@ -1,11 +1,11 @@
 #!/usr/bin/env bash
 # archive.sh OUT: builds the library for other languages into the folder OUT, as an archive, libchinese_number.a, and as a
 # shared object, libchinese_number.so. What is not yet proved is proved first. It stops where either shows other names than
-# the three calls, and where the archive asks for a name that is not below, or has data that a call could write.
+# the calls that the sources of cn_c export, and where the archive asks for a name that is not below, or has data that a
+# call could write.
 set -euo pipefail
-[ $# -eq 1 ] || { sed -n '2,4s/^# //p' "$0"; exit 2; }
+[ $# -eq 1 ] || { sed -n '2,5s/^# //p' "$0"; exit 2; }
 out=$(mkdir -p "$1" && cd "$1" && pwd)
-calls='chinese_number_print chinese_number_read chinese_number_read_utf8'
 known='__udivti3|memcpy|memset' # of the C library, and __udivti3 of the compiler's own
 
 same() { # WHAT WANTED FOUND
@@ -18,6 +18,7 @@ words() {
 
 "$(dirname "$0")/library.sh"
 cd "$(dirname "$0")/../crates/cn_c"
+calls=$(sed -nE 's/^pub (unsafe )?extern "C" fn (\w+).*/\2/p' src/*.rt | words)
 scratch=$(mktemp -d)
 trap 'rm -rf "$scratch"' EXIT
 whole=(-Wl,--whole-archive out/libcn_c.a -Wl,--no-whole-archive)
@@ -36,4 +37,4 @@ cc -shared -o "$out/libchinese_number.so" "${whole[@]}" \
 shown=$(nm -D --defined-only "$out/libchinese_number.so" | awk '{print $NF}' | words)
 same 'the names that the shared object shows' "$calls" "$shown"
 cp out/libcn_c.a "$out/libchinese_number.a"
-echo "archive: $out has libchinese_number.a and libchinese_number.so, of three calls; they ask for $asked"
+echo "archive: $out has libchinese_number.a and libchinese_number.so, of $(wc -w <<< "$calls") calls; they ask for $asked"

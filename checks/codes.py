@@ -1,13 +1,14 @@
 #!/usr/bin/env python3
-"""The codes, statuses and error texts of the library's other faces: those of its own sources.
+"""The calls, codes, statuses and error texts of the library's other faces: those of its own sources.
 
 Usage: codes.py CN_C BINDINGS
 
 The tables of `codes.rt` give a type, way, script or case its place as its code, and `status.rt`
 names the statuses. The header, the Rust crate and the Python file name each of them once, with the
-same number, and no other. Alike, too, are the most bytes of a text, which a clause of `printing.rt`
-bounds, and the version of all three. The texts of refusals are those of `Refusal.antt` wherever
-they are written again.
+same number, and no other. The header declares each call that the crate exports, and all three no
+other one. Alike, too, are the most bytes of a text, which a clause of `printing.rt` bounds, and the
+version of all three. The texts of refusals are those of `Refusal.antt` wherever they are written
+again.
 """
 import re
 import sys
@@ -25,6 +26,7 @@ BEGINNINGS = {
     RUST: ("pub enum Kind ", "pub enum Way ", "pub enum ChineseVariant ", "pub enum ChineseCase ", "pub mod status "),
     PYTHON: ("class Kind(", "class Way(", "class Script(", "class Case(", "class Status("),
 }
+EXPORTED = re.compile(r'^pub (?:unsafe )?extern "C" fn (\w+)', re.MULTILINE)
 MOST_BYTES = re.compile(r"MOST_BYTES(?:: usize)?(?: =)? (\d+)")
 VERSIONS = (
     (HEADER, r'^#define CN_VERSION "(.*)"'),
@@ -81,6 +83,16 @@ def of_language(language, text):
     return found
 
 
+def compare_calls(crate, texts):
+    """The header declares the calls that the sources export, and no language any other; how many there are."""
+    wanted = {name for path in crate.glob("src/*.rt") for name in EXPORTED.findall(text_of(path))}
+    for language, text in texts.items():
+        found = set(re.findall(r"\b(chinese_number_\w+)\(", text)) | set(re.findall(r"\blibrary\.(chinese_number_\w+)", text))
+        if not found or not found <= wanted or language == HEADER and found != wanted:
+            sys.exit(f"codes: {language} has the calls {sorted(found)}, and the crate exports {sorted(wanted)}")
+    return len(wanted)
+
+
 def compare_refusals(top):
     """Each text of a refusal, up to the position that one of them has, stands in each file."""
     found = re.findall(r'^refusal_text \S.*?codes "([^"(]*)', text_of(top / REFUSALS), re.M | re.S)
@@ -113,8 +125,9 @@ def main():
     versions.add(".".join(re.findall(r"^#define CN_VERSION_\w+ (\d+)", texts[HEADER], re.MULTILINE)))
     if len(versions) != 1:
         sys.exit(f"codes: versions {sorted(versions)}")
+    calls = compare_calls(crate, texts)
     compare_refusals(bindings.resolve().parent)
-    print(f"codes: {sum(map(len, wanted))} codes and statuses, alike in C, Rust and Python, of version {versions.pop()}")
+    print(f"codes: {calls} calls, {sum(map(len, wanted))} codes and statuses, alike in C, Rust and Python, of version {versions.pop()}")
 
 
 main()

@@ -2,7 +2,7 @@
 // sources of the crate CN_C, and tries what has no line of the program.
 import assert from 'node:assert/strict';
 import { spawnSync } from 'node:child_process';
-import { existsSync, readFileSync } from 'node:fs';
+import { existsSync, readdirSync, readFileSync } from 'node:fs';
 import { LETTER_CASES, METHODS, NumeralError, SCRIPTS, TYPES, print, read } from './chinese-number.mjs';
 
 const [program, crate] = process.argv.slice(2);
@@ -129,6 +129,10 @@ function compareCodes() {
   console.log(`codes: ${TYPES.length} types, ${METHODS.length} methods and ${theirs.length} statuses are those of cn_c`);
 }
 
+// The calls that the sources of cn_c export.
+const calls = () => readdirSync(`${crate}/src`)
+  .flatMap((file) => Array.from(source(`${crate}/src/${file}`).matchAll(/^pub (?:unsafe )?extern "C" fn (\w+)/gm), ([, name]) => name)).sort();
+
 // The modules ask nothing of their host, and offer the calls of cn_c.
 function lookAtTheModules() {
   for (const bits of [64, 32]) {
@@ -136,8 +140,7 @@ function lookAtTheModules() {
     if (!existsSync(file) || !WebAssembly.validate(readFileSync(file))) continue;
     const compiled = new WebAssembly.Module(readFileSync(file));
     assert.deepEqual(WebAssembly.Module.imports(compiled), []);
-    assert.deepEqual(WebAssembly.Module.exports(compiled).map((it) => it.name).sort(),
-      ['__heap_base', 'chinese_number_print', 'chinese_number_read', 'chinese_number_read_utf8', 'memory']);
+    assert.deepEqual(WebAssembly.Module.exports(compiled).map((it) => it.name).sort(), ['__heap_base', ...calls(), 'memory']);
   }
 }
 

@@ -8,4 +8,3 @@ mod integer_type;
 pub mod laws;
 pub mod lines;
 mod question;
-mod search;

@@ -8,7 +8,7 @@ ghost use Rattle.cn_lines.specs.Private.{IsBeyondAll};
 ghost use Rattle.cn_ways.specs.Ways.{stands_for};
 
 use crate::integer_type::IntegerType;
-use crate::search::first_position;
+use crate::lines::first_position;
 use chinese_number::{ChineseCase, ChineseVariant};
 use cn_ways::{SignedMagnitude, Way, utf8_text, way_named};
 

@@ -4,7 +4,7 @@ use Rattle.chinese_number.specs.declared.ChineseCountMethod.TheVariants.{Low, Te
 use Rattle.chinese_number.specs.Refusal.{Refusal}
 use Rattle.chinese_number.specs.Reading.{Reads, naive_reading}
 use Rattle.chinese_number.specs.Whole.{Kind, signed_number}
-use Rattle.cn_ways.specs.declared.signed_magnitude.SignedMagnitude.{SignedMagnitude}
+use Rattle.cn_ways.specs.declared.way.SignedMagnitude.{SignedMagnitude}
 use Rattle.cn_ways.specs.declared.way.Way.{Way}
 use Rattle.cn_ways.specs.declared.way.Way.TheVariants.{Digits, Units}
 

@@ -4,10 +4,8 @@
 //! For the program and the calls for C. Callers in Rattle use `chinese_number`.
 #![tactic(auto)]
 
-mod signed_magnitude;
 mod utf8;
 mod way;
 
-pub use signed_magnitude::SignedMagnitude;
 pub use utf8::utf8_text;
-pub use way::{Way, read_by, way_named};
+pub use way::{SignedMagnitude, Way, read_by, way_named};

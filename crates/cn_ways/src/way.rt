@@ -1,7 +1,7 @@
-// The ways in which a number is read or written.
-ghost use Rattle.std.specs.Prelude.{◌≡◌};
+// The ways in which a number is read or written, and numbers of whatever type.
+ghost use Rattle.std.specs.Prelude.{◌≡◌, ◌↔◌, ◌<ℤ◌, pos, IsTrue};
 ghost use Rattle.chinese_number.specs.Answer.{answer_of};
-ghost use Rattle.cn_ways.specs.Ways.{ReadsBy, way_named};
+ghost use Rattle.cn_ways.specs.Ways.{ReadsBy, stands_for, way_named};
 
 use chinese_number::{ChineseCountMethod, ChineseToNumber, ChineseToNumberError, Whole};
 
@@ -38,5 +38,31 @@ pub fn read_by<T: Whole>(way: Way, text: &str) -> Result<T, ChineseToNumberError
     match way {
         Way::Digits => text.to_number_naive(),
         Way::Units(method) => text.to_number(method),
+    }
+}
+
+/// A number by its sign and its magnitude; the sign of 0 may be a minus.
+#[derive(Clone, Copy)]
+pub struct SignedMagnitude {
+    pub negative: bool,
+    pub magnitude: u128,
+}
+
+impl SignedMagnitude {
+    /// A number of a type.
+    pub fn of<T: Whole>(value: T) -> Self
+        ensures { stands_for result ≡ T.number value }
+    {
+        SignedMagnitude {
+            negative: value.is_negative(),
+            magnitude: value.magnitude(),
+        }
+    }
+
+    /// Whether the number is below zero.
+    pub fn is_negative(self) -> bool
+        ensures { IsTrue result ↔ (stands_for self <ℤ pos 0) }
+    {
+        self.negative && self.magnitude > 0
     }
 }

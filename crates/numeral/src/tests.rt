@@ -31,7 +31,10 @@ enum Answer {
 static ROWS: [(&str, Answer); 51] = [
     ("print u128 naive traditional lower 123", Done("一二三")),
     ("read u128 naive 一二三", Done("123")),
-    ("print u128 naive simple upper 9876543210", Done("玖捌柒陆伍肆叁贰壹零")),
+    (
+        "print u128 naive simple upper 9876543210",
+        Done("玖捌柒陆伍肆叁贰壹零"),
+    ),
     ("print u128 naive traditional upper -0", Done("零")),
     ("print u128 naive traditional lower -1", BadLine),
     ("read u128 naive 零〇1兩", Done("12")),

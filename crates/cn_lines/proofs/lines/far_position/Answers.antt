@@ -1,6 +1,6 @@
 use Rattle.std.proofs.Common.{eqb}
 use Rattle.cn_lines.proofs.Strides.{position_found, position_further}
-use Rattle.cn_lines.proofs.search.far_position.Goals as goal
+use Rattle.cn_lines.proofs.lines.far_position.Goals as goal
 
 pub returns-then-position-lt-STRIDE-clause-position : goal.returns-then-position-lt-STRIDE-clause-position
 returns-then-position-lt-STRIDE-clause-position c =

@@ -1,6 +1,6 @@
 use Rattle.std.proofs.Common.{eqb, length, unwrap_or, ap, ◌∙◌}
 use Rattle.cn_lines.proofs.Strides.{first_or_length}
-use Rattle.cn_lines.proofs.search.near_position.Goals as goal
+use Rattle.cn_lines.proofs.lines.near_position.Goals as goal
 
 pub returns-clause-position : goal.returns-clause-position
 returns-clause-position c =

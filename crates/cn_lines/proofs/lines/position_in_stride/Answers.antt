@@ -1,7 +1,7 @@
 use Rattle.std.proofs.Common.{◌≡◌, length, eqb, w8, arith}
 use Rattle.std.proofs.lemmas.Simd.{bitmask_splat}
 use Rattle.cn_lines.proofs.Strides.{position_of_none, position_of_some}
-use Rattle.cn_lines.proofs.search.position_in_stride.Goals as goal
+use Rattle.cn_lines.proofs.lines.position_in_stride.Goals as goal
 
 pub returns-then-found-eq0 : goal.returns-then-found-eq0
 returns-then-found-eq0 c =

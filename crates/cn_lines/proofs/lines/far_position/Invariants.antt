@@ -1,6 +1,6 @@
 use Rattle.std.proofs.Common.{◌≡◌, ◌≤◌, ◌+◌, ◌-◌, length, drop, eqb}
 use Rattle.std.specs.List.{position_or_len}
-use Rattle.cn_lines.proofs.search.far_position.Given as goal
+use Rattle.cn_lines.proofs.lines.far_position.Given as goal
 
 abbrev pub invariant-strides : goal.invariant-strides
 invariant-strides l =
