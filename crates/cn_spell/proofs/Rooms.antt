@@ -49,7 +49,7 @@ put-text : (items character : List ℕ) (free : ℕ) → 3 ≤ free → free ≤
 put-text items character free three within size =
     let e : free - 3 + 3 ≡ free = omega (arith, three) in
     drop-sets items (free - 3) (slice_index character 0) (slice_index character 1) (slice_index character 2) (omega (arith, three, within))
-    ∙ ap₂ (λ front rest. front ++ rest) (of-three character size) (ap (λ n. drop n items) e)
+    ∙ ap₂ (λ first rest. first ++ rest) (of-three character size) (ap (λ n. drop n items) e)
 
 -- and where it is not kept, the text is as it was
 unput-text : (items character : List ℕ) (free : ℕ) → 3 ≤ free → free ≤ length items
@@ -72,7 +72,7 @@ pub Shows-if : (is_kept : Bool) (c : ℕ) {free next : ℕ} {bytes after charact
     → drop next after ≡ (if is_kept then character ++ drop free bytes else drop free bytes) → length after ≡ length bytes
     → character ≡ encode_utf8 c → IsUtf8 character → Shows free bytes cs → Shows next after ((if is_kept then c ∷ [] else []) ++ cs)
 Shows-if true c three e t l same utf8 h = record {
-  text = t ∙ ap₂ (λ front rest. front ++ rest) same h.text;
+  text = t ∙ ap₂ (λ first rest. first ++ rest) same h.text;
   utf8 = rw t (IsUtf8-append _ _ utf8 h.utf8);
   size = omega (arith, e, l, three, h.size);
 }

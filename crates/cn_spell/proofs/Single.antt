@@ -141,7 +141,7 @@ step method number power within own = by (dec_lt 0 (at number power)) where
       let next : power + 1 ≡ suc power = omega arith in
       let same : part method (number % 10 ^ suc power) ≡ part method (number % 10 ^ power) = rw next at (part-same method number power z) in
       let first : so_far method number (suc power) ≡ gap_marks (filled_of number power) (suc power) ++ part method (number % 10 ^ suc power) = rw t refl in
-      first ∙ ap₂ (λ front back. front ++ back) (gap-step number power) same
+      first ∙ ap₂ (λ first back. first ++ back) (gap-step number power) same
       ∙ append_assoc (kept (nat_lt 0 (below_of number power)) (digit 0)) (gap_marks (filled_of number power) power) (part method (number % 10 ^ power))
       ∙ sym (power-zero power (at number power) (nat_lt 0 (below_of number power)) (so_far method number power) z)
 

@@ -171,11 +171,11 @@ Fills-above inner size below fills deep = record { below = under; reach = λ pos
       omega (arith, found)
 
 -- a digit or a section joins what stands above the powers of a unit that is written already
-join : (method : ChineseCountMethod) (lead below size width rank : ℕ) (front marks : List Mark) → Stands method size width rank → 10 ^ size ≤ below
+join : (method : ChineseCountMethod) (lead below size width rank : ℕ) (lead_marks marks : List Mark) → Stands method size width rank → 10 ^ size ≤ below
     → lead * 10 ^ size + below < 10 ^ (size + width) → lead * 10 ^ size + below < scale method 15 * scale method 15
-    → part method (lead + below / 10 ^ size) ≡ front ++ (marks ++ part method (below / 10 ^ size))
-    → part method (lead * 10 ^ size + below) ≡ front ++ (marks ++ part method below)
-join method lead below size width rank front marks unit_is least fits few known =
+    → part method (lead + below / 10 ^ size) ≡ lead_marks ++ (marks ++ part method (below / 10 ^ size))
+    → part method (lead * 10 ^ size + below) ≡ lead_marks ++ (marks ++ part method below)
+join method lead below size width rank lead_marks marks unit_is least fits few known =
     let size_pos : 0 < 10 ^ size = one-le-pow size 10 (omega arith) in
     let high = below / 10 ^ size in
     let low = below % 10 ^ size in
@@ -187,8 +187,8 @@ join method lead below size width rank front marks unit_is least fits few known 
     let one : part method ((lead + high) * 10 ^ size + low) ≡ part method (lead + high) ++ tail = cut method (lead + high) low size width rank unit_is (omega (arith, some)) less (omega (arith, fits, whole)) (omega (arith, few, whole)) in
     let two : part method (high * 10 ^ size + low) ≡ part method high ++ tail = cut method high low size width rank unit_is some less (omega (arith, fits, split)) (omega (arith, few, split)) in
     ap (λ n. part method n) whole ∙ one ∙ ap (λ done. done ++ tail) known
-    ∙ append_assoc front (marks ++ part method high) tail ∙ ap (λ rest. front ++ rest) (append_assoc marks (part method high) tail)
-    ∙ ap (λ rest. front ++ (marks ++ rest)) (sym two ∙ ap (λ n. part method n) (sym split))
+    ∙ append_assoc lead_marks (marks ++ part method high) tail ∙ ap (λ rest. lead_marks ++ rest) (append_assoc marks (part method high) tail)
+    ∙ ap (λ rest. lead_marks ++ (marks ++ rest)) (sym two ∙ ap (λ n. part method n) (sym split))
 
 -- a digit in front of what stands below it: the units of the groups that it is the first to fill stand between
 pub digit-over : (method : ChineseCountMethod) (widths : List ℕ) (outer power d below inner filled above : ℕ) → is_chain method outer widths ≡ true → power < powers_within method → 0 < d → d < 10

@@ -127,7 +127,8 @@ pub fn put_by_units<T: Whole>(
     spell_number(&mut lent, Characters::new(variant, case), method, value)
 }
 
-/// The spelling of any number: what the method does not write is refused before memory is asked for.
+/// The spelling of any number: what the method does not write is refused before memory is asked
+/// for.
 pub fn print_or_refuse<T: Whole>(
     alloc: Global,
     variant: ChineseVariant,

@@ -1,7 +1,7 @@
 // A magnitude's spelling, written from its lowest digit up.
 //
-// 100_100_000 by `TenThousand` has the sections 0000, 0010 and, in front of them, 1. What is put,
-// from the last character to the first:
+// 100_100_000 by `TenThousand` has the sections 0000, 0010 and, above them, 1. What is put, from
+// the last character to the first:
 //
 //     0000   nothing
 //     0010   萬, its unit, then 十 and 一

@@ -71,8 +71,8 @@ impl Target for NewString {
     }
 }
 
-// The text at the beginning of a room, where it fits. The result is how many bytes it has, in either
-// case.
+// The text at the beginning of a room, where it fits. The result is how many bytes it has, in
+// either case.
 #[inline(always)]
 fn put_text<X: Text>(room: &mut [u8], text: &X) -> usize
     ensures { PutsText (X.says text.now) (X.most text.now) room.old room.new result }
