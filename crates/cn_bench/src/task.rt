@@ -1,6 +1,6 @@
 // What is repeated, and how often.
 use chinese_number::{ChineseCase, ChineseVariant, NumberToChinese, NumberToChineseError};
-use cn_ways::{Way, read_by, way_named};
+use cn_ways::{Way, print_by, read_by, way_named};
 use std::alloc::{AllocError, Global};
 
 /// Which way a number goes.
@@ -59,13 +59,10 @@ fn printed_text<T: NumberToChinese>(
     number: T,
 ) -> Result<String, AllocError> {
     let (variant, case) = (ChineseVariant::Traditional, ChineseCase::Lower);
-    match way {
-        Way::Digits => number.to_chinese_naive(alloc, variant, case),
-        Way::Units(method) => match number.to_chinese(alloc, variant, case, method) {
-            Ok(text) => Ok(text),
-            Err(NumberToChineseError::OutOfMemory) => Err(AllocError),
-            Err(_) => 0u8.to_chinese_naive(alloc, variant, case),
-        },
+    match print_by(alloc, way, variant, case, number) {
+        Ok(text) => Ok(text),
+        Err(NumberToChineseError::OutOfMemory) => Err(AllocError),
+        Err(_) => 0u8.to_chinese_naive(alloc, variant, case),
     }
 }
 

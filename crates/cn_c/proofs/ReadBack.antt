@@ -1,5 +1,5 @@
 -- What is printed is read back as the same number.
-use Rattle.std.proofs.Common.{◌≡◌, ℕ, ◌-◌, ◌^◌, ◌<◌, ◌≤◌, ℤ, pos, int_lt, nat_abs, nat_le, Bool, true, false, MatchBool, MatchOption, List, [], ◌∷◌, ◌++◌, length, take, drop, encode_utf8_all, Option, Some, None, Result, Ok, if◌then◌else◌, refl, ◌∙◌, arith}
+use Rattle.std.proofs.Common.{◌≡◌, ℕ, ◌-◌, ◌^◌, ◌<◌, ◌≤◌, ℤ, pos, int_lt, nat_abs, nat_le, Bool, true, false, MatchBool, MatchOption, List, [], ◌∷◌, ◌++◌, length, take, drop, encode_utf8_all, Option, Some, None, Result, Ok, Err, if◌then◌else◌, refl, ◌∙◌, arith}
 use Rattle.std.proofs.Math.Seq.{take-append_seam}
 use Rattle.std.proofs.lemmas.Int.{ints}
 use Rattle.std.proofs.lemmas.Str.{IsUtf8-nil, IsUtf8-append, IsUtf8-encode, is_utf8-from_IsUtf8}
@@ -7,7 +7,7 @@ use Rattle.std.specs.List.{list_all}
 use Rattle.std.specs.Str.{IsUtf8, all_scalars}
 use Rattle.cn_core.specs.declared.case.ChineseCase.{ChineseCase}
 use Rattle.cn_core.specs.declared.script.ChineseVariant.{ChineseVariant}
-use Rattle.cn_core.specs.Refusal.{Refusal}
+use Rattle.cn_core.specs.Refusal.{Refusal, too_large, too_small}
 use Rattle.cn_core.specs.Spelling.{spelling}
 use Rattle.cn_core.specs.Whole.{Kind, holds, unsigned_kind, signed_kind}
 use Rattle.cn_core.specs.Printing.{signed_text, naive_text, spelled_text, is_printable}
@@ -25,11 +25,11 @@ use Rattle.cn_ways.specs.declared.Way.{Way}
 use Rattle.cn_ways.specs.declared.Way.TheVariants.{Digits, Units}
 use Rattle.cn_c.specs.declared.number.Number.{Number}
 use Rattle.cn_c.specs.declared.reading.Reading.{Reading}
-use Rattle.cn_ways.specs.Ways.{ReadsBy}
-use Rattle.cn_c.specs.Codes.{CN_DONE, CN_TOO_SMALL, CN_TOO_LARGE}
+use Rattle.cn_ways.specs.Ways.{ReadsBy, unprintable, written_by}
+use Rattle.cn_c.specs.Codes.{CN_DONE, refusal_status}
 use Rattle.cn_c.specs.Halves.{number_of}
 use Rattle.cn_c.specs.Kinds.{the_kind}
-use Rattle.cn_c.specs.Prints.{PutsNothing, PutsText, PrintsBy, PrintsNumber, IsPrintedAs}
+use Rattle.cn_c.specs.Prints.{PutsNothing, PutsText, PutsWritten, PrintsNumber, IsPrintedAs}
 use Rattle.cn_c.specs.Reads.{Tells, ReadsInto, IsReadAs}
 
 -- what is put where all goes well
@@ -54,7 +54,7 @@ utf8-signed_text variant case false marks h = utf8-scalars _ (IsReadBack-marks v
 
 -- a number that is printed in a way is read in it
 read-by : (kind : Kind) (way : Way) (script : ChineseVariant) (case : ChineseCase) (number : ℤ) (old new : List ℕ) (len : ℕ) → IsWhole kind → holds kind number ≡ true
-    → PrintsBy way script case number old CN_DONE new len
+    → PutsWritten (written_by way script case number) old CN_DONE new len
     → IsUtf8 (take len new) × ((answer : Result ℤ Refusal) → ReadsBy kind way (take len new) answer → answer ≡ Ok number)
 read-by kind Digits script case number old new len whole held h =
     let small = whole.fits number held in
@@ -68,7 +68,7 @@ read-by kind (Units method) script case number old new len whole held h = by (is
   small = whole.fits number held
 
   by : (b : Bool) → is_printable method number ≡ b
-      → MatchBool b (PutsText (encode_utf8_all (spelled_text script case method number)) old CN_DONE new len) (PutsNothing (if int_lt number (pos 0) then CN_TOO_SMALL else CN_TOO_LARGE) old CN_DONE new len)
+      → PutsWritten (if b then Ok (spelled_text script case method number) else Err (unprintable number)) old CN_DONE new len
       → IsUtf8 (take len new) × ((answer : Result ℤ Refusal) → ReadsBy kind (Units method) (take len new) answer → answer ≡ Ok number)
   by true e h =
       let text = put-text (encode_utf8_all (spelled_text script case method number)) old new len h in
@@ -78,7 +78,7 @@ read-by kind (Units method) script case number old new len whole held h = by (is
         λ answer r. Reads-same kind method (encode_utf8_all (spelled_text script case method number)) answer (Ok number) r (Reads-spelled kind method script case number whole held e),
       )
   by false e h = absurd (other (int_lt number (pos 0)) h.0) where
-    other : (b : Bool) → CN_DONE ≡ (if b then CN_TOO_SMALL else CN_TOO_LARGE) → ⊥
+    other : (b : Bool) → CN_DONE ≡ refusal_status (if b then too_small else too_large) → ⊥
     other true e = omega (arith, e)
     other false e = omega (arith, e)
 
@@ -122,7 +122,7 @@ read-as code way script case number old new len = by (holds kind value) refl whe
       → (status ≡ CN_DONE) × (number_of kind.signed reading.number ≡ value) × (reading.char_index ≡ 0)
   told status reading answer e tells = rw e at tells
 
-  by : (b : Bool) → holds kind value ≡ b → MatchBool b (PrintsBy way script case value old CN_DONE new len) (PutsNothing 7 old CN_DONE new len)
+  by : (b : Bool) → holds kind value ≡ b → MatchBool b (PutsWritten (written_by way script case value) old CN_DONE new len) (PutsNothing 7 old CN_DONE new len)
       → IsUtf8 (take len new)
       × ((status : ℕ) (reading : Reading) → IsReadAs (Some code) (Some way) (take len new) status reading
       → (status ≡ CN_DONE) × (number_of kind.signed reading.number ≡ value) × (reading.char_index ≡ 0))

@@ -7,7 +7,7 @@ ghost use Rattle.cn_ways.specs.Ways.{ReadsBy, stands_for};
 
 use crate::question::{Printing, Reading, asked_printing, asked_reading, cut};
 use chinese_number::{ChineseToNumberError, NumberToChinese, NumberToChineseError, Whole};
-use cn_ways::{SignedMagnitude, Way, read_by};
+use cn_ways::{SignedMagnitude, Way, print_by, read_by};
 use std::alloc::{AllocError, Global};
 
 // Puts the answer to a line that asks nothing.
@@ -99,18 +99,10 @@ fn put_printed_as<T: NumberToChinese>(
     let Some(value) = T::from_magnitude(negative, magnitude) else {
         return put_bad_line(answer);
     };
-    match asked.way {
-        Way::Digits => {
-            let text = value.to_chinese_naive(alloc, asked.variant, asked.case)?;
-            put_text(answer, text.as_str())
-        }
-        Way::Units(method) => {
-            match value.to_chinese(alloc, asked.variant, asked.case, method) {
-                Ok(text) => put_text(answer, text.as_str()),
-                Err(NumberToChineseError::OutOfMemory) => Err(AllocError),
-                Err(error) => write!(answer, "err {error}"),
-            }
-        }
+    match print_by(alloc, asked.way, asked.variant, asked.case, value) {
+        Ok(text) => put_text(answer, text.as_str()),
+        Err(NumberToChineseError::OutOfMemory) => Err(AllocError),
+        Err(error) => write!(answer, "err {error}"),
     }
 }
 

@@ -8,4 +8,4 @@ mod utf8;
 mod way;
 
 pub use utf8::utf8_text;
-pub use way::{SignedMagnitude, Way, read_by, way_named};
+pub use way::{SignedMagnitude, Way, print_by, read_by, way_named};

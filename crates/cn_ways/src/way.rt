@@ -1,9 +1,13 @@
 // The ways in which a number is read or written, and numbers of whatever type.
 ghost use Rattle.std.specs.Prelude.{◌≡◌, ◌↔◌, ◌<ℤ◌, pos, IsTrue};
 ghost use Rattle.chinese_number.specs.Answer.{answer_of};
-ghost use Rattle.cn_ways.specs.Ways.{ReadsBy, stands_for, way_named};
+ghost use Rattle.cn_ways.specs.Ways.{PrintsBy, ReadsBy, stands_for, way_named};
 
-use chinese_number::{ChineseCountMethod, ChineseToNumber, ChineseToNumberError, Whole};
+use chinese_number::{
+    ChineseCase, ChineseCountMethod, ChineseToNumber, ChineseToNumberError, ChineseVariant,
+    NumberToChinese, NumberToChineseError, Whole,
+};
+use std::alloc::Global;
 
 /// How a number is written: as its plain digits, or with units by a method.
 #[derive(Clone, Copy)]
@@ -38,6 +42,22 @@ pub fn read_by<T: Whole>(way: Way, text: &str) -> Result<T, ChineseToNumberError
     match way {
         Way::Digits => text.to_number_naive(),
         Way::Units(method) => text.to_number(method),
+    }
+}
+
+/// Writes a number in a way.
+pub fn print_by<T: NumberToChinese>(
+    alloc: Global,
+    way: Way,
+    script: ChineseVariant,
+    case: ChineseCase,
+    value: T,
+) -> Result<String, NumberToChineseError>
+    ensures { PrintsBy way script case (T.number value) result }
+{
+    match way {
+        Way::Digits => Ok(value.to_chinese_naive(alloc, script, case)?),
+        Way::Units(method) => value.to_chinese(alloc, script, case, method),
     }
 }
 
