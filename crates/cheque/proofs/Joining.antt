@@ -8,15 +8,18 @@ use Rattle.chinese_number.specs.Answer.{answer_of}
 use Rattle.chinese_number.specs.declared.ChineseToNumberError.{ChineseToNumberError}
 
 -- a result whose answer is the number of a value is that value
-module _ {T : Type 0} (number : T → ℤ) (same : (x y : T) → number x ≡ number y → x ≡ y) (result : Result T ChineseToNumberError) (value : T) where
-  result_is : (r : Result T ChineseToNumberError) → answer_of number r ≡ Ok (number value) → r ≡ Ok value
+module _ {T : Type 0} (number : T → ℤ) (same : (x y : T) → number x ≡ number y → x ≡ y)
+    (result : Result T ChineseToNumberError) (value : T) where
+  result_is : (r : Result T ChineseToNumberError) → answer_of number r ≡ Ok (number value)
+      → r ≡ Ok value
   result_is (Ok x) h = let e : number x ≡ number value = cc in ap Ok (same x value e)
   result_is (Err error) h = cc
 
   -- so it is where the string that was read, with units, is one that is answered by that number
   pub unit_result_is : (kind : Kind) (method : ChineseCountMethod) (bytes text written : List ℕ)
       → Reads kind method bytes (answer_of number result) → bytes ≡ text → text ≡ written
-      → ((answer : Result ℤ Refusal) → Reads kind method written answer ↔ (answer ≡ Ok (number value)))
+      → ((answer : Result ℤ Refusal)
+      → Reads kind method written answer ↔ (answer ≡ Ok (number value)))
       → result ≡ Ok value
   unit_result_is kind method bytes text written read lent printed law =
       let answer = answer_of number result in

@@ -33,20 +33,25 @@ use Rattle.cn_c.specs.Prints.{PutsNothing, PutsText, PutsWritten, PrintsNumber, 
 use Rattle.cn_c.specs.Reads.{Tells, ReadsInto, IsReadAs}
 
 -- what is put where all goes well
-put-text : (text old new : List ℕ) (len : ℕ) → PutsText text old CN_DONE new len → take len new ≡ text
+put-text : (text old new : List ℕ) (len : ℕ) → PutsText text old CN_DONE new len
+    → take len new ≡ text
 put-text text old new len = by (nat_le (length text) (length old)) where
-  by : (b : Bool) → MatchBool b ((CN_DONE ≡ 0) × (new ≡ text ++ drop (length text) old) × (len ≡ length text)) ((CN_DONE ≡ 6) × (new ≡ old) × (len ≡ length text)) → take len new ≡ text
+  by : (b : Bool) → MatchBool b ((CN_DONE ≡ 0) × (new ≡ text ++ drop (length text) old)
+      × (len ≡ length text)) ((CN_DONE ≡ 6) × (new ≡ old) × (len ≡ length text))
+      → take len new ≡ text
   by true p = rw (p.1, p.2) (take-append_seam text (drop (length text) old))
   by false p = absurd (omega (arith, p.0))
 
 -- written characters are UTF-8
 utf8-scalars : (text : List ℕ) → all_scalars text ≡ true → IsUtf8 (encode_utf8_all text)
 utf8-scalars [] h = IsUtf8-nil
-utf8-scalars (c ∷ text) h = IsUtf8-append _ _ (IsUtf8-encode c (and-left _ (all_scalars text) h)) (utf8-scalars text (and-right _ (all_scalars text) h))
+utf8-scalars (c ∷ text) h = IsUtf8-append _ _ (IsUtf8-encode c (and-left _ (all_scalars text) h))
+    (utf8-scalars text (and-right _ (all_scalars text) h))
 
 utf8-three : (text : List ℕ) → list_all takes_three text ≡ true → IsUtf8 (encode_utf8_all text)
 utf8-three [] h = IsUtf8-nil
-utf8-three (c ∷ text) h = IsUtf8-append _ _ (IsUtf8-three c (and-left (takes_three c) _ h)) (utf8-three text (and-right (takes_three c) _ h))
+utf8-three (c ∷ text) h = IsUtf8-append _ _ (IsUtf8-three c (and-left (takes_three c) _ h))
+    (utf8-three text (and-right (takes_three c) _ h))
 
 utf8-signed_text : (variant : ChineseVariant) (case : ChineseCase) (negative : Bool) (marks : List Mark) → list_all is_printed marks ≡ true → IsUtf8 (encode_utf8_all (signed_text variant case negative marks))
 utf8-signed_text variant case true marks h = IsUtf8-append _ _ (IsUtf8-three _ (three-minus variant)) (utf8-scalars _ (IsReadBack-marks variant case marks h).scalars)
@@ -55,7 +60,8 @@ utf8-signed_text variant case false marks h = utf8-scalars _ (IsReadBack-marks v
 -- a number that is printed in a way is read in it
 read-by : (kind : Kind) (way : Way) (script : ChineseVariant) (case : ChineseCase) (number : ℤ) (old new : List ℕ) (len : ℕ) → IsWhole kind → holds kind number ≡ true
     → PutsWritten (written_by way script case number) old CN_DONE new len
-    → IsUtf8 (take len new) × ((answer : Result ℤ Refusal) → ReadsBy kind way (take len new) answer → answer ≡ Ok number)
+    → IsUtf8 (take len new) × ((answer : Result ℤ Refusal) → ReadsBy kind way (take len new) answer
+    → answer ≡ Ok number)
 read-by kind Digits script case number old new len whole held h =
     let small = whole.fits number held in
     let text = put-text (encode_utf8_all (naive_text script case number)) old new len h in
@@ -69,7 +75,8 @@ read-by kind (Units method) script case number old new len whole held h = by (is
 
   by : (b : Bool) → is_printable method number ≡ b
       → PutsWritten (if b then Ok (spelled_text script case method number) else Err (unprintable number)) old CN_DONE new len
-      → IsUtf8 (take len new) × ((answer : Result ℤ Refusal) → ReadsBy kind (Units method) (take len new) answer → answer ≡ Ok number)
+      → IsUtf8 (take len new) × ((answer : Result ℤ Refusal)
+      → ReadsBy kind (Units method) (take len new) answer → answer ≡ Ok number)
   by true e h =
       let text = put-text (encode_utf8_all (spelled_text script case method number)) old new len h in
       let marks = spelling-printed method (nat_abs number) (below_square method number small e) in
@@ -109,8 +116,10 @@ whole I128 = signed-whole 128 (omega arith)
 read-as : (kind : KindCode) (way : Way) (script : ChineseVariant) (case : ChineseCase) (number : Number) (old new : List ℕ) (len : ℕ)
     → PrintsNumber (the_kind kind) way script case (number_of (the_kind kind).signed number) old CN_DONE new len
     → IsUtf8 (take len new)
-    × ((status : ℕ) (reading : Reading) → IsReadAs (Some kind) (Some way) (take len new) status reading
-    → (status ≡ CN_DONE) × (number_of (the_kind kind).signed reading.number ≡ number_of (the_kind kind).signed number) × (reading.char_index ≡ 0))
+    × ((status : ℕ) (reading : Reading)
+    → IsReadAs (Some kind) (Some way) (take len new) status reading
+    → (status ≡ CN_DONE) × (number_of (the_kind kind).signed reading.number
+    ≡ number_of (the_kind kind).signed number) × (reading.char_index ≡ 0))
 read-as code way script case number old new len = by (holds kind value) refl where
   kind : Kind
   kind = the_kind code
@@ -118,19 +127,24 @@ read-as code way script case number old new len = by (holds kind value) refl whe
   value : ℤ
   value = number_of kind.signed number
 
-  told : (status : ℕ) (reading : Reading) (answer : Result ℤ Refusal) → answer ≡ Ok value → Tells kind.signed answer status reading
-      → (status ≡ CN_DONE) × (number_of kind.signed reading.number ≡ value) × (reading.char_index ≡ 0)
+  told : (status : ℕ) (reading : Reading) (answer : Result ℤ Refusal) → answer ≡ Ok value
+      → Tells kind.signed answer status reading
+      → (status ≡ CN_DONE) × (number_of kind.signed reading.number ≡ value)
+      × (reading.char_index ≡ 0)
   told status reading answer e tells = rw e at tells
 
   by : (b : Bool) → holds kind value ≡ b → MatchBool b (PutsWritten (written_by way script case value) old CN_DONE new len) (PutsNothing 7 old CN_DONE new len)
       → IsUtf8 (take len new)
-      × ((status : ℕ) (reading : Reading) → IsReadAs (Some code) (Some way) (take len new) status reading
-      → (status ≡ CN_DONE) × (number_of kind.signed reading.number ≡ value) × (reading.char_index ≡ 0))
+      × ((status : ℕ) (reading : Reading)
+      → IsReadAs (Some code) (Some way) (take len new) status reading
+      → (status ≡ CN_DONE) × (number_of kind.signed reading.number ≡ value)
+      × (reading.char_index ≡ 0))
   by true e h =
       let back = read-by kind way script case value old new len (whole code) e h in (
         back.0,
         λ status reading is.
-            let read : ReadsInto kind way (take len new) status reading = rw (is_utf8-from_IsUtf8 (take len new) back.0) at is in
+            let read : ReadsInto kind way (take len new) status reading =
+            rw (is_utf8-from_IsUtf8 (take len new) back.0) at is in
             told status reading read.0 (back.1 read.0 read.1) read.2,
       )
   by false e h = absurd (omega (arith, h.0))
@@ -139,9 +153,12 @@ pub read-back : (number : Number) (kind : Option KindCode) (way : Option Way) (s
     → IsPrintedAs number kind way script case old CN_DONE new len
     → IsUtf8 (take len new)
     × ((status : ℕ) (reading : Reading) → IsReadAs kind way (take len new) status reading
-    → (status ≡ CN_DONE) × MatchOption kind ⊥ (λ kind. number_of (the_kind kind).signed reading.number ≡ number_of (the_kind kind).signed number) × (reading.char_index ≡ 0))
+    → (status ≡ CN_DONE) × MatchOption kind ⊥
+    (λ kind. number_of (the_kind kind).signed reading.number
+    ≡ number_of (the_kind kind).signed number) × (reading.char_index ≡ 0))
 read-back number (Some kind) (Some way) (Some script) (Some case) old new len h = read-as kind way script case number old new len h
 read-back number None way script case old new len h = absurd (omega (arith, h.0))
 read-back number (Some kind) None script case old new len h = absurd (omega (arith, h.0))
 read-back number (Some kind) (Some way) None case old new len h = absurd (omega (arith, h.0))
-read-back number (Some kind) (Some way) (Some script) None old new len h = absurd (omega (arith, h.0))
+read-back number (Some kind) (Some way) (Some script) None old new len h =
+    absurd (omega (arith, h.0))

@@ -25,7 +25,8 @@ single_reading kind (Units method) text a b p q = Reads-same kind method text a 
 single_to_question : (question : Option Question) → IsSingle (AnswersAny question)
 single_to_question None = single _
 single_to_question (Some (read kind way text)) =
-    λ a b (x, is_x, a_is) (y, is_y, b_is). a_is ∙ ap reading_text (single_reading kind way text x y is_x is_y) ∙ sym b_is
+    λ a b (x, is_x, a_is) (y, is_y, b_is). a_is
+    ∙ ap reading_text (single_reading kind way text x y is_x is_y) ∙ sym b_is
 single_to_question (Some (print kind way variant case number)) = single _
 
 pub single_answer : (line : List ℕ) → IsSingle (Answers line)

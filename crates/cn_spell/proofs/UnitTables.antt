@@ -8,9 +8,11 @@ use Rattle.cn_core.proofs.Fronts.{and-left, and-right}
 -- the units' ranks are those asked for at the powers from `first` on
 abbrev pub has_ranks : (ℕ → ℕ) → ℕ → List NumeralUnit → Bool
 has_ranks rank_of first [] = true
-has_ranks rank_of first (unit ∷ units) = (rank unit == rank_of first) && has_ranks rank_of (first + 1) units
+has_ranks rank_of first (unit ∷ units) =
+    (rank unit == rank_of first) && has_ranks rank_of (first + 1) units
 
-pub rank-at : (rank_of : ℕ → ℕ) (units : List NumeralUnit) (first power : ℕ) (default : NumeralUnit) → has_ranks rank_of first units ≡ true → power < length units
+pub rank-at : (rank_of : ℕ → ℕ) (units : List NumeralUnit) (first power : ℕ)
+    (default : NumeralUnit) → has_ranks rank_of first units ≡ true → power < length units
     → rank (slice_index_or units power default) ≡ rank_of (first + power)
 rank-at rank_of [] first power default h less = absurd (omega (arith, less))
 rank-at rank_of (unit ∷ units) first zero default h less =
@@ -19,10 +21,13 @@ rank-at rank_of (unit ∷ units) first zero default h less =
     rw e (grind (arith, nat_tests, t))
 rank-at rank_of (unit ∷ units) first (suc power) default h less =
     let e : first + suc power ≡ first + 1 + power = omega arith in
-    rw e (rank-at rank_of units (first + 1) power default (and-right (rank unit == rank_of first) _ h) (omega (arith, less)))
+    rw e (rank-at rank_of units (first + 1) power default
+    (and-right (rank unit == rank_of first) _ h) (omega (arith, less)))
 
 -- a table with these ranks holds the one of each power
-pub rank-in : (rank_of : ℕ → ℕ) (units : List NumeralUnit) (power count : ℕ) (default : NumeralUnit) → power < count → has_ranks rank_of 0 units ≡ true → length units ≡ count
+pub rank-in : (rank_of : ℕ → ℕ) (units : List NumeralUnit) (power count : ℕ)
+    (default : NumeralUnit) → power < count → has_ranks rank_of 0 units ≡ true
+    → length units ≡ count
     → rank (slice_index_or units power default) ≡ rank_of power
 rank-in rank_of units power count default less h size =
     let e : 0 + power ≡ power = omega arith in

@@ -23,4 +23,5 @@ returns-clause-utf8 c =
     let all = printed_characters c.args.self.variant c.args.self.case in
     let three = three-printed c.args.self.variant c.args.self.case in
     let less : c.args.index < length all = omega (arith, length-printed c.args.self.variant c.args.self.case, c.requires) in
-    rw (c.args.self.is_table, bytes-at all c.args.index _ three less refl) (IsUtf8-three _ (passes-at takes_three all c.args.index three less))
+    rw (c.args.self.is_table, bytes-at all c.args.index _ three less refl) (IsUtf8-three _
+    (passes-at takes_three all c.args.index three less))

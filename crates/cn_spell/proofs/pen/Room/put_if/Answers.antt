@@ -6,4 +6,5 @@ pub returns-clause-text : goal.returns-clause-text
 returns-clause-text c =
     let room = c.args.self.now in
     let size : length c.args.character ≡ 3 = omega arith in
-    put-if room.bytes.now c.args.character room.free c.taken.result c.args.is_kept c.requires room.within size c.taken.ensures
+    put-if room.bytes.now c.args.character room.free c.taken.result c.args.is_kept c.requires
+    room.within size c.taken.ensures

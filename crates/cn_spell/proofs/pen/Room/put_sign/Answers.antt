@@ -6,4 +6,6 @@ use Rattle.cn_spell.proofs.pen.Room.put_sign.Goals as goal
 pub returns-then-negative-clause-shows : goal.returns-then-negative-clause-shows
 returns-then-negative-clause-shows c =
     let put = c.put_if.ensures in
-    λ rest h. rw c.if-negative.true (Shows-if true (minus_char c.args.self.now.characters.now.variant) (c.requires c.if-negative.true) put.free put.text put.length c.minus.ensures.bytes c.minus.ensures.utf8 h)
+    λ rest h. rw c.if-negative.true (Shows-if true
+    (minus_char c.args.self.now.characters.now.variant) (c.requires c.if-negative.true)
+    put.free put.text put.length c.minus.ensures.bytes c.minus.ensures.utf8 h)

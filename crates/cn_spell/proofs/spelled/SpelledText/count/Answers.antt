@@ -15,7 +15,12 @@ put_spelling-requires-clause-room g c =
     let self = c.args.self.now in
     let method = g.M.KnownMethod.stands_for in
     let same = ap (λ m. length (spelling m self.sections.number)) c.method.ensures in
-    omega (arith, same, marks-fit method (pos self.sections.number) self.printable self.small, most_bytes-le method)
+    omega (
+      arith,
+      same,
+      marks-fit method (pos self.sections.number) self.printable self.small,
+      most_bytes-le method,
+    )
 
 pub overflow_add-result : goal.overflow_add-result
 overflow_add-result g c =
@@ -35,7 +40,14 @@ returns g c =
     let count = c.put_spelling.new.pen.characters in
     let shown : Counts count (map (mark_char variant case) (spelling method self.sections.number)) = rw c.method.ensures at c.put_spelling.ensures.marks variant case in
     let signed : Counts (if self.negative then count + 1 else count) (signed_text variant case self.negative (spelling method self.sections.number)) =
-    Counts-if self.negative (minus_char variant) (λ e. rw e refl) (λ e. rw e refl) (three-minus variant) shown in
+    Counts-if self.negative (minus_char variant)
+    (λ e. rw e refl) (λ e. rw e refl) (three-minus variant) shown in
     let few : 3 * (count + 1) ≤ most_bytes method =
     omega (arith, marks-fit method (pos self.sections.number) self.printable self.small, shown.size, length-map (spelling method self.sections.number) (mark_char variant case)) in
-    record { count = search (rules, signed.size); bytes = signed.bytes; most = search (rules, few); bound = search (rules, few, most_bytes-le method) }
+    record {
+      count = search (rules, signed.size);
+      bytes = signed.bytes;
+      most =
+          search (rules, few);
+      bound = search (rules, few, most_bytes-le method);
+    }
