@@ -1,6 +1,6 @@
 use Rattle.std.proofs.Common.{encode_utf8_all, string_bytes}
 use Rattle.chinese_number.specs.Printing.{spelled_text}
-use Rattle.cheque.proofs.Joining.{unit_result_is}
+use Rattle.chinese_number.proofs.Joining.{unit_result_is}
 use Rattle.cheque.proofs.print_and_read.Goals as goal
 
 pub returns : goal.returns

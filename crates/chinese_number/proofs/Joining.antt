@@ -1,11 +1,11 @@
 -- What a caller who prints and then reads concludes of the reader's result.
 use Rattle.std.proofs.Common.{◌≡◌, ◌↔◌, ℕ, ℤ, List, Result, Ok, Err, ap, subst, ◌∙◌}
-use Rattle.chinese_number.specs.declared.ChineseCountMethod.{ChineseCountMethod}
-use Rattle.chinese_number.specs.Refusal.{Refusal}
-use Rattle.chinese_number.specs.Reading.{Reads}
-use Rattle.chinese_number.specs.Whole.{Kind}
-use Rattle.chinese_number.specs.Answer.{answer_of}
-use Rattle.chinese_number.specs.declared.ChineseToNumberError.{ChineseToNumberError}
+use Rattle.cn_core.specs.declared.method.ChineseCountMethod.{ChineseCountMethod}
+use Rattle.cn_judge.specs.declared.error.ChineseToNumberError.{ChineseToNumberError}
+use Rattle.cn_judge.specs.Answer.{answer_of}
+use Rattle.cn_core.specs.Reading.{Reads, naive_reading}
+use Rattle.cn_core.specs.Refusal.{Refusal}
+use Rattle.cn_core.specs.Whole.{Kind}
 
 -- a result whose answer is the number of a value is that value
 module _ {T : Type 0} (number : T → ℤ) (same : (x y : T) → number x ≡ number y → x ≡ y)
@@ -25,3 +25,10 @@ module _ {T : Type 0} (number : T → ℤ) (same : (x y : T) → number x ≡ nu
       let answer = answer_of number result in
       let of_written = subst (λ t. Reads kind method t answer) (lent ∙ printed) read in
       result_is result ((law answer).0 of_written)
+
+  -- and the same of plain digits
+  pub naive_result_is : (kind : Kind) (bytes text written : List ℕ)
+      → answer_of number result ≡ naive_reading kind bytes → bytes ≡ text → text ≡ written
+      → naive_reading kind written ≡ Ok (number value) → result ≡ Ok value
+  naive_result_is kind bytes text written read lent printed law =
+      result_is result (read ∙ ap (naive_reading kind) (lent ∙ printed) ∙ law)
