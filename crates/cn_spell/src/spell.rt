@@ -8,12 +8,12 @@
 //     1      零, since no digit is written at 10^7, then 億, its unit, and 一
 //
 // So the text is 一億零一十萬.
-ghost use Rattle.std.specs.Prelude.{◌≡◌, ℕ, ◌+◌, ◌*◌, ◌%◌, ◌^◌, ◌<◌, ◌≤◌, List, [], ◌++◌, length};
+ghost use Rattle.std.specs.Prelude.{◌≡◌, ◌+◌, ◌*◌, ◌%◌, ◌^◌, ◌<◌, ◌≤◌, List, [], ◌++◌, length};
 ghost use Rattle.cn_core.specs.declared.method.ChineseCountMethod.TheVariants.{Low};
 ghost use Rattle.cn_core.specs.Mark.{Mark};
 ghost use Rattle.cn_core.specs.Spelling.{spelling};
 ghost use Rattle.cn_spell.specs.Working.Sections.{sections_within, above_limit, digit_marks, section_marks, top_marks};
-ghost use Rattle.cn_spell.specs.Working.Units.{powers_within, units_behind};
+ghost use Rattle.cn_spell.specs.Working.Units.{units_behind};
 
 use crate::pen::Pen;
 use crate::sections::{Sections, digits_of};

@@ -1,8 +1,7 @@
 // The units of a method, by the powers of ten at which their groups begin.
-ghost use Rattle.std.specs.Prelude.{◌≡◌, ◌<◌, ◌≤◌, ◌*◌, ◌+◌, length};
+ghost use Rattle.std.specs.Prelude.{◌≡◌, ◌<◌};
 ghost use Rattle.cn_core.specs.Characters.{rank};
-ghost use Rattle.cn_core.specs.Mark.{Mark};
-ghost use Rattle.cn_spell.specs.Working.Units.{widths_of, powers_within, rank_at, units_behind};
+ghost use Rattle.cn_spell.specs.Working.Units.{widths_of, powers_within, rank_at};
 
 use cn_core::Unit::{
     Bai, Gai, Ge, Gou, Ji, Jian, Jing, Qian, Rang, Shi, Wan, Yi, Zai, Zhao, Zheng, Zi,
