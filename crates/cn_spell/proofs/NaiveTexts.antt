@@ -32,7 +32,8 @@ lowest-over (suc count) lower number =
     let same : number / 10 ^ lower / 10 ^ count ≡ number / 10 ^ (count + lower) =
     div-div-eq-div-mul number (10 ^ lower) (10 ^ count) ∙ ap (λ n. number / n) raised in
     rw (step, same)
-    (ap (λ rest. digit (number / 10 ^ (count + lower) % 10) ∷ rest) (lowest-over count lower number))
+    (ap (λ rest. digit (number / 10 ^ (count + lower) % 10) ∷ rest)
+    (lowest-over count lower number))
 
 -- a section has the four digits that stand in its place
 four-of : (number : ℕ) → lowest_marks 4 (number % 10 ^ 4) ≡ lowest_marks 4 number

@@ -8,7 +8,8 @@ use Rattle.cn_spell.proofs.naive.put_naive.Goals as goal
 pub returns : goal.returns
 returns g c =
     let characters = c.new-characters.result in
-    subst (λ text. PutsText text most_plain_bytes c.args.room.now c.put_plain.new.room c.put_plain.result)
+    subst (λ text. PutsText text most_plain_bytes c.args.room.now c.put_plain.new.room
+    c.put_plain.result)
     (signed-is decimal_digits c.args.variant characters.variant c.args.case characters.case
     c.is_negative.result c.magnitude.result (g.T.Whole.number c.args.value)
     c.new-characters.ensures.variant c.new-characters.ensures.case

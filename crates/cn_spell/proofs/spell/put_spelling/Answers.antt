@@ -11,8 +11,8 @@ put_units-requires-clause-room g c =
     let l = c.loop-index in
     let sections = c.args.sections.now in
     let value = sections.holds.each l.index c.loop-index-test.true in
-    let room = room-more c.args.method sections.number sections.count l.index sections.above l.filled
-    sections.holds c.requires.count c.requires.above c.loop-index-test.true
+    let room = room-more c.args.method sections.number sections.count l.index
+    sections.above l.filled sections.holds c.requires.count c.requires.above c.loop-index-test.true
     (omega (arith, value, c.if-section-gt0.true)) l.invariant.fills in
     omega (arith, room, l.invariant.room, c.requires.room)
 
@@ -21,8 +21,8 @@ put_section-requires-clause-room g c =
     let l = c.loop-index in
     let sections = c.args.sections.now in
     let value = sections.holds.each l.index c.loop-index-test.true in
-    let room = room-more c.args.method sections.number sections.count l.index sections.above l.filled
-    sections.holds c.requires.count c.requires.above c.loop-index-test.true
+    let room = room-more c.args.method sections.number sections.count l.index
+    sections.above l.filled sections.holds c.requires.count c.requires.above c.loop-index-test.true
     (omega (arith, value, c.if-section-gt0.true)) l.invariant.fills in
     let same = ap (λ n. length (section_marks n)) value in
     omega (arith, same, room, l.invariant.room, c.requires.room, c.put_units.ensures.room)
@@ -68,8 +68,8 @@ pub put_units-requires-2-clause-room : goal.put_units-requires-2-clause-room
 put_units-requires-2-clause-room g c =
     let l = c.loop-index in
     let sections = c.args.sections.now in
-    let whole = length-end c.args.method sections.number sections.count l.index sections.above l.filled
-    sections.holds c.requires.count c.requires.above l.auto.index-end c.loop-index-test.false
+    let whole = length-end c.args.method sections.number sections.count l.index
+    sections.above l.filled sections.holds c.requires.count c.requires.above l.auto.index-end c.loop-index-test.false
     l.invariant.fills l.invariant.under in
     omega (arith, whole, l.invariant.room, c.requires.room)
 
@@ -77,8 +77,8 @@ pub put_above-requires-clause-room : goal.put_above-requires-clause-room
 put_above-requires-clause-room g c =
     let l = c.loop-index in
     let sections = c.args.sections.now in
-    let whole = length-end c.args.method sections.number sections.count l.index sections.above l.filled
-    sections.holds c.requires.count c.requires.above l.auto.index-end c.loop-index-test.false
+    let whole = length-end c.args.method sections.number sections.count l.index
+    sections.above l.filled sections.holds c.requires.count c.requires.above l.auto.index-end c.loop-index-test.false
     l.invariant.fills l.invariant.under in
     omega (arith, whole, l.invariant.room, c.requires.room, c.put_units-2.ensures.room)
 
@@ -86,8 +86,8 @@ pub returns-clause-room : goal.returns-clause-room
 returns-clause-room g c =
     let l = c.loop-index in
     let sections = c.args.sections.now in
-    let whole = length-end c.args.method sections.number sections.count l.index sections.above l.filled
-    sections.holds c.requires.count c.requires.above l.auto.index-end c.loop-index-test.false
+    let whole = length-end c.args.method sections.number sections.count l.index
+    sections.above l.filled sections.holds c.requires.count c.requires.above l.auto.index-end c.loop-index-test.false
     l.invariant.fills l.invariant.under in
     omega (arith, whole, l.invariant.room, c.put_units-2.ensures.room, c.put_above.ensures.room)
 
@@ -95,7 +95,7 @@ pub returns-clause-marks : goal.returns-clause-marks
 returns-clause-marks g c =
     let l = c.loop-index in
     let sections = c.args.sections.now in
-    let spelled = spelling-end c.args.method sections.number sections.count l.index sections.above l.filled
-    sections.holds c.requires.count c.requires.above l.auto.index-end c.loop-index-test.false
+    let spelled = spelling-end c.args.method sections.number sections.count l.index
+    sections.above l.filled sections.holds c.requires.count c.requires.above l.auto.index-end c.loop-index-test.false
     l.invariant.fills l.invariant.under in
     rw spelled (c.put_above.ensures.marks _ (c.put_units-2.ensures.marks _ l.invariant.marks))
