@@ -11,9 +11,8 @@ put_units-requires-clause-room g c =
     let l = c.loop-index in
     let sections = c.args.sections.now in
     let value = sections.holds.each l.index c.loop-index-test.true in
-    let room = room-more c.args.method sections.number sections.count l.index sections.above
-    l.filled
-    sections.holds c.requires.count c.requires.above c.loop-index-test.true
+    let room = room-more c.args.method sections.number sections.count l.index
+    sections.above l.filled sections.holds c.requires.count c.requires.above c.loop-index-test.true
     (omega (arith, value, c.if-section-gt0.true)) l.invariant.fills in
     omega (arith, room, l.invariant.room, c.requires.room)
 
@@ -22,9 +21,8 @@ put_section-requires-clause-room g c =
     let l = c.loop-index in
     let sections = c.args.sections.now in
     let value = sections.holds.each l.index c.loop-index-test.true in
-    let room = room-more c.args.method sections.number sections.count l.index sections.above
-    l.filled
-    sections.holds c.requires.count c.requires.above c.loop-index-test.true
+    let room = room-more c.args.method sections.number sections.count l.index
+    sections.above l.filled sections.holds c.requires.count c.requires.above c.loop-index-test.true
     (omega (arith, value, c.if-section-gt0.true)) l.invariant.fills in
     let same = ap (λ n. length (section_marks n)) value in
     omega (arith, same, room, l.invariant.room, c.requires.room, c.put_units.ensures.room)
@@ -41,37 +39,17 @@ loop-index-preserved g c =
     elim c.if-section-gt0.branch [
       | then-section-gt0 w ↦
           let pos : 0 < section_at number power = omega (arith, value, w.if-section-gt0.true) in
-          let more = section-more method number power l.filled
-          (omega (arith, c.requires.count, c.loop-index-test.true)) (omega (
-            arith,
-            c.requires.count,
-            c.loop-index-test.true,
-          )) (omega arith) pos l.invariant.fills in
+          let more = section-more method number power l.filled (omega (arith, c.requires.count, c.loop-index-test.true)) (omega (arith, c.requires.count, c.loop-index-test.true)) (omega arith) pos l.invariant.fills in
           let size = w.digits_of.result in
-          let below : section_at number power < 10 ^ size =
-          omega (arith, value, w.digits_of.ensures.below) in
-          let reach : 10 ^ size ≤ 10 * section_at number power =
-          omega (arith, value, w.digits_of.ensures.reach) in
+          let below : section_at number power < 10 ^ size = omega (arith, value, w.digits_of.ensures.below) in
+          let reach : 10 ^ size ≤ 10 * section_at number power = omega (arith, value, w.digits_of.ensures.reach) in
           let same = ap (λ n. length (section_marks n)) value in
-          let marks = w.put_section.ensures.marks (units_behind method power l.filled
-          ++ part method (number % 10 ^ power)) (w.put_units.ensures.marks (part method
-          (number % 10 ^ power)) l.invariant.marks) in
+          let marks = w.put_section.ensures.marks (units_behind method power l.filled ++ part method (number % 10 ^ power)) (w.put_units.ensures.marks (part method (number % 10 ^ power)) l.invariant.marks) in
           rw (w.pen-is, w.filled-is, next, more) (record {
             fills = Fills-section number power size w.digits_of.ensures.some below reach;
             under = omega (arith, w.digits_of.ensures.most);
-            room = omega (
-              arith,
-              same,
-              length-append (section_marks (section_at number power))
-                  (units_behind method power l.filled ++ part method (number % 10 ^ power)),
-              length-append (units_behind method power l.filled)
-                  (part method (number % 10 ^ power)),
-              l.invariant.room,
-              w.put_units.ensures.room,
-              w.put_section.ensures.room,
-            );
-            setting = w.put_section.ensures.setting ∙ w.put_units.ensures.setting
-                ∙ l.invariant.setting;
+            room = omega (arith, same, length-append (section_marks (section_at number power)) (units_behind method power l.filled ++ part method (number % 10 ^ power)), length-append (units_behind method power l.filled) (part method (number % 10 ^ power)), l.invariant.room, w.put_units.ensures.room, w.put_section.ensures.room);
+            setting = w.put_section.ensures.setting ∙ w.put_units.ensures.setting ∙ l.invariant.setting;
             marks = rw value at marks;
           })
       | else-section-gt0 w ↦
@@ -90,9 +68,8 @@ pub put_units-requires-2-clause-room : goal.put_units-requires-2-clause-room
 put_units-requires-2-clause-room g c =
     let l = c.loop-index in
     let sections = c.args.sections.now in
-    let whole = length-end c.args.method sections.number sections.count l.index sections.above
-    l.filled
-    sections.holds c.requires.count c.requires.above l.auto.index-end c.loop-index-test.false
+    let whole = length-end c.args.method sections.number sections.count l.index
+    sections.above l.filled sections.holds c.requires.count c.requires.above l.auto.index-end c.loop-index-test.false
     l.invariant.fills l.invariant.under in
     omega (arith, whole, l.invariant.room, c.requires.room)
 
@@ -100,9 +77,8 @@ pub put_above-requires-clause-room : goal.put_above-requires-clause-room
 put_above-requires-clause-room g c =
     let l = c.loop-index in
     let sections = c.args.sections.now in
-    let whole = length-end c.args.method sections.number sections.count l.index sections.above
-    l.filled
-    sections.holds c.requires.count c.requires.above l.auto.index-end c.loop-index-test.false
+    let whole = length-end c.args.method sections.number sections.count l.index
+    sections.above l.filled sections.holds c.requires.count c.requires.above l.auto.index-end c.loop-index-test.false
     l.invariant.fills l.invariant.under in
     omega (arith, whole, l.invariant.room, c.requires.room, c.put_units-2.ensures.room)
 
@@ -110,9 +86,8 @@ pub returns-clause-room : goal.returns-clause-room
 returns-clause-room g c =
     let l = c.loop-index in
     let sections = c.args.sections.now in
-    let whole = length-end c.args.method sections.number sections.count l.index sections.above
-    l.filled
-    sections.holds c.requires.count c.requires.above l.auto.index-end c.loop-index-test.false
+    let whole = length-end c.args.method sections.number sections.count l.index
+    sections.above l.filled sections.holds c.requires.count c.requires.above l.auto.index-end c.loop-index-test.false
     l.invariant.fills l.invariant.under in
     omega (arith, whole, l.invariant.room, c.put_units-2.ensures.room, c.put_above.ensures.room)
 
@@ -120,8 +95,7 @@ pub returns-clause-marks : goal.returns-clause-marks
 returns-clause-marks g c =
     let l = c.loop-index in
     let sections = c.args.sections.now in
-    let spelled = spelling-end c.args.method sections.number sections.count l.index sections.above
-    l.filled
-    sections.holds c.requires.count c.requires.above l.auto.index-end c.loop-index-test.false
+    let spelled = spelling-end c.args.method sections.number sections.count l.index
+    sections.above l.filled sections.holds c.requires.count c.requires.above l.auto.index-end c.loop-index-test.false
     l.invariant.fills l.invariant.under in
     rw spelled (c.put_above.ensures.marks _ (c.put_units-2.ensures.marks _ l.invariant.marks))

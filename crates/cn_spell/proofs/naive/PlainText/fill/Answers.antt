@@ -73,8 +73,7 @@ returns c =
     let room = c.put_sign.new.self in
     let end : l.index ≡ sections.count = omega (arith, l.auto.index-end, c.loop-index-test.false) in
     let whole = decimal-sections sections.number sections.count sections.above
-    c.digits_of-size.result
-    self.small sections.holds size.some size.below size.reach in
+    c.digits_of-size.result self.small sections.holds size.some size.below size.reach in
     let digits : lowest_marks c.digits_of-size.result sections.above
     ++ lowest_marks (4 * l.index) sections.number ≡ decimal_digits sections.number =
     rw end (sym whole) in
