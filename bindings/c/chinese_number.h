@@ -18,7 +18,7 @@
 #include <stdint.h>
 
 #if SIZE_MAX != UINT64_MAX
-#error "chinese_number.h: the library is built for x86-64, where size_t has 64 bits"
+#error "chinese_number.h: the library is built for processors where size_t has 64 bits"
 #endif
 
 #define CN_VERSION "0.1.0"

@@ -9,9 +9,9 @@
 Traceback (most recent call last):
 chinese_number.NumeralError: number is too small
 
-The shared object libchinese_number.so, which bindings/archive.sh makes, stands beside this file or in the folder that
-CHINESE_NUMBER_LIB names. It takes no memory, keeps nothing between calls and reads no locale, and a call lets other threads
-of Python run.
+The shared object libchinese_number.so stands beside this file, as a wheel puts it, or in the folder that CHINESE_NUMBER_LIB
+names, as bindings/archive.sh makes it. It takes no memory, keeps nothing between calls and reads no locale, and a call lets
+other threads of Python run.
 """
 
 from __future__ import annotations
@@ -113,7 +113,7 @@ class NumeralError(ValueError):
         self.status = status
         self.char_index = char_index
 
-    def __reduce__(self) -> tuple:
+    def __reduce__(self) -> tuple[type[NumeralError], tuple[Status, int | None]]:
         return NumeralError, (self.status, self.char_index)
 
 
@@ -126,7 +126,8 @@ class _Reading(ctypes.Structure):
 
 
 def _library() -> ctypes.CDLL:
-    path = Path(os.environ.get("CHINESE_NUMBER_LIB") or Path(__file__).parent).resolve() / "libchinese_number.so"
+    beside = Path(__file__).resolve().parent / "libchinese_number.so"
+    path = beside if beside.exists() else Path(os.environ.get("CHINESE_NUMBER_LIB", "")).resolve() / beside.name
     try:
         library = ctypes.CDLL(str(path))
     except OSError as error:
@@ -151,7 +152,7 @@ _SIGNED = {Kind.I8, Kind.I16, Kind.I32, Kind.I64, Kind.I128}
 def _code(value: Enum, of: type[Enum]) -> int:
     if not isinstance(value, of):
         raise TypeError(f"a {of.__name__} is wanted, and not {value!r}")
-    return value.value
+    return int(value.value)
 
 
 def to_number(text: str, *, kind: Kind = Kind.I128, way: Way = Way.TEN_THOUSAND) -> int:
@@ -169,12 +170,12 @@ def to_number(text: str, *, kind: Kind = Kind.I128, way: Way = Way.TEN_THOUSAND)
     """
     if not isinstance(text, str):
         raise TypeError(f"a str is wanted, and not {text!r}")
-    data, reading = text.encode(), _Reading()
+    data, reading = str.encode(text), _Reading()
     codes = _code(kind, Kind), _code(way, Way)
     status = Status(_calls.chinese_number_read(data, len(data), *codes, ctypes.byref(reading)))
     if status is not Status.DONE:
         raise NumeralError(status, reading.char_index if status is Status.INCORRECT else None)
-    number = reading.number.high << 64 | reading.number.low
+    number = int(reading.number.high) << 64 | int(reading.number.low)
     return number - (1 << 128) if kind in _SIGNED and number >> 127 else number
 
 

@@ -5,6 +5,8 @@
 //
 // The module takes no memory of its own: this file lends it what lies past its __heap_base.
 
+import { compiled } from './compiled.mjs';
+
 // Each list is in the order of the codes that the module has for these names.
 
 /** The integer types. */
@@ -69,23 +71,8 @@ export class NumeralError extends Error {
   }
 }
 
-// A module that has a 64-bit memory and nothing else, to ask whether the host has such memories.
-const HAS_MEMORY64 = WebAssembly.validate(Uint8Array.of(0, 0x61, 0x73, 0x6d, 1, 0, 0, 0, 5, 3, 1, 4, 1));
-
-const compiled = await WebAssembly.compile(await bytesOf(HAS_MEMORY64
-  ? new URL('chinese-number.64.wasm', import.meta.url)
-  : new URL('chinese-number.32.wasm', import.meta.url)));
-
-/** @param {URL} url */
-async function bytesOf(url) {
-  if (url.protocol === 'file:') return (await import('node:fs/promises')).readFile(url);
-  const answer = await fetch(url);
-  if (!answer.ok) throw new Error(`${url}: ${answer.status}`);
-  return answer.arrayBuffer();
-}
-
 /** @type {any} What the instance in use exports; null after a trap, since its memory may be half written then. */
-let library = (await WebAssembly.instantiate(compiled)).exports;
+let library = new WebAssembly.Instance(compiled).exports;
 
 // What is lent: a reading (24 bytes), a number (16), a length (8), and then the text.
 const READING = Math.ceil(Number(library.__heap_base.value) / 16) * 16;
