@@ -5,9 +5,10 @@ Usage: codes.py CN_C BINDINGS
 
 The tables of `codes.rt` give a type, way, script or case its place as its code, and `status.rt`
 names the statuses. The header, the Rust crate and the Python file name each of them once, with the
-same number, and no other. Alike, too, are the most bytes of a text, which a clause of `printing.rt`
-bounds, and the version of all three. The texts of refusals are those of `Refusal.antt` wherever
-they are written again.
+same number, and no other; the JavaScript file lists them in this order. Alike, too, are the most
+bytes of a text, which a clause of `printing.rt` bounds, and the version of all, which is that of
+the first heading of CHANGELOG. The texts of refusals are those of `Refusal.antt` wherever they are
+written again.
 """
 import re
 import sys
@@ -19,6 +20,7 @@ NAMED = re.compile(r"(?:^|[,;{])[ \t]*(?:pub const )?(?:CN_)?(\w+)(?:: u32)? = (
 END_OF_TABLE = re.compile(r"\n\};?\n|\n\n\n")
 
 HEADER, RUST, PYTHON = "c/chinese_number.h", "rust/src/abi.rs", "python/chinese_number.py"
+JAVASCRIPT = "web/chinese-number.mjs"
 # Where each table begins, in the order of the tables, the statuses last.
 BEGINNINGS = {
     HEADER: ("/* The integer type", "/* The way", "/* The script", "/* The case", "/* The status"),
@@ -30,10 +32,12 @@ VERSIONS = (
     (HEADER, r'^#define CN_VERSION "(.*)"'),
     ("rust/Cargo.toml", r'^version = "(.*)"'),
     (PYTHON, r'^__version__ = "(.*)"'),
+    ("../CHANGELOG.md", r"^## ([\d.]+)"),
 )
 # Where the texts of refusals are written again, from the repository's top.
 REFUSALS = "crates/cn_core/specs/Refusal.antt"
 OF_READERS = (
+    "bindings/c/chinese_number.h",
     "bindings/rust/src/read.rs",
     "bindings/python/chinese_number.py",
     "bindings/web/chinese-number.mjs",
@@ -80,6 +84,12 @@ def of_language(language, text):
     return found
 
 
+def of_lists(text):
+    """The tables of the JavaScript file: the names in the order of their codes."""
+    lists = [re.search(rf"\b{name} =[^\[]*?\[((?:\s*'\w+',?)+)\]", text) for name in (*TABLES, "STATUSES")]
+    return [{snake(name): code for code, name in enumerate(re.findall(r"\w+", found[1]))} for found in lists]
+
+
 def compare_refusals(top):
     """Each text of a refusal, up to the position that one of them has, stands in each file."""
     found = re.findall(r'^refusal_text \S.*?codes "([^"(]*)', text_of(top / REFUSALS), re.M | re.S)
@@ -99,10 +109,13 @@ def main():
     crate, bindings = map(Path, sys.argv[1:])
     texts = {language: text_of(bindings / language) for language in BEGINNINGS}
     texts[RUST] += text_of(bindings / "rust/src/lib.rs")
+    found = {language: of_language(language, text) for language, text in texts.items()}
+    texts[JAVASCRIPT] = text_of(bindings / JAVASCRIPT)
+    found[JAVASCRIPT] = of_lists(texts[JAVASCRIPT])
     wanted = of_sources(crate)
     bounds = set(re.findall(r"≤ (\d+)", text_of(crate / "src/printing.rt")))
     for language, text in texts.items():
-        for name, table, right in zip((*TABLES, "statuses"), of_language(language, text), wanted):
+        for name, table, right in zip((*TABLES, "statuses"), found[language], wanted):
             if table != right or not right:
                 sys.exit(f"codes: {name} of {language}: {table}, and not {right}")
         if {MOST_BYTES.search(text)[1]} != bounds:
@@ -113,7 +126,7 @@ def main():
     if len(versions) != 1:
         sys.exit(f"codes: versions {sorted(versions)}")
     compare_refusals(bindings.resolve().parent)
-    print(f"codes: {sum(map(len, wanted))} codes and statuses, alike in C, Rust and Python, of version {versions.pop()}")
+    print(f"codes: {sum(map(len, wanted))} codes and statuses, alike in C, Rust, Python and JavaScript, of version {versions.pop()}")
 
 
 main()
