@@ -7,8 +7,8 @@ The tables of `codes.rt` give a type, way, script or case its place as its code,
 names the statuses. The header, the Rust crate and the Python file name each of them once, with the
 same number, and no other; the JavaScript file lists them in this order. Alike, too, are the most
 bytes of a text, which a clause of `printing.rt` bounds, and the version of all, which is that of
-the first heading of CHANGELOG. The texts of refusals are those of `Refusal.antt` wherever they are
-written again.
+the first heading of CHANGELOG and of the files that README installs. The texts of refusals are those
+of `Refusal.antt` wherever they are written again.
 """
 import re
 import sys
@@ -122,6 +122,8 @@ def main():
             sys.exit(f"codes: {language} has room for {MOST_BYTES.search(text)[1]} bytes, and printing.rt for {bounds}")
 
     versions = {re.search(pattern, text_of(bindings / file), re.MULTILINE)[1] for file, pattern in VERSIONS}
+    for page in ("../README.md", "README.md"):
+        versions.update(re.findall(r"chinese.number[a-z-_]*-(\d[\d.]*\d)\b", text_of(bindings / page)))
     versions.add(".".join(re.findall(r"^#define CN_VERSION_\w+ (\d+)", texts[HEADER], re.MULTILINE)))
     if len(versions) != 1:
         sys.exit(f"codes: versions {sorted(versions)}")
