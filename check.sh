@@ -1,6 +1,7 @@
 #!/usr/bin/env bash
 # Runs the gate, `rt ci`, and what stands beside it; stops at the first failure, and says how long
-# each part took. The gate's last line, which counts what passed, is held back to the end.
+# each part took. The first line names the commit. The gate's last line, which counts what passed, is
+# held back to the end. By the two a release's packages quote the gate (bindings/packages.sh).
 set -euo pipefail
 cd "$(dirname "$0")"
 
@@ -9,6 +10,11 @@ trap 'rm -rf "$scratch"' EXIT
 TIMEFORMAT='    %0lR, and %0lU + %0lS of processor time'
 numeral=crates/numeral/out/numeral
 refuse_growth=$scratch/refuse_growth.so
+
+# The commit, and whether it is what is checked.
+commit=$(git rev-parse HEAD 2> /dev/null || echo unknown)
+[ -z "$(git status --porcelain 2> /dev/null)" ] || commit+=', and changes'
+echo "commit $commit"
 
 gate() {
     rt ci 2>&1 | tee "$scratch/gate" | sed '$d' || {
@@ -22,7 +28,7 @@ gate() {
 time python3 checks/names.py crates bindings/rust/tests/interface.rs
 time python3 checks/edits.py crates
 time python3 checks/codes.py crates/cn_c bindings
-time python3 checks/quotes.py README.md bindings
+time python3 checks/quotes.py bindings
 time python3 checks/mark_table.py crates/cn_core/src/characters_read.rt --check crates/cn_judge/src/mark.rt
 time gate
 
@@ -41,5 +47,10 @@ time bash bindings/web/test.sh $numeral
 time python3 checks/c_binding.py bindings/c "$scratch/bindings"
 time python3 checks/rust_binding.py bindings/rust crates/cn_vectors "$scratch/bindings"
 time python3 checks/python_binding.py bindings/python "$scratch/bindings"
+
+# What users install, with the gate of just now.
+{ echo "commit $commit"; cat "$scratch/gate"; } > "$scratch/checked"
+time bash bindings/packages.sh --draft "$scratch/packages" "$scratch/checked"
+time python3 checks/packages.py "$scratch/packages"
 
 tail -n 1 "$scratch/gate"

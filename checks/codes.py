@@ -1,14 +1,15 @@
 #!/usr/bin/env python3
-"""The calls, codes, statuses and error texts of the library's other faces: those of its own sources.
+"""The codes, statuses and error texts of the library's other faces: those of its own sources.
 
 Usage: codes.py CN_C BINDINGS
 
 The tables of `codes.rt` give a type, way, script or case its place as its code, and `status.rt`
 names the statuses. The header, the Rust crate and the Python file name each of them once, with the
-same number, and no other. The header declares each call that the crate exports, and all three no
-other one. Alike, too, are the most bytes of a text, which a clause of `printing.rt` bounds, and the
-version of all three. The texts of refusals are those of `Refusal.antt` wherever they are written
-again.
+same number, and no other; the JavaScript file lists them in this order. The header declares each
+call that the crate exports, and no language has any other. Alike, too, are the most bytes of a text,
+which a clause of `printing.rt` bounds, and the version of all, which is that of the first heading of
+CHANGELOG and of the files that README installs. The texts of refusals are those of `Refusal.antt`
+wherever they are written again.
 """
 import re
 import sys
@@ -20,6 +21,7 @@ NAMED = re.compile(r"(?:^|[,;{])[ \t]*(?:pub const )?(?:CN_)?(\w+)(?:: u32)? = (
 END_OF_TABLE = re.compile(r"\n\};?\n|\n\n\n")
 
 HEADER, RUST, PYTHON = "c/chinese_number.h", "rust/src/abi.rs", "python/chinese_number.py"
+JAVASCRIPT = "web/chinese-number.mjs"
 # Where each table begins, in the order of the tables, the statuses last.
 BEGINNINGS = {
     HEADER: ("/* The integer type", "/* The way", "/* The script", "/* The case", "/* The status"),
@@ -32,10 +34,12 @@ VERSIONS = (
     (HEADER, r'^#define CN_VERSION "(.*)"'),
     ("rust/Cargo.toml", r'^version = "(.*)"'),
     (PYTHON, r'^__version__ = "(.*)"'),
+    ("../CHANGELOG.md", r"^## ([\d.]+)"),
 )
 # Where the texts of refusals are written again, from the repository's top.
 REFUSALS = "crates/cn_core/specs/Refusal.antt"
 OF_READERS = (
+    "bindings/c/chinese_number.h",
     "bindings/rust/src/read.rs",
     "bindings/rust/tests/interface.rs",
     "bindings/python/chinese_number.py",
@@ -83,6 +87,12 @@ def of_language(language, text):
     return found
 
 
+def of_lists(text):
+    """The tables of the JavaScript file: the names in the order of their codes."""
+    lists = [re.search(rf"\b{name} =[^\[]*?\[((?:\s*'\w+',?)+)\]", text) for name in (*TABLES, "STATUSES")]
+    return [{snake(name): code for code, name in enumerate(re.findall(r"\w+", found[1]))} for found in lists]
+
+
 def compare_calls(crate, texts):
     """The header declares the calls that the sources export, and no language any other; how many there are."""
     wanted = {name for path in crate.glob("src/*.rt") for name in EXPORTED.findall(text_of(path))}
@@ -112,22 +122,27 @@ def main():
     crate, bindings = map(Path, sys.argv[1:])
     texts = {language: text_of(bindings / language) for language in BEGINNINGS}
     texts[RUST] += text_of(bindings / "rust/src/lib.rs")
+    found = {language: of_language(language, text) for language, text in texts.items()}
+    texts[JAVASCRIPT] = text_of(bindings / JAVASCRIPT)
+    found[JAVASCRIPT] = of_lists(texts[JAVASCRIPT])
     wanted = of_sources(crate)
     bounds = set(re.findall(r"≤ (\d+)", text_of(crate / "src/printing.rt")))
     for language, text in texts.items():
-        for name, table, right in zip((*TABLES, "statuses"), of_language(language, text), wanted):
+        for name, table, right in zip((*TABLES, "statuses"), found[language], wanted):
             if table != right or not right:
                 sys.exit(f"codes: {name} of {language}: {table}, and not {right}")
         if {MOST_BYTES.search(text)[1]} != bounds:
             sys.exit(f"codes: {language} has room for {MOST_BYTES.search(text)[1]} bytes, and printing.rt for {bounds}")
 
     versions = {re.search(pattern, text_of(bindings / file), re.MULTILINE)[1] for file, pattern in VERSIONS}
+    for page in ("../README.md", "README.md"):
+        versions.update(re.findall(r"chinese.number[a-z-_]*-(\d[\d.]*\d)\b", text_of(bindings / page)))
     versions.add(".".join(re.findall(r"^#define CN_VERSION_\w+ (\d+)", texts[HEADER], re.MULTILINE)))
     if len(versions) != 1:
         sys.exit(f"codes: versions {sorted(versions)}")
     calls = compare_calls(crate, texts)
     compare_refusals(bindings.resolve().parent)
-    print(f"codes: {calls} calls, {sum(map(len, wanted))} codes and statuses, alike in C, Rust and Python, of version {versions.pop()}")
+    print(f"codes: {calls} calls, {sum(map(len, wanted))} codes and statuses, alike in C, Rust, Python and JavaScript, of version {versions.pop()}")
 
 
 main()

@@ -65,6 +65,7 @@ def each_type(numerals):
         for number in (least - 1, greatest + 1, -(1 << 128), 1 << 128, (1 << 128) + 1, -(1 << 129), 10**1000):
             error = refusal(numerals.to_chinese, number, kind=kind, way=numerals.Way.DIGITS)
             check(error.status is numerals.Status.NOT_HELD, f"{number} as {kind}: {error!r}")
+            check(str(error) == f"{kind.name} does not hold the number", f"{number} as {kind}: {error}")
         error = refusal(numerals.to_number, str(greatest + 1), kind=kind, way=numerals.Way.DIGITS)
         check(error.status is numerals.Status.TOO_LARGE, f"{greatest + 1} as {kind}: {error!r}")
         if least < 0:
@@ -88,12 +89,20 @@ def refusals(numerals):
         ("二百五十六", kind.U8, way.LOW, status.TOO_LARGE, None),
         ("負一百二十九", kind.I8, way.LOW, status.TOO_SMALL, None),
         ("零極", kind.U8, way.TEN_THOUSAND, status.TOO_LARGE, None),
+        ("一\ud800百", kind.I64, way.LOW, status.INCORRECT, 1),
+        ("\udfff", kind.U8, way.DIGITS, status.INCORRECT, 0),
     ]
     for text, kind, way, status, place in rows:
         error = refusal(numerals.to_number, text, kind=kind, way=way, error=numerals.NumeralError)
-        check((error.status, error.char_index) == (status, place), f"{text}: {error!r}, {error.char_index}")
+        found = error.status, error.kind, error.char_index
+        check(found == (status, kind, place), f"{ascii(text)}: {error!r}, {found}")
         again = pickle.loads(pickle.dumps(error))
-        check((str(again), again.status, again.char_index) == (str(error), status, place), f"{error!r} is pickled")
+        check((str(again), again.status, again.kind, again.char_index) == (str(error), *found), f"{error!r} is pickled")
+
+
+class OtherBytes(str):
+    def encode(self, *_):
+        return b"\xff"
 
 
 def other_arguments(numerals):
@@ -112,8 +121,8 @@ def other_arguments(numerals):
         (to_chinese, 1, {"case": "lower"}),
     ]:
         refusal(call, argument, error=TypeError, **words)
-    refusal(to_number, "\ud800", error=UnicodeEncodeError)
     check(to_chinese(True) == "一", "True is an int")
+    check(to_number(OtherBytes("一")) == 1, "a subclass of str is read as what it holds")
 
 
 def four_threads(numerals):

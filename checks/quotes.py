@@ -1,15 +1,23 @@
 #!/usr/bin/env python3
-"""The lines of C, Rust and Python in the README: each block stands, line for line, in a file of `bindings/` that is run.
+"""The examples in the pages of `bindings/`: each stands, line for line, in a file that is run.
 
-Usage: quotes.py README BINDINGS
+Usage: quotes.py BINDINGS
+
+An example of JavaScript stands in the package's README, which `checks/packages.py` runs.
 """
 import re
 import sys
 from pathlib import Path
 
-SECTION = re.compile(r"^## From C, C\+\+, Rust and Python$(.*?)^## ", re.MULTILINE | re.DOTALL)
 BLOCK = re.compile(r"^```(\w+)$\n(.*?)^```$", re.MULTILINE | re.DOTALL)
-FILES = {"c": "c/example.c", "rs": "rust/src/lib.rs", "python": "python/chinese_number.py"}
+FILES = {
+    "c": "c/example.c",
+    "rust": "rust/src/lib.rs",
+    "python": "python/chinese_number.py",
+    "js": "web/README.md",
+}
+# The languages of the examples on each page.
+PAGES = {"README.md": [*FILES], "c/README.md": ["c"], "rust/README.md": ["rust"], "python/README.md": ["python"]}
 
 
 def lines_of(text):
@@ -18,19 +26,19 @@ def lines_of(text):
 
 
 def main():
-    if len(sys.argv) != 3 or sys.argv[1].startswith("-"):
+    if len(sys.argv) != 2 or sys.argv[1].startswith("-"):
         sys.exit(__doc__)
-    readme, bindings = map(Path, sys.argv[1:])
-    section = SECTION.search(readme.read_text(encoding="utf-8"))
-    blocks = BLOCK.findall(section[1]) if section else []
-    if sorted(language for language, _ in blocks) != sorted(FILES):
-        sys.exit(f"quotes: {readme} has blocks of {[language for language, _ in blocks]}, and not one each of {list(FILES)}")
-    for language, block in blocks:
-        quoted = lines_of(block)
-        lines = lines_of((bindings / FILES[language]).read_text(encoding="utf-8"))
-        if not any(lines[at : at + len(quoted)] == quoted for at in range(len(lines))):
-            sys.exit(f"quotes: what stands in {readme} is not in {FILES[language]}:\n{block}")
-    print(f"quotes: {len(blocks)} blocks of {readme.name}, each from a file that is run")
+    bindings = Path(sys.argv[1])
+    for page, languages in PAGES.items():
+        blocks = BLOCK.findall((bindings / page).read_text(encoding="utf-8"))
+        if sorted(language for language, _ in blocks) != sorted(languages):
+            sys.exit(f"quotes: {page} has blocks of {[language for language, _ in blocks]}, and not one each of {languages}")
+        for language, block in blocks:
+            quoted = lines_of(block)
+            lines = lines_of((bindings / FILES[language]).read_text(encoding="utf-8"))
+            if not any(lines[at : at + len(quoted)] == quoted for at in range(len(lines))):
+                sys.exit(f"quotes: what stands in {page} is not in {FILES[language]}:\n{block}")
+    print(f"quotes: the examples of {len(PAGES)} pages, each from a file that is run")
 
 
 main()

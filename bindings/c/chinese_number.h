@@ -1,8 +1,8 @@
 /* Chinese numerals for whole numbers, printed and read: the C face of the proved library chinese_number.
  *
- * Link libchinese_number.a or libchinese_number.so, which bindings/archive.sh makes: for Linux on x86-64-v2 and later. They
- * need at most memcpy and memset of the C library and __udivti3 of the compiler's. No call takes memory, opens a file, reads
- * the locale or keeps anything between calls, so any number of threads may call at once.
+ * Link libchinese_number.a or libchinese_number.so: for Linux on x86-64 and aarch64, with any C library. They need at most
+ * memcpy and memset of it, and __udivti3 of the compiler's. No call takes memory, opens a file, reads the locale or keeps
+ * anything between calls, so any number of threads may call at once.
  *
  * What the caller must see to, since nothing tests it:
  * - no pointer is NULL, not that of an empty text or room either;
@@ -18,7 +18,7 @@
 #include <stdint.h>
 
 #if SIZE_MAX != UINT64_MAX
-#error "chinese_number.h: the library is built for x86-64, where size_t has 64 bits"
+#error "chinese_number.h: the library is built for processors where size_t has 64 bits"
 #endif
 
 #define CN_VERSION "0.1.0"
@@ -80,7 +80,7 @@ enum {
     CN_UNKNOWN = 8    /* a code names no type, way, script or case */
 };
 
-/* No printed text has more bytes. None has a zero byte at its end. */
+/* No printed text has more bytes. A zero byte at its end, which cn_print alone writes, is not among them. */
 #define CN_MOST_BYTES 234
 
 /* A whole number in two halves of 64 bits; for a signed type, in two's complement of 128 bits. So (int8_t)number.low is
@@ -128,6 +128,39 @@ static inline cn_number cn_signed(int64_t value) {
     number.low = (uint64_t)value;
     number.high = value < 0 ? UINT64_MAX : 0;
     return number;
+}
+
+/* chinese_number_read for a text in char. It may have zero bytes, which are no numeral; strlen(text) tells the length of
+ * one that ends with the first. */
+static inline uint32_t cn_read(const char *text, size_t text_length, uint32_t kind, uint32_t way, cn_reading *reading) {
+    return chinese_number_read((const uint8_t *)text, text_length, kind, way, reading);
+}
+
+/* chinese_number_print into a room of char, with a zero byte at the end of the text at CN_DONE. That byte needs room too: a
+ * room of CN_MOST_BYTES + 1 is never too small. */
+static inline uint32_t cn_print(cn_number number, uint32_t kind, uint32_t way, uint32_t script, uint32_t letter_case,
+                                char *room, size_t room_length) {
+    size_t length, most = room_length == 0 ? 0 : room_length - 1;
+    uint32_t status = chinese_number_print(number, kind, way, script, letter_case, (uint8_t *)room, most, &length);
+    if (status == CN_DONE)
+        room[length] = '\0';
+    return status;
+}
+
+/* A status in words. */
+static inline const char *cn_status_text(uint32_t status) {
+    switch (status) {
+    case CN_DONE: return "done";
+    case CN_EMPTY: return "a chinese number cannot be empty";
+    case CN_INCORRECT: return "the chinese number is incorrect";
+    case CN_TOO_LARGE: return "number is too large";
+    case CN_TOO_SMALL: return "number is too small";
+    case CN_NOT_UTF8: return "the text is no UTF-8";
+    case CN_NO_ROOM: return "the room is too small for the text";
+    case CN_NOT_HELD: return "the type does not hold the number";
+    case CN_UNKNOWN: return "a code names no type, way, script or case";
+    default: return "no status of this library";
+    }
 }
 
 #ifdef __cplusplus

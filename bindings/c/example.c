@@ -14,13 +14,11 @@ static void expect(const char *what, int holds) {
 }
 
 static void first_steps(void) {
-    uint8_t text[CN_MOST_BYTES];
-    size_t length;
+    char text[CN_MOST_BYTES + 1];
     cn_reading reading;
-    chinese_number_print(cn_signed(-105000), CN_I64, CN_TEN_THOUSAND, CN_TRADITIONAL, CN_LOWER,
-                         text, sizeof text, &length);
-    printf("%.*s\n", (int)length, (const char *)text); /* 負十萬五千 */
-    if (chinese_number_read(text, length, CN_I64, CN_TEN_THOUSAND, &reading) == CN_DONE)
+    cn_print(cn_signed(-105000), CN_I64, CN_TEN_THOUSAND, CN_TRADITIONAL, CN_LOWER, text, sizeof text);
+    puts(text); /* 負十萬五千 */
+    if (cn_read(text, strlen(text), CN_I64, CN_TEN_THOUSAND, &reading) == CN_DONE)
         printf("%lld\n", (long long)reading.number.low); /* -105000 */
 }
 
@@ -81,8 +79,24 @@ static void each_status_of_printing(void) {
     prints(cn_unsigned(1), 0, 0, 0, CN_LOWER + 1, CN_MOST_BYTES, CN_UNKNOWN, 0, "an unknown case");
 }
 
+/* The forms for char: the zero byte at the end needs room, and one inside a text is a character at fault. */
+static void texts_of_char(void) {
+    cn_number number = cn_unsigned(123);
+    cn_reading reading;
+    char room[11];
+    memset(room, 7, sizeof room);
+    expect("a room without a byte", cn_print(number, CN_U8, CN_DIGITS, 0, 1, room, 0) == CN_NO_ROOM);
+    expect("a room of the text alone", cn_print(number, CN_U8, CN_DIGITS, 0, 1, room, 9) == CN_NO_ROOM && room[0] == 7);
+    expect("a zero byte at the end", cn_print(number, CN_U8, CN_DIGITS, 0, 1, room, 10) == CN_DONE
+                                         && strcmp(room, "一二三") == 0 && room[10] == 7);
+    expect("a zero byte inside", cn_read("一\0二", 7, CN_U8, CN_DIGITS, &reading) == CN_INCORRECT && reading.char_index == 1);
+    for (uint32_t status = CN_DONE; status <= CN_UNKNOWN; status++)
+        expect("a status has words of its own", strcmp(cn_status_text(status), cn_status_text(status + 1)) != 0);
+}
+
 int main(void) {
     first_steps();
+    texts_of_char();
     each_status_of_reading();
     each_status_of_printing();
     return failed != 0;

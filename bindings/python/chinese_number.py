@@ -9,9 +9,9 @@
 Traceback (most recent call last):
 chinese_number.NumeralError: number is too small
 
-The shared object libchinese_number.so, which bindings/archive.sh makes, stands beside this file or in the folder that
-CHINESE_NUMBER_LIB names. It takes no memory, keeps nothing between calls and reads no locale, and a call lets other threads
-of Python run.
+The shared object libchinese_number.so stands beside this file, as a wheel puts it, or in the folder that CHINESE_NUMBER_LIB
+names, as bindings/archive.sh makes it. It takes no memory, keeps nothing between calls and reads no locale, and a call lets
+other threads of Python run.
 """
 
 from __future__ import annotations
@@ -88,18 +88,18 @@ class Status(Enum):
 
 _TEXTS = {
     Status.EMPTY: "a chinese number cannot be empty",
-    Status.INCORRECT: "the chinese number is incorrect (position: {})",
+    Status.INCORRECT: "the chinese number is incorrect (position: {char_index})",
     Status.TOO_LARGE: "number is too large",
     Status.TOO_SMALL: "number is too small",
-    Status.NOT_HELD: "the type does not hold the number",
+    Status.NOT_HELD: "{kind} does not hold the number",
 }
 
 
 class NumeralError(ValueError):
     """Why a text is no number of a type, or a number is not written.
 
-    status says why; char_index, where a character cannot stand in its place, how many characters of the text stand in
-    front of it, white space among them, and else None.
+    status says why, and kind as which type; char_index, where a character cannot stand in its place, how many characters
+    of the text stand in front of it, white space among them, and else None.
 
     >>> try:
     ...     to_number(' 二 十 十 ')
@@ -108,13 +108,14 @@ class NumeralError(ValueError):
     the chinese number is incorrect (position: 3) Status.INCORRECT 3
     """
 
-    def __init__(self, status: Status, char_index: int | None = None) -> None:
-        super().__init__(_TEXTS.get(status, status.name).format(char_index))
+    def __init__(self, status: Status, kind: Kind, char_index: int | None = None) -> None:
+        super().__init__(_TEXTS.get(status, status.name).format(kind=kind.name, char_index=char_index))
         self.status = status
+        self.kind = kind
         self.char_index = char_index
 
-    def __reduce__(self) -> tuple:
-        return NumeralError, (self.status, self.char_index)
+    def __reduce__(self) -> tuple[type[NumeralError], tuple[Status, Kind, int | None]]:
+        return NumeralError, (self.status, self.kind, self.char_index)
 
 
 class _Number(ctypes.Structure):
@@ -122,11 +123,12 @@ class _Number(ctypes.Structure):
 
 
 class _Reading(ctypes.Structure):
-    _fields_ = [("number", _Number), ("char_index", ctypes.c_size_t)]
+    _fields_ = [("low", ctypes.c_uint64), ("high", ctypes.c_uint64), ("char_index", ctypes.c_size_t)]
 
 
 def _library() -> ctypes.CDLL:
-    path = Path(os.environ.get("CHINESE_NUMBER_LIB") or Path(__file__).parent).resolve() / "libchinese_number.so"
+    beside = Path(__file__).resolve().parent / "libchinese_number.so"
+    path = beside if beside.exists() else Path(os.environ.get("CHINESE_NUMBER_LIB", "")).resolve() / beside.name
     try:
         library = ctypes.CDLL(str(path))
     except OSError as error:
@@ -144,14 +146,16 @@ def _library() -> ctypes.CDLL:
 
 _calls = _library()
 _MOST_BYTES = 234
+_Room = ctypes.c_char * _MOST_BYTES
 _HALF = (1 << 64) - 1
-_SIGNED = {Kind.I8, Kind.I16, Kind.I32, Kind.I64, Kind.I128}
+_FIRST_SIGNED = Kind.I8.value
 
 
 def _code(value: Enum, of: type[Enum]) -> int:
     if not isinstance(value, of):
         raise TypeError(f"a {of.__name__} is wanted, and not {value!r}")
-    return value.value
+    code: int = value._value_
+    return code
 
 
 def to_number(text: str, *, kind: Kind = Kind.I128, way: Way = Way.TEN_THOUSAND) -> int:
@@ -165,17 +169,17 @@ def to_number(text: str, *, kind: Kind = Kind.I128, way: Way = Way.TEN_THOUSAND)
     Traceback (most recent call last):
     chinese_number.NumeralError: a chinese number cannot be empty
 
-    A text with half of a surrogate pair is no text in UTF-8: it raises UnicodeEncodeError, which is a ValueError too.
+    Half of a surrogate pair is one character, and at fault.
     """
     if not isinstance(text, str):
         raise TypeError(f"a str is wanted, and not {text!r}")
-    data, reading = text.encode(), _Reading()
-    codes = _code(kind, Kind), _code(way, Way)
-    status = Status(_calls.chinese_number_read(data, len(data), *codes, ctypes.byref(reading)))
-    if status is not Status.DONE:
-        raise NumeralError(status, reading.char_index if status is Status.INCORRECT else None)
-    number = reading.number.high << 64 | reading.number.low
-    return number - (1 << 128) if kind in _SIGNED and number >> 127 else number
+    # Half of a surrogate pair has no bytes in UTF-8, and goes as a question mark, which is no numeral either.
+    data, reading, code = str.encode(text, "utf-8", "replace"), _Reading(), _code(kind, Kind)
+    status = _calls.chinese_number_read(data, len(data), code, _code(way, Way), ctypes.byref(reading))
+    if status:
+        raise NumeralError(Status(status), kind, reading.char_index if status == Status.INCORRECT.value else None)
+    number: int = reading.high << 64 | reading.low
+    return number - (1 << 128) if code >= _FIRST_SIGNED and number >> 127 else number
 
 
 def to_chinese(
@@ -195,16 +199,16 @@ def to_chinese(
     '負一二三'
     >>> to_chinese(256, kind=Kind.U8)
     Traceback (most recent call last):
-    chinese_number.NumeralError: the type does not hold the number
+    chinese_number.NumeralError: U8 does not hold the number
     """
     number = operator.index(number)
     codes = _code(kind, Kind), _code(way, Way), _code(script, Script), _code(case, Case)
-    least = -(1 << 127) if kind in _SIGNED else 0
+    least = -(1 << 127) if codes[0] >= _FIRST_SIGNED else 0
     if not least <= number < least + (1 << 128):
-        raise NumeralError(Status.NOT_HELD)
-    room, length = ctypes.create_string_buffer(_MOST_BYTES), ctypes.c_size_t()
+        raise NumeralError(Status.NOT_HELD, kind)
+    room, length = _Room(), ctypes.c_size_t()
     halves = _Number(number & _HALF, number >> 64 & _HALF)
-    status = Status(_calls.chinese_number_print(halves, *codes, room, _MOST_BYTES, ctypes.byref(length)))
-    if status is not Status.DONE:
-        raise NumeralError(status)
+    status = _calls.chinese_number_print(halves, *codes, room, _MOST_BYTES, ctypes.byref(length))
+    if status:
+        raise NumeralError(Status(status), kind)
     return room.raw[: length.value].decode()

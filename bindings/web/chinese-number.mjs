@@ -1,24 +1,26 @@
 // Chinese numerals, read and printed by the proved library, which is the WebAssembly module beside this file.
 //
-//     read('一百二', { type: 'u64' })                                       120n
-//     print(120, { type: 'u64', script: 'simple', letterCase: 'upper' })    '壹佰贰拾'
+//     toNumber('一百二', { kind: 'u64' })                       120n
+//     toChinese(120, { script: 'simple', case: 'upper' })    '壹佰贰拾'
 //
 // The module takes no memory of its own: this file lends it what lies past its __heap_base.
+
+import { compiled } from './compiled.mjs';
 
 // Each list is in the order of the codes that the module has for these names.
 
 /** The integer types. */
-export const TYPES = Object.freeze(/** @type {const} */ (
+export const KINDS = Object.freeze(/** @type {const} */ (
   ['u8', 'u16', 'u32', 'u64', 'u128', 'i8', 'i16', 'i32', 'i64', 'i128']));
 
-/** How a number is written: 'naive' is digit by digit, the others are by the units of a method of counting. */
-export const METHODS = Object.freeze(/** @type {const} */ (['naive', 'low', 'tenThousand', 'middle', 'high']));
+/** How a number is written: as plain digits (一二三), or with units (一百二十三) by one of four methods. */
+export const WAYS = Object.freeze(/** @type {const} */ (['digits', 'low', 'tenThousand', 'middle', 'high']));
 
 /** The scripts. */
 export const SCRIPTS = Object.freeze(/** @type {const} */ (['traditional', 'simple']));
 
 /** The cases: 'upper' has the characters of cheques. */
-export const LETTER_CASES = Object.freeze(/** @type {const} */ (['upper', 'lower']));
+export const CASES = Object.freeze(/** @type {const} */ (['upper', 'lower']));
 
 const STATUSES = ['done', 'empty', 'incorrect', 'tooLarge', 'tooSmall', 'notUtf8', 'noRoom', 'notHeld', 'unknown'];
 
@@ -27,17 +29,17 @@ const MESSAGES = {
   incorrect: 'the chinese number is incorrect',
   tooLarge: 'number is too large',
   tooSmall: 'number is too small',
-  notHeld: 'the type does not hold the number',
+  notHeld: 'does not hold the number', // behind the name of the kind
   outOfMemory: 'out of memory',
 };
 
 /**
- * @typedef {typeof TYPES[number]} IntegerType
- * @typedef {typeof METHODS[number]} Method
+ * @typedef {typeof KINDS[number]} Kind
+ * @typedef {typeof WAYS[number]} Way
  * @typedef {typeof SCRIPTS[number]} Script
- * @typedef {typeof LETTER_CASES[number]} LetterCase
- * @typedef {{ type?: IntegerType, method?: Method }} ReadOptions
- * @typedef {{ type?: IntegerType, method?: Method, script?: Script, letterCase?: LetterCase }} PrintOptions
+ * @typedef {typeof CASES[number]} Case
+ * @typedef {{ kind?: Kind, way?: Way }} ReadOptions
+ * @typedef {{ kind?: Kind, way?: Way, script?: Script, case?: Case }} PrintOptions
  */
 
 /**
@@ -53,13 +55,16 @@ const MESSAGES = {
 export class NumeralError extends Error {
   /**
    * @param {keyof typeof MESSAGES} code
+   * @param {Kind} [kind]
    * @param {{ charIndex: number, start: number, end: number }} [place]
    * @param {ErrorOptions} [options]
    */
-  constructor(code, place, options) {
-    super(place ? `${MESSAGES[code]} (position: ${place.charIndex})` : MESSAGES[code], options);
+  constructor(code, kind, place, options) {
+    super(messageOf(code, kind, place), options);
     this.name = 'NumeralError';
     this.code = code;
+    /** The integer type that the number was to have; at 'outOfMemory' none is named. */
+    this.kind = kind;
     /** At 'incorrect': how many characters stand in front of the one at fault. */
     this.charIndex = place?.charIndex;
     /** At 'incorrect': where it starts in the string, in UTF-16 code units, as setSelectionRange and slice take it. */
@@ -69,23 +74,18 @@ export class NumeralError extends Error {
   }
 }
 
-// A module that has a 64-bit memory and nothing else, to ask whether the host has such memories.
-const HAS_MEMORY64 = WebAssembly.validate(Uint8Array.of(0, 0x61, 0x73, 0x6d, 1, 0, 0, 0, 5, 3, 1, 4, 1));
-
-const compiled = await WebAssembly.compile(await bytesOf(HAS_MEMORY64
-  ? new URL('chinese-number.64.wasm', import.meta.url)
-  : new URL('chinese-number.32.wasm', import.meta.url)));
-
-/** @param {URL} url */
-async function bytesOf(url) {
-  if (url.protocol === 'file:') return (await import('node:fs/promises')).readFile(url);
-  const answer = await fetch(url);
-  if (!answer.ok) throw new Error(`${url}: ${answer.status}`);
-  return answer.arrayBuffer();
+/**
+ * @param {keyof typeof MESSAGES} code
+ * @param {Kind} [kind]
+ * @param {{ charIndex: number }} [place]
+ */
+function messageOf(code, kind, place) {
+  if (code === 'notHeld') return `${kind} ${MESSAGES[code]}`;
+  return place ? `${MESSAGES[code]} (position: ${place.charIndex})` : MESSAGES[code];
 }
 
 /** @type {any} What the instance in use exports; null after a trap, since its memory may be half written then. */
-let library = (await WebAssembly.instantiate(compiled)).exports;
+let library = new WebAssembly.Instance(compiled).exports;
 
 // What is lent: a reading (24 bytes), a number (16), a length (8), and then the text.
 const READING = Math.ceil(Number(library.__heap_base.value) / 16) * 16;
@@ -132,7 +132,7 @@ function grow(memory, pages) {
       memory.grow(pages);
     }
   } catch (cause) {
-    throw new NumeralError('outOfMemory', undefined, { cause });
+    throw new NumeralError('outOfMemory', undefined, undefined, { cause });
   }
 }
 
@@ -166,8 +166,18 @@ function codeOf(names, name, what) {
   return code;
 }
 
-/** @param {string} type */
-const isSigned = (type) => type.startsWith('i');
+/**
+ * Refuses options with another name than these, so that none is passed over in silence.
+ * @param {object} options
+ * @param {readonly string[]} names
+ */
+function refuseOthers(options, names) {
+  const other = typeof options === 'string' ? options : Object.keys(options).find((it) => !names.includes(it));
+  if (other !== undefined) throw new TypeError(`no option is named ${other}`);
+}
+
+/** @param {Kind} kind */
+const isSigned = (kind) => kind.startsWith('i');
 
 /**
  * Where the character with so many in front stands in a string.
@@ -183,61 +193,62 @@ function placeOf(string, charIndex) {
 }
 
 /**
- * Reads a numeral as a number of a type, 'i128' where none is named, by a method, else 'tenThousand'.
+ * Reads a numeral, and gives a BigInt: `toNumber('一百二')` is 120n. `Number(toNumber(..))` is a Number, exact up to 2 ** 53.
  *
- * `read('一百二')` is 120n. Throws a NumeralError where the text is no numeral or its number does not fit the type, and
- * a TypeError where the text is no string or a name is unknown.
+ * The number is one of a kind, 'i128' where none is named, and is read by a way, else 'tenThousand'. Throws a NumeralError
+ * where the text is no numeral or its number does not fit the kind, and a TypeError where the text is no string, or an option
+ * or what it names is unknown.
  *
  * @param {string} string
  * @param {ReadOptions} options
  * @returns {bigint}
  */
-export function read(string, { type = 'i128', method = 'tenThousand' } = {}) {
-  const kind = codeOf(TYPES, type, 'type');
-  const way = codeOf(METHODS, method, 'method');
+export function toNumber(string, options = {}) {
+  refuseOthers(options, ['kind', 'way']);
+  const { kind = 'i128', way = 'tenThousand' } = options;
+  const codes = [codeOf(KINDS, kind, 'kind'), codeOf(WAYS, way, 'way')];
   if (typeof string !== 'string') throw new TypeError('a numeral is a string');
   lend(3 * string.length);
   // An encoder writes UTF-8 and nothing else (half a surrogate pair as U+FFFD), so the module need not test it.
   const written = BigInt(Number(encoder.encodeInto(string, text).written));
-  const status = statusOf(() => library.chinese_number_read_utf8(TEXT_AT, written, kind, way, READING_AT));
+  const status = statusOf(() => library.chinese_number_read_utf8(TEXT_AT, written, ...codes, READING_AT));
   const [low, high, charIndex] = words;
   if (status === 0) {
     const bits = (high << 64n) | low;
-    return isSigned(type) ? BigInt.asIntN(128, bits) : bits;
+    return isSigned(kind) ? BigInt.asIntN(128, bits) : bits;
   }
   const code = reasonOf(status);
-  throw new NumeralError(code, code === 'incorrect' ? placeOf(string, Number(charIndex)) : undefined);
+  throw new NumeralError(code, kind, code === 'incorrect' ? placeOf(string, Number(charIndex)) : undefined);
 }
 
 /**
- * The text of a number of a type, 'i128' where none is named, by a method, else 'tenThousand', in a script, else
- * 'traditional', and a case, else 'lower'.
+ * The text of a number: `toChinese(120)` is '一百二十'. The number is a BigInt, or a whole Number that is exact.
  *
- * `print(120)` is '一百二十'. The number is a BigInt, or a whole Number that is exact. Throws a NumeralError where the type
- * does not hold the number or the method has no text for it, and a TypeError where it is no such number or a name is
- * unknown.
+ * It is one of a kind, 'i128' where none is named, and is written by a way, else 'tenThousand', in a script, else
+ * 'traditional', and a case, else 'lower'. Throws a NumeralError where the kind does not hold the number or the way has no
+ * text for it, and a TypeError where it is no such number, or an option or what it names is unknown.
  *
  * @param {bigint | number} number
  * @param {PrintOptions} options
  * @returns {string}
  */
-export function print(number, { type = 'i128', method = 'tenThousand', script = 'traditional', letterCase = 'lower' } = {}) {
-  const kind = codeOf(TYPES, type, 'type');
-  const way = codeOf(METHODS, method, 'method');
-  const scriptCode = codeOf(SCRIPTS, script, 'script');
-  const caseCode = codeOf(LETTER_CASES, letterCase, 'letter case');
+export function toChinese(number, options = {}) {
+  refuseOthers(options, ['kind', 'way', 'script', 'case']);
+  const { kind = 'i128', way = 'tenThousand', script = 'traditional', case: letterCase = 'lower' } = options;
+  const codes = [codeOf(KINDS, kind, 'kind'), codeOf(WAYS, way, 'way'),
+    codeOf(SCRIPTS, script, 'script'), codeOf(CASES, letterCase, 'case')];
   if (typeof number !== 'bigint') {
     if (!Number.isSafeInteger(number)) throw new TypeError('a number is a BigInt, or a whole Number up to 2 ** 53 - 1');
     number = BigInt(number);
   }
   // The module is handed 128 bits, so the number must be the one that they stand for.
-  const bits = isSigned(type) ? BigInt.asIntN(128, number) : BigInt.asUintN(128, number);
-  if (bits !== number) throw new NumeralError('notHeld');
+  const bits = isSigned(kind) ? BigInt.asIntN(128, number) : BigInt.asUintN(128, number);
+  if (bits !== number) throw new NumeralError('notHeld', kind);
   lend(MOST_BYTES);
   words[3] = bits;
   words[4] = bits >> 64n;
   const status = statusOf(() => library.chinese_number_print(
-    NUMBER_AT, kind, way, scriptCode, caseCode, TEXT_AT, BigInt(MOST_BYTES), LENGTH_AT));
-  if (status !== 0) throw new NumeralError(reasonOf(status));
+    NUMBER_AT, ...codes, TEXT_AT, BigInt(MOST_BYTES), LENGTH_AT));
+  if (status !== 0) throw new NumeralError(reasonOf(status), kind);
   return decoder.decode(text.subarray(0, Number(words[5])));
 }

@@ -1,12 +1,12 @@
 // The page: a numeral is judged at each key, and a number is spelled in four texts. What was typed goes into the page as
 // text alone, by textContent and by the strings of replaceChildren.
 
-const [loading, type, method, reading, numeral, mirror, answer, number, refusal, texts] =
-  ['loading', 'type', 'method', 'reading', 'numeral', 'mirror', 'answer', 'number', 'refusal', 'texts']
+const [loading, kind, way, reading, numeral, mirror, answer, number, refusal, texts] =
+  ['loading', 'kind', 'way', 'reading', 'numeral', 'mirror', 'answer', 'number', 'refusal', 'texts']
     .map((id) => document.getElementById(id));
 
-const METHOD_NAMES = {
-  naive: 'digit by digit', low: '下數 low', tenThousand: '萬進 ten thousand', middle: '中數 middle', high: '上數 high',
+const WAY_NAMES = {
+  digits: 'digit by digit', low: '下數 low', tenThousand: '萬進 ten thousand', middle: '中數 middle', high: '上數 high',
 };
 
 let library, fault = null;
@@ -16,8 +16,8 @@ try {
   loading.textContent = `The library did not load: ${error.message}`;
   throw error;
 }
-const { LETTER_CASES, METHODS, NumeralError, SCRIPTS, TYPES, print, read } = library;
-const options = () => ({ type: type.value, method: method.value });
+const { CASES, KINDS, NumeralError, SCRIPTS, WAYS, toChinese, toNumber } = library;
+const options = () => ({ kind: kind.value, way: way.value });
 
 function element(name, text) {
   const it = document.createElement(name);
@@ -39,8 +39,8 @@ function reasonOf(error) {
   }
   return {
     empty: 'No numeral yet.',
-    tooLarge: `The number is too large for ${type.value}.`,
-    tooSmall: `The number is too small for ${type.value}.`,
+    tooLarge: `The number is too large for ${error.kind}.`,
+    tooSmall: `The number is too small for ${error.kind}.`,
     outOfMemory: 'There is no memory for so long a text.',
   }[error.code];
 }
@@ -68,7 +68,7 @@ function judge() {
   const text = numeral.value;
   fault = null;
   try {
-    say(numeral, answer, String(read(text, options())), false);
+    say(numeral, answer, String(toNumber(text, options())), false);
   } catch (error) {
     if (error.code === 'incorrect') fault = error;
     say(numeral, answer, fault ? reasonOfPlace(fault) : reasonOf(error), error.code !== 'empty');
@@ -77,7 +77,7 @@ function judge() {
 }
 
 function reasonOfPrinting(error) {
-  if (error.code === 'notHeld') return `${type.value} does not hold this number.`;
+  if (error.code === 'notHeld') return `${error.kind} does not hold this number.`;
   if (error.code === 'tooLarge' || error.code === 'tooSmall') return 'By this method the number has no text.';
   return reasonOf(error);
 }
@@ -91,8 +91,8 @@ function spell() {
   try {
     const value = BigInt(written), rows = [];
     for (const script of SCRIPTS) {
-      for (const letterCase of LETTER_CASES) {
-        const text = element('dd', print(value, { ...options(), script, letterCase }));
+      for (const letterCase of CASES) {
+        const text = element('dd', toChinese(value, { ...options(), script, case: letterCase }));
         text.lang = script === 'simple' ? 'zh-Hans' : 'zh-Hant';
         rows.push(element('dt', `${script}, ${letterCase}`), text);
       }
@@ -104,8 +104,8 @@ function spell() {
   }
 }
 
-type.append(...TYPES.map((it) => new Option(it, it, it === 'u64', it === 'u64')));
-method.append(...METHODS.map((it) => new Option(METHOD_NAMES[it], it, it === 'tenThousand', it === 'tenThousand')));
+kind.append(...KINDS.map((it) => new Option(it, it, it === 'u64', it === 'u64')));
+way.append(...WAYS.map((it) => new Option(WAY_NAMES[it], it, it === 'tenThousand', it === 'tenThousand')));
 
 // While an input method composes, its letters are no text yet: nothing is judged, and no mark stands.
 numeral.addEventListener('input', (event) => {
@@ -115,7 +115,7 @@ numeral.addEventListener('input', (event) => {
 numeral.addEventListener('compositionend', judge);
 for (const it of ['scroll', 'keyup', 'pointerup', 'select']) numeral.addEventListener(it, follow);
 number.addEventListener('input', spell);
-for (const it of [type, method]) {
+for (const it of [kind, way]) {
   it.addEventListener('change', () => {
     judge();
     spell();

@@ -68,7 +68,7 @@ async function opens() {
 }
 
 async function reads() {
-  assert.deepEqual(await value('[type.value, method.value]'), ['u64', 'tenThousand']);
+  assert.deepEqual(await value('[kind.value, way.value]'), ['u64', 'tenThousand']);
   assert.deepEqual([await answer(), await isInvalid('numeral'), await marked()], ['No numeral yet.', 'false', null]);
   await type('numeral', '一百二');
   assert.deepEqual([await answer(), await isInvalid('numeral'), await marked()], ['120', 'false', null]);
@@ -113,13 +113,13 @@ async function leavesTheCaret() {
 
 // An empty field and a sign alone are no faults, and neither is any beginning of a printed numeral.
 async function leavesTheUnfinished() {
-  await choose('type', 'i128');
+  await choose('kind', 'i128');
   for (const it of ['', '負', '正', ' 负', '　']) {
     await type('numeral', it);
     assert.deepEqual([await answer(), await isInvalid('numeral'), await marked()], ['No numeral yet.', 'false', null], it);
   }
-  for (const method of ['tenThousand', 'naive']) {
-    await choose('method', method);
+  for (const way of ['tenThousand', 'digits']) {
+    await choose('way', way);
     await type('number', '-170141183460469231731687303715884105728');
     for (const text of await texts()) {
       await type('numeral', '');
@@ -130,12 +130,12 @@ async function leavesTheUnfinished() {
       assert.equal(await answer(), '-170141183460469231731687303715884105728');
     }
   }
-  await choose('type', 'u64');
-  await choose('method', 'tenThousand');
+  await choose('kind', 'u64');
+  await choose('way', 'tenThousand');
 }
 
 async function refusesNumerals() {
-  await choose('type', 'u8');
+  await choose('kind', 'u8');
   await type('numeral', '三百');
   assert.deepEqual([await answer(), await isInvalid('numeral'), await marked()], ['The number is too large for u8.', 'true', null]);
   // What stays as it was is not said again.
@@ -144,13 +144,13 @@ async function refusesNumerals() {
   assert.deepEqual([await value('numeral.value'), await value('said')], ['三百一', 0]);
   await insert('x');
   assert.equal(await value('said'), 1);
-  await choose('type', 'i8');
+  await choose('kind', 'i8');
   await type('numeral', '負一百二十九');
   assert.equal(await answer(), 'The number is too small for i8.');
   // A type chosen anew judges anew.
-  await choose('type', 'i16');
+  await choose('kind', 'i16');
   assert.deepEqual([await answer(), await isInvalid('numeral')], ['-129', 'false']);
-  await choose('type', 'u64');
+  await choose('kind', 'u64');
   assert.deepEqual(await marked(), ['', '負']);
 }
 
@@ -200,15 +200,15 @@ async function scrolls() {
   await painted();
   assert(await together());
   // A mark that comes where there was none, in a field that does not scroll.
-  await choose('method', 'naive');
-  await choose('type', 'i64');
+  await choose('way', 'digits');
+  await choose('kind', 'i64');
   await type('numeral', `負${'零'.repeat(200)}`);
   await painted();
   assert.equal(await marked(), null);
-  await choose('type', 'u64');
+  await choose('kind', 'u64');
   await painted();
   assert(await together());
-  await choose('method', 'tenThousand');
+  await choose('way', 'tenThousand');
   await tab.key('Home', 36);
   await painted();
   assert.equal(await value('numeral.scrollLeft + mirror.scrollLeft'), 0);
@@ -238,9 +238,9 @@ async function prints() {
   await refused('-1', /^u64 does not hold this number/);
   await refused('1e3', /^Write digits alone/);
   await refused('1'.repeat(500), /^u64 does not hold this number/);
-  await choose('method', 'low');
+  await choose('way', 'low');
   await refused('10000000000000000', /^By this method the number has no text/);
-  await choose('method', 'tenThousand');
+  await choose('way', 'tenThousand');
   assert.deepEqual((await texts())[1], '一京');
 }
 
@@ -269,7 +269,7 @@ async function tellsScreenReaders() {
   };
   await type('numeral', '三千兩白五十六');
   await type('number', '-1');
-  for (const [id, role, name] of [['numeral', 'textbox', 'Numeral'], ['number', 'textbox', 'Number'], ['type', 'combobox', 'Type'], ['method', 'combobox', 'Method']]) {
+  for (const [id, role, name] of [['numeral', 'textbox', 'Numeral'], ['number', 'textbox', 'Number'], ['kind', 'combobox', 'Type'], ['way', 'combobox', 'Method']]) {
     const it = await told(id);
     assert.deepEqual([it.role, it.name], [role, name]);
   }
@@ -328,7 +328,7 @@ async function poses() {
 // At 320 pixels nothing is cut off and nothing scrolls sideways, by the longest texts too.
 async function fitsAPhone() {
   await tab.send('Emulation.setDeviceMetricsOverride', { width: 320, height: 700, deviceScaleFactor: 1, mobile: true });
-  await choose('type', 'i128');
+  await choose('kind', 'i128');
   await type('numeral', '三千兩白五十六');
   await type('number', '-170141183460469231731687303715884105728');
   const [widths, outside] = await value(`(() => {
@@ -339,7 +339,7 @@ async function fitsAPhone() {
   assert.deepEqual([widths, outside], [[320, 320], []]);
   await picture('narrow.png');
   await tab.send('Emulation.clearDeviceMetricsOverride');
-  await choose('type', 'u64');
+  await choose('kind', 'u64');
 }
 
 // What is typed before the library has loaded is judged once it has.

@@ -10,8 +10,11 @@ use crate::ChineseCountMethod;
 pub enum ChineseToNumberError {
     /// Nothing is left of the text without its white space and, for signed types, one sign.
     ChineseNumberEmpty,
-    /// The character that has `char_index` characters of the text in front, white space among them, cannot stand there.
-    ChineseNumberIncorrect { char_index: usize },
+    /// A character cannot stand in its place.
+    ChineseNumberIncorrect {
+        /// How many characters of the text stand in front of it, white space among them.
+        char_index: usize,
+    },
     /// The number is past the type's greatest, or has more than 128 bits.
     Overflow,
     /// The number is past the type's least.
