@@ -1,26 +1,59 @@
-// A numeral without sign, read by its first character, the walk over what follows, and a last digit
+// A numeral, read by its sign, its first character, the walk over what follows, and a last digit
 // that stands apart.
-ghost use Rattle.std.specs.Prelude.{◌≡◌, ℕ, ◌+◌, ◌*◌, ◌/◌, ◌^◌, ◌<◌, List, ◌∷◌, true, false, length, IfNone, IfSome, IsTrue, MatchOption, SomeIff};
+ghost use Rattle.std.specs.Prelude.{◌≡◌, ℕ, ◌+◌, ◌*◌, ◌/◌, ◌^◌, ◌<◌, ◌≤◌, List, ◌∷◌, true, false, length, chars, IfNone, IfSome, IsTrue, MatchOption, SomeIff};
 ghost use Rattle.cn_core.specs.Characters.{rank};
 ghost use Rattle.cn_core.specs.Mark.{Mark as NumeralMark, digit, mark_of};
 ghost use Rattle.cn_core.specs.Scale.{scale, scale_fits};
 ghost use Rattle.cn_core.specs.Text.{text_of, marks_of};
 ghost use Rattle.cn_core.specs.Numeral.{each_may_precede, is_numeral, with_first_digit, starts_with_digit};
 ghost use Rattle.cn_core.specs.Place.{is_tail};
-ghost use Rattle.cn_core.specs.Reading.{Reads};
+ghost use Rattle.cn_core.specs.Reading.{Reads, leading_sign, sign_len};
 ghost use Rattle.cn_judge.specs.Answer.{answer_of};
 ghost use Rattle.cn_judge.specs.Judged.{after_first, JudgesAt};
 ghost use Rattle.cn_judge.specs.Marked.{marked, unit_mark};
-ghost use Rattle.cn_judge.specs.Piece.{EndsWith};
+ghost use Rattle.cn_judge.specs.Piece.{EndsWith, StandsAt};
+ghost use Rattle.cn_judge.specs.Signed.{signed_answer};
 ghost use Rattle.cn_judge.specs.Private.Walk.{digit_next, walked_answer, HasNoTail, HasTail};
 
 use crate::ChineseToNumberError;
 use crate::mark::{Mark, mark_of};
 use crate::open_units::OpenUnits;
-use crate::sign::{signed_answer, split_sign};
 use crate::text::{count_chars, split_first, split_last_mark};
 use crate::walk::{is_at_digit, separates_digits, walk};
-use cn_core::{ChineseCountMethod, Unit, Whole, scale};
+use cn_core::{ChineseCountMethod, Sign, Unit, Whole, scale, sign_of};
+
+/// A text without its sign.
+#[derive(Copy, Clone)]
+pub struct AfterSign<'a> {
+    pub sign: Option<Sign>,
+    /// How many characters stand before the rest, the sign and white space before it.
+    pub skipped: usize,
+    pub rest: &'a str,
+}
+
+/// Takes off one sign at the start of a text that is read for a signed type.
+pub fn split_sign(signed: bool, text: &str) -> AfterSign<'_>
+    ensures sign { result.sign ≡ leading_sign signed (text_of text.now) }
+    ensures rest { StandsAt text.now (chars result.rest.now) result.skipped (sign_len result.sign) }
+    ensures within { result.skipped + length result.rest.now ≤ length text.now }
+{
+    if signed {
+        if let Some(first) = split_first(text) {
+            if let Some(sign) = sign_of(first.character) {
+                return AfterSign {
+                    sign: Some(sign),
+                    skipped: first.skipped + 1,
+                    rest: first.rest,
+                };
+            }
+        }
+    }
+    AfterSign {
+        sign: None,
+        skipped: 0,
+        rest: text,
+    }
+}
 
 /// Rule 1: the digit at the start of a text, where 十 is ten; it keeps rule 3 as any other.
 pub fn first_digit(first: Mark, at_digit: bool) -> Option<u8>
@@ -140,6 +173,26 @@ pub fn judge_text(
         return Err(ChineseToNumberError::ChineseNumberIncorrect { char_index });
     };
     add_tail(method, number, tail.unit, digit).ok_or(ChineseToNumberError::Overflow)
+}
+
+/// The answer for a type, from the sign and the answer to what stands after it.
+pub fn signed_answer<T: Whole>(
+    sign: Option<Sign>,
+    judged: Result<u128, ChineseToNumberError>,
+) -> Result<T, ChineseToNumberError>
+    ensures { answer_of T.number result ≡ signed_answer T.kind sign (answer_of (λ n. n) judged) }
+{
+    let negative = matches!(sign, Some(Sign::Minus));
+    let too_far = if negative {
+        ChineseToNumberError::Underflow
+    } else {
+        ChineseToNumberError::Overflow
+    };
+    match judged {
+        Ok(magnitude) => T::from_magnitude(negative, magnitude).ok_or(too_far),
+        Err(ChineseToNumberError::Overflow) => Err(too_far),
+        Err(error) => Err(error),
+    }
 }
 
 /// The number of a numeral after at most one sign.

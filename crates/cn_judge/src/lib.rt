@@ -10,14 +10,12 @@ mod judge;
 mod mark;
 mod naive;
 mod open_units;
-mod sign;
 mod text;
 mod walk;
 
 pub use error::ChineseToNumberError;
-pub use judge::{first_digit, judge_text, read};
+pub use judge::{AfterSign, first_digit, judge_text, read, signed_answer, split_sign};
 pub use mark::Mark;
 pub use naive::read_naive;
-pub use sign::{AfterSign, signed_answer, split_sign};
 pub use text::{split_first_known, split_last_known};
 pub use walk::separates_digits;

@@ -8,9 +8,9 @@ ghost use Rattle.cn_judge.specs.Piece.{answer_at};
 ghost use Rattle.cn_judge.specs.Private.PlainPiece.{IsPiece, IsRun, StartsWith, piece_len};
 
 use crate::ChineseToNumberError;
+use crate::judge::{signed_answer, split_sign};
 use crate::mark::{Mark, mark_of};
 use crate::open_units::multiply_add;
-use crate::sign::{signed_answer, split_sign};
 use crate::text::{split_first_char, split_first_digit};
 use cn_core::Whole;
 

@@ -7,9 +7,7 @@
 //! hold it against what printers write.
 #![tactic(auto)]
 
-mod open_exponents;
-
-ghost use Rattle.std.specs.Prelude.{◌≡◌, ◌≤◌, ℕ, ◌+◌, ◌*◌, ◌^◌, ◌<◌, ◌∷◌, ◌&&◌, ◌||◌, ◌==◌, List, Ok, true, not, nat_le, nat_lt, length, IfSome, IsTrue};
+ghost use Rattle.std.specs.Prelude.{◌≡◌, ◌≤◌, ℕ, ◌+◌, ◌*◌, ◌^◌, ◌<◌, [], ◌∷◌, drop, option_map, ◌&&◌, ◌||◌, ◌==◌, List, Ok, true, not, nat_le, nat_lt, length, IfSome, IsTrue};
 ghost use Rattle.cn_core.specs.Characters.{rank};
 ghost use Rattle.cn_core.specs.Judge.{Judges};
 ghost use Rattle.cn_core.specs.Mark.{Mark as NumeralMark, digit};
@@ -19,14 +17,124 @@ ghost use Rattle.cn_core.specs.Text.{text_of, marks_of};
 ghost use Rattle.cn_judge.specs.Answer.{answer_of};
 ghost use Rattle.cn_judge.specs.Judged.{JudgesAt};
 ghost use Rattle.cn_judge.specs.Marked.{marked, unit_mark};
-ghost use Rattle.cn_quick.specs.Private.Regular.{OpenEntry, LeavesNoTail, MayOpen, StandsRegular, closing_rank, top_exponent};
+ghost use Rattle.cn_quick.specs.Private.Regular.{OpenEntry, LeavesNoTail, MayOpen, StandsRegular, closing_rank, has_smaller_top, is_below_top, not_smaller, rank_on_top, top_exponent};
 
-use crate::open_exponents::OpenExponents;
 use cn_core::{ChineseCountMethod, Unit, Whole, exponent, power_of_ten};
 use cn_judge::{
     ChineseToNumberError, Mark, first_digit, judge_text, separates_digits, signed_answer,
     split_first_known, split_last_known, split_sign,
 };
+use std::marker::Model;
+
+// A unit, and the exponent of the power of ten that it and the units below it make.
+#[derive(Copy, Clone)]
+struct OpenExponent {
+    unit: Unit,
+    exponent: u8,
+}
+
+// The units from 萬 up that are still open, since a unit further left can join them, the last opened
+// on top. Their ranks fall from the bottom to the top, so there are never more than the 16 ranks.
+#[derive(Drop)]
+struct OpenExponents {
+    entries: [OpenExponent; 16],
+    len: usize,
+}
+
+impl Model for OpenExponents {
+    ghost use Rattle.std.specs.Prelude.{ℕ, List, ◌≤◌};
+
+    ghost Value = { List (ℕ × ℕ) };
+
+    ghost use Rattle.cn_quick.specs.Private.Regular.{entries_of};
+
+    ghost view = { λ s. entries_of s.entries s.len };
+
+    ghost invariant = { λ s. s.len ≤ 16 };
+}
+
+impl OpenExponents {
+    // No unit is open.
+    fn new() -> Self
+        ensures { result ≡ [] }
+    {
+        OpenExponents {
+            entries: [OpenExponent {
+                unit: Unit::Ge,
+                exponent: 0,
+            }; 16],
+            len: 0,
+        }
+    }
+
+    // Opens a unit, whose power of ten with those below it has this exponent.
+    fn open(&mut self, unit: Unit, exponent: u8)
+        requires { length self.old < 16 }
+        ensures { self.new ≡ (rank unit, exponent) ∷ self.old }
+    {
+        self.entries[self.len] = OpenExponent { unit, exponent };
+        self.len += 1;
+    }
+
+    // The exponent of the power of ten that the open units make.
+    fn exponent(&self) -> usize
+        ensures { result ≡ top_exponent self.now }
+    {
+        if self.len == 0 {
+            0
+        } else {
+            self.entries[self.len - 1].exponent as usize
+        }
+    }
+
+    // The unit on top.
+    fn top(&self) -> Option<Unit>
+        ensures { option_map rank result ≡ rank_on_top self.now }
+    {
+        if self.len == 0 {
+            None
+        } else {
+            Some(self.entries[self.len - 1].unit)
+        }
+    }
+
+    // Whether the unit is smaller than the one on top, or none is open.
+    fn is_below_top(&self, unit: Unit) -> bool
+        ensures { result ≡ is_below_top (rank unit) self.now }
+    {
+        match self.top() {
+            Some(top) => unit < top,
+            None => true,
+        }
+    }
+
+    // Whether the unit on top is smaller than this one.
+    fn has_smaller_top(&self, unit: Unit) -> bool
+        ensures { result ≡ has_smaller_top (rank unit) self.now }
+    {
+        match self.top() {
+            Some(top) => top < unit,
+            None => false,
+        }
+    }
+
+    // Closes the unit on top.
+    fn close_top(&mut self)
+        requires { 0 < length self.old }
+        ensures { self.new ≡ drop 1 self.old }
+    {
+        self.len -= 1;
+    }
+
+    // Closes each open unit that is smaller than this one.
+    fn close_below(&mut self, unit: Unit)
+        ensures { self.new ≡ not_smaller (rank unit) self.old }
+    {
+        'closing: while self.has_smaller_top(unit) {
+            self.close_top();
+        }
+    }
+}
 
 // Where a quick walk stands between two characters.
 #[derive(Copy, Clone)]

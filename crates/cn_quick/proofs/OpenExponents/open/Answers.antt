@@ -1,7 +1,7 @@
 use Rattle.std.proofs.Common.{◌≡◌, ◌<◌, length, ap, arith, rules}
 use Rattle.cn_quick.specs.Private.Regular.{entry_at, no_entry}
 use Rattle.cn_judge.proofs.Stacks.{length-stacked, stacked-push}
-use Rattle.cn_quick.proofs.open_exponents.OpenExponents.open.Goals as goal
+use Rattle.cn_quick.proofs.OpenExponents.open.Goals as goal
 
 pub returns : goal.returns
 returns c =

@@ -1,5 +1,5 @@
 use Rattle.cn_judge.proofs.Pieces.{StandsAt-dark}
-use Rattle.cn_judge.proofs.sign.split_sign.Goals as goal
+use Rattle.cn_judge.proofs.judge.split_sign.Goals as goal
 
 pub returns-in-Some-sign_of-clause-rest : goal.returns-in-Some-sign_of-clause-rest
 returns-in-Some-sign_of-clause-rest c =
