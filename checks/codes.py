@@ -5,10 +5,11 @@ Usage: codes.py CN_C BINDINGS
 
 The tables of `codes.rt` give a type, way, script or case its place as its code, and `status.rt`
 names the statuses. The header, the Rust crate and the Python file name each of them once, with the
-same number, and no other; the JavaScript file lists them in this order. Alike, too, are the most
-bytes of a text, which a clause of `printing.rt` bounds, and the version of all, which is that of
-the first heading of CHANGELOG and of the files that README installs. The texts of refusals are those
-of `Refusal.antt` wherever they are written again.
+same number, and no other; the JavaScript file lists them in this order. The header declares each
+call that the crate exports, and no language has any other. Alike, too, are the most bytes of a text,
+which a clause of `printing.rt` bounds, and the version of all, which is that of the first heading of
+CHANGELOG and of the files that README installs. The texts of refusals are those of `Refusal.antt`
+wherever they are written again.
 """
 import re
 import sys
@@ -27,6 +28,7 @@ BEGINNINGS = {
     RUST: ("pub enum Kind ", "pub enum Way ", "pub enum ChineseVariant ", "pub enum ChineseCase ", "pub mod status "),
     PYTHON: ("class Kind(", "class Way(", "class Script(", "class Case(", "class Status("),
 }
+EXPORTED = re.compile(r'^pub (?:unsafe )?extern "C" fn (\w+)', re.MULTILINE)
 MOST_BYTES = re.compile(r"MOST_BYTES(?:: usize)?(?: =)? (\d+)")
 VERSIONS = (
     (HEADER, r'^#define CN_VERSION "(.*)"'),
@@ -39,6 +41,7 @@ REFUSALS = "crates/cn_core/specs/Refusal.antt"
 OF_READERS = (
     "bindings/c/chinese_number.h",
     "bindings/rust/src/read.rs",
+    "bindings/rust/tests/interface.rs",
     "bindings/python/chinese_number.py",
     "bindings/web/chinese-number.mjs",
     "crates/numeral/src/main.rt",
@@ -90,6 +93,16 @@ def of_lists(text):
     return [{snake(name): code for code, name in enumerate(re.findall(r"\w+", found[1]))} for found in lists]
 
 
+def compare_calls(crate, texts):
+    """The header declares the calls that the sources export, and no language any other; how many there are."""
+    wanted = {name for path in crate.glob("src/*.rt") for name in EXPORTED.findall(text_of(path))}
+    for language, text in texts.items():
+        found = set(re.findall(r"\b(chinese_number_\w+)\(", text)) | set(re.findall(r"\blibrary\.(chinese_number_\w+)", text))
+        if not found or not found <= wanted or language == HEADER and found != wanted:
+            sys.exit(f"codes: {language} has the calls {sorted(found)}, and the crate exports {sorted(wanted)}")
+    return len(wanted)
+
+
 def compare_refusals(top):
     """Each text of a refusal, up to the position that one of them has, stands in each file."""
     found = re.findall(r'^refusal_text \S.*?codes "([^"(]*)', text_of(top / REFUSALS), re.M | re.S)
@@ -127,8 +140,9 @@ def main():
     versions.add(".".join(re.findall(r"^#define CN_VERSION_\w+ (\d+)", texts[HEADER], re.MULTILINE)))
     if len(versions) != 1:
         sys.exit(f"codes: versions {sorted(versions)}")
+    calls = compare_calls(crate, texts)
     compare_refusals(bindings.resolve().parent)
-    print(f"codes: {sum(map(len, wanted))} codes and statuses, alike in C, Rust, Python and JavaScript, of version {versions.pop()}")
+    print(f"codes: {calls} calls, {sum(map(len, wanted))} codes and statuses, alike in C, Rust, Python and JavaScript, of version {versions.pop()}")
 
 
 main()

@@ -12,8 +12,9 @@ import os
 import subprocess
 import sys
 
-SHORT = ("memory allocation failed", "out of memory")
-BY_NAME = ("number is too large", "number is too small")
+# The names of errors: of the calls that have no other, and of those that may also refuse a number.
+SHORT = ("AllocError", "OutOfMemory")
+BY_NAME = ("Overflow", "Underflow")
 
 
 def lines_with(program, library, first, more):

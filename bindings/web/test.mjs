@@ -2,7 +2,7 @@
 // program.
 import assert from 'node:assert/strict';
 import { spawnSync } from 'node:child_process';
-import { existsSync, readFileSync } from 'node:fs';
+import { existsSync, readdirSync, readFileSync } from 'node:fs';
 import { CASES, KINDS, NumeralError, SCRIPTS, WAYS, toChinese, toNumber } from './chinese-number.mjs';
 
 const [program] = process.argv.slice(2);
@@ -105,6 +105,11 @@ function compareWithTheProgram() {
     `${counts.marked} characters at fault stand where the face says, ${counts.behindPairs} of them on or behind a surrogate pair`);
 }
 
+// The calls that the sources of cn_c export.
+const sources = new URL('../../crates/cn_c/src/', import.meta.url);
+const calls = () => readdirSync(sources).flatMap((file) => Array.from(
+  readFileSync(new URL(file, sources), 'utf8').matchAll(/^pub (?:unsafe )?extern "C" fn (\w+)/gm), ([, name]) => name));
+
 // The modules ask nothing of their host, and offer the calls of cn_c.
 function lookAtTheModules() {
   for (const bits of [64, 32]) {
@@ -113,7 +118,7 @@ function lookAtTheModules() {
     const compiled = new WebAssembly.Module(readFileSync(file));
     assert.deepEqual(WebAssembly.Module.imports(compiled), []);
     assert.deepEqual(WebAssembly.Module.exports(compiled).map((it) => it.name).sort(),
-      ['__heap_base', 'chinese_number_print', 'chinese_number_read', 'chinese_number_read_utf8', 'memory']);
+      ['__heap_base', ...calls().sort(), 'memory']);
   }
 }
 

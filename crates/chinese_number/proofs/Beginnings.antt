@@ -31,14 +31,18 @@ take-signed_text variant case true marks zero h = absurd (omega (arith, h))
 take-signed_text variant case true marks (suc kept) h = (kept, omega (arith, h), ap (λ l. minus_char variant ∷ l) (take-map (mark_char variant case) kept marks))
 take-signed_text variant case false marks count h = (count, h, take-map (mark_char variant case) count marks)
 
-not_empty : (marks : List Mark) → starts_with_digit (with_first_digit marks) ≡ true → 0 < length marks
+not_empty : (marks : List Mark) → starts_with_digit (with_first_digit marks) ≡ true
+    → 0 < length marks
 not_empty [] h = cc
 not_empty (mark ∷ rest) h = omega arith
 
-starts-front : (front back : List Mark) → 0 < length front → starts_with_digit (with_first_digit (front ++ back)) ≡ true → starts_with_digit (with_first_digit front) ≡ true
+starts-front : (front back : List Mark) → 0 < length front
+    → starts_with_digit (with_first_digit (front ++ back)) ≡ true
+    → starts_with_digit (with_first_digit front) ≡ true
 starts-front [] back some h = absurd (omega (arith, some))
 starts-front (digit value ∷ front) back some h = refl
-starts-front (unit rank ∷ front) back some h = starts-alike (if rank == 1 then digit 10 else unit rank) (front ++ back) front h
+starts-front (unit rank ∷ front) back some h =
+    starts-alike (if rank == 1 then digit 10 else unit rank) (front ++ back) front h
 starts-front (other ∷ front) back some h = h
 
 -- whose parts are the same sign and that beginning
@@ -55,7 +59,8 @@ HasParts-beginning kind variant case negative marks count minus printed s longer
       some,
       subst (λ text. HasParts kind (encode_utf8_all text) (written_sign negative) front) (sym t.2)
           (HasParts-signed_text kind variant case negative front minus (list_all-front is_printed front back (subst (λ l. list_all is_printed l ≡ true) whole printed))
-          (starts-front front back some (subst (λ l. starts_with_digit (with_first_digit l) ≡ true) whole s))),
+          (starts-front front back some
+          (subst (λ l. starts_with_digit (with_first_digit l) ≡ true) whole s))),
     )
 
 -- by units
@@ -67,13 +72,22 @@ Reads-beginning kind method variant case number count whole none held printable 
     let square = below_square method number small printable in
     let marks = spelling method (nat_abs number) in
     let negative = int_lt number (pos 0) in
-    let s = and-left (starts_with_digit (with_first_digit marks)) _ (spelling-is_numeral method (nat_abs number) square).0 in
+    let s = and-left (starts_with_digit (with_first_digit marks)) _
+    (spelling-is_numeral method (nat_abs number) square).0 in
     let b = HasParts-beginning kind variant case negative marks count (minus_is_signed kind number whole held) (spelling-printed method (nat_abs number) square) s longer in
     let front = take b.0 marks in
     let bytes = encode_utf8_all (take count (spelled_text variant case method number)) in
-    let j = Judges-beginning method (nat_abs number) front (drop b.0 marks) small square b.1 (take-append-drop b.0 marks) in
-    let beginning = signed_number (is_minus (written_sign negative)) (numeral_value method front) in
-    (beginning, subst (Reads kind method bytes) (typed_number-held kind beginning (held-smaller kind number (numeral_value method front) none held j.1)) (Reads-parts kind method bytes (written_sign negative) front (Ok (numeral_value method front)) b.2 j.0))
+    let j = Judges-beginning method (nat_abs number) front (drop b.0 marks) small square b.1
+    (take-append-drop b.0 marks) in
+    let beginning = signed_number (is_minus (written_sign negative)) (numeral_value method front)
+    in (
+      beginning,
+      subst (Reads kind method bytes)
+          (typed_number-held kind beginning
+          (held-smaller kind number (numeral_value method front) none held
+          j.1)) (Reads-parts kind method bytes (written_sign negative) front
+          (Ok (numeral_value method front)) b.2 j.0),
+    )
 
 -- and as plain digits
 pub naive_reading-beginning : (kind : Kind) (variant : ChineseVariant) (case : ChineseCase) (number : ℤ) (count : ℕ) → IsWhole kind → holds kind (pos 0) ≡ true → holds kind number ≡ true
@@ -88,10 +102,13 @@ naive_reading-beginning kind variant case number count whole none held longer =
     let front = take b.0 marks in
     let bytes = encode_utf8_all (take count (naive_text variant case number)) in
     let most = front-le b.0 marks in
-    let digits = list_all-front is_digit front (drop b.0 marks) (subst (λ l. list_all is_digit l ≡ true) (sym (take-append-drop b.0 marks)) d.digits) in
+    let digits = list_all-front is_digit front (drop b.0 marks)
+    (subst (λ l. list_all is_digit l ≡ true) (sym (take-append-drop b.0 marks)) d.digits) in
     let beginning = signed_number (is_minus (written_sign negative)) (decimal_value front) in (
       beginning,
       naive_reading-parts kind bytes (written_sign negative) front b.2
-          ∙ ap (typed_answer kind bytes (written_sign negative)) (naive_answer-digits front b.1 digits (omega (arith, most, d.value, small)))
-          ∙ typed_number-held kind beginning (held-smaller kind number (decimal_value front) none held (omega (arith, most, d.value))),
+          ∙ ap (typed_answer kind bytes (written_sign negative))
+          (naive_answer-digits front b.1 digits (omega (arith, most, d.value, small)))
+          ∙ typed_number-held kind beginning
+          (held-smaller kind number (decimal_value front) none held (omega (arith, most, d.value))),
     )

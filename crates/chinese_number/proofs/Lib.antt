@@ -1,5 +1,6 @@
 pub mod Beginnings
 pub mod CharIndexes
+pub mod Joining
 pub mod LeadingZeros
 pub mod Methods
 pub mod Numerals

@@ -16,13 +16,21 @@ drop_past n marks h = by (drop n marks) (length-drop n marks) where
   by (mark ∷ rest) e = absurd (omega (arith, e, h))
 
 -- 零 with what stands after the place is a numeral
-pub zero_after_place : (marks : List Mark) (place : ℕ) → IsPlace marks place → IsNumeral (digit 0 ∷ drop (place + 1) marks)
+pub zero_after_place : (marks : List Mark) (place : ℕ) → IsPlace marks place
+    → IsNumeral (digit 0 ∷ drop (place + 1) marks)
 zero_after_place marks place at = elim (dec_lt (place + 1) (length marks)) [
-  | yes within ↦ completable_by_zero (drop (place + 1) marks) (at.after (place + 1) (omega arith) within)
+  | yes within ↦ completable_by_zero (drop (place + 1) marks)
+      (at.after (place + 1) (omega arith) within)
   | no past ↦ rw (drop_past (place + 1) marks (omega (arith, past)))
 ]
 
 -- 零 is a character, and completes what marks can complete
-pub completable_by_scalars : (text : List ℕ) → Completable (marks_of text) → (front : List ℕ) × (all_scalars front ≡ true) × (0 < length front) × IsNumeral (marks_of (front ++ text))
+pub completable_by_scalars : (text : List ℕ) → Completable (marks_of text) → (front : List ℕ)
+    × (all_scalars front ≡ true) × (0 < length front) × IsNumeral (marks_of (front ++ text))
 unfolding digit_of rank_of
-completable_by_scalars text h = (0x96F6 ∷ [], refl, omega arith, completable_by_zero (marks_of text) h)
+completable_by_scalars text h = (
+  0x96F6 ∷ [],
+  refl,
+  omega arith,
+  completable_by_zero (marks_of text) h,
+)

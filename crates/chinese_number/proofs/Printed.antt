@@ -85,7 +85,8 @@ pub record IsReadBack (text : List ℕ) (marks : List Mark) : Type 0 where
 pub IsReadBack-nil : IsReadBack [] []
 IsReadBack-nil = record { scalars = refl; kept = refl; marks_same = refl }
 
-IsReadBack-more : (c : ℕ) (text : List ℕ) (marks : List Mark) → all_scalars (c ∷ []) ≡ true → is_not_whitespace c ≡ true → IsReadBack text marks → IsReadBack (c ∷ text) (mark_of c ∷ marks)
+IsReadBack-more : (c : ℕ) (text : List ℕ) (marks : List Mark) → all_scalars (c ∷ []) ≡ true
+    → is_not_whitespace c ≡ true → IsReadBack text marks → IsReadBack (c ∷ text) (mark_of c ∷ marks)
 IsReadBack-more c text marks s w h = record {
   scalars = both _ _ (and-left _ true s) h.scalars;
   kept = rw w (ap (λ l. c ∷ l) h.kept);
@@ -97,9 +98,13 @@ IsReadBack-marks variant case [] h = IsReadBack-nil
 IsReadBack-marks variant case (mark ∷ marks) h =
     let c = mark_char variant case mark in
     let t = read_back variant case mark (and-left (is_printed mark) _ h) in
-    let same = same_mark-true (mark_of c) mark (and-left (same_mark (mark_of c) mark) _ (and-left (same_mark (mark_of c) mark && all_scalars (c ∷ [])) _ t)) in
-    let scalar = and-right (same_mark (mark_of c) mark) (all_scalars (c ∷ [])) (and-left (same_mark (mark_of c) mark && all_scalars (c ∷ [])) _ t) in
-    let dark = and-right (same_mark (mark_of c) mark && all_scalars (c ∷ [])) (is_not_whitespace c) t in
+    let same = same_mark-true (mark_of c) mark
+    (and-left (same_mark (mark_of c) mark) _
+    (and-left (same_mark (mark_of c) mark && all_scalars (c ∷ [])) _ t)) in
+    let scalar = and-right (same_mark (mark_of c) mark) (all_scalars (c ∷ []))
+    (and-left (same_mark (mark_of c) mark && all_scalars (c ∷ [])) _ t) in
+    let dark = and-right (same_mark (mark_of c) mark && all_scalars (c ∷ [])) (is_not_whitespace c)
+    t in
     let rest = IsReadBack-marks variant case marks (and-right (is_printed mark) _ h) in
     rw same at (IsReadBack-more c (map (mark_char variant case) marks) marks scalar dark rest)
 

@@ -25,33 +25,44 @@ use Rattle.chinese_number.proofs.Printed.{is_printed, IsReadBack-marks, text_of-
 use Rattle.chinese_number.proofs.SpelledMarks.{below_square, spelling-printed, Judges-spelling}
 
 -- a number that the type holds
-pub typed_number-held : (kind : Kind) (number : ℤ) → holds kind number ≡ true → typed_number kind number ≡ Ok number
+pub typed_number-held : (kind : Kind) (number : ℤ) → holds kind number ≡ true
+    → typed_number kind number ≡ Ok number
 typed_number-held kind number h = grind (arith, ints, h)
 
 -- and what is answered is such a number
-pub held-typed_number : (kind : Kind) (number answer : ℤ) → typed_number kind number ≡ Ok answer → holds kind answer ≡ true
+pub held-typed_number : (kind : Kind) (number answer : ℤ) → typed_number kind number ≡ Ok answer
+    → holds kind answer ≡ true
 held-typed_number kind number answer h = grind (arith, ints, h)
 
 -- that is, the number itself
-pub held_is : (kind : Kind) (number answer : ℤ) → typed_number kind number ≡ Ok answer → number ≡ answer
+pub held_is : (kind : Kind) (number answer : ℤ) → typed_number kind number ≡ Ok answer
+    → number ≡ answer
 held_is kind number answer h = grind (arith, ints, h)
 
 -- a string has one answer
-pub Reads-same : (kind : Kind) (method : ChineseCountMethod) (bytes : List ℕ) (a b : Result ℤ Refusal) → Reads kind method bytes a → Reads kind method bytes b → a ≡ b
+pub Reads-same : (kind : Kind) (method : ChineseCountMethod) (bytes : List ℕ)
+    (a b : Result ℤ Refusal) → Reads kind method bytes a → Reads kind method bytes b → a ≡ b
 Reads-same kind method bytes a b (x, is_x, a_is) (y, is_y, b_is) =
     let sign = leading_sign kind.signed (text_of bytes) in
-    a_is ∙ ap (typed_answer kind bytes sign) (Judges-same method (marks_of (drop (sign_len sign) (text_of bytes))) x y is_x is_y) ∙ sym b_is
+    a_is ∙ ap (typed_answer kind bytes sign)
+    (Judges-same method (marks_of (drop (sign_len sign) (text_of bytes))) x y is_x is_y)
+    ∙ sym b_is
 
 -- the sign of a string, and the marks that follow it
-pub record HasParts (kind : Kind) (bytes : List ℕ) (sign : Option Sign) (marks : List Mark) : Type 0 where
+pub record HasParts (kind : Kind) (bytes : List ℕ) (sign : Option Sign)
+    (marks : List Mark) : Type 0 where
   pub sign_is : leading_sign kind.signed (text_of bytes) ≡ sign
   pub marks_is : marks_of (drop (sign_len sign) (text_of bytes)) ≡ marks
 
-pub Reads-parts : (kind : Kind) (method : ChineseCountMethod) (bytes : List ℕ) (sign : Option Sign) (marks : List Mark) (judged : Result ℕ Refusal)
-    → HasParts kind bytes sign marks → Judges method marks judged → Reads kind method bytes (typed_answer kind bytes sign judged)
-Reads-parts kind method bytes sign marks judged parts j = rw (parts.sign_is, parts.marks_is) (judged, j, refl)
+pub Reads-parts : (kind : Kind) (method : ChineseCountMethod) (bytes : List ℕ) (sign : Option Sign)
+    (marks : List Mark) (judged : Result ℕ Refusal)
+    → HasParts kind bytes sign marks → Judges method marks judged
+    → Reads kind method bytes (typed_answer kind bytes sign judged)
+Reads-parts kind method bytes sign marks judged parts j =
+    rw (parts.sign_is, parts.marks_is) (judged, j, refl)
 
-pub naive_reading-parts : (kind : Kind) (bytes : List ℕ) (sign : Option Sign) (marks : List Mark) → HasParts kind bytes sign marks
+pub naive_reading-parts : (kind : Kind) (bytes : List ℕ) (sign : Option Sign) (marks : List Mark)
+    → HasParts kind bytes sign marks
     → naive_reading kind bytes ≡ typed_answer kind bytes sign (naive_answer marks)
 naive_reading-parts kind bytes sign marks parts = rw (parts.sign_is, parts.marks_is)
 
@@ -70,19 +81,23 @@ written_sign false = None
 not_below_zero : (n : ℕ) → int_lt (pos n) (pos 0) ≡ false
 not_below_zero n = grind (arith, ints)
 
-pub signed_number-signed_text : (number : ℤ) → signed_number (is_minus (written_sign (int_lt number (pos 0)))) (nat_abs number) ≡ number
+pub signed_number-signed_text : (number : ℤ)
+    → signed_number (is_minus (written_sign (int_lt number (pos 0)))) (nat_abs number) ≡ number
 signed_number-signed_text (pos n) = rw (not_below_zero n)
 signed_number-signed_text (negsuc n) = refl
 
 -- with this sign a type that holds the number, and 0, holds each smaller magnitude too
-pub held-smaller : (kind : Kind) (number : ℤ) (magnitude : ℕ) → holds kind (pos 0) ≡ true → holds kind number ≡ true → magnitude ≤ nat_abs number
+pub held-smaller : (kind : Kind) (number : ℤ) (magnitude : ℕ) → holds kind (pos 0) ≡ true
+    → holds kind number ≡ true → magnitude ≤ nat_abs number
     → holds kind (signed_number (is_minus (written_sign (int_lt number (pos 0)))) magnitude) ≡ true
-held-smaller kind (pos n) magnitude none held low = rw (not_below_zero n) (grind (arith, ints, none, held, low))
+held-smaller kind (pos n) magnitude none held low =
+    rw (not_below_zero n) (grind (arith, ints, none, held, low))
 held-smaller kind (negsuc n) zero none held low = none
 held-smaller kind (negsuc n) (suc magnitude) none held low = grind (arith, ints, none, held, low)
 
 -- a sign leaves the magnitude as it was
-pub size_of : (sign : Option Sign) (magnitude : ℕ) → nat_abs (signed_number (is_minus sign) magnitude) ≡ magnitude
+pub size_of : (sign : Option Sign) (magnitude : ℕ)
+    → nat_abs (signed_number (is_minus sign) magnitude) ≡ magnitude
 size_of None magnitude = refl
 size_of (Some Plus) magnitude = refl
 size_of (Some Minus) zero = refl
@@ -90,7 +105,8 @@ size_of (Some Minus) (suc magnitude) = refl
 
 -- the parts of a written text are those that it was written from
 pub HasParts-signed_text : (kind : Kind) (variant : ChineseVariant) (case : ChineseCase) (negative : Bool) (marks : List Mark)
-    → (negative ≡ true → kind.signed ≡ true) → list_all is_printed marks ≡ true → starts_with_digit (with_first_digit marks) ≡ true
+    → (negative ≡ true → kind.signed ≡ true) → list_all is_printed marks ≡ true
+    → starts_with_digit (with_first_digit marks) ≡ true
     → HasParts kind (signed_bytes variant case negative marks) (written_sign negative) marks
 HasParts-signed_text kind variant case true marks minus h s = record {
   sign_is = rw (text_of-signed_text variant case true marks h, minus refl) (minus_is_sign variant);
@@ -103,8 +119,10 @@ HasParts-signed_text kind variant case false marks minus h s = record {
 
 -- a number is answered where its magnitude is judged
 pub typed_answer-held : (kind : Kind) (number : ℤ) (bytes : List ℕ) → holds kind number ≡ true
-    → typed_answer kind bytes (written_sign (int_lt number (pos 0))) (Ok (nat_abs number)) ≡ Ok number
-typed_answer-held kind number bytes held = ap (typed_number kind) (signed_number-signed_text number) ∙ typed_number-held kind number held
+    → typed_answer kind bytes (written_sign (int_lt number (pos 0))) (Ok (nat_abs number))
+    ≡ Ok number
+typed_answer-held kind number bytes held =
+    ap (typed_number kind) (signed_number-signed_text number) ∙ typed_number-held kind number held
 
 -- what is known of the kind of an integer type
 pub record IsWhole (kind : Kind) : Type 0 where
@@ -112,10 +130,14 @@ pub record IsWhole (kind : Kind) : Type 0 where
   pub fits : (z : ℤ) → holds kind z ≡ true → nat_abs z < 2 ^ 128
 
 -- by the laws of the type
-pub IsWhole-laws : (kind : Kind) (signed : Bool) → kind.signed ≡ signed → (signed ≡ false → kind.least ≡ pos 0) → ((z : ℤ) → holds kind z ≡ true → nat_abs z < 2 ^ 128) → IsWhole kind
-IsWhole-laws kind signed same zero_least fits = record { from_zero = λ e. zero_least (sym same ∙ e); fits = fits }
+pub IsWhole-laws : (kind : Kind) (signed : Bool) → kind.signed ≡ signed
+    → (signed ≡ false → kind.least ≡ pos 0) → ((z : ℤ) → holds kind z ≡ true → nat_abs z < 2 ^ 128)
+    → IsWhole kind
+IsWhole-laws kind signed same zero_least fits =
+    record { from_zero = λ e. zero_least (sym same ∙ e); fits = fits }
 
-pub minus_is_signed : (kind : Kind) (number : ℤ) → IsWhole kind → holds kind number ≡ true → int_lt number (pos 0) ≡ true → kind.signed ≡ true
+pub minus_is_signed : (kind : Kind) (number : ℤ) → IsWhole kind → holds kind number ≡ true
+    → int_lt number (pos 0) ≡ true → kind.signed ≡ true
 minus_is_signed kind number whole held below = by kind.signed refl where
   by : (b : Bool) → kind.signed ≡ b → b ≡ true
   by true e = refl
@@ -137,10 +159,14 @@ Reads-spelled kind method variant case number whole held printable =
     (Judges-spelling method (nat_abs number) small square))
 
 -- and no other number is
-pub Reads-only : (kind : Kind) (method : ChineseCountMethod) (bytes : List ℕ) (answer number : Result ℤ Refusal) → Reads kind method bytes number
-    → (Reads kind method bytes answer → answer ≡ number) × (answer ≡ number → Reads kind method bytes answer)
-Reads-only kind method bytes answer number is =
-    (λ r. Reads-same kind method bytes answer number r is, λ e. subst (λ a. Reads kind method bytes a) (sym e) is)
+pub Reads-only : (kind : Kind) (method : ChineseCountMethod) (bytes : List ℕ)
+    (answer number : Result ℤ Refusal) → Reads kind method bytes number
+    → (Reads kind method bytes answer → answer ≡ number)
+    × (answer ≡ number → Reads kind method bytes answer)
+Reads-only kind method bytes answer number is = (
+  λ r. Reads-same kind method bytes answer number r is,
+  λ e. subst (λ a. Reads kind method bytes a) (sym e) is,
+)
 
 -- the answer is there
 abbrev pub the_answer : Kind → ChineseCountMethod → List ℕ → Result ℤ Refusal
@@ -148,20 +174,24 @@ the_answer kind method bytes =
     let sign = leading_sign kind.signed (text_of bytes) in
     typed_answer kind bytes sign (judge method (marks_of (drop (sign_len sign) (text_of bytes))))
 
-pub Reads-the_answer : (kind : Kind) (method : ChineseCountMethod) (bytes : List ℕ) → Reads kind method bytes (the_answer kind method bytes)
+pub Reads-the_answer : (kind : Kind) (method : ChineseCountMethod) (bytes : List ℕ)
+    → Reads kind method bytes (the_answer kind method bytes)
 Reads-the_answer kind method bytes =
     let sign = leading_sign kind.signed (text_of bytes) in
     let marks = marks_of (drop (sign_len sign) (text_of bytes)) in
     (judge method marks, Judges-judge method marks, refl)
 
 -- what is answered is a number of the type
-pub held-answered : (kind : Kind) (method : ChineseCountMethod) (bytes : List ℕ) (number : ℤ) → Reads kind method bytes (Ok number) → holds kind number ≡ true
+pub held-answered : (kind : Kind) (method : ChineseCountMethod) (bytes : List ℕ) (number : ℤ)
+    → Reads kind method bytes (Ok number) → holds kind number ≡ true
 held-answered kind method bytes number (judged, is, answer) = by judged answer where
   sign : Option Sign
   sign = leading_sign kind.signed (text_of bytes)
 
-  by : (judged : Result ℕ Refusal) → Ok number ≡ typed_answer kind bytes sign judged → holds kind number ≡ true
-  by (Ok magnitude) h = held-typed_number kind (signed_number (is_minus sign) magnitude) number (sym h)
+  by : (judged : Result ℕ Refusal) → Ok number ≡ typed_answer kind bytes sign judged
+      → holds kind number ≡ true
+  by (Ok magnitude) h = held-typed_number kind (signed_number (is_minus sign) magnitude) number
+      (sym h)
   by (Err empty) h = cc
   by (Err (incorrect_at place)) h = cc
   by (Err too_large) h = cc
@@ -178,6 +208,9 @@ same_from_text kind method variant case one second whole held_one held_second p 
     cc
 
 -- texts of one number are answered alike
-pub Reads-alike : (kind : Kind) (method : ChineseCountMethod) (one second : List ℕ) (answer number : Result ℤ Refusal) → Reads kind method one number → Reads kind method second number
+pub Reads-alike : (kind : Kind) (method : ChineseCountMethod) (one second : List ℕ)
+    (answer number : Result ℤ Refusal) → Reads kind method one number
+    → Reads kind method second number
     → Reads kind method one answer → Reads kind method second answer
-Reads-alike kind method one second answer number is_one is_second h = subst (Reads kind method second) (Reads-same kind method one number answer is_one h) is_second
+Reads-alike kind method one second answer number is_one is_second h =
+    subst (Reads kind method second) (Reads-same kind method one number answer is_one h) is_second

@@ -24,33 +24,51 @@ small = names_no_unit_above_wan
 
 module _ (one second : ChineseCountMethod) where
   scales-same : (rank : ℕ) → nat_lt rank 5 ≡ true → scale one rank ≡ scale second rank
-  scales-same rank h = let low : rank < 5 = grind (arith, nat_tests) in scale-low one second rank (omega (arith, low))
+  scales-same rank h = let low : rank < 5 =
+      grind (arith, nat_tests) in scale-low one second rank (omega (arith, low))
 
-  product-same : (least : ℕ) (marks : List Mark) → small marks ≡ true → product (map (scale one) (records_from least marks)) ≡ product (map (scale second) (records_from least marks))
+  product-same : (least : ℕ) (marks : List Mark) → small marks ≡ true
+      → product (map (scale one) (records_from least marks))
+      ≡ product (map (scale second) (records_from least marks))
   product-same least [] h = refl
   product-same least (digit number ∷ rest) h = product-same least rest h
   product-same least (other ∷ rest) h = product-same least rest h
   product-same least (unit rank ∷ rest) h =
       let others = and-right (nat_lt rank 5) _ h in
-      grind (arith, nat_tests, scales-same rank (and-left (nat_lt rank 5) _ h), product-same (rank + 1) rest others, product-same least rest others)
+      grind (
+        arith,
+        nat_tests,
+        scales-same rank (and-left (nat_lt rank 5) _ h),
+        product-same (rank + 1) rest others,
+        product-same least rest others,
+      )
 
   value-same : (marks : List Mark) → small marks ≡ true → value one marks ≡ value second marks
   value-same [] h = refl
-  value-same (digit number ∷ rest) h = ap₂ (λ w v. number * w + v) (product-same 0 rest h) (value-same rest h)
+  value-same (digit number ∷ rest) h =
+      ap₂ (λ w v. number * w + v) (product-same 0 rest h) (value-same rest h)
   value-same (other ∷ rest) h = value-same rest h
   value-same (unit rank ∷ rest) h = value-same rest (and-right (nat_lt rank 5) _ h)
 
-  colloquial-same : (marks : List Mark) → small marks ≡ true → colloquial_value one marks ≡ colloquial_value second marks
+  colloquial-same : (marks : List Mark) → small marks ≡ true
+      → colloquial_value one marks ≡ colloquial_value second marks
   colloquial-same [] h = refl
-  colloquial-same (digit number ∷ rest) h = ap₂ (λ w v. number * w + v) (product-same 0 rest h) (colloquial-same rest h)
+  colloquial-same (digit number ∷ rest) h =
+      ap₂ (λ w v. number * w + v) (product-same 0 rest h) (colloquial-same rest h)
   colloquial-same (other ∷ rest) h = colloquial-same rest h
   colloquial-same (unit rank ∷ []) h = refl
-  colloquial-same (unit rank ∷ unit next ∷ rest) h = colloquial-same (unit next ∷ rest) (and-right (nat_lt rank 5) _ h)
-  colloquial-same (unit rank ∷ other ∷ rest) h = colloquial-same (other ∷ rest) (and-right (nat_lt rank 5) _ h)
-  colloquial-same (unit rank ∷ digit number ∷ mark ∷ rest) h = colloquial-same (digit number ∷ mark ∷ rest) (and-right (nat_lt rank 5) _ h)
-  colloquial-same (unit rank ∷ digit number ∷ []) h = ap (λ s. if nat_lt rank 2 then number else number * s / 10) (scales-same rank (and-left (nat_lt rank 5) _ h))
+  colloquial-same (unit rank ∷ unit next ∷ rest) h =
+      colloquial-same (unit next ∷ rest) (and-right (nat_lt rank 5) _ h)
+  colloquial-same (unit rank ∷ other ∷ rest) h =
+      colloquial-same (other ∷ rest) (and-right (nat_lt rank 5) _ h)
+  colloquial-same (unit rank ∷ digit number ∷ mark ∷ rest) h =
+      colloquial-same (digit number ∷ mark ∷ rest) (and-right (nat_lt rank 5) _ h)
+  colloquial-same (unit rank ∷ digit number ∷ []) h =
+      ap (λ s. if nat_lt rank 2 then number else number * s / 10)
+      (scales-same rank (and-left (nat_lt rank 5) _ h))
 
-  with_first_digit-small : (marks : List Mark) → small marks ≡ true → small (with_first_digit marks) ≡ true
+  with_first_digit-small : (marks : List Mark) → small marks ≡ true
+      → small (with_first_digit marks) ≡ true
   with_first_digit-small [] h = h
   with_first_digit-small (digit number ∷ rest) h = h
   with_first_digit-small (other ∷ rest) h = h
@@ -59,37 +77,46 @@ module _ (one second : ChineseCountMethod) where
     by true = and-right (nat_lt rank 5) _ h
     by false = h
 
-  fits-same : (rank : ℕ) → nat_lt rank 5 ≡ true → (method : ChineseCountMethod) → scale_fits method rank ≡ true
+  fits-same : (rank : ℕ) → nat_lt rank 5 ≡ true → (method : ChineseCountMethod)
+      → scale_fits method rank ≡ true
   fits-same rank h method =
       let low : rank < 5 = grind (arith, nat_tests) in
       let e = exponent-low method rank (omega (arith, low)) in
       let test : nat_le rank 38 ≡ true = grind (arith, nat_tests) in
       rw e test
 
-  unfit-none : (method : ChineseCountMethod) (marks : List Mark) → small marks ≡ true → some_unfit method marks ≡ false
+  unfit-none : (method : ChineseCountMethod) (marks : List Mark) → small marks ≡ true
+      → some_unfit method marks ≡ false
   unfit-none method [] h = refl
   unfit-none method (digit number ∷ rest) h = unfit-none method rest h
   unfit-none method (other ∷ rest) h = unfit-none method rest h
-  unfit-none method (unit rank ∷ rest) h = rw (fits-same rank (and-left (nat_lt rank 5) _ h) method) (unfit-none method rest (and-right (nat_lt rank 5) _ h))
+  unfit-none method (unit rank ∷ rest) h =
+      rw (fits-same rank (and-left (nat_lt rank 5) _ h) method) (unfit-none method rest
+      (and-right (nat_lt rank 5) _ h))
 
-  unfit-same : (marks : List Mark) → small marks ≡ true → some_unfit one marks ≡ some_unfit second marks
+  unfit-same : (marks : List Mark) → small marks ≡ true
+      → some_unfit one marks ≡ some_unfit second marks
   unfit-same marks h = unfit-none one marks h ∙ sym (unfit-none second marks h)
 
   take-small : (n : ℕ) (marks : List Mark) → small marks ≡ true → small (take n marks) ≡ true
   take-small zero marks h = refl
   take-small (suc n) [] h = refl
-  take-small (suc n) (mark ∷ rest) h = rw (and-left (is_below 5 mark) _ h) (take-small n rest (and-right (is_below 5 mark) _ h))
+  take-small (suc n) (mark ∷ rest) h = rw (and-left (is_below 5 mark) _ h) (take-small n rest
+      (and-right (is_below 5 mark) _ h))
 
-  overflowing-one : (mark : Mark) (rest : List Mark) → small rest ≡ true → is_overflowing one mark rest ≡ is_overflowing second mark rest
+  overflowing-one : (mark : Mark) (rest : List Mark) → small rest ≡ true
+      → is_overflowing one mark rest ≡ is_overflowing second mark rest
   overflowing-one (digit number) rest h = refl
   overflowing-one other rest h = refl
   overflowing-one (unit rank) [] h = refl
   overflowing-one (unit rank) (unit next ∷ rest) h = refl
   overflowing-one (unit rank) (other ∷ rest) h = refl
   overflowing-one (unit rank) (digit number ∷ rest) h =
-      ap (λ v. nat_le (2 ^ 128) v) (value-same (take_while (is_below rank) (digit number ∷ rest)) (take-small (prefix_len (is_below rank) (digit number ∷ rest)) (digit number ∷ rest) h))
+      ap (λ v. nat_le (2 ^ 128) v) (value-same (take_while (is_below rank) (digit number ∷ rest))
+      (take-small (prefix_len (is_below rank) (digit number ∷ rest)) (digit number ∷ rest) h))
 
-  overflowing-same : (marks : List Mark) → small marks ≡ true → some_overflowing one marks ≡ some_overflowing second marks
+  overflowing-same : (marks : List Mark) → small marks ≡ true
+      → some_overflowing one marks ≡ some_overflowing second marks
   overflowing-same [] h = refl
   overflowing-same (mark ∷ rest) h =
       let rest_small = and-right (is_below 5 mark) _ h in
@@ -100,13 +127,18 @@ module _ (one second : ChineseCountMethod) where
   drop-small (suc n) [] h = refl
   drop-small (suc n) (mark ∷ rest) h = drop-small n rest (and-right (is_below 5 mark) _ h)
 
-  early-same : (marks : List Mark) (place : ℕ) → small marks ≡ true → is_early one marks place ≡ is_early second marks place
+  early-same : (marks : List Mark) (place : ℕ) → small marks ≡ true
+      → is_early one marks place ≡ is_early second marks place
   early-same marks place h =
-      ap₂ (λ x y. x || y) (unfit-same (drop (place + 1) marks) (drop-small (place + 1) marks h)) (overflowing-same (drop (max place 1) marks) (drop-small (max place 1) marks h))
+      ap₂ (λ x y. x || y) (unfit-same (drop (place + 1) marks) (drop-small (place + 1) marks h))
+      (overflowing-same (drop (max place 1) marks) (drop-small (max place 1) marks h))
 
-  numeral_answer-same : (marks : List Mark) → small marks ≡ true → numeral_answer one marks ≡ numeral_answer second marks
+  numeral_answer-same : (marks : List Mark) → small marks ≡ true
+      → numeral_answer one marks ≡ numeral_answer second marks
   numeral_answer-same marks h =
-      ap₂ (λ (u : Bool) (number : ℕ). if not u && nat_lt number (2 ^ 128) then Ok number else Err too_large) (unfit-same marks h) (colloquial-same (with_first_digit marks) (with_first_digit-small marks h))
+      ap₂ (λ (u : Bool) (number : ℕ). if not u && nat_lt number (2 ^ 128) then Ok number
+      else Err too_large) (unfit-same marks h)
+      (colloquial-same (with_first_digit marks) (with_first_digit-small marks h))
 
   body-small : (marks : List Mark) → small marks ≡ true → small (body marks) ≡ true
   body-small marks h = by (ends_apart (reverse marks)) where
@@ -119,18 +151,29 @@ module _ (one second : ChineseCountMethod) where
   judge-same (mark ∷ rest) h =
       let marks = mark ∷ rest in
       let inner = body-small marks h in
-      let last = ap (λ r. if is_ok r then Err (incorrect_at (length marks - 1)) else Err too_large) (numeral_answer-same (body marks) inner) in
+      let last = ap (λ r. if is_ok r then Err (incorrect_at (length marks - 1)) else Err too_large)
+      (numeral_answer-same (body marks) inner) in
       let place = place_of (body marks) in
-      let refused = ap (λ b. if b then Err too_large else Err (incorrect_at place)) (early-same (body marks) place inner) in
-      ap₂ (λ x y. if is_numeral marks then x else y) (numeral_answer-same marks h) (ap₂ (λ x y. if is_numeral (body marks) then x else y) last refused)
+      let refused = ap (λ b. if b then Err too_large else Err (incorrect_at place))
+      (early-same (body marks) place inner) in
+      ap₂ (λ x y. if is_numeral marks then x else y) (numeral_answer-same marks h)
+      (ap₂ (λ x y. if is_numeral (body marks) then x else y) last refused)
 
-  Judges-same_units : (marks : List Mark) (answer : Result ℕ Refusal) → small marks ≡ true → Judges one marks answer → Judges second marks answer
+  Judges-same_units : (marks : List Mark) (answer : Result ℕ Refusal) → small marks ≡ true
+      → Judges one marks answer → Judges second marks answer
   Judges-same_units marks answer h is =
-      Judges-by_walk second marks answer (sym (judge-same marks h) ∙ Judges-same one marks (judge one marks) answer (Judges-judge one marks) is)
+      Judges-by_walk second marks answer
+      (sym (judge-same marks h) ∙ Judges-same one marks (judge one marks) answer
+      (Judges-judge one marks) is)
 
   pub Reads-same_units : (kind : Kind) (bytes : List ℕ) (answer : Result ℤ Refusal)
-      → let text = text_of bytes in small (marks_of (drop (sign_len (leading_sign kind.signed text)) text)) ≡ true
+      → let text = text_of bytes in small (marks_of (drop (sign_len (leading_sign kind.signed
+      text)) text)) ≡ true
       → Reads kind one bytes answer → Reads kind second bytes answer
   Reads-same_units kind bytes answer h (judged, is, answer_is) =
-      let text = text_of bytes in
-      (judged, Judges-same_units (marks_of (drop (sign_len (leading_sign kind.signed text)) text)) judged h is, answer_is)
+      let text = text_of bytes in (
+        judged,
+        Judges-same_units (marks_of (drop (sign_len (leading_sign kind.signed text)) text))
+            judged h is,
+        answer_is,
+      )

@@ -1,8 +1,6 @@
 // What is repeated, and how often.
-use chinese_number::{
-    ChineseCase, ChineseCountMethod, ChineseToNumber, ChineseToNumberError, ChineseVariant,
-    NumberToChinese, NumberToChineseError,
-};
+use chinese_number::{ChineseCase, ChineseVariant, NumberToChinese, NumberToChineseError};
+use cn_ways::{Way, print_by, read_by, way_named};
 use std::alloc::{AllocError, Global};
 
 /// Which way a number goes.
@@ -10,13 +8,6 @@ use std::alloc::{AllocError, Global};
 pub enum Call {
     Print,
     Read,
-}
-
-/// Digit by digit, or by the units of a method.
-#[derive(Copy, Clone)]
-pub enum Way {
-    Naive,
-    Units(ChineseCountMethod),
 }
 
 /// A call for a type, and how often it goes over all the numbers.
@@ -28,17 +19,6 @@ pub struct Task {
     pub passes: u32,
 }
 
-fn way_named(name: &str) -> Option<Way> {
-    match name {
-        "naive" => Some(Way::Naive),
-        "low" => Some(Way::Units(ChineseCountMethod::Low)),
-        "ten_thousand" => Some(Way::Units(ChineseCountMethod::TenThousand)),
-        "middle" => Some(Way::Units(ChineseCountMethod::Middle)),
-        "high" => Some(Way::Units(ChineseCountMethod::High)),
-        _ => None,
-    }
-}
-
 impl Task {
     /// The task that these words name; one pass of printing where there are none.
     pub fn from_words(words: &[String]) -> Option<Self> {
@@ -46,7 +26,7 @@ impl Task {
             return Some(Task {
                 call: Call::Print,
                 is_wide: true,
-                way: Way::Naive,
+                way: Way::Digits,
                 passes: 1,
             });
         }
@@ -66,29 +46,23 @@ impl Task {
         Some(Task {
             call,
             is_wide,
-            way: way_named(way.as_str())?,
+            way: way_named(way.as_bytes())?,
             passes: passes.as_str().parse().ok()?,
         })
     }
 }
 
 // The text of a number; of one that `Low` does not write, the text of 0.
-fn text_of<T: NumberToChinese>(alloc: Global, way: Way, number: T) -> Result<String, AllocError> {
+fn printed_text<T: NumberToChinese>(
+    alloc: Global,
+    way: Way,
+    number: T,
+) -> Result<String, AllocError> {
     let (variant, case) = (ChineseVariant::Traditional, ChineseCase::Lower);
-    match way {
-        Way::Naive => number.to_chinese_naive(alloc, variant, case),
-        Way::Units(method) => match number.to_chinese(alloc, variant, case, method) {
-            Ok(text) => Ok(text),
-            Err(NumberToChineseError::OutOfMemory) => Err(AllocError),
-            Err(_) => 0u8.to_chinese_naive(alloc, variant, case),
-        },
-    }
-}
-
-fn number_of<T: NumberToChinese>(way: Way, text: &str) -> Result<T, ChineseToNumberError> {
-    match way {
-        Way::Naive => text.to_number_naive(),
-        Way::Units(method) => text.to_number(method),
+    match print_by(alloc, way, variant, case, number) {
+        Ok(text) => Ok(text),
+        Err(NumberToChineseError::OutOfMemory) => Err(AllocError),
+        Err(_) => 0u8.to_chinese_naive(alloc, variant, case),
     }
 }
 
@@ -101,7 +75,7 @@ pub fn print_sum<T: NumberToChinese>(
     let mut sum = 0u64;
     for _ in 0..task.passes {
         for number in numbers {
-            let text = text_of(alloc, task.way, *number)?;
+            let text = printed_text(alloc, task.way, *number)?;
             sum = sum.wrapping_add(text.len() as u64);
         }
     }
@@ -116,12 +90,12 @@ pub fn read_sum<T: NumberToChinese>(
 ) -> Result<u64, AllocError> {
     let mut texts = Vec::new(alloc);
     for number in numbers {
-        texts.push(text_of(alloc, task.way, *number)?)?;
+        texts.push(printed_text(alloc, task.way, *number)?)?;
     }
     let mut sum = 0u64;
     for _ in 0..task.passes {
         for text in &texts {
-            let number = number_of::<T>(task.way, text.as_str());
+            let number = read_by::<T>(task.way, text.as_str());
             let magnitude = number.map_or(0, |number| number.magnitude());
             sum = sum.wrapping_add((magnitude & u64::MAX as u128) as u64);
         }

@@ -1,5 +1,5 @@
 -- What is printed is read back as the same number.
-use Rattle.std.proofs.Common.{◌≡◌, ℕ, ◌-◌, ◌^◌, ◌<◌, ◌≤◌, ℤ, pos, int_lt, nat_abs, nat_le, Bool, true, false, MatchBool, MatchOption, List, [], ◌∷◌, ◌++◌, length, take, drop, encode_utf8_all, Option, Some, None, Result, Ok, if◌then◌else◌, refl, ◌∙◌, arith}
+use Rattle.std.proofs.Common.{◌≡◌, ℕ, ◌-◌, ◌^◌, ◌<◌, ◌≤◌, ℤ, pos, int_lt, nat_abs, nat_le, Bool, true, false, MatchBool, MatchOption, List, [], ◌∷◌, ◌++◌, length, take, drop, encode_utf8_all, Option, Some, None, Result, Ok, Err, if◌then◌else◌, refl, ◌∙◌, arith}
 use Rattle.std.proofs.Math.Seq.{take-append_seam}
 use Rattle.std.proofs.lemmas.Int.{ints}
 use Rattle.std.proofs.lemmas.Str.{IsUtf8-nil, IsUtf8-append, IsUtf8-encode, is_utf8-from_IsUtf8}
@@ -7,7 +7,7 @@ use Rattle.std.specs.List.{list_all}
 use Rattle.std.specs.Str.{IsUtf8, all_scalars}
 use Rattle.cn_core.specs.declared.case.ChineseCase.{ChineseCase}
 use Rattle.cn_core.specs.declared.script.ChineseVariant.{ChineseVariant}
-use Rattle.cn_core.specs.Refusal.{Refusal}
+use Rattle.cn_core.specs.Refusal.{Refusal, too_large, too_small}
 use Rattle.cn_core.specs.Spelling.{spelling}
 use Rattle.cn_core.specs.Whole.{Kind, holds, unsigned_kind, signed_kind}
 use Rattle.cn_core.specs.Printing.{signed_text, naive_text, spelled_text, is_printable}
@@ -21,31 +21,37 @@ use Rattle.chinese_number.proofs.Reading.{IsWhole, Reads-same, Reads-spelled}
 use Rattle.chinese_number.proofs.SpelledMarks.{below_square, spelling-printed}
 use Rattle.cn_c.specs.declared.codes.Kind.{Kind as KindCode}
 use Rattle.cn_c.specs.declared.codes.Kind.TheVariants.{U8, U16, U32, U64, U128, I8, I16, I32, I64, I128}
-use Rattle.cn_c.specs.declared.codes.Way.{Way}
-use Rattle.cn_c.specs.declared.codes.Way.TheVariants.{Digits, Units}
+use Rattle.cn_ways.specs.declared.Way.{Way}
+use Rattle.cn_ways.specs.declared.Way.TheVariants.{Digits, Units}
 use Rattle.cn_c.specs.declared.number.Number.{Number}
 use Rattle.cn_c.specs.declared.reading.Reading.{Reading}
-use Rattle.cn_c.specs.Codes.{CN_DONE, CN_TOO_SMALL, CN_TOO_LARGE}
+use Rattle.cn_ways.specs.Ways.{ReadsBy, unprintable, written_by}
+use Rattle.cn_c.specs.Codes.{CN_DONE, refusal_status}
 use Rattle.cn_c.specs.Halves.{number_of}
 use Rattle.cn_c.specs.Kinds.{the_kind}
-use Rattle.cn_c.specs.Prints.{Refuses, Puts, PrintsBy, PrintsNumber, IsPrintedAs}
-use Rattle.cn_c.specs.Reads.{ReadsBy, Tells, ReadsInto, IsReadAs}
+use Rattle.cn_c.specs.Prints.{PutsNothing, PutsText, PutsWritten, PrintsNumber, IsPrintedAs}
+use Rattle.cn_c.specs.Reads.{Tells, ReadsInto, IsReadAs}
 
 -- what is put where all goes well
-put-text : (text old new : List ℕ) (len : ℕ) → Puts text old CN_DONE new len → take len new ≡ text
+put-text : (text old new : List ℕ) (len : ℕ) → PutsText text old CN_DONE new len
+    → take len new ≡ text
 put-text text old new len = by (nat_le (length text) (length old)) where
-  by : (b : Bool) → MatchBool b ((CN_DONE ≡ 0) × (new ≡ text ++ drop (length text) old) × (len ≡ length text)) ((CN_DONE ≡ 6) × (new ≡ old) × (len ≡ length text)) → take len new ≡ text
+  by : (b : Bool) → MatchBool b ((CN_DONE ≡ 0) × (new ≡ text ++ drop (length text) old)
+      × (len ≡ length text)) ((CN_DONE ≡ 6) × (new ≡ old) × (len ≡ length text))
+      → take len new ≡ text
   by true p = rw (p.1, p.2) (take-append_seam text (drop (length text) old))
   by false p = absurd (omega (arith, p.0))
 
 -- written characters are UTF-8
 utf8-scalars : (text : List ℕ) → all_scalars text ≡ true → IsUtf8 (encode_utf8_all text)
 utf8-scalars [] h = IsUtf8-nil
-utf8-scalars (c ∷ text) h = IsUtf8-append _ _ (IsUtf8-encode c (and-left _ (all_scalars text) h)) (utf8-scalars text (and-right _ (all_scalars text) h))
+utf8-scalars (c ∷ text) h = IsUtf8-append _ _ (IsUtf8-encode c (and-left _ (all_scalars text) h))
+    (utf8-scalars text (and-right _ (all_scalars text) h))
 
 utf8-three : (text : List ℕ) → list_all takes_three text ≡ true → IsUtf8 (encode_utf8_all text)
 utf8-three [] h = IsUtf8-nil
-utf8-three (c ∷ text) h = IsUtf8-append _ _ (IsUtf8-three c (and-left (takes_three c) _ h)) (utf8-three text (and-right (takes_three c) _ h))
+utf8-three (c ∷ text) h = IsUtf8-append _ _ (IsUtf8-three c (and-left (takes_three c) _ h))
+    (utf8-three text (and-right (takes_three c) _ h))
 
 utf8-signed_text : (variant : ChineseVariant) (case : ChineseCase) (negative : Bool) (marks : List Mark) → list_all is_printed marks ≡ true → IsUtf8 (encode_utf8_all (signed_text variant case negative marks))
 utf8-signed_text variant case true marks h = IsUtf8-append _ _ (IsUtf8-three _ (three-minus variant)) (utf8-scalars _ (IsReadBack-marks variant case marks h).scalars)
@@ -53,8 +59,9 @@ utf8-signed_text variant case false marks h = utf8-scalars _ (IsReadBack-marks v
 
 -- a number that is printed in a way is read in it
 read-by : (kind : Kind) (way : Way) (script : ChineseVariant) (case : ChineseCase) (number : ℤ) (old new : List ℕ) (len : ℕ) → IsWhole kind → holds kind number ≡ true
-    → PrintsBy way script case number old CN_DONE new len
-    → IsUtf8 (take len new) × ((answer : Result ℤ Refusal) → ReadsBy kind way (take len new) answer → answer ≡ Ok number)
+    → PutsWritten (written_by way script case number) old CN_DONE new len
+    → IsUtf8 (take len new) × ((answer : Result ℤ Refusal) → ReadsBy kind way (take len new) answer
+    → answer ≡ Ok number)
 read-by kind Digits script case number old new len whole held h =
     let small = whole.fits number held in
     let text = put-text (encode_utf8_all (naive_text script case number)) old new len h in
@@ -67,8 +74,9 @@ read-by kind (Units method) script case number old new len whole held h = by (is
   small = whole.fits number held
 
   by : (b : Bool) → is_printable method number ≡ b
-      → MatchBool b (Puts (encode_utf8_all (spelled_text script case method number)) old CN_DONE new len) (Refuses (if int_lt number (pos 0) then CN_TOO_SMALL else CN_TOO_LARGE) old CN_DONE new len)
-      → IsUtf8 (take len new) × ((answer : Result ℤ Refusal) → ReadsBy kind (Units method) (take len new) answer → answer ≡ Ok number)
+      → PutsWritten (if b then Ok (spelled_text script case method number) else Err (unprintable number)) old CN_DONE new len
+      → IsUtf8 (take len new) × ((answer : Result ℤ Refusal)
+      → ReadsBy kind (Units method) (take len new) answer → answer ≡ Ok number)
   by true e h =
       let text = put-text (encode_utf8_all (spelled_text script case method number)) old new len h in
       let marks = spelling-printed method (nat_abs number) (below_square method number small e) in
@@ -77,7 +85,7 @@ read-by kind (Units method) script case number old new len whole held h = by (is
         λ answer r. Reads-same kind method (encode_utf8_all (spelled_text script case method number)) answer (Ok number) r (Reads-spelled kind method script case number whole held e),
       )
   by false e h = absurd (other (int_lt number (pos 0)) h.0) where
-    other : (b : Bool) → CN_DONE ≡ (if b then CN_TOO_SMALL else CN_TOO_LARGE) → ⊥
+    other : (b : Bool) → CN_DONE ≡ refusal_status (if b then too_small else too_large) → ⊥
     other true e = omega (arith, e)
     other false e = omega (arith, e)
 
@@ -108,8 +116,10 @@ whole I128 = signed-whole 128 (omega arith)
 read-as : (kind : KindCode) (way : Way) (script : ChineseVariant) (case : ChineseCase) (number : Number) (old new : List ℕ) (len : ℕ)
     → PrintsNumber (the_kind kind) way script case (number_of (the_kind kind).signed number) old CN_DONE new len
     → IsUtf8 (take len new)
-    × ((status : ℕ) (reading : Reading) → IsReadAs (Some kind) (Some way) (take len new) status reading
-    → (status ≡ CN_DONE) × (number_of (the_kind kind).signed reading.number ≡ number_of (the_kind kind).signed number) × (reading.char_index ≡ 0))
+    × ((status : ℕ) (reading : Reading)
+    → IsReadAs (Some kind) (Some way) (take len new) status reading
+    → (status ≡ CN_DONE) × (number_of (the_kind kind).signed reading.number
+    ≡ number_of (the_kind kind).signed number) × (reading.char_index ≡ 0))
 read-as code way script case number old new len = by (holds kind value) refl where
   kind : Kind
   kind = the_kind code
@@ -117,19 +127,24 @@ read-as code way script case number old new len = by (holds kind value) refl whe
   value : ℤ
   value = number_of kind.signed number
 
-  told : (status : ℕ) (reading : Reading) (answer : Result ℤ Refusal) → answer ≡ Ok value → Tells kind.signed answer status reading
-      → (status ≡ CN_DONE) × (number_of kind.signed reading.number ≡ value) × (reading.char_index ≡ 0)
+  told : (status : ℕ) (reading : Reading) (answer : Result ℤ Refusal) → answer ≡ Ok value
+      → Tells kind.signed answer status reading
+      → (status ≡ CN_DONE) × (number_of kind.signed reading.number ≡ value)
+      × (reading.char_index ≡ 0)
   told status reading answer e tells = rw e at tells
 
-  by : (b : Bool) → holds kind value ≡ b → MatchBool b (PrintsBy way script case value old CN_DONE new len) (Refuses 7 old CN_DONE new len)
+  by : (b : Bool) → holds kind value ≡ b → MatchBool b (PutsWritten (written_by way script case value) old CN_DONE new len) (PutsNothing 7 old CN_DONE new len)
       → IsUtf8 (take len new)
-      × ((status : ℕ) (reading : Reading) → IsReadAs (Some code) (Some way) (take len new) status reading
-      → (status ≡ CN_DONE) × (number_of kind.signed reading.number ≡ value) × (reading.char_index ≡ 0))
+      × ((status : ℕ) (reading : Reading)
+      → IsReadAs (Some code) (Some way) (take len new) status reading
+      → (status ≡ CN_DONE) × (number_of kind.signed reading.number ≡ value)
+      × (reading.char_index ≡ 0))
   by true e h =
       let back = read-by kind way script case value old new len (whole code) e h in (
         back.0,
         λ status reading is.
-            let read : ReadsInto kind way (take len new) status reading = rw (is_utf8-from_IsUtf8 (take len new) back.0) at is in
+            let read : ReadsInto kind way (take len new) status reading =
+            rw (is_utf8-from_IsUtf8 (take len new) back.0) at is in
             told status reading read.0 (back.1 read.0 read.1) read.2,
       )
   by false e h = absurd (omega (arith, h.0))
@@ -138,9 +153,12 @@ pub read-back : (number : Number) (kind : Option KindCode) (way : Option Way) (s
     → IsPrintedAs number kind way script case old CN_DONE new len
     → IsUtf8 (take len new)
     × ((status : ℕ) (reading : Reading) → IsReadAs kind way (take len new) status reading
-    → (status ≡ CN_DONE) × MatchOption kind ⊥ (λ kind. number_of (the_kind kind).signed reading.number ≡ number_of (the_kind kind).signed number) × (reading.char_index ≡ 0))
+    → (status ≡ CN_DONE) × MatchOption kind ⊥
+    (λ kind. number_of (the_kind kind).signed reading.number
+    ≡ number_of (the_kind kind).signed number) × (reading.char_index ≡ 0))
 read-back number (Some kind) (Some way) (Some script) (Some case) old new len h = read-as kind way script case number old new len h
 read-back number None way script case old new len h = absurd (omega (arith, h.0))
 read-back number (Some kind) None script case old new len h = absurd (omega (arith, h.0))
 read-back number (Some kind) (Some way) None case old new len h = absurd (omega (arith, h.0))
-read-back number (Some kind) (Some way) (Some script) None old new len h = absurd (omega (arith, h.0))
+read-back number (Some kind) (Some way) (Some script) None old new len h =
+    absurd (omega (arith, h.0))

@@ -5,10 +5,11 @@ use Rattle.chinese_number.specs.declared.ChineseCase.TheVariants.{Upper, Lower}
 use Rattle.chinese_number.specs.declared.ChineseCountMethod.TheVariants.{Low, TenThousand, Middle, High}
 use Rattle.chinese_number.specs.declared.ChineseVariant.{ChineseVariant}
 use Rattle.chinese_number.specs.declared.ChineseVariant.TheVariants.{Traditional, Simple}
+use Rattle.chinese_number.specs.Refusal.{Refusal, empty, incorrect_at, too_large, too_small}
 use Rattle.cn_c.specs.declared.codes.Kind.{Kind}
 use Rattle.cn_c.specs.declared.codes.Kind.TheVariants.{U8, U16, U32, U64, U128, I8, I16, I32, I64, I128}
-use Rattle.cn_c.specs.declared.codes.Way.{Way}
-use Rattle.cn_c.specs.declared.codes.Way.TheVariants.{Digits, Units}
+use Rattle.cn_ways.specs.declared.Way.{Way}
+use Rattle.cn_ways.specs.declared.Way.TheVariants.{Digits, Units}
 
 -- the integer types, in the order of their codes from 0 on
 abbrev pub kinds : List Kind
@@ -61,3 +62,10 @@ CN_NOT_HELD = 7
 -- a code names nothing
 abbrev pub CN_UNKNOWN : ℕ
 CN_UNKNOWN = 8
+
+-- the status that tells a refusal
+abbrev pub refusal_status : Refusal → ℕ
+refusal_status empty = CN_EMPTY
+refusal_status (incorrect_at char_index) = CN_INCORRECT
+refusal_status too_large = CN_TOO_LARGE
+refusal_status too_small = CN_TOO_SMALL

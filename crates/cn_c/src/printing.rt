@@ -1,15 +1,16 @@
 // Printing.
 ghost use Rattle.std.specs.Prelude.{◌≡◌, ◌≤◌};
-ghost use Rattle.chinese_number.specs.Whole.{signed_number};
 ghost use Rattle.cn_c.specs.Halves.{number_of};
 ghost use Rattle.cn_c.specs.Kinds.{the_kind};
-ghost use Rattle.cn_c.specs.Prints.{PrintsBy, PrintsNumber, IsPrinted};
+ghost use Rattle.cn_c.specs.Prints.{PutsWritten, PrintsNumber, IsPrinted};
+ghost use Rattle.cn_ways.specs.Ways.{stands_for, written_by};
 
-use crate::codes::{Kind, Way, case_of, kind_of, script_of, way_of};
-use crate::number::{Number, SignedMagnitude, signed_magnitude};
+use crate::codes::{Kind, case_of, kind_of, script_of, way_of};
+use crate::number::{Number, signed_magnitude};
 use crate::status::{DONE, NO_ROOM, NOT_HELD, TOO_LARGE, TOO_SMALL, UNKNOWN};
 use chinese_number::{ChineseCase, ChineseVariant, Whole};
 use cn_spell::{is_printable, put_by_units, put_naive};
+use cn_ways::{SignedMagnitude, Way};
 
 /// How a number is to be written.
 #[derive(Clone, Copy)]
@@ -20,9 +21,9 @@ pub struct Style {
 }
 
 // Prints a value of a type.
-fn print_by<T: Whole>(value: T, style: Style, room: &mut [u8], len: &mut usize) -> u32
+fn put_value<T: Whole>(value: T, style: Style, room: &mut [u8], len: &mut usize) -> u32
     requires { len.old ≡ 0 }
-    ensures printed { PrintsBy style.way style.script style.case (T.number value)
+    ensures printed { PutsWritten (written_by style.way style.script style.case (T.number value))
         room.old result room.new len.new }
     ensures bound { len.new ≤ 234 }
 {
@@ -47,11 +48,11 @@ fn print_as<T: Whole>(
 ) -> u32
     requires { len.old ≡ 0 }
     ensures printed { PrintsNumber T.kind style.way style.script style.case
-        (signed_number number.negative number.magnitude) room.old result room.new len.new }
+        (stands_for number) room.old result room.new len.new }
     ensures bound { len.new ≤ 234 }
 {
     match T::from_magnitude(number.negative, number.magnitude) {
-        Some(value) => print_by(value, style, room, len),
+        Some(value) => put_value(value, style, room, len),
         None => NOT_HELD,
     }
 }

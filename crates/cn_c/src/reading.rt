@@ -1,18 +1,18 @@
 // Reading.
-ghost use Rattle.std.specs.Prelude.{◌≡◌, true, false, IsUtf8, MatchOption};
-ghost use Rattle.std.specs.Str.{is_utf8};
+ghost use Rattle.std.specs.Prelude.{IsUtf8};
 ghost use Rattle.chinese_number.specs.Answer.{answer_of};
 ghost use Rattle.cn_c.specs.Halves.{FitsHalves};
 ghost use Rattle.cn_c.specs.Kinds.{the_kind};
-ghost use Rattle.cn_c.specs.Reads.{ReadsBy, ReadsInto, Tells, IsRead};
+ghost use Rattle.cn_c.specs.Reads.{ReadsInto, Tells, IsRead};
 
-use crate::codes::{Kind, Way, kind_of, way_of};
+use crate::codes::{Kind, kind_of, way_of};
 use crate::number::{Number, halves};
 use crate::status::{DONE, EMPTY, INCORRECT, NOT_UTF8, TOO_LARGE, TOO_SMALL, UNKNOWN};
-use chinese_number::{ChineseToNumber, ChineseToNumberError, Whole};
+use chinese_number::{ChineseToNumberError, Whole};
+use cn_ways::{Way, read_by, utf8_text};
 use std::str;
 
-/// What was read: the number, or the place of the character at fault.
+/// What was read: the number, or the char_index of the character at fault.
 #[repr(C)]
 #[derive(Clone, Copy)]
 pub struct Reading {
@@ -24,16 +24,6 @@ const NOTHING: Reading = Reading {
     number: Number { low: 0, high: 0 },
     char_index: 0,
 };
-
-// The answer to a text, as its type has it.
-fn read_by<T: Whole>(way: Way, text: &str) -> Result<T, ChineseToNumberError>
-    ensures { ReadsBy T.kind way text.now (answer_of T.number result) }
-{
-    match way {
-        Way::Digits => text.to_number_naive(),
-        Way::Units(method) => text.to_number(method),
-    }
-}
 
 // Tells an answer to C.
 fn tell<T: Whole>(answer: Result<T, ChineseToNumberError>, reading: &mut Reading) -> u32
@@ -81,17 +71,6 @@ fn read_kind(kind: Kind, way: Way, text: &str, reading: &mut Reading) -> u32
     }
 }
 
-// The text of these bytes, if they are UTF-8.
-fn text_of(bytes: &[u8]) -> Option<&str>
-    ensures { MatchOption result (is_utf8 bytes.now ≡ false)
-        (λ text. (is_utf8 bytes.now ≡ true) × (text.now ≡ bytes.now)) }
-{
-    match str::from_utf8(bytes) {
-        Ok(text) => Some(text),
-        Err(_) => None,
-    }
-}
-
 /// Reads a numeral as a number of a type.
 ///
 /// Writes `*reading` whole at each status, and nothing else.
@@ -108,7 +87,7 @@ pub extern "C" fn chinese_number_read(
     let (Some(kind), Some(way)) = (kind_of(kind), way_of(way)) else {
         return UNKNOWN;
     };
-    match text_of(text) {
+    match utf8_text(text) {
         Some(text) => read_kind(kind, way, text, reading),
         None => NOT_UTF8,
     }

@@ -6,7 +6,7 @@ const NOTHING: Reading = Reading {
     char_index: 0,
 };
 
-// A text, and the codes of a type and a way; the status, the halves of the number, and the place.
+// A text, and the codes of a type and a way; the status, the halves of the number, and the char_index.
 static READ: [(&str, u32, u32, u32, u64, u64, usize); 7] = [
     ("一百二", 0, 2, 0, 120, 0, 0),
     ("負一百二", 5, 3, 0, u64::MAX - 119, u64::MAX, 0),
@@ -19,13 +19,13 @@ static READ: [(&str, u32, u32, u32, u64, u64, usize); 7] = [
 
 #[test]
 fn reads(rt: HostRuntime) {
-    for (text, kind, way, status, low, high, place) in &READ {
+    for (text, kind, way, status, low, high, char_index) in &READ {
         let mut reading = NOTHING;
         let answer = chinese_number_read(text.as_bytes(), *kind, *way, &mut reading);
         assert_eq!(rt; answer, *status, "{text}");
         assert_eq!(rt; reading.number.low, *low, "{text}");
         assert_eq!(rt; reading.number.high, *high, "{text}");
-        assert_eq!(rt; reading.char_index, *place, "{text}");
+        assert_eq!(rt; reading.char_index, *char_index, "{text}");
     }
 }
 

@@ -39,11 +39,47 @@ rank_at variant case unit h =
     ∙ get_or_append_left (printed_units variant case) (minus_char variant ∷ []) 0 unit (omega (arith, h, length-units variant case))
 
 pub rank-low : (unit : NumeralUnit) → rank unit < 16
-rank-low = elim [ Ge ↦ omega arith | Shi ↦ omega arith | Bai ↦ omega arith | Qian ↦ omega arith | Wan ↦ omega arith | Yi ↦ omega arith | Zhao ↦ omega arith | Jing ↦ omega arith | Gai ↦ omega arith | Zi ↦ omega arith | Rang ↦ omega arith | Gou ↦ omega arith | Jian ↦ omega arith | Zheng ↦ omega arith | Zai ↦ omega arith | Ji ↦ omega arith ]
+rank-low = elim [
+  | Ge ↦ omega arith
+  | Shi ↦ omega arith
+  | Bai ↦ omega arith
+  | Qian ↦ omega arith
+  | Wan ↦ omega arith
+  | Yi ↦ omega arith
+  | Zhao ↦ omega arith
+  | Jing ↦ omega arith
+  | Gai ↦
+      omega arith
+  | Zi ↦ omega arith
+  | Rang ↦ omega arith
+  | Gou ↦ omega arith
+  | Jian ↦
+      omega arith
+  | Zheng ↦ omega arith
+  | Zai ↦ omega arith
+  | Ji ↦ omega arith
+]
 
 -- the number that the code makes of a unit is its rank
 tag-rank : (unit : NumeralUnit) → tag_of the_type unit ≡ rank unit
-tag-rank = elim [ Ge ↦ refl | Shi ↦ refl | Bai ↦ refl | Qian ↦ refl | Wan ↦ refl | Yi ↦ refl | Zhao ↦ refl | Jing ↦ refl | Gai ↦ refl | Zi ↦ refl | Rang ↦ refl | Gou ↦ refl | Jian ↦ refl | Zheng ↦ refl | Zai ↦ refl | Ji ↦ refl ]
+tag-rank = elim [
+  | Ge ↦ refl
+  | Shi ↦ refl
+  | Bai ↦ refl
+  | Qian ↦ refl
+  | Wan ↦ refl
+  | Yi ↦ refl
+  | Zhao ↦ refl
+  | Jing ↦ refl
+  | Gai ↦ refl
+  | Zi ↦ refl
+  | Rang ↦ refl
+  | Gou ↦ refl
+  | Jian ↦ refl
+  | Zheng ↦ refl
+  | Zai ↦ refl
+  | Ji ↦ refl
+]
 
 pub unit_at : (variant : ChineseVariant) (case : ChineseCase) (unit : NumeralUnit) → slice_index (printed_characters variant case) (10 + tag_of the_type unit) ≡ unit_char variant case (rank unit)
 unit_at variant case unit = rw (tag-rank unit) (rank_at variant case (rank unit) (rank-low unit))

@@ -26,7 +26,8 @@ lower_digits : signed_text Traditional Lower false (decimal_digits 1203) ≡ cod
 unfolding digits digit_char
 lower_digits = refl
 
-upper_simple_digits : signed_text Simple Upper false (decimal_digits 9876543210) ≡ codes "玖捌柒陆伍肆叁贰壹零"
+upper_simple_digits : signed_text Simple Upper false (decimal_digits 9876543210)
+    ≡ codes "玖捌柒陆伍肆叁贰壹零"
 unfolding digits digit_char
 upper_simple_digits = refl
 
@@ -43,15 +44,18 @@ any_form_of_digits : naive_reading (unsigned_kind 128) (string (codes "零〇1�
 unfolding chars encode_utf8 digit_of rank_of
 any_form_of_digits = refl
 
-greatest_is_read : naive_reading (unsigned_kind 128) (string (codes "340282366920938463463374607431768211455")) ≡ Ok (pos (2 ^ 128 - 1))
+greatest_is_read : naive_reading (unsigned_kind 128)
+    (string (codes "340282366920938463463374607431768211455")) ≡ Ok (pos (2 ^ 128 - 1))
 unfolding chars encode_utf8 digit_of rank_of
 greatest_is_read = refl
 
-one_more_is_too_large : naive_reading (unsigned_kind 128) (string (codes "340282366920938463463374607431768211456")) ≡ Err too_large
+one_more_is_too_large : naive_reading (unsigned_kind 128)
+    (string (codes "340282366920938463463374607431768211456")) ≡ Err too_large
 unfolding chars encode_utf8 digit_of rank_of
 one_more_is_too_large = refl
 
-least_is_read : naive_reading (signed_kind 128) (string (codes "負170141183460469231731687303715884105728")) ≡ Ok (negsuc (2 ^ 127 - 1))
+least_is_read : naive_reading (signed_kind 128)
+    (string (codes "負170141183460469231731687303715884105728")) ≡ Ok (negsuc (2 ^ 127 - 1))
 unfolding chars encode_utf8 digit_of rank_of sign_of
 least_is_read = refl
 
@@ -88,11 +92,13 @@ sign_counts : naive_reading (signed_kind 8) (string (codes "負九九九x")) ≡
 unfolding chars encode_utf8 digit_of rank_of sign_of
 sign_counts = refl
 
-past_128_bits_stops : naive_reading (signed_kind 8) (string (codes "負340282366920938463463374607431768211456x")) ≡ Err too_small
+past_128_bits_stops : naive_reading (signed_kind 8)
+    (string (codes "負340282366920938463463374607431768211456x")) ≡ Err too_small
 unfolding chars encode_utf8 digit_of rank_of sign_of
 past_128_bits_stops = refl
 
 -- white space counts where a refusal points
-white_space_counts : naive_reading (unsigned_kind 128) (string (codes "零 一 十")) ≡ Err (incorrect_at 4)
+white_space_counts : naive_reading (unsigned_kind 128) (string (codes "零 一 十"))
+    ≡ Err (incorrect_at 4)
 unfolding chars encode_utf8 digit_of rank_of
 white_space_counts = refl

@@ -146,6 +146,7 @@ sixteen_units : Judges Low (marks_of (codes "零個十百千萬億兆京垓秭�
 unfolding digit_of rank_of
 sixteen_units = refl
 
-least_magnitude : Judges TenThousand (marks_of (codes "一百七十澗一千四百一十一溝八千三百四十六穰零四百六十九秭二千三百一十七垓三千一百六十八京七千三百零三兆七千一百五十八億八千四百一十萬五千七百二十八")) (Ok (2 ^ 127))
+least_magnitude : Judges TenThousand
+    (marks_of (codes "一百七十澗一千四百一十一溝八千三百四十六穰零四百六十九秭二千三百一十七垓三千一百六十八京七千三百零三兆七千一百五十八億八千四百一十萬五千七百二十八")) (Ok (2 ^ 127))
 unfolding digit_of rank_of
 least_magnitude = refl

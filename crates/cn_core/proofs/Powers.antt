@@ -16,10 +16,15 @@ power-at : (low count e d : ℕ) → e < count → get_or (powers_from low count
 power-at low zero e d h = absurd (omega (arith, h))
 power-at low (suc count) zero d h = let same : low ≡ low + 0 = omega arith in ap (λ k. 10 ^ k) same
 power-at low (suc count) (suc e) d h =
-    let same : low + 1 + e ≡ low + suc e = omega arith in power-at (low + 1) count e d (omega (arith, h)) ∙ ap (λ k. 10 ^ k) same
+    let same : low + 1 + e ≡ low + suc e =
+    omega arith in power-at (low + 1) count e d (omega (arith, h)) ∙ ap (λ k. 10 ^ k) same
 
-pub entry_is_power : (e : ℕ) (entry : Option (Bor ℕ)) → IsItemAt POWERS_OF_TEN e entry → SomeIff (option_copied entry) (e ≤ 38) (10 ^ e)
+pub entry_is_power : (e : ℕ) (entry : Option (Bor ℕ)) → IsItemAt POWERS_OF_TEN e entry
+    → SomeIff (option_copied entry) (e ≤ 38) (10 ^ e)
 entry_is_power e None item = λ fits. absurd (omega (arith, item.3, fits))
 entry_is_power e (Some x) item =
-    let same : 0 + e ≡ e = omega arith in
-    (omega (arith, item.3.0), item.1 ∙ ap (λ t. get_or t e x.now) powers ∙ power-at 0 39 e x.now item.3.0 ∙ ap (λ k. 10 ^ k) same)
+    let same : 0 + e ≡ e = omega arith in (
+      omega (arith, item.3.0),
+      item.1 ∙ ap (λ t. get_or t e x.now) powers
+          ∙ power-at 0 39 e x.now item.3.0 ∙ ap (λ k. 10 ^ k) same,
+    )

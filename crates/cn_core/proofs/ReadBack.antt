@@ -18,24 +18,32 @@ use Rattle.cn_core.proofs.Spellings.{short_spelling-by}
 use Rattle.cn_core.proofs.Grammar.{is_no_ge, IsRegular-spelling_within}
 
 -- a last digit counts at least as much after a unit
-value-colloquial : (method : ChineseCountMethod) (marks : List Mark) → value method marks ≤ colloquial_value method marks
+value-colloquial : (method : ChineseCountMethod) (marks : List Mark)
+    → value method marks ≤ colloquial_value method marks
 value-colloquial method [] = omega arith
-value-colloquial method (digit number ∷ rest) = let ih = value-colloquial method rest in omega (arith, ih)
+value-colloquial method (digit number ∷ rest) = let ih =
+    value-colloquial method rest in omega (arith, ih)
 value-colloquial method (other ∷ rest) = value-colloquial method rest
 value-colloquial method (unit rank ∷ []) = omega arith
 value-colloquial method (unit rank ∷ unit next ∷ rest) = value-colloquial method (unit next ∷ rest)
 value-colloquial method (unit rank ∷ other ∷ rest) = value-colloquial method (other ∷ rest)
 value-colloquial method (unit rank ∷ digit number ∷ []) = by (nat_lt rank 2) refl where
-  by : (b : Bool) → nat_lt rank 2 ≡ b → number * 1 + 0 ≤ (if b then number else number * scale method rank / 10)
+  by : (b : Bool) → nat_lt rank 2 ≡ b
+      → number * 1 + 0 ≤ (if b then number else number * scale method rank / 10)
   by true low = omega arith
   by false high =
-      let ten : 10 ≤ scale method rank = scale-ten method rank (let up : 2 ≤ rank = grind (arith, nat_tests) in omega (arith, up)) in
+      let ten : 10 ≤ scale method rank =
+      scale-ten method rank (let up : 2 ≤ rank =
+      grind (arith, nat_tests) in omega (arith, up)) in
       let tenfold : number * 10 ≤ number * scale method rank = mul-le-mul_left number ten in
       (le-div_iff_mul-le (omega arith)).1 (omega (arith, tenfold))
-value-colloquial method (unit rank ∷ digit number ∷ mark ∷ rest) = value-colloquial method (digit number ∷ mark ∷ rest)
+value-colloquial method (unit rank ∷ digit number ∷ mark ∷ rest) =
+    value-colloquial method (digit number ∷ mark ∷ rest)
 
 -- where 十 may stand and no 個 does, the first record is above 十
-records-above_ten : (rest : List Mark) → list_all is_no_ge rest ≡ true → option_map_or (λ next. nat_lt 1 next) (first_not_smaller 1 rest) true ≡ true → records_from 2 rest ≡ records_from 0 rest
+records-above_ten : (rest : List Mark) → list_all is_no_ge rest ≡ true
+    → option_map_or (λ next. nat_lt 1 next) (first_not_smaller 1 rest) true ≡ true
+    → records_from 2 rest ≡ records_from 0 rest
 records-above_ten [] n h = refl
 records-above_ten (digit value ∷ rest) n h = records-above_ten rest n h
 records-above_ten (other ∷ rest) n h = records-above_ten rest n h
@@ -55,12 +63,17 @@ pub record IsOpened (method : ChineseCountMethod) (number : ℕ) (marks : List M
   pub no_ge : list_all is_no_ge marks ≡ true
   pub ends : EachOutweighsEnd method marks
 
-IsOpened-ten : (method : ChineseCountMethod) (number : ℕ) (rest : List Mark) → IsOpened method number (digit 1 ∷ unit 1 ∷ rest) → IsOpened method number (digit 10 ∷ rest)
+IsOpened-ten : (method : ChineseCountMethod) (number : ℕ) (rest : List Mark)
+    → IsOpened method number (digit 1 ∷ unit 1 ∷ rest) → IsOpened method number (digit 10 ∷ rest)
 IsOpened-ten method number rest h =
-    let ten_rules : may_precede (unit 1) rest ≡ true = and-left (may_precede (unit 1) rest) _ h.rules in
-    let group = and-right (multiplies_upwards (unit 1) rest && counts_a_unit (unit 1) rest) (groups_strictly (unit 1) rest) ten_rules in
+    let ten_rules : may_precede (unit 1) rest ≡ true =
+    and-left (may_precede (unit 1) rest) _ h.rules in
+    let group = and-right (multiplies_upwards (unit 1) rest && counts_a_unit (unit 1) rest)
+    (groups_strictly (unit 1) rest) ten_rules in
     let heavy : weight method (unit 1 ∷ rest) ≡ 10 * weight method rest =
-    ap (λ r. scale method 1 * product (map (scale method) r)) (records-above_ten rest h.no_ge group) ∙ ap (λ s. s * weight method rest) (scale_ten method) in
+    ap (λ r. scale method 1 * product (map (scale method) r))
+    (records-above_ten rest h.no_ge group)
+    ∙ ap (λ s. s * weight method rest) (scale_ten method) in
     let sums : 1 * weight method (unit 1 ∷ rest) + value method rest ≡ number = h.sum in
     record {
       sum = omega (arith, heavy, sums);
@@ -75,13 +88,15 @@ IsOpened-ten method number rest h =
       ten_precedes (unit rank ∷ rest) = refl
       ten_precedes (other ∷ rest) = refl
 
-with_first_digit-digit : (marks : List Mark) → starts_with_digit marks ≡ true → with_first_digit marks ≡ marks
+with_first_digit-digit : (marks : List Mark) → starts_with_digit marks ≡ true
+    → with_first_digit marks ≡ marks
 with_first_digit-digit [] h = cc
 with_first_digit-digit (digit value ∷ rest) h = refl
 with_first_digit-digit (unit rank ∷ rest) h = cc
 with_first_digit-digit (other ∷ rest) h = cc
 
-pub IsOpened-spelling : (method : ChineseCountMethod) (number : ℕ) → number < scale method 15 * scale method 15 → IsOpened method number (with_first_digit (spelling method number))
+pub IsOpened-spelling : (method : ChineseCountMethod) (number : ℕ) → number < scale method 15
+    * scale method 15 → IsOpened method number (with_first_digit (spelling method number))
 IsOpened-spelling method number small =
     let regular = IsRegular-spelling_within method number number (omega arith) small in
     let marks = spelling_within number method number in
@@ -92,14 +107,17 @@ IsOpened-spelling method number small =
       no_ge = regular.no_ge;
       ends = (IsLed-spelling_within method number number (omega arith) small).ends;
     } in
-    short_spelling-by (λ l. IsOpened method number (with_first_digit l)) marks (subst (IsOpened method number) (sym (with_first_digit-digit marks h.starts)) h)
+    short_spelling-by (λ l. IsOpened method number (with_first_digit l)) marks
+    (subst (IsOpened method number) (sym (with_first_digit-digit marks h.starts)) h)
     (λ rest ten. IsOpened-ten method number rest (subst (IsOpened method number) ten h))
 
 -- every spelling is a numeral of its number
-pub spelling-is_numeral : (method : ChineseCountMethod) (number : ℕ) → number < scale method 15 * scale method 15
+pub spelling-is_numeral : (method : ChineseCountMethod) (number : ℕ)
+    → number < scale method 15 * scale method 15
     → IsNumeral (spelling method number) × (numeral_value method (spelling method number) ≡ number)
 spelling-is_numeral method number small =
     let marks = with_first_digit (spelling method number) in
     let h = IsOpened-spelling method number small in
-    let most : colloquial_value method marks ≤ value method marks = rw append-nil at (front-value method marks [] (rw append-nil h.ends)) in
+    let most : colloquial_value method marks ≤ value method marks =
+    rw append-nil at (front-value method marks [] (rw append-nil h.ends)) in
     (both _ _ h.starts h.rules, omega (arith, most, value-colloquial method marks, h.sum))

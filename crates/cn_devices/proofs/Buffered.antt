@@ -6,20 +6,28 @@ use Rattle.std.proofs.Math.Nat.{le_refl}
 use Rattle.std.specs.Io.KnownBytes.{Keeps, WriteAppends, append_known}
 
 -- a call that leaves both as they were
-pub kept-same : (a : Option (List ℕ)) {buffered left : List ℕ} → buffered ≡ left → Keeps (append_known a buffered) (append_known a left)
-kept-same a {buffered = buffered} same = subst (λ left. Keeps (append_known a buffered) (append_known a left)) same (Keeps-refl _)
+pub kept-same : (a : Option (List ℕ)) {buffered left : List ℕ} → buffered ≡ left
+    → Keeps (append_known a buffered) (append_known a left)
+kept-same a {buffered = buffered} same =
+    subst (λ left. Keeps (append_known a buffered) (append_known a left)) same (Keeps-refl _)
 
 -- what is left once the writer has taken the front of what was left
-pub left_after : (all left : List ℕ) (gone count : ℕ) → left ≡ drop gone all → left ≡ take count left ++ drop (gone + count) all
-left_after all left gone count is = sym (take-append-drop count left) ∙ ap (λ rest. take count left ++ rest) (ap (drop count) is ∙ drop-drop count gone all)
+pub left_after : (all left : List ℕ) (gone count : ℕ) → left ≡ drop gone all
+    → left ≡ take count left ++ drop (gone + count) all
+left_after all left gone count is = sym (take-append-drop count left)
+    ∙ ap (λ rest. take count left ++ rest) (ap (drop count) is ∙ drop-drop count gone all)
 
 -- what is left, as a slice up to the end
-pub slice_to_end : (all now : List ℕ) (gone : ℕ) → now ≡ all → take (length now - gone) (drop gone now) ≡ drop gone all
+pub slice_to_end : (all now : List ℕ) (gone : ℕ) → now ≡ all
+    → take (length now - gone) (drop gone now) ≡ drop gone all
 slice_to_end all now gone same =
-    take_all (length now - gone) (drop gone now) (subst (λ n. n ≤ length now - gone) (sym (length-drop gone now)) (le_refl (length now - gone))) ∙ ap (drop gone) same
+    take_all (length now - gone) (drop gone now)
+    (subst (λ n. n ≤ length now - gone) (sym (length-drop gone now))
+    (le_refl (length now - gone))) ∙ ap (drop gone) same
 
 -- a call of the writer where nothing is buffered any more
-pub written_through : {E : Type 0} (a b c : Option (List ℕ)) (buffered : List ℕ) (result : Result ℕ E) (bytes : List ℕ)
+pub written_through : {E : Type 0} (a b c : Option (List ℕ)) (buffered : List ℕ)
+    (result : Result ℕ E) (bytes : List ℕ)
     → Keeps (append_known a buffered) (append_known b []) → WriteAppends b c result bytes
     → WriteAppends (append_known a buffered) (append_known c []) result bytes
 written_through None b c buffered (Ok count) bytes kept written = tt
@@ -29,4 +37,5 @@ written_through (Some x) (Some y) None buffered (Ok count) bytes kept written = 
 written_through (Some x) (Some y) None buffered (Err error) bytes kept written = absurd written
 written_through (Some x) (Some y) (Some z) buffered (Ok count) bytes kept written =
     append-nil z ∙ written ∙ ap (λ front. front ++ take count bytes) (sym (append-nil y) ∙ kept)
-written_through (Some x) (Some y) (Some z) buffered (Err error) bytes kept written = append-nil z ∙ written ∙ sym (append-nil y) ∙ kept
+written_through (Some x) (Some y) (Some z) buffered (Err error) bytes kept written =
+    append-nil z ∙ written ∙ sym (append-nil y) ∙ kept

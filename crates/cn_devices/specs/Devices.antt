@@ -1,5 +1,5 @@
 -- What sources and sinks tell of themselves, and what a read does to it.
-use Rattle.cn_devices.specs.declared.empty_reads.EmptyReads.{EmptyReads}
+use Rattle.cn_devices.specs.declared.device.EmptyReads.{EmptyReads}
 use Rattle.std.specs.Prelude.{◌≡◌, ◌==◌, ◌+◌, ◌%◌, ◌^◌, ◌||◌, ℕ, Bool, true, List, Option, if◌then◌else◌, MatchResult, Result}
 
 pub record SourceState : Type 0 where
@@ -31,8 +31,8 @@ count_after given count = if given == 0 then next_count count else count
 
 -- what a read does to the count, and to whether the last read was such a one; nothing where it
 -- failed
-abbrev pub Counts : {E : Type 0} → EmptyReads → EmptyReads → Result ℕ E → Type 0
-Counts old new result =
+abbrev pub CountsRead : {E : Type 0} → EmptyReads → EmptyReads → Result ℕ E → Type 0
+CountsRead old new result =
     MatchResult result
     (λ given. (new.count ≡ count_after given old.count) × (new.ended ≡ (given == 0)))
     (λ _. new ≡ old)

@@ -6,7 +6,6 @@
 
 pub mod buffered_sink;
 pub mod device;
-mod empty_reads;
 pub mod fault;
 pub mod memory_sink;
 pub mod memory_source;

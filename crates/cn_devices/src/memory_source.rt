@@ -1,9 +1,8 @@
 ghost use Rattle.std.specs.Prelude.{◌≡◌, ◌==◌, ◌<◌, ◌≤◌, ◌-◌, Some, min, length, unwrap_or, false, is_err, IfOk, OnOk};
 ghost use Rattle.std.specs.Io.KnownBytes.{ReadConsumes};
-ghost use Rattle.cn_devices.specs.Devices.{Counts};
+ghost use Rattle.cn_devices.specs.Devices.{CountsRead};
 
-use crate::device::Source;
-use crate::empty_reads::EmptyReads;
+use crate::device::{EmptyReads, Source};
 use crate::fault::DeviceFault;
 
 /// A source of the bytes of a lent slice.
@@ -60,7 +59,7 @@ impl Source for MemorySource<'_> {
             result buffer.new }
         ensures ends { IfOk result (λ n.
             0 < n → length self.new.rest.now < length self.old.rest.now) }
-        ensures counts { Counts self.old.empty self.new.empty result }
+        ensures counts { CountsRead self.old.empty self.new.empty result }
         ensures only { is_err result ≡ (self.old.fails_in == 1) }
         ensures falls { OnOk result (self.new.fails_in ≡ self.old.fails_in - 1) }
         ensures most { IfOk result (λ n.

@@ -1,4 +1,5 @@
--- The table of marks has characters of three bytes, none of them white space, each with its own mark.
+-- The table of marks has characters of three bytes, none of them white space, each with its own
+-- mark.
 use Rattle.std.proofs.Common.{◌≡◌, ℕ, ◌+◌, ◌-◌, ◌*◌, ◌/◌, ◌%◌, ◌<◌, ◌≤◌, nat_le, nat_lt, ◌==◌, ◌&&◌, not, Bool, true, false, List, [], ◌∷◌, length, get_or, refl, ap, ◌∙◌, arith, zero, suc}
 use Rattle.std.specs.Char.{is_whitespace}
 use Rattle.std.specs.List.{list_all}
@@ -10,12 +11,14 @@ use Rattle.cn_judge.specs.declared.mark.Mark.{Mark as ReadMark}
 use Rattle.cn_judge.specs.declared.mark.TheConstants.{MARKS}
 use Rattle.cn_judge.specs.Marked.{IsKnown, marked}
 
-all_at : {X : Type 0} (p : X → Bool) (xs : List X) (i : ℕ) (d : X) → list_all p xs ≡ true → i < length xs → p (get_or xs i d) ≡ true
+all_at : {X : Type 0} (p : X → Bool) (xs : List X) (i : ℕ) (d : X) → list_all p xs ≡ true
+    → i < length xs → p (get_or xs i d) ≡ true
 all_at p [] i d h low = absurd (omega (arith, low))
 all_at p (x ∷ xs) zero d h low = and-left (p x) _ h
 all_at p (x ∷ xs) (suc i) d h low = all_at p xs i d (and-right (p x) _ h) (omega arith)
 
-pub within : {X : Type 0} (xs : List X) (i : ℕ) (a b : X) → i < length xs → get_or xs i a ≡ get_or xs i b
+pub within : {X : Type 0} (xs : List X) (i : ℕ) (a b : X) → i < length xs
+    → get_or xs i a ≡ get_or xs i b
 within [] i a b low = absurd (omega (arith, low))
 within (x ∷ xs) zero a b low = refl
 within (x ∷ xs) (suc i) a b low = within xs i a b (omega arith)
@@ -49,7 +52,8 @@ code_of key = sum_of_bytes key - 925824
 -- an entry's key is that of a character of three bytes, and no white space, with its own mark
 is_right : ℕ × ReadMark → Bool
 is_right entry =
-    same (marked entry.1) (mark_of (code_of entry.0)) && not (is_whitespace (code_of entry.0)) && nat_le 925824 (sum_of_bytes entry.0)
+    same (marked entry.1) (mark_of (code_of entry.0)) && not (is_whitespace (code_of entry.0))
+    && nat_le 925824 (sum_of_bytes entry.0)
     && nat_le 224 (entry.0 % 256) && nat_lt (entry.0 % 256) 240
 
 all_right : list_all is_right MARKS ≡ true
@@ -67,7 +71,8 @@ slot key = key * 953497 / 33554432 % 128
 pub slot-low : (key : ℕ) → slot key < 128
 slot-low key = omega arith
 
-five : (a b c d e : Bool) → (a && b && c && d && e) ≡ true → (a ≡ true) × (b ≡ true) × (c ≡ true) × (d ≡ true) × (e ≡ true)
+five : (a b c d e : Bool) → (a && b && c && d && e) ≡ true
+    → (a ≡ true) × (b ≡ true) × (c ≡ true) × (d ≡ true) × (e ≡ true)
 five true true true true true h = (refl, refl, refl, refl, refl)
 five true true true true false h = cc
 five true true true false e h = cc
@@ -76,11 +81,19 @@ five true false c d e h = cc
 five false b c d e h = cc
 
 entry-right : (entry : ℕ × ReadMark) → is_right entry ≡ true
-    → (marked entry.1 ≡ mark_of (code_of entry.0)) × (is_whitespace (code_of entry.0) ≡ false) × (925824 ≤ sum_of_bytes entry.0) × (224 ≤ entry.0 % 256) × (entry.0 % 256 < 240)
+    → (marked entry.1 ≡ mark_of (code_of entry.0)) × (is_whitespace (code_of entry.0) ≡ false)
+    × (925824 ≤ sum_of_bytes entry.0) × (224 ≤ entry.0 % 256) × (entry.0 % 256 < 240)
 unfolding is_right
 entry-right entry h =
-    let parts = five (same (marked entry.1) (mark_of (code_of entry.0))) (not (is_whitespace (code_of entry.0))) (nat_le 925824 (sum_of_bytes entry.0)) (nat_le 224 (entry.0 % 256)) (nat_lt (entry.0 % 256) 240) h in
-    (same-is (marked entry.1) (mark_of (code_of entry.0)) parts.0, is_false _ parts.1, le 925824 (sum_of_bytes entry.0) parts.2, le 224 (entry.0 % 256) parts.3, lt (entry.0 % 256) 240 parts.4) where
+    let parts = five (same (marked entry.1) (mark_of (code_of entry.0)))
+    (not (is_whitespace (code_of entry.0))) (nat_le 925824 (sum_of_bytes entry.0))
+    (nat_le 224 (entry.0 % 256)) (nat_lt (entry.0 % 256) 240) h in (
+      same-is (marked entry.1) (mark_of (code_of entry.0)) parts.0,
+      is_false _ parts.1,
+      le 925824 (sum_of_bytes entry.0) parts.2,
+      le 224 (entry.0 % 256) parts.3,
+      lt (entry.0 % 256) 240 parts.4,
+    ) where
       le : (a b : ℕ) → nat_le a b ≡ true → a ≤ b
       le a b h = grind (arith, nat_tests)
 
@@ -88,9 +101,11 @@ entry-right entry h =
       lt a b h = grind (arith, nat_tests)
 
 -- the entry at the slot of its key
-pub entry-known : (key : ℕ) (entry : ℕ × ReadMark) → entry ≡ get_or MARKS (slot key) entry → entry.0 ≡ key → IsKnown key entry.1
+pub entry-known : (key : ℕ) (entry : ℕ × ReadMark) → entry ≡ get_or MARKS (slot key) entry
+    → entry.0 ≡ key → IsKnown key entry.1
 entry-known key entry at found =
-    let right = entry-right entry (ap is_right at ∙ all_at is_right MARKS (slot key) entry all_right (slot-low key)) in
+    let right = entry-right entry (ap is_right at
+    ∙ all_at is_right MARKS (slot key) entry all_right (slot-low key)) in
     record {
       code = code_of entry.0;
       sum = (let heavy = right.2 in omega (arith, heavy, found));

@@ -12,7 +12,9 @@ use Rattle.cn_judge.proofs.Walking.{chars-back}
 -- a character's bytes, by which of the three bounds it is below
 abbrev bytes_by : Bool → Bool → Bool → ℕ → List ℕ
 bytes_by x y z c =
-    cond x (c ∷ []) (cond y ((192 + c / 64) ∷ next c ∷ []) (cond z ((224 + c / 4096) ∷ next (c / 64) ∷ next c ∷ []) ((240 + c / 262144) ∷ next (c / 4096) ∷ next (c / 64) ∷ next c ∷ [])))
+    cond x (c ∷ []) (cond y ((192 + c / 64) ∷ next c ∷ [])
+    (cond z ((224 + c / 4096) ∷ next (c / 64) ∷ next c ∷ [])
+    ((240 + c / 262144) ∷ next (c / 4096) ∷ next (c / 64) ∷ next c ∷ [])))
 
 encode-by : (c : ℕ) → encode c ≡ bytes_by (ltb c 128) (ltb c 2048) (ltb c 65536) c
 unfolding encode
@@ -22,13 +24,16 @@ below : (m n : ℕ) → ltb m n ≡ true → m < n
 below m n e = ltb→lt m n (subst T (sym e) tt)
 
 abbrev IsThree : ℕ → List ℕ → List ℕ → Type 0
-IsThree c bytes all = (length bytes ≡ 3) × (c + 925824 ≡ get_or all 0 0 * 4096 + get_or all 1 0 * 64 + get_or all 2 0)
+IsThree c bytes all = (length bytes ≡ 3)
+    × (c + 925824 ≡ get_or all 0 0 * 4096 + get_or all 1 0 * 64 + get_or all 2 0)
 
-is_three : (c : ℕ) (rest : List ℕ) → 224 ≤ get_or (encode c ++ rest) 0 0 → (240 ≤ get_or (encode c ++ rest) 0 0 → length (encode c ++ rest) < 4)
+is_three : (c : ℕ) (rest : List ℕ) → 224 ≤ get_or (encode c ++ rest) 0 0
+    → (240 ≤ get_or (encode c ++ rest) 0 0 → length (encode c ++ rest) < 4)
     → IsThree c (encode c) (encode c ++ rest)
 is_three c rest = rw (encode-by c) (by (ltb c 128) (ltb c 2048) (ltb c 65536) refl refl) where
   by : (x y z : Bool) → ltb c 128 ≡ x → ltb c 2048 ≡ y
-      → 224 ≤ get_or (bytes_by x y z c ++ rest) 0 0 → (240 ≤ get_or (bytes_by x y z c ++ rest) 0 0 → length (bytes_by x y z c ++ rest) < 4)
+      → 224 ≤ get_or (bytes_by x y z c ++ rest) 0 0
+      → (240 ≤ get_or (bytes_by x y z c ++ rest) 0 0 → length (bytes_by x y z c ++ rest) < 4)
       → IsThree c (bytes_by x y z c) (bytes_by x y z c ++ rest)
   by true y z p q low short = absurd (let small = below c 128 p in omega (arith, small, low))
   by false true z p q low short = absurd (let small = below c 2048 q in omega (arith, small, low))
@@ -42,13 +47,16 @@ pub record StartsWithThree (bytes : List ℕ) : Type 0 where
   pub parts : bytes ≡ encode_utf8 code ++ drop 3 bytes
   pub rest : IsUtf8 (drop 3 bytes)
 
-starts-three : (bytes : List ℕ) → IsUtf8 bytes → 0 < length bytes → 224 ≤ get_or bytes 0 0 → (240 ≤ get_or bytes 0 0 → length bytes < 4) → StartsWithThree bytes
+starts-three : (bytes : List ℕ) → IsUtf8 bytes → 0 < length bytes → 224 ≤ get_or bytes 0 0
+    → (240 ≤ get_or bytes 0 0 → length bytes < 4) → StartsWithThree bytes
 starts-three bytes whole some low short = by whole.0 whole.1.1 where
   by : (cs : List ℕ) → encodes cs ≡ bytes → StartsWithThree bytes
   by [] e = absurd (omega (arith, some, ap length e))
   by (c ∷ cs) e =
-      let three = is_three c (encodes cs) (subst (λ l. 224 ≤ get_or l 0 0) (sym e) low) (subst (λ l. 240 ≤ get_or l 0 0 → length l < 4) (sym e) short) in
-      let cut : drop 3 bytes ≡ encodes cs = ap (drop 3) (sym e) ∙ drop_at (encode c) (encodes cs) 3 three.0 in
+      let three = is_three c (encodes cs) (subst (λ l. 224 ≤ get_or l 0 0) (sym e) low)
+      (subst (λ l. 240 ≤ get_or l 0 0 → length l < 4) (sym e) short) in
+      let cut : drop 3 bytes ≡ encodes cs =
+      ap (drop 3) (sym e) ∙ drop_at (encode c) (encodes cs) 3 three.0 in
       record {
         code = c;
         sum = three.1 ∙ ap (λ l. get_or l 0 0 * 4096 + get_or l 1 0 * 64 + get_or l 2 0) e;
@@ -57,41 +65,68 @@ starts-three bytes whole some low short = by whole.0 whole.1.1 where
       }
 
 -- the first character
-first-starts : (bytes : List ℕ) (a : ℕ) → IsUtf8 bytes → 3 ≤ length bytes → a ≡ get_or bytes 0 0 → 224 ≤ a → a < 240 → StartsWithThree bytes
-first-starts bytes a whole long p low high = starts-three bytes whole (omega (arith, long)) (omega (arith, p, low)) (λ great. absurd (omega (arith, p, high, great)))
+first-starts : (bytes : List ℕ) (a : ℕ) → IsUtf8 bytes → 3 ≤ length bytes → a ≡ get_or bytes 0 0
+    → 224 ≤ a → a < 240 → StartsWithThree bytes
+first-starts bytes a whole long p low high =
+    starts-three bytes whole (omega (arith, long)) (omega (arith, p, low))
+    (λ great. absurd (omega (arith, p, high, great)))
 
-pub first-three : (bytes after : List ℕ) (a b d code : ℕ) → IsUtf8 bytes → 3 ≤ length bytes → after ≡ drop 3 bytes
-    → a ≡ get_or bytes 0 0 → b ≡ get_or bytes 1 0 → d ≡ get_or bytes 2 0 → 224 ≤ a → a < 240 → code + 925824 ≡ a * 4096 + b * 64 + d
+pub first-three : (bytes after : List ℕ) (a b d code : ℕ) → IsUtf8 bytes → 3 ≤ length bytes
+    → after ≡ drop 3 bytes
+    → a ≡ get_or bytes 0 0 → b ≡ get_or bytes 1 0 → d ≡ get_or bytes 2 0 → 224 ≤ a → a < 240
+    → code + 925824 ≡ a * 4096 + b * 64 + d
     → chars bytes ≡ code ∷ chars after
 first-three bytes after a b d code whole long cut p q r low high sum =
     let three = first-starts bytes a whole long p low high in
     let same : three.code ≡ code = omega (arith, three.sum, sum, p, q, r) in
-    chars_past_char _ _ _ whole (three.parts ∙ ap (λ c. encode_utf8 c ++ drop 3 bytes) same ∙ ap (λ l. encode_utf8 code ++ l) (sym cut))
+    chars_past_char _ _ _ whole (three.parts ∙ ap (λ c. encode_utf8 c ++ drop 3 bytes) same
+    ∙ ap (λ l. encode_utf8 code ++ l) (sym cut))
 
-pub first-boundary : (bytes : List ℕ) (a : ℕ) → IsUtf8 bytes → 3 ≤ length bytes → a ≡ get_or bytes 0 0 → 224 ≤ a → a < 240 → IsCharBoundary bytes 3
-first-boundary bytes a whole long p low high = let three = first-starts bytes a whole long p low high in IsCharBoundary-from_drop bytes 3 long three.rest
+pub first-boundary : (bytes : List ℕ) (a : ℕ) → IsUtf8 bytes → 3 ≤ length bytes
+    → a ≡ get_or bytes 0 0 → 224 ≤ a → a < 240 → IsCharBoundary bytes 3
+first-boundary bytes a whole long p low high = let three =
+    first-starts bytes a whole long p low high in IsCharBoundary-from_drop bytes 3 long three.rest
 
 -- the last character
 at-start : (bytes : List ℕ) (start : ℕ) → get_or (drop start bytes) 0 0 ≡ get_or bytes start 0
 at-start bytes start = get_or-drop start bytes 0 0 ∙ ap (λ n. get_or bytes n 0) (add-zero start)
 
-last-starts : (bytes : List ℕ) (start a : ℕ) → IsUtf8 bytes → IsCharBoundary bytes start → length bytes ≡ start + 3 → a ≡ get_or bytes start 0 → 224 ≤ a
+last-starts : (bytes : List ℕ) (start a : ℕ) → IsUtf8 bytes → IsCharBoundary bytes start
+    → length bytes ≡ start + 3 → a ≡ get_or bytes start 0 → 224 ≤ a
     → StartsWithThree (drop start bytes)
 last-starts bytes start a whole boundary long p low =
     let size = length-drop start bytes in
     let at = at-start bytes start in
-    starts-three (drop start bytes) (IsUtf8-drop bytes start whole boundary) (omega (arith, size, long)) (omega (arith, at, p, low)) (λ _. omega (arith, size, long))
+    starts-three (drop start bytes) (IsUtf8-drop bytes start whole boundary)
+    (omega (arith, size, long)) (omega (arith, at, p, low)) (λ _. omega (arith, size, long))
 
-pub last-three : (bytes before : List ℕ) (start a b d code : ℕ) → IsUtf8 bytes → IsCharBoundary bytes start → length bytes ≡ start + 3 → before ≡ take start bytes
-    → a ≡ get_or bytes start 0 → b ≡ get_or bytes (start + 1) 0 → d ≡ get_or bytes (start + 2) 0 → 224 ≤ a → code + 925824 ≡ a * 4096 + b * 64 + d
+pub last-three : (bytes before : List ℕ) (start a b d code : ℕ) → IsUtf8 bytes
+    → IsCharBoundary bytes start → length bytes ≡ start + 3 → before ≡ take start bytes
+    → a ≡ get_or bytes start 0 → b ≡ get_or bytes (start + 1) 0 → d ≡ get_or bytes (start + 2) 0
+    → 224 ≤ a → code + 925824 ≡ a * 4096 + b * 64 + d
     → chars bytes ≡ chars before ++ code ∷ []
 last-three bytes before start a b d code whole boundary long cut p q r low sum =
     let three = last-starts bytes start a whole boundary long p low in
-    let same : three.code ≡ code = omega (arith, three.sum, sum, p, q, r, at-start bytes start, get_or-drop start bytes 1 0, get_or-drop start bytes 2 0) in
-    let none : drop 3 (drop start bytes) ≡ [] = is_nil _ (omega (arith, length-drop 3 (drop start bytes), length-drop start bytes, long)) in
-    let last : drop start bytes ≡ encode_utf8 code = three.parts ∙ ap (λ c. encode_utf8 c ++ drop 3 (drop start bytes)) same ∙ ap (λ l. encode_utf8 code ++ l) none ∙ append-nil (encode_utf8 code) in
-    chars-back bytes before code whole (subst IsUtf8 (sym cut) (IsUtf8-take bytes start whole boundary))
-    (sym (take-append-drop start bytes) ∙ ap (λ l. l ++ drop start bytes) (sym cut) ∙ ap (λ l. before ++ l) last) where
+    let same : three.code ≡ code = omega (
+      arith,
+      three.sum,
+      sum,
+      p,
+      q,
+      r,
+      at-start bytes start,
+      get_or-drop start bytes 1 0,
+      get_or-drop start bytes 2 0,
+    ) in
+    let none : drop 3 (drop start bytes) ≡ [] =
+    is_nil _ (omega (arith, length-drop 3 (drop start bytes), length-drop start bytes, long)) in
+    let last : drop start bytes ≡ encode_utf8 code =
+    three.parts ∙ ap (λ c. encode_utf8 c ++ drop 3 (drop start bytes)) same
+    ∙ ap (λ l. encode_utf8 code ++ l) none ∙ append-nil (encode_utf8 code) in
+    chars-back bytes before code whole
+    (subst IsUtf8 (sym cut) (IsUtf8-take bytes start whole boundary))
+    (sym (take-append-drop start bytes) ∙ ap (λ l. l ++ drop start bytes) (sym cut)
+    ∙ ap (λ l. before ++ l) last) where
       is_nil : (xs : List ℕ) → length xs ≡ 0 → xs ≡ []
       is_nil [] e = refl
       is_nil (x ∷ xs) e = absurd (omega (arith, e))
@@ -103,11 +138,18 @@ pub record HasBytes (key a b d : ℕ) : Type 0 where
   pub three : key / 65536 ≡ d
 
 pub key-bytes : (a b d : ℕ) → a < 256 → b < 256 → HasBytes (a + b * 256 + d * 65536) a b d
-key-bytes a b d p q = record { one = omega (arith, p, q); two = omega (arith, p, q); three = omega (arith, p, q) }
+key-bytes a b d p q = record {
+  one = omega (arith, p, q);
+  two = omega (arith, p, q);
+  three =
+      omega (arith, p, q);
+}
 
 -- the last four bytes without the first of them
-pub word-bytes : (bytes four : List ℕ) (front start word : ℕ) → ((i : ℕ) → get_or bytes i 0 < 256) → start ≡ front + 1 → four ≡ drop front bytes → word ≡ from_le_bytes w32 four
-    → HasBytes (word / 256) (get_or bytes start 0) (get_or bytes (start + 1) 0) (get_or bytes (start + 2) 0)
+pub word-bytes : (bytes four : List ℕ) (front start word : ℕ) → ((i : ℕ) → get_or bytes i 0 < 256)
+    → start ≡ front + 1 → four ≡ drop front bytes → word ≡ from_le_bytes w32 four
+    → HasBytes (word / 256) (get_or bytes start 0) (get_or bytes (start + 1) 0)
+    (get_or bytes (start + 2) 0)
 word-bytes bytes four front start word below next last is =
     let e = at 0 front (omega arith) in
     let f = at 1 start (omega (arith, next)) in
@@ -122,7 +164,9 @@ word-bytes bytes four front start word below next last is =
       three = omega (arith, is, e, f, g, h, p, q, r);
     } where
       at : (i j : ℕ) → front + i ≡ j → get_or four i 0 ≡ get_or bytes j 0
-      at i j e = ap (λ l. get_or l i 0) last ∙ get_or-drop front bytes i 0 ∙ ap (λ n. get_or bytes n 0) e
+      at i j e = ap (λ l. get_or l i 0) last ∙ get_or-drop front bytes i 0
+          ∙ ap (λ n. get_or bytes n 0) e
 
-pub boundary-at : (bytes : List ℕ) (start : ℕ) → start ≤ length bytes → 224 ≤ get_or bytes start 0 → IsCharBoundary bytes start
+pub boundary-at : (bytes : List ℕ) (start : ℕ) → start ≤ length bytes → 224 ≤ get_or bytes start 0
+    → IsCharBoundary bytes start
 boundary-at bytes start le low = (le, λ _ _. omega (arith, low))

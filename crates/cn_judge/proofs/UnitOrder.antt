@@ -7,9 +7,29 @@ use Rattle.cn_core.specs.declared.unit.Unit.{Unit as NumeralUnit}
 use Rattle.cn_core.specs.declared.unit.Unit.TheVariants.{Ge, Shi, Bai, Qian, Wan, Yi, Zhao, Jing, Gai, Zi, Rang, Gou, Jian, Zheng, Zai, Ji}
 use Rattle.cn_core.specs.Characters.{rank}
 
-each : (P : NumeralUnit → Type 0) → P Ge → P Shi → P Bai → P Qian → P Wan → P Yi → P Zhao → P Jing → P Gai → P Zi → P Rang → P Gou → P Jian → P Zheng → P Zai → P Ji → (unit : NumeralUnit) → P unit
+each : (P : NumeralUnit → Type 0) → P Ge → P Shi → P Bai → P Qian → P Wan → P Yi → P Zhao → P Jing
+    → P Gai → P Zi → P Rang → P Gou → P Jian → P Zheng → P Zai → P Ji → (unit : NumeralUnit)
+    → P unit
 each P a b c d e f g h i j k l m n o p =
-    elim [ Ge ↦ a | Shi ↦ b | Bai ↦ c | Qian ↦ d | Wan ↦ e | Yi ↦ f | Zhao ↦ g | Jing ↦ h | Gai ↦ i | Zi ↦ j | Rang ↦ k | Gou ↦ l | Jian ↦ m | Zheng ↦ n | Zai ↦ o | Ji ↦ p ]
+    elim [
+      | Ge ↦ a
+      | Shi ↦ b
+      | Bai ↦ c
+      | Qian ↦ d
+      | Wan ↦ e
+      | Yi ↦ f
+      | Zhao ↦ g
+      | Jing ↦ h
+      | Gai ↦
+          i
+      | Zi ↦ j
+      | Rang ↦ k
+      | Gou ↦ l
+      | Jian ↦ m
+      | Zheng ↦ n
+      | Zai ↦ o
+      | Ji ↦ p
+    ]
 
 compared : (a b : NumeralUnit) → partial_cmp-value.it a b ≡ Some (nat_cmp (rank a) (rank b))
 compared =

@@ -1,4 +1,5 @@
 pub mod Answer
+pub mod Entries
 pub mod ErrorText
 pub mod Judged
 pub mod Marked

@@ -1,23 +1,12 @@
 -- What the fields of a line stand for.
 use Rattle.std.proofs.Math.Nat.{pow-le-pow_right}
 use Rattle.std.proofs.lemmas.List.Sums.{fold_more, fold-append}
-use Rattle.std.proofs.Common.{◌≡◌, ◌<◌, ◌≤◌, ◌+◌, ◌-◌, ◌*◌, ◌^◌, [], ◌∷◌, length, take, drop, get_or, take-append-drop, sym, ap, ◌∙◌, arith, lit<, ℕ, Bool, true, false, Some, None, List, refl}
-use Rattle.std.specs.Prelude.{IsUtf8}
-use Rattle.std.specs.Str.{is_utf8}
-use Rattle.std.proofs.lemmas.Str.{is_utf8-from_IsUtf8, IsUtf8-from_is_utf8}
-use Rattle.cn_lines.specs.Question.{text_of, value_after}
-
-pub text_of-utf8 : (bytes : List ℕ) → IsUtf8 bytes → text_of bytes ≡ Some bytes
-text_of-utf8 bytes h = rw (is_utf8-from_IsUtf8 bytes h) refl
-
-pub text_of-other : (bytes : List ℕ) → (IsUtf8 bytes → ⊥) → text_of bytes ≡ None
-text_of-other bytes h =
-    let go : (t : Bool) → is_utf8 bytes ≡ t → text_of bytes ≡ None =
-    elim [ true ↦ λ e. absurd (h (IsUtf8-from_is_utf8 bytes e)) | false ↦ λ e. rw e refl ] in
-    go (is_utf8 bytes) refl
+use Rattle.std.proofs.Common.{◌≡◌, ◌<◌, ◌≤◌, ◌+◌, ◌-◌, ◌*◌, ◌^◌, [], ◌∷◌, length, take, drop, get_or, take-append-drop, sym, ap, ◌∙◌, arith, lit<, ℕ, List}
+use Rattle.cn_lines.specs.Question.{value_after}
 
 -- one more decimal digit after fewer than 19
-pub one_more_fits : (value i n digit : ℕ) → value < 10 ^ i → i < n → n ≤ 19 → digit ≤ 9 → value * 10 + digit < 2 ^ 64
+pub one_more_fits : (value i n digit : ℕ) → value < 10 ^ i → i < n → n ≤ 19 → digit ≤ 9
+    → value * 10 + digit < 2 ^ 64
 one_more_fits value i n digit small before few single =
     let e : 10 ^ i ≤ 10 ^ 18 = pow-le-pow_right {n = 10} (lit< tt) {i = i} {j = 18} (omega arith) in
     omega (arith, e)
@@ -29,12 +18,23 @@ value_after-grows start (digit ∷ digits) =
     omega (arith, value_after-grows (start * 10 + (digit - 48)) digits)
 
 -- so a number that is too great after one more digit stays so
-pub value_after-beyond : (start : ℕ) (digits : List ℕ) (i value most : ℕ) → i < length digits → value ≡ value_after start (take i digits)
+pub value_after-beyond : (start : ℕ) (digits : List ℕ) (i value most : ℕ) → i < length digits
+    → value ≡ value_after start (take i digits)
     → most ≤ value * 10 + (get_or digits i 0 - 48) → most ≤ value_after start digits
 value_after-beyond start digits i value most within so_far beyond =
     let step : ℕ → ℕ → ℕ = λ number digit. number * 10 + (digit - 48) in
-    let next : value_after start (take (i + 1) digits) ≡ value_after start (take i digits) * 10 + (get_or digits i 0 - 48) =
+    let next : value_after start (take (i + 1) digits)
+    ≡ value_after start (take i digits) * 10 + (get_or digits i 0 - 48) =
     fold_more step start digits i 0 within in
-    let whole : value_after start digits ≡ value_after (value_after start (take (i + 1) digits)) (drop (i + 1) digits) =
-    ap (value_after start) (sym (take-append-drop (i + 1) digits)) ∙ fold-append step start (take (i + 1) digits) (drop (i + 1) digits) in
-    omega (arith, next, whole, so_far, value_after-grows (value_after start (take (i + 1) digits)) (drop (i + 1) digits))
+    let whole : value_after start digits
+    ≡ value_after (value_after start (take (i + 1) digits)) (drop (i + 1) digits) =
+    ap (value_after start) (sym (take-append-drop (i + 1) digits))
+    ∙ fold-append step start (take (i + 1) digits) (drop (i + 1) digits) in
+    omega (
+      arith,
+      next,
+      whole,
+      so_far,
+      value_after-grows (value_after start (take (i + 1) digits))
+          (drop (i + 1) digits),
+    )

@@ -1,4 +1,3 @@
-pub mod Characters
 pub mod Fields
 pub mod OneAnswer
 pub mod Strides

@@ -1,15 +1,12 @@
 -- What is answered to lines.
-use Rattle.std.specs.Prelude.{◌≡◌, ◌++◌, ℕ, ℤ, pos, int_lt, List, [], ◌∷◌, codes, encode_utf8_all, Option, Some, None, Result, Ok, Err, if◌then◌else◌}
-use Rattle.std.specs.Bool.{MatchBool}
+use Rattle.std.specs.Prelude.{◌≡◌, ◌++◌, ℕ, ℤ, List, [], ◌∷◌, codes, encode_utf8_all, Option, Some, None, Result, Ok, Err, if◌then◌else◌}
 use Rattle.std.specs.Fmt.{signed_decimal}
 use Rattle.chinese_number.specs.declared.ChineseVariant.{ChineseVariant}
 use Rattle.chinese_number.specs.declared.ChineseCase.{ChineseCase}
-use Rattle.chinese_number.specs.Refusal.{Refusal, too_large, too_small, refusal_text}
-use Rattle.chinese_number.specs.Reading.{Reads, naive_reading}
+use Rattle.chinese_number.specs.Refusal.{Refusal, refusal_text}
 use Rattle.chinese_number.specs.Whole.{Kind, holds}
-use Rattle.chinese_number.specs.Printing.{naive_text, spelled_text, is_printable}
-use Rattle.cn_lines.specs.declared.question.Method.{Method}
-use Rattle.cn_lines.specs.declared.question.Method.TheVariants.{Naive, Units}
+use Rattle.cn_ways.specs.Ways.{ReadsBy, written_by}
+use Rattle.cn_ways.specs.declared.Way.{Way}
 use Rattle.cn_lines.specs.Question.{Question, read, print, question_of}
 
 -- what is answered to a text that was read
@@ -21,42 +18,29 @@ reading_text (Err refusal) = codes "err " ++ refusal_text refusal
 abbrev pub bad_line : List ℕ
 bad_line = codes "bad line"
 
--- what a text is read as
-abbrev pub ReadsBy : Method → Kind → List ℕ → Result ℤ Refusal → Type 0
-ReadsBy Naive kind text reading = reading ≡ naive_reading kind text
-ReadsBy (Units method) kind text reading = Reads kind method text reading
-
 -- the answer to a text that is to be read
-abbrev pub AnswersRead : Kind → Method → List ℕ → List ℕ → Type 0
-AnswersRead kind method text answer =
-    (reading : Result ℤ Refusal) × ReadsBy method kind text reading
+abbrev pub AnswersRead : Kind → Way → List ℕ → List ℕ → Type 0
+AnswersRead kind way text answer =
+    (reading : Result ℤ Refusal) × ReadsBy kind way text reading
     × (answer ≡ reading_text reading)
 
--- why a method does not write a number
-abbrev pub unprintable : ℤ → Refusal
-unprintable number = if int_lt number (pos 0) then too_small else too_large
-
--- the answer to a number that is to be printed and that its type holds
-abbrev pub AnswersPrint : Method → ChineseVariant → ChineseCase → ℤ → List ℕ → Type 0
-AnswersPrint Naive variant case number answer =
-    answer ≡ codes "ok " ++ encode_utf8_all (naive_text variant case number)
-AnswersPrint (Units method) variant case number answer =
-    MatchBool (is_printable method number)
-    (answer ≡ codes "ok " ++ encode_utf8_all (spelled_text variant case method number))
-    (answer ≡ codes "err " ++ refusal_text (unprintable number))
+-- what is answered to a number that its type holds
+abbrev pub printing_text : Result (List ℕ) Refusal → List ℕ
+printing_text (Ok characters) = codes "ok " ++ encode_utf8_all characters
+printing_text (Err refusal) = codes "err " ++ refusal_text refusal
 
 -- the answer to a number that is to be printed
 abbrev pub AnswersPrinting :
-    Kind → Method → ChineseVariant → ChineseCase → ℤ → List ℕ → Type 0
-AnswersPrinting kind method variant case number answer =
-    MatchBool (holds kind number) (AnswersPrint method variant case number answer)
-    (answer ≡ bad_line)
+    Kind → Way → ChineseVariant → ChineseCase → ℤ → List ℕ → Type 0
+AnswersPrinting kind way variant case number answer =
+    answer ≡ (if holds kind number then printing_text (written_by way variant case number)
+    else bad_line)
 
 -- the answer to a question
 abbrev pub AnswersQuestion : Question → List ℕ → Type 0
-AnswersQuestion (read kind method text) answer = AnswersRead kind method text answer
-AnswersQuestion (print kind method variant case number) answer =
-    AnswersPrinting kind method variant case number answer
+AnswersQuestion (read kind way text) answer = AnswersRead kind way text answer
+AnswersQuestion (print kind way variant case number) answer =
+    AnswersPrinting kind way variant case number answer
 
 -- the answer to what is asked, if anything is
 abbrev pub AnswersAny : Option Question → List ℕ → Type 0

@@ -1,15 +1,10 @@
 -- Words that contracts of private functions alone cite.
 use Rattle.std.specs.Prelude.{◌≡◌, ℕ, ◌^◌, ◌≤◌, ℤ, pos, neg_ℤ, nat_abs, ◌≤ℤ◌, Bool, true, false}
-use Rattle.chinese_number.specs.Whole.{Kind, unsigned_kind, signed_kind, signed_number}
-use Rattle.cn_lines.specs.declared.integer_type.SignedMagnitude.{SignedMagnitude}
+use Rattle.chinese_number.specs.Whole.{Kind, unsigned_kind, signed_kind}
 
 -- the number is greater than each that a type of 128 bits holds, or less
 abbrev pub IsBeyondAll : ℤ → Type 0
 IsBeyondAll number = 2 ^ 128 ≤ nat_abs number
-
--- the number with this sign and magnitude
-abbrev pub stands_for : SignedMagnitude → ℤ
-stands_for number = signed_number number.negative number.magnitude
 
 -- the kind of type that holds these magnitudes below zero and above
 abbrev pub kind_between : Bool → ℕ → ℕ → Kind

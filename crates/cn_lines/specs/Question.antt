@@ -7,10 +7,9 @@ use Rattle.chinese_number.specs.declared.ChineseVariant.{ChineseVariant}
 use Rattle.chinese_number.specs.declared.ChineseVariant.TheVariants.{Traditional, Simple}
 use Rattle.chinese_number.specs.declared.ChineseCase.{ChineseCase}
 use Rattle.chinese_number.specs.declared.ChineseCase.TheVariants.{Upper, Lower}
-use Rattle.chinese_number.specs.declared.ChineseCountMethod.TheVariants.{Low, TenThousand, Middle, High}
 use Rattle.chinese_number.specs.Whole.{Kind, unsigned_kind, signed_kind, signed_number}
-use Rattle.cn_lines.specs.declared.question.Method.{Method}
-use Rattle.cn_lines.specs.declared.question.Method.TheVariants.{Naive, Units}
+use Rattle.cn_ways.specs.Ways.{named, way_named}
+use Rattle.cn_ways.specs.declared.Way.{Way}
 
 infixl 10 ◌>>=◌
 abbrev pub ◌>>=◌ : {A B : Type 0} → Option A → (A → Option B) → Option B
@@ -18,13 +17,8 @@ o >>= f = option_and_then f o
 
 -- what a line asks: to read a text as a number of a type, or to print a number of a type
 pub data Question : Type 0 where
-  read : Kind → Method → List ℕ → Question
-  print : Kind → Method → ChineseVariant → ChineseCase → ℤ → Question
-
--- what stands beside the name in a table
-abbrev pub named : {A : Type 0} → List ℕ → List (List ℕ × A) → Option A
-named name [] = None
-named name (row ∷ rows) = if bytes_eq name row.0 then Some row.1 else named name rows
+  read : Kind → Way → List ℕ → Question
+  print : Kind → Way → ChineseVariant → ChineseCase → ℤ → Question
 
 -- the integer type of a name: whether it is signed, and what it holds
 abbrev pub type_named : List ℕ → Option Kind
@@ -35,13 +29,6 @@ type_named name = named name
     ∷ (codes "u64", unsigned_kind 64) ∷ (codes "i64", signed_kind 64)
     ∷ (codes "u128", unsigned_kind 128) ∷ (codes "i128", signed_kind 128)
     ∷ (codes "usize", unsigned_kind 64) ∷ (codes "isize", signed_kind 64) ∷ [])
-
--- the method of a name
-abbrev pub method_named : List ℕ → Option Method
-method_named name = named name
-    ((codes "naive", Naive) ∷ (codes "low", Units Low)
-    ∷ (codes "ten_thousand", Units TenThousand) ∷ (codes "middle", Units Middle)
-    ∷ (codes "high", Units High) ∷ [])
 
 -- the script of a name
 abbrev pub script_named : List ℕ → Option ChineseVariant
@@ -66,9 +53,9 @@ magnitude_of digits =
     else None
 
 -- the number of decimal digits after at most one minus sign
-abbrev pub number_of : List ℕ → Option ℤ
-number_of [] = None
-number_of (byte ∷ digits) =
+abbrev pub decimal_number : List ℕ → Option ℤ
+decimal_number [] = None
+decimal_number (byte ∷ digits) =
     if byte == 45 then option_map (signed_number true) (magnitude_of digits)
     else option_map (signed_number false) (magnitude_of (byte ∷ digits))
 
@@ -78,32 +65,32 @@ cut bytes =
     option_map (λ end. (take end bytes, drop (end + 1) bytes)) (position (λ byte. byte == 32) bytes)
 
 -- the text of these bytes, if they are UTF-8
-abbrev pub text_of : List ℕ → Option (List ℕ)
-text_of bytes = if is_utf8 bytes then Some bytes else None
+abbrev pub utf8_text : List ℕ → Option (List ℕ)
+utf8_text bytes = if is_utf8 bytes then Some bytes else None
 
--- <type> <method> <text>; the text may be empty and may hold spaces
+-- <type> <way> <text>; the text may be empty and may hold spaces
 abbrev pub read_question : List ℕ → Option Question
 read_question fields = do
   type ← cut fields
-  method ← cut type.1
+  way ← cut type.1
   kind ← type_named type.0
-  way ← method_named method.0
-  text ← text_of method.1
-  Some (read kind way text)
+  by ← way_named way.0
+  text ← utf8_text way.1
+  Some (read kind by text)
 
--- <type> <method> <script> <case> <decimal>
+-- <type> <way> <script> <case> <decimal>
 abbrev pub print_question : List ℕ → Option Question
 print_question fields = do
   type ← cut fields
-  method ← cut type.1
-  script ← cut method.1
+  way ← cut type.1
+  script ← cut way.1
   letters ← cut script.1
   kind ← type_named type.0
-  way ← method_named method.0
+  by ← way_named way.0
   variant ← script_named script.0
   case ← case_named letters.0
-  number ← number_of letters.1
-  Some (print kind way variant case number)
+  number ← decimal_number letters.1
+  Some (print kind by variant case number)
 
 -- by the first word of a line
 abbrev pub question_after : List ℕ → List ℕ → Option Question

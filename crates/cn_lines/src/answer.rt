@@ -2,14 +2,12 @@
 ghost use Rattle.std.specs.Prelude.{◌≡◌, ◌++◌, [], OnOk, codes, string_bytes};
 ghost use Rattle.chinese_number.specs.Answer.{answer_of};
 ghost use Rattle.cn_lines.specs.Question.{read_question, print_question};
-ghost use Rattle.cn_lines.specs.Answer.{Answers, AnswersAny, AnswersRead, AnswersPrinting, ReadsBy, bad_line, reading_text};
-ghost use Rattle.cn_lines.specs.Private.{stands_for};
+ghost use Rattle.cn_lines.specs.Answer.{Answers, AnswersAny, AnswersRead, AnswersPrinting, bad_line, reading_text};
+ghost use Rattle.cn_ways.specs.Ways.{ReadsBy, stands_for};
 
-use crate::integer_type::SignedMagnitude;
-use crate::numerals::{
-    ChineseToNumber, ChineseToNumberError, NumberToChinese, NumberToChineseError, Whole,
-};
-use crate::question::{Method, Printing, Reading, asked_printing, asked_reading, cut};
+use crate::question::{Printing, Reading, asked_printing, asked_reading, cut};
+use chinese_number::{ChineseToNumberError, NumberToChinese, NumberToChineseError, Whole};
+use cn_ways::{SignedMagnitude, Way, print_by, read_by};
 use std::alloc::{AllocError, Global};
 
 // Puts the answer to a line that asks nothing.
@@ -20,28 +18,22 @@ fn put_bad_line(answer: &mut String) -> Result<(), AllocError>
 }
 
 // Reads a text as a number of a type.
-fn read_as<T: Whole>(method: Method, text: &str) -> Result<SignedMagnitude, ChineseToNumberError>
-    ensures { ReadsBy method T.kind text.now (answer_of stands_for result) }
+fn read_as<T: Whole>(way: Way, text: &str) -> Result<SignedMagnitude, ChineseToNumberError>
+    ensures { ReadsBy T.kind way text.now (answer_of stands_for result) }
 {
-    let value: T = match method {
-        Method::Naive => text.to_number_naive()?,
-        Method::Units(method) => text.to_number(method)?,
-    };
-    Ok(SignedMagnitude {
-        negative: value.is_negative(),
-        magnitude: value.magnitude(),
-    })
+    let value: T = read_by(way, text)?;
+    Ok(SignedMagnitude::of(value))
 }
 
 // Reads a text that is to be read: as a number of 128 bits, and then by what its type holds.
 fn read_asked(asked: Reading<'_>) -> Result<SignedMagnitude, ChineseToNumberError>
-    ensures { ReadsBy asked.entry.method asked.entry.integer asked.entry.text.now
+    ensures { ReadsBy asked.entry.integer asked.entry.way asked.entry.text.now
         (answer_of stands_for result) }
 {
     let number = if asked.integer.is_signed() {
-        read_as::<i128>(asked.method, asked.text)?
+        read_as::<i128>(asked.way, asked.text)?
     } else {
-        read_as::<u128>(asked.method, asked.text)?
+        read_as::<u128>(asked.way, asked.text)?
     };
     if asked.integer.holds(number) {
         Ok(number)
@@ -97,7 +89,7 @@ fn put_printed_as<T: NumberToChinese>(
     asked: Printing,
 ) -> Result<(), AllocError>
     requires { string_bytes answer.old ≡ [] }
-    ensures { OnOk result (AnswersPrinting T.kind asked.method asked.variant asked.case
+    ensures { OnOk result (AnswersPrinting T.kind asked.way asked.variant asked.case
         (stands_for asked.number) (string_bytes answer.new)) }
 {
     let SignedMagnitude {
@@ -107,25 +99,17 @@ fn put_printed_as<T: NumberToChinese>(
     let Some(value) = T::from_magnitude(negative, magnitude) else {
         return put_bad_line(answer);
     };
-    match asked.method {
-        Method::Naive => {
-            let text = value.to_chinese_naive(alloc, asked.variant, asked.case)?;
-            put_text(answer, text.as_str())
-        }
-        Method::Units(method) => {
-            match value.to_chinese(alloc, asked.variant, asked.case, method) {
-                Ok(text) => put_text(answer, text.as_str()),
-                Err(NumberToChineseError::OutOfMemory) => Err(AllocError),
-                Err(error) => write!(answer, "err {error}"),
-            }
-        }
+    match print_by(alloc, asked.way, asked.variant, asked.case, value) {
+        Ok(text) => put_text(answer, text.as_str()),
+        Err(NumberToChineseError::OutOfMemory) => Err(AllocError),
+        Err(error) => write!(answer, "err {error}"),
     }
 }
 
 // Puts the text of a number, if its type holds it, as one of 128 bits; or why there is none.
 fn put_printed(alloc: Global, answer: &mut String, asked: Printing) -> Result<(), AllocError>
     requires { string_bytes answer.old ≡ [] }
-    ensures { OnOk result (AnswersPrinting asked.integer asked.method asked.variant
+    ensures { OnOk result (AnswersPrinting asked.integer asked.way asked.variant
         asked.case (stands_for asked.number) (string_bytes answer.new)) }
 {
     if !asked.integer.holds(asked.number) {

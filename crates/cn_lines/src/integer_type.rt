@@ -1,25 +1,11 @@
 // What integer types hold.
-ghost use Rattle.std.specs.Prelude.{◌≡◌, ◌↔◌, ◌+◌, ◌^◌, ◌<◌, ◌<ℤ◌, pos, IsTrue, false, true};
+ghost use Rattle.std.specs.Prelude.{◌≡◌, ◌+◌, ◌^◌, ◌<◌, false, true};
 ghost use Rattle.chinese_number.specs.Whole.{holds};
-ghost use Rattle.cn_lines.specs.Private.{kind_between, stands_for};
+ghost use Rattle.cn_lines.specs.Private.{kind_between};
+ghost use Rattle.cn_ways.specs.Ways.{stands_for};
 
+use cn_ways::SignedMagnitude;
 use std::marker::Model;
-
-/// The sign and the magnitude of a number.
-#[derive(Clone, Copy)]
-pub(crate) struct SignedMagnitude {
-    pub(crate) negative: bool,
-    pub(crate) magnitude: u128,
-}
-
-impl SignedMagnitude {
-    /// Whether the number is below zero.
-    pub(crate) fn is_negative(self) -> bool
-        ensures { IsTrue result ↔ (stands_for self <ℤ pos 0) }
-    {
-        self.negative && self.magnitude > 0
-    }
-}
 
 /// An integer type, by the greatest magnitude that it holds below zero, and above.
 #[derive(Clone, Copy)]

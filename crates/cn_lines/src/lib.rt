@@ -7,7 +7,4 @@ pub mod answer;
 mod integer_type;
 pub mod laws;
 pub mod lines;
-mod numerals;
 mod question;
-mod search;
-mod text;

@@ -1,8 +1,57 @@
-// Where a line ends.
-ghost use Rattle.std.specs.Prelude.{◌≡◌, ◌<◌, ◌≤◌, ◌++◌, ◌∷◌, false, length, take, slice_index, IfSome, MatchOption, IsFalse};
+// Where a line ends, and where a byte first stands.
+ghost use Rattle.std.specs.Prelude.{◌≡◌, ◌==◌, ◌<◌, ◌≤◌, ◌++◌, ◌∷◌, false, length, position, take, slice_index, IfSome, MatchOption, IsFalse};
+ghost use Rattle.std.specs.List.{position_or_len};
 ghost use Rattle.cn_lines.specs.Lines.{HasNoFeed};
 
-use crate::search::far_position;
+use std::simd::prelude::*;
+
+// How many bytes are looked at in one step, where the position is likely to be far.
+const STRIDE: usize = 64;
+
+/// The position of the first byte of this value.
+pub(crate) fn first_position(byte: u8, bytes: &[u8]) -> Option<usize>
+    ensures { result ≡ position (λ b. b == byte) bytes.now }
+{
+    bytes.iter().position(|b| *b == byte)
+}
+
+// The same, or the length.
+fn near_position(byte: u8, bytes: &[u8]) -> usize
+    ensures position { result ≡ position_or_len (λ b. b == byte) bytes.now }
+    ensures bound { result ≤ length bytes.now }
+{
+    first_position(byte, bytes).unwrap_or(bytes.len())
+}
+
+// The position in a stride, or its length. Its bytes are compared side by side.
+#[inline(always)]
+fn position_in_stride(byte: u8, stride: &[u8; STRIDE]) -> usize
+    ensures { result ≡ position_or_len (λ b. b == byte) stride.now }
+{
+    let found = u8x64::from_array(*stride)
+        .simd_eq(u8x64::splat(byte))
+        .to_bitmask();
+    if found == 0 {
+        return STRIDE;
+    }
+    found.trailing_zeros() as usize
+}
+
+/// The position of the first byte of this value, or the length, where it is likely to be far.
+pub(crate) fn far_position(byte: u8, bytes: &[u8]) -> usize
+    ensures position { result ≡ position_or_len (λ b. b == byte) bytes.now }
+    ensures bound { result ≤ length bytes.now }
+{
+    let mut start = 0;
+    'strides: while let Some(stride) = bytes[start..].first_chunk::<STRIDE>() {
+        let position = position_in_stride(byte, stride);
+        if position < STRIDE {
+            return start + position;
+        }
+        start += STRIDE;
+    }
+    start + near_position(byte, &bytes[start..])
+}
 
 // The position of the first line feed, or the length.
 fn line_len(bytes: &[u8]) -> usize

@@ -2,21 +2,15 @@
 ghost use Rattle.std.specs.Prelude.{◌≡◌, ◌==◌, ◌+◌, ◌*◌, ◌^◌, ◌<◌, ◌≤◌, ◌∷◌, position, length, IsTrue, SomeIff, IfNone, IfSome, MatchOption};
 ghost use Rattle.std.specs.List.{list_all};
 ghost use Rattle.std.specs.Char.{is_ascii_digit};
-ghost use Rattle.cn_lines.specs.Question.{cut, type_named, method_named, script_named, case_named, value_of, value_after, magnitude_of, number_of, read, print, read_question, print_question};
+ghost use Rattle.cn_lines.specs.Question.{cut, type_named, script_named, case_named, value_of, value_after, magnitude_of, decimal_number, read, print, read_question, print_question};
 ghost use Rattle.cn_lines.specs.Answer.{bad_line, AnswersAny};
-ghost use Rattle.cn_lines.specs.Private.{IsBeyondAll, stands_for};
+ghost use Rattle.cn_lines.specs.Private.{IsBeyondAll};
+ghost use Rattle.cn_ways.specs.Ways.{stands_for};
 
-use crate::integer_type::{IntegerType, SignedMagnitude};
-use crate::numerals::{ChineseCase, ChineseCountMethod, ChineseVariant};
-use crate::search::first_position;
-use crate::text::text_of;
-
-/// How a number is read or printed: by its plain digits, or with units by a counting method.
-#[derive(Clone, Copy)]
-pub(crate) enum Method {
-    Naive,
-    Units(ChineseCountMethod),
-}
+use crate::integer_type::IntegerType;
+use crate::lines::first_position;
+use chinese_number::{ChineseCase, ChineseVariant};
+use cn_ways::{SignedMagnitude, Way, utf8_text, way_named};
 
 /// The first field, which a space ends, and all that follows the space.
 pub(crate) fn cut(bytes: &[u8]) -> Option<(&[u8], &[u8])>
@@ -69,25 +63,6 @@ fn type_named(name: &[u8]) -> Option<IntegerType>
         [b'u', width @ ..] => unsigned_type(width),
         [b'i', width @ ..] => signed_type(width),
         _ => None,
-    }
-}
-
-#[inline(always)]
-fn method_named(name: &[u8]) -> Option<Method>
-    ensures { result ≡ method_named name.now }
-{
-    if name == b"naive".as_slice() {
-        Some(Method::Naive)
-    } else if name == b"low".as_slice() {
-        Some(Method::Units(ChineseCountMethod::Low))
-    } else if name == b"ten_thousand".as_slice() {
-        Some(Method::Units(ChineseCountMethod::TenThousand))
-    } else if name == b"middle".as_slice() {
-        Some(Method::Units(ChineseCountMethod::Middle))
-    } else if name == b"high".as_slice() {
-        Some(Method::Units(ChineseCountMethod::High))
-    } else {
-        None
     }
 }
 
@@ -178,35 +153,30 @@ fn magnitude_of(digits: &[u8]) -> Option<u128>
 #[derive(Clone, Copy)]
 pub(crate) struct Reading<'a> {
     pub(crate) integer: IntegerType,
-    pub(crate) method: Method,
+    pub(crate) way: Way,
     pub(crate) text: &'a str,
 }
 
-/// What stands after `read `: a type, a method and a text.
+/// What stands after `read `: a type, a way and a text.
 #[inline(always)]
 pub(crate) fn asked_reading(fields: &[u8]) -> Option<Reading<'_>>
     ensures { MatchOption result (read_question fields.now ≡ None)
-        (λ r. read_question fields.now ≡ Some (read r.integer r.method r.text.now)) }
+        (λ r. read_question fields.now ≡ Some (read r.integer r.way r.text.now)) }
 {
     let (integer, rest) = cut(fields)?;
-    let (method, text) = cut(rest)?;
-    let method = method_named(method)?;
-    let text = text_of(text)?;
-    // the type comes last, next to where the answer goes by it
+    let (way, text) = cut(rest)?;
+    let way = way_named(way)?;
     let integer = type_named(integer)?;
-    Some(Reading {
-        integer,
-        method,
-        text,
-    })
+    let text = utf8_text(text)?;
+    Some(Reading { integer, way, text })
 }
 
 // A decimal number. There is none, too, where its magnitude passes 128 bits, since no type holds
 // it.
 #[inline(always)]
-fn number_of(field: &[u8]) -> Option<SignedMagnitude>
-    ensures none { IfNone result (IfSome (number_of field.now) IsBeyondAll) }
-    ensures some { IfSome result (λ n. number_of field.now ≡ Some (stands_for n)) }
+fn decimal_number(field: &[u8]) -> Option<SignedMagnitude>
+    ensures none { IfNone result (IfSome (decimal_number field.now) IsBeyondAll) }
+    ensures some { IfSome result (λ n. decimal_number field.now ≡ Some (stands_for n)) }
 {
     let (negative, digits) = match field {
         [b'-', digits @ ..] => (true, digits),
@@ -223,31 +193,31 @@ fn number_of(field: &[u8]) -> Option<SignedMagnitude>
 #[derive(Clone, Copy)]
 pub(crate) struct Printing {
     pub(crate) integer: IntegerType,
-    pub(crate) method: Method,
+    pub(crate) way: Way,
     pub(crate) variant: ChineseVariant,
     pub(crate) case: ChineseCase,
     pub(crate) number: SignedMagnitude,
 }
 
-/// What stands after `print `: a type, a method, a script, a case and a number.
+/// What stands after `print `: a type, a way, a script, a case and a number.
 #[inline(always)]
 pub(crate) fn asked_printing(fields: &[u8]) -> Option<Printing>
     ensures none { IfNone result (AnswersAny (print_question fields.now) bad_line) }
     ensures some { IfSome result (λ p. print_question fields.now
-        ≡ Some (print p.integer p.method p.variant p.case (stands_for p.number))) }
+        ≡ Some (print p.integer p.way p.variant p.case (stands_for p.number))) }
 {
     let (integer, rest) = cut(fields)?;
-    let (method, rest) = cut(rest)?;
+    let (way, rest) = cut(rest)?;
     let (variant, rest) = cut(rest)?;
     let (case, number) = cut(rest)?;
-    let method = method_named(method)?;
+    let way = way_named(way)?;
     let variant = script_named(variant)?;
     let case = case_named(case)?;
-    let number = number_of(number)?;
+    let number = decimal_number(number)?;
     let integer = type_named(integer)?;
     Some(Printing {
         integer,
-        method,
+        way,
         variant,
         case,
         number,

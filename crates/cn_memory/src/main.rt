@@ -1,5 +1,5 @@
 //! Makes each call that takes memory once, and prints what came of it in a line: its text, or the
-//! error.
+//! name of the error.
 //!
 //! Each line takes one growth, so that `checks/out_of_memory.py` can refuse them in turn. The last
 //! lines take none: they refuse their number by name.
@@ -9,18 +9,18 @@ use chinese_number::ChineseCase::Lower;
 use chinese_number::ChineseCountMethod::{High, Low, Middle, TenThousand};
 use chinese_number::ChineseVariant::Traditional;
 use chinese_number::{ChineseCountMethod, NumberToChinese};
-use std::fmt::Display;
+use std::fmt::{Debug, Display};
 use std::io;
 
 // Prints what came of a call, in a line of its own.
-fn show<E: Display + Drop>(
+fn show<E: Debug + Drop>(
     rt: &impl Print,
     call: impl Display + Drop,
     outcome: Result<String, E>,
 ) -> io::Result<()> {
     match outcome {
         Ok(text) => println!(rt; "{call}: {text}"),
-        Err(error) => println!(rt; "{call}: {error}"),
+        Err(error) => println!(rt; "{call}: {error:?}"),
     }
 }
 

@@ -1,3 +1,2 @@
-pub mod ExponentEntries
 pub mod RegularSteps
 pub mod RegularSums

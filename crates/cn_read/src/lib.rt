@@ -1,16 +1,16 @@
 //! Readers of Chinese numerals: each of the twelve integer types is read from text, exactly as the
-//! definitions of `cn_core` judge it. No reader takes memory. Each call is a line over `cn_judge`, and
-//! each unit reader over `cn_quick`, which reads regular numerals at once.
+//! definitions of `cn_core` judge it. No reader takes memory. Each call is a line over `cn_judge`,
+//! and each unit reader over `cn_quick`, which reads regular numerals at once. With
+//! `use cn_judge::read` in the place of `use cn_quick::read` all is proved and answered alike, and
+//! regular numerals take longer.
 #![tactic(auto)]
 
 mod naive_readers;
 mod to_number;
 mod unit_readers;
 
-// With `cn_judge` in its place all is proved and answered alike, and regular numerals take longer.
-use cn_quick::read;
-
 pub use cn_judge::ChineseToNumberError;
+use cn_quick::read;
 pub use naive_readers::{
     from_chinese_to_i8_naive, from_chinese_to_i16_naive, from_chinese_to_i32_naive,
     from_chinese_to_i64_naive, from_chinese_to_i128_naive, from_chinese_to_isize_naive,

@@ -7,29 +7,33 @@ use Rattle.cn_core.specs.Spelling.{spelling}
 use Rattle.cn_core.specs.Printing.{is_printable}
 use Rattle.cn_core.proofs.Lengths.{length-spelling}
 use Rattle.cn_spell.specs.Prints.{most_bytes}
-use Rattle.cn_spell.specs.Working.Units.{positions_within}
+use Rattle.cn_spell.specs.Working.Units.{powers_within}
 use Rattle.cn_spell.proofs.Walks.{square}
 
 -- its digits are few enough for the method's units
-pub fits : (method : ChineseCountMethod) (number : ℤ) → is_printable method number ≡ true → nat_abs number < 2 ^ 128 → nat_abs number < 10 ^ positions_within method
+pub fits : (method : ChineseCountMethod) (number : ℤ) → is_printable method number ≡ true
+    → nat_abs number < 2 ^ 128 → nat_abs number < 10 ^ powers_within method
 fits Low number printable small = grind (arith, nat_tests, printable)
 fits TenThousand number printable small = omega (arith, small)
 fits Middle number printable small = omega (arith, small)
 fits High number printable small = omega (arith, small)
 
-some-positions : (method : ChineseCountMethod) → 1 ≤ positions_within method
-some-positions Low = omega arith
-some-positions TenThousand = omega arith
-some-positions Middle = omega arith
-some-positions High = omega arith
+some-powers : (method : ChineseCountMethod) → 1 ≤ powers_within method
+some-powers Low = omega arith
+some-powers TenThousand = omega arith
+some-powers Middle = omega arith
+some-powers High = omega arith
 
 -- the marks of its spelling, and its sign
-pub marks-fit : (method : ChineseCountMethod) (number : ℤ) → is_printable method number ≡ true → nat_abs number < 2 ^ 128 → 3 * (length (spelling method (nat_abs number)) + 1) ≤ most_bytes method
+pub marks-fit : (method : ChineseCountMethod) (number : ℤ) → is_printable method number ≡ true
+    → nat_abs number < 2 ^ 128 → 3 * (length (spelling method (nat_abs number)) + 1)
+    ≤ most_bytes method
 marks-fit method number printable small =
     let less = fits method number printable small in
-    let marks = length-spelling method (nat_abs number) (positions_within method) (some-positions method) less (square method (nat_abs number) (positions_within method) less (omega arith)) in
+    let marks = length-spelling method (nat_abs number) (powers_within method) (some-powers method)
+    less (square method (nat_abs number) (powers_within method) less (omega arith)) in
     omega (arith, marks, bytes method) where
-      bytes : (method : ChineseCountMethod) → 6 * positions_within method ≤ most_bytes method
+      bytes : (method : ChineseCountMethod) → 6 * powers_within method ≤ most_bytes method
       bytes Low = omega arith
       bytes TenThousand = omega arith
       bytes Middle = omega arith
@@ -42,7 +46,9 @@ most_bytes-le Middle = omega arith
 most_bytes-le High = omega arith
 
 -- a magnitude is printed where its number is
-pub printable : (method : ChineseCountMethod) (number : ℤ) (magnitude : ℕ) → magnitude ≡ nat_abs number → is_printable method number ≡ true → is_printable method (pos magnitude) ≡ true
+pub printable : (method : ChineseCountMethod) (number : ℤ) (magnitude : ℕ)
+    → magnitude ≡ nat_abs number → is_printable method number ≡ true
+    → is_printable method (pos magnitude) ≡ true
 printable Low number magnitude same h = rw same h
 printable TenThousand number magnitude same h = refl
 printable Middle number magnitude same h = refl

@@ -1,10 +1,9 @@
 pub mod Bounds
-pub mod GroupCuts
-pub mod GroupWalks
 pub mod NaiveTexts
 pub mod Pens
-pub mod PositionsLemmas
 pub mod Rooms
+pub mod SectionCuts
+pub mod SectionWalks
 pub mod Signs
 pub mod Single
 pub mod SingleTops

@@ -1,9 +1,11 @@
--- The text of plain digits, from its lowest digit up.
-use Rattle.std.proofs.Common.{◌≡◌, ℕ, ◌+◌, ◌-◌, ◌^◌, ◌%◌, ◌<◌, ◌≤◌, Bool, true, false, List, [], ◌∷◌, ◌++◌, length, map, take, slice_index, refl, ap, ◌∙◌, arith}
-use Rattle.std.specs.Prelude.{decimal, reverse}
+-- The text of plain digits, from its lowest section up.
+use Rattle.std.proofs.Common.{◌≡◌, ℕ, zero, suc, ◌+◌, ◌-◌, ◌*◌, ◌/◌, ◌^◌, ◌%◌, ◌<◌, ◌≤◌, max, if◌then◌else◌, Bool, true, false, List, [], ◌∷◌, ◌++◌, length, map, refl, sym, ap, ap₂, ◌∙◌, arith, length-append}
+use Rattle.std.specs.Prelude.{decimal}
 use Rattle.std.specs.List.{list_all}
-use Rattle.std.proofs.lemmas.Fmt.{decimal_by_steps_wide}
-use Rattle.std.proofs.lemmas.List.{reverse-append, reverse-reverse, take_more}
+use Rattle.std.proofs.Math.Nat.{div-div-eq-div-mul, one-le-pow, mul-le-mul_right, mod-lt}
+use Rattle.std.proofs.lemmas.Nat.{pow-add, div-add-mod'}
+use Rattle.std.proofs.lemmas.Fmt.{decimal_by_steps_wide, decimal_step_wide, decimal_digit}
+use Rattle.std.proofs.lemmas.List.{length-map, map-append}
 use Rattle.std.proofs.lemmas.List.Folds.{list_all-append, list_all-map}
 use Rattle.cn_core.specs.declared.script.ChineseVariant.{ChineseVariant}
 use Rattle.cn_core.specs.declared.case.ChineseCase.{ChineseCase}
@@ -11,26 +13,142 @@ use Rattle.cn_core.specs.Characters.{digit_char}
 use Rattle.cn_core.specs.Mark.{Mark, digit}
 use Rattle.cn_core.specs.Naive.{decimal_digits}
 use Rattle.cn_core.specs.Printing.{mark_char, signed_text}
-use Rattle.cn_spell.specs.Working.Positions.{positions_of}
+use Rattle.cn_spell.specs.Working.Sections.{HoldsSections, lowest_marks}
 use Rattle.cn_spell.proofs.ThreeBytes.{takes_three, three-digit, three-minus}
 
--- these digits as marks, which are told from the lowest up
-abbrev pub digit_marks : List ℕ → List Mark
-digit_marks digits = map digit (reverse digits)
+length-lowest : (count number : ℕ) → length (lowest_marks count number) ≡ count
+length-lowest zero number = refl
+length-lowest (suc count) number = ap suc (length-lowest count number)
 
--- the next of them stands in front
-pub digit_marks-more : (digits : List ℕ) (position : ℕ) → position < length digits
-    → digit_marks (take (position + 1) digits) ≡ digit (slice_index digits position) ∷ digit_marks (take position digits)
-digit_marks-more digits position h =
-    ap digit_marks (take_more digits position 0 h) ∙ ap (map digit) (reverse-append (take position digits) (slice_index digits position ∷ []))
+-- so many digits above so many others
+lowest-over : (count lower number : ℕ)
+    → lowest_marks count (number / 10 ^ lower) ++ lowest_marks lower number
+    ≡ lowest_marks (count + lower) number
+lowest-over zero lower number = let e : 0 + lower ≡ lower = omega arith in rw e refl
+lowest-over (suc count) lower number =
+    let step : suc count + lower ≡ suc (count + lower) = omega arith in
+    let raised : 10 ^ lower * 10 ^ count ≡ 10 ^ (count + lower) =
+    let e : count + lower ≡ lower + count = omega arith in rw e (sym (pow-add 10 lower count)) in
+    let same : number / 10 ^ lower / 10 ^ count ≡ number / 10 ^ (count + lower) =
+    div-div-eq-div-mul number (10 ^ lower) (10 ^ count) ∙ ap (λ n. number / n) raised in
+    rw (step, same)
+    (ap (λ rest. digit (number / 10 ^ (count + lower) % 10) ∷ rest)
+    (lowest-over count lower number))
 
-same-marks : (bytes : List ℕ) → map digit (map (λ byte. byte - 48) bytes) ≡ map (λ byte. digit (byte - 48)) bytes
-same-marks [] = refl
-same-marks (byte ∷ bytes) = ap (λ rest. digit (byte - 48) ∷ rest) (same-marks bytes)
+-- a section has the four digits that stand in its place
+four-of : (number : ℕ) → lowest_marks 4 (number % 10 ^ 4) ≡ lowest_marks 4 number
+four-of number =
+    let d0 : number % 10000 / 1 % 10 ≡ number / 1 % 10 = omega arith in
+    let d1 : number % 10000 / 10 % 10 ≡ number / 10 % 10 = omega arith in
+    let d2 : number % 10000 / 100 % 10 ≡ number / 100 % 10 = omega arith in
+    let d3 : number % 10000 / 1000 % 10 ≡ number / 1000 % 10 = omega arith in
+    rw (d0, d1, d2, d3) refl
 
--- all of them are the number's digits
-pub digit_marks-all : (number : ℕ) → digit_marks (positions_of number) ≡ decimal_digits number
-digit_marks-all number = ap (map digit) (reverse-reverse (map (λ byte. byte - 48) (decimal number))) ∙ same-marks (decimal number)
+-- one more section
+pub lowest-section : (number index section : ℕ) → section ≡ number / 10 ^ (4 * index) % 10 ^ 4
+    → lowest_marks 4 section ++ lowest_marks (4 * index) number
+    ≡ lowest_marks (4 * (index + 1)) number
+lowest-section number index section is =
+    let next : 4 + 4 * index ≡ 4 * (index + 1) = omega arith in
+    ap (λ n. lowest_marks 4 n ++ lowest_marks (4 * index) number) is
+    ∙ ap (λ marks. marks ++ lowest_marks (4 * index) number) (four-of (number / 10 ^ (4 * index)))
+    ∙ lowest-over 4 (4 * index) number
+    ∙ ap (λ n. lowest_marks n number) next
+
+decimal_digits-step : (number : ℕ) → 10 ≤ number → number < 10 ^ 64
+    → decimal_digits number ≡ decimal_digits (number / 10) ++ (digit (number % 10) ∷ [])
+decimal_digits-step number ten small =
+    let last : 48 + number % 10 - 48 ≡ number % 10 = omega arith in
+    ap (map (λ byte. digit (byte - 48))) (decimal_step_wide number ten small)
+    ∙ map-append (λ byte. digit (byte - 48)) (decimal (number / 10)) ((48 + number % 10) ∷ [])
+    ∙ ap (λ n. decimal_digits (number / 10) ++ (digit n ∷ [])) last
+
+-- a number has so many digits where it reaches the highest of them
+decimal-lowest : (count number : ℕ) → number < 10 ^ suc count → (0 < count → 10 ^ count ≤ number)
+    → number < 10 ^ 64 → decimal_digits number ≡ lowest_marks (suc count) number
+decimal-lowest zero number less reach small =
+    let low : number < 10 = omega (arith, less) in
+    let only : 48 + number - 48 ≡ number / 1 % 10 = omega (arith, low) in
+    ap (map (λ byte. digit (byte - 48))) (decimal_digit number low) ∙ ap (λ n. digit n ∷ []) only
+decimal-lowest (suc count) number less reach small =
+    let most : 10 ^ suc count ≤ number = reach (omega arith) in
+    let one : 1 ≤ 10 ^ count = one-le-pow count 10 (omega arith) in
+    let lower : 10 ^ suc count ≡ 10 * 10 ^ count = omega arith in
+    let higher : 10 ^ suc (suc count) ≡ 10 * 10 ^ suc count = omega arith in
+    let few : number / 10 < 10 ^ suc count = omega (arith, less, higher) in
+    let rest = decimal-lowest count (number / 10) few (λ some. omega (arith, most, lower))
+    (omega (arith, small)) in
+    let sum : suc count + 1 ≡ suc (suc count) = omega arith in
+    let last : number % 10 ≡ number / 1 % 10 = omega arith in
+    decimal_digits-step number (omega (arith, most, one, lower)) small
+    ∙ ap₂ (λ marks n. marks ++ (digit n ∷ [])) rest last
+    ∙ lowest-over (suc count) 1 number
+    ∙ ap (λ n. lowest_marks n number) sum
+
+top-reach : (top count above : ℕ) → 10 ^ suc top ≤ 10 * max above 1 → (0 < count → 0 < above)
+    → 0 < top + 4 * count → 10 ^ top ≤ above
+top-reach zero count above reach some_above h =
+    let some : 0 < above = some_above (omega (arith, h)) in omega (arith, some)
+top-reach (suc top) count above reach some_above h =
+    let one : 1 ≤ 10 ^ top = one-le-pow top 10 (omega arith) in
+    let tenth : 10 ^ suc top ≡ 10 * 10 ^ top = omega arith in
+    let higher : 10 ^ suc (suc top) ≡ 10 * 10 ^ suc top = omega arith in
+    omega (arith, one, tenth, higher, reach)
+
+-- the digits of a number, by its sections and what is left above them
+pub decimal-sections : (number count above size : ℕ) {sections : List ℕ} → number < 10 ^ 39
+    → HoldsSections number sections count above
+    → 0 < size → above < 10 ^ size → 10 ^ size ≤ 10 * max above 1
+    → decimal_digits number ≡ lowest_marks size above ++ lowest_marks (4 * count) number
+decimal-sections number count above zero small held some less reach =
+    absurd (omega (arith, some))
+decimal-sections number count above (suc top) small held some less reach =
+    let one : 1 ≤ 10 ^ (4 * count) = one-le-pow (4 * count) 10 (omega arith) in
+    let rest : number % 10 ^ (4 * count) < 10 ^ (4 * count) = mod-lt number one in
+    let whole : number ≡ above * 10 ^ (4 * count) + number % 10 ^ (4 * count) =
+    sym (div-add-mod' number (10 ^ (4 * count)))
+    ∙ ap (λ n. n * 10 ^ (4 * count) + number % 10 ^ (4 * count)) (sym held.split) in
+    let raised : 10 ^ (suc top + 4 * count) ≡ 10 ^ suc top * 10 ^ (4 * count) =
+    pow-add 10 (suc top) (4 * count) in
+    let most : (above + 1) * 10 ^ (4 * count) ≤ 10 ^ suc top * 10 ^ (4 * count) =
+    mul-le-mul_right (10 ^ (4 * count)) (omega (arith, less)) in
+    let lower : 10 ^ (top + 4 * count) ≡ 10 ^ top * 10 ^ (4 * count) = pow-add 10 top (4 * count) in
+    let tenth : 10 ^ suc top ≡ 10 * 10 ^ top = omega arith in
+    let sum : suc top + 4 * count ≡ suc (top + 4 * count) = omega arith in
+    let fits : number < 10 ^ suc (top + 4 * count) =
+    let n : number < 10 ^ (suc top + 4 * count) = omega (arith, whole, rest, most, raised) in
+    rw sum at n in
+    let reaches : 0 < top + 4 * count → 10 ^ (top + 4 * count) ≤ number = λ h.
+    let lead : 10 ^ top ≤ above = top-reach top count above reach held.some h in
+    let least : 10 ^ top * 10 ^ (4 * count) ≤ above * 10 ^ (4 * count) =
+    mul-le-mul_right (10 ^ (4 * count)) lead in
+    omega (arith, least, lower, whole) in
+    decimal-lowest (top + 4 * count) number fits reaches (omega (arith, small))
+    ∙ sym (ap (λ n. lowest_marks (suc top) n ++ lowest_marks (4 * count) number) held.split
+    ∙ lowest-over (suc top) (4 * count) number ∙ ap (λ n. lowest_marks n number) sum)
+
+length-signed : (variant : ChineseVariant) (case : ChineseCase) (negative : Bool)
+    (marks : List Mark)
+    → length (signed_text variant case negative marks) ≡ (if negative then 1 else 0) + length marks
+length-signed variant case true marks = omega (arith, length-map marks (mark_char variant case))
+length-signed variant case false marks = omega (arith, length-map marks (mark_char variant case))
+
+-- how many characters the text has, its sign among them
+pub length-plain : (variant : ChineseVariant) (case : ChineseCase) (negative : Bool)
+    (number count above size : ℕ) {sections : List ℕ} → number < 10 ^ 39
+    → HoldsSections number sections count above
+    → 0 < size → above < 10 ^ size → 10 ^ size ≤ 10 * max above 1
+    → length (signed_text variant case negative (decimal_digits number))
+    ≡ (if negative then 1 else 0) + (4 * count + size)
+length-plain variant case negative number count above size small held some less reach =
+    omega (
+      arith,
+      length-signed variant case negative (decimal_digits number),
+      ap length (decimal-sections number count above size small held some less reach),
+      length-append (lowest_marks size above) (lowest_marks (4 * count) number),
+      length-lowest size above,
+      length-lowest (4 * count) number,
+    )
 
 -- each of their characters takes three bytes
 three-decimal : (variant : ChineseVariant) (case : ChineseCase) (number : ℕ) → number < 10 ^ 64 → list_all (λ byte. takes_three (digit_char variant case (byte - 48))) (decimal number) ≡ true

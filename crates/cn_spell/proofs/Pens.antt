@@ -3,12 +3,21 @@ use Rattle.std.proofs.Common.{◌≡◌, ℕ, ◌+◌, ◌*◌, List, ◌∷◌,
 use Rattle.cn_core.specs.Mark.{Mark}
 
 -- these marks stand in front of what stood there, and took three bytes each
-pub record Wrote {Setting : Type 0} (first left : ℕ) (was is : Setting) (showed shows : List Mark → Type 0) (done : List Mark) : Type 0 where
+pub record Wrote {Setting : Type 0} (first left : ℕ) (was is : Setting)
+    (showed shows : List Mark → Type 0) (done : List Mark) : Type 0 where
   pub room : left + 3 * length done ≡ first
   pub setting : is ≡ was
   pub marks : (marks : List Mark) → showed marks → shows (done ++ marks)
 
 -- one more mark
-pub Wrote-more : {Setting : Type 0} {first left less : ℕ} {was is still : Setting} {showed shows next : List Mark → Type 0} {done : List Mark} (mark : Mark) → Wrote first left was is showed shows done → less + 3 ≡ left → still ≡ is
-    → ((marks : List Mark) → shows marks → next (mark ∷ marks)) → Wrote first less was still showed next (mark ∷ done)
-Wrote-more mark w room same step = record { room = omega (arith, w.room, room); setting = same ∙ w.setting; marks = λ marks h. step _ (w.marks marks h) }
+pub Wrote-more : {Setting : Type 0} {first left less : ℕ} {was is still : Setting} {showed shows
+    next : List Mark → Type 0} {done : List Mark} (mark : Mark)
+    → Wrote first left was is showed shows done → less + 3 ≡ left → still ≡ is
+    → ((marks : List Mark) → shows marks → next (mark ∷ marks))
+    → Wrote first less was still showed next (mark ∷ done)
+Wrote-more mark w room same step = record {
+  room = omega (arith, w.room, room);
+  setting =
+      same ∙ w.setting;
+  marks = λ marks h. step _ (w.marks marks h);
+}

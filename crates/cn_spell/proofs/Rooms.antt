@@ -7,12 +7,13 @@ use Rattle.cn_core.specs.declared.script.ChineseVariant.{ChineseVariant}
 use Rattle.cn_core.specs.declared.case.ChineseCase.{ChineseCase}
 use Rattle.cn_core.specs.Mark.{Mark}
 use Rattle.cn_core.specs.Printing.{mark_char}
-use Rattle.cn_spell.specs.Working.Groups.{kept}
+use Rattle.cn_spell.specs.Working.Sections.{kept}
 use Rattle.cn_spell.specs.Working.Room.{Counts, Shows}
 use Rattle.cn_spell.proofs.ThreeBytes.{takes_three, encode-three}
 
 drop-sets : (items : List ℕ) (start a b d : ℕ) → start + 3 ≤ length items
-    → drop start (set (set (set items start a) (start + 1) b) (start + 2) d) ≡ a ∷ b ∷ d ∷ drop (start + 3) items
+    → drop start (set (set (set items start a) (start + 1) b) (start + 2) d)
+    ≡ a ∷ b ∷ d ∷ drop (start + 3) items
 drop-sets [] start a b d h = absurd (omega (arith, h))
 drop-sets (x ∷ []) zero a b d h = absurd (omega (arith, h))
 drop-sets (x ∷ y ∷ []) zero a b d h = absurd (omega (arith, h))
@@ -24,7 +25,9 @@ drop-sets (x ∷ items) (suc start) a b d h =
     rw (one, two, three) (drop-sets items start a b d (omega (arith, h)))
 
 -- the bytes behind the three stay
-drop-past : (items : List ℕ) (start a b d : ℕ) → start + 3 ≤ length items → drop (start + 3) (set (set (set items start a) (start + 1) b) (start + 2) d) ≡ drop (start + 3) items
+drop-past : (items : List ℕ) (start a b d : ℕ) → start + 3 ≤ length items
+    → drop (start + 3) (set (set (set items start a) (start + 1) b) (start + 2) d)
+    ≡ drop (start + 3) items
 drop-past [] start a b d h = absurd (omega (arith, h))
 drop-past (x ∷ []) zero a b d h = absurd (omega (arith, h))
 drop-past (x ∷ y ∷ []) zero a b d h = absurd (omega (arith, h))
@@ -35,7 +38,8 @@ drop-past (x ∷ items) (suc start) a b d h =
     let three : suc start + 3 ≡ suc (start + 3) = omega arith in
     rw (one, two, three) (drop-past items start a b d (omega (arith, h)))
 
-of-three : (character : List ℕ) → length character ≡ 3 → slice_index character 0 ∷ slice_index character 1 ∷ slice_index character 2 ∷ [] ≡ character
+of-three : (character : List ℕ) → length character ≡ 3
+    → slice_index character 0 ∷ slice_index character 1 ∷ slice_index character 2 ∷ [] ≡ character
 of-three [] h = absurd (omega (arith, h))
 of-three (a ∷ []) h = absurd (omega (arith, h))
 of-three (a ∷ b ∷ []) h = absurd (omega (arith, h))
@@ -43,54 +47,75 @@ of-three (a ∷ b ∷ d ∷ []) h = refl
 of-three (a ∷ b ∷ d ∷ e ∷ rest) h = absurd (omega (arith, h))
 
 -- the character stands in front of the text
-put-text : (items character : List ℕ) (free : ℕ) → 3 ≤ free → free ≤ length items → length character ≡ 3
-    → drop (free - 3) (set (set (set items (free - 3) (slice_index character 0)) (free - 3 + 1) (slice_index character 1)) (free - 3 + 2) (slice_index character 2))
+put-text : (items character : List ℕ) (free : ℕ) → 3 ≤ free → free ≤ length items
+    → length character ≡ 3
+    → drop (free - 3) (set (set (set items (free - 3) (slice_index character 0)) (free - 3 + 1)
+    (slice_index character 1)) (free - 3 + 2) (slice_index character 2))
     ≡ character ++ drop free items
 put-text items character free three within size =
     let e : free - 3 + 3 ≡ free = omega (arith, three) in
-    drop-sets items (free - 3) (slice_index character 0) (slice_index character 1) (slice_index character 2) (omega (arith, three, within))
-    ∙ ap₂ (λ front rest. front ++ rest) (of-three character size) (ap (λ n. drop n items) e)
+    drop-sets items (free - 3) (slice_index character 0) (slice_index character 1)
+    (slice_index character 2) (omega (arith, three, within))
+    ∙ ap₂ (λ first rest. first ++ rest) (of-three character size) (ap (λ n. drop n items) e)
 
 -- and where it is not kept, the text is as it was
 unput-text : (items character : List ℕ) (free : ℕ) → 3 ≤ free → free ≤ length items
-    → drop free (set (set (set items (free - 3) (slice_index character 0)) (free - 3 + 1) (slice_index character 1)) (free - 3 + 2) (slice_index character 2)) ≡ drop free items
+    → drop free (set (set (set items (free - 3) (slice_index character 0)) (free - 3 + 1)
+    (slice_index character 1)) (free - 3 + 2) (slice_index character 2)) ≡ drop free items
 unput-text items character free three within =
     let e : free - 3 + 3 ≡ free = omega (arith, three) in
-    rw e at (drop-past items (free - 3) (slice_index character 0) (slice_index character 1) (slice_index character 2) (omega (arith, three, within)))
+    rw e at (drop-past items (free - 3) (slice_index character 0) (slice_index character 1)
+    (slice_index character 2) (omega (arith, three, within)))
 
 -- what stands in the room after a character that may be kept
-pub put-if : (items character : List ℕ) (free taken : ℕ) (is_kept : Bool) → 3 ≤ free → free ≤ length items → length character ≡ 3 → taken ≡ (if is_kept then 3 else 0)
-    → drop (free - taken) (set (set (set items (free - 3) (slice_index character 0)) (free - 3 + 1) (slice_index character 1)) (free - 3 + 2) (slice_index character 2))
+pub put-if : (items character : List ℕ) (free taken : ℕ) (is_kept : Bool) → 3 ≤ free
+    → free ≤ length items → length character ≡ 3 → taken ≡ (if is_kept then 3 else 0)
+    → drop (free - taken) (set (set (set items (free - 3) (slice_index character 0)) (free - 3 + 1)
+    (slice_index character 1)) (free - 3 + 2) (slice_index character 2))
     ≡ (if is_kept then character ++ drop free items else drop free items)
-put-if items character free taken true three within size e = rw e (put-text items character free three within size)
+put-if items character free taken true three within size e =
+    rw e (put-text items character free three within size)
 put-if items character free taken false three within size e =
     let same : free - 0 ≡ free = omega arith in
     rw (e, same) (unput-text items character free three within)
 
 -- a character more, where it is kept
-pub Shows-if : (is_kept : Bool) (c : ℕ) {free next : ℕ} {bytes after character cs : List ℕ} → 3 ≤ free → next ≡ (if is_kept then free - 3 else free)
-    → drop next after ≡ (if is_kept then character ++ drop free bytes else drop free bytes) → length after ≡ length bytes
-    → character ≡ encode_utf8 c → IsUtf8 character → Shows free bytes cs → Shows next after ((if is_kept then c ∷ [] else []) ++ cs)
+pub Shows-if : (is_kept : Bool) (c : ℕ) {free next : ℕ} {bytes after character cs : List ℕ}
+    → 3 ≤ free → next ≡ (if is_kept then free - 3 else free)
+    → drop next after ≡ (if is_kept then character ++ drop free bytes else drop free bytes)
+    → length after ≡ length bytes
+    → character ≡ encode_utf8 c → IsUtf8 character → Shows free bytes cs
+    → Shows next after ((if is_kept then c ∷ [] else []) ++ cs)
 Shows-if true c three e t l same utf8 h = record {
-  text = t ∙ ap₂ (λ front rest. front ++ rest) same h.text;
+  text = t ∙ ap₂ (λ first rest. first ++ rest) same h.text;
   utf8 = rw t (IsUtf8-append _ _ utf8 h.utf8);
   size = omega (arith, e, l, three, h.size);
 }
-Shows-if false c three e t l same utf8 h = record { text = t ∙ h.text; utf8 = rw t h.utf8; size = omega (arith, e, l, h.size) }
+Shows-if false c three e t l same utf8 h =
+    record { text = t ∙ h.text; utf8 = rw t h.utf8; size = omega (arith, e, l, h.size) }
 
 -- a full room shows all of its bytes
-pub Shows-full : (free : ℕ) (bytes cs : List ℕ) → Shows free bytes cs → length bytes ≡ 3 * length cs → bytes ≡ encode_utf8_all cs
+pub Shows-full : (free : ℕ) (bytes cs : List ℕ) → Shows free bytes cs
+    → length bytes ≡ 3 * length cs → bytes ≡ encode_utf8_all cs
 Shows-full free bytes cs h l = let none : free ≡ 0 = omega (arith, h.size, l) in rw none at h.text
 
 -- which are UTF-8
-pub Shows-utf8 : (free : ℕ) (bytes cs : List ℕ) → Shows free bytes cs → length bytes ≡ 3 * length cs → IsUtf8 bytes
+pub Shows-utf8 : (free : ℕ) (bytes cs : List ℕ) → Shows free bytes cs
+    → length bytes ≡ 3 * length cs → IsUtf8 bytes
 Shows-utf8 free bytes cs h l = let none : free ≡ 0 = omega (arith, h.size, l) in rw none at h.utf8
 
 -- the same for a count
-pub Counts-if : (is_kept : Bool) (c : ℕ) {count next : ℕ} {cs : List ℕ} → (is_kept ≡ true → next ≡ count + 1) → (is_kept ≡ false → next ≡ count) → takes_three c ≡ true → Counts count cs
+pub Counts-if : (is_kept : Bool) (c : ℕ) {count next : ℕ} {cs : List ℕ}
+    → (is_kept ≡ true → next ≡ count + 1) → (is_kept ≡ false → next ≡ count) → takes_three c ≡ true
+    → Counts count cs
     → Counts next ((if is_kept then c ∷ [] else []) ++ cs)
-Counts-if true c more same t h = record { size = omega (arith, more refl, h.size); bytes = let one = encode-three c t in rw one (omega (arith, h.bytes)) }
-Counts-if false c more same t h = record { size = omega (arith, same refl, h.size); bytes = h.bytes }
+Counts-if true c more same t h = record {
+  size = omega (arith, more refl, h.size);
+  bytes =
+      let one = encode-three c t in rw one (omega (arith, h.bytes));
+}
+Counts-if false c more same t h =
+    record { size = omega (arith, same refl, h.size); bytes = h.bytes }
 
 -- a mark where it is kept is its character there
 pub kept-char : (variant : ChineseVariant) (case : ChineseCase) (is_kept : Bool) (mark : Mark) (marks : List Mark)

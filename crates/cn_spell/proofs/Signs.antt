@@ -8,7 +8,8 @@ use Rattle.cn_core.specs.Mark.{Mark}
 use Rattle.cn_core.specs.Printing.{signed_text}
 
 -- the test for a number below zero
-pub negative-is : (negative : Bool) (number : ℤ) → (IsTrue negative ↔ (number <ℤ pos 0)) → negative ≡ int_lt number (pos 0)
+pub negative-is : (negative : Bool) (number : ℤ) → (IsTrue negative ↔ (number <ℤ pos 0))
+    → negative ≡ int_lt number (pos 0)
 negative-is true (pos n) h = absurd (omega (arith, ints, h.0 refl))
 negative-is false (pos n) h = let none : nat_lt n 0 ≡ false = grind (arith, nat_tests) in sym none
 negative-is true (negsuc n) h = refl

@@ -41,22 +41,27 @@ pub IsUtf8-three : (c : ℕ) → takes_three c ≡ true → IsUtf8 (encode_utf8 
 IsUtf8-three c h = IsUtf8-encode c (scalar-three c h)
 
 -- three bytes for each character
-pub length-encode_all : (cs : List ℕ) → list_all takes_three cs ≡ true → length (encode_utf8_all cs) ≡ 3 * length cs
+pub length-encode_all : (cs : List ℕ) → list_all takes_three cs ≡ true
+    → length (encode_utf8_all cs) ≡ 3 * length cs
 length-encode_all [] h = refl
 length-encode_all (c ∷ cs) h =
     let one = encode-three c (and-left (takes_three c) _ h) in
     let rest = length-encode_all cs (and-right (takes_three c) _ h) in
     rw one (omega (arith, rest))
 
--- a test that each passes is passed at each position
-pub passes-at : (test : ℕ → Bool) (xs : List ℕ) (k : ℕ) → list_all test xs ≡ true → k < length xs → test (slice_index xs k) ≡ true
+-- a test that each passes is passed at each index
+pub passes-at : (test : ℕ → Bool) (xs : List ℕ) (k : ℕ) → list_all test xs ≡ true → k < length xs
+    → test (slice_index xs k) ≡ true
 passes-at test [] k h less = absurd (omega (arith, less))
 passes-at test (x ∷ xs) zero h less = and-left (test x) _ h
-passes-at test (x ∷ xs) (suc k) h less = passes-at test xs k (and-right (test x) _ h) (omega (arith, less))
+passes-at test (x ∷ xs) (suc k) h less =
+    passes-at test xs k (and-right (test x) _ h) (omega (arith, less))
 
--- the bytes of the character at a position
-pub bytes-at : (cs : List ℕ) (k start : ℕ) → list_all takes_three cs ≡ true → k < length cs → start ≡ 3 * k
-    → slice_index (encode_utf8_all cs) start ∷ slice_index (encode_utf8_all cs) (start + 1) ∷ slice_index (encode_utf8_all cs) (start + 2) ∷ [] ≡ encode_utf8 (slice_index cs k)
+-- the bytes of the character at an index
+pub bytes-at : (cs : List ℕ) (k start : ℕ) → list_all takes_three cs ≡ true → k < length cs
+    → start ≡ 3 * k
+    → slice_index (encode_utf8_all cs) start ∷ slice_index (encode_utf8_all cs) (start + 1)
+    ∷ slice_index (encode_utf8_all cs) (start + 2) ∷ [] ≡ encode_utf8 (slice_index cs k)
 bytes-at [] k start h less e = absurd (omega (arith, less))
 bytes-at (c ∷ cs) zero start h less e =
     let one = encode-three c (and-left (takes_three c) _ h) in
@@ -67,7 +72,8 @@ bytes-at (c ∷ cs) (suc k) start h less e =
     let a : start ≡ suc (suc (suc (3 * k))) = omega (arith, e) in
     let b : start + 1 ≡ suc (suc (suc (3 * k + 1))) = omega (arith, e) in
     let d : start + 2 ≡ suc (suc (suc (3 * k + 2))) = omega (arith, e) in
-    rw (b, d, a, one) (bytes-at cs k (3 * k) (and-right (takes_three c) _ h) (omega (arith, less)) refl)
+    rw (b, d, a, one) (bytes-at cs k (3 * k) (and-right (takes_three c) _ h) (omega (arith, less))
+    refl)
 
 pub three-printed : (variant : ChineseVariant) (case : ChineseCase) → list_all takes_three (printed_characters variant case) ≡ true
 unfolding minus_char

@@ -13,30 +13,34 @@ use Rattle.cn_core.proofs.Cuts.{part, gap, part-cut, part-some}
 use Rattle.cn_core.proofs.Fronts.{and-left, and-right}
 use Rattle.cn_core.proofs.ScaleLaws.{scale-mono}
 use Rattle.cn_core.proofs.Sums.{spelled-digit}
-use Rattle.cn_spell.specs.Working.Units.{widths_of, positions_within, rank_at, start_of, unit_front, units_over}
+use Rattle.cn_spell.specs.Working.Units.{widths_of, powers_within, rank_at, start_of, unit_behind, units_over}
 
--- the number has digits at the positions below `filled`, and one that is not 0 just below it
+-- the number has digits at the powers below `filled`, and one that is not 0 just below it
 pub record Fills (filled number : ℕ) : Type 0 where
   pub below : number < 10 ^ filled
   pub reach : 0 < filled → 10 ^ (filled - 1) ≤ number
 
--- a group of the smaller width that begins inside a group of the greater one begins at the unit of its own size
+-- a group of the smaller width that begins inside a group of the greater one begins at the unit of
+-- its own size
 abbrev pub stands : ChineseCountMethod → ℕ → ℕ → ℕ → Bool
-stands method outer width position =
-    let inside = position % outer - position % width in
-    let rank = rank_at method (position - position % width) in
+stands method outer width power =
+    let inside = power % outer - power % width in
+    let rank = rank_at method (power - power % width) in
     inside == 0
-    || (nat_lt 0 rank && nat_le rank 15 && exponent method rank == inside && (rank == 15 || nat_le (inside + width) (exponent method (rank + 1))))
+    || (nat_lt 0 rank && nat_le rank 15 && exponent method rank == inside
+    && (rank == 15 || nat_le (inside + width) (exponent method (rank + 1))))
 
--- the same at each position below this one
+-- the same at each power below this one
 abbrev pub all_stand : ChineseCountMethod → ℕ → ℕ → ℕ → Bool
 all_stand method outer width zero = true
-all_stand method outer width (suc position) = stands method outer width position && all_stand method outer width position
+all_stand method outer width (suc power) =
+    stands method outer width power && all_stand method outer width power
 
--- the widths part a group of the outer width, one inside the other, down to single positions
+-- the widths part a group of the outer width, one inside the other, down to single powers
 abbrev pub is_chain : ChineseCountMethod → ℕ → List ℕ → Bool
 is_chain method outer [] = outer == 1
-is_chain method outer (width ∷ widths) = nat_lt 0 width && outer % width == 0 && all_stand method outer width (positions_within method) && is_chain method width widths
+is_chain method outer (width ∷ widths) = nat_lt 0 width && outer % width == 0
+    && all_stand method outer width (powers_within method) && is_chain method width widths
 
 pub chain : (method : ChineseCountMethod) → is_chain method 64 (widths_of method) ≡ true
 chain Low = refl
@@ -44,7 +48,7 @@ chain TenThousand = refl
 chain Middle = refl
 chain High = refl
 
--- a unit of this rank has this size, and a number of so many more positions reaches no greater one
+-- a unit of this rank has this size, and a number of so many more powers reaches no greater one
 pub record Stands (method : ChineseCountMethod) (size width rank : ℕ) : Type 0 where
   pub some : 1 ≤ rank
   pub high : rank ≤ 15
@@ -55,16 +59,23 @@ or-cases : (a b : Bool) → (a || b) ≡ true → a ≡ false → b ≡ true
 or-cases true b h e = cc
 or-cases false b h e = h
 
-pub Stands-stands : (method : ChineseCountMethod) (outer width position : ℕ) → stands method outer width position ≡ true → 0 < position % outer - position % width
-    → Stands method (position % outer - position % width) width (rank_at method (position - position % width))
-Stands-stands method outer width position h inside =
-    let size = position % outer - position % width in
-    let rank = rank_at method (position - position % width) in
+pub Stands-stands : (method : ChineseCountMethod) (outer width power : ℕ)
+    → stands method outer width power ≡ true → 0 < power % outer - power % width
+    → Stands method (power % outer - power % width) width (rank_at method (power - power % width))
+Stands-stands method outer width power h inside =
+    let size = power % outer - power % width in
+    let rank = rank_at method (power - power % width) in
     let none : (size == 0) ≡ false = grind (arith, nat_tests, inside) in
     let all = or-cases (size == 0) _ h none in
-    let one : nat_lt 0 rank ≡ true = and-left (nat_lt 0 rank) _ (and-left (nat_lt 0 rank && nat_le rank 15) _ (and-left (nat_lt 0 rank && nat_le rank 15 && exponent method rank == size) _ all)) in
-    let two : nat_le rank 15 ≡ true = and-right (nat_lt 0 rank) _ (and-left (nat_lt 0 rank && nat_le rank 15) _ (and-left (nat_lt 0 rank && nat_le rank 15 && exponent method rank == size) _ all)) in
-    let three : (exponent method rank == size) ≡ true = and-right (nat_lt 0 rank && nat_le rank 15) _ (and-left (nat_lt 0 rank && nat_le rank 15 && exponent method rank == size) _ all) in
+    let one : nat_lt 0 rank ≡ true = and-left (nat_lt 0 rank) _
+    (and-left (nat_lt 0 rank && nat_le rank 15) _
+    (and-left (nat_lt 0 rank && nat_le rank 15 && exponent method rank == size) _ all)) in
+    let two : nat_le rank 15 ≡ true = and-right (nat_lt 0 rank) _
+    (and-left (nat_lt 0 rank && nat_le rank 15) _
+    (and-left (nat_lt 0 rank && nat_le rank 15 && exponent method rank == size) _ all)) in
+    let three : (exponent method rank == size) ≡ true =
+    and-right (nat_lt 0 rank && nat_le rank 15) _
+    (and-left (nat_lt 0 rank && nat_le rank 15 && exponent method rank == size) _ all) in
     let last = and-right (nat_lt 0 rank && nat_le rank 15 && exponent method rank == size) _ all in
     record {
       some = grind (arith, nat_tests, one);
@@ -72,72 +83,103 @@ Stands-stands method outer width position h inside =
       is_size = grind (arith, nat_tests, three);
       next = λ more up below.
           let lower : (rank == 15) ≡ false = grind (arith, nat_tests, up, below) in
-          let test : nat_le (size + width) (exponent method (rank + 1)) ≡ true = or-cases (rank == 15) _ last lower in
-          let power : size + width ≤ exponent method (rank + 1) = grind (arith, nat_tests, test) in
-          let first : 10 ^ (size + width) ≤ scale method (rank + 1) = pow-le-pow_right (omega arith) power in
+          let test : nat_le (size + width) (exponent method (rank + 1)) ≡ true =
+          or-cases (rank == 15) _ last lower in
+          let raised : size + width ≤ exponent method (rank + 1) = grind (arith, nat_tests, test) in
+          let first : 10 ^ (size + width) ≤ scale method (rank + 1) =
+          pow-le-pow_right (omega arith) raised in
           elim (dec_lt (rank + 1) more) [
             | yes less ↦ let p = scale-mono method (rank + 1) more less in omega (arith, p, first)
-            | no same ↦ let e : rank + 1 ≡ more = omega (arith, up, same) in let k : scale method (rank + 1) ≡ scale method more = ap (λ n. scale method n) e in omega (arith, k, first)
+            | no same ↦ let e : rank + 1 ≡ more =
+                omega (arith, up, same) in let k : scale method (rank + 1) ≡ scale method more =
+                ap (λ n. scale method n) e in omega (arith, k, first)
           ];
     }
 
-pub all_stand-at : (method : ChineseCountMethod) (outer width limit position : ℕ) → all_stand method outer width limit ≡ true → position < limit → stands method outer width position ≡ true
-all_stand-at method outer width zero position h less = absurd (omega (arith, less))
-all_stand-at method outer width (suc limit) position h less = elim (dec_lt position limit) [
-  | yes lower ↦ all_stand-at method outer width limit position (and-right (stands method outer width limit) _ h) lower
-  | no last ↦ let e : limit ≡ position = omega (arith, less, last) in rw e at (and-left (stands method outer width limit) _ h)
+pub all_stand-at : (method : ChineseCountMethod) (outer width limit power : ℕ)
+    → all_stand method outer width limit ≡ true → power < limit
+    → stands method outer width power ≡ true
+all_stand-at method outer width zero power h less = absurd (omega (arith, less))
+all_stand-at method outer width (suc limit) power h less = elim (dec_lt power limit) [
+  | yes lower ↦ all_stand-at method outer width limit power
+      (and-right (stands method outer width limit) _ h) lower
+  | no last ↦ let e : limit ≡ power = omega (arith, less, last)
+      in rw e at (and-left (stands method outer width limit) _ h)
 ]
 
 -- the printable numbers stay below the square of the greatest unit
-pub square : (method : ChineseCountMethod) (number positions : ℕ) → number < 10 ^ positions → positions ≤ positions_within method → number < scale method 15 * scale method 15
-square method number positions h within =
-    let e : 10 ^ (exponent method 15 + exponent method 15) ≡ scale method 15 * scale method 15 = pow-add 10 (exponent method 15) (exponent method 15) in
-    let p : 10 ^ positions ≤ 10 ^ (exponent method 15 + exponent method 15) = pow-le-pow_right (omega arith) (omega (arith, within, most method)) in
+pub square : (method : ChineseCountMethod) (number powers : ℕ) → number < 10 ^ powers
+    → powers ≤ powers_within method → number < scale method 15 * scale method 15
+square method number powers h within =
+    let e : 10 ^ (exponent method 15 + exponent method 15) ≡ scale method 15 * scale method 15 =
+    pow-add 10 (exponent method 15) (exponent method 15) in
+    let p : 10 ^ powers ≤ 10 ^ (exponent method 15 + exponent method 15) =
+    pow-le-pow_right (omega arith) (omega (arith, within, most method)) in
     omega (arith, h, p, e) where
-      most : (method : ChineseCountMethod) → positions_within method ≤ exponent method 15 + exponent method 15
+      most : (method : ChineseCountMethod)
+          → powers_within method ≤ exponent method 15 + exponent method 15
       most Low = omega arith
       most TenThousand = omega arith
       most Middle = omega arith
       most High = omega arith
 
-cut : (method : ChineseCountMethod) (high below size width rank : ℕ) → Stands method size width rank → 0 < high → below < 10 ^ size → high * 10 ^ size + below < 10 ^ (size + width)
-    → high * 10 ^ size + below < scale method 15 * scale method 15 → part method (high * 10 ^ size + below) ≡ part method high ++ (unit rank ∷ (gap below (10 ^ size) ++ part method below))
+cut : (method : ChineseCountMethod) (high below size width rank : ℕ)
+    → Stands method size width rank → 0 < high → below < 10 ^ size
+    → high * 10 ^ size + below < 10 ^ (size + width)
+    → high * 10 ^ size + below < scale method 15 * scale method 15
+    → part method (high * 10 ^ size + below)
+    ≡ part method high ++ (unit rank ∷ (gap below (10 ^ size) ++ part method below))
 cut method high below size width rank s pos low fits small =
     let e : scale method rank ≡ 10 ^ size = ap (λ n. 10 ^ n) s.is_size in
-    let P : ℕ → Type 0 = λ unit_size. part method (high * unit_size + below) ≡ part method high ++ (unit rank ∷ (gap below unit_size ++ part method below)) in
-    subst P e (part-cut method high below rank s.some s.high pos (omega (arith, low, e)) (λ more up last. let p = s.next more up last in let whole = same e in omega (arith, p, fits, whole)) (let whole = same e in omega (arith, small, whole))) where
+    let P : ℕ → Type 0 = λ unit_size. part method (high * unit_size + below)
+    ≡ part method high ++ (unit rank ∷ (gap below unit_size ++ part method below)) in
+    subst P e (part-cut method high below rank s.some s.high pos (omega (arith, low, e))
+    (λ more up last. let p = s.next more up last in let whole =
+    same e in omega (arith, p, fits, whole)) (let whole =
+    same e in omega (arith, small, whole))) where
       same : {a b : ℕ} → a ≡ b → high * a + below ≡ high * b + below
       same f = ap (λ n. high * n + below) f
 
--- 零 is written where the positions below the unit leave one empty
-gap-flag : (inner size filled above below start base : ℕ) → Fills inner below → inner ≤ size → 1 ≤ size → start ≡ base + size → above ≡ base + max inner 1
+-- 零 is written where the powers below the unit leave one empty
+gap-flag : (inner size filled above below start base : ℕ) → Fills inner below → inner ≤ size
+    → 1 ≤ size → start ≡ base + size → above ≡ base + max inner 1
     → (0 < inner → filled ≡ above) → (inner ≡ 0 → filled < above)
     → gap below (10 ^ size) ≡ (if above == filled && nat_lt filled start then digit 0 ∷ [] else [])
 gap-flag inner size filled above below start base fills within one is_start is_above some none =
     ap (λ flag. if flag then digit 0 ∷ [] else []) (elim (dec_lt 0 inner) [
       | yes pos ↦
           let less : size ≡ (size - 1) + 1 = omega (arith, one) in
-          let tenth : 10 ^ size / 10 ≡ 10 ^ (size - 1) = ap (λ n. 10 ^ n / 10) less ∙ ap (λ n. n / 10) (pow-add 10 (size - 1) 1) ∙ mul-div_cancel (10 ^ (size - 1)) (omega arith) in
+          let tenth : 10 ^ size / 10 ≡ 10 ^ (size - 1) =
+          ap (λ n. 10 ^ n / 10) less ∙ ap (λ n. n / 10) (pow-add 10 (size - 1) 1)
+          ∙ mul-div_cancel (10 ^ (size - 1)) (omega arith) in
           let reach = fills.reach pos in
           let lead : 1 ≤ 10 ^ (inner - 1) = one-le-pow (inner - 1) 10 (omega arith) in
-          let a : nat_lt 0 below ≡ true = let p : 0 < below = omega (arith, reach, lead) in grind (arith, nat_tests, p) in
+          let a : nat_lt 0 below ≡ true = let p : 0 < below =
+          omega (arith, reach, lead) in grind (arith, nat_tests, p) in
           let b : (above == filled) ≡ true = let e = some pos in grind (arith, nat_tests, e) in
           rw (a, b, tenth) (elim (dec_lt inner size) [
             | yes short ↦
-                let p : 10 ^ inner ≤ 10 ^ (size - 1) = pow-le-pow_right (omega arith) (omega (arith, short)) in
-                let c : nat_lt below (10 ^ (size - 1)) ≡ true = let q : below < 10 ^ (size - 1) = omega (arith, p, fills.below) in grind (arith, nat_tests, q) in
-                let e : nat_lt filled start ≡ true = let q : filled < start = omega (arith, some pos, is_above, is_start, short) in grind (arith, nat_tests, q) in
+                let p : 10 ^ inner ≤ 10 ^ (size - 1) =
+                pow-le-pow_right (omega arith) (omega (arith, short)) in
+                let c : nat_lt below (10 ^ (size - 1)) ≡ true = let q : below < 10 ^ (size - 1) =
+                omega (arith, p, fills.below) in grind (arith, nat_tests, q) in
+                let e : nat_lt filled start ≡ true = let q : filled < start =
+                omega (arith, some pos, is_above, is_start, short)
+                in grind (arith, nat_tests, q) in
                 rw (c, e) refl
             | no full ↦
                 let same : inner ≡ size = omega (arith, within, full) in
                 let p : 10 ^ (size - 1) ≤ below = rw same at reach in
                 let c : nat_lt below (10 ^ (size - 1)) ≡ false = grind (arith, nat_tests, p) in
-                let e : nat_lt filled start ≡ false = let q : start ≤ filled = omega (arith, some pos, is_above, is_start, same) in grind (arith, nat_tests, q) in
+                let e : nat_lt filled start ≡ false = let q : start ≤ filled =
+                omega (arith, some pos, is_above, is_start, same)
+                in grind (arith, nat_tests, q) in
                 rw (c, e) refl
           ])
       | no empty ↦
           let zero : inner ≡ 0 = omega (arith, empty) in
-          let nothing : below ≡ 0 = let p : 10 ^ inner ≡ 1 = ap (λ n. 10 ^ n) zero in omega (arith, p, fills.below) in
+          let nothing : below ≡ 0 = let p : 10 ^ inner ≡ 1 =
+          ap (λ n. 10 ^ n) zero in omega (arith, p, fills.below) in
           let b : (above == filled) ≡ false = let q = none zero in grind (arith, nat_tests, q) in
           rw (nothing, b) refl
     ])
@@ -150,240 +192,390 @@ if-else : {X : Type 0} {b : Bool} (x y : X) → b ≡ false → y ≡ (if b then
 if-else {b = true} x y e = cc
 if-else {b = false} x y e = refl
 
--- what stands above the positions of a unit
-Fills-above : (inner size below : ℕ) → Fills inner below → size < inner → Fills (inner - size) (below / 10 ^ size)
+-- what stands above the powers of a unit
+Fills-above : (inner size below : ℕ) → Fills inner below → size < inner
+    → Fills (inner - size) (below / 10 ^ size)
 Fills-above inner size below fills deep = record { below = under; reach = λ pos. over pos } where
   parts : 10 ^ inner ≡ 10 ^ (inner - size) * 10 ^ size
-  parts = let e : inner ≡ (inner - size) + size = omega (arith, deep) in ap (λ n. 10 ^ n) e ∙ pow-add 10 (inner - size) size
+  parts = let e : inner ≡ (inner - size) + size =
+      omega (arith, deep) in ap (λ n. 10 ^ n) e ∙ pow-add 10 (inner - size) size
 
   under : below / 10 ^ size < 10 ^ (inner - size)
-  under = lt_of_mul-lt-mul_right (10 ^ size) (omega (arith, parts, fills.below, div-mul-le_self below (10 ^ size)))
+  under = lt_of_mul-lt-mul_right (10 ^ size)
+      (omega (arith, parts, fills.below, div-mul-le_self below (10 ^ size)))
 
   over : 0 < inner - size → 10 ^ (inner - size - 1) ≤ below / 10 ^ size
   over pos =
       let size_pos : 0 < 10 ^ size = one-le-pow size 10 (omega arith) in
       let e : inner - 1 ≡ (inner - size - 1) + size = omega (arith, deep) in
-      let lower : 10 ^ (inner - 1) ≡ 10 ^ (inner - size - 1) * 10 ^ size = ap (λ n. 10 ^ n) e ∙ pow-add 10 (inner - size - 1) size in
+      let lower : 10 ^ (inner - 1) ≡ 10 ^ (inner - size - 1) * 10 ^ size =
+      ap (λ n. 10 ^ n) e ∙ pow-add 10 (inner - size - 1) size in
       let split = div-add-mod below (10 ^ size) in
       let less : below % 10 ^ size < 10 ^ size = mod-lt below size_pos in
-      let step : 10 ^ (inner - size - 1) * 10 ^ size < (below / 10 ^ size + 1) * 10 ^ size = omega (arith, lower, split, less, fills.reach (omega (arith, deep))) in
-      let found : 10 ^ (inner - size - 1) < below / 10 ^ size + 1 = lt_of_mul-lt-mul_right (10 ^ size) step in
+      let step : 10 ^ (inner - size - 1) * 10 ^ size < (below / 10 ^ size + 1) * 10 ^ size =
+      omega (arith, lower, split, less, fills.reach (omega (arith, deep))) in
+      let found : 10 ^ (inner - size - 1) < below / 10 ^ size + 1 =
+      lt_of_mul-lt-mul_right (10 ^ size) step in
       omega (arith, found)
 
--- a digit joins what stands above the positions of a unit that is written already
-join : (method : ChineseCountMethod) (lead below size width rank d : ℕ) (marks : List Mark) → Stands method size width rank → 10 ^ size ≤ below
-    → lead * 10 ^ size + below < 10 ^ (size + width) → lead * 10 ^ size + below < scale method 15 * scale method 15
-    → part method (lead + below / 10 ^ size) ≡ digit d ∷ (marks ++ part method (below / 10 ^ size))
-    → part method (lead * 10 ^ size + below) ≡ digit d ∷ (marks ++ part method below)
-join method lead below size width rank d marks unit_is least fits few known =
+-- a digit or a section joins what stands above the powers of a unit that is written already
+join : (method : ChineseCountMethod) (lead below size width rank : ℕ)
+    (lead_marks marks : List Mark) → Stands method size width rank → 10 ^ size ≤ below
+    → lead * 10 ^ size + below < 10 ^ (size + width)
+    → lead * 10 ^ size + below < scale method 15 * scale method 15
+    → part method (lead + below / 10 ^ size)
+    ≡ lead_marks ++ (marks ++ part method (below / 10 ^ size))
+    → part method (lead * 10 ^ size + below) ≡ lead_marks ++ (marks ++ part method below)
+join method lead below size width rank lead_marks marks unit_is least fits few known =
     let size_pos : 0 < 10 ^ size = one-le-pow size 10 (omega arith) in
     let high = below / 10 ^ size in
     let low = below % 10 ^ size in
     let less : low < 10 ^ size = mod-lt below size_pos in
     let split : below ≡ high * 10 ^ size + low = omega (arith, div-add-mod below (10 ^ size)) in
-    let some : 0 < high = elim (dec_lt 0 high) [ yes p ↦ p | no p ↦ absurd (let z : high ≡ 0 = omega (arith, p) in let e : below ≡ 0 * 10 ^ size + low = rw z at split in omega (arith, e, less, least)) ] in
+    let some : 0 < high = elim (dec_lt 0 high) [
+      | yes p ↦ p
+      | no p ↦
+          absurd (let z : high ≡ 0 = omega (arith, p) in let e : below ≡ 0 * 10 ^ size + low =
+          rw z at split in omega (arith, e, less, least))
+    ] in
     let whole : lead * 10 ^ size + below ≡ (lead + high) * 10 ^ size + low = omega (arith, split) in
     let tail : List Mark = unit rank ∷ (gap low (10 ^ size) ++ part method low) in
-    let one : part method ((lead + high) * 10 ^ size + low) ≡ part method (lead + high) ++ tail = cut method (lead + high) low size width rank unit_is (omega (arith, some)) less (omega (arith, fits, whole)) (omega (arith, few, whole)) in
-    let two : part method (high * 10 ^ size + low) ≡ part method high ++ tail = cut method high low size width rank unit_is some less (omega (arith, fits, split)) (omega (arith, few, split)) in
-    ap (λ n. part method n) whole ∙ one ∙ ap (λ front. front ++ tail) known ∙ ap (λ rest. digit d ∷ rest) (append_assoc marks (part method high) tail)
-    ∙ ap (λ rest. digit d ∷ (marks ++ rest)) (sym two ∙ ap (λ n. part method n) (sym split))
+    let one : part method ((lead + high) * 10 ^ size + low) ≡ part method (lead + high) ++ tail =
+    cut method (lead + high) low size width rank unit_is (omega (arith, some)) less
+    (omega (arith, fits, whole)) (omega (arith, few, whole)) in
+    let two : part method (high * 10 ^ size + low) ≡ part method high ++ tail =
+    cut method high low size width rank unit_is some less (omega (arith, fits, split))
+    (omega (arith, few, split)) in
+    ap (λ n. part method n) whole ∙ one ∙ ap (λ done. done ++ tail) known
+    ∙ append_assoc lead_marks (marks ++ part method high) tail
+    ∙ ap (λ rest. lead_marks ++ rest) (append_assoc marks (part method high) tail)
+    ∙ ap (λ rest. lead_marks ++ (marks ++ rest)) (sym two ∙ ap (λ n. part method n) (sym split))
 
--- a digit in front of what stands below it: the units of the groups that it is the first to fill stand between
-pub digit-over : (method : ChineseCountMethod) (widths : List ℕ) (outer position d below inner filled above : ℕ) → is_chain method outer widths ≡ true → position < positions_within method → 0 < d → d < 10
-    → below < 10 ^ (position % outer) → Fills inner below → above ≡ (position - position % outer) + max inner 1 → (0 < inner → filled ≡ above) → (inner ≡ 0 → filled < above)
-    → part method (d * 10 ^ (position % outer) + below) ≡ digit d ∷ (units_over method position filled above widths ++ part method below)
-digit-over method [] outer position d below inner filled above links within pos ten small fills is_above some none =
+-- a digit in front of what stands below it: the units of the groups that it is the first to fill
+-- stand between
+pub digit-over : (method : ChineseCountMethod) (widths : List ℕ)
+    (outer power d below inner filled above : ℕ) → is_chain method outer widths ≡ true
+    → power < powers_within method → 0 < d → d < 10
+    → below < 10 ^ (power % outer) → Fills inner below → above ≡ (power - power % outer)
+    + max inner 1 → (0 < inner → filled ≡ above) → (inner ≡ 0 → filled < above)
+    → part method (d * 10 ^ (power % outer) + below)
+    ≡ digit d ∷ (units_over method power filled above widths ++ part method below)
+digit-over method [] outer power d below inner filled above links within pos ten small fills
+    is_above some none =
     let one : outer ≡ 1 = grind (arith, nat_tests, links) in
-    let zero : position % outer ≡ 0 = rw one (omega arith) in
-    let empty : below ≡ 0 = let p : 10 ^ (position % outer) ≡ 1 = ap (λ n. 10 ^ n) zero in omega (arith, p, small) in
+    let zero : power % outer ≡ 0 = rw one (omega arith) in
+    let empty : below ≡ 0 = let p : 10 ^ (power % outer) ≡ 1 =
+    ap (λ n. 10 ^ n) zero in omega (arith, p, small) in
     let only : d * 10 ^ 0 + 0 ≡ d = omega arith in
     rw (zero, empty, only, part-some method d pos, spelled-digit d method d ten) refl
-digit-over method (width ∷ widths) outer position d below inner filled above links within pos ten small fills is_above some none =
-    let two = and-left (nat_lt 0 width && outer % width == 0) _ (and-left (nat_lt 0 width && outer % width == 0 && all_stand method outer width (positions_within method)) _ links) in
+digit-over method (width ∷ widths) outer power d below inner filled above links within pos ten
+    small fills is_above some none =
+    let two = and-left (nat_lt 0 width && outer % width == 0) _
+    (and-left (nat_lt 0 width && outer % width == 0
+    && all_stand method outer width (powers_within method)) _ links) in
     let wide : nat_lt 0 width ≡ true = and-left (nat_lt 0 width) _ two in
     let even : (outer % width == 0) ≡ true = and-right (nat_lt 0 width) _ two in
-    let stand = all_stand-at method outer width (positions_within method) position (and-right (nat_lt 0 width && outer % width == 0) _ (and-left (nat_lt 0 width && outer % width == 0 && all_stand method outer width (positions_within method)) _ links)) within in
-    let rest : is_chain method width widths ≡ true = and-right (nat_lt 0 width && outer % width == 0 && all_stand method outer width (positions_within method)) _ links in
-    let start = start_of width position in
-    let size = position % outer - position % width in
+    let stand = all_stand-at method outer width (powers_within method) power
+    (and-right (nat_lt 0 width && outer % width == 0) _
+    (and-left (nat_lt 0 width && outer % width == 0
+    && all_stand method outer width (powers_within method)) _ links)) within in
+    let rest : is_chain method width widths ≡ true =
+    and-right (nat_lt 0 width && outer % width == 0
+    && all_stand method outer width (powers_within method)) _ links in
+    let start = start_of width power in
+    let size = power % outer - power % width in
     let wider : 0 < width = grind (arith, nat_tests, wide) in
     let divides : outer % width ≡ 0 = grind (arith, nat_tests, even) in
-    let inside : position % outer % width ≡ position % width = mod-mod_of_dvd width position (dvd_of_mod-eq-zero width divides) in
-    let rest_less : position % width < width = omega (arith, wider) in
-    let rest_in : position % width ≤ position % outer = omega (arith, inside, mod-le (position % outer) width) in
-    let outer_in : position % outer ≤ position = mod-le position outer in
-    let is_start : start ≡ (position - position % outer) + size = omega (arith, rest_in, outer_in) in
-    let power : 10 ^ (position % outer) ≡ 10 ^ (position % width) * 10 ^ size = let e : position % outer ≡ position % width + size = omega (arith, rest_in) in ap (λ n. 10 ^ n) e ∙ pow-add 10 (position % width) size in
-    let whole : d * 10 ^ (position % outer) ≡ d * 10 ^ (position % width) * 10 ^ size = ap (λ n. d * n) power ∙ omega arith in
-    let top : 10 ^ (position % outer + 1) ≡ 10 ^ (position % outer) * 10 = pow-add 10 (position % outer) 1 in
-    let d_most : d * 10 ^ (position % outer) ≤ 9 * 10 ^ (position % outer) = mul-le-mul_right (10 ^ (position % outer)) (omega (arith, ten)) in
-    let number : d * 10 ^ (position % outer) + below < 10 ^ (position % outer + 1) = omega (arith, d_most, small, top) in
-    let fits : d * 10 ^ (position % outer) + below < 10 ^ (size + width) = let p : 10 ^ (position % outer + 1) ≤ 10 ^ (size + width) = pow-le-pow_right (omega arith) (omega (arith, rest_less, rest_in)) in omega (arith, p, number) in
-    let few : d * 10 ^ (position % outer) + below < scale method 15 * scale method 15 = square method _ (position % outer + 1) number (omega (arith, outer_in, within)) in
-    let lead : 0 < d * 10 ^ (position % width) = let p : 1 ≤ 10 ^ (position % width) = one-le-pow (position % width) 10 (omega arith) in let q : d * 1 ≤ d * 10 ^ (position % width) = mul-le-mul_left d p in omega (arith, q, pos) in
+    let inside : power % outer % width ≡ power % width =
+    mod-mod_of_dvd width power (dvd_of_mod-eq-zero width divides) in
+    let rest_less : power % width < width = omega (arith, wider) in
+    let rest_in : power % width ≤ power % outer =
+    omega (arith, inside, mod-le (power % outer) width) in
+    let outer_in : power % outer ≤ power = mod-le power outer in
+    let is_start : start ≡ (power - power % outer) + size = omega (arith, rest_in, outer_in) in
+    let raised : 10 ^ (power % outer) ≡ 10 ^ (power % width) * 10 ^ size =
+    let e : power % outer ≡ power % width + size =
+    omega (arith, rest_in) in ap (λ n. 10 ^ n) e ∙ pow-add 10 (power % width) size in
+    let whole : d * 10 ^ (power % outer) ≡ d * 10 ^ (power % width) * 10 ^ size =
+    ap (λ n. d * n) raised ∙ omega arith in
+    let top : 10 ^ (power % outer + 1) ≡ 10 ^ (power % outer) * 10 = pow-add 10 (power % outer) 1 in
+    let d_most : d * 10 ^ (power % outer) ≤ 9 * 10 ^ (power % outer) =
+    mul-le-mul_right (10 ^ (power % outer)) (omega (arith, ten)) in
+    let number : d * 10 ^ (power % outer) + below < 10 ^ (power % outer + 1) =
+    omega (arith, d_most, small, top) in
+    let fits : d * 10 ^ (power % outer) + below < 10 ^ (size + width) =
+    let p : 10 ^ (power % outer + 1) ≤ 10 ^ (size + width) =
+    pow-le-pow_right (omega arith) (omega (arith, rest_less, rest_in))
+    in omega (arith, p, number) in
+    let few : d * 10 ^ (power % outer) + below < scale method 15 * scale method 15 =
+    square method _ (power % outer + 1) number (omega (arith, outer_in, within)) in
+    let lead : 0 < d * 10 ^ (power % width) = let p : 1 ≤ 10 ^ (power % width) =
+    one-le-pow (power % width) 10 (omega arith) in let q : d * 1 ≤ d * 10 ^ (power % width) =
+    mul-le-mul_left d p in omega (arith, q, pos) in
     elim (dec_lt start above) [
       | no reach ↦
           let test : nat_le above start ≡ true = grind (arith, nat_tests, reach) in
           let one : 1 ≤ size = omega (arith, reach, is_start, is_above) in
           let inner_in : inner ≤ size = omega (arith, reach, is_start, is_above) in
-          let below_small : below < 10 ^ size = let p : 10 ^ inner ≤ 10 ^ size = pow-le-pow_right (omega arith) inner_in in omega (arith, p, fills.below) in
-          let unit_is = Stands-stands method outer width position stand (omega (arith, one)) in
-          let lower : filled < start + 1 = elim (dec_lt 0 inner) [ yes p ↦ omega (arith, some p, reach) | no p ↦ omega (arith, none (omega (arith, p)), reach) ] in
-          let more = digit-over method widths width position d 0 0 filled (start + 1) rest within pos ten (one-le-pow (position % width) 10 (omega arith)) (record { below = omega arith; reach = λ z. absurd (omega (arith, z)) })
+          let below_small : below < 10 ^ size = let p : 10 ^ inner ≤ 10 ^ size =
+          pow-le-pow_right (omega arith) inner_in in omega (arith, p, fills.below) in
+          let unit_is = Stands-stands method outer width power stand (omega (arith, one)) in
+          let lower : filled < start + 1 =
+          elim (dec_lt 0 inner) [
+            | yes p ↦ omega (arith, some p, reach)
+            | no p ↦
+                omega (arith, none (omega (arith, p)), reach)
+          ] in
+          let more = digit-over method widths width power d 0 0 filled (start + 1) rest within pos
+          ten (one-le-pow (power % width) 10 (omega arith))
+          (record { below = omega arith; reach = λ z. absurd (omega (arith, z)) })
           (omega arith) (λ z. absurd (omega (arith, z))) (λ z. lower) in
-          let front_part : part method (d * 10 ^ (position % width)) ≡ digit d ∷ units_over method position filled (start + 1) widths =
-          let e : d * 10 ^ (position % width) + 0 ≡ d * 10 ^ (position % width) = omega arith in
-          let none_left = append-nil (units_over method position filled (start + 1) widths) in
+          let lead_part : part method (d * 10 ^ (power % width))
+          ≡ digit d ∷ units_over method power filled (start + 1) widths =
+          let e : d * 10 ^ (power % width) + 0 ≡ d * 10 ^ (power % width) = omega arith in
+          let none_left = append-nil (units_over method power filled (start + 1) widths) in
           rw e at more ∙ ap (λ marks. digit d ∷ marks) none_left in
-          let split = cut method (d * 10 ^ (position % width)) below size width (rank_at method start) unit_is lead below_small (omega (arith, fits, whole)) (omega (arith, few, whole)) in
-          let flag = gap-flag inner size filled above below start (position - position % outer) fills inner_in one is_start is_above some none in
+          let split = cut method (d * 10 ^ (power % width)) below size width (rank_at method start)
+          unit_is lead below_small (omega (arith, fits, whole)) (omega (arith, few, whole)) in
+          let flag = gap-flag inner size filled above below start (power - power % outer) fills
+          inner_in one is_start is_above some none in
           ap (λ n. part method (n + below)) whole ∙ split
-          ∙ ap (λ marks. marks ++ (unit (rank_at method start) ∷ (gap below (10 ^ size) ++ part method below))) front_part
-          ∙ ap (λ marks. digit d ∷ (units_over method position filled (start + 1) widths ++ (unit (rank_at method start) ∷ (marks ++ part method below)))) flag
-          ∙ ap (λ marks. digit d ∷ marks) (sym (append_assoc (units_over method position filled (start + 1) widths) (unit_front method filled above start) (part method below)))
-          ∙ ap (λ marks. digit d ∷ (marks ++ part method below)) (if-then (units_over method position filled (start + 1) widths ++ unit_front method filled above start) (units_over method position filled above widths) test)
+          ∙ ap (λ marks. marks ++ (unit (rank_at method start)
+          ∷ (gap below (10 ^ size) ++ part method below))) lead_part
+          ∙ ap (λ marks. digit d ∷ (units_over method power filled (start + 1) widths
+          ++ (unit (rank_at method start) ∷ (marks ++ part method below)))) flag
+          ∙ ap (λ marks. digit d ∷ marks) (sym (append_assoc (units_over method power filled
+          (start + 1) widths) (unit_behind method filled above start) (part method below)))
+          ∙ ap (λ marks. digit d ∷ (marks ++ part method below))
+          (if-then (units_over method power filled (start + 1) widths
+          ++ unit_behind method filled above start) (units_over method power filled above
+          widths) test)
       | yes short ↦
           let test : nat_le above start ≡ false = grind (arith, nat_tests, short) in
-          let otherwise = if-else {b = nat_le above start} (units_over method position filled (start + 1) widths ++ unit_front method filled above start) (units_over method position filled above widths) test in
+          let otherwise = if-else {b = nat_le above start}
+          (units_over method power filled (start + 1) widths
+          ++ unit_behind method filled above start) (units_over method power filled above
+          widths) test in
           elim (dec_lt 0 size) [
             | no none_in ↦
-                let same : position % outer ≡ position % width = omega (arith, none_in, rest_in) in
-                let more = digit-over method widths width position d below inner filled above rest within pos ten (rw same at small) fills (rw same at is_above) some none in
-                ap (λ n. part method (d * 10 ^ n + below)) same ∙ more ∙ ap (λ marks. digit d ∷ (marks ++ part method below)) otherwise
+                let same : power % outer ≡ power % width = omega (arith, none_in, rest_in) in
+                let more = digit-over method widths width power d below inner filled above rest
+                within pos ten (rw same at small) fills (rw same at is_above) some none in
+                ap (λ n. part method (d * 10 ^ n + below)) same ∙ more
+                ∙ ap (λ marks. digit d ∷ (marks ++ part method below)) otherwise
             | yes some_in ↦
                 let deep : size < inner = omega (arith, short, is_start, is_above, some_in) in
-                let least : 10 ^ size ≤ below = let p : 10 ^ size ≤ 10 ^ (inner - 1) = pow-le-pow_right (omega arith) (omega (arith, deep)) in omega (arith, p, fills.reach (omega (arith, deep))) in
-                let high_small : below / 10 ^ size < 10 ^ (position % width) = lt_of_mul-lt-mul_right (10 ^ size) (omega (arith, small, power, div-mul-le_self below (10 ^ size))) in
-                let more = digit-over method widths width position d (below / 10 ^ size) (inner - size) filled above rest within pos ten high_small (Fills-above inner size below fills deep)
-                (omega (arith, is_above, is_start, deep)) (λ z. some (omega (arith, deep))) (λ z. absurd (omega (arith, z, deep))) in
+                let least : 10 ^ size ≤ below = let p : 10 ^ size ≤ 10 ^ (inner - 1) =
+                pow-le-pow_right (omega arith) (omega (arith, deep))
+                in omega (arith, p, fills.reach (omega (arith, deep))) in
+                let high_small : below / 10 ^ size < 10 ^ (power % width) =
+                lt_of_mul-lt-mul_right (10 ^ size)
+                (omega (arith, small, raised, div-mul-le_self below (10 ^ size))) in
+                let more = digit-over method widths width power d (below / 10 ^ size)
+                (inner - size) filled above rest within pos ten high_small
+                (Fills-above inner size below fills deep)
+                (omega (arith, is_above, is_start, deep)) (λ z. some (omega (arith, deep)))
+                (λ z. absurd (omega (arith, z, deep))) in
                 ap (λ n. part method (n + below)) whole
-                ∙ join method (d * 10 ^ (position % width)) below size width (rank_at method start) d (units_over method position filled above widths) (Stands-stands method outer width position stand some_in) least
+                ∙ join method (d * 10 ^ (power % width)) below size width (rank_at method start)
+                (digit d ∷ []) (units_over method power filled above widths)
+                (Stands-stands method outer width power stand some_in) least
                 (omega (arith, fits, whole)) (omega (arith, few, whole)) more
                 ∙ ap (λ marks. digit d ∷ (marks ++ part method below)) otherwise
           ]
     ]
 
--- the same for a group of four positions: the widths part a group of the outer width down to groups of four
+-- the same for a section: the widths part a group of the outer width down to sections
 abbrev pub is_chain_of_four : ChineseCountMethod → ℕ → List ℕ → Bool
 is_chain_of_four method outer [] = false
 is_chain_of_four method outer (width ∷ []) = outer == 4 && width == 1
 is_chain_of_four method outer (width ∷ next ∷ widths) =
-    nat_lt 0 width && outer % width == 0 && width % 4 == 0 && all_stand method outer width (positions_within method) && is_chain_of_four method width (next ∷ widths)
-
-join-group : (method : ChineseCountMethod) (lead below size width rank : ℕ) (group marks : List Mark) → Stands method size width rank → 10 ^ size ≤ below
-    → lead * 10 ^ size + below < 10 ^ (size + width) → lead * 10 ^ size + below < scale method 15 * scale method 15
-    → part method (lead + below / 10 ^ size) ≡ group ++ (marks ++ part method (below / 10 ^ size))
-    → part method (lead * 10 ^ size + below) ≡ group ++ (marks ++ part method below)
-join-group method lead below size width rank group marks unit_is least fits few known =
-    let size_pos : 0 < 10 ^ size = one-le-pow size 10 (omega arith) in
-    let high = below / 10 ^ size in
-    let low = below % 10 ^ size in
-    let less : low < 10 ^ size = mod-lt below size_pos in
-    let split : below ≡ high * 10 ^ size + low = omega (arith, div-add-mod below (10 ^ size)) in
-    let some : 0 < high = elim (dec_lt 0 high) [ yes p ↦ p | no p ↦ absurd (let z : high ≡ 0 = omega (arith, p) in let e : below ≡ 0 * 10 ^ size + low = rw z at split in omega (arith, e, less, least)) ] in
-    let whole : lead * 10 ^ size + below ≡ (lead + high) * 10 ^ size + low = omega (arith, split) in
-    let tail : List Mark = unit rank ∷ (gap low (10 ^ size) ++ part method low) in
-    let one : part method ((lead + high) * 10 ^ size + low) ≡ part method (lead + high) ++ tail = cut method (lead + high) low size width rank unit_is (omega (arith, some)) less (omega (arith, fits, whole)) (omega (arith, few, whole)) in
-    let two : part method (high * 10 ^ size + low) ≡ part method high ++ tail = cut method high low size width rank unit_is some less (omega (arith, fits, split)) (omega (arith, few, split)) in
-    ap (λ n. part method n) whole ∙ one ∙ ap (λ front. front ++ tail) known
-    ∙ append_assoc group (marks ++ part method high) tail ∙ ap (λ rest. group ++ rest) (append_assoc marks (part method high) tail)
-    ∙ ap (λ rest. group ++ (marks ++ rest)) (sym two ∙ ap (λ n. part method n) (sym split))
+    nat_lt 0 width && outer % width == 0 && width % 4 == 0
+    && all_stand method outer width (powers_within method)
+    && is_chain_of_four method width (next ∷ widths)
 
 -- a unit stands at no start below what is written
-past-one : (method : ChineseCountMethod) (position filled above : ℕ) → position < above → units_over method position filled above (1 ∷ []) ≡ []
-past-one method position filled above past =
-    let test : nat_le above (start_of 1 position) ≡ false = grind (arith, nat_tests, past) in
+past-one : (method : ChineseCountMethod) (power filled above : ℕ) → power < above
+    → units_over method power filled above (1 ∷ []) ≡ []
+past-one method power filled above past =
+    let test : nat_le above (start_of 1 power) ≡ false = grind (arith, nat_tests, past) in
     rw test refl
 
-few-of : (method : ChineseCountMethod) (number positions : ℕ) → number < 10 ^ positions → positions ≤ exponent method 15 + exponent method 15 → number < scale method 15 * scale method 15
-few-of method number positions h within =
-    let e : 10 ^ (exponent method 15 + exponent method 15) ≡ scale method 15 * scale method 15 = pow-add 10 (exponent method 15) (exponent method 15) in
-    let p : 10 ^ positions ≤ 10 ^ (exponent method 15 + exponent method 15) = pow-le-pow_right (omega arith) within in
+few-of : (method : ChineseCountMethod) (number powers : ℕ) → number < 10 ^ powers
+    → powers ≤ exponent method 15 + exponent method 15 → number < scale method 15 * scale method 15
+few-of method number powers h within =
+    let e : 10 ^ (exponent method 15 + exponent method 15) ≡ scale method 15 * scale method 15 =
+    pow-add 10 (exponent method 15) (exponent method 15) in
+    let p : 10 ^ powers ≤ 10 ^ (exponent method 15 + exponent method 15) =
+    pow-le-pow_right (omega arith) within in
     omega (arith, h, p, e)
 
--- a group of four positions in front of what stands below it
-pub group-over : (method : ChineseCountMethod) (widths : List ℕ) (outer position g below inner filled above : ℕ) → is_chain_of_four method outer widths ≡ true → position < positions_within method
-    → position + 4 ≤ exponent method 15 + exponent method 15 → position % 4 ≡ 0 → 0 < g → g < 10 ^ 4
-    → below < 10 ^ (position % outer) → Fills inner below → above ≡ (position - position % outer) + max inner 1 → (0 < inner → filled ≡ above) → (inner ≡ 0 → filled < above)
-    → part method (g * 10 ^ (position % outer) + below) ≡ part method g ++ (units_over method position filled above widths ++ part method below)
-group-over method [] outer position g below inner filled above links within room four pos ten small fills is_above some none = cc
-group-over method (width ∷ []) outer position g below inner filled above links within room four pos ten small fills is_above some none =
-    let is_four : outer ≡ 4 = let t = and-left (outer == 4) _ links in grind (arith, nat_tests, t) in
-    let is_one : width ≡ 1 = let t = and-right (outer == 4) _ links in grind (arith, nat_tests, t) in
-    let zero : position % outer ≡ 0 = rw is_four four in
-    let empty : below ≡ 0 = let p : 10 ^ (position % outer) ≡ 1 = ap (λ n. 10 ^ n) zero in omega (arith, p, small) in
-    let past : position < above = omega (arith, is_above, zero) in
+-- a section in front of what stands below it
+pub section-over : (method : ChineseCountMethod) (widths : List ℕ)
+    (outer power g below inner filled above : ℕ) → is_chain_of_four method outer widths ≡ true
+    → power < powers_within method
+    → power + 4 ≤ exponent method 15 + exponent method 15 → power % 4 ≡ 0 → 0 < g → g < 10 ^ 4
+    → below < 10 ^ (power % outer) → Fills inner below → above ≡ (power - power % outer)
+    + max inner 1 → (0 < inner → filled ≡ above) → (inner ≡ 0 → filled < above)
+    → part method (g * 10 ^ (power % outer) + below)
+    ≡ part method g ++ (units_over method power filled above widths ++ part method below)
+section-over method [] outer power g below inner filled above links within room four pos ten small
+    fills is_above some none = cc
+section-over method (width ∷ []) outer power g below inner filled above links within room four pos
+    ten small fills is_above some none =
+    let is_four : outer ≡ 4 = let t =
+    and-left (outer == 4) _ links in grind (arith, nat_tests, t) in
+    let is_one : width ≡ 1 = let t =
+    and-right (outer == 4) _ links in grind (arith, nat_tests, t) in
+    let zero : power % outer ≡ 0 = rw is_four four in
+    let empty : below ≡ 0 = let p : 10 ^ (power % outer) ≡ 1 =
+    ap (λ n. 10 ^ n) zero in omega (arith, p, small) in
+    let past : power < above = omega (arith, is_above, zero) in
     let only : g * 10 ^ 0 + 0 ≡ g = omega arith in
-    rw (zero, empty, only, is_one, past-one method position filled above past) (sym (append-nil (part method g)))
-group-over method (width ∷ next ∷ widths) outer position g below inner filled above links within room four pos ten small fills is_above some none =
-    let two = and-left (nat_lt 0 width && outer % width == 0) _ (and-left (nat_lt 0 width && outer % width == 0 && width % 4 == 0) _
-    (and-left (nat_lt 0 width && outer % width == 0 && width % 4 == 0 && all_stand method outer width (positions_within method)) _ links)) in
+    rw (
+      zero,
+      empty,
+      only,
+      is_one,
+      past-one method power filled above
+          past,
+    ) (sym (append-nil (part method g)))
+section-over method (width ∷ next ∷ widths) outer power g below inner filled above links
+    within room four pos ten small fills is_above some none =
+    let two = and-left (nat_lt 0 width && outer % width == 0) _
+    (and-left (nat_lt 0 width && outer % width == 0 && width % 4 == 0) _
+    (and-left (nat_lt 0 width && outer % width == 0 && width % 4 == 0
+    && all_stand method outer width (powers_within method)) _ links)) in
     let wide : nat_lt 0 width ≡ true = and-left (nat_lt 0 width) _ two in
     let even : (outer % width == 0) ≡ true = and-right (nat_lt 0 width) _ two in
-    let fours : (width % 4 == 0) ≡ true = and-right (nat_lt 0 width && outer % width == 0) _ (and-left (nat_lt 0 width && outer % width == 0 && width % 4 == 0) _
-    (and-left (nat_lt 0 width && outer % width == 0 && width % 4 == 0 && all_stand method outer width (positions_within method)) _ links)) in
-    let stand = all_stand-at method outer width (positions_within method) position (and-right (nat_lt 0 width && outer % width == 0 && width % 4 == 0) _
-    (and-left (nat_lt 0 width && outer % width == 0 && width % 4 == 0 && all_stand method outer width (positions_within method)) _ links)) within in
-    let rest : is_chain_of_four method width (next ∷ widths) ≡ true = and-right (nat_lt 0 width && outer % width == 0 && width % 4 == 0 && all_stand method outer width (positions_within method)) _ links in
-    let start = start_of width position in
-    let size = position % outer - position % width in
+    let fours : (width % 4 == 0) ≡ true =
+    and-right (nat_lt 0 width && outer % width == 0) _
+    (and-left (nat_lt 0 width && outer % width == 0 && width % 4 == 0) _
+    (and-left (nat_lt 0 width && outer % width == 0 && width % 4 == 0
+    && all_stand method outer width (powers_within method)) _ links)) in
+    let stand = all_stand-at method outer width (powers_within method) power
+    (and-right (nat_lt 0 width && outer % width == 0 && width % 4 == 0) _
+    (and-left (nat_lt 0 width && outer % width == 0 && width % 4 == 0
+    && all_stand method outer width (powers_within method)) _ links)) within in
+    let rest : is_chain_of_four method width (next ∷ widths) ≡ true =
+    and-right (nat_lt 0 width && outer % width == 0 && width % 4 == 0
+    && all_stand method outer width (powers_within method)) _ links in
+    let start = start_of width power in
+    let size = power % outer - power % width in
     let wider : 0 < width = grind (arith, nat_tests, wide) in
     let divides : outer % width ≡ 0 = grind (arith, nat_tests, even) in
     let of_four : width % 4 ≡ 0 = grind (arith, nat_tests, fours) in
-    let inside : position % outer % width ≡ position % width = mod-mod_of_dvd width position (dvd_of_mod-eq-zero width divides) in
-    let inside_four : position % width % 4 ≡ 0 = mod-mod_of_dvd 4 position (dvd_of_mod-eq-zero 4 of_four) ∙ four in
-    let rest_less : position % width < width = omega (arith, wider) in
-    let rest_four : position % width + 4 ≤ width = omega (arith, rest_less, inside_four, of_four, div-add-mod (position % width) 4, div-add-mod width 4) in
-    let rest_in : position % width ≤ position % outer = omega (arith, inside, mod-le (position % outer) width) in
-    let outer_in : position % outer ≤ position = mod-le position outer in
-    let is_start : start ≡ (position - position % outer) + size = omega (arith, rest_in, outer_in) in
-    let power : 10 ^ (position % outer) ≡ 10 ^ (position % width) * 10 ^ size = let e : position % outer ≡ position % width + size = omega (arith, rest_in) in ap (λ n. 10 ^ n) e ∙ pow-add 10 (position % width) size in
-    let whole : g * 10 ^ (position % outer) ≡ g * 10 ^ (position % width) * 10 ^ size = ap (λ n. g * n) power ∙ omega arith in
-    let top : 10 ^ (position % outer + 4) ≡ 10 ^ (position % outer) * 10000 = pow-add 10 (position % outer) 4 in
-    let g_most : g * 10 ^ (position % outer) ≤ 9999 * 10 ^ (position % outer) = mul-le-mul_right (10 ^ (position % outer)) (omega (arith, ten)) in
-    let number : g * 10 ^ (position % outer) + below < 10 ^ (position % outer + 4) = omega (arith, g_most, small, top) in
-    let fits : g * 10 ^ (position % outer) + below < 10 ^ (size + width) = let p : 10 ^ (position % outer + 4) ≤ 10 ^ (size + width) = pow-le-pow_right (omega arith) (omega (arith, rest_four, rest_in)) in omega (arith, p, number) in
-    let few : g * 10 ^ (position % outer) + below < scale method 15 * scale method 15 = few-of method _ (position % outer + 4) number (omega (arith, outer_in, room)) in
-    let lead : 0 < g * 10 ^ (position % width) = let p : 1 ≤ 10 ^ (position % width) = one-le-pow (position % width) 10 (omega arith) in let q : g * 1 ≤ g * 10 ^ (position % width) = mul-le-mul_left g p in omega (arith, q, pos) in
+    let inside : power % outer % width ≡ power % width =
+    mod-mod_of_dvd width power (dvd_of_mod-eq-zero width divides) in
+    let inside_four : power % width % 4 ≡ 0 =
+    mod-mod_of_dvd 4 power (dvd_of_mod-eq-zero 4 of_four) ∙ four in
+    let rest_less : power % width < width = omega (arith, wider) in
+    let rest_four : power % width + 4 ≤ width =
+    omega (
+      arith,
+      rest_less,
+      inside_four,
+      of_four,
+      div-add-mod (power % width) 4,
+      div-add-mod width 4,
+    ) in
+    let rest_in : power % width ≤ power % outer =
+    omega (arith, inside, mod-le (power % outer) width) in
+    let outer_in : power % outer ≤ power = mod-le power outer in
+    let is_start : start ≡ (power - power % outer) + size = omega (arith, rest_in, outer_in) in
+    let raised : 10 ^ (power % outer) ≡ 10 ^ (power % width) * 10 ^ size =
+    let e : power % outer ≡ power % width + size =
+    omega (arith, rest_in) in ap (λ n. 10 ^ n) e ∙ pow-add 10 (power % width) size in
+    let whole : g * 10 ^ (power % outer) ≡ g * 10 ^ (power % width) * 10 ^ size =
+    ap (λ n. g * n) raised ∙ omega arith in
+    let top : 10 ^ (power % outer + 4) ≡ 10 ^ (power % outer) * 10000 =
+    pow-add 10 (power % outer) 4 in
+    let g_most : g * 10 ^ (power % outer) ≤ 9999 * 10 ^ (power % outer) =
+    mul-le-mul_right (10 ^ (power % outer)) (omega (arith, ten)) in
+    let number : g * 10 ^ (power % outer) + below < 10 ^ (power % outer + 4) =
+    omega (arith, g_most, small, top) in
+    let fits : g * 10 ^ (power % outer) + below < 10 ^ (size + width) =
+    let p : 10 ^ (power % outer + 4) ≤ 10 ^ (size + width) =
+    pow-le-pow_right (omega arith) (omega (arith, rest_four, rest_in))
+    in omega (arith, p, number) in
+    let few : g * 10 ^ (power % outer) + below < scale method 15 * scale method 15 =
+    few-of method _ (power % outer + 4) number (omega (arith, outer_in, room)) in
+    let lead : 0 < g * 10 ^ (power % width) = let p : 1 ≤ 10 ^ (power % width) =
+    one-le-pow (power % width) 10 (omega arith) in let q : g * 1 ≤ g * 10 ^ (power % width) =
+    mul-le-mul_left g p in omega (arith, q, pos) in
     elim (dec_lt start above) [
       | no reach ↦
           let test : nat_le above start ≡ true = grind (arith, nat_tests, reach) in
           let one : 1 ≤ size = omega (arith, reach, is_start, is_above) in
           let inner_in : inner ≤ size = omega (arith, reach, is_start, is_above) in
-          let below_small : below < 10 ^ size = let p : 10 ^ inner ≤ 10 ^ size = pow-le-pow_right (omega arith) inner_in in omega (arith, p, fills.below) in
-          let unit_is = Stands-stands method outer width position stand (omega (arith, one)) in
-          let lower : filled < start + 1 = elim (dec_lt 0 inner) [ yes p ↦ omega (arith, some p, reach) | no p ↦ omega (arith, none (omega (arith, p)), reach) ] in
-          let more = group-over method (next ∷ widths) width position g 0 0 filled (start + 1) rest within room four pos ten (one-le-pow (position % width) 10 (omega arith)) (record { below = omega arith; reach = λ z. absurd (omega (arith, z)) })
+          let below_small : below < 10 ^ size = let p : 10 ^ inner ≤ 10 ^ size =
+          pow-le-pow_right (omega arith) inner_in in omega (arith, p, fills.below) in
+          let unit_is = Stands-stands method outer width power stand (omega (arith, one)) in
+          let lower : filled < start + 1 =
+          elim (dec_lt 0 inner) [
+            | yes p ↦ omega (arith, some p, reach)
+            | no p ↦
+                omega (arith, none (omega (arith, p)), reach)
+          ] in
+          let more = section-over method (next ∷ widths) width power g 0 0 filled (start + 1) rest
+          within room four pos ten (one-le-pow (power % width) 10 (omega arith))
+          (record { below = omega arith; reach = λ z. absurd (omega (arith, z)) })
           (omega arith) (λ z. absurd (omega (arith, z))) (λ z. lower) in
-          let front_part : part method (g * 10 ^ (position % width)) ≡ part method g ++ units_over method position filled (start + 1) (next ∷ widths) =
-          let e : g * 10 ^ (position % width) + 0 ≡ g * 10 ^ (position % width) = omega arith in
-          let none_left = append-nil (units_over method position filled (start + 1) (next ∷ widths)) in
+          let lead_part : part method (g * 10 ^ (power % width))
+          ≡ part method g ++ units_over method power filled (start + 1) (next ∷ widths) =
+          let e : g * 10 ^ (power % width) + 0 ≡ g * 10 ^ (power % width) = omega arith in
+          let none_left = append-nil (units_over method power filled (start + 1) (next ∷ widths)) in
           rw e at more ∙ ap (λ marks. part method g ++ marks) none_left in
-          let split = cut method (g * 10 ^ (position % width)) below size width (rank_at method start) unit_is lead below_small (omega (arith, fits, whole)) (omega (arith, few, whole)) in
-          let flag = gap-flag inner size filled above below start (position - position % outer) fills inner_in one is_start is_above some none in
+          let split = cut method (g * 10 ^ (power % width)) below size width (rank_at method start)
+          unit_is lead below_small (omega (arith, fits, whole)) (omega (arith, few, whole)) in
+          let flag = gap-flag inner size filled above below start (power - power % outer) fills
+          inner_in one is_start is_above some none in
           ap (λ n. part method (n + below)) whole ∙ split
-          ∙ ap (λ marks. marks ++ (unit (rank_at method start) ∷ (gap below (10 ^ size) ++ part method below))) front_part
-          ∙ append_assoc (part method g) (units_over method position filled (start + 1) (next ∷ widths)) (unit (rank_at method start) ∷ (gap below (10 ^ size) ++ part method below))
-          ∙ ap (λ marks. part method g ++ (units_over method position filled (start + 1) (next ∷ widths) ++ (unit (rank_at method start) ∷ (marks ++ part method below)))) flag
-          ∙ ap (λ marks. part method g ++ marks) (sym (append_assoc (units_over method position filled (start + 1) (next ∷ widths)) (unit_front method filled above start) (part method below)))
-          ∙ ap (λ marks. part method g ++ (marks ++ part method below)) (if-then (units_over method position filled (start + 1) (next ∷ widths) ++ unit_front method filled above start) (units_over method position filled above (next ∷ widths)) test)
+          ∙ ap (λ marks. marks ++ (unit (rank_at method start)
+          ∷ (gap below (10 ^ size) ++ part method below))) lead_part
+          ∙ append_assoc (part method g)
+          (units_over method power filled (start + 1) (next ∷ widths)) (unit (rank_at method start)
+          ∷ (gap below (10 ^ size) ++ part method below))
+          ∙ ap (λ marks. part method g ++ (units_over method power filled (start + 1)
+          (next ∷ widths) ++ (unit (rank_at method start) ∷ (marks ++ part method below)))) flag
+          ∙ ap (λ marks. part method g ++ marks)
+          (sym (append_assoc (units_over method power filled (start + 1) (next ∷ widths))
+          (unit_behind method filled above start) (part method below)))
+          ∙ ap (λ marks. part method g ++ (marks ++ part method below))
+          (if-then (units_over method power filled (start + 1) (next ∷ widths)
+          ++ unit_behind method filled above start) (units_over method power filled above
+          (next ∷ widths)) test)
       | yes short ↦
           let test : nat_le above start ≡ false = grind (arith, nat_tests, short) in
-          let otherwise = if-else {b = nat_le above start} (units_over method position filled (start + 1) (next ∷ widths) ++ unit_front method filled above start) (units_over method position filled above (next ∷ widths)) test in
+          let otherwise = if-else {b = nat_le above start}
+          (units_over method power filled (start + 1) (next ∷ widths)
+          ++ unit_behind method filled above start) (units_over method power filled above
+          (next ∷ widths)) test in
           elim (dec_lt 0 size) [
             | no none_in ↦
-                let same : position % outer ≡ position % width = omega (arith, none_in, rest_in) in
-                let more = group-over method (next ∷ widths) width position g below inner filled above rest within room four pos ten (rw same at small) fills (rw same at is_above) some none in
-                ap (λ n. part method (g * 10 ^ n + below)) same ∙ more ∙ ap (λ marks. part method g ++ (marks ++ part method below)) otherwise
+                let same : power % outer ≡ power % width = omega (arith, none_in, rest_in) in
+                let more = section-over method (next ∷ widths) width power g below inner filled
+                above rest within room four pos ten (rw same at small) fills
+                (rw same at is_above) some none in
+                ap (λ n. part method (g * 10 ^ n + below)) same ∙ more
+                ∙ ap (λ marks. part method g ++ (marks ++ part method below)) otherwise
             | yes some_in ↦
                 let deep : size < inner = omega (arith, short, is_start, is_above, some_in) in
-                let least : 10 ^ size ≤ below = let p : 10 ^ size ≤ 10 ^ (inner - 1) = pow-le-pow_right (omega arith) (omega (arith, deep)) in omega (arith, p, fills.reach (omega (arith, deep))) in
-                let high_small : below / 10 ^ size < 10 ^ (position % width) = lt_of_mul-lt-mul_right (10 ^ size) (omega (arith, small, power, div-mul-le_self below (10 ^ size))) in
-                let more = group-over method (next ∷ widths) width position g (below / 10 ^ size) (inner - size) filled above rest within room four pos ten high_small (Fills-above inner size below fills deep)
-                (omega (arith, is_above, is_start, deep)) (λ z. some (omega (arith, deep))) (λ z. absurd (omega (arith, z, deep))) in
+                let least : 10 ^ size ≤ below = let p : 10 ^ size ≤ 10 ^ (inner - 1) =
+                pow-le-pow_right (omega arith) (omega (arith, deep))
+                in omega (arith, p, fills.reach (omega (arith, deep))) in
+                let high_small : below / 10 ^ size < 10 ^ (power % width) =
+                lt_of_mul-lt-mul_right (10 ^ size)
+                (omega (arith, small, raised, div-mul-le_self below (10 ^ size))) in
+                let more = section-over method (next ∷ widths) width power g (below / 10 ^ size)
+                (inner - size) filled above rest within room four pos ten high_small
+                (Fills-above inner size below fills deep)
+                (omega (arith, is_above, is_start, deep)) (λ z. some (omega (arith, deep)))
+                (λ z. absurd (omega (arith, z, deep))) in
                 ap (λ n. part method (n + below)) whole
-                ∙ join-group method (g * 10 ^ (position % width)) below size width (rank_at method start) (part method g) (units_over method position filled above (next ∷ widths)) (Stands-stands method outer width position stand some_in) least
+                ∙ join method (g * 10 ^ (power % width)) below size width (rank_at method start)
+                (part method g) (units_over method power filled above (next ∷ widths))
+                (Stands-stands method outer width power stand some_in) least
                 (omega (arith, fits, whole)) (omega (arith, few, whole)) more
                 ∙ ap (λ marks. part method g ++ (marks ++ part method below)) otherwise
           ]

@@ -28,13 +28,13 @@ impl Characters {
     }
 
     #[inline(always)]
-    fn at(self, position: usize) -> [u8; 3]
-        requires { position < 27 }
+    fn nth(self, index: usize) -> [u8; 3]
+        requires { index < 27 }
         ensures bytes { result
-            ≡ encode_utf8 (slice_index (printed_characters self.variant self.case) position) }
+            ≡ encode_utf8 (slice_index (printed_characters self.variant self.case) index) }
         ensures utf8 { IsUtf8 result }
     {
-        let start = 3 * position;
+        let start = 3 * index;
         [
             self.table[start],
             self.table[start + 1],
@@ -50,7 +50,7 @@ impl Characters {
         ensures bytes { result ≡ encode_utf8 (digit_char self.variant self.case digit) }
         ensures utf8 { IsUtf8 result }
     {
-        self.at(digit as usize)
+        self.nth(digit as usize)
     }
 
     /// The character of a unit.
@@ -60,7 +60,7 @@ impl Characters {
         ensures bytes { result ≡ encode_utf8 (unit_char self.variant self.case (rank unit)) }
         ensures utf8 { IsUtf8 result }
     {
-        self.at(FIRST_UNIT + unit as usize)
+        self.nth(FIRST_UNIT + unit as usize)
     }
 
     /// The minus sign.
@@ -69,6 +69,6 @@ impl Characters {
         ensures bytes { result ≡ encode_utf8 (minus_char self.variant) }
         ensures utf8 { IsUtf8 result }
     {
-        self.at(MINUS_SIGN)
+        self.nth(MINUS_SIGN)
     }
 }

@@ -1,21 +1,16 @@
 //! The printer of any integer type, by units or as plain digits. It serves the crates above it
 //! alone: users take the calls of `chinese_number`.
 //!
-//! It counts its characters, asks once for three bytes for each or takes the front of a room that
-//! the caller lends, and fills them from the last to the first.
+//! It counts its characters, asks once for three bytes for each or takes the beginning of a room
+//! that the caller lends, and fills them from the last to the first.
 #![tactic(auto)]
 
 mod characters;
-mod digits;
 mod error;
-mod groups;
-mod known_method;
 mod naive;
 mod pen;
-mod positions;
 mod print;
-mod put;
-mod room;
+mod sections;
 mod spell;
 mod spelled;
 mod text;
@@ -23,5 +18,4 @@ mod units;
 
 pub use error::NumberToChineseError;
 pub use naive::{print_naive, put_naive};
-pub use print::{is_printable, print_by_units, print_or_refuse};
-pub use put::put_by_units;
+pub use print::{is_printable, print_by_units, print_or_refuse, put_by_units};

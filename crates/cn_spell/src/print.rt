@@ -3,14 +3,14 @@ ghost use Rattle.std.specs.Prelude.{◌≡◌, pos, IfOk, IsTrue};
 ghost use Rattle.cn_core.specs.Spelling.{spelling};
 ghost use Rattle.cn_core.specs.Printing.{signed_text, spelled_text, is_printable};
 ghost use Rattle.cn_spell.specs.Prints.{Prints, most_bytes};
+ghost use Rattle.cn_spell.specs.Puts.{PutsText};
 ghost use Rattle.cn_spell.specs.Writes.{Writes};
 
 use crate::NumberToChineseError;
 use crate::characters::Characters;
-use crate::groups::MOST;
-use crate::known_method::{ByHigh, ByLow, ByMiddle, ByTenThousand, KnownMethod};
-use crate::spelled::Spelled;
-use crate::text::new_string;
+use crate::sections::MOST;
+use crate::spelled::{ByHigh, ByLow, ByMiddle, ByTenThousand, KnownMethod, Spelled};
+use crate::text::{LentRoom, NewString, Target};
 use cn_core::{ChineseCase, ChineseCountMethod, ChineseVariant, Whole};
 use std::alloc::{AllocError, Global};
 
@@ -28,48 +28,71 @@ pub fn is_printable<T: Whole>(method: ChineseCountMethod, value: T) -> bool
     }
 }
 
-// The text of a sign and a magnitude, in one request for memory.
-fn signed_text<M: KnownMethod>(
-    alloc: Global,
+// The text of a sign and a magnitude, by a method that the compiler knows.
+fn spell_known<M: KnownMethod, P: Target>(
+    target: &mut P,
     characters: Characters,
     negative: bool,
     magnitude: u128,
-) -> Result<String, AllocError>
+) -> P::Answer
     requires { IsTrue (is_printable M.stands_for (pos magnitude)) }
-    ensures { IfOk result (Writes
+    ensures { P.took
         (signed_text characters.variant characters.case negative (spelling M.stands_for magnitude))
-        (most_bytes M.stands_for)) }
+        (most_bytes M.stands_for) target.old target.new result }
 {
     let mut taken = [0; MOST];
-    let text = Spelled::<M>::of(&mut taken, characters, negative, magnitude);
-    new_string(alloc, &text)
+    target.take(&Spelled::<M>::of(&mut taken, characters, negative, magnitude))
 }
 
 // The same by a method that is given.
-fn print_magnitude(
-    alloc: Global,
+fn spell_magnitude<P: Target>(
+    target: &mut P,
     characters: Characters,
     method: ChineseCountMethod,
     negative: bool,
     magnitude: u128,
-) -> Result<String, AllocError>
+) -> P::Answer
     requires { IsTrue (is_printable method (pos magnitude)) }
-    ensures { IfOk result (Writes
+    ensures { P.took
         (signed_text characters.variant characters.case negative (spelling method magnitude))
-        (most_bytes method)) }
+        (most_bytes method) target.old target.new result }
 {
     match method {
-        ChineseCountMethod::Low => signed_text::<ByLow>(alloc, characters, negative, magnitude),
+        ChineseCountMethod::Low => {
+            spell_known::<ByLow, P>(target, characters, negative, magnitude)
+        }
         ChineseCountMethod::TenThousand => {
-            signed_text::<ByTenThousand>(alloc, characters, negative, magnitude)
+            spell_known::<ByTenThousand, P>(target, characters, negative, magnitude)
         }
         ChineseCountMethod::Middle => {
-            signed_text::<ByMiddle>(alloc, characters, negative, magnitude)
+            spell_known::<ByMiddle, P>(target, characters, negative, magnitude)
         }
         ChineseCountMethod::High => {
-            signed_text::<ByHigh>(alloc, characters, negative, magnitude)
+            spell_known::<ByHigh, P>(target, characters, negative, magnitude)
         }
     }
+}
+
+// The same of a number.
+#[inline(always)]
+fn spell_number<P: Target, T: Whole>(
+    target: &mut P,
+    characters: Characters,
+    method: ChineseCountMethod,
+    value: T,
+) -> P::Answer
+    requires { IsTrue (is_printable method (T.number value)) }
+    ensures { P.took
+        (spelled_text characters.variant characters.case method (T.number value))
+        (most_bytes method) target.old target.new result }
+{
+    spell_magnitude(
+        target,
+        characters,
+        method,
+        value.is_negative(),
+        value.magnitude(),
+    )
 }
 
 /// The spelling of a number that the method writes.
@@ -84,17 +107,28 @@ pub fn print_by_units<T: Whole>(
     ensures { IfOk result (Writes
         (spelled_text variant case method (T.number value)) (most_bytes method)) }
 {
-    let characters = Characters::new(variant, case);
-    print_magnitude(
-        alloc,
-        characters,
-        method,
-        value.is_negative(),
-        value.magnitude(),
-    )
+    let mut string = NewString { alloc };
+    spell_number(&mut string, Characters::new(variant, case), method, value)
 }
 
-/// The same for any number: what the method does not write is refused before memory is asked for.
+/// The same at the beginning of a room, where it fits; the result is how many bytes it has.
+pub fn put_by_units<T: Whole>(
+    room: &mut [u8],
+    variant: ChineseVariant,
+    case: ChineseCase,
+    method: ChineseCountMethod,
+    value: T,
+) -> usize
+    requires { IsTrue (is_printable method (T.number value)) }
+    ensures { PutsText (spelled_text variant case method (T.number value)) (most_bytes method)
+        room.old room.new result }
+{
+    let mut lent = LentRoom { bytes: room };
+    spell_number(&mut lent, Characters::new(variant, case), method, value)
+}
+
+/// The spelling of any number: what the method does not write is refused before memory is asked
+/// for.
 pub fn print_or_refuse<T: Whole>(
     alloc: Global,
     variant: ChineseVariant,

@@ -1,50 +1,132 @@
 // A magnitude's spelling, written from its lowest digit up.
 //
-// 100_100_000 by `TenThousand` has the groups 0000, 0010 and, in front of them, 1. What is put,
-// from the last character to the first:
+// 100_100_000 by `TenThousand` has the sections 0000, 0010 and, above them, 1. What is put, from
+// the last character to the first:
 //
 //     0000   nothing
 //     0010   萬, its unit, then 十 and 一
 //     1      零, since no digit is written at 10^7, then 億, its unit, and 一
 //
 // So the text is 一億零一十萬.
-ghost use Rattle.std.specs.Prelude.{◌≡◌, ℕ, ◌+◌, ◌*◌, ◌%◌, ◌^◌, ◌<◌, ◌≤◌, List, [], ◌++◌, length};
+ghost use Rattle.std.specs.Prelude.{◌≡◌, ◌+◌, ◌*◌, ◌%◌, ◌^◌, ◌<◌, ◌≤◌, List, [], ◌++◌, length};
+ghost use Rattle.cn_core.specs.declared.method.ChineseCountMethod.TheVariants.{Low};
 ghost use Rattle.cn_core.specs.Mark.{Mark};
 ghost use Rattle.cn_core.specs.Spelling.{spelling};
-ghost use Rattle.cn_spell.specs.Working.Groups.{groups_within, front_limit};
-ghost use Rattle.cn_spell.specs.Working.Units.{positions_within, front};
+ghost use Rattle.cn_spell.specs.Working.Sections.{sections_within, above_limit, digit_marks, section_marks, top_marks};
+ghost use Rattle.cn_spell.specs.Working.Units.{units_behind};
 
-use crate::groups::Groups;
 use crate::pen::Pen;
-use crate::positions::{put_group, put_positions};
+use crate::sections::{Sections, digits_of};
 use crate::units::{unit_at, widths};
 use cn_core::ChineseCountMethod;
 
-// Puts the units before which a group stands that begins at the position. What is written has digits
-// at the positions below `filled` alone, and 零 stands behind the units where the next position below
-// is empty. Where the group below has a digit, the group's own unit is the only one.
+// Puts a digit and its power's unit, where it is not 0, and 零 where a gap is to be shown.
 #[inline(always)]
-fn put_units<P: Pen>(pen: &mut P, method: ChineseCountMethod, position: usize, filled: usize)
-    requires group { position % 4 ≡ 0 }
-    requires position { position ≤ 4 * groups_within method }
-    requires filled { filled ≤ position }
-    requires room { 3 * length (front method position filled) ≤ P.left pen.old }
+fn put_digit<P: Pen>(pen: &mut P, power: usize, digit: u8, is_gap: bool)
+    requires power { power < 16 }
+    requires digit { digit < 10 }
+    requires room { 3 * length (digit_marks power digit is_gap) + 3 ≤ P.left pen.old }
     ensures setting { P.setting pen.new ≡ P.setting pen.old }
-    ensures room { P.left pen.new + 3 * length (front method position filled) ≡ P.left pen.old }
+    ensures room { P.left pen.new + 3 * length (digit_marks power digit is_gap)
+        ≡ P.left pen.old }
     ensures marks { (marks : List Mark) → P.has_put pen.old marks
-        → P.has_put pen.new (front method position filled ++ marks) }
+        → P.has_put pen.new (digit_marks power digit is_gap ++ marks) }
 {
-    if position == 0 {
+    let unit = unit_at(ChineseCountMethod::Low, power);
+    pen.put_unit_if((digit > 0) & (power > 0), unit);
+    pen.put_digit_if((digit > 0) | is_gap, digit);
+}
+
+// Puts a section that something stands in front of.
+#[inline(always)]
+fn put_section<P: Pen>(pen: &mut P, section: u16)
+    requires section { section < 10 ^ 4 }
+    requires room { 3 * length (section_marks section) + 3 ≤ P.left pen.old }
+    ensures setting { P.setting pen.new ≡ P.setting pen.old }
+    ensures room { P.left pen.new + 3 * length (section_marks section) ≡ P.left pen.old }
+    ensures marks { (marks : List Mark) → P.has_put pen.old marks
+        → P.has_put pen.new (section_marks section ++ marks) }
+{
+    let low = section % 100;
+    let high = section / 100;
+    let ones = (low % 10) as u8;
+    let tens = (low / 10) as u8;
+    let hundreds = (high % 10) as u8;
+    let thousands = (high / 10) as u8;
+    put_digit(pen, 0, ones, false);
+    put_digit(pen, 1, tens, (ones > 0) & (section >= 100));
+    put_digit(pen, 2, hundreds, (tens > 0) & (section >= 1000));
+    put_digit(pen, 3, thousands, false);
+}
+
+// Puts the highest digit and its unit, but no 一 before 十.
+#[inline(always)]
+fn put_top<P: Pen>(pen: &mut P, power: usize, digit: u8)
+    requires power { power < 16 }
+    requires digit { digit < 10 }
+    requires room { 3 * length (top_marks power digit) ≤ P.left pen.old }
+    ensures setting { P.setting pen.new ≡ P.setting pen.old }
+    ensures room { P.left pen.new + 3 * length (top_marks power digit) ≡ P.left pen.old }
+    ensures marks { (marks : List Mark) → P.has_put pen.old marks
+        → P.has_put pen.new (top_marks power digit ++ marks) }
+{
+    if power > 0 {
+        let unit = unit_at(ChineseCountMethod::Low, power);
+        pen.put_unit_if(true, unit);
+    }
+    if digit != 1 || power != 1 {
+        pen.put_digit_if(true, digit);
+    }
+}
+
+// Puts the spelling of a number that nothing stands in front of.
+#[inline(always)]
+fn put_above<P: Pen>(pen: &mut P, number: u64)
+    requires number { number < 10 ^ 16 }
+    requires room { 3 * length (spelling Low number) ≤ P.left pen.old }
+    ensures setting { P.setting pen.new ≡ P.setting pen.old }
+    ensures room { P.left pen.new + 3 * length (spelling Low number) ≡ P.left pen.old }
+    ensures marks { (marks : List Mark) → P.has_put pen.old marks
+        → P.has_put pen.new (spelling Low number ++ marks) }
+{
+    let mut left = number;
+    let mut power = 0;
+    let mut below = 0;
+    while left >= 10 {
+        let digit = (left % 10) as u8;
+        put_digit(pen, power, digit, below > 0);
+        below = digit;
+        left /= 10;
+        power += 1;
+    }
+    put_top(pen, power, left as u8);
+}
+
+// Puts the units behind a section that begins at the power. What is written has digits at the
+// powers below `filled` alone, and 零 stands behind the units where the next power below is empty.
+// Where the section below has a digit, the section's own unit is the only one.
+#[inline(always)]
+fn put_units<P: Pen>(pen: &mut P, method: ChineseCountMethod, power: usize, filled: usize)
+    requires section { power % 4 ≡ 0 }
+    requires power { power ≤ 4 * sections_within method }
+    requires filled { filled ≤ power }
+    requires room { 3 * length (units_behind method power filled) ≤ P.left pen.old }
+    ensures setting { P.setting pen.new ≡ P.setting pen.old }
+    ensures room { P.left pen.new + 3 * length (units_behind method power filled) ≡ P.left pen.old }
+    ensures marks { (marks : List Mark) → P.has_put pen.old marks
+        → P.has_put pen.new (units_behind method power filled ++ marks) }
+{
+    if power == 0 {
         return;
     }
-    if filled + 4 > position {
-        pen.put_digit_if(filled < position, 0);
-        pen.put_unit_if(true, unit_at(method, position));
+    if filled + 4 > power {
+        pen.put_digit_if(filled < power, 0);
+        pen.put_unit_if(true, unit_at(method, power));
         return;
     }
     let mut above = filled.max(1);
     for width in widths(method) {
-        let start = position - position % *width;
+        let start = power - power % *width;
         if start >= above {
             if above == filled && filled < start {
                 pen.put_digit_if(true, 0);
@@ -55,41 +137,28 @@ fn put_units<P: Pen>(pen: &mut P, method: ChineseCountMethod, position: usize, f
     }
 }
 
-// How many digits a group has that is not empty.
+/// Puts a magnitude's spelling, from its lowest section up.
 #[inline(always)]
-fn digits_of(group: u16) -> usize
-    requires some { 0 < group }
-    requires group { group < 10 ^ 4 }
-    ensures some { 0 < result }
-    ensures most { result ≤ 4 }
-    ensures below { group < 10 ^ result }
-    ensures reach { 10 ^ result ≤ 10 * group }
-{
-    1 + (group >= 10) as usize + (group >= 100) as usize + (group >= 1000) as usize
-}
-
-/// Puts a magnitude's spelling, from its lowest group up.
-#[inline(always)]
-pub fn put_spelling<P: Pen>(pen: &mut P, method: ChineseCountMethod, groups: &Groups)
-    requires number { groups.now.number < 10 ^ 39 }
-    requires count { groups.now.count ≤ groups_within method }
-    requires front { groups.now.front < front_limit method }
-    requires room { 3 * length (spelling method groups.now.number) ≤ P.left pen.old }
+pub fn put_spelling<P: Pen>(pen: &mut P, method: ChineseCountMethod, sections: &Sections)
+    requires number { sections.now.number < 10 ^ 39 }
+    requires count { sections.now.count ≤ sections_within method }
+    requires above { sections.now.above < above_limit method }
+    requires room { 3 * length (spelling method sections.now.number) ≤ P.left pen.old }
     requires empty { P.has_put pen.old [] }
     ensures setting { P.setting pen.new ≡ P.setting pen.old }
-    ensures room { P.left pen.new + 3 * length (spelling method groups.now.number)
+    ensures room { P.left pen.new + 3 * length (spelling method sections.now.number)
         ≡ P.left pen.old }
-    ensures marks { P.has_put pen.new (spelling method groups.now.number) }
+    ensures marks { P.has_put pen.new (spelling method sections.now.number) }
 {
     let mut filled = 0;
-    for index in 0..groups.count {
-        let group = groups.groups[index];
-        if group > 0 {
+    for index in 0..sections.count {
+        let section = sections.sections[index];
+        if section > 0 {
             put_units(pen, method, 4 * index, filled);
-            put_group(pen, group);
-            filled = 4 * index + digits_of(group);
+            put_section(pen, section);
+            filled = 4 * index + digits_of(section);
         }
     }
-    put_units(pen, method, 4 * groups.count, filled);
-    put_positions(pen, groups.front);
+    put_units(pen, method, 4 * sections.count, filled);
+    put_above(pen, sections.above);
 }

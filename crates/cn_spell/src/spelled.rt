@@ -1,34 +1,87 @@
 // The text of a number by units.
 ghost use Rattle.std.specs.Prelude.{◌≡◌, ◌^◌, ◌≤◌, ◌<◌, pos, IsTrue};
+ghost use Rattle.cn_core.specs.declared.method.ChineseCountMethod.{ChineseCountMethod};
+ghost use Rattle.cn_core.specs.declared.method.ChineseCountMethod.TheVariants as method;
 ghost use Rattle.cn_core.specs.Spelling.{spelling};
 ghost use Rattle.cn_core.specs.Printing.{signed_text, is_printable};
 ghost use Rattle.cn_spell.specs.Prints.{most_bytes};
-ghost use Rattle.cn_spell.specs.Working.Groups.{groups_within, front_limit};
+ghost use Rattle.cn_spell.specs.Working.Sections.{sections_within, above_limit};
 
 use crate::characters::Characters;
-use crate::groups::{Groups, MOST};
-use crate::known_method::KnownMethod;
-use crate::pen::Count;
-use crate::room::Room;
+use crate::pen::{Count, Room};
+use crate::sections::{MOST, Sections};
 use crate::spell::put_spelling;
 use crate::text::Text;
+use cn_core::ChineseCountMethod;
 use std::marker::PhantomData;
+
+/// A method that the compiler knows, so that a printer is compiled for each.
+pub trait KnownMethod {
+    ghost stands_for: { ChineseCountMethod };
+
+    fn method() -> ChineseCountMethod
+        ensures { result ≡ stands_for };
+}
+
+pub struct ByLow;
+
+impl KnownMethod for ByLow {
+    ghost stands_for = { method.Low };
+
+    #[inline(always)]
+    fn method() -> ChineseCountMethod {
+        ChineseCountMethod::Low
+    }
+}
+
+pub struct ByTenThousand;
+
+impl KnownMethod for ByTenThousand {
+    ghost stands_for = { method.TenThousand };
+
+    #[inline(always)]
+    fn method() -> ChineseCountMethod {
+        ChineseCountMethod::TenThousand
+    }
+}
+
+pub struct ByMiddle;
+
+impl KnownMethod for ByMiddle {
+    ghost stands_for = { method.Middle };
+
+    #[inline(always)]
+    fn method() -> ChineseCountMethod {
+        ChineseCountMethod::Middle
+    }
+}
+
+pub struct ByHigh;
+
+impl KnownMethod for ByHigh {
+    ghost stands_for = { method.High };
+
+    #[inline(always)]
+    fn method() -> ChineseCountMethod {
+        ChineseCountMethod::High
+    }
+}
 
 /// A sign, and a magnitude that the method writes.
 #[derive(Drop)]
 pub struct Spelled<'a, M: KnownMethod> {
     characters: Characters,
     negative: bool,
-    groups: Groups<'a>,
+    sections: Sections<'a>,
     method: PhantomData<M>,
-    ghost small: { groups.number < 2 ^ 128 },
-    ghost printable: { IsTrue (is_printable M.stands_for (pos groups.number)) },
-    ghost count: { groups.count ≤ groups_within M.stands_for },
-    ghost front: { groups.front < front_limit M.stands_for },
+    ghost small: { sections.number < 2 ^ 128 },
+    ghost printable: { IsTrue (is_printable M.stands_for (pos sections.number)) },
+    ghost count: { sections.count ≤ sections_within M.stands_for },
+    ghost above: { sections.above < above_limit M.stands_for },
 }
 
 impl<'a, M: KnownMethod> Spelled<'a, M> {
-    /// Takes the magnitude's groups into an array.
+    /// Takes the magnitude's sections into an array.
     #[inline(always)]
     pub fn of(
         taken: &'a mut [u16; MOST],
@@ -45,7 +98,7 @@ impl<'a, M: KnownMethod> Spelled<'a, M> {
         Spelled {
             characters,
             negative,
-            groups: Groups::of(taken, M::method(), magnitude),
+            sections: Sections::of(taken, M::method(), magnitude),
             method: PhantomData,
         }
     }
@@ -54,23 +107,23 @@ impl<'a, M: KnownMethod> Spelled<'a, M> {
 impl<M: KnownMethod> Text for Spelled<'_, M> {
     ghost says = { λ spelled.
         signed_text spelled.characters.variant spelled.characters.case spelled.negative
-        (spelling M.stands_for spelled.groups.number) };
+        (spelling M.stands_for spelled.sections.number) };
 
     ghost most = { λ spelled. most_bytes M.stands_for };
 
     #[inline(always)]
     fn count(&self) -> usize {
-        let groups = self.groups;
+        let sections = self.sections;
         let mut counted = Count { characters: 0 };
-        put_spelling(&mut counted, M::method(), &groups);
+        put_spelling(&mut counted, M::method(), &sections);
         counted.characters + self.negative as usize
     }
 
     #[inline(always)]
     fn fill(&self, bytes: &mut [u8]) {
-        let groups = self.groups;
+        let sections = self.sections;
         let mut room = Room::new(bytes, &self.characters);
-        put_spelling(&mut room, M::method(), &groups);
+        put_spelling(&mut room, M::method(), &sections);
         room.put_sign(self.negative);
     }
 }

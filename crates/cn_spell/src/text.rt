@@ -1,7 +1,7 @@
 // A text that says how many characters it has, and fills a room of its size.
 ghost use Rattle.std.specs.Prelude.{◌≡◌, ℕ, ◌*◌, ◌≤◌, List, length, encode_utf8_all, vec_len, vec_capacity, IfOk};
 ghost use Rattle.std.specs.Str.{IsUtf8};
-ghost use Rattle.cn_spell.specs.Puts.{PutsInFront};
+ghost use Rattle.cn_spell.specs.Puts.{PutsText};
 ghost use Rattle.cn_spell.specs.Writes.{Writes};
 
 use std::alloc::{AllocError, Global};
@@ -41,26 +41,65 @@ fn zeros(alloc: Global, len: usize) -> Result<Vec<u8>, AllocError>
     Ok(bytes)
 }
 
-/// The text in one request for memory.
-#[inline(always)]
-pub fn new_string<X: Text>(alloc: Global, text: &X) -> Result<String, AllocError>
-    ensures { IfOk result (Writes (X.says text.now) (X.most text.now)) }
-{
-    let mut bytes = zeros(alloc, 3 * text.count())?;
-    text.fill(&mut bytes);
-    Ok(unsafe { String::from_utf8_unchecked(bytes) })
+/// What takes a text: memory for a new one, or a room that is lent.
+pub trait Target {
+    type Answer;
+
+    // It took these characters, of at most so many bytes: what it was, what it is, and its answer.
+    ghost took: { List ℕ → ℕ → Self → Self → Self.Answer → Type 0 };
+
+    fn take<X: Text>(&mut self, text: &X) -> Self::Answer
+        ensures { took (X.says text.now) (X.most text.now) self.old self.new result };
 }
 
-/// The text at the front of a room, where it fits. The result is how many bytes it has, in either
-/// case.
+/// A new string, in one request for memory.
+#[derive(Drop)]
+pub struct NewString {
+    pub alloc: Global,
+}
+
+impl Target for NewString {
+    type Answer = Result<String, AllocError>;
+
+    ghost took = { λ characters most old new result. IfOk result (Writes characters most) };
+
+    #[inline(always)]
+    fn take<X: Text>(&mut self, text: &X) -> Result<String, AllocError> {
+        let mut bytes = zeros(self.alloc, 3 * text.count())?;
+        text.fill(&mut bytes);
+        Ok(unsafe { String::from_utf8_unchecked(bytes) })
+    }
+}
+
+// The text at the beginning of a room, where it fits. The result is how many bytes it has, in
+// either case.
 #[inline(always)]
-pub fn put_in_front<X: Text>(room: &mut [u8], text: &X) -> usize
-    ensures { PutsInFront (X.says text.now) (X.most text.now) room.old room.new result }
+fn put_text<X: Text>(room: &mut [u8], text: &X) -> usize
+    ensures { PutsText (X.says text.now) (X.most text.now) room.old room.new result }
 {
     let len = 3 * text.count();
     if len <= room.len() {
-        let (front, _) = room.split_at_mut(len);
-        text.fill(front);
+        let (taken, _) = room.split_at_mut(len);
+        text.fill(taken);
     }
     len
+}
+
+/// A room that is lent: the text is put at its beginning, where it fits, and its bytes are counted.
+#[derive(Drop)]
+pub struct LentRoom<'a> {
+    pub bytes: &'a mut [u8],
+}
+
+impl Target for LentRoom<'_> {
+    type Answer = usize;
+
+    ghost took = { λ characters most old new told.
+        (new.bytes.ghost_name ≡ old.bytes.ghost_name)
+        × PutsText characters most old.bytes.now new.bytes.now told };
+
+    #[inline(always)]
+    fn take<X: Text>(&mut self, text: &X) -> usize {
+        put_text(self.bytes, text)
+    }
 }

@@ -1,8 +1,7 @@
-// The units of a method, by the decimal positions at which their groups begin.
-ghost use Rattle.std.specs.Prelude.{◌≡◌, ◌<◌, ◌≤◌, ◌*◌, ◌+◌, length};
+// The units of a method, by the powers of ten at which their groups begin.
+ghost use Rattle.std.specs.Prelude.{◌≡◌, ◌<◌};
 ghost use Rattle.cn_core.specs.Characters.{rank};
-ghost use Rattle.cn_core.specs.Mark.{Mark};
-ghost use Rattle.cn_spell.specs.Working.Units.{widths_of, positions_within, rank_at, front};
+ghost use Rattle.cn_spell.specs.Working.Units.{widths_of, powers_within, rank_at};
 
 use cn_core::Unit::{
     Bai, Gai, Ge, Gou, Ji, Jian, Jing, Qian, Rang, Shi, Wan, Yi, Zai, Zhao, Zheng, Zi,
@@ -31,17 +30,17 @@ static HIGH: [Unit; 39] = [
     Wan, Shi, Bai,
 ];
 
-/// The unit whose group begins at a position: 萬 at the fourth, by all methods but `Low`.
+/// The unit whose group begins at a power: 萬 at the fourth, by all methods but `Low`.
 #[inline(always)]
-pub fn unit_at(method: ChineseCountMethod, position: usize) -> Unit
-    requires { position < positions_within method }
-    ensures { rank result ≡ rank_at method position }
+pub fn unit_at(method: ChineseCountMethod, power: usize) -> Unit
+    requires { power < powers_within method }
+    ensures { rank result ≡ rank_at method power }
 {
     match method {
-        ChineseCountMethod::Low => LOW[position],
-        ChineseCountMethod::TenThousand => TEN_THOUSAND[position],
-        ChineseCountMethod::Middle => MIDDLE[position],
-        ChineseCountMethod::High => HIGH[position],
+        ChineseCountMethod::Low => LOW[power],
+        ChineseCountMethod::TenThousand => TEN_THOUSAND[power],
+        ChineseCountMethod::Middle => MIDDLE[power],
+        ChineseCountMethod::High => HIGH[power],
     }
 }
 
@@ -53,7 +52,7 @@ static MIDDLE_WIDTHS: [usize; 3] = [8, 4, 1];
 
 static HIGH_WIDTHS: [usize; 5] = [32, 16, 8, 4, 1];
 
-/// How many positions a unit's group has, the widest group first.
+/// How many powers a unit's group spans, the widest group first.
 #[inline(always)]
 pub fn widths(method: ChineseCountMethod) -> &'static [usize]
     ensures { result.now ≡ widths_of method }

@@ -6,32 +6,47 @@ use Rattle.cn_lines.specs.Answer.{AreReplies}
 use Rattle.cn_lines.proofs.OneAnswer.{some_replies}
 use Rattle.numeral.specs.Leaves.{Wrote, WroteBeginning}
 
-pub AreReplies-append : (xs ys : List (List ℕ)) (a b : List ℕ) → AreReplies xs a → AreReplies ys b → AreReplies (xs ++ ys) (a ++ b)
+pub AreReplies-append : (xs ys : List (List ℕ)) (a b : List ℕ) → AreReplies xs a → AreReplies ys b
+    → AreReplies (xs ++ ys) (a ++ b)
 AreReplies-append [] ys a b p q = subst (AreReplies ys) (ap (λ l. l ++ b) (sym p)) q
-AreReplies-append (x ∷ xs) ys a b p q =
-    (p.0, p.1 ++ b, p.2, AreReplies-append xs ys p.1 b p.3 q, ap (λ l. l ++ b) p.4 ∙ append_assoc p.0 (10 ∷ p.1) b)
+AreReplies-append (x ∷ xs) ys a b p q = (
+  p.0,
+  p.1 ++ b,
+  p.2,
+  AreReplies-append xs ys p.1 b p.3 q,
+  ap (λ l. l ++ b) p.4
+      ∙ append_assoc p.0 (10 ∷ p.1) b,
+)
 
 pub Wrote-none : (now : SinkState) → Wrote now now []
 Wrote-none now = ([], refl, Appends-nil now.contents)
 
-pub Wrote-append : (old now new : SinkState) (xs ys : List (List ℕ)) → Wrote old now xs → Wrote now new ys → Wrote old new (xs ++ ys)
-Wrote-append old now new xs ys p q =
-    (p.0 ++ q.0, AreReplies-append xs ys p.0 q.0 p.1 q.1, Appends-trans old.contents now.contents new.contents p.0 q.0 p.2 q.2)
+pub Wrote-append : (old now new : SinkState) (xs ys : List (List ℕ)) → Wrote old now xs
+    → Wrote now new ys → Wrote old new (xs ++ ys)
+Wrote-append old now new xs ys p q = (
+  p.0 ++ q.0,
+  AreReplies-append xs ys p.0 q.0 p.1 q.1,
+  Appends-trans old.contents now.contents new.contents p.0 q.0 p.2 q.2,
+)
 
-pub WroteBeginning-after : (old now new : SinkState) (xs ys : List (List ℕ)) → Wrote old now xs → WroteBeginning now new ys
+pub WroteBeginning-after : (old now new : SinkState) (xs ys : List (List ℕ)) → Wrote old now xs
+    → WroteBeginning now new ys
     → WroteBeginning old new (xs ++ ys)
 WroteBeginning-after old now new xs ys p q = (
   p.0 ++ q.0,
   q.1,
-  subst (AreReplies (xs ++ ys)) (sym (append_assoc p.0 q.0 q.1)) (AreReplies-append xs ys p.0 (q.0 ++ q.1) p.1 q.2),
+  subst (AreReplies (xs ++ ys)) (sym (append_assoc p.0 q.0 q.1))
+      (AreReplies-append xs ys p.0 (q.0 ++ q.1) p.1 q.2),
   Appends-trans old.contents now.contents new.contents p.0 q.0 p.2 q.3,
 )
 
-pub WroteBeginning-before : (old new : SinkState) (xs ys : List (List ℕ)) → WroteBeginning old new xs → WroteBeginning old new (xs ++ ys)
+pub WroteBeginning-before : (old new : SinkState) (xs ys : List (List ℕ))
+    → WroteBeginning old new xs → WroteBeginning old new (xs ++ ys)
 WroteBeginning-before old new xs ys p =
     let more = some_replies ys in (
       p.0,
       p.1 ++ more.0,
-      subst (AreReplies (xs ++ ys)) (append_assoc p.0 p.1 more.0) (AreReplies-append xs ys (p.0 ++ p.1) more.0 p.2 more.1),
+      subst (AreReplies (xs ++ ys)) (append_assoc p.0 p.1 more.0)
+          (AreReplies-append xs ys (p.0 ++ p.1) more.0 p.2 more.1),
       p.3,
     )

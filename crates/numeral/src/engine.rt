@@ -4,7 +4,7 @@ ghost use Rattle.std.specs.Io.KnownBytes.{Keeps, ReadConsumes};
 ghost use Rattle.cn_lines.specs.Lines.{HasNoFeed, last_line, lines};
 ghost use Rattle.cn_lines.specs.Answer.{Answers};
 ghost use Rattle.numeral.specs.Leaves.{Wrote, Runs, Stops};
-ghost use Rattle.cn_devices.specs.Devices.{Counts, IsHandedOn};
+ghost use Rattle.cn_devices.specs.Devices.{CountsRead, IsHandedOn};
 ghost use Rattle.numeral.specs.Steps.{Fails, Puts, Replies, AnswersEnded};
 
 use crate::device::{Sink, Source};
@@ -160,7 +160,7 @@ fn flush_and_read<R: Source, W: Sink>(
     ensures kept { Keeps (W.state writer.old).contents (W.state writer.new).contents }
     ensures out { IsHandedOn (W.state writer.new) }
     ensures ends { IfOk result (λ n. 0 < n → R.reads_left reader.new < R.reads_left reader.old) }
-    ensures counts { Counts (R.state reader.old).empty (R.state reader.new).empty result }
+    ensures counts { CountsRead (R.state reader.old).empty (R.state reader.new).empty result }
 {
     if writer.flush().is_err() && writer.has_failed() {
         return Err(RunError::Write);

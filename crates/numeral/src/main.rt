@@ -20,13 +20,11 @@
 pub mod engine;
 pub mod laws;
 mod program;
-pub mod program_status;
 #[cfg(test)]
 mod tests;
 
 use crate::fault::RunError;
-use crate::program::answer_all;
-use crate::program_status::status;
+use crate::program::{answer_all, status};
 use crate::std_device::Device;
 use cn_devices::buffered_sink::BufferedSink;
 pub use cn_devices::{device, fault, memory_sink, memory_source, std_device};

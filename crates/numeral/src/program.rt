@@ -3,12 +3,25 @@ ghost use Rattle.std.specs.Prelude.{◌≡◌, ◌≤◌, ℕ, List, true, false
 ghost use Rattle.std.specs.Io.KnownBytes.{Consumes};
 ghost use Rattle.cn_devices.specs.Devices.{IsHandedOn};
 ghost use Rattle.numeral.specs.Leaves.{Wrote, WroteBeginning, WroteFirst, EndedOnce, EndedAtMostOnce, any_failed};
+ghost use Rattle.numeral.specs.Status.{status_of};
 ghost use Rattle.cn_lines.specs.Lines.{lines};
 
 use crate::device::{Sink, Source};
 use crate::engine::run;
-use crate::program_status::status;
+use crate::fault::RunError;
 use std::alloc::Global;
+
+/// The status with which the program ends: 2 where memory ran out, 1 where a read or a write failed
+/// or the output could not be flushed at the end, else 0.
+pub fn status(outcome: &Result<(), RunError>, flushed: bool) -> u8
+    ensures { result ≡ status_of outcome.now flushed }
+{
+    match outcome {
+        Err(RunError::Memory) => 2,
+        Ok(_) if flushed => 0,
+        _ => 1,
+    }
+}
 
 /// Answers the lines of the reader on the writer, hands all of it on, and gives the status of the
 /// program.

@@ -11,89 +11,105 @@ use crate::engine::run;
 use crate::fault::RunError;
 use crate::memory_sink::MemorySink;
 use crate::memory_source::MemorySource;
+use Answer::{BadLine, Done, Refused};
+use chinese_number::ChineseToNumberError;
+use chinese_number::ChineseToNumberError::{
+    ChineseNumberEmpty, ChineseNumberIncorrect, Overflow, Underflow,
+};
 use std::alloc::{AllocError, Global};
 use std::process::Abort;
 
+// What is answered to a line: a number or its text, the text of an error, or that it asks nothing.
+#[derive(Clone, Copy)]
+enum Answer {
+    Done(&'static str),
+    Refused(ChineseToNumberError),
+    BadLine,
+}
+
 // Worked lines, each with its answer.
-static ROWS: [(&str, &str); 51] = [
-    ("print u128 naive traditional lower 123", "ok 一二三"),
-    ("read u128 naive 一二三", "ok 123"),
-    ("print u128 naive simple upper 9876543210", "ok 玖捌柒陆伍肆叁贰壹零"),
-    ("print u128 naive traditional upper -0", "ok 零"),
-    ("print u128 naive traditional lower -1", "bad line"),
-    ("read u128 naive 零〇1兩", "ok 12"),
+static ROWS: [(&str, Answer); 51] = [
+    ("print u128 naive traditional lower 123", Done("一二三")),
+    ("read u128 naive 一二三", Done("123")),
+    (
+        "print u128 naive simple upper 9876543210",
+        Done("玖捌柒陆伍肆叁贰壹零"),
+    ),
+    ("print u128 naive traditional upper -0", Done("零")),
+    ("print u128 naive traditional lower -1", BadLine),
+    ("read u128 naive 零〇1兩", Done("12")),
     (
         "read u128 naive 一十",
-        "err the chinese number is incorrect (position: 1)",
+        Refused(ChineseNumberIncorrect { char_index: 1 }),
     ),
-    ("read u128 naive ", "err a chinese number cannot be empty"),
+    ("read u128 naive ", Refused(ChineseNumberEmpty)),
     (
         "read u128 naive 340282366920938463463374607431768211455",
-        "ok 340282366920938463463374607431768211455",
+        Done("340282366920938463463374607431768211455"),
     ),
     (
         "read u128 naive 340282366920938463463374607431768211456",
-        "err number is too large",
+        Refused(Overflow),
     ),
     (
         "print u128 naive traditional lower 340282366920938463463374607431768211456",
-        "bad line",
+        BadLine,
     ),
-    ("read u8 naive 一", "ok 1"),
-    ("read u128 naive 零零一二", "ok 12"),
-    ("read u8 naive 二五六", "err number is too large"),
+    ("read u8 naive 一", Done("1")),
+    ("read u128 naive 零零一二", Done("12")),
+    ("read u8 naive 二五六", Refused(Overflow)),
     (
         "read u8 naive 九九九x",
-        "err the chinese number is incorrect (position: 3)",
+        Refused(ChineseNumberIncorrect { char_index: 3 }),
     ),
     (
         "read i128 naive 負170141183460469231731687303715884105728",
-        "ok -170141183460469231731687303715884105728",
+        Done("-170141183460469231731687303715884105728"),
     ),
-    ("read i16 naive 負三二七六八", "ok -32768"),
-    ("read i16 naive 負三二七六九", "err number is too small"),
-    ("print i8 naive simple upper -5", "ok 负伍"),
+    ("read i16 naive 負三二七六八", Done("-32768")),
+    ("read i16 naive 負三二七六九", Refused(Underflow)),
+    ("print i8 naive simple upper -5", Done("负伍")),
     (
         "read i8 naive 負999999999999999999999999999999999999999x",
-        "err number is too small",
+        Refused(Underflow),
     ),
     (
         "read i8 naive 負九九九x",
-        "err the chinese number is incorrect (position: 4)",
+        Refused(ChineseNumberIncorrect { char_index: 4 }),
     ),
     (
         "read u128 naive 零 一 十",
-        "err the chinese number is incorrect (position: 4)",
+        Refused(ChineseNumberIncorrect { char_index: 4 }),
     ),
-    ("read u8 naive  一", "ok 1"),
-    ("read u8 naive 一\r", "ok 1"),
-    ("print u8 naive traditional lower 1\r", "bad line"),
-    ("print u8 naive traditional lower 007", "ok 七"),
-    ("print u8 naive traditional lower 256", "bad line"),
-    ("print  u8 naive traditional lower 1", "bad line"),
-    ("print i8 naive traditional lower -129", "bad line"),
-    ("print i8 naive traditional lower -128", "ok 負一二八"),
-    ("print i8 naive traditional lower -", "bad line"),
-    ("print i8 naive traditional lower +1", "bad line"),
-    ("print i8 naive traditional lower ", "bad line"),
-    ("print i8 naive traditional lower 1 ", "bad line"),
-    ("print i8 naive traditional lower --1", "bad line"),
-    ("print i8 naive traditional lower 1a", "bad line"),
-    ("print i8 naive traditional lower", "bad line"),
-    ("print i8 naive traditional middle 1", "bad line"),
-    ("print i8 naive classical lower 1", "bad line"),
-    ("print i8 plain traditional lower 1", "bad line"),
-    ("print i9 naive traditional lower 1", "bad line"),
-    ("print U8 naive traditional lower 1", "bad line"),
-    ("Print u8 naive traditional lower 1", "bad line"),
-    ("print", "bad line"),
-    ("read", "bad line"),
-    ("read u8 naive", "bad line"),
-    ("read U8 naive 一", "bad line"),
-    ("read u8\r naive 一", "bad line"),
-    ("read  u8 naive 一", "bad line"),
-    ("", "bad line"),
-    ("hello", "bad line"),
+    ("read u8 naive  一", Done("1")),
+    ("read u8 naive 一\r", Done("1")),
+    ("print u8 naive traditional lower 1\r", BadLine),
+    ("print u8 naive traditional lower 007", Done("七")),
+    ("print u8 naive traditional lower 256", BadLine),
+    ("print  u8 naive traditional lower 1", BadLine),
+    ("print i8 naive traditional lower -129", BadLine),
+    ("print i8 naive traditional lower -128", Done("負一二八")),
+    ("print i8 naive traditional lower -", BadLine),
+    ("print i8 naive traditional lower +1", BadLine),
+    ("print i8 naive traditional lower ", BadLine),
+    ("print i8 naive traditional lower 1 ", BadLine),
+    ("print i8 naive traditional lower --1", BadLine),
+    ("print i8 naive traditional lower 1a", BadLine),
+    ("print i8 naive traditional lower", BadLine),
+    ("print i8 naive traditional middle 1", BadLine),
+    ("print i8 naive classical lower 1", BadLine),
+    ("print i8 plain traditional lower 1", BadLine),
+    ("print i9 naive traditional lower 1", BadLine),
+    ("print U8 naive traditional lower 1", BadLine),
+    ("Print u8 naive traditional lower 1", BadLine),
+    ("print", BadLine),
+    ("read", BadLine),
+    ("read u8 naive", BadLine),
+    ("read U8 naive 一", BadLine),
+    ("read u8\r naive 一", BadLine),
+    ("read  u8 naive 一", BadLine),
+    ("", BadLine),
+    ("hello", BadLine),
 ];
 
 fn push_line(text: &mut String, line: &str) -> Result<(), AllocError> {
@@ -101,17 +117,25 @@ fn push_line(text: &mut String, line: &str) -> Result<(), AllocError> {
     text.push('\n')
 }
 
+fn push_answer(text: &mut String, answer: Answer) -> Result<(), AllocError> {
+    match answer {
+        Done(answer) => writeln!(text, "ok {answer}"),
+        Refused(error) => writeln!(text, "err {error}"),
+        BadLine => push_line(text, "bad line"),
+    }
+}
+
 // The first of these lines, each with its line feed, and their answers.
 fn first_rows(
     alloc: Global,
-    rows: &[(&str, &str)],
+    rows: &[(&str, Answer)],
     count: usize,
 ) -> Result<(String, String), AllocError> {
     let mut input = String::new(alloc);
     let mut output = String::new(alloc);
     for (line, answer) in rows.iter().take(count) {
         push_line(&mut input, line)?;
-        push_line(&mut output, answer)?;
+        push_answer(&mut output, *answer)?;
     }
     Ok((input, output))
 }
@@ -159,7 +183,7 @@ fn ends_well(rt: &(impl Abort + AllocGlobal), input: &[u8], most: usize, output:
 // call.
 fn answers_rows(
     rt: &(impl Abort + AllocGlobal),
-    rows: &[(&str, &str)],
+    rows: &[(&str, Answer)],
     sizes: &[usize],
 ) -> Result<(), AllocError> {
     let (input, output) = first_rows(rt.alloc(), rows, rows.len())?;

@@ -1,10 +1,11 @@
 -- The open units as the walk keeps them, each with its scale, in an array whose last entry is the
 -- top.
-use Rattle.std.specs.Prelude.{◌≡◌, ℕ, zero, suc, ◌+◌, ◌*◌, ◌^◌, ◌<◌, SomeIff, Bool, nat_lt, List, [], ◌∷◌, Option, Some, None, slice_index_or, if◌then◌else◌}
+use Rattle.std.specs.Prelude.{◌≡◌, ℕ, ◌+◌, ◌*◌, ◌^◌, ◌<◌, SomeIff, Bool, nat_lt, List, [], ◌∷◌, Option, Some, None, if◌then◌else◌}
 use Rattle.std.specs.List.{list_all}
 use Rattle.cn_core.specs.declared.unit.Unit.TheVariants.{Ge}
 use Rattle.cn_core.specs.Characters.{rank}
 use Rattle.cn_judge.specs.declared.open_units.OpenUnit.{OpenUnit}
+use Rattle.cn_judge.specs.Entries.{stacked}
 
 -- an open unit: its rank, its scale, and the sum that it was opened over; the top stands first
 abbrev pub StackEntry : Type 0
@@ -45,8 +46,7 @@ opened_at entry = (rank entry.unit, entry.size, entry.below)
 
 -- the first entries, the last of them first
 abbrev pub stack_of : List OpenUnit → ℕ → List StackEntry
-stack_of entries zero = []
-stack_of entries (suc len) = opened_at (slice_index_or entries len no_unit) ∷ stack_of entries len
+stack_of entries len = stacked opened_at no_unit entries len
 
 -- the top closes: the sum is multiplied and joins the one below, if that fits
 abbrev pub ClosesTop : ℕ → List StackEntry → List StackEntry → Option ℕ → Type 0

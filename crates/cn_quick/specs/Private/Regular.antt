@@ -1,6 +1,6 @@
 -- Where a walk over a regular numeral stands: the units from 萬 up that are open, the sum so far,
 -- and the section since the last of these units.
-use Rattle.std.specs.Prelude.{◌≡◌, ℕ, zero, suc, ◌+◌, ◌*◌, ◌^◌, ◌<◌, Bool, true, false, ◌&&◌, ◌==◌, nat_lt, List, [], ◌∷◌, slice_index_or, Option, Some, None, if◌then◌else◌}
+use Rattle.std.specs.Prelude.{◌≡◌, ℕ, ◌+◌, ◌*◌, ◌^◌, ◌<◌, Bool, true, false, ◌&&◌, ◌==◌, nat_lt, List, [], ◌∷◌, Option, Some, None, if◌then◌else◌}
 use Rattle.std.specs.List.{list_all}
 use Rattle.std.specs.Option.{option_map_or}
 use Rattle.cn_core.specs.declared.method.ChineseCountMethod.{ChineseCountMethod}
@@ -13,7 +13,8 @@ use Rattle.cn_core.specs.Place.{is_tail, some_unfit}
 use Rattle.cn_core.specs.Scale.{exponent}
 use Rattle.cn_core.specs.Value.{value, records_from, record_units}
 use Rattle.cn_quick.specs.declared.open_exponents.OpenExponent.{OpenExponent}
-use Rattle.cn_quick.specs.declared.quick.QuickState.{QuickState}
+use Rattle.cn_quick.specs.declared.QuickState.{QuickState}
+use Rattle.cn_judge.specs.Entries.{stacked}
 use Rattle.cn_judge.specs.Private.Walk.{HasNoTail}
 
 -- an open unit: its rank, and the exponent of the power of ten that it and the units below it make;
@@ -63,9 +64,7 @@ entry_at entry = (rank entry.unit, entry.exponent)
 
 -- the first entries, the last of them first
 abbrev pub entries_of : List OpenExponent → ℕ → List OpenEntry
-entries_of entries zero = []
-entries_of entries (suc len) =
-    entry_at (slice_index_or entries len no_entry) ∷ entries_of entries len
+entries_of entries len = stacked entry_at no_entry entries len
 
 -- the rank of the least unit that closes a section: 萬, but none by Low, where each unit is ten of
 -- the one before

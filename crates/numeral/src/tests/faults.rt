@@ -1,7 +1,7 @@
 // What a run leaves at a fault.
 use super::{Calls, ROWS, first_rows, leaves};
 use crate::fault::RunError;
-use crate::program_status::status;
+use crate::program::status;
 use std::alloc::AllocError;
 use std::process::Abort;
 

@@ -1,41 +1,43 @@
 // Long lines and long numbers. A contract allows out of memory at any time, so it alone rules out
 // no body that gives up at some length.
-use super::{answers_rows, ends_well};
+use super::Answer::{Done, Refused};
+use super::{Answer, answers_rows, ends_well, push_answer};
+use chinese_number::ChineseToNumberError::ChineseNumberIncorrect;
 use std::alloc::AllocError;
 
 // The greatest `u128`, which has 39 digits.
-static FULL: [(&str, &str); 8] = [
+static FULL: [(&str, Answer); 8] = [
     (
         "print u128 naive traditional lower 340282366920938463463374607431768211455",
-        "ok 三四零二八二三六六九二零九三八四六三四六三三七四六零七四三一七六八二一一四五五",
+        Done("三四零二八二三六六九二零九三八四六三四六三三七四六零七四三一七六八二一一四五五"),
     ),
     (
         "read u128 naive 三四零二八二三六六九二零九三八四六三四六三三七四六零七四三一七六八二一一四五五",
-        "ok 340282366920938463463374607431768211455",
+        Done("340282366920938463463374607431768211455"),
     ),
     (
         "print u128 ten_thousand traditional lower 340282366920938463463374607431768211455",
-        "ok 三百四十澗二千八百二十三溝六千六百九十二穰零九百三十八秭四千六百三十四垓六千三百三十七京四千六百零七兆四千三百一十七億六千八百二十一萬一千四百五十五",
+        Done("三百四十澗二千八百二十三溝六千六百九十二穰零九百三十八秭四千六百三十四垓六千三百三十七京四千六百零七兆四千三百一十七億六千八百二十一萬一千四百五十五"),
     ),
     (
         "read u128 ten_thousand 三百四十澗二千八百二十三溝六千六百九十二穰零九百三十八秭四千六百三十四垓六千三百三十七京四千六百零七兆四千三百一十七億六千八百二十一萬一千四百五十五",
-        "ok 340282366920938463463374607431768211455",
+        Done("340282366920938463463374607431768211455"),
     ),
     (
         "print u128 middle traditional lower 340282366920938463463374607431768211455",
-        "ok 三百四十萬二千八百二十三垓六千六百九十二萬零九百三十八京四千六百三十四萬六千三百三十七兆四千六百零七萬四千三百一十七億六千八百二十一萬一千四百五十五",
+        Done("三百四十萬二千八百二十三垓六千六百九十二萬零九百三十八京四千六百三十四萬六千三百三十七兆四千六百零七萬四千三百一十七億六千八百二十一萬一千四百五十五"),
     ),
     (
         "read u128 middle 三百四十萬二千八百二十三垓六千六百九十二萬零九百三十八京四千六百三十四萬六千三百三十七兆四千六百零七萬四千三百一十七億六千八百二十一萬一千四百五十五",
-        "ok 340282366920938463463374607431768211455",
+        Done("340282366920938463463374607431768211455"),
     ),
     (
         "print u128 high traditional lower 340282366920938463463374607431768211455",
-        "ok 三百四十萬二千八百二十三京六千六百九十二萬零九百三十八億四千六百三十四萬六千三百三十七兆四千六百零七萬四千三百一十七億六千八百二十一萬一千四百五十五",
+        Done("三百四十萬二千八百二十三京六千六百九十二萬零九百三十八億四千六百三十四萬六千三百三十七兆四千六百零七萬四千三百一十七億六千八百二十一萬一千四百五十五"),
     ),
     (
         "read u128 high 三百四十萬二千八百二十三京六千六百九十二萬零九百三十八億四千六百三十四萬六千三百三十七兆四千六百零七萬四千三百一十七億六千八百二十一萬一千四百五十五",
-        "ok 340282366920938463463374607431768211455",
+        Done("340282366920938463463374607431768211455"),
     ),
 ];
 
@@ -45,23 +47,23 @@ fn answers_full_length_numbers(rt: HostRuntime) -> Result<(), AllocError> {
 }
 
 // A line's start, what stands in it 10,000 times, its end, and the answer.
-static LONG: [(&str, &str, &str, &str); 6] = [
-    ("read u128 naive ", "零", "五", "ok 5\n"),
+static LONG: [(&str, &str, &str, Answer); 6] = [
+    ("read u128 naive ", "零", "五", Done("5")),
     (
         "read u128 naive ",
         "零",
         "x",
-        "err the chinese number is incorrect (position: 10000)\n",
+        Refused(ChineseNumberIncorrect { char_index: 10000 }),
     ),
-    ("read u128 naive ", " ", "五", "ok 5\n"),
-    ("read u128 ten_thousand 一百", "零", "五", "ok 105\n"),
+    ("read u128 naive ", " ", "五", Done("5")),
+    ("read u128 ten_thousand 一百", "零", "五", Done("105")),
     (
         "read u128 ten_thousand ",
         " ",
         "二十十",
-        "err the chinese number is incorrect (position: 10001)\n",
+        Refused(ChineseNumberIncorrect { char_index: 10001 }),
     ),
-    ("print u128 low traditional lower ", "0", "7", "ok 七\n"),
+    ("print u128 low traditional lower ", "0", "7", Done("七")),
 ];
 
 #[test]
@@ -69,7 +71,9 @@ fn answers_long_lines(rt: HostRuntime) -> Result<(), AllocError> {
     for (start, repeated, end, answer) in &LONG {
         let middle = repeated.repeat(rt.alloc(), 10_000)?;
         let line = format!(in rt.alloc(); "{start}{middle}{end}")?;
-        ends_well(&rt, line.as_bytes(), 4096, answer.as_bytes());
+        let mut output = String::new(rt.alloc());
+        push_answer(&mut output, *answer)?;
+        ends_well(&rt, line.as_bytes(), 4096, output.as_bytes());
     }
     Ok(())
 }

@@ -13,12 +13,14 @@ use Rattle.cn_core.proofs.Characters.{length-printed}
 use Rattle.cn_core.proofs.characters_written.character_at.Goals as goal
 
 nth-printed : (variant : ChineseVariant) (case : ChineseCase) (n : ℕ) (chars after : _) (found : Option ℕ)
-    → ((passed : List ℕ) × YieldsThen spells chars passed found after × MatchOption found (length passed ≤ n) (λ _. length passed ≡ n))
+    → ((passed : List ℕ) × YieldsThen spells chars passed found after
+    × MatchOption found (length passed ≤ n) (λ _. length passed ≡ n))
     → encode_utf8_all (printed_characters variant case) ≡ chars.rest.now → n < 27 → found ≡ Some (slice_index (printed_characters variant case) n)
 nth-printed variant case n chars after found ran same h =
     let all = printed_characters variant case in
     sym (option_map_id found)
-    ∙ nth_from_yields_List {steps = spells} {s = chars} found after n ran (record { runs = Chars-gives all chars same })
+    ∙ nth_from_yields_List {steps = spells} {s = chars} found after n ran
+    (record { runs = Chars-gives all chars same })
     ∙ slice_get-get_or all n 0 (omega (arith, length-printed variant case))
 
 pub unwrap-requires : goal.unwrap-requires

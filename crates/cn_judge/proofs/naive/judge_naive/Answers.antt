@@ -6,13 +6,16 @@ use Rattle.cn_judge.proofs.naive.judge_naive.Goals as goal
 pub returns-in_default-multiply_add : goal.returns-in_default-multiply_add
 returns-in_default-multiply_add c =
     let run = rw c.in-Digits.is at c.in-Some.ensures.parts in
-    let great : 2 ^ 128 ≤ c.reading.number * c.in-Digits.run'.weight + c.in-Digits.run'.value = omega (arith, c.in_default-multiply_add.ensures) in
-    sym (IsReading-run-great _ _ _ _ _ _ _ _ _ _ c.reading.invariant.reading run.1 c.reading.invariant.fits great)
+    let great : 2 ^ 128 ≤ c.reading.number * c.in-Digits.run'.weight + c.in-Digits.run'.value =
+    omega (arith, c.in_default-multiply_add.ensures) in
+    sym (IsReading-run-great _ _ _ _ _ _ _ _ _ _ c.reading.invariant.reading run.1
+    c.reading.invariant.fits great)
 
 pub returns-in-Wrong : goal.returns-in-Wrong
 returns-in-Wrong c =
     let piece = rw c.in-Wrong.is at c.in-Some.ensures.parts in
-    sym (IsReading-incorrect _ _ _ _ _ _ _ _ _ c.reading.invariant.reading piece.1 piece.2.0 refl piece.2.1)
+    sym (IsReading-incorrect _ _ _ _ _ _ _ _ _ c.reading.invariant.reading piece.1 piece.2.0 refl
+    piece.2.1)
 
 pub reading-preserved-in-Some-multiply_add : goal.reading-preserved-in-Some-multiply_add
 reading-preserved-in-Some-multiply_add c =
@@ -21,7 +24,8 @@ reading-preserved-in-Some-multiply_add c =
     let sum = c.in-Some-multiply_add.ensures in
     let small : c.in-Some-multiply_add.longer < 2 ^ 128 = omega (arith, sum.0, sum.1) in
     record {
-      reading = IsReading-run _ _ _ _ _ _ _ _ _ _ _ c.reading.invariant.reading run.1 run.0 sum.1 small;
+      reading = IsReading-run _ _ _ _ _ _ _ _ _ _ _ c.reading.invariant.reading run.1 run.0 sum.1
+          small;
       fits = small;
       within = omega (arith, c.reading.invariant.within, len.0);
       utf8 = search rules;

@@ -12,9 +12,12 @@ returns g c =
     let bytes = c.args.text.now in
     let after = c.split_sign-after in
     let sign_is : after.result.sign ≡ leading_sign kind.signed (text_of bytes) =
-    after.ensures.sign ∙ ap (λ s. leading_sign s (text_of bytes)) (c.SIGNED.ensures ∙ sym g.met.T.Whole.signed_is) in
+    after.ensures.sign ∙ ap (λ s. leading_sign s (text_of bytes))
+    (c.SIGNED.ensures ∙ sym g.met.T.Whole.signed_is) in
     c.signed_answer.ensures
     ∙ ap (signed_answer kind after.result.sign) c.judge_naive.ensures
     ∙ typed-rest kind bytes _ _ after.result.sign _ after.ensures.rest
-    ∙ ap (λ text. typed_answer kind bytes after.result.sign (naive_answer (marks_of text))) (sym (text_of-rest _ _ _ _ after.ensures.rest))
-    ∙ ap (λ sign. typed_answer kind bytes sign (naive_answer (marks_of (drop (sign_len sign) (text_of bytes))))) sign_is
+    ∙ ap (λ text. typed_answer kind bytes after.result.sign (naive_answer (marks_of text)))
+    (sym (text_of-rest _ _ _ _ after.ensures.rest))
+    ∙ ap (λ sign. typed_answer kind bytes sign
+    (naive_answer (marks_of (drop (sign_len sign) (text_of bytes))))) sign_is

@@ -4,7 +4,8 @@ use Rattle.cn_judge.proofs.text.split_first.Goals as goal
 
 pub skipping-preserved : goal.skipping-preserved
 skipping-preserved c = record {
-  at = StandsAt-white _ _ _ _ _ (rw c.in-Some.ensures.parts at c.skipping.invariant.at) (search rules);
+  at = StandsAt-white _ _ _ _ _ (rw c.in-Some.ensures.parts at c.skipping.invariant.at)
+      (search rules);
   within = omega (arith, c.skipping.invariant.within, c.in-Some.ensures.shorter);
   utf8 = search rules;
 }

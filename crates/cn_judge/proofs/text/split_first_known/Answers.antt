@@ -10,7 +10,8 @@ split_at-requires c =
     let p : get_or bytes 0 0 < 256 = search rules in
     let q : get_or bytes 1 0 < 256 = search rules in
     let key = key-bytes (get_or bytes 0 0) (get_or bytes 1 0) (get_or bytes 2 0) p q in
-    rw same at (first-boundary bytes _ (rw same c.utf8.text) c.if-bytes-lt3.false key.one known.low known.high)
+    rw same at (first-boundary bytes _ (rw same c.utf8.text) c.if-bytes-lt3.false key.one known.low
+    known.high)
 
 pub returns-clause-parts : goal.returns-clause-parts
 returns-clause-parts c =
@@ -23,7 +24,9 @@ returns-clause-parts c =
     let whole : IsUtf8 bytes = rw same c.utf8.text in (
       known.code,
       ap chars (sym same)
-          ∙ first-three _ _ _ _ _ _ whole c.if-bytes-lt3.false (c.split_at.ensures.back ∙ ap (drop 3) (sym same)) key.one key.two key.three known.low known.high known.sum,
+          ∙ first-three _ _ _ _ _ _ whole c.if-bytes-lt3.false
+          (c.split_at.ensures.back ∙ ap (drop 3) (sym same)) key.one key.two key.three known.low
+          known.high known.sum,
       known.mark_is,
       known.dark,
     )

@@ -7,4 +7,6 @@ returns-clause-line c = rw c.far_position.ensures.position (HasNoFeed-before c.a
 
 pub returns-clause-feed : goal.returns-clause-feed
 returns-clause-feed c =
-    λ h. let within : c.far_position.result < length c.args.bytes.now = h in rw c.far_position.ensures.position (feed_there c.args.bytes.now (rw c.far_position.ensures.position at within))
+    λ h. let within : c.far_position.result < length c.args.bytes.now =
+    h in rw c.far_position.ensures.position (feed_there c.args.bytes.now
+    (rw c.far_position.ensures.position at within))

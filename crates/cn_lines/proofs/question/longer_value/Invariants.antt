@@ -6,4 +6,5 @@ use Rattle.cn_lines.proofs.question.longer_value.Given as goal
 
 abbrev pub invariant-loop-digit : goal.invariant-loop-digit
 invariant-loop-digit l =
-    (list_all is_ascii_digit (take l.digit-index l.digits) ≡ true) × (l.value ≡ value_after l.start (take l.digit-index l.digits))
+    (list_all is_ascii_digit (take l.digit-index l.digits) ≡ true)
+    × (l.value ≡ value_after l.start (take l.digit-index l.digits))

@@ -6,5 +6,6 @@ use Rattle.cn_lines.proofs.question.short_value.Given as goal
 
 abbrev pub invariant-loop-digit : goal.invariant-loop-digit
 invariant-loop-digit l =
-    (list_all is_ascii_digit (take l.digit-index l.digits) ≡ true) × (l.value ≡ value_of (take l.digit-index l.digits))
+    (list_all is_ascii_digit (take l.digit-index l.digits) ≡ true)
+    × (l.value ≡ value_of (take l.digit-index l.digits))
     × (l.value < 10 ^ l.digit-index)

@@ -1,68 +1,62 @@
 use Rattle.std.proofs.Common.{◌≡◌, ℕ, ◌+◌, ◌*◌, ◌%◌, ◌^◌, ◌<◌, ◌≤◌, ◌++◌, length, ap, ◌∙◌, arith, length-append}
-use Rattle.cn_core.specs.declared.method.ChineseCountMethod.TheVariants.{Low}
-use Rattle.cn_core.specs.Spelling.{spelling}
 use Rattle.cn_core.proofs.Cuts.{part}
-use Rattle.cn_spell.specs.Working.Groups.{group_marks}
-use Rattle.cn_spell.specs.Working.Units.{front}
-use Rattle.cn_spell.proofs.GroupWalks.{group_at, group-more, group-same, Fills-group, Fills-same_group, spelling-front, room-group}
-use Rattle.cn_spell.proofs.spell.put_spelling.Goals.{then-group-gt0, else-group-gt0}
+use Rattle.cn_spell.specs.Working.Sections.{section_marks}
+use Rattle.cn_spell.specs.Working.Units.{units_behind}
+use Rattle.cn_spell.proofs.SectionWalks.{section_at, section-more, section-same, Fills-section, Fills-same_section, room-more, spelling-end, length-end}
+use Rattle.cn_spell.proofs.spell.put_spelling.Goals.{then-section-gt0, else-section-gt0}
 use Rattle.cn_spell.proofs.spell.put_spelling.Goals as goal
 
 pub put_units-requires-clause-room : goal.put_units-requires-clause-room
 put_units-requires-clause-room g c =
     let l = c.loop-index in
-    let method = c.args.method in
-    let groups = c.args.groups.now in
-    let number : ℕ = groups.number in
-    let position : ℕ = 4 * l.index in
-    let value = groups.holds.each l.index c.loop-index-test.true in
-    let room = room-group method number groups.count l.index groups.front c.requires.count c.requires.front groups.holds.split groups.holds.some c.loop-index-test.true in
-    let more = group-more method number position l.filled (omega (arith, c.requires.count, c.loop-index-test.true)) (omega (arith, c.requires.count, c.loop-index-test.true)) (omega arith) (omega (arith, value, c.if-group-gt0.true)) l.invariant.fills in
-    omega (arith, room, ap length more, length-append (group_marks (group_at number position)) (front method position l.filled ++ part method (number % 10 ^ position)), length-append (front method position l.filled) (part method (number % 10 ^ position)), l.invariant.room, c.requires.room)
+    let sections = c.args.sections.now in
+    let value = sections.holds.each l.index c.loop-index-test.true in
+    let room = room-more c.args.method sections.number sections.count l.index
+    sections.above l.filled sections.holds c.requires.count c.requires.above c.loop-index-test.true
+    (omega (arith, value, c.if-section-gt0.true)) l.invariant.fills in
+    omega (arith, room, l.invariant.room, c.requires.room)
 
-pub put_group-requires-clause-room : goal.put_group-requires-clause-room
-put_group-requires-clause-room g c =
+pub put_section-requires-clause-room : goal.put_section-requires-clause-room
+put_section-requires-clause-room g c =
     let l = c.loop-index in
-    let method = c.args.method in
-    let groups = c.args.groups.now in
-    let number : ℕ = groups.number in
-    let position : ℕ = 4 * l.index in
-    let value = groups.holds.each l.index c.loop-index-test.true in
-    let room = room-group method number groups.count l.index groups.front c.requires.count c.requires.front groups.holds.split groups.holds.some c.loop-index-test.true in
-    let more = group-more method number position l.filled (omega (arith, c.requires.count, c.loop-index-test.true)) (omega (arith, c.requires.count, c.loop-index-test.true)) (omega arith) (omega (arith, value, c.if-group-gt0.true)) l.invariant.fills in
-    let same = ap (λ n. length (group_marks n)) value in
-    omega (arith, same, room, ap length more, length-append (group_marks (group_at number position)) (front method position l.filled ++ part method (number % 10 ^ position)), length-append (front method position l.filled) (part method (number % 10 ^ position)), l.invariant.room, c.requires.room, c.put_units.ensures.room)
+    let sections = c.args.sections.now in
+    let value = sections.holds.each l.index c.loop-index-test.true in
+    let room = room-more c.args.method sections.number sections.count l.index
+    sections.above l.filled sections.holds c.requires.count c.requires.above c.loop-index-test.true
+    (omega (arith, value, c.if-section-gt0.true)) l.invariant.fills in
+    let same = ap (λ n. length (section_marks n)) value in
+    omega (arith, same, room, l.invariant.room, c.requires.room, c.put_units.ensures.room)
 
 pub loop-index-preserved : goal.loop-index-preserved
 loop-index-preserved g c =
     let l = c.loop-index in
     let method = c.args.method in
-    let groups = c.args.groups.now in
-    let number : ℕ = groups.number in
-    let position : ℕ = 4 * l.index in
+    let sections = c.args.sections.now in
+    let number : ℕ = sections.number in
+    let power : ℕ = 4 * l.index in
     let next : 4 * (l.index + 1) ≡ 4 * l.index + 4 = omega arith in
-    let value = groups.holds.each l.index c.loop-index-test.true in
-    elim c.if-group-gt0.branch [
-      | then-group-gt0 w ↦
-          let pos : 0 < group_at number position = omega (arith, value, w.if-group-gt0.true) in
-          let more = group-more method number position l.filled (omega (arith, c.requires.count, c.loop-index-test.true)) (omega (arith, c.requires.count, c.loop-index-test.true)) (omega arith) pos l.invariant.fills in
+    let value = sections.holds.each l.index c.loop-index-test.true in
+    elim c.if-section-gt0.branch [
+      | then-section-gt0 w ↦
+          let pos : 0 < section_at number power = omega (arith, value, w.if-section-gt0.true) in
+          let more = section-more method number power l.filled (omega (arith, c.requires.count, c.loop-index-test.true)) (omega (arith, c.requires.count, c.loop-index-test.true)) (omega arith) pos l.invariant.fills in
           let size = w.digits_of.result in
-          let below : group_at number position < 10 ^ size = omega (arith, value, w.digits_of.ensures.below) in
-          let reach : 10 ^ size ≤ 10 * group_at number position = omega (arith, value, w.digits_of.ensures.reach) in
-          let same = ap (λ n. length (group_marks n)) value in
-          let marks = w.put_group.ensures.marks (front method position l.filled ++ part method (number % 10 ^ position)) (w.put_units.ensures.marks (part method (number % 10 ^ position)) l.invariant.marks) in
+          let below : section_at number power < 10 ^ size = omega (arith, value, w.digits_of.ensures.below) in
+          let reach : 10 ^ size ≤ 10 * section_at number power = omega (arith, value, w.digits_of.ensures.reach) in
+          let same = ap (λ n. length (section_marks n)) value in
+          let marks = w.put_section.ensures.marks (units_behind method power l.filled ++ part method (number % 10 ^ power)) (w.put_units.ensures.marks (part method (number % 10 ^ power)) l.invariant.marks) in
           rw (w.pen-is, w.filled-is, next, more) (record {
-            fills = Fills-group number position size w.digits_of.ensures.some below reach;
+            fills = Fills-section number power size w.digits_of.ensures.some below reach;
             under = omega (arith, w.digits_of.ensures.most);
-            room = omega (arith, same, length-append (group_marks (group_at number position)) (front method position l.filled ++ part method (number % 10 ^ position)), length-append (front method position l.filled) (part method (number % 10 ^ position)), l.invariant.room, w.put_units.ensures.room, w.put_group.ensures.room);
-            setting = w.put_group.ensures.setting ∙ w.put_units.ensures.setting ∙ l.invariant.setting;
+            room = omega (arith, same, length-append (section_marks (section_at number power)) (units_behind method power l.filled ++ part method (number % 10 ^ power)), length-append (units_behind method power l.filled) (part method (number % 10 ^ power)), l.invariant.room, w.put_units.ensures.room, w.put_section.ensures.room);
+            setting = w.put_section.ensures.setting ∙ w.put_units.ensures.setting ∙ l.invariant.setting;
             marks = rw value at marks;
           })
-      | else-group-gt0 w ↦
-          let none : group_at number position ≡ 0 = omega (arith, value, w.if-group-gt0.false) in
-          let same = group-same method number position none in
+      | else-section-gt0 w ↦
+          let none : section_at number power ≡ 0 = omega (arith, value, w.if-section-gt0.false) in
+          let same = section-same method number power none in
           rw (w.pen-is, w.filled-is, next, same) (record {
-            fills = Fills-same_group number position l.filled none l.invariant.fills;
+            fills = Fills-same_section number power l.filled none l.invariant.fills;
             under = omega (arith, l.invariant.under);
             room = l.invariant.room;
             setting = l.invariant.setting;
@@ -73,43 +67,35 @@ loop-index-preserved g c =
 pub put_units-requires-2-clause-room : goal.put_units-requires-2-clause-room
 put_units-requires-2-clause-room g c =
     let l = c.loop-index in
-    let method = c.args.method in
-    let groups = c.args.groups.now in
-    let number : ℕ = groups.number in
-    let end : l.index ≡ groups.count = omega (arith, l.auto.index-end, c.loop-index-test.false) in
-    let position : ℕ = 4 * groups.count in
-    let spelled = ap length (spelling-front method number groups.count groups.front l.filled c.requires.count c.requires.front groups.holds.split groups.holds.some (rw end at l.invariant.fills) (omega (arith, end, l.invariant.under))) in
-    omega (arith, spelled, length-append (spelling Low groups.front) (front method position l.filled ++ part method (number % 10 ^ position)), length-append (front method position l.filled) (part method (number % 10 ^ position)), rw end at l.invariant.room, c.requires.room)
+    let sections = c.args.sections.now in
+    let whole = length-end c.args.method sections.number sections.count l.index
+    sections.above l.filled sections.holds c.requires.count c.requires.above l.auto.index-end c.loop-index-test.false
+    l.invariant.fills l.invariant.under in
+    omega (arith, whole, l.invariant.room, c.requires.room)
 
-pub put_positions-requires-clause-room : goal.put_positions-requires-clause-room
-put_positions-requires-clause-room g c =
+pub put_above-requires-clause-room : goal.put_above-requires-clause-room
+put_above-requires-clause-room g c =
     let l = c.loop-index in
-    let method = c.args.method in
-    let groups = c.args.groups.now in
-    let number : ℕ = groups.number in
-    let end : l.index ≡ groups.count = omega (arith, l.auto.index-end, c.loop-index-test.false) in
-    let position : ℕ = 4 * groups.count in
-    let spelled = ap length (spelling-front method number groups.count groups.front l.filled c.requires.count c.requires.front groups.holds.split groups.holds.some (rw end at l.invariant.fills) (omega (arith, end, l.invariant.under))) in
-    omega (arith, spelled, length-append (spelling Low groups.front) (front method position l.filled ++ part method (number % 10 ^ position)), length-append (front method position l.filled) (part method (number % 10 ^ position)), rw end at l.invariant.room, c.requires.room, c.put_units-2.ensures.room)
+    let sections = c.args.sections.now in
+    let whole = length-end c.args.method sections.number sections.count l.index
+    sections.above l.filled sections.holds c.requires.count c.requires.above l.auto.index-end c.loop-index-test.false
+    l.invariant.fills l.invariant.under in
+    omega (arith, whole, l.invariant.room, c.requires.room, c.put_units-2.ensures.room)
 
 pub returns-clause-room : goal.returns-clause-room
 returns-clause-room g c =
     let l = c.loop-index in
-    let method = c.args.method in
-    let groups = c.args.groups.now in
-    let number : ℕ = groups.number in
-    let end : l.index ≡ groups.count = omega (arith, l.auto.index-end, c.loop-index-test.false) in
-    let position : ℕ = 4 * groups.count in
-    let spelled = ap length (spelling-front method number groups.count groups.front l.filled c.requires.count c.requires.front groups.holds.split groups.holds.some (rw end at l.invariant.fills) (omega (arith, end, l.invariant.under))) in
-    omega (arith, spelled, length-append (spelling Low groups.front) (front method position l.filled ++ part method (number % 10 ^ position)), length-append (front method position l.filled) (part method (number % 10 ^ position)), rw end at l.invariant.room, c.put_units-2.ensures.room, c.put_positions.ensures.room)
+    let sections = c.args.sections.now in
+    let whole = length-end c.args.method sections.number sections.count l.index
+    sections.above l.filled sections.holds c.requires.count c.requires.above l.auto.index-end c.loop-index-test.false
+    l.invariant.fills l.invariant.under in
+    omega (arith, whole, l.invariant.room, c.put_units-2.ensures.room, c.put_above.ensures.room)
 
 pub returns-clause-marks : goal.returns-clause-marks
 returns-clause-marks g c =
     let l = c.loop-index in
-    let method = c.args.method in
-    let groups = c.args.groups.now in
-    let number : ℕ = groups.number in
-    let end : l.index ≡ groups.count = omega (arith, l.auto.index-end, c.loop-index-test.false) in
-    let position : ℕ = 4 * groups.count in
-    let spelled = spelling-front method number groups.count groups.front l.filled c.requires.count c.requires.front groups.holds.split groups.holds.some (rw end at l.invariant.fills) (omega (arith, end, l.invariant.under)) in
-    rw spelled (c.put_positions.ensures.marks (front method position l.filled ++ part method (number % 10 ^ position)) (c.put_units-2.ensures.marks (part method (number % 10 ^ position)) (rw end at l.invariant.marks)))
+    let sections = c.args.sections.now in
+    let spelled = spelling-end c.args.method sections.number sections.count l.index
+    sections.above l.filled sections.holds c.requires.count c.requires.above l.auto.index-end c.loop-index-test.false
+    l.invariant.fills l.invariant.under in
+    rw spelled (c.put_above.ensures.marks _ (c.put_units-2.ensures.marks _ l.invariant.marks))

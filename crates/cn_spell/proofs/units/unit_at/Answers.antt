@@ -7,10 +7,13 @@ use Rattle.cn_spell.proofs.UnitTables.{rank-in}
 use Rattle.cn_spell.proofs.units.unit_at.Goals as goal
 
 pub returns-in-TenThousand : goal.returns-in-TenThousand
-returns-in-TenThousand c = rw c.in-TenThousand.is (rank-in (rank_at TenThousand) table.TEN_THOUSAND c.args.position 39 Ge (rw c.in-TenThousand.is at c.requires) refl refl)
+returns-in-TenThousand c = rw c.in-TenThousand.is (rank-in (rank_at TenThousand) table.TEN_THOUSAND
+    c.args.power 39 Ge (rw c.in-TenThousand.is at c.requires) refl refl)
 
 pub returns-in-Middle : goal.returns-in-Middle
-returns-in-Middle c = rw c.in-Middle.is (rank-in (rank_at Middle) table.MIDDLE c.args.position 39 Ge (rw c.in-Middle.is at c.requires) refl refl)
+returns-in-Middle c = rw c.in-Middle.is (rank-in (rank_at Middle) table.MIDDLE c.args.power 39 Ge
+    (rw c.in-Middle.is at c.requires) refl refl)
 
 pub returns-in-High : goal.returns-in-High
-returns-in-High c = rw c.in-High.is (rank-in (rank_at High) table.HIGH c.args.position 39 Ge (rw c.in-High.is at c.requires) refl refl)
+returns-in-High c = rw c.in-High.is (rank-in (rank_at High) table.HIGH c.args.power 39 Ge
+    (rw c.in-High.is at c.requires) refl refl)

@@ -1,6 +1,6 @@
 use Rattle.std.proofs.Common.{encode_utf8_all, string_bytes}
 use Rattle.chinese_number.specs.Printing.{naive_text}
-use Rattle.cn_vectors.proofs.Joining.{naive_result_is}
+use Rattle.chinese_number.proofs.Joining.{naive_result_is}
 use Rattle.cn_vectors.proofs.reading_back.print_and_read_naive.Goals as goal
 
 pub returns : goal.returns

@@ -6,11 +6,18 @@ use Rattle.numeral.proofs.State.{State-start, State-flushed, State-no_feed, Stat
 use Rattle.numeral.proofs.engine.run_by.Goals as goal
 
 pub reads-init : goal.reads-init
-reads-init g c =
-    ([], Consumes-nil _, rw c.new.ensures.items (State-start _ [] tt), c.requires.reads, c.requires.writes, refl)
+reads-init g c = (
+  [],
+  Consumes-nil _,
+  rw c.new.ensures.items (State-start _ [] tt),
+  c.requires.reads,
+  c.requires.writes,
+  refl,
+)
 
 pub answer_ended-requires-clause-unended : goal.answer_ended-requires-clause-unended
-answer_ended-requires-clause-unended g c = State-no_feed _ _ c.reads.invariant.0 _ c.reads.invariant.2
+answer_ended-requires-clause-unended g c =
+    State-no_feed _ _ c.reads.invariant.0 _ c.reads.invariant.2
 
 pub reads-preserved : goal.reads-preserved
 reads-preserved g c =
@@ -20,11 +27,15 @@ reads-preserved g c =
     let now = g.W.Sink.state c.reads.writer in
     let read = g.W.Sink.state c.flush_and_read.new.writer in
     let new = g.W.Sink.state c.answer_ended.new.writer in
-    let flushed = State-flushed old now read i.0 c.reads.buffers.line.items i.2 c.flush_and_read.ensures.kept in
+    let flushed = State-flushed old now read i.0 c.reads.buffers.line.items i.2
+    c.flush_and_read.ensures.kept in
     let w = c.in_ok-answer_ended.ensures in (
       i.0 ++ c.first_bytes.result.now,
-      rw c.first_bytes.ensures (Consumes-trans given (g.R.Source.state c.reads.reader).remaining (g.R.Source.state c.flush_and_read.new.reader).remaining i.0 _ i.1 c.in_ok-count.ensures.bytes.0),
-      State-more old read new i.0 c.reads.buffers.line.items c.first_bytes.result.now c.answer_ended.new.buffers.line.items flushed w.0 w.1,
+      rw c.first_bytes.ensures (Consumes-trans given (g.R.Source.state c.reads.reader).remaining
+          (g.R.Source.state c.flush_and_read.new.reader).remaining i.0 _ i.1
+          c.in_ok-count.ensures.bytes.0),
+      State-more old read new i.0 c.reads.buffers.line.items c.first_bytes.result.now
+          c.answer_ended.new.buffers.line.items flushed w.0 w.1,
       c.in_ok-count.ensures.fails.0,
       w.2,
       search rules,
@@ -37,12 +48,17 @@ returns-in_err-answer_ended-clause-leaves g c =
     let left = g.R.Source.state c.flush_and_read.new.reader in
     let old = g.W.Sink.state c.args.writer.now in
     let read = g.W.Sink.state c.flush_and_read.new.writer in
-    let flushed = State-flushed old (g.W.Sink.state c.reads.writer) read i.0 c.reads.buffers.line.items i.2 c.flush_and_read.ensures.kept in
-    let p = err_from_is_err_and c.from_residual-in_err-answer_ended.result c.from_residual-in_err-answer_ended.ensures.1 in (
+    let flushed = State-flushed old (g.W.Sink.state c.reads.writer) read i.0
+    c.reads.buffers.line.items i.2 c.flush_and_read.ensures.kept in
+    let p = err_from_is_err_and c.from_residual-in_err-answer_ended.result
+    c.from_residual-in_err-answer_ended.ensures.1 in (
       i.0 ++ c.first_bytes.result.now,
-      rw c.first_bytes.ensures (Consumes-trans given (g.R.Source.state c.reads.reader).remaining left.remaining i.0 _ i.1 c.in_ok-count.ensures.bytes.0),
+      rw c.first_bytes.ensures (Consumes-trans given (g.R.Source.state c.reads.reader).remaining
+          left.remaining i.0 _ i.1 c.in_ok-count.ensures.bytes.0),
       rw (p.1, p.2)
-          (Leaves-fed (Unit {0}) (Unit {0}) left old read (g.W.Sink.state c.answer_ended.new.writer) i.0 c.reads.buffers.line.items c.first_bytes.result.now c.answer_ended.new.buffers.line.items _ flushed
+          (Leaves-fed (Unit {0}) (Unit {0}) left old read
+          (g.W.Sink.state c.answer_ended.new.writer) i.0 c.reads.buffers.line.items
+          c.first_bytes.result.now c.answer_ended.new.buffers.line.items _ flushed
           c.in_ok-count.ensures.fails.0 c.in_err-answer_ended.ensures),
     )
 
@@ -53,12 +69,17 @@ returns-clause-leaves g c =
     let left = g.R.Source.state c.flush_and_read.new.reader in
     let old = g.W.Sink.state c.args.writer.now in
     let read = g.W.Sink.state c.flush_and_read.new.writer in
-    let flushed = State-flushed old (g.W.Sink.state c.reads.writer) read i.0 c.reads.buffers.line.items i.2 c.flush_and_read.ensures.kept in
+    let flushed = State-flushed old (g.W.Sink.state c.reads.writer) read i.0
+    c.reads.buffers.line.items i.2 c.flush_and_read.ensures.kept in
     let none : c.in_ok-count.count ≡ 0 = omega arith in
-    let e : take c.in_ok-count.count c.flush_and_read.new.block ≡ [] = ap (λ n. take n c.flush_and_read.new.block) none in (
+    let e : take c.in_ok-count.count c.flush_and_read.new.block ≡ [] =
+    ap (λ n. take n c.flush_and_read.new.block) none in (
       i.0,
       subst (Consumes given left.remaining) (ap (λ l. i.0 ++ l) e ∙ append-nil i.0)
-          (Consumes-trans given (g.R.Source.state c.reads.reader).remaining left.remaining i.0 _ i.1 c.in_ok-count.ensures.bytes.0),
-      Leaves-finished (Unit {0}) left old read (g.W.Sink.state c.answer_last.new.writer) i.0 c.reads.buffers.line.items c.answer_last.result flushed c.in_ok-count.ensures.fails.0
-          (c.in_ok-count.ensures.bytes.1 none (omega arith)) c.answer_last.ensures.replies c.answer_last.ensures.some,
+          (Consumes-trans given (g.R.Source.state c.reads.reader).remaining left.remaining i.0 _
+          i.1 c.in_ok-count.ensures.bytes.0),
+      Leaves-finished (Unit {0}) left old read (g.W.Sink.state c.answer_last.new.writer) i.0
+          c.reads.buffers.line.items c.answer_last.result flushed c.in_ok-count.ensures.fails.0
+          (c.in_ok-count.ensures.bytes.1 none (omega arith)) c.answer_last.ensures.replies
+          c.answer_last.ensures.some,
     )

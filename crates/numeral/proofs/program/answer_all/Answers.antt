@@ -14,4 +14,5 @@ returns-clause-beginning g c =
       | else-not-has_failed w ↦ rw w.writer-is (Keeps-refl _)
     ] in
     Runs-beginning (g.R.Source.state c.args.reader.now) (g.R.Source.state c.run-outcome.new.reader)
-    (g.W.Sink.state c.args.writer.now) ran flushed c.run-outcome.result c.run-outcome.ensures.leaves kept
+    (g.W.Sink.state c.args.writer.now) ran flushed c.run-outcome.result
+    c.run-outcome.ensures.leaves kept

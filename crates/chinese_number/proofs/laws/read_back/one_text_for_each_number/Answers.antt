@@ -8,7 +8,8 @@ pub returns : goal.returns
 returns g c =
     let laws = g.met.T.Whole in
     let kind = g.T.Whole.kind in
-    let whole = IsWhole-laws kind g.T.Whole.SIGNED laws.signed_is laws.unsigned_from_zero laws.magnitude_fits in
+    let whole = IsWhole-laws kind g.T.Whole.SIGNED laws.signed_is laws.unsigned_from_zero
+    laws.magnitude_fits in
     record {
       units = λ variant case method one second held_one held_second p q.
           (same_from_text kind method variant case one second whole held_one held_second p q, λ e. ap (λ number. encode_utf8_all (spelled_text variant case method number)) e);

@@ -6,6 +6,7 @@ use Rattle.chinese_number.proofs.laws.read_back.reading_then_printing_is_idempot
 pub returns : goal.returns
 returns g c = λ variant case method bytes number is printable answer.
     let laws = g.met.T.Whole in
-    let whole = IsWhole-laws g.T.Whole.kind g.T.Whole.SIGNED laws.signed_is laws.unsigned_from_zero laws.magnitude_fits in
+    let whole = IsWhole-laws g.T.Whole.kind g.T.Whole.SIGNED laws.signed_is laws.unsigned_from_zero
+    laws.magnitude_fits in
     Reads-only g.T.Whole.kind method (encode_utf8_all (spelled_text variant case method number)) answer (Ok number)
     (Reads-spelled g.T.Whole.kind method variant case number whole (held-answered g.T.Whole.kind method bytes number is) printable)

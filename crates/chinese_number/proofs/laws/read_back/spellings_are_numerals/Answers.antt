@@ -4,4 +4,5 @@ use Rattle.chinese_number.proofs.SpelledMarks.{below_square}
 use Rattle.chinese_number.proofs.laws.read_back.spellings_are_numerals.Goals as goal
 
 pub returns : goal.returns
-returns g c = λ method number held printable. spelling-is_numeral method (nat_abs number) (below_square method number (g.met.T.Whole.magnitude_fits number held) printable)
+returns g c = λ method number held printable. spelling-is_numeral method (nat_abs number)
+    (below_square method number (g.met.T.Whole.magnitude_fits number held) printable)

@@ -6,7 +6,8 @@ use Rattle.cn_devices.proofs.buffered_sink.BufferedSink.write_out.Given as goal
 abbrev pub invariant-writes : goal.invariant-writes
 invariant-writes g l =
     (l.self.written ≤ vec_len l.self.buffer)
-    × Keeps (append_known (g.W.Sink.state l.fn.self.inner).contents (drop l.fn.self.written l.fn.self.buffer.items))
+    × Keeps (append_known (g.W.Sink.state l.fn.self.inner).contents
+    (drop l.fn.self.written l.fn.self.buffer.items))
     (append_known (g.W.Sink.state l.self.inner).contents (drop l.self.written l.self.buffer.items))
     × ((g.W.Sink.state l.self.inner).failed ≡ false)
 

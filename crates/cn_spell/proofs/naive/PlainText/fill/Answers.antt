@@ -1,35 +1,90 @@
-use Rattle.std.proofs.Common.{rules, ◌≡◌, ◌<◌, ℕ, List, length, take, subst, ap, ◌∙◌, arith}
-use Rattle.std.proofs.lemmas.List.{take_all}
+use Rattle.std.proofs.Common.{rules, ◌≡◌, ℕ, ◌*◌, ◌++◌, if◌then◌else◌, refl, subst, sym, ap, ◌∙◌, arith}
 use Rattle.cn_core.specs.Naive.{decimal_digits}
 use Rattle.cn_core.specs.Printing.{signed_text}
-use Rattle.cn_spell.specs.Working.Positions.{positions_of}
 use Rattle.cn_spell.specs.Working.Room.{Shows}
-use Rattle.cn_spell.proofs.NaiveTexts.{digit_marks, digit_marks-more, digit_marks-all}
+use Rattle.cn_spell.specs.Working.Sections.{lowest_marks}
+use Rattle.cn_spell.proofs.NaiveTexts.{lowest-section, decimal-sections, length-plain}
 use Rattle.cn_spell.proofs.Rooms.{Shows-full, Shows-utf8}
 use Rattle.cn_spell.proofs.naive.PlainText.fill.Goals as goal
 
-pub loop-position-preserved : goal.loop-position-preserved
-loop-position-preserved c =
-    let l = c.loop-position in
-    let positions : List ℕ = positions_of c.args.self.now.digits in
-    let less : l.position < length positions = omega (arith, c.len-position-end.ensures.len, c.loop-position-test.true) in
-    let put = c.put_digit_if.ensures in
+pub put_digits-requires : goal.put_digits-requires
+put_digits-requires c =
+    let l = c.loop-index in
+    let self = c.args.self.now in
+    let sections = self.sections in
+    let size = c.digits_of-size.ensures in
+    let total = length-plain self.characters.variant self.characters.case self.negative
+    sections.number sections.count sections.above c.digits_of-size.result self.small sections.holds
+    size.some size.below size.reach in
+    record { room = omega (arith, total, l.invariant.free, c.requires, c.loop-index-test.true) }
+
+pub loop-index-preserved : goal.loop-index-preserved
+loop-index-preserved c =
+    let l = c.loop-index in
+    let sections = c.args.self.now.sections in
+    let value = sections.holds.each l.index c.loop-index-test.true in
+    let put = c.put_digits.ensures in
     record {
-      shows = rw (digit_marks-more positions l.position less, ← c.at.ensures.value) (put.marks _ l.invariant.shows);
+      shows = rw (← lowest-section sections.number l.index _ value) (put.marks _ l.invariant.shows);
       free = omega (arith, put.room, l.invariant.free);
       characters = ap (λ s. s.1) put.setting ∙ l.invariant.characters;
       lender = ap (λ s. s.0) put.setting ∙ l.invariant.lender;
     }
 
+pub put_digits-requires-2 : goal.put_digits-requires-2
+put_digits-requires-2 c =
+    let l = c.loop-index in
+    let self = c.args.self.now in
+    let sections = self.sections in
+    let size = c.digits_of-size.ensures in
+    let total = length-plain self.characters.variant self.characters.case self.negative
+    sections.number sections.count sections.above c.digits_of-size.result self.small sections.holds
+    size.some size.below size.reach in
+    record { room = omega (arith, total, l.invariant.free, c.requires, l.auto.index-end) }
+
+pub put_sign-requires : goal.put_sign-requires
+put_sign-requires c = λ negative.
+    let l = c.loop-index in
+    let self = c.args.self.now in
+    let sections = self.sections in
+    let size = c.digits_of-size.ensures in
+    let total = length-plain self.characters.variant self.characters.case self.negative
+    sections.number sections.count sections.above c.digits_of-size.result self.small sections.holds
+    size.some size.below size.reach in
+    let sign : ℕ = if self.negative then 1 else 0 in
+    let one : sign ≡ 1 = rw negative refl in
+    omega (
+      arith,
+      total,
+      one,
+      l.invariant.free,
+      c.put_digits-2.ensures.room,
+      c.requires,
+      l.auto.index-end,
+    )
+
 pub returns : goal.returns
 returns c =
-    let l = c.loop-position in
+    let l = c.loop-index in
     let self = c.args.self.now in
-    let positions : List ℕ = positions_of self.digits in
+    let sections = self.sections in
+    let size = c.digits_of-size.ensures in
+    let put = c.put_digits-2.ensures in
     let room = c.put_sign.new.self in
-    let end : l.position ≡ length positions = omega (arith, c.len-position-end.ensures.len, l.auto.position-end, c.loop-position-test.false) in
-    let marks : digit_marks (take l.position positions) ≡ decimal_digits self.digits = ap digit_marks (take_all l.position positions (omega (arith, end))) ∙ digit_marks-all self.digits in
-    let shows : Shows room.free room.bytes.now (signed_text self.characters.variant self.characters.case self.negative (decimal_digits self.digits)) =
-    subst (λ used. Shows room.free room.bytes.now (signed_text used.variant used.case self.negative (decimal_digits self.digits))) l.invariant.characters
-    (c.put_sign.ensures.shows _ (rw marks at l.invariant.shows)) in
-    record { bytes = search (rules, shows, Shows-full); utf8 = search (rules, shows, Shows-utf8) }
+    let end : l.index ≡ sections.count = omega (arith, l.auto.index-end, c.loop-index-test.false) in
+    let whole = decimal-sections sections.number sections.count sections.above
+    c.digits_of-size.result self.small sections.holds size.some size.below size.reach in
+    let digits : lowest_marks c.digits_of-size.result sections.above
+    ++ lowest_marks (4 * l.index) sections.number ≡ decimal_digits sections.number =
+    rw end (sym whole) in
+    let lender = c.put_sign.ensures.lender ∙ ap (λ s. s.0) put.setting ∙ l.invariant.lender in
+    let shows : Shows room.free room.bytes.now (signed_text self.characters.variant
+    self.characters.case self.negative (decimal_digits sections.number)) =
+    subst (λ used. Shows room.free room.bytes.now
+    (signed_text used.variant used.case self.negative (decimal_digits sections.number)))
+    (ap (λ s. s.1) put.setting ∙ l.invariant.characters)
+    (c.put_sign.ensures.shows _ (rw digits at (put.marks _ l.invariant.shows))) in
+    record {
+      bytes = search (rules, lender, shows, Shows-full);
+      utf8 = search (rules, lender, shows, Shows-utf8);
+    }

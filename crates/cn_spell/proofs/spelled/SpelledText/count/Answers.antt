@@ -14,16 +14,21 @@ pub put_spelling-requires-clause-room : goal.put_spelling-requires-clause-room
 put_spelling-requires-clause-room g c =
     let self = c.args.self.now in
     let method = g.M.KnownMethod.stands_for in
-    let same = ap (λ m. length (spelling m self.groups.number)) c.method.ensures in
-    omega (arith, same, marks-fit method (pos self.groups.number) self.printable self.small, most_bytes-le method)
+    let same = ap (λ m. length (spelling m self.sections.number)) c.method.ensures in
+    omega (
+      arith,
+      same,
+      marks-fit method (pos self.sections.number) self.printable self.small,
+      most_bytes-le method,
+    )
 
 pub overflow_add-result : goal.overflow_add-result
 overflow_add-result g c =
     let self = c.args.self.now in
     let method = g.M.KnownMethod.stands_for in
-    let shown : Counts c.put_spelling.new.pen.characters (map (mark_char self.characters.variant self.characters.case) (spelling method self.groups.number)) = rw c.method.ensures at c.put_spelling.ensures.marks self.characters.variant self.characters.case in
+    let shown : Counts c.put_spelling.new.pen.characters (map (mark_char self.characters.variant self.characters.case) (spelling method self.sections.number)) = rw c.method.ensures at c.put_spelling.ensures.marks self.characters.variant self.characters.case in
     let few : c.put_spelling.new.pen.characters ≤ 77 =
-    omega (arith, marks-fit method (pos self.groups.number) self.printable self.small, most_bytes-le method, shown.size, length-map (spelling method self.groups.number) (mark_char self.characters.variant self.characters.case)) in
+    omega (arith, marks-fit method (pos self.sections.number) self.printable self.small, most_bytes-le method, shown.size, length-map (spelling method self.sections.number) (mark_char self.characters.variant self.characters.case)) in
     search rules
 
 pub returns : goal.returns
@@ -33,9 +38,16 @@ returns g c =
     let case = self.characters.case in
     let method = g.M.KnownMethod.stands_for in
     let count = c.put_spelling.new.pen.characters in
-    let shown : Counts count (map (mark_char variant case) (spelling method self.groups.number)) = rw c.method.ensures at c.put_spelling.ensures.marks variant case in
-    let signed : Counts (if self.negative then count + 1 else count) (signed_text variant case self.negative (spelling method self.groups.number)) =
-    Counts-if self.negative (minus_char variant) (λ e. rw e refl) (λ e. rw e refl) (three-minus variant) shown in
+    let shown : Counts count (map (mark_char variant case) (spelling method self.sections.number)) = rw c.method.ensures at c.put_spelling.ensures.marks variant case in
+    let signed : Counts (if self.negative then count + 1 else count) (signed_text variant case self.negative (spelling method self.sections.number)) =
+    Counts-if self.negative (minus_char variant)
+    (λ e. rw e refl) (λ e. rw e refl) (three-minus variant) shown in
     let few : 3 * (count + 1) ≤ most_bytes method =
-    omega (arith, marks-fit method (pos self.groups.number) self.printable self.small, shown.size, length-map (spelling method self.groups.number) (mark_char variant case)) in
-    record { count = search (rules, signed.size); bytes = signed.bytes; most = search (rules, few); bound = search (rules, few, most_bytes-le method) }
+    omega (arith, marks-fit method (pos self.sections.number) self.printable self.small, shown.size, length-map (spelling method self.sections.number) (mark_char variant case)) in
+    record {
+      count = search (rules, signed.size);
+      bytes = signed.bytes;
+      most =
+          search (rules, few);
+      bound = search (rules, few, most_bytes-le method);
+    }

@@ -1,9 +1,0 @@
-use Rattle.std.proofs.Common.{true}
-use Rattle.cn_core.specs.Characters.{minus_char}
-use Rattle.cn_spell.proofs.Rooms.{Shows-if}
-use Rattle.cn_spell.proofs.room.Room.put_sign.Goals as goal
-
-pub returns-then-negative-clause-shows : goal.returns-then-negative-clause-shows
-returns-then-negative-clause-shows c =
-    let put = c.put_if.ensures in
-    λ rest h. rw c.if-negative.true (Shows-if true (minus_char c.args.self.now.characters.now.variant) (c.requires c.if-negative.true) put.free put.text put.length c.minus.ensures.bytes c.minus.ensures.utf8 h)
