@@ -1,11 +1,11 @@
-// node test.mjs NUMERAL: compares the face with the native program NUMERAL, line by line, and tries what has no line of the
-// program.
+// node test.mjs NUMERAL CN_C: compares the face with the native program NUMERAL, line by line, and the modules' calls with
+// the sources of the crate CN_C, and tries what has no line of the program.
 import assert from 'node:assert/strict';
 import { spawnSync } from 'node:child_process';
 import { existsSync, readdirSync, readFileSync } from 'node:fs';
 import { CASES, KINDS, NumeralError, SCRIPTS, WAYS, toChinese, toNumber } from './chinese-number.mjs';
 
-const [program] = process.argv.slice(2);
+const [program, crate] = process.argv.slice(2);
 const READINGS = 60_000, PRINTINGS = 30_000;
 const LETTERS = Array.from('零〇一二三四五六七八九十百千萬万億亿兆京垓秭壹貳叁肆伍陸柒捌玖拾佰仟兩两負负正個角分廿 \t　x1１⼀é￿😀𠀀');
 
@@ -105,10 +105,9 @@ function compareWithTheProgram() {
     `${counts.marked} characters at fault stand where the face says, ${counts.behindPairs} of them on or behind a surrogate pair`);
 }
 
-// The calls that the sources of cn_c export.
-const sources = new URL('../../crates/cn_c/src/', import.meta.url);
-const calls = () => readdirSync(sources).flatMap((file) => Array.from(
-  readFileSync(new URL(file, sources), 'utf8').matchAll(/^pub (?:unsafe )?extern "C" fn (\w+)/gm), ([, name]) => name));
+// The calls that the sources of the crate export.
+const calls = () => readdirSync(`${crate}/src`).flatMap((file) => Array.from(
+  readFileSync(`${crate}/src/${file}`, 'utf8').matchAll(/^pub (?:unsafe )?extern "C" fn (\w+)/gm), ([, name]) => name));
 
 // The modules ask nothing of their host, and offer the calls of cn_c.
 function lookAtTheModules() {
