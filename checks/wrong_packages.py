@@ -58,7 +58,8 @@ def other_byte_inside(data):
     return re.sub(rb"(?m)^const module = '.*';$", f"const module = '{changed}';".encode(), data)
 
 
-NATIVE_WHEEL, NATIVE_C, NPM = "*_x86_64.whl", "chinese-number-*-x86_64.tar.gz", "*.tgz"
+NATIVE_WHEEL, NATIVE_C = f"*_{CHECK.NATIVE}.whl", f"chinese-number-*-{CHECK.NATIVE}.tar.gz"
+NPM = "*.tgz"
 TYPE = "export function toNumber(string: string, options?: ReadOptions): {};"
 # What is wrong, the package, the end of the file's name, the change (None takes the file away), the
 # part of the check, and what it has to say.
