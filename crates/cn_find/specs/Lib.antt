@@ -1,0 +1,6 @@
+pub mod Belongs
+pub mod Number
+pub mod Plain
+pub mod Private
+pub mod Runs
+pub mod Spans
