@@ -4,34 +4,54 @@ use Rattle.std.proofs.Math.Seq.{take-append_seam, drop-append_seam}
 use Rattle.std.proofs.lemmas.Str.{chars-nil, encodes-append, encodes-chars, IsCharBoundary-at_seam}
 use Rattle.std.specs.Str.{IsCharBoundary}
 use Rattle.cn_find.specs.declared.wanted.Wanted.{Wanted}
-use Rattle.cn_find.specs.Belongs.{belongs}
+use Rattle.cn_find.specs.Belongs.{belongs, is_joined}
 use Rattle.cn_find.specs.Private.{Skipped}
 use Rattle.cn_find.specs.Runs.{first_belongs}
 use Rattle.cn_find.specs.Spans.{run_of, after_run, span_at, spans_after, text_before, spans_left}
 
--- from inside a run, what is found is what is found after it
+-- from the second character of a run on, what is found is what is found after it
 past-run : (wanted : Wanted) (before cs : List ℕ)
-    → spans_after wanted true before cs ≡ spans_after wanted false (before ++ encode_utf8_all (run_of wanted cs)) (after_run wanted cs)
+    → spans_after wanted true before cs
+    ≡ spans_after wanted false (before ++ encode_utf8_all (run_of wanted cs)) (after_run wanted cs)
 past-run wanted before [] = refl
-past-run wanted before (c ∷ ahead) = by (belongs wanted c ahead) refl (past-run wanted (before ++ encode_utf8 c) ahead) where
-  by : (b : Bool) → belongs wanted c ahead ≡ b
-      → spans_after wanted true (before ++ encode_utf8 c) ahead ≡ spans_after wanted false (before ++ encode_utf8 c ++ encode_utf8_all (run_of wanted ahead)) (after_run wanted ahead)
-      → spans_after wanted true before (c ∷ ahead) ≡ spans_after wanted false (before ++ encode_utf8_all (run_of wanted (c ∷ ahead))) (after_run wanted (c ∷ ahead))
-  by true e ih = rw e (ih ∙ ap (λ l. spans_after wanted false l (after_run wanted ahead)) (append_assoc before (encode_utf8 c) (encode_utf8_all (run_of wanted ahead))))
-  by false e ih = rw e (rw e (ap (λ l. spans_after wanted false (l ++ encode_utf8 c) ahead) (sym (append-nil before))))
+past-run wanted before (c ∷ ahead) =
+    by (is_joined wanted c ahead) refl (past-run wanted (before ++ encode_utf8 c) ahead) where
+      by : (b : Bool) → is_joined wanted c ahead ≡ b
+          → spans_after wanted true (before ++ encode_utf8 c) ahead
+          ≡ spans_after wanted false
+          (before ++ encode_utf8 c ++ encode_utf8_all (run_of wanted ahead))
+          (after_run wanted ahead)
+          → spans_after wanted true before (c ∷ ahead)
+          ≡ spans_after wanted false (before ++ encode_utf8_all (run_of wanted (c ∷ ahead)))
+          (after_run wanted (c ∷ ahead))
+      by true e ih =
+          rw e (ih ∙ ap (λ l. spans_after wanted false l (after_run wanted ahead))
+          (append_assoc before (encode_utf8 c) (encode_utf8_all (run_of wanted ahead))))
+      by false e ih =
+          rw e (ap (λ l. spans_after wanted false (before ++ l) ahead)
+          (sym (append-nil (encode_utf8 c))))
 
 -- a run that begins here is found first, and then what stands after it
 first-span : (wanted : Wanted) (before cs : List ℕ) → first_belongs wanted cs ≡ true
-    → spans_after wanted false before cs ≡ span_at wanted before cs ∷ spans_after wanted false (before ++ encode_utf8_all (run_of wanted cs)) (after_run wanted cs)
+    → spans_after wanted false before cs
+    ≡ span_at wanted before cs
+    ∷ spans_after wanted false (before ++ encode_utf8_all (run_of wanted cs)) (after_run wanted cs)
 first-span wanted before [] e = cc
 first-span wanted before (c ∷ ahead) e =
-    let rest = rw e at (past-run wanted before (c ∷ ahead)) in
-    rw e (ap (λ l. record { before = before; text = encode_utf8_all (c ∷ run_of wanted ahead); after = encode_utf8_all (after_run wanted ahead) } ∷ l) rest)
+    rw e (ap (λ l. span_at wanted before (c ∷ ahead) ∷ l) (past-run wanted before (c ∷ ahead)))
 
--- a character that belongs to none is passed
-next-character : (wanted : Wanted) (c : ℕ) (before ahead : List ℕ) → belongs wanted c ahead ≡ false
-    → spans_after wanted false before (c ∷ ahead) ≡ spans_after wanted false (before ++ encode_utf8 c) ahead
-next-character wanted c before ahead e = rw e
+-- a character that belongs to no number is joined to none
+not-joined : (wanted : Wanted) (c : ℕ) (ahead : List ℕ) → belongs wanted c ahead ≡ false
+    → is_joined wanted c ahead ≡ false
+not-joined wanted c [] e = refl
+not-joined wanted c (next ∷ after) e = rw e
+
+-- and it is passed
+next-character : (wanted : Wanted) (c : ℕ) (before ahead : List ℕ)
+    → belongs wanted c ahead ≡ false
+    → spans_after wanted false before (c ∷ ahead)
+    ≡ spans_after wanted false (before ++ encode_utf8 c) ahead
+next-character wanted c before ahead e = rw e (rw (not-joined wanted c ahead e))
 
 -- the bytes of a text, by its first character
 first-bytes : (bytes after : List ℕ) (c : ℕ) → IsUtf8 bytes → IsUtf8 after → chars bytes ≡ c ∷ chars after → bytes ≡ encode_utf8 c ++ after
@@ -48,11 +68,16 @@ pub record Gathered (wanted : Wanted) (text rest : List ℕ) : Type 0 where
 pub Gathered-none : (wanted : Wanted) (text : List ℕ) → Gathered wanted text text
 Gathered-none wanted text = record { front = []; parts = refl; run = refl; ahead = refl }
 
-pub Gathered-more : (wanted : Wanted) (text rest after : List ℕ) (c : ℕ) → Gathered wanted text rest → chars rest ≡ c ∷ chars after → belongs wanted c (chars after) ≡ true → Gathered wanted text after
+pub Gathered-more : (wanted : Wanted) (text rest after : List ℕ) (c : ℕ)
+    → Gathered wanted text rest → chars rest ≡ c ∷ chars after
+    → is_joined wanted c (chars after) ≡ true → Gathered wanted text after
 Gathered-more wanted text rest after c g parts e = record {
   front = g.front ++ c ∷ [];
-  parts = g.parts ∙ ap (λ l. g.front ++ l) parts ∙ sym (append_assoc g.front (c ∷ []) (chars after));
-  run = g.run ∙ ap (λ l. g.front ++ l) (ap (run_of wanted) parts ∙ runs) ∙ sym (append_assoc g.front (c ∷ []) (run_of wanted (chars after)));
+  parts =
+      g.parts ∙ ap (λ l. g.front ++ l) parts ∙ sym (append_assoc g.front (c ∷ []) (chars after));
+  run =
+      g.run ∙ ap (λ l. g.front ++ l) (ap (run_of wanted) parts ∙ runs)
+      ∙ sym (append_assoc g.front (c ∷ []) (run_of wanted (chars after)));
   ahead = g.ahead ∙ ap (after_run wanted) parts ∙ aheads;
 } where
   runs : run_of wanted (c ∷ chars after) ≡ c ∷ run_of wanted (chars after)
@@ -66,29 +91,37 @@ pub record IsEnded (wanted : Wanted) (text rest : List ℕ) : Type 0 where
   pub bytes : text ≡ encode_utf8_all (run_of wanted (chars text)) ++ rest
   pub ahead : after_run wanted (chars text) ≡ chars rest
 
-ended-by : (wanted : Wanted) (text rest : List ℕ) → Gathered wanted text rest → run_of wanted (chars rest) ≡ [] → after_run wanted (chars rest) ≡ chars rest → IsUtf8 text → IsUtf8 rest → IsEnded wanted text rest
-ended-by wanted text rest g none same whole ended = record {
+ended-by : (wanted : Wanted) (text rest front : List ℕ) → chars text ≡ front ++ chars rest
+    → run_of wanted (chars text) ≡ front → after_run wanted (chars text) ≡ chars rest
+    → IsUtf8 text → IsUtf8 rest → IsEnded wanted text rest
+ended-by wanted text rest front parts run after whole ended = record {
   bytes =
-      sym (encodes-chars text whole) ∙ ap encode_utf8_all g.parts ∙ encodes-append g.front (chars rest)
-      ∙ ap (λ l. encode_utf8_all g.front ++ l) (encodes-chars rest ended)
+      sym (encodes-chars text whole) ∙ ap encode_utf8_all parts ∙ encodes-append front (chars rest)
+      ∙ ap (λ l. encode_utf8_all front ++ l) (encodes-chars rest ended)
       ∙ ap (λ l. encode_utf8_all l ++ rest) (sym run);
-  ahead = g.ahead ∙ same;
-} where
-  run : run_of wanted (chars text) ≡ g.front
-  run = g.run ∙ ap (λ l. g.front ++ l) none ∙ append-nil g.front
+  ahead = after;
+}
 
-pub IsEnded-at : (wanted : Wanted) (text rest after : List ℕ) (c : ℕ) → Gathered wanted text rest → chars rest ≡ c ∷ chars after → belongs wanted c (chars after) ≡ false → IsUtf8 text → IsUtf8 rest → IsEnded wanted text rest
+pub IsEnded-at : (wanted : Wanted) (text rest after : List ℕ) (c : ℕ) → Gathered wanted text rest
+    → chars rest ≡ c ∷ chars after → is_joined wanted c (chars after) ≡ false
+    → IsUtf8 text → IsUtf8 after → IsEnded wanted text after
 IsEnded-at wanted text rest after c g parts e whole ended =
-    ended-by wanted text rest g (ap (run_of wanted) parts ∙ runs) (ap (after_run wanted) parts ∙ aheads ∙ sym parts) whole ended where
-      runs : run_of wanted (c ∷ chars after) ≡ []
+    ended-by wanted text after (g.front ++ c ∷ [])
+    (g.parts ∙ ap (λ l. g.front ++ l) parts ∙ sym (append_assoc g.front (c ∷ []) (chars after)))
+    (g.run ∙ ap (λ l. g.front ++ l) (ap (run_of wanted) parts ∙ runs))
+    (g.ahead ∙ ap (after_run wanted) parts ∙ aheads) whole ended where
+      runs : run_of wanted (c ∷ chars after) ≡ c ∷ []
       runs = rw e
 
-      aheads : after_run wanted (c ∷ chars after) ≡ c ∷ chars after
+      aheads : after_run wanted (c ∷ chars after) ≡ chars after
       aheads = rw e
 
-pub IsEnded-none : (wanted : Wanted) (text rest : List ℕ) → Gathered wanted text rest → chars rest ≡ [] → IsUtf8 text → IsUtf8 rest → IsEnded wanted text rest
+pub IsEnded-none : (wanted : Wanted) (text rest : List ℕ) → Gathered wanted text rest
+    → chars rest ≡ [] → IsUtf8 text → IsUtf8 rest → IsEnded wanted text rest
 IsEnded-none wanted text rest g none whole ended =
-    ended-by wanted text rest g (ap (run_of wanted) none) (ap (after_run wanted) none ∙ sym none) whole ended
+    ended-by wanted text rest g.front g.parts
+    (g.run ∙ ap (λ l. g.front ++ run_of wanted l) none ∙ append-nil g.front)
+    (g.ahead ∙ ap (after_run wanted) none ∙ sym none) whole ended
 
 -- where the text is cut
 seam-length : (whole front rest : List ℕ) → whole ≡ front ++ rest → length whole - length rest ≡ length front

@@ -3,10 +3,10 @@ ghost use Rattle.std.specs.Prelude.{◌≡◌, ◌&&◌, nat_le, chars};
 ghost use Rattle.cn_core.specs.Characters.{rank};
 ghost use Rattle.cn_core.specs.Mark.{mark_of};
 ghost use Rattle.cn_judge.specs.Marked.{marked};
-ghost use Rattle.cn_find.specs.Belongs.{belongs, counts_next, is_ge, is_great, is_upper, is_wanted, is_wanted_mark};
+ghost use Rattle.cn_find.specs.Belongs.{belongs, counts_next, is_ge, is_great, is_chinese_digit, is_joined, is_parted, is_upper, is_wanted, is_wanted_mark};
 
 use crate::Wanted;
-use cn_core::Unit;
+use cn_core::{Unit, digit_of};
 use cn_judge::{Mark, split_first_mark};
 
 // The forms that stand in the upper case alone.
@@ -94,4 +94,31 @@ pub fn belongs(wanted: Wanted, c: char, mark: Mark, after: &str) -> bool
         return false;
     }
     !is_ge(mark) || counts_next(wanted, after)
+}
+
+// Whether a character is a digit, and no ASCII one.
+fn is_chinese_digit(c: char) -> bool
+    ensures { result ≡ is_chinese_digit c }
+{
+    digit_of(c).is_some() && !c.is_ascii_digit()
+}
+
+// Whether the one is an ASCII digit, and the other a digit that is none.
+fn is_parted(c: char, next: char) -> bool
+    ensures { result ≡ is_parted c next }
+{
+    (c.is_ascii_digit() && is_chinese_digit(next)) || (is_chinese_digit(c) && next.is_ascii_digit())
+}
+
+/// Whether a character with its mark is of one number with the next one.
+pub fn is_joined(wanted: Wanted, c: char, mark: Mark, after: &str) -> bool
+    requires { marked mark ≡ mark_of c }
+    ensures { result ≡ is_joined wanted c (chars after.now) }
+{
+    let Some((next, next_mark, behind)) = split_first_mark(after) else {
+        return false;
+    };
+    belongs(wanted, c, mark, after)
+        && belongs(wanted, next, next_mark, behind)
+        && !is_parted(c, next)
 }

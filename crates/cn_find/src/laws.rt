@@ -12,14 +12,14 @@ ghost use Rattle.cn_find.specs.Runs.{IsRun, is_rising};
 
 use crate::Wanted;
 
-/// The numbers of a text are exactly its runs: stretches of characters that belong to numbers, with
-/// none directly before and none directly after.
+/// The numbers of a text are exactly its runs: stretches of characters that belong to numbers, each
+/// joined to the next, of which the first is joined to none before it and the last to none after it.
 pub fn numbers_are_the_runs(wanted: Wanted)
     ensures { (bytes : List ℕ) (span : Span)
         → Contains (spans wanted bytes) span ↔ IsRun wanted (chars bytes) span }
 {}
 
-/// They come in order, and something stands between two of them.
+/// They come in order, and no two overlap.
 pub fn numbers_come_in_order(wanted: Wanted)
     ensures { (bytes : List ℕ) → IsTrue (is_rising 0 (spans wanted bytes)) }
 {}

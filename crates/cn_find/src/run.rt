@@ -3,11 +3,11 @@ ghost use Rattle.std.specs.Prelude.{◌≡◌, ◌++◌, ◌+◌, ◌≤◌, ◌
 ghost use Rattle.cn_find.specs.Private.{Skipped};
 ghost use Rattle.cn_find.specs.Spans.{after_run, text_before, run_of, span_of, spans_left};
 
-use crate::belongs::belongs;
+use crate::belongs::{belongs, is_joined};
 use crate::{Found, Wanted};
 use cn_judge::split_first_mark;
 
-// The characters at the start that belong to a number, and what follows them.
+// The first character and those that are joined to the one before them, and what follows them.
 fn split_run(wanted: Wanted, text: &str) -> (&str, &str)
     ensures run { result.0.now ≡ encode_utf8_all (run_of wanted (chars text.now)) }
     ensures rest { chars result.1.now ≡ after_run wanted (chars text.now) }
@@ -15,10 +15,10 @@ fn split_run(wanted: Wanted, text: &str) -> (&str, &str)
 {
     let mut rest = text;
     'gathering: while let Some((c, mark, after)) = split_first_mark(rest) {
-        if !belongs(wanted, c, mark, after) {
+        rest = after;
+        if !is_joined(wanted, c, mark, after) {
             break;
         }
-        rest = after;
     }
     text.split_at(text.len() - rest.len())
 }
