@@ -41,7 +41,7 @@ first-span wanted before (c ∷ ahead) e =
     rw e (ap (λ l. span_at wanted before (c ∷ ahead) ∷ l) (past-run wanted before (c ∷ ahead)))
 
 -- a character that belongs to no number is joined to none
-not-joined : (wanted : Wanted) (c : ℕ) (ahead : List ℕ) → belongs wanted c ahead ≡ false
+pub not-joined : (wanted : Wanted) (c : ℕ) (ahead : List ℕ) → belongs wanted c ahead ≡ false
     → is_joined wanted c ahead ≡ false
 not-joined wanted c [] e = refl
 not-joined wanted c (next ∷ after) e = rw e

@@ -1,5 +1,6 @@
 pub mod Belongs
 pub mod Number
+pub mod Parting
 pub mod Plain
 pub mod Private
 pub mod Runs
