@@ -2,9 +2,10 @@
 //! heading.
 #![tactic(auto)]
 
-ghost use Rattle.std.specs.Prelude.{◌≡◌, pos, Ok, Err, IfOk, MatchOption, string_bytes, encode_utf8_all};
-ghost use Rattle.chinese_number.specs.Refusal.{Refusal};
-ghost use Rattle.chinese_number.specs.Reading.{Reads};
+ghost use Rattle.std.specs.Prelude.{◌≡◌, pos, Ok, IfOk, IfSome, string_bytes, encode_utf8_all};
+ghost use Rattle.std.specs.List.{Contains};
+ghost use Rattle.chinese_number.specs.Number.{IsAnswer};
+ghost use Rattle.chinese_number.specs.Spans.{Span, spans};
 ghost use Rattle.chinese_number.specs.Whole.{unsigned_kind};
 ghost use Rattle.chinese_number.specs.Printing.{spelled_text};
 ghost use Rattle.chinese_number.specs.declared.ChineseCase.TheVariants.{Upper};
@@ -14,7 +15,7 @@ ghost use Rattle.chinese_number.specs.declared.ChineseVariant.TheVariants.{Simpl
 use chinese_number::laws::spellings_read_back;
 use chinese_number::{
     ChineseCase, ChineseCountMethod, ChineseToNumber, ChineseToNumberError, ChineseVariant,
-    NumberToChinese, NumberToChineseError, from_u64_to_chinese_ten_thousand,
+    NumberToChinese, NumberToChineseError, Wanted, find_numbers, from_u64_to_chinese_ten_thousand,
 };
 use std::alloc::{AllocError, Global};
 use std::io;
@@ -43,16 +44,17 @@ fn print_and_read<T: NumberToChinese>(
     Ok(text.as_str().to_number(method))
 }
 
-/// The number of a chapter, as 二十三; `None` exactly where the definition refuses the text.
-fn chapter_number(text: &str) -> Option<u16>
-    ensures { MatchOption result
-        ((refusal : Refusal) × Reads (unsigned_kind 16) TenThousand text.now (Err refusal))
-        (λ number. Reads (unsigned_kind 16) TenThousand text.now (Ok (pos number))) }
+/// The number of the first chapter that a line names, as 第二十三回: that of one of its numbers.
+fn chapter_number(line: &str) -> Option<u16>
+    ensures { IfSome result (λ n. (span : Span) × Contains (spans Wanted.EVERYDAY line.now) span
+        × IsAnswer (unsigned_kind 16) TenThousand span.text (Ok (pos n))) }
 {
-    match text.to_number(ChineseCountMethod::TenThousand) {
-        Ok(number) => Some(number),
-        Err(_) => None,
+    for found in find_numbers(line, Wanted::EVERYDAY) {
+        if found.before.ends_with('第') && found.after.starts_with('回') {
+            return found.number(ChineseCountMethod::TenThousand).ok();
+        }
     }
+    None
 }
 
 fn main(rt: HostRuntime) -> io::Result<()> {
@@ -63,9 +65,7 @@ fn main(rt: HostRuntime) -> io::Result<()> {
     if let Ok(Ok(yuan)) = print_and_read(rt.alloc(), variant, case, method, 1_280_500u64) {
         println!(rt; "{yuan} yuan")?;
     }
-    let heading = "第二十三回";
-    let digits = heading.trim_start_matches('第').trim_end_matches('回');
-    match chapter_number(digits) {
+    match chapter_number("第二十三回") {
         Some(chapter) => println!(rt; "chapter {chapter}"),
         None => println!(rt; "no chapter"),
     }

@@ -18,6 +18,12 @@ pub use Rattle.cn_core.specs.Spelling
 pub use Rattle.cn_core.specs.Text
 pub use Rattle.cn_core.specs.Value
 pub use Rattle.cn_core.specs.Whole
+pub use Rattle.cn_find.specs.Belongs
+pub use Rattle.cn_find.specs.Number
+pub use Rattle.cn_find.specs.Parting
+pub use Rattle.cn_find.specs.Plain
+pub use Rattle.cn_find.specs.Runs
+pub use Rattle.cn_find.specs.Spans
 pub use Rattle.cn_print.specs.ErrorText as PrintErrorText
 pub use Rattle.cn_print.specs.Prints
 pub use Rattle.cn_print.specs.Writes

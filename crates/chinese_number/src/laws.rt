@@ -15,6 +15,10 @@ pub use answers::{
     each_string_has_one_answer, each_text_has_one_judgement, judgements_can_be_computed,
     numerals_alone_are_read,
 };
+pub use cn_find::laws::{
+    numbers_are_the_runs, numbers_come_in_order, one_number_either_way,
+    types_answer_alike_without_sign, unwanted_characters_part_texts,
+};
 pub use enums::{equal_values_are_the_same_variant, units_compare_by_rank};
 pub use methods::{
     methods_spell_alike_below, methods_spell_otherwise_from, small_units_read_alike,

@@ -1,3 +1,4 @@
+pub mod DigitRuns
 pub mod Endings
 pub mod Faults
 pub mod Judgements
@@ -5,7 +6,6 @@ pub mod MarkTable
 pub mod OpenSums
 pub mod Pieces
 pub mod PlainDigits
-pub mod Runs
 pub mod Stacks
 pub mod Steps
 pub mod Tails

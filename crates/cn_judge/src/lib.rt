@@ -2,7 +2,8 @@
 //! definitions of `cn_core` judge it. No reader takes memory.
 //!
 //! What stands here serves the crates above it alone: `cn_read` gives the readers their public
-//! names, and hands on the error; `cn_quick` shares marks, signs and the rules on the first digit.
+//! names, and hands on the error; `cn_quick` shares marks, signs and the rules on the first digit, and
+//! `cn_find` marks.
 #![tactic(auto)]
 
 mod error;
@@ -17,5 +18,5 @@ pub use error::ChineseToNumberError;
 pub use judge::{AfterSign, first_digit, judge_text, read, signed_answer, split_sign};
 pub use mark::Mark;
 pub use naive::read_naive;
-pub use text::{split_first_known, split_last_known};
+pub use text::{split_first_known, split_first_mark, split_last_known};
 pub use walk::separates_digits;

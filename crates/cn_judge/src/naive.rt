@@ -5,7 +5,7 @@ ghost use Rattle.cn_core.specs.Naive.{naive_answer};
 ghost use Rattle.cn_core.specs.Reading.{naive_reading};
 ghost use Rattle.cn_judge.specs.Answer.{answer_of};
 ghost use Rattle.cn_judge.specs.Piece.{answer_at};
-ghost use Rattle.cn_judge.specs.Private.PlainPiece.{IsPiece, IsRun, StartsWith, piece_len};
+ghost use Rattle.cn_judge.specs.Private.PlainPiece.{IsPiece, IsDigitRun, StartsWith, piece_len};
 
 use crate::ChineseToNumberError;
 use crate::judge::{signed_answer, split_sign};
@@ -17,7 +17,7 @@ use cn_core::Whole;
 // Digits that stand side by side: how many, the power of ten that they make room for, and their
 // number.
 #[derive(Copy, Clone)]
-struct Run {
+struct DigitRun {
     count: usize,
     weight: u64,
     value: u64,
@@ -25,11 +25,11 @@ struct Run {
 
 // The digits of three bytes at the start of a text, at most nineteen, whose number fits 64 bits.
 #[inline(always)]
-fn split_run(text: &str) -> (Run, &str)
-    ensures run { IsRun text.now result.1.now result.0.count result.0.weight result.0.value }
+fn split_digit_run(text: &str) -> (DigitRun, &str)
+    ensures run { IsDigitRun text.now result.1.now result.0.count result.0.weight result.0.value }
     ensures within { result.0.count + length result.1.now ≤ length text.now }
 {
-    let mut run = Run {
+    let mut run = DigitRun {
         count: 0,
         weight: 1,
         value: 0,
@@ -39,7 +39,7 @@ fn split_run(text: &str) -> (Run, &str)
         let Some((digit, after)) = split_first_digit(rest) else {
             break;
         };
-        run = Run {
+        run = DigitRun {
             count: run.count + 1,
             weight: run.weight * 10,
             value: run.value * 10 + digit as u64,
@@ -52,7 +52,7 @@ fn split_run(text: &str) -> (Run, &str)
 // What stands at the start of a text, to plain digits.
 #[derive(Copy, Clone)]
 enum Piece {
-    Digits(Run),
+    Digits(DigitRun),
     White,
     Wrong,
 }
@@ -62,7 +62,7 @@ fn piece_of(c: char) -> Piece
     ensures { IsPiece result c }
 {
     match mark_of(c) {
-        Mark::Digit(digit) => Piece::Digits(Run {
+        Mark::Digit(digit) => Piece::Digits(DigitRun {
             count: 1,
             weight: 10,
             value: digit as u64,
@@ -86,7 +86,7 @@ fn split_first_piece(text: &str) -> Option<(Piece, &str)>
     ensures within { IfSome result
         (λ r. (piece_len r.0 + length r.1.now ≤ length text.now) × (0 < piece_len r.0)) }
 {
-    let (run, after) = split_run(text);
+    let (run, after) = split_digit_run(text);
     if run.count > 0 {
         return Some((Piece::Digits(run), after));
     }

@@ -22,6 +22,16 @@ pub fn split_first_char(text: &str) -> Option<(char, &str)>
     }
 }
 
+/// The first character, its mark, and what stands after it.
+pub fn split_first_mark(text: &str) -> Option<(char, Mark, &str)>
+    ensures parts { MatchOption result (chars text.now ≡ [])
+        (λ r. (chars text.now ≡ r.0 ∷ chars r.2.now) × (marked r.1 ≡ mark_of r.0)) }
+    ensures shorter { IfSome result (λ r. length r.2.now < length text.now) }
+{
+    let (c, after) = split_first_char(text)?;
+    Some((c, mark_of(c), after))
+}
+
 /// The first character of a text that is no white space.
 #[derive(Copy, Clone)]
 pub struct First<'a> {

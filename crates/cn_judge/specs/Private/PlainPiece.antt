@@ -7,11 +7,11 @@ use Rattle.cn_judge.specs.declared.naive.Piece.TheVariants.{Digits, White, Wrong
 
 -- so many digits stand at the start of a text, before what follows them; they make room for a power
 -- of ten, and this is their number
-pub data IsRun (bytes : List ℕ) : List ℕ → ℕ → ℕ → ℕ → Type 0 where
-  no_digit : IsRun bytes bytes 0 1 0
+pub data IsDigitRun (bytes : List ℕ) : List ℕ → ℕ → ℕ → ℕ → Type 0 where
+  no_digit : IsDigitRun bytes bytes 0 1 0
   one_more : (ahead after : List ℕ) (c next count weight value : ℕ)
-      → IsRun bytes ahead count weight value → chars ahead ≡ c ∷ chars after
-      → digit next ≡ mark_of c → IsRun bytes after (count + 1) (weight * 10) (value * 10 + next)
+      → IsDigitRun bytes ahead count weight value → chars ahead ≡ c ∷ chars after
+      → digit next ≡ mark_of c → IsDigitRun bytes after (count + 1) (weight * 10) (value * 10 + next)
 
 -- the character is one digit, or white space, or neither
 abbrev pub IsPiece : Piece → ℕ → Type 0
@@ -22,7 +22,7 @@ IsPiece Wrong c = (is_whitespace c ≡ false) × ((value : ℕ) → mark_of c �
 -- the text starts with some digits, or with a character that is white space or neither
 abbrev pub StartsWith : Piece → List ℕ → List ℕ → Type 0
 StartsWith (Digits run) bytes rest =
-    (0 < run.count) × IsRun bytes rest run.count run.weight run.value
+    (0 < run.count) × IsDigitRun bytes rest run.count run.weight run.value
 StartsWith piece bytes rest = (c : ℕ) × (chars bytes ≡ c ∷ chars rest) × IsPiece piece c
 
 -- how many characters the piece has

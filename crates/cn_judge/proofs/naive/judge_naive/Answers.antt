@@ -1,6 +1,6 @@
 use Rattle.std.proofs.Common.{◌+◌, ◌*◌, ◌^◌, ◌<◌, ◌≤◌, sym, refl, arith, rules}
 use Rattle.cn_judge.proofs.PlainDigits.{IsReading-white, IsReading-incorrect}
-use Rattle.cn_judge.proofs.Runs.{IsReading-run, IsReading-run-great}
+use Rattle.cn_judge.proofs.DigitRuns.{IsReading-run, IsReading-run-great}
 use Rattle.cn_judge.proofs.naive.judge_naive.Goals as goal
 
 pub returns-in_default-multiply_add : goal.returns-in_default-multiply_add

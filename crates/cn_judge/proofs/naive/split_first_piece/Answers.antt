@@ -1,4 +1,4 @@
-use Rattle.cn_judge.proofs.Runs.{StartsWith-character}
+use Rattle.cn_judge.proofs.DigitRuns.{StartsWith-character}
 use Rattle.cn_judge.proofs.naive.split_first_piece.Goals as goal
 
 pub returns-clause-parts : goal.returns-clause-parts

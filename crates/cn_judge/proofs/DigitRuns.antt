@@ -5,7 +5,7 @@ use Rattle.cn_core.specs.Naive.{naive_answer}
 use Rattle.cn_core.specs.Refusal.{too_large}
 use Rattle.cn_core.specs.Text.{text_of, marks_of}
 use Rattle.cn_judge.specs.Piece.{answer_at}
-use Rattle.cn_judge.specs.Private.PlainPiece.{IsPiece, IsRun, StartsWith, no_digit, one_more}
+use Rattle.cn_judge.specs.Private.PlainPiece.{IsPiece, IsDigitRun, StartsWith, no_digit, one_more}
 use Rattle.cn_judge.specs.declared.naive.Piece.{Piece}
 use Rattle.cn_judge.specs.declared.naive.Piece.TheVariants.{Digits, White, Wrong}
 use Rattle.cn_judge.proofs.PlainDigits.{IsReading, IsReading-digit, IsReading-great}
@@ -28,7 +28,7 @@ same_reading skipped bytes rest index place number total is_empty r e f = rw (e,
 HasTaken-run : (skipped : ℕ) (bytes ahead rest : List ℕ) (char_index number count weight value : ℕ)
     (is_empty : Bool)
     → IsReading skipped bytes ahead char_index number is_empty
-    → IsRun ahead rest count weight value → number * weight + value < 2 ^ 128
+    → IsDigitRun ahead rest count weight value → number * weight + value < 2 ^ 128
     → HasTaken skipped bytes rest (char_index + count) (number * weight + value)
 HasTaken-run skipped bytes ahead rest char_index number count weight value is_empty r no_digit
     small =
@@ -53,7 +53,7 @@ HasTaken-run skipped bytes ahead rest char_index number count weight value is_em
 pub IsReading-run : (skipped : ℕ) (bytes ahead rest : List ℕ)
     (char_index number count weight value total : ℕ) (is_empty : Bool)
     → IsReading skipped bytes ahead char_index number is_empty
-    → IsRun ahead rest count weight value → 0 < count → total ≡ number * weight + value
+    → IsDigitRun ahead rest count weight value → 0 < count → total ≡ number * weight + value
     → total < 2 ^ 128
     → IsReading skipped bytes rest (char_index + count) total false
 IsReading-run skipped bytes ahead rest char_index number count weight value total is_empty r
@@ -70,7 +70,7 @@ IsReading-run skipped bytes ahead rest char_index number count weight value tota
 pub IsReading-run-great : (skipped : ℕ) (bytes ahead rest : List ℕ)
     (char_index number count weight value : ℕ) (is_empty : Bool)
     → IsReading skipped bytes ahead char_index number is_empty
-    → IsRun ahead rest count weight value → number < 2 ^ 128 → 2 ^ 128 ≤ number * weight + value
+    → IsDigitRun ahead rest count weight value → number < 2 ^ 128 → 2 ^ 128 ≤ number * weight + value
     → answer_at skipped bytes (naive_answer (marks_of (text_of bytes))) ≡ Err too_large
 IsReading-run-great skipped bytes ahead rest char_index number count weight value is_empty r
     no_digit fits great = absurd (omega (arith, fits, great))
@@ -91,7 +91,7 @@ IsReading-run-great skipped bytes ahead rest char_index number count weight valu
       by false test earlier = earlier (grind (arith, nat_tests))
 
 same_run : (bytes rest : List ℕ) (count weight value total : ℕ)
-    → IsRun bytes rest count weight value → value ≡ total → IsRun bytes rest count weight total
+    → IsDigitRun bytes rest count weight value → value ≡ total → IsDigitRun bytes rest count weight total
 same_run bytes rest count weight value total run e = rw e at run
 
 -- one character, by what it is

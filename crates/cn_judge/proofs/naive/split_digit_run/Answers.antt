@@ -1,7 +1,7 @@
 use Rattle.std.proofs.Common.{arith, rules}
 use Rattle.cn_judge.specs.Private.PlainPiece.{no_digit, one_more}
 use Rattle.cn_judge.proofs.WalkSteps.{digit-low}
-use Rattle.cn_judge.proofs.naive.split_run.Goals as goal
+use Rattle.cn_judge.proofs.naive.split_digit_run.Goals as goal
 
 pub gathering-init : goal.gathering-init
 gathering-init c = record {

@@ -1,0 +1,7 @@
+pub mod Belongs
+pub mod Number
+pub mod Parting
+pub mod Plain
+pub mod Private
+pub mod Runs
+pub mod Spans

@@ -1,0 +1,124 @@
+// Whether a character of a text is one of a number.
+ghost use Rattle.std.specs.Prelude.{◌≡◌, ◌&&◌, nat_le, chars};
+ghost use Rattle.cn_core.specs.Characters.{rank};
+ghost use Rattle.cn_core.specs.Mark.{mark_of};
+ghost use Rattle.cn_judge.specs.Marked.{marked};
+ghost use Rattle.cn_find.specs.Belongs.{belongs, counts_next, is_ge, is_great, is_chinese_digit, is_joined, is_parted, is_upper, is_wanted, is_wanted_mark};
+
+use crate::Wanted;
+use cn_core::{Unit, digit_of};
+use cn_judge::{Mark, split_first_mark};
+
+// The forms that stand in the upper case alone.
+#[tactic(auto, unfolding(crate::specs::Belongs::is_upper))]
+fn is_upper(c: char) -> bool
+    ensures { result ≡ is_upper c }
+{
+    matches!(
+        c,
+        '壹' | '貳'
+            | '贰'
+            | '貮'
+            | '參'
+            | '叁'
+            | '叄'
+            | '参'
+            | '肆'
+            | '伍'
+            | '陸'
+            | '陆'
+            | '柒'
+            | '捌'
+            | '玖'
+            | '拾'
+            | '佰'
+            | '仟'
+    )
+}
+
+fn is_up_to(greatest: Unit, unit: Unit) -> bool
+    ensures { result ≡ nat_le (rank unit) (rank greatest) }
+{
+    greatest >= unit
+}
+
+fn is_wanted_mark(greatest: Unit, mark: Mark) -> bool
+    ensures { result ≡ is_wanted_mark (rank greatest) (marked mark) }
+{
+    match mark {
+        Mark::Digit(_) => true,
+        Mark::Unit(unit) => is_up_to(greatest, unit),
+        Mark::Other => false,
+    }
+}
+
+fn is_ge(mark: Mark) -> bool
+    ensures { result ≡ is_ge (marked mark) }
+{
+    matches!(mark, Mark::Unit(Unit::Ge))
+}
+
+fn is_great(mark: Mark) -> bool
+    ensures { result ≡ is_great (marked mark) }
+{
+    match mark {
+        Mark::Unit(unit) => is_up_to(unit, Unit::Wan),
+        _ => false,
+    }
+}
+
+fn is_wanted(wanted: Wanted, c: char, mark: Mark) -> bool
+    requires { marked mark ≡ mark_of c }
+    ensures { result ≡ is_wanted wanted c }
+{
+    is_wanted_mark(wanted.greatest, mark) && (wanted.upper || !is_upper(c))
+}
+
+// Whether the text begins with a unit that 個 in front of it counts.
+fn counts_next(wanted: Wanted, text: &str) -> bool
+    ensures { result ≡ counts_next wanted (chars text.now) }
+{
+    let Some((c, mark, _)) = split_first_mark(text) else {
+        return false;
+    };
+    is_great(mark) && is_wanted(wanted, c, mark)
+}
+
+/// Whether a character with its mark is one of a number, by what follows it.
+#[tactic(auto, unfolding(crate::specs::Belongs::belongs))]
+pub fn belongs(wanted: Wanted, c: char, mark: Mark, after: &str) -> bool
+    requires { marked mark ≡ mark_of c }
+    ensures { result ≡ belongs wanted c (chars after.now) }
+{
+    if !is_wanted(wanted, c, mark) {
+        return false;
+    }
+    !is_ge(mark) || counts_next(wanted, after)
+}
+
+// Whether a character is a digit, and no ASCII one.
+fn is_chinese_digit(c: char) -> bool
+    ensures { result ≡ is_chinese_digit c }
+{
+    digit_of(c).is_some() && !c.is_ascii_digit()
+}
+
+// Whether the one is an ASCII digit, and the other a digit that is none.
+fn is_parted(c: char, next: char) -> bool
+    ensures { result ≡ is_parted c next }
+{
+    (c.is_ascii_digit() && is_chinese_digit(next)) || (is_chinese_digit(c) && next.is_ascii_digit())
+}
+
+/// Whether a character with its mark is of one number with the next one.
+pub fn is_joined(wanted: Wanted, c: char, mark: Mark, after: &str) -> bool
+    requires { marked mark ≡ mark_of c }
+    ensures { result ≡ is_joined wanted c (chars after.now) }
+{
+    let Some((next, next_mark, behind)) = split_first_mark(after) else {
+        return false;
+    };
+    belongs(wanted, c, mark, after)
+        && belongs(wanted, next, next_mark, behind)
+        && !is_parted(c, next)
+}

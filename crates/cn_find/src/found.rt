@@ -1,0 +1,60 @@
+ghost use Rattle.std.specs.Prelude.{◌≡◌, ◌+◌, ◌<◌, ◌^◌, length, chars};
+ghost use Rattle.cn_judge.specs.Answer.{answer_of};
+ghost use Rattle.cn_find.specs.Number.{IsAnswer, is_plain};
+
+use cn_core::{ChineseCountMethod, Whole, digit_of};
+use cn_judge::{ChineseToNumberError, read, read_naive};
+
+/// A run of numeral characters in its text.
+#[derive(Debug, Copy, Clone)]
+pub struct Found<'a> {
+    /// What stands before it.
+    pub before: &'a str,
+    /// The run itself.
+    pub text: &'a str,
+    /// What stands after it.
+    pub after: &'a str,
+    // So that its end is a position.
+    pub ghost fits: { length before.now + length text.now < 2 ^ 64 },
+}
+
+/// Whether each character is a digit.
+fn is_plain(text: &str) -> bool
+    ensures { result ≡ is_plain (chars text.now) }
+{
+    text.chars().all(|c| digit_of(c).is_some())
+}
+
+impl Found<'_> {
+    /// How many bytes stand before it.
+    pub fn start(self) -> usize
+        ensures { result ≡ length self.entry.before.now }
+    {
+        self.before.len()
+    }
+
+    /// How many bytes stand before what follows it.
+    pub fn end(self) -> usize
+        ensures { result ≡ length self.entry.before.now + length self.entry.text.now }
+    {
+        self.start() + self.text.len()
+    }
+
+    /// Whether it is plain digits: a single digit is, 十 is not.
+    pub fn is_plain(self) -> bool
+        ensures { result ≡ is_plain (chars self.entry.text.now) }
+    {
+        is_plain(self.text)
+    }
+
+    /// Its number as plain digits where it is those, else by units.
+    pub fn number<T: Whole>(self, method: ChineseCountMethod) -> Result<T, ChineseToNumberError>
+        ensures { IsAnswer T.kind method self.entry.text.now (answer_of T.number result) }
+    {
+        if is_plain(self.text) {
+            read_naive(self.text)
+        } else {
+            read(method, self.text)
+        }
+    }
+}

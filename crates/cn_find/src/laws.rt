@@ -1,0 +1,63 @@
+//! What users may count on, as contracts of functions that do nothing.
+ghost use Rattle.std.specs.Prelude.{◌≡◌, ◌↔◌, ◌++◌, ℕ, ℤ, List, map, chars, encode_utf8, true, false, None, Ok, Err, IsTrue};
+ghost use Rattle.std.specs.List.{Contains, list_all};
+ghost use Rattle.std.specs.Str.{IsUtf8};
+ghost use Rattle.cn_core.specs.declared.method.ChineseCountMethod.{ChineseCountMethod};
+ghost use Rattle.cn_core.specs.Mark.{Mark};
+ghost use Rattle.cn_core.specs.Naive.{decimal_value};
+ghost use Rattle.cn_core.specs.Numeral.{IsNumeral};
+ghost use Rattle.cn_core.specs.Reading.{leading_sign};
+ghost use Rattle.cn_core.specs.Refusal.{incorrect_at};
+ghost use Rattle.cn_core.specs.Text.{text_of};
+ghost use Rattle.cn_core.specs.Value.{numeral_value};
+ghost use Rattle.cn_core.specs.Whole.{Kind, holds};
+ghost use Rattle.cn_find.specs.Belongs.{is_wanted};
+ghost use Rattle.cn_find.specs.Number.{IsAnswer};
+ghost use Rattle.cn_find.specs.Parting.{with_text_after, with_text_before};
+ghost use Rattle.cn_find.specs.Plain.{is_decimal};
+ghost use Rattle.cn_find.specs.Spans.{Span, spans};
+ghost use Rattle.cn_find.specs.Runs.{IsRun, is_rising};
+
+use crate::Wanted;
+
+/// The numbers of a text are exactly its runs: stretches of characters that belong to numbers, each
+/// joined to the next, of which the first is joined to none before it and the last to none after it.
+pub fn numbers_are_the_runs(wanted: Wanted)
+    ensures { (bytes : List ℕ) (span : Span)
+        → Contains (spans wanted bytes) span ↔ IsRun wanted (chars bytes) span }
+{}
+
+/// They come in order, and no two overlap.
+pub fn numbers_come_in_order(wanted: Wanted)
+    ensures { (bytes : List ℕ) → IsTrue (is_rising 0 (spans wanted bytes)) }
+{}
+
+/// A character that is not wanted parts a text: what is found is what is found in front of it, and
+/// then what is found behind it. So lines, and parts of a file, can be searched by themselves.
+pub fn unwanted_characters_part_texts(wanted: Wanted)
+    ensures { (left right : List ℕ) (c : ℕ) → IsUtf8 left → IsUtf8 (encode_utf8 c ++ right)
+        → is_wanted wanted c ≡ false
+        → spans wanted (left ++ (encode_utf8 c ++ right))
+        ≡ map (with_text_after (encode_utf8 c ++ right)) (spans wanted left)
+        ++ map (with_text_before (left ++ encode_utf8 c)) (spans wanted right) }
+{}
+
+/// A text that begins with no sign is answered alike by each type that holds its number, and refused
+/// at the same place by all. Of the characters of a run 正 alone is a sign.
+pub fn types_answer_alike_without_sign()
+    ensures number { (here there : Kind) (method : ChineseCountMethod) (bytes : List ℕ)
+        (number : ℤ) → leading_sign true (text_of bytes) ≡ None
+        → IsAnswer here method bytes (Ok number) → IsTrue (holds there number)
+        → IsAnswer there method bytes (Ok number) }
+    ensures place { (here there : Kind) (method : ChineseCountMethod) (bytes : List ℕ)
+        (char_index : ℕ) → leading_sign true (text_of bytes) ≡ None
+        → IsAnswer here method bytes (Err (incorrect_at char_index))
+        → IsAnswer there method bytes (Err (incorrect_at char_index)) }
+{}
+
+/// Plain digits that are a numeral too, as 五 and 零五, are one number, whichever way they are read.
+pub fn one_number_either_way()
+    ensures { (method : ChineseCountMethod) (marks : List Mark) (number : ℕ)
+        → IsTrue (list_all is_decimal marks) → IsNumeral marks
+        → decimal_value marks ≡ number → numeral_value method marks ≡ number }
+{}

@@ -1,0 +1,60 @@
+ghost use Rattle.std.specs.Prelude.{◌≡◌, ◌≤◌, length};
+ghost use Rattle.std.specs.Iterator.{YieldsFirstBy, item_count};
+ghost use Rattle.cn_find.specs.Spans.{spans, span_of};
+
+use crate::run::next_run;
+use crate::{Found, Wanted};
+use std::marker::Model;
+
+/// The numbers of a text, seen as the list of those that are left.
+#[derive(Drop)]
+pub struct Numbers<'a> {
+    wanted: Wanted,
+    whole: &'a str,
+    // The end that is not yet searched.
+    rest: &'a str,
+}
+
+impl<'a> Model for Numbers<'a> {
+    ghost use Rattle.std.specs.Prelude.{◌≡◌, ◌++◌, List};
+    ghost use Rattle.cn_find.specs.Spans.{Span, text_before, spans_left};
+
+    ghost Value = { List Span };
+
+    ghost view = { λ n. spans_left n.wanted n.whole.now n.rest.now };
+
+    ghost invariant = { λ n. text_before n.whole.now n.rest.now ++ n.rest.now ≡ n.whole.now };
+}
+
+/// The numbers of a text, from the first to the last.
+pub fn find_numbers(text: &str, wanted: Wanted) -> Numbers<'_>
+    ensures numbers { result ≡ spans wanted text.now }
+    ensures few { length result ≤ length text.now }
+{
+    Numbers {
+        wanted,
+        whole: text,
+        rest: text,
+    }
+}
+
+impl<'a> Iterator for Numbers<'a> {
+    type Item = Found<'a>;
+
+    ghost next_gives = { YieldsFirstBy span_of (λ left. left) };
+
+    ghost remaining = { item_count (λ left. left) };
+
+    fn next(&mut self) -> Option<Found<'a>> {
+        match next_run(self.wanted, self.whole, self.rest) {
+            Some(found) => {
+                self.rest = found.after;
+                Some(found)
+            }
+            None => {
+                self.rest = "";
+                None
+            }
+        }
+    }
+}

@@ -1,0 +1,65 @@
+//! Finds the Chinese numbers in its input, a line at a time.
+//!
+//! ```text
+//! 第二十三回，他五六十歲       1:2 二十三 23
+//!                             1:8 五六十 err the chinese number is incorrect (position: 0)
+//! ```
+//!
+//! Each number has a line of its own: where it stands, as LINE:COLUMN, both counted from 1 and
+//! columns in characters; its text; and the number, or `err` and the error's text, whose position
+//! counts within the number's text. A line that is no UTF-8 is answered LINE:1 `bad line`.
+//!
+//! The status is 0 where all was read and answered, 1 where a read or a write failed, and 2 where
+//! memory ran out or a word of the command line is unknown.
+#![tactic(auto)]
+
+mod options;
+mod search;
+
+use crate::options::{Request, Search, request_of};
+use crate::search::search_lines;
+use std::env;
+use std::io::{self, BufReader, BufWriter, ErrorKind};
+use std::process::ExitCode;
+
+static USAGE: &str = "\
+usage: numbers [--all] [low | ten_thousand | middle | high]
+Finds the Chinese numbers in its input. For each it writes a line LINE:COLUMN TEXT NUMBER, or
+LINE:COLUMN TEXT err and why it is refused. The method is ten_thousand unless one is named.
+--all looks for every character that is read, those of cheques and the units above 兆 too.";
+
+fn request(rt: &HostRuntime) -> io::Result<Option<Request>> {
+    let mut words = Vec::new(rt.alloc());
+    for word in env::args(rt)?.skip(1) {
+        words.push(word)?;
+    }
+    Ok(request_of(words.as_slice()))
+}
+
+fn search_input(rt: &HostRuntime, search: Search) -> io::Result<()> {
+    let mut reader = BufReader::new(rt.alloc(), rt.reader())?;
+    let mut writer = BufWriter::new(rt.alloc(), io::writer(rt))?;
+    search_lines(rt.alloc(), &mut reader, &mut writer, search)
+}
+
+// Answers the request, and says whether there was one.
+fn answer(rt: &HostRuntime) -> io::Result<bool> {
+    match request(rt)? {
+        Some(Request::Help) => println!(rt; "{USAGE}")?,
+        Some(Request::Search(search)) => search_input(rt, search)?,
+        None => {
+            eprintln!(rt; "{USAGE}")?;
+            return Ok(false);
+        }
+    }
+    Ok(true)
+}
+
+fn main(rt: HostRuntime) -> ExitCode {
+    match answer(&rt) {
+        Ok(true) => ExitCode::from(0),
+        Ok(false) => ExitCode::from(2),
+        Err(error) if error.kind() == ErrorKind::OutOfMemory => ExitCode::from(2),
+        Err(_) => ExitCode::from(1),
+    }
+}
