@@ -29,11 +29,11 @@ use Rattle.cn_ways.specs.Ways.{ReadsBy, unprintable, written_by}
 use Rattle.cn_c.specs.Codes.{CN_DONE, refusal_status}
 use Rattle.cn_c.specs.Halves.{number_of}
 use Rattle.cn_c.specs.Kinds.{the_kind}
-use Rattle.cn_c.specs.Prints.{PutsNothing, PutsText, PutsWritten, PrintsNumber, IsPrintedAs}
+use Rattle.cn_c.specs.Prints.{PutsNothing, PutsIfItFits, PutsWritten, PrintsNumber, IsPrintedAs}
 use Rattle.cn_c.specs.Reads.{Tells, ReadsInto, IsReadAs}
 
 -- what is put where all goes well
-put-text : (text old new : List ℕ) (len : ℕ) → PutsText text old CN_DONE new len
+put-text : (text old new : List ℕ) (len : ℕ) → PutsIfItFits text old CN_DONE new len
     → take len new ≡ text
 put-text text old new len = by (nat_le (length text) (length old)) where
   by : (b : Bool) → MatchBool b ((CN_DONE ≡ 0) × (new ≡ text ++ drop (length text) old)

@@ -10,7 +10,7 @@ use Rattle.cn_core.specs.Scale.{scale_fits}
 use Rattle.cn_core.specs.Text.{marks_of}
 use Rattle.cn_core.specs.Value.{value}
 use Rattle.cn_judge.specs.declared.mark.Mark.{Mark as ReadMark}
-use Rattle.cn_judge.specs.Private.Walk.{opens_of, faults, number_answer, front_answer, refused_or, walked_answer, tail_answer, HasTail, HasNoTail}
+use Rattle.cn_judge.specs.Private.Walk.{opens_of, faults, number_answer, front_answer, fault_or, walked_answer, tail_answer, HasTail, HasNoTail}
 use Rattle.cn_judge.specs.Private.Stack.{StackEntry, total_sum}
 use Rattle.cn_judge.specs.Private.Walked.{IsWalked}
 use Rattle.cn_judge.proofs.OpenSums.{total-value}
@@ -62,7 +62,7 @@ pub front-fits : (method : ChineseCountMethod) (first : Mark) (walked : List ℕ
     × (with_first_digit (first ∷ marks_of walked) ≡ digit d ∷ marks_of walked)
     → walked_answer method first (marks_of walked) ≡ number_answer (total_sum (sum + d) units)
 front-fits method first walked sum units next d w numeral =
-    ap (λ f. refused_or f (front_answer method first (marks_of walked))) w.sound
+    ap (λ f. fault_or f (front_answer method first (marks_of walked))) w.sound
     ∙ ap (λ (b : Bool). if b then number_answer (value method
     (with_first_digit (first ∷ marks_of walked))) else Err (incorrect_at 0)) numeral.0
     ∙ ap (λ l. number_answer (value method l)) numeral.1
@@ -132,7 +132,7 @@ unfit-end method (m ∷ front) rank h =
 walked-sound : (method : ChineseCountMethod) (first : Mark) (marks : List Mark) (number : ℕ)
     → Ok number ≡ walked_answer method first marks → faults method marks ≡ None
 walked-sound method first marks number h = by (faults method marks) h where
-  by : (f : Option Refusal) → Ok number ≡ refused_or f (front_answer method first marks) → f ≡ None
+  by : (f : Option Refusal) → Ok number ≡ fault_or f (front_answer method first marks) → f ≡ None
   by None h = refl
   by (Some r) h = cc
 

@@ -12,7 +12,7 @@ use Rattle.cn_core.specs.Scale.{scale_fits}
 use Rattle.cn_core.specs.Value.{value}
 use Rattle.cn_core.specs.Judging.{place_of, judge_body}
 use Rattle.cn_core.proofs.Fronts.{each-from_completable}
-use Rattle.cn_judge.specs.Private.Walk.{number_answer, front_answer, refused_or, walked_answer, fault_of, further_or, faults}
+use Rattle.cn_judge.specs.Private.Walk.{number_answer, front_answer, fault_or, walked_answer, fault_of, further_or, faults}
 use Rattle.cn_judge.proofs.OpenSums.{take_while-group, group-value}
 
 -- an early overflow, where the list's own place counts too
@@ -197,7 +197,7 @@ early_suc method mark rest place =
 
 numeral_cases : (u o n : Bool) (number : ℕ) → n ≡ false → (o ≡ true → 2 ^ 128 ≤ number)
     → (if not (n || u) && nat_lt number (2 ^ 128) then Ok number else Err too_large)
-    ≡ refused_or (if u || o then Some too_large else None) (number_answer number)
+    ≡ fault_or (if u || o then Some too_large else None) (number_answer number)
 numeral_cases true o true number h great = cc
 numeral_cases false o true number h great = cc
 numeral_cases true o false number h great = refl
@@ -207,13 +207,13 @@ numeral_cases false true false number h great = let l =
 
 refused_cases : (over : Bool) (answer : Result ℕ Refusal) → answer ≡ Err (incorrect_at 0)
     → (if over then Err too_large else Err (incorrect_at 0))
-    ≡ refused_or (if over then Some too_large else None) answer
+    ≡ fault_or (if over then Some too_large else None) answer
 refused_cases true answer h = refl
 refused_cases false answer h = sym h
 
 placed_cases : (early : Bool) (place : ℕ) (answer : Result ℕ Refusal)
     → (if early then Err too_large else Err (incorrect_at (suc place)))
-    ≡ refused_or (if early then Some too_large else Some (incorrect_at place)) answer
+    ≡ fault_or (if early then Some too_large else Some (incorrect_at place)) answer
 placed_cases true place answer = refl
 placed_cases false place answer = refl
 
@@ -221,14 +221,14 @@ placed_cases false place answer = refl
 pub plain-walked : (method : ChineseCountMethod) (mark : Mark) (rest : List Mark)
     → plain method (mark ∷ rest) ≡ walked_answer method mark rest
 plain-walked method mark rest = by (is_numeral (mark ∷ rest)) (each_may_precede rest) refl refl
-    ∙ ap (λ f. refused_or f (front_answer method mark rest)) (sym (faults-at method rest)) where
+    ∙ ap (λ f. fault_or f (front_answer method mark rest)) (sym (faults-at method rest)) where
       by : (k e : Bool) → is_numeral (mark ∷ rest) ≡ k → each_may_precede rest ≡ e
           → (if k then (if not (is_unfit method mark || some_unfit method rest)
           && nat_lt (value method (with_first_digit (mark ∷ rest))) (2 ^ 128)
           then Ok (value method (with_first_digit (mark ∷ rest))) else Err too_large)
           else (if is_early method (mark ∷ rest) (if e then 0 else suc (place_of rest))
           then Err too_large else Err (incorrect_at (if e then 0 else suc (place_of rest)))))
-          ≡ refused_or (faults_by e (some_unfit method rest || some_overflowing method rest)
+          ≡ fault_or (faults_by e (some_unfit method rest || some_overflowing method rest)
           (is_early_at method rest (place_of rest)) (place_of rest))
           (if k then number_answer (value method (with_first_digit (mark ∷ rest)))
           else Err (incorrect_at 0))

@@ -16,7 +16,7 @@ use Rattle.cn_judge.specs.declared.mark.Mark.TheVariants.{Digit, Unit, Other}
 use Rattle.cn_judge.specs.Marked.{marked}
 use Rattle.cn_judge.specs.Judged.{after_first, JudgesAt}
 use Rattle.cn_judge.specs.Piece.{StandsAt, EndsWith, answer_at}
-use Rattle.cn_judge.specs.Private.Walk.{walked_answer, tail_answer, faults, fault_of, front_answer, refused_or, further_or, number_answer, HasTail, HasNoTail}
+use Rattle.cn_judge.specs.Private.Walk.{walked_answer, tail_answer, faults, fault_of, front_answer, fault_or, further_or, number_answer, HasTail, HasNoTail}
 use Rattle.cn_judge.proofs.Endings.{judged_plain, judged_tail}
 use Rattle.cn_judge.proofs.Pieces.{StandsAt-dark, char_index-at, char_index-rest}
 use Rattle.cn_judge.proofs.Walking.{filter-append}
@@ -129,9 +129,9 @@ front-same method char_index first before rest more parts =
 
       by : (f : Option Refusal) → faults method (marks_of (text_of before)) ≡ f
           → after_first char_index before
-          (refused_or f (front_answer method first (marks_of (text_of before))))
+          (fault_or f (front_answer method first (marks_of (text_of before))))
           ≡ after_first char_index rest
-          (refused_or f (front_answer method first (marks_of (text_of before))))
+          (fault_or f (front_answer method first (marks_of (text_of before))))
       by None e = front (is_numeral (first ∷ marks_of (text_of before))) _
           (value method (with_first_digit (first ∷ marks_of (text_of before))))
       by (Some empty) e = refl

@@ -5,5 +5,5 @@ use Rattle.cn_judge.specs.Answer.{refusal_of}
 use Rattle.cn_judge.specs.declared.error.ChineseToNumberError.{ChineseToNumberError}
 
 -- the bytes of an error's text: those of its refusal
-abbrev pub error_text : ChineseToNumberError → List ℕ
-error_text error = refusal_text (refusal_of error)
+abbrev pub reading_error_text : ChineseToNumberError → List ℕ
+reading_error_text error = refusal_text (refusal_of error)

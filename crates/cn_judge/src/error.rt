@@ -30,9 +30,9 @@ pub enum ChineseToNumberError {
 
 impl fmt::Display for ChineseToNumberError {
     ghost use Rattle.std.specs.Prelude.{Some};
-    ghost use Rattle.cn_judge.specs.ErrorText.{error_text};
+    ghost use Rattle.cn_judge.specs.ErrorText.{reading_error_text};
 
-    ghost output = { λ error. Some (error_text error) };
+    ghost output = { λ error. Some (reading_error_text error) };
 
     fn fmt<W: fmt::Write>(&self, f: &mut fmt::Formatter<W>) -> fmt::Result {
         match self {

@@ -5,7 +5,7 @@ use Rattle.cn_spell.specs.declared.error.NumberToChineseError.{NumberToChineseEr
 use Rattle.cn_spell.specs.declared.error.NumberToChineseError.TheVariants.{Overflow, Underflow, OutOfMemory}
 
 -- the bytes that `{}` writes
-abbrev pub error_text : NumberToChineseError → List ℕ
-error_text Overflow = refusal_text too_large
-error_text Underflow = refusal_text too_small
-error_text OutOfMemory = codes "out of memory"
+abbrev pub printing_error_text : NumberToChineseError → List ℕ
+printing_error_text Overflow = refusal_text too_large
+printing_error_text Underflow = refusal_text too_small
+printing_error_text OutOfMemory = codes "out of memory"

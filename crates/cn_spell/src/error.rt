@@ -17,9 +17,9 @@ pub enum NumberToChineseError {
 }
 
 impl fmt::Display for NumberToChineseError {
-    ghost use Rattle.cn_spell.specs.ErrorText.{error_text};
+    ghost use Rattle.cn_spell.specs.ErrorText.{printing_error_text};
 
-    ghost output = { λ error. Some (error_text error) };
+    ghost output = { λ error. Some (printing_error_text error) };
 
     fn fmt<W: fmt::Write>(&self, f: &mut fmt::Formatter<W>) -> fmt::Result {
         f.write_str(match self {

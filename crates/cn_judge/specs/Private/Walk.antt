@@ -88,9 +88,9 @@ front_answer method mark rest =
     if is_numeral (mark ∷ rest) then number_answer (value method (with_first_digit (mark ∷ rest)))
     else Err (incorrect_at 0)
 
-abbrev pub refused_or : Option Refusal → Result ℕ Refusal → Result ℕ Refusal
-refused_or (Some refusal) answer = Err (further refusal)
-refused_or None answer = answer
+abbrev pub fault_or : Option Refusal → Result ℕ Refusal → Result ℕ Refusal
+fault_or (Some refusal) answer = Err (further refusal)
+fault_or None answer = answer
 
 -- the last mark's part in the answer, where it stands apart after a unit of this rank
 abbrev pub tail_answer : ChineseCountMethod → ℕ → ℕ → Mark → Result ℕ Refusal → Result ℕ Refusal
@@ -101,7 +101,7 @@ tail_answer method place rank last (Ok before) = Err (incorrect_at place)
 
 -- the answer to a text as it stands
 abbrev pub walked_answer : ChineseCountMethod → Mark → List Mark → Result ℕ Refusal
-walked_answer method mark rest = refused_or (faults method rest) (front_answer method mark rest)
+walked_answer method mark rest = fault_or (faults method rest) (front_answer method mark rest)
 
 -- a text whose last two marks are read as they stand
 abbrev pub HasNoTail : List Mark → Type 0
