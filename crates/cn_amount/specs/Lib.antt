@@ -1,0 +1,4 @@
+pub mod ErrorText
+pub mod Form
+pub mod Places
+pub mod Writes

@@ -1,0 +1,38 @@
+ghost use Rattle.std.specs.Prelude.{◌≡◌, Some};
+ghost use Rattle.cn_amount.specs.declared.error.AmountToChineseError.TheVariants.{OutOfMemory};
+
+use std::alloc::AllocError;
+use std::error::Error;
+use std::fmt;
+
+/// Why an amount was not written.
+#[derive(Debug, Copy, Clone, Eq, PartialEq)]
+pub enum AmountToChineseError {
+    /// The amount is 10^18 fen or more.
+    Overflow,
+    /// There was no memory for the text.
+    OutOfMemory,
+}
+
+impl fmt::Display for AmountToChineseError {
+    ghost use Rattle.cn_amount.specs.ErrorText.{writing_error_text};
+
+    ghost output = { λ error. Some (writing_error_text error) };
+
+    fn fmt<W: fmt::Write>(&self, f: &mut fmt::Formatter<W>) -> fmt::Result {
+        f.write_str(match self {
+            AmountToChineseError::Overflow => "number is too large",
+            AmountToChineseError::OutOfMemory => "out of memory",
+        })
+    }
+}
+
+impl Error for AmountToChineseError {}
+
+impl From<AllocError> for AmountToChineseError {
+    ghost from_gives = { λ _ error. error ≡ OutOfMemory };
+
+    fn from(_error: AllocError) -> Self {
+        Self::OutOfMemory
+    }
+}

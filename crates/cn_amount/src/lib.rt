@@ -1,0 +1,11 @@
+//! Amounts of money in Chinese capitals, as they must stand on cheques and invoices: written in one
+//! form, and read in each form that the rules allow.
+#![tactic(auto)]
+
+mod before;
+mod capital;
+mod error;
+mod write;
+
+pub use error::AmountToChineseError;
+pub use write::{AMOUNT_LIMIT, amount_to_chinese};
