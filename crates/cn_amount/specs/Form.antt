@@ -1,12 +1,13 @@
 -- In which forms an amount may stand, and in which one it is written. The rule goes by places, from
 -- the top: a digit that is not 0 is written with its unit, and 零 in front of it where the digit
 -- directly before it is 0.
-use Rattle.std.specs.Prelude.{ℕ, zero, suc, Bool, true, false, ◌&&◌, ◌||◌, List, [], ◌∷◌, ◌++◌, Option, Some, None, if◌then◌else◌}
+use Rattle.std.specs.Prelude.{ℕ, zero, suc, Bool, true, false, ◌&&◌, ◌||◌, List, [], ◌∷◌, ◌++◌, if◌then◌else◌}
 use Rattle.cn_amount.specs.declared.before.Before.{Before}
 use Rattle.cn_amount.specs.declared.before.Before.TheVariants.{Nothing, Gap, Filled}
 use Rattle.cn_amount.specs.declared.capital.Capital.{Capital}
 use Rattle.cn_amount.specs.declared.capital.Capital.TheVariants.{Ling, Digit, Shi, Bai, Qian, Wan, Yi, Yuan, Jiao, Fen, Zheng, Ren, Min, Bi}
-use Rattle.cn_amount.specs.Places.{Section, Places}
+use Rattle.cn_amount.specs.declared.places.Section.{Section}
+use Rattle.cn_amount.specs.declared.places.Places.{Places}
 
 -- what the rules leave open
 pub record Choices : Type 0 where
@@ -46,33 +47,34 @@ after_digit Nothing zero = Nothing
 after_digit Gap zero = Gap
 after_digit Filled zero = Gap
 
--- a unit behind its digit, if the place has one
-abbrev pub unit_text : Option Capital → List Capital
-unit_text None = []
-unit_text (Some unit) = unit ∷ []
+-- whether anything is written yet
+abbrev pub is_written : Before → Bool
+is_written Nothing = false
+is_written Gap = true
+is_written Filled = true
 
--- a place: nothing where the digit is 0
-abbrev pub place_text : Before → ℕ → Option Capital → List Capital
+-- a place, with its unit if it has one: nothing where the digit is 0
+abbrev pub place_text : Before → ℕ → List Capital → List Capital
 place_text before zero unit = []
-place_text Nothing (suc n) unit = Digit (suc n) ∷ unit_text unit
-place_text Gap (suc n) unit = Ling ∷ Digit (suc n) ∷ unit_text unit
-place_text Filled (suc n) unit = Digit (suc n) ∷ unit_text unit
+place_text Nothing (suc n) unit = Digit (suc n) ∷ unit
+place_text Gap (suc n) unit = Ling ∷ Digit (suc n) ∷ unit
+place_text Filled (suc n) unit = Digit (suc n) ∷ unit
 
 -- the lowest place of a section, the lowest two, three, and all four: 肆佰零玖 of 0, 4, 0, 9
 abbrev pub ones_text : Before → ℕ → List Capital
-ones_text before ones = place_text before ones None
+ones_text before ones = place_text before ones []
 
 abbrev pub tens_text : Before → ℕ → ℕ → List Capital
 tens_text before tens ones =
-    place_text before tens (Some Shi) ++ ones_text (after_digit before tens) ones
+    place_text before tens (Shi ∷ []) ++ ones_text (after_digit before tens) ones
 
 abbrev pub hundreds_text : Before → ℕ → ℕ → ℕ → List Capital
 hundreds_text before hundreds tens ones =
-    place_text before hundreds (Some Bai) ++ tens_text (after_digit before hundreds) tens ones
+    place_text before hundreds (Bai ∷ []) ++ tens_text (after_digit before hundreds) tens ones
 
 abbrev pub section_text : Before → Section → List Capital
 section_text before s =
-    place_text before s.thousands (Some Qian)
+    place_text before s.thousands (Qian ∷ [])
     ++ hundreds_text (after_digit before s.thousands) s.hundreds s.tens s.ones
 
 abbrev pub after_section : Before → Section → Before
@@ -98,15 +100,9 @@ abbrev pub after_wan : Bool → Before → Section → Before
 after_wan keeps before s =
     if is_empty s then after_section before s else behind keeps (after_section before s)
 
--- a unit, if there is something that it counts
-abbrev pub counted : Before → Capital → List Capital
-counted Nothing unit = []
-counted Gap unit = unit ∷ []
-counted Filled unit = unit ∷ []
-
 -- the section that 亿 counts, with what stands in front of it
 abbrev pub yi_text : Before → Section → List Capital
-yi_text before s = section_text before s ++ counted (after_section before s) Yi
+yi_text before s = section_text before s ++ (if is_written (after_section before s) then Yi ∷ [] else [])
 
 abbrev pub after_yi : Bool → Before → Section → Before
 after_yi keeps before s = behind keeps (after_section before s)
@@ -134,8 +130,8 @@ closing (suc n) zero false = []
 -- jiao, fen and what closes them
 abbrev pub small_text : Before → ℕ → ℕ → Bool → List Capital
 small_text before jiao fen closes =
-    place_text before jiao (Some Jiao)
-    ++ (place_text (after_digit before jiao) fen (Some Fen) ++ closing jiao fen closes)
+    place_text before jiao (Jiao ∷ [])
+    ++ (place_text (after_digit before jiao) fen (Fen ∷ []) ++ closing jiao fen closes)
 
 -- the yuan without a greater unit, 元, and the rest
 abbrev pub yuan_text : Choices → Before → Section → ℕ → ℕ → List Capital

@@ -1,4 +1,5 @@
 pub mod ErrorText
 pub mod Form
 pub mod Places
+pub mod Working
 pub mod Writes

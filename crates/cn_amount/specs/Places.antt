@@ -1,27 +1,12 @@
 -- An amount of money by its decimal digits.
 use Rattle.std.specs.Prelude.{ℕ, ◌+◌, ◌*◌, ◌/◌, ◌%◌, ◌^◌, ◌<◌}
+use Rattle.cn_amount.specs.declared.places.Section.{Section}
+use Rattle.cn_amount.specs.declared.places.Places.{Places}
 
 -- An amount is a number of fen, the hundredth part of a yuan, below this one. From 10^16 yuan on
 -- 万 and 亿 are not enough, and 兆 is read by some as 10^6 and by others as 10^12 or 10^16.
 abbrev pub amount_limit : ℕ
 amount_limit = 10 ^ 18
-
--- four decimal digits
-pub record Section : Type 0 where
-  pub thousands : ℕ
-  pub hundreds : ℕ
-  pub tens : ℕ
-  pub ones : ℕ
-
--- the digits of an amount: four sections of yuan, the highest counted by 万亿, then by 亿, by 万 and
--- by one; and the jiao and the fen
-pub record Places : Type 0 where
-  pub wan_yi : Section
-  pub yi : Section
-  pub wan : Section
-  pub yuan : Section
-  pub jiao : ℕ
-  pub fen : ℕ
 
 -- the number that four digits write: 1409 of 1, 4, 0, 9
 abbrev pub section_value : Section → ℕ

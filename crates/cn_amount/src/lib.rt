@@ -5,6 +5,11 @@
 mod before;
 mod capital;
 mod error;
+mod pen;
+mod places;
+mod put;
+#[cfg(test)]
+mod tests;
 mod write;
 
 pub use error::AmountToChineseError;
