@@ -1,5 +1,6 @@
 pub mod ErrorText
 pub mod Form
 pub mod Places
+pub mod Steps
 pub mod Working
 pub mod Writes

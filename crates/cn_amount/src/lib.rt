@@ -8,6 +8,7 @@ mod error;
 mod pen;
 mod places;
 mod put;
+mod state;
 #[cfg(test)]
 mod tests;
 mod write;
