@@ -2,6 +2,7 @@
 ghost use Rattle.std.specs.Prelude.{◌≡◌};
 ghost use Rattle.cn_amount.specs.Working.{IsWritten};
 ghost use Rattle.cn_amount.specs.Writes.{capital_char};
+ghost use Rattle.cn_amount.specs.Reading.{capital_of};
 
 use cn_core::{ChineseCase, ChineseVariant, Unit, digit_char, unit_char};
 
@@ -53,5 +54,37 @@ pub fn capital_char(variant: ChineseVariant, capital: Capital) -> char
         Capital::Min => '民',
         Capital::Bi => '币',
         Capital::Foreign => '?',
+    }
+}
+
+/// What a character is, of either script.
+#[tactic(auto, unfolding(crate::specs::Reading::capital_of))]
+pub fn capital_of(character: char) -> Capital
+    ensures { result ≡ capital_of character }
+{
+    match character {
+        '零' => Capital::Ling,
+        '壹' => Capital::Digit(1),
+        '贰' | '貳' => Capital::Digit(2),
+        '叁' | '參' | '叄' => Capital::Digit(3),
+        '肆' => Capital::Digit(4),
+        '伍' => Capital::Digit(5),
+        '陆' | '陸' => Capital::Digit(6),
+        '柒' => Capital::Digit(7),
+        '捌' => Capital::Digit(8),
+        '玖' => Capital::Digit(9),
+        '拾' => Capital::Shi,
+        '佰' => Capital::Bai,
+        '仟' => Capital::Qian,
+        '万' | '萬' => Capital::Wan,
+        '亿' | '億' => Capital::Yi,
+        '元' | '圆' | '圓' => Capital::Yuan,
+        '角' => Capital::Jiao,
+        '分' => Capital::Fen,
+        '整' | '正' => Capital::Zheng,
+        '人' => Capital::Ren,
+        '民' => Capital::Min,
+        '币' | '幣' => Capital::Bi,
+        _ => Capital::Foreign,
     }
 }
