@@ -1,3 +1,4 @@
 pub mod Examples
 pub mod Lengths
+pub mod Sections
 pub mod Shown
