@@ -18,10 +18,10 @@ abbrev pub is_proper : Capital → Bool
 is_proper (Digit value) = nat_lt 0 value && nat_lt value 10
 is_proper capital = true
 
-digit-low : (n : ℕ) (t : List Capital) → list_all is_proper (Digit (suc n) ∷ t) ≡ true → suc n < 10
+pub digit-low : (n : ℕ) (t : List Capital) → list_all is_proper (Digit (suc n) ∷ t) ≡ true → suc n < 10
 digit-low n t p = let low : nat_lt (suc n) 10 ≡ true = and-right (nat_lt 0 (suc n)) _ (and-left (is_proper (Digit (suc n))) _ p) in grind (arith, nat_tests)
 
-rest-proper : (capital : Capital) (t : List Capital) → list_all is_proper (capital ∷ t) ≡ true → list_all is_proper t ≡ true
+pub rest-proper : (capital : Capital) (t : List Capital) → list_all is_proper (capital ∷ t) ≡ true → list_all is_proper t ≡ true
 rest-proper capital t p = and-right (is_proper capital) _ p
 
 -- a text that begins with what closes a section
@@ -89,6 +89,7 @@ pub record FirstTens (stage : Stage) (t : List Capital) : Type 0 where
   pub rest : List Capital
   pub is : t ≡ tens_text Nothing tens ones ++ rest
   pub gap : Ling ∷ t ≡ tens_text Gap tens ones ++ rest
+  pub some : (is_zero tens && is_zero ones) ≡ false
   pub ends : closed stage (is_zero ones) rest ≡ true
   pub proper : list_all is_proper rest ≡ true
 
@@ -102,6 +103,7 @@ pub record FirstHundreds (stage : Stage) (t : List Capital) : Type 0 where
   pub rest : List Capital
   pub is : t ≡ hundreds_text Nothing hundreds tens ones ++ rest
   pub gap : Ling ∷ t ≡ hundreds_text Gap hundreds tens ones ++ rest
+  pub some : (is_zero hundreds && (is_zero tens && is_zero ones)) ≡ false
   pub ends : closed stage (is_zero ones) rest ≡ true
   pub proper : list_all is_proper rest ≡ true
 
@@ -122,6 +124,7 @@ pub record FirstThousands (stage : Stage) (t : List Capital) : Type 0 where
   pub rest : List Capital
   pub is : t ≡ section_text Nothing (record { thousands = thousands; hundreds = hundreds; tens = tens; ones = ones }) ++ rest
   pub gap : Ling ∷ t ≡ section_text Gap (record { thousands = thousands; hundreds = hundreds; tens = tens; ones = ones }) ++ rest
+  pub some : (is_zero thousands && (is_zero hundreds && (is_zero tens && is_zero ones))) ≡ false
   pub ends : closed (stage_with thousands stage) (is_zero ones) rest ≡ true
   pub proper : list_all is_proper rest ≡ true
 
@@ -170,6 +173,7 @@ below-tens-first stage n (Shi ∷ t) p h =
       rest = r.rest;
       is = ap (λ l. Digit (suc n) ∷ Shi ∷ l) r.is;
       gap = ap (λ l. Ling ∷ Digit (suc n) ∷ Shi ∷ l) r.is;
+      some = refl;
       ends = r.ends;
       proper = r.proper;
     }
@@ -181,6 +185,7 @@ below-tens-first stage n (capital ∷ t) p h = record {
   rest = capital ∷ t;
   is = refl;
   gap = refl;
+  some = refl;
   ends = h;
   proper = rest-proper (Digit (suc n)) (capital ∷ t) p;
 }
@@ -257,6 +262,7 @@ below-hundreds-first stage n (Bai ∷ t) p h =
       rest = r.rest;
       is = ap (λ l. Digit (suc n) ∷ Bai ∷ l) r.is;
       gap = ap (λ l. Ling ∷ Digit (suc n) ∷ Bai ∷ l) r.is;
+      some = refl;
       ends = r.ends;
       proper = r.proper;
     }
@@ -272,6 +278,7 @@ below-hundreds-first stage n (capital ∷ t) p h =
       rest = r.rest;
       is = r.is;
       gap = r.gap;
+      some = r.some;
       ends = r.ends;
       proper = r.proper;
     }
@@ -343,6 +350,7 @@ below-thousands-first stage n (Qian ∷ t) p h =
       rest = r.rest;
       is = ap (λ l. Digit (suc n) ∷ Qian ∷ l) r.is;
       gap = ap (λ l. Ling ∷ Digit (suc n) ∷ Qian ∷ l) r.is;
+      some = refl;
       ends = r.ends;
       proper = r.proper;
     }
@@ -360,6 +368,56 @@ below-thousands-first stage n (capital ∷ t) p h =
       rest = r.rest;
       is = r.is;
       gap = r.gap;
+      some = r.some;
       ends = r.ends;
       proper = r.proper;
     }
+
+-- behind 零 right behind 万 or 亿
+pub ling-hundreds : (stage : Stage) (t : List Capital) → list_all is_proper t ≡ true → accepts (AfterLing stage Hundreds) t ≡ true → FirstHundreds stage t
+ling-hundreds stage [] p h = cc
+ling-hundreds stage (Digit zero ∷ t) p h = cc
+ling-hundreds stage (Digit (suc n) ∷ t) p h = below-hundreds-first stage n t p h
+ling-hundreds stage (capital ∷ t) p h = cc
+
+pub ling-thousands : (stage : Stage) (t : List Capital) → list_all is_proper t ≡ true → accepts (AfterLing stage Thousands) t ≡ true → FirstThousands stage t
+ling-thousands stage [] p h = cc
+ling-thousands stage (Digit zero ∷ t) p h = cc
+ling-thousands stage (Digit (suc n) ∷ t) p h = below-thousands-first stage n t p h
+ling-thousands stage (capital ∷ t) p h = cc
+
+-- a section that begins with 仟 right behind 万 or 亿
+pub record ReadThousands (stage : Stage) (t : List Capital) : Type 0 where
+  pub before_thousands : ℕ
+  pub hundreds : ℕ
+  pub tens : ℕ
+  pub ones : ℕ
+  pub low_thousands : suc before_thousands < 10
+  pub low_hundreds : hundreds < 10
+  pub low_tens : tens < 10
+  pub low : ones < 10
+  pub rest : List Capital
+  pub is : t ≡ section_text Filled (record { thousands = suc before_thousands; hundreds = hundreds; tens = tens; ones = ones }) ++ rest
+  pub ends : closed stage (is_zero ones) rest ≡ true
+  pub proper : list_all is_proper rest ≡ true
+
+pub at-thousands : (stage : Stage) (n : ℕ) (t : List Capital) → list_all is_proper (Digit (suc n) ∷ t) ≡ true → accepts (DigitAt stage Thousands) t ≡ true
+    → ReadThousands stage (Digit (suc n) ∷ t)
+at-thousands stage n [] p h = cc
+at-thousands stage n (Qian ∷ t) p h =
+    let r = after-thousands stage t (rest-proper Qian t (rest-proper (Digit (suc n)) (Qian ∷ t) p)) h in
+    record {
+      before_thousands = n;
+      hundreds = r.hundreds;
+      tens = r.tens;
+      ones = r.ones;
+      low_thousands = digit-low n (Qian ∷ t) p;
+      low_hundreds = r.low_hundreds;
+      low_tens = r.low_tens;
+      low = r.low;
+      rest = r.rest;
+      is = ap (λ l. Digit (suc n) ∷ Qian ∷ l) r.is;
+      ends = r.ends;
+      proper = r.proper;
+    }
+at-thousands stage n (capital ∷ t) p h = cc

@@ -91,7 +91,8 @@ behind false Filled = Filled
 
 -- a section that 万 counts; an empty one is not written
 abbrev pub is_empty : Section → Bool
-is_empty s = is_zero s.thousands && is_zero s.hundreds && is_zero s.tens && is_zero s.ones
+is_empty s =
+    is_zero s.thousands && (is_zero s.hundreds && (is_zero s.tens && is_zero s.ones))
 
 abbrev pub wan_text : Before → Section → List Capital
 wan_text before s = if is_empty s then [] else section_text before s ++ Wan ∷ []
