@@ -12,7 +12,7 @@ abbrev pub front : Bool → Before
 front true = Gap
 front false = Filled
 
-pub empty_section : Section
+abbrev pub empty_section : Section
 empty_section = record { thousands = 0; hundreds = 0; tens = 0; ones = 0 }
 
 pub step-written : (before : Before) (digit : ℕ) → is_written before ≡ true → after_digit before digit ≡ front (is_zero digit)

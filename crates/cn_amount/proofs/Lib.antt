@@ -1,5 +1,7 @@
+pub mod Accepted
 pub mod Closed
 pub mod Examples
+pub mod FormsRead
 pub mod Joins
 pub mod Lengths
 pub mod Sections

@@ -10,7 +10,7 @@ use Rattle.cn_amount.specs.Steps.{accepts}
 use Rattle.cn_amount.proofs.Joins.{front}
 use Rattle.cn_amount.proofs.Sections.{is_proper, digit-low, rest-proper}
 
-complete-nil : (t : List Capital) → accepts Complete t ≡ true → t ≡ []
+pub complete-nil : (t : List Capital) → accepts Complete t ≡ true → t ≡ []
 complete-nil [] h = refl
 complete-nil (capital ∷ t) h = cc
 
@@ -38,7 +38,7 @@ after-jiao (Digit zero ∷ t) p h = cc
 after-jiao (Digit (suc n) ∷ t) p h = fen-digit n t p h
 after-jiao (capital ∷ t) p h = cc
 
-closing-one : (n fen : ℕ) (closes : Bool) → closing 1 fen closes ≡ closing (suc n) fen closes
+pub closing-one : (n fen : ℕ) (closes : Bool) → closing 1 fen closes ≡ closing (suc n) fen closes
 closing-one n zero true = refl
 closing-one n zero false = refl
 closing-one n (suc m) closes = refl
