@@ -1,5 +1,5 @@
 -- Each form is read to its end.
-use Rattle.std.proofs.Common.{◌≡◌, ℕ, zero, suc, Bool, true, false, ◌&&◌, ◌||◌, List, [], ◌∷◌, ◌++◌, Some, None, refl, sym, ap, subst, ◌∙◌}
+use Rattle.std.proofs.Common.{◌≡◌, ℕ, zero, suc, Bool, true, false, ◌&&◌, ◌||◌, List, [], ◌∷◌, ◌++◌, refl, sym, ap, subst, ◌∙◌, if◌then◌else◌}
 use Rattle.cn_amount.specs.declared.before.Before.{Before}
 use Rattle.cn_amount.specs.declared.before.Before.TheVariants.{Nothing, Gap, Filled}
 use Rattle.cn_amount.specs.declared.capital.Capital.{Capital}
@@ -13,7 +13,7 @@ use Rattle.cn_amount.specs.declared.state.Stage.TheVariants.{Top, BelowWan, Belo
 use Rattle.cn_amount.specs.declared.state.State.{State}
 use Rattle.cn_amount.specs.declared.state.State.TheVariants.{Beginning, AfterCurrency, FirstDigit, AfterGreat, AfterLing, DigitAt, DigitBelow, AfterUnit, AfterYuan}
 use Rattle.cn_amount.specs.Form.{Choices, is_zero, is_empty, is_written, after_section, after_wan, after_yi, behind, ones_text, tens_text, hundreds_text, section_text, small_text, yuan_text, from_wan, from_yi, from_top, amount_form}
-use Rattle.cn_amount.specs.Steps.{bare, behind_thousands, close, close_wan, after_ling, accepts}
+use Rattle.cn_amount.specs.Steps.{bare, behind_thousands, after_ling, accepts}
 use Rattle.cn_amount.proofs.Joins.{front, empty_section, written-behind, after-written, after-some, yuan-is, wan-is, yi-is}
 use Rattle.cn_amount.proofs.Sections.{closed, at-ones, below-ones, stage_with}
 
@@ -107,13 +107,13 @@ record Plain (stage : Stage) : Type 0 where
   bare_is : bare stage ≡ stage
   ling_is : after_ling stage false ≡ AfterLing stage Hundreds
   thousands_is : behind_thousands stage ≡ stage
-  no_wan : close_wan stage true ≡ None
+  no_wan : (t : List Capital) → closed stage true (Wan ∷ t) ≡ false
 
 plain-last : Plain Last
-plain-last = record { bare_is = refl; ling_is = refl; thousands_is = refl; no_wan = refl }
+plain-last = record { bare_is = refl; ling_is = refl; thousands_is = refl; no_wan = λ t. refl }
 
 plain-below_wan : Plain BelowWan
-plain-below_wan = record { bare_is = refl; ling_is = refl; thousands_is = refl; no_wan = refl }
+plain-below_wan = record { bare_is = refl; ling_is = refl; thousands_is = refl; no_wan = λ t. refl }
 
 plain-with : (stage : Stage) → Plain stage → (n : ℕ) → stage_with n stage ≡ stage
 plain-with stage plain zero = refl
@@ -123,7 +123,7 @@ great-closed : (stage : Stage) (is_round : Bool) (t : List Capital) → Plain st
 great-closed stage is_round [] plain h = cc
 great-closed stage is_round (Ling ∷ t) plain h = cc
 great-closed stage is_round (Digit value ∷ t) plain h = cc
-great-closed stage is_round (Wan ∷ t) plain h = let g = rw plain.no_wan at h in g
+great-closed stage is_round (Wan ∷ t) plain h = let e : closed stage true (Wan ∷ t) ≡ false = plain.no_wan t in cc
 great-closed stage is_round (capital ∷ t) plain h = h
 
 great-thousands : (stage : Stage) (is_round : Bool) (n hundreds tens ones : ℕ) (t : List Capital) → Plain stage → closed stage (is_zero ones) t ≡ true
@@ -195,3 +195,186 @@ small-read false false zero (suc f) closes = refl
 small-read false false (suc j) zero true = refl
 small-read false false (suc j) zero false = refl
 small-read false false (suc j) (suc f) closes = refl
+
+-- behind 亿, with a section that 万 counts
+yi-wan : (keeps is_round : Bool) (thousands hundreds tens ones : ℕ) (t : List Capital) → (is_zero thousands && (is_zero hundreds && (is_zero tens && is_zero ones))) ≡ false
+    → accepts (AfterGreat Last (is_zero ones)) t ≡ true
+    → accepts (AfterGreat BelowYi is_round)
+    (section_text (behind keeps (front is_round)) (record { thousands = thousands; hundreds = hundreds; tens = tens; ones = ones }) ++ Wan ∷ t) ≡ true
+yi-wan true true (suc n) hundreds tens ones t some h = ling-thousands BelowYi (suc n) hundreds tens ones (Wan ∷ t) refl h
+yi-wan true true zero (suc m) tens ones t some h = ling-thousands BelowYi 0 (suc m) tens ones (Wan ∷ t) refl h
+yi-wan true true zero zero (suc k) ones t some h = ling-thousands BelowYi 0 0 (suc k) ones (Wan ∷ t) refl h
+yi-wan true true zero zero zero (suc l) t some h = ling-thousands BelowYi 0 0 0 (suc l) (Wan ∷ t) refl h
+yi-wan true false (suc n) hundreds tens ones t some h = read-thousands OnlyWan hundreds tens ones (Wan ∷ t) h
+yi-wan true false zero (suc m) tens ones t some h = ling-thousands BelowYiGap 0 (suc m) tens ones (Wan ∷ t) refl h
+yi-wan true false zero zero (suc k) ones t some h = ling-thousands BelowYiGap 0 0 (suc k) ones (Wan ∷ t) refl h
+yi-wan true false zero zero zero (suc l) t some h = ling-thousands BelowYiGap 0 0 0 (suc l) (Wan ∷ t) refl h
+yi-wan false true (suc n) hundreds tens ones t some h = read-thousands OnlyWan hundreds tens ones (Wan ∷ t) h
+yi-wan false true zero (suc m) tens ones t some h = ling-thousands BelowYi 0 (suc m) tens ones (Wan ∷ t) refl h
+yi-wan false true zero zero (suc k) ones t some h = ling-thousands BelowYi 0 0 (suc k) ones (Wan ∷ t) refl h
+yi-wan false true zero zero zero (suc l) t some h = ling-thousands BelowYi 0 0 0 (suc l) (Wan ∷ t) refl h
+yi-wan false false (suc n) hundreds tens ones t some h = read-thousands OnlyWan hundreds tens ones (Wan ∷ t) h
+yi-wan false false zero (suc m) tens ones t some h = ling-thousands BelowYiGap 0 (suc m) tens ones (Wan ∷ t) refl h
+yi-wan false false zero zero (suc k) ones t some h = ling-thousands BelowYiGap 0 0 (suc k) ones (Wan ∷ t) refl h
+yi-wan false false zero zero zero (suc l) t some h = ling-thousands BelowYiGap 0 0 0 (suc l) (Wan ∷ t) refl h
+yi-wan keeps is_round zero zero zero zero t some h = cc
+
+-- with none
+yi-yuan : (is_round : Bool) (thousands hundreds tens ones : ℕ) (t : List Capital) → accepts (AfterYuan (is_zero ones)) t ≡ true
+    → accepts (AfterGreat BelowYi is_round) (section_text Gap (record { thousands = thousands; hundreds = hundreds; tens = tens; ones = ones }) ++ Yuan ∷ t) ≡ true
+yi-yuan true (suc n) hundreds tens ones t h = ling-thousands BelowYi (suc n) hundreds tens ones (Yuan ∷ t) refl h
+yi-yuan true zero (suc m) tens ones t h = ling-thousands BelowYi 0 (suc m) tens ones (Yuan ∷ t) refl h
+yi-yuan true zero zero (suc k) ones t h = ling-thousands BelowYi 0 0 (suc k) ones (Yuan ∷ t) refl h
+yi-yuan true zero zero zero (suc l) t h = ling-thousands BelowYi 0 0 0 (suc l) (Yuan ∷ t) refl h
+yi-yuan false (suc n) hundreds tens ones t h = ling-thousands BelowYiGap (suc n) hundreds tens ones (Yuan ∷ t) refl h
+yi-yuan false zero (suc m) tens ones t h = ling-thousands BelowYiGap 0 (suc m) tens ones (Yuan ∷ t) refl h
+yi-yuan false zero zero (suc k) ones t h = ling-thousands BelowYiGap 0 0 (suc k) ones (Yuan ∷ t) refl h
+yi-yuan false zero zero zero (suc l) t h = ling-thousands BelowYiGap 0 0 0 (suc l) (Yuan ∷ t) refl h
+yi-yuan is_round zero zero zero zero t h = h
+
+-- an empty section
+empty-is : (thousands hundreds tens ones : ℕ) → (is_zero thousands && (is_zero hundreds && (is_zero tens && is_zero ones))) ≡ true
+    → empty_section ≡ record { thousands = thousands; hundreds = hundreds; tens = tens; ones = ones }
+empty-is zero zero zero zero h = refl
+empty-is (suc n) hundreds tens ones h = cc
+empty-is zero (suc m) tens ones h = cc
+empty-is zero zero (suc k) ones h = cc
+empty-is zero zero zero (suc l) h = cc
+
+-- a section is empty or not
+by-empty : (P : Section → Type 0) (s : Section) → P empty_section → (is_empty s ≡ false → P s) → P s
+by-empty P s none some = by (is_empty s) refl where
+  by : (b : Bool) → is_empty s ≡ b → P s
+  by true e = subst P (empty-is s.thousands s.hundreds s.tens s.ones e) none
+  by false e = some e
+
+-- the yuan behind a section, and what stands behind them
+yuan-read : (choices : Choices) (stage : Stage) (keeps is_round : Bool) (s : Section) (jiao fen : ℕ) → Plain stage
+    → ((b : Bool) (t : List Capital) → closed stage b (Yuan ∷ t) ≡ accepts (AfterYuan b) t)
+    → accepts (AfterGreat stage is_round) (yuan_text choices (behind keeps (front is_round)) s jiao fen) ≡ true
+yuan-read choices stage keeps is_round s jiao fen plain ends =
+    let before = behind keeps (front is_round) in
+    let small = small_text (behind choices.behind_yuan (front (is_zero s.ones))) jiao fen choices.behind_jiao in
+    ap (accepts (AfterGreat stage is_round)) (sym (yuan-is choices before s jiao fen small (after-written before s (written-behind keeps is_round)) refl))
+    ∙ below-read stage keeps is_round s (Yuan ∷ small) plain (ends (is_zero s.ones) small ∙ small-read (is_zero s.ones) choices.behind_yuan jiao fen choices.behind_jiao)
+
+-- from the section of 万 on, behind 亿
+wan-read : (choices : Choices) (keeps is_round : Bool) (wan yuan : Section) (jiao fen : ℕ)
+    → accepts (AfterGreat BelowYi is_round)
+    (from_wan choices (behind keeps (front is_round)) (record { wan_yi = empty_section; yi = empty_section; wan = wan; yuan = yuan; jiao = jiao; fen = fen })) ≡ true
+wan-read choices keeps is_round wan yuan jiao fen =
+    by-empty
+    (λ wan. accepts (AfterGreat BelowYi is_round) (from_wan choices (behind keeps (front is_round)) (record { wan_yi = empty_section; yi = empty_section; wan = wan; yuan = yuan; jiao = jiao; fen = fen })) ≡ true)
+    wan (none keeps is_round) some where
+      small : List Capital
+      small = small_text (behind choices.behind_yuan (front (is_zero yuan.ones))) jiao fen choices.behind_jiao
+
+      gap : accepts (AfterGreat BelowYi is_round) (yuan_text choices Gap yuan jiao fen) ≡ true
+      gap =
+          ap (accepts (AfterGreat BelowYi is_round)) (sym (yuan-is choices Gap yuan jiao fen small (after-written Gap yuan refl) refl))
+          ∙ yi-yuan is_round yuan.thousands yuan.hundreds yuan.tens yuan.ones small (small-read (is_zero yuan.ones) choices.behind_yuan jiao fen choices.behind_jiao)
+
+      none : (k r : Bool) → accepts (AfterGreat BelowYi is_round) (yuan_text choices (after_section (behind k (front r)) empty_section) yuan jiao fen) ≡ true
+      none true true = gap
+      none true false = gap
+      none false true = gap
+      none false false = gap
+
+      some : is_empty wan ≡ false
+          → accepts (AfterGreat BelowYi is_round) (from_wan choices (behind keeps (front is_round)) (record { wan_yi = empty_section; yi = empty_section; wan = wan; yuan = yuan; jiao = jiao; fen = fen })) ≡ true
+      some e =
+          let before = behind keeps (front is_round) in
+          let below = λ (b : Before). yuan_text choices b yuan jiao fen in
+          ap (accepts (AfterGreat BelowYi is_round)) (sym (wan-is choices.behind_wan before wan below e (after-written before wan (written-behind keeps is_round))))
+          ∙ yi-wan keeps is_round wan.thousands wan.hundreds wan.tens wan.ones (below (behind choices.behind_wan (front (is_zero wan.ones)))) e
+          (yuan-read choices Last choices.behind_wan (is_zero wan.ones) yuan jiao fen plain-last (λ b t. refl))
+
+-- from the section of 亿 on, behind 万
+yi-read : (choices : Choices) (keeps is_round : Bool) (yi wan yuan : Section) (jiao fen : ℕ)
+    → accepts (AfterGreat BelowWan is_round)
+    (from_yi choices (behind keeps (front is_round)) (record { wan_yi = empty_section; yi = yi; wan = wan; yuan = yuan; jiao = jiao; fen = fen })) ≡ true
+yi-read choices keeps is_round yi wan yuan jiao fen =
+    let before = behind keeps (front is_round) in
+    let p : Places = record { wan_yi = empty_section; yi = yi; wan = wan; yuan = yuan; jiao = jiao; fen = fen } in
+    let below = λ (b : Before). from_wan choices b p in
+    ap (accepts (AfterGreat BelowWan is_round)) (sym (yi-is choices.behind_yi before yi below (after-written before yi (written-behind keeps is_round))))
+    ∙ below-read BelowWan keeps is_round yi (Yi ∷ below (behind choices.behind_yi (front (is_zero yi.ones)))) plain-below_wan
+    (wan-read choices choices.behind_yi (is_zero yi.ones) wan yuan jiao fen)
+
+-- no yuan
+no-yuan : (choices : Choices) (jiao fen : ℕ) → accepts AfterCurrency (yuan_text choices Nothing empty_section jiao fen) ≡ true
+no-yuan choices jiao fen = by choices.no_yuan jiao fen choices.behind_yuan choices.behind_jiao where
+  named-read : (jiao fen : ℕ) (keeps closes : Bool) → accepts AfterCurrency (Ling ∷ Yuan ∷ small_text (behind keeps Gap) jiao fen closes) ≡ true
+  named-read jiao fen keeps closes = small-read true keeps jiao fen closes
+
+  by : (named : Bool) (jiao fen : ℕ) (keeps closes : Bool)
+      → accepts AfterCurrency
+      (yuan_text (record { currency = false; no_yuan = named; behind_wan_yi = true; behind_yi = true; behind_wan = true; behind_yuan = keeps; behind_jiao = closes }) Nothing empty_section jiao fen) ≡ true
+  by true jiao fen keeps closes = named-read jiao fen keeps closes
+  by false zero zero keeps closes = named-read 0 0 keeps closes
+  by false zero (suc f) keeps closes = refl
+  by false (suc j) zero keeps true = refl
+  by false (suc j) zero keeps false = refl
+  by false (suc j) (suc f) keeps closes = refl
+
+-- from the top
+top-read : (choices : Choices) (p : Places) → accepts AfterCurrency (from_top choices p) ≡ true
+top-read choices p = by-empty (λ s. Read s p.yi p.wan p.yuan) p.wan_yi without_wan_yi with_wan_yi where
+  places : Section → Section → Section → Section → Places
+  places wan_yi yi wan yuan = record { wan_yi = wan_yi; yi = yi; wan = wan; yuan = yuan; jiao = p.jiao; fen = p.fen }
+
+  Read : Section → Section → Section → Section → Type 0
+  Read wan_yi yi wan yuan = accepts AfterCurrency (from_top choices (places wan_yi yi wan yuan)) ≡ true
+
+  small : Section → List Capital
+  small yuan = small_text (behind choices.behind_yuan (front (is_zero yuan.ones))) p.jiao p.fen choices.behind_jiao
+
+  yuan_alone : is_empty p.yuan ≡ false → Read empty_section empty_section empty_section p.yuan
+  yuan_alone e =
+      let s = p.yuan in
+      ap (accepts AfterCurrency) (sym (yuan-is choices Nothing s p.jiao p.fen (small s) (after-some s e) refl))
+      ∙ first-read s.thousands s.hundreds s.tens s.ones (Yuan ∷ small s) e (small-read (is_zero s.ones) choices.behind_yuan p.jiao p.fen choices.behind_jiao)
+
+  without_wan : Read empty_section empty_section empty_section p.yuan
+  without_wan = by-empty (λ s. Read empty_section empty_section empty_section s) p.yuan (no-yuan choices p.jiao p.fen) yuan_alone
+
+  with_wan : is_empty p.wan ≡ false → Read empty_section empty_section p.wan p.yuan
+  with_wan e =
+      let s = p.wan in
+      let below = λ (b : Before). yuan_text choices b p.yuan p.jiao p.fen in
+      ap (accepts AfterCurrency) (sym (wan-is choices.behind_wan Nothing s below e (after-some s e)))
+      ∙ first-read s.thousands s.hundreds s.tens s.ones (Wan ∷ below (behind choices.behind_wan (front (is_zero s.ones)))) e
+      (yuan-read choices BelowWan choices.behind_wan (is_zero s.ones) p.yuan p.jiao p.fen plain-below_wan (λ b t. refl))
+
+  without_yi : Read empty_section empty_section p.wan p.yuan
+  without_yi = by-empty (λ s. Read empty_section empty_section s p.yuan) p.wan without_wan with_wan
+
+  with_yi : is_empty p.yi ≡ false → Read empty_section p.yi p.wan p.yuan
+  with_yi e =
+      let s = p.yi in
+      let below = λ (b : Before). from_wan choices b p in
+      ap (accepts AfterCurrency) (sym (yi-is choices.behind_yi Nothing s below (after-some s e)))
+      ∙ first-read s.thousands s.hundreds s.tens s.ones (Yi ∷ below (behind choices.behind_yi (front (is_zero s.ones)))) e
+      (wan-read choices choices.behind_yi (is_zero s.ones) p.wan p.yuan p.jiao p.fen)
+
+  without_wan_yi : Read empty_section p.yi p.wan p.yuan
+  without_wan_yi = by-empty (λ s. Read empty_section s p.wan p.yuan) p.yi without_yi with_yi
+
+  with_wan_yi : is_empty p.wan_yi ≡ false → Read p.wan_yi p.yi p.wan p.yuan
+  with_wan_yi e =
+      let s = p.wan_yi in
+      let below = λ (b : Before). from_yi choices b p in
+      ap (accepts AfterCurrency) (sym (wan-is choices.behind_wan_yi Nothing s below e (after-some s e)))
+      ∙ first-read s.thousands s.hundreds s.tens s.ones (Wan ∷ below (behind choices.behind_wan_yi (front (is_zero s.ones)))) e
+      (yi-read choices choices.behind_wan_yi (is_zero s.ones) p.yi p.wan p.yuan p.jiao p.fen)
+
+opening-is : (t : List Capital) → accepts AfterCurrency t ≡ true → accepts Beginning t ≡ true
+opening-is [] h = h
+opening-is (Ren ∷ t) h = cc
+opening-is (capital ∷ t) h = h
+
+pub form-read : (choices : Choices) (p : Places) → accepts Beginning (amount_form choices p) ≡ true
+form-read choices p = by choices.currency where
+  by : (b : Bool) → accepts Beginning ((if b then Ren ∷ Min ∷ Bi ∷ [] else []) ++ from_top choices p) ≡ true
+  by true = top-read choices p
+  by false = opening-is (from_top choices p) (top-read choices p)

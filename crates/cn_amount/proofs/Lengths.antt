@@ -49,10 +49,10 @@ owed-more unused Gap = omega arith
 owed-more unused Filled = omega arith
 
 owed-behind : (keeps : Bool) (before : Before) → owed 0 (behind keeps before) ≤ owed 0 before
-owed-behind true before = omega arith
-owed-behind false Nothing = omega arith
+owed-behind keeps Nothing = omega arith
+owed-behind true Gap = omega arith
 owed-behind false Gap = omega arith
-owed-behind false Filled = omega arith
+owed-behind keeps Filled = omega arith
 
 owed-small : (before : Before) → owed 0 before ≤ 1
 owed-small Nothing = omega arith

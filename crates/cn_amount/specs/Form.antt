@@ -81,13 +81,13 @@ abbrev pub after_section : Before → Section → Before
 after_section before s =
     after_digit (after_digit (after_digit (after_digit before s.thousands) s.hundreds) s.tens) s.ones
 
--- What stands in front of the place behind a unit above 仟: 零 is put as in a number, or what stands
--- in front counts as no 0. Where the next digit is 0 too, there is a 零 all the same.
+-- What stands in front of the place behind a unit above 仟: a 0 at the unit's place counts as one, or
+-- it does not. Where the next digit is 0 too, there is a 零 all the same.
 abbrev pub behind : Bool → Before → Before
-behind true before = before
-behind false Nothing = Nothing
+behind keeps Nothing = Nothing
+behind true Gap = Gap
 behind false Gap = Filled
-behind false Filled = Filled
+behind keeps Filled = Filled
 
 -- a section that 万 counts; an empty one is not written
 abbrev pub is_empty : Section → Bool
