@@ -242,7 +242,7 @@ empty-is zero zero (suc k) ones h = cc
 empty-is zero zero zero (suc l) h = cc
 
 -- a section is empty or not
-by-empty : (P : Section → Type 0) (s : Section) → P empty_section → (is_empty s ≡ false → P s) → P s
+pub by-empty : (P : Section → Type 0) (s : Section) → P empty_section → (is_empty s ≡ false → P s) → P s
 by-empty P s none some = by (is_empty s) refl where
   by : (b : Bool) → is_empty s ≡ b → P s
   by true e = subst P (empty-is s.thousands s.hundreds s.tens s.ones e) none

@@ -7,3 +7,4 @@ pub mod Lengths
 pub mod Sections
 pub mod Shown
 pub mod SmallRead
+pub mod Values

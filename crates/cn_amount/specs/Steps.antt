@@ -2,6 +2,7 @@
 use Rattle.std.specs.Prelude.{ℕ, ◌+◌, ◌*◌, Bool, true, false, List, [], ◌∷◌, Option, Some, None, if◌then◌else◌}
 use Rattle.cn_amount.specs.declared.capital.Capital.{Capital}
 use Rattle.cn_amount.specs.declared.capital.Capital.TheVariants.{Ling, Digit, Shi, Bai, Qian, Wan, Yi, Yuan, Jiao, Fen, Zheng, Ren, Min, Bi, Foreign}
+use Rattle.cn_amount.specs.declared.sum.Sum.{Sum}
 use Rattle.cn_amount.specs.declared.state.Place.{Place}
 use Rattle.cn_amount.specs.declared.state.Place.TheVariants.{Ones, Tens, Hundreds, Thousands}
 use Rattle.cn_amount.specs.declared.state.Stage.{Stage}
@@ -202,3 +203,35 @@ accepts state (capital ∷ rest) = elim (step state capital) [
   | None ↦ false
   | Some next ↦ accepts next rest
 ]
+
+-- the sum with one more capital
+abbrev pub add : Sum → Capital → Sum
+add sum (Digit value) = record sum { digit = value }
+add sum Shi = record sum { section = sum.section + 10 * sum.digit; digit = 0 }
+add sum Bai = record sum { section = sum.section + 100 * sum.digit; digit = 0 }
+add sum Qian = record sum { section = sum.section + 1000 * sum.digit; digit = 0 }
+add sum Wan =
+    record sum { yuan = sum.yuan + 10000 * (sum.section + sum.digit); section = 0; digit = 0 }
+add sum Yi =
+    record sum { yuan = 100000000 * (sum.yuan + sum.section + sum.digit); section = 0; digit = 0 }
+add sum Yuan = record {
+  fen = sum.fen + 100 * (sum.yuan + sum.section + sum.digit);
+  yuan = 0;
+  section = 0;
+  digit = 0;
+}
+add sum Jiao = record sum { fen = sum.fen + 10 * sum.digit; digit = 0 }
+add sum Fen = record sum { fen = sum.fen + sum.digit; digit = 0 }
+add sum capital = sum
+
+-- the sum of a text
+abbrev pub sum_of : Sum → List Capital → Sum
+sum_of sum [] = sum
+sum_of sum (capital ∷ rest) = sum_of (add sum capital) rest
+
+-- all that is summed up, in fen; no character makes it less
+abbrev pub summed : Sum → ℕ
+summed sum = sum.fen + 100 * (sum.yuan + sum.section)
+
+abbrev pub no_sum : Sum
+no_sum = record { fen = 0; yuan = 0; section = 0; digit = 0 }

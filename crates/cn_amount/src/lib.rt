@@ -9,6 +9,7 @@ mod pen;
 mod places;
 mod put;
 mod state;
+mod sum;
 #[cfg(test)]
 mod tests;
 mod write;
