@@ -4,7 +4,9 @@ pub mod Examples
 pub mod FormsRead
 pub mod Joins
 pub mod Lengths
+pub mod Runs
 pub mod Sections
 pub mod Shown
+pub mod Shows
 pub mod SmallRead
 pub mod Values

@@ -1,5 +1,5 @@
 -- What is read as an amount, and what is answered of a text.
-use Rattle.std.specs.Prelude.{◌≡◌, ℕ, ◌+◌, ◌<◌, List, ◌++◌, length, map, take, Result, Ok, Err, codes, chars, if◌then◌else◌}
+use Rattle.std.specs.Prelude.{◌≡◌, ℕ, ◌+◌, ◌<◌, List, [], ◌∷◌, ◌++◌, length, map, take, Result, Ok, Err, codes, chars, if◌then◌else◌}
 use Rattle.std.specs.Char.{char_set_contains}
 use Rattle.cn_amount.specs.declared.capital.Capital.{Capital}
 use Rattle.cn_amount.specs.declared.capital.Capital.TheVariants.{Ling, Digit, Shi, Bai, Qian, Wan, Yi, Yuan, Jiao, Fen, Zheng, Ren, Min, Bi, Foreign}
@@ -7,35 +7,23 @@ use Rattle.cn_amount.specs.declared.places.Places.{Places}
 use Rattle.cn_amount.specs.Form.{Choices, amount_form}
 use Rattle.cn_amount.specs.Places.{ArePlaces, amount_value}
 
--- the capital for a character of this row, and else for one of the others
-abbrev pub if_in : List ℕ → Capital → ℕ → Capital → Capital
-if_in row capital c others = if char_set_contains row c then capital else others
+-- the characters that are read as each capital: those of both scripts, and no lower case
+abbrev pub capital_rows : List (List ℕ × Capital)
+capital_rows =
+    (codes "零", Ling) ∷ (codes "壹", Digit 1) ∷ (codes "贰貳", Digit 2) ∷ (codes "叁參叄", Digit 3)
+    ∷ (codes "肆", Digit 4) ∷ (codes "伍", Digit 5) ∷ (codes "陆陸", Digit 6) ∷ (codes "柒", Digit 7)
+    ∷ (codes "捌", Digit 8) ∷ (codes "玖", Digit 9) ∷ (codes "拾", Shi) ∷ (codes "佰", Bai)
+    ∷ (codes "仟", Qian) ∷ (codes "万萬", Wan) ∷ (codes "亿億", Yi) ∷ (codes "元圆圓", Yuan)
+    ∷ (codes "角", Jiao) ∷ (codes "分", Fen) ∷ (codes "整正", Zheng) ∷ (codes "人", Ren)
+    ∷ (codes "民", Min) ∷ (codes "币幣", Bi) ∷ []
 
--- what a character is: the capitals of both scripts, and no lower case
+abbrev pub first_with : List (List ℕ × Capital) → ℕ → Capital
+first_with [] c = Foreign
+first_with (row ∷ rows) c = if char_set_contains row.0 c then row.1 else first_with rows c
+
+-- what a character is
 unfoldable pub capital_of : ℕ → Capital
-capital_of c =
-    if_in (codes "零") Ling c
-    (if_in (codes "壹") (Digit 1) c
-    (if_in (codes "贰貳") (Digit 2) c
-    (if_in (codes "叁參叄") (Digit 3) c
-    (if_in (codes "肆") (Digit 4) c
-    (if_in (codes "伍") (Digit 5) c
-    (if_in (codes "陆陸") (Digit 6) c
-    (if_in (codes "柒") (Digit 7) c
-    (if_in (codes "捌") (Digit 8) c
-    (if_in (codes "玖") (Digit 9) c
-    (if_in (codes "拾") Shi c
-    (if_in (codes "佰") Bai c
-    (if_in (codes "仟") Qian c
-    (if_in (codes "万萬") Wan c
-    (if_in (codes "亿億") Yi c
-    (if_in (codes "元圆圓") Yuan c
-    (if_in (codes "角") Jiao c
-    (if_in (codes "分") Fen c
-    (if_in (codes "整正") Zheng c
-    (if_in (codes "人") Ren c
-    (if_in (codes "民") Min c
-    (if_in (codes "币幣") Bi c Foreign)))))))))))))))))))))
+capital_of c = first_with capital_rows c
 
 abbrev pub capitals_of : List ℕ → List Capital
 capitals_of text = map capital_of text
