@@ -1,24 +1,22 @@
 -- Each text that is read to its end is a form.
-use Rattle.std.proofs.Common.{◌≡◌, ℕ, zero, suc, ◌<◌, Bool, true, false, ◌&&◌, ◌⊎◌, inl, inr, List, [], ◌∷◌, ◌++◌, refl, sym, ap, ◌∙◌, arith}
+use Rattle.std.proofs.Common.{◌≡◌, ℕ, zero, suc, ◌<◌, Bool, true, false, ◌⊎◌, inl, inr, List, [], ◌∷◌, ◌++◌, refl, sym, ap, ◌∙◌, arith}
 use Rattle.std.specs.List.{list_all}
 use Rattle.cn_amount.specs.declared.before.Before.{Before}
 use Rattle.cn_amount.specs.declared.before.Before.TheVariants.{Nothing, Gap, Filled}
 use Rattle.cn_amount.specs.declared.capital.Capital.{Capital}
-use Rattle.cn_amount.specs.declared.capital.Capital.TheVariants.{Ling, Digit, Shi, Bai, Qian, Wan, Yi, Yuan, Jiao, Fen, Zheng, Ren, Min, Bi, Foreign}
+use Rattle.cn_amount.specs.declared.capital.Capital.TheVariants.{Ling, Digit, Wan, Yi, Yuan, Jiao, Fen, Ren, Min, Bi}
 use Rattle.cn_amount.specs.declared.places.Section.{Section}
 use Rattle.cn_amount.specs.declared.places.Places.{Places}
-use Rattle.cn_amount.specs.declared.state.Place.TheVariants.{Thousands}
 use Rattle.cn_amount.specs.declared.state.Stage.{Stage}
 use Rattle.cn_amount.specs.declared.state.Stage.TheVariants.{Top, BelowWan, BelowYi, BelowYiGap, OnlyWan, Last}
-use Rattle.cn_amount.specs.declared.state.State.{State}
-use Rattle.cn_amount.specs.declared.state.State.TheVariants.{Beginning, AfterRen, AfterMin, AfterCurrency, NoYuan, FirstDigit, AfterGreat, AfterYuan, DigitBelow, AfterJiao, Complete}
-use Rattle.cn_amount.specs.Form.{Choices, is_zero, is_empty, is_written, after_section, after_wan, after_yi, behind, place_text, section_text, small_text, yuan_text, from_wan, from_yi, from_top, amount_form}
+use Rattle.cn_amount.specs.declared.state.State.TheVariants.{Beginning, AfterRen, AfterCurrency, NoYuan, FirstDigit, AfterGreat, AfterYuan}
+use Rattle.cn_amount.specs.Form.{Choices, is_zero, is_empty, is_written, after_section, behind, place_text, section_text, yuan_text, from_wan, from_yi, from_top, amount_form}
 use Rattle.cn_amount.specs.Places.{AreDigits, ArePlaces}
 use Rattle.cn_amount.specs.Steps.{accepts}
 use Rattle.cn_amount.proofs.Closed.{By, closed-last, closed-only_wan, closed-below_yi, closed-below_yi_gap, closed-below_wan, closed-top, with-top, with-below_wan, with-below_yi, with-last}
-use Rattle.cn_amount.proofs.Joins.{front, empty_section, step-written, written-after, written-behind, after-written, after-some, yuan-is, wan-is, yi-is}
+use Rattle.cn_amount.proofs.Joins.{front, empty_section, written-behind, after-written, after-some, yuan-is, wan-is, yi-is}
 use Rattle.cn_amount.proofs.Sections.{is_proper, digit-low, rest-proper, closed, stage_with, FirstHundreds, FirstThousands, ReadThousands, ling-hundreds, ling-thousands, at-thousands, below-thousands-first}
-use Rattle.cn_amount.proofs.SmallRead.{ReadFen, ReadSmall, after-jiao, after-yuan, closing-one, complete-nil}
+use Rattle.cn_amount.proofs.SmallRead.{ReadFen, after-jiao, after-yuan, closing-one, complete-nil}
 
 -- a section behind 万 or 亿, at whose place the digit is 0 or not
 record ReadBelow (stage : Stage) (is_round : Bool) (t : List Capital) : Type 0 where

@@ -1,18 +1,17 @@
 -- Each form is read to its end.
-use Rattle.std.proofs.Common.{◌≡◌, ℕ, zero, suc, Bool, true, false, ◌&&◌, ◌||◌, List, [], ◌∷◌, ◌++◌, refl, sym, ap, subst, ◌∙◌, if◌then◌else◌}
+use Rattle.std.proofs.Common.{◌≡◌, ℕ, zero, suc, Bool, true, false, ◌&&◌, List, [], ◌∷◌, ◌++◌, refl, sym, ap, subst, ◌∙◌, if◌then◌else◌}
 use Rattle.cn_amount.specs.declared.before.Before.{Before}
 use Rattle.cn_amount.specs.declared.before.Before.TheVariants.{Nothing, Gap, Filled}
 use Rattle.cn_amount.specs.declared.capital.Capital.{Capital}
-use Rattle.cn_amount.specs.declared.capital.Capital.TheVariants.{Ling, Digit, Shi, Bai, Qian, Wan, Yi, Yuan, Jiao, Fen, Zheng, Ren, Min, Bi, Foreign}
+use Rattle.cn_amount.specs.declared.capital.Capital.TheVariants.{Ling, Digit, Shi, Bai, Qian, Wan, Yi, Yuan, Ren, Min, Bi}
 use Rattle.cn_amount.specs.declared.places.Section.{Section}
 use Rattle.cn_amount.specs.declared.places.Places.{Places}
 use Rattle.cn_amount.specs.declared.state.Place.{Place}
 use Rattle.cn_amount.specs.declared.state.Place.TheVariants.{Ones, Tens, Hundreds, Thousands}
 use Rattle.cn_amount.specs.declared.state.Stage.{Stage}
 use Rattle.cn_amount.specs.declared.state.Stage.TheVariants.{Top, BelowWan, BelowYi, BelowYiGap, OnlyWan, Last}
-use Rattle.cn_amount.specs.declared.state.State.{State}
-use Rattle.cn_amount.specs.declared.state.State.TheVariants.{Beginning, AfterCurrency, FirstDigit, AfterGreat, AfterLing, DigitAt, DigitBelow, AfterUnit, AfterYuan}
-use Rattle.cn_amount.specs.Form.{Choices, is_zero, is_empty, is_written, after_section, after_wan, after_yi, behind, ones_text, tens_text, hundreds_text, section_text, small_text, yuan_text, from_wan, from_yi, from_top, amount_form}
+use Rattle.cn_amount.specs.declared.state.State.TheVariants.{Beginning, AfterCurrency, FirstDigit, AfterGreat, AfterLing, DigitBelow, AfterUnit, AfterYuan}
+use Rattle.cn_amount.specs.Form.{Choices, is_zero, is_empty, after_section, behind, ones_text, tens_text, hundreds_text, section_text, small_text, yuan_text, from_wan, from_yi, from_top, amount_form}
 use Rattle.cn_amount.specs.Steps.{bare, behind_thousands, after_ling, accepts}
 use Rattle.cn_amount.proofs.Joins.{front, empty_section, written-behind, after-written, after-some, yuan-is, wan-is, yi-is}
 use Rattle.cn_amount.proofs.Sections.{closed, at-ones, below-ones, stage_with}

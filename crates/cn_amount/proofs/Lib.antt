@@ -4,6 +4,7 @@ pub mod Examples
 pub mod FormsRead
 pub mod Joins
 pub mod Lengths
+pub mod ReadText
 pub mod Runs
 pub mod Sections
 pub mod Shown

@@ -1,5 +1,5 @@
 -- The state after a text, what is read behind it, and that no sum is too great.
-use Rattle.std.proofs.Common.{◌≡◌, ℕ, ◌+◌, ◌*◌, ◌^◌, ◌<◌, ◌≤◌, Bool, true, false, List, [], ◌∷◌, ◌++◌, Option, Some, None, refl, sym, ap, ◌∙◌, arith}
+use Rattle.std.proofs.Common.{◌≡◌, ◌+◌, ◌*◌, ◌<◌, ◌≤◌, Bool, true, false, List, [], ◌∷◌, ◌++◌, Option, Some, None, refl, sym, ap, ◌∙◌, arith}
 use Rattle.std.specs.List.{list_all}
 use Rattle.cn_amount.specs.declared.capital.Capital.{Capital}
 use Rattle.cn_amount.specs.declared.capital.Capital.TheVariants.{Ling, Digit, Shi, Bai, Qian, Wan, Yi, Yuan, Jiao, Fen, Zheng, Ren, Min, Bi, Foreign}
@@ -14,7 +14,7 @@ use Rattle.cn_amount.specs.declared.state.State.TheVariants.{Beginning, AfterRen
 use Rattle.cn_amount.specs.declared.sum.Sum.{Sum}
 use Rattle.cn_amount.specs.Places.{AreDigits, ArePlaces, section_value, amount_value, amount_limit}
 use Rattle.cn_amount.specs.Steps.{step, run, accepts, add, sum_of, summed, no_sum}
-use Rattle.cn_amount.proofs.Accepted.{IsWhole, accepted}
+use Rattle.cn_amount.proofs.Accepted.{accepted}
 use Rattle.cn_amount.proofs.Sections.{is_proper, at-ones, below-ones}
 use Rattle.cn_amount.proofs.Values.{form-sum, sum-append}
 
@@ -63,7 +63,7 @@ abbrev ending : Stage → List Capital
 ending OnlyWan = Wan ∷ Yuan ∷ Zheng ∷ []
 ending stage = Yuan ∷ Zheng ∷ []
 
-abbrev completion : State → List Capital
+abbrev pub completion : State → List Capital
 completion Beginning = Ling ∷ Yuan ∷ Zheng ∷ []
 completion AfterRen = Min ∷ Bi ∷ Ling ∷ Yuan ∷ Zheng ∷ []
 completion AfterMin = Bi ∷ Ling ∷ Yuan ∷ Zheng ∷ []

@@ -5,12 +5,11 @@ use Rattle.std.proofs.lemmas.Bool.Decides.{nat_tests}
 use Rattle.cn_core.proofs.Fronts.{and-left, and-right}
 use Rattle.cn_amount.specs.declared.before.Before.TheVariants.{Nothing, Gap, Filled}
 use Rattle.cn_amount.specs.declared.capital.Capital.{Capital}
-use Rattle.cn_amount.specs.declared.capital.Capital.TheVariants.{Ling, Digit, Shi, Bai, Qian, Wan, Yi, Yuan, Jiao, Fen, Zheng, Ren, Min, Bi, Foreign}
+use Rattle.cn_amount.specs.declared.capital.Capital.TheVariants.{Ling, Digit, Shi, Bai, Qian}
 use Rattle.cn_amount.specs.declared.state.Place.TheVariants.{Ones, Tens, Hundreds, Thousands}
 use Rattle.cn_amount.specs.declared.state.Stage.{Stage}
 use Rattle.cn_amount.specs.declared.state.State.TheVariants.{AfterLing, DigitAt, DigitBelow, AfterUnit}
-use Rattle.cn_amount.specs.declared.places.Section.{Section}
-use Rattle.cn_amount.specs.Form.{is_zero, after_digit, ones_text, tens_text, hundreds_text, section_text}
+use Rattle.cn_amount.specs.Form.{is_zero, ones_text, tens_text, hundreds_text, section_text}
 use Rattle.cn_amount.specs.Steps.{close, behind_thousands, accepts}
 
 -- a digit is one from 1 to 9

@@ -1,5 +1,5 @@
 -- Characters and capitals: what is written for a capital is read as it.
-use Rattle.std.proofs.Common.{◌≡◌, ℕ, zero, suc, ◌<◌, Bool, true, false, ◌&&◌, ◌||◌, ◌==◌, nat_lt, List, [], ◌∷◌, ◌++◌, map, codes, refl, sym, ap, ap₂, ◌∙◌, if◌then◌else◌, arith}
+use Rattle.std.proofs.Common.{◌≡◌, ℕ, zero, suc, ◌<◌, Bool, true, false, ◌&&◌, ◌||◌, ◌==◌, nat_lt, List, [], ◌∷◌, map, refl, ap, ap₂, if◌then◌else◌, arith}
 use Rattle.std.specs.Char.{char_set_contains}
 use Rattle.std.specs.List.{list_all}
 use Rattle.std.proofs.Math.Decide.{dec_lt}

@@ -3,7 +3,7 @@ use Rattle.std.proofs.Common.{◌≡◌, ℕ, zero, suc, ◌<◌, Bool, true, fa
 use Rattle.std.specs.List.{list_all}
 use Rattle.cn_amount.specs.declared.before.Before.TheVariants.{Filled}
 use Rattle.cn_amount.specs.declared.capital.Capital.{Capital}
-use Rattle.cn_amount.specs.declared.capital.Capital.TheVariants.{Ling, Digit, Shi, Bai, Qian, Wan, Yi, Yuan, Jiao, Fen, Zheng, Ren, Min, Bi, Foreign}
+use Rattle.cn_amount.specs.declared.capital.Capital.TheVariants.{Ling, Digit, Jiao, Fen, Zheng}
 use Rattle.cn_amount.specs.declared.state.State.TheVariants.{AfterYuan, AfterYuanLing, SmallDigit, JiaoDigit, AfterJiao, FenDigit, Complete}
 use Rattle.cn_amount.specs.Form.{behind, place_text, closing, small_text}
 use Rattle.cn_amount.specs.Steps.{accepts}

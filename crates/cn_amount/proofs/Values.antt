@@ -1,13 +1,13 @@
 -- The sum of a form is its amount.
-use Rattle.std.proofs.Common.{◌≡◌, ℕ, zero, suc, ◌+◌, ◌*◌, Bool, true, false, ◌&&◌, ◌||◌, List, [], ◌∷◌, ◌++◌, refl, sym, ap, subst, ◌∙◌, if◌then◌else◌, arith}
+use Rattle.std.proofs.Common.{◌≡◌, ℕ, zero, suc, ◌+◌, ◌*◌, Bool, true, false, ◌&&◌, ◌||◌, List, [], ◌∷◌, ◌++◌, refl, sym, ap, ◌∙◌, if◌then◌else◌, arith}
 use Rattle.cn_amount.specs.declared.before.Before.{Before}
 use Rattle.cn_amount.specs.declared.before.Before.TheVariants.{Nothing, Gap, Filled}
 use Rattle.cn_amount.specs.declared.capital.Capital.{Capital}
-use Rattle.cn_amount.specs.declared.capital.Capital.TheVariants.{Ling, Digit, Shi, Bai, Qian, Wan, Yi, Yuan, Jiao, Fen, Zheng, Ren, Min, Bi, Foreign}
+use Rattle.cn_amount.specs.declared.capital.Capital.TheVariants.{Shi, Bai, Qian, Wan, Yi, Yuan, Jiao, Fen, Ren, Min, Bi}
 use Rattle.cn_amount.specs.declared.places.Section.{Section}
 use Rattle.cn_amount.specs.declared.places.Places.{Places}
 use Rattle.cn_amount.specs.declared.sum.Sum.{Sum}
-use Rattle.cn_amount.specs.Form.{Choices, is_zero, is_empty, is_written, after_digit, after_section, after_wan, after_yi, yuan_unit, after_yuan_unit, behind, place_text, closing, section_text, small_text, yuan_text, from_wan, from_yi, from_top, amount_form}
+use Rattle.cn_amount.specs.Form.{Choices, is_zero, is_empty, is_written, after_digit, after_section, yuan_unit, after_yuan_unit, behind, place_text, closing, section_text, small_text, yuan_text, from_wan, from_yi, from_top, amount_form}
 use Rattle.cn_amount.specs.Places.{section_value, amount_value}
 use Rattle.cn_amount.specs.Steps.{add, sum_of, no_sum}
 use Rattle.cn_amount.proofs.Joins.{front, empty_section, written-behind, after-written, after-some, yuan-is, wan-is, yi-is}

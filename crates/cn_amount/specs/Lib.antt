@@ -1,3 +1,4 @@
+pub mod Answer
 pub mod ErrorText
 pub mod Form
 pub mod Places

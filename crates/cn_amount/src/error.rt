@@ -36,3 +36,31 @@ impl From<AllocError> for AmountToChineseError {
         Self::OutOfMemory
     }
 }
+
+/// Why a text was not read as an amount.
+#[derive(Debug, Copy, Clone, Eq, PartialEq)]
+pub enum ChineseToAmountError {
+    /// Something is missing at the end: the text begins an amount, and is none. `壹佰元` wants 整 or
+    /// 伍角. The empty text is unfinished, too.
+    Unfinished,
+    /// No amount begins with the text up to and with this character: so many characters of the
+    /// string stand in front of it. That is 3 for `壹佰贰元整`.
+    Incorrect { char_index: usize },
+}
+
+impl fmt::Display for ChineseToAmountError {
+    ghost use Rattle.cn_amount.specs.ErrorText.{reading_error_text};
+
+    ghost output = { λ error. Some (reading_error_text error) };
+
+    fn fmt<W: fmt::Write>(&self, f: &mut fmt::Formatter<W>) -> fmt::Result {
+        match self {
+            ChineseToAmountError::Unfinished => f.write_str("the amount is not finished"),
+            ChineseToAmountError::Incorrect { char_index } => {
+                write!(f, "the amount is incorrect (position: {char_index})")
+            }
+        }
+    }
+}
+
+impl Error for ChineseToAmountError {}

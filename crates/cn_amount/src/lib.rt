@@ -8,11 +8,13 @@ mod error;
 mod pen;
 mod places;
 mod put;
+mod read;
 mod state;
 mod sum;
 #[cfg(test)]
 mod tests;
 mod write;
 
-pub use error::AmountToChineseError;
+pub use error::{AmountToChineseError, ChineseToAmountError};
+pub use read::chinese_to_amount;
 pub use write::{AMOUNT_LIMIT, amount_to_chinese};

@@ -19,6 +19,14 @@ pub struct Sum {
 }
 
 impl Sum {
+    /// Of no characters.
+    pub const NONE: Sum = Sum {
+        fen: 0,
+        yuan: 0,
+        section: 0,
+        digit: 0,
+    };
+
     /// The sum with one more character.
     pub fn add(self, capital: Capital) -> Sum
         requires { summed (add self capital) < amount_limit }
