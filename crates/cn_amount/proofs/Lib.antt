@@ -2,8 +2,10 @@ pub mod Accepted
 pub mod Closed
 pub mod Examples
 pub mod FormsRead
+pub mod FormsShown
 pub mod Joins
 pub mod Lengths
+pub mod OneAnswer
 pub mod ReadText
 pub mod Runs
 pub mod Sections

@@ -20,7 +20,7 @@ abbrev pub each_below : (ℕ → Bool) → ℕ → Bool
 each_below test zero = true
 each_below test (suc n) = test n && each_below test n
 
-each_below-at : (test : ℕ → Bool) (n k : ℕ) → each_below test n ≡ true → k < n → test k ≡ true
+pub each_below-at : (test : ℕ → Bool) (n k : ℕ) → each_below test n ≡ true → k < n → test k ≡ true
 each_below-at test zero k h low = absurd (omega (arith, low))
 each_below-at test (suc n) k h low = elim (dec_lt k n) [
   | yes less ↦ each_below-at test n k (and-right (test n) _ h) less

@@ -5,6 +5,7 @@
 mod before;
 mod capital;
 mod error;
+pub mod laws;
 mod pen;
 mod places;
 mod put;
