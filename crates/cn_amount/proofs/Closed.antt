@@ -11,41 +11,49 @@ use Rattle.cn_amount.proofs.Sections.{is_proper, rest-proper, closed, stage_with
 
 -- a unit, and a text that is an amount from the state behind it on
 abbrev pub By : Capital → State → List Capital → Type 0
-By unit next text = (t : List Capital) × (text ≡ unit ∷ t) × (accepts next t ≡ true) × (list_all is_proper t ≡ true)
+By unit next text = (t : List Capital) × (text ≡ unit ∷ t) × (accepts next t ≡ true)
+    × (list_all is_proper t ≡ true)
 
-pub closed-last : (is_round : Bool) (t : List Capital) → list_all is_proper t ≡ true → closed Last is_round t ≡ true → By Yuan (AfterYuan is_round) t
+pub closed-last : (is_round : Bool) (t : List Capital) → list_all is_proper t ≡ true
+    → closed Last is_round t ≡ true → By Yuan (AfterYuan is_round) t
 closed-last is_round [] p h = cc
 closed-last is_round (Yuan ∷ t) p h = (t, refl, h, rest-proper Yuan t p)
 closed-last is_round (capital ∷ t) p h = cc
 
-pub closed-only_wan : (is_round : Bool) (t : List Capital) → list_all is_proper t ≡ true → closed OnlyWan is_round t ≡ true → By Wan (AfterGreat Last is_round) t
+pub closed-only_wan : (is_round : Bool) (t : List Capital) → list_all is_proper t ≡ true
+    → closed OnlyWan is_round t ≡ true → By Wan (AfterGreat Last is_round) t
 closed-only_wan is_round [] p h = cc
 closed-only_wan is_round (Wan ∷ t) p h = (t, refl, h, rest-proper Wan t p)
 closed-only_wan is_round (capital ∷ t) p h = cc
 
-pub closed-below_yi : (is_round : Bool) (t : List Capital) → list_all is_proper t ≡ true → closed BelowYi is_round t ≡ true
+pub closed-below_yi : (is_round : Bool) (t : List Capital) → list_all is_proper t ≡ true
+    → closed BelowYi is_round t ≡ true
     → By Wan (AfterGreat Last is_round) t ⊎ By Yuan (AfterYuan is_round) t
 closed-below_yi is_round [] p h = cc
 closed-below_yi is_round (Wan ∷ t) p h = inl (t, refl, h, rest-proper Wan t p)
 closed-below_yi is_round (Yuan ∷ t) p h = inr (t, refl, h, rest-proper Yuan t p)
 closed-below_yi is_round (capital ∷ t) p h = cc
 
-pub closed-below_yi_gap : (is_round : Bool) (t : List Capital) → list_all is_proper t ≡ true → closed BelowYiGap is_round t ≡ true
+pub closed-below_yi_gap : (is_round : Bool) (t : List Capital) → list_all is_proper t ≡ true
+    → closed BelowYiGap is_round t ≡ true
     → By Wan (AfterGreat Last is_round) t ⊎ By Yuan (AfterYuan is_round) t
 closed-below_yi_gap is_round [] p h = cc
 closed-below_yi_gap is_round (Wan ∷ t) p h = inl (t, refl, h, rest-proper Wan t p)
 closed-below_yi_gap is_round (Yuan ∷ t) p h = inr (t, refl, h, rest-proper Yuan t p)
 closed-below_yi_gap is_round (capital ∷ t) p h = cc
 
-pub closed-below_wan : (is_round : Bool) (t : List Capital) → list_all is_proper t ≡ true → closed BelowWan is_round t ≡ true
+pub closed-below_wan : (is_round : Bool) (t : List Capital) → list_all is_proper t ≡ true
+    → closed BelowWan is_round t ≡ true
     → By Yi (AfterGreat BelowYi is_round) t ⊎ By Yuan (AfterYuan is_round) t
 closed-below_wan is_round [] p h = cc
 closed-below_wan is_round (Yi ∷ t) p h = inl (t, refl, h, rest-proper Yi t p)
 closed-below_wan is_round (Yuan ∷ t) p h = inr (t, refl, h, rest-proper Yuan t p)
 closed-below_wan is_round (capital ∷ t) p h = cc
 
-pub closed-top : (is_round : Bool) (t : List Capital) → list_all is_proper t ≡ true → closed Top is_round t ≡ true
-    → By Wan (AfterGreat BelowWan is_round) t ⊎ (By Yi (AfterGreat BelowYi is_round) t ⊎ By Yuan (AfterYuan is_round) t)
+pub closed-top : (is_round : Bool) (t : List Capital) → list_all is_proper t ≡ true
+    → closed Top is_round t ≡ true
+    → By Wan (AfterGreat BelowWan is_round) t
+    ⊎ (By Yi (AfterGreat BelowYi is_round) t ⊎ By Yuan (AfterYuan is_round) t)
 closed-top is_round [] p h = cc
 closed-top is_round (Wan ∷ t) p h = inl (t, refl, h, rest-proper Wan t p)
 closed-top is_round (Yi ∷ t) p h = inr (inl (t, refl, h, rest-proper Yi t p))

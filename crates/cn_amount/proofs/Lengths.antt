@@ -15,7 +15,8 @@ owed unused Gap = 1
 owed unused Filled = 0
 
 owed-place : (unused : ℕ) (before : Before) (digit : ℕ) (unit : Capital)
-    → length (place_text before digit (unit ∷ [])) + owed (unused + 2) (after_digit before digit) ≤ 2 + owed unused before
+    → length (place_text before digit (unit ∷ [])) + owed (unused + 2) (after_digit before digit)
+    ≤ 2 + owed unused before
 owed-place unused Nothing zero unit = omega arith
 owed-place unused Gap zero unit = omega arith
 owed-place unused Filled zero unit = omega arith
@@ -24,7 +25,8 @@ owed-place unused Gap (suc n) unit = omega arith
 owed-place unused Filled (suc n) unit = omega arith
 
 owed-ones : (unused : ℕ) (before : Before) (digit : ℕ)
-    → length (place_text before digit []) + owed (unused + 1) (after_digit before digit) ≤ 1 + owed unused before
+    → length (place_text before digit []) + owed (unused + 1) (after_digit before digit)
+    ≤ 1 + owed unused before
 owed-ones unused Nothing zero = omega arith
 owed-ones unused Gap zero = omega arith
 owed-ones unused Filled zero = omega arith
@@ -32,7 +34,8 @@ owed-ones unused Nothing (suc n) = omega arith
 owed-ones unused Gap (suc n) = omega arith
 owed-ones unused Filled (suc n) = omega arith
 
-owed-section : (before : Before) (s : Section) → length (section_text before s) + owed 7 (after_section before s) ≤ 7 + owed 0 before
+owed-section : (before : Before) (s : Section)
+    → length (section_text before s) + owed 7 (after_section before s) ≤ 7 + owed 0 before
 owed-section before s =
     let a = after_digit before s.thousands in
     let b = after_digit a s.hundreds in
@@ -41,7 +44,16 @@ owed-section before s =
     let second = place_text a s.hundreds (Bai ∷ []) in
     let third = place_text b s.tens (Shi ∷ []) in
     let last = place_text c s.ones [] in
-    omega (arith, length-append first (second ++ (third ++ last)), length-append second (third ++ last), length-append third last, owed-place 0 before s.thousands Qian, owed-place 2 a s.hundreds Bai, owed-place 4 b s.tens Shi, owed-ones 6 c s.ones)
+    omega (
+      arith,
+      length-append first (second ++ (third ++ last)),
+      length-append second (third ++ last),
+      length-append third last,
+      owed-place 0 before s.thousands Qian,
+      owed-place 2 a s.hundreds Bai,
+      owed-place 4 b s.tens Shi,
+      owed-ones 6 c s.ones,
+    )
 
 owed-more : (unused : ℕ) (before : Before) → owed 0 before ≤ owed unused before
 owed-more unused Nothing = omega arith
@@ -59,20 +71,44 @@ owed-small Nothing = omega arith
 owed-small Gap = omega arith
 owed-small Filled = omega arith
 
-owed-wan : (keeps : Bool) (before : Before) (s : Section) → length (wan_text before s) + owed 0 (after_wan keeps before s) ≤ 8 + owed 0 before
+owed-wan : (keeps : Bool) (before : Before) (s : Section)
+    → length (wan_text before s) + owed 0 (after_wan keeps before s) ≤ 8 + owed 0 before
 owed-wan keeps before s = by (is_empty s) where
-  by : (b : Bool) → length (if b then [] else section_text before s ++ Wan ∷ []) + owed 0 (if b then after_section before s else behind keeps (after_section before s)) ≤ 8 + owed 0 before
+  by : (b : Bool) → length (if b then [] else section_text before s ++ Wan ∷ [])
+      + owed 0 (if b then after_section before s else behind keeps (after_section before s))
+      ≤ 8 + owed 0 before
   by true = omega (arith, owed-small (after_section before s))
-  by false = omega (arith, length-append (section_text before s) (Wan ∷ []), owed-section before s, owed-more 7 (after_section before s), owed-behind keeps (after_section before s))
+  by false = omega (
+    arith,
+    length-append (section_text before s) (Wan ∷ []),
+    owed-section before s,
+    owed-more 7 (after_section before s),
+    owed-behind keeps (after_section before s),
+  )
 
-owed-yi : (keeps : Bool) (before : Before) (s : Section) → length (yi_text before s) + owed 0 (after_yi keeps before s) ≤ 8 + owed 0 before
+owed-yi : (keeps : Bool) (before : Before) (s : Section)
+    → length (yi_text before s) + owed 0 (after_yi keeps before s) ≤ 8 + owed 0 before
 owed-yi keeps before s = by (is_written (after_section before s)) where
-  by : (b : Bool) → length (section_text before s ++ (if b then Yi ∷ [] else [])) + owed 0 (after_yi keeps before s) ≤ 8 + owed 0 before
-  by true = omega (arith, length-append (section_text before s) (Yi ∷ []), owed-section before s, owed-more 7 (after_section before s), owed-behind keeps (after_section before s))
-  by false = omega (arith, length-append {A = Capital} (section_text before s) [], owed-section before s, owed-more 7 (after_section before s), owed-behind keeps (after_section before s))
+  by : (b : Bool) → length (section_text before s ++ (if b then Yi ∷ [] else []))
+      + owed 0 (after_yi keeps before s) ≤ 8 + owed 0 before
+  by true = omega (
+    arith,
+    length-append (section_text before s) (Yi ∷ []),
+    owed-section before s,
+    owed-more 7 (after_section before s),
+    owed-behind keeps (after_section before s),
+  )
+  by false = omega (
+    arith,
+    length-append {A = Capital} (section_text before s) [],
+    owed-section before s,
+    owed-more 7 (after_section before s),
+    owed-behind keeps (after_section before s),
+  )
 
 owed-closing : (before : Before) (jiao fen : ℕ) (closes : Bool)
-    → length (place_text before fen (Fen ∷ [])) + length (closing jiao fen closes) ≤ 2 + owed 0 before
+    → length (place_text before fen (Fen ∷ [])) + length (closing jiao fen closes)
+    ≤ 2 + owed 0 before
 owed-closing Nothing jiao (suc n) closes = omega arith
 owed-closing Gap jiao (suc n) closes = omega arith
 owed-closing Filled jiao (suc n) closes = omega arith
@@ -80,12 +116,20 @@ owed-closing before zero zero closes = omega arith
 owed-closing before (suc n) zero true = omega arith
 owed-closing before (suc n) zero false = omega arith
 
-length-small : (before : Before) (jiao fen : ℕ) (closes : Bool) → length (small_text before jiao fen closes) ≤ 4 + owed 0 before
+length-small : (before : Before) (jiao fen : ℕ) (closes : Bool)
+    → length (small_text before jiao fen closes) ≤ 4 + owed 0 before
 length-small before jiao fen closes =
     let after = after_digit before jiao in
     let first = place_text before jiao (Jiao ∷ []) in
     let second = place_text after fen (Fen ∷ []) in
-    omega (arith, length-append first (second ++ closing jiao fen closes), length-append second (closing jiao fen closes), owed-place 0 before jiao Jiao, owed-more 2 after, owed-closing after jiao fen closes)
+    omega (
+      arith,
+      length-append first (second ++ closing jiao fen closes),
+      length-append second (closing jiao fen closes),
+      owed-place 0 before jiao Jiao,
+      owed-more 2 after,
+      owed-closing after jiao fen closes,
+    )
 
 owed-yuan_unit : (keeps : Bool) (after : Before) (named : Bool)
     → length (yuan_unit after named) + owed 0 (after_yuan_unit keeps after named) ≤ 1 + owed 7 after
@@ -96,14 +140,22 @@ owed-yuan_unit true Gap named = omega arith
 owed-yuan_unit false Gap named = omega arith
 owed-yuan_unit keeps Filled named = omega arith
 
-length-yuan : (choices : Choices) (before : Before) (s : Section) (jiao fen : ℕ) → length (yuan_text choices before s jiao fen) ≤ 12 + owed 0 before
+length-yuan : (choices : Choices) (before : Before) (s : Section) (jiao fen : ℕ)
+    → length (yuan_text choices before s jiao fen) ≤ 12 + owed 0 before
 length-yuan choices before s jiao fen =
     let after = after_section before s in
     let named = choices.no_yuan || (is_zero jiao && is_zero fen) in
     let unit = yuan_unit after named in
     let below = after_yuan_unit choices.behind_yuan after named in
     let small = small_text below jiao fen choices.behind_jiao in
-    omega (arith, length-append (section_text before s) (unit ++ small), length-append unit small, owed-section before s, owed-yuan_unit choices.behind_yuan after named, length-small below jiao fen choices.behind_jiao)
+    omega (
+      arith,
+      length-append (section_text before s) (unit ++ small),
+      length-append unit small,
+      owed-section before s,
+      owed-yuan_unit choices.behind_yuan after named,
+      length-small below jiao fen choices.behind_jiao,
+    )
 
 -- 壹仟壹佰壹拾壹万壹仟壹佰壹拾壹亿壹仟壹佰壹拾壹万壹仟壹佰壹拾壹元壹角壹分, behind 人民币
 pub length-form : (choices : Choices) (p : Places) → length (amount_form choices p) ≤ 39
@@ -113,7 +165,16 @@ length-form choices p = by choices.currency where
       let a = after_wan choices.behind_wan_yi Nothing p.wan_yi in
       let b = after_yi choices.behind_yi a p.yi in
       let c = after_wan choices.behind_wan b p.wan in
-      omega (arith, length-append (wan_text Nothing p.wan_yi) (from_yi choices a p), length-append (yi_text a p.yi) (from_wan choices b p), length-append (wan_text b p.wan) (yuan_text choices c p.yuan p.jiao p.fen), owed-wan choices.behind_wan_yi Nothing p.wan_yi, owed-yi choices.behind_yi a p.yi, owed-wan choices.behind_wan b p.wan, length-yuan choices c p.yuan p.jiao p.fen)
+      omega (
+        arith,
+        length-append (wan_text Nothing p.wan_yi) (from_yi choices a p),
+        length-append (yi_text a p.yi) (from_wan choices b p),
+        length-append (wan_text b p.wan) (yuan_text choices c p.yuan p.jiao p.fen),
+        owed-wan choices.behind_wan_yi Nothing p.wan_yi,
+        owed-yi choices.behind_yi a p.yi,
+        owed-wan choices.behind_wan b p.wan,
+        length-yuan choices c p.yuan p.jiao p.fen,
+      )
 
   by : (b : Bool) → length ((if b then Ren ∷ Min ∷ Bi ∷ [] else []) ++ from_top choices p) ≤ 39
   by true = omega (arith, length-append (Ren ∷ Min ∷ Bi ∷ []) (from_top choices p), top)

@@ -28,34 +28,48 @@ some-inj s t e = cc
 abbrev ran : Option State → List Capital → Option State
 ran state rest = elim state [ None ↦ None | Some next ↦ run next rest ]
 
-accepts-continued : (state : State) (capital : Capital) (rest : List Capital) (o : Option State) → step state capital ≡ o → accepts state (capital ∷ rest) ≡ continued o rest
+accepts-continued : (state : State) (capital : Capital) (rest : List Capital) (o : Option State)
+    → step state capital ≡ o → accepts state (capital ∷ rest) ≡ continued o rest
 accepts-continued state capital rest o e = ap (λ o. continued o rest) e
 
-run-ran : (state : State) (capital : Capital) (rest : List Capital) (o : Option State) → step state capital ≡ o → run state (capital ∷ rest) ≡ ran o rest
+run-ran : (state : State) (capital : Capital) (rest : List Capital) (o : Option State)
+    → step state capital ≡ o → run state (capital ∷ rest) ≡ ran o rest
 run-ran state capital rest o e = ap (λ o. ran o rest) e
 
-pub run-accepts : (state : State) (start rest : List Capital) (next : State) → run state start ≡ Some next → accepts state (start ++ rest) ≡ accepts next rest
+pub run-accepts : (state : State) (start rest : List Capital) (next : State)
+    → run state start ≡ Some next → accepts state (start ++ rest) ≡ accepts next rest
 run-accepts state [] rest next e = ap (λ s. accepts s rest) (some-inj state next e)
-run-accepts state (capital ∷ start) rest next e = by (step state capital) refl (λ after h. run-accepts after start rest next h) where
-  by : (o : Option State) → step state capital ≡ o → ((after : State) → run after start ≡ Some next → accepts after (start ++ rest) ≡ accepts next rest)
-      → accepts state (capital ∷ (start ++ rest)) ≡ accepts next rest
-  by None s ih = let h = run-ran state capital start None s in cc
-  by (Some after) s ih = accepts-continued state capital (start ++ rest) (Some after) s ∙ ih after (sym (run-ran state capital start (Some after) s) ∙ e)
+run-accepts state (capital ∷ start) rest next e =
+    by (step state capital) refl (λ after h. run-accepts after start rest next h) where
+      by : (o : Option State) → step state capital ≡ o
+          → ((after : State) → run after start ≡ Some next
+          → accepts after (start ++ rest) ≡ accepts next rest)
+          → accepts state (capital ∷ (start ++ rest)) ≡ accepts next rest
+      by None s ih = let h = run-ran state capital start None s in cc
+      by (Some after) s ih = accepts-continued state capital (start ++ rest) (Some after) s
+          ∙ ih after (sym (run-ran state capital start (Some after) s) ∙ e)
 
 some-or-none : (o : Option State) → ran o [] ≡ o
 some-or-none None = refl
 some-or-none (Some next) = refl
 
-pub run-more : (state : State) (start : List Capital) (capital : Capital) (next : State) → run state start ≡ Some next → run state (start ++ capital ∷ []) ≡ step next capital
+pub run-more : (state : State) (start : List Capital) (capital : Capital) (next : State)
+    → run state start ≡ Some next → run state (start ++ capital ∷ []) ≡ step next capital
 run-more state [] capital next e =
-    run-ran state capital [] (step state capital) refl ∙ some-or-none (step state capital) ∙ ap (λ s. step s capital) (some-inj state next e)
-run-more state (first ∷ start) capital next e = by (step state first) refl (λ after h. run-more after start capital next h) where
-  by : (o : Option State) → step state first ≡ o → ((after : State) → run after start ≡ Some next → run after (start ++ capital ∷ []) ≡ step next capital)
-      → run state (first ∷ (start ++ capital ∷ [])) ≡ step next capital
-  by None s ih = let h = run-ran state first start None s in cc
-  by (Some after) s ih = run-ran state first (start ++ capital ∷ []) (Some after) s ∙ ih after (sym (run-ran state first start (Some after) s) ∙ e)
+    run-ran state capital [] (step state capital) refl ∙ some-or-none (step state capital)
+    ∙ ap (λ s. step s capital) (some-inj state next e)
+run-more state (first ∷ start) capital next e =
+    by (step state first) refl (λ after h. run-more after start capital next h) where
+      by : (o : Option State) → step state first ≡ o
+          → ((after : State) → run after start ≡ Some next
+          → run after (start ++ capital ∷ []) ≡ step next capital)
+          → run state (first ∷ (start ++ capital ∷ [])) ≡ step next capital
+      by None s ih = let h = run-ran state first start None s in cc
+      by (Some after) s ih = run-ran state first (start ++ capital ∷ []) (Some after) s
+          ∙ ih after (sym (run-ran state first start (Some after) s) ∙ e)
 
-pub run-refused : (state : State) (capital : Capital) (rest : List Capital) → step state capital ≡ None → accepts state (capital ∷ rest) ≡ false
+pub run-refused : (state : State) (capital : Capital) (rest : List Capital)
+    → step state capital ≡ None → accepts state (capital ∷ rest) ≡ false
 run-refused state capital rest e = accepts-continued state capital rest None e
 
 -- what may follow each state
@@ -87,7 +101,8 @@ completion AfterJiao = []
 completion FenDigit = Fen ∷ []
 completion Complete = []
 
-below-completed : (stage : Stage) (place : Place) → accepts (DigitBelow stage place) (ending stage) ≡ true
+below-completed : (stage : Stage) (place : Place)
+    → accepts (DigitBelow stage place) (ending stage) ≡ true
 below-completed Top Ones = refl
 below-completed Top Tens = refl
 below-completed Top Hundreds = refl
@@ -113,7 +128,8 @@ below-completed Last Tens = refl
 below-completed Last Hundreds = refl
 below-completed Last Thousands = refl
 
-unit-completed : (stage : Stage) (place : Place) → accepts (AfterUnit stage place) (ending stage) ≡ true
+unit-completed : (stage : Stage) (place : Place)
+    → accepts (AfterUnit stage place) (ending stage) ≡ true
 unit-completed Top Ones = refl
 unit-completed Top Tens = refl
 unit-completed Top Hundreds = refl
@@ -139,7 +155,8 @@ unit-completed Last Tens = refl
 unit-completed Last Hundreds = refl
 unit-completed Last Thousands = refl
 
-great-completed : (stage : Stage) (is_round : Bool) → accepts (AfterGreat stage is_round) (completion (AfterGreat stage is_round)) ≡ true
+great-completed : (stage : Stage) (is_round : Bool)
+    → accepts (AfterGreat stage is_round) (completion (AfterGreat stage is_round)) ≡ true
 great-completed Top is_round = refl
 great-completed BelowWan is_round = refl
 great-completed BelowYi is_round = refl
@@ -156,7 +173,8 @@ completed NoYuan = refl
 completed FirstDigit = refl
 completed (AfterGreat stage is_round) = great-completed stage is_round
 completed (AfterLing stage place) = below-completed stage place
-completed (DigitAt stage Ones) = at-ones stage (ending stage) ∙ sym (below-ones stage (ending stage)) ∙ below-completed stage Ones
+completed (DigitAt stage Ones) = at-ones stage (ending stage)
+    ∙ sym (below-ones stage (ending stage)) ∙ below-completed stage Ones
 completed (DigitAt stage Tens) = unit-completed stage Tens
 completed (DigitAt stage Hundreds) = unit-completed stage Hundreds
 completed (DigitAt stage Thousands) = unit-completed stage Thousands
@@ -183,7 +201,8 @@ ending-shown BelowYiGap = refl
 ending-shown OnlyWan = refl
 ending-shown Last = refl
 
-great-shown : (stage : Stage) (is_round : Bool) → list_all is_shown (completion (AfterGreat stage is_round)) ≡ true
+great-shown : (stage : Stage) (is_round : Bool)
+    → list_all is_shown (completion (AfterGreat stage is_round)) ≡ true
 great-shown Top is_round = refl
 great-shown BelowWan is_round = refl
 great-shown BelowYi is_round = refl
@@ -234,20 +253,41 @@ more-summed sum Foreign = omega arith
 
 all-summed : (sum : Sum) (t : List Capital) → summed sum ≤ summed (sum_of sum t)
 all-summed sum [] = omega arith
-all-summed sum (capital ∷ t) = omega (arith, more-summed sum capital, all-summed (add sum capital) t)
+all-summed sum (capital ∷ t) = omega (
+  arith,
+  more-summed sum capital,
+  all-summed (add sum capital) t,
+)
 
 section-below : (s : Section) → AreDigits s → section_value s < 10000
 section-below s digits = omega (arith, digits.0, digits.1, digits.2, digits.3)
 
 pub amount-below : (p : Places) → ArePlaces p → amount_value p < amount_limit
 amount-below p digits =
-    omega (arith, section-below p.wan_yi digits.0, section-below p.yi digits.1, section-below p.wan digits.2, section-below p.yuan digits.3, digits.4, digits.5)
+    omega (
+      arith,
+      section-below p.wan_yi digits.0,
+      section-below p.yi digits.1,
+      section-below p.wan digits.2,
+      section-below p.yuan digits.3,
+      digits.4,
+      digits.5,
+    )
 
 -- so each sum on the way is below the limit
-pub sum-below : (t rest : List Capital) → list_all is_proper (t ++ rest) ≡ true → accepts Beginning (t ++ rest) ≡ true → summed (sum_of no_sum t) < amount_limit
+pub sum-below : (t rest : List Capital) → list_all is_proper (t ++ rest) ≡ true
+    → accepts Beginning (t ++ rest) ≡ true → summed (sum_of no_sum t) < amount_limit
 sum-below t rest proper h =
     let r = accepted (t ++ rest) proper h in
-    let e : sum_of no_sum (t ++ rest) ≡ record { fen = amount_value r.places; yuan = 0; section = 0; digit = 0 } = ap (sum_of no_sum) r.is ∙ form-sum r.choices r.places in
-    let s : summed (sum_of (sum_of no_sum t) rest) ≡ summed (sum_of no_sum (t ++ rest)) = ap summed (sym (sum-append no_sum t rest)) in
-    let f : summed (sum_of no_sum (t ++ rest)) ≡ amount_value r.places + 100 * (0 + 0) = ap summed e in
+    let e : sum_of no_sum (t ++ rest) ≡ record {
+      fen = amount_value r.places;
+      yuan = 0;
+      section =
+          0;
+      digit = 0;
+    } = ap (sum_of no_sum) r.is ∙ form-sum r.choices r.places in
+    let s : summed (sum_of (sum_of no_sum t) rest) ≡ summed (sum_of no_sum (t ++ rest)) =
+    ap summed (sym (sum-append no_sum t rest)) in
+    let f : summed (sum_of no_sum (t ++ rest)) ≡ amount_value r.places + 100 * (0 + 0) =
+    ap summed e in
     omega (arith, all-summed (sum_of no_sum t) rest, s, f, amount-below r.places r.digits)

@@ -17,10 +17,14 @@ abbrev pub is_proper : Capital → Bool
 is_proper (Digit value) = nat_lt 0 value && nat_lt value 10
 is_proper capital = true
 
-pub digit-low : (n : ℕ) (t : List Capital) → list_all is_proper (Digit (suc n) ∷ t) ≡ true → suc n < 10
-digit-low n t p = let low : nat_lt (suc n) 10 ≡ true = and-right (nat_lt 0 (suc n)) _ (and-left (is_proper (Digit (suc n))) _ p) in grind (arith, nat_tests)
+pub digit-low : (n : ℕ) (t : List Capital) → list_all is_proper (Digit (suc n) ∷ t) ≡ true
+    → suc n < 10
+digit-low n t p = let low : nat_lt (suc n) 10 ≡ true =
+    and-right (nat_lt 0 (suc n)) _ (and-left (is_proper (Digit (suc n))) _ p)
+    in grind (arith, nat_tests)
 
-pub rest-proper : (capital : Capital) (t : List Capital) → list_all is_proper (capital ∷ t) ≡ true → list_all is_proper t ≡ true
+pub rest-proper : (capital : Capital) (t : List Capital) → list_all is_proper (capital ∷ t) ≡ true
+    → list_all is_proper t ≡ true
 rest-proper capital t p = and-right (is_proper capital) _ p
 
 -- a text that begins with what closes a section
@@ -31,11 +35,13 @@ closed stage is_round (capital ∷ rest) = elim (close stage is_round capital) [
   | Some next ↦ accepts next rest
 ]
 
-pub at-ones : (stage : Stage) (t : List Capital) → accepts (DigitAt stage Ones) t ≡ closed stage false t
+pub at-ones : (stage : Stage) (t : List Capital)
+    → accepts (DigitAt stage Ones) t ≡ closed stage false t
 at-ones stage [] = refl
 at-ones stage (capital ∷ t) = refl
 
-pub below-ones : (stage : Stage) (t : List Capital) → accepts (DigitBelow stage Ones) t ≡ closed stage false t
+pub below-ones : (stage : Stage) (t : List Capital)
+    → accepts (DigitBelow stage Ones) t ≡ closed stage false t
 below-ones stage [] = refl
 below-ones stage (capital ∷ t) = refl
 
@@ -121,13 +127,21 @@ pub record FirstThousands (stage : Stage) (t : List Capital) : Type 0 where
   pub low_tens : tens < 10
   pub low : ones < 10
   pub rest : List Capital
-  pub is : t ≡ section_text Nothing (record { thousands = thousands; hundreds = hundreds; tens = tens; ones = ones }) ++ rest
-  pub gap : Ling ∷ t ≡ section_text Gap (record { thousands = thousands; hundreds = hundreds; tens = tens; ones = ones }) ++ rest
+  pub is : t ≡ section_text Nothing (record {
+    thousands = thousands;
+    hundreds = hundreds;
+    tens =
+        tens;
+    ones = ones;
+  }) ++ rest
+  pub gap : Ling ∷ t ≡ section_text Gap
+      (record { thousands = thousands; hundreds = hundreds; tens = tens; ones = ones }) ++ rest
   pub some : (is_zero thousands && (is_zero hundreds && (is_zero tens && is_zero ones))) ≡ false
   pub ends : closed (stage_with thousands stage) (is_zero ones) rest ≡ true
   pub proper : list_all is_proper rest ≡ true
 
-pub after-tens : (stage : Stage) (t : List Capital) → list_all is_proper t ≡ true → accepts (AfterUnit stage Tens) t ≡ true → ReadOnes stage t
+pub after-tens : (stage : Stage) (t : List Capital) → list_all is_proper t ≡ true
+    → accepts (AfterUnit stage Tens) t ≡ true → ReadOnes stage t
 after-tens stage [] p h = cc
 after-tens stage (Digit zero ∷ t) p h = cc
 after-tens stage (Digit (suc n) ∷ t) p h = record {
@@ -147,7 +161,8 @@ after-tens stage (capital ∷ t) p h = record {
   proper = p;
 }
 
-below-ones-first : (stage : Stage) (n : ℕ) (t : List Capital) → list_all is_proper (Digit (suc n) ∷ t) ≡ true → accepts (DigitBelow stage Ones) t ≡ true
+below-ones-first : (stage : Stage) (n : ℕ) (t : List Capital)
+    → list_all is_proper (Digit (suc n) ∷ t) ≡ true → accepts (DigitBelow stage Ones) t ≡ true
     → FirstOnes stage (Digit (suc n) ∷ t)
 below-ones-first stage n t p h = record {
   ones = suc n;
@@ -159,7 +174,8 @@ below-ones-first stage n t p h = record {
   proper = rest-proper (Digit (suc n)) t p;
 }
 
-below-tens-first : (stage : Stage) (n : ℕ) (t : List Capital) → list_all is_proper (Digit (suc n) ∷ t) ≡ true → accepts (DigitBelow stage Tens) t ≡ true
+below-tens-first : (stage : Stage) (n : ℕ) (t : List Capital)
+    → list_all is_proper (Digit (suc n) ∷ t) ≡ true → accepts (DigitBelow stage Tens) t ≡ true
     → FirstTens stage (Digit (suc n) ∷ t)
 below-tens-first stage n [] p h = cc
 below-tens-first stage n (Shi ∷ t) p h =
@@ -190,19 +206,22 @@ below-tens-first stage n (capital ∷ t) p h = record {
 }
 
 -- behind 零
-ling-ones : (stage : Stage) (t : List Capital) → list_all is_proper t ≡ true → accepts (AfterLing stage Ones) t ≡ true → FirstOnes stage t
+ling-ones : (stage : Stage) (t : List Capital) → list_all is_proper t ≡ true
+    → accepts (AfterLing stage Ones) t ≡ true → FirstOnes stage t
 ling-ones stage [] p h = cc
 ling-ones stage (Digit zero ∷ t) p h = cc
 ling-ones stage (Digit (suc n) ∷ t) p h = below-ones-first stage n t p h
 ling-ones stage (capital ∷ t) p h = cc
 
-ling-tens : (stage : Stage) (t : List Capital) → list_all is_proper t ≡ true → accepts (AfterLing stage Tens) t ≡ true → FirstTens stage t
+ling-tens : (stage : Stage) (t : List Capital) → list_all is_proper t ≡ true
+    → accepts (AfterLing stage Tens) t ≡ true → FirstTens stage t
 ling-tens stage [] p h = cc
 ling-tens stage (Digit zero ∷ t) p h = cc
 ling-tens stage (Digit (suc n) ∷ t) p h = below-tens-first stage n t p h
 ling-tens stage (capital ∷ t) p h = cc
 
-at-tens : (stage : Stage) (n : ℕ) (t : List Capital) → list_all is_proper (Digit (suc n) ∷ t) ≡ true → accepts (DigitAt stage Tens) t ≡ true
+at-tens : (stage : Stage) (n : ℕ) (t : List Capital)
+    → list_all is_proper (Digit (suc n) ∷ t) ≡ true → accepts (DigitAt stage Tens) t ≡ true
     → ReadTens stage (Digit (suc n) ∷ t)
 at-tens stage n [] p h = cc
 at-tens stage n (Shi ∷ t) p h =
@@ -219,7 +238,8 @@ at-tens stage n (Shi ∷ t) p h =
     }
 at-tens stage n (capital ∷ t) p h = cc
 
-pub after-hundreds : (stage : Stage) (t : List Capital) → list_all is_proper t ≡ true → accepts (AfterUnit stage Hundreds) t ≡ true → ReadTens stage t
+pub after-hundreds : (stage : Stage) (t : List Capital) → list_all is_proper t ≡ true
+    → accepts (AfterUnit stage Hundreds) t ≡ true → ReadTens stage t
 after-hundreds stage [] p h = cc
 after-hundreds stage (Digit zero ∷ t) p h = cc
 after-hundreds stage (Digit (suc n) ∷ t) p h = at-tens stage n t p h
@@ -246,11 +266,13 @@ after-hundreds stage (capital ∷ t) p h = record {
   proper = p;
 }
 
-pub below-hundreds-first : (stage : Stage) (n : ℕ) (t : List Capital) → list_all is_proper (Digit (suc n) ∷ t) ≡ true → accepts (DigitBelow stage Hundreds) t ≡ true
+pub below-hundreds-first : (stage : Stage) (n : ℕ) (t : List Capital)
+    → list_all is_proper (Digit (suc n) ∷ t) ≡ true → accepts (DigitBelow stage Hundreds) t ≡ true
     → FirstHundreds stage (Digit (suc n) ∷ t)
 below-hundreds-first stage n [] p h = cc
 below-hundreds-first stage n (Bai ∷ t) p h =
-    let r = after-hundreds stage t (rest-proper Bai t (rest-proper (Digit (suc n)) (Bai ∷ t) p)) h in
+    let r = after-hundreds stage t (rest-proper Bai t (rest-proper (Digit (suc n)) (Bai ∷ t) p))
+    h in
     record {
       hundreds = suc n;
       tens = r.tens;
@@ -282,11 +304,13 @@ below-hundreds-first stage n (capital ∷ t) p h =
       proper = r.proper;
     }
 
-at-hundreds : (stage : Stage) (n : ℕ) (t : List Capital) → list_all is_proper (Digit (suc n) ∷ t) ≡ true → accepts (DigitAt stage Hundreds) t ≡ true
+at-hundreds : (stage : Stage) (n : ℕ) (t : List Capital)
+    → list_all is_proper (Digit (suc n) ∷ t) ≡ true → accepts (DigitAt stage Hundreds) t ≡ true
     → ReadHundreds stage (Digit (suc n) ∷ t)
 at-hundreds stage n [] p h = cc
 at-hundreds stage n (Bai ∷ t) p h =
-    let r = after-hundreds stage t (rest-proper Bai t (rest-proper (Digit (suc n)) (Bai ∷ t) p)) h in
+    let r = after-hundreds stage t (rest-proper Bai t (rest-proper (Digit (suc n)) (Bai ∷ t) p))
+    h in
     record {
       hundreds = suc n;
       tens = r.tens;
@@ -301,7 +325,8 @@ at-hundreds stage n (Bai ∷ t) p h =
     }
 at-hundreds stage n (capital ∷ t) p h = cc
 
-pub after-thousands : (stage : Stage) (t : List Capital) → list_all is_proper t ≡ true → accepts (AfterUnit stage Thousands) t ≡ true → ReadHundreds stage t
+pub after-thousands : (stage : Stage) (t : List Capital) → list_all is_proper t ≡ true
+    → accepts (AfterUnit stage Thousands) t ≡ true → ReadHundreds stage t
 after-thousands stage [] p h = cc
 after-thousands stage (Digit zero ∷ t) p h = cc
 after-thousands stage (Digit (suc n) ∷ t) p h = at-hundreds stage n t p h
@@ -332,11 +357,13 @@ after-thousands stage (capital ∷ t) p h = record {
   proper = p;
 }
 
-pub below-thousands-first : (stage : Stage) (n : ℕ) (t : List Capital) → list_all is_proper (Digit (suc n) ∷ t) ≡ true → accepts (DigitBelow stage Thousands) t ≡ true
+pub below-thousands-first : (stage : Stage) (n : ℕ) (t : List Capital)
+    → list_all is_proper (Digit (suc n) ∷ t) ≡ true → accepts (DigitBelow stage Thousands) t ≡ true
     → FirstThousands stage (Digit (suc n) ∷ t)
 below-thousands-first stage n [] p h = cc
 below-thousands-first stage n (Qian ∷ t) p h =
-    let r = after-thousands (behind_thousands stage) t (rest-proper Qian t (rest-proper (Digit (suc n)) (Qian ∷ t) p)) h in
+    let r = after-thousands (behind_thousands stage) t
+    (rest-proper Qian t (rest-proper (Digit (suc n)) (Qian ∷ t) p)) h in
     record {
       thousands = suc n;
       hundreds = r.hundreds;
@@ -373,13 +400,15 @@ below-thousands-first stage n (capital ∷ t) p h =
     }
 
 -- behind 零 right behind 万 or 亿
-pub ling-hundreds : (stage : Stage) (t : List Capital) → list_all is_proper t ≡ true → accepts (AfterLing stage Hundreds) t ≡ true → FirstHundreds stage t
+pub ling-hundreds : (stage : Stage) (t : List Capital) → list_all is_proper t ≡ true
+    → accepts (AfterLing stage Hundreds) t ≡ true → FirstHundreds stage t
 ling-hundreds stage [] p h = cc
 ling-hundreds stage (Digit zero ∷ t) p h = cc
 ling-hundreds stage (Digit (suc n) ∷ t) p h = below-hundreds-first stage n t p h
 ling-hundreds stage (capital ∷ t) p h = cc
 
-pub ling-thousands : (stage : Stage) (t : List Capital) → list_all is_proper t ≡ true → accepts (AfterLing stage Thousands) t ≡ true → FirstThousands stage t
+pub ling-thousands : (stage : Stage) (t : List Capital) → list_all is_proper t ≡ true
+    → accepts (AfterLing stage Thousands) t ≡ true → FirstThousands stage t
 ling-thousands stage [] p h = cc
 ling-thousands stage (Digit zero ∷ t) p h = cc
 ling-thousands stage (Digit (suc n) ∷ t) p h = below-thousands-first stage n t p h
@@ -396,15 +425,23 @@ pub record ReadThousands (stage : Stage) (t : List Capital) : Type 0 where
   pub low_tens : tens < 10
   pub low : ones < 10
   pub rest : List Capital
-  pub is : t ≡ section_text Filled (record { thousands = suc before_thousands; hundreds = hundreds; tens = tens; ones = ones }) ++ rest
+  pub is : t ≡ section_text Filled (record {
+    thousands = suc before_thousands;
+    hundreds =
+        hundreds;
+    tens = tens;
+    ones = ones;
+  }) ++ rest
   pub ends : closed stage (is_zero ones) rest ≡ true
   pub proper : list_all is_proper rest ≡ true
 
-pub at-thousands : (stage : Stage) (n : ℕ) (t : List Capital) → list_all is_proper (Digit (suc n) ∷ t) ≡ true → accepts (DigitAt stage Thousands) t ≡ true
+pub at-thousands : (stage : Stage) (n : ℕ) (t : List Capital)
+    → list_all is_proper (Digit (suc n) ∷ t) ≡ true → accepts (DigitAt stage Thousands) t ≡ true
     → ReadThousands stage (Digit (suc n) ∷ t)
 at-thousands stage n [] p h = cc
 at-thousands stage n (Qian ∷ t) p h =
-    let r = after-thousands stage t (rest-proper Qian t (rest-proper (Digit (suc n)) (Qian ∷ t) p)) h in
+    let r = after-thousands stage t (rest-proper Qian t (rest-proper (Digit (suc n)) (Qian ∷ t) p))
+    h in
     record {
       before_thousands = n;
       hundreds = r.hundreds;

@@ -48,7 +48,9 @@ digit-is Min value h = cc
 digit-is Bi value h = cc
 digit-is Foreign value h = cc
 
-digits-read : (variant : ChineseVariant) → each_below (λ value. value == 0 || is_digit (capital_of (digit_char variant Upper value)) value) 10 ≡ true
+digits-read : (variant : ChineseVariant)
+    → each_below (λ value. value == 0
+    || is_digit (capital_of (digit_char variant Upper value)) value) 10 ≡ true
 unfolding capital_of digit_char
 digits-read Traditional = refl
 digits-read Simple = refl
@@ -84,20 +86,26 @@ yi-read Traditional = refl
 yi-read Simple = refl
 
 word-read : (variant : ChineseVariant)
-    → (capital_of (capital_char variant Yuan) ≡ Yuan) × (capital_of (capital_char variant Jiao) ≡ Jiao) × (capital_of (capital_char variant Fen) ≡ Fen)
-    × (capital_of (capital_char variant Zheng) ≡ Zheng) × (capital_of (capital_char variant Ren) ≡ Ren) × (capital_of (capital_char variant Min) ≡ Min)
+    → (capital_of (capital_char variant Yuan) ≡ Yuan)
+    × (capital_of (capital_char variant Jiao) ≡ Jiao)
+    × (capital_of (capital_char variant Fen) ≡ Fen)
+    × (capital_of (capital_char variant Zheng) ≡ Zheng)
+    × (capital_of (capital_char variant Ren) ≡ Ren) × (capital_of (capital_char variant Min) ≡ Min)
     × (capital_of (capital_char variant Bi) ≡ Bi)
 unfolding capital_of
 word-read variant = (refl, refl, refl, refl, refl, refl, refl)
 
-pub capital-read : (variant : ChineseVariant) (capital : Capital) → is_shown capital ≡ true → capital_of (capital_char variant capital) ≡ capital
+pub capital-read : (variant : ChineseVariant) (capital : Capital) → is_shown capital ≡ true
+    → capital_of (capital_char variant capital) ≡ capital
 capital-read variant Ling h = ling-read variant
 capital-read variant (Digit value) h =
     let some : nat_lt 0 value ≡ true = and-left (nat_lt 0 value) _ h in
     let less : nat_lt value 10 ≡ true = and-right (nat_lt 0 value) _ h in
     let low : value < 10 = grind (arith, nat_tests) in
     let none : (value == 0) ≡ false = grind (arith, nat_tests) in
-    let read = each_below-at (λ value. value == 0 || is_digit (capital_of (digit_char variant Upper value)) value) 10 value (digits-read variant) low in
+    let read = each_below-at (λ value. value == 0
+    || is_digit (capital_of (digit_char variant Upper value)) value) 10 value
+    (digits-read variant) low in
     digit-is _ value (rw none at read)
 capital-read variant Shi h = shi-read variant
 capital-read variant Bai h = bai-read variant
@@ -113,18 +121,25 @@ capital-read variant Min h = (word-read variant).5
 capital-read variant Bi h = (word-read variant).6
 capital-read variant Foreign h = cc
 
-pub capitals-read : (variant : ChineseVariant) (capitals : List Capital) → list_all is_shown capitals ≡ true → capitals_of (map (capital_char variant) capitals) ≡ capitals
+pub capitals-read : (variant : ChineseVariant) (capitals : List Capital)
+    → list_all is_shown capitals ≡ true
+    → capitals_of (map (capital_char variant) capitals) ≡ capitals
 capitals-read variant [] h = refl
 capitals-read variant (capital ∷ rest) h =
-    ap₂ (λ (x : Capital) (xs : List Capital). x ∷ xs) (capital-read variant capital (and-left (is_shown capital) _ h)) (capitals-read variant rest (and-right (is_shown capital) _ h))
+    ap₂ (λ (x : Capital) (xs : List Capital). x ∷ xs)
+    (capital-read variant capital (and-left (is_shown capital) _ h)) (capitals-read variant
+    rest (and-right (is_shown capital) _ h))
 
 -- each character is read as a digit from 1 to 9, or as no digit
-proper-with : (rows : List (List ℕ × Capital)) (c : ℕ) → list_all (λ row. is_proper row.1) rows ≡ true → is_proper (first_with rows c) ≡ true
+proper-with : (rows : List (List ℕ × Capital)) (c : ℕ)
+    → list_all (λ row. is_proper row.1) rows ≡ true → is_proper (first_with rows c) ≡ true
 proper-with [] c h = refl
-proper-with (row ∷ rows) c h = by (char_set_contains row.0 c) (proper-with rows c (and-right (is_proper row.1) _ h)) where
-  by : (b : Bool) → is_proper (first_with rows c) ≡ true → is_proper (if b then row.1 else first_with rows c) ≡ true
-  by true rest = and-left (is_proper row.1) _ h
-  by false rest = rest
+proper-with (row ∷ rows) c h = by (char_set_contains row.0 c) (proper-with rows c
+    (and-right (is_proper row.1) _ h)) where
+      by : (b : Bool) → is_proper (first_with rows c) ≡ true
+          → is_proper (if b then row.1 else first_with rows c) ≡ true
+      by true rest = and-left (is_proper row.1) _ h
+      by false rest = rest
 
 pub proper-of : (c : ℕ) → is_proper (capital_of c) ≡ true
 unfolding capital_of

@@ -21,7 +21,8 @@ pub record ReadFen (t : List Capital) : Type 0 where
   pub closes : Bool
   pub is : t ≡ place_text Filled fen (Fen ∷ []) ++ closing 1 fen closes
 
-fen-digit : (n : ℕ) (t : List Capital) → list_all is_proper (Digit (suc n) ∷ t) ≡ true → accepts FenDigit t ≡ true → ReadFen (Digit (suc n) ∷ t)
+fen-digit : (n : ℕ) (t : List Capital) → list_all is_proper (Digit (suc n) ∷ t) ≡ true
+    → accepts FenDigit t ≡ true → ReadFen (Digit (suc n) ∷ t)
 fen-digit n [] p h = cc
 fen-digit n (Fen ∷ t) p h = record {
   fen = suc n;
@@ -31,9 +32,16 @@ fen-digit n (Fen ∷ t) p h = record {
 }
 fen-digit n (capital ∷ t) p h = cc
 
-pub after-jiao : (t : List Capital) → list_all is_proper t ≡ true → accepts AfterJiao t ≡ true → ReadFen t
+pub after-jiao : (t : List Capital) → list_all is_proper t ≡ true → accepts AfterJiao t ≡ true
+    → ReadFen t
 after-jiao [] p h = record { fen = 0; low = omega arith; closes = false; is = refl }
-after-jiao (Zheng ∷ t) p h = record { fen = 0; low = omega arith; closes = true; is = ap (λ l. Zheng ∷ l) (complete-nil t h) }
+after-jiao (Zheng ∷ t) p h = record {
+  fen = 0;
+  low = omega arith;
+  closes = true;
+  is =
+      ap (λ l. Zheng ∷ l) (complete-nil t h);
+}
 after-jiao (Digit zero ∷ t) p h = cc
 after-jiao (Digit (suc n) ∷ t) p h = fen-digit n t p h
 after-jiao (capital ∷ t) p h = cc
@@ -54,7 +62,8 @@ pub record ReadSmall (is_round : Bool) (t : List Capital) : Type 0 where
   pub is : t ≡ small_text (behind keeps (front is_round)) jiao fen closes
 
 -- a digit behind 元 and 零
-small-digit : (is_round : Bool) (n : ℕ) (t : List Capital) → list_all is_proper (Digit (suc n) ∷ t) ≡ true → accepts (SmallDigit is_round) t ≡ true
+small-digit : (is_round : Bool) (n : ℕ) (t : List Capital)
+    → list_all is_proper (Digit (suc n) ∷ t) ≡ true → accepts (SmallDigit is_round) t ≡ true
     → ReadSmall is_round (Ling ∷ Digit (suc n) ∷ t)
 small-digit is_round n [] p h = cc
 small-digit true n (Fen ∷ t) p h = record {
@@ -84,19 +93,22 @@ small-digit true n (Jiao ∷ t) p h =
       low_jiao = digit-low n (Jiao ∷ t) p;
       low_fen = r.low;
       closes = r.closes;
-      is = ap (λ l. Ling ∷ Digit (suc n) ∷ Jiao ∷ l) (r.is ∙ ap (λ l. place_text Filled r.fen (Fen ∷ []) ++ l) (closing-one n r.fen r.closes));
+      is = ap (λ l. Ling ∷ Digit (suc n) ∷ Jiao ∷ l)
+          (r.is ∙ ap (λ l. place_text Filled r.fen (Fen ∷ []) ++ l) (closing-one n r.fen r.closes));
     }
 small-digit false n (Jiao ∷ t) p h = cc
 small-digit is_round n (capital ∷ t) p h = cc
 
-yuan-ling : (is_round : Bool) (t : List Capital) → list_all is_proper t ≡ true → accepts (AfterYuanLing is_round) t ≡ true → ReadSmall is_round (Ling ∷ t)
+yuan-ling : (is_round : Bool) (t : List Capital) → list_all is_proper t ≡ true
+    → accepts (AfterYuanLing is_round) t ≡ true → ReadSmall is_round (Ling ∷ t)
 yuan-ling is_round [] p h = cc
 yuan-ling is_round (Digit zero ∷ t) p h = cc
 yuan-ling is_round (Digit (suc n) ∷ t) p h = small-digit is_round n t p h
 yuan-ling is_round (capital ∷ t) p h = cc
 
 -- a digit right behind 元
-jiao-digit : (is_round : Bool) (n : ℕ) (t : List Capital) → list_all is_proper (Digit (suc n) ∷ t) ≡ true → accepts JiaoDigit t ≡ true
+jiao-digit : (is_round : Bool) (n : ℕ) (t : List Capital)
+    → list_all is_proper (Digit (suc n) ∷ t) ≡ true → accepts JiaoDigit t ≡ true
     → ReadSmall is_round (Digit (suc n) ∷ t)
 jiao-digit is_round n [] p h = cc
 jiao-digit true n (Jiao ∷ t) p h =
@@ -108,7 +120,8 @@ jiao-digit true n (Jiao ∷ t) p h =
       low_jiao = digit-low n (Jiao ∷ t) p;
       low_fen = r.low;
       closes = r.closes;
-      is = ap (λ l. Digit (suc n) ∷ Jiao ∷ l) (r.is ∙ ap (λ l. place_text Filled r.fen (Fen ∷ []) ++ l) (closing-one n r.fen r.closes));
+      is = ap (λ l. Digit (suc n) ∷ Jiao ∷ l)
+          (r.is ∙ ap (λ l. place_text Filled r.fen (Fen ∷ []) ++ l) (closing-one n r.fen r.closes));
     }
 jiao-digit false n (Jiao ∷ t) p h =
     let r = after-jiao t (rest-proper Jiao t (rest-proper (Digit (suc n)) (Jiao ∷ t) p)) h in
@@ -119,11 +132,13 @@ jiao-digit false n (Jiao ∷ t) p h =
       low_jiao = digit-low n (Jiao ∷ t) p;
       low_fen = r.low;
       closes = r.closes;
-      is = ap (λ l. Digit (suc n) ∷ Jiao ∷ l) (r.is ∙ ap (λ l. place_text Filled r.fen (Fen ∷ []) ++ l) (closing-one n r.fen r.closes));
+      is = ap (λ l. Digit (suc n) ∷ Jiao ∷ l)
+          (r.is ∙ ap (λ l. place_text Filled r.fen (Fen ∷ []) ++ l) (closing-one n r.fen r.closes));
     }
 jiao-digit is_round n (capital ∷ t) p h = cc
 
-pub after-yuan : (is_round : Bool) (t : List Capital) → list_all is_proper t ≡ true → accepts (AfterYuan is_round) t ≡ true → ReadSmall is_round t
+pub after-yuan : (is_round : Bool) (t : List Capital) → list_all is_proper t ≡ true
+    → accepts (AfterYuan is_round) t ≡ true → ReadSmall is_round t
 after-yuan is_round [] p h = cc
 after-yuan is_round (Zheng ∷ t) p h = record {
   keeps = true;

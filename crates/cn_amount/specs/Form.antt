@@ -79,9 +79,11 @@ section_text before s =
 
 abbrev pub after_section : Before → Section → Before
 after_section before s =
-    after_digit (after_digit (after_digit (after_digit before s.thousands) s.hundreds) s.tens) s.ones
+    after_digit (after_digit (after_digit (after_digit before s.thousands) s.hundreds) s.tens)
+    s.ones
 
--- What stands in front of the place behind a unit above 仟: a 0 at the unit's place counts as one, or
+-- What stands in front of the place behind a unit above 仟: a 0 at the unit's place counts as one,
+-- or
 -- it does not. Where the next digit is 0 too, there is a 零 all the same.
 abbrev pub behind : Bool → Before → Before
 behind keeps Nothing = Nothing
@@ -103,7 +105,8 @@ after_wan keeps before s =
 
 -- the section that 亿 counts, with what stands in front of it
 abbrev pub yi_text : Before → Section → List Capital
-yi_text before s = section_text before s ++ (if is_written (after_section before s) then Yi ∷ [] else [])
+yi_text before s = section_text before s
+    ++ (if is_written (after_section before s) then Yi ∷ [] else [])
 
 abbrev pub after_yi : Bool → Before → Section → Before
 after_yi keeps before s = behind keeps (after_section before s)
@@ -155,7 +158,8 @@ from_yi choices before p =
 
 abbrev pub from_top : Choices → Places → List Capital
 from_top choices p =
-    wan_text Nothing p.wan_yi ++ from_yi choices (after_wan choices.behind_wan_yi Nothing p.wan_yi) p
+    wan_text Nothing p.wan_yi ++ from_yi choices (after_wan choices.behind_wan_yi Nothing p.wan_yi)
+    p
 
 -- a form of an amount, by its digits and the choices
 abbrev pub amount_form : Choices → Places → List Capital

@@ -40,7 +40,8 @@ pub record IsAmount (text : List ℕ) (fen : ℕ) : Type 0 where
 abbrev pub Begins : List ℕ → Type 0
 Begins text = (behind : List ℕ) × (fen : ℕ) × IsAmount (text ++ behind) fen
 
--- why a text is refused: something is missing at its end, or no amount begins with what stands up to
+-- why a text is refused: something is missing at its end, or no amount begins with what stands up
+-- to
 -- and with the character at this place
 pub data AmountRefusal : Type 0 where
   unfinished : AmountRefusal

@@ -51,5 +51,6 @@ abbrev pub WritesAmount : {Z : Type 0} → ChineseVariant → ℕ
     → Result (String Z) AmountToChineseError → Type 0
 WritesAmount variant amount result =
     MatchResult result
-    (λ text. (amount < amount_limit) × (string_bytes text ≡ encode_utf8_all (amount_text variant amount)))
+    (λ text. (amount < amount_limit)
+    × (string_bytes text ≡ encode_utf8_all (amount_text variant amount)))
     (RefusesAmount amount)

@@ -1,5 +1,5 @@
 //! What users can count on, each as the contract of a function that does nothing.
-ghost use Rattle.std.specs.Prelude.{◌≡◌, ℕ, ◌<◌, ◌≤◌, List, length, take, Result, Ok, encode_utf8_all};
+ghost use Rattle.std.specs.Prelude.{◌≡◌, ℕ, ◌<◌, ◌≤◌, List, ◌++◌, length, Result, Ok, encode_utf8_all};
 ghost use Rattle.cn_core.specs.declared.script.ChineseVariant.{ChineseVariant};
 ghost use Rattle.cn_amount.specs.Places.{amount_limit};
 ghost use Rattle.cn_amount.specs.Reading.{AmountRefusal, IsAmount, Begins, Answers, ReadsAmount};
@@ -17,22 +17,18 @@ pub fn each_text_is_one_amount()
         → IsAmount text one → IsAmount text two → one ≡ two }
 {}
 
-/// Each text has an answer: whoever asks is told of an amount, or why there is none.
-pub fn each_text_has_an_answer()
-    ensures { (text : List ℕ) → (answer : Result ℕ AmountRefusal) × Answers text answer }
-{}
-
-/// No text has two answers: what is an amount is neither unfinished nor incorrect, and a text is
-/// incorrect at one character.
+/// Each text has one answer and no more: what is an amount is neither unfinished nor incorrect, and
+/// a text is incorrect at one character.
 pub fn each_text_has_one_answer()
-    ensures { (text : List ℕ) → (one two : Result ℕ AmountRefusal)
-        → Answers text one → Answers text two → one ≡ two }
+    ensures { (text : List ℕ) → (answer : Result ℕ AmountRefusal) × Answers text answer
+        × ((other : Result ℕ AmountRefusal) → Answers text other → other ≡ answer) }
 {}
 
 /// For a form that judges at each key: each beginning of each form of an amount begins an amount,
 /// so it is unfinished or right, and never incorrect.
 pub fn beginnings_are_begun()
-    ensures { (text : List ℕ) → (fen count : ℕ) → IsAmount text fen → Begins (take count text) }
+    ensures { (front behind : List ℕ) → (fen : ℕ)
+        → IsAmount (front ++ behind) fen → Begins front }
 {}
 
 /// An amount stands below the limit, so a text is never too large.

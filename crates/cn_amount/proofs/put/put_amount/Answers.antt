@@ -7,6 +7,7 @@ use Rattle.cn_amount.proofs.put.put_amount.Goals as goal
 pub returns : goal.returns
 returns g c =
     let p = c.args.places in
-    puts-two g.P.Pen.has_put _ _ _ (wan_text Nothing p.wan_yi) (from_yi written (after_wan true Nothing p.wan_yi) p)
+    puts-two g.P.Pen.has_put _ _ _ (wan_text Nothing p.wan_yi)
+    (from_yi written (after_wan true Nothing p.wan_yi) p)
     c.in_ok-put_wan.ensures
     (rw c.after_wan.ensures at c.in_ok-put_from_yi.ensures)

@@ -9,6 +9,7 @@ returns c = λ variant capitals h. (
   h.0,
   c.in_ok-push.ensures.bytes
       ∙ ap (λ bytes. bytes ++ encode_utf8 c.capital_char.result) h.1
-      ∙ ap (λ char. shown variant capitals ++ encode_utf8 char) (c.capital_char.ensures ∙ ap (λ v. capital_char v c.args.capital) h.0)
+      ∙ ap (λ char. shown variant capitals ++ encode_utf8 char)
+      (c.capital_char.ensures ∙ ap (λ v. capital_char v c.args.capital) h.0)
       ∙ sym (shown-more variant capitals c.args.capital),
 )
