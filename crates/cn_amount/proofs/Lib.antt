@@ -1,0 +1,15 @@
+pub mod Accepted
+pub mod Closed
+pub mod Examples
+pub mod FormsRead
+pub mod FormsShown
+pub mod Joins
+pub mod Lengths
+pub mod OneAnswer
+pub mod ReadText
+pub mod Runs
+pub mod Sections
+pub mod Shown
+pub mod Shows
+pub mod SmallRead
+pub mod Values

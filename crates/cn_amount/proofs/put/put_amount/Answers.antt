@@ -1,0 +1,13 @@
+use Rattle.std.proofs.Common.{true}
+use Rattle.cn_amount.specs.declared.before.Before.TheVariants.{Nothing}
+use Rattle.cn_amount.specs.Form.{wan_text, after_wan, from_yi, written}
+use Rattle.cn_amount.proofs.Shown.{puts-two}
+use Rattle.cn_amount.proofs.put.put_amount.Goals as goal
+
+pub returns : goal.returns
+returns g c =
+    let p = c.args.places in
+    puts-two g.P.Pen.has_put _ _ _ (wan_text Nothing p.wan_yi)
+    (from_yi written (after_wan true Nothing p.wan_yi) p)
+    c.in_ok-put_wan.ensures
+    (rw c.after_wan.ensures at c.in_ok-put_from_yi.ensures)

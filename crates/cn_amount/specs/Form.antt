@@ -1,0 +1,167 @@
+-- In which forms an amount may stand, and in which one it is written. The rule goes by places, from
+-- the top: a digit that is not 0 is written with its unit, and 零 in front of it where the digit
+-- directly before it is 0.
+use Rattle.std.specs.Prelude.{ℕ, zero, suc, Bool, true, false, ◌&&◌, ◌||◌, List, [], ◌∷◌, ◌++◌, if◌then◌else◌}
+use Rattle.cn_amount.specs.declared.before.Before.{Before}
+use Rattle.cn_amount.specs.declared.before.Before.TheVariants.{Nothing, Gap, Filled}
+use Rattle.cn_amount.specs.declared.capital.Capital.{Capital}
+use Rattle.cn_amount.specs.declared.capital.Capital.TheVariants.{Ling, Digit, Shi, Bai, Qian, Wan, Yi, Yuan, Jiao, Fen, Zheng, Ren, Min, Bi}
+use Rattle.cn_amount.specs.declared.places.Section.{Section}
+use Rattle.cn_amount.specs.declared.places.Places.{Places}
+
+-- what the rules leave open
+pub record Choices : Type 0 where
+  -- 人民币 in front
+  pub currency : Bool
+  -- 零元 where there are no yuan, but jiao or fen
+  pub no_yuan : Bool
+  -- where the digit at the place of the unit is 0, and the next one is not: 零 behind the 万 of 万亿,
+  -- behind 亿, behind 万, behind 元
+  pub behind_wan_yi : Bool
+  pub behind_yi : Bool
+  pub behind_wan : Bool
+  pub behind_yuan : Bool
+  -- 整 behind 角
+  pub behind_jiao : Bool
+
+-- the choices of the form that is written: both rules allow it for every amount
+abbrev pub written : Choices
+written = record {
+  currency = false;
+  no_yuan = false;
+  behind_wan_yi = true;
+  behind_yi = true;
+  behind_wan = true;
+  behind_yuan = false;
+  behind_jiao = true;
+}
+
+abbrev pub is_zero : ℕ → Bool
+is_zero zero = true
+is_zero (suc n) = false
+
+-- what stands in front of the next place
+abbrev pub after_digit : Before → ℕ → Before
+after_digit before (suc n) = Filled
+after_digit Nothing zero = Nothing
+after_digit Gap zero = Gap
+after_digit Filled zero = Gap
+
+-- whether anything is written yet
+abbrev pub is_written : Before → Bool
+is_written Nothing = false
+is_written Gap = true
+is_written Filled = true
+
+-- a place, with its unit if it has one: nothing where the digit is 0
+abbrev pub place_text : Before → ℕ → List Capital → List Capital
+place_text before zero unit = []
+place_text Nothing (suc n) unit = Digit (suc n) ∷ unit
+place_text Gap (suc n) unit = Ling ∷ Digit (suc n) ∷ unit
+place_text Filled (suc n) unit = Digit (suc n) ∷ unit
+
+-- the lowest place of a section, the lowest two, three, and all four: 肆佰零玖 of 0, 4, 0, 9
+abbrev pub ones_text : Before → ℕ → List Capital
+ones_text before ones = place_text before ones []
+
+abbrev pub tens_text : Before → ℕ → ℕ → List Capital
+tens_text before tens ones =
+    place_text before tens (Shi ∷ []) ++ ones_text (after_digit before tens) ones
+
+abbrev pub hundreds_text : Before → ℕ → ℕ → ℕ → List Capital
+hundreds_text before hundreds tens ones =
+    place_text before hundreds (Bai ∷ []) ++ tens_text (after_digit before hundreds) tens ones
+
+abbrev pub section_text : Before → Section → List Capital
+section_text before s =
+    place_text before s.thousands (Qian ∷ [])
+    ++ hundreds_text (after_digit before s.thousands) s.hundreds s.tens s.ones
+
+abbrev pub after_section : Before → Section → Before
+after_section before s =
+    after_digit (after_digit (after_digit (after_digit before s.thousands) s.hundreds) s.tens)
+    s.ones
+
+-- What stands in front of the place behind a unit above 仟: a 0 at the unit's place counts as one,
+-- or
+-- it does not. Where the next digit is 0 too, there is a 零 all the same.
+abbrev pub behind : Bool → Before → Before
+behind keeps Nothing = Nothing
+behind true Gap = Gap
+behind false Gap = Filled
+behind keeps Filled = Filled
+
+-- a section that 万 counts; an empty one is not written
+abbrev pub is_empty : Section → Bool
+is_empty s =
+    is_zero s.thousands && (is_zero s.hundreds && (is_zero s.tens && is_zero s.ones))
+
+abbrev pub wan_text : Before → Section → List Capital
+wan_text before s = if is_empty s then [] else section_text before s ++ Wan ∷ []
+
+abbrev pub after_wan : Bool → Before → Section → Before
+after_wan keeps before s =
+    if is_empty s then after_section before s else behind keeps (after_section before s)
+
+-- the section that 亿 counts, with what stands in front of it
+abbrev pub yi_text : Before → Section → List Capital
+yi_text before s = section_text before s
+    ++ (if is_written (after_section before s) then Yi ∷ [] else [])
+
+abbrev pub after_yi : Bool → Before → Section → Before
+after_yi keeps before s = behind keeps (after_section before s)
+
+-- 元; where there are no yuan, 零元 or nothing
+abbrev pub yuan_unit : Before → Bool → List Capital
+yuan_unit Nothing true = Ling ∷ Yuan ∷ []
+yuan_unit Nothing false = []
+yuan_unit Gap named = Yuan ∷ []
+yuan_unit Filled named = Yuan ∷ []
+
+abbrev pub after_yuan_unit : Bool → Before → Bool → Before
+after_yuan_unit keeps Nothing true = behind keeps Gap
+after_yuan_unit keeps Nothing false = Nothing
+after_yuan_unit keeps Gap named = behind keeps Gap
+after_yuan_unit keeps Filled named = Filled
+
+-- what closes an amount, so that nothing can be added: 整 where there are no fen
+abbrev pub closing : ℕ → ℕ → Bool → List Capital
+closing jiao (suc n) closes = []
+closing zero zero closes = Zheng ∷ []
+closing (suc n) zero true = Zheng ∷ []
+closing (suc n) zero false = []
+
+-- jiao, fen and what closes them
+abbrev pub small_text : Before → ℕ → ℕ → Bool → List Capital
+small_text before jiao fen closes =
+    place_text before jiao (Jiao ∷ [])
+    ++ (place_text (after_digit before jiao) fen (Fen ∷ []) ++ closing jiao fen closes)
+
+-- the yuan without a greater unit, 元, and the rest
+abbrev pub yuan_text : Choices → Before → Section → ℕ → ℕ → List Capital
+yuan_text choices before s jiao fen =
+    let after = after_section before s in
+    let named = choices.no_yuan || (is_zero jiao && is_zero fen) in
+    section_text before s
+    ++ (yuan_unit after named
+    ++ small_text (after_yuan_unit choices.behind_yuan after named) jiao fen choices.behind_jiao)
+
+-- from the section of 万 on, from that of 亿 on, and from the top
+abbrev pub from_wan : Choices → Before → Places → List Capital
+from_wan choices before p =
+    wan_text before p.wan
+    ++ yuan_text choices (after_wan choices.behind_wan before p.wan) p.yuan p.jiao p.fen
+
+abbrev pub from_yi : Choices → Before → Places → List Capital
+from_yi choices before p =
+    yi_text before p.yi ++ from_wan choices (after_yi choices.behind_yi before p.yi) p
+
+abbrev pub from_top : Choices → Places → List Capital
+from_top choices p =
+    wan_text Nothing p.wan_yi ++ from_yi choices (after_wan choices.behind_wan_yi Nothing p.wan_yi)
+    p
+
+-- a form of an amount, by its digits and the choices
+abbrev pub amount_form : Choices → Places → List Capital
+amount_form choices p =
+    (if choices.currency then Ren ∷ Min ∷ Bi ∷ [] else []) ++ from_top choices p

@@ -1,0 +1,8 @@
+pub mod Answer
+pub mod ErrorText
+pub mod Form
+pub mod Places
+pub mod Reading
+pub mod Steps
+pub mod Working
+pub mod Writes

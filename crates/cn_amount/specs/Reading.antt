@@ -1,0 +1,59 @@
+-- What is read as an amount, and what is answered of a text.
+use Rattle.std.specs.Prelude.{◌≡◌, ℕ, ◌+◌, ◌<◌, List, [], ◌∷◌, ◌++◌, length, map, take, Result, Ok, Err, codes, chars, if◌then◌else◌}
+use Rattle.std.specs.Char.{char_set_contains}
+use Rattle.cn_amount.specs.declared.capital.Capital.{Capital}
+use Rattle.cn_amount.specs.declared.capital.Capital.TheVariants.{Ling, Digit, Shi, Bai, Qian, Wan, Yi, Yuan, Jiao, Fen, Zheng, Ren, Min, Bi, Foreign}
+use Rattle.cn_amount.specs.declared.places.Places.{Places}
+use Rattle.cn_amount.specs.Form.{Choices, amount_form}
+use Rattle.cn_amount.specs.Places.{ArePlaces, amount_value}
+
+-- the characters that are read as each capital: those of both scripts, and no lower case
+abbrev pub capital_rows : List (List ℕ × Capital)
+capital_rows =
+    (codes "零", Ling) ∷ (codes "壹", Digit 1) ∷ (codes "贰貳", Digit 2) ∷ (codes "叁參叄", Digit 3)
+    ∷ (codes "肆", Digit 4) ∷ (codes "伍", Digit 5) ∷ (codes "陆陸", Digit 6) ∷ (codes "柒", Digit 7)
+    ∷ (codes "捌", Digit 8) ∷ (codes "玖", Digit 9) ∷ (codes "拾", Shi) ∷ (codes "佰", Bai)
+    ∷ (codes "仟", Qian) ∷ (codes "万萬", Wan) ∷ (codes "亿億", Yi) ∷ (codes "元圆圓", Yuan)
+    ∷ (codes "角", Jiao) ∷ (codes "分", Fen) ∷ (codes "整正", Zheng) ∷ (codes "人", Ren)
+    ∷ (codes "民", Min) ∷ (codes "币幣", Bi) ∷ []
+
+abbrev pub first_with : List (List ℕ × Capital) → ℕ → Capital
+first_with [] c = Foreign
+first_with (row ∷ rows) c = if char_set_contains row.0 c then row.1 else first_with rows c
+
+-- what a character is
+unfoldable pub capital_of : ℕ → Capital
+capital_of c = first_with capital_rows c
+
+abbrev pub capitals_of : List ℕ → List Capital
+capitals_of text = map capital_of text
+
+-- the characters are a form of the amount
+pub record IsAmount (text : List ℕ) (fen : ℕ) : Type 0 where
+  pub choices : Choices
+  pub places : Places
+  pub digits : ArePlaces places
+  pub form : capitals_of text ≡ amount_form choices places
+  pub value : fen ≡ amount_value places
+
+-- an amount can begin with these characters
+abbrev pub Begins : List ℕ → Type 0
+Begins text = (behind : List ℕ) × (fen : ℕ) × IsAmount (text ++ behind) fen
+
+-- why a text is refused: something is missing at its end, or no amount begins with what stands up
+-- to
+-- and with the character at this place
+pub data AmountRefusal : Type 0 where
+  unfinished : AmountRefusal
+  incorrect_at : ℕ → AmountRefusal
+
+-- the answer to a text
+abbrev pub Answers : List ℕ → Result ℕ AmountRefusal → Type 0
+Answers text (Ok fen) = IsAmount text fen
+Answers text (Err unfinished) = Begins text × ((fen : ℕ) → ¬ IsAmount text fen)
+Answers text (Err (incorrect_at place)) =
+    (place < length text) × Begins (take place text) × ¬ Begins (take (place + 1) text)
+
+-- the answer to a string, given by its bytes
+abbrev pub ReadsAmount : List ℕ → Result ℕ AmountRefusal → Type 0
+ReadsAmount bytes answer = Answers (chars bytes) answer

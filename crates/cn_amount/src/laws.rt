@@ -1,0 +1,42 @@
+//! What users can count on, each as the contract of a function that does nothing.
+ghost use Rattle.std.specs.Prelude.{◌≡◌, ℕ, ◌<◌, ◌≤◌, List, ◌++◌, length, Result, Ok, encode_utf8_all};
+ghost use Rattle.cn_core.specs.declared.script.ChineseVariant.{ChineseVariant};
+ghost use Rattle.cn_amount.specs.Places.{amount_limit};
+ghost use Rattle.cn_amount.specs.Reading.{AmountRefusal, IsAmount, Begins, Answers, ReadsAmount};
+ghost use Rattle.cn_amount.specs.Writes.{amount_text};
+
+/// What is written for an amount is read as that amount, by the definition of reading.
+pub fn written_amounts_are_amounts()
+    ensures { (variant : ChineseVariant) → (amount : ℕ) → amount < amount_limit
+        → ReadsAmount (encode_utf8_all (amount_text variant amount)) (Ok amount) }
+{}
+
+/// No text stands for two amounts.
+pub fn each_text_is_one_amount()
+    ensures { (text : List ℕ) → (one two : ℕ)
+        → IsAmount text one → IsAmount text two → one ≡ two }
+{}
+
+/// Each text has one answer and no more: what is an amount is neither unfinished nor incorrect, and
+/// a text is incorrect at one character.
+pub fn each_text_has_one_answer()
+    ensures { (text : List ℕ) → (answer : Result ℕ AmountRefusal) × Answers text answer
+        × ((other : Result ℕ AmountRefusal) → Answers text other → other ≡ answer) }
+{}
+
+/// For a form that judges at each key: each beginning of each form of an amount begins an amount,
+/// so it is unfinished or right, and never incorrect.
+pub fn beginnings_are_begun()
+    ensures { (front behind : List ℕ) → (fen : ℕ)
+        → IsAmount (front ++ behind) fen → Begins front }
+{}
+
+/// An amount stands below the limit, so a text is never too large.
+pub fn amounts_are_below_the_limit()
+    ensures { (text : List ℕ) → (fen : ℕ) → IsAmount text fen → fen < amount_limit }
+{}
+
+/// No form is long, so no text costs more than so many characters to read.
+pub fn forms_are_short()
+    ensures { (text : List ℕ) → (fen : ℕ) → IsAmount text fen → length text ≤ 39 }
+{}
