@@ -12,7 +12,7 @@ use Rattle.cn_amount.specs.declared.state.Stage.TheVariants.{Top, BelowWan, Belo
 use Rattle.cn_amount.specs.declared.state.State.TheVariants.{Beginning, AfterRen, AfterCurrency, NoYuan, FirstDigit, AfterGreat, AfterYuan}
 use Rattle.cn_amount.specs.Form.{Choices, is_zero, is_empty, is_written, after_section, behind, place_text, section_text, yuan_text, from_wan, from_yi, from_top, amount_form}
 use Rattle.cn_amount.specs.Places.{AreDigits, ArePlaces}
-use Rattle.cn_amount.specs.Steps.{accepts}
+use Rattle.cn_amount.specs.Working.Steps.{accepts}
 use Rattle.cn_amount.proofs.Closed.{By, closed-last, closed-only_wan, closed-below_yi, closed-below_yi_gap, closed-below_wan, closed-top, with-top, with-below_wan, with-below_yi, with-last}
 use Rattle.cn_amount.proofs.Joins.{front, empty_section, written-behind, after-written, after-some, yuan-is, wan-is, yi-is}
 use Rattle.cn_amount.proofs.Sections.{is_proper, digit-low, rest-proper, closed, stage_with, FirstHundreds, FirstThousands, ReadThousands, ling-hundreds, ling-thousands, at-thousands, below-thousands-first}

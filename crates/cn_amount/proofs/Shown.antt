@@ -5,7 +5,7 @@ use Rattle.std.proofs.lemmas.Str.{encodes-append}
 use Rattle.std.proofs.lemmas.List.{map-append}
 use Rattle.cn_core.specs.declared.script.ChineseVariant.{ChineseVariant}
 use Rattle.cn_amount.specs.declared.capital.Capital.{Capital}
-use Rattle.cn_amount.specs.Working.{PutsMore}
+use Rattle.cn_amount.specs.Working.Putting.{PutsMore}
 use Rattle.cn_amount.specs.Writes.{capital_char, shown}
 
 pub shown-more : (variant : ChineseVariant) (capitals : List Capital) (capital : Capital)

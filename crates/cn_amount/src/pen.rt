@@ -3,7 +3,7 @@ ghost use Rattle.std.specs.Prelude.{◌≡◌, List, [], ◌∷◌, ◌++◌, On
 ghost use Rattle.cn_core.specs.declared.script.ChineseVariant.{ChineseVariant};
 ghost use Rattle.cn_amount.specs.declared.capital.Capital.{Capital};
 ghost use Rattle.cn_amount.specs.Writes.{shown};
-ghost use Rattle.cn_amount.specs.Working.{IsWritten, PutsMore};
+ghost use Rattle.cn_amount.specs.Working.Putting.{IsWritten, PutsMore};
 
 use crate::capital::{Capital, capital_char};
 use cn_core::ChineseVariant;
