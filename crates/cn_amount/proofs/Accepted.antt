@@ -12,9 +12,9 @@ use Rattle.cn_amount.specs.declared.state.Stage.TheVariants.{Top, BelowWan, Belo
 use Rattle.cn_amount.specs.declared.state.State.TheVariants.{Beginning, AfterRen, AfterCurrency, NoYuan, FirstDigit, AfterGreat, AfterYuan}
 use Rattle.cn_amount.specs.Form.{Choices, is_zero, is_empty, is_written, after_section, behind, place_text, section_text, yuan_text, from_wan, from_yi, from_top, amount_form}
 use Rattle.cn_amount.specs.Places.{AreDigits, ArePlaces}
-use Rattle.cn_amount.specs.Steps.{accepts}
+use Rattle.cn_amount.specs.Working.Steps.{accepts}
 use Rattle.cn_amount.proofs.Closed.{By, closed-last, closed-only_wan, closed-below_yi, closed-below_yi_gap, closed-below_wan, closed-top, with-top, with-below_wan, with-below_yi, with-last}
-use Rattle.cn_amount.proofs.Joins.{front, empty_section, written-behind, after-written, after-some, yuan-is, wan-is, yi-is}
+use Rattle.cn_amount.proofs.Joins.{front, empty_section, written-behind, after-written, after-some, yuan-joined, wan-joined, yi-joined}
 use Rattle.cn_amount.proofs.Sections.{is_proper, digit-low, rest-proper, closed, stage_with, FirstHundreds, FirstThousands, ReadThousands, ling-hundreds, ling-thousands, at-thousands, below-thousands-first}
 use Rattle.cn_amount.proofs.SmallRead.{ReadFen, after-jiao, after-yuan, closing-one, complete-nil}
 
@@ -168,10 +168,9 @@ wan-then before s t rest digits some after is wan =
     let small = after-yuan (is_zero q.s.ones) unit.0 unit.3 unit.2 in
     let choices = chosen true true q.keeps small.keeps small.closes in
     let below = behind q.keeps (front (is_zero s.ones)) in
-    let yuan : wan.0 ≡ yuan_text choices below q.s small.jiao small.fen =
-    q.is ∙ ap (λ l. section_text below q.s ++ l) unit.1
-    ∙ yuan-is choices below q.s small.jiao small.fen unit.0
-    (after-written below q.s (written-behind q.keeps (is_zero s.ones))) small.is in
+    let after_below = after-written below q.s (written-behind q.keeps (is_zero s.ones)) in
+    let yuan = yuan-joined choices below q.s small.jiao small.fen wan.0 q.rest unit.0 after_below
+    q.is unit.1 small.is in
     record {
       wan_keeps = q.keeps;
       yuan_keeps = small.keeps;
@@ -184,8 +183,8 @@ wan-then before s t rest digits some after is wan =
       yuan_digits = q.digits;
       low_jiao = small.low_jiao;
       low_fen = small.low_fen;
-      is = is ∙ ap (λ l. section_text before s ++ l) (wan.1 ∙ ap (λ l. Wan ∷ l) yuan)
-          ∙ wan-is q.keeps before s (λ b. yuan_text choices b q.s small.jiao small.fen) some after;
+      is = wan-joined q.keeps before s (λ b. yuan_text choices b q.s small.jiao small.fen)
+          t rest wan.0 some after is wan.1 yuan;
     }
 
 -- with none
@@ -208,9 +207,8 @@ yuan-then before s t rest digits after is unit =
       yuan_digits = digits;
       low_jiao = small.low_jiao;
       low_fen = small.low_fen;
-      is = is ∙ ap (λ l. section_text (after_section before empty_section) s ++ l) unit.1
-          ∙ yuan-is choices (after_section before empty_section) s small.jiao small.fen unit.0
-          after small.is;
+      is = yuan-joined choices (after_section before empty_section) s small.jiao small.fen
+          t rest unit.0 after is unit.1 small.is;
     }
 
 -- behind 亿
@@ -358,8 +356,8 @@ with-yi s t rest digits some is unit =
       choices = choices;
       places = p;
       digits = (no-digits, digits, r.wan_digits, r.yuan_digits, r.low_jiao, r.low_fen);
-      is = is ∙ ap (λ l. section_text Nothing s ++ l) (unit.1 ∙ ap (λ l. Yi ∷ l) r.is)
-          ∙ yi-is q.keeps Nothing s (λ b. from_wan choices b p) (after-some s some);
+      is = yi-joined q.keeps Nothing s (λ b. from_wan choices b p) t rest unit.0
+          (after-some s some) is unit.1 r.is;
     }
 
 -- behind a first section that 万 counts, and one that 亿 counts
@@ -380,16 +378,15 @@ with-wan_yi s t rest q digits some is unit =
       fen = r.fen;
     } in
     let below = behind q.keeps (front (is_zero s.ones)) in
-    let yi : rest ≡ from_yi choices below p =
-    q.is ∙ ap (λ l. section_text below q.s ++ l) (unit.1 ∙ ap (λ l. Yi ∷ l) r.is)
-    ∙ yi-is y.keeps below q.s (λ b. from_wan choices b p)
-    (after-written below q.s (written-behind q.keeps (is_zero s.ones))) in
+    let after_below = after-written below q.s (written-behind q.keeps (is_zero s.ones)) in
+    let yi = yi-joined y.keeps below q.s (λ b. from_wan choices b p) rest q.rest unit.0 after_below
+    q.is unit.1 r.is in
     record {
       choices = choices;
       places = p;
       digits = (digits, q.digits, r.wan_digits, r.yuan_digits, r.low_jiao, r.low_fen);
-      is = is ∙ ap (λ l. section_text Nothing s ++ Wan ∷ l) yi
-          ∙ wan-is q.keeps Nothing s (λ b. from_yi choices b p) some (after-some s some);
+      is = wan-joined q.keeps Nothing s (λ b. from_yi choices b p) t (Wan ∷ rest) rest some
+          (after-some s some) is refl yi;
     }
 
 -- behind a first section that 万 counts, and the last one
@@ -400,10 +397,9 @@ with-wan s t rest q digits some is unit =
     let small = after-yuan (is_zero q.s.ones) unit.0 unit.3 unit.2 in
     let choices = chosen true true q.keeps small.keeps small.closes in
     let below = behind q.keeps (front (is_zero s.ones)) in
-    let yuan : rest ≡ yuan_text choices below q.s small.jiao small.fen =
-    q.is ∙ ap (λ l. section_text below q.s ++ l) unit.1
-    ∙ yuan-is choices below q.s small.jiao small.fen unit.0
-    (after-written below q.s (written-behind q.keeps (is_zero s.ones))) small.is in
+    let after_below = after-written below q.s (written-behind q.keeps (is_zero s.ones)) in
+    let yuan = yuan-joined choices below q.s small.jiao small.fen rest q.rest unit.0 after_below
+    q.is unit.1 small.is in
     record {
       choices = choices;
       places = record {
@@ -416,9 +412,8 @@ with-wan s t rest q digits some is unit =
         fen = small.fen;
       };
       digits = (no-digits, no-digits, digits, q.digits, small.low_jiao, small.low_fen);
-      is = is ∙ ap (λ l. section_text Nothing s ++ Wan ∷ l) yuan
-          ∙ wan-is q.keeps Nothing s (λ b. yuan_text choices b q.s small.jiao small.fen) some
-          (after-some s some);
+      is = wan-joined q.keeps Nothing s (λ b. yuan_text choices b q.s small.jiao small.fen)
+          t (Wan ∷ rest) rest some (after-some s some) is refl yuan;
     }
 
 -- behind a first section that 元 closes

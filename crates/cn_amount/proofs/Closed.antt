@@ -6,7 +6,7 @@ use Rattle.cn_amount.specs.declared.capital.Capital.TheVariants.{Wan, Yi, Yuan}
 use Rattle.cn_amount.specs.declared.state.Stage.TheVariants.{Top, BelowWan, BelowYi, BelowYiGap, OnlyWan, Last}
 use Rattle.cn_amount.specs.declared.state.State.{State}
 use Rattle.cn_amount.specs.declared.state.State.TheVariants.{AfterGreat, AfterYuan}
-use Rattle.cn_amount.specs.Steps.{accepts}
+use Rattle.cn_amount.specs.Working.Steps.{accepts}
 use Rattle.cn_amount.proofs.Sections.{is_proper, rest-proper, closed, stage_with}
 
 -- a unit, and a text that is an amount from the state behind it on

@@ -1,7 +1,10 @@
 -- Worked examples: what the definitions compute to. Those that are marked stand in the rules.
-use Rattle.std.proofs.Common.{◌≡◌, ◌-◌, ◌^◌, refl, codes}
+use Rattle.std.proofs.Common.{◌≡◌, ◌-◌, ◌^◌, Bool, true, false, refl, codes}
 use Rattle.cn_core.specs.declared.script.ChineseVariant.TheVariants.{Traditional, Simple}
 use Rattle.cn_core.specs.Characters.{digit_char, unit_char}
+use Rattle.cn_amount.specs.Form.{Choices, amount_form}
+use Rattle.cn_amount.specs.Places.{places_of}
+use Rattle.cn_amount.specs.Reading.{capital_of, capitals_of}
 use Rattle.cn_amount.specs.Writes.{amount_text}
 
 -- in the rules, without 整
@@ -89,3 +92,47 @@ wan_yi = refl
 greatest : amount_text Simple (10 ^ 18 - 1) ≡ codes "玖仟玖佰玖拾玖万玖仟玖佰玖拾玖亿玖仟玖佰玖拾玖万玖仟玖佰玖拾玖元玖角玖分"
 unfolding digit_char unit_char
 greatest = refl
+
+-- what is read: the other forms that the rules allow, by their choices
+abbrev choosing : Bool → Bool → Bool → Bool → Bool → Choices
+choosing currency no_yuan wan yuan jiao = record {
+  currency = currency;
+  no_yuan = no_yuan;
+  behind_wan_yi = true;
+  behind_yi = true;
+  behind_wan = wan;
+  behind_yuan = yuan;
+  behind_jiao = jiao;
+}
+
+-- in the rules
+no_zero_behind_wan : capitals_of (codes "壹拾万柒仟元零伍角叁分")
+    ≡ amount_form (choosing false false false true true) (places_of 10700053)
+unfolding capital_of
+no_zero_behind_wan = refl
+
+-- in the rules
+nothing_behind_jiao : capitals_of (codes "壹仟肆佰零玖元伍角")
+    ≡ amount_form (choosing false false true true false) (places_of 140950)
+unfolding capital_of
+nothing_behind_jiao = refl
+
+zero_before_jiao : capitals_of (codes "壹拾元零壹角整")
+    ≡ amount_form (choosing false false true true true) (places_of 1010)
+unfolding capital_of
+zero_before_jiao = refl
+
+no_yuan_named : capitals_of (codes "零元伍角")
+    ≡ amount_form (choosing false true true false false) (places_of 50)
+unfolding capital_of
+no_yuan_named = refl
+
+no_yuan_and_zero : capitals_of (codes "零元零伍分")
+    ≡ amount_form (choosing false true true false false) (places_of 5)
+unfolding capital_of
+no_yuan_and_zero = refl
+
+currency_in_front : capitals_of (codes "人民幣叄佰貳拾伍圓零肆分")
+    ≡ amount_form (choosing true false true true true) (places_of 32504)
+unfolding capital_of
+currency_in_front = refl

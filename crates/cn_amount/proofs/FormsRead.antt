@@ -12,7 +12,7 @@ use Rattle.cn_amount.specs.declared.state.Stage.{Stage}
 use Rattle.cn_amount.specs.declared.state.Stage.TheVariants.{Top, BelowWan, BelowYi, BelowYiGap, OnlyWan, Last}
 use Rattle.cn_amount.specs.declared.state.State.TheVariants.{Beginning, AfterCurrency, FirstDigit, AfterGreat, AfterLing, DigitBelow, AfterUnit, AfterYuan}
 use Rattle.cn_amount.specs.Form.{Choices, is_zero, is_empty, after_section, behind, ones_text, tens_text, hundreds_text, section_text, small_text, yuan_text, from_wan, from_yi, from_top, amount_form}
-use Rattle.cn_amount.specs.Steps.{bare, behind_thousands, after_ling, accepts}
+use Rattle.cn_amount.specs.Working.Steps.{bare, behind_thousands, after_ling, accepts}
 use Rattle.cn_amount.proofs.Joins.{front, empty_section, written-behind, after-written, after-some, yuan-is, wan-is, yi-is}
 use Rattle.cn_amount.proofs.Sections.{closed, at-ones, below-ones, stage_with}
 

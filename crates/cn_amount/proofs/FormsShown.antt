@@ -1,9 +1,15 @@
 -- Each capital of a form is one that a character stands for; so what is written is read as it.
-use Rattle.std.proofs.Common.{◌≡◌, ℕ, zero, suc, ◌/◌, ◌%◌, ◌^◌, ◌<◌, Bool, true, false, ◌&&◌, ◌||◌, nat_lt, List, [], ◌∷◌, ◌++◌, map, encode_utf8_all, Ok, refl, sym, subst, ◌∙◌, if◌then◌else◌, arith}
+use Rattle.std.proofs.Common.{◌≡◌, ℕ, zero, suc, ◌/◌, ◌%◌, ◌^◌, ◌<◌, Bool, true, false, ◌&&◌, ◌||◌, nat_lt, List, [], ◌∷◌, ◌++◌, length, map, encode_utf8_all, Ok, refl, sym, subst, ◌∙◌, if◌then◌else◌, arith, ◌==◌, ◌*◌, length-append, ap}
 use Rattle.std.specs.List.{list_all}
-use Rattle.std.specs.Str.{all_scalars}
+use Rattle.std.specs.Char.{encode_utf8}
+use Rattle.std.specs.Str.{all_scalars, IsUtf8}
 use Rattle.std.proofs.Math.Utf8.{scalar}
 use Rattle.std.proofs.lemmas.Bool.Decides.{nat_tests}
+use Rattle.std.specs.String.{string_bytes, string_len, string_capacity, string_vec}
+use Rattle.std.specs.Vec.{vec_capacity}
+use Rattle.std.specs.declared.vec.Vec.{Vec}
+use Rattle.std.specs.declared.string.String.{String}
+use Rattle.std.proofs.lemmas.List.{length-map}
 use Rattle.std.proofs.lemmas.List.Folds.{list_all-append}
 use Rattle.std.proofs.lemmas.Str.{chars-encodes}
 use Rattle.cn_core.specs.Characters.{digit_char, unit_char}
@@ -20,7 +26,7 @@ use Rattle.cn_amount.specs.declared.places.Places.{Places}
 use Rattle.cn_amount.specs.Form.{Choices, written, is_zero, is_empty, is_written, after_digit, after_section, after_wan, after_yi, after_yuan_unit, place_text, closing, section_text, wan_text, yi_text, yuan_unit, small_text, yuan_text, from_wan, from_yi, from_top, amount_form}
 use Rattle.cn_amount.specs.Places.{AreDigits, ArePlaces, section_of, section_value, places_of, amount_value, amount_limit}
 use Rattle.cn_amount.specs.Reading.{IsAmount, ReadsAmount}
-use Rattle.cn_amount.specs.Writes.{capital_char, amount_text}
+use Rattle.cn_amount.specs.Writes.{capital_char, shown, amount_text, IsText}
 use Rattle.cn_amount.proofs.Runs.{is_shown}
 use Rattle.cn_amount.proofs.Shows.{each_below, each_below-at, capitals-read}
 
@@ -220,3 +226,100 @@ written-read variant amount low =
     (scalars-shown variant (amount_form written (places_of amount))
     (shown-form written (places_of amount) (places-of amount)))))
     (written-amount variant amount low)
+
+-- it takes three bytes for each capital, and they are UTF-8
+digits-three : (variant : ChineseVariant)
+    → each_below (λ value. length (encode_utf8 (digit_char variant Upper value)) == 3) 10 ≡ true
+unfolding digit_char encode_utf8
+digits-three Traditional = refl
+digits-three Simple = refl
+
+units-three : (variant : ChineseVariant)
+    → each_below (λ unit. length (encode_utf8 (unit_char variant Upper unit)) == 3) 6 ≡ true
+unfolding unit_char encode_utf8
+units-three Traditional = refl
+units-three Simple = refl
+
+three-from : (bytes : List ℕ) → (length bytes == 3) ≡ true → length bytes ≡ 3
+three-from bytes h = grind (arith, nat_tests)
+
+digit-three : (variant : ChineseVariant) (value : ℕ) → value < 10
+    → length (encode_utf8 (digit_char variant Upper value)) ≡ 3
+digit-three variant value low =
+    three-from _ (each_below-at (λ value. length (encode_utf8 (digit_char variant Upper value)) == 3)
+    10 value (digits-three variant) low)
+
+unit-three : (variant : ChineseVariant) (unit : ℕ) → unit < 6
+    → length (encode_utf8 (unit_char variant Upper unit)) ≡ 3
+unit-three variant unit low =
+    three-from _ (each_below-at (λ unit. length (encode_utf8 (unit_char variant Upper unit)) == 3)
+    6 unit (units-three variant) low)
+
+capital-three : (variant : ChineseVariant) (capital : Capital) → is_shown capital ≡ true
+    → length (encode_utf8 (capital_char variant capital)) ≡ 3
+unfolding encode_utf8
+capital-three variant Ling h = digit-three variant 0 (omega arith)
+capital-three variant (Digit value) h =
+    let less : nat_lt value 10 ≡ true = and-right (nat_lt 0 value) _ h in
+    let low : value < 10 = grind (arith, nat_tests) in
+    digit-three variant value low
+capital-three variant Shi h = unit-three variant 1 (omega arith)
+capital-three variant Bai h = unit-three variant 2 (omega arith)
+capital-three variant Qian h = unit-three variant 3 (omega arith)
+capital-three variant Wan h = unit-three variant 4 (omega arith)
+capital-three variant Yi h = unit-three variant 5 (omega arith)
+capital-three variant Yuan h = refl
+capital-three variant Jiao h = refl
+capital-three variant Fen h = refl
+capital-three variant Zheng h = refl
+capital-three variant Ren h = refl
+capital-three variant Min h = refl
+capital-three variant Bi h = refl
+capital-three variant Foreign h = cc
+
+length-shown : (variant : ChineseVariant) (capitals : List Capital)
+    → list_all is_shown capitals ≡ true
+    → length (shown variant capitals) ≡ 3 * length (map (capital_char variant) capitals)
+length-shown variant [] h = refl
+length-shown variant (capital ∷ rest) h =
+    let three = capital-three variant capital (and-left (is_shown capital) _ h) in
+    let more = length-shown variant rest (and-right (is_shown capital) _ h) in
+    let sum = length-append (encode_utf8 (capital_char variant capital)) (shown variant rest) in
+    omega (arith, three, more, sum)
+
+pub written-length : (variant : ChineseVariant) (amount : ℕ)
+    → length (encode_utf8_all (amount_text variant amount)) ≡ 3 * length (amount_text variant amount)
+written-length variant amount =
+    length-shown variant (amount_form written (places_of amount))
+    (shown-form written (places_of amount) (places-of amount))
+
+pub written-utf8 : (variant : ChineseVariant) (amount : ℕ) (bytes : List ℕ)
+    → bytes ≡ encode_utf8_all (amount_text variant amount) → IsUtf8 bytes
+written-utf8 variant amount bytes is =
+    let form = amount_form written (places_of amount) in
+    let shows = shown-form written (places_of amount) (places-of amount) in
+    (amount_text variant amount, (scalars-shown variant form shows, sym is))
+
+text-length : {Z : Type 0} (text : String Z) → string_len text ≡ length (string_bytes text)
+text-length text = let ok = text.bytes.ok in omega (arith, ok)
+
+pub written-is : {Z : Type 0} (variant : ChineseVariant) (amount : ℕ) (text : String Z)
+    (bytes : Vec ℕ Z) (count : ℕ) → amount < amount_limit → string_vec text ≡ bytes
+    → bytes.items ≡ encode_utf8_all (amount_text variant amount)
+    → vec_capacity bytes ≡ 3 * count → count ≡ length (amount_form written (places_of amount))
+    → IsText variant amount text
+written-is variant amount text bytes count below is items room counted =
+    let same : string_bytes text ≡ encode_utf8_all (amount_text variant amount) =
+    ap (λ v. v.items) is ∙ items in
+    let size = text-length text in
+    let long = ap length same ∙ written-length variant amount in
+    let form = length-map (amount_form written (places_of amount)) (capital_char variant) in
+    let held : string_capacity text ≡ vec_capacity bytes = ap vec_capacity is in
+    let len : string_len text ≡ 3 * length (amount_text variant amount) =
+    omega (arith, size, long) in
+    record {
+      below = below;
+      bytes = same;
+      len = len;
+      capacity = omega (arith, len, held, room, counted, form);
+    }

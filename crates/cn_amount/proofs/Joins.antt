@@ -117,3 +117,32 @@ pub yi-is : (keeps : Bool) (before : Before) (s : Section) (rest : Before → Li
     ≡ yi_text before s ++ rest (after_yi keeps before s)
 yi-is keeps before s rest after = yi-joins (section_text before s) keeps (is_zero s.ones)
     (after_section before s) rest after
+
+-- the same of a text that begins with the section, then the unit
+pub yuan-joined : (choices : Choices) (before : Before) (s : Section) (jiao fen : ℕ)
+    (t rest small : List Capital) → after_section before s ≡ front (is_zero s.ones)
+    → t ≡ section_text before s ++ rest → rest ≡ Yuan ∷ small
+    → small
+    ≡ small_text (behind choices.behind_yuan (front (is_zero s.ones))) jiao fen choices.behind_jiao
+    → t ≡ yuan_text choices before s jiao fen
+yuan-joined choices before s jiao fen t rest small after is unit below =
+    is ∙ ap (λ l. section_text before s ++ l) unit
+    ∙ yuan-is choices before s jiao fen small after below
+
+pub wan-joined : (keeps : Bool) (before : Before) (s : Section) (below : Before → List Capital)
+    (t rest u : List Capital) → is_empty s ≡ false
+    → after_section before s ≡ front (is_zero s.ones) → t ≡ section_text before s ++ rest
+    → rest ≡ Wan ∷ u → u ≡ below (behind keeps (front (is_zero s.ones)))
+    → t ≡ wan_text before s ++ below (after_wan keeps before s)
+wan-joined keeps before s below t rest u some after is unit e =
+    is ∙ ap (λ l. section_text before s ++ l) (unit ∙ ap (λ l. Wan ∷ l) e)
+    ∙ wan-is keeps before s below some after
+
+pub yi-joined : (keeps : Bool) (before : Before) (s : Section) (below : Before → List Capital)
+    (t rest u : List Capital) → after_section before s ≡ front (is_zero s.ones)
+    → t ≡ section_text before s ++ rest → rest ≡ Yi ∷ u
+    → u ≡ below (behind keeps (front (is_zero s.ones)))
+    → t ≡ yi_text before s ++ below (after_yi keeps before s)
+yi-joined keeps before s below t rest u after is unit e =
+    is ∙ ap (λ l. section_text before s ++ l) (unit ∙ ap (λ l. Yi ∷ l) e)
+    ∙ yi-is keeps before s below after

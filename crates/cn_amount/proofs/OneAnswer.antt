@@ -6,7 +6,7 @@ use Rattle.cn_amount.specs.declared.state.State.{State}
 use Rattle.cn_amount.specs.declared.sum.Sum.{Sum}
 use Rattle.cn_amount.specs.declared.state.State.TheVariants.{Beginning}
 use Rattle.cn_amount.specs.Reading.{AmountRefusal, unfinished, incorrect_at, capital_of, IsAmount, Begins, Answers}
-use Rattle.cn_amount.specs.Steps.{step, is_end, add, sum_of, no_sum}
+use Rattle.cn_amount.specs.Working.Steps.{step, is_end, add, sum_of, no_sum}
 use Rattle.cn_amount.proofs.Lengths.{length-form}
 use Rattle.cn_amount.proofs.ReadText.{IsRead, nothing-read, read-more, whole-read, unfinished-read, place-refused}
 use Rattle.cn_amount.proofs.Values.{form-sum}

@@ -10,7 +10,7 @@ use Rattle.cn_amount.specs.declared.state.State.TheVariants.{Beginning}
 use Rattle.cn_amount.specs.declared.sum.Sum.{Sum}
 use Rattle.cn_amount.specs.Places.{amount_limit}
 use Rattle.cn_amount.specs.Reading.{capital_of, capitals_of, IsAmount, Begins}
-use Rattle.cn_amount.specs.Steps.{step, run, accepts, is_end, add, sum_of, summed, no_sum}
+use Rattle.cn_amount.specs.Working.Steps.{step, run, accepts, is_end, add, sum_of, summed, no_sum}
 use Rattle.cn_amount.specs.Writes.{capital_char}
 use Rattle.cn_amount.proofs.Accepted.{accepted}
 use Rattle.cn_amount.proofs.FormsRead.{form-read}

@@ -13,7 +13,7 @@ use Rattle.cn_amount.specs.declared.state.State.{State}
 use Rattle.cn_amount.specs.declared.state.State.TheVariants.{Beginning, AfterRen, AfterMin, AfterCurrency, NoYuan, FirstDigit, AfterGreat, AfterLing, DigitAt, DigitBelow, AfterUnit, AfterYuan, AfterYuanLing, SmallDigit, JiaoDigit, AfterJiao, FenDigit, Complete}
 use Rattle.cn_amount.specs.declared.sum.Sum.{Sum}
 use Rattle.cn_amount.specs.Places.{AreDigits, ArePlaces, section_value, amount_value, amount_limit}
-use Rattle.cn_amount.specs.Steps.{step, run, accepts, add, sum_of, summed, no_sum}
+use Rattle.cn_amount.specs.Working.Steps.{step, run, accepts, add, sum_of, summed, no_sum}
 use Rattle.cn_amount.proofs.Accepted.{accepted}
 use Rattle.cn_amount.proofs.Sections.{is_proper, at-ones, below-ones}
 use Rattle.cn_amount.proofs.Values.{form-sum, sum-append}

@@ -10,7 +10,7 @@ use Rattle.cn_amount.specs.declared.state.Place.TheVariants.{Ones, Tens, Hundred
 use Rattle.cn_amount.specs.declared.state.Stage.{Stage}
 use Rattle.cn_amount.specs.declared.state.State.TheVariants.{AfterLing, DigitAt, DigitBelow, AfterUnit}
 use Rattle.cn_amount.specs.Form.{is_zero, ones_text, tens_text, hundreds_text, section_text}
-use Rattle.cn_amount.specs.Steps.{close, behind_thousands, accepts}
+use Rattle.cn_amount.specs.Working.Steps.{close, behind_thousands, accepts}
 
 -- a digit is one from 1 to 9
 abbrev pub is_proper : Capital → Bool

@@ -6,7 +6,7 @@ use Rattle.cn_amount.specs.declared.capital.Capital.{Capital}
 use Rattle.cn_amount.specs.declared.capital.Capital.TheVariants.{Ling, Digit, Jiao, Fen, Zheng}
 use Rattle.cn_amount.specs.declared.state.State.TheVariants.{AfterYuan, AfterYuanLing, SmallDigit, JiaoDigit, AfterJiao, FenDigit, Complete}
 use Rattle.cn_amount.specs.Form.{behind, place_text, closing, small_text}
-use Rattle.cn_amount.specs.Steps.{accepts}
+use Rattle.cn_amount.specs.Working.Steps.{accepts}
 use Rattle.cn_amount.proofs.Joins.{front}
 use Rattle.cn_amount.proofs.Sections.{is_proper, digit-low, rest-proper}
 

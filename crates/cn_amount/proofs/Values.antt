@@ -9,7 +9,7 @@ use Rattle.cn_amount.specs.declared.places.Places.{Places}
 use Rattle.cn_amount.specs.declared.sum.Sum.{Sum}
 use Rattle.cn_amount.specs.Form.{Choices, is_zero, is_empty, is_written, after_digit, after_section, yuan_unit, after_yuan_unit, behind, place_text, closing, section_text, small_text, yuan_text, from_wan, from_yi, from_top, amount_form}
 use Rattle.cn_amount.specs.Places.{section_value, amount_value}
-use Rattle.cn_amount.specs.Steps.{add, sum_of, no_sum}
+use Rattle.cn_amount.specs.Working.Steps.{add, sum_of, no_sum}
 use Rattle.cn_amount.proofs.Joins.{front, empty_section, written-behind, after-written, after-some, yuan-is, wan-is, yi-is}
 use Rattle.cn_amount.proofs.FormsRead.{by-empty}
 

@@ -3,6 +3,5 @@ pub mod ErrorText
 pub mod Form
 pub mod Places
 pub mod Reading
-pub mod Steps
 pub mod Working
 pub mod Writes

@@ -1,5 +1,5 @@
 -- How an amount is written, and what the printer of amounts answers.
-use Rattle.std.specs.Prelude.{◌≡◌, ℕ, ◌<◌, ◌≤◌, List, map, codes, slice_index, Result, MatchResult, encode_utf8_all, string_bytes}
+use Rattle.std.specs.Prelude.{◌≡◌, ℕ, ◌*◌, ◌<◌, ◌≤◌, List, length, map, codes, slice_index, Result, MatchResult, encode_utf8_all, string_bytes, string_len, string_capacity}
 use Rattle.std.specs.declared.string.String.{String}
 use Rattle.cn_core.specs.Characters.{digit_char, unit_char}
 use Rattle.cn_core.specs.declared.case.ChineseCase.TheVariants.{Upper}
@@ -46,11 +46,16 @@ abbrev pub RefusesAmount : ℕ → AmountToChineseError → Type 0
 RefusesAmount amount Overflow = amount_limit ≤ amount
 RefusesAmount amount OutOfMemory = amount < amount_limit
 
+-- the text of an amount, three bytes for each character; it holds no more memory than its bytes
+pub record IsText {Z : Type 0} (variant : ChineseVariant) (amount : ℕ) (text : String Z)
+    : Type 0 where
+  pub below : amount < amount_limit
+  pub bytes : string_bytes text ≡ encode_utf8_all (amount_text variant amount)
+  pub len : string_len text ≡ 3 * length (amount_text variant amount)
+  pub capacity : string_capacity text ≡ string_len text
+
 -- the text of an amount, or the refusal
 abbrev pub WritesAmount : {Z : Type 0} → ChineseVariant → ℕ
     → Result (String Z) AmountToChineseError → Type 0
 WritesAmount variant amount result =
-    MatchResult result
-    (λ text. (amount < amount_limit)
-    × (string_bytes text ≡ encode_utf8_all (amount_text variant amount)))
-    (RefusesAmount amount)
+    MatchResult result (IsText variant amount) (RefusesAmount amount)

@@ -1,6 +1,6 @@
 // The characters of an amount.
 ghost use Rattle.std.specs.Prelude.{◌≡◌};
-ghost use Rattle.cn_amount.specs.Working.{IsWritten};
+ghost use Rattle.cn_amount.specs.Working.Putting.{IsWritten};
 ghost use Rattle.cn_amount.specs.Writes.{capital_char};
 ghost use Rattle.cn_amount.specs.Reading.{capital_of};
 

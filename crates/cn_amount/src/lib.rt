@@ -1,5 +1,15 @@
 //! Amounts of money in Chinese capitals, as they must stand on cheques and invoices: written in one
 //! form, and read in each form that the rules allow.
+//!
+//! What a form is stands in `specs/Form`, by places from the top: a digit that is not 0 with its
+//! unit, and 零 in front of it where the digit directly before it is 0. `Choices` are what the rules
+//! leave open; the form that is written makes one choice of each.
+//!
+//! Writing puts that form twice, once with a pen that counts and once with one that writes. Reading
+//! goes from the left, by states that say what may follow. That it is right is shown in three parts:
+//! each form is read to its end (`proofs/FormsRead`), each text that is read to its end is a form
+//! (`proofs/Accepted`), and each state can be completed (`proofs/Runs`). The sum that is taken on the
+//! way is the amount (`proofs/Values`).
 #![tactic(auto)]
 
 mod before;

@@ -1,9 +1,9 @@
 // What capitals are put by: once to count them, once to write them.
-ghost use Rattle.std.specs.Prelude.{◌≡◌, List, [], ◌∷◌, ◌++◌, OnOk, length, string_bytes};
+ghost use Rattle.std.specs.Prelude.{◌≡◌, ℕ, List, [], ◌∷◌, OnOk, length, vec_capacity};
 ghost use Rattle.cn_core.specs.declared.script.ChineseVariant.{ChineseVariant};
 ghost use Rattle.cn_amount.specs.declared.capital.Capital.{Capital};
 ghost use Rattle.cn_amount.specs.Writes.{shown};
-ghost use Rattle.cn_amount.specs.Working.{IsWritten, PutsMore};
+ghost use Rattle.cn_amount.specs.Working.Putting.{IsWritten, PutsMore};
 
 use crate::capital::{Capital, capital_char};
 use cn_core::ChineseVariant;
@@ -11,8 +11,8 @@ use std::alloc::AllocError;
 
 /// Puts capitals one behind another.
 pub trait Pen {
-    // What it has put are these capitals, in this script.
-    ghost has_put: { Self → ChineseVariant → List Capital → Type 0 };
+    // What it has put are these capitals, in this script, with memory for so many bytes.
+    ghost has_put: { Self → ChineseVariant → ℕ → List Capital → Type 0 };
 
     // Puts one more.
     fn put(&mut self, capital: Capital) -> Result<(), AllocError>
@@ -27,7 +27,7 @@ pub struct Count {
 }
 
 impl Pen for Count {
-    ghost has_put = { λ count variant capitals. count.capitals ≡ length capitals };
+    ghost has_put = { λ count variant room capitals. count.capitals ≡ length capitals };
 
     // A count that did not fit would be no room in memory, either.
     fn put(&mut self, _capital: Capital) -> Result<(), AllocError> {
@@ -41,19 +41,30 @@ impl Pen for Count {
     }
 }
 
-/// Writes capitals behind a text.
+/// Writes capitals as bytes of a text, three for each, into memory that is there.
 #[derive(Drop)]
 pub struct Writer {
-    pub text: String,
+    pub bytes: Vec<u8>,
     pub variant: ChineseVariant,
 }
 
 impl Pen for Writer {
-    ghost has_put = { λ writer variant capitals.
-        (writer.variant ≡ variant) × (string_bytes writer.text ≡ shown variant capitals) };
+    ghost has_put = { λ writer variant room capitals.
+        (writer.variant ≡ variant) × (writer.bytes.items ≡ shown variant capitals)
+        × (vec_capacity writer.bytes ≡ room) };
 
+    // It asks for no more memory, and fails where there is none left.
     fn put(&mut self, capital: Capital) -> Result<(), AllocError> {
-        self.text.push(capital_char(self.variant, capital))?;
+        let mut room = [0; 4];
+        let encoded = capital_char(self.variant, capital)
+            .encode_utf8(&mut room)
+            .as_bytes();
+        if self.bytes.capacity() - self.bytes.len() < encoded.len() {
+            return Err(AllocError);
+        }
+        for byte in encoded {
+            self.bytes.push_reserved(*byte);
+        }
         Ok(())
     }
 }

@@ -4,7 +4,7 @@ ghost use Rattle.std.specs.Prelude.{◌≡◌, ◌<◌, true, List, [], ◌∷�
 ghost use Rattle.cn_amount.specs.declared.capital.Capital.{Capital};
 ghost use Rattle.cn_amount.specs.Form.{place_text, section_text, wan_text, yi_text, yuan_unit, small_text, yuan_text, from_wan, from_yi, amount_form, written};
 ghost use Rattle.cn_amount.specs.Places.{AreDigits, ArePlaces};
-ghost use Rattle.cn_amount.specs.Working.{IsWritten, PutsMore};
+ghost use Rattle.cn_amount.specs.Working.Putting.{IsWritten, PutsMore};
 
 use crate::before::Before;
 use crate::capital::Capital;

@@ -1,6 +1,6 @@
 // How far a text is read as an amount, from the left. Each state stands for what may follow.
 ghost use Rattle.std.specs.Prelude.{◌≡◌};
-ghost use Rattle.cn_amount.specs.Steps.{behind_thousands, close_wan, close_yi, close_yuan, close, below_tens, below_hundreds, below_thousands, digit_below, digit_at, after_unit, bare, after_ling, after_great, first_digit, opening, begin, after_yuan, small_digit, after_jiao, after_a_digit, after_word, step, is_end};
+ghost use Rattle.cn_amount.specs.Working.Steps.{behind_thousands, close_wan, close_yi, close_yuan, close, below_tens, below_hundreds, below_thousands, digit_below, digit_at, after_unit, bare, after_ling, after_great, first_digit, opening, begin, after_yuan, small_digit, after_jiao, after_a_digit, after_word, step, is_end};
 
 use crate::capital::Capital;
 

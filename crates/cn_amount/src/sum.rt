@@ -1,7 +1,7 @@
 // What a text stands for, summed from the left.
 ghost use Rattle.std.specs.Prelude.{◌≡◌, ◌<◌};
 ghost use Rattle.cn_amount.specs.Places.{amount_limit};
-ghost use Rattle.cn_amount.specs.Steps.{add, summed};
+ghost use Rattle.cn_amount.specs.Working.Steps.{add, summed};
 
 use crate::capital::Capital;
 

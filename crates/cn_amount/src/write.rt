@@ -35,10 +35,10 @@ pub fn amount_to_chinese(
     let mut count = Count { capitals: 0 };
     put_amount(&mut count, places)?;
     let mut writer = Writer {
-        text: String::with_capacity(alloc, 3 * count.capitals)?,
+        bytes: Vec::with_capacity(alloc, 3 * count.capitals)?,
         variant,
     };
     put_amount(&mut writer, places)?;
-    let Writer { text, variant: _ } = writer;
-    Ok(text)
+    let Writer { bytes, variant: _ } = writer;
+    Ok(unsafe { String::from_utf8_unchecked(bytes) })
 }

@@ -2,7 +2,7 @@ use Rattle.std.proofs.Common.{◌≡◌, ℕ, [], Option, Some, None, refl, sym,
 use Rattle.cn_amount.specs.declared.capital.Capital.{Capital}
 use Rattle.cn_amount.specs.declared.state.State.{State}
 use Rattle.cn_amount.specs.Reading.{capital_of}
-use Rattle.cn_amount.specs.Steps.{step, add}
+use Rattle.cn_amount.specs.Working.Steps.{step, add}
 use Rattle.cn_amount.proofs.ReadText.{nothing-read, whole-read, unfinished-read, reading-more, reading-fits, reading-refused, reading-ended}
 use Rattle.cn_amount.proofs.read.chinese_to_amount.Goals as goal
 
