@@ -9,21 +9,29 @@ use cn_core::{ChineseCase, ChineseVariant, Unit, digit_char, unit_char};
 /// What a character of an amount is.
 #[derive(Clone, Copy)]
 pub enum Capital {
-    /// 零
+    /// 零, for a digit that is 0.
     Ling,
-    /// A digit from 1 to 9.
+    /// 壹 to 玖, a digit from 1 to 9.
     Digit(u8),
+    /// 拾, 10.
     Shi,
+    /// 佰, 100.
     Bai,
+    /// 仟, 1000.
     Qian,
+    /// 万, 10^4.
     Wan,
+    /// 亿, 10^8.
     Yi,
+    /// 元
     Yuan,
+    /// 角, the tenth part of a yuan.
     Jiao,
+    /// 分, the hundredth.
     Fen,
-    /// 整
+    /// 整, which closes an amount.
     Zheng,
-    /// 人, the first character of the currency.
+    /// 人, the first character of the currency, 人民币.
     Ren,
     /// 民
     Min,

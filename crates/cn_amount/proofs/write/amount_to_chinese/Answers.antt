@@ -13,7 +13,7 @@ pub from_utf8_unchecked-requires : goal.from_utf8_unchecked-requires
 from_utf8_unchecked-requires c =
     let form = rw c.of-places.ensures.places at c.in_ok-put_amount-2.ensures in
     let made = c.in_ok-with_capacity.ensures in
-    let text = form c.args.variant (3 * c.put_amount.new.pen.capitals) [] (refl, made.items, made.exact) in
+    let text = form c.args.variant _ [] (refl, made.items, made.exact) in
     written-utf8 c.args.variant c.args.fen _ text.1
 
 pub returns : goal.returns
@@ -21,7 +21,7 @@ returns c =
     let form = rw c.of-places.ensures.places at c.in_ok-put_amount-2.ensures in
     let made = c.in_ok-with_capacity.ensures in
     let text =
-    form c.args.variant (3 * c.put_amount.new.pen.capitals) [] (refl, made.items, made.exact) in
+    form c.args.variant _ [] (refl, made.items, made.exact) in
     let counted = rw c.of-places.ensures.places at c.in_ok-put_amount.ensures in
     written-is c.args.variant c.args.fen _ _ c.put_amount.new.pen.capitals
     c.if-fen-ge-AMOUNT_LIMIT.false c.from_utf8_unchecked.ensures.value text.1 text.2
