@@ -79,7 +79,7 @@ fn take_sections(
 // What is left above the lowest four sections, and their number. 10^16 is 2^16 times 5^16, so this
 // takes three divisions of 64 bits by 5^16, of 26 bits at a time, in place of one of 128 bits.
 #[inline(always)]
-pub fn split_part(number: u128) -> (u128, u64)
+fn split_part(number: u128) -> (u128, u64)
     ensures above { result.0 ≡ number / 10 ^ 16 }
     ensures part { result.1 ≡ number % 10 ^ 16 }
 {
