@@ -129,7 +129,8 @@ parted wanted joined at c right (d ∷ xs) e =
     (xs ++ c ∷ right)) (begun-same wanted joined at d c right xs e)
     ∙ ap (λ b. begun ++ spans_after wanted b (at ++ encode_utf8 d) (xs ++ c ∷ right))
     (joined-same wanted d c right xs e)
-    ∙ ap (λ l. begun ++ l) (parted wanted (is_joined wanted d xs) (at ++ encode_utf8 d) c right xs e)
+    ∙ ap (λ l. begun ++ l) (parted wanted (is_joined wanted d xs) (at ++ encode_utf8 d) c right xs
+    e)
     ∙ ap (λ l. begun ++ (others ++ spans_after wanted false l right))
     (append_assoc at (encode_utf8 d) (encode_utf8_all (xs ++ c ∷ [])))
     ∙ sym (append_assoc begun others behind)
@@ -154,10 +155,12 @@ shifted : (wanted : Wanted) (joined : Bool) (front at cs : List ℕ)
     ≡ map (with_text_before front) (spans_after wanted joined at cs)
 shifted wanted joined front at [] = refl
 shifted wanted joined front at (c ∷ ahead) =
-    ap (λ l. l ++ spans_after wanted (is_joined wanted c ahead) (front ++ at ++ encode_utf8 c) ahead)
+    ap (λ l. l ++ spans_after wanted (is_joined wanted c ahead) (front ++ at ++ encode_utf8 c)
+    ahead)
     (by (not joined && belongs wanted c ahead))
     ∙ ap (λ l. map (with_text_before front) (begun_at wanted joined at c ahead)
-    ++ spans_after wanted (is_joined wanted c ahead) l ahead) (append_assoc front at (encode_utf8 c))
+    ++ spans_after wanted (is_joined wanted c ahead) l
+    ahead) (append_assoc front at (encode_utf8 c))
     ∙ ap (λ l. map (with_text_before front) (begun_at wanted joined at c ahead) ++ l)
     (shifted wanted (is_joined wanted c ahead) front (at ++ encode_utf8 c) ahead)
     ∙ sym (map-append (with_text_before front) (begun_at wanted joined at c ahead)

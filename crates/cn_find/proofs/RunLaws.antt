@@ -104,7 +104,8 @@ run-apart wanted none c (next ∷ after) =
           (after_run wanted (next ∷ after)) ≡ false)
           → last_joined wanted none (run_of wanted (c ∷ next ∷ after))
           (after_run wanted (c ∷ next ∷ after)) ≡ false
-      by true e ih = rw e (ih (is_joined wanted c (run_of wanted (next ∷ after) ++ after_run wanted (next ∷ after))))
+      by true e ih = rw e (ih (is_joined wanted c
+          (run_of wanted (next ∷ after) ++ after_run wanted (next ∷ after))))
       by false e ih = rw e (rw e)
 
 -- one character further in front
@@ -288,7 +289,11 @@ limit-after wanted before c ahead = by (is_joined wanted c ahead) refl where
         length-append (encode_utf8 c) (encode_utf8_all (run_of wanted ahead)),
       ))
   by false e =
-      rw e (omega (arith, length-append before (encode_utf8 c), ap length (append-nil (encode_utf8 c))))
+      rw e (omega (
+        arith,
+        length-append before (encode_utf8 c),
+        ap length (append-nil (encode_utf8 c)),
+      ))
 
 rising : (wanted : Wanted) (joined : Bool) (least : ℕ) (before cs : List ℕ)
     → least ≤ limit wanted joined before cs
@@ -330,6 +335,12 @@ count-after wanted joined before (c ∷ ahead) =
       by true ih = omega (arith, ih)
       by false ih = omega (arith, ih)
 
-pub few-left : (wanted : Wanted) (whole rest : List ℕ) → IsUtf8 rest → length (spans_left wanted whole rest) ≤ length rest
+pub few-left : (wanted : Wanted) (whole rest : List ℕ) → IsUtf8 rest
+    → length (spans_left wanted whole rest) ≤ length rest
 few-left wanted whole rest ended =
-    omega (arith, count-after wanted false (text_before whole rest) (chars rest), length-le-encodes (chars rest), ap length (encodes-chars rest ended))
+    omega (
+      arith,
+      count-after wanted false (text_before whole rest) (chars rest),
+      length-le-encodes (chars rest),
+      ap length (encodes-chars rest ended),
+    )

@@ -54,9 +54,11 @@ next-character : (wanted : Wanted) (c : ℕ) (before ahead : List ℕ)
 next-character wanted c before ahead e = rw e (rw (not-joined wanted c ahead e))
 
 -- the bytes of a text, by its first character
-first-bytes : (bytes after : List ℕ) (c : ℕ) → IsUtf8 bytes → IsUtf8 after → chars bytes ≡ c ∷ chars after → bytes ≡ encode_utf8 c ++ after
+first-bytes : (bytes after : List ℕ) (c : ℕ) → IsUtf8 bytes → IsUtf8 after
+    → chars bytes ≡ c ∷ chars after → bytes ≡ encode_utf8 c ++ after
 first-bytes bytes after c whole ended parts =
-    sym (encodes-chars bytes whole) ∙ ap encode_utf8_all parts ∙ ap (λ l. encode_utf8 c ++ l) (encodes-chars after ended)
+    sym (encodes-chars bytes whole) ∙ ap encode_utf8_all parts
+    ∙ ap (λ l. encode_utf8 c ++ l) (encodes-chars after ended)
 
 -- some characters of a run were passed, and these are ahead
 pub record Gathered (wanted : Wanted) (text rest : List ℕ) : Type 0 where
@@ -124,23 +126,32 @@ IsEnded-none wanted text rest g none whole ended =
     (g.ahead ∙ ap (after_run wanted) none ∙ sym none) whole ended
 
 -- where the text is cut
-seam-length : (whole front rest : List ℕ) → whole ≡ front ++ rest → length whole - length rest ≡ length front
-seam-length whole front rest e = let all = ap length e in omega (arith, all, length-append front rest)
+seam-length : (whole front rest : List ℕ) → whole ≡ front ++ rest
+    → length whole - length rest ≡ length front
+seam-length whole front rest e = let all =
+    ap length e in omega (arith, all, length-append front rest)
 
-pub seam-front : (whole front rest : List ℕ) → whole ≡ front ++ rest → text_before whole rest ≡ front
-seam-front whole front rest e = ap (λ n. take n whole) (seam-length whole front rest e) ∙ ap (take (length front)) e ∙ take-append_seam front rest
+pub seam-front : (whole front rest : List ℕ) → whole ≡ front ++ rest
+    → text_before whole rest ≡ front
+seam-front whole front rest e = ap (λ n. take n whole) (seam-length whole front rest e)
+    ∙ ap (take (length front)) e ∙ take-append_seam front rest
 
-pub seam-back : (whole front rest : List ℕ) → whole ≡ front ++ rest → drop (length whole - length rest) whole ≡ rest
-seam-back whole front rest e = ap (λ n. drop n whole) (seam-length whole front rest e) ∙ ap (drop (length front)) e ∙ drop-append_seam front rest
+pub seam-back : (whole front rest : List ℕ) → whole ≡ front ++ rest
+    → drop (length whole - length rest) whole ≡ rest
+seam-back whole front rest e = ap (λ n. drop n whole) (seam-length whole front rest e)
+    ∙ ap (drop (length front)) e ∙ drop-append_seam front rest
 
-pub seam-boundary : (whole front rest : List ℕ) → whole ≡ front ++ rest → IsUtf8 rest → IsCharBoundary whole (length whole - length rest)
-seam-boundary whole front rest e ended = rw (seam-length whole front rest e) (IsCharBoundary-at_seam whole front rest e ended)
+pub seam-boundary : (whole front rest : List ℕ) → whole ≡ front ++ rest → IsUtf8 rest
+    → IsCharBoundary whole (length whole - length rest)
+seam-boundary whole front rest e ended =
+    rw (seam-length whole front rest e) (IsCharBoundary-at_seam whole front rest e ended)
 
 -- characters that belong to no number were passed, and these are ahead
 pub record Skipping (wanted : Wanted) (text ahead : List ℕ) : Type 0 where
   pub front : List ℕ
   pub parts : text ≡ front ++ ahead
-  pub same : (before : List ℕ) → spans_after wanted false before (chars text) ≡ spans_after wanted false (before ++ front) (chars ahead)
+  pub same : (before : List ℕ) → spans_after wanted false before (chars text)
+      ≡ spans_after wanted false (before ++ front) (chars ahead)
 
 pub Skipping-none : (wanted : Wanted) (text : List ℕ) → Skipping wanted text text
 Skipping-none wanted text = record {
@@ -149,16 +160,23 @@ Skipping-none wanted text = record {
   same = λ before. ap (λ l. spans_after wanted false l (chars text)) (sym (append-nil before));
 }
 
-pub Skipping-more : (wanted : Wanted) (text ahead after : List ℕ) (c : ℕ) → Skipping wanted text ahead → chars ahead ≡ c ∷ chars after → belongs wanted c (chars after) ≡ false → IsUtf8 ahead → IsUtf8 after → Skipping wanted text after
+pub Skipping-more : (wanted : Wanted) (text ahead after : List ℕ) (c : ℕ)
+    → Skipping wanted text ahead → chars ahead ≡ c ∷ chars after → belongs wanted c (chars after)
+    ≡ false → IsUtf8 ahead → IsUtf8 after → Skipping wanted text after
 Skipping-more wanted text ahead after c s parts e whole ended = record {
   front = s.front ++ encode_utf8 c;
-  parts = s.parts ∙ ap (λ l. s.front ++ l) (first-bytes ahead after c whole ended parts) ∙ sym (append_assoc s.front (encode_utf8 c) after);
+  parts = s.parts ∙ ap (λ l. s.front ++ l) (first-bytes ahead after c whole ended parts)
+      ∙ sym (append_assoc s.front (encode_utf8 c) after);
   same = λ before.
-      s.same before ∙ ap (spans_after wanted false (before ++ s.front)) parts ∙ next-character wanted c (before ++ s.front) (chars after) e
-      ∙ ap (λ l. spans_after wanted false l (chars after)) (append_assoc before s.front (encode_utf8 c));
+      s.same before ∙ ap (spans_after wanted false (before ++ s.front)) parts
+      ∙ next-character wanted c (before ++ s.front) (chars after) e
+      ∙ ap (λ l. spans_after wanted false l (chars after))
+      (append_assoc before s.front (encode_utf8 c));
 }
 
-pub Skipped-at : (wanted : Wanted) (text ahead after : List ℕ) (c : ℕ) → Skipping wanted text ahead → chars ahead ≡ c ∷ chars after → belongs wanted c (chars after) ≡ true → Skipped wanted text ahead
+pub Skipped-at : (wanted : Wanted) (text ahead after : List ℕ) (c : ℕ) → Skipping wanted text ahead
+    → chars ahead ≡ c ∷ chars after → belongs wanted c (chars after) ≡ true
+    → Skipped wanted text ahead
 Skipped-at wanted text ahead after c s parts e = record {
   front = s.front;
   parts = s.parts;
@@ -166,7 +184,8 @@ Skipped-at wanted text ahead after c s parts e = record {
   stops = inr (ap (first_belongs wanted) parts ∙ e);
 }
 
-pub Skipped-end : (wanted : Wanted) (text ahead : List ℕ) → Skipping wanted text ahead → chars ahead ≡ [] → IsUtf8 ahead → Skipped wanted text ahead
+pub Skipped-end : (wanted : Wanted) (text ahead : List ℕ) → Skipping wanted text ahead
+    → chars ahead ≡ [] → IsUtf8 ahead → Skipped wanted text ahead
 Skipped-end wanted text ahead s none whole = record {
   front = s.front;
   parts = s.parts;
@@ -175,46 +194,77 @@ Skipped-end wanted text ahead s none whole = record {
 }
 
 -- a run is found, and what stands after it
-first-found : (wanted : Wanted) (before ahead text after : List ℕ) → first_belongs wanted (chars ahead) ≡ true
-    → text ≡ encode_utf8_all (run_of wanted (chars ahead)) → chars after ≡ after_run wanted (chars ahead) → IsUtf8 after
-    → spans_after wanted false before (chars ahead) ≡ record { before = before; text = text; after = after } ∷ spans_after wanted false (before ++ text) (chars after)
+first-found : (wanted : Wanted) (before ahead text after : List ℕ)
+    → first_belongs wanted (chars ahead) ≡ true
+    → text ≡ encode_utf8_all (run_of wanted (chars ahead))
+    → chars after ≡ after_run wanted (chars ahead) → IsUtf8 after
+    → spans_after wanted false before (chars ahead)
+    ≡ record { before = before; text = text; after = after }
+    ∷ spans_after wanted false (before ++ text) (chars after)
 first-found wanted before ahead text after begins run behind ended =
     first-span wanted before (chars ahead) begins
-    ∙ ap (λ t. record { before = before; text = t; after = encode_utf8_all (after_run wanted (chars ahead)) } ∷ spans_after wanted false (before ++ t) (after_run wanted (chars ahead))) (sym run)
-    ∙ ap (λ l. record { before = before; text = text; after = encode_utf8_all l } ∷ spans_after wanted false (before ++ text) l) (sym behind)
-    ∙ ap (λ l. record { before = before; text = text; after = l } ∷ spans_after wanted false (before ++ text) (chars after)) (encodes-chars after ended)
+    ∙ ap (λ t. record {
+      before = before;
+      text = t;
+      after =
+          encode_utf8_all (after_run wanted (chars ahead));
+    }
+    ∷ spans_after wanted false (before ++ t) (after_run wanted (chars ahead))) (sym run)
+    ∙ ap (λ l. record { before = before; text = text; after = encode_utf8_all l }
+    ∷ spans_after wanted false (before ++ text) l) (sym behind)
+    ∙ ap (λ l. record { before = before; text = text; after = l }
+    ∷ spans_after wanted false (before ++ text) (chars after)) (encodes-chars after ended)
 
 -- where the next run stands in the whole text
 pub record IsNext (wanted : Wanted) (whole rest ahead text after : List ℕ) : Type 0 where
-  pub parts : spans_left wanted whole rest ≡ record { before = text_before whole ahead; text = text; after = after } ∷ spans_left wanted whole after
+  pub parts : spans_left wanted whole rest
+      ≡ record { before = text_before whole ahead; text = text; after = after }
+      ∷ spans_left wanted whole after
   pub ends : text_before whole after ++ after ≡ whole
 
-pub IsNext-found : (wanted : Wanted) (whole rest ahead text after : List ℕ) → text_before whole rest ++ rest ≡ whole → Skipped wanted rest ahead → 0 < length ahead
-    → text ≡ encode_utf8_all (run_of wanted (chars ahead)) → chars after ≡ after_run wanted (chars ahead) → ahead ≡ text ++ after → IsUtf8 after → IsNext wanted whole rest ahead text after
+pub IsNext-found : (wanted : Wanted) (whole rest ahead text after : List ℕ)
+    → text_before whole rest ++ rest ≡ whole → Skipped wanted rest ahead → 0 < length ahead
+    → text ≡ encode_utf8_all (run_of wanted (chars ahead))
+    → chars after ≡ after_run wanted (chars ahead) → ahead ≡ text ++ after → IsUtf8 after
+    → IsNext wanted whole rest ahead text after
 IsNext-found wanted whole rest ahead text after is_end s some run behind cut ended = record {
   parts =
-      s.same (text_before whole rest) ∙ first-found wanted (text_before whole rest ++ s.front) ahead text after begins run behind ended
-      ∙ ap (λ l. record { before = l; text = text; after = after } ∷ spans_after wanted false (text_before whole rest ++ s.front ++ text) (chars after)) (sym (seam-front whole _ ahead at_ahead))
-      ∙ ap (λ l. record { before = text_before whole ahead; text = text; after = after } ∷ spans_after wanted false l (chars after)) (sym (seam-front whole _ after at_after));
+      s.same (text_before whole rest) ∙ first-found wanted (text_before whole rest ++ s.front)
+      ahead text after begins run behind ended
+      ∙ ap (λ l. record { before = l; text = text; after = after }
+      ∷ spans_after wanted false (text_before whole rest ++ s.front ++ text)
+      (chars after)) (sym (seam-front whole _ ahead at_ahead))
+      ∙ ap (λ l. record { before = text_before whole ahead; text = text; after = after }
+      ∷ spans_after wanted false l (chars after)) (sym (seam-front whole _ after at_after));
   ends = ap (λ l. l ++ after) (seam-front whole _ after at_after) ∙ sym at_after;
 } where
   begins : first_belongs wanted (chars ahead) ≡ true
-  begins = elim s.stops [ inl none ↦ absurd (let n = ap length none in omega (arith, n, some)) | inr here ↦ here ]
+  begins = elim s.stops [
+    | inl none ↦ absurd (let n = ap length none in omega (arith, n, some))
+    | inr here ↦ here
+  ]
 
   at_ahead : whole ≡ text_before whole rest ++ s.front ++ ahead
-  at_ahead = sym is_end ∙ ap (λ l. text_before whole rest ++ l) s.parts ∙ sym (append_assoc (text_before whole rest) s.front ahead)
+  at_ahead = sym is_end ∙ ap (λ l. text_before whole rest ++ l) s.parts
+      ∙ sym (append_assoc (text_before whole rest) s.front ahead)
 
   at_after : whole ≡ text_before whole rest ++ s.front ++ text ++ after
-  at_after = at_ahead ∙ ap (λ l. text_before whole rest ++ s.front ++ l) cut ∙ sym (append_assoc (text_before whole rest ++ s.front) text after)
+  at_after = at_ahead ∙ ap (λ l. text_before whole rest ++ s.front ++ l) cut
+      ∙ sym (append_assoc (text_before whole rest ++ s.front) text after)
 
-pub next-boundary : (wanted : Wanted) (whole rest ahead : List ℕ) → text_before whole rest ++ rest ≡ whole → Skipped wanted rest ahead → IsUtf8 ahead → IsCharBoundary whole (length whole - length ahead)
+pub next-boundary : (wanted : Wanted) (whole rest ahead : List ℕ)
+    → text_before whole rest ++ rest ≡ whole → Skipped wanted rest ahead → IsUtf8 ahead
+    → IsCharBoundary whole (length whole - length ahead)
 next-boundary wanted whole rest ahead is_end s ended =
     seam-boundary whole (text_before whole rest ++ s.front) ahead
-    (sym is_end ∙ ap (λ l. text_before whole rest ++ l) s.parts ∙ sym (append_assoc (text_before whole rest) s.front ahead)) ended
+    (sym is_end ∙ ap (λ l. text_before whole rest ++ l) s.parts
+    ∙ sym (append_assoc (text_before whole rest) s.front ahead)) ended
 
-pub none-next : (wanted : Wanted) (whole rest ahead : List ℕ) → Skipped wanted rest ahead → length ahead ≡ 0 → spans_left wanted whole rest ≡ []
+pub none-next : (wanted : Wanted) (whole rest ahead : List ℕ) → Skipped wanted rest ahead
+    → length ahead ≡ 0 → spans_left wanted whole rest ≡ []
 none-next wanted whole rest ahead s none = s.same (text_before whole rest) ∙ by ahead none where
-  by : (ahead : List ℕ) → length ahead ≡ 0 → spans_after wanted false (text_before whole rest ++ s.front) (chars ahead) ≡ []
+  by : (ahead : List ℕ) → length ahead ≡ 0
+      → spans_after wanted false (text_before whole rest ++ s.front) (chars ahead) ≡ []
   by [] none = ap (spans_after wanted false (text_before whole rest ++ s.front)) chars-nil
   by (b ∷ ahead) none = absurd (omega (arith, none))
 

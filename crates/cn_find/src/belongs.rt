@@ -85,8 +85,22 @@ fn counts_next(wanted: Wanted, text: &str) -> bool
 }
 
 /// Whether a character with its mark is one of a number, by what follows it.
+#[inline(always)]
 #[tactic(auto, unfolding(crate::specs::Belongs::belongs))]
 pub fn belongs(wanted: Wanted, c: char, mark: Mark, after: &str) -> bool
+    requires { marked mark ≡ mark_of c }
+    ensures { result ≡ belongs wanted c (chars after.now) }
+{
+    // Most characters of a text are neither digit nor unit, so they are told apart first.
+    match mark {
+        Mark::Other => false,
+        _ => known_belongs(wanted, c, mark, after),
+    }
+}
+
+// The same of a digit or a unit.
+#[tactic(auto, unfolding(crate::specs::Belongs::belongs))]
+fn known_belongs(wanted: Wanted, c: char, mark: Mark, after: &str) -> bool
     requires { marked mark ≡ mark_of c }
     ensures { result ≡ belongs wanted c (chars after.now) }
 {

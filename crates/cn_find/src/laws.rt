@@ -1,8 +1,10 @@
 //! What users may count on, as contracts of functions that do nothing.
-ghost use Rattle.std.specs.Prelude.{◌≡◌, ◌↔◌, ◌++◌, ℕ, ℤ, List, map, chars, encode_utf8, true, false, None, Ok, Err, IsTrue};
+ghost use Rattle.std.specs.Prelude.{◌≡◌, ◌≢◌, ◌↔◌, ◌∷◌, ◌++◌, ℕ, ℤ, List, map, chars, encode_utf8, true, false, None, Some, Ok, Err, IsTrue};
 ghost use Rattle.std.specs.List.{Contains, list_all};
 ghost use Rattle.std.specs.Str.{IsUtf8};
 ghost use Rattle.cn_core.specs.declared.method.ChineseCountMethod.{ChineseCountMethod};
+ghost use Rattle.cn_core.specs.declared.sign.Sign.TheVariants.{Plus};
+ghost use Rattle.cn_core.specs.Characters.{sign_of};
 ghost use Rattle.cn_core.specs.Mark.{Mark};
 ghost use Rattle.cn_core.specs.Naive.{decimal_value};
 ghost use Rattle.cn_core.specs.Numeral.{IsNumeral};
@@ -42,8 +44,15 @@ pub fn unwanted_characters_part_texts(wanted: Wanted)
         ++ map (with_text_before (left ++ encode_utf8 c)) (spans wanted right) }
 {}
 
+/// A run begins with a sign only where it begins with 正, the one plus sign.
+pub fn runs_begin_with_no_other_sign(wanted: Wanted)
+    ensures { (bytes : List ℕ) (span : Span) (c : ℕ) (rest : List ℕ)
+        → Contains (spans wanted bytes) span → IsUtf8 span.text → chars span.text ≡ c ∷ rest
+        → sign_of c ≢ Some Plus → leading_sign true (text_of span.text) ≡ None }
+{}
+
 /// A text that begins with no sign is answered alike by each type that holds its number, and refused
-/// at the same place by all. Of the characters of a run 正 alone is a sign.
+/// at the same place by all: so a run that does not begin with 正.
 pub fn types_answer_alike_without_sign()
     ensures number { (here there : Kind) (method : ChineseCountMethod) (bytes : List ℕ)
         (number : ℤ) → leading_sign true (text_of bytes) ≡ None

@@ -1,15 +1,16 @@
 -- The table of marks has characters of three bytes, none of them white space, each with its own
 -- mark.
-use Rattle.std.proofs.Common.{◌≡◌, ℕ, ◌+◌, ◌-◌, ◌*◌, ◌/◌, ◌%◌, ◌<◌, ◌≤◌, nat_le, nat_lt, ◌==◌, ◌&&◌, not, Bool, true, false, List, [], ◌∷◌, length, get_or, refl, ap, ◌∙◌, arith, zero, suc}
-use Rattle.std.specs.Char.{is_whitespace}
-use Rattle.std.specs.List.{list_all}
+use Rattle.std.proofs.Common.{◌≡◌, ℕ, ◌+◌, ◌-◌, ◌*◌, ◌/◌, ◌%◌, ◌<◌, ◌≤◌, nat_le, nat_lt, ◌==◌, ◌&&◌, ◌||◌, not, ◌≢◌, Bool, true, false, List, [], ◌∷◌, length, get_or, None, refl, sym, ap, ◌∙◌, arith, zero, suc}
+use Rattle.std.specs.Char.{char_set_contains, is_whitespace}
+use Rattle.std.specs.List.{list_all, position_or_len}
 use Rattle.std.proofs.lemmas.Bool.Decides.{nat_tests}
-use Rattle.cn_core.specs.Characters.{digit_of, rank_of}
+use Rattle.cn_core.specs.Characters.{digit_of, rank_of, digit_rows, unit_rows, row_with}
 use Rattle.cn_core.specs.Mark.{Mark, digit, unit, other, mark_of}
 use Rattle.cn_core.proofs.Fronts.{and-left, and-right}
 use Rattle.cn_judge.specs.declared.mark.Mark.{Mark as ReadMark}
+use Rattle.cn_judge.specs.declared.mark.Mark.TheVariants.{Other}
 use Rattle.cn_judge.specs.declared.mark.TheConstants.{MARKS}
-use Rattle.cn_judge.specs.Marked.{IsKnown, marked}
+use Rattle.cn_judge.specs.Marked.{IsKnown, IsUnknown, key_of, marked}
 
 all_at : {X : Type 0} (p : X → Bool) (xs : List X) (i : ℕ) (d : X) → list_all p xs ≡ true
     → i < length xs → p (get_or xs i d) ≡ true
@@ -114,3 +115,74 @@ entry-known key entry at found =
       mark_is = right.0;
       dark = right.1;
     }
+
+-- the table has the character, or it does not take three bytes
+has : ℕ → Bool
+has c =
+    nat_lt c 2048 || nat_le 65536 c || (get_or MARKS (slot (key_of c)) (0, Other)).0 == key_of c
+
+all_digits : list_all (λ row. list_all has row) digit_rows ≡ true
+unfolding has
+all_digits = refl
+
+all_units : list_all (λ row. list_all has row) unit_rows ≡ true
+unfolding has
+all_units = refl
+
+not-in-row : (row : List ℕ) (c : ℕ) → list_all has row ≡ true → has c ≡ false
+    → char_set_contains row c ≡ false
+not-in-row [] c all none = refl
+not-in-row (d ∷ row) c all none =
+    by (d == c) refl (not-in-row row c (and-right (has d) _ all) none) where
+      by : (b : Bool) → (d == c) ≡ b → char_set_contains row c ≡ false
+          → char_set_contains (d ∷ row) c ≡ false
+      by true e rest =
+          let same : d ≡ c = grind (arith, nat_tests) in
+          let found : has d ≡ true = and-left (has d) _ all in
+          let is : has c ≡ true = ap has (sym same) ∙ found in cc
+      by false e rest = rw e rest
+
+not-in-rows : (rows : List (List ℕ)) (c : ℕ) → list_all (λ row. list_all has row) rows ≡ true
+    → has c ≡ false → position_or_len (λ row. char_set_contains row c) rows ≡ length rows
+not-in-rows [] c all none = refl
+not-in-rows (row ∷ rows) c all none =
+    let rest = not-in-rows rows c (and-right (list_all has row) _ all) none in
+    rw (not-in-row row c (and-left (list_all has row) _ all) none) (omega (arith, rest))
+
+none-with : (rows : List (List ℕ)) (c : ℕ) → list_all (λ row. list_all has row) rows ≡ true
+    → has c ≡ false → row_with c rows ≡ None
+none-with rows c all none = rw (not-in-rows rows c all none) (rw (not-below (length rows))) where
+  not-below : (n : ℕ) → nat_lt n n ≡ false
+  not-below n = grind (arith, nat_tests)
+
+other-is : (c : ℕ) → has c ≡ false → mark_of c ≡ other
+unfolding digit_of rank_of
+other-is c none =
+    rw (none-with digit_rows c all_digits none) (rw (none-with unit_rows c all_units none))
+
+not-had : (c : ℕ) (key : ℕ) (entry : ℕ × ReadMark) → 2048 ≤ c → c < 65536 → key_of c ≡ key
+    → entry ≡ get_or MARKS (slot key) entry → entry.0 ≢ key → has c ≡ false
+unfolding has
+not-had c key entry low high same at other_key =
+    let found : (get_or MARKS (slot (key_of c)) (0, Other)).0 ≡ entry.0 =
+    ap (λ k. (get_or MARKS (slot k) (0, Other)).0) same
+    ∙ ap (λ e. e.0) (within MARKS (slot key) (0, Other) entry (slot-low key) ∙ sym at) in
+    let not_low : nat_lt c 2048 ≡ false = lt c 2048 (omega (arith, low)) in
+    let not_high : nat_le 65536 c ≡ false = le 65536 c (omega (arith, high)) in
+    let not_same : ((get_or MARKS (slot (key_of c)) (0, Other)).0 == key_of c) ≡ false =
+    rw (found, same) (eq entry.0 key other_key) in
+    rw (not_low, not_high, not_same) where
+      lt : (a b : ℕ) → b ≤ a → nat_lt a b ≡ false
+      lt a b h = grind (arith, nat_tests)
+
+      le : (a b : ℕ) → b < a → nat_le a b ≡ false
+      le a b h = grind (arith, nat_tests)
+
+      eq : (a b : ℕ) → a ≢ b → (a == b) ≡ false
+      eq a b h = grind (arith, nat_tests)
+
+-- a character of three bytes whose key is not that of the entry at its slot
+pub entry-unknown : (key : ℕ) (entry : ℕ × ReadMark) → entry ≡ get_or MARKS (slot key) entry
+    → entry.0 ≢ key → IsUnknown key
+entry-unknown key entry at other_key =
+    λ c low high same. other-is c (not-had c key entry low high same at other_key)

@@ -26,3 +26,11 @@ pub record IsKnown (key : ℕ) (mark : ReadMark) : Type 0 where
   pub high : key % 256 < 240
   pub mark_is : marked mark ≡ mark_of code
   pub dark : is_whitespace code ≡ false
+
+-- the key of a character of three bytes
+abbrev pub key_of : ℕ → ℕ
+key_of c = 224 + c / 64 / 64 + (128 + c / 64 % 64) * 256 + (128 + c % 64) * 65536
+
+-- a character of three bytes with this key is neither digit nor unit
+abbrev pub IsUnknown : ℕ → Type 0
+IsUnknown key = (c : ℕ) → 2048 ≤ c → c < 65536 → key_of c ≡ key → mark_of c ≡ other

@@ -1,7 +1,7 @@
 // What a character of a numeral is, by a look-up without a search.
-ghost use Rattle.std.specs.Prelude.{◌≡◌, ◌*◌, ◌/◌, ◌%◌, slice_index_or, IfSome};
+ghost use Rattle.std.specs.Prelude.{◌≡◌, ◌*◌, ◌/◌, ◌%◌, ◌≤◌, ◌<◌, slice_index_or, MatchOption};
 ghost use Rattle.cn_core.specs.Mark.{mark_of};
-ghost use Rattle.cn_judge.specs.Marked.{IsKnown, marked};
+ghost use Rattle.cn_judge.specs.Marked.{IsKnown, IsUnknown, marked};
 
 use cn_core::{Unit, digit_of, unit_of};
 
@@ -154,36 +154,36 @@ fn entry(key: u32) -> (u32, Mark)
     MARKS[(key as u64 * 953_497 / 33_554_432 % 128) as usize]
 }
 
-/// What the character with this key is, if the table has it; each digit and unit of three bytes is
-/// there.
+/// What the character of three bytes with this key is, if it is a digit or a unit.
 #[inline(always)]
 pub fn known_mark(key: u32) -> Option<Mark>
-    ensures { IfSome result (IsKnown key) }
+    ensures { MatchOption result (IsUnknown key) (IsKnown key) }
 {
     let (known, mark) = entry(key);
     if known == key { Some(mark) } else { None }
 }
 
-// The same of a character.
-fn known_mark_of(c: char) -> Option<Mark>
-    ensures { IfSome result (λ mark. marked mark ≡ mark_of c) }
+// What a character of three bytes is.
+#[inline(always)]
+fn three_byte_mark(c: char) -> Mark
+    requires { (2048 ≤ c) × (c < 65536) }
+    ensures { marked result ≡ mark_of c }
 {
     let code = c as u32;
-    if code >= 65_536 {
-        return None;
-    }
     let first = 224 + code / 64 / 64;
     let second = 128 + code / 64 % 64;
     let third = 128 + code % 64;
-    known_mark(first + second * 256 + third * 65_536)
+    known_mark(first + second * 256 + third * 65_536).unwrap_or(Mark::Other)
 }
 
 /// What the character is.
+#[inline(always)]
 pub fn mark_of(c: char) -> Mark
     ensures { marked result ≡ mark_of c }
 {
-    if let Some(mark) = known_mark_of(c) {
-        return mark;
+    let code = c as u32;
+    if 2048 <= code && code < 65_536 {
+        return three_byte_mark(c);
     }
     if let Some(value) = digit_of(c) {
         return Mark::Digit(value);

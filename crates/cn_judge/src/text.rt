@@ -10,6 +10,7 @@ ghost use Rattle.cn_judge.specs.Piece.{StandsAt, EndsWith};
 use crate::mark::{Mark, known_mark, mark_of};
 
 /// The first character, and what stands after it.
+#[inline(always)]
 pub fn split_first_char(text: &str) -> Option<(char, &str)>
     ensures parts { MatchOption result (chars text.now ≡ [])
         (λ r. chars text.now ≡ r.0 ∷ chars r.1.now) }
@@ -23,6 +24,7 @@ pub fn split_first_char(text: &str) -> Option<(char, &str)>
 }
 
 /// The first character, its mark, and what stands after it.
+#[inline(always)]
 pub fn split_first_mark(text: &str) -> Option<(char, Mark, &str)>
     ensures parts { MatchOption result (chars text.now ≡ [])
         (λ r. (chars text.now ≡ r.0 ∷ chars r.2.now) × (marked r.1 ≡ mark_of r.0)) }

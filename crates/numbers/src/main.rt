@@ -43,7 +43,7 @@ fn search_input(rt: &HostRuntime, search: Search) -> io::Result<()> {
 }
 
 // Answers the request, and says whether there was one.
-fn answer(rt: &HostRuntime) -> io::Result<bool> {
+fn serve(rt: &HostRuntime) -> io::Result<bool> {
     match request(rt)? {
         Some(Request::Help) => println!(rt; "{USAGE}")?,
         Some(Request::Search(search)) => search_input(rt, search)?,
@@ -56,7 +56,7 @@ fn answer(rt: &HostRuntime) -> io::Result<bool> {
 }
 
 fn main(rt: HostRuntime) -> ExitCode {
-    match answer(&rt) {
+    match serve(&rt) {
         Ok(true) => ExitCode::from(0),
         Ok(false) => ExitCode::from(2),
         Err(error) if error.kind() == ErrorKind::OutOfMemory => ExitCode::from(2),

@@ -9,7 +9,12 @@ fn chars_from(text: &str, start: usize) -> usize {
 }
 
 // Writes a line for each number of a line.
-fn answer_text<W: Write>(writer: &mut W, line: u64, text: &str, search: Search) -> io::Result<()> {
+fn write_numbers<W: Write>(
+    writer: &mut W,
+    line: u64,
+    text: &str,
+    search: Search,
+) -> io::Result<()> {
     let mut column = 1usize;
     let mut counted = 0;
     for found in find_numbers(text, search.wanted) {
@@ -24,14 +29,9 @@ fn answer_text<W: Write>(writer: &mut W, line: u64, text: &str, search: Search) 
 }
 
 // The same of a line's bytes.
-fn answer_line<W: Write>(
-    writer: &mut W,
-    line: u64,
-    bytes: &[u8],
-    search: Search,
-) -> io::Result<()> {
+fn write_line<W: Write>(writer: &mut W, line: u64, bytes: &[u8], search: Search) -> io::Result<()> {
     match str::from_utf8(bytes) {
-        Ok(text) => answer_text(writer, line, text, search),
+        Ok(text) => write_numbers(writer, line, text, search),
         Err(_) => writeln!(writer, "{line}:1 bad line"),
     }
 }
@@ -54,7 +54,7 @@ pub fn search_lines<R: Read + Drop, W: Write + Drop>(
             break;
         }
         let text = bytes.as_slice();
-        answer_line(
+        write_line(
             writer,
             line,
             text.strip_suffix(b"\n").unwrap_or(text),

@@ -7,12 +7,15 @@ skipping-init c = record { skipped = Skipping-none _ _; utf8 = search rules }
 
 pub skipping-preserved : goal.skipping-preserved
 skipping-preserved c = record {
-  skipped = Skipping-more _ _ _ _ _ c.skipping.invariant.skipped c.in-Some.ensures.parts.0 (search rules) c.skipping.invariant.utf8 (search rules);
+  skipped = Skipping-more _ _ _ _ _ c.skipping.invariant.skipped c.in-Some.ensures.parts.0
+      (search rules) c.skipping.invariant.utf8 (search rules);
   utf8 = search rules;
 }
 
 pub returns-then-belongs : goal.returns-then-belongs
-returns-then-belongs c = Skipped-at _ _ _ _ _ c.skipping.invariant.skipped c.in-Some.ensures.parts.0 (search rules)
+returns-then-belongs c = Skipped-at _ _ _ _ _ c.skipping.invariant.skipped
+    c.in-Some.ensures.parts.0 (search rules)
 
 pub returns : goal.returns
-returns c = Skipped-end _ _ _ c.skipping.invariant.skipped c.in_default.ensures.parts c.skipping.invariant.utf8
+returns c = Skipped-end _ _ _ c.skipping.invariant.skipped c.in_default.ensures.parts
+    c.skipping.invariant.utf8

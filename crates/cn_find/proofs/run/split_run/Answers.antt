@@ -39,7 +39,8 @@ returns c =
           (IsEnded-none _ _ _ c.gathering.invariant.run w.in_default.ensures.parts c.utf8.text
           c.gathering.invariant.utf8)
     ] in
-    let front : c.split_at.result.0.now ≡ encode_utf8_all (run_of c.args.wanted (chars c.args.text.now)) =
+    let front : c.split_at.result.0.now
+    ≡ encode_utf8_all (run_of c.args.wanted (chars c.args.text.now)) =
     c.split_at.ensures.front ∙ seam-front _ _ _ e.bytes in
     let back : c.split_at.result.1.now ≡ c.match-split_first_mark.rest.now =
     c.split_at.ensures.back ∙ seam-back _ _ _ e.bytes in
