@@ -2,6 +2,12 @@ pub mod Digits
 pub mod Methods
 pub mod Parts
 pub mod Places
+pub use Rattle.cn_amount.specs.Answer as AmountAnswer
+pub use Rattle.cn_amount.specs.ErrorText as AmountErrorText
+pub use Rattle.cn_amount.specs.Form as AmountForm
+pub use Rattle.cn_amount.specs.Places as AmountPlaces
+pub use Rattle.cn_amount.specs.Reading as AmountReading
+pub use Rattle.cn_amount.specs.Writes as AmountWrites
 pub use Rattle.cn_core.specs.CharIndex
 pub use Rattle.cn_core.specs.Characters
 pub use Rattle.cn_core.specs.Judge

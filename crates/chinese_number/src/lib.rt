@@ -1,10 +1,16 @@
-//! Chinese numerals, read and written, for the twelve integer types.
+//! Chinese numerals, read and written, for the twelve integer types; amounts of money in capitals; and
+//! the numbers of a running text.
 //!
 //! All that callers need has its name here; `laws` says what they can count on.
 #![tactic(auto)]
 
 pub mod laws;
 
+pub use cn_amount::AMOUNT_LIMIT;
+pub use cn_amount::AmountToChineseError;
+pub use cn_amount::ChineseToAmountError;
+pub use cn_amount::amount_to_chinese;
+pub use cn_amount::chinese_to_amount;
 pub use cn_core::ChineseCase;
 pub use cn_core::ChineseCountMethod;
 pub use cn_core::ChineseVariant;
