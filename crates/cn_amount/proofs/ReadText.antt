@@ -2,7 +2,6 @@
 use Rattle.std.proofs.Common.{◌≡◌, ℕ, ◌+◌, ◌<◌, true, false, List, [], ◌∷◌, ◌++◌, length, map, take, chars, Some, None, refl, sym, ap, ap₂, subst, ◌∙◌, append-nil, append_assoc, length-append, arith}
 use Rattle.std.specs.List.{list_all}
 use Rattle.std.proofs.lemmas.List.{map-append}
-use Rattle.std.proofs.lemmas.Str.{chars-nil}
 use Rattle.std.proofs.Math.Seq.{take-append_seam}
 use Rattle.cn_core.specs.declared.script.ChineseVariant.TheVariants.{Simple}
 use Rattle.cn_amount.specs.declared.state.State.{State}
@@ -153,10 +152,6 @@ pub record IsReading (text rest : List ℕ) (state : State) (sum : Sum) (count :
   pub is : chars text ≡ start ++ chars rest
   pub counts : count ≡ length start
   pub read : IsRead start state sum
-
-pub chars-from_empty : (bytes : List ℕ) → length bytes ≡ 0 → chars bytes ≡ []
-chars-from_empty [] none = chars-nil
-chars-from_empty (b ∷ bytes) none = absurd (omega (arith, none))
 
 -- one more character
 pub reading-more : (text rest after : List ℕ) (state next : State) (sum : Sum) (count c : ℕ)

@@ -1,5 +1,5 @@
 // Reading, in one pass from the left.
-ghost use Rattle.std.specs.Prelude.{◌≡◌, ◌<◌, [], ◌∷◌, length, chars, IfSome, MatchOption};
+ghost use Rattle.std.specs.Prelude.{◌≡◌};
 ghost use Rattle.cn_amount.specs.Answer.{answer_of};
 ghost use Rattle.cn_amount.specs.Reading.{ReadsAmount};
 
@@ -7,19 +7,7 @@ use crate::ChineseToAmountError;
 use crate::capital::capital_of;
 use crate::state::State;
 use crate::sum::Sum;
-
-// The first character, and what stands after it.
-fn split_first_char(text: &str) -> Option<(char, &str)>
-    ensures parts { MatchOption result (chars text.now ≡ [])
-        (λ r. chars text.now ≡ r.0 ∷ chars r.1.now) }
-    ensures shorter { IfSome result (λ r. length r.1.now < length text.now) }
-{
-    let mut chars = text.chars();
-    match chars.next() {
-        Some(c) => Some((c, chars.as_str())),
-        None => None,
-    }
-}
+use cn_core::split_first_char;
 
 /// The amount for which a text in capitals stands, in fen: `Ok` exactly where the text is a form
 /// that the rules for cheques and invoices allow. It takes no memory.

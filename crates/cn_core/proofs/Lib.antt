@@ -1,5 +1,6 @@
 pub mod Beginnings
 pub mod Characters
+pub mod Chars
 pub mod Cuts
 pub mod Ends
 pub mod Fronts

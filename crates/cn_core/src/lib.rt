@@ -9,6 +9,7 @@ pub mod method;
 mod scales;
 pub mod script;
 pub mod sign;
+mod text;
 pub mod unit;
 pub mod whole;
 
@@ -21,5 +22,6 @@ pub use method::ChineseCountMethod;
 pub use scales::{exponent, power_of_ten, scale};
 pub use script::ChineseVariant;
 pub use sign::Sign;
+pub use text::split_first_char;
 pub use unit::Unit;
 pub use whole::Whole;

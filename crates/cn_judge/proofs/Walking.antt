@@ -5,14 +5,11 @@ use Rattle.std.specs.List.{list_all}
 use Rattle.std.specs.Char.{is_whitespace, is_not_whitespace, char_set_contains}
 use Rattle.std.proofs.lemmas.Bool.Decides.{nat_tests}
 use Rattle.std.proofs.lemmas.List.Quantifiers.{position-Some}
-use Rattle.std.proofs.lemmas.Str.{encodes-chars, encodes-append, encodes_same, chars-nil}
+use Rattle.std.proofs.lemmas.Str.{encodes-chars, encodes-append, encodes_same}
 use Rattle.cn_core.specs.Characters.{digit_of, rank_of, digit_rows, unit_rows, row_with}
 use Rattle.cn_core.specs.Mark.{digit, unit, other, mark_of, mark_from}
+use Rattle.cn_core.proofs.Chars.{chars-from_empty}
 use Rattle.cn_core.proofs.Fronts.{and-left, and-right}
-
-pub chars-from_empty : (bytes : List ℕ) → length bytes ≡ 0 → chars bytes ≡ []
-chars-from_empty [] none = chars-nil
-chars-from_empty (b ∷ bytes) none = absurd (omega (arith, none))
 
 -- the last character of a text
 pub chars-back : (bytes front : List ℕ) (c : ℕ) → IsUtf8 bytes → IsUtf8 front

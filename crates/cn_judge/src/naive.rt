@@ -11,8 +11,8 @@ use crate::ChineseToNumberError;
 use crate::judge::{signed_answer, split_sign};
 use crate::mark::{Mark, mark_of};
 use crate::open_units::multiply_add;
-use crate::text::{split_first_char, split_first_digit};
-use cn_core::Whole;
+use crate::text::split_first_digit;
+use cn_core::{Whole, split_first_char};
 
 // Digits that stand side by side: how many, the power of ten that they make room for, and their
 // number.

@@ -8,20 +8,7 @@ ghost use Rattle.cn_judge.specs.Marked.{marked};
 ghost use Rattle.cn_judge.specs.Piece.{StandsAt, EndsWith};
 
 use crate::mark::{Mark, known_mark, mark_of};
-
-/// The first character, and what stands after it.
-#[inline(always)]
-pub fn split_first_char(text: &str) -> Option<(char, &str)>
-    ensures parts { MatchOption result (chars text.now ≡ [])
-        (λ r. chars text.now ≡ r.0 ∷ chars r.1.now) }
-    ensures shorter { IfSome result (λ r. length r.1.now < length text.now) }
-{
-    let mut chars = text.chars();
-    match chars.next() {
-        Some(c) => Some((c, chars.as_str())),
-        None => None,
-    }
-}
+use cn_core::split_first_char;
 
 /// The first character, its mark, and what stands after it.
 #[inline(always)]

@@ -19,7 +19,7 @@ use Rattle.cn_quick.specs.declared.QuickState.{QuickState}
 use Rattle.cn_quick.specs.Private.Regular.{OpenEntry, IsRegular, StandsRegular, LeavesNoTail, MayOpen, exponents, entries_for, top_exponent, is_below_top, is_regular_mark, closing_rank, not_smaller, with_last}
 use Rattle.cn_judge.specs.Private.Walk.{HasNoTail}
 use Rattle.cn_judge.proofs.OpenSums.{from_rank}
-use Rattle.cn_judge.proofs.Walking.{chars-from_empty}
+use Rattle.cn_core.proofs.Chars.{chars-from_empty}
 use Rattle.cn_quick.proofs.RegularSums.{product-last, exponent-small, closing_rank-within, length-for, top-for, left-for, is_first, first-for, first-strict, first-left, next-left, last-left, records-first, records-unit, records-great, records-small, records-above, records-above_small}
 use Rattle.cn_judge.proofs.Endings.{judge-plain_end}
 use Rattle.cn_judge.proofs.Faults.{numeral_fits, plain-numeral}

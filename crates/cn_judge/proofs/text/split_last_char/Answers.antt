@@ -1,5 +1,6 @@
 use Rattle.std.proofs.Common.{◌≡◌, ◌++◌, encode_utf8, length, ap, arith}
-use Rattle.cn_judge.proofs.Walking.{chars-back, chars-from_empty}
+use Rattle.cn_core.proofs.Chars.{chars-from_empty}
+use Rattle.cn_judge.proofs.Walking.{chars-back}
 use Rattle.cn_judge.proofs.text.split_last_char.Goals as goal
 
 pub returns-in-Some-clause-parts : goal.returns-in-Some-clause-parts

@@ -1,7 +1,7 @@
 use Rattle.std.proofs.Common.{◌≡◌, ◌++◌, encode_utf8, length, ap, arith}
 use Rattle.std.proofs.lemmas.Str.{chars_past_char}
-use Rattle.cn_judge.proofs.Walking.{chars-from_empty}
-use Rattle.cn_judge.proofs.text.split_first_char.Goals as goal
+use Rattle.cn_core.proofs.Chars.{chars-from_empty}
+use Rattle.cn_core.proofs.text.split_first_char.Goals as goal
 
 pub returns-in-Some-clause-parts : goal.returns-in-Some-clause-parts
 returns-in-Some-clause-parts c =
