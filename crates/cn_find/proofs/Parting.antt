@@ -1,13 +1,14 @@
 -- A character that is not wanted parts a text.
-use Rattle.std.proofs.Common.{◌≡◌, ℕ, Bool, true, false, not, ◌&&◌, ◌||◌, List, [], ◌∷◌, ◌++◌, map, chars, encode_utf8, encode_utf8_all, IsUtf8, refl, sym, ap, ◌∙◌, append-nil, append_assoc, if◌then◌else◌}
+use Rattle.std.proofs.Common.{◌≡◌, ℕ, Bool, true, false, not, ◌&&◌, ◌||◌, List, [], ◌∷◌, ◌++◌, map, chars, encode_utf8, encode_utf8_all, IsUtf8, refl, sym, ap, subst, ◌∙◌, append-nil, append_assoc, if◌then◌else◌}
 use Rattle.std.proofs.lemmas.List.{map-append}
-use Rattle.std.proofs.lemmas.Str.{chars-append, chars_past_char, IsUtf8-past_char, encodes-append, encodes-chars}
+use Rattle.std.proofs.lemmas.Str.{chars-append, chars_past_char, IsUtf8-past_char, encodes-append, encodes-chars, encodes_same}
 use Rattle.cn_core.specs.Mark.{mark_of}
 use Rattle.cn_find.specs.declared.wanted.Wanted.{Wanted}
 use Rattle.cn_find.specs.Belongs.{belongs, counts_next, is_ge, is_great, is_joined, is_parted, is_wanted}
 use Rattle.cn_find.specs.Parting.{with_text_before, with_text_after}
 use Rattle.cn_find.specs.Spans.{Span, run_of, after_run, span_at, begun_at, spans_after, spans}
-use Rattle.cn_find.proofs.Runs.{not-joined}
+use Rattle.cn_find.specs.Runs.{first_belongs}
+use Rattle.cn_find.proofs.Runs.{first-span, next-character, not-joined}
 
 and-false : (b : Bool) → (b && false) ≡ false
 and-false true = refl
@@ -194,3 +195,36 @@ parts-text wanted left c right first second e =
     ∙ sym (append-nil (left ++ encode_utf8 c)))
     ∙ ap (λ l. map (with_text_after (encode_utf8 c ++ right)) (spans wanted left) ++ l)
     (shifted wanted false (left ++ encode_utf8 c) [] (chars right))
+
+-- behind the first of these runs stand those of the text behind it
+abbrev GoesOn : Wanted → List Span → Type 0
+GoesOn wanted [] = Unit {0}
+GoesOn wanted (first ∷ rest) = IsUtf8 first.after
+    → rest ≡ map (with_text_before (first.before ++ first.text)) (spans wanted first.after)
+
+goes-on : (wanted : Wanted) (before cs : List ℕ) → GoesOn wanted (spans_after wanted false before cs)
+goes-on wanted before [] = tt
+goes-on wanted before (c ∷ ahead) =
+    by (belongs wanted c ahead) refl (goes-on wanted (before ++ encode_utf8 c) ahead) where
+      front : List ℕ
+      front = before ++ encode_utf8_all (run_of wanted (c ∷ ahead))
+
+      behind : List ℕ
+      behind = after_run wanted (c ∷ ahead)
+
+      by : (b : Bool) → belongs wanted c ahead ≡ b
+          → GoesOn wanted (spans_after wanted false (before ++ encode_utf8 c) ahead)
+          → GoesOn wanted (spans_after wanted false before (c ∷ ahead))
+      by true e ih = subst (GoesOn wanted) (sym (first-span wanted before (c ∷ ahead) e)) (λ ended.
+          ap (λ l. spans_after wanted false l behind) (sym (append-nil front))
+          ∙ shifted wanted false front [] behind
+          ∙ ap (λ cs. map (with_text_before front) (spans_after wanted false [] cs))
+          (sym (encodes_same (chars (encode_utf8_all behind)) behind
+          (encodes-chars (encode_utf8_all behind) ended))))
+      by false e ih = subst (GoesOn wanted) (sym (next-character wanted c before ahead e)) ih
+
+pub searches-go_on : (wanted : Wanted) (bytes : List ℕ) (first : Span) (rest : List Span)
+    → spans wanted bytes ≡ first ∷ rest → IsUtf8 first.after
+    → rest ≡ map (with_text_before (first.before ++ first.text)) (spans wanted first.after)
+searches-go_on wanted bytes first rest e =
+    subst (GoesOn wanted) e (goes-on wanted [] (chars bytes))

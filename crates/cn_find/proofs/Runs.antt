@@ -32,7 +32,7 @@ past-run wanted before (c ∷ ahead) =
           (sym (append-nil (encode_utf8 c))))
 
 -- a run that begins here is found first, and then what stands after it
-first-span : (wanted : Wanted) (before cs : List ℕ) → first_belongs wanted cs ≡ true
+pub first-span : (wanted : Wanted) (before cs : List ℕ) → first_belongs wanted cs ≡ true
     → spans_after wanted false before cs
     ≡ span_at wanted before cs
     ∷ spans_after wanted false (before ++ encode_utf8_all (run_of wanted cs)) (after_run wanted cs)
@@ -47,7 +47,7 @@ not-joined wanted c [] e = refl
 not-joined wanted c (next ∷ after) e = rw e
 
 -- and it is passed
-next-character : (wanted : Wanted) (c : ℕ) (before ahead : List ℕ)
+pub next-character : (wanted : Wanted) (c : ℕ) (before ahead : List ℕ)
     → belongs wanted c ahead ≡ false
     → spans_after wanted false before (c ∷ ahead)
     ≡ spans_after wanted false (before ++ encode_utf8 c) ahead

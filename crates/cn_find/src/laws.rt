@@ -44,6 +44,14 @@ pub fn unwanted_characters_part_texts(wanted: Wanted)
         ++ map (with_text_before (left ++ encode_utf8 c)) (spans wanted right) }
 {}
 
+/// A search goes on behind a number: what is found in a text behind its first number is what is found
+/// in what stands behind that number. So a caller in C finds one number after the other.
+pub fn searches_go_on_behind_a_number(wanted: Wanted)
+    ensures { (bytes : List ℕ) (first : Span) (rest : List Span)
+        → spans wanted bytes ≡ first ∷ rest → IsUtf8 first.after
+        → rest ≡ map (with_text_before (first.before ++ first.text)) (spans wanted first.after) }
+{}
+
 /// A run begins with a sign only where it begins with 正, the one plus sign.
 pub fn runs_begin_with_no_other_sign(wanted: Wanted)
     ensures { (bytes : List ℕ) (span : Span) (c : ℕ) (rest : List ℕ)

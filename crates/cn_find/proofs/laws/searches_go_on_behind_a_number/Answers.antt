@@ -1,0 +1,5 @@
+use Rattle.cn_find.proofs.Parting.{searches-go_on}
+use Rattle.cn_find.proofs.laws.searches_go_on_behind_a_number.Goals as goal
+
+pub returns : goal.returns
+returns c = λ bytes first rest e ended. searches-go_on c.args.wanted bytes first rest e ended
