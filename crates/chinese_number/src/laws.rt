@@ -1,5 +1,6 @@
 //! What users can count on, each as the contract of a function that does nothing: that contract is
 //! the theorem, and the check proves it.
+pub mod amounts;
 mod answers;
 mod enums;
 mod methods;
