@@ -39,6 +39,7 @@ time python3 checks/short_of_memory.py $numeral "$refuse_growth" < crates/numera
 time python3 checks/documents.py $numeral
 time python3 checks/dialogue.py $numeral
 time python3 checks/statuses.py $numeral
+time python3 checks/cheque.py crates/cheque/out/cheque "$refuse_growth"
 time python3 checks/readers_without_memory.py crates/cn_vectors
 
 # The library for other languages and for browsers, made of what the gate has proved.

@@ -7,7 +7,7 @@ Usage: documents.py NUMERAL
   where the first cell is no line of the program, it is a text that is read as an `i64` by
   `ten_thousand`.
 - The example in the comment of each of the 96 calls by name is asked, with its type and method.
-- Each block of Rust in README.md stands, line by line, in the source of `cheque`.
+- Each block of Rust in README.md stands, line by line, in the source of `examples`.
 """
 import re
 import subprocess
@@ -59,10 +59,10 @@ def main():
     if wrong or len(told) != len(asked) + 1:
         sys.exit("documents: the program answers otherwise\n" + "\n".join(wrong))
 
-    source = text_of(TOP / "crates/cheque/src/main.rt")
+    source = text_of(TOP / "crates/examples/src/main.rt")
     blocks = re.findall(r"^```rust\n(.*?)^```$", text_of(TOP / "README.md"), re.MULTILINE | re.DOTALL)
     if not blocks or any(block not in source for block in blocks):
-        sys.exit("documents: the Rust of README.md does not stand in the source of cheque")
+        sys.exit("documents: the Rust of README.md does not stand in the source of examples")
     print(f"documents: {len(in_documents)} answers, {len(in_comments)} examples and {len(blocks)} blocks of Rust, as the programs have them")
 
 

@@ -1,72 +1,89 @@
-//! Writes an amount in upper case, reads it back, and reads the number of a chapter from its
-//! heading.
+//! Writes an amount of money as it stands on a cheque, and reads it back.
+//!
+//! ```text
+//! cheque 1409.50                       壹仟肆佰零玖元伍角整
+//! cheque --prefix 15                   人民币壹拾伍元整
+//! cheque 壹仟肆佰零玖元伍角                1409.50
+//! cheque 1,409.50                      the amount is incorrect (position: 1)
+//! ```
+//!
+//! Figures are digits, and then nothing, or a point and one or two digits. An amount that begins
+//! with an ASCII character is read as figures, and any other as capitals. Refusals go to standard
+//! error.
+//!
+//! The status is 0 where the amount was written, 1 where it was refused or a write failed, and 2
+//! where memory ran out or the words of the command line ask for nothing.
 #![tactic(auto)]
 
-ghost use Rattle.std.specs.Prelude.{◌≡◌, pos, Ok, IfOk, IfSome, string_bytes, encode_utf8_all};
-ghost use Rattle.std.specs.List.{Contains};
-ghost use Rattle.chinese_number.specs.Number.{IsAnswer};
-ghost use Rattle.chinese_number.specs.Spans.{Span, spans};
-ghost use Rattle.chinese_number.specs.Whole.{unsigned_kind};
-ghost use Rattle.chinese_number.specs.Printing.{spelled_text};
-ghost use Rattle.chinese_number.specs.declared.ChineseCase.TheVariants.{Upper};
-ghost use Rattle.chinese_number.specs.declared.ChineseCountMethod.TheVariants.{TenThousand};
-ghost use Rattle.chinese_number.specs.declared.ChineseVariant.TheVariants.{Simple};
+pub mod answer;
+pub mod figures;
+mod request;
 
-use chinese_number::laws::spellings_read_back;
-use chinese_number::{
-    ChineseCase, ChineseCountMethod, ChineseToNumber, ChineseToNumberError, ChineseVariant,
-    NumberToChinese, NumberToChineseError, Wanted, find_numbers, from_u64_to_chinese_ten_thousand,
-};
-use std::alloc::{AllocError, Global};
-use std::io;
+use crate::answer::{WritingError, capitals_of};
+use crate::figures::Figures;
+use crate::request::{Request, request_of};
+use chinese_number::chinese_to_amount;
+use std::env;
+use std::io::{self, ErrorKind};
+use std::process::ExitCode;
 
-/// An amount in upper case. (On a cheque 15 has to be 壹拾伍, and not 拾伍 as here.)
-fn amount_in_words(alloc: Global, yuan: u64) -> Result<String, AllocError>
-    ensures { IfOk result (λ text. string_bytes text
-        ≡ encode_utf8_all (spelled_text Simple Upper TenThousand (pos yuan))) }
-{
-    from_u64_to_chinese_ten_thousand(alloc, ChineseVariant::Simple, ChineseCase::Upper, yuan)
+static USAGE: &str = "\
+usage: cheque [--prefix] FIGURES | cheque CAPITALS
+Writes an amount of yuan in capitals, as 壹仟肆佰零玖元伍角整 of 1409.50, or reads capitals and writes
+the amount in figures. Figures are digits, and then nothing, or a point and one or two digits.
+--prefix writes 人民币 in front of the capitals.";
+
+fn write_capitals(rt: &HostRuntime, figures: &str, prefix: &str) -> io::Result<u8> {
+    match capitals_of(rt.alloc(), figures) {
+        Ok(capitals) => {
+            println!(rt; "{prefix}{capitals}")?;
+            Ok(0)
+        }
+        Err(WritingError::Refused(error)) => {
+            eprintln!(rt; "{error}")?;
+            Ok(1)
+        }
+        Err(WritingError::OutOfMemory) => Ok(2),
+    }
 }
 
-/// Prints a number, and reads what was printed: the same number, wherever there is a text at all.
-fn print_and_read<T: NumberToChinese>(
-    alloc: Global,
-    variant: ChineseVariant,
-    case: ChineseCase,
-    method: ChineseCountMethod,
-    number: T,
-) -> Result<Result<T, ChineseToNumberError>, NumberToChineseError>
-    ensures { IfOk result (λ answer. answer ≡ Ok number) }
-{
-    let _magnitude = number.magnitude();
-    spellings_read_back::<T>();
-    let text = number.to_chinese(alloc, variant, case, method)?;
-    Ok(text.as_str().to_number(method))
-}
-
-/// The number of the first chapter that a line names, as 第二十三回: that of one of its numbers.
-fn chapter_number(line: &str) -> Option<u16>
-    ensures { IfSome result (λ n. (span : Span) × Contains (spans Wanted.EVERYDAY line.now) span
-        × IsAnswer (unsigned_kind 16) TenThousand span.text (Ok (pos n))) }
-{
-    for found in find_numbers(line, Wanted::EVERYDAY) {
-        if found.before.ends_with('第') && found.after.starts_with('回') {
-            return found.number(ChineseCountMethod::TenThousand).ok();
+fn write_figures(rt: &HostRuntime, capitals: &str) -> io::Result<u8> {
+    match chinese_to_amount(capitals) {
+        Ok(fen) => {
+            println!(rt; "{}", Figures { fen })?;
+            Ok(0)
+        }
+        Err(error) => {
+            eprintln!(rt; "{error}")?;
+            Ok(1)
         }
     }
-    None
 }
 
-fn main(rt: HostRuntime) -> io::Result<()> {
-    let amount = amount_in_words(rt.alloc(), 1_280_500)?;
-    println!(rt; "{amount}元整")?;
-    let (variant, case) = (ChineseVariant::Simple, ChineseCase::Upper);
-    let method = ChineseCountMethod::TenThousand;
-    if let Ok(Ok(yuan)) = print_and_read(rt.alloc(), variant, case, method, 1_280_500u64) {
-        println!(rt; "{yuan} yuan")?;
+// Answers the words of the command line, and gives the status.
+fn serve(rt: &HostRuntime) -> io::Result<u8> {
+    let mut words = Vec::new(rt.alloc());
+    for word in env::args(rt)?.skip(1) {
+        words.push(word)?;
     }
-    match chapter_number("第二十三回") {
-        Some(chapter) => println!(rt; "chapter {chapter}"),
-        None => println!(rt; "no chapter"),
+    match request_of(words.as_slice()) {
+        Some(Request::Help) => {
+            println!(rt; "{USAGE}")?;
+            Ok(0)
+        }
+        Some(Request::Write { figures, prefix }) => write_capitals(rt, figures, prefix),
+        Some(Request::Read { capitals }) => write_figures(rt, capitals),
+        None => {
+            eprintln!(rt; "{USAGE}")?;
+            Ok(2)
+        }
+    }
+}
+
+fn main(rt: HostRuntime) -> ExitCode {
+    match serve(&rt) {
+        Ok(status) => ExitCode::from(status),
+        Err(error) if error.kind() == ErrorKind::OutOfMemory => ExitCode::from(2),
+        Err(_) => ExitCode::from(1),
     }
 }

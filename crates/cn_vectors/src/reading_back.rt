@@ -21,7 +21,7 @@ fn print_and_read<T: NumberToChinese>(
     Ok(text.as_str().to_number(method))
 }
 
-// The number, by the contracts alone; `cheque` has the same by units.
+// The number, by the contracts alone; `examples` has the same by units.
 fn print_and_read_naive<T: NumberToChinese>(
     alloc: Global,
     variant: ChineseVariant,

@@ -1,7 +1,7 @@
 use Rattle.std.proofs.Common.{encode_utf8_all, string_bytes}
 use Rattle.chinese_number.specs.Printing.{spelled_text}
 use Rattle.chinese_number.proofs.Joining.{unit_result_is}
-use Rattle.cheque.proofs.print_and_read.Goals as goal
+use Rattle.examples.proofs.print_and_read.Goals as goal
 
 pub returns : goal.returns
 returns g c =

@@ -1,0 +1,122 @@
+#!/usr/bin/env python3
+"""What `cheque` answers to its arguments, and with which status it ends.
+
+Usage: cheque.py CHEQUE REFUSE_GROWTH.so
+
+An answer goes to standard output, and a refusal or the usage to standard error; the other stays
+empty. With each growth of memory refused in turn, by checks/refuse_growth.c, the status is 2 and
+nothing is written.
+"""
+import os
+import subprocess
+import sys
+
+NOT_FINISHED = "the amount is not finished"
+TOO_LARGE = "number is too large"
+GREATEST = "玖仟玖佰玖拾玖万玖仟玖佰玖拾玖亿玖仟玖佰玖拾玖万玖仟玖佰玖拾玖元玖角玖分"
+
+
+def at(place):
+    return f"the amount is incorrect (position: {place})"
+
+
+# Arguments, and what is written to standard output, at status 0.
+ANSWERED = [
+    (["1409.50"], "壹仟肆佰零玖元伍角整"),
+    (["1409.5"], "壹仟肆佰零玖元伍角整"),
+    (["15"], "壹拾伍元整"),
+    (["0015.00"], "壹拾伍元整"),
+    (["0"], "零元整"),
+    (["0.05"], "伍分"),
+    (["107000.53"], "壹拾万零柒仟元伍角叁分"),
+    (["9999999999999999.99"], GREATEST),
+    (["--prefix", "15"], "人民币壹拾伍元整"),
+    (["壹仟肆佰零玖元伍角"], "1409.50"),
+    (["人民幣壹拾伍圓正"], "15.00"),
+    (["零元整"], "0.00"),
+    (["伍分"], "0.05"),
+    ([GREATEST], "9999999999999999.99"),
+]
+# Arguments, and the refusal, at status 1.
+REFUSED = [
+    ([""], NOT_FINISHED),
+    (["15."], NOT_FINISHED),
+    (["壹佰元"], NOT_FINISHED),
+    (["1,409.50"], at(1)),
+    (["1.505"], at(4)),
+    (["1.5.0"], at(3)),
+    (["1..5"], at(2)),
+    ([".50"], at(0)),
+    (["-1"], at(0)),
+    (["+1"], at(0)),
+    (["¥15"], at(0)),
+    (["￥15"], at(0)),
+    (["１５"], at(0)),
+    (["1５"], at(1)),
+    (["1.５"], at(2)),
+    ([" 15"], at(0)),
+    (["15 "], at(2)),
+    (["15元"], at(2)),
+    (["1e3"], at(1)),
+    (["--help me"], at(0)),
+    (["10000000000000000"], TOO_LARGE),
+    (["9" * 400], TOO_LARGE),
+    (["9" * 400 + "x"], at(400)),
+    (["拾伍元整"], at(0)),
+    (["壹佰贰元整"], at(3)),
+    (["人民币 壹元整"], at(3)),
+]
+# Arguments that ask for nothing: the usage, at status 2.
+UNKNOWN = [[], ["1", "2"], ["--prefix"], ["--prefix", "壹元整"], ["15", "--prefix"], ["--prefix", "1", "2"]]
+
+
+def fail(why):
+    sys.exit(f"cheque: {why}")
+
+
+def run(program, words, **more):
+    return subprocess.run([program, *words], capture_output=True, encoding="utf-8", timeout=60, **more)
+
+
+def expect(words, got, status, output="", error=""):
+    if (got.returncode, got.stdout, got.stderr) != (status, output, error):
+        fail(f"{words}: {got.returncode} {got.stdout!r} {got.stderr!r}, and not {status} {output!r} {error!r}")
+
+
+def growths_refused(program, words, library):
+    """How many growths of memory a run takes, each of them refused in a run of its own."""
+    number = 1
+    while True:
+        got = run(program, words, env={**os.environ, "LD_PRELOAD": library, "REFUSE": str(number)})
+        if "refused" not in got.stderr:
+            expect(words, got, 0, output=got.stdout)
+            return number - 1
+        expect(f"{words}, growth {number} refused", got, 2, error="refused\n")
+        number += 1
+
+
+def main():
+    if len(sys.argv) != 3 or sys.argv[1].startswith("-"):
+        sys.exit(__doc__)
+    program, refuse_growth = sys.argv[1:]
+    for words, answer in ANSWERED:
+        expect(words, run(program, words), 0, output=answer + "\n")
+    for words, error in REFUSED:
+        expect(words, run(program, words), 1, error=error + "\n")
+    usage = run(program, ["--help"]).stdout
+    if not usage.startswith("usage: cheque "):
+        fail(f"--help writes {usage!r}")
+    for words in UNKNOWN:
+        expect(words, run(program, words), 2, error=usage)
+
+    with open("/dev/full", "wb") as full:
+        for words in (["15"], ["壹元整"]):
+            status = subprocess.run([program, *words], stdout=full, stderr=subprocess.DEVNULL).returncode
+            if status != 1:
+                fail(f"a full output: status {status}, and not 1")
+    growths = sum(growths_refused(program, words, refuse_growth) for words in (["15"], ["壹元整"]))
+    rows = len(ANSWERED) + len(REFUSED) + len(UNKNOWN)
+    print(f"cheque: {rows} rows of arguments, a full output, and {growths} growths of memory refused")
+
+
+main()
