@@ -1,9 +1,12 @@
 #!/usr/bin/env bash
-# Runs the gate, `rt ci`, and what stands beside it; stops at the first failure, and says how long
-# each part took. The first line names the commit. The gate's last line, which counts what passed, is
-# held back to the end. By the two a release's packages quote the gate (bindings/packages.sh).
+# check.sh [--quick]: runs the gate, `rt ci`, and what stands beside it; stops at the first failure,
+# and says how long each part took. The first line names the commit. The gate's last line, which
+# counts what passed, is held back to the end. By the two a release's packages quote the gate
+# (bindings/packages.sh). With --quick, for daily work, all is done but the must-fail edits, which
+# take most of the time: the gate and what follows run in a copy without them.
 set -euo pipefail
 cd "$(dirname "$0")"
+[ $# -eq 0 ] || [ "$*" = --quick ] || { sed -n '2,6s/^# //p' check.sh >&2; exit 2; }
 
 scratch=$(mktemp -d)
 trap 'rm -rf "$scratch"' EXIT
@@ -14,6 +17,7 @@ refuse_growth=$scratch/refuse_growth.so
 # The commit, and whether it is what is checked.
 commit=$(git rev-parse HEAD 2> /dev/null || echo unknown)
 [ -z "$(git status --porcelain 2> /dev/null)" ] || commit+=', and changes'
+[ $# -eq 0 ] || commit+=', without its edits'
 echo "commit $commit"
 
 gate() {
@@ -30,6 +34,12 @@ time python3 checks/edits.py crates
 time python3 checks/codes.py crates/cn_c bindings
 time python3 checks/quotes.py bindings
 time python3 checks/mark_table.py crates/cn_core/src/characters_read.rt --check crates/cn_judge/src/mark.rt
+
+if [ $# -gt 0 ]; then
+    mkdir "$scratch/copy"
+    tar -c --exclude=./.git --exclude=must-fail --exclude=out . | tar -x -C "$scratch/copy"
+    cd "$scratch/copy"
+fi
 time gate
 
 # The programs that the gate has proved and built.
@@ -40,6 +50,7 @@ time python3 checks/documents.py $numeral
 time python3 checks/dialogue.py $numeral
 time python3 checks/statuses.py $numeral
 time python3 checks/cheque.py crates/cheque/out/cheque "$refuse_growth"
+time python3 checks/running_text.py crates/numbers/out/numbers "$refuse_growth"
 time python3 checks/readers_without_memory.py crates/cn_vectors
 
 # The library for other languages and for browsers, made of what the gate has proved.

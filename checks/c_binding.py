@@ -4,7 +4,7 @@
 Usage: c_binding.py C_FOLDER OUT
 
 OUT is the folder that `bindings/archive.sh` filled. `example.c` meets each status, `sixteen_bits.c`
-prints and reads back each number of 16 bits in four threads; both by the archive and by the shared
+prints and reads back each number of 16 bits, and each as an amount, in four threads; both by the archive and by the shared
 object. Then they run under valgrind, and with the sanitizers for addresses and for undefined
 behaviour. What is not there is left out, and named; one compiler has to be.
 """
@@ -14,7 +14,8 @@ import sys
 import tempfile
 from pathlib import Path
 
-EXAMPLES = {"example.c": "負十萬五千\n-105000\n", "sixteen_bits.c": ""}
+FIRST_STEPS = ("負十萬五千", "-105000", "壹仟肆佰零玖元伍角整", "140950", "贰零贰陆年零壹月壹拾伍日", "2026-01-15")
+EXAMPLES = {"example.c": "".join(f"{line}\n" for line in FIRST_STEPS), "sixteen_bits.c": ""}
 COMPILERS = {"cc": "c", "gcc": "c", "clang": "c", "g++": "c++", "clang++": "c++"}
 STRICT = ["-Wall", "-Wextra", "-Werror", "-pedantic", "-O1", "-g", "-pthread"]
 SANITIZERS = ["-fsanitize=address,undefined", "-fno-sanitize-recover=all"]

@@ -12,12 +12,18 @@ import subprocess
 import sys
 
 NOT_FINISHED = "the amount is not finished"
+DATE_NOT_FINISHED = "the date is not finished"
+NO_DATE = "there is no such date"
 TOO_LARGE = "number is too large"
 GREATEST = "玖仟玖佰玖拾玖万玖仟玖佰玖拾玖亿玖仟玖佰玖拾玖万玖仟玖佰玖拾玖元玖角玖分"
 
 
 def at(place):
     return f"the amount is incorrect (position: {place})"
+
+
+def date_at(place):
+    return f"the date is incorrect (position: {place})"
 
 
 # Arguments, and what is written to standard output, at status 0.
@@ -36,6 +42,16 @@ ANSWERED = [
     (["零元整"], "0.00"),
     (["伍分"], "0.05"),
     ([GREATEST], "9999999999999999.99"),
+    (["2026-01-15"], "贰零贰陆年零壹月壹拾伍日"),
+    (["2026-10-20"], "贰零贰陆年零壹拾月零贰拾日"),
+    (["0005-03-01"], "伍年叁月零壹日"),
+    (["2024-02-29"], "贰零贰肆年零贰月贰拾玖日"),
+    (["9999-12-31"], "玖玖玖玖年壹拾贰月叁拾壹日"),
+    (["贰零贰陆年零壹月壹拾伍日"], "2026-01-15"),
+    (["贰零贰陆年零壹拾月零贰拾日"], "2026-10-20"),
+    (["伍年零叁月零壹日"], "0005-03-01"),
+    (["貳零參陸年零貳月零叄日"], "2036-02-03"),
+    (["玖玖玖玖年壹拾贰月叁拾壹日"], "9999-12-31"),
 ]
 # Arguments, and the refusal, at status 1.
 REFUSED = [
@@ -65,9 +81,33 @@ REFUSED = [
     (["拾伍元整"], at(0)),
     (["壹佰贰元整"], at(3)),
     (["人民币 壹元整"], at(3)),
+    (["2026-"], DATE_NOT_FINISHED),
+    (["2026-01"], DATE_NOT_FINISHED),
+    (["2026-01-1"], DATE_NOT_FINISHED),
+    (["贰零贰陆年零壹月"], DATE_NOT_FINISHED),
+    (["202-01-15"], date_at(3)),
+    (["20260-01-15"], date_at(4)),
+    (["2026-1-15"], date_at(6)),
+    (["2026-01/15"], date_at(7)),
+    (["2026-01-15 "], date_at(10)),
+    (["2026-01-155"], date_at(10)),
+    (["2026-０1-15"], date_at(5)),
+    (["2026/01/15"], at(4)),
+    (["20260115-"], date_at(4)),
+    (["2025-02-29"], NO_DATE),
+    (["1900-02-29"], NO_DATE),
+    (["2026-13-01"], NO_DATE),
+    (["2026-00-01"], NO_DATE),
+    (["2026-01-00"], NO_DATE),
+    (["0000-01-01"], NO_DATE),
+    (["贰零贰伍年零贰月贰拾玖日"], date_at(10)),
+    (["贰零贰伍年零贰月零叁拾日"], date_at(10)),
+    (["二零二六年"], date_at(0)),
+    (["贰零贰陆年 零壹月"], date_at(5)),
 ]
 # Arguments that ask for nothing: the usage, at status 2.
-UNKNOWN = [[], ["1", "2"], ["--prefix"], ["--prefix", "壹元整"], ["15", "--prefix"], ["--prefix", "1", "2"]]
+UNKNOWN = [[], ["1", "2"], ["--prefix"], ["--prefix", "壹元整"], ["15", "--prefix"], ["--prefix", "1", "2"],
+           ["--prefix", "2026-01-15"], ["2026-01-15", "--prefix"]]
 
 
 def fail(why):
@@ -110,11 +150,11 @@ def main():
         expect(words, run(program, words), 2, error=usage)
 
     with open("/dev/full", "wb") as full:
-        for words in (["15"], ["壹元整"]):
+        for words in (["15"], ["壹元整"], ["2026-01-15"], ["伍年叁月零壹日"]):
             status = subprocess.run([program, *words], stdout=full, stderr=subprocess.DEVNULL).returncode
             if status != 1:
                 fail(f"a full output: status {status}, and not 1")
-    growths = sum(growths_refused(program, words, refuse_growth) for words in (["15"], ["壹元整"]))
+    growths = sum(growths_refused(program, words, refuse_growth) for words in (["15"], ["壹元整"], ["2026-01-15"], ["伍年叁月零壹日"]))
     rows = len(ANSWERED) + len(REFUSED) + len(UNKNOWN)
     print(f"cheque: {rows} rows of arguments, a full output, and {growths} growths of memory refused")
 

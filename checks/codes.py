@@ -3,19 +3,20 @@
 
 Usage: codes.py CN_C BINDINGS
 
-The tables of `codes.rt` give a type, way, script or case its place as its code, and `status.rt`
+The tables of `codes.rt` give a type, way, script, case or unit its place as its code, and `status.rt`
 names the statuses. The header, the Rust crate and the Python file name each of them once, with the
 same number, and no other; the JavaScript file lists them in this order. The header declares each
-call that the crate exports, and no language has any other. Alike, too, are the most bytes of a text,
-which a clause of `printing.rt` bounds, and the version of all, which is that of the first heading of
-CHANGELOG and of the files that README installs. The texts of refusals are those of `Refusal.antt`
-wherever they are written again.
+call that the crate exports, and no language has any other. Alike, too, are the most bytes of a
+text of each kind, which a clause of `printing.rt`, `amount.rt` and `date.rt` bounds, and the version
+of all, which is that of the first heading of CHANGELOG and of the files that README installs. The
+texts of refusals are those of `Refusal.antt`, and of an amount's and a date's readers those of each
+`ErrorText.antt`, wherever they are written again.
 """
 import re
 import sys
 from pathlib import Path
 
-TABLES = ("KINDS", "WAYS", "SCRIPTS", "CASES")
+TABLES = ("KINDS", "WAYS", "SCRIPTS", "CASES", "UNITS")
 TABLE = re.compile(r"^pub static (\w+): \[.*?\] = \[(.*?)\];", re.MULTILINE | re.DOTALL)
 NAMED = re.compile(r"(?:^|[,;{])[ \t]*(?:pub const )?(?:CN_)?(\w+)(?:: u32)? = (\d+)\b", re.MULTILINE)
 END_OF_TABLE = re.compile(r"\n\};?\n|\n\n\n")
@@ -24,12 +25,14 @@ HEADER, RUST, PYTHON = "c/chinese_number.h", "rust/src/abi.rs", "python/chinese_
 JAVASCRIPT = "web/chinese-number.mjs"
 # Where each table begins, in the order of the tables, the statuses last.
 BEGINNINGS = {
-    HEADER: ("/* The integer type", "/* The way", "/* The script", "/* The case", "/* The status"),
-    RUST: ("pub enum Kind ", "pub enum Way ", "pub enum ChineseVariant ", "pub enum ChineseCase ", "pub mod status "),
-    PYTHON: ("class Kind(", "class Way(", "class Script(", "class Case(", "class Status("),
+    HEADER: ("/* The integer type", "/* The way", "/* The script", "/* The case", "/* The units", "/* The status"),
+    RUST: ("pub enum Kind ", "pub enum Way ", "pub enum ChineseVariant ", "pub enum ChineseCase ", "pub enum Unit ", "pub mod status "),
+    PYTHON: ("class Kind(", "class Way(", "class Script(", "class Case(", "class Unit(", "class Status("),
 }
 EXPORTED = re.compile(r'^pub (?:unsafe )?extern "C" fn (\w+)', re.MULTILINE)
-MOST_BYTES = re.compile(r"MOST_BYTES(?:: usize)?(?: =)? (\d+)")
+CALLED = re.compile(r"\b(chinese_(?:number|amount|date)_\w+)\(|\blibrary\.(chinese_(?:number|amount|date)_\w+)")
+# The most bytes of a text: what each language names so, and the file whose clauses have it.
+BOUNDS = {"MOST_BYTES": "src/printing.rt", "MOST_AMOUNT_BYTES": "src/amount.rt", "MOST_DATE_BYTES": "src/date.rt"}
 VERSIONS = (
     (HEADER, r'^#define CN_VERSION "(.*)"'),
     ("rust/Cargo.toml", r'^version = "(.*)"'),
@@ -48,6 +51,8 @@ OF_READERS = (
     "docs/RULES.md",
 )
 OF_PRINTERS = ("bindings/rust/src/print.rs",)
+REFUSALS_OF_CAPITALS = ("crates/cn_amount/specs/ErrorText.antt", "crates/cn_date/specs/ErrorText.antt")
+OF_READERS_OF_CAPITALS = ("bindings/rust/src/read.rs", "bindings/python/chinese_number.py", "bindings/web/chinese-number.mjs")
 
 
 def text_of(path):
@@ -60,7 +65,7 @@ def snake(name):
 
 
 def of_sources(crate):
-    """The five tables: each name with its code."""
+    """The tables: each name with its code."""
     tables = dict(TABLE.findall(text_of(crate / "src/codes.rt")))
     if tuple(tables) != TABLES:
         sys.exit(f"codes: codes.rt has the tables {list(tables)}, and not {list(TABLES)}")
@@ -97,23 +102,39 @@ def compare_calls(crate, texts):
     """The header declares the calls that the sources export, and no language any other; how many there are."""
     wanted = {name for path in crate.glob("src/*.rt") for name in EXPORTED.findall(text_of(path))}
     for language, text in texts.items():
-        found = set(re.findall(r"\b(chinese_number_\w+)\(", text)) | set(re.findall(r"\blibrary\.(chinese_number_\w+)", text))
+        found = {one or other for one, other in CALLED.findall(text)}
         if not found or not found <= wanted or language == HEADER and found != wanted:
             sys.exit(f"codes: {language} has the calls {sorted(found)}, and the crate exports {sorted(wanted)}")
     return len(wanted)
 
 
+def texts_of(path, name, count):
+    """The texts that a definition gives, up to a position."""
+    found = [text.strip() for text in re.findall(rf'^{name} \S.*?codes "([^"(]*)', text_of(path), re.M | re.S)]
+    if len(found) != count:
+        sys.exit(f"codes: {path} has the texts {found}, and not {count}")
+    return found
+
+
+def compare_bounds(crate, texts):
+    """Each language has as many bytes for a text as the crate's clauses say."""
+    for name, file in BOUNDS.items():
+        bounds = set(re.findall(r"≤ (\d+)", text_of(crate / file)))
+        for language, text in texts.items():
+            found = set(re.findall(rf"\b(?:CN)?_?{name}(?:: usize)?(?: =)? (\d+)", text))
+            if found != bounds or len(found) != 1:
+                sys.exit(f"codes: {name} of {language} is {found}, and {file} has {bounds}")
+
+
 def compare_refusals(top):
     """Each text of a refusal, up to the position that one of them has, stands in each file."""
-    found = re.findall(r'^refusal_text \S.*?codes "([^"(]*)', text_of(top / REFUSALS), re.M | re.S)
-    texts = [text.strip() for text in found]
-    if len(texts) != 4:
-        sys.exit(f"codes: {REFUSALS} has the texts {texts}, and not four")
-    for files, wanted in ((OF_READERS, texts), (OF_PRINTERS, texts[2:])):
+    texts = texts_of(top / REFUSALS, "refusal_text", 4)
+    of_capitals = [text for path in REFUSALS_OF_CAPITALS for text in texts_of(top / path, "reading_error_text", 2)]
+    for files, wanted in ((OF_READERS, texts), (OF_PRINTERS, texts[2:]), (OF_READERS_OF_CAPITALS, of_capitals)):
         for file in files:
             for text in wanted:
                 if not re.search(f"(?:[\"'`]|err ){text}", text_of(top / file)):
-                    sys.exit(f"codes: {file} lacks the text {text!r} of {REFUSALS}")
+                    sys.exit(f"codes: {file} lacks the text {text!r} of a refusal")
 
 
 def main():
@@ -126,13 +147,10 @@ def main():
     texts[JAVASCRIPT] = text_of(bindings / JAVASCRIPT)
     found[JAVASCRIPT] = of_lists(texts[JAVASCRIPT])
     wanted = of_sources(crate)
-    bounds = set(re.findall(r"≤ (\d+)", text_of(crate / "src/printing.rt")))
     for language, text in texts.items():
         for name, table, right in zip((*TABLES, "statuses"), found[language], wanted):
             if table != right or not right:
                 sys.exit(f"codes: {name} of {language}: {table}, and not {right}")
-        if {MOST_BYTES.search(text)[1]} != bounds:
-            sys.exit(f"codes: {language} has room for {MOST_BYTES.search(text)[1]} bytes, and printing.rt for {bounds}")
 
     versions = {re.search(pattern, text_of(bindings / file), re.MULTILINE)[1] for file, pattern in VERSIONS}
     for page in ("../README.md", "README.md"):
@@ -141,6 +159,7 @@ def main():
     if len(versions) != 1:
         sys.exit(f"codes: versions {sorted(versions)}")
     calls = compare_calls(crate, texts)
+    compare_bounds(crate, texts)
     compare_refusals(bindings.resolve().parent)
     print(f"codes: {calls} calls, {sum(map(len, wanted))} codes and statuses, alike in C, Rust, Python and JavaScript, of version {versions.pop()}")
 

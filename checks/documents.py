@@ -7,7 +7,8 @@ Usage: documents.py NUMERAL
   where the first cell is no line of the program, it is a text that is read as an `i64` by
   `ten_thousand`.
 - The example in the comment of each of the 96 calls by name is asked, with its type and method.
-- Each block of Rust in README.md stands, line by line, in the source of `examples`.
+- Each block of Rust in README.md stands, line by line, in a source of `examples` or `first`.
+- Each folder of `crates/` and `bindings/` has a row in docs/DESIGN.md.
 """
 import re
 import subprocess
@@ -59,10 +60,17 @@ def main():
     if wrong or len(told) != len(asked) + 1:
         sys.exit("documents: the program answers otherwise\n" + "\n".join(wrong))
 
-    source = text_of(TOP / "crates/examples/src/main.rt")
+    sources = [text_of(path) for name in ("examples", "first") for path in TOP.glob(f"crates/{name}/src/*.rt")]
     blocks = re.findall(r"^```rust\n(.*?)^```$", text_of(TOP / "README.md"), re.MULTILINE | re.DOTALL)
-    if not blocks or any(block not in source for block in blocks):
-        sys.exit("documents: the Rust of README.md does not stand in the source of examples")
+    if not blocks or not all(any(block in source for source in sources) for block in blocks):
+        sys.exit("documents: the Rust of README.md does not stand in a source of examples or first")
+
+    design = text_of(TOP / "docs/DESIGN.md")
+    folders = [path.parent.name for path in TOP.glob("crates/*/src")]
+    folders += [f"bindings/{path.name}" for path in TOP.glob("bindings/[a-z]*") if path.is_dir()]
+    unnamed = [name for name in sorted(folders) if f"\n| `{name}` | " not in design]
+    if unnamed:
+        sys.exit(f"documents: no row in docs/DESIGN.md for {unnamed}")
     print(f"documents: {len(in_documents)} answers, {len(in_comments)} examples and {len(blocks)} blocks of Rust, as the programs have them")
 
 

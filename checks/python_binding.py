@@ -5,8 +5,9 @@ Usage: python_binding.py PYTHON_FOLDER OUT
 
 OUT is the folder that `bindings/archive.sh` filled. The ends of each type go there and back by each
 way, script and case; texts are refused as the rules say, with their place; numbers of any length
-and arguments of another kind are refused; four threads call at once; and where the shared object is
-not found, the message says what to do.
+and arguments of another kind are refused. Amounts, dates and the numbers of a text answer as the
+rows of `cn_amount`, `cn_date` and `cn_find` say. Four threads call at once; and where the shared
+object is not found, the message says what to do.
 """
 import doctest
 import os
@@ -14,10 +15,16 @@ import pickle
 import subprocess
 import sys
 from concurrent.futures import ThreadPoolExecutor
+from datetime import date, datetime, timedelta
+from decimal import Decimal, localcontext
 from itertools import product
 from pathlib import Path
 
+import rows
+
+CRATES = Path(__file__).resolve().parent.parent / "crates"
 LIMIT_OF_LOW = 10**16
+LIMIT_OF_AMOUNTS = 10**18
 
 
 def check(holds, what):
@@ -32,6 +39,11 @@ def refusal(call, *arguments, error=ValueError, **words):
     except error as raised:
         return raised
     sys.exit(f"python binding: {call.__name__} of {arguments} {words} answered {answer!r}")
+
+
+def same_when_pickled(error):
+    again = pickle.loads(pickle.dumps(error))
+    check((type(again), str(again), vars(again)) == (type(error), str(error), vars(error)), f"{error!r} is pickled")
 
 
 def ends_of_types(numerals):
@@ -96,13 +108,15 @@ def refusals(numerals):
         error = refusal(numerals.to_number, text, kind=kind, way=way, error=numerals.NumeralError)
         found = error.status, error.kind, error.char_index
         check(found == (status, kind, place), f"{ascii(text)}: {error!r}, {found}")
-        again = pickle.loads(pickle.dumps(error))
-        check((str(again), again.status, again.kind, again.char_index) == (str(error), *found), f"{error!r} is pickled")
+        same_when_pickled(error)
 
 
-class OtherBytes(str):
+class OtherText(str):
     def encode(self, *_):
         return b"\xff"
+
+    def __str__(self):
+        return "1"
 
 
 def other_arguments(numerals):
@@ -119,10 +133,133 @@ def other_arguments(numerals):
         (to_chinese, None, {}),
         (to_chinese, 1, {"script": numerals.Case.LOWER}),
         (to_chinese, 1, {"case": "lower"}),
+        *((numerals.amount_to_chinese, fen, {}) for fen in (True, 15.0, Decimal(15), "15", None)),
+        (numerals.amount_to_chinese, 1, {"script": 1}),
+        (numerals.amount_to_chinese, 1, {"case": numerals.Case.UPPER}),
+        (numerals.chinese_to_amount, "零元整".encode(), {}),
+        *((numerals.date_to_chinese, day, {}) for day in (datetime(2026, 1, 15), "2026-01-15", (2026, 1, 15), None)),
+        (numerals.date_to_chinese, date(2026, 1, 15), {"script": 0}),
+        (numerals.chinese_to_date, None, {}),
+        *((numerals.yuan_to_fen, yuan, {}) for yuan in (15, 15.0, True, b"15", None)),
+        (numerals.find_numbers, b"1", {}),
+        (numerals.find_numbers, "一", {"upper": 1}),
+        (numerals.find_numbers, "一", {"greatest": 6}),
+        (numerals.find_numbers, "一", {"greatest": numerals.Kind.I64}),
     ]:
         refusal(call, argument, error=TypeError, **words)
     check(to_chinese(True) == "一", "True is an int")
-    check(to_number(OtherBytes("一")) == 1, "a subclass of str is read as what it holds")
+    check(to_number(OtherText("一")) == 1, "a subclass of str is read as what it holds")
+
+
+def amounts(numerals):
+    """Each row of the rules is written and read so, and many amounts are read back; how many there were."""
+    tables = rows.python_of(rows.of_crate(CRATES / "cn_amount"))
+    write, read, script, count = numerals.amount_to_chinese, numerals.chinese_to_amount, numerals.Script, 0
+    for fen, text in tables["WRITTEN"]:
+        check(write(fen, script=script.SIMPLE) == text, f"{fen} fen: {write(fen, script=script.SIMPLE)}")
+    for text, fen in tables["READ"]:
+        check(read(text) == fen, f"{text}: {read(text)}")
+    for fen in (some for step in (1, 9_999_900_000_001) for some in range(0, 5000 * step, step)):
+        for some, it in product((fen, LIMIT_OF_AMOUNTS - 1 - fen), script):
+            check(read(write(some, script=it)) == some, f"{some} fen: {write(some, script=it)}")
+            count += 1
+    return count
+
+
+def refused_amounts(numerals):
+    tables, status = rows.python_of(rows.of_crate(CRATES / "cn_amount")), numerals.Status
+    write, read, fen_of = numerals.amount_to_chinese, numerals.chinese_to_amount, numerals.yuan_to_fen
+    unfinished, incorrect = "the amount is not finished", "the amount is incorrect (position: {})"
+    refused = [(read, text, status.UNFINISHED, None, unfinished) for text in tables["UNFINISHED"]]
+    wrong = [*tables["INCORRECT"], ("壹\ud800元", 1), ("壹元整\0", 3), ("壹佰" * 1000, 3)]
+    refused += [(read, text, status.INCORRECT, place, incorrect.format(place)) for text, place in wrong]
+    too_large = [LIMIT_OF_AMOUNTS, (1 << 64) - 1, 1 << 64, (1 << 64) + 5, 10**1000]
+    refused += [(write, fen, status.TOO_LARGE, None, "number is too large") for fen in too_large]
+    refused += [(write, fen, status.TOO_SMALL, None, "number is too small") for fen in (-1, -(1 << 64), -(10**1000))]
+    refused += [(fen_of, yuan, status.TOO_LARGE, None, "number is too large") for yuan in ("1" + "0" * 16, "9" * 5000)]
+    for call, argument, *wanted in refused:
+        error = refusal(call, argument, error=numerals.AmountError)
+        check([error.status, error.char_index, str(error)] == wanted, f"{ascii(argument)[:99]}: {error!r}")
+        check(isinstance(error, ValueError), "an AmountError is a ValueError")
+        same_when_pickled(error)
+
+
+def dates(numerals):
+    """Each row of the rules is written and read so, and each 37th date and those of four years are read back; how many."""
+    tables = rows.python_of(rows.of_crate(CRATES / "cn_date"))
+    write, read, script = numerals.date_to_chinese, numerals.chinese_to_date, numerals.Script
+    for year, month, day, text in tables["WRITTEN"]:
+        written = write(date(year, month, day), script=script.SIMPLE)
+        check(written == text, f"{year}-{month}-{day}: {written}")
+    for text, year, month, day in tables["READ"]:
+        check(read(text) == date(year, month, day), f"{text}: {read(text)}")
+    days = [date.min + timedelta(step) for step in range(0, (date.max - date.min).days + 1, 37)]
+    days += [date.max, *(date(2000, 1, 1) + timedelta(step) for step in range(1462))]
+    for day, it in product(days, script):
+        back = read(write(day, script=it))
+        check(back == day and type(back) is date, f"{day}: {write(day, script=it)}, {back!r}")
+    return len(days) * len(script)
+
+
+def refused_dates(numerals):
+    tables, status = rows.python_of(rows.of_crate(CRATES / "cn_date")), numerals.Status
+    wrong = [*tables["INCORRECT"], ("贰零\ud800年", 2), ("贰零贰陆年零壹月壹拾伍日\0", 12)]
+    refused = [(text, status.UNFINISHED, None, "the date is not finished") for text in tables["UNFINISHED"]]
+    refused += [(text, status.INCORRECT, at, f"the date is incorrect (position: {at})") for text, at in wrong]
+    for text, *wanted in refused:
+        error = refusal(numerals.chinese_to_date, text, error=numerals.DateError)
+        check([error.status, error.char_index, str(error)] == wanted, f"{ascii(text)}: {error!r}")
+        same_when_pickled(error)
+
+
+def figures(numerals):
+    fen_of = numerals.yuan_to_fen
+    for yuan, fen in [
+        ("0", 0), ("0.01", 1), ("00.10", 10), ("15", 1500), ("15.0", 1500), ("1409.5", 140950), ("0" * 5000 + "1", 100),
+        ("9" * 16 + ".99", LIMIT_OF_AMOUNTS - 1), (Decimal("1409.50"), 140950), (Decimal("0"), 0), (Decimal("0.07"), 7),
+        (Decimal("9" * 16 + ".99"), LIMIT_OF_AMOUNTS - 1), (OtherText("2.5"), 250),
+    ]:
+        check(fen_of(yuan) == fen and type(fen_of(yuan)) is int, f"{yuan!r}: {fen_of(yuan)!r}")
+    with localcontext() as context:
+        context.prec = 3
+        check(fen_of(Decimal("1409.57")) == 140957, "a context does not round")
+    texts = [
+        "", ".", ".5", "5.", "1.234", "1.000", "1..2", "1.2.3", "+1", "-1", "-0", " 1", "1 ", "1\n", "1_000", "1,409.50",
+        "¥1", "１", "٣", "²", "1e2", "0x10", "NaN", "inf", "壹", "1\0", "\ud800",
+    ]
+    decimals = map(Decimal, ("1.234", "1.000", "-1", "-0", "1E+2", "1E-3", "NaN", "sNaN", "Infinity", "-Infinity"))
+    for yuan in [*texts, *decimals]:
+        error = refusal(fen_of, yuan)
+        check(type(error) is ValueError and str(error).endswith(f", and not {yuan!r}"), f"{yuan!r}: {error!r}")
+
+
+def in_texts(numerals):
+    """Each number of a text stands where the rows say, as positions in the str."""
+    find, unit = numerals.find_numbers, numerals.Unit
+    for text, start, end, is_plain, (right, answer) in rows.python_of(rows.of_crate(CRATES / "cn_find"))["FIRST"]:
+        it = next(find(text))
+        place = (len(text[: it.start].encode()), len(text[: it.end].encode()), it.is_plain)
+        number = it.number() if right == "Ok" else refusal(it.number).char_index
+        check((place, number) == ((start, end, is_plain), answer), f"{text}: {it}, {number}")
+    for text, everyday, every in rows.python_of([CRATES.parent / "bindings/rust/tests/vectors/found.rs"])["TEXTS"]:
+        for wanted, words in ((everyday, {}), (every, {"upper": True, "greatest": unit.JI})):
+            # What parts a text in Rust parts it here; half of a surrogate pair does too, and is one character.
+            for between in ("", "\ud800", "\udfff\udfff", "😀", "\0"):
+                whole = between.join(["", text, text, ""]) if between else text
+                found = list(find(whole, **words))
+                check([it.text for it in found] == wanted * (2 if between else 1), f"{ascii(whole)}: {found}")
+                check(all(whole[it.start : it.end] == it.text for it in found), f"{ascii(whole)}: {found}")
+    units = "個十百千萬億兆京垓秭穰溝澗正載極"
+    for rank, greatest in enumerate(unit):
+        found = "".join(it.text for it in find(units, greatest=greatest))
+        check(found == units[1 : rank + 1], f"up to {greatest}: {found}")
+    found = next(find("一\ud800\ud83d共三百人"))
+    check(found == (0, 1, "一", True), f"in front of half a pair: {found}")
+    found = list(find("\ud800\udc00共三百人"))[0]
+    check(found == (3, 5, "三百", False) and found.number(kind=numerals.Kind.I16) == 300, f"behind a pair: {found}")
+    check(refusal(found.number, kind=numerals.Kind.U8).status is numerals.Status.TOO_LARGE, "300 as U8")
+    check(next(find("三億")).number(way=numerals.Way.LOW) == 300_000, "三億 by LOW")
+    check(sum(1 for _ in find("一，" * 200_000)) == 200_000 and not list(find("文" * 1_000_000)), "a long text")
 
 
 def four_threads(numerals):
@@ -155,9 +292,18 @@ def main():
     texts = each_type(numerals)
     refusals(numerals)
     other_arguments(numerals)
+    fens = amounts(numerals)
+    days = dates(numerals)
+    refused_amounts(numerals)
+    refused_dates(numerals)
+    figures(numerals)
+    in_texts(numerals)
     four_threads(numerals)
     without_library(folder)
-    print(f"python binding: {examples} examples; {texts} texts of the ends of types, read back; refusals and threads")
+    print(
+        f"python binding: {examples} examples; {texts} texts of the ends of types, {fens} amounts and {days} dates, "
+        "read back; refusals, running text and threads"
+    )
 
 
 main()

@@ -1,11 +1,12 @@
 #!/usr/bin/env python3
-"""Runs the tests of the Rust crate of `bindings/`, and with them the rows of `cn_vectors`, made into Rust.
+"""Runs the tests of the Rust crate of `bindings/`, and the rows of other crates, made into Rust.
 
 Usage: rust_binding.py RUST_FOLDER CN_VECTORS OUT
 
 OUT is the folder that `bindings/archive.sh` filled. All is done in a copy, with no network, and a
-warning is a failure: each set of features, the crate's tests and examples, and the vectors. Where
-there is no cargo, that is said and nothing is run.
+warning is a failure: each set of features, the crate's tests and examples, the tests of
+`cn_vectors`, and those of amounts, dates and running text over the tables of the crates beside it.
+Where there is no cargo, that is said and nothing is run.
 """
 import os
 import re
@@ -15,10 +16,16 @@ import sys
 import tempfile
 from pathlib import Path
 
+import rows
+
 MODULES = ("each_printer", "printing", "printing_digits", "upstream_printing", "without_memory")
 # Of the proved library alone: running out of memory, its quick way, a proof, a table that is not
 # public here, very long texts.
 LEFT_OUT = ("calls", "error_texts", "lib", "long", "reading_at_once", "reading_back", "scales")
+# Tests over the tables of a crate.
+OVER_TABLES = {"amounts": "cn_amount", "dates": "cn_date", "found": "cn_find"}
+# The library's own tests, of which there are none, `interface.rs`, the rows, and the examples.
+PARTS = 4
 FEATURES = ("", "std", "number-to-chinese", "chinese-to-number", "number-to-chinese,chinese-to-number")
 
 # The rows are Rust but for the runtime of a test, and the allocator of a printer.
@@ -40,7 +47,7 @@ def fail(why):
 
 
 def vectors(crate, folder):
-    """Writes the modules of rows as Rust, beside their calls, and says how many tests they have."""
+    """Writes the modules of rows as Rust, beside what uses them, and says how many tests there are."""
     source, tests = crate / "src", 0
     found = {path.stem for path in source.glob("*.rt")}
     if found != {*MODULES, *LEFT_OUT}:
@@ -55,7 +62,12 @@ def vectors(crate, folder):
         (folder / name.parent).mkdir(exist_ok=True)
         (folder / name).with_suffix(".rs").write_text(text, encoding="utf-8")
         tests += text.count("#[test]")
-    modules = "".join(f"mod {name};\n" for name in ("calls", *MODULES))
+    for name, other in OVER_TABLES.items():
+        made = rows.rust_of(rows.of_crate(crate.parent / other))
+        (folder / f"{other}.rs").write_text(made, encoding="utf-8")
+        tests += (folder / f"{name}.rs").read_text(encoding="utf-8").count("#[test]")
+    modules = ("calls", *MODULES, *OVER_TABLES, *OVER_TABLES.values())
+    modules = "".join(f"mod {name};\n" for name in modules)
     (folder / "main.rs").write_text(f"#![allow(unused_imports)]\n{modules}", encoding="utf-8")
     return tests
 
@@ -88,9 +100,9 @@ def main():
             cargo(copy, out, "check", "--no-default-features", "--features", features)
         cargo(copy, out, "doc")
         passed = [int(count) for count in re.findall(r"ok\. (\d+) passed; 0 failed; 0 ignored", cargo(copy, out, "test"))]
-    if wanted not in passed or len(passed) != 4:
+    if wanted not in passed or len(passed) != PARTS:
         fail(f"{wanted} tests of rows are wanted, and the parts have {passed}")
-    print(f"rust binding: {sum(passed)} tests, {wanted} of them the rows of cn_vectors; {len(FEATURES)} sets of features")
+    print(f"rust binding: {sum(passed)} tests, {wanted} of them over the rows of other crates; {len(FEATURES)} sets of features")
 
 
 main()

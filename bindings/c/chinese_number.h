@@ -1,4 +1,5 @@
-/* Chinese numerals for whole numbers, printed and read: the C face of the proved library chinese_number.
+/* Chinese numerals for whole numbers, printed, read and found in a text, and amounts of money and dates in capitals: the C
+ * face of the proved library chinese_number.
  *
  * Link libchinese_number.a or libchinese_number.so: for Linux on x86-64 and aarch64, with any C library. They need at most
  * memcpy and memset of it, and __udivti3 of the compiler's. No call takes memory, opens a file, reads the locale or keeps
@@ -7,10 +8,10 @@
  * What the caller must see to, since nothing tests it:
  * - no pointer is NULL, not that of an empty text or room either;
  * - a text and a room have as many bytes as the length says, at most PTRDIFF_MAX;
- * - what a call writes (the room, *length, *reading) overlaps nothing else that the call is given;
+ * - what a call writes (the room, *length, *reading, *span) overlaps nothing else that the call is given;
  * - nothing else writes to what a call is given before it returns.
  *
- * All names begin with chinese_number_, cn_ or CN_. */
+ * All names begin with chinese_, cn_ or CN_. */
 #ifndef CHINESE_NUMBER_H
 #define CHINESE_NUMBER_H
 
@@ -67,21 +68,50 @@ enum {
     CN_LOWER = 1
 };
 
-/* The status that a call returns. */
+/* The units, by rank: the greatest one that is looked for in a text. */
 enum {
-    CN_DONE = 0,      /* the number was read, or the text was printed */
-    CN_EMPTY = 1,     /* read: nothing is left of the text without white space and, for signed types, one sign */
-    CN_INCORRECT = 2, /* read: the character at char_index cannot stand there */
-    CN_TOO_LARGE = 3, /* read: past the type's greatest, or no number of 128 bits; print by CN_LOW: 10^16 or more */
-    CN_TOO_SMALL = 4, /* read: past the type's least; print by CN_LOW: -10^16 or less */
-    CN_NOT_UTF8 = 5,  /* read: the bytes are no UTF-8 */
-    CN_NO_ROOM = 6,   /* print: the text has more bytes than the room; *length says how many */
-    CN_NOT_HELD = 7,  /* print: the type does not hold the number */
-    CN_UNKNOWN = 8    /* a code names no type, way, script or case */
+    CN_GE = 0,
+    CN_SHI = 1,
+    CN_BAI = 2,
+    CN_QIAN = 3,
+    CN_WAN = 4,
+    CN_YI = 5,
+    CN_ZHAO = 6, /* the one to use: greater ones nearly always mean something else in a sentence */
+    CN_JING = 7,
+    CN_GAI = 8,
+    CN_ZI = 9,
+    CN_RANG = 10,
+    CN_GOU = 11,
+    CN_JIAN = 12,
+    CN_ZHENG = 13,
+    CN_ZAI = 14,
+    CN_JI = 15
 };
 
-/* No printed text has more bytes. A zero byte at its end, which cn_print alone writes, is not among them. */
+/* The status that a call returns. */
+enum {
+    CN_DONE = 0,      /* the text was read or printed, or a number was found in it */
+    CN_EMPTY = 1,     /* read: nothing is left of the text without white space and, for signed types, one sign */
+    CN_INCORRECT = 2, /* read: the character at char_index cannot stand there; no amount or date begins with what ends there */
+    CN_TOO_LARGE = 3, /* read: past the type's greatest, or no number of 128 bits; print by CN_LOW: 10^16 or more; print an amount: 10^18 fen or more */
+    CN_TOO_SMALL = 4, /* read: past the type's least; print by CN_LOW: -10^16 or less */
+    CN_NOT_UTF8 = 5,  /* read, find: the bytes are no UTF-8 */
+    CN_NO_ROOM = 6,   /* print: the text has more bytes than the room; *length says how many */
+    CN_NOT_HELD = 7,  /* print: the type does not hold the number */
+    CN_UNKNOWN = 8,   /* a code names no type, way, script, case or unit */
+    CN_UNFINISHED = 9, /* read an amount or a date: the text is none, but something behind it can make it one */
+    CN_NONE = 10,      /* find: there is no number in the text */
+    CN_NOT_A_DATE = 11 /* print a date: there is no such date */
+};
+
+/* No number is printed with more bytes. A zero byte at the end, which cn_print alone writes, is not among them. */
 #define CN_MOST_BYTES 234
+
+/* No amount is printed with more bytes, but for a zero byte that cn_print_amount writes. */
+#define CN_MOST_AMOUNT_BYTES 108
+
+/* No date is printed with more bytes, but for a zero byte that cn_print_date writes. */
+#define CN_MOST_DATE_BYTES 39
 
 /* A whole number in two halves of 64 bits; for a signed type, in two's complement of 128 bits. So (int8_t)number.low is
  * the value of a number of the type CN_I8. */
@@ -96,6 +126,14 @@ typedef struct cn_reading {
     cn_number number;
     size_t char_index;
 } cn_reading;
+
+/* Where a number stands in a text, in bytes from its start, and whether each of its characters is a digit: 1, and then it
+ * is read by CN_DIGITS, or 0, and then by a method. */
+typedef struct cn_span {
+    size_t start;
+    size_t end;
+    uint32_t digits;
+} cn_span;
 
 /* Reads a text, in UTF-8, as a number of a type. Writes *reading whole at each status, and nothing else.
  *
@@ -113,6 +151,66 @@ uint32_t chinese_number_read_utf8(const uint8_t *text, size_t text_length, uint3
  * too small. */
 uint32_t chinese_number_print(cn_number number, uint32_t kind, uint32_t way, uint32_t script, uint32_t letter_case,
                               uint8_t *room, size_t room_length, size_t *length);
+
+/* Finds the first number of a text in UTF-8: the first run of digits and of units up to the greatest one, of the lower case
+ * (upper 0) or of both (1). Writes *span whole at each status, and nothing else. The next number is the first of what
+ * stands behind span.end.
+ *
+ * Returns CN_DONE, CN_NONE, CN_NOT_UTF8 or CN_UNKNOWN. The whole text is tested, so a loop over all numbers of a text calls
+ * this once, and from then on chinese_number_find_utf8 (example.c has such a loop). */
+uint32_t chinese_number_find(const uint8_t *text, size_t text_length, uint32_t upper, uint32_t greatest, cn_span *span);
+
+/* The same for bytes that the caller knows to be UTF-8. Nothing tests that: with other bytes the behaviour is undefined. */
+uint32_t chinese_number_find_utf8(const uint8_t *text, size_t text_length, uint32_t upper, uint32_t greatest,
+                                  cn_span *span);
+
+/* What was read as an amount: how many fen, the hundredth part of a yuan, at CN_DONE, and at CN_INCORRECT how many
+ * characters stand in front of the one at fault. All else is 0. */
+typedef struct cn_amount {
+    uint64_t fen;
+    size_t char_index;
+} cn_amount;
+
+/* Prints an amount of fen in capitals, as it stands on a cheque, at the start of a room, in UTF-8. Writes *length at each
+ * status: at CN_DONE and CN_NO_ROOM how many bytes the text has, else 0. Writes to the room at CN_DONE alone, and there no
+ * more than the text.
+ *
+ * Returns CN_DONE, CN_NO_ROOM, CN_TOO_LARGE (from 10^18 fen on) or CN_UNKNOWN. A room of CN_MOST_AMOUNT_BYTES is never
+ * too small. */
+uint32_t chinese_amount_print(uint64_t fen, uint32_t script, uint8_t *room, size_t room_length, size_t *length);
+
+/* Reads a text in capitals, in UTF-8, as an amount: each form that the rules for cheques and invoices allow, and no other.
+ * White space is at fault where it stands. Writes *reading whole at each status, and nothing else.
+ *
+ * Returns CN_DONE, CN_UNFINISHED (also for the empty text), CN_INCORRECT at the first character with which no amount
+ * begins, or CN_NOT_UTF8. The whole text is tested to be UTF-8, and then read up to the character at fault, which is among
+ * the first 40. */
+uint32_t chinese_amount_read(const uint8_t *text, size_t text_length, cn_amount *reading);
+
+/* What was read as a date: its year, month (1 is January) and day at CN_DONE, and at CN_INCORRECT how many characters stand
+ * in front of the one at fault. All else is 0. */
+typedef struct cn_date {
+    uint32_t year;
+    uint32_t month;
+    uint32_t day;
+    size_t char_index;
+} cn_date;
+
+/* Prints a date in capitals, as it stands on a cheque, at the start of a room, in UTF-8: one of the Gregorian calendar, from
+ * year 1 to 9999. Writes *length at each status: at CN_DONE and CN_NO_ROOM how many bytes the text has, else 0. Writes to
+ * the room at CN_DONE alone, and there no more than the text.
+ *
+ * Returns CN_DONE, CN_NO_ROOM, CN_NOT_A_DATE or CN_UNKNOWN. A room of CN_MOST_DATE_BYTES is never too small. */
+uint32_t chinese_date_print(uint32_t year, uint32_t month, uint32_t day, uint32_t script, uint8_t *room, size_t room_length,
+                            size_t *length);
+
+/* Reads a text in capitals, in UTF-8, as a date: each form that the rules for bills allow, of a date that there is, and no
+ * other. White space is at fault where it stands. Writes *reading whole at each status, and nothing else.
+ *
+ * Returns CN_DONE, CN_UNFINISHED (also for the empty text), CN_INCORRECT at the first character with which no date begins,
+ * or CN_NOT_UTF8. The whole text is tested to be UTF-8, and then read up to the character at fault, which is among the
+ * first 14. */
+uint32_t chinese_date_read(const uint8_t *text, size_t text_length, cn_date *reading);
 
 /* The halves of a number of an unsigned type of up to 64 bits. */
 static inline cn_number cn_unsigned(uint64_t value) {
@@ -147,6 +245,37 @@ static inline uint32_t cn_print(cn_number number, uint32_t kind, uint32_t way, u
     return status;
 }
 
+/* chinese_amount_print into a room of char, with a zero byte at the end of the text at CN_DONE: a room of
+ * CN_MOST_AMOUNT_BYTES + 1 is never too small. */
+static inline uint32_t cn_print_amount(uint64_t fen, uint32_t script, char *room, size_t room_length) {
+    size_t length, most = room_length == 0 ? 0 : room_length - 1;
+    uint32_t status = chinese_amount_print(fen, script, (uint8_t *)room, most, &length);
+    if (status == CN_DONE)
+        room[length] = '\0';
+    return status;
+}
+
+/* chinese_amount_read for a text in char. */
+static inline uint32_t cn_read_amount(const char *text, size_t text_length, cn_amount *reading) {
+    return chinese_amount_read((const uint8_t *)text, text_length, reading);
+}
+
+/* chinese_date_print into a room of char, with a zero byte at the end of the text at CN_DONE: a room of
+ * CN_MOST_DATE_BYTES + 1 is never too small. */
+static inline uint32_t cn_print_date(uint32_t year, uint32_t month, uint32_t day, uint32_t script, char *room,
+                                     size_t room_length) {
+    size_t length, most = room_length == 0 ? 0 : room_length - 1;
+    uint32_t status = chinese_date_print(year, month, day, script, (uint8_t *)room, most, &length);
+    if (status == CN_DONE)
+        room[length] = '\0';
+    return status;
+}
+
+/* chinese_date_read for a text in char. */
+static inline uint32_t cn_read_date(const char *text, size_t text_length, cn_date *reading) {
+    return chinese_date_read((const uint8_t *)text, text_length, reading);
+}
+
 /* A status in words. */
 static inline const char *cn_status_text(uint32_t status) {
     switch (status) {
@@ -158,7 +287,10 @@ static inline const char *cn_status_text(uint32_t status) {
     case CN_NOT_UTF8: return "the text is no UTF-8";
     case CN_NO_ROOM: return "the room is too small for the text";
     case CN_NOT_HELD: return "the type does not hold the number";
-    case CN_UNKNOWN: return "a code names no type, way, script or case";
+    case CN_UNKNOWN: return "a code names no type, way, script, case or unit";
+    case CN_UNFINISHED: return "the amount or date is not finished";
+    case CN_NONE: return "there is no number in the text";
+    case CN_NOT_A_DATE: return "there is no such date";
     default: return "no status of this library";
     }
 }

@@ -1,4 +1,4 @@
-/* Prints a number, reads it back, and meets each status. */
+/* Prints a number, an amount and a date, reads them back, finds the numbers of a text, and meets each status. */
 #include "chinese_number.h"
 
 #include <stdio.h>
@@ -20,6 +20,58 @@ static void first_steps(void) {
     puts(text); /* 負十萬五千 */
     if (cn_read(text, strlen(text), CN_I64, CN_TEN_THOUSAND, &reading) == CN_DONE)
         printf("%lld\n", (long long)reading.number.low); /* -105000 */
+
+    char capitals[CN_MOST_AMOUNT_BYTES + 1];
+    cn_amount amount;
+    cn_print_amount(140950, CN_SIMPLE, capitals, sizeof capitals);
+    puts(capitals); /* 壹仟肆佰零玖元伍角整 */
+    if (cn_read_amount(capitals, strlen(capitals), &amount) == CN_DONE)
+        printf("%llu\n", (unsigned long long)amount.fen); /* 140950 */
+
+    cn_date date;
+    cn_print_date(2026, 1, 15, CN_SIMPLE, capitals, sizeof capitals);
+    puts(capitals); /* 贰零贰陆年零壹月壹拾伍日 */
+    if (cn_read_date(capitals, strlen(capitals), &date) == CN_DONE)
+        printf("%u-%02u-%02u\n", date.year, date.month, date.day); /* 2026-01-15 */
+}
+
+/* Finds each number of a text: the text is tested once, and each search goes on behind the number before it. */
+static void numbers_of_a_text(void) {
+    const char text[] = "第二十三回，二零二五年";
+    const uint8_t *rest = (const uint8_t *)text;
+    size_t left = strlen(text), count = 0;
+    uint64_t numbers[2] = {0, 0};
+    cn_span span;
+    cn_reading reading;
+    uint32_t status = chinese_number_find(rest, left, 0, CN_ZHAO, &span);
+    while (status == CN_DONE && count < 2) {
+        uint32_t way = span.digits ? CN_DIGITS : CN_TEN_THOUSAND;
+        if (chinese_number_read_utf8(rest + span.start, span.end - span.start, CN_U64, way, &reading) == CN_DONE)
+            numbers[count++] = reading.number.low;
+        rest += span.end;
+        left -= span.end;
+        status = chinese_number_find_utf8(rest, left, 0, CN_ZHAO, &span);
+    }
+    expect("all numbers are found", status == CN_NONE && numbers[0] == 23 && numbers[1] == 2025);
+}
+
+/* Finds the first number of a text, with this status and where it stands. */
+static void finds(const char *text, uint32_t upper, uint32_t greatest, uint32_t status, size_t start, size_t end,
+                  uint32_t digits) {
+    cn_span span;
+    expect(text, chinese_number_find((const uint8_t *)text, strlen(text), upper, greatest, &span) == status
+                     && span.start == start && span.end == end && span.digits == digits);
+}
+
+static void each_status_of_finding(void) {
+    finds("他五六十歲", 0, CN_ZHAO, CN_DONE, 3, 12, 0);
+    finds("買2兩", 0, CN_ZHAO, CN_DONE, 3, 4, 1);
+    finds("大陸", 1, CN_ZHAO, CN_DONE, 3, 6, 1);
+    finds("大陸", 0, CN_ZHAO, CN_NONE, 0, 0, 0);
+    finds("", 1, CN_JI, CN_NONE, 0, 0, 0);
+    finds("\xff", 0, CN_GE, CN_NOT_UTF8, 0, 0, 0);
+    finds("一", 2, CN_ZHAO, CN_UNKNOWN, 0, 0, 0);
+    finds("一", 0, CN_JI + 1, CN_UNKNOWN, 0, 0, 0);
 }
 
 /* Reads a text, which has this status, number and place. */
@@ -79,6 +131,90 @@ static void each_status_of_printing(void) {
     prints(cn_unsigned(1), 0, 0, 0, CN_LOWER + 1, CN_MOST_BYTES, CN_UNKNOWN, 0, "an unknown case");
 }
 
+/* Prints an amount into a room of this length, with this status and length; the text is this one. */
+static void prints_amount(uint64_t fen, uint32_t script, size_t room_length, uint32_t status, size_t wanted,
+                          const char *text) {
+    uint8_t room[CN_MOST_AMOUNT_BYTES], untouched[CN_MOST_AMOUNT_BYTES];
+    size_t length, written = status == CN_DONE ? wanted : 0;
+    memset(room, 7, sizeof room);
+    memset(untouched, 7, sizeof untouched);
+    expect(text, chinese_amount_print(fen, script, room, room_length, &length) == status && length == wanted
+                     && memcmp(room, text, written) == 0
+                     && memcmp(room + written, untouched, sizeof room - written) == 0);
+}
+
+static void each_status_of_printing_amounts(void) {
+    uint64_t limit = UINT64_C(1000000000000000000);
+    prints_amount(10700053, CN_SIMPLE, CN_MOST_AMOUNT_BYTES, CN_DONE, 33, "壹拾万零柒仟元伍角叁分");
+    prints_amount(UINT64_C(23600000000), CN_TRADITIONAL, 27, CN_DONE, 27, "貳億參仟陸佰萬元整");
+    prints_amount(limit - 1, CN_SIMPLE, CN_MOST_AMOUNT_BYTES, CN_DONE, CN_MOST_AMOUNT_BYTES,
+                  "玖仟玖佰玖拾玖万玖仟玖佰玖拾玖亿玖仟玖佰玖拾玖万玖仟玖佰玖拾玖元玖角玖分");
+    prints_amount(0, CN_SIMPLE, 8, CN_NO_ROOM, 9, "a room that is a byte too small for an amount");
+    prints_amount(0, CN_SIMPLE, 0, CN_NO_ROOM, 9, "a room without a byte for an amount");
+    prints_amount(limit, CN_SIMPLE, CN_MOST_AMOUNT_BYTES, CN_TOO_LARGE, 0, "an amount that is too large");
+    prints_amount(UINT64_MAX, CN_SIMPLE, 0, CN_TOO_LARGE, 0, "the greatest of 64 bits");
+    prints_amount(limit, CN_SIMPLE + 1, CN_MOST_AMOUNT_BYTES, CN_UNKNOWN, 0, "an unknown script of an amount");
+}
+
+/* Reads a text as an amount, which has this status, fen and place. */
+static void reads_amount(const char *text, uint32_t status, uint64_t fen, size_t char_index) {
+    cn_amount amount;
+    expect(text, chinese_amount_read((const uint8_t *)text, strlen(text), &amount) == status && amount.fen == fen
+                     && amount.char_index == char_index);
+}
+
+static void each_status_of_reading_amounts(void) {
+    reads_amount("壹仟肆佰零玖元伍角", CN_DONE, 140950, 0);
+    reads_amount("人民币壹拾伍圆正", CN_DONE, 1500, 0);
+    reads_amount("零元整", CN_DONE, 0, 0);
+    reads_amount("壹佰元", CN_UNFINISHED, 0, 0);
+    reads_amount("", CN_UNFINISHED, 0, 0);
+    reads_amount("壹佰贰元整", CN_INCORRECT, 0, 3);
+    reads_amount("人民币 壹元整", CN_INCORRECT, 0, 3);
+    reads_amount("壹佰元\xff", CN_NOT_UTF8, 0, 0);
+}
+
+/* Prints a date into a room of this length, with this status and length; the text is this one. */
+static void prints_date(uint32_t year, uint32_t month, uint32_t day, uint32_t script, size_t room_length, uint32_t status,
+                        size_t wanted, const char *text) {
+    uint8_t room[CN_MOST_DATE_BYTES], untouched[CN_MOST_DATE_BYTES];
+    size_t length, written = status == CN_DONE ? wanted : 0;
+    memset(room, 7, sizeof room);
+    memset(untouched, 7, sizeof untouched);
+    expect(text, chinese_date_print(year, month, day, script, room, room_length, &length) == status && length == wanted
+                     && memcmp(room, text, written) == 0
+                     && memcmp(room + written, untouched, sizeof room - written) == 0);
+}
+
+static void each_status_of_printing_dates(void) {
+    prints_date(2024, 2, 29, CN_TRADITIONAL, 36, CN_DONE, 36, "貳零貳肆年零貳月貳拾玖日");
+    prints_date(1999, 12, 31, CN_SIMPLE, CN_MOST_DATE_BYTES, CN_DONE, 39, "壹玖玖玖年壹拾贰月叁拾壹日");
+    prints_date(2020, 10, 20, CN_SIMPLE, CN_MOST_DATE_BYTES, CN_DONE, CN_MOST_DATE_BYTES, "贰零贰零年零壹拾月零贰拾日");
+    prints_date(5, 3, 1, CN_SIMPLE, 20, CN_NO_ROOM, 21, "a room that is a byte too small for a date");
+    prints_date(5, 3, 1, CN_SIMPLE, 0, CN_NO_ROOM, 21, "a room without a byte for a date");
+    prints_date(2025, 2, 29, CN_SIMPLE, CN_MOST_DATE_BYTES, CN_NOT_A_DATE, 0, "a date that there is not");
+    prints_date(65536 + 2026, 1, 15, CN_SIMPLE, 0, CN_NOT_A_DATE, 0, "a year that is not cut off");
+    prints_date(2026, 256 + 1, 15, CN_SIMPLE, 0, CN_NOT_A_DATE, 0, "a month that is not cut off");
+    prints_date((uint32_t)-1, 1, 15, CN_SIMPLE, 0, CN_NOT_A_DATE, 0, "a year below zero");
+    prints_date(2025, 2, 29, CN_SIMPLE + 1, CN_MOST_DATE_BYTES, CN_UNKNOWN, 0, "an unknown script of a date");
+}
+
+/* Reads a text as a date, which has this status, date and place. */
+static void reads_date(const char *text, uint32_t status, uint32_t year, uint32_t month, uint32_t day, size_t char_index) {
+    cn_date date;
+    expect(text, chinese_date_read((const uint8_t *)text, strlen(text), &date) == status && date.year == year
+                     && date.month == month && date.day == day && date.char_index == char_index);
+}
+
+static void each_status_of_reading_dates(void) {
+    reads_date("伍年零叁月叁拾壹日", CN_DONE, 5, 3, 31, 0);
+    reads_date("贰零贰陆年零壹月", CN_UNFINISHED, 0, 0, 0, 0);
+    reads_date("", CN_UNFINISHED, 0, 0, 0, 0);
+    reads_date("贰零贰伍年零贰月贰拾玖日", CN_INCORRECT, 0, 0, 0, 10);
+    reads_date("贰零贰陆年 零壹月", CN_INCORRECT, 0, 0, 0, 5);
+    reads_date("贰零贰陆年\xff", CN_NOT_UTF8, 0, 0, 0, 0);
+}
+
 /* The forms for char: the zero byte at the end needs room, and one inside a text is a character at fault. */
 static void texts_of_char(void) {
     cn_number number = cn_unsigned(123);
@@ -90,14 +226,46 @@ static void texts_of_char(void) {
     expect("a zero byte at the end", cn_print(number, CN_U8, CN_DIGITS, 0, 1, room, 10) == CN_DONE
                                          && strcmp(room, "一二三") == 0 && room[10] == 7);
     expect("a zero byte inside", cn_read("一\0二", 7, CN_U8, CN_DIGITS, &reading) == CN_INCORRECT && reading.char_index == 1);
-    for (uint32_t status = CN_DONE; status <= CN_UNKNOWN; status++)
+    for (uint32_t status = CN_DONE; status <= CN_NOT_A_DATE; status++)
         expect("a status has words of its own", strcmp(cn_status_text(status), cn_status_text(status + 1)) != 0);
+}
+
+/* The same of amounts. */
+static void amounts_of_char(void) {
+    cn_amount amount;
+    char room[11];
+    memset(room, 7, sizeof room);
+    expect("an amount without a byte of room", cn_print_amount(0, CN_SIMPLE, room, 0) == CN_NO_ROOM);
+    expect("a room of the amount alone", cn_print_amount(0, CN_SIMPLE, room, 9) == CN_NO_ROOM && room[0] == 7);
+    expect("a zero byte behind an amount", cn_print_amount(0, CN_SIMPLE, room, 10) == CN_DONE
+                                               && strcmp(room, "零元整") == 0 && room[10] == 7);
+    expect("a zero byte in an amount", cn_read_amount("壹\0元整", 10, &amount) == CN_INCORRECT && amount.char_index == 1);
+}
+
+/* The same of dates. */
+static void dates_of_char(void) {
+    cn_date date;
+    char room[23];
+    memset(room, 7, sizeof room);
+    expect("a date without a byte of room", cn_print_date(5, 3, 1, CN_SIMPLE, room, 0) == CN_NO_ROOM);
+    expect("a room of the date alone", cn_print_date(5, 3, 1, CN_SIMPLE, room, 21) == CN_NO_ROOM && room[0] == 7);
+    expect("a zero byte behind a date", cn_print_date(5, 3, 1, CN_SIMPLE, room, 22) == CN_DONE
+                                            && strcmp(room, "伍年叁月零壹日") == 0 && room[22] == 7);
+    expect("a zero byte in a date", cn_read_date("伍\0年", 7, &date) == CN_INCORRECT && date.char_index == 1);
 }
 
 int main(void) {
     first_steps();
+    numbers_of_a_text();
     texts_of_char();
+    amounts_of_char();
+    dates_of_char();
     each_status_of_reading();
     each_status_of_printing();
+    each_status_of_finding();
+    each_status_of_printing_amounts();
+    each_status_of_reading_amounts();
+    each_status_of_printing_dates();
+    each_status_of_reading_dates();
     return failed != 0;
 }

@@ -1,6 +1,6 @@
-/* sixteen_bits [STEP]: prints each number of 16 bits, or the first of each STEP, by each way, and reads it back: four threads,
- * each with one script and case. The text stands in a block of just its bytes, so that a memory checker sees a byte that is
- * read or written beyond. */
+/* sixteen_bits [STEP]: prints each number of 16 bits, or the first of each STEP, by each way and as an amount of fen, and reads
+ * it back: four threads, each with one script and case. The text stands in a block of just its bytes, so that a memory checker
+ * sees a byte that is read or written beyond. */
 #include "chinese_number.h"
 
 #include <pthread.h>
@@ -32,12 +32,29 @@ static int is_read_back(cn_number number, uint32_t kind, uint32_t way, const tas
     return good;
 }
 
+/* The same for an amount. */
+static int is_amount_read_back(uint64_t fen, uint32_t script) {
+    uint8_t enough[CN_MOST_AMOUNT_BYTES], *room;
+    size_t length, same_length;
+    cn_amount amount;
+    int good;
+    if (chinese_amount_print(fen, script, enough, sizeof enough, &length) != CN_DONE)
+        return 0;
+    room = (uint8_t *)malloc(length);
+    good = room != NULL && chinese_amount_print(fen, script, room, length, &same_length) == CN_DONE
+        && same_length == length && memcmp(room, enough, length) == 0
+        && chinese_amount_read(room, length, &amount) == CN_DONE && amount.fen == fen;
+    free(room);
+    return good;
+}
+
 static void *all_numbers(void *argument) {
     task *mine = (task *)argument;
     for (int32_t value = INT16_MIN; value <= UINT16_MAX; value += mine->step) {
         uint32_t kind = value <= INT16_MAX ? CN_I16 : CN_U16;
         for (uint32_t way = CN_DIGITS; way <= CN_HIGH; way++)
             mine->failed += !is_read_back(cn_signed(value), kind, way, mine);
+        mine->failed += value >= 0 && !is_amount_read_back((uint64_t)value, mine->script);
     }
     return NULL;
 }

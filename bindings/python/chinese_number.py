@@ -1,6 +1,8 @@
 """Chinese numerals for whole numbers: texts as numbers, and numbers as texts, by the proved library chinese_number.
 
->>> from chinese_number import Case, Kind, NumeralError, Script, Way, to_chinese, to_number
+>>> from datetime import date
+>>> from chinese_number import Kind, Script, amount_to_chinese, chinese_to_amount, chinese_to_date
+>>> from chinese_number import date_to_chinese, find_numbers, to_chinese, to_number, yuan_to_fen
 >>> to_chinese(105_000)
 '十萬五千'
 >>> to_number('十萬五')
@@ -8,6 +10,16 @@
 >>> to_number('負一百二十九', kind=Kind.I8)
 Traceback (most recent call last):
 chinese_number.NumeralError: number is too small
+>>> amount_to_chinese(yuan_to_fen('1409.50'), script=Script.SIMPLE)
+'壹仟肆佰零玖元伍角整'
+>>> chinese_to_amount('壹仟肆佰零玖元伍角')
+140950
+>>> date_to_chinese(date(2026, 1, 15), script=Script.SIMPLE)
+'贰零贰陆年零壹月壹拾伍日'
+>>> chinese_to_date('贰零贰陆年零壹月壹拾伍日')
+datetime.date(2026, 1, 15)
+>>> [found.number() for found in find_numbers('第二十三回，二零二五年')]
+[23, 2025]
 
 The shared object libchinese_number.so stands beside this file, as a wheel puts it, or in the folder that CHINESE_NUMBER_LIB
 names, as bindings/archive.sh makes it. It takes no memory, keeps nothing between calls and reads no locale, and a call lets
@@ -19,10 +31,17 @@ from __future__ import annotations
 import ctypes
 import operator
 import os
+from datetime import date, datetime
+from decimal import Decimal
 from enum import Enum
 from pathlib import Path
+from typing import Any, Iterator, NamedTuple
 
-__all__ = ["Case", "Kind", "NumeralError", "Script", "Status", "Way", "to_chinese", "to_number"]
+__all__ = [
+    "AmountError", "Case", "DateError", "Found", "Kind", "NumeralError", "Script", "Status", "Unit", "Way",
+    "amount_to_chinese", "chinese_to_amount", "chinese_to_date", "date_to_chinese", "find_numbers", "to_chinese",
+    "to_number", "yuan_to_fen",
+]
 __version__ = "0.1.0"
 
 
@@ -72,8 +91,30 @@ class Case(Enum):
     LOWER = 1
 
 
+class Unit(Enum):
+    """A unit, each by its rank: 個 is the least, and 極 the greatest."""
+
+    GE = 0
+    SHI = 1
+    BAI = 2
+    QIAN = 3
+    WAN = 4
+    YI = 5
+    ZHAO = 6
+    JING = 7
+    GAI = 8
+    ZI = 9
+    RANG = 10
+    GOU = 11
+    JIAN = 12
+    ZHENG = 13
+    ZAI = 14
+    JI = 15
+
+
 class Status(Enum):
-    """What a call answers; a NumeralError has one of those from EMPTY to TOO_SMALL, or NOT_HELD."""
+    """What a call answers. A NumeralError has one of those from EMPTY to TOO_SMALL, or NOT_HELD; an AmountError has
+    INCORRECT, UNFINISHED, TOO_LARGE or TOO_SMALL, and a DateError INCORRECT or UNFINISHED."""
 
     DONE = 0
     EMPTY = 1
@@ -84,6 +125,9 @@ class Status(Enum):
     NO_ROOM = 6
     NOT_HELD = 7
     UNKNOWN = 8
+    UNFINISHED = 9
+    NONE = 10
+    NOT_A_DATE = 11
 
 
 _TEXTS = {
@@ -118,12 +162,78 @@ class NumeralError(ValueError):
         return NumeralError, (self.status, self.kind, self.char_index)
 
 
+class _CapitalsError(ValueError):
+    _texts: dict[Status, str]
+
+    def __init__(self, status: Status, char_index: int | None = None) -> None:
+        super().__init__(self._texts.get(status, status.name).format(char_index=char_index))
+        self.status = status
+        self.char_index = char_index
+
+    def __reduce__(self) -> tuple[type[_CapitalsError], tuple[Status, int | None]]:
+        return type(self), (self.status, self.char_index)
+
+
+class AmountError(_CapitalsError):
+    """Why a text is no amount of money, or an amount is not written.
+
+    status says why: UNFINISHED where something is missing at the end, INCORRECT where no amount begins so; char_index is
+    then the place of the first character that is wrong, and else None.
+
+    >>> try:
+    ...     chinese_to_amount('壹佰贰元整')
+    ... except AmountError as error:
+    ...     print(error, error.status, error.char_index)
+    the amount is incorrect (position: 3) Status.INCORRECT 3
+    """
+
+    _texts = {
+        Status.INCORRECT: "the amount is incorrect (position: {char_index})",
+        Status.TOO_LARGE: "number is too large",
+        Status.TOO_SMALL: "number is too small",
+        Status.UNFINISHED: "the amount is not finished",
+    }
+
+
+class DateError(_CapitalsError):
+    """Why a text is no date.
+
+    status says why: UNFINISHED where something is missing at the end, INCORRECT where no date begins so; char_index is
+    then the place of the first character that is wrong, and else None.
+
+    >>> try:
+    ...     chinese_to_date('贰零贰伍年零贰月贰拾玖日')
+    ... except DateError as error:
+    ...     print(error, error.status, error.char_index)
+    the date is incorrect (position: 10) Status.INCORRECT 10
+    """
+
+    _texts = {
+        Status.INCORRECT: "the date is incorrect (position: {char_index})",
+        Status.UNFINISHED: "the date is not finished",
+    }
+
+
 class _Number(ctypes.Structure):
     _fields_ = [("low", ctypes.c_uint64), ("high", ctypes.c_uint64)]
 
 
 class _Reading(ctypes.Structure):
     _fields_ = [("low", ctypes.c_uint64), ("high", ctypes.c_uint64), ("char_index", ctypes.c_size_t)]
+
+
+class _Amount(ctypes.Structure):
+    _fields_ = [("fen", ctypes.c_uint64), ("char_index", ctypes.c_size_t)]
+
+
+class _Date(ctypes.Structure):
+    _fields_ = [
+        ("year", ctypes.c_uint32), ("month", ctypes.c_uint32), ("day", ctypes.c_uint32), ("char_index", ctypes.c_size_t)
+    ]
+
+
+class _Span(ctypes.Structure):
+    _fields_ = [("start", ctypes.c_size_t), ("end", ctypes.c_size_t), ("digits", ctypes.c_uint32)]
 
 
 def _library() -> ctypes.CDLL:
@@ -135,20 +245,38 @@ def _library() -> ctypes.CDLL:
         raise ImportError(
             f"{error}\nMake libchinese_number.so by bindings/archive.sh OUT, and set CHINESE_NUMBER_LIB to the folder OUT."
         ) from None
-    code, size = ctypes.c_uint32, ctypes.c_size_t
-    library.chinese_number_read.restype = library.chinese_number_print.restype = code
-    library.chinese_number_read.argtypes = [ctypes.c_char_p, size, code, code, ctypes.POINTER(_Reading)]
-    library.chinese_number_print.argtypes = [
-        _Number, code, code, code, code, ctypes.c_char_p, size, ctypes.POINTER(size)
-    ]
+    code, size, at = ctypes.c_uint32, ctypes.c_size_t, ctypes.POINTER
+    text, room = (ctypes.c_char_p, size), (ctypes.c_char_p, size, at(size))
+
+    def declare(call: Any, *arguments: Any) -> None:
+        call.restype, call.argtypes = code, arguments
+
+    declare(library.chinese_number_read, *text, code, code, at(_Reading))
+    declare(library.chinese_number_print, _Number, code, code, code, code, *room)
+    declare(library.chinese_number_find_utf8, ctypes.c_void_p, size, code, code, at(_Span))
+    declare(library.chinese_amount_read, *text, at(_Amount))
+    declare(library.chinese_amount_print, ctypes.c_uint64, code, *room)
+    declare(library.chinese_date_read, *text, at(_Date))
+    declare(library.chinese_date_print, code, code, code, code, *room)
     return library
 
 
 _calls = _library()
 _MOST_BYTES = 234
 _Room = ctypes.c_char * _MOST_BYTES
+_MOST_AMOUNT_BYTES = 108
+_AmountRoom = ctypes.c_char * _MOST_AMOUNT_BYTES
+_MOST_DATE_BYTES = 39
+_DateRoom = ctypes.c_char * _MOST_DATE_BYTES
+_FIRST_NOT_WRITTEN = 10**18
 _HALF = (1 << 64) - 1
 _FIRST_SIGNED = Kind.I8.value
+
+
+def _printed(call: Any, room: Any, *arguments: Any) -> tuple[int, str]:
+    length = ctypes.c_size_t()
+    status = call(*arguments, room, len(room), ctypes.byref(length))
+    return status, room.raw[: length.value].decode()
 
 
 def _code(value: Enum, of: type[Enum]) -> int:
@@ -156,6 +284,13 @@ def _code(value: Enum, of: type[Enum]) -> int:
         raise TypeError(f"a {of.__name__} is wanted, and not {value!r}")
     code: int = value._value_
     return code
+
+
+def _bytes(text: str) -> bytes:
+    if not isinstance(text, str):
+        raise TypeError(f"a str is wanted, and not {text!r}")
+    # Half of a surrogate pair has no bytes in UTF-8, and goes as a question mark, which is no numeral either.
+    return str.encode(text, "utf-8", "replace")
 
 
 def to_number(text: str, *, kind: Kind = Kind.I128, way: Way = Way.TEN_THOUSAND) -> int:
@@ -171,10 +306,7 @@ def to_number(text: str, *, kind: Kind = Kind.I128, way: Way = Way.TEN_THOUSAND)
 
     Half of a surrogate pair is one character, and at fault.
     """
-    if not isinstance(text, str):
-        raise TypeError(f"a str is wanted, and not {text!r}")
-    # Half of a surrogate pair has no bytes in UTF-8, and goes as a question mark, which is no numeral either.
-    data, reading, code = str.encode(text, "utf-8", "replace"), _Reading(), _code(kind, Kind)
+    data, reading, code = _bytes(text), _Reading(), _code(kind, Kind)
     status = _calls.chinese_number_read(data, len(data), code, _code(way, Way), ctypes.byref(reading))
     if status:
         raise NumeralError(Status(status), kind, reading.char_index if status == Status.INCORRECT.value else None)
@@ -206,9 +338,169 @@ def to_chinese(
     least = -(1 << 127) if codes[0] >= _FIRST_SIGNED else 0
     if not least <= number < least + (1 << 128):
         raise NumeralError(Status.NOT_HELD, kind)
-    room, length = _Room(), ctypes.c_size_t()
     halves = _Number(number & _HALF, number >> 64 & _HALF)
-    status = _calls.chinese_number_print(halves, *codes, room, _MOST_BYTES, ctypes.byref(length))
+    status, text = _printed(_calls.chinese_number_print, _Room(), halves, *codes)
     if status:
         raise NumeralError(Status(status), kind)
-    return room.raw[: length.value].decode()
+    return text
+
+
+def amount_to_chinese(fen: int, *, script: Script = Script.TRADITIONAL) -> str:
+    """The text of an amount of money, in capitals as a bank takes it. The amount is an int, in fen; an AmountError says
+    why there is no text: it is below zero, or 10**18 or more.
+
+    >>> amount_to_chinese(1500)
+    '壹拾伍元整'
+    >>> amount_to_chinese(10700053, script=Script.SIMPLE)
+    '壹拾万零柒仟元伍角叁分'
+    >>> amount_to_chinese(15.0)
+    Traceback (most recent call last):
+    TypeError: an int is wanted, in fen, and not 15.0
+    """
+    if not isinstance(fen, int) or isinstance(fen, bool):
+        raise TypeError(f"an int is wanted, in fen, and not {fen!r}")
+    code = _code(script, Script)
+    if not 0 <= fen < _FIRST_NOT_WRITTEN:
+        raise AmountError(Status.TOO_SMALL if fen < 0 else Status.TOO_LARGE)
+    status, text = _printed(_calls.chinese_amount_print, _AmountRoom(), fen, code)
+    if status:
+        raise AmountError(Status(status))
+    return text
+
+
+def chinese_to_amount(text: str) -> int:
+    """The amount of a text, in fen: of each form that the rules for bills allow; an AmountError says why it is none.
+
+    >>> chinese_to_amount('人民币壹拾伍圆正')
+    1500
+    >>> chinese_to_amount('壹佰元')
+    Traceback (most recent call last):
+    chinese_number.AmountError: the amount is not finished
+
+    White space and half of a surrogate pair are refused at their place.
+    """
+    data, reading = _bytes(text), _Amount()
+    status = _calls.chinese_amount_read(data, len(data), ctypes.byref(reading))
+    if status:
+        raise AmountError(Status(status), reading.char_index if status == Status.INCORRECT.value else None)
+    fen: int = reading.fen
+    return fen
+
+
+def yuan_to_fen(value: Decimal | str) -> int:
+    """The fen of an amount in yuan, exactly. It is given in figures: ASCII digits, with at most one point, and one or two
+    digits behind it. A Decimal has to be one whose str is of that form. All else is a ValueError, so nothing is rounded.
+
+    >>> yuan_to_fen('1409.5')
+    140950
+    >>> yuan_to_fen(Decimal('15.00'))
+    1500
+    >>> yuan_to_fen('1,409.50')
+    Traceback (most recent call last):
+    ValueError: figures with at most two places are wanted, and not '1,409.50'
+    """
+    if isinstance(value, str):
+        text = str.__str__(value)
+    elif isinstance(value, Decimal):
+        text = Decimal.__str__(value)
+    else:
+        raise TypeError(f"a Decimal or a str is wanted, in yuan, and not {value!r}")
+    whole, point, places = text.partition(".")
+    figures = whole + places
+    if not (whole and figures.isascii() and figures.isdigit() and len(places) <= 2 and bool(places) == bool(point)):
+        raise ValueError(f"figures with at most two places are wanted, and not {value!r}")
+    figures = whole.lstrip("0") + places.ljust(2, "0")
+    if len(figures) > 18:
+        raise AmountError(Status.TOO_LARGE)
+    return int(figures)
+
+
+def date_to_chinese(day: date, *, script: Script = Script.TRADITIONAL) -> str:
+    """The text of a date, in capitals as a bank takes it. Each datetime.date has one.
+
+    >>> date_to_chinese(date(2026, 10, 20))
+    '貳零貳陸年零壹拾月零貳拾日'
+    >>> date_to_chinese(datetime(2026, 10, 20, 23, 30))
+    Traceback (most recent call last):
+    TypeError: a date is wanted, and not datetime.datetime(2026, 10, 20, 23, 30)
+
+    A datetime is refused, since which day it is depends on where one asks.
+    """
+    if not isinstance(day, date) or isinstance(day, datetime):
+        raise TypeError(f"a date is wanted, and not {day!r}")
+    code = _code(script, Script)
+    status, text = _printed(_calls.chinese_date_print, _DateRoom(), day.year, day.month, day.day, code)
+    if status:
+        raise DateError(Status(status))
+    return text
+
+
+def chinese_to_date(text: str) -> date:
+    """The date of a text: of each form that the rules for bills allow; a DateError says why it is none.
+
+    >>> chinese_to_date('贰零贰陆年零叁月零壹日')
+    datetime.date(2026, 3, 1)
+    >>> chinese_to_date('贰零贰陆年叁月')
+    Traceback (most recent call last):
+    chinese_number.DateError: the date is not finished
+
+    White space and half of a surrogate pair are refused at their place.
+    """
+    data, reading = _bytes(text), _Date()
+    status = _calls.chinese_date_read(data, len(data), ctypes.byref(reading))
+    if status:
+        raise DateError(Status(status), reading.char_index if status == Status.INCORRECT.value else None)
+    return date(reading.year, reading.month, reading.day)
+
+
+class Found(NamedTuple):
+    """A run of numeral characters in a text, from start to end, as positions in the str.
+
+    is_plain says whether it is plain digits: a single digit is, 十 is not.
+    """
+
+    start: int
+    end: int
+    text: str
+    is_plain: bool
+
+    def number(self, *, kind: Kind = Kind.I128, way: Way = Way.TEN_THOUSAND) -> int:
+        """Its number as plain digits where it is those, else by units; a NumeralError says why it is none of the type. Its
+        char_index counts within the run.
+
+        >>> [(found.text, found.number()) for found in find_numbers('二〇二五年十一月')]
+        [('二〇二五', 2025), ('十一', 11)]
+        """
+        return to_number(self.text, kind=kind, way=Way.DIGITS if self.is_plain else way)
+
+
+def find_numbers(text: str, *, upper: bool = False, greatest: Unit = Unit.ZHAO) -> Iterator[Found]:
+    """The numbers of a text, from the first to the last: its longest runs of digits and of units up to the greatest one,
+    with or without the forms that only cheques have. A run ends between an ASCII digit and a digit that is none, and 個 is
+    of a run directly before 萬 or a greater unit alone.
+
+    >>> [(found.start, found.end, found.text) for found in find_numbers('买2两，三個億')]
+    [(1, 2, '2'), (2, 3, '两'), (4, 7, '三個億')]
+    >>> [found.text for found in find_numbers('正在參加', upper=True, greatest=Unit.JI)]
+    ['正', '參']
+
+    It does not understand sentences: 一起 has a 1 in it, 兩三個 is 23, and 3.5萬 is two numbers. Half of a surrogate pair
+    is one character, and parts a text.
+    """
+    if not isinstance(upper, bool):
+        raise TypeError(f"a bool is wanted, and not {upper!r}")
+    return _found(_bytes(text), upper, _code(greatest, Unit))
+
+
+def _found(data: bytes, upper: bool, greatest: int) -> Iterator[Found]:
+    # The bytes are UTF-8 and stay where they are, so each call begins behind the run before it, and none is tested or
+    # copied twice.
+    call, span = _calls.chinese_number_find_utf8, _Span()
+    first = ctypes.cast(ctypes.c_char_p(data), ctypes.c_void_p).value or 0
+    searched = index = 0
+    while not call(first + searched, len(data) - searched, upper, greatest, ctypes.byref(span)):
+        begin, end = searched + span.start, searched + span.end
+        text = data[begin:end].decode()
+        start = index + len(data[searched:begin].decode())
+        searched, index = end, start + len(text)
+        yield Found(start, index, text, bool(span.digits))

@@ -1,27 +1,31 @@
-// The page: a numeral is judged at each key, and a number is spelled in four texts. What was typed goes into the page as
-// text alone, by textContent and by the strings of replaceChildren.
+// The page: numerals, and amounts and dates in capitals, are read at each key; those in figures are written; and the numbers
+// of a text are marked. What was typed goes into the page as text alone, by textContent and by the strings of append and
+// replaceChildren.
 
-const [loading, kind, way, reading, numeral, mirror, answer, number, refusal, texts] =
-  ['loading', 'kind', 'way', 'reading', 'numeral', 'mirror', 'answer', 'number', 'refusal', 'texts']
-    .map((id) => document.getElementById(id));
+const { readingNumerals, writingNumerals, readingAmounts, writingAmounts, readingDates, writingDates, searching } = document.forms;
+const [loading, kind, way, text, textMirror, upper, count, found] =
+  ['loading', 'kind', 'way', 'text', 'textMirror', 'upper', 'count', 'found'].map((id) => document.getElementById(id));
 
 const WAY_NAMES = {
-  digits: 'digit by digit', low: '下數 low', tenThousand: '萬進 ten thousand', middle: '中數 middle', high: '上數 high',
+  digits: 'plain digits', low: '下數 low', tenThousand: '萬進 ten thousand', middle: '中數 middle', high: '上數 high',
 };
 
-let library, fault = null;
+let library;
 try {
   library = await import('./chinese-number.mjs');
 } catch (error) {
   loading.textContent = `The library did not load: ${error.message}`;
   throw error;
 }
-const { CASES, KINDS, NumeralError, SCRIPTS, WAYS, toChinese, toNumber } = library;
+const {
+  CASES, KINDS, SCRIPTS, WAYS, amountToChinese, chineseToAmount, chineseToDate, dateToChinese, findNumbers, toChinese, toNumber,
+  yuanToFen,
+} = library;
 const options = () => ({ kind: kind.value, way: way.value });
 
-function element(name, text) {
+function element(name, ...parts) {
   const it = document.createElement(name);
-  it.textContent = text;
+  it.append(...parts);
   return it;
 }
 
@@ -32,102 +36,222 @@ function say(field, output, words, isFault) {
   field.setAttribute('aria-invalid', isFault);
 }
 
-function reasonOf(error) {
-  if (!(error instanceof NumeralError)) {
-    console.error(error);
-    return `The library failed: ${error.message}`;
-  }
-  return {
-    empty: 'No numeral yet.',
-    tooLarge: `The number is too large for ${error.kind}.`,
-    tooSmall: `The number is too small for ${error.kind}.`,
-    outOfMemory: 'There is no memory for so long a text.',
-  }[error.code];
+// Why a call refused, in the words that there are for its code. What is no figures has none, and is a RangeError.
+function reasonOf(error, words) {
+  const code = error instanceof RangeError ? 'figures' : error.code;
+  const reason = { outOfMemory: 'There is no memory for so long a text.', ...words }[code];
+  if (reason) return reason;
+  console.error(error);
+  return `The library failed: ${error.message}`;
 }
 
-function reasonOfPlace({ charIndex, start, end }) {
-  const character = numeral.value.slice(start, end);
+function reasonOfPlace(typed, { charIndex, start, end }) {
+  const character = typed.slice(start, end);
   const code = character.codePointAt(0).toString(16).toUpperCase().padStart(4, '0');
   return `Character ${charIndex + 1}, “${character}” (U+${code}), cannot stand here. Enter selects it.`;
 }
 
-// Puts the mark below the character at fault, or takes it away.
-function mark(text) {
-  mirror.replaceChildren();
-  if (!fault) return;
-  mirror.append(text.slice(0, fault.start), element('mark', text.slice(fault.start, fault.end)), text.slice(fault.end));
-  follow();
+// What a field's mirror has: the text with the character at fault marked, or nothing.
+function mirrored(typed, fault) {
+  if (!fault) return [];
+  const { start, end } = fault;
+  return [typed.slice(0, start), element('mark', typed.slice(start, end)), typed.slice(end)];
 }
 
-function follow() {
-  mirror.scrollLeft = numeral.scrollLeft;
-}
+// Has a form's field read at each key: what `read` gives or throws is said, and the character at fault is marked in the
+// mirror over the field. What is empty or unfinished is no fault. Gives the function that reads.
+function readAtEachKey(form, read, words) {
+  const [field, mirror, output] = ['input', '.mirror', 'output'].map((it) => form.querySelector(it));
+  let fault = null;
 
-// The answer to the numeral. An empty field and a sign alone are unfinished, and no fault.
-function judge() {
-  const text = numeral.value;
-  fault = null;
-  try {
-    say(numeral, answer, String(toNumber(text, options())), false);
-  } catch (error) {
-    if (error.code === 'incorrect') fault = error;
-    say(numeral, answer, fault ? reasonOfPlace(fault) : reasonOf(error), error.code !== 'empty');
+  function follow() {
+    mirror.scrollLeft = field.scrollLeft;
   }
-  mark(text);
-}
 
-function reasonOfPrinting(error) {
-  if (error.code === 'notHeld') return `${error.kind} does not hold this number.`;
-  if (error.code === 'tooLarge' || error.code === 'tooSmall') return 'By this method the number has no text.';
-  return reasonOf(error);
-}
-
-// The four texts of the number.
-function spell() {
-  const written = number.value.trim();
-  texts.replaceChildren();
-  if (written === '' || written === '-') return say(number, refusal, '', false);
-  if (!/^-?[0-9]+$/.test(written)) return say(number, refusal, 'Write digits alone, with - in front of a number below zero.', true);
-  try {
-    const value = BigInt(written), rows = [];
-    for (const script of SCRIPTS) {
-      for (const letterCase of CASES) {
-        const text = element('dd', toChinese(value, { ...options(), script, case: letterCase }));
-        text.lang = script === 'simple' ? 'zh-Hans' : 'zh-Hant';
-        rows.push(element('dt', `${script}, ${letterCase}`), text);
-      }
+  function judge() {
+    const typed = field.value;
+    fault = null;
+    try {
+      say(field, output, read(typed), false);
+    } catch (error) {
+      if (error.code === 'incorrect') fault = error;
+      const reason = fault ? reasonOfPlace(typed, fault) : reasonOf(error, words(typed));
+      say(field, output, reason, !['empty', 'unfinished'].includes(error.code));
     }
-    texts.append(...rows);
-    say(number, refusal, '', false);
-  } catch (error) {
-    say(number, refusal, reasonOfPrinting(error), true);
+    mirror.replaceChildren(...mirrored(typed, fault));
+    follow();
   }
+
+  // While an input method composes, its letters are no text yet: nothing is judged, and no mark stands.
+  field.addEventListener('input', (event) => {
+    if (event.isComposing) mirror.replaceChildren();
+    else judge();
+  });
+  field.addEventListener('compositionend', judge);
+  for (const it of ['scroll', 'keyup', 'pointerup', 'select']) field.addEventListener(it, follow);
+  // Enter leads to the character at fault. Nothing else moves the caret.
+  form.addEventListener('submit', (event) => {
+    event.preventDefault();
+    if (fault) field.setSelectionRange(fault.start, fault.end);
+  });
+  return judge;
+}
+
+// Has what stands in a form's field written at each key: the texts that `textsOf` gives are listed, each with its script and
+// the name of its row, or why it throws is said. Figures that match `begun` are unfinished. Gives the function that writes.
+function writeAtEachKey(form, begun, textsOf, words) {
+  const [field, list, output] = ['input', 'dl', 'output'].map((it) => form.querySelector(it));
+
+  function write() {
+    const typed = field.value.trim();
+    let texts = [], reason = '';
+    try {
+      if (!begun.test(typed)) texts = textsOf(typed);
+    } catch (error) {
+      reason = reasonOf(error, words());
+    }
+    list.replaceChildren(...texts.flatMap(row));
+    say(field, output, reason, reason !== '');
+  }
+
+  field.addEventListener('input', write);
+  form.addEventListener('submit', (event) => event.preventDefault());
+  return write;
+}
+
+function row([script, name, spelled]) {
+  const it = element('dd', spelled);
+  it.lang = script === 'simple' ? 'zh-Hans' : 'zh-Hant';
+  return [element('dt', name), it];
+}
+
+// The four texts of a number.
+function textsOfNumber(typed) {
+  if (!/^-?[0-9]+$/.test(typed)) throw new RangeError('no figures');
+  const number = BigInt(typed);
+  return SCRIPTS.flatMap((script) => CASES.map((letterCase) =>
+    [script, `${script}, ${letterCase}`, toChinese(number, { ...options(), script, case: letterCase })]));
+}
+
+// The two texts of an amount, and of a date.
+const inEachScript = (textOf) => SCRIPTS.map((script) => [script, script, textOf({ script })]);
+
+function textsOfAmount(typed) {
+  const fen = yuanToFen(typed);
+  return inEachScript((options) => amountToChinese(fen, options));
+}
+
+function textsOfDate(typed) {
+  if (!/^[0-9]{4}-[0-9]{2}-[0-9]{2}$/.test(typed)) throw new RangeError('no figures');
+  const [year, month, day] = typed.split('-').map(Number);
+  return inEachScript((options) => dateToChinese({ year, month, day }, options));
+}
+
+// The amount of a text, 140950n fen as 1409.50 yuan, and its date, as 2026-01-15.
+function amountOf(typed) {
+  const fen = chineseToAmount(typed);
+  return `${fen / 100n}.${padded(fen % 100n, 2)} yuan`;
+}
+
+function dateOf(typed) {
+  const { year, month, day } = chineseToDate(typed);
+  return `${padded(year, 4)}-${padded(month, 2)}-${padded(day, 2)}`;
+}
+
+const padded = (number, digits) => String(number).padStart(digits, '0');
+
+const readNumeral = readAtEachKey(readingNumerals, (typed) => String(toNumber(typed, options())), () => ({
+  empty: 'No numeral yet.',
+  tooLarge: `The number is too large for ${kind.value}.`,
+  tooSmall: `The number is too small for ${kind.value}.`,
+}));
+const writeNumber = writeAtEachKey(writingNumerals, /^-?$/, textsOfNumber, () => ({
+  figures: 'Write digits alone, with - in front of a number below zero.',
+  notHeld: `${kind.value} does not hold this number.`,
+  tooLarge: 'By this method the number has no text.',
+  tooSmall: 'By this method the number has no text.',
+}));
+const readAmount = readAtEachKey(readingAmounts, amountOf, (typed) => ({
+  unfinished: typed === '' ? 'No amount yet.' : 'The amount is not finished yet.',
+}));
+const writeAmount = writeAtEachKey(writingAmounts, /^([0-9]+\.)?$/, textsOfAmount, () => ({
+  figures: 'Write digits, and for jiao and fen a point with one or two more.',
+  tooLarge: 'Of yuan there can be 16 digits.',
+}));
+const readDate = readAtEachKey(readingDates, dateOf, (typed) => ({
+  unfinished: typed === '' ? 'No date yet.' : 'The date is not finished yet.',
+}));
+const writeDate = writeAtEachKey(writingDates, /^[0-9]{0,4}$|^[0-9]{4}-([0-9]{0,2}|[0-9]{2}-[0-9]?)$/, textsOfDate, () => ({
+  figures: 'Write four digits of the year, and two each of the month and the day, as in 2026-01-15.',
+  notADate: 'There is no such date.',
+}));
+
+// What a number of the text is, or why it is refused, in few words; and whether it is refused.
+function valueOf(it) {
+  try {
+    return [String(it.number(options())), false];
+  } catch (error) {
+    return [reasonOf(error, {
+      empty: 'a sign alone',
+      incorrect: `${it.text.slice(error.start, error.end)} cannot stand here`,
+      tooLarge: `too large for ${kind.value}`,
+    }), true];
+  }
+}
+
+function markOf(isFault, ...parts) {
+  const it = element('mark', ...parts);
+  it.classList.toggle('fault', isFault);
+  return it;
+}
+
+// Marks numbers of a text in place, and below it each with its value or its refusal. Gives how many are refused.
+function show(typed, numbers) {
+  const inPlace = new DocumentFragment(), below = new DocumentFragment();
+  let at = 0, refused = 0;
+  for (const it of numbers) {
+    const [words, isFault] = valueOf(it), before = typed.slice(at, it.start);
+    inPlace.append(before, markOf(isFault, it.text));
+    below.append(before, markOf(isFault, it.text, '\u00a0', element('small', words)));
+    at = it.end;
+    if (isFault) refused++;
+  }
+  textMirror.replaceChildren(inPlace, typed.slice(at));
+  found.replaceChildren(below, typed.slice(at));
+  return refused;
+}
+
+function search() {
+  const typed = text.value;
+  let numbers = [], reason = '';
+  try {
+    numbers = Array.from(findNumbers(typed, { upper: upper.checked, greatest: upper.checked ? 'ji' : 'zhao' }));
+  } catch (error) {
+    reason = reasonOf(error, {});
+  }
+  const refused = show(typed, numbers), { length } = numbers;
+  const words = `${length} ${length === 1 ? 'number' : 'numbers'}${refused ? `, ${refused} refused` : ''}.`;
+  say(text, count, reason || (typed === '' ? 'No text yet.' : words), reason !== '');
 }
 
 kind.append(...KINDS.map((it) => new Option(it, it, it === 'u64', it === 'u64')));
 way.append(...WAYS.map((it) => new Option(WAY_NAMES[it], it, it === 'tenThousand', it === 'tenThousand')));
 
-// While an input method composes, its letters are no text yet: nothing is judged, and no mark stands.
-numeral.addEventListener('input', (event) => {
-  if (event.isComposing) mirror.replaceChildren();
-  else judge();
+// While an input method composes the text stands in the mirror all the same, since the field is as high as the mirror.
+text.addEventListener('input', (event) => {
+  if (event.isComposing) textMirror.replaceChildren(text.value);
+  else search();
 });
-numeral.addEventListener('compositionend', judge);
-for (const it of ['scroll', 'keyup', 'pointerup', 'select']) numeral.addEventListener(it, follow);
-number.addEventListener('input', spell);
+text.addEventListener('compositionend', search);
+upper.addEventListener('change', search);
+searching.addEventListener('submit', (event) => event.preventDefault());
 for (const it of [kind, way]) {
   it.addEventListener('change', () => {
-    judge();
-    spell();
+    readNumeral();
+    writeNumber();
+    search();
   });
 }
-// Enter leads to the character at fault. Nothing else moves the caret.
-reading.addEventListener('submit', (event) => {
-  event.preventDefault();
-  if (fault) numeral.setSelectionRange(fault.start, fault.end);
-});
-number.form.addEventListener('submit', (event) => event.preventDefault());
 // What was typed while the library loaded.
-judge();
-spell();
+for (const it of [readNumeral, writeNumber, readAmount, writeAmount, readDate, writeDate, search]) it();
 loading.hidden = true;

@@ -35,6 +35,7 @@ const marked = () => value(`(() => { const it = mirror.querySelector('mark'); re
 const isInvalid = (id) => value(`${id}.getAttribute('aria-invalid')`);
 const texts = () => value(`Array.from(texts.querySelectorAll('dd'), (it) => it.textContent)`);
 const choose = (id, it) => value(`${id}.value = '${it}'; ${id}.dispatchEvent(new Event('change'))`);
+const look = (width, height) => tab.send('Emulation.setDeviceMetricsOverride', { width, height, deviceScaleFactor: 1, mobile: width < 480 });
 const lookThrough = (media) => tab.send('Emulation.setEmulatedMedia', { features: Object.entries(media).map(([name, it]) => ({ name, value: it })) });
 
 async function open(url) {
@@ -244,6 +245,77 @@ async function prints() {
   assert.deepEqual((await texts())[1], '一京');
 }
 
+// What stands in capitals is read at each key: what is unfinished is no fault, and the first wrong character is marked.
+async function readsCapitals() {
+  for (const [id, output, empty, unfinished, right, answer, wrong, at] of [
+    ['capitals', 'amount', 'No amount yet.', ['壹', '壹佰元', '人民', '壹佰贰'], '壹仟肆佰零玖元伍角', '1409.50 yuan', '壹佰贰元整', 3],
+    ['dateCapitals', 'date', 'No date yet.', ['贰零贰陆', '贰零贰陆年零', '伍年零壹月'], '伍年零壹月壹拾伍日', '0005-01-15', '伍年零壹月拾伍日', 5],
+  ]) {
+    const told = () => value(`[${output}.textContent, ${id}.getAttribute('aria-invalid'), ${id}.nextElementSibling.querySelector('mark')?.textContent ?? null]`);
+    assert.deepEqual(await told(), [empty, 'false', null]);
+    for (const it of unfinished) {
+      await type(id, it);
+      assert.deepEqual(await told(), [empty.replace('No', 'The').replace('yet', 'is not finished yet'), 'false', null], it);
+    }
+    await type(id, right);
+    assert.deepEqual(await told(), [answer, 'false', null]);
+    await type(id, wrong);
+    const [words, ...rest] = await told();
+    assert.deepEqual(rest, ['true', wrong[at]]);
+    assert(words.startsWith(`Character ${at + 1}, “${wrong[at]}” `), words);
+    await enter();
+    assert.deepEqual(await value(`[${id}.selectionStart, ${id}.selectionEnd]`), [at, at + 1]);
+  }
+}
+
+// What stands in figures is written in capitals.
+async function writesCapitals() {
+  for (const [id, list, output, right, texts, unfinished, refused] of [
+    ['figures', 'capitalTexts', 'figuresRefusal', '1400.06', ['壹仟肆佰元零陸分', '壹仟肆佰元零陆分'], ['', '15.'],
+      [[/^Write digits, and for jiao and fen a point/, '1,409.50', '-1', '1.005', '１５'], [/^Of yuan there can be 16 digits/, '10000000000000000']]],
+    ['dateFigures', 'dateTexts', 'dateRefusal', '2026-01-15', ['貳零貳陸年零壹月壹拾伍日', '贰零贰陆年零壹月壹拾伍日'], ['', '2026', '2026-', '2026-01-1'],
+      [[/^Write four digits of the year/, '2026-1-15', '2026/01/15', '20260115', 'x'], [/^There is no such date/, '2025-02-29', '0000-01-01']]],
+  ]) {
+    const told = () => value(`[Array.from(${list}.querySelectorAll('dd'), (it) => it.textContent), ${id}.getAttribute('aria-invalid')]`);
+    await type(id, right);
+    assert.deepEqual(await told(), [texts, 'false']);
+    for (const it of unfinished) {
+      await type(id, it);
+      assert.deepEqual(await told(), [[], 'false'], it);
+    }
+    for (const [words, ...figures] of refused) {
+      for (const it of figures) {
+        await type(id, it);
+        assert.deepEqual(await told(), [[], 'true'], it);
+        assert.match(await value(`${output}.textContent`), words);
+      }
+    }
+  }
+}
+
+// The numbers of a text are marked in place, and below it each with its value or its refusal.
+async function findsNumbers() {
+  const marks = (id) => value(`Array.from(${id}.querySelectorAll('mark'), (it) => [it.textContent, it.className])`);
+  await type('text', '第二十三回，他五六十歲');
+  assert.deepEqual(await marks('textMirror'), [['二十三', ''], ['五六十', 'fault']]);
+  assert.deepEqual(await marks('found'), [['二十三\u00a023', ''], ['五六十\u00a0五 cannot stand here', 'fault']]);
+  assert.deepEqual(await value('[textMirror.textContent, count.textContent]'), ['第二十三回，他五六十歲', '2 numbers, 1 refused.']);
+  await type('text', '正在參加');
+  assert.equal(await value('count.textContent'), '0 numbers.');
+  await value('upper.click()');
+  assert.equal(await value('count.textContent'), '2 numbers, 1 refused.');
+  await value('upper.click()');
+  await type('text', '<b>一</b>');
+  assert.equal(await value(`document.querySelectorAll('b').length`), 0);
+  // The mirror has the field's lines: it is as high and as wide, and the field does not scroll.
+  await type('text', '');
+  await insert(`${'文字二十三，'.repeat(60)}\n\n`);
+  await painted();
+  assert.deepEqual(await value(`[text.clientWidth - textMirror.clientWidth, text.clientHeight - textMirror.clientHeight,
+    text.scrollHeight - text.clientHeight, text.scrollWidth - text.clientWidth]`), [0, 0, 0, 0]);
+  await type('text', '');
+}
+
 // What was typed is text on the page, and never markup.
 async function showsTextAlone() {
   const markup = '<img src=x onerror="document.title=1"><b>一</b>&lt;';
@@ -269,11 +341,18 @@ async function tellsScreenReaders() {
   };
   await type('numeral', '三千兩白五十六');
   await type('number', '-1');
-  for (const [id, role, name] of [['numeral', 'textbox', 'Numeral'], ['number', 'textbox', 'Number'], ['kind', 'combobox', 'Type'], ['way', 'combobox', 'Method']]) {
+  for (const [id, role, name] of [['numeral', 'textbox', 'Numeral'], ['number', 'textbox', 'Number'], ['kind', 'combobox', 'Integer type'], ['way', 'combobox', 'Way'],
+    ['capitals', 'textbox', 'Amount in capitals, as on a cheque'], ['figures', 'textbox', 'Amount in yuan'],
+    ['dateCapitals', 'textbox', 'Date in capitals'], ['dateFigures', 'textbox', 'Date, as year-month-day'], ['text', 'textbox', 'Text']]) {
     const it = await told(id);
     assert.deepEqual([it.role, it.name], [role, name]);
   }
-  for (const [field, output] of [['numeral', 'answer'], ['number', 'refusal']]) {
+  await type('capitals', '元');
+  await type('figures', '1.005');
+  await type('dateCapitals', '日');
+  await type('dateFigures', '2025-02-29');
+  for (const [field, output] of [['numeral', 'answer'], ['number', 'refusal'], ['capitals', 'amount'], ['figures', 'figuresRefusal'],
+    ['dateCapitals', 'date'], ['dateFigures', 'dateRefusal']]) {
     const words = await value(`${output}.textContent`);
     const it = await told(field);
     assert.deepEqual([it.invalid, it.description], ['true', words]);
@@ -281,29 +360,49 @@ async function tellsScreenReaders() {
     assert.deepEqual([role, live], ['status', 'polite']);
   }
   await type('numeral', '一');
-  assert.equal((await told('numeral')).invalid, 'false');
+  await type('number', '1');
+  assert.deepEqual([(await told('numeral')).invalid, (await told('texts')).live], ['false', 'polite']);
+  const { description, invalid } = await told('text');
+  assert.deepEqual([description, invalid, (await told('count')).live], ['No text yet.', 'false', 'polite']);
 }
 
-// Light and dark: words stand out from the ground by 4.5 to 1 at the least, and borders by 3 to 1.
+// Tab leads through all that can be changed, in the order of the page, and a frame shows where one is.
+async function goesByKeyboard() {
+  const [first, ...others] = await value(`Array.from(document.querySelectorAll('select, input, textarea'), (it) => it.id)`);
+  await value(`${first}.focus()`);
+  for (const it of others) {
+    await tab.key('Tab', 9);
+    assert.deepEqual(await value(`[document.activeElement.id, getComputedStyle(${it}).outlineStyle !== 'none']`), [it, true]);
+  }
+}
+
+// Light and dark: words stand out from what lies behind them by 4.5 to 1 at the least, and borders by 3 to 1.
 async function standsOut() {
   await type('numeral', '三千兩白五十六');
   await type('number', '-1');
+  await type('text', '二十三，五六十');
   const grounds = new Set();
   for (const scheme of ['light', 'dark']) {
     await lookThrough({ 'prefers-color-scheme': scheme });
     const [ground, contrasts] = await value(`(() => {
       const parts = (color) => color.match(/[\\d.]+/g).map(Number);
-      const brightness = (color) => parts(color).slice(0, 3).map((it) => it / 255)
+      const brightness = (color) => color.map((it) => it / 255)
         .map((it) => (it <= 0.04045 ? it / 12.92 : ((it + 0.055) / 1.055) ** 2.4))
         .reduce((sum, it, i) => sum + it * [0.2126, 0.7152, 0.0722][i], 0);
       const ground = getComputedStyle(document.body).backgroundColor;
-      const contrast = (color) => {
-        const [less, more] = [brightness(color), brightness(ground)].sort((a, b) => a - b);
+      // A colour that lets through what lies behind it, over the ground.
+      const over = ([red, green, blue, share = 1]) => [red, green, blue].map((it, i) => share * it + (1 - share) * parts(ground)[i]);
+      const contrast = (color, behind = ground) => {
+        const [less, more] = [color, behind].map((it) => brightness(over(parts(it)))).sort((a, b) => a - b);
         return (more + 0.05) / (less + 0.05);
       };
-      const of = (it, what) => contrast(getComputedStyle(it)[what]);
-      return [ground, { words: of(document.body, 'color'), numeral: of(numeral, 'color'), fault: of(answer, 'color'), refusal: of(refusal, 'color'),
-        border: of(numeral, 'borderTopColor') + 1.5, line: of(mirror.querySelector('mark'), 'textDecorationColor') + 1.5 }];
+      const of = (it, what = 'color', part) => contrast(getComputedStyle(it, part)[what]);
+      const onMark = (it) => contrast(getComputedStyle(it.lastChild).color, getComputedStyle(it).backgroundColor);
+      const [right, wrong] = found.querySelectorAll('mark');
+      return [ground, { words: of(document.body), numeral: of(numeral), fault: of(answer), refusal: of(refusal), value: onMark(right),
+        reason: onMark(wrong), hint: of(numeral, 'color', '::placeholder'), border: of(numeral, 'borderTopColor') + 1.5,
+        line: of(mirror.querySelector('mark'), 'textDecorationColor') + 1.5,
+        lineBelow: of(textMirror.querySelector('mark'), 'textDecorationColor') + 1.5 }];
     })()`);
     grounds.add(ground);
     assert.notEqual(contrasts.fault, contrasts.words);
@@ -313,13 +412,18 @@ async function standsOut() {
   await lookThrough({});
 }
 
+// Pictures of the page with all of its fields filled.
 async function poses() {
-  await tab.send('Emulation.setDeviceMetricsOverride', { width: 480, height: 640, deviceScaleFactor: 1, mobile: false });
-  await type('number', '100100000');
-  await type('numeral', '三千兩白五十六');
-  for (const scheme of ['light', 'dark']) {
+  for (const [id, it] of [['number', '100100000'], ['numeral', '三千兩白五十六'], ['capitals', '壹仟陆佰捌拾元'], ['figures', '1680.32'],
+    ['dateCapitals', '贰零贰陆年零壹月拾伍日'], ['dateFigures', '2026-01-15'], ['text', '第二十三回，二零二五年十一月，他五六十歲，買2兩，三萬五千元。']]) {
+    await type(id, it);
+  }
+  await value('text.blur()');
+  for (const [name, scheme, width] of [['light', 'light', 880], ['dark', 'dark', 880], ['narrow', 'light', 360]]) {
     await lookThrough({ 'prefers-color-scheme': scheme });
-    await picture(`${scheme}.png`);
+    await look(width, 400);
+    await look(width, await value('document.documentElement.scrollHeight'));
+    await picture(`${name}.png`);
   }
   await lookThrough({});
   await tab.send('Emulation.clearDeviceMetricsOverride');
@@ -327,17 +431,18 @@ async function poses() {
 
 // At 320 pixels nothing is cut off and nothing scrolls sideways, by the longest texts too.
 async function fitsAPhone() {
-  await tab.send('Emulation.setDeviceMetricsOverride', { width: 320, height: 700, deviceScaleFactor: 1, mobile: true });
+  await look(320, 700);
   await choose('kind', 'i128');
   await type('numeral', '三千兩白五十六');
   await type('number', '-170141183460469231731687303715884105728');
+  await type('figures', '9999999999999999.99');
+  await type('text', '第二十三回，五六十'.repeat(20));
   const [widths, outside] = await value(`(() => {
     const { scrollWidth, clientWidth } = document.documentElement;
     const all = Array.from(document.body.querySelectorAll('*:not(mark)'));
     return [[clientWidth, scrollWidth], all.filter((it) => it.getBoundingClientRect().right > clientWidth).map((it) => it.outerHTML)];
   })()`);
   assert.deepEqual([widths, outside], [[320, 320], []]);
-  await picture('narrow.png');
   await tab.send('Emulation.clearDeviceMetricsOverride');
   await choose('kind', 'u64');
 }
@@ -405,7 +510,8 @@ async function test() {
   }
   await opens();
   for (const it of [reads, leavesTheCaret, leavesTheUnfinished, refusesNumerals, leavesComposition, marksTheCharacter, scrolls, prints,
-    showsTextAlone, tellsScreenReaders, standsOut, poses, fitsAPhone]) {
+    readsCapitals, writesCapitals, findsNumbers, showsTextAlone, goesByKeyboard, tellsScreenReaders, standsOut,
+    poses, fitsAPhone]) {
     await it();
     assert.deepEqual(tab.problems, [], it.name);
   }

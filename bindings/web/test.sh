@@ -4,7 +4,7 @@
 set -euo pipefail
 numeral=$(realpath "$1")
 web=$(cd "$(dirname "$0")" && pwd)
-crate=$(realpath "$web/../../crates/cn_c")
+crates=$(realpath "$web/../../crates")
 scratch=$(mktemp -d)
 trap 'rm -rf "$scratch"' EXIT
 pictures=$(realpath "${2:-$scratch}")
@@ -28,7 +28,7 @@ for module in "$scratch"/*.wasm; do
     for bits in 64 32; do cp "$module" "$folder/chinese-number.$bits.wasm"; done
     echo "$(basename "$module"), $(wc -c < "$module") bytes:"
     if node "${flag[@]}" -e 'process.exit(WebAssembly.validate(require("fs").readFileSync(process.argv[1])) ? 0 : 1)' "$module"; then
-        timeout 300 node "${flag[@]}" "$folder/test.mjs" "$numeral" "$crate"
+        timeout 300 node "${flag[@]}" "$folder/test.mjs" "$numeral" "$crates"
     else
         echo "web: NOT TRIED, since node $(node --version) has no 64-bit memories: this module under node"
     fi

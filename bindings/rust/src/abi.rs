@@ -9,7 +9,7 @@ use core::mem::MaybeUninit;
 
 use alloc::string::String;
 
-use crate::{ChineseCase, ChineseCountMethod, ChineseVariant};
+use crate::{BillDate, ChineseCase, ChineseCountMethod, ChineseVariant, Unit};
 
 /// The statuses.
 #[allow(dead_code)]
@@ -23,6 +23,9 @@ pub mod status {
     pub const NO_ROOM: u32 = 6;
     pub const NOT_HELD: u32 = 7;
     pub const UNKNOWN: u32 = 8;
+    pub const UNFINISHED: u32 = 9;
+    pub const NONE: u32 = 10;
+    pub const NOT_A_DATE: u32 = 11;
 }
 
 /// The integer types.
@@ -62,8 +65,14 @@ impl From<ChineseCountMethod> for Way {
     }
 }
 
-// No printed text has more bytes.
+// No printed text of a number has more bytes.
 const MOST_BYTES: usize = 234;
+
+// No printed text of an amount has more bytes.
+const MOST_AMOUNT_BYTES: usize = 108;
+
+// No printed text of a date has more bytes.
+const MOST_DATE_BYTES: usize = 39;
 
 #[repr(C)]
 #[derive(Copy, Clone)]
@@ -76,6 +85,28 @@ struct Number {
 struct Reading {
     number: Number,
     char_index: usize,
+}
+
+#[repr(C)]
+struct Amount {
+    fen: u64,
+    char_index: usize,
+}
+
+#[repr(C)]
+struct Date {
+    year: u32,
+    month: u32,
+    day: u32,
+    char_index: usize,
+}
+
+/// A run in a text: where it begins and ends, in bytes, and 1 where each of its characters is a digit, else 0.
+#[repr(C)]
+pub struct Span {
+    pub start: usize,
+    pub end: usize,
+    pub digits: u32,
 }
 
 unsafe extern "C" {
@@ -96,6 +127,36 @@ unsafe extern "C" {
         room: *mut u8,
         room_length: usize,
         length: *mut usize,
+    ) -> u32;
+
+    fn chinese_amount_read(text: *const u8, text_length: usize, reading: *mut Amount) -> u32;
+
+    fn chinese_amount_print(
+        fen: u64,
+        script: u32,
+        room: *mut u8,
+        room_length: usize,
+        length: *mut usize,
+    ) -> u32;
+
+    fn chinese_date_read(text: *const u8, text_length: usize, reading: *mut Date) -> u32;
+
+    fn chinese_date_print(
+        year: u32,
+        month: u32,
+        day: u32,
+        script: u32,
+        room: *mut u8,
+        room_length: usize,
+        length: *mut usize,
+    ) -> u32;
+
+    fn chinese_number_find_utf8(
+        text: *const u8,
+        text_length: usize,
+        upper: u32,
+        greatest: u32,
+        span: *mut Span,
     ) -> u32;
 }
 
@@ -157,6 +218,25 @@ pub fn read<T: Whole>(text: &str, way: Way) -> Result<T, (u32, usize)> {
     }
 }
 
+// The text that a call prints into a room of `MOST` bytes, or its status.
+//
+// SAFETY: the call is given a room and a length of its own, and knows that it may write to both until it returns; and at
+// `DONE` it has written so many bytes, at most `MOST`, at the start of the room, and they are UTF-8.
+#[inline]
+unsafe fn printed<const MOST: usize>(
+    call: impl FnOnce(*mut u8, *mut usize) -> u32,
+) -> Result<String, u32> {
+    let mut room = [MaybeUninit::<u8>::uninit(); MOST];
+    let mut length = 0;
+    let status = call(room.as_mut_ptr().cast(), &mut length);
+    if status != status::DONE {
+        return Err(status);
+    }
+    debug_assert!(length <= MOST);
+    let bytes = core::slice::from_raw_parts(room.as_ptr().cast(), length);
+    Ok(String::from(core::str::from_utf8_unchecked(bytes)))
+}
+
 /// The text of a number, or the status.
 #[inline]
 pub fn print<T: Whole>(
@@ -170,29 +250,109 @@ pub fn print<T: Whole>(
         low: bits as u64,
         high: (bits >> 64) as u64,
     };
-    let mut room = [MaybeUninit::<u8>::uninit(); MOST_BYTES];
-    let mut length = 0;
-    // SAFETY: the declaration is that of the header; the pointer and the length are those of one array; the room and
-    // `length` are places of their own. The library writes to the room and does not read it.
+    let (kind, way, script, case) = (T::KIND as u32, way as u32, script as u32, case as u32);
+    // SAFETY: the declaration is that of the header. The library writes to the room, of this length, and does not read it;
+    // and no text of a number has more bytes.
+    unsafe {
+        printed::<MOST_BYTES>(|room, length| {
+            chinese_number_print(number, kind, way, script, case, room, MOST_BYTES, length)
+        })
+    }
+}
+
+/// The amount of a text, or the status and the place.
+#[inline]
+pub fn read_amount(text: &str) -> Result<u64, (u32, usize)> {
+    let mut reading = Amount {
+        fen: 0,
+        char_index: 0,
+    };
+    // SAFETY: the declaration is that of the header; the pointer and the length are those of one `str`, which is lent
+    // until the call returns, and whose pointer is never null; `reading` is a place of its own.
+    let status = unsafe { chinese_amount_read(text.as_ptr(), text.len(), &mut reading) };
+    if status == status::DONE {
+        Ok(reading.fen)
+    } else {
+        Err((status, reading.char_index))
+    }
+}
+
+/// The text of an amount, or the status.
+#[inline]
+pub fn print_amount(script: ChineseVariant, fen: u64) -> Result<String, u32> {
+    // SAFETY: as for a number; and no text of an amount has more bytes than this room.
+    unsafe {
+        printed::<MOST_AMOUNT_BYTES>(|room, length| {
+            chinese_amount_print(fen, script as u32, room, MOST_AMOUNT_BYTES, length)
+        })
+    }
+}
+
+/// The date of a text, or the status and the place.
+#[inline]
+pub fn read_date(text: &str) -> Result<BillDate, (u32, usize)> {
+    let mut reading = Date {
+        year: 0,
+        month: 0,
+        day: 0,
+        char_index: 0,
+    };
+    // SAFETY: as for an amount.
+    let status = unsafe { chinese_date_read(text.as_ptr(), text.len(), &mut reading) };
+    if status == status::DONE {
+        // A date's year is below 10,000, its month at most 12 and its day at most 31.
+        Ok(BillDate {
+            year: reading.year as u16,
+            month: reading.month as u8,
+            day: reading.day as u8,
+        })
+    } else {
+        Err((status, reading.char_index))
+    }
+}
+
+/// The text of a date, or the status.
+#[inline]
+pub fn print_date(script: ChineseVariant, date: BillDate) -> Result<String, u32> {
+    let (year, month, day) = (date.year.into(), date.month.into(), date.day.into());
+    // SAFETY: as for a number; and no text of a date has more bytes than this room.
+    unsafe {
+        printed::<MOST_DATE_BYTES>(|room, length| {
+            chinese_date_print(
+                year,
+                month,
+                day,
+                script as u32,
+                room,
+                MOST_DATE_BYTES,
+                length,
+            )
+        })
+    }
+}
+
+/// The first run of a text, or the status.
+#[inline]
+pub fn find(text: &str, upper: bool, greatest: Unit) -> Result<Span, u32> {
+    let mut span = Span {
+        start: 0,
+        end: 0,
+        digits: 0,
+    };
+    // SAFETY: the declaration is that of the header; the pointer and the length are those of one `str`, which is lent
+    // until the call returns, is UTF-8, and whose pointer is never null; `span` is a place of its own.
     let status = unsafe {
-        chinese_number_print(
-            number,
-            T::KIND as u32,
-            way as u32,
-            script as u32,
-            case as u32,
-            room.as_mut_ptr().cast(),
-            MOST_BYTES,
-            &mut length,
+        chinese_number_find_utf8(
+            text.as_ptr(),
+            text.len(),
+            upper as u32,
+            greatest as u32,
+            &mut span,
         )
     };
-    if status != status::DONE {
-        return Err(status);
+    if status == status::DONE {
+        Ok(span)
+    } else {
+        Err(status)
     }
-    // SAFETY: at this status the first `length` bytes, at most as many as the room has, are written, and are UTF-8.
-    let text = unsafe {
-        let bytes = core::slice::from_raw_parts(room.as_ptr().cast(), length);
-        core::str::from_utf8_unchecked(bytes)
-    };
-    Ok(String::from(text))
 }

@@ -1,11 +1,11 @@
-//! The printers: numbers as texts.
+//! The printers: numbers, amounts of money and dates as texts.
 
 use core::fmt::{self, Display, Formatter};
 
 use alloc::string::String;
 
 use crate::abi::{self, status, Way, Whole};
-use crate::{ChineseCase, ChineseCountMethod, ChineseVariant};
+use crate::{BillDate, ChineseCase, ChineseCountMethod, ChineseVariant};
 
 /// Why a number is not written by `Low`.
 #[derive(Debug, Copy, Clone, Eq, PartialEq)]
@@ -183,4 +183,81 @@ printers! {
     from_isize_to_chinese_ten_thousand TenThousand,
     from_isize_to_chinese_middle Middle,
     from_isize_to_chinese_high High
+}
+
+/// Why an amount is not written.
+#[derive(Debug, Copy, Clone, Eq, PartialEq)]
+pub enum AmountToChineseError {
+    /// The amount is 10^18 fen or more.
+    Overflow,
+}
+
+impl Display for AmountToChineseError {
+    fn fmt(&self, f: &mut Formatter<'_>) -> fmt::Result {
+        f.write_str(match self {
+            Self::Overflow => "number is too large",
+        })
+    }
+}
+
+impl core::error::Error for AmountToChineseError {}
+
+/// Writes an amount of money, in fen, in capitals as a bank takes it. It refuses 10^18 fen and more.
+///
+/// ```rust
+/// use chinese_number::{amount_to_chinese, AmountToChineseError, ChineseVariant};
+///
+/// let text = amount_to_chinese(ChineseVariant::Simple, 1_500);
+/// assert_eq!(text.unwrap(), "壹拾伍元整");
+/// let text = amount_to_chinese(ChineseVariant::Simple, u64::MAX);
+/// assert_eq!(text, Err(AmountToChineseError::Overflow));
+/// ```
+#[inline]
+pub fn amount_to_chinese(
+    chinese_variant: ChineseVariant,
+    fen: u64,
+) -> Result<String, AmountToChineseError> {
+    abi::print_amount(chinese_variant, fen).map_err(|status| match status {
+        status::TOO_LARGE => AmountToChineseError::Overflow,
+        _ => unreachable!("the code is the library's, and no text is longer than the room"),
+    })
+}
+
+/// Why a date is not written.
+#[derive(Debug, Copy, Clone, Eq, PartialEq)]
+pub enum DateToChineseError {
+    /// There is no such date.
+    NotADate,
+}
+
+impl Display for DateToChineseError {
+    fn fmt(&self, f: &mut Formatter<'_>) -> fmt::Result {
+        f.write_str(match self {
+            Self::NotADate => "there is no such date",
+        })
+    }
+}
+
+impl core::error::Error for DateToChineseError {}
+
+/// Writes a date in capitals as a bank takes it. It refuses what is no day of the Gregorian calendar from year 1 to 9999.
+///
+/// ```rust
+/// use chinese_number::{date_to_chinese, BillDate, ChineseVariant, DateToChineseError};
+///
+/// let date = BillDate { year: 2025, month: 2, day: 28 };
+/// let text = date_to_chinese(ChineseVariant::Simple, date);
+/// assert_eq!(text.unwrap(), "贰零贰伍年零贰月贰拾捌日");
+/// let text = date_to_chinese(ChineseVariant::Simple, BillDate { day: 30, ..date });
+/// assert_eq!(text, Err(DateToChineseError::NotADate));
+/// ```
+#[inline]
+pub fn date_to_chinese(
+    chinese_variant: ChineseVariant,
+    date: BillDate,
+) -> Result<String, DateToChineseError> {
+    abi::print_date(chinese_variant, date).map_err(|status| match status {
+        status::NOT_A_DATE => DateToChineseError::NotADate,
+        _ => unreachable!("the code is the library's, and no text is longer than the room"),
+    })
 }

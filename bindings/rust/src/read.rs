@@ -1,9 +1,9 @@
-//! The readers: texts as numbers.
+//! The readers: texts as numbers, as amounts of money and as dates.
 
 use core::fmt::{self, Display, Formatter};
 
 use crate::abi::{self, status, Way, Whole};
-use crate::ChineseCountMethod;
+use crate::{BillDate, ChineseCountMethod};
 
 /// Why a text is no number of a type.
 #[derive(Debug, Copy, Clone, Eq, PartialEq)]
@@ -157,4 +157,93 @@ readers! {
     from_chinese_to_isize_ten_thousand TenThousand,
     from_chinese_to_isize_middle Middle,
     from_chinese_to_isize_high High
+}
+
+/// Why a text is no amount of money.
+#[derive(Debug, Copy, Clone, Eq, PartialEq)]
+pub enum ChineseToAmountError {
+    /// Something is missing at the end: the text begins an amount, and is none. `壹佰元` wants 整 or 伍角. The empty text
+    /// is unfinished, too.
+    Unfinished,
+    /// No amount begins with the text up to and with this character.
+    Incorrect {
+        /// How many characters of the text stand in front of it.
+        char_index: usize,
+    },
+}
+
+impl Display for ChineseToAmountError {
+    fn fmt(&self, f: &mut Formatter<'_>) -> fmt::Result {
+        match self {
+            Self::Unfinished => f.write_str("the amount is not finished"),
+            Self::Incorrect { char_index } => {
+                write!(f, "the amount is incorrect (position: {char_index})")
+            }
+        }
+    }
+}
+
+impl core::error::Error for ChineseToAmountError {}
+
+/// Reads an amount of money in capitals, in fen: each form that the rules for bills allow, and no other text.
+///
+/// ```rust
+/// use chinese_number::{chinese_to_amount, ChineseToAmountError};
+///
+/// assert_eq!(chinese_to_amount("人民币壹拾伍圆正"), Ok(1_500));
+/// assert_eq!(chinese_to_amount("壹佰元"), Err(ChineseToAmountError::Unfinished));
+/// assert_eq!(chinese_to_amount("壹佰贰元整"), Err(ChineseToAmountError::Incorrect { char_index: 3 }));
+/// ```
+#[inline]
+pub fn chinese_to_amount(text: &str) -> Result<u64, ChineseToAmountError> {
+    abi::read_amount(text).map_err(|(status, char_index)| match status {
+        status::UNFINISHED => ChineseToAmountError::Unfinished,
+        status::INCORRECT => ChineseToAmountError::Incorrect { char_index },
+        _ => unreachable!("a `str` is UTF-8"),
+    })
+}
+
+/// Why a text is no date.
+#[derive(Debug, Copy, Clone, Eq, PartialEq)]
+pub enum ChineseToDateError {
+    /// Something is missing at the end: the text begins a date, and is none. The empty text is unfinished, too.
+    Unfinished,
+    /// No date begins with the text up to and with this character.
+    Incorrect {
+        /// How many characters of the text stand in front of it.
+        char_index: usize,
+    },
+}
+
+impl Display for ChineseToDateError {
+    fn fmt(&self, f: &mut Formatter<'_>) -> fmt::Result {
+        match self {
+            Self::Unfinished => f.write_str("the date is not finished"),
+            Self::Incorrect { char_index } => {
+                write!(f, "the date is incorrect (position: {char_index})")
+            }
+        }
+    }
+}
+
+impl core::error::Error for ChineseToDateError {}
+
+/// Reads a date in capitals: each form that the rules for bills allow, of a date that there is, and no other text.
+///
+/// ```rust
+/// use chinese_number::{chinese_to_date, BillDate, ChineseToDateError};
+///
+/// let date = BillDate { year: 2026, month: 3, day: 1 };
+/// assert_eq!(chinese_to_date("贰零贰陆年零叁月零壹日"), Ok(date));
+/// assert_eq!(chinese_to_date("贰零贰陆年叁月"), Err(ChineseToDateError::Unfinished));
+/// let refused = Err(ChineseToDateError::Incorrect { char_index: 10 });
+/// assert_eq!(chinese_to_date("贰零贰伍年零贰月贰拾玖日"), refused);
+/// ```
+#[inline]
+pub fn chinese_to_date(text: &str) -> Result<BillDate, ChineseToDateError> {
+    abi::read_date(text).map_err(|(status, char_index)| match status {
+        status::UNFINISHED => ChineseToDateError::Unfinished,
+        status::INCORRECT => ChineseToDateError::Incorrect { char_index },
+        _ => unreachable!("a `str` is UTF-8"),
+    })
 }

@@ -90,6 +90,17 @@ fn signatures_of_printers() {
     let _: [ChineseCountMethod; 4] = const { ChineseCountMethod::variants() };
 }
 
+#[test]
+fn signatures_of_amounts_of_dates_and_of_the_search() {
+    let _: fn(ChineseVariant, u64) -> Result<String, AmountToChineseError> = amount_to_chinese;
+    let _: fn(&str) -> Result<u64, ChineseToAmountError> = chinese_to_amount;
+    let _: fn(ChineseVariant, BillDate) -> Result<String, DateToChineseError> = date_to_chinese;
+    let _: fn(&str) -> Result<BillDate, ChineseToDateError> = chinese_to_date;
+    let _: fn(&'static str, Wanted) -> Numbers<'static> = find_numbers;
+    let _: fn(Found<'static>, ChineseCountMethod) -> Answer<u8> = Found::number;
+    let _: [Wanted; 2] = const { [Wanted::EVERYDAY, Wanted::ALL] };
+}
+
 // What is read and written by the traits as a number of this type.
 fn is_an_integer<T>()
 where
@@ -120,9 +131,21 @@ fn traits() {
     is_a_value::<ChineseCountMethod>();
     is_an_error::<ChineseToNumberError>();
     is_an_error::<NumberToChineseError>();
+    is_a_value::<Unit>();
+    is_a_value::<Wanted>();
+    is_a_value::<Found<'static>>();
+    is_an_error::<AmountToChineseError>();
+    is_an_error::<ChineseToAmountError>();
+    is_a_value::<BillDate>();
+    is_an_error::<DateToChineseError>();
+    is_an_error::<ChineseToDateError>();
     has_a_hash::<ChineseVariant>();
     has_a_hash::<ChineseCase>();
     has_a_hash::<ChineseCountMethod>();
+    has_a_hash::<Unit>();
+    has_a_hash::<Wanted>();
+    has_a_hash::<BillDate>();
+    assert!(Unit::Wan < Unit::Yi);
     assert!(ChineseVariant::Traditional < ChineseVariant::Simple);
 }
 
@@ -138,7 +161,7 @@ fn methods_in_their_order() {
 #[test]
 fn texts_of_errors() {
     use ChineseToNumberError::*;
-    let rows: [(&dyn Display, &str); 6] = [
+    let rows: [(&dyn Display, &str); 12] = [
         (&ChineseNumberEmpty, "a chinese number cannot be empty"),
         (
             &ChineseNumberIncorrect { char_index: 12 },
@@ -148,6 +171,21 @@ fn texts_of_errors() {
         (&Underflow, "number is too small"),
         (&NumberToChineseError::Overflow, "number is too large"),
         (&NumberToChineseError::Underflow, "number is too small"),
+        (&AmountToChineseError::Overflow, "number is too large"),
+        (
+            &ChineseToAmountError::Unfinished,
+            "the amount is not finished",
+        ),
+        (
+            &ChineseToAmountError::Incorrect { char_index: 3 },
+            "the amount is incorrect (position: 3)",
+        ),
+        (&DateToChineseError::NotADate, "there is no such date"),
+        (&ChineseToDateError::Unfinished, "the date is not finished"),
+        (
+            &ChineseToDateError::Incorrect { char_index: 10 },
+            "the date is incorrect (position: 10)",
+        ),
     ];
     for (error, text) in rows {
         assert_eq!(error.to_string(), text);

@@ -1,9 +1,9 @@
 -- An amount in figures: the digits of the yuan, and then nothing, or a point and one or two digits.
 -- They are given as the bytes of a string. Those in front of one that is refused are ASCII, so its
 -- place counts characters too.
-use Rattle.std.specs.Prelude.{ℕ, ◌+◌, ◌-◌, ◌*◌, ◌/◌, ◌%◌, ◌==◌, nat_lt, List, [], ◌∷◌, ◌++◌, take, drop, Result, Ok, Err, codes, decimal, if◌then◌else◌}
+use Rattle.std.specs.Prelude.{ℕ, ◌+◌, ◌-◌, ◌*◌, ◌/◌, ◌%◌, ◌^◌, ◌<◌, ◌==◌, nat_lt, List, [], ◌∷◌, ◌++◌, length, take, drop, IsTrue, Result, Ok, Err, codes, decimal, if◌then◌else◌}
 use Rattle.std.specs.Char.{is_ascii_digit}
-use Rattle.std.specs.List.{prefix_len}
+use Rattle.std.specs.List.{list_all, prefix_len}
 use Rattle.chinese_number.specs.AmountPlaces.{amount_limit}
 use Rattle.cheque.specs.declared.figures.FiguresError.{FiguresError}
 use Rattle.cheque.specs.declared.figures.FiguresError.TheVariants.{Unfinished, Incorrect, TooLarge}
@@ -15,6 +15,11 @@ value_after number (digit ∷ digits) = value_after (10 * number + (digit - 48))
 
 abbrev pub value_of : List ℕ → ℕ
 value_of digits = value_after 0 digits
+
+-- digits that write so many yuan, of which an amount can be
+abbrev pub AreYuan : List ℕ → Type 0
+AreYuan digits =
+    (0 < length digits) × IsTrue (list_all is_ascii_digit digits) × (value_of digits < 10 ^ 16)
 
 -- nothing stands behind the last digit, at this place
 abbrev pub ended : ℕ → ℕ → List ℕ → Result ℕ FiguresError

@@ -1,2 +1,4 @@
+pub mod DateFigures
 pub mod Figures
 pub mod Writes
+pub mod WritesDate

@@ -1,8 +1,12 @@
-//! What is written for an amount in figures.
+//! What is written for an amount or a date in figures.
 ghost use Rattle.cheque.specs.Writes.{WritesCapitals};
+ghost use Rattle.cheque.specs.WritesDate.{WritesDateCapitals};
 
+use crate::dates::{DateFiguresError, date_of};
 use crate::figures::{FiguresError, yuan_to_fen};
-use chinese_number::{AmountToChineseError, ChineseVariant, amount_to_chinese};
+use chinese_number::{
+    AmountToChineseError, ChineseVariant, DateToChineseError, amount_to_chinese, date_to_chinese,
+};
 use std::alloc::Global;
 
 /// Why no capitals were written.
@@ -28,5 +32,28 @@ pub fn capitals_of(alloc: Global, figures: &str) -> Result<String, WritingError>
         Err(AmountToChineseError::Overflow) => {
             Err(WritingError::Refused(FiguresError::TooLarge))
         }
+    }
+}
+
+/// Why a date was not written in capitals.
+#[derive(Debug, Copy, Clone, Eq, PartialEq)]
+pub enum DateError {
+    /// The figures were refused.
+    Figures(DateFiguresError),
+    /// There is no such date, or there was no memory for the text.
+    Capitals(DateToChineseError),
+}
+
+/// The capitals of a date in figures.
+pub fn date_capitals_of(alloc: Global, figures: &str) -> Result<String, DateError>
+    ensures { WritesDateCapitals figures.now result }
+{
+    let date = match date_of(figures) {
+        Ok(date) => date,
+        Err(error) => return Err(DateError::Figures(error)),
+    };
+    match date_to_chinese(alloc, ChineseVariant::Simple, date) {
+        Ok(text) => Ok(text),
+        Err(error) => Err(DateError::Capitals(error)),
     }
 }

@@ -11,30 +11,61 @@ pub enum Request<'a> {
     Read {
         capitals: &'a str,
     },
+    /// The capitals of a date in these figures.
+    WriteDate {
+        figures: &'a str,
+    },
+    /// The figures of a date in these capitals.
+    ReadDate {
+        capitals: &'a str,
+    },
 }
 
-// Whether an amount is meant in figures: whatever begins with ASCII is refused as figures.
-fn is_figures(amount: &str) -> bool {
-    amount.starts_with(|c: char| c.is_ascii())
+// Whether figures are meant: whatever begins with ASCII is refused as figures.
+fn is_figures(word: &str) -> bool {
+    word.starts_with(|c: char| c.is_ascii())
+}
+
+// Whether the figures of a date are meant: digits at the start, and a hyphen behind them.
+fn is_date_figures(figures: &str) -> bool {
+    let behind = figures.trim_start_matches(|c: char| c.is_ascii_digit());
+    behind.len() < figures.len() && behind.starts_with('-')
+}
+
+fn request_of_word(word: &str) -> Request<'_> {
+    if is_date_figures(word) {
+        Request::WriteDate { figures: word }
+    } else if is_figures(word) {
+        Request::Write {
+            figures: word,
+            prefix: "",
+        }
+    } else if word.contains('年') {
+        Request::ReadDate { capitals: word }
+    } else {
+        Request::Read { capitals: word }
+    }
+}
+
+// With 人民币 in front, the capitals of an amount alone.
+fn request_with_prefix(word: &str) -> Option<Request<'_>> {
+    if is_figures(word) && !is_date_figures(word) {
+        Some(Request::Write {
+            figures: word,
+            prefix: "人民币",
+        })
+    } else {
+        None
+    }
 }
 
 /// The request of these words; `None` where it is none.
 pub fn request_of(words: &[String]) -> Option<Request<'_>> {
-    let (prefix, amount) = match words {
-        [word] if word.as_str() == "--help" => return Some(Request::Help),
-        [word] if word.as_str() == "--prefix" => return None,
-        [amount] => ("", amount.as_str()),
-        [option, amount] if option.as_str() == "--prefix" => ("人民币", amount.as_str()),
-        _ => return None,
-    };
-    if is_figures(amount) {
-        Some(Request::Write {
-            figures: amount,
-            prefix,
-        })
-    } else if prefix.is_empty() {
-        Some(Request::Read { capitals: amount })
-    } else {
-        None
+    match words {
+        [word] if word.as_str() == "--help" => Some(Request::Help),
+        [word] if word.as_str() == "--prefix" => None,
+        [word] => Some(request_of_word(word.as_str())),
+        [option, word] if option.as_str() == "--prefix" => request_with_prefix(word.as_str()),
+        _ => None,
     }
 }

@@ -24,6 +24,12 @@ pub use Rattle.cn_core.specs.Spelling
 pub use Rattle.cn_core.specs.Text
 pub use Rattle.cn_core.specs.Value
 pub use Rattle.cn_core.specs.Whole
+pub use Rattle.cn_date.specs.Answer as DateAnswer
+pub use Rattle.cn_date.specs.Calendar as DateCalendar
+pub use Rattle.cn_date.specs.ErrorText as DateErrorText
+pub use Rattle.cn_date.specs.Form as DateForm
+pub use Rattle.cn_date.specs.Reading as DateReading
+pub use Rattle.cn_date.specs.Writes as DateWrites
 pub use Rattle.cn_find.specs.Belongs
 pub use Rattle.cn_find.specs.Number
 pub use Rattle.cn_find.specs.Parting

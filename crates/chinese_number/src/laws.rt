@@ -2,6 +2,7 @@
 //! the theorem, and the check proves it.
 pub mod amounts;
 mod answers;
+pub mod dates;
 mod enums;
 mod methods;
 mod places;

@@ -1,5 +1,5 @@
-//! Chinese numerals, read and written, for the twelve integer types; amounts of money in capitals; and
-//! the numbers of a running text.
+//! Chinese numerals, read and written, for the twelve integer types; amounts of money and dates in
+//! capitals; and the numbers of a running text.
 //!
 //! All that callers need has its name here; `laws` says what they can count on.
 #![tactic(auto)]
@@ -24,6 +24,11 @@ pub use cn_core::scale;
 pub use cn_core::sign_of;
 pub use cn_core::unit_char;
 pub use cn_core::unit_of;
+pub use cn_date::BillDate;
+pub use cn_date::ChineseToDateError;
+pub use cn_date::DateToChineseError;
+pub use cn_date::chinese_to_date;
+pub use cn_date::date_to_chinese;
 pub use cn_find::Found;
 pub use cn_find::Numbers;
 pub use cn_find::Wanted;

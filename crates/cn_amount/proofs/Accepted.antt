@@ -14,7 +14,7 @@ use Rattle.cn_amount.specs.Form.{Choices, is_zero, is_empty, is_written, after_s
 use Rattle.cn_amount.specs.Places.{AreDigits, ArePlaces}
 use Rattle.cn_amount.specs.Working.Steps.{accepts}
 use Rattle.cn_amount.proofs.Closed.{By, closed-last, closed-only_wan, closed-below_yi, closed-below_yi_gap, closed-below_wan, closed-top, with-top, with-below_wan, with-below_yi, with-last}
-use Rattle.cn_amount.proofs.Joins.{front, empty_section, written-behind, after-written, after-some, yuan-joined, wan-joined, yi-joined}
+use Rattle.cn_amount.proofs.Joins.{front, four, empty_section, written-behind, after-written, after-some, yuan-joined, wan-joined, yi-joined}
 use Rattle.cn_amount.proofs.Sections.{is_proper, digit-low, rest-proper, closed, stage_with, FirstHundreds, FirstThousands, ReadThousands, ling-hundreds, ling-thousands, at-thousands, below-thousands-first}
 use Rattle.cn_amount.proofs.SmallRead.{ReadFen, after-jiao, after-yuan, closing-one, complete-nil}
 
@@ -32,13 +32,7 @@ below-thousands : (stage : Stage) (is_round : Bool) (t : List Capital) → ReadT
     → ReadBelow stage is_round t
 below-thousands stage true t r = record {
   keeps = false;
-  s = record {
-    thousands = suc r.before_thousands;
-    hundreds = r.hundreds;
-    tens = r.tens;
-    ones =
-        r.ones;
-  };
+  s = four (suc r.before_thousands) r.hundreds r.tens r.ones;
   digits = (r.low_thousands, r.low_hundreds, r.low_tens, r.low);
   rest = r.rest;
   is = r.is;
@@ -47,13 +41,7 @@ below-thousands stage true t r = record {
 }
 below-thousands stage false t r = record {
   keeps = true;
-  s = record {
-    thousands = suc r.before_thousands;
-    hundreds = r.hundreds;
-    tens = r.tens;
-    ones =
-        r.ones;
-  };
+  s = four (suc r.before_thousands) r.hundreds r.tens r.ones;
   digits = (r.low_thousands, r.low_hundreds, r.low_tens, r.low);
   rest = r.rest;
   is = r.is;
@@ -65,7 +53,7 @@ below-gap : (stage : Stage) (t : List Capital) → ((n : ℕ) → stage_with n s
     → FirstThousands stage t → ReadBelow stage true (Ling ∷ t)
 below-gap stage t plain r = record {
   keeps = true;
-  s = record { thousands = r.thousands; hundreds = r.hundreds; tens = r.tens; ones = r.ones };
+  s = four r.thousands r.hundreds r.tens r.ones;
   digits = (r.low_thousands, r.low_hundreds, r.low_tens, r.low);
   rest = r.rest;
   is = r.gap;
@@ -77,7 +65,7 @@ below-filled : (stage : Stage) (t : List Capital) → FirstHundreds stage t
     → ReadBelow stage false (Ling ∷ t)
 below-filled stage t r = record {
   keeps = true;
-  s = record { thousands = 0; hundreds = r.hundreds; tens = r.tens; ones = r.ones };
+  s = four 0 r.hundreds r.tens r.ones;
   digits = (omega arith, r.low_hundreds, r.low_tens, r.low);
   rest = r.rest;
   is = r.gap;
@@ -218,13 +206,7 @@ record ReadBelowYi (is_round : Bool) (t : List Capital) : Type 0 where
 
 yi-thousands : (is_round : Bool) (t : List Capital) → ReadThousands OnlyWan t → ReadFromWan Filled t
 yi-thousands is_round t r =
-    let s : Section = record {
-      thousands = suc r.before_thousands;
-      hundreds = r.hundreds;
-      tens =
-          r.tens;
-      ones = r.ones;
-    } in
+    let s : Section = four (suc r.before_thousands) r.hundreds r.tens r.ones in
     wan-then Filled s t r.rest (r.low_thousands, r.low_hundreds, r.low_tens, r.low) refl
     (after-written Filled s refl) r.is (closed-only_wan (is_zero r.ones) r.rest r.proper r.ends)
 
@@ -233,7 +215,7 @@ yi-gap t r = by (closed-below_yi (is_zero r.ones) r.rest r.proper
     (ap (λ stage. closed stage (is_zero r.ones) r.rest) (sym (with-below_yi r.thousands))
     ∙ r.ends)) where
       s : Section
-      s = record { thousands = r.thousands; hundreds = r.hundreds; tens = r.tens; ones = r.ones }
+      s = four r.thousands r.hundreds r.tens r.ones
 
       by : By Wan (AfterGreat Last (is_zero r.ones)) r.rest
           ⊎ By Yuan (AfterYuan (is_zero r.ones)) r.rest → ReadFromWan Gap (Ling ∷ t)
@@ -244,27 +226,21 @@ yi-gap t r = by (closed-below_yi (is_zero r.ones) r.rest r.proper
           (r.low_thousands, r.low_hundreds, r.low_tens, r.low) (after-written Gap s refl) r.gap unit
 
 yi-filled : (t : List Capital) (thousands hundreds tens ones : ℕ) (rest : List Capital)
-    → AreDigits (record { thousands = thousands; hundreds = hundreds; tens = tens; ones = ones })
-    → is_empty (record { thousands = thousands; hundreds = hundreds; tens = tens; ones = ones })
+    → AreDigits (four thousands hundreds tens ones)
+    → is_empty (four thousands hundreds tens ones)
     ≡ false
-    → Ling ∷ t ≡ section_text Gap (record {
-      thousands = thousands;
-      hundreds = hundreds;
-      tens =
-          tens;
-      ones = ones;
-    }) ++ rest
+    → Ling ∷ t ≡ section_text Gap (four thousands hundreds tens ones) ++ rest
     → closed (stage_with thousands BelowYiGap) (is_zero ones) rest ≡ true
     → list_all is_proper rest ≡ true
     → ReadFromWan Filled (Ling ∷ t)
 yi-filled t (suc n) hundreds tens ones rest digits some gap ends proper =
-    let s : Section = record { thousands = suc n; hundreds = hundreds; tens = tens; ones = ones } in
+    let s : Section = four (suc n) hundreds tens ones in
     yuan-then Filled s (Ling ∷ t) rest digits (after-written Gap s refl) gap
     (closed-last (is_zero ones) rest proper ends)
 yi-filled t zero hundreds tens ones rest digits some gap ends proper =
     by (closed-below_yi_gap (is_zero ones) rest proper ends) where
       s : Section
-      s = record { thousands = 0; hundreds = hundreds; tens = tens; ones = ones }
+      s = four 0 hundreds tens ones
 
       by : By Wan (AfterGreat Last (is_zero ones)) rest ⊎ By Yuan (AfterYuan (is_zero ones)) rest
           → ReadFromWan Filled (Ling ∷ t)
@@ -427,7 +403,7 @@ first-section t r = by (closed-top (is_zero r.ones) r.rest r.proper
     (ap (λ stage. closed stage (is_zero r.ones) r.rest) (sym (with-top r.thousands))
     ∙ r.ends)) where
       s : Section
-      s = record { thousands = r.thousands; hundreds = r.hundreds; tens = r.tens; ones = r.ones }
+      s = four r.thousands r.hundreds r.tens r.ones
 
       digits : AreDigits s
       digits = (r.low_thousands, r.low_hundreds, r.low_tens, r.low)

@@ -13,7 +13,7 @@ use Rattle.cn_amount.specs.declared.state.Stage.TheVariants.{Top, BelowWan, Belo
 use Rattle.cn_amount.specs.declared.state.State.TheVariants.{Beginning, AfterCurrency, FirstDigit, AfterGreat, AfterLing, DigitBelow, AfterUnit, AfterYuan}
 use Rattle.cn_amount.specs.Form.{Choices, is_zero, is_empty, after_section, behind, ones_text, tens_text, hundreds_text, section_text, small_text, yuan_text, from_wan, from_yi, from_top, amount_form}
 use Rattle.cn_amount.specs.Working.Steps.{bare, behind_thousands, after_ling, accepts}
-use Rattle.cn_amount.proofs.Joins.{front, empty_section, written-behind, after-written, after-some, yuan-is, wan-is, yi-is}
+use Rattle.cn_amount.proofs.Joins.{front, four, lower, empty_section, written-behind, after-written, after-some, yuan-is, wan-is, yi-is}
 use Rattle.cn_amount.proofs.Sections.{closed, at-ones, below-ones, stage_with}
 
 below-closed : (stage : Stage) (place : Place) (t : List Capital) → closed stage false t ≡ true
@@ -84,13 +84,7 @@ ling-thousands : (stage : Stage) (thousands hundreds tens ones : ℕ) (t : List 
     → (is_zero thousands && (is_zero hundreds && (is_zero tens && is_zero ones))) ≡ false
     → closed (stage_with thousands stage) (is_zero ones) t ≡ true
     → accepts (AfterLing stage Thousands)
-    (section_text Nothing (record {
-      thousands = thousands;
-      hundreds = hundreds;
-      tens = tens;
-      ones =
-          ones;
-    }) ++ t) ≡ true
+    (section_text Nothing (four thousands hundreds tens ones) ++ t) ≡ true
 ling-thousands stage (suc n) hundreds tens ones t some h =
     read-thousands (behind_thousands stage) hundreds tens ones t h
 ling-thousands stage zero (suc m) tens ones t some h = read-hundreds stage tens ones t h
@@ -103,7 +97,7 @@ first-read : (thousands hundreds tens ones : ℕ) (t : List Capital)
     → (is_zero thousands && (is_zero hundreds && (is_zero tens && is_zero ones))) ≡ false
     → closed Top (is_zero ones) t ≡ true
     → accepts AfterCurrency (section_text Nothing
-    (record { thousands = thousands; hundreds = hundreds; tens = tens; ones = ones }) ++ t) ≡ true
+    (four thousands hundreds tens ones) ++ t) ≡ true
 first-read (suc n) hundreds tens ones t some h = read-thousands Top hundreds tens ones t h
 first-read zero (suc m) tens ones t some h = read-hundreds Top tens ones t h
 first-read zero zero (suc k) ones t some h = read-tens Top ones t h
@@ -113,25 +107,31 @@ first-read zero zero zero zero t some h = cc
 -- behind 零: the text of a section begins with it
 gap-is : (thousands hundreds tens ones : ℕ) (t : List Capital)
     → (is_zero thousands && (is_zero hundreds && (is_zero tens && is_zero ones))) ≡ false
-    → section_text Gap (record {
-      thousands = thousands;
-      hundreds = hundreds;
-      tens = tens;
-      ones =
-          ones;
-    }) ++ t
-    ≡ Ling ∷ section_text Nothing (record {
-      thousands = thousands;
-      hundreds = hundreds;
-      tens =
-          tens;
-      ones = ones;
-    }) ++ t
+    → section_text Gap (four thousands hundreds tens ones) ++ t
+    ≡ Ling ∷ section_text Nothing (four thousands hundreds tens ones) ++ t
 gap-is (suc n) hundreds tens ones t some = refl
 gap-is zero (suc m) tens ones t some = refl
 gap-is zero zero (suc k) ones t some = refl
 gap-is zero zero zero (suc l) t some = refl
 gap-is zero zero zero zero t some = cc
+
+-- an empty section
+empty-is : (thousands hundreds tens ones : ℕ)
+    → (is_zero thousands && (is_zero hundreds && (is_zero tens && is_zero ones))) ≡ true
+    → empty_section ≡ four thousands hundreds tens ones
+empty-is zero zero zero zero h = refl
+empty-is (suc n) hundreds tens ones h = cc
+empty-is zero (suc m) tens ones h = cc
+empty-is zero zero (suc k) ones h = cc
+empty-is zero zero zero (suc l) h = cc
+
+-- a section is empty or not
+pub by-empty : (P : Section → Type 0) (s : Section) → P empty_section → (is_empty s ≡ false → P s)
+    → P s
+by-empty P s none some = by (is_empty s) refl where
+  by : (b : Bool) → is_empty s ≡ b → P s
+  by true e = subst P (empty-is s.thousands s.hundreds s.tens s.ones e) none
+  by false e = some e
 
 -- behind a 万 that stands in front of 亿 or 元, or the last 万
 record Plain (stage : Stage) : Type 0 where
@@ -162,13 +162,7 @@ great-closed stage is_round (capital ∷ t) plain h = h
 great-thousands : (stage : Stage) (is_round : Bool) (n hundreds tens ones : ℕ) (t : List Capital)
     → Plain stage → closed stage (is_zero ones) t ≡ true
     → accepts (AfterGreat stage is_round)
-    (section_text Filled (record {
-      thousands = suc n;
-      hundreds = hundreds;
-      tens = tens;
-      ones =
-          ones;
-    }) ++ t) ≡ true
+    (section_text Filled (four (suc n) hundreds tens ones) ++ t) ≡ true
 great-thousands stage is_round n hundreds tens ones t plain h =
     ap (λ stage. accepts (AfterUnit stage Thousands)
     (hundreds_text Filled hundreds tens ones ++ t)) plain.bare_is
@@ -178,60 +172,56 @@ great-gap : (stage : Stage) (thousands hundreds tens ones : ℕ) (t : List Capit
     → (is_zero thousands && (is_zero hundreds && (is_zero tens && is_zero ones))) ≡ false
     → closed stage (is_zero ones) t ≡ true
     → accepts (AfterGreat stage true) (section_text Gap
-    (record { thousands = thousands; hundreds = hundreds; tens = tens; ones = ones }) ++ t) ≡ true
+    (four thousands hundreds tens ones) ++ t) ≡ true
 great-gap stage thousands hundreds tens ones t plain some h =
     ap (accepts (AfterGreat stage true)) (gap-is thousands hundreds tens ones t some)
     ∙ ling-thousands stage thousands hundreds tens ones t some
     (ap (λ stage. closed stage (is_zero ones) t) (plain-with stage plain thousands) ∙ h)
 
--- a section behind 万
+-- a section behind 万, in front of whose first digit is a 0
+gap-read : (stage : Stage) (is_round : Bool) (s : Section) (t : List Capital) → Plain stage
+    → (is_empty s ≡ false → closed stage (is_zero s.ones) t ≡ true
+    → accepts (AfterGreat stage is_round) (section_text Gap s ++ t) ≡ true)
+    → closed stage (is_zero s.ones) t ≡ true
+    → accepts (AfterGreat stage is_round) (section_text Gap s ++ t) ≡ true
+gap-read stage is_round s t plain some =
+    by-empty (λ s. closed stage (is_zero s.ones) t ≡ true
+    → accepts (AfterGreat stage is_round) (section_text Gap s ++ t) ≡ true) s
+    (great-closed stage is_round t plain) some
+
+below-gap : (stage : Stage) (s : Section) (t : List Capital) → Plain stage
+    → closed stage (is_zero s.ones) t ≡ true
+    → accepts (AfterGreat stage true) (section_text Gap s ++ t) ≡ true
+below-gap stage s t plain = gap-read stage true s t plain
+    (great-gap stage s.thousands s.hundreds s.tens s.ones t plain)
+
+-- any section behind 万
 below-filled : (stage : Stage) (thousands hundreds tens ones : ℕ) (t : List Capital) → Plain stage
     → closed stage (is_zero ones) t ≡ true
-    → accepts (AfterGreat stage false) (section_text Filled
-    (record { thousands = thousands; hundreds = hundreds; tens = tens; ones = ones }) ++ t) ≡ true
+    → accepts (AfterGreat stage false)
+    (section_text Filled (four thousands hundreds tens ones) ++ t) ≡ true
 below-filled stage (suc n) hundreds tens ones t plain h =
     great-thousands stage false n hundreds tens ones t plain h
-below-filled stage zero (suc m) tens ones t plain h =
-    ap (λ state. accepts state (hundreds_text Nothing (suc m) tens ones ++ t)) plain.ling_is
-    ∙ ling-hundreds stage (suc m) tens ones t refl h
-below-filled stage zero zero (suc k) ones t plain h =
-    ap (λ state. accepts state (hundreds_text Nothing 0 (suc k) ones ++ t)) plain.ling_is
-    ∙ ling-hundreds stage 0 (suc k) ones t refl h
-below-filled stage zero zero zero (suc l) t plain h =
-    ap (λ state. accepts state (hundreds_text Nothing 0 0 (suc l) ++ t)) plain.ling_is
-    ∙ ling-hundreds stage 0 0 (suc l) t refl h
-below-filled stage zero zero zero zero t plain h = great-closed stage false t plain h
+below-filled stage zero hundreds tens ones t plain h =
+    gap-read stage false (four 0 hundreds tens ones) t plain
+    (λ some h. ap (accepts (AfterGreat stage false)) (gap-is 0 hundreds tens ones t some)
+    ∙ ap (λ state. accepts state (hundreds_text Nothing hundreds tens ones ++ t)) plain.ling_is
+    ∙ ling-hundreds stage hundreds tens ones t some h) h
 
 below-round : (stage : Stage) (thousands hundreds tens ones : ℕ) (t : List Capital) → Plain stage
     → closed stage (is_zero ones) t ≡ true
-    → accepts (AfterGreat stage true) (section_text Filled
-    (record { thousands = thousands; hundreds = hundreds; tens = tens; ones = ones }) ++ t) ≡ true
+    → accepts (AfterGreat stage true)
+    (section_text Filled (four thousands hundreds tens ones) ++ t) ≡ true
 below-round stage (suc n) hundreds tens ones t plain h =
     great-thousands stage true n hundreds tens ones t plain h
-below-round stage zero (suc m) tens ones t plain h =
-    great-gap stage 0 (suc m) tens ones t plain refl h
-below-round stage zero zero (suc k) ones t plain h = great-gap stage 0 0 (suc k) ones t plain refl h
-below-round stage zero zero zero (suc l) t plain h = great-gap stage 0 0 0 (suc l) t plain refl h
-below-round stage zero zero zero zero t plain h = great-closed stage true t plain h
-
-below-gap : (stage : Stage) (thousands hundreds tens ones : ℕ) (t : List Capital) → Plain stage
-    → closed stage (is_zero ones) t ≡ true
-    → accepts (AfterGreat stage true) (section_text Gap
-    (record { thousands = thousands; hundreds = hundreds; tens = tens; ones = ones }) ++ t) ≡ true
-below-gap stage (suc n) hundreds tens ones t plain h =
-    great-gap stage (suc n) hundreds tens ones t plain refl h
-below-gap stage zero (suc m) tens ones t plain h =
-    great-gap stage 0 (suc m) tens ones t plain refl h
-below-gap stage zero zero (suc k) ones t plain h = great-gap stage 0 0 (suc k) ones t plain refl h
-below-gap stage zero zero zero (suc l) t plain h = great-gap stage 0 0 0 (suc l) t plain refl h
-below-gap stage zero zero zero zero t plain h = great-closed stage true t plain h
+below-round stage zero hundreds tens ones t plain h =
+    below-gap stage (four 0 hundreds tens ones) t plain h
 
 below-read : (stage : Stage) (keeps is_round : Bool) (s : Section) (t : List Capital) → Plain stage
     → closed stage (is_zero s.ones) t ≡ true
     → accepts (AfterGreat stage is_round) (section_text (behind keeps (front is_round)) s ++ t)
     ≡ true
-below-read stage true true s t plain h =
-    below-gap stage s.thousands s.hundreds s.tens s.ones t plain h
+below-read stage true true s t plain h = below-gap stage s t plain h
 below-read stage true false s t plain h =
     below-filled stage s.thousands s.hundreds s.tens s.ones t plain h
 below-read stage false true s t plain h =
@@ -264,97 +254,62 @@ small-read false false (suc j) zero true = refl
 small-read false false (suc j) zero false = refl
 small-read false false (suc j) (suc f) closes = refl
 
--- behind 亿, with a section that 万 counts
+-- behind 亿, with 零
+abbrev behind_yi : Bool → Stage
+behind_yi true = BelowYi
+behind_yi false = BelowYiGap
+
+yi-gap : (is_round : Bool) (s : Section) (t : List Capital) → is_empty s ≡ false
+    → closed (stage_with s.thousands (behind_yi is_round)) (is_zero s.ones) t ≡ true
+    → accepts (AfterGreat BelowYi is_round) (section_text Gap s ++ t) ≡ true
+yi-gap true s t some h =
+    ap (accepts (AfterGreat BelowYi true)) (gap-is s.thousands s.hundreds s.tens s.ones t some)
+    ∙ ling-thousands BelowYi s.thousands s.hundreds s.tens s.ones t some h
+yi-gap false s t some h =
+    ap (accepts (AfterGreat BelowYi false)) (gap-is s.thousands s.hundreds s.tens s.ones t some)
+    ∙ ling-thousands BelowYiGap s.thousands s.hundreds s.tens s.ones t some h
+
+-- with a section that 万 counts
 yi-wan : (keeps is_round : Bool) (thousands hundreds tens ones : ℕ) (t : List Capital)
     → (is_zero thousands && (is_zero hundreds && (is_zero tens && is_zero ones))) ≡ false
     → accepts (AfterGreat Last (is_zero ones)) t ≡ true
     → accepts (AfterGreat BelowYi is_round)
-    (section_text (behind keeps (front is_round))
-    (record { thousands = thousands; hundreds = hundreds; tens = tens; ones = ones })
+    (section_text (behind keeps (front is_round)) (four thousands hundreds tens ones)
     ++ Wan ∷ t) ≡ true
 yi-wan true true (suc n) hundreds tens ones t some h =
-    ling-thousands BelowYi (suc n) hundreds tens ones (Wan ∷ t) refl h
-yi-wan true true zero (suc m) tens ones t some h =
-    ling-thousands BelowYi 0 (suc m) tens ones (Wan ∷ t) refl h
-yi-wan true true zero zero (suc k) ones t some h =
-    ling-thousands BelowYi 0 0 (suc k) ones (Wan ∷ t) refl h
-yi-wan true true zero zero zero (suc l) t some h =
-    ling-thousands BelowYi 0 0 0 (suc l) (Wan ∷ t) refl h
+    yi-gap true (four (suc n) hundreds tens ones) (Wan ∷ t) some h
 yi-wan true false (suc n) hundreds tens ones t some h =
     read-thousands OnlyWan hundreds tens ones (Wan ∷ t) h
-yi-wan true false zero (suc m) tens ones t some h =
-    ling-thousands BelowYiGap 0 (suc m) tens ones (Wan ∷ t) refl h
-yi-wan true false zero zero (suc k) ones t some h =
-    ling-thousands BelowYiGap 0 0 (suc k) ones (Wan ∷ t) refl h
-yi-wan true false zero zero zero (suc l) t some h =
-    ling-thousands BelowYiGap 0 0 0 (suc l) (Wan ∷ t) refl h
 yi-wan false true (suc n) hundreds tens ones t some h =
     read-thousands OnlyWan hundreds tens ones (Wan ∷ t) h
-yi-wan false true zero (suc m) tens ones t some h =
-    ling-thousands BelowYi 0 (suc m) tens ones (Wan ∷ t) refl h
-yi-wan false true zero zero (suc k) ones t some h =
-    ling-thousands BelowYi 0 0 (suc k) ones (Wan ∷ t) refl h
-yi-wan false true zero zero zero (suc l) t some h =
-    ling-thousands BelowYi 0 0 0 (suc l) (Wan ∷ t) refl h
 yi-wan false false (suc n) hundreds tens ones t some h =
     read-thousands OnlyWan hundreds tens ones (Wan ∷ t) h
-yi-wan false false zero (suc m) tens ones t some h =
-    ling-thousands BelowYiGap 0 (suc m) tens ones (Wan ∷ t) refl h
-yi-wan false false zero zero (suc k) ones t some h =
-    ling-thousands BelowYiGap 0 0 (suc k) ones (Wan ∷ t) refl h
-yi-wan false false zero zero zero (suc l) t some h =
-    ling-thousands BelowYiGap 0 0 0 (suc l) (Wan ∷ t) refl h
-yi-wan keeps is_round zero zero zero zero t some h = cc
+yi-wan true true zero hundreds tens ones t some h =
+    yi-gap true (four 0 hundreds tens ones) (Wan ∷ t) some h
+yi-wan true false zero hundreds tens ones t some h =
+    yi-gap false (four 0 hundreds tens ones) (Wan ∷ t) some h
+yi-wan false true zero hundreds tens ones t some h =
+    yi-gap true (four 0 hundreds tens ones) (Wan ∷ t) some h
+yi-wan false false zero hundreds tens ones t some h =
+    yi-gap false (four 0 hundreds tens ones) (Wan ∷ t) some h
 
 -- with none
-yi-yuan : (is_round : Bool) (thousands hundreds tens ones : ℕ) (t : List Capital)
-    → accepts (AfterYuan (is_zero ones)) t ≡ true
-    → accepts (AfterGreat BelowYi is_round)
-    (section_text Gap (record {
-      thousands = thousands;
-      hundreds = hundreds;
-      tens = tens;
-      ones =
-          ones;
-    }) ++ Yuan ∷ t) ≡ true
-yi-yuan true (suc n) hundreds tens ones t h =
-    ling-thousands BelowYi (suc n) hundreds tens ones (Yuan ∷ t) refl h
-yi-yuan true zero (suc m) tens ones t h =
-    ling-thousands BelowYi 0 (suc m) tens ones (Yuan ∷ t) refl h
-yi-yuan true zero zero (suc k) ones t h = ling-thousands BelowYi 0 0 (suc k) ones (Yuan ∷ t) refl h
-yi-yuan true zero zero zero (suc l) t h = ling-thousands BelowYi 0 0 0 (suc l) (Yuan ∷ t) refl h
-yi-yuan false (suc n) hundreds tens ones t h =
-    ling-thousands BelowYiGap (suc n) hundreds tens ones (Yuan ∷ t) refl h
-yi-yuan false zero (suc m) tens ones t h =
-    ling-thousands BelowYiGap 0 (suc m) tens ones (Yuan ∷ t) refl h
-yi-yuan false zero zero (suc k) ones t h =
-    ling-thousands BelowYiGap 0 0 (suc k) ones (Yuan ∷ t) refl h
-yi-yuan false zero zero zero (suc l) t h = ling-thousands BelowYiGap 0 0 0 (suc l) (Yuan ∷ t) refl h
-yi-yuan is_round zero zero zero zero t h = h
+yuan-closes : (is_round : Bool) (n : ℕ) (b : Bool) (t : List Capital)
+    → closed (stage_with n (behind_yi is_round)) b (Yuan ∷ t) ≡ accepts (AfterYuan b) t
+yuan-closes true zero b t = refl
+yuan-closes true (suc n) b t = refl
+yuan-closes false zero b t = refl
+yuan-closes false (suc n) b t = refl
 
--- an empty section
-empty-is : (thousands hundreds tens ones : ℕ)
-    → (is_zero thousands && (is_zero hundreds && (is_zero tens && is_zero ones))) ≡ true
-    → empty_section ≡ record {
-      thousands = thousands;
-      hundreds = hundreds;
-      tens = tens;
-      ones =
-          ones;
-    }
-empty-is zero zero zero zero h = refl
-empty-is (suc n) hundreds tens ones h = cc
-empty-is zero (suc m) tens ones h = cc
-empty-is zero zero (suc k) ones h = cc
-empty-is zero zero zero (suc l) h = cc
-
--- a section is empty or not
-pub by-empty : (P : Section → Type 0) (s : Section) → P empty_section → (is_empty s ≡ false → P s)
-    → P s
-by-empty P s none some = by (is_empty s) refl where
-  by : (b : Bool) → is_empty s ≡ b → P s
-  by true e = subst P (empty-is s.thousands s.hundreds s.tens s.ones e) none
-  by false e = some e
+yi-yuan : (is_round : Bool) (s : Section) (t : List Capital)
+    → accepts (AfterYuan (is_zero s.ones)) t ≡ true
+    → accepts (AfterGreat BelowYi is_round) (section_text Gap s ++ Yuan ∷ t) ≡ true
+yi-yuan is_round s t =
+    by-empty (λ s. accepts (AfterYuan (is_zero s.ones)) t ≡ true
+    → accepts (AfterGreat BelowYi is_round) (section_text Gap s ++ Yuan ∷ t) ≡ true) s
+    (λ h. h)
+    (λ some h. yi-gap is_round s (Yuan ∷ t) some
+    (yuan-closes is_round s.thousands (is_zero s.ones) t ∙ h))
 
 -- the yuan behind a section, and what stands behind them
 yuan-read : (choices : Choices) (stage : Stage) (keeps is_round : Bool) (s : Section)
@@ -377,28 +332,12 @@ yuan-read choices stage keeps is_round s jiao fen plain ends =
 wan-read : (choices : Choices) (keeps is_round : Bool) (wan yuan : Section) (jiao fen : ℕ)
     → accepts (AfterGreat BelowYi is_round)
     (from_wan choices (behind keeps (front is_round))
-    (record {
-      wan_yi = empty_section;
-      yi = empty_section;
-      wan = wan;
-      yuan = yuan;
-      jiao =
-          jiao;
-      fen = fen;
-    })) ≡ true
+    (lower wan yuan jiao fen)) ≡ true
 wan-read choices keeps is_round wan yuan jiao fen =
     by-empty
     (λ wan. accepts (AfterGreat BelowYi is_round)
     (from_wan choices (behind keeps (front is_round))
-    (record {
-      wan_yi = empty_section;
-      yi = empty_section;
-      wan = wan;
-      yuan = yuan;
-      jiao =
-          jiao;
-      fen = fen;
-    })) ≡ true)
+    (lower wan yuan jiao fen)) ≡ true)
     wan (none keeps is_round) some where
       small : List Capital
       small = small_text (behind choices.behind_yuan (front (is_zero yuan.ones))) jiao fen
@@ -408,7 +347,7 @@ wan-read choices keeps is_round wan yuan jiao fen =
       gap =
           ap (accepts (AfterGreat BelowYi is_round))
           (sym (yuan-is choices Gap yuan jiao fen small (after-written Gap yuan refl) refl))
-          ∙ yi-yuan is_round yuan.thousands yuan.hundreds yuan.tens yuan.ones small
+          ∙ yi-yuan is_round yuan small
           (small-read (is_zero yuan.ones) choices.behind_yuan jiao fen choices.behind_jiao)
 
       none : (k r : Bool) → accepts (AfterGreat BelowYi is_round)
@@ -422,15 +361,7 @@ wan-read choices keeps is_round wan yuan jiao fen =
       some : is_empty wan ≡ false
           → accepts (AfterGreat BelowYi is_round)
           (from_wan choices (behind keeps (front is_round))
-          (record {
-            wan_yi = empty_section;
-            yi = empty_section;
-            wan = wan;
-            yuan = yuan;
-            jiao =
-                jiao;
-            fen = fen;
-          })) ≡ true
+          (lower wan yuan jiao fen)) ≡ true
       some e =
           let before = behind keeps (front is_round) in
           let below = λ (b : Before). yuan_text choices b yuan jiao fen in

@@ -5,9 +5,7 @@ use Rattle.std.specs.Char.{encode_utf8}
 use Rattle.std.specs.Str.{all_scalars, IsUtf8}
 use Rattle.std.proofs.Math.Utf8.{scalar}
 use Rattle.std.proofs.lemmas.Bool.Decides.{nat_tests}
-use Rattle.std.specs.String.{string_bytes, string_len, string_capacity, string_vec}
-use Rattle.std.specs.Vec.{vec_capacity}
-use Rattle.std.specs.declared.vec.Vec.{Vec}
+use Rattle.std.specs.String.{string_bytes, string_len}
 use Rattle.std.specs.declared.string.String.{String}
 use Rattle.std.proofs.lemmas.List.{length-map}
 use Rattle.std.proofs.lemmas.List.Folds.{list_all-append}
@@ -26,7 +24,12 @@ use Rattle.cn_amount.specs.declared.places.Places.{Places}
 use Rattle.cn_amount.specs.Form.{Choices, written, is_zero, is_empty, is_written, after_digit, after_section, after_wan, after_yi, after_yuan_unit, place_text, closing, section_text, wan_text, yi_text, yuan_unit, small_text, yuan_text, from_wan, from_yi, from_top, amount_form}
 use Rattle.cn_amount.specs.Places.{AreDigits, ArePlaces, section_of, section_value, places_of, amount_value, amount_limit}
 use Rattle.cn_amount.specs.Reading.{IsAmount, ReadsAmount}
+use Rattle.cn_amount.proofs.Lengths.{length-top}
+use Rattle.cn_amount.specs.declared.text.AmountText.{AmountText}
+use Rattle.cn_amount.specs.Working.Putting.{HasPut}
 use Rattle.cn_amount.specs.Writes.{capital_char, shown, amount_text, IsText}
+use Rattle.cn_short_text.specs.ShortText.{text_bytes, IsStringOf}
+use Rattle.cn_short_text.specs.ShortText as short
 use Rattle.cn_amount.proofs.Runs.{is_shown}
 use Rattle.cn_amount.proofs.Shows.{each_below, each_below-at, capitals-read}
 
@@ -304,22 +307,28 @@ text-length : {Z : Type 0} (text : String Z) → string_len text ≡ length (str
 text-length text = let ok = text.bytes.ok in omega (arith, ok)
 
 pub written-is : {Z : Type 0} (variant : ChineseVariant) (amount : ℕ) (text : String Z)
-    (bytes : Vec ℕ Z) (count : ℕ) → amount < amount_limit → string_vec text ≡ bytes
-    → bytes.items ≡ encode_utf8_all (amount_text variant amount)
-    → vec_capacity bytes ≡ 3 * count → count ≡ length (amount_form written (places_of amount))
-    → IsText variant amount text
-written-is variant amount text bytes count below is items room counted =
-    let same : string_bytes text ≡ encode_utf8_all (amount_text variant amount) =
-    ap (λ v. v.items) is ∙ items in
+    (bytes : List ℕ) → amount < amount_limit → IsStringOf bytes text
+    → bytes ≡ encode_utf8_all (amount_text variant amount) → IsText variant amount text
+written-is variant amount text bytes below is written =
+    let same = is.content ∙ written in
     let size = text-length text in
-    let long = ap length same ∙ written-length variant amount in
-    let form = length-map (amount_form written (places_of amount)) (capital_char variant) in
-    let held : string_capacity text ≡ vec_capacity bytes = ap vec_capacity is in
-    let len : string_len text ≡ 3 * length (amount_text variant amount) =
-    omega (arith, size, long) in
     record {
       below = below;
       bytes = same;
-      len = len;
-      capacity = omega (arith, len, held, room, counted, form);
+      len = omega (arith, size, ap length same, written-length variant amount);
+      capacity = is.capacity;
     }
+
+-- what has been put for an amount is its text, and no longer than the room
+pub text-of : (variant : ChineseVariant) (amount : ℕ) (text : AmountText)
+    → HasPut variant text (amount_form written (places_of amount))
+    → text_bytes text.text ≡ encode_utf8_all (amount_text variant amount)
+unfolding HasPut short.HasPut
+text-of variant amount text put =
+    let form = length-map (amount_form written (places_of amount)) (capital_char variant) in
+    put.1 (omega (
+      arith,
+      form,
+      written-length variant amount,
+      length-top written (places_of amount),
+    ))

@@ -6,6 +6,7 @@ use Rattle.cn_amount.specs.declared.before.Before.TheVariants.{Nothing, Gap, Fil
 use Rattle.cn_amount.specs.declared.capital.Capital.{Capital}
 use Rattle.cn_amount.specs.declared.capital.Capital.TheVariants.{Wan, Yi, Yuan}
 use Rattle.cn_amount.specs.declared.places.Section.{Section}
+use Rattle.cn_amount.specs.declared.places.Places.{Places}
 use Rattle.cn_amount.specs.Form.{Choices, is_zero, is_empty, is_written, after_digit, after_section, after_wan, after_yi, after_yuan_unit, behind, section_text, wan_text, yi_text, yuan_unit, small_text, yuan_text}
 
 -- what stands in front, behind a digit
@@ -13,8 +14,24 @@ abbrev pub front : Bool → Before
 front true = Gap
 front false = Filled
 
+-- a section by its digits
+abbrev pub four : ℕ → ℕ → ℕ → ℕ → Section
+four thousands hundreds tens ones =
+    record { thousands = thousands; hundreds = hundreds; tens = tens; ones = ones }
+
 abbrev pub empty_section : Section
-empty_section = record { thousands = 0; hundreds = 0; tens = 0; ones = 0 }
+empty_section = four 0 0 0 0
+
+-- the digits of an amount with no 亿
+abbrev pub lower : Section → Section → ℕ → ℕ → Places
+lower wan yuan jiao fen = record {
+  wan_yi = empty_section;
+  yi = empty_section;
+  wan = wan;
+  yuan = yuan;
+  jiao = jiao;
+  fen = fen;
+}
 
 pub step-written : (before : Before) (digit : ℕ) → is_written before ≡ true
     → after_digit before digit ≡ front (is_zero digit)

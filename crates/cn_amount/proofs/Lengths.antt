@@ -157,25 +157,30 @@ length-yuan choices before s jiao fen =
       length-small below jiao fen choices.behind_jiao,
     )
 
--- 壹仟壹佰壹拾壹万壹仟壹佰壹拾壹亿壹仟壹佰壹拾壹万壹仟壹佰壹拾壹元壹角壹分, behind 人民币
+-- 壹仟壹佰壹拾壹万壹仟壹佰壹拾壹亿壹仟壹佰壹拾壹万壹仟壹佰壹拾壹元壹角壹分
+pub length-top : (choices : Choices) (p : Places) → length (from_top choices p) ≤ 36
+length-top choices p =
+    let a = after_wan choices.behind_wan_yi Nothing p.wan_yi in
+    let b = after_yi choices.behind_yi a p.yi in
+    let c = after_wan choices.behind_wan b p.wan in
+    omega (
+      arith,
+      length-append (wan_text Nothing p.wan_yi) (from_yi choices a p),
+      length-append (yi_text a p.yi) (from_wan choices b p),
+      length-append (wan_text b p.wan) (yuan_text choices c p.yuan p.jiao p.fen),
+      owed-wan choices.behind_wan_yi Nothing p.wan_yi,
+      owed-yi choices.behind_yi a p.yi,
+      owed-wan choices.behind_wan b p.wan,
+      length-yuan choices c p.yuan p.jiao p.fen,
+    )
+
+-- the same behind 人民币
 pub length-form : (choices : Choices) (p : Places) → length (amount_form choices p) ≤ 39
 length-form choices p = by choices.currency where
-  top : length (from_top choices p) ≤ 36
-  top =
-      let a = after_wan choices.behind_wan_yi Nothing p.wan_yi in
-      let b = after_yi choices.behind_yi a p.yi in
-      let c = after_wan choices.behind_wan b p.wan in
-      omega (
-        arith,
-        length-append (wan_text Nothing p.wan_yi) (from_yi choices a p),
-        length-append (yi_text a p.yi) (from_wan choices b p),
-        length-append (wan_text b p.wan) (yuan_text choices c p.yuan p.jiao p.fen),
-        owed-wan choices.behind_wan_yi Nothing p.wan_yi,
-        owed-yi choices.behind_yi a p.yi,
-        owed-wan choices.behind_wan b p.wan,
-        length-yuan choices c p.yuan p.jiao p.fen,
-      )
-
   by : (b : Bool) → length ((if b then Ren ∷ Min ∷ Bi ∷ [] else []) ++ from_top choices p) ≤ 39
-  by true = omega (arith, length-append (Ren ∷ Min ∷ Bi ∷ []) (from_top choices p), top)
-  by false = omega (arith, length-append {A = Capital} [] (from_top choices p), top)
+  by true = omega (
+    arith,
+    length-append (Ren ∷ Min ∷ Bi ∷ []) (from_top choices p),
+    length-top choices p,
+  )
+  by false = omega (arith, length-append {A = Capital} [] (from_top choices p), length-top choices p)

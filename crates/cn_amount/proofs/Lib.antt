@@ -1,4 +1,5 @@
 pub mod Accepted
+pub mod CapitalTable
 pub mod Closed
 pub mod Examples
 pub mod FormsRead

@@ -11,6 +11,7 @@ use Rattle.cn_amount.specs.declared.state.Stage.{Stage}
 use Rattle.cn_amount.specs.declared.state.State.TheVariants.{AfterLing, DigitAt, DigitBelow, AfterUnit}
 use Rattle.cn_amount.specs.Form.{is_zero, ones_text, tens_text, hundreds_text, section_text}
 use Rattle.cn_amount.specs.Working.Steps.{close, behind_thousands, accepts}
+use Rattle.cn_amount.proofs.Joins.{four}
 
 -- a digit is one from 1 to 9
 abbrev pub is_proper : Capital → Bool
@@ -127,15 +128,9 @@ pub record FirstThousands (stage : Stage) (t : List Capital) : Type 0 where
   pub low_tens : tens < 10
   pub low : ones < 10
   pub rest : List Capital
-  pub is : t ≡ section_text Nothing (record {
-    thousands = thousands;
-    hundreds = hundreds;
-    tens =
-        tens;
-    ones = ones;
-  }) ++ rest
+  pub is : t ≡ section_text Nothing (four thousands hundreds tens ones) ++ rest
   pub gap : Ling ∷ t ≡ section_text Gap
-      (record { thousands = thousands; hundreds = hundreds; tens = tens; ones = ones }) ++ rest
+      (four thousands hundreds tens ones) ++ rest
   pub some : (is_zero thousands && (is_zero hundreds && (is_zero tens && is_zero ones))) ≡ false
   pub ends : closed (stage_with thousands stage) (is_zero ones) rest ≡ true
   pub proper : list_all is_proper rest ≡ true
@@ -425,13 +420,7 @@ pub record ReadThousands (stage : Stage) (t : List Capital) : Type 0 where
   pub low_tens : tens < 10
   pub low : ones < 10
   pub rest : List Capital
-  pub is : t ≡ section_text Filled (record {
-    thousands = suc before_thousands;
-    hundreds =
-        hundreds;
-    tens = tens;
-    ones = ones;
-  }) ++ rest
+  pub is : t ≡ section_text Filled (four (suc before_thousands) hundreds tens ones) ++ rest
   pub ends : closed stage (is_zero ones) rest ≡ true
   pub proper : list_all is_proper rest ≡ true
 

@@ -10,7 +10,7 @@ use Rattle.cn_amount.specs.declared.sum.Sum.{Sum}
 use Rattle.cn_amount.specs.Form.{Choices, is_zero, is_empty, is_written, after_digit, after_section, yuan_unit, after_yuan_unit, behind, place_text, closing, section_text, small_text, yuan_text, from_wan, from_yi, from_top, amount_form}
 use Rattle.cn_amount.specs.Places.{section_value, amount_value}
 use Rattle.cn_amount.specs.Working.Steps.{add, sum_of, no_sum}
-use Rattle.cn_amount.proofs.Joins.{front, empty_section, written-behind, after-written, after-some, yuan-is, wan-is, yi-is}
+use Rattle.cn_amount.proofs.Joins.{front, lower, empty_section, written-behind, after-written, after-some, yuan-is, wan-is, yi-is}
 use Rattle.cn_amount.proofs.FormsRead.{by-empty}
 
 abbrev sums : ℕ → ℕ → ℕ → ℕ → Sum
@@ -27,33 +27,18 @@ joined-sum : (first second third : Sum) (start back : List Capital) → sum_of f
 joined-sum first second third start back a b =
     sum-append first start back ∙ ap (λ sum. sum_of sum back) a ∙ b
 
--- a place
-thousands : (before : Before) (fen yuan section digit : ℕ)
-    → sum_of (sums fen yuan section 0) (place_text before digit (Qian ∷ []))
-    ≡ sums fen yuan (section + 1000 * digit) 0
-thousands before fen yuan section zero = let e : section ≡ section + 1000 * 0 =
-    omega arith in ap (λ n. sums fen yuan n 0) e
-thousands Nothing fen yuan section (suc n) = refl
-thousands Gap fen yuan section (suc n) = refl
-thousands Filled fen yuan section (suc n) = refl
-
-hundreds : (before : Before) (fen yuan section digit : ℕ)
-    → sum_of (sums fen yuan section 0) (place_text before digit (Bai ∷ []))
-    ≡ sums fen yuan (section + 100 * digit) 0
-hundreds before fen yuan section zero = let e : section ≡ section + 100 * 0 =
-    omega arith in ap (λ n. sums fen yuan n 0) e
-hundreds Nothing fen yuan section (suc n) = refl
-hundreds Gap fen yuan section (suc n) = refl
-hundreds Filled fen yuan section (suc n) = refl
-
-tens : (before : Before) (fen yuan section digit : ℕ)
-    → sum_of (sums fen yuan section 0) (place_text before digit (Shi ∷ []))
-    ≡ sums fen yuan (section + 10 * digit) 0
-tens before fen yuan section zero = let e : section ≡ section + 10 * 0 =
-    omega arith in ap (λ n. sums fen yuan n 0) e
-tens Nothing fen yuan section (suc n) = refl
-tens Gap fen yuan section (suc n) = refl
-tens Filled fen yuan section (suc n) = refl
+-- a place of a section, whose unit is worth so much
+counted : (unit : Capital) (worth : ℕ)
+    → ((fen yuan section digit : ℕ)
+    → add (sums fen yuan section digit) unit ≡ sums fen yuan (section + worth * digit) 0)
+    → (before : Before) (fen yuan section digit : ℕ)
+    → sum_of (sums fen yuan section 0) (place_text before digit (unit ∷ []))
+    ≡ sums fen yuan (section + worth * digit) 0
+counted unit worth is before fen yuan section zero =
+    let e : section ≡ section + worth * 0 = omega arith in ap (λ n. sums fen yuan n 0) e
+counted unit worth is Nothing fen yuan section (suc n) = is fen yuan section (suc n)
+counted unit worth is Gap fen yuan section (suc n) = is fen yuan section (suc n)
+counted unit worth is Filled fen yuan section (suc n) = is fen yuan section (suc n)
 
 ones : (before : Before) (fen yuan section digit : ℕ)
     → sum_of (sums fen yuan section 0) (place_text before digit []) ≡ sums fen yuan section digit
@@ -113,11 +98,11 @@ section-sum before fen yuan s =
     let third = place_text b s.tens (Shi ∷ []) in
     let last = place_text c s.ones [] in
     joined-sum (sums fen yuan 0 0) (sums fen yuan x 0) (sums fen yuan z s.ones) first
-    (second ++ (third ++ last)) (thousands before fen yuan 0 s.thousands)
+    (second ++ (third ++ last)) (counted Qian 1000 (λ f y n d. refl) before fen yuan 0 s.thousands)
     (joined-sum (sums fen yuan x 0) (sums fen yuan y 0) (sums fen yuan z s.ones) second
-    (third ++ last) (hundreds a fen yuan x s.hundreds)
+    (third ++ last) (counted Bai 100 (λ f y n d. refl) a fen yuan x s.hundreds)
     (joined-sum (sums fen yuan y 0) (sums fen yuan z 0) (sums fen yuan z s.ones) third last
-    (tens b fen yuan y s.tens) (ones c fen yuan z s.ones)))
+    (counted Shi 10 (λ f y n d. refl) b fen yuan y s.tens) (ones c fen yuan z s.ones)))
 
 -- a section and its unit
 wan-sum : (before : Before) (yuan : ℕ) (s : Section) (rest : List Capital) (total : Sum)
@@ -166,17 +151,6 @@ from-yuan choices before yuan s jiao fen after =
     ap (sum_of (sums 0 yuan 0 0)) (sym (yuan-is choices before s jiao fen small after refl))
     ∙ yuan-sum before yuan s small _ (small-sum below (100 * (yuan + section_value s)) jiao fen
     choices.behind_jiao)
-
-abbrev lower : Section → Section → ℕ → ℕ → Places
-lower wan yuan jiao fen = record {
-  wan_yi = empty_section;
-  yi = empty_section;
-  wan = wan;
-  yuan =
-      yuan;
-  jiao = jiao;
-  fen = fen;
-}
 
 wan-counted : (choices : Choices) (before : Before) (yuan : ℕ) (wan s : Section) (jiao fen : ℕ)
     → is_empty wan ≡ false → after_section before wan ≡ front (is_zero wan.ones)

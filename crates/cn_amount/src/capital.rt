@@ -1,10 +1,13 @@
 // The characters of an amount.
-ghost use Rattle.std.specs.Prelude.{◌≡◌};
+ghost use Rattle.std.specs.Prelude.{◌≡◌, ◌<◌, ◌*◌, ◌/◌, ◌%◌, slice_index_or};
+ghost use Rattle.cn_core.specs.Characters.{digit_char};
+ghost use Rattle.cn_core.specs.declared.case.ChineseCase.TheVariants.{Upper};
+ghost use Rattle.cn_core.specs.declared.script.ChineseVariant.TheVariants.{Simple, Traditional};
 ghost use Rattle.cn_amount.specs.Working.Putting.{IsWritten};
 ghost use Rattle.cn_amount.specs.Writes.{capital_char};
 ghost use Rattle.cn_amount.specs.Reading.{capital_of};
 
-use cn_core::{ChineseCase, ChineseVariant, Unit, digit_char, unit_char};
+use cn_core::ChineseVariant;
 
 /// What a character of an amount is.
 #[derive(Clone, Copy)]
@@ -41,19 +44,40 @@ pub enum Capital {
     Foreign,
 }
 
-/// The character that writes a capital.
-pub fn capital_char(variant: ChineseVariant, capital: Capital) -> char
+// The digits of the simple script.
+#[tactic(auto, unfolding(cn_core::specs::Characters::digit_char))]
+fn simple_digit(digit: u8) -> char
+    requires { digit < 10 }
+    ensures { result ≡ digit_char Simple Upper digit }
+{
+    match digit {
+        1 => '壹',
+        2 => '贰',
+        3 => '叁',
+        4 => '肆',
+        5 => '伍',
+        6 => '陆',
+        7 => '柒',
+        8 => '捌',
+        9 => '玖',
+        _ => '零',
+    }
+}
+
+// The characters of the simple script.
+#[tactic(auto, unfolding(cn_core::specs::Characters::digit_char, cn_core::specs::Characters::unit_char))]
+fn simple_char(capital: Capital) -> char
     requires { IsWritten capital }
-    ensures { result ≡ capital_char variant capital }
+    ensures { result ≡ capital_char Simple capital }
 {
     match capital {
-        Capital::Ling => digit_char(variant, ChineseCase::Upper, 0),
-        Capital::Digit(digit) => digit_char(variant, ChineseCase::Upper, digit),
-        Capital::Shi => unit_char(variant, ChineseCase::Upper, Unit::Shi),
-        Capital::Bai => unit_char(variant, ChineseCase::Upper, Unit::Bai),
-        Capital::Qian => unit_char(variant, ChineseCase::Upper, Unit::Qian),
-        Capital::Wan => unit_char(variant, ChineseCase::Upper, Unit::Wan),
-        Capital::Yi => unit_char(variant, ChineseCase::Upper, Unit::Yi),
+        Capital::Ling => '零',
+        Capital::Digit(digit) => simple_digit(digit),
+        Capital::Shi => '拾',
+        Capital::Bai => '佰',
+        Capital::Qian => '仟',
+        Capital::Wan => '万',
+        Capital::Yi => '亿',
         Capital::Yuan => '元',
         Capital::Jiao => '角',
         Capital::Fen => '分',
@@ -65,34 +89,147 @@ pub fn capital_char(variant: ChineseVariant, capital: Capital) -> char
     }
 }
 
-/// What a character is, of either script.
-#[tactic(auto, unfolding(crate::specs::Reading::capital_of))]
+// The digits of the traditional script.
+#[tactic(auto, unfolding(cn_core::specs::Characters::digit_char))]
+fn traditional_digit(digit: u8) -> char
+    requires { digit < 10 }
+    ensures { result ≡ digit_char Traditional Upper digit }
+{
+    match digit {
+        1 => '壹',
+        2 => '貳',
+        3 => '參',
+        4 => '肆',
+        5 => '伍',
+        6 => '陸',
+        7 => '柒',
+        8 => '捌',
+        9 => '玖',
+        _ => '零',
+    }
+}
+
+// The characters of the traditional script.
+#[tactic(auto, unfolding(cn_core::specs::Characters::digit_char, cn_core::specs::Characters::unit_char))]
+fn traditional_char(capital: Capital) -> char
+    requires { IsWritten capital }
+    ensures { result ≡ capital_char Traditional capital }
+{
+    match capital {
+        Capital::Ling => '零',
+        Capital::Digit(digit) => traditional_digit(digit),
+        Capital::Shi => '拾',
+        Capital::Bai => '佰',
+        Capital::Qian => '仟',
+        Capital::Wan => '萬',
+        Capital::Yi => '億',
+        Capital::Yuan => '元',
+        Capital::Jiao => '角',
+        Capital::Fen => '分',
+        Capital::Zheng => '整',
+        Capital::Ren => '人',
+        Capital::Min => '民',
+        Capital::Bi => '币',
+        Capital::Foreign => '?',
+    }
+}
+
+/// The character that writes a capital.
+pub fn capital_char(variant: ChineseVariant, capital: Capital) -> char
+    requires { IsWritten capital }
+    ensures { result ≡ capital_char variant capital }
+{
+    match variant {
+        ChineseVariant::Simple => simple_char(capital),
+        ChineseVariant::Traditional => traditional_char(capital),
+    }
+}
+
+// The characters that are read, each at its slot. 無, which is none, fills the empty ones.
+static CAPITALS: [(char, Capital); 64] = [
+    ('玖', Capital::Digit(9)),
+    ('無', Capital::Foreign),
+    ('無', Capital::Foreign),
+    ('無', Capital::Foreign),
+    ('無', Capital::Foreign),
+    ('萬', Capital::Wan),
+    ('肆', Capital::Digit(4)),
+    ('無', Capital::Foreign),
+    ('無', Capital::Foreign),
+    ('無', Capital::Foreign),
+    ('無', Capital::Foreign),
+    ('無', Capital::Foreign),
+    ('無', Capital::Foreign),
+    ('仟', Capital::Qian),
+    ('民', Capital::Min),
+    ('億', Capital::Yi),
+    ('無', Capital::Foreign),
+    ('陆', Capital::Digit(6)),
+    ('角', Capital::Jiao),
+    ('無', Capital::Foreign),
+    ('無', Capital::Foreign),
+    ('元', Capital::Yuan),
+    ('佰', Capital::Bai),
+    ('無', Capital::Foreign),
+    ('人', Capital::Ren),
+    ('無', Capital::Foreign),
+    ('無', Capital::Foreign),
+    ('無', Capital::Foreign),
+    ('無', Capital::Foreign),
+    ('無', Capital::Foreign),
+    ('伍', Capital::Digit(5)),
+    ('無', Capital::Foreign),
+    ('無', Capital::Foreign),
+    ('無', Capital::Foreign),
+    ('壹', Capital::Digit(1)),
+    ('無', Capital::Foreign),
+    ('万', Capital::Wan),
+    ('貳', Capital::Digit(2)),
+    ('無', Capital::Foreign),
+    ('圓', Capital::Yuan),
+    ('亿', Capital::Yi),
+    ('無', Capital::Foreign),
+    ('正', Capital::Zheng),
+    ('捌', Capital::Digit(8)),
+    ('無', Capital::Foreign),
+    ('柒', Capital::Digit(7)),
+    ('陸', Capital::Digit(6)),
+    ('贰', Capital::Digit(2)),
+    ('叁', Capital::Digit(3)),
+    ('無', Capital::Foreign),
+    ('幣', Capital::Bi),
+    ('無', Capital::Foreign),
+    ('無', Capital::Foreign),
+    ('拾', Capital::Shi),
+    ('參', Capital::Digit(3)),
+    ('整', Capital::Zheng),
+    ('無', Capital::Foreign),
+    ('叄', Capital::Digit(3)),
+    ('無', Capital::Foreign),
+    ('零', Capital::Ling),
+    ('分', Capital::Fen),
+    ('币', Capital::Bi),
+    ('圆', Capital::Yuan),
+    ('無', Capital::Foreign),
+];
+
+// The entry at the slot of a character: no two of those that are read share one.
+#[inline(always)]
+fn entry(character: char) -> (char, Capital)
+    ensures { result ≡ slice_index_or CAPITALS (character * 3227 / 1024 % 64) result }
+{
+    CAPITALS[(character as u32 * 3227 / 1024 % 64) as usize]
+}
+
+/// What a character is, of either script, by a look-up without a search.
+#[inline(always)]
 pub fn capital_of(character: char) -> Capital
     ensures { result ≡ capital_of character }
 {
-    match character {
-        '零' => Capital::Ling,
-        '壹' => Capital::Digit(1),
-        '贰' | '貳' => Capital::Digit(2),
-        '叁' | '參' | '叄' => Capital::Digit(3),
-        '肆' => Capital::Digit(4),
-        '伍' => Capital::Digit(5),
-        '陆' | '陸' => Capital::Digit(6),
-        '柒' => Capital::Digit(7),
-        '捌' => Capital::Digit(8),
-        '玖' => Capital::Digit(9),
-        '拾' => Capital::Shi,
-        '佰' => Capital::Bai,
-        '仟' => Capital::Qian,
-        '万' | '萬' => Capital::Wan,
-        '亿' | '億' => Capital::Yi,
-        '元' | '圆' | '圓' => Capital::Yuan,
-        '角' => Capital::Jiao,
-        '分' => Capital::Fen,
-        '整' | '正' => Capital::Zheng,
-        '人' => Capital::Ren,
-        '民' => Capital::Min,
-        '币' | '幣' => Capital::Bi,
-        _ => Capital::Foreign,
+    let (known, capital) = entry(character);
+    if known == character {
+        capital
+    } else {
+        Capital::Foreign
     }
 }

@@ -5,18 +5,17 @@
 //! unit, and 零 in front of it where the digit directly before it is 0. `Choices` are what the rules
 //! leave open; the form that is written makes one choice of each.
 //!
-//! Writing puts that form twice, once with a pen that counts and once with one that writes. Reading
-//! goes from the left, by states that say what may follow. That it is right is shown in three parts:
-//! each form is read to its end (`proofs/FormsRead`), each text that is read to its end is a form
-//! (`proofs/Accepted`), and each state can be completed (`proofs/Runs`). The sum that is taken on the
-//! way is the amount (`proofs/Values`).
+//! Writing puts that form piece by piece into room for the longest one, from which a string is made.
+//! Reading goes from the left, by states that say what may follow. That it is right is shown in
+//! three parts: each form is read to its end (`proofs/FormsRead`), each text that is read to its end
+//! is a form (`proofs/Accepted`), and each state can be completed (`proofs/Runs`). The sum that is
+//! taken on the way is the amount (`proofs/Values`).
 #![tactic(auto)]
 
 mod before;
 mod capital;
 mod error;
 pub mod laws;
-mod pen;
 mod places;
 mod put;
 mod read;
@@ -24,8 +23,9 @@ mod state;
 mod sum;
 #[cfg(test)]
 mod tests;
+mod text;
 mod write;
 
 pub use error::{AmountToChineseError, ChineseToAmountError};
 pub use read::chinese_to_amount;
-pub use write::{AMOUNT_LIMIT, amount_to_chinese};
+pub use write::{AMOUNT_LIMIT, amount_text, amount_to_chinese};

@@ -1,7 +1,7 @@
 // What a text stands for, summed from the left.
-ghost use Rattle.std.specs.Prelude.{◌≡◌, ◌<◌};
+ghost use Rattle.std.specs.Prelude.{◌≡◌, ◌+◌, ◌<◌};
 ghost use Rattle.cn_amount.specs.Places.{amount_limit};
-ghost use Rattle.cn_amount.specs.Working.Steps.{add, summed};
+ghost use Rattle.cn_amount.specs.Working.Steps.{with_section, with_yuan, with_fen, add, summed};
 
 use crate::capital::Capital;
 
@@ -27,6 +27,42 @@ impl Sum {
         digit: 0,
     };
 
+    // With so much more in the open section, where no digit waits.
+    fn with_section(self, more: u64) -> Sum
+        requires { self.section + more < amount_limit }
+        ensures { result ≡ with_section self more }
+    {
+        Sum {
+            section: self.section + more,
+            digit: 0,
+            ..self
+        }
+    }
+
+    // With so many yuan in the sections that are closed, and none open.
+    fn with_yuan(self, yuan: u64) -> Sum
+        ensures { result ≡ with_yuan self yuan }
+    {
+        Sum {
+            yuan,
+            section: 0,
+            digit: 0,
+            ..self
+        }
+    }
+
+    // With so many more fen, where no digit waits.
+    fn with_fen(self, more: u64) -> Sum
+        requires { self.fen + more < amount_limit }
+        ensures { result ≡ with_fen self more }
+    {
+        Sum {
+            fen: self.fen + more,
+            digit: 0,
+            ..self
+        }
+    }
+
     /// The sum with one more character.
     pub fn add(self, capital: Capital) -> Sum
         requires { summed (add self capital) < amount_limit }
@@ -37,49 +73,16 @@ impl Sum {
                 digit: digit as u64,
                 ..self
             },
-            Capital::Shi => Sum {
-                section: self.section + 10 * self.digit,
-                digit: 0,
-                ..self
-            },
-            Capital::Bai => Sum {
-                section: self.section + 100 * self.digit,
-                digit: 0,
-                ..self
-            },
-            Capital::Qian => Sum {
-                section: self.section + 1000 * self.digit,
-                digit: 0,
-                ..self
-            },
-            Capital::Wan => Sum {
-                yuan: self.yuan + 10_000 * (self.section + self.digit),
-                section: 0,
-                digit: 0,
-                ..self
-            },
-            Capital::Yi => Sum {
-                yuan: 100_000_000 * (self.yuan + self.section + self.digit),
-                section: 0,
-                digit: 0,
-                ..self
-            },
-            Capital::Yuan => Sum {
-                fen: self.fen + 100 * (self.yuan + self.section + self.digit),
-                yuan: 0,
-                section: 0,
-                digit: 0,
-            },
-            Capital::Jiao => Sum {
-                fen: self.fen + 10 * self.digit,
-                digit: 0,
-                ..self
-            },
-            Capital::Fen => Sum {
-                fen: self.fen + self.digit,
-                digit: 0,
-                ..self
-            },
+            Capital::Shi => self.with_section(10 * self.digit),
+            Capital::Bai => self.with_section(100 * self.digit),
+            Capital::Qian => self.with_section(1000 * self.digit),
+            Capital::Wan => self.with_yuan(self.yuan + 10_000 * (self.section + self.digit)),
+            Capital::Yi => self.with_yuan(100_000_000 * (self.yuan + self.section + self.digit)),
+            Capital::Yuan => self
+                .with_fen(100 * (self.yuan + self.section + self.digit))
+                .with_yuan(0),
+            Capital::Jiao => self.with_fen(10 * self.digit),
+            Capital::Fen => self.with_fen(self.digit),
             _ => self,
         }
     }

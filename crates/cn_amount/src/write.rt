@@ -1,15 +1,30 @@
 // Writing.
-ghost use Rattle.cn_amount.specs.Writes.{WritesAmount};
+ghost use Rattle.std.specs.Prelude.{◌≡◌, ◌≤◌, length, encode_utf8_all};
+ghost use Rattle.cn_short_text.specs.ShortText.{text_bytes};
+ghost use Rattle.cn_amount.specs.Writes.{WritesAmount, amount_text};
 
 use crate::AmountToChineseError;
-use crate::pen::{Count, Writer};
 use crate::places::Places;
 use crate::put::put_amount;
+use crate::text::AmountText;
 use cn_core::ChineseVariant;
+use cn_short_text::ShortText;
 use std::alloc::Global;
 
 /// The first amount that is not written: 10^16 yuan, in fen.
 pub const AMOUNT_LIMIT: u64 = 1_000_000_000_000_000_000;
+
+/// The text of an amount below the limit, in memory of its own.
+///
+/// Of a number from the limit on, its lowest eighteen digits are written.
+pub fn amount_text(variant: ChineseVariant, fen: u64) -> ShortText
+    ensures bytes { text_bytes result ≡ encode_utf8_all (amount_text variant fen) }
+    ensures most { length (text_bytes result) ≤ 108 }
+{
+    let mut text = AmountText::new(variant);
+    put_amount(&mut text, Places::of(fen));
+    text.text
+}
 
 /// The amount in capitals, as it stands on a cheque. It is given in fen, the hundredth part of a
 /// yuan.
@@ -31,14 +46,5 @@ pub fn amount_to_chinese(
     if fen >= AMOUNT_LIMIT {
         return Err(AmountToChineseError::Overflow);
     }
-    let places = Places::of(fen);
-    let mut count = Count { capitals: 0 };
-    put_amount(&mut count, places)?;
-    let mut writer = Writer {
-        bytes: Vec::with_capacity(alloc, 3 * count.capitals)?,
-        variant,
-    };
-    put_amount(&mut writer, places)?;
-    let Writer { bytes, variant: _ } = writer;
-    Ok(unsafe { String::from_utf8_unchecked(bytes) })
+    Ok(amount_text(variant, fen).to_string(alloc)?)
 }

@@ -1,11 +1,12 @@
 // Pseudo-random numbers of all lengths.
+use chinese_number::AMOUNT_LIMIT;
 use std::alloc::{AllocError, Global};
 
 // How many there are.
 const NUMBERS: u32 = 10_000;
 
-// The next of a run of pseudo-random numbers.
-fn next(state: &mut u64) -> u64 {
+/// The next of a run of pseudo-random numbers.
+pub fn next(state: &mut u64) -> u64 {
     *state ^= *state << 13;
     *state ^= *state >> 7;
     *state ^= *state << 17;
@@ -36,4 +37,14 @@ pub fn narrow_numbers(alloc: Global) -> Result<Vec<u64>, AllocError> {
         numbers.push(next(&mut state) >> (i % 64))?;
     }
     Ok(numbers)
+}
+
+/// Amounts of one to eighteen digits.
+pub fn amounts(alloc: Global) -> Result<Vec<u64>, AllocError> {
+    let mut state = 0x9e37_79b9_7f4a_7c15;
+    let mut amounts = Vec::new(alloc);
+    for i in 0..NUMBERS {
+        amounts.push((next(&mut state) >> (i % 64)) % AMOUNT_LIMIT)?;
+    }
+    Ok(amounts)
 }

@@ -10,45 +10,60 @@ pub enum Call {
     Read,
 }
 
-/// A call for a type, and how often it goes over all the numbers.
+/// What is repeated.
+#[derive(Copy, Clone)]
+pub enum Job {
+    /// A call for `u64`, or for `u128`, in one of the ways.
+    Narrow(Call, Way),
+    Wide(Call, Way),
+    /// Amounts of money.
+    Amounts(Call),
+    /// A search.
+    Find,
+}
+
+/// What is repeated, and how often it goes over all there is.
 #[derive(Copy, Clone)]
 pub struct Task {
-    pub call: Call,
-    pub is_wide: bool,
-    pub way: Way,
+    pub job: Job,
     pub passes: u32,
+}
+
+fn call_named(word: &str) -> Option<Call> {
+    match word {
+        "print" => Some(Call::Print),
+        "read" => Some(Call::Read),
+        _ => None,
+    }
 }
 
 impl Task {
     /// The task that these words name; one pass of printing where there are none.
     pub fn from_words(words: &[String]) -> Option<Self> {
-        if words.is_empty() {
+        let [job @ .., passes] = words else {
             return Some(Task {
-                call: Call::Print,
-                is_wide: true,
-                way: Way::Digits,
+                job: Job::Wide(Call::Print, Way::Digits),
                 passes: 1,
             });
-        }
-        let [call, kind, way, passes] = words else {
-            return None;
         };
-        let call = match call.as_str() {
-            "print" => Call::Print,
-            "read" => Call::Read,
+        let passes = passes.as_str().parse().ok()?;
+        let job = match job {
+            [find] if find.as_str() == "find" => Job::Find,
+            [call, amount] if amount.as_str() == "amount" => Job::Amounts(call_named(
+                call.as_str(),
+            )?),
+            [call, kind, way] => {
+                let call = call_named(call.as_str())?;
+                let way = way_named(way.as_bytes())?;
+                match kind.as_str() {
+                    "u64" => Job::Narrow(call, way),
+                    "u128" => Job::Wide(call, way),
+                    _ => return None,
+                }
+            }
             _ => return None,
         };
-        let is_wide = match kind.as_str() {
-            "u64" => false,
-            "u128" => true,
-            _ => return None,
-        };
-        Some(Task {
-            call,
-            is_wide,
-            way: way_named(way.as_bytes())?,
-            passes: passes.as_str().parse().ok()?,
-        })
+        Some(Task { job, passes })
     }
 }
 
@@ -70,12 +85,13 @@ fn printed_text<T: NumberToChinese>(
 pub fn print_sum<T: NumberToChinese>(
     alloc: Global,
     numbers: &[T],
-    task: Task,
+    way: Way,
+    passes: u32,
 ) -> Result<u64, AllocError> {
     let mut sum = 0u64;
-    for _ in 0..task.passes {
+    for _ in 0..passes {
         for number in numbers {
-            let text = printed_text(alloc, task.way, *number)?;
+            let text = printed_text(alloc, way, *number)?;
             sum = sum.wrapping_add(text.len() as u64);
         }
     }
@@ -86,16 +102,17 @@ pub fn print_sum<T: NumberToChinese>(
 pub fn read_sum<T: NumberToChinese>(
     alloc: Global,
     numbers: &[T],
-    task: Task,
+    way: Way,
+    passes: u32,
 ) -> Result<u64, AllocError> {
     let mut texts = Vec::new(alloc);
     for number in numbers {
-        texts.push(printed_text(alloc, task.way, *number)?)?;
+        texts.push(printed_text(alloc, way, *number)?)?;
     }
     let mut sum = 0u64;
-    for _ in 0..task.passes {
+    for _ in 0..passes {
         for text in &texts {
-            let number = read_by::<T>(task.way, text.as_str());
+            let number = read_by::<T>(way, text.as_str());
             let magnitude = number.map_or(0, |number| number.magnitude());
             sum = sum.wrapping_add((magnitude & u64::MAX as u128) as u64);
         }

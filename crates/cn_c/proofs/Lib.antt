@@ -1,1 +1,3 @@
+pub mod AmountReadBack
+pub mod DateReadBack
 pub mod ReadBack

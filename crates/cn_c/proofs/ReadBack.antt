@@ -33,7 +33,7 @@ use Rattle.cn_c.specs.Prints.{PutsNothing, PutsIfItFits, PutsWritten, PrintsNumb
 use Rattle.cn_c.specs.Reads.{Tells, ReadsInto, IsReadAs}
 
 -- what is put where all goes well
-put-text : (text old new : List ℕ) (len : ℕ) → PutsIfItFits text old CN_DONE new len
+pub put-text : (text old new : List ℕ) (len : ℕ) → PutsIfItFits text old CN_DONE new len
     → take len new ≡ text
 put-text text old new len = by (nat_le (length text) (length old)) where
   by : (b : Bool) → MatchBool b ((CN_DONE ≡ 0) × (new ≡ text ++ drop (length text) old)

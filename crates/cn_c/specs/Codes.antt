@@ -1,10 +1,12 @@
 -- What each code names and what each status says, as in `chinese_number.h`.
-use Rattle.std.specs.Prelude.{ℕ, List, [], ◌∷◌}
+use Rattle.std.specs.Prelude.{ℕ, Bool, true, false, List, [], ◌∷◌}
 use Rattle.chinese_number.specs.declared.ChineseCase.{ChineseCase}
 use Rattle.chinese_number.specs.declared.ChineseCase.TheVariants.{Upper, Lower}
 use Rattle.chinese_number.specs.declared.ChineseCountMethod.TheVariants.{Low, TenThousand, Middle, High}
 use Rattle.chinese_number.specs.declared.ChineseVariant.{ChineseVariant}
 use Rattle.chinese_number.specs.declared.ChineseVariant.TheVariants.{Traditional, Simple}
+use Rattle.chinese_number.specs.declared.Unit.{Unit as NumeralUnit}
+use Rattle.chinese_number.specs.declared.Unit.TheVariants.{Ge, Shi, Bai, Qian, Wan, Yi, Zhao, Jing, Gai, Zi, Rang, Gou, Jian, Zheng, Zai, Ji}
 use Rattle.chinese_number.specs.Refusal.{Refusal, empty, incorrect_at, too_large, too_small}
 use Rattle.cn_c.specs.declared.codes.Kind.{Kind}
 use Rattle.cn_c.specs.declared.codes.Kind.TheVariants.{U8, U16, U32, U64, U128, I8, I16, I32, I64, I128}
@@ -27,7 +29,17 @@ scripts = Traditional ∷ Simple ∷ []
 abbrev pub cases : List ChineseCase
 cases = Upper ∷ Lower ∷ []
 
--- the number was read, or the text was written
+-- the units, by rank
+abbrev pub units : List NumeralUnit
+units =
+    Ge ∷ Shi ∷ Bai ∷ Qian ∷ Wan ∷ Yi ∷ Zhao ∷ Jing ∷ Gai ∷ Zi ∷ Rang ∷ Gou ∷ Jian ∷ Zheng ∷ Zai
+    ∷ Ji ∷ []
+
+-- whether the forms of the upper case are looked for
+abbrev pub uppers : List Bool
+uppers = false ∷ true ∷ []
+
+-- the text was read or written, or a number was found in it
 abbrev pub CN_DONE : ℕ
 CN_DONE = 0
 
@@ -62,6 +74,18 @@ CN_NOT_HELD = 7
 -- a code names nothing
 abbrev pub CN_UNKNOWN : ℕ
 CN_UNKNOWN = 8
+
+-- the text is no amount, or no date, and something behind it can make it one
+abbrev pub CN_UNFINISHED : ℕ
+CN_UNFINISHED = 9
+
+-- there is no number in the text
+abbrev pub CN_NONE : ℕ
+CN_NONE = 10
+
+-- there is no such date
+abbrev pub CN_NOT_A_DATE : ℕ
+CN_NOT_A_DATE = 11
 
 -- the status that tells a refusal
 abbrev pub refusal_status : Refusal → ℕ

@@ -1,18 +1,26 @@
 //! Chinese numerals for C, and for languages that call C: calls that print and read whole numbers
-//! of each type by each method.
+//! of each type by each method, find the numbers of a text, and print and read amounts of money and
+//! dates.
 //!
 //! `bindings/c/chinese_number.h` declares them.
 #![tactic(auto)]
 
+mod amount;
 mod codes;
+mod date;
+mod finding;
 pub mod laws;
 mod number;
 mod printing;
 mod reading;
+mod room;
 mod status;
 #[cfg(test)]
 mod tests;
 
+pub use amount::{Amount, chinese_amount_print, chinese_amount_read};
+pub use date::{Date, chinese_date_print, chinese_date_read};
+pub use finding::{Span, chinese_number_find, chinese_number_find_utf8};
 pub use number::Number;
 pub use printing::chinese_number_print;
 pub use reading::{Reading, chinese_number_read, chinese_number_read_utf8};

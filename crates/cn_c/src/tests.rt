@@ -1,5 +1,11 @@
 // Each call on its happy path, and codes and statuses by their numbers, as C has them.
-use crate::{Number, Reading, chinese_number_print, chinese_number_read, chinese_number_read_utf8};
+mod amounts;
+mod dates;
+
+use crate::{
+    Number, Reading, Span, chinese_number_find, chinese_number_find_utf8, chinese_number_print,
+    chinese_number_read, chinese_number_read_utf8,
+};
 
 const NOTHING: Reading = Reading {
     number: Number { low: 0, high: 0 },
@@ -69,4 +75,48 @@ fn prints(rt: HostRuntime) {
         assert_eq!(rt; front, text.as_bytes());
         assert!(rt; behind.iter().all(|byte| *byte == 7));
     }
+}
+
+// A text, whether the upper case is looked for, and the code of the greatest unit; the status, and
+// of the first number its start and end in bytes and whether it is plain digits.
+static FOUND: [(&str, u32, u32, u32, usize, usize, u32); 8] = [
+    ("第二十三回", 0, 6, 0, 3, 12, 0),
+    ("二零二五年十一月", 0, 6, 0, 0, 12, 1),
+    ("買2兩", 0, 6, 0, 3, 4, 1),
+    ("參加", 0, 6, 10, 0, 0, 0),
+    ("參加", 1, 6, 0, 0, 3, 1),
+    ("北京二环", 0, 7, 0, 3, 9, 0),
+    ("", 0, 15, 10, 0, 0, 0),
+    ("一", 2, 6, 8, 0, 0, 0),
+];
+
+#[test]
+fn finds(rt: HostRuntime) {
+    for (text, upper, greatest, status, start, end, digits) in &FOUND {
+        let mut span = Span {
+            start: 7,
+            end: 7,
+            digits: 7,
+        };
+        let answer = chinese_number_find(text.as_bytes(), *upper, *greatest, &mut span);
+        assert_eq!(rt; answer, *status, "{text}");
+        assert_eq!(rt; span.start, *start, "{text}");
+        assert_eq!(rt; span.end, *end, "{text}");
+        assert_eq!(rt; span.digits, *digits, "{text}");
+    }
+}
+
+#[test]
+fn finds_in_utf8_and_in_no_other_bytes(rt: HostRuntime) {
+    let mut span = Span {
+        start: 7,
+        end: 7,
+        digits: 7,
+    };
+    let status = unsafe { chinese_number_find_utf8("三百元".as_bytes(), 0, 6, &mut span) };
+    assert_eq!(rt; status, 0);
+    assert_eq!(rt; span.end, 6);
+    assert_eq!(rt; chinese_number_find("三百".as_bytes(), 0, 16, &mut span), 8);
+    assert_eq!(rt; chinese_number_find(b"\xe4\xb8", 0, 6, &mut span), 5);
+    assert_eq!(rt; span.end, 0);
 }

@@ -7,8 +7,8 @@
 
 use chinese_number::ChineseCase::Lower;
 use chinese_number::ChineseCountMethod::{High, Low, Middle, TenThousand};
-use chinese_number::ChineseVariant::Traditional;
-use chinese_number::{ChineseCountMethod, NumberToChinese};
+use chinese_number::ChineseVariant::{Simple, Traditional};
+use chinese_number::{AMOUNT_LIMIT, ChineseCountMethod, ChineseVariant, NumberToChinese};
 use std::fmt::{Debug, Display};
 use std::io;
 
@@ -149,6 +149,20 @@ fn ends_by_trait(rt: &(impl Print + AllocGlobal)) -> io::Result<()> {
     by_units(rt, "u128", u128::MAX, High)
 }
 
+// An amount of money.
+fn amount(rt: &(impl Print + AllocGlobal), variant: ChineseVariant, fen: u64) -> io::Result<()> {
+    let outcome = chinese_number::amount_to_chinese(rt.alloc(), variant, fen);
+    show(rt, "amount_to_chinese", outcome)
+}
+
+// The shortest amounts and the longest one, and one between them.
+fn amounts(rt: &(impl Print + AllocGlobal)) -> io::Result<()> {
+    amount(rt, Simple, 0)?;
+    amount(rt, Simple, 5)?;
+    amount(rt, Traditional, 140_950)?;
+    amount(rt, Traditional, AMOUNT_LIMIT - 1)
+}
+
 // The greatest number that `Low` prints.
 const MOST_BY_LOW: u64 = 9_999_999_999_999_999;
 
@@ -156,7 +170,8 @@ const MOST_BY_LOW: u64 = 9_999_999_999_999_999;
 fn refused(rt: &(impl Print + AllocGlobal)) -> io::Result<()> {
     show_each!(rt, MOST_BY_LOW + 1; from_u64_to_chinese_low);
     show_each!(rt, -10_000_000_000_000_000; from_i64_to_chinese_low);
-    by_units(rt, "u64", MOST_BY_LOW + 1, Low)
+    by_units(rt, "u64", MOST_BY_LOW + 1, Low)?;
+    amount(rt, Simple, AMOUNT_LIMIT)
 }
 
 fn main(rt: HostRuntime) -> io::Result<()> {
@@ -168,5 +183,6 @@ fn main(rt: HostRuntime) -> io::Result<()> {
     one_at_each_type(&rt)?;
     ends_by_name(&rt)?;
     ends_by_trait(&rt)?;
+    amounts(&rt)?;
     refused(&rt)
 }

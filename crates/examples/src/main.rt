@@ -1,30 +1,26 @@
-//! The examples of the README: an amount in capitals, a number printed and read back, and the number
-//! of a chapter, read from its heading.
+//! Calls with contracts, some of them the README's: an amount in capitals, a number read, a number
+//! printed and read back, and the number of a chapter, read from its heading.
 #![tactic(auto)]
+
+mod amount;
+mod number;
 
 ghost use Rattle.std.specs.Prelude.{◌≡◌, pos, Ok, IfOk, IfSome};
 ghost use Rattle.std.specs.List.{Contains};
-ghost use Rattle.chinese_number.specs.AmountWrites.{WritesAmount};
 ghost use Rattle.chinese_number.specs.Number.{IsAnswer};
 ghost use Rattle.chinese_number.specs.Spans.{Span, spans};
 ghost use Rattle.chinese_number.specs.Whole.{unsigned_kind};
 ghost use Rattle.chinese_number.specs.declared.ChineseCountMethod.TheVariants.{TenThousand};
-ghost use Rattle.chinese_number.specs.declared.ChineseVariant.TheVariants.{Simple};
 
+use crate::amount::amount_in_capitals;
+use crate::number::number_of;
 use chinese_number::laws::spellings_read_back;
 use chinese_number::{
-    AmountToChineseError, ChineseCase, ChineseCountMethod, ChineseToNumber, ChineseToNumberError,
-    ChineseVariant, NumberToChinese, NumberToChineseError, Wanted, amount_to_chinese, find_numbers,
+    ChineseCase, ChineseCountMethod, ChineseToNumber, ChineseToNumberError, ChineseVariant,
+    NumberToChinese, NumberToChineseError, Wanted, find_numbers,
 };
 use std::alloc::Global;
 use std::io;
-
-/// An amount in capitals, as a bank takes it: 1,500 fen are 壹拾伍元整.
-fn amount_in_capitals(alloc: Global, fen: u64) -> Result<String, AmountToChineseError>
-    ensures { WritesAmount Simple fen result }
-{
-    amount_to_chinese(alloc, ChineseVariant::Simple, fen)
-}
 
 /// Prints a number, and reads what was printed: the same number, wherever there is a text at all.
 fn print_and_read<T: NumberToChinese>(
@@ -58,6 +54,10 @@ fn chapter_number(line: &str) -> Option<u16>
 fn main(rt: HostRuntime) -> io::Result<()> {
     match amount_in_capitals(rt.alloc(), 1_500) {
         Ok(amount) => println!(rt; "{amount}")?,
+        Err(error) => println!(rt; "{error}")?,
+    }
+    match number_of("一百二") {
+        Ok(number) => println!(rt; "{number}")?,
         Err(error) => println!(rt; "{error}")?,
     }
     let (variant, case) = (ChineseVariant::Simple, ChineseCase::Upper);

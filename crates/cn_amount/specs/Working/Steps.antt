@@ -204,24 +204,29 @@ accepts state (capital ∷ rest) = elim (step state capital) [
   | Some next ↦ accepts next rest
 ]
 
+-- the sum with so much more in the open section, and no digit that waits
+abbrev pub with_section : Sum → ℕ → Sum
+with_section sum more = record sum { section = sum.section + more; digit = 0 }
+
+-- with so many yuan in the closed sections, and no open one
+abbrev pub with_yuan : Sum → ℕ → Sum
+with_yuan sum yuan = record sum { yuan = yuan; section = 0; digit = 0 }
+
+-- with so many more fen, and no digit that waits
+abbrev pub with_fen : Sum → ℕ → Sum
+with_fen sum more = record sum { fen = sum.fen + more; digit = 0 }
+
 -- the sum with one more capital
 abbrev pub add : Sum → Capital → Sum
 add sum (Digit value) = record sum { digit = value }
-add sum Shi = record sum { section = sum.section + 10 * sum.digit; digit = 0 }
-add sum Bai = record sum { section = sum.section + 100 * sum.digit; digit = 0 }
-add sum Qian = record sum { section = sum.section + 1000 * sum.digit; digit = 0 }
-add sum Wan =
-    record sum { yuan = sum.yuan + 10000 * (sum.section + sum.digit); section = 0; digit = 0 }
-add sum Yi =
-    record sum { yuan = 100000000 * (sum.yuan + sum.section + sum.digit); section = 0; digit = 0 }
-add sum Yuan = record {
-  fen = sum.fen + 100 * (sum.yuan + sum.section + sum.digit);
-  yuan = 0;
-  section = 0;
-  digit = 0;
-}
-add sum Jiao = record sum { fen = sum.fen + 10 * sum.digit; digit = 0 }
-add sum Fen = record sum { fen = sum.fen + sum.digit; digit = 0 }
+add sum Shi = with_section sum (10 * sum.digit)
+add sum Bai = with_section sum (100 * sum.digit)
+add sum Qian = with_section sum (1000 * sum.digit)
+add sum Wan = with_yuan sum (sum.yuan + 10000 * (sum.section + sum.digit))
+add sum Yi = with_yuan sum (100000000 * (sum.yuan + sum.section + sum.digit))
+add sum Yuan = with_yuan (with_fen sum (100 * (sum.yuan + sum.section + sum.digit))) 0
+add sum Jiao = with_fen sum (10 * sum.digit)
+add sum Fen = with_fen sum sum.digit
 add sum capital = sum
 
 -- the sum of a text

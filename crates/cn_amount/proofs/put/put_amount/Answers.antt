@@ -5,9 +5,9 @@ use Rattle.cn_amount.proofs.Shown.{puts-two}
 use Rattle.cn_amount.proofs.put.put_amount.Goals as goal
 
 pub returns : goal.returns
-returns g c =
+returns c =
     let p = c.args.places in
-    puts-two g.P.Pen.has_put _ _ _ (wan_text Nothing p.wan_yi)
+    puts-two _ _ _ (wan_text Nothing p.wan_yi)
     (from_yi written (after_wan true Nothing p.wan_yi) p)
-    c.in_ok-put_wan.ensures
-    (rw c.after_wan.ensures at c.in_ok-put_from_yi.ensures)
+    c.put_wan.ensures
+    (rw c.after_wan.ensures at c.put_from_yi.ensures)

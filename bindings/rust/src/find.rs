@@ -1,0 +1,128 @@
+//! The numbers in running text.
+
+use core::iter::FusedIterator;
+
+use crate::abi;
+use crate::{ChineseCountMethod, ChineseToNumber, ChineseToNumberError, Unit};
+
+/// Which characters are looked for: the digits and the units up to the greatest one, with or without the forms that only
+/// cheques have, as 參 and 陸, which mean other things in a sentence.
+#[derive(Debug, Copy, Clone, Eq, PartialEq, Hash)]
+pub struct Wanted {
+    /// Whether the forms of the upper case are looked for too.
+    pub upper: bool,
+    /// The greatest unit that is looked for.
+    pub greatest: Unit,
+}
+
+impl Wanted {
+    /// What sentences of today have: the lower case, and units up to 兆.
+    pub const EVERYDAY: Self = Self {
+        upper: false,
+        greatest: Unit::Zhao,
+    };
+    /// All characters that the readers read.
+    pub const ALL: Self = Self {
+        upper: true,
+        greatest: Unit::Ji,
+    };
+}
+
+/// A run of numeral characters in its text.
+#[derive(Debug, Copy, Clone, Eq, PartialEq)]
+pub struct Found<'a> {
+    /// What stands before it.
+    pub before: &'a str,
+    /// The run itself.
+    pub text: &'a str,
+    /// What stands after it.
+    pub after: &'a str,
+    is_plain: bool,
+}
+
+impl<'a> Found<'a> {
+    /// How many bytes stand before it.
+    #[inline]
+    pub fn start(self) -> usize {
+        self.before.len()
+    }
+
+    /// How many bytes stand before what follows it.
+    #[inline]
+    pub fn end(self) -> usize {
+        self.start() + self.text.len()
+    }
+
+    /// Whether it is plain digits: a single digit is, 十 is not.
+    #[inline]
+    pub fn is_plain(self) -> bool {
+        self.is_plain
+    }
+
+    /// Its number as plain digits where it is those, else by units. A `char_index` counts within the run.
+    #[inline]
+    pub fn number<T>(self, method: ChineseCountMethod) -> Result<T, ChineseToNumberError>
+    where
+        &'a str: ChineseToNumber<T>,
+    {
+        if self.is_plain {
+            self.text.to_number_naive()
+        } else {
+            self.text.to_number(method)
+        }
+    }
+}
+
+/// The numbers of a text, as [`find_numbers`] gives them.
+#[derive(Debug, Clone)]
+pub struct Numbers<'a> {
+    wanted: Wanted,
+    whole: &'a str,
+    // Where the end begins that is not yet searched.
+    next: usize,
+}
+
+/// The numbers of a text, from the first to the last: its longest runs of characters that are looked for. A run ends
+/// between an ASCII digit and a digit that is none, and 個 is of a run directly before 萬 or a greater unit alone.
+///
+/// It does not understand sentences: 一起 has a 1 in it, 兩三個 is 23, and 3.5萬 is two numbers.
+///
+/// ```rust
+/// use chinese_number::{find_numbers, ChineseCountMethod, Wanted};
+///
+/// let numbers: Vec<u32> = find_numbers("二零二五年十一月二十三日", Wanted::EVERYDAY)
+///     .flat_map(|found| found.number(ChineseCountMethod::TenThousand))
+///     .collect();
+/// assert_eq!(numbers, [2025, 11, 23]);
+/// ```
+#[inline]
+pub fn find_numbers(text: &str, wanted: Wanted) -> Numbers<'_> {
+    Numbers {
+        wanted,
+        whole: text,
+        next: 0,
+    }
+}
+
+impl<'a> Iterator for Numbers<'a> {
+    type Item = Found<'a>;
+
+    fn next(&mut self) -> Option<Found<'a>> {
+        let Wanted { upper, greatest } = self.wanted;
+        let Ok(span) = abi::find(&self.whole[self.next..], upper, greatest) else {
+            self.next = self.whole.len();
+            return None;
+        };
+        let (before, rest) = self.whole.split_at(self.next + span.start);
+        let (text, after) = rest.split_at(span.end - span.start);
+        self.next += span.end;
+        Some(Found {
+            before,
+            text,
+            after,
+            is_plain: span.digits == 1,
+        })
+    }
+}
+
+impl FusedIterator for Numbers<'_> {}

@@ -1,0 +1,17 @@
+//! What users of the program can count on, each as the contract of a function that does nothing.
+ghost use Rattle.std.specs.Prelude.{◌≡◌, ℕ, ◌+◌, ◌*◌, List, [], ◌∷◌, ◌++◌, Ok, codes, IsTrue};
+ghost use Rattle.std.specs.Char.{is_ascii_digit};
+ghost use Rattle.cheque.specs.Figures.{AreYuan, value_of, fen_of};
+
+/// Digits write so many yuan. Alone they stand for 100 fen each; behind a point, one digit stands
+/// for so many jiao and two for so many fen.
+pub fn figures_stand_for_their_amount()
+    ensures yuan { (yuan : List ℕ) → AreYuan yuan → fen_of yuan ≡ Ok (100 * value_of yuan) }
+    ensures jiao { (yuan : List ℕ) → (jiao : ℕ) → AreYuan yuan → IsTrue (is_ascii_digit jiao)
+        → fen_of (yuan ++ (codes "." ++ jiao ∷ []))
+        ≡ Ok (100 * value_of yuan + 10 * value_of (jiao ∷ [])) }
+    ensures fen { (yuan : List ℕ) → (jiao fen : ℕ) → AreYuan yuan
+        → IsTrue (is_ascii_digit jiao) → IsTrue (is_ascii_digit fen)
+        → fen_of (yuan ++ (codes "." ++ jiao ∷ fen ∷ []))
+        ≡ Ok (100 * value_of yuan + value_of (jiao ∷ fen ∷ [])) }
+{}

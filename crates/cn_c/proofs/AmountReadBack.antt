@@ -1,0 +1,56 @@
+-- What is printed for an amount is read back as the same amount.
+use Rattle.std.proofs.Common.{◌≡◌, ℕ, ◌<◌, nat_lt, Bool, true, false, MatchBool, List, take, chars, encode_utf8_all, Option, Some, None, Result, Ok, refl, sym, subst, ◌∙◌, arith}
+use Rattle.std.proofs.lemmas.Bool.{ltb-true}
+use Rattle.std.proofs.lemmas.Str.{is_utf8-from_IsUtf8}
+use Rattle.std.specs.Str.{IsUtf8}
+use Rattle.cn_core.specs.declared.script.ChineseVariant.{ChineseVariant}
+use Rattle.cn_amount.specs.Places.{amount_limit}
+use Rattle.cn_amount.specs.Reading.{AmountRefusal, ReadsAmount}
+use Rattle.cn_amount.specs.Writes.{amount_text}
+use Rattle.cn_amount.proofs.FormsShown.{written-read, written-utf8}
+use Rattle.cn_amount.proofs.OneAnswer.{each-answer}
+use Rattle.cn_c.specs.declared.amount.Amount.{Amount}
+use Rattle.cn_c.specs.Amounts.{TellsAmount, IsAmountRead, IsAmountPrintedAs}
+use Rattle.cn_c.specs.Codes.{CN_DONE}
+use Rattle.cn_c.specs.Prints.{PutsNothing, PutsIfItFits}
+use Rattle.cn_c.proofs.ReadBack.{put-text}
+
+-- the one answer to a text that is written for an amount is this amount
+one-answer : (script : ChineseVariant) (fen : ℕ) (text : List ℕ) (answer : Result ℕ AmountRefusal)
+    → fen < amount_limit → text ≡ encode_utf8_all (amount_text script fen)
+    → ReadsAmount text answer → answer ≡ Ok fen
+one-answer script fen text answer below is reads =
+    let each = each-answer (chars text) in
+    let read = subst (λ text. ReadsAmount text (Ok fen)) (sym is) (written-read script fen below) in
+    each.2 answer reads ∙ sym (each.2 (Ok fen) read)
+
+pub amount-back : (fen : ℕ) (script : Option ChineseVariant) (old new : List ℕ) (len : ℕ)
+    → IsAmountPrintedAs fen script old CN_DONE new len
+    → IsUtf8 (take len new)
+    × ((status : ℕ) (amount : Amount) → IsAmountRead (take len new) status amount
+    → (status ≡ CN_DONE) × (amount ≡ record { fen = fen; char_index = 0 }))
+amount-back fen None old new len printed = absurd (omega (arith, printed.0))
+amount-back fen (Some script) old new len printed = by (nat_lt fen amount_limit) refl printed where
+  bytes : List ℕ
+  bytes = encode_utf8_all (amount_text script fen)
+
+  told : (status : ℕ) (amount : Amount) (answer : Result ℕ AmountRefusal) → answer ≡ Ok fen
+      → TellsAmount answer status amount
+      → (status ≡ CN_DONE) × (amount ≡ record { fen = fen; char_index = 0 })
+  told status amount answer e tells = rw e at tells
+
+  by : (b : Bool) → nat_lt fen amount_limit ≡ b
+      → MatchBool b (PutsIfItFits bytes old CN_DONE new len) (PutsNothing 3 old CN_DONE new len)
+      → IsUtf8 (take len new)
+      × ((status : ℕ) (amount : Amount) → IsAmountRead (take len new) status amount
+      → (status ≡ CN_DONE) × (amount ≡ record { fen = fen; char_index = 0 }))
+  by true e h =
+      let text = put-text bytes old new len h in
+      let utf8 = written-utf8 script fen (take len new) text in (
+        utf8,
+        λ status amount is.
+            let read : (answer : Result ℕ AmountRefusal) × ReadsAmount (take len new) answer
+            × TellsAmount answer status amount = rw (is_utf8-from_IsUtf8 (take len new) utf8) at is in
+            told status amount read.0 (one-answer script fen (take len new) read.0 (ltb-true fen amount_limit e) text read.1) read.2,
+      )
+  by false e h = absurd (omega (arith, h.0))

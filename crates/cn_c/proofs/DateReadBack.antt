@@ -1,0 +1,49 @@
+-- What is printed for a date is read back as the same date.
+use Rattle.std.proofs.Common.{◌≡◌, ℕ, inl, inr, List, take, chars, encode_utf8_all, Option, Some, None, Result, Ok, sym, subst, ◌∙◌, arith}
+use Rattle.std.proofs.lemmas.Str.{is_utf8-from_IsUtf8}
+use Rattle.std.specs.Str.{IsUtf8}
+use Rattle.cn_core.specs.declared.script.ChineseVariant.{ChineseVariant}
+use Rattle.cn_date.specs.declared.date.BillDate.{BillDate}
+use Rattle.cn_date.specs.Calendar.{IsDate}
+use Rattle.cn_date.specs.Form.{written, date_form}
+use Rattle.cn_date.specs.Reading.{DateRefusal, ReadsDate}
+use Rattle.cn_date.specs.Writes.{date_text}
+use Rattle.cn_date.proofs.OneAnswer.{each-answer}
+use Rattle.cn_date.proofs.Shows.{scalars-shown}
+use Rattle.cn_date.proofs.Written.{shown-form, written-read}
+use Rattle.cn_c.specs.declared.date.Date.{Date}
+use Rattle.cn_c.specs.Dates.{date_told, TellsDate, IsDateRead, IsDatePrintedAs}
+use Rattle.cn_c.specs.Codes.{CN_DONE}
+use Rattle.cn_c.proofs.ReadBack.{put-text}
+
+-- the one answer to a text that is written for a date is this date
+one-answer : (script : ChineseVariant) (date : BillDate) (text : List ℕ) (answer : Result BillDate DateRefusal)
+    → IsDate date → text ≡ encode_utf8_all (date_text script date)
+    → ReadsDate text answer → answer ≡ Ok date
+one-answer script date text answer there is reads =
+    let each = each-answer (chars text) in
+    let read = subst (λ text. ReadsDate text (Ok date)) (sym is) (written-read script date there) in
+    each.2 answer reads ∙ sym (each.2 (Ok date) read)
+
+pub date-back : (date : BillDate) (script : Option ChineseVariant) (old new : List ℕ) (len : ℕ)
+    → IsDatePrintedAs date script old CN_DONE new len
+    → IsUtf8 (take len new)
+    × ((status : ℕ) (told : Date) → IsDateRead (take len new) status told
+    → (status ≡ CN_DONE) × (told ≡ date_told date))
+date-back date None old new len printed = absurd (omega (arith, printed.0))
+date-back date (Some script) old new len (inr none) = absurd (omega (arith, none.1.0))
+date-back date (Some script) old new len (inl put) =
+    let text = put-text (encode_utf8_all (date_text script date)) old new len put.1 in
+    let utf8 : IsUtf8 (take len new) = (
+      date_text script date,
+      (scalars-shown script (date_form written date) (shown-form date put.0), sym text),
+    ) in (
+      utf8,
+      λ status told is.
+          let read : (answer : Result BillDate DateRefusal) × ReadsDate (take len new) answer
+          × TellsDate answer status told = rw (is_utf8-from_IsUtf8 (take len new) utf8) at is in
+          tells status told read.0 (one-answer script date (take len new) read.0 put.0 text read.1) read.2,
+    ) where
+      tells : (status : ℕ) (told : Date) (answer : Result BillDate DateRefusal) → answer ≡ Ok date
+          → TellsDate answer status told → (status ≡ CN_DONE) × (told ≡ date_told date)
+      tells status told answer e is = rw e at is

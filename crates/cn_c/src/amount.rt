@@ -1,0 +1,80 @@
+// Amounts of money.
+ghost use Rattle.std.specs.Prelude.{◌≤◌};
+ghost use Rattle.chinese_number.specs.AmountAnswer.{answer_of};
+ghost use Rattle.cn_c.specs.Amounts.{TellsAmount, IsAmountPrinted, IsAmountRead};
+
+use crate::codes::script_of;
+use crate::room::put_text;
+use crate::status::{DONE, INCORRECT, NOT_UTF8, TOO_LARGE, UNFINISHED, UNKNOWN};
+use chinese_number::{AMOUNT_LIMIT, ChineseToAmountError, chinese_to_amount};
+use cn_amount::amount_text;
+use cn_ways::utf8_text;
+
+/// What was read: the amount in fen, or the char_index of the character at fault.
+#[repr(C)]
+#[derive(Clone, Copy)]
+pub struct Amount {
+    pub fen: u64,
+    pub char_index: usize,
+}
+
+const NOTHING: Amount = Amount {
+    fen: 0,
+    char_index: 0,
+};
+
+/// Prints an amount of fen into the caller's room, where 108 bytes are enough for any.
+///
+/// Writes `*len`, and the bytes in front of it where the text fits; all else in the room stays.
+#[unsafe(no_mangle)]
+pub extern "C" fn chinese_amount_print(
+    fen: u64,
+    script: u32,
+    room: &mut [u8],
+    len: &mut usize,
+) -> u32
+    ensures printed { IsAmountPrinted fen script room.old result room.new len.new }
+    ensures bound { len.new ≤ 108 }
+{
+    *len = 0;
+    let Some(script) = script_of(script) else {
+        return UNKNOWN;
+    };
+    if fen >= AMOUNT_LIMIT {
+        return TOO_LARGE;
+    }
+    put_text(amount_text(script, fen).as_bytes(), room, len)
+}
+
+// Tells an answer to C.
+fn tell_amount(answer: Result<u64, ChineseToAmountError>, amount: &mut Amount) -> u32
+    ensures { TellsAmount (answer_of answer) result amount.new }
+{
+    *amount = NOTHING;
+    match answer {
+        Ok(fen) => {
+            amount.fen = fen;
+            DONE
+        }
+        Err(ChineseToAmountError::Unfinished) => UNFINISHED,
+        Err(ChineseToAmountError::Incorrect { char_index }) => {
+            amount.char_index = char_index;
+            INCORRECT
+        }
+    }
+}
+
+/// Reads a text in capitals as an amount. The whole text is tested to be UTF-8, and of one that is
+/// no amount no more is read than up to the character at fault.
+///
+/// Writes `*amount` whole at each status, and nothing else.
+#[unsafe(no_mangle)]
+pub extern "C" fn chinese_amount_read(text: &[u8], amount: &mut Amount) -> u32
+    ensures { IsAmountRead text.now result amount.new }
+{
+    *amount = NOTHING;
+    match utf8_text(text) {
+        Some(text) => tell_amount(chinese_to_amount(text), amount),
+        None => NOT_UTF8,
+    }
+}

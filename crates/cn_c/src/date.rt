@@ -1,0 +1,102 @@
+// Dates on bills.
+ghost use Rattle.std.specs.Prelude.{◌≡◌, ◌≤◌, MatchOption};
+ghost use Rattle.cn_c.specs.Dates.{date, TellsDate, IsDatePrinted, IsDateRead};
+ghost use Rattle.cn_date.specs.Answer.{answer_of};
+ghost use Rattle.cn_date.specs.Calendar.{IsDate};
+
+use crate::codes::script_of;
+use crate::room::put_text;
+use crate::status::{DONE, INCORRECT, NOT_A_DATE, NOT_UTF8, UNFINISHED, UNKNOWN};
+use chinese_number::{BillDate, ChineseToDateError, chinese_to_date};
+use cn_date::date_text;
+use cn_ways::utf8_text;
+
+/// What was read: the date, or the char_index of the character at fault.
+#[repr(C)]
+#[derive(Clone, Copy)]
+pub struct Date {
+    pub year: u32,
+    pub month: u32,
+    pub day: u32,
+    pub char_index: usize,
+}
+
+const NOTHING: Date = Date {
+    year: 0,
+    month: 0,
+    day: 0,
+    char_index: 0,
+};
+
+// The date of these numbers, if there is such a date.
+fn date_of(year: u32, month: u32, day: u32) -> Option<BillDate>
+    ensures { MatchOption result (¬ IsDate (date year month day))
+        (λ found. (found ≡ date year month day) × IsDate found) }
+{
+    let date = BillDate {
+        year: u16::try_from(year).ok()?,
+        month: u8::try_from(month).ok()?,
+        day: u8::try_from(day).ok()?,
+    };
+    if date.is_date() { Some(date) } else { None }
+}
+
+/// Prints a date into the caller's room, where 39 bytes are enough for any.
+///
+/// Writes `*len`, and the bytes in front of it where the text fits; all else in the room stays.
+#[unsafe(no_mangle)]
+pub extern "C" fn chinese_date_print(
+    year: u32,
+    month: u32,
+    day: u32,
+    script: u32,
+    room: &mut [u8],
+    len: &mut usize,
+) -> u32
+    ensures printed { IsDatePrinted year month day script room.old result room.new len.new }
+    ensures bound { len.new ≤ 39 }
+{
+    *len = 0;
+    let Some(script) = script_of(script) else {
+        return UNKNOWN;
+    };
+    match date_of(year, month, day) {
+        Some(date) => put_text(date_text(script, date).as_bytes(), room, len),
+        None => NOT_A_DATE,
+    }
+}
+
+// Tells an answer to C.
+fn tell_date(answer: Result<BillDate, ChineseToDateError>, date: &mut Date) -> u32
+    ensures { TellsDate (answer_of answer) result date.new }
+{
+    *date = NOTHING;
+    match answer {
+        Ok(read) => {
+            date.year = read.year as u32;
+            date.month = read.month as u32;
+            date.day = read.day as u32;
+            DONE
+        }
+        Err(ChineseToDateError::Unfinished) => UNFINISHED,
+        Err(ChineseToDateError::Incorrect { char_index }) => {
+            date.char_index = char_index;
+            INCORRECT
+        }
+    }
+}
+
+/// Reads a text in capitals as a date. The whole text is tested to be UTF-8, and of one that is no
+/// date no more is read than up to the character at fault.
+///
+/// Writes `*date` whole at each status, and nothing else.
+#[unsafe(no_mangle)]
+pub extern "C" fn chinese_date_read(text: &[u8], date: &mut Date) -> u32
+    ensures { IsDateRead text.now result date.new }
+{
+    *date = NOTHING;
+    match utf8_text(text) {
+        Some(text) => tell_date(chinese_to_date(text), date),
+        None => NOT_UTF8,
+    }
+}

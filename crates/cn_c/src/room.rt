@@ -1,0 +1,18 @@
+// The room that a caller lends for a text.
+ghost use Rattle.std.specs.Prelude.{◌≡◌, length};
+ghost use Rattle.cn_c.specs.Prints.{PutsIfItFits};
+
+use crate::status::{DONE, NO_ROOM};
+
+/// Puts a text at the room's start if it fits, and tells its length.
+pub fn put_text(text: &[u8], room: &mut [u8], len: &mut usize) -> u32
+    ensures put { PutsIfItFits text.now room.old result room.new len.new }
+    ensures length { len.new ≡ length text.now }
+{
+    *len = text.len();
+    if text.len() > room.len() {
+        return NO_ROOM;
+    }
+    room[..text.len()].copy_from_slice(text);
+    DONE
+}

@@ -1,0 +1,55 @@
+-- What is read as a date, and what is answered of a text.
+use Rattle.std.specs.Prelude.{◌≡◌, ℕ, ◌+◌, ◌<◌, Bool, List, [], ◌∷◌, ◌++◌, length, map, take, Result, Ok, Err, codes, chars, if◌then◌else◌}
+use Rattle.std.specs.Char.{char_set_contains}
+use Rattle.cn_date.specs.declared.capital.Capital.{Capital}
+use Rattle.cn_date.specs.declared.capital.Capital.TheVariants.{Digit, Shi, Nian, Yue, Ri, Foreign}
+use Rattle.cn_date.specs.declared.date.BillDate.{BillDate}
+use Rattle.cn_date.specs.Calendar.{IsDate}
+use Rattle.cn_date.specs.Form.{date_form}
+
+-- the characters that are read as each capital: those of both scripts, and no lower case
+abbrev pub capital_rows : List (List ℕ × Capital)
+capital_rows =
+    (codes "零", Digit 0) ∷ (codes "壹", Digit 1) ∷ (codes "贰貳", Digit 2)
+    ∷ (codes "叁參叄", Digit 3) ∷ (codes "肆", Digit 4) ∷ (codes "伍", Digit 5)
+    ∷ (codes "陆陸", Digit 6) ∷ (codes "柒", Digit 7) ∷ (codes "捌", Digit 8)
+    ∷ (codes "玖", Digit 9) ∷ (codes "拾", Shi) ∷ (codes "年", Nian) ∷ (codes "月", Yue)
+    ∷ (codes "日", Ri) ∷ []
+
+abbrev pub first_with : List (List ℕ × Capital) → ℕ → Capital
+first_with [] c = Foreign
+first_with (row ∷ rows) c = if char_set_contains row.0 c then row.1 else first_with rows c
+
+-- what a character is
+unfoldable pub capital_of : ℕ → Capital
+capital_of c = first_with capital_rows c
+
+abbrev pub capitals_of : List ℕ → List Capital
+capitals_of text = map capital_of text
+
+-- the characters are a form of the date
+pub record IsDateText (text : List ℕ) (date : BillDate) : Type 0 where
+  pub choice : Bool
+  pub is_date : IsDate date
+  pub form : capitals_of text ≡ date_form choice date
+
+-- a date can begin with these characters
+abbrev pub Begins : List ℕ → Type 0
+Begins text = (behind : List ℕ) × (date : BillDate) × IsDateText (text ++ behind) date
+
+-- why a text is refused: something is missing at its end, or no date begins with what stands up to
+-- and with the character at this place
+pub data DateRefusal : Type 0 where
+  unfinished : DateRefusal
+  incorrect_at : ℕ → DateRefusal
+
+-- the answer to a text
+abbrev pub Answers : List ℕ → Result BillDate DateRefusal → Type 0
+Answers text (Ok date) = IsDateText text date
+Answers text (Err unfinished) = Begins text × ((date : BillDate) → ¬ IsDateText text date)
+Answers text (Err (incorrect_at place)) =
+    (place < length text) × Begins (take place text) × ¬ Begins (take (place + 1) text)
+
+-- the answer to a string, given by its bytes
+abbrev pub ReadsDate : List ℕ → Result BillDate DateRefusal → Type 0
+ReadsDate bytes answer = Answers (chars bytes) answer

@@ -1,0 +1,111 @@
+-- Reading from the left: the state after each character.
+use Rattle.std.specs.Prelude.{ℕ, zero, suc, ◌+◌, ◌*◌, ◌<◌, ◌==◌, nat_lt, nat_le, Bool, true, not, ◌&&◌, List, [], ◌∷◌, Option, Some, None, if◌then◌else◌}
+use Rattle.cn_date.specs.declared.capital.Capital.{Capital}
+use Rattle.cn_date.specs.declared.capital.Capital.TheVariants.{Digit, Shi, Nian, Yue, Ri}
+use Rattle.cn_date.specs.declared.part.Part.{Part}
+use Rattle.cn_date.specs.declared.part.Part.TheVariants.{Nothing, Ling, LingOne, LingTens, One, Tens, Both}
+use Rattle.cn_date.specs.declared.state.State.{State}
+use Rattle.cn_date.specs.declared.state.State.TheVariants.{Year, Month, Day, Complete}
+use Rattle.cn_date.specs.Calendar.{days_of}
+
+-- each digit is one from 1 to 9
+abbrev pub IsPart : Part → Type 0
+IsPart Nothing = Unit {0}
+IsPart Ling = Unit {0}
+IsPart (LingOne digit) = (0 < digit) × (digit < 10)
+IsPart (LingTens digit) = (0 < digit) × (digit < 10)
+IsPart (One digit) = (0 < digit) × (digit < 10)
+IsPart (Tens digit) = (0 < digit) × (digit < 10)
+IsPart (Both tens ones) = (0 < tens) × (tens < 10) × (0 < ones) × (ones < 10)
+
+abbrev pub HasPart : State → Type 0
+HasPart (Year year) = Unit {0}
+HasPart (Month year part) = IsPart part
+HasPart (Day year month days part) = IsPart part
+HasPart (Complete date) = Unit {0}
+
+-- what is read of a number, with one more capital
+abbrev pub part_step : Part → Capital → Option Part
+part_step Nothing (Digit zero) = Some Ling
+part_step Nothing (Digit (suc n)) = Some (One (suc n))
+part_step Ling (Digit (suc n)) = Some (LingOne (suc n))
+part_step (LingOne digit) Shi = Some (LingTens digit)
+part_step (One digit) Shi = Some (Tens digit)
+part_step (Tens digit) (Digit (suc n)) = Some (Both digit (suc n))
+part_step part capital = None
+
+-- whether a month can begin so
+abbrev pub fits_month : Part → Bool
+fits_month Nothing = true
+fits_month Ling = true
+fits_month (LingOne digit) = true
+fits_month (LingTens digit) = digit == 1
+fits_month (One digit) = not (digit == 2)
+fits_month (Tens digit) = digit == 1
+fits_month (Both tens ones) = tens == 1 && nat_le ones 2
+
+-- whether a day can, in a month of so many days
+abbrev pub fits_day : ℕ → Part → Bool
+fits_day days Nothing = true
+fits_day days Ling = true
+fits_day days (LingOne digit) = true
+fits_day days (LingTens digit) = nat_le (10 * digit) days
+fits_day days (One digit) = nat_lt (10 * digit) days
+fits_day days (Tens digit) = nat_lt (10 * digit) days
+fits_day days (Both tens ones) = nat_le (10 * tens + ones) days
+
+-- the day that is read whole, and the month
+abbrev pub day_of : Part → Option ℕ
+day_of (LingOne digit) = Some digit
+day_of (LingTens digit) = Some (10 * digit)
+day_of (Both tens ones) = Some (10 * tens + ones)
+day_of part = None
+
+abbrev pub month_of : Part → Option ℕ
+month_of (One digit) = if digit == 1 then None else Some digit
+month_of part = day_of part
+
+abbrev pub year_step : ℕ → Capital → Option State
+year_step year (Digit digit) =
+    if nat_lt year 1000 && not (10 * year + digit == 0) then Some (Year (10 * year + digit))
+    else None
+year_step year Nian = if year == 0 then None else Some (Month year Nothing)
+year_step year capital = None
+
+abbrev pub month_more : ℕ → Option Part → Option State
+month_more year None = None
+month_more year (Some part) = if fits_month part then Some (Month year part) else None
+
+abbrev pub month_done : ℕ → Option ℕ → Option State
+month_done year None = None
+month_done year (Some month) = Some (Day year month (days_of year month) Nothing)
+
+abbrev pub month_step : ℕ → Part → Capital → Option State
+month_step year part Yue = month_done year (month_of part)
+month_step year part capital = month_more year (part_step part capital)
+
+abbrev pub day_more : ℕ → ℕ → ℕ → Option Part → Option State
+day_more year month days None = None
+day_more year month days (Some part) =
+    if fits_day days part then Some (Day year month days part) else None
+
+abbrev pub day_done : ℕ → ℕ → Option ℕ → Option State
+day_done year month None = None
+day_done year month (Some day) =
+    Some (Complete (record { year = year; month = month; day = day }))
+
+abbrev pub day_step : ℕ → ℕ → ℕ → Part → Capital → Option State
+day_step year month days part Ri = day_done year month (day_of part)
+day_step year month days part capital = day_more year month days (part_step part capital)
+
+-- the state after one more capital, if a date can go on so
+abbrev pub step : State → Capital → Option State
+step (Year year) capital = year_step year capital
+step (Month year part) capital = month_step year part capital
+step (Day year month days part) capital = day_step year month days part capital
+step (Complete date) capital = None
+
+-- the state after a text
+abbrev pub run : State → List Capital → Option State
+run state [] = Some state
+run state (capital ∷ rest) = elim (step state capital) [ None ↦ None | Some next ↦ run next rest ]

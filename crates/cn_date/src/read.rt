@@ -1,0 +1,40 @@
+// Reading, in one pass from the left.
+ghost use Rattle.cn_date.specs.Answer.{answer_of};
+ghost use Rattle.cn_date.specs.Reading.{ReadsDate};
+
+use crate::capital::capital_of;
+use crate::state::State;
+use crate::{BillDate, ChineseToDateError};
+use cn_core::split_first_char;
+
+/// The date for which a text in capitals stands: `Ok` exactly where the text is a form that the rules
+/// for bills allow, of a date that there is. It takes no memory.
+///
+/// ```text
+/// chinese_to_date("贰零贰陆年零壹月壹拾伍日") == Ok(BillDate { year: 2026, month: 1, day: 15 })
+/// chinese_to_date("贰零贰陆年零壹月") == Err(ChineseToDateError::Unfinished)
+/// chinese_to_date("贰零贰伍年零贰月贰拾玖日") == Err(ChineseToDateError::Incorrect { char_index: 10 })
+/// ```
+///
+/// `Unfinished` exactly where something behind the text can make it a date; else `Incorrect` at the
+/// first character with which no date begins. White space is refused at its place, since nothing may
+/// be put in there.
+pub fn chinese_to_date(text: &str) -> Result<BillDate, ChineseToDateError>
+    ensures { ReadsDate text.now (answer_of result) }
+{
+    let mut state = State::Year(0);
+    let mut char_index = 0;
+    let mut rest = text;
+    'reading: while let Some((character, after)) = split_first_char(rest) {
+        match state.step(capital_of(character)) {
+            Some(next) => state = next,
+            None => return Err(ChineseToDateError::Incorrect { char_index }),
+        }
+        char_index += 1;
+        rest = after;
+    }
+    match state {
+        State::Complete(date) => Ok(date),
+        _ => Err(ChineseToDateError::Unfinished),
+    }
+}

@@ -1,0 +1,47 @@
+// Writing.
+ghost use Rattle.std.specs.Prelude.{◌≡◌, ◌≤◌, length, encode_utf8_all};
+ghost use Rattle.cn_short_text.specs.ShortText.{text_bytes};
+ghost use Rattle.cn_date.specs.Calendar.{IsDate};
+ghost use Rattle.cn_date.specs.Writes.{WritesDate, date_text};
+
+use crate::DateToChineseError;
+use crate::date::BillDate;
+use crate::put::put_date;
+use crate::text::DateText;
+use cn_core::ChineseVariant;
+use cn_short_text::ShortText;
+use std::alloc::Global;
+
+/// The text of a date that there is, in room of its own: three bytes for each of its characters.
+pub fn date_text(variant: ChineseVariant, date: BillDate) -> ShortText
+    requires { IsDate date }
+    ensures bytes { text_bytes result ≡ encode_utf8_all (date_text variant date) }
+    ensures most { length (text_bytes result) ≤ 39 }
+{
+    let mut text = DateText::new(variant);
+    put_date(&mut text, date);
+    text.text
+}
+
+/// The date in capitals, as it stands on a cheque.
+///
+/// ```text
+/// let date = BillDate { year: 2026, month: 1, day: 15 };
+/// date_to_chinese(alloc, ChineseVariant::Simple, date) == Ok("贰零贰陆年零壹月壹拾伍日")
+/// ```
+///
+/// `NotADate` where there is no such day in the Gregorian calendar from year 1 to year 9999, before
+/// memory is asked for. `OutOfMemory` where there is none for the text, which is one request of its
+/// size.
+pub fn date_to_chinese(
+    alloc: Global,
+    variant: ChineseVariant,
+    date: BillDate,
+) -> Result<String, DateToChineseError>
+    ensures { WritesDate variant date result }
+{
+    if !date.is_date() {
+        return Err(DateToChineseError::NotADate);
+    }
+    Ok(date_text(variant, date).to_string(alloc)?)
+}

@@ -1,0 +1,55 @@
+-- What is written for the lines of an input.
+use Rattle.std.specs.Prelude.{◌≡◌, ℕ, ◌+◌, ◌<◌, ℤ, List, [], ◌∷◌, ◌++◌, length, codes, chars, decimal, Result, Ok, Err}
+use Rattle.std.specs.Bool.{MatchBool}
+use Rattle.std.specs.Fmt.{signed_decimal}
+use Rattle.std.specs.Io.BufRead.{drop_through, first_piece}
+use Rattle.std.specs.Str.{is_utf8}
+use Rattle.chinese_number.specs.Number.{IsAnswer}
+use Rattle.chinese_number.specs.Refusal.{Refusal, refusal_text}
+use Rattle.chinese_number.specs.Spans.{Span, spans}
+use Rattle.chinese_number.specs.Whole.{unsigned_kind}
+use Rattle.numbers.specs.declared.options.Search.{Search}
+
+-- a number, or why it is refused
+abbrev pub answer_text : Result ℤ Refusal → List ℕ
+answer_text (Ok number) = signed_decimal number
+answer_text (Err refusal) = codes "err " ++ refusal_text refusal
+
+-- where it stands
+abbrev pub place_text : ℕ → ℕ → List ℕ
+place_text line column = decimal line ++ 58 ∷ decimal column
+
+-- the line of a number found: LINE:COLUMN TEXT NUMBER
+abbrev pub found_text : ℕ → ℕ → List ℕ → Result ℤ Refusal → List ℕ
+found_text line column text answer =
+    place_text line column ++ 32 ∷ (text ++ 32 ∷ (answer_text answer ++ 10 ∷ []))
+
+-- a line for each of these numbers, in order, in a text whose first character stands at this column:
+-- each answered as its reader does, and at the column behind the characters in front of it
+abbrev pub AreFound : Search → ℕ → ℕ → List Span → List ℕ → Type 0
+AreFound search line column [] written = written ≡ []
+AreFound search line column (span ∷ spans) written =
+    (answer : Result ℤ Refusal) × (rest : List ℕ)
+    × IsAnswer (unsigned_kind 128) search.method span.text answer
+    × AreFound search line column spans rest
+    × (written ≡ found_text line (column + length (chars span.before)) span.text answer ++ rest)
+
+-- what is written for a line, given by its bytes
+abbrev pub AnswersLine : Search → ℕ → List ℕ → List ℕ → Type 0
+AnswersLine search line bytes written =
+    MatchBool (is_utf8 bytes) (AreFound search line 1 (spans search.wanted bytes) written)
+    (written ≡ decimal line ++ codes ":1 bad line\n")
+
+-- what is written for the lines of an input, of which the first has this number: each line goes up to
+-- a line feed, and the last to the end
+abbrev pub AnswersLines : Search → ℕ → List (List ℕ) → List ℕ → List ℕ → Type 0
+AnswersLines search line [] input written = (input ≡ []) × (written ≡ [])
+AnswersLines search line (bytes ∷ lines) input written =
+    (first : List ℕ) × (rest : List ℕ) × (0 < length input) × (bytes ≡ first_piece 10 input)
+    × AnswersLine search line bytes first
+    × AnswersLines search (line + 1) lines (drop_through 10 input) rest
+    × (written ≡ first ++ rest)
+
+-- what is written for an input
+abbrev pub Answers : Search → List ℕ → List ℕ → Type 0
+Answers search input written = (lines : List (List ℕ)) × AnswersLines search 1 lines input written
