@@ -6,15 +6,15 @@ Usage: out_of_memory.py PROGRAM REFUSE_GROWTH.so
 Each growth is refused by itself and with the next one. Each line has one growth, of exactly as many
 bytes as its text. Where that is refused the line has to say that memory was short, and every other
 line has to stay as it is; so a second growth of a line would be seen. At the end stand the calls
-that refuse their number by name: they ask for no memory.
+that refuse their number or date by name: they ask for no memory.
 """
 import os
 import subprocess
 import sys
 
-# The names of errors: of the calls that have no other, and of those that may also refuse a number.
+# The names of errors: of memory, and of what is refused before memory is asked for.
 SHORT = ("AllocError", "OutOfMemory")
-BY_NAME = ("Overflow", "Underflow")
+BY_NAME = ("Overflow", "Underflow", "NotADate")
 
 
 def lines_with(program, library, first, more):
@@ -46,7 +46,7 @@ def main():
     ample, _ = lines_with(program, library, 0, 0)
     growing = sum(answer not in BY_NAME for _, answer in ample)
     if any(answer in BY_NAME for _, answer in ample[:growing]):
-        sys.exit("a call that refuses its number by name stands among the others")
+        sys.exit("a call that refuses what it is given by name stands among the others")
     for first in range(1, growing + 2):
         for more in (0, 1):
             refused = lines_with(program, library, first, more)

@@ -8,7 +8,7 @@
 use chinese_number::ChineseCase::Lower;
 use chinese_number::ChineseCountMethod::{High, Low, Middle, TenThousand};
 use chinese_number::ChineseVariant::{Simple, Traditional};
-use chinese_number::{AMOUNT_LIMIT, ChineseCountMethod, ChineseVariant, NumberToChinese};
+use chinese_number::{AMOUNT_LIMIT, BillDate, ChineseCountMethod, ChineseVariant, NumberToChinese};
 use std::fmt::{Debug, Display};
 use std::io;
 
@@ -163,6 +163,23 @@ fn amounts(rt: &(impl Print + AllocGlobal)) -> io::Result<()> {
     amount(rt, Traditional, AMOUNT_LIMIT - 1)
 }
 
+// A date, of its year, month and day.
+fn date(
+    rt: &(impl Print + AllocGlobal),
+    variant: ChineseVariant,
+    (year, month, day): (u16, u8, u8),
+) -> io::Result<()> {
+    let date = BillDate { year, month, day };
+    let outcome = chinese_number::date_to_chinese(rt.alloc(), variant, date);
+    show(rt, "date_to_chinese", outcome)
+}
+
+// The shortest date and the longest one.
+fn dates(rt: &(impl Print + AllocGlobal)) -> io::Result<()> {
+    date(rt, Simple, (1, 3, 21))?;
+    date(rt, Traditional, (9999, 12, 31))
+}
+
 // The greatest number that `Low` prints.
 const MOST_BY_LOW: u64 = 9_999_999_999_999_999;
 
@@ -171,7 +188,8 @@ fn refused(rt: &(impl Print + AllocGlobal)) -> io::Result<()> {
     show_each!(rt, MOST_BY_LOW + 1; from_u64_to_chinese_low);
     show_each!(rt, -10_000_000_000_000_000; from_i64_to_chinese_low);
     by_units(rt, "u64", MOST_BY_LOW + 1, Low)?;
-    amount(rt, Simple, AMOUNT_LIMIT)
+    amount(rt, Simple, AMOUNT_LIMIT)?;
+    date(rt, Simple, (2025, 2, 30))
 }
 
 fn main(rt: HostRuntime) -> io::Result<()> {
@@ -184,5 +202,6 @@ fn main(rt: HostRuntime) -> io::Result<()> {
     ends_by_name(&rt)?;
     ends_by_trait(&rt)?;
     amounts(&rt)?;
+    dates(&rt)?;
     refused(&rt)
 }
