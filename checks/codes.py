@@ -9,8 +9,8 @@ same number, and no other; the JavaScript file lists them in this order. The hea
 call that the crate exports, and no language has any other. Alike, too, are the most bytes of a
 text of each kind, which a clause of `printing.rt`, `amount.rt` and `date.rt` bounds, and the version
 of all, which is that of the first heading of CHANGELOG and of the files that README installs. The
-texts of refusals are those of `Refusal.antt`, and of an amount's and a date's readers those of each
-`ErrorText.antt`, wherever they are written again.
+texts of refusals are those of `Refusal.antt`, and of amounts and dates those of each `ErrorText.antt`,
+wherever they are written again.
 """
 import re
 import sys
@@ -52,7 +52,19 @@ OF_READERS = (
 )
 OF_PRINTERS = ("bindings/rust/src/print.rs",)
 REFUSALS_OF_CAPITALS = ("crates/cn_amount/specs/ErrorText.antt", "crates/cn_date/specs/ErrorText.antt")
-OF_READERS_OF_CAPITALS = ("bindings/rust/src/read.rs", "bindings/python/chinese_number.py", "bindings/web/chinese-number.mjs")
+OF_READERS_OF_CAPITALS = (
+    "bindings/rust/src/read.rs",
+    "bindings/rust/tests/interface.rs",
+    "bindings/python/chinese_number.py",
+    "bindings/web/chinese-number.mjs",
+)
+# Python prints what is a date already, so its file has no text for one that is none.
+OF_PRINTERS_OF_CAPITALS = (
+    "bindings/c/chinese_number.h",
+    "bindings/rust/src/print.rs",
+    "bindings/rust/tests/interface.rs",
+    "bindings/web/chinese-number.mjs",
+)
 
 
 def text_of(path):
@@ -129,8 +141,15 @@ def compare_bounds(crate, texts):
 def compare_refusals(top):
     """Each text of a refusal, up to the position that one of them has, stands in each file."""
     texts = texts_of(top / REFUSALS, "refusal_text", 4)
-    of_capitals = [text for path in REFUSALS_OF_CAPITALS for text in texts_of(top / path, "reading_error_text", 2)]
-    for files, wanted in ((OF_READERS, texts), (OF_PRINTERS, texts[2:]), (OF_READERS_OF_CAPITALS, of_capitals)):
+    read = [text for path in REFUSALS_OF_CAPITALS for text in texts_of(top / path, "reading_error_text", 2)]
+    # The other one is out of memory, which is no refusal.
+    printed = [texts_of(top / path, "writing_error_text", 2)[0] for path in REFUSALS_OF_CAPITALS]
+    for files, wanted in (
+        (OF_READERS, texts),
+        (OF_PRINTERS, texts[2:]),
+        (OF_READERS_OF_CAPITALS, read),
+        (OF_PRINTERS_OF_CAPITALS, printed),
+    ):
         for file in files:
             for text in wanted:
                 if not re.search(f"(?:[\"'`]|err ){text}", text_of(top / file)):
