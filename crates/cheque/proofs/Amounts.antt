@@ -9,11 +9,11 @@ use Rattle.cheque.specs.declared.figures.FiguresError.{FiguresError}
 use Rattle.cheque.specs.declared.figures.FiguresError.TheVariants.{Incorrect, TooLarge}
 use Rattle.cheque.specs.Figures.{AreYuan, value_of, behind_jiao, behind_yuan, with_yuan, fen_of}
 
-and-front : (a b : Bool) → (a && b) ≡ true → a ≡ true
+pub and-front : (a b : Bool) → (a && b) ≡ true → a ≡ true
 and-front true b h = refl
 and-front false b h = h
 
-and-back : (a b : Bool) → (a && b) ≡ true → b ≡ true
+pub and-back : (a b : Bool) → (a && b) ≡ true → b ≡ true
 and-back true b h = h
 and-back false b h = absurd (cc)
 

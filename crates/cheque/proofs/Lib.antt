@@ -1,2 +1,3 @@
 mod Amounts
 mod Digits
+mod Shown
