@@ -7,10 +7,11 @@ The tables of `codes.rt` give a type, way, script, case or unit its place as its
 names the statuses. The header, the Rust crate and the Python file name each of them once, with the
 same number, and no other; the JavaScript file lists them in this order. The header declares each
 call that the crate exports, and no language has any other. Alike, too, are the most bytes of a
-text of each kind, which a clause of `printing.rt`, `amount.rt` and `date.rt` bounds, and the version
-of all, which is that of the first heading of CHANGELOG and of the files that README installs. The
-texts of refusals are those of `Refusal.antt`, and of an amount's and a date's readers those of each
-`ErrorText.antt`, wherever they are written again.
+text of each kind, which a clause of `printing.rt`, `amount.rt` and `date.rt` bounds; the status of
+the C source alone for a text that is too long; and the version of all, which is that of the first
+heading of CHANGELOG and of the files that README installs. The texts of refusals are those of
+`Refusal.antt`, and of an amount's and a date's readers those of each `ErrorText.antt`, wherever they
+are written again.
 """
 import re
 import sys
@@ -28,6 +29,12 @@ BEGINNINGS = {
     HEADER: ("/* The integer type", "/* The way", "/* The script", "/* The case", "/* The units", "/* The status"),
     RUST: ("pub enum Kind ", "pub enum Way ", "pub enum ChineseVariant ", "pub enum ChineseCase ", "pub enum Unit ", "pub mod status "),
     PYTHON: ("class Kind(", "class Way(", "class Script(", "class Case(", "class Unit(", "class Status("),
+}
+# How each language names what no call of the crate answers, but the C source made of it.
+TOO_LONG = {
+    HEADER: "#define CN_TOO_LONG UINT32_MAX\n",
+    RUST: "pub const TOO_LONG: u32 = u32::MAX;\n",
+    PYTHON: "\n_TOO_LONG = 2**32 - 1\n",
 }
 EXPORTED = re.compile(r'^pub (?:unsafe )?extern "C" fn (\w+)', re.MULTILINE)
 CALLED = re.compile(r"\b(chinese_(?:number|amount|date)_\w+)\(|\blibrary\.(chinese_(?:number|amount|date)_\w+)")
@@ -158,6 +165,9 @@ def main():
     versions.add(".".join(re.findall(r"^#define CN_VERSION_\w+ (\d+)", texts[HEADER], re.MULTILINE)))
     if len(versions) != 1:
         sys.exit(f"codes: versions {sorted(versions)}")
+    for language, line in TOO_LONG.items():
+        if texts[language].count(line) != 1:
+            sys.exit(f"codes: {language} lacks the line {line.strip()!r}")
     calls = compare_calls(crate, texts)
     compare_bounds(crate, texts)
     compare_refusals(bindings.resolve().parent)
