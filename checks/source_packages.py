@@ -17,6 +17,7 @@ from installing import ENVIRONMENT, LEFT_OUT, TRIED, fail, has, run, write
 CHECKS = Path(__file__).resolve().parent
 BINDINGS = CHECKS.parent / "bindings"
 THREADS = ("-DTHREADS", "-pthread")
+STATIC = ("-O2", "-static", *THREADS)
 SANITIZED = ("clang", "-O1", "-g", "-fno-sanitize-recover=all", *THREADS)
 # What compiles, and what runs the program where this machine does not: the first that is there.
 BUILDS = (
@@ -25,10 +26,10 @@ BUILDS = (
     ((*SANITIZED, "-fsanitize=address,undefined"), ()),
     ((*SANITIZED, "-fsanitize=thread"), ()),
     ((*SANITIZED, "-fsanitize=memory"), ()),
-    (("musl-gcc", "-O2", "-static", *THREADS), ()),
-    (("aarch64-linux-gnu-gcc", "-O2", "-static", *THREADS), ("qemu-aarch64", "qemu-aarch64-static")),
-    (("arm-linux-gnueabihf-gcc", "-O2", "-static", *THREADS), ("qemu-arm", "qemu-arm-static")),
-    (("s390x-linux-gnu-gcc", "-O2", "-static", *THREADS), ("qemu-s390x", "qemu-s390x-static")),
+    (("musl-gcc", *STATIC), ()),
+    (("aarch64-linux-gnu-gcc", *STATIC), ("qemu-aarch64", "qemu-aarch64-static")),
+    (("arm-linux-gnueabihf-gcc", *STATIC), ("qemu-arm", "qemu-arm-static")),
+    (("s390x-linux-gnu-gcc", *STATIC), ("qemu-s390x", "qemu-s390x-static")),
     (("x86_64-w64-mingw32-gcc", "-O2", "-static"), ("wine", "wine64", "/usr/lib/wine/wine64")),
 )
 # Each request for memory is refused. There are no threads, which ask for some themselves.
@@ -70,8 +71,9 @@ class Source:
         """Whether there is a compiler that takes these words, and what runs its programs."""
         if not found([words[0]]) or (runners and not found(runners)):
             return False
-        empty = write(Path(tempfile.mkdtemp(dir=self.scratch)) / "empty.c", "int main(void) { return 0; }\n")
-        compiling = [*words, empty, "-o", empty.with_suffix(".exe")]
+        folder = Path(tempfile.mkdtemp(dir=self.scratch))
+        empty = write(folder / "empty.c", "int main(void) { return 0; }\n")
+        compiling = [*words, empty, "-o", folder / "empty.exe"]
         return not subprocess.run(compiling, env=ENVIRONMENT, capture_output=True).returncode
 
     def compare(self, build, wanted):
@@ -80,13 +82,14 @@ class Source:
             LEFT_OUT.append(" ".join(words))
             return
         runner = [found(runners)] if runners else []
-        if (sum_of := self.sum_of(words, self.file, runner)) != wanted:
-            fail(f"{' '.join(words)}: the sum of the C source is {sum_of}, and that of the archive {wanted}")
+        if (found_sum := self.sum_of(words, self.file, runner)) != wanted:
+            fail(f"{' '.join(words)}: the sum {found_sum}, and that of the archive is {wanted}")
         TRIED.append(" ".join([*words, *runner]))
 
     def without_memory(self, wanted):
         preloaded = self.scratch / "refuse_growth.so"
-        run("cc", "-shared", "-fPIC", CHECKS / "refuse_growth.c", "-o", preloaded, "-ldl", cwd=self.scratch)
+        refuse = ("-shared", "-fPIC", CHECKS / "refuse_growth.c", "-ldl")
+        run("cc", *refuse, "-o", preloaded, cwd=self.scratch)
         own = {"LD_PRELOAD": str(preloaded), "REFUSE": "1", "MORE": "1000000000"}
         if self.sum_of(REFUSED, self.file, **own) != wanted:
             fail("the C source answers otherwise where each request for memory is refused")
@@ -95,15 +98,15 @@ class Source:
     def look_at_object(self):
         """It shows the calls of the header and no more, asks for four names, and has no data to write."""
         compiled = self.scratch / "chinese_number.o"
-        hidden = ("-fvisibility=hidden", "-fno-stack-protector", "-U_FORTIFY_SOURCE", "-fno-pic")
-        run("cc", "-O2", *hidden, "-c", self.file, "-o", compiled, cwd=self.scratch)
+        # What some systems have their compilers add would ask for more.
+        plain = ("-fno-stack-protector", "-U_FORTIFY_SOURCE", "-fno-pic")
+        run("cc", "-O2", *plain, "-c", self.file, "-o", compiled, cwd=self.scratch)
         header = self.file.with_suffix(".h").read_text(encoding="utf-8")
         calls = set(re.findall(r"^uint32_t (chinese_\w+)\(", header, re.M))
-        names = [line.split() for line in run("nm", "-g", compiled, cwd=self.scratch).splitlines()]
-        shown = {words[-1] for words in names if words[0] != "U"}
-        asked = {words[-1] for words in names if words[0] == "U"}
-        sections = re.findall(r"^(\.t?(?:data|bss)\S*) +(\d+)", run("size", "-A", compiled, cwd=self.scratch), re.M)
-        data = [name for name, size in sections if size != "0" and not name.startswith(".data.rel.ro")]
+        names = run("nm", "-g", compiled, cwd=self.scratch)
+        shown, asked = (set(re.findall(rf" {it} (\S+)$", names, re.M)) for it in ("[^U]", "U"))
+        sizes = run("size", "-A", compiled, cwd=self.scratch)
+        data = re.findall(r"^\.t?(?:data|bss)(?!\.rel\.ro)\S* +[1-9]\d*", sizes, re.M)
         if shown != calls or not asked <= ASKED or data:
             fail(f"the object of the C source shows {shown}, asks for {asked} and has the data {data}")
         TRIED.append("the object of the C source")
@@ -128,7 +131,8 @@ class Source:
         run("ar", "crs", "libchinese_number.a", "chinese_number.o", cwd=lib)
         run("cc", "-shared", "chinese_number.o", "-o", "libchinese_number.so", cwd=lib)
         rust = (BINDINGS / "rust", CHECKS.parent / "crates/cn_vectors")
-        for name, folders in (("c", (BINDINGS / "c",)), ("python", (BINDINGS / "python",)), ("rust", rust)):
+        others = {name: (BINDINGS / name,) for name in ("c", "python")}
+        for name, folders in {**others, "rust": rust}.items():
             run(sys.executable, CHECKS / f"{name}_binding.py", *folders, lib, cwd=self.scratch)
             TRIED.append(f"{name}_binding.py over the C source")
 

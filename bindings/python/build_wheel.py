@@ -1,8 +1,8 @@
-"""Makes a wheel of the source package, with the C compiler and Python's standard library alone.
+"""Makes a wheel of the source package, with a C compiler and Python's standard library alone.
 
-It is the package's build backend, so pip calls `build_wheel`. The compiler is the one that CC names,
-else Python's own, else the first that is there. bindings/packages.py packs its wheels by this file
-too.
+It is the package's build backend, so pip calls `build_wheel`. The compiler is the one that CC
+names, else Python's own, else the first that is there. bindings/packages.py packs its wheels by this
+file too.
 """
 import base64
 import hashlib
@@ -74,9 +74,10 @@ def call(source, library):
         calls = re.findall(r"^uint32_t (chinese_\w+)\(", header, re.M)
         exports = [f"/EXPORT:{name}" for name in calls]
         return [*words, "/nologo", "/O2", "/LD", str(source), f"/Fe:{library}", "/link", *exports]
-    flags = {".dll": ["-shared"], ".dylib": ["-dynamiclib", "-fPIC"]}.get(library.suffix, ["-shared", "-fPIC"])
+    flags = ["-shared"] if library.suffix == ".dll" else ["-shared", "-fPIC"]
     if library.suffix == ".dylib":  # a Python for two processors wants a library for both
-        flags += re.findall(r"-arch|(?<=-arch )\w+", sysconfig.get_config_var("CFLAGS") or "")
+        of_python = sysconfig.get_config_var("CFLAGS") or ""
+        flags = ["-dynamiclib", *re.findall(r"-arch|(?<=-arch )\w+", of_python)]
     return [*words, "-O2", "-fvisibility=hidden", *flags, str(source), "-o", str(library)]
 
 
