@@ -62,6 +62,11 @@ def listed(path):
         return {it.name: packed.extractfile(it).read() for it in packed if it.isfile()}
 
 
+def commands(text):
+    """The commands that a page has in lines that are set in, outside of its examples."""
+    return re.findall(r"(?:^    .*\n)+", re.sub(r"^```.*?^```$", "", text, flags=re.M | re.S), re.M)
+
+
 class Readme:
     """The README of a package: its install lines, and its example, whose comments say its answers."""
 
@@ -72,8 +77,7 @@ class Readme:
         if len(blocks) != 1:
             fail(f"the README of {package.name} has {len(blocks)} blocks of {language}")
         self.example = blocks[0]
-        without_blocks = re.sub(r"^```.*?^```$", "", text, flags=re.M | re.S)
-        self.installs = re.findall(r"(?:^    .*\n)+", without_blocks, re.M)
+        self.installs = commands(text)
         answers = re.findall(r"(?://|/\*) (.*?)(?: \*/)?$", self.example, re.M)
         self.answer = "".join(f"{it}\n" for it in answers)
 
