@@ -3,7 +3,6 @@
 `same.c` shows one sum over what the calls answer. The object is looked at, CMake builds it, and the
 checks of C, Python and Rust run over it as they do over the archive.
 """
-import os
 import re
 import shutil
 import subprocess
@@ -99,13 +98,16 @@ class Source:
         TRIED.append(named([*words, *runner]))
 
     def without_memory(self, wanted):
+        if not self.is_there(REFUSED, ()):
+            LEFT_OUT.append(f"{named(REFUSED)} without memory")
+            return
         preloaded = self.scratch / "refuse_growth.so"
         refuse = ("-shared", "-fPIC", CHECKS / "refuse_growth.c", "-ldl")
         run("cc", *refuse, "-o", preloaded, cwd=self.scratch)
         own = {"LD_PRELOAD": str(preloaded), "REFUSE": "1", "MORE": "1000000000"}
         if self.sum_of(REFUSED, self.file, **own) != wanted:
             fail("the C source answers otherwise where each request for memory is refused")
-        TRIED.append(f"{' '.join(REFUSED)} without memory")
+        TRIED.append(f"{named(REFUSED)} without memory")
 
     def look_at_object(self, compiled):
         """It shows the header's calls alone, asks for four names, and has no data to write."""
