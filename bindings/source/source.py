@@ -9,8 +9,9 @@ prelude, and of a module that is not as this one, nothing is made. The functions
 as they are, but for their memory, which `chinese_number.c.in` has, and for wabt's count of calls.
 
 The module's stack is an array there. How deep it can become is counted: what each function takes,
-and then what those that it calls take. So a module is refused that calls through a table, and one
-with functions that call each other in a circle, unless none of these takes any of that stack.
+and then what those that it calls take. So a module is refused that calls through a table, or has
+functions that call each other in a circle. A function may call itself if it takes none of that
+stack.
 """
 import hashlib
 import re
@@ -65,9 +66,24 @@ PARTS = re.compile(
     r"/\* export: 'memory' \*/\nwasm_rt_memory_t\* Z_cnZ_memory\(Z_cn_instance_t\* instance\) \{\n"
     r"  return &instance->w2c_memory;\n\}\n\n"
     r"(?P<exports>(?:/\* export: '\w+' \*/\n.*?\n\}\n\n)+)"
-    r"void Z_cn_init_module\(void\) \{\n[^}]*\}\n\n"
-    r"void Z_cn_instantiate\(Z_cn_instance_t\* instance\) \{\n[^}]*\}\n\n"
-    r"void Z_cn_free\(Z_cn_instance_t\* instance\) \{\n[^}]*\}\s*",
+    + re.escape("""void Z_cn_init_module(void) {
+  assert(wasm_rt_is_initialized());
+  s_module_initialized = true;
+  init_func_types();
+}
+
+void Z_cn_instantiate(Z_cn_instance_t* instance) {
+  assert(wasm_rt_is_initialized());
+  assert(s_module_initialized);
+  init_globals(instance);
+  init_memories(instance);
+  init_data_instances(instance);
+}
+
+void Z_cn_free(Z_cn_instance_t* instance) {
+  wasm_rt_free_memory(&instance->w2c_memory);
+}
+"""),
     re.DOTALL,
 )
 FUNCTION = re.compile(
@@ -143,22 +159,19 @@ def depth(functions):
     """How many bytes of its stack the module can take."""
     calls = {name: set(CALLED.findall("\n".join(lines))) for name, lines in functions.items()}
     frames = {name: taken(name, lines) for name, lines in functions.items()}
-    above, found = [], {}
+    found = {}
 
-    def below(name):
+    def below(name, above):
         if name in above:
-            circle = above[above.index(name):]
-            if any(frames[one] for one in circle):
-                refuse(f"{', '.join(circle)} call each other, and take of the stack")
-            return 0
+            refuse(f"{name} is called by what it calls")
+        if name in calls[name] and frames[name]:
+            refuse(f"{name} calls itself, and takes {frames[name]} bytes of the stack")
         if name not in found:
-            above.append(name)
-            deepest = max(map(below, calls[name]), default=0)
-            above.pop()
-            found[name] = frames[name] + deepest
+            others = calls[name] - {name}
+            found[name] = frames[name] + max((below(other, (*above, name)) for other in others), default=0)
         return found[name]
 
-    return max(map(below, functions))
+    return max(below(name, ()) for name in functions)
 
 
 def calls_of(exports, template):
