@@ -1,8 +1,9 @@
-/* same [COUNT [ROUNDS]]: shows one sum over what each call of chinese_number.h answers to COUNT pseudo-random numbers of each
- * type by each way, to ten times as many amounts, dates and texts, and at the ends: what is printed, each room to its last
- * byte, and what is read and found in texts as they were printed, changed and cut. Builds of one library have to show one
- * sum. With -DTHREADS four threads have to find it at once. With ROUNDS it shows what a call takes, too, in the best of so
- * many rounds. */
+/* same [COUNT [ROUNDS]]: shows one sum over what each call of chinese_number.h answers to COUNT
+ * pseudo-random numbers of each type by each way, to ten times as many amounts, dates and texts,
+ * and at the ends: what is printed, each room to its last byte, and what is read and found in texts
+ * as they were printed, changed and cut. Builds of one library have to show one sum. With -DTHREADS
+ * four threads have to find it at once. With ROUNDS it shows what a call takes, too, in the best of
+ * so many rounds. */
 #include "chinese_number.h"
 
 #include <stdio.h>
@@ -23,9 +24,9 @@ typedef struct text {
 } text;
 
 static const char *const MARKS[] = {
-    "零", "一", "二", "两", "十", "百", "千", "萬", "億", "兆", "極", "個", "負", "壹", "贰", "玖", "拾", "佰", "仟", "万",
-    "亿", "元", "圆", "角", "分", "整", "正", "人民币", "年", "月", "日", "第", "，", "5", "０", "-", "x", " ", "\t", "\xe4\xb8",
-    "\xf0\x9f\x98\x80", "\xc3\xa9", "\xff",
+    "零", "一", "二", "两", "十", "百", "千", "萬", "億", "兆", "極", "個", "負", "壹", "贰", "玖",
+    "拾", "佰", "仟", "万", "亿", "元", "圆", "角", "分", "整", "正", "人民币", "年", "月", "日", "第",
+    "，", "5", "０", "-", "x", " ", "\t", "\xe4\xb8", "\xf0\x9f\x98\x80", "\xc3\xa9", "\xff",
 };
 enum { COUNT_OF_MARKS = sizeof MARKS / sizeof *MARKS };
 
@@ -117,7 +118,8 @@ static void try_find(run *r, const text *t, uint32_t upper, uint32_t greatest) {
         if (!is_utf8(status) || status == CN_NONE)
             return;
         searched += span.end;
-        status = chinese_number_find_utf8(t->bytes + searched, t->length - searched, upper, greatest, &span);
+        status = chinese_number_find_utf8(t->bytes + searched, t->length - searched, upper,
+                                          greatest, &span);
     }
 }
 
@@ -134,7 +136,7 @@ static void try_read_capitals(run *r, const text *t) {
     add_word(r, date.char_index);
 }
 
-/* Each number is drawn in a statement of its own, since a call may draw its arguments in any order. */
+/* Each code is drawn in a statement of its own, since a call may draw its arguments in any order. */
 static void try_read_and_find(run *r, const text *t) {
     uint32_t kind = code(r, CN_I128 + 1);
     uint32_t way = code(r, CN_HIGH + 1);
@@ -177,7 +179,8 @@ static void try_number(run *r, uint32_t kind, uint32_t way, cn_number number) {
     text t;
     size_t length = 1, room = begin(r, &t, CN_MOST_BYTES);
     uint32_t script = code(r, 2), letter_case = code(r, 2);
-    uint32_t status = chinese_number_print(number, kind, way, script, letter_case, t.bytes, room, &length);
+    uint32_t status =
+        chinese_number_print(number, kind, way, script, letter_case, t.bytes, room, &length);
     add_printed(r, status, length, &t);
     try_read(r, &t, kind, way);
     change(r, &t);
@@ -208,7 +211,7 @@ static void try_date(run *r, uint32_t year, uint32_t month, uint32_t day) {
     try_capitals(r, &t);
 }
 
-/* A text of marks, mostly in UTF-8, and with words of ASCII that are longer than a word of the processor. */
+/* A text of marks, mostly in UTF-8, and with runs of ASCII longer than a word of the processor. */
 static void try_text(run *r, uint32_t marks) {
     text t;
     t.length = 0;
@@ -222,7 +225,9 @@ static void try_text(run *r, uint32_t marks) {
 }
 
 static void try_ends(run *r) {
-    static const cn_number ENDS[] = {{0, 0}, {1, 0}, {UINT64_MAX, 0}, {0, 1}, {UINT64_MAX, UINT64_MAX}, {0, (uint64_t)1 << 63}};
+    static const cn_number ENDS[] = {
+        {0, 0}, {1, 0}, {UINT64_MAX, 0}, {0, 1}, {UINT64_MAX, UINT64_MAX}, {0, (uint64_t)1 << 63},
+    };
     for (uint32_t kind = 0; kind <= CN_I128 + 1; kind++)
         for (uint32_t way = 0; way <= CN_HIGH + 1; way++)
             for (size_t i = 0; i < sizeof ENDS / sizeof *ENDS; i++)
@@ -293,7 +298,8 @@ static void show_times(run *r, int rounds) {
     for (int round = 0; round < rounds; round++) {
         clock_t start = clock(), middle, end;
         for (int i = 0; i < SAMPLES; i++)
-            chinese_number_print(numbers[i], CN_U64, CN_TEN_THOUSAND, CN_SIMPLE, CN_LOWER, rooms[i], CN_MOST_BYTES, &lengths[i]);
+            chinese_number_print(numbers[i], CN_U64, CN_TEN_THOUSAND, CN_SIMPLE, CN_LOWER,
+                                 rooms[i], CN_MOST_BYTES, &lengths[i]);
         middle = clock();
         for (int i = 0; i < SAMPLES; i++)
             chinese_number_read(rooms[i], lengths[i], CN_U64, CN_TEN_THOUSAND, &reading);
@@ -308,8 +314,8 @@ static void show_times(run *r, int rounds) {
 int main(int argc, char **argv) {
     run r = {0, 0, argc > 1 ? atol(argv[1]) : 100, 0};
     try_all(&r);
-    printf("%ld numbers, amounts, dates and texts, sum %08lx%08lx\n", r.cases, (unsigned long)(r.sum >> 32),
-           (unsigned long)(r.sum & UINT32_MAX));
+    printf("%ld numbers, amounts, dates and texts, sum %08lx%08lx\n", r.cases,
+           (unsigned long)(r.sum >> 32), (unsigned long)(r.sum & UINT32_MAX));
     if (!is_same_in_threads(&r)) {
         puts("a thread found another sum");
         return 1;

@@ -9,8 +9,9 @@ prelude, and of a module that is not as this one, nothing is made. The functions
 as they are, but for their memory, which `chinese_number.c.in` has, and for wabt's count of calls.
 
 The module's stack is an array there. How deep it can become is counted: what each function takes,
-and then what those that it calls take. So a module is refused that calls through a table, and one
-with functions that call each other in a circle, unless none of these takes any of that stack.
+and then what those that it calls take. So a module is refused that calls through a table, or has
+functions that call each other in a circle. A function may call itself if it takes none of that
+stack.
 """
 import hashlib
 import re
@@ -20,7 +21,7 @@ import tempfile
 from pathlib import Path
 
 VERSION = "1.0.32"
-# Of what stands in front of the module, the same for each: what its words mean, which the template has again.
+# The sum of what stands in front of each module: what its words mean, which the template has again.
 PRELUDE = "b00ae1a3d2f037728dbc273d22e4e26f9fcce55ca1703c34526a03bc09aee686"
 TEMPLATE = Path(__file__).with_name("chinese_number.c.in")
 
@@ -35,7 +36,8 @@ STATEMENTS = (
     rf"{VALUE} = {VALUE} (?:[=!<>]=|[<>]) {VALUE};",
     rf"{VALUE} = \(u(?:32|64)\)\(\((s32|s64)\){VALUE} [<>]=? \(\1\){VALUE}\);",
     rf"{VALUE} = \(u(32|64)\)\(\(s\1\){VALUE} >> \({VALUE} & (?:31|63)\)\);",
-    rf"{VALUE} = (?:!|\(u32\)|\(u64\)|\(u64\)\(s64\)\(s32\)|\(u(?:32|64)\)\(s(?:32|64)\)\(s(8|16)\)\(u\1\))\({VALUE}\);",
+    rf"{VALUE} = (?:!|\(u32\)|\(u64\)|\(u64\)\(s64\)\(s32\))\({VALUE}\);",
+    rf"{VALUE} = \(u(?:32|64)\)\(s(?:32|64)\)\(s(8|16)\)\(u\1\)\({VALUE}\);",
     rf"{VALUE} = (?:DIV_U|REM_U)\({VALUE}, {VALUE}\);",
     rf"{VALUE} = I64_C[LT]Z\({VALUE}\);",
     rf"memory_(?:copy\({MEMORY}, |fill\(){MEMORY}, {VALUE}, {VALUE}, {VALUE}\);",
@@ -52,11 +54,16 @@ STATEMENTS = (
 
 PARTS = re.compile(
     r"static bool s_module_initialized = false;\n\nstatic u32 func_types\[\d+\];\n\n"
-    r"static void init_func_types\(void\) \{\n(?:  func_types\[\d+\] = wasm_rt_register_func_type\([\w, ]+\);\n)+\}\n\n"
-    r"(?P<declarations>(?:static (?:u32|u64|void) w2c_\w+\(Z_cn_instance_t\*(?:, u(?:32|64))*\);\n)+)\n"
+    r"static void init_func_types\(void\) \{\n"
+    r"(?:  func_types\[\d+\] = wasm_rt_register_func_type\([\w, ]+\);\n)+\}\n\n"
+    r"(?P<declarations>"
+    r"(?:static (?:u32|u64|void) w2c_\w+\(Z_cn_instance_t\*(?:, u(?:32|64))*\);\n)+)\n"
     r"static void init_globals\(Z_cn_instance_t\* instance\) \{\n"
-    r"  instance->w2c_g0 = (?P<top>\d+)ull;\n  instance->w2c_g1 = 0u;\n  instance->w2c___heap_base = \d+ull;\n\}\n\n\n"
-    r"static const u8 data_segment_data_w2c_d0\[\] = \{\n(?P<constants>(?:  (?:0x\w\w, ?)*\n)+)\};\n\n"
+    r"  instance->w2c_g0 = (?P<top>\d+)ull;\n"
+    r"  instance->w2c_g1 = 0u;\n"
+    r"  instance->w2c___heap_base = \d+ull;\n\}\n\n\n"
+    r"static const u8 data_segment_data_w2c_d0\[\] = \{\n"
+    r"(?P<constants>(?:  (?:0x\w\w, ?)*\n)+)\};\n\n"
     r"static void init_memories\(Z_cn_instance_t\* instance\) \{\n"
     r"  wasm_rt_allocate_memory\(&instance->w2c_memory, \d+, 65536\);\n"
     r"  LOAD_DATA\(instance->w2c_memory, (?P=top)u, data_segment_data_w2c_d0, \d+\);\n\}\n\n"
@@ -65,23 +72,47 @@ PARTS = re.compile(
     r"/\* export: 'memory' \*/\nwasm_rt_memory_t\* Z_cnZ_memory\(Z_cn_instance_t\* instance\) \{\n"
     r"  return &instance->w2c_memory;\n\}\n\n"
     r"(?P<exports>(?:/\* export: '\w+' \*/\n.*?\n\}\n\n)+)"
-    r"void Z_cn_init_module\(void\) \{\n[^}]*\}\n\n"
-    r"void Z_cn_instantiate\(Z_cn_instance_t\* instance\) \{\n[^}]*\}\n\n"
-    r"void Z_cn_free\(Z_cn_instance_t\* instance\) \{\n[^}]*\}\s*",
+    + re.escape("""void Z_cn_init_module(void) {
+  assert(wasm_rt_is_initialized());
+  s_module_initialized = true;
+  init_func_types();
+}
+
+void Z_cn_instantiate(Z_cn_instance_t* instance) {
+  assert(wasm_rt_is_initialized());
+  assert(s_module_initialized);
+  init_globals(instance);
+  init_memories(instance);
+  init_data_instances(instance);
+}
+
+void Z_cn_free(Z_cn_instance_t* instance) {
+  wasm_rt_free_memory(&instance->w2c_memory);
+}
+"""),
     re.DOTALL,
 )
+PARAMETERS = r"\(Z_cn_instance_t\* instance(?:, u(?:32|64) w2c_p\d+)*\) \{\n"
 FUNCTION = re.compile(
-    r"static (?:u32|u64|void) (?P<name>w2c_\w+)\(Z_cn_instance_t\* instance(?:, u(?:32|64) w2c_p\d+)*\) \{\n"
-    r"(?P<body>.*?\n)\}\n\n",
-    re.DOTALL,
+    rf"static (?:u32|u64|void) (?P<name>w2c_\w+){PARAMETERS}(?P<body>.*?\n)\}}\n\n", re.DOTALL
 )
-EXPORT = re.compile(r"u32 Z_cnZ_(\w+)\(Z_cn_instance_t\* instance(?:, u(?:32|64) w2c_p\d+)*\) \{\n"
-                    r"  return w2c_\1\(instance(?:, w2c_p\d+)*\);\n\}\n")
+EXPORT = re.compile(
+    rf"u32 Z_cnZ_(\w+){PARAMETERS}  return w2c_\1\(instance(?:, w2c_p\d+)*\);\n\}}\n"
+)
 CALLED = re.compile(r"\b(w2c_\w+)\(instance")
-# How a function begins that takes some of the stack, and one that takes none of it, and how either gives it back.
-TAKES = re.compile(r"(\w+) = instance->w2c_g0;\n(\w+) = (\d+)ull;\n\1 -= \2;\n(w2c_l\d+) = \1;\n(?:instance->w2c_g0 = \1;\n)?")
-ASKS = re.compile(r"(\w+) = instance->w2c_g0;\n(?:(w2c_l\d+) = \1;\n)?(\w+) = 16ull;\nw2c_i0 = \(u64\)\(\(s64\)\1 < \(s64\)\3\);\n")
-GIVES = re.compile(r"(\w+) = w2c_l\d+;\n(?:(\w+) = (\d+)ull;\n\1 \+= \2;\n)?instance->w2c_g0 = \1;\n")
+# How a function begins that takes some of the stack, and one that takes none of it.
+TAKES = re.compile(
+    r"(\w+) = instance->w2c_g0;\n(\w+) = (\d+)ull;\n\1 -= \2;\n"
+    r"(w2c_l\d+) = \1;\n(?P<moved>instance->w2c_g0 = \1;\n)?"
+)
+ASKS = re.compile(
+    r"(\w+) = instance->w2c_g0;\n(?:(w2c_l\d+) = \1;\n)?(\w+) = 16ull;\n"
+    r"w2c_i0 = \(u64\)\(\(s64\)\1 < \(s64\)\3\);\n(?P<moved>)"
+)
+# How either gives back what it took.
+GIVES = re.compile(
+    r"(\w+) = w2c_l\d+;\n(?:(\w+) = (\d+)ull;\n\1 \+= \2;\n)?instance->w2c_g0 = \1;\n"
+)
 
 
 def refuse(what):
@@ -90,12 +121,14 @@ def refuse(what):
 
 def written(module, folder):
     """What wasm2c writes of the module behind the prelude, with no line broken."""
-    version = subprocess.run(["wasm2c", "--version"], capture_output=True, text=True, check=True).stdout.strip()
+    asked = subprocess.run(["wasm2c", "--version"], capture_output=True, text=True, check=True)
+    version = asked.stdout.strip()
     if version != VERSION:
         refuse(f"wasm2c is of version {version}, and not {VERSION}")
     file = Path(folder) / "module.c"
     subprocess.run(["wasm2c", "-n", "cn", str(module), "-o", str(file)], check=True)
-    prelude, begins, rest = file.read_text(encoding="ascii").partition("static bool s_module_initialized")
+    text = file.read_text(encoding="ascii")
+    prelude, begins, rest = text.partition("static bool s_module_initialized")
     found = hashlib.sha256(prelude.encode()).hexdigest()
     if found != PRELUDE:
         refuse(f"wasm2c wrote another prelude, of the sum {found}")
@@ -106,7 +139,10 @@ def statement_of(template):
     """The pattern of a line, with the accesses to memory that the template has."""
     loads = "|".join(re.findall(r"^LOAD\((\w+),", template, re.MULTILINE))
     stores = "|".join(re.findall(r"^STORE\((\w+),", template, re.MULTILINE))
-    of_memory = (rf"{VALUE} = (?:{loads})\({MEMORY}, {ADDRESS}\);", rf"(?:{stores})\({MEMORY}, {ADDRESS}, {VALUE}\);")
+    of_memory = (
+        rf"{VALUE} = (?:{loads})\({MEMORY}, {ADDRESS}\);",
+        rf"(?:{stores})\({MEMORY}, {ADDRESS}, {VALUE}\);",
+    )
     # A group of its own for each statement, since some name what they repeat by its number.
     return [re.compile(statement) for statement in (*STATEMENTS, *of_memory)]
 
@@ -128,13 +164,14 @@ def taken(name, lines):
     """How many bytes of the module's stack a function takes."""
     body = "".join(f"{line}\n" for line in lines)
     uses = body.count("instance->w2c_g0")
-    takes, asks = TAKES.search(body), ASKS.search(body)
     if uses == 0:
         return 0
+    takes = TAKES.search(body)
+    begins = takes or ASKS.search(body)
     frame = int(takes[3]) if takes else 0
     given = [int(gives[3] or 0) for gives in GIVES.finditer(body)]
-    begins = takes[0].count("w2c_g0") if takes else 1 if asks else 0
-    if not begins or uses != begins + len(given) or set(given) - {frame} or (begins == 2) != bool(takes and given):
+    known = begins and uses == begins[0].count("instance->w2c_g0") + len(given)
+    if not known or set(given) - {frame} or begins["moved"] and not given:
         refuse(f"{name} uses the stack in a way that is not known")
     return frame
 
@@ -143,38 +180,37 @@ def depth(functions):
     """How many bytes of its stack the module can take."""
     calls = {name: set(CALLED.findall("\n".join(lines))) for name, lines in functions.items()}
     frames = {name: taken(name, lines) for name, lines in functions.items()}
-    above, found = [], {}
+    found = {}
 
-    def below(name):
+    def below(name, above):
         if name in above:
-            circle = above[above.index(name):]
-            if any(frames[one] for one in circle):
-                refuse(f"{', '.join(circle)} call each other, and take of the stack")
-            return 0
+            refuse(f"{name} is called by what it calls")
+        if name in calls[name] and frames[name]:
+            refuse(f"{name} calls itself, and takes {frames[name]} bytes of the stack")
         if name not in found:
-            above.append(name)
-            deepest = max(map(below, calls[name]), default=0)
-            above.pop()
-            found[name] = frames[name] + deepest
+            deepest = [below(other, (*above, name)) for other in calls[name] - {name}]
+            found[name] = frames[name] + max(deepest, default=0)
         return found[name]
 
-    return max(map(below, functions))
+    return max(below(name, ()) for name in functions)
 
 
 def calls_of(exports, template):
     """The calls that the module shows; the template makes each of them, and no other."""
     shown = EXPORT.findall(exports)
     made = set(re.findall(r"= w2c_(\w+)\(", template))
-    if set(shown) != made or exports.count("/* export: ") != len(shown) + 1 or "Z_cnZ___heap_base(" not in exports:
+    # And one thing more, which is no call: where its constants end.
+    others = exports.count("/* export: ") - len(shown)
+    if set(shown) != made or others != 1 or "Z_cnZ___heap_base(" not in exports:
         refuse(f"the module shows the calls {sorted(shown)}, and the template makes {sorted(made)}")
     return len(shown)
 
 
 def ours(text):
     """The module's text over the template's machine."""
-    text = text.replace("&instance->w2c_memory, &instance->w2c_memory", "m").replace("&instance->w2c_memory", "m")
+    text = text.replace(f"{MEMORY}, {MEMORY}", "m").replace(MEMORY, "m")
     text = re.sub(r"^ *FUNC_(?:PROLOGUE|EPILOGUE);\n", "", text, flags=re.MULTILINE)
-    text = text.replace("Z_cn_instance_t* instance", "module *m").replace("Z_cn_instance_t*", "module *")
+    text = text.replace("Z_cn_instance_t* ", "module *").replace("Z_cn_instance_t*", "module *")
     text = re.sub(r"\binstance\b", "m", text)
     return re.sub(r" +$", "", text, flags=re.MULTILINE)
 
@@ -202,7 +238,10 @@ def main():
     out = Path(sys.argv[2])
     out.mkdir(parents=True, exist_ok=True)
     (out / "chinese_number.c").write_text(template, encoding="utf-8")
-    print(f"source: chinese_number.c, of {calls} calls and {len(functions)} functions; the module takes {bytes_of_stack} bytes of its stack at most")
+    print(
+        f"source: chinese_number.c, of {calls} calls, by {len(functions)} functions of the module, "
+        f"which take at most {bytes_of_stack} bytes of its stack"
+    )
 
 
 main()
