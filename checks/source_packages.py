@@ -18,15 +18,16 @@ CHECKS = Path(__file__).resolve().parent
 EXAMPLE = CHECKS.parent / "bindings/c/example.c"
 THREADS = ("-DTHREADS", "-pthread")
 STATIC = ("-O2", "-static", *THREADS)
-SANITIZED = ("clang", "-O1", "-fno-sanitize-recover=all", *THREADS)
+SANITIZED = ("-fno-sanitize-recover=all", *THREADS)
 # What compiles, and what runs the program where this machine does not: the first that is there.
 BUILDS = (
     (("x86_64-w64-mingw32-gcc", "-O2", "-static"), ("wine", "wine64", "/usr/lib/wine/wine64")),
     (("gcc", "-O2", *THREADS), ()),
     (("clang", "-O2", *THREADS), ()),
-    ((*SANITIZED, "-fsanitize=address,undefined"), ()),
-    ((*SANITIZED, "-fsanitize=thread"), ()),
-    ((*SANITIZED, "-fsanitize=memory"), ()),
+    # Each by the level by which it is compiled and run in the least time.
+    (("clang", "-O0", "-fsanitize=address,undefined", *SANITIZED), ()),
+    (("clang", "-O1", "-fsanitize=thread", *SANITIZED), ()),
+    (("clang", "-O1", "-fsanitize=memory", *SANITIZED), ()),
     (("musl-gcc", *STATIC), ()),
     (("aarch64-linux-gnu-gcc", *STATIC), ("qemu-aarch64", "qemu-aarch64-static")),
     (("arm-linux-gnueabihf-gcc", *STATIC), ("qemu-arm", "qemu-arm-static")),
@@ -55,7 +56,7 @@ def found(names):
 
 
 def named(words):
-    return " ".join(word for word in words if word not in THREADS)
+    return " ".join(word for word in words if word not in SANITIZED)
 
 
 class Source:
