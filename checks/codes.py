@@ -7,9 +7,10 @@ The tables of `codes.rt` give a type, way, script, case or unit its place as its
 names the statuses. The header, the Rust crate and the Python file name each of them once, with the
 same number, and no other; the JavaScript file lists them in this order. The header declares each
 call that the crate exports, and no language has any other. Alike, too, are the most bytes of a
-text of each kind, which a clause of `printing.rt`, `amount.rt` and `date.rt` bounds, and the version
-of all, which is that of the first heading of CHANGELOG and of the files that README installs. The
-texts of refusals are those of `Refusal.antt`, and of amounts and dates those of each `ErrorText.antt`,
+text of each kind, which a clause of `printing.rt`, `amount.rt` and `date.rt` bounds; the status of
+the C source alone for a text that is too long, and how long that is; and the version of all, which
+is that of the first heading of CHANGELOG and of the files that README installs. The texts of
+refusals are those of `Refusal.antt`, and of amounts and dates those of each `ErrorText.antt`,
 wherever they are written again.
 """
 import re
@@ -29,6 +30,15 @@ BEGINNINGS = {
     RUST: ("pub enum Kind ", "pub enum Way ", "pub enum ChineseVariant ", "pub enum ChineseCase ", "pub enum Unit ", "pub mod status "),
     PYTHON: ("class Kind(", "class Way(", "class Script(", "class Case(", "class Unit(", "class Status("),
 }
+# How each language names what no call of the crate answers, but the C source made of it.
+TOO_LONG = {
+    HEADER: "#define CN_TOO_LONG UINT32_MAX\n",
+    RUST: "pub const TOO_LONG: u32 = u32::MAX;\n",
+    PYTHON: "\n_TOO_LONG = 2**32 - 1\n",
+}
+# The C source's text begins at an address of 32 bits, and so has a most length, which these files name.
+SOURCE = "source/chinese_number.c.in"
+OF_LENGTH = (HEADER, RUST, PYTHON, "source/README.md", "rust/src/lib.rs")
 EXPORTED = re.compile(r'^pub (?:unsafe )?extern "C" fn (\w+)', re.MULTILINE)
 CALLED = re.compile(r"\b(chinese_(?:number|amount|date)_\w+)\(|\blibrary\.(chinese_(?:number|amount|date)_\w+)")
 # The most bytes of a text: what each language names so, and the file whose clauses have it.
@@ -138,6 +148,18 @@ def compare_bounds(crate, texts):
                 sys.exit(f"codes: {name} of {language} is {found}, and {file} has {bounds}")
 
 
+def compare_length(bindings):
+    """Each file that names the length of a text that the C source refuses names the same."""
+    named = dict(re.findall(r"^#define (\w+_OF_TEXT) UINT\d+_C\((\d+)\)", text_of(bindings / SOURCE), re.MULTILINE))
+    first, most = int(named["FIRST_OF_TEXT"]), int(named["MOST_OF_TEXT"])
+    if first + most != 2**32:
+        sys.exit(f"codes: {SOURCE} has texts of {most} bytes from {first} on")
+    for file in OF_LENGTH:
+        found = set(re.findall(r"more than ([\d,]+) bytes", text_of(bindings / file)))
+        if {int(length.replace(",", "")) for length in found} != {most}:
+            sys.exit(f"codes: {file} has texts of at most {sorted(found)} bytes, and {SOURCE} of {most}")
+
+
 def compare_refusals(top):
     """Each text of a refusal, up to the position that one of them has, stands in each file."""
     texts = texts_of(top / REFUSALS, "refusal_text", 4)
@@ -177,8 +199,12 @@ def main():
     versions.add(".".join(re.findall(r"^#define CN_VERSION_\w+ (\d+)", texts[HEADER], re.MULTILINE)))
     if len(versions) != 1:
         sys.exit(f"codes: versions {sorted(versions)}")
+    for language, line in TOO_LONG.items():
+        if texts[language].count(line) != 1:
+            sys.exit(f"codes: {language} lacks the line {line.strip()!r}")
     calls = compare_calls(crate, texts)
     compare_bounds(crate, texts)
+    compare_length(bindings)
     compare_refusals(bindings.resolve().parent)
     print(f"codes: {calls} calls, {sum(map(len, wanted))} codes and statuses, alike in C, Rust, Python and JavaScript, of version {versions.pop()}")
 

@@ -6,8 +6,9 @@ Usage: python_binding.py PYTHON_FOLDER OUT
 OUT is the folder that `bindings/archive.sh` filled. The ends of each type go there and back by each
 way, script and case; texts are refused as the rules say, with their place; numbers of any length
 and arguments of another kind are refused. Amounts, dates and the numbers of a text answer as the
-rows of `cn_amount`, `cn_date` and `cn_find` say. Four threads call at once; and where the shared
-object is not found, the message says what to do.
+rows of `cn_amount`, `cn_date` and `cn_find` say. Four threads call at once; the status of a text
+that is too long is an OverflowError; and where the shared object is not found, the message says
+what to do.
 """
 import doctest
 import os
@@ -19,6 +20,7 @@ from datetime import date, datetime, timedelta
 from decimal import Decimal, localcontext
 from itertools import product
 from pathlib import Path
+from unittest import mock
 
 import rows
 
@@ -270,6 +272,20 @@ def four_threads(numerals):
         check(all(pool.map(back, (-(10**30), -2500, 10**9, 10**37))), "four threads: a number is not read back")
 
 
+def too_long(numerals):
+    """The status that the C source alone answers is met in each reader, by a library that answers nothing else."""
+    readers = {
+        "chinese_number_read": numerals.to_number,
+        "chinese_amount_read": numerals.chinese_to_amount,
+        "chinese_date_read": numerals.chinese_to_date,
+        "chinese_number_find_utf8": lambda text: list(numerals.find_numbers(text)),
+    }
+    for name, reader in readers.items():
+        with mock.patch.object(numerals._calls, name, lambda *_: 2**32 - 1):
+            error = refusal(reader, "一", error=OverflowError)
+        check(str(error).startswith("the text is too long"), f"{name} of a text that is too long: {error}")
+
+
 def without_library(folder):
     words = dict(os.environ, CHINESE_NUMBER_LIB="/nowhere")
     command = [sys.executable, "-Bc", "import chinese_number"]
@@ -299,6 +315,7 @@ def main():
     figures(numerals)
     in_texts(numerals)
     four_threads(numerals)
+    too_long(numerals)
     without_library(folder)
     print(
         f"python binding: {examples} examples; {texts} texts of the ends of types, {fens} amounts and {days} dates, "

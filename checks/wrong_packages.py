@@ -59,7 +59,7 @@ def other_byte_inside(data):
 
 
 NATIVE_WHEEL, NATIVE_C = f"*_{CHECK.NATIVE}.whl", f"chinese-number-*-{CHECK.NATIVE}.tar.gz"
-NPM = "*.tgz"
+NPM, SDIST = "*.tgz", "chinese_number_proved-*.tar.gz"
 TYPE = "export function toNumber(string: string, options?: ReadOptions): {};"
 # What is wrong, the package, the end of the file's name, the change (None takes the file away), the
 # part of the check, and what it has to say.
@@ -81,9 +81,12 @@ WRONG = (
     ("another soname for CMake", NATIVE_C, "number-config.cmake",
      lambda data: data.replace(b".so.0.1", b".so.0.2"), "c", "cmake"),
     ("no PROVENANCE.json", NATIVE_C, "PROVENANCE.json", None, "c", "has no PROVENANCE.json"),
+    ("a byte of the C source", "*-source.tar.gz", "/chinese_number.c", a_byte, "source", "is none of"),
+    ("another C source in the crate", "*.crate", "/chinese_number.c", a_byte, "rust", "is none of the files"),
+    ("no licence of wabt", SDIST, "LICENSE-wabt", None, "source", "has no LICENSE-wabt"),
+    ("another answer in the source package", SDIST, "PKG-INFO", replaced("\n105000\n", "\n105001\n"),
+     "source", "doctest"),
 )
-
-
 
 def unpacked(path):
     """The files of a package in their order, without a wheel's RECORD; a link is a text."""
@@ -96,7 +99,7 @@ def unpacked(path):
 def pack(path, files):
     if path.suffix == ".whl":
         info = next(name for name in files if name.endswith("METADATA")).partition("/")[0]
-        PACKING.write_wheel(path, info, files)
+        PACKING.build_wheel.write_wheel(path, info, files)
         return
     top = next(iter(files)).partition("/")[0]
     PACKING.write_tar(path, top, {name[len(top) + 1 :]: data for name, data in files.items()})

@@ -1,9 +1,10 @@
 /* Chinese numerals for whole numbers, printed, read and found in a text, and amounts of money and dates in capitals: the C
  * face of the proved library chinese_number.
  *
- * Link libchinese_number.a or libchinese_number.so: for Linux on x86-64 and aarch64, with any C library. They need at most
- * memcpy and memset of it, and __udivti3 of the compiler's. No call takes memory, opens a file, reads the locale or keeps
- * anything between calls, so any number of threads may call at once.
+ * On Linux on x86-64 and aarch64, with any C library, link libchinese_number.a or libchinese_number.so. They need at most
+ * memcpy and memset of it, and __udivti3 of the compiler's. On other systems compile chinese_number.c, which is the proved
+ * module for WebAssembly as C source. It needs abort, memcpy, memmove and memset at most. No call takes memory, opens a
+ * file, reads the locale or keeps anything between calls, so any number of threads may call at once.
  *
  * What the caller must see to, since nothing tests it:
  * - no pointer is NULL, not that of an empty text or room either;
@@ -18,8 +19,8 @@
 #include <stddef.h>
 #include <stdint.h>
 
-#if SIZE_MAX != UINT64_MAX
-#error "chinese_number.h: the library is built for processors where size_t has 64 bits"
+#if SIZE_MAX != UINT64_MAX && SIZE_MAX != UINT32_MAX
+#error "chinese_number.h: the library is for processors where size_t has 64 or 32 bits"
 #endif
 
 #define CN_VERSION "0.1.0"
@@ -43,8 +44,13 @@ enum {
     CN_I32 = 7,
     CN_I64 = 8,
     CN_I128 = 9,
+#if SIZE_MAX == UINT64_MAX
     CN_USIZE = CN_U64, /* size_t */
     CN_ISIZE = CN_I64  /* ptrdiff_t */
+#else
+    CN_USIZE = CN_U32,
+    CN_ISIZE = CN_I32
+#endif
 };
 
 /* The way in which a number is written: as plain digits (一二三), or with units (一百二十三) by one of four methods. */
@@ -112,6 +118,10 @@ enum {
 
 /* No date is printed with more bytes, but for a zero byte that cn_print_date writes. */
 #define CN_MOST_DATE_BYTES 39
+
+/* What the C source alone returns where a text has more than 4293918720 bytes, and what is written is 0; no call of the
+ * archives answers it. */
+#define CN_TOO_LONG UINT32_MAX
 
 /* A whole number in two halves of 64 bits; for a signed type, in two's complement of 128 bits. So (int8_t)number.low is
  * the value of a number of the type CN_I8. */
@@ -291,6 +301,7 @@ static inline const char *cn_status_text(uint32_t status) {
     case CN_UNFINISHED: return "the amount or date is not finished";
     case CN_NONE: return "there is no number in the text";
     case CN_NOT_A_DATE: return "there is no such date";
+    case CN_TOO_LONG: return "the text is too long";
     default: return "no status of this library";
     }
 }

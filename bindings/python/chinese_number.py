@@ -21,9 +21,10 @@ datetime.date(2026, 1, 15)
 >>> [found.number() for found in find_numbers('第二十三回，二零二五年')]
 [23, 2025]
 
-The shared object libchinese_number.so stands beside this file, as a wheel puts it, or in the folder that CHINESE_NUMBER_LIB
-names, as bindings/archive.sh makes it. It takes no memory, keeps nothing between calls and reads no locale, and a call lets
-other threads of Python run.
+The shared library libchinese_number.so, on macOS .dylib and on Windows .dll, stands beside this file, as a wheel puts it, or
+in the folder that CHINESE_NUMBER_LIB names, as bindings/archive.sh makes it. It takes no memory, keeps nothing between calls
+and reads no locale, and a call lets other threads of Python run. Where it is made of C source, a text of more than
+4,293,918,720 bytes is an OverflowError.
 """
 
 from __future__ import annotations
@@ -31,6 +32,7 @@ from __future__ import annotations
 import ctypes
 import operator
 import os
+import sys
 from datetime import date, datetime
 from decimal import Decimal
 from enum import Enum
@@ -236,15 +238,20 @@ class _Span(ctypes.Structure):
     _fields_ = [("start", ctypes.c_size_t), ("end", ctypes.c_size_t), ("digits", ctypes.c_uint32)]
 
 
-def _library() -> ctypes.CDLL:
-    beside = Path(__file__).resolve().parent / "libchinese_number.so"
-    path = beside if beside.exists() else Path(os.environ.get("CHINESE_NUMBER_LIB", "")).resolve() / beside.name
+def _opened() -> ctypes.CDLL:
+    name = "libchinese_number." + {"darwin": "dylib", "win32": "dll"}.get(sys.platform, "so")
+    beside = Path(__file__).resolve().parent / name
+    path = beside if beside.exists() else Path(os.environ.get("CHINESE_NUMBER_LIB", "")).resolve() / name
     try:
-        library = ctypes.CDLL(str(path))
+        return ctypes.CDLL(str(path))
     except OSError as error:
         raise ImportError(
-            f"{error}\nMake libchinese_number.so by bindings/archive.sh OUT, and set CHINESE_NUMBER_LIB to the folder OUT."
+            f"{error}\nMake {name} by bindings/archive.sh OUT, and set CHINESE_NUMBER_LIB to the folder OUT."
         ) from None
+
+
+def _library() -> ctypes.CDLL:
+    library = _opened()
     code, size, at = ctypes.c_uint32, ctypes.c_size_t, ctypes.POINTER
     text, room = (ctypes.c_char_p, size), (ctypes.c_char_p, size, at(size))
 
@@ -269,6 +276,7 @@ _AmountRoom = ctypes.c_char * _MOST_AMOUNT_BYTES
 _MOST_DATE_BYTES = 39
 _DateRoom = ctypes.c_char * _MOST_DATE_BYTES
 _FIRST_NOT_WRITTEN = 10**18
+_TOO_LONG = 2**32 - 1
 _HALF = (1 << 64) - 1
 _FIRST_SIGNED = Kind.I8.value
 
@@ -277,6 +285,12 @@ def _printed(call: Any, room: Any, *arguments: Any) -> tuple[int, str]:
     length = ctypes.c_size_t()
     status = call(*arguments, room, len(room), ctypes.byref(length))
     return status, room.raw[: length.value].decode()
+
+
+def _refused(status: int) -> Status:
+    if status == _TOO_LONG:
+        raise OverflowError("the text is too long: it has more than 4,293,918,720 bytes")
+    return Status(status)
 
 
 def _code(value: Enum, of: type[Enum]) -> int:
@@ -309,7 +323,7 @@ def to_number(text: str, *, kind: Kind = Kind.I128, way: Way = Way.TEN_THOUSAND)
     data, reading, code = _bytes(text), _Reading(), _code(kind, Kind)
     status = _calls.chinese_number_read(data, len(data), code, _code(way, Way), ctypes.byref(reading))
     if status:
-        raise NumeralError(Status(status), kind, reading.char_index if status == Status.INCORRECT.value else None)
+        raise NumeralError(_refused(status), kind, reading.char_index if status == Status.INCORRECT.value else None)
     number: int = reading.high << 64 | reading.low
     return number - (1 << 128) if code >= _FIRST_SIGNED and number >> 127 else number
 
@@ -382,7 +396,7 @@ def chinese_to_amount(text: str) -> int:
     data, reading = _bytes(text), _Amount()
     status = _calls.chinese_amount_read(data, len(data), ctypes.byref(reading))
     if status:
-        raise AmountError(Status(status), reading.char_index if status == Status.INCORRECT.value else None)
+        raise AmountError(_refused(status), reading.char_index if status == Status.INCORRECT.value else None)
     fen: int = reading.fen
     return fen
 
@@ -449,7 +463,7 @@ def chinese_to_date(text: str) -> date:
     data, reading = _bytes(text), _Date()
     status = _calls.chinese_date_read(data, len(data), ctypes.byref(reading))
     if status:
-        raise DateError(Status(status), reading.char_index if status == Status.INCORRECT.value else None)
+        raise DateError(_refused(status), reading.char_index if status == Status.INCORRECT.value else None)
     return date(reading.year, reading.month, reading.day)
 
 
@@ -498,9 +512,10 @@ def _found(data: bytes, upper: bool, greatest: int) -> Iterator[Found]:
     call, span = _calls.chinese_number_find_utf8, _Span()
     first = ctypes.cast(ctypes.c_char_p(data), ctypes.c_void_p).value or 0
     searched = index = 0
-    while not call(first + searched, len(data) - searched, upper, greatest, ctypes.byref(span)):
+    while not (status := call(first + searched, len(data) - searched, upper, greatest, ctypes.byref(span))):
         begin, end = searched + span.start, searched + span.end
         text = data[begin:end].decode()
         start = index + len(data[searched:begin].decode())
         searched, index = end, start + len(text)
         yield Found(start, index, text, bool(span.digits))
+    _refused(status)

@@ -1,4 +1,4 @@
-//! The calls of the archive, and its codes; `bindings/c/chinese_number.h` says what each answers.
+//! The calls of the library, and its codes; `bindings/c/chinese_number.h` says what each answers.
 
 #![cfg_attr(
     not(all(feature = "number-to-chinese", feature = "chinese-to-number")),
@@ -26,6 +26,8 @@ pub mod status {
     pub const UNFINISHED: u32 = 9;
     pub const NONE: u32 = 10;
     pub const NOT_A_DATE: u32 = 11;
+    /// The C source alone answers it.
+    pub const TOO_LONG: u32 = u32::MAX;
 }
 
 /// The integer types.
@@ -188,8 +190,23 @@ macro_rules! whole {
 }
 
 whole! {
-    u8: U8; u16: U16; u32: U32; u64: U64; u128: U128; usize: U64;
-    i8: I8; i16: I16; i32: I32; i64: I64; i128: I128; isize: I64;
+    u8: U8; u16: U16; u32: U32; u64: U64; u128: U128;
+    i8: I8; i16: I16; i32: I32; i64: I64; i128: I128;
+}
+
+#[cfg(target_pointer_width = "64")]
+whole! { usize: U64; isize: I64; }
+
+#[cfg(target_pointer_width = "32")]
+whole! { usize: U32; isize: I32; }
+
+// A status that a reader tells. The interface has no error for a text that the C source refuses for its length.
+#[inline]
+fn told(status: u32) -> u32 {
+    if status == status::TOO_LONG {
+        panic!("the text is too long: it has more than 4,293,918,720 bytes");
+    }
+    status
 }
 
 /// The number of a text, or the status and the place.
@@ -214,7 +231,7 @@ pub fn read<T: Whole>(text: &str, way: Way) -> Result<T, (u32, usize)> {
         let Number { low, high } = reading.number;
         Ok(T::of_bits((high as u128) << 64 | low as u128))
     } else {
-        Err((status, reading.char_index))
+        Err((told(status), reading.char_index))
     }
 }
 
@@ -273,7 +290,7 @@ pub fn read_amount(text: &str) -> Result<u64, (u32, usize)> {
     if status == status::DONE {
         Ok(reading.fen)
     } else {
-        Err((status, reading.char_index))
+        Err((told(status), reading.char_index))
     }
 }
 
@@ -307,7 +324,7 @@ pub fn read_date(text: &str) -> Result<BillDate, (u32, usize)> {
             day: reading.day as u8,
         })
     } else {
-        Err((status, reading.char_index))
+        Err((told(status), reading.char_index))
     }
 }
 
@@ -353,6 +370,6 @@ pub fn find(text: &str, upper: bool, greatest: Unit) -> Result<Span, u32> {
     if status == status::DONE {
         Ok(span)
     } else {
-        Err(status)
+        Err(told(status))
     }
 }

@@ -1,0 +1,113 @@
+"""What the checks of the packages share: commands that run as a user's do, without `rt` and this
+repository's environment; the READMEs of the packages; and what was tried and left out."""
+import json
+import os
+import platform
+import re
+import shutil
+import subprocess
+import sys
+import tarfile
+import zipfile
+from pathlib import Path
+
+TRIED, LEFT_OUT = [], []
+NATIVE = platform.machine()
+
+
+def fail(why):
+    sys.exit(f"packages: {why}")
+
+
+def outside():
+    """The environment of a user who has neither the toolchain nor this repository."""
+    path = os.environ["PATH"].split(os.pathsep)
+    path = [it for it in path if it and not os.access(Path(it) / "rt", os.X_OK)]
+    ours = re.compile("PYTHON|CHINESE|CARGO_TARGET|RUSTFLAGS|VIRTUAL|npm_")
+    left = {name: value for name, value in os.environ.items() if not ours.match(name)}
+    return dict(left, PATH=os.pathsep.join(path))
+
+
+ENVIRONMENT = outside()
+
+
+def run(*words, cwd, wanted=None, **more):
+    """What a command says, where it ends well; `wanted` is all that it has to say."""
+    words = [str(word) for word in words]
+    pipes = {"stdout": subprocess.PIPE, "stderr": subprocess.STDOUT, "encoding": "utf-8"}
+    ended = subprocess.run(words, cwd=cwd, env=dict(ENVIRONMENT, **more), timeout=600, **pipes)
+    if ended.returncode != 0 or (wanted is not None and ended.stdout != wanted):
+        fail(f"{' '.join(words)}: status {ended.returncode}\n{ended.stdout[-4000:]}")
+    return ended.stdout
+
+
+def has(name):
+    there = shutil.which(name, path=ENVIRONMENT["PATH"]) is not None
+    (TRIED if there else LEFT_OUT).append(name)
+    return there
+
+
+def write(path, text):
+    path.parent.mkdir(parents=True, exist_ok=True)
+    path.write_text(text, encoding="utf-8")
+    return path
+
+
+def listed(path):
+    """The files of a package: each name with its bytes."""
+    if path.suffix == ".whl":
+        with zipfile.ZipFile(path) as packed:
+            return {name: packed.read(name) for name in packed.namelist()}
+    with tarfile.open(path) as packed:
+        return {it.name: packed.extractfile(it).read() for it in packed if it.isfile()}
+
+
+def commands(text):
+    """The commands that a page has in lines that are set in, outside of its examples."""
+    return re.findall(r"(?:^    .*\n)+", re.sub(r"^```.*?^```$", "", text, flags=re.M | re.S), re.M)
+
+
+class Readme:
+    """The README of a package: its install lines, and its example, whose comments say its answers."""
+
+    def __init__(self, package, name, language):
+        files = listed(package)
+        text = next(data for it, data in files.items() if it.endswith(name)).decode()
+        blocks = re.findall(rf"^```{language}\n(.*?)^```$", text, re.M | re.S)
+        if len(blocks) != 1:
+            fail(f"the README of {package.name} has {len(blocks)} blocks of {language}")
+        self.example = blocks[0]
+        self.installs = commands(text)
+        answers = re.findall(r"(?://|/\*) (.*?)(?: \*/)?$", self.example, re.M)
+        self.answer = "".join(f"{it}\n" for it in answers)
+
+    def follow(self, out, folder, which=0, **more):
+        """Follows install lines, the first of the page or others, in a folder that has the packages."""
+        folder.mkdir(exist_ok=True)
+        for package in packages_in(out):
+            shutil.copy(package, folder)
+        run("bash", "-euc", self.installs[which], cwd=folder, **more)
+
+
+def packages_in(out):
+    return sorted(path for path in out.iterdir() if path.suffix in (".whl", ".gz", ".tgz", ".crate"))
+
+
+def package(out, pattern, what):
+    """The one package of this name, or None where PROVENANCE.json says that it was left out."""
+    found = list(out.glob(pattern))
+    if len(found) == 1:
+        return found[0]
+    provenance = json.loads((out / "PROVENANCE.json").read_bytes())
+    if found or not any(it.startswith(f"left out: {what}") for it in provenance["draft"]):
+        fail(f"{out} has {len(found)} files {pattern}")
+    LEFT_OUT.append(f"the package for {what}")
+    return None
+
+
+def unpacked(tarball, scratch):
+    """A folder with the files of a tarball. Where it stands is of no matter."""
+    first = scratch / "first"
+    with tarfile.open(tarball) as packed:
+        packed.extractall(first)
+    return next(first.iterdir()).rename(scratch / f"a folder {len(list(scratch.iterdir()))}")

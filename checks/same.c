@@ -1,0 +1,326 @@
+/* same [COUNT [ROUNDS]]: shows one sum over what each call of chinese_number.h answers to COUNT
+ * pseudo-random numbers of each type by each way, to ten times as many amounts, dates and texts,
+ * and at the ends: what is printed, each room to its last byte, and what is read and found in texts
+ * as they were printed, changed and cut. Builds of one library have to show one sum. With -DTHREADS
+ * four threads have to find it at once. With ROUNDS it shows what a call takes, too, in the best of
+ * so many rounds. */
+#include "chinese_number.h"
+
+#include <stdio.h>
+#include <stdlib.h>
+#include <string.h>
+#include <time.h>
+
+enum { MOST = 512, SAMPLES = 10000 };
+
+typedef struct run {
+    uint64_t state, sum;
+    long count, cases;
+} run;
+
+typedef struct text {
+    uint8_t bytes[MOST];
+    size_t length;
+} text;
+
+static const char *const MARKS[] = {
+    "零", "一", "二", "两", "十", "百", "千", "萬", "億", "兆", "極", "個", "負", "壹", "贰", "玖",
+    "拾", "佰", "仟", "万", "亿", "元", "圆", "角", "分", "整", "正", "人民币", "年", "月", "日", "第",
+    "，", "5", "０", "-", "x", " ", "\t", "\xe4\xb8", "\xf0\x9f\x98\x80", "\xc3\xa9", "\xff",
+};
+enum { COUNT_OF_MARKS = sizeof MARKS / sizeof *MARKS };
+
+static uint64_t some(run *r) {
+    r->state ^= r->state << 13;
+    r->state ^= r->state >> 7;
+    r->state ^= r->state << 17;
+    return r->state;
+}
+
+static uint32_t below(run *r, uint32_t limit) {
+    return (uint32_t)(some(r) >> 11) % limit;
+}
+
+/* A code, which once in a while names nothing. */
+static uint32_t code(run *r, uint32_t codes) {
+    return below(r, 32) == 0 ? codes : below(r, codes);
+}
+
+static void add(run *r, const uint8_t *bytes, size_t length) {
+    for (size_t i = 0; i < length; i++)
+        r->sum = (r->sum ^ bytes[i]) * UINT64_C(1099511628211);
+}
+
+static void add_word(run *r, uint64_t word) {
+    uint8_t bytes[8];
+    for (int i = 0; i < 8; i++)
+        bytes[i] = (uint8_t)(word >> 8 * i);
+    add(r, bytes, sizeof bytes);
+}
+
+static void put(text *t, size_t at, const char *mark) {
+    size_t length = strlen(mark);
+    memmove(t->bytes + at + length, t->bytes + at, t->length - at);
+    memcpy(t->bytes + at, mark, length);
+    t->length += length;
+}
+
+/* Cuts a text, puts a mark into it, or in the place of a character. */
+static void change(run *r, text *t) {
+    uint32_t how = below(r, 4);
+    size_t at = below(r, (uint32_t)t->length + 1), end;
+    if (how == 0) {
+        t->length = at;
+        return;
+    }
+    while (at > 0 && at < t->length && (t->bytes[at] & 0xC0) == 0x80)
+        at--;
+    if (how == 1 && at < t->length) {
+        for (end = at + 1; end < t->length && (t->bytes[end] & 0xC0) == 0x80;)
+            end++;
+        memmove(t->bytes + at, t->bytes + end, t->length - end);
+        t->length -= end - at;
+    }
+    put(t, at, MARKS[below(r, COUNT_OF_MARKS)]);
+}
+
+static void add_reading(run *r, uint32_t status, const cn_reading *reading) {
+    add_word(r, status);
+    add_word(r, reading->number.low);
+    add_word(r, reading->number.high);
+    add_word(r, reading->char_index);
+}
+
+/* Only where a text was tested are its bytes known to be UTF-8. */
+static int is_utf8(uint32_t status) {
+    return status != CN_NOT_UTF8 && status != CN_UNKNOWN;
+}
+
+static void try_read(run *r, const text *t, uint32_t kind, uint32_t way) {
+    cn_reading reading = {{1, 2}, 3};
+    uint32_t status = chinese_number_read(t->bytes, t->length, kind, way, &reading);
+    add_reading(r, status, &reading);
+    if (is_utf8(status)) {
+        status = chinese_number_read_utf8(t->bytes, t->length, kind, way, &reading);
+        add_reading(r, status, &reading);
+    }
+}
+
+static void try_find(run *r, const text *t, uint32_t upper, uint32_t greatest) {
+    cn_span span = {1, 2, 3};
+    size_t searched = 0;
+    uint32_t status = chinese_number_find(t->bytes, t->length, upper, greatest, &span);
+    for (;;) {
+        add_word(r, status);
+        add_word(r, span.start);
+        add_word(r, span.end);
+        add_word(r, span.digits);
+        if (!is_utf8(status) || status == CN_NONE)
+            return;
+        searched += span.end;
+        status = chinese_number_find_utf8(t->bytes + searched, t->length - searched, upper,
+                                          greatest, &span);
+    }
+}
+
+static void try_read_capitals(run *r, const text *t) {
+    cn_amount amount = {1, 2};
+    cn_date date = {1, 2, 3, 4};
+    add_word(r, chinese_amount_read(t->bytes, t->length, &amount));
+    add_word(r, amount.fen);
+    add_word(r, amount.char_index);
+    add_word(r, chinese_date_read(t->bytes, t->length, &date));
+    add_word(r, date.year);
+    add_word(r, date.month);
+    add_word(r, date.day);
+    add_word(r, date.char_index);
+}
+
+/* Each code is drawn in a statement of its own, since a call may draw its arguments in any order. */
+static void try_read_and_find(run *r, const text *t) {
+    uint32_t kind = code(r, CN_I128 + 1);
+    uint32_t way = code(r, CN_HIGH + 1);
+    uint32_t upper = code(r, 2);
+    uint32_t greatest = code(r, CN_JI + 1);
+    try_read(r, t, kind, way);
+    try_find(r, t, upper, greatest);
+}
+
+/* What was printed, with all of the room, and as a text to be read. */
+static void add_printed(run *r, uint32_t status, size_t length, text *t) {
+    add_word(r, status);
+    add_word(r, length);
+    add(r, t->bytes, MOST);
+    t->length = status == CN_DONE ? length : 0;
+    r->cases++;
+}
+
+/* A room that is mostly large enough. */
+static size_t begin(run *r, text *t, uint32_t most) {
+    memset(t->bytes, 7, MOST);
+    return below(r, 8) == 0 ? below(r, most) : most + below(r, 9);
+}
+
+static cn_number some_number(run *r) {
+    unsigned width = below(r, 129);
+    cn_number number;
+    number.low = some(r);
+    number.high = some(r);
+    if (width < 128)
+        number.high &= width > 64 ? UINT64_MAX >> (128 - width) : 0;
+    if (width < 64)
+        number.low &= width > 0 ? UINT64_MAX >> (64 - width) : 0;
+    if (below(r, 2))
+        number.low -= number.low % 10000;
+    return below(r, 4) == 0 ? cn_signed(-(int64_t)(number.low >> (width % 60 + 1))) : number;
+}
+
+static void try_number(run *r, uint32_t kind, uint32_t way, cn_number number) {
+    text t;
+    size_t length = 1, room = begin(r, &t, CN_MOST_BYTES);
+    uint32_t script = code(r, 2), letter_case = code(r, 2);
+    uint32_t status =
+        chinese_number_print(number, kind, way, script, letter_case, t.bytes, room, &length);
+    add_printed(r, status, length, &t);
+    try_read(r, &t, kind, way);
+    change(r, &t);
+    try_read(r, &t, kind, way);
+    try_read_and_find(r, &t);
+}
+
+static void try_capitals(run *r, text *t) {
+    for (int i = 0; i < 3; i++) {
+        try_read_capitals(r, t);
+        change(r, t);
+    }
+}
+
+static void try_amount(run *r, uint64_t fen) {
+    text t;
+    size_t length = 1, room = begin(r, &t, CN_MOST_AMOUNT_BYTES);
+    uint32_t status = chinese_amount_print(fen, code(r, 2), t.bytes, room, &length);
+    add_printed(r, status, length, &t);
+    try_capitals(r, &t);
+}
+
+static void try_date(run *r, uint32_t year, uint32_t month, uint32_t day) {
+    text t;
+    size_t length = 1, room = begin(r, &t, CN_MOST_DATE_BYTES);
+    uint32_t status = chinese_date_print(year, month, day, code(r, 2), t.bytes, room, &length);
+    add_printed(r, status, length, &t);
+    try_capitals(r, &t);
+}
+
+/* A text of marks, mostly in UTF-8, and with runs of ASCII longer than a word of the processor. */
+static void try_text(run *r, uint32_t marks) {
+    text t;
+    t.length = 0;
+    for (uint32_t i = 0; i < marks; i++) {
+        uint32_t wanted = below(r, 16) == 0 ? COUNT_OF_MARKS : COUNT_OF_MARKS - 4;
+        put(&t, t.length, below(r, 8) == 0 ? "a long sentence" : MARKS[below(r, wanted)]);
+    }
+    r->cases++;
+    try_read_and_find(r, &t);
+    try_read_capitals(r, &t);
+}
+
+static void try_ends(run *r) {
+    static const cn_number ENDS[] = {
+        {0, 0}, {1, 0}, {UINT64_MAX, 0}, {0, 1}, {UINT64_MAX, UINT64_MAX}, {0, (uint64_t)1 << 63},
+    };
+    for (uint32_t kind = 0; kind <= CN_I128 + 1; kind++)
+        for (uint32_t way = 0; way <= CN_HIGH + 1; way++)
+            for (size_t i = 0; i < sizeof ENDS / sizeof *ENDS; i++)
+                try_number(r, kind, way, ENDS[i]);
+    for (uint64_t fen = 1; fen < UINT64_C(10000000000000000000); fen *= 10) {
+        try_amount(r, fen - 1);
+        try_amount(r, fen);
+    }
+    for (uint32_t day = 0; day <= 32; day++)
+        try_date(r, 1900 + 100 * (day % 2), 2, day);
+    try_text(r, 0);
+}
+
+static void try_all(run *r) {
+    r->state = UINT64_C(88172645463325252);
+    r->sum = UINT64_C(14695981039346656037);
+    r->cases = 0;
+    for (uint32_t kind = 0; kind <= CN_I128 + 1; kind++)
+        for (uint32_t way = 0; way <= CN_HIGH + 1; way++)
+            for (long i = 0; i < r->count; i++)
+                try_number(r, kind, way, some_number(r));
+    for (long i = 0; i < 10 * r->count; i++) {
+        uint64_t fen = some(r);
+        uint32_t year = below(r, 10100), month = below(r, 14), day = below(r, 33);
+        try_amount(r, fen >> below(r, 64));
+        try_date(r, year, month, day);
+        try_text(r, below(r, 24));
+    }
+    try_ends(r);
+}
+
+#ifdef THREADS
+#include <pthread.h>
+
+static void *in_thread(void *r) {
+    try_all((run *)r);
+    return NULL;
+}
+
+static int is_same_in_threads(const run *wanted) {
+    pthread_t threads[4];
+    run runs[4];
+    int same = 1;
+    for (int i = 0; i < 4; i++) {
+        runs[i] = *wanted;
+        if (pthread_create(&threads[i], NULL, in_thread, &runs[i]) != 0)
+            return 0;
+    }
+    for (int i = 0; i < 4; i++)
+        same &= pthread_join(threads[i], NULL) == 0 && runs[i].sum == wanted->sum;
+    return same;
+}
+#else
+static int is_same_in_threads(const run *wanted) {
+    return wanted != NULL;
+}
+#endif
+
+/* What a call takes to print and to read a number of 64 bits. */
+static void show_times(run *r, int rounds) {
+    static uint8_t rooms[SAMPLES][CN_MOST_BYTES];
+    static size_t lengths[SAMPLES];
+    static cn_number numbers[SAMPLES];
+    clock_t print = 0, read = 0;
+    cn_reading reading;
+    for (int i = 0; i < SAMPLES; i++)
+        numbers[i] = cn_unsigned(some(r) >> i % 64);
+    for (int round = 0; round < rounds; round++) {
+        clock_t start = clock(), middle, end;
+        for (int i = 0; i < SAMPLES; i++)
+            chinese_number_print(numbers[i], CN_U64, CN_TEN_THOUSAND, CN_SIMPLE, CN_LOWER,
+                                 rooms[i], CN_MOST_BYTES, &lengths[i]);
+        middle = clock();
+        for (int i = 0; i < SAMPLES; i++)
+            chinese_number_read(rooms[i], lengths[i], CN_U64, CN_TEN_THOUSAND, &reading);
+        end = clock();
+        print = round == 0 || middle - start < print ? middle - start : print;
+        read = round == 0 || end - middle < read ? end - middle : read;
+    }
+    printf("print %.0f ns, read %.0f ns\n", 1e9 * (double)print / CLOCKS_PER_SEC / SAMPLES,
+           1e9 * (double)read / CLOCKS_PER_SEC / SAMPLES);
+}
+
+int main(int argc, char **argv) {
+    run r = {0, 0, argc > 1 ? atol(argv[1]) : 100, 0};
+    try_all(&r);
+    printf("%ld numbers, amounts, dates and texts, sum %08lx%08lx\n", r.cases,
+           (unsigned long)(r.sum >> 32), (unsigned long)(r.sum & UINT32_MAX));
+    if (!is_same_in_threads(&r)) {
+        puts("a thread found another sum");
+        return 1;
+    }
+    if (argc > 2)
+        show_times(&r, atoi(argv[2]));
+    return 0;
+}
