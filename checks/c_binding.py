@@ -3,10 +3,11 @@
 
 Usage: c_binding.py C_FOLDER OUT
 
-OUT is the folder that `bindings/archive.sh` filled. `example.c` meets each status, `sixteen_bits.c`
-prints and reads back each number of 16 bits, and each as an amount, in four threads; both by the archive and by the shared
-object. Then they run under valgrind, and with the sanitizers for addresses and for undefined
-behaviour. What is not there is left out, and named; one compiler has to be.
+OUT is a folder with an archive and a shared object, as `bindings/archive.sh` fills it. `example.c`
+meets each status of theirs, `sixteen_bits.c` prints and reads back each number of 16 bits, and each
+from 0 on as an amount, in four threads. Then they run under valgrind, and with the sanitizers for
+addresses and for undefined behaviour. What is not there is left out, and named; one compiler has to
+be.
 """
 import shutil
 import subprocess

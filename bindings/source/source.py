@@ -136,7 +136,7 @@ def written(module, folder):
 
 
 def statement_of(template):
-    """The pattern of a line, with the accesses to memory that the template has."""
+    """The patterns of a line, with the accesses to memory that the template has."""
     loads = "|".join(re.findall(r"^LOAD\((\w+),", template, re.MULTILINE))
     stores = "|".join(re.findall(r"^STORE\((\w+),", template, re.MULTILINE))
     of_memory = (
