@@ -7,7 +7,6 @@ OUT is a folder that `bindings/packages.sh` filled. Each is a copy of it with on
 RECORD are made right again. It is run when `checks/packages.py` changes, and is no part of check.sh.
 """
 import base64
-import hashlib
 import importlib.util
 import re
 import shutil
