@@ -246,7 +246,7 @@ def _opened() -> ctypes.CDLL:
         return ctypes.CDLL(str(path))
     except OSError as error:
         raise ImportError(
-            f"{error}\nMake {name} by bindings/archive.sh OUT, and set CHINESE_NUMBER_LIB to the folder OUT."
+            f"{error}\nSet CHINESE_NUMBER_LIB to a folder with {name}, as bindings/archive.sh OUT makes it on Linux."
         ) from None
 
 

@@ -2,7 +2,7 @@
 //! name of the error.
 //!
 //! Each line takes one growth, so that `checks/out_of_memory.py` can refuse them in turn. The last
-//! lines take none: they refuse their number by name.
+//! lines take none: they refuse their number or date by name.
 #![tactic(auto)]
 
 use chinese_number::ChineseCase::Lower;
