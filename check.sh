@@ -27,6 +27,7 @@ gate() {
     }
     # An edit that is refused for a name alone shows nothing of the contract.
     if grep "only because a proof file names" "$scratch/gate"; then return 1; fi
+    touch crates/chinese_number/out/gate # bindings/library.sh goes by it
 }
 
 time python3 checks/names.py crates bindings/rust/tests/interface.rs
