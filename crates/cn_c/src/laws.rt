@@ -15,7 +15,7 @@ ghost use Rattle.cn_c.specs.declared.reading.Reading.{Reading};
 /// What `chinese_number_print` writes is UTF-8, and `chinese_number_read_utf8` reads it, as the
 /// same type and in the same way, as the same number.
 ///
-/// For amounts that cross from one language to another.
+/// For numbers that cross from one language to another.
 pub fn printed_numbers_read_back()
     ensures { (number : Number) (kind way script case : ℕ) (old new : List ℕ) (len : ℕ)
         → IsPrinted number kind way script case old CN_DONE new len
