@@ -1,47 +1,80 @@
-"""Must-fail edits as files: what each turns, and whether it keeps the shape of the code.
+"""Wrong bodies as text: what each turns, and whether it keeps the shape of the code.
 
-An edit is a file `crates/NAME/must-fail/FAULT.edit`: a line `file:`, then pairs of lines `old:` and
-`new:`. Behind a `new:` that changes the shape of the code stands a line `twin:`, the same shape with
-the right value, which `rt ci` passes over.
+A wrong body is made by an edit. Those of a crate stand in its file `wrong-bodies`, parted by empty
+lines, each under its name; a few stand in `must-fail/NAME.edit`, where `rt ci` tries them too, and
+what `rt` does not read begins with `# `. An edit has a line `file:`, a line `refused:` with the
+functions that have to be refused for it, and pairs of lines `old:` and `new:`. Behind a `new:` that
+changes the shape of the code stands a line `twin:`, the same shape with the right value.
 """
 import re
 from collections import namedtuple
 
-Change = namedtuple("Change", "file old new twin")
+Edit = namedtuple("Edit", "name file refused changes")
+Change = namedtuple("Change", "old new twin")
 COMMENT = re.compile(r"/\*.*?\*/|//[^\n]*", re.DOTALL)
 TOKEN = re.compile(
     r"""b?"(?:\\.|[^"\\])*"|b?'(?:\\.|[^'\\])'|'?(?:\w+(?:::|\.))*\w+(?:::<[^<>]*>)?"""
     r"|<<=|>>=|\.\.=|=>|->|&&|\|\||[-+*/%&|^<>=!]=|\+\+|<<|>>|\.\.|\S"
 )
-OPERATORS = set("+ - * / % & | ^ ! < > <= >= == != && || << >> ++ .. ..= += -= *= ≡ ≢ ≤ × ⊎ ↔ ∷".split())
-KEYWORDS = set("as const else ensures fn for if impl in let loop match mut pub requires return struct use while".split())
+OPERATORS = set(
+    "+ - * / % & | ^ ! < > <= >= == != && || << >> ++ .. ..= += -= *= ≡ ≢ ≤ × ⊎ ↔ ∷".split()
+)
+KEYWORDS = set(
+    "as const else ensures fn for if impl in let loop match mut pub requires return struct use while".split()
+)
 
 
-def read(path):
-    """The changes of an edit, in the order in which they are made."""
-    changes, file, old = [], None, None
-    for line in path.read_text(encoding="utf-8").split("\n"):
-        word, _, text = line.partition(": ")
-        if word == "file":
-            file = text
+def crates_with_edits(crates):
+    """The folders of the crates that have edits."""
+    files = [*crates.glob("*/wrong-bodies"), *crates.glob("*/must-fail/*.edit")]
+    return sorted({crates / file.relative_to(crates).parts[0] for file in files})
+
+
+def edits_of(crate):
+    """The edits of a crate."""
+    file, found = crate / "wrong-bodies", []
+    if file.exists():
+        for block in file.read_text(encoding="utf-8").strip("\n").split("\n\n"):
+            name, _, text = block.partition("\n")
+            found.append(read(name, text))
+    for path in sorted((crate / "must-fail").glob("*.edit")):
+        found.append(read(path.stem, path.read_text(encoding="utf-8").rstrip("\n")))
+    return found
+
+
+def read(name, text):
+    """An edit, by the text below its name."""
+    file, refused, changes, old = None, (), [], None
+    for line in text.split("\n"):
+        word, _, value = line.removeprefix("# ").partition(": ")
+        if word == "file" and file is None:
+            file = value
+        elif word == "refused":
+            refused = tuple(value.split(", "))
         elif word == "old":
-            old = text
-        elif word.rstrip(":") == "new":
-            changes.append(Change(file, old, text, None))
-        elif word == "twin":
-            changes[-1] = changes[-1]._replace(twin=text)
-    return changes
+            old = value
+        elif word.rstrip(":") == "new" and old is not None:
+            changes.append(Change(old, value, None))
+        elif word == "twin" and changes:
+            changes[-1] = changes[-1]._replace(twin=value)
+        else:
+            raise ValueError(f"{name}: a line that no edit has: {line!r}")
+    if file is None or not refused or not changes:
+        raise ValueError(f"{name}: it lacks a line file:, refused:, old: or new:")
+    return Edit(name, file, refused, changes)
 
 
-def applied(changes, texts, twin=False):
-    """The texts that the changes touch, after them; of the twin, if it is asked for."""
-    made = {}
-    for file, old, new, right in changes:
-        text = made.get(file, texts.get(file, ""))
+def has_twin(edit):
+    return any(change.twin is not None for change in edit.changes)
+
+
+def applied(edit, text, twin=False):
+    """The text of the edit's file after it; of its twin, if that is asked for."""
+    for old, new, right in edit.changes:
         if text.count(old) != 1:
-            raise ValueError(f"{old!r} stands {text.count(old)} times in {file}")
-        made[file] = text.replace(old, right if twin and right is not None else new)
-    return made
+            raise ValueError(f"{old!r} stands {text.count(old)} times in {edit.file}")
+        text = text.replace(old, right if twin and right is not None else new)
+    return text
 
 
 def tokens(text):
@@ -53,7 +86,7 @@ def is_value(token):
 
 
 def turned(one, other):
-    """The values that stand in `one` and those in `other` in their place; None where the shapes differ."""
+    """The values in `one` and those in `other` in their place; None where the shapes differ."""
     one, other = tokens(one), tokens(other)
     if len(one) != len(other):
         return None
@@ -62,12 +95,9 @@ def turned(one, other):
     return pairs if alike else None
 
 
-def is_one_turn(pairs):
-    """Whether one value is turned, or two change places."""
-    return pairs is not None and (len(pairs) == 1 or len(pairs) == 2 and {(b, a) for a, b in pairs} == pairs)
-
-
-def differ_in_one_value(ones, others):
-    """Whether the texts of two sets of files differ in one value alone."""
-    pairs = [turned(ones[file], others[file]) for file in ones]
-    return None not in pairs and is_one_turn(set().union(*pairs))
+def differ_in_one_value(one, other):
+    """Whether the texts differ in one value alone, or in two that change places."""
+    pairs = turned(one, other)
+    return pairs is not None and (
+        len(pairs) == 1 or len(pairs) == 2 and {(b, a) for a, b in pairs} == pairs
+    )

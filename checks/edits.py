@@ -1,14 +1,14 @@
 #!/usr/bin/env python3
-"""Holds the must-fail edits: who has one, what each turns, and how it is named.
+"""Holds the wrong bodies: who has one, what each turns, and how it is named.
 
 Usage: edits.py CRATES
 
 - Each public function and each method of an implementation or a public trait has an edit of its
   own: in its body, or, of a law, whose body does nothing, in its statement.
 - Each edit turns one value and keeps the shape of the code, or has a twin: a line behind a `new:`,
-  of the same shape as it and with the right value. checks/twins.py shows that twins are proved.
-- Each is named by its function first (of a method also by its type and then the function; of a
-  table or a constant by its name or a function that cites it), and then by its fault.
+  of the same shape as it and with the right value. wrong_bodies.py shows that twins are proved.
+- Each has a name of its own: its function first (of a method also its type and then the function;
+  of a table or a constant its name or a function that cites it), and then its fault.
 """
 import re
 import sys
@@ -76,25 +76,29 @@ def is_law(item, texts):
     return texts[item.file].split("\n")[item.end - 1].strip() == "{}"
 
 
-def turned_items(changes, items, texts):
+def turned_items(edit, items, texts):
     """What an edit turns: the items in which its lines stand, and those that it writes anew between two of them."""
+    text = texts[edit.file]
+    changes = [change for change in edit.changes if change.old in text]
+    lines = [text.split(change.old)[0].count("\n") for change in changes]
     for item in items:
-        ours = [change for change in changes if change.file == item.file and change.old in texts[item.file]]
-        lines = [texts[item.file].split(change.old)[0].count("\n") for change in ours]
-        anew = any(re.search(rf"\bfn {item.name}\(", change.new) for change in ours)
+        if item.file != edit.file:
+            continue
+        anew = any(re.search(rf"\bfn {item.name}\(", change.new) for change in changes)
         first = item.start if is_law(item, texts) else item.body
         if any(first <= line < item.end for line in lines) or anew and min(lines) <= item.start <= max(lines):
             yield item
 
 
-def fault_of_form(changes, texts):
+def fault_of_form(edit, texts):
     """What is wrong with the form of an edit, if anything is."""
+    text = texts[edit.file]
     try:
-        made, twin = (edit_files.applied(changes, texts, twin=right) for right in (False, True))
+        made, twin = (edit_files.applied(edit, text, twin=right) for right in (False, True))
     except ValueError as error:
         return str(error)
-    is_turn = edit_files.differ_in_one_value({file: texts[file] for file in made}, made)
-    if all(change.twin is None for change in changes):
+    is_turn = edit_files.differ_in_one_value(text, made)
+    if not edit_files.has_twin(edit):
         return None if is_turn else "it turns more than one value and has no twin"
     if is_turn:
         return "it turns one value, so its twin is the source"
@@ -109,15 +113,14 @@ def citing(owners, items, texts):
             yield item
 
 
-def is_named(name, changes, owners, items, texts):
+def is_named(edit, owners, items, texts):
     """Whether an edit's name begins with that of something that it turns; with the type's, where it turns no function."""
     found = [*owners, *citing(owners, items, texts)]
-    if any(name.startswith((f"{item.name.lower()}_", f"{item.holder}_{item.name.lower()}_")) for item in found):
+    if any(edit.name.startswith((f"{item.name.lower()}_", f"{item.holder}_{item.name.lower()}_")) for item in found):
         return True
-    file, old = changes[0].file, changes[0].old
-    holders = holders_of(texts[file].split("\n"))
-    holder, _ = holders[texts[file].split(old)[0].count("\n")]
-    return all(item.name.isupper() for item in owners) and bool(holder) and name.startswith(f"{holder}_")
+    text = texts[edit.file]
+    holder, _ = holders_of(text.split("\n"))[text.split(edit.changes[0].old)[0].count("\n")]
+    return all(item.name.isupper() for item in owners) and bool(holder) and edit.name.startswith(f"{holder}_")
 
 
 def look_at(crate):
@@ -130,26 +133,26 @@ def look_at(crate):
     }
     items = list(items_of(crate, root, texts))
     asked = {item for item in items if item.is_asked}
-    bare, wrong, twins, edits = set(asked), [], 0, sorted((crate / "must-fail").glob("*.edit"))
-    for path in edits:
-        changes = edit_files.read(path)
-        owners = list(turned_items(changes, items, texts))
+    edits = edit_files.edits_of(crate)
+    bare, names = set(asked), [edit.name for edit in edits]
+    wrong = [f"{crate.name}/{name}: two edits have this name" for name in {it for it in names if names.count(it) > 1}]
+    for edit in edits:
+        owners = list(turned_items(edit, items, texts))
         bare -= set(owners)
-        twins += any(change.twin is not None for change in changes)
-        fault = fault_of_form(changes, texts)
-        if fault is None and not is_named(path.stem, changes, owners, items, texts):
+        fault = fault_of_form(edit, texts)
+        if fault is None and not is_named(edit, owners, items, texts):
             fault = "it is not named by what it turns: " + ", ".join(item.name for item in owners)
         if fault is not None:
-            wrong.append(f"{crate.name}/{path.stem}: {fault}")
+            wrong.append(f"{crate.name}/{edit.name}: {fault}")
     wrong += [f"{crate.name}/{item.file}:{item.start + 1}: {item.name} has no edit" for item in sorted(bare)]
-    laws = sum(is_law(item, texts) for item in asked)
+    laws, twins = sum(is_law(item, texts) for item in asked), sum(map(edit_files.has_twin, edits))
     return wrong, (len(edits), twins, len(asked) - laws, laws)
 
 
 def main():
     if len(sys.argv) != 2 or sys.argv[1].startswith("-"):
         sys.exit(__doc__)
-    looked = [look_at(path.parent) for path in sorted(Path(sys.argv[1]).glob("*/must-fail"))]
+    looked = [look_at(path) for path in edit_files.crates_with_edits(Path(sys.argv[1]))]
     wrong = [line for lines, _ in looked for line in lines]
     if wrong:
         sys.exit("edits:\n" + "\n".join(wrong))

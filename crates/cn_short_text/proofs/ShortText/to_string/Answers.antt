@@ -1,4 +1,4 @@
-use Rattle.std.proofs.Common.{length, ap, sym, ◌∙◌, subst}
+use Rattle.std.proofs.Common.{length, ap, sym, ◌∙◌, subst, arith}
 use Rattle.std.proofs.lemmas.List.{take_all}
 use Rattle.std.specs.Str.{IsUtf8}
 use Rattle.cn_short_text.proofs.Strings.{string-of}
@@ -15,4 +15,4 @@ returns c =
     let all = take_all c.loop-byte.byte-index c.as_bytes-written.result.now c.loop-byte-test.false in
     string-of _ _ _ c.from_utf8_unchecked.ensures.value
     (inv.bytes ∙ all ∙ c.as_bytes-written.ensures.bytes)
-    (inv.capacity ∙ c.in_ok-bytes.ensures.exact ∙ sym (ap length (inv.bytes ∙ all)))
+    (grind (arith, inv.capacity, c.in_ok-bytes.ensures.exact, ap length (inv.bytes ∙ all)))
