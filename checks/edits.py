@@ -9,6 +9,7 @@ Usage: edits.py CRATES
   of the same shape as it and with the right value. wrong_bodies.py shows that twins are proved.
 - Each has a name of its own: its function first (of a method also its type and then the function;
   of a table or a constant its name or a function that cites it), and then its fault.
+- Those of `must-fail/` are the ones that docs/DESIGN.md names for a fault.
 """
 import re
 import sys
@@ -149,11 +150,19 @@ def look_at(crate):
     return wrong, (len(edits), twins, len(asked) - laws, laws)
 
 
+def differ_from_design(crates):
+    """What is wrong with the table of faults in docs/DESIGN.md, if anything is."""
+    design = (crates.parent / "docs/DESIGN.md").read_text(encoding="utf-8")
+    named = set(re.findall(r"^\|.*\| `(\w+)` `(\w+)` \|$", design, re.MULTILINE))
+    files = {(path.parent.parent.name, path.stem) for path in crates.glob("*/must-fail/*.edit")}
+    return [f"{crate}/{name}: docs/DESIGN.md or must-fail/ lacks it" for crate, name in sorted(named ^ files)]
+
+
 def main():
     if len(sys.argv) != 2 or sys.argv[1].startswith("-"):
         sys.exit(__doc__)
     looked = [look_at(path) for path in edit_files.crates_with_edits(Path(sys.argv[1]))]
-    wrong = [line for lines, _ in looked for line in lines]
+    wrong = [line for lines, _ in looked for line in lines] + differ_from_design(Path(sys.argv[1]))
     if wrong:
         sys.exit("edits:\n" + "\n".join(wrong))
     edits, twins, functions, laws = map(sum, zip(*(counts for _, counts in looked)))

@@ -5,10 +5,10 @@ Usage: wrong_bodies.py [--built] [--at-once N] [CRATE ..]     (no CRATE: all tha
 
 A crate's edits (edit_files.py says where they stand) are planted in a copy, in rounds, at most one
 in each function, and one check judges a round. Each function that an edit names has to be refused
-for goals of its own, and of a twin to be proved; each other function to be proved, or to call one
-that is not. So an edit fails that is not found, does not compile or is proved, that is refused in
-a function that it does not name, or only because a proof names what is gone. Those that are
-refused at a limit of the search, so that the goal may be true, are counted apart.
+for goals of its own. Each other function has to be proved, those of twins too, unless it only calls
+one that is not. So an edit fails that is not found, does not compile or is proved, that is refused
+in a function that it does not name, or only because a proof names what is gone. Those where the
+search gave up at a limit say less, since the goal may be true: they are counted apart.
 
 A round goes on from what the round before kept, the first from what `rt check` left in the crate's
 folder. `rt lib` makes the libraries below first; with --built they are those that `rt ci` has left.
@@ -58,7 +58,10 @@ def plants_of(crate, edits):
             if is_twin and not edit_files.has_twin(edit):
                 continue
             text = (crate / edit.file).read_text(encoding="utf-8")
-            made = edit_files.applied(edit, text, is_twin)
+            try:
+                made = edit_files.applied(edit, text, is_twin)
+            except ValueError as error:
+                raise ValueError(f"{edit.name}: {error}") from error
             begin = len(os.path.commonprefix([text, made]))
             same = len(os.path.commonprefix([text[begin:][::-1], made[begin:][::-1]]))
             label = f"the twin of {edit.name}" if is_twin else edit.name
@@ -168,7 +171,7 @@ def faults_of(name, plants, said):
     if unread or not found:
         errors = unread or re.findall(r".*\berror\b.*", said) or said.split("\n")
         labels = ", ".join(plant.label for plant in plants)
-        return [f"one of these does not compile: {labels}: {' / '.join(errors[:5])}"], []
+        return [f"no verdict on {labels}: {' / '.join(errors[:5])}"], []
     faults, at_limit, planted = [], [], set()
     for plant in plants:
         verdicts = [found.get(it, Verdict("there is none", "")) for it in plant.edit.refused]
@@ -210,27 +213,33 @@ def at_once_by_default():
     return max(1, min(len(os.sched_getaffinity(0)), free // MEMORY))
 
 
-def try_crates(names, at_once):
-    """Tries the edits of these crates, says what came of each, and returns what is wrong, how many
-    edits there are, and how many twins."""
-    faults, edits, twins = [], 0, 0
-    with tempfile.TemporaryDirectory(prefix="wrong-bodies-") as scratch:
-        with ThreadPoolExecutor(at_once) as pool:
-            tried = {pool.submit(try_crate, name, Path(scratch)): name for name in names}
-            for done in as_completed(tried):
-                name = tried[done]
-                try:
-                    wrong, own, at_limit, rounds = done.result()
-                except ValueError as error:
-                    wrong, own, at_limit, rounds = [f"{name}: {error}"], [], [], []
-                own_twins = sum(map(edit_files.has_twin, own))
-                limits = f"; at a limit of the search: {' '.join(at_limit)}" if at_limit else ""
-                print(
-                    f"{name}: {len(own)} edits and {own_twins} twins in {len(rounds)} rounds{limits}",
-                    flush=True,
-                )
-                faults, edits, twins = faults + wrong, edits + len(own), twins + own_twins
-    return faults, edits, twins
+def try_crates(names, at_once, scratch):
+    """Tries the edits of these crates, and returns what is wrong, and what came of all others."""
+    faults, counts = [], [0, 0, 0]
+    with ThreadPoolExecutor(at_once) as pool:
+        tried = {pool.submit(try_crate, name, scratch): name for name in names}
+        for done in as_completed(tried):
+            try:
+                wrong, edits, at_limit, rounds = done.result()
+            except ValueError as error:
+                faults.append(f"{tried[done]}: {error}")
+                continue
+            twins = sum(map(edit_files.has_twin, edits))
+            limits = f"; at a limit: {' '.join(at_limit)}" if at_limit else ""
+            told = f"{len(edits)} edits and {twins} twins in {len(rounds)} rounds{limits}"
+            print(f"{tried[done]}: {told}", flush=True)
+            faults += wrong
+            counts = map(sum, zip(counts, (len(edits), len(at_limit), twins)))
+    return faults, "{} refused, {} of them at a limit; {} twins proved".format(*counts)
+
+
+def scratch_folder():
+    """A folder that is removed when this process ends, however it ends."""
+    scratch = tempfile.mkdtemp(prefix="wrong-bodies-")
+    # Its input ends with this process.
+    words = ["sh", "-c", 'cat; rm -rf "$0"', scratch]
+    watch = subprocess.Popen(words, stdin=subprocess.PIPE, start_new_session=True)
+    return Path(scratch), watch
 
 
 def main():
@@ -242,15 +251,16 @@ def main():
     names = given.crates or [it.name for it in edit_files.crates_with_edits(CRATES)]
     # The longest first.
     names.sort(key=lambda it: -len(edit_files.edits_of(CRATES / it)))
-    # A run that is killed removes its copy.
-    signal.signal(signal.SIGTERM, lambda *_: sys.exit(143))
     for name in dict.fromkeys(it for name in names for it in listed(name)[0]):
         if not given.built:
             subprocess.run(["rt", "lib"], cwd=CRATES / name, check=True, stdout=sys.stderr)
-    faults, edits, twins = try_crates(names, given.at_once)
+    signal.signal(signal.SIGINT, signal.SIG_DFL)
+    scratch, watch = scratch_folder()
+    faults, told = try_crates(names, given.at_once, scratch)
+    watch.communicate()
     if faults:
         sys.exit("wrong_bodies:\n" + "\n".join(faults))
-    print(f"wrong bodies: {edits} refused, and {twins} twins proved")
+    print(f"wrong bodies: {told}")
 
 
 main()

@@ -1,10 +1,10 @@
 #!/usr/bin/env python3
-"""Makes edits and their crate wrong, one after the other, and sees that wrong_bodies.py tells each.
+"""Makes a small crate and its edits wrong, one way after the other, and sees that wrong_bodies.py
+tells each.
 
 Usage: wrong_edits.py
 
-It takes a copy of a small crate. It is run when wrong_bodies.py or the toolchain changes, and is no
-part of check.sh.
+It is run when wrong_bodies.py or the toolchain changes, and is no part of check.sh.
 """
 import shutil
 import subprocess
@@ -12,89 +12,141 @@ import sys
 import tempfile
 from pathlib import Path
 
-TOP = Path(__file__).resolve().parent.parent
-CRATE = "crates/cn_short_text"
-CODE, EDITS = f"{CRATE}/src/methods.rt", f"{CRATE}/wrong-bodies"
+CHECKS = Path(__file__).resolve().parent
+CODE, ANSWER, EDITS = "src/lib.rt", "proofs/after_next/Answers.antt", "wrong-bodies"
 
-# What is wrong, the file, what stands there once, what comes in its place, and what is told.
+FILES = {
+    CODE: """//! Digits.
+#![tactic(auto)]
+
+ghost use Rattle.std.specs.Prelude.{◌≡◌, ◌+◌, ◌≤◌};
+
+/// The greatest digit.
+pub fn greatest() -> u8
+    ensures { result ≡ 9 }
+{
+    9
+}
+
+/// The next digit.
+pub fn next(digit: u8) -> u8
+    requires { digit ≤ 8 }
+    ensures { result ≡ digit + 1 }
+{
+    digit + 1
+}
+
+/// The digit after the next.
+pub fn after_next(digit: u8) -> u8
+    requires { digit ≤ 7 }
+    ensures { result ≡ digit + 2 }
+{
+    let second = next(digit);
+    next(second)
+}
+""",
+    ANSWER: """use Rattle.std.proofs.Common.{arith}
+use Rattle.digits.proofs.after_next.Goals as goal
+
+pub returns : goal.returns
+returns c = omega (arith, c.next-second.ensures, c.next.ensures)
+""",
+    EDITS: """greatest_is_eight
+file: src/lib.rt
+refused: greatest
+old:     9
+new:     8
+
+next_goes_back
+file: src/lib.rt
+refused: next
+old:     digit + 1
+new:     digit - 1
+
+next_stays
+file: src/lib.rt
+refused: next
+old:     digit + 1
+new:     digit + 1 * 0
+twin:     digit + 1 * 1
+
+after_next_is_the_next
+file: src/lib.rt
+refused: after_next
+old: next(digit);
+new: next(digit - 1);
+twin: next(digit - 0);
+""",
+}
+
+# What is wrong: the file, what stands there once, and what comes in its place; and what is told.
 CASES = [
     (
-        "the clauses that refuse an edit are taken away",
-        CODE,
-        "        ensures bytes { text_bytes result ≡ [] }\n"
-        "        ensures has_put { HasPut result [] }\n",
-        "",
-        "short_text_new_has_a_byte: ShortText::new: it is proved",
+        ("the clause that refuses an edit is taken away", CODE),
+        ("    ensures { result ≡ 9 }\n", ""),
+        "greatest_is_eight: greatest: it is proved",
     ),
     (
-        "an edit is not found",
-        EDITS,
-        "old: len: 0,",
-        "old: len: 9,",
-        "'len: 9,' stands 0 times in src/methods.rt",
+        ("an edit is not found", EDITS),
+        ("old:     9", "old:     7"),
+        "greatest_is_eight: '    7' stands 0 times in src/lib.rt",
     ),
     (
-        "an edit does not compile",
-        EDITS,
-        "new: len: 1,",
-        "new: len: one,",
-        "one of these does not compile: short_text_new_has_a_byte, ",
+        ("an edit does not compile", EDITS),
+        ("new:     8", "new:     eight"),
+        "no verdict on greatest_is_eight, ",
     ),
     (
-        "an edit names another function than it turns",
-        EDITS,
-        "refused: ShortText::new",
-        "refused: ShortText::put",
-        "ShortText::new: it is refused, and nothing is planted there",
+        ("an edit names another function than it turns", EDITS),
+        ("refused: greatest", "refused: next"),
+        "greatest: it is refused, and nothing is planted there",
     ),
     (
-        "an edit names a function that there is not",
-        EDITS,
-        "refused: ShortText::new",
-        "refused: ShortText::old",
-        "short_text_new_has_a_byte: ShortText::old: there is none",
+        ("an edit names a function that there is not", EDITS),
+        ("refused: greatest", "refused: least"),
+        "greatest_is_eight: least: there is none",
     ),
     (
-        "an edit takes away what a proof names",
-        EDITS,
-        "old: Vec::with_capacity(alloc, written.len())?;\n"
-        "new: Vec::with_capacity(alloc, written.len() + 1)?;\n"
-        "twin: Vec::with_capacity(alloc, written.len() + 0)?;",
-        "old: let written = self.as_bytes();\nnew: let written = &self.bytes[..self.len];",
-        "ShortText::to_string: it is refused only because a proof names what is gone",
+        ("an edit takes away what a proof names", EDITS),
+        (
+            "old: next(digit);\nnew: next(digit - 1);\ntwin: next(digit - 0);",
+            "old: let second = next(digit);\nnew: let second = digit;",
+        ),
+        "after_next: it is refused only because a proof names what is gone",
     ),
     (
-        "a twin is refused",
-        EDITS,
-        "twin: Vec::with_capacity(alloc, written.len() + 0)?;",
-        "twin: Vec::with_capacity(alloc, written.len() + 2)?;",
-        "the twin of short_text_to_string_asks_for_spare_memory: ShortText::to_string: it is refused",
+        ("a twin is refused", EDITS),
+        ("twin:     digit + 1 * 1", "twin:     digit + 1 * 2"),
+        "the twin of next_stays: next: it is refused",
     ),
     (
-        "a function is refused in which nothing is planted",
-        CODE,
-        "        ensures bytes { result.now ≡ text_bytes self.now }\n",
-        "        ensures bytes { result.now ≡ [] }\n",
-        "ShortText::as_bytes: it is refused, and nothing is planted there",
+        ("a function is refused in which nothing is planted", CODE),
+        ("    ensures { result ≡ 9 }", "    ensures { result ≡ 7 }"),
+        "greatest: it is refused, and nothing is planted there",
     ),
 ]
 
 
-def wrong_bodies(copy):
+def wrong_bodies(top):
     words = [sys.executable, "checks/wrong_bodies.py", "--built"]
     both = {"stdout": subprocess.PIPE, "stderr": subprocess.STDOUT, "text": True}
-    return subprocess.run(words, cwd=copy, check=False, **both)
+    return subprocess.run(words, cwd=top, check=False, **both)
 
 
-def fault_of(case, copy):
+def lay_out(top, files):
+    for name, text in files.items():
+        path = top / "crates/digits" / name
+        path.parent.mkdir(parents=True, exist_ok=True)
+        path.write_text(text, encoding="utf-8")
+
+
+def fault_of(case, top):
     """What is wrong with what wrong_bodies.py says of this case, if anything is."""
-    what, file, old, new, told = case
-    text = (copy / file).read_text(encoding="utf-8")
-    if text.count(old) != 1:
-        return f"{what}: {old!r} stands {text.count(old)} times in {file}"
-    (copy / file).write_text(text.replace(old, new), encoding="utf-8")
-    ran = wrong_bodies(copy)
-    (copy / file).write_text(text, encoding="utf-8")
+    (what, name), (old, new), told = case
+    if FILES[name].count(old) != 1:
+        return f"{what}: {old!r} stands {FILES[name].count(old)} times in {name}"
+    lay_out(top, {**FILES, name: FILES[name].replace(old, new)})
+    ran = wrong_bodies(top)
     is_told = ran.returncode == 1 and told in ran.stdout
     return None if is_told else f"{what}: it is not told: {ran.stdout}"
 
@@ -103,18 +155,18 @@ def main():
     if len(sys.argv) != 1:
         sys.exit(__doc__)
     with tempfile.TemporaryDirectory(prefix="wrong-edits-") as scratch:
-        copy = Path(scratch)
-        left_out = shutil.ignore_patterns("out", "__pycache__")
-        for folder in (CRATE, "checks"):
-            shutil.copytree(TOP / folder, copy / folder, ignore=left_out)
-        for file in ("crates.txt", "HANDLES"):
-            shutil.copy(TOP / file, copy)
-        ran = wrong_bodies(copy)
+        top = Path(scratch)
+        for script in ("edit_files.py", "wrong_bodies.py"):
+            (top / "checks").mkdir(exist_ok=True)
+            shutil.copy(CHECKS / script, top / "checks")
+        (top / "crates.txt").write_text("digits:\n", encoding="utf-8")
+        lay_out(top, FILES)
+        ran = wrong_bodies(top)
         faults = [f"nothing is wrong: {ran.stdout}"] if ran.returncode else []
-        faults += filter(None, [fault_of(case, copy) for case in CASES])
+        faults += filter(None, [fault_of(case, top) for case in CASES])
     if faults:
         sys.exit("wrong edits:\n" + "\n".join(faults))
-    print(f"wrong edits: {len(CASES)} told")
+    print(f"wrong edits: {len(CASES)} told, and nothing where nothing is wrong")
 
 
 main()
