@@ -64,12 +64,16 @@ time python3 checks/python_binding.py bindings/python "$scratch/bindings"
 passed=$(sed -n '$s/ passed, 0 failed$//p' "$scratch/gate")
 if [ $# -eq 0 ]; then
     time python3 checks/wrong_bodies.py --built | tee "$scratch/wrong_bodies"
-    refused=$(sed -n '$s/^wrong bodies: \([0-9]*\) refused, .*/\1/p' "$scratch/wrong_bodies")
+    refused=$(grep -oP '^wrong bodies: \K\d+(?= refused)' "$scratch/wrong_bodies")
     passed=$((passed + refused))
 fi
 
 # What users install, with the gate of just now.
-{ echo "commit $commit"; sed '$d' "$scratch/gate"; echo "$passed passed, 0 failed"; } > "$scratch/checked"
+{
+    echo "commit $commit"
+    sed '$d' "$scratch/gate"
+    echo "$passed passed, 0 failed"
+} > "$scratch/checked"
 time bash bindings/packages.sh --draft "$scratch/packages" "$scratch/checked"
 time python3 checks/packages.py "$scratch/packages"
 

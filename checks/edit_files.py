@@ -20,7 +20,8 @@ OPERATORS = set(
     "+ - * / % & | ^ ! < > <= >= == != && || << >> ++ .. ..= += -= *= ≡ ≢ ≤ × ⊎ ↔ ∷".split()
 )
 KEYWORDS = set(
-    "as const else ensures fn for if impl in let loop match mut pub requires return struct use while".split()
+    "as const else ensures fn for if impl in let loop match mut pub requires return struct use"
+    " while".split()
 )
 
 

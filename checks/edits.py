@@ -161,7 +161,7 @@ def differ_from_design(crates):
 def main():
     if len(sys.argv) != 2 or sys.argv[1].startswith("-"):
         sys.exit(__doc__)
-    looked = [look_at(path) for path in edit_files.crates_with_edits(Path(sys.argv[1]))]
+    looked = [look_at(path.parent) for path in sorted(Path(sys.argv[1]).glob("*/src"))]
     wrong = [line for lines, _ in looked for line in lines] + differ_from_design(Path(sys.argv[1]))
     if wrong:
         sys.exit("edits:\n" + "\n".join(wrong))

@@ -5,10 +5,11 @@ Usage: wrong_bodies.py [--built] [--at-once N] [CRATE ..]     (no CRATE: all tha
 
 A crate's edits (edit_files.py says where they stand) are planted in a copy, in rounds, at most one
 in each function, and one check judges a round. Each function that an edit names has to be refused
-for goals of its own. Each other function has to be proved, those of twins too, unless it only calls
-one that is not. So an edit fails that is not found, does not compile or is proved, that is refused
-in a function that it does not name, or only because a proof names what is gone. Those where the
-search gave up at a limit say less, since the goal may be true: they are counted apart.
+for goals of its own. Each other function has to be proved, unless it only calls one that is not;
+those of a twin have to be proved outright. So an edit fails that is not found, does not compile or
+is proved, that is refused in a function that it does not name, or only because a proof names what
+is gone. Those where the search gave up at a limit say less, since the goal may be true: they are
+counted apart.
 
 A round goes on from what the round before kept, the first from what `rt check` left in the crate's
 folder. `rt lib` makes the libraries below first; with --built they are those that `rt ci` has left.
@@ -28,52 +29,69 @@ from pathlib import Path
 import edit_files
 
 CRATES = Path(__file__).resolve().parent.parent / "crates"
-MEMORY = 2_500_000_000  # the bytes that a check takes at the most
+MEMORY = 2_500_000_000  # what a check may take, in bytes
 
-# What a check prints: of each item a line, and above it its open goals; faults of proofs before all.
-LINE = re.compile(r"(?:fn|impl|struct|enum|trait) (\S+): (.*)")
+# A check prints what is wrong in proof files, and then of each item its open goals and a line.
+FAULT = re.compile(r"^\./(proofs(?:/\S+)?)/\w+\.antt:\d+:\d+: error: (.*(?:\n  .*)*)", re.MULTILINE)
 GOAL = re.compile(r"note: src/\S+: (?:it is not proved|`search` found no proof)")
-LIMIT = "`search` gave up at one of its limits"
-FAULT = re.compile(r"^\./(proofs/\S+)/\w+\.antt:\d+:\d+: error: (.*)", re.MULTILINE)
-LEMMA = re.compile(r"^\./proofs/\w+\.antt:\d+:\d+: error: (.*)", re.MULTILINE)
-UNREAD = re.compile(r"^(?:\./)?(?:src|specs)/\S+:\d+:\d+: error: .*", re.MULTILINE)
-CALLS = re.compile(r"it calls .*(?:is|are) not proved|it waits for")
+LINE = re.compile(r"(?:fn|impl|struct|enum|trait) (\S+): (.*)")
+WAITS = re.compile(
+    r"(?:no proof|not proved)(?:[:;] it (?:calls|passes the block|waits for) [^;]*)+"
+)
+LIMIT = re.compile(r"gave up at one of its limits|stopped at its own limit|ran out of")
 GONE = re.compile(r"has no field|is not in scope|has no `")
 DEPENDS = re.compile(r"was not admitted|that depends on")
+UNREAD = re.compile(r"^(?:\./)?(?:src|specs)/\S+:\d+:\d+: error: .*", re.MULTILINE)
+# An item of a source begins; a constant or a table of a module has its name here.
+HEAD = re.compile(
+    r"^(?:(?:pub(?:\(crate\))? )?(?:const|static) (\w+):| *[\w\"() ]*\b(?:fn|const) \w+)",
+    re.MULTILINE,
+)
 
 # What it comes to for a function.
 PROVED, REFUSED = "it is proved", "it is refused"
 AT_LIMIT = "it is refused at a limit of the search"
+BY_LEMMA = "it is refused for a lemma"
 ONLY_GONE = "it is refused only because a proof names what is gone"
-ABOVE = "it calls what is not proved"
+WAITING = "it calls what is not proved"
+UNCLEAR = "it is not proved"
 
-Plant = namedtuple("Plant", "edit label is_twin begin end text")
+# An edit or a twin: the part of its file's source that becomes another text.
+Plant = namedtuple("Plant", "edit label is_twin source begin end text")
 Verdict = namedtuple("Verdict", "kind words")
+Judgement = namedtuple("Judgement", "faults at_limit again functions")
 
 
 def plants_of(crate, edits):
-    """The edits, and behind them their twins: each the part of its file that becomes another."""
+    """The edits, and behind them their twins."""
     for is_twin in (False, True):
         for edit in edits:
             if is_twin and not edit_files.has_twin(edit):
                 continue
-            text = (crate / edit.file).read_text(encoding="utf-8")
+            source = (crate / edit.file).read_text(encoding="utf-8")
             try:
-                made = edit_files.applied(edit, text, is_twin)
+                made = edit_files.applied(edit, source, is_twin)
             except ValueError as error:
                 raise ValueError(f"{edit.name}: {error}") from error
-            begin = len(os.path.commonprefix([text, made]))
-            same = len(os.path.commonprefix([text[begin:][::-1], made[begin:][::-1]]))
+            begin = len(os.path.commonprefix([source, made]))
+            same = len(os.path.commonprefix([source[begin:][::-1], made[begin:][::-1]]))
+            end, text = len(source) - same, made[begin : len(made) - same]
             label = f"the twin of {edit.name}" if is_twin else edit.name
-            end = len(text) - same
-            yield Plant(edit, label, is_twin, begin, end, made[begin : len(made) - same])
+            yield Plant(edit, label, is_twin, source, begin, end, text)
+
+
+def is_cited(plant, other):
+    """Whether a plant turns a constant that the other one's file cites."""
+    constants = HEAD.findall(plant.source, 0, plant.begin)
+    return constants and constants[-1] and re.search(rf"\b{constants[-1]}\b", other.source)
 
 
 def are_apart(one, other):
     """Whether two plants can stand in one round."""
     is_one_file = one.edit.file == other.edit.file
     overlap = is_one_file and one.begin < other.end and other.begin < one.end
-    return not overlap and not set(one.edit.refused) & set(other.edit.refused)
+    meet = set(one.edit.refused) & set(other.edit.refused)
+    return not (overlap or meet or is_cited(one, other) or is_cited(other, one))
 
 
 def rounds_of(plants):
@@ -109,8 +127,8 @@ def listed(name):
     raise ValueError(f"crates.txt has no {name}")
 
 
-def check(name, room):
-    """What a check of the crate that lies in the room prints."""
+def check(name, room, group):
+    """Checks the crate that lies in the room."""
     kit = Path(shutil.which("rt")).resolve().parent.parent
     libraries, is_static = listed(name)
     root = "src/main.rt" if (room / "src/main.rt").exists() else "src/lib.rt"
@@ -124,32 +142,30 @@ def check(name, room):
         words += ["-L", f"dependency={it}"]
     words += ["--crate-type", "staticlib"] if is_static else []
     how = {"stdout": subprocess.PIPE, "stderr": subprocess.STDOUT, "errors": "replace"}
-    return subprocess.run(words, cwd=room, check=False, **how).stdout
+    return subprocess.run(words, cwd=room, check=False, process_group=group, **how)
 
 
 def kind_of(words, goals, faults, lemmas):
-    """What it comes to that a check says this of a function, with these goals of it open, these
-    faults in its own proof, and these in lemmas."""
-    if words.startswith("proved"):
+    """What a check says of a function: by the words of its line, the goals of it that are open,
+    what is wrong in its own proof, and in lemmas."""
+    if words == "proved":
         return PROVED
-    if any(not GONE.search(it) and not DEPENDS.search(it) for it in faults):
-        return REFUSED
-    if any(GONE.search(it) for it in faults):
+    own = [it for it in faults if not GONE.search(it) and not DEPENDS.search(it)]
+    if not own and any(GONE.search(it) for it in faults):
         return ONLY_GONE
-    if words.startswith("could not tell") or goals and all(LIMIT in it for it in goals):
-        return AT_LIMIT
-    if goals:
-        return REFUSED
+    if own + goals:
+        return AT_LIMIT if all(LIMIT.search(it) for it in own + goals) else REFUSED
     if faults:
-        # Its proof depends on a lemma that is refused, and says as much as that lemma does.
-        return REFUSED if any(not GONE.search(it) for it in lemmas) else ONLY_GONE
-    return ABOVE if CALLS.search(words) else REFUSED
+        return BY_LEMMA if lemmas and not any(GONE.search(it) for it in lemmas) else ONLY_GONE
+    if words.startswith("could not tell"):
+        return AT_LIMIT
+    return WAITING if WAITS.fullmatch(words) else UNCLEAR
 
 
 def verdicts_of(name, said):
     """What a check says of each function of the crate, by its path."""
-    lemmas = [it for it in LEMMA.findall(said) if not DEPENDS.search(it)]
     faults, found, goals = FAULT.findall(said), {}, []
+    lemmas = [it for place, it in faults if place == "proofs" and not DEPENDS.search(it)]
     for line in said.split("\n"):
         if GOAL.match(line):
             goals.append(line)
@@ -159,51 +175,69 @@ def verdicts_of(name, said):
             kind = kind_of(words, goals, own, lemmas)
             # A closure goes by its function.
             path = re.sub(r"(^|::)fn::(\w+)::.*", r"\1\2", path)
-            if path not in found or found[path].kind in (PROVED, ABOVE):
+            if path not in found or found[path].kind in (PROVED, WAITING):
                 found[path] = Verdict(kind, "; ".join([words, *own, *goals])[:400])
             goals = []
     return found
 
 
-def faults_of(name, plants, said):
-    """What is wrong with a round in which a check said this, and who was refused at a limit."""
-    found, unread = verdicts_of(name, said), UNREAD.findall(said)
-    if unread or not found:
-        errors = unread or re.findall(r".*\berror\b.*", said) or said.split("\n")
+def judged(name, plants, ran):
+    """What comes of a round: what is wrong, the edits that were refused at a limit, the twins that
+    are to be planted again, since they call what was not proved, and the functions of the crate."""
+    found, unread = verdicts_of(name, ran.stdout), UNREAD.findall(ran.stdout)
+    if ran.returncode not in (0, 1, 3) or unread or not found:
+        errors = unread or re.findall(r".*\berror\b.*", ran.stdout) or ran.stdout.split("\n")
         labels = ", ".join(plant.label for plant in plants)
-        return [f"no verdict on {labels}: {' / '.join(errors[:5])}"], []
-    faults, at_limit, planted = [], [], set()
+        fault = f"no verdict on {labels} (status {ran.returncode}): {' / '.join(errors[:5])}"
+        return Judgement([fault], [], [], set())
+    faults, at_limit, again, by_lemma = [], [], [], []
     for plant in plants:
         verdicts = [found.get(it, Verdict("there is none", "")) for it in plant.edit.refused]
-        wanted = (PROVED, ABOVE) if plant.is_twin else (REFUSED, AT_LIMIT)
-        for path, (kind, words) in zip(plant.edit.refused, verdicts):
-            faults += [f"{plant.label}: {path}: {kind}: {words}"] * (kind not in wanted)
         kinds = {it.kind for it in verdicts}
-        at_limit += [plant.label] * (not plant.is_twin and kinds == {AT_LIMIT})
-        planted |= set(plant.edit.refused)
+        if plant.is_twin and WAITING in kinds and not all(it.is_twin for it in plants):
+            again.append(plant)
+            continue
+        wanted = (PROVED,) if plant.is_twin else (REFUSED, AT_LIMIT, BY_LEMMA)
+        for path, (kind, words) in zip(plant.edit.refused, verdicts):
+            if kind not in wanted:
+                faults.append(f"{plant.label}: {path}: {kind}: {words}")
+        at_limit += [plant.label] if kinds == {AT_LIMIT} else []
+        by_lemma += [plant.label] if kinds == {BY_LEMMA} else []
+    planted = {path for plant in plants for path in plant.edit.refused}
     for path, (kind, words) in found.items():
-        if path not in planted and kind not in (PROVED, ABOVE):
+        if path not in planted and kind not in (PROVED, WAITING):
             faults.append(f"{path}: {kind}, and nothing is planted there: {words}")
-    return faults, at_limit
+    if len(by_lemma) > 1:
+        faults.append(f"a lemma is refused for one of these alone: {', '.join(by_lemma)}")
+    return Judgement(faults, at_limit, again, set(found))
 
 
-def try_crate(name, scratch):
-    """What is wrong with the edits of a crate; its edits, and those refused at a limit; its rounds."""
-    crate, room = CRATES / name, scratch / name
-    faults, at_limit = [], []
+def try_crate(name, scratch, group):
+    """The edits of a crate, and what came of each round."""
+    crate, room, judgements = CRATES / name, scratch / name, []
     edits = edit_files.edits_of(crate)
     rounds = rounds_of(plants_of(crate, edits))
     kept = crate / "out/incremental"
     if kept.is_dir():
         shutil.copytree(kept, room / "kept")
     (room / "kept").mkdir(parents=True, exist_ok=True)
-    for number, plants in enumerate(rounds, 1):
+    for plants in rounds:
         lay_out(crate, room, plants)
-        wrong, limits = faults_of(name, plants, check(name, room))
-        faults += [f"{name}, round {number}: {it}" for it in wrong]
-        at_limit += limits
+        judgements.append(judged(name, plants, check(name, room, group)))
+        if judgements[-1].again:
+            rounds.append(judgements[-1].again)
     shutil.rmtree(room)
-    return faults, edits, at_limit, rounds
+    return edits, judgements
+
+
+def faults_of(name, judgements):
+    """What is wrong with the edits of a crate."""
+    functions = set().union(*(it.functions for it in judgements))
+    for number, judgement in enumerate(judgements, 1):
+        faults = judgement.faults
+        if judgement.functions:
+            faults = faults + [f"{it}: no line" for it in sorted(functions - judgement.functions)]
+        yield from (f"{name}, round {number}: {it}" for it in faults)
 
 
 def at_once_by_default():
@@ -213,33 +247,36 @@ def at_once_by_default():
     return max(1, min(len(os.sched_getaffinity(0)), free // MEMORY))
 
 
-def try_crates(names, at_once, scratch):
+def try_crates(names, at_once, scratch, group):
     """Tries the edits of these crates, and returns what is wrong, and what came of all others."""
     faults, counts = [], [0, 0, 0]
     with ThreadPoolExecutor(at_once) as pool:
-        tried = {pool.submit(try_crate, name, scratch): name for name in names}
+        tried = {pool.submit(try_crate, name, scratch, group): name for name in names}
         for done in as_completed(tried):
+            name = tried[done]
             try:
-                wrong, edits, at_limit, rounds = done.result()
+                edits, judgements = done.result()
             except ValueError as error:
-                faults.append(f"{tried[done]}: {error}")
+                faults.append(f"{name}: {error}")
                 continue
             twins = sum(map(edit_files.has_twin, edits))
+            at_limit = [it for judgement in judgements for it in judgement.at_limit]
             limits = f"; at a limit: {' '.join(at_limit)}" if at_limit else ""
-            told = f"{len(edits)} edits and {twins} twins in {len(rounds)} rounds{limits}"
-            print(f"{tried[done]}: {told}", flush=True)
-            faults += wrong
-            counts = map(sum, zip(counts, (len(edits), len(at_limit), twins)))
+            told = f"{len(edits)} edits and {twins} twins in {len(judgements)} rounds{limits}"
+            print(f"{name}: {told}", flush=True)
+            faults += faults_of(name, judgements)
+            more = len(edits), len(at_limit), twins
+            counts = [one + other for one, other in zip(counts, more)]
     return faults, "{} refused, {} of them at a limit; {} twins proved".format(*counts)
 
 
 def scratch_folder():
-    """A folder that is removed when this process ends, however it ends."""
+    """A folder, and who removes it when this process ends, however it ends: the leader of a group
+    of processes, which ends the others first."""
     scratch = tempfile.mkdtemp(prefix="wrong-bodies-")
     # Its input ends with this process.
-    words = ["sh", "-c", 'cat; rm -rf "$0"', scratch]
-    watch = subprocess.Popen(words, stdin=subprocess.PIPE, start_new_session=True)
-    return Path(scratch), watch
+    words = ["sh", "-c", 'trap "" TERM; cat; kill -TERM 0; rm -rf "$0"', scratch]
+    return Path(scratch), subprocess.Popen(words, stdin=subprocess.PIPE, process_group=0)
 
 
 def main():
@@ -256,7 +293,7 @@ def main():
             subprocess.run(["rt", "lib"], cwd=CRATES / name, check=True, stdout=sys.stderr)
     signal.signal(signal.SIGINT, signal.SIG_DFL)
     scratch, watch = scratch_folder()
-    faults, told = try_crates(names, given.at_once, scratch)
+    faults, told = try_crates(names, given.at_once, scratch, watch.pid)
     watch.communicate()
     if faults:
         sys.exit("wrong_bodies:\n" + "\n".join(faults))

@@ -156,8 +156,8 @@ def main():
         sys.exit(__doc__)
     with tempfile.TemporaryDirectory(prefix="wrong-edits-") as scratch:
         top = Path(scratch)
+        (top / "checks").mkdir()
         for script in ("edit_files.py", "wrong_bodies.py"):
-            (top / "checks").mkdir(exist_ok=True)
             shutil.copy(CHECKS / script, top / "checks")
         (top / "crates.txt").write_text("digits:\n", encoding="utf-8")
         lay_out(top, FILES)
