@@ -20,9 +20,11 @@ pub use answers::{
 pub use cn_find::laws::{
     numbers_are_the_runs, numbers_come_in_order, one_number_either_way,
     runs_begin_with_no_other_sign, searches_go_on_behind_a_number, types_answer_alike_without_sign,
-    unwanted_characters_part_texts,
+    unwanted_characters_part_texts, wanted_constants_are,
 };
-pub use enums::{equal_values_are_the_same_variant, units_compare_by_rank};
+pub use enums::{
+    equal_dates_are_the_same_day, equal_values_are_the_same_variant, units_compare_by_rank,
+};
 pub use methods::{
     methods_spell_alike_below, methods_spell_otherwise_from, small_units_read_alike,
 };

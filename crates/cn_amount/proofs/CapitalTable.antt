@@ -1,5 +1,5 @@
 -- The table of characters has each that is read at its slot, with what it is.
-use Rattle.std.proofs.Common.{◌≡◌, ℕ, ◌<◌, ◌*◌, ◌/◌, ◌%◌, ◌==◌, Bool, true, false, List, [], ◌∷◌, length, get_or, refl, sym, ap, ◌∙◌, subst, arith, zero, suc}
+use Rattle.std.proofs.Common.{◌≡◌, ℕ, ◌<◌, ◌*◌, ◌/◌, ◌%◌, ◌==◌, Bool, true, false, List, [], ◌∷◌, length, get_or, refl, sym, ap, ◌∙◌, subst, arith, zero, suc, if◌then◌else◌}
 use Rattle.std.specs.Char.{char_set_contains}
 use Rattle.std.specs.List.{list_all, AllByRecursion}
 use Rattle.std.proofs.lemmas.Bool.Decides.{nat_tests}
@@ -57,7 +57,7 @@ unfolding capital_of
 unknown-foreign c other = none-with c capital_rows all-stand other
 
 -- an entry that has the character says what it is
-pub entry-known : (entry : ℕ × Capital) (c : ℕ) → entry ≡ get_or CAPITALS (slot_of c) entry
+entry-known : (entry : ℕ × Capital) (c : ℕ) → entry ≡ get_or CAPITALS (slot_of c) entry
     → entry.0 ≡ c → entry.1 ≡ capital_of c
 entry-known entry c at e =
     sym (subst (λ found. capital_of found.0 ≡ found.1) (sym at)
@@ -70,7 +70,7 @@ same-entry (entry ∷ entries) zero a b low = refl
 same-entry (entry ∷ entries) (suc i) a b low = same-entry entries i a b (omega arith)
 
 -- and where it has another one, the character is none of those that are read
-pub entry-unknown : (entry : ℕ × Capital) (c : ℕ) → entry ≡ get_or CAPITALS (slot_of c) entry
+entry-unknown : (entry : ℕ × Capital) (c : ℕ) → entry ≡ get_or CAPITALS (slot_of c) entry
     → (entry.0 ≡ c → ⊥) → Foreign ≡ capital_of c
 entry-unknown entry c at other = by (stands c) refl where
   by : (b : Bool) → stands c ≡ b → Foreign ≡ capital_of c
@@ -80,3 +80,11 @@ entry-unknown entry c at other = by (stands c) refl where
       at ∙ same-entry CAPITALS (slot_of c) entry (0, Foreign) (omega arith) in
       absurd (other (ap (λ found. found.0) one ∙ is))
   by false e = sym (unknown-foreign c e)
+
+-- so the entry at its slot says what a character is
+pub entry-is : (entry : ℕ × Capital) (c : ℕ) → entry ≡ get_or CAPITALS (slot_of c) entry
+    → (if entry.0 == c then entry.1 else Foreign) ≡ capital_of c
+entry-is entry c at = by (entry.0 == c) refl where
+  by : (b : Bool) → (entry.0 == c) ≡ b → (if b then entry.1 else Foreign) ≡ capital_of c
+  by true e = entry-known entry c at (grind (arith, nat_tests))
+  by false e = entry-unknown entry c at (λ same. absurd (grind (arith, nat_tests)))

@@ -306,10 +306,10 @@ written-utf8 variant amount bytes is =
 text-length : {Z : Type 0} (text : String Z) → string_len text ≡ length (string_bytes text)
 text-length text = let ok = text.bytes.ok in omega (arith, ok)
 
-pub written-is : {Z : Type 0} (variant : ChineseVariant) (amount : ℕ) (text : String Z)
+pub written_is : {Z : Type 0} (variant : ChineseVariant) (amount : ℕ) (text : String Z)
     (bytes : List ℕ) → amount < amount_limit → IsStringOf bytes text
     → bytes ≡ encode_utf8_all (amount_text variant amount) → IsText variant amount text
-written-is variant amount text bytes below is written =
+written_is variant amount text bytes below is written =
     let same = is.content ∙ written in
     let size = text-length text in
     record {

@@ -21,7 +21,7 @@ pub one-amount : (text : List ℕ) (one two : ℕ) → IsAmount text one → IsA
 one-amount text one two h k = amount-sum text one h ∙ sym (amount-sum text two k)
 
 -- each beginning of what begins an amount begins one
-begins-take : (text : List ℕ) (count : ℕ) → Begins text → Begins (take count text)
+pub begins-take : (text : List ℕ) (count : ℕ) → Begins text → Begins (take count text)
 begins-take text count h =
     let same : take count text ++ (drop count text ++ h.0) ≡ text ++ h.0 =
     sym (append_assoc (take count text) (drop count text) h.0)

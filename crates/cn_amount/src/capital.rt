@@ -1,5 +1,6 @@
 // The characters of an amount.
-ghost use Rattle.std.specs.Prelude.{◌≡◌, ◌<◌, ◌*◌, ◌/◌, ◌%◌, slice_index_or};
+ghost use Rattle.std.specs.Prelude.{◌≡◌, ◌==◌, ◌<◌, ◌*◌, ◌/◌, ◌%◌, slice_index_or, if◌then◌else◌};
+ghost use Rattle.cn_amount.specs.declared.capital.Capital.TheVariants.{Foreign};
 ghost use Rattle.cn_core.specs.Characters.{digit_char};
 ghost use Rattle.cn_core.specs.declared.case.ChineseCase.TheVariants.{Upper};
 ghost use Rattle.cn_core.specs.declared.script.ChineseVariant.TheVariants.{Simple, Traditional};
@@ -221,15 +222,23 @@ fn entry(character: char) -> (char, Capital)
     CAPITALS[(character as u32 * 3227 / 1024 % 64) as usize]
 }
 
-/// What a character is, of either script, by a look-up without a search.
+// What an entry says of a character: nothing, where it has another one.
 #[inline(always)]
-pub fn capital_of(character: char) -> Capital
-    ensures { result ≡ capital_of character }
+fn known_in(entry: (char, Capital), character: char) -> Capital
+    ensures { result ≡ (if entry.0 == character then entry.1 else Foreign) }
 {
-    let (known, capital) = entry(character);
+    let (known, capital) = entry;
     if known == character {
         capital
     } else {
         Capital::Foreign
     }
+}
+
+/// What a character is, of either script, by a look-up without a search.
+#[inline(always)]
+pub fn capital_of(character: char) -> Capital
+    ensures { result ≡ capital_of character }
+{
+    known_in(entry(character), character)
 }

@@ -1,8 +1,8 @@
 //! What users can count on, each as the contract of a function that does nothing.
-ghost use Rattle.std.specs.Prelude.{◌≡◌, ℕ, ◌<◌, ◌≤◌, List, ◌++◌, length, Result, Ok, encode_utf8_all};
+ghost use Rattle.std.specs.Prelude.{◌≡◌, ℕ, ◌<◌, ◌≤◌, List, ◌++◌, length, Result, Ok, Err, encode_utf8_all};
 ghost use Rattle.cn_core.specs.declared.script.ChineseVariant.{ChineseVariant};
 ghost use Rattle.cn_amount.specs.Places.{amount_limit};
-ghost use Rattle.cn_amount.specs.Reading.{AmountRefusal, IsAmount, Begins, Answers, ReadsAmount};
+ghost use Rattle.cn_amount.specs.Reading.{AmountRefusal, incorrect_at, IsAmount, Answers, ReadsAmount};
 ghost use Rattle.cn_amount.specs.Writes.{amount_text};
 
 /// What is written for an amount is read as that amount, by the definition of reading.
@@ -28,7 +28,7 @@ pub fn each_text_has_one_answer()
 /// so it is unfinished or right, and never incorrect.
 pub fn beginnings_are_begun()
     ensures { (front behind : List ℕ) → (fen : ℕ)
-        → IsAmount (front ++ behind) fen → Begins front }
+        → IsAmount (front ++ behind) fen → (place : ℕ) → ¬ Answers front (Err (incorrect_at place)) }
 {}
 
 /// An amount stands below the limit, so a text is never too large.

@@ -1,6 +1,7 @@
 // Writing.
-ghost use Rattle.std.specs.Prelude.{◌≡◌, ◌≤◌, length, encode_utf8_all};
+ghost use Rattle.std.specs.Prelude.{◌≡◌, ◌<◌, ◌≤◌, length, encode_utf8_all};
 ghost use Rattle.cn_short_text.specs.ShortText.{text_bytes};
+ghost use Rattle.cn_amount.specs.Places.{amount_limit};
 ghost use Rattle.cn_amount.specs.Writes.{WritesAmount, amount_text};
 
 use crate::AmountToChineseError;
@@ -14,10 +15,9 @@ use std::alloc::Global;
 /// The first amount that is not written: 10^16 yuan, in fen.
 pub const AMOUNT_LIMIT: u64 = 1_000_000_000_000_000_000;
 
-/// The text of an amount below the limit, in memory of its own.
-///
-/// Of a number from the limit on, its lowest eighteen digits are written.
+/// The text of an amount below the limit, in room of its own.
 pub fn amount_text(variant: ChineseVariant, fen: u64) -> ShortText
+    requires { fen < amount_limit }
     ensures bytes { text_bytes result ≡ encode_utf8_all (amount_text variant fen) }
     ensures most { length (text_bytes result) ≤ 108 }
 {

@@ -17,7 +17,7 @@ pub one-date : (text : List ℕ) (one two : BillDate) → IsDateText text one �
 one-date text one two h k = date-is one two (sym (date-read text one h) ∙ date-read text two k)
 
 -- each beginning of what begins a date begins one
-begins-take : (text : List ℕ) (count : ℕ) → Begins text → Begins (take count text)
+pub begins-take : (text : List ℕ) (count : ℕ) → Begins text → Begins (take count text)
 begins-take text count h =
     let same : take count text ++ (drop count text ++ h.0) ≡ text ++ h.0 =
     sym (append_assoc (take count text) (drop count text) h.0)

@@ -1,9 +1,9 @@
 //! What users can count on, each as the contract of a function that does nothing.
-ghost use Rattle.std.specs.Prelude.{◌≡◌, ℕ, ◌≤◌, List, ◌++◌, length, Result, Ok, encode_utf8_all};
+ghost use Rattle.std.specs.Prelude.{◌≡◌, ℕ, ◌≤◌, List, ◌++◌, length, Result, Ok, Err, encode_utf8_all};
 ghost use Rattle.cn_core.specs.declared.script.ChineseVariant.{ChineseVariant};
 ghost use Rattle.cn_date.specs.declared.date.BillDate.{BillDate};
 ghost use Rattle.cn_date.specs.Calendar.{IsDate};
-ghost use Rattle.cn_date.specs.Reading.{DateRefusal, IsDateText, Begins, Answers, ReadsDate};
+ghost use Rattle.cn_date.specs.Reading.{DateRefusal, incorrect_at, IsDateText, Answers, ReadsDate};
 ghost use Rattle.cn_date.specs.Writes.{date_text};
 
 /// What is written for a date is read as that date, by the definition of reading.
@@ -29,7 +29,7 @@ pub fn each_text_has_one_answer()
 /// unfinished or right, and never incorrect.
 pub fn beginnings_are_begun()
     ensures { (front behind : List ℕ) → (date : BillDate)
-        → IsDateText (front ++ behind) date → Begins front }
+        → IsDateText (front ++ behind) date → (place : ℕ) → ¬ Answers front (Err (incorrect_at place)) }
 {}
 
 /// No form is long, so no text costs more than so many characters to read.

@@ -269,5 +269,5 @@ none-next wanted whole rest ahead s none = s.same (text_before whole rest) ∙ b
   by (b ∷ ahead) none = absurd (omega (arith, none))
 
 -- nothing is left at the end
-pub none-left : (wanted : Wanted) (whole : List ℕ) → spans_left wanted whole [] ≡ []
-none-left wanted whole = ap (spans_after wanted false (text_before whole [])) chars-nil
+pub none_left : (wanted : Wanted) (whole : List ℕ) → spans_left wanted whole [] ≡ []
+none_left wanted whole = ap (spans_after wanted false (text_before whole [])) chars-nil

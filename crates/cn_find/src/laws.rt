@@ -4,6 +4,7 @@ ghost use Rattle.std.specs.List.{Contains, list_all};
 ghost use Rattle.std.specs.Str.{IsUtf8};
 ghost use Rattle.cn_core.specs.declared.method.ChineseCountMethod.{ChineseCountMethod};
 ghost use Rattle.cn_core.specs.declared.sign.Sign.TheVariants.{Plus};
+ghost use Rattle.cn_core.specs.declared.unit.Unit.TheVariants.{Zhao, Ji};
 ghost use Rattle.cn_core.specs.Characters.{sign_of};
 ghost use Rattle.cn_core.specs.Mark.{Mark};
 ghost use Rattle.cn_core.specs.Naive.{decimal_value};
@@ -77,4 +78,10 @@ pub fn one_number_either_way()
     ensures { (method : ChineseCountMethod) (marks : List Mark) (number : ℕ)
         → IsTrue (list_all is_decimal marks) → IsNumeral marks
         → decimal_value marks ≡ number → numeral_value method marks ≡ number }
+{}
+
+/// `EVERYDAY` is the lower case, with units up to 兆; `ALL` is both cases, with units up to 極.
+pub fn wanted_constants_are()
+    ensures everyday { Wanted.EVERYDAY ≡ record { upper = false; greatest = Zhao } }
+    ensures all { Wanted.ALL ≡ record { upper = true; greatest = Ji } }
 {}

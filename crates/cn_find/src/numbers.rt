@@ -45,6 +45,7 @@ impl<'a> Iterator for Numbers<'a> {
 
     ghost remaining = { item_count (λ left. left) };
 
+    #[tactic(auto, using(crate::proofs::Runs::none_left))]
     fn next(&mut self) -> Option<Found<'a>> {
         match next_run(self.wanted, self.whole, self.rest) {
             Some(found) => {

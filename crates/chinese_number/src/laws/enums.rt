@@ -1,16 +1,23 @@
 // What equality and order of the enums say.
 ghost use Rattle.std.specs.Prelude.{◌≡◌, ◌↔◌, IsTrue};
 ghost use Rattle.std.specs.Ordering.{nat_cmp};
+ghost use Rattle.cn_amount.specs.declared.error.AmountToChineseError.{AmountToChineseError as AmountPrintingError};
+ghost use Rattle.cn_amount.specs.declared.error.ChineseToAmountError.{ChineseToAmountError as AmountReadingError};
 ghost use Rattle.cn_core.specs.Characters.{rank};
 ghost use Rattle.cn_core.specs.declared.case.ChineseCase.{ChineseCase as Case};
 ghost use Rattle.cn_core.specs.declared.method.ChineseCountMethod.{ChineseCountMethod as Method};
 ghost use Rattle.cn_core.specs.declared.script.ChineseVariant.{ChineseVariant as Script};
 ghost use Rattle.cn_core.specs.declared.sign.Sign.{Sign as NumeralSign};
 ghost use Rattle.cn_core.specs.declared.unit.Unit.{Unit as NumeralUnit};
+ghost use Rattle.cn_date.specs.declared.date.BillDate.{BillDate as DateOfBill};
+ghost use Rattle.cn_date.specs.declared.error.ChineseToDateError.{ChineseToDateError as DateReadingError};
+ghost use Rattle.cn_date.specs.declared.error.DateToChineseError.{DateToChineseError as DatePrintingError};
 ghost use Rattle.cn_judge.specs.declared.error.ChineseToNumberError.{ChineseToNumberError as ReadingError};
 ghost use Rattle.cn_spell.specs.declared.error.NumberToChineseError.{NumberToChineseError as PrintingError};
 
+use cn_amount::{AmountToChineseError, ChineseToAmountError};
 use cn_core::{ChineseCase, ChineseCountMethod, ChineseVariant, Sign, Unit};
+use cn_date::{BillDate, ChineseToDateError, DateToChineseError};
 use cn_print::NumberToChineseError;
 use cn_read::ChineseToNumberError;
 
@@ -29,6 +36,21 @@ pub fn equal_values_are_the_same_variant()
         → IsTrue (⟦<ChineseToNumberError as PartialEq>⟧.eq a b) ↔ (a ≡ b) }
     ensures printing_errors { (a b : PrintingError)
         → IsTrue (⟦<NumberToChineseError as PartialEq>⟧.eq a b) ↔ (a ≡ b) }
+    ensures amount_reading_errors { (a b : AmountReadingError)
+        → IsTrue (⟦<ChineseToAmountError as PartialEq>⟧.eq a b) ↔ (a ≡ b) }
+    ensures amount_printing_errors { (a b : AmountPrintingError)
+        → IsTrue (⟦<AmountToChineseError as PartialEq>⟧.eq a b) ↔ (a ≡ b) }
+    ensures date_reading_errors { (a b : DateReadingError)
+        → IsTrue (⟦<ChineseToDateError as PartialEq>⟧.eq a b) ↔ (a ≡ b) }
+    ensures date_printing_errors { (a b : DatePrintingError)
+        → IsTrue (⟦<DateToChineseError as PartialEq>⟧.eq a b) ↔ (a ≡ b) }
+{}
+
+/// Two dates are equal exactly where year, month and day are.
+///
+/// For callers who compare dates.
+pub fn equal_dates_are_the_same_day()
+    ensures { (a b : DateOfBill) → IsTrue (⟦<BillDate as PartialEq>⟧.eq a b) ↔ (a ≡ b) }
 {}
 
 /// Units are ordered by rank: 個 is the least and 極 the greatest.

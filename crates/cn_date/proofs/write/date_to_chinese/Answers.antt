@@ -1,4 +1,4 @@
-use Rattle.std.proofs.Common.{◌≡◌, Bool, true, false}
+use Rattle.std.proofs.Common.{◌≡◌, Bool, true, false, rules}
 use Rattle.std.specs.Prelude.{MatchBool}
 use Rattle.cn_date.specs.declared.date.BillDate.{BillDate}
 use Rattle.cn_date.specs.Calendar.{IsDate}
@@ -11,6 +11,5 @@ there-is date true h e = h
 there-is date false h e = absurd (cc)
 
 pub returns : goal.returns
-returns c = written-is c.args.variant c.args.date _ _
-    (there-is _ _ c.is_date.ensures c.if-not-is_date.false) c.in_ok-to_string.ensures
-    c.date_text.ensures.bytes
+returns c = written-is _ _ _ _ (there-is _ _ c.is_date.ensures (search rules))
+    c.in_ok-to_string.ensures (search rules)
