@@ -32,6 +32,7 @@ time python3 checks/names.py crates bindings/rust/tests/interface.rs
 time python3 checks/edits.py crates
 time python3 checks/codes.py crates/cn_c bindings
 time python3 checks/quotes.py bindings
+time python3 checks/build_script.py bindings/rust/build.rs
 time python3 checks/mark_table.py crates/cn_core/src/characters_read.rt --check crates/cn_judge/src/mark.rt
 
 if [ $# -gt 0 ]; then

@@ -1,0 +1,112 @@
+#!/usr/bin/env python3
+"""Runs the build script of the Rust crate for many targets, and sees which tools it calls.
+
+Usage: build_script.py BUILD_RS
+
+It runs as cargo runs it, with what rustc says of the target, over C source and no archive. It finds
+only tools that say how they were called, so no compiler for any target is needed. Where there is no
+rustc, that is said and nothing is run.
+"""
+import re
+import shutil
+import subprocess
+import sys
+import tempfile
+from pathlib import Path
+
+LINUX, ARM = "x86_64-unknown-linux-gnu", "aarch64-unknown-linux-gnu"
+INTEL_MAC, MAC = "x86_64-apple-darwin", "aarch64-apple-darwin"
+MICROSOFT, WEB, BARE = "x86_64-pc-windows-msvc", "wasm32-unknown-unknown", "thumbv8m.main-none-eabi"
+OF_WEB, OF_BARE = "CC_wasm32_unknown_unknown", "CC_thumbv8m_main_none_eabi"
+# A target, the host, variables, and the compiler and the archiver that are called; or the variable
+# that the script asks for.
+ROWS = (
+    (LINUX, LINUX, {}, "cc, ar"),
+    (ARM, ARM, {}, "cc, ar"),
+    (MICROSOFT, MICROSOFT, {}, "cl.exe, lib.exe"),
+    (MAC, MAC, {}, "cc -arch arm64, ar"),
+    (INTEL_MAC, MAC, {}, "cc -arch x86_64, ar"),
+    (ARM, LINUX, {}, "aarch64-linux-gnu-gcc, aarch64-linux-gnu-ar"),
+    (LINUX, MAC, {}, "x86_64-linux-gnu-gcc, x86_64-linux-gnu-ar"),
+    ("armv7-unknown-linux-gnueabihf", LINUX, {}, "arm-linux-gnueabihf-gcc, arm-linux-gnueabihf-ar"),
+    ("riscv64gc-unknown-linux-gnu", LINUX, {}, "riscv64-linux-gnu-gcc, riscv64-linux-gnu-ar"),
+    ("s390x-unknown-linux-gnu", LINUX, {}, "s390x-linux-gnu-gcc, s390x-linux-gnu-ar"),
+    ("x86_64-pc-windows-gnu", LINUX, {}, "x86_64-w64-mingw32-gcc, x86_64-w64-mingw32-ar"),
+    (WEB, LINUX, {}, OF_WEB),
+    (WEB, MAC, {}, OF_WEB),
+    (BARE, LINUX, {}, OF_BARE),
+    ("thumbv7em-none-eabihf", LINUX, {}, "CC_thumbv7em_none_eabihf"),
+    ("riscv32imac-unknown-none-elf", LINUX, {}, "CC_riscv32imac_unknown_none_elf"),
+    ("x86_64-unknown-none", LINUX, {}, "CC_x86_64_unknown_none"),
+    ("aarch64-unknown-none", LINUX, {}, "CC_aarch64_unknown_none"),
+    ("x86_64-unknown-freebsd", LINUX, {}, "CC_x86_64_unknown_freebsd"),
+    ("aarch64-linux-android", LINUX, {}, "CC_aarch64_linux_android"),
+    (MAC, LINUX, {}, "CC_aarch64_apple_darwin"),
+    (MICROSOFT, LINUX, {}, "CC_x86_64_pc_windows_msvc"),
+    ("i686-pc-windows-msvc", MICROSOFT, {}, "CC_i686_pc_windows_msvc"),
+    # Named tools, each before the usual one and before those that are named for more targets.
+    (WEB, LINUX, {"CC": "", "AR": "llvm-ar"}, OF_WEB),
+    (WEB, LINUX, {"CC": "clang --target=wasm32"}, "clang --target=wasm32, ar"),
+    (LINUX, LINUX, {"CC": "clang", "AR": "llvm-ar"}, "clang, llvm-ar"),
+    (MICROSOFT, LINUX, {"CC": "clang-cl", "AR": "llvm-lib"}, "clang-cl, llvm-lib"),
+    (BARE, LINUX, {"TARGET_CC": "clang", "CC": "cc"}, "clang, ar"),
+    (BARE, LINUX, {OF_BARE: "clang", "TARGET_CC": "cc"}, "clang, ar"),
+    (BARE, LINUX, {f"CC_{BARE}": "clang", OF_BARE: "cc"}, "clang, ar"),
+)
+TOOL = '#!/bin/sh\necho "called ${0##*/} $*"\n'
+
+
+def fail(why):
+    sys.exit(f"build script: {why}")
+
+
+def of_target(target):
+    """What cargo tells a build script of a target, by rustc's own word."""
+    command = ["rustc", "--print", "cfg", "--target", target]
+    said = subprocess.run(command, capture_output=True, text=True, check=True).stdout
+    found = re.findall(r'^(target_\w+)="(.*)"$', said, re.M)
+    return {f"CARGO_CFG_{name.upper()}": value for name, value in found}
+
+
+def tools(folder):
+    """Each tool that a row names."""
+    folder.mkdir()
+    for name in {call.split()[0] for *_, wanted in ROWS for call in wanted.split(", ")}:
+        (folder / name).write_text(TOOL, encoding="utf-8")
+        (folder / name).chmod(0o755)
+
+
+def outcome(script, target, host, variables):
+    """The tools' calls, up to the words that the script puts behind, or what it asks for."""
+    folder = str(script.parent)
+    told = {"TARGET": target, "HOST": host, "CARGO_MANIFEST_DIR": folder, "OUT_DIR": folder}
+    told |= {"PATH": f"{folder}/tools", **of_target(target), **variables}
+    ended = subprocess.run([script], env=told, capture_output=True, text=True)
+    calls = re.findall(r"^called (.*?) (?:-O2|crs|/nologo) ", ended.stdout, re.M)
+    asked = re.search(r" Set (\S+) to one\.$", ended.stderr.strip())
+    if ended.returncode == 1 and asked and not calls:
+        return asked[1]
+    return ", ".join(calls) if ended.returncode == 0 else ended.stderr
+
+
+def main():
+    if len(sys.argv) != 2 or sys.argv[1].startswith("-"):
+        sys.exit(__doc__)
+    if not shutil.which("rustc"):
+        print("build script: LEFT OUT, since there is no rustc here")
+        return
+    with tempfile.TemporaryDirectory() as scratch:
+        script, source = Path(scratch) / "build", Path(scratch) / "source/chinese_number.c"
+        source.parent.mkdir()
+        source.touch()
+        tools(Path(scratch) / "tools")
+        command = ["rustc", "--edition=2021", "-Dwarnings", sys.argv[1], "-o", script]
+        subprocess.run(command, check=True)
+        for target, host, variables, wanted in ROWS:
+            found = outcome(script, target, host, variables)
+            if found != wanted:
+                fail(f"for {target} on {host} with {variables}: {found}, and not {wanted}")
+    print(f"build script: {len(ROWS)} builds, each by its target's tools or refused")
+
+
+main()
