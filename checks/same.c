@@ -179,8 +179,8 @@ static void try_number(run *r, uint32_t kind, uint32_t way, cn_number number) {
     text t;
     size_t length = 1, room = begin(r, &t, CN_MOST_BYTES);
     uint32_t script = code(r, 2), letter_case = code(r, 2);
-    uint32_t status =
-        chinese_number_print(number, kind, way, script, letter_case, t.bytes, room, &length);
+    uint32_t status = chinese_number_print(number.low, number.high, kind, way, script, letter_case,
+                                           t.bytes, room, &length);
     add_printed(r, status, length, &t);
     try_read(r, &t, kind, way);
     change(r, &t);
@@ -290,15 +290,15 @@ static int is_same_in_threads(const run *wanted) {
 static void show_times(run *r, int rounds) {
     static uint8_t rooms[SAMPLES][CN_MOST_BYTES];
     static size_t lengths[SAMPLES];
-    static cn_number numbers[SAMPLES];
+    static uint64_t numbers[SAMPLES];
     clock_t print = 0, read = 0;
     cn_reading reading;
     for (int i = 0; i < SAMPLES; i++)
-        numbers[i] = cn_unsigned(some(r) >> i % 64);
+        numbers[i] = some(r) >> i % 64;
     for (int round = 0; round < rounds; round++) {
         clock_t start = clock(), middle, end;
         for (int i = 0; i < SAMPLES; i++)
-            chinese_number_print(numbers[i], CN_U64, CN_TEN_THOUSAND, CN_SIMPLE, CN_LOWER,
+            chinese_number_print(numbers[i], 0, CN_U64, CN_TEN_THOUSAND, CN_SIMPLE, CN_LOWER,
                                  rooms[i], CN_MOST_BYTES, &lengths[i]);
         middle = clock();
         for (int i = 0; i < SAMPLES; i++)

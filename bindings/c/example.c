@@ -105,10 +105,11 @@ static void prints(cn_number number, uint32_t kind, uint32_t way, uint32_t scrip
                    uint32_t status, size_t wanted, const char *text) {
     uint8_t room[CN_MOST_BYTES], untouched[CN_MOST_BYTES];
     size_t length, written = status == CN_DONE ? wanted : 0;
+    uint32_t found;
     memset(room, 7, sizeof room);
     memset(untouched, 7, sizeof untouched);
-    expect(text, chinese_number_print(number, kind, way, script, letter_case, room, room_length, &length) == status
-                     && length == wanted && memcmp(room, text, written) == 0
+    found = chinese_number_print(number.low, number.high, kind, way, script, letter_case, room, room_length, &length);
+    expect(text, found == status && length == wanted && memcmp(room, text, written) == 0
                      && memcmp(room + written, untouched, sizeof room - written) == 0);
 }
 

@@ -14,17 +14,23 @@ typedef struct {
     long failed;
 } task;
 
+static uint32_t print(cn_number number, uint32_t kind, uint32_t way, const task *style, uint8_t *room, size_t room_length,
+                      size_t *length) {
+    return chinese_number_print(number.low, number.high, kind, way, style->script, style->letter_case, room, room_length,
+                                length);
+}
+
 /* Whether the number is printed as a text that is read as this number. */
 static int is_read_back(cn_number number, uint32_t kind, uint32_t way, const task *style) {
     uint8_t enough[CN_MOST_BYTES], *room;
     size_t length, same_length;
     cn_reading reading;
     int good;
-    if (chinese_number_print(number, kind, way, style->script, style->letter_case, enough, sizeof enough, &length) != CN_DONE)
+    if (print(number, kind, way, style, enough, sizeof enough, &length) != CN_DONE)
         return 0;
     room = (uint8_t *)malloc(length);
     good = room != NULL
-        && chinese_number_print(number, kind, way, style->script, style->letter_case, room, length, &same_length) == CN_DONE
+        && print(number, kind, way, style, room, length, &same_length) == CN_DONE
         && same_length == length && memcmp(room, enough, length) == 0
         && chinese_number_read(room, length, kind, way, &reading) == CN_DONE
         && reading.number.low == number.low && reading.number.high == number.high;

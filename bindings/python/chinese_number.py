@@ -216,10 +216,6 @@ class DateError(_CapitalsError):
     }
 
 
-class _Number(ctypes.Structure):
-    _fields_ = [("low", ctypes.c_uint64), ("high", ctypes.c_uint64)]
-
-
 class _Reading(ctypes.Structure):
     _fields_ = [("low", ctypes.c_uint64), ("high", ctypes.c_uint64), ("char_index", ctypes.c_size_t)]
 
@@ -252,17 +248,17 @@ def _opened() -> ctypes.CDLL:
 
 def _library() -> ctypes.CDLL:
     library = _opened()
-    code, size, at = ctypes.c_uint32, ctypes.c_size_t, ctypes.POINTER
+    code, word, size, at = ctypes.c_uint32, ctypes.c_uint64, ctypes.c_size_t, ctypes.POINTER
     text, room = (ctypes.c_char_p, size), (ctypes.c_char_p, size, at(size))
 
     def declare(call: Any, *arguments: Any) -> None:
         call.restype, call.argtypes = code, arguments
 
     declare(library.chinese_number_read, *text, code, code, at(_Reading))
-    declare(library.chinese_number_print, _Number, code, code, code, code, *room)
+    declare(library.chinese_number_print, word, word, code, code, code, code, *room)
     declare(library.chinese_number_find_utf8, ctypes.c_void_p, size, code, code, at(_Span))
     declare(library.chinese_amount_read, *text, at(_Amount))
-    declare(library.chinese_amount_print, ctypes.c_uint64, code, *room)
+    declare(library.chinese_amount_print, word, code, *room)
     declare(library.chinese_date_read, *text, at(_Date))
     declare(library.chinese_date_print, code, code, code, code, *room)
     return library
@@ -352,8 +348,8 @@ def to_chinese(
     least = -(1 << 127) if codes[0] >= _FIRST_SIGNED else 0
     if not least <= number < least + (1 << 128):
         raise NumeralError(Status.NOT_HELD, kind)
-    halves = _Number(number & _HALF, number >> 64 & _HALF)
-    status, text = _printed(_calls.chinese_number_print, _Room(), halves, *codes)
+    halves = number & _HALF, number >> 64 & _HALF
+    status, text = _printed(_calls.chinese_number_print, _Room(), *halves, *codes)
     if status:
         raise NumeralError(Status(status), kind)
     return text

@@ -156,19 +156,18 @@ export class DateError extends Refusal {
 /** @type {any} What the instance in use exports; null after a trap, since its memory may be half written then. */
 let library = new WebAssembly.Instance(compiled).exports;
 
-// What is lent: a reading (24 bytes; an amount, a date and a span fit there too), a number (16), a length (8), and the text.
+// What is lent: a reading (24 bytes; an amount, a date and a span fit there too), a length (8), and the text.
 const READING = Math.ceil(Number(library.__heap_base.value) / 16) * 16;
-const NUMBER = READING + 24;
-const LENGTH = NUMBER + 16;
+const LENGTH = READING + 24;
 const TEXT = LENGTH + 8;
-const [READING_AT, NUMBER_AT, LENGTH_AT, TEXT_AT] = [READING, NUMBER, LENGTH, TEXT].map(BigInt);
+const [READING_AT, LENGTH_AT, TEXT_AT] = [READING, LENGTH, TEXT].map(BigInt);
 const MOST_BYTES = 234;
 const MOST_AMOUNT_BYTES = 108;
 const MOST_DATE_BYTES = 39;
 const PAGE = 65536;
 const encoder = new TextEncoder();
 const decoder = new TextDecoder();
-/** @type {BigUint64Array} The reading (or amount, date or span), the number and the length. */
+/** @type {BigUint64Array} The reading (or amount, date or span) and the length. */
 let words;
 /** @type {Uint8Array} */
 let text = new Uint8Array(0);
@@ -184,7 +183,7 @@ function lend(bytes) {
   if (missing > 0) grow(memory, Math.ceil(missing / PAGE));
   // A memory that has grown has another buffer, and so has that of a new instance.
   if (text.buffer !== memory.buffer) {
-    words = new BigUint64Array(memory.buffer, READING, 6);
+    words = new BigUint64Array(memory.buffer, READING, 4);
     text = new Uint8Array(memory.buffer, TEXT);
   }
 }
@@ -256,7 +255,7 @@ function print(most, call, refusal) {
   lend(most);
   const code = STATUSES[statusOf(() => call(TEXT_AT, BigInt(most), LENGTH_AT))];
   if (code !== 'done') throw refusal(code);
-  return decoder.decode(text.subarray(0, Number(words[5])));
+  return decoder.decode(text.subarray(0, Number(words[3])));
 }
 
 /** @param {bigint | number} number */
@@ -357,14 +356,11 @@ export function toChinese(number, options = {}) {
   const codes = [codeOf(KINDS, kind, 'kind'), codeOf(WAYS, way, 'way'),
     codeOf(SCRIPTS, script, 'script'), codeOf(CASES, letterCase, 'case')];
   const whole = wholeOf(number);
-  // The module is handed 128 bits, so the number must be the one that they stand for.
+  // The module takes 64 bits of each half, so the number must be the one that these 128 bits stand for.
   const bits = isSigned(kind) ? BigInt.asIntN(128, whole) : BigInt.asUintN(128, whole);
   if (bits !== whole) throw new NumeralError('notHeld', kind);
-  return print(MOST_BYTES, (...room) => {
-    words[3] = bits;
-    words[4] = bits >> 64n;
-    return library.chinese_number_print(NUMBER_AT, ...codes, ...room);
-  }, (code) => new NumeralError(code, kind));
+  return print(MOST_BYTES, (...room) => library.chinese_number_print(bits, bits >> 64n, ...codes, ...room),
+    (code) => new NumeralError(code, kind));
 }
 
 /**

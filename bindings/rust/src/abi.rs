@@ -77,7 +77,6 @@ const MOST_AMOUNT_BYTES: usize = 108;
 const MOST_DATE_BYTES: usize = 39;
 
 #[repr(C)]
-#[derive(Copy, Clone)]
 struct Number {
     low: u64,
     high: u64,
@@ -121,7 +120,8 @@ unsafe extern "C" {
     ) -> u32;
 
     fn chinese_number_print(
-        number: Number,
+        low: u64,
+        high: u64,
         kind: u32,
         way: u32,
         script: u32,
@@ -263,16 +263,13 @@ pub fn print<T: Whole>(
     value: T,
 ) -> Result<String, u32> {
     let bits = value.bits();
-    let number = Number {
-        low: bits as u64,
-        high: (bits >> 64) as u64,
-    };
+    let (low, high) = (bits as u64, (bits >> 64) as u64);
     let (kind, way, script, case) = (T::KIND as u32, way as u32, script as u32, case as u32);
     // SAFETY: the declaration is that of the header. The library writes to the room, of this length, and does not read it;
     // and no text of a number has more bytes.
     unsafe {
         printed::<MOST_BYTES>(|room, length| {
-            chinese_number_print(number, kind, way, script, case, room, MOST_BYTES, length)
+            chinese_number_print(low, high, kind, way, script, case, room, MOST_BYTES, length)
         })
     }
 }

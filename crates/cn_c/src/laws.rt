@@ -18,7 +18,7 @@ ghost use Rattle.cn_c.specs.declared.reading.Reading.{Reading};
 /// For numbers that cross from one language to another.
 pub fn printed_numbers_read_back()
     ensures { (number : Number) (kind way script case : ℕ) (old new : List ℕ) (len : ℕ)
-        → IsPrinted number kind way script case old CN_DONE new len
+        → IsPrinted number.low number.high kind way script case old CN_DONE new len
         → IsUtf8 (take len new)
         × ((status : ℕ) (reading : Reading) → IsRead (take len new) kind way status reading
         → (status ≡ CN_DONE) × AreSame kind reading.number number × (reading.char_index ≡ 0)) }

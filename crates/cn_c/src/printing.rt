@@ -88,12 +88,14 @@ fn is_signed(kind: Kind) -> bool
     }
 }
 
-/// Prints a number of a type into the caller's room, where 234 bytes are enough for any.
+/// Prints a number of a type, given in halves, into the caller's room, where 234 bytes are enough
+/// for any.
 ///
 /// Writes `*len`, and the bytes in front of it where the text fits; all else in the room stays.
 #[unsafe(no_mangle)]
 pub extern "C" fn chinese_number_print(
-    number: Number,
+    low: u64,
+    high: u64,
     kind: u32,
     way: u32,
     script: u32,
@@ -101,7 +103,7 @@ pub extern "C" fn chinese_number_print(
     room: &mut [u8],
     len: &mut usize,
 ) -> u32
-    ensures printed { IsPrinted number kind way script case room.old result room.new len.new }
+    ensures printed { IsPrinted low high kind way script case room.old result room.new len.new }
     ensures bound { len.new ≤ 234 }
 {
     *len = 0;
@@ -113,6 +115,7 @@ pub extern "C" fn chinese_number_print(
     ) else {
         return UNKNOWN;
     };
+    let number = Number { low, high };
     let style = Style { way, script, case };
     print_kind(kind, number, style, room, len)
 }

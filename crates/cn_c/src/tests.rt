@@ -64,11 +64,7 @@ fn prints(rt: HostRuntime) {
         let mut bytes = [7; 48];
         let (room, _) = bytes.split_at_mut(*size);
         let mut len = 0;
-        let number = Number {
-            low: *low,
-            high: *high,
-        };
-        let answer = chinese_number_print(number, *kind, *way, *script, *case, room, &mut len);
+        let answer = chinese_number_print(*low, *high, *kind, *way, *script, *case, room, &mut len);
         assert_eq!(rt; answer, *status);
         assert_eq!(rt; len, *wanted);
         let (front, behind) = bytes.split_at(text.len());
