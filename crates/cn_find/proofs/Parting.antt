@@ -7,7 +7,6 @@ use Rattle.cn_find.specs.declared.wanted.Wanted.{Wanted}
 use Rattle.cn_find.specs.Belongs.{belongs, counts_next, is_ge, is_great, is_joined, is_parted, is_wanted}
 use Rattle.cn_find.specs.Parting.{with_text_before, with_text_after}
 use Rattle.cn_find.specs.Spans.{Span, run_of, after_run, span_at, begun_at, spans_after, spans}
-use Rattle.cn_find.specs.Runs.{first_belongs}
 use Rattle.cn_find.proofs.Runs.{first-span, next-character, not-joined}
 
 and-false : (b : Bool) → (b && false) ≡ false

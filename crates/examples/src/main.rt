@@ -5,18 +5,15 @@
 mod amount;
 mod number;
 
-ghost use Rattle.std.specs.Prelude.{◌≡◌, pos, Ok, IfOk, IfSome};
-ghost use Rattle.std.specs.List.{Contains};
-ghost use Rattle.chinese_number.specs.Number.{IsAnswer};
-ghost use Rattle.chinese_number.specs.Spans.{Span, spans};
-ghost use Rattle.chinese_number.specs.Whole.{unsigned_kind};
-ghost use Rattle.chinese_number.specs.declared.ChineseCountMethod.TheVariants.{TenThousand};
+ghost use Rattle.std.specs.Prelude.{◌≡◌, pos, Ok, IfOk, MatchOption};
+ghost use Rattle.examples.specs.Chapters.{names_chapter, HasChapter, NoChapter};
+ghost use Rattle.chinese_number.specs.Spans.{span_of};
 
 use crate::amount::amount_in_capitals;
 use crate::number::number_of;
 use chinese_number::laws::spellings_read_back;
 use chinese_number::{
-    ChineseCase, ChineseCountMethod, ChineseToNumber, ChineseToNumberError, ChineseVariant,
+    ChineseCase, ChineseCountMethod, ChineseToNumber, ChineseToNumberError, ChineseVariant, Found,
     NumberToChinese, NumberToChineseError, Wanted, find_numbers,
 };
 use std::alloc::Global;
@@ -38,14 +35,23 @@ fn print_and_read<T: NumberToChinese>(
     Ok(text.as_str().to_number(method))
 }
 
-/// The number of the first chapter that a line names, as 第二十三回: that of one of its numbers.
+// Whether a number stands between 第 and 回.
+fn names_chapter(found: Found<'_>) -> bool
+    ensures { result ≡ names_chapter (span_of found.entry) }
+{
+    found.before.ends_with("第") && found.after.starts_with("回")
+}
+
+/// The number of the first chapter that a line names, as 第二十三回, and that can be read.
 fn chapter_number(line: &str) -> Option<u16>
-    ensures { IfSome result (λ n. (span : Span) × Contains (spans Wanted.EVERYDAY line.now) span
-        × IsAnswer (unsigned_kind 16) TenThousand span.text (Ok (pos n))) }
+    ensures { MatchOption result (NoChapter Wanted.EVERYDAY line.now)
+        (λ n. HasChapter Wanted.EVERYDAY line.now (pos n)) }
 {
     for found in find_numbers(line, Wanted::EVERYDAY) {
-        if found.before.ends_with('第') && found.after.starts_with('回') {
-            return found.number(ChineseCountMethod::TenThousand).ok();
+        if names_chapter(found) {
+            if let Ok(number) = found.number(ChineseCountMethod::TenThousand) {
+                return Some(number);
+            }
         }
     }
     None

@@ -1,4 +1,4 @@
-use Rattle.std.proofs.Common.{rules, arith}
+use Rattle.std.proofs.Common.{rules}
 use Rattle.cn_amount.proofs.FormsShown.{written_is}
 use Rattle.cn_amount.proofs.write.amount_to_chinese.Goals as goal
 
