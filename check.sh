@@ -7,6 +7,7 @@
 set -euo pipefail
 cd "$(dirname "$0")"
 [ $# -eq 0 ] || [ "$*" = --quick ] || { sed -n '2,6s/^# //p' check.sh >&2; exit 2; }
+. bindings/toolchain.sh
 
 scratch=$(mktemp -d)
 trap 'rm -rf "$scratch"' EXIT
@@ -31,7 +32,6 @@ gate() {
     echo "$sources" > crates/chinese_number/out/gate # bindings/library.sh goes by it
 }
 
-. bindings/toolchain.sh
 time python3 bindings/dist.py check
 time python3 checks/names.py crates bindings/rust/tests/interface.rs
 time python3 checks/edits.py crates

@@ -1,17 +1,19 @@
 #!/usr/bin/env python3
-"""Makes `dist/`, by which the library is installed without its toolchain, and holds it to its sources.
+"""Makes `dist/`, of which the library is installed without its toolchain, and holds it to its
+sources.
 
 Usage: dist.py make | check | again ARCHIVE
 
-make builds cn_c for WebAssembly, and C source of it, and writes `dist/` and the copies of its files
-where other languages' tools look for them. It takes the toolchain, wasm-opt and wasm2c.
+make builds cn_c for WebAssembly, and C source of that, and writes `dist/` and the copies of its
+files where the tools of other languages look. It takes the toolchain, a C compiler, wasm-opt and
+wasm2c.
 
-check sees that `dist/` was made of the sources that are here, that its files have the sums that
-PROVENANCE.json names, and that each copy is as its original. It takes Python from 3.8 on, alone.
+check sees that `dist/` was made of the sources that are here, that its files have the sums that its
+PROVENANCE.json names, and that each copy is as its original. It takes Python from 3.8 on alone.
 
-again makes all files once more, and compares their bytes. By another toolchain of the same logic, or
-by other tools than PROVENANCE.json names, bytes may differ. Then what checks/same.c shows decides: it
-is that of `libchinese_number.a` in the folder ARCHIVE, as archive.sh has filled it.
+again makes the files once more, and compares each byte. By other tools than PROVENANCE.json names,
+or another toolchain of the same logic, bytes may differ: then it compares what checks/same.c shows
+over the C source and over the archive in the folder ARCHIVE, as archive.sh fills it.
 """
 import json
 import shutil
@@ -27,7 +29,7 @@ HERE, PROVENANCE = TOP / "bindings", "dist/PROVENANCE.json"
 TARGET, ARCHIVE = "wasm64-unknown-unknown", "libchinese_number.a"
 REMEDY = "run `python3 bindings/dist.py make`, which takes the toolchain"
 MADE = ("chinese_number.c", "chinese-number.32.wasm", "chinese-number.64.wasm")
-# Each copy, and what it is a copy of.
+# Each copy, and its original.
 COPIES = {
     "dist/CMakeLists.txt": "bindings/source/CMakeLists.txt",
     "dist/LICENSE": "LICENSE",
@@ -82,7 +84,7 @@ def answers(library):
 
 
 def files_of(made):
-    """Each file but PROVENANCE.json, by its path, made of those that are built, by their names."""
+    """All files but PROVENANCE.json, by path, made of those that are built, by name."""
     files = {f"dist/{name}": made[name] for name in MADE}
     for path, original in COPIES.items():
         files[path] = files[original] if original in files else read(TOP / original)
@@ -90,22 +92,22 @@ def files_of(made):
 
 
 def sums_of(files):
-    """The sums of the files in `dist/`, by their names."""
+    """The sums of the files in `dist/`, by name."""
     in_dist = {path: data for path, data in files.items() if path.startswith("dist/")}
     return {Path(path).name: sum_of(data) for path, data in in_dist.items()}
 
 
-def built(library, by):
-    """Each file, by its path, built of the sources that are here; the library's archive has to answer alike."""
+def built(archive, by):
+    """All files, by path, built of the sources that are here. The archive has to answer alike."""
     sources = sum_of_sources()
     with tempfile.TemporaryDirectory() as scratch:
         folder = Path(scratch)
         log = said("bash", HERE / "web/build.sh", folder)
         said(sys.executable, HERE / "source/source.py", folder / "chinese-number.32.wasm", folder)
         files = files_of({name: (folder / name).read_bytes() for name in MADE})
-        shown, of_source = answers(library), answers(folder / "chinese_number.c")
-    if shown != of_source:
-        stop(f"the C source answers otherwise than the archive: {of_source}, and {shown}")
+        shown, of_archive = answers(folder / "chinese_number.c"), answers(archive)
+    if shown != of_archive:
+        stop(f"the C source shows {shown}, and the archive {of_archive}")
     told = {
         "what": WHAT,
         "sources": sources,
@@ -120,16 +122,16 @@ def built(library, by):
 
 def make():
     by = tools()
-    for tool in ("wasm-opt", "wasm2c"):
+    for tool, package in (("wasm-opt", "binaryen"), ("wasm2c", "wabt")):
         if not shutil.which(tool):
-            stop(f"there is no {tool}: binaryen has wasm-opt, and wabt has wasm2c")
+            stop(f"there is no {tool}: install {package}, which has it")
     with tempfile.TemporaryDirectory() as scratch:
         said("bash", HERE / "archive.sh", scratch)
         files = built(Path(scratch) / ARCHIVE, by)
     for path, data in files.items():
         (TOP / path).parent.mkdir(parents=True, exist_ok=True)
         (TOP / path).write_bytes(data)
-    print(f"dist: {len(files)} files are made")
+    print(f"dist: made {len(files)} files")
 
 
 def found(path):
@@ -137,16 +139,17 @@ def found(path):
     return (TOP / path).read_bytes() if (TOP / path).is_file() else b""
 
 
-def faults(told, files):
-    if told["sources"] != sum_of_sources():
+def faults(told):
+    if told.get("sources") != sum_of_sources():
         yield "the sources are not those that dist/ was made of"
-    on_disk = sums_of({path: found(path) for path in files})
-    for name, wanted in told["sha256"].items():
-        if on_disk.get(name) != wanted:
-            yield f"dist/{name} has not the SHA-256 that {PROVENANCE} names"
+    files = files_of({name: found(f"dist/{name}") for name in MADE})
+    named = told.get("sha256", {})
+    for name, it in sums_of({path: found(path) for path in files}).items():
+        if it != named.get(name):
+            yield f"dist/{name} has not the sum that {PROVENANCE} names"
     for path, data in files.items():
         if found(path) != data:
-            yield f"{path} is not as {COPIES[path]}"
+            yield f"{path} is not as made of {COPIES.get(path, 'dist/')}"
 
 
 def check():
@@ -154,49 +157,43 @@ def check():
     try:
         told = json.loads(found(PROVENANCE))
     except ValueError:
-        stop(f"{PROVENANCE} is missing or is no JSON: {REMEDY}")
-    files = files_of({name: found(f"dist/{name}") for name in MADE})
-    wrong = list(faults(told, files))
+        stop(f"{PROVENANCE} is missing, or no JSON: {REMEDY}")
+    wrong = list(faults(told))
     if wrong:
         stop("\ndist: ".join([*wrong, REMEDY]))
-    print(f"dist: {len(files) + 1} files, of the sources that are here")
+    print(f"dist: made of the sources {told['sources']}, and as {PROVENANCE} names it")
     return told
-
-
-def again(folder):
-    told, by, library = check(), tools(), Path(folder) / ARCHIVE
-    if not library.is_file():
-        stop(f"there is no {library}: bindings/archive.sh makes one")
-    if logic_of(by["toolchain"]) != logic_of(told["tools"]["toolchain"]):
-        stop(
-            f"dist/ was proved by {told['tools']['toolchain']}, and here is {by['toolchain']}: {REMEDY}"
-        )
-    others = [
-        f"{what} {told['tools'][what]}, and here {by[what]}"
-        for what in by
-        if by[what] != told["tools"][what]
-    ]
-    if others:
-        compare_answers(told, library)
-        print(
-            f"dist: answers were compared, and no bytes, since PROVENANCE.json names {'; '.join(others)}"
-        )
-    else:
-        compare_bytes(built(library, by))
-        print("dist: made again, each byte is the same")
-
-
-def compare_answers(told, library):
-    for it in (library, TOP / "dist/chinese_number.c"):
-        shown = answers(it)
-        if shown != told["answers"]:
-            stop(f"{it} shows {shown}, and {PROVENANCE} names {told['answers']}: {REMEDY}")
 
 
 def compare_bytes(files):
     others = [path for path, data in files.items() if found(path) != data]
     if others:
-        stop(f"made again, other bytes are in {', '.join(others)}: {REMEDY}")
+        stop(f"made again, there are other bytes in {', '.join(others)}: {REMEDY}")
+    print("dist: made again, each byte is the same")
+
+
+def compare_answers(archive, told, why):
+    for library in (archive, TOP / "dist/chinese_number.c"):
+        shown = answers(library)
+        if shown != told["answers"]:
+            stop(f"{library} shows {shown}, and {PROVENANCE} names {told['answers']}: {REMEDY}")
+    print(f"dist: not made again, since {why}; the archive and the C source show {shown}")
+
+
+def again(archive):
+    told, by = check(), tools()
+    named = told["tools"]
+    if not archive.is_file():
+        stop(f"there is no {archive}: `bash bindings/archive.sh {archive.parent}` makes it")
+    if logic_of(by["toolchain"]) != logic_of(named["toolchain"]):
+        stop(f"it was made by {named['toolchain']}, and here is {by['toolchain']}: {REMEDY}")
+    others = [
+        f"{named[it]} made it, and here is {by[it] or 'none'}" for it in by if by[it] != named[it]
+    ]
+    if others:
+        compare_answers(archive, told, "; ".join(others))
+    else:
+        compare_bytes(built(archive, by))
 
 
 def main():
@@ -206,7 +203,7 @@ def main():
     elif words == ["check"]:
         check()
     elif len(words) == 2 and words[0] == "again":
-        again(words[1])
+        again(Path(words[1]) / ARCHIVE)
     else:
         sys.exit(__doc__)
 

@@ -3,9 +3,10 @@
 
 Usage: sources.py
 
-Of `cn_c` and of each crate below it, that is: its line of crates.txt, its sources without the modules
-of tests, its definitions and its proofs; and the scripts that build the modules and the C source. Only
-names and contents count, and the end of a line is a line feed however it stands here.
+Of `cn_c` and of each crate below it, that is: its line of crates.txt, its sources without the
+modules of tests, its definitions and its proofs; and the scripts that build the modules and the C
+source, with the program whose answers are kept beside them. Names and contents alone count, and a
+line ends in a line feed however it ends here.
 """
 import hashlib
 import re
