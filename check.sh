@@ -7,6 +7,7 @@
 set -euo pipefail
 cd "$(dirname "$0")"
 [ $# -eq 0 ] || [ "$*" = --quick ] || { sed -n '2,6s/^# //p' check.sh >&2; exit 2; }
+. bindings/toolchain.sh
 
 scratch=$(mktemp -d)
 trap 'rm -rf "$scratch"' EXIT
@@ -21,13 +22,17 @@ commit=$(git rev-parse HEAD 2> /dev/null || echo unknown)
 echo "commit $commit"
 
 gate() {
+    local sources
+    sources=$(python3 bindings/sources.py)
+    rm -rf crates/*/out/rlib # what rt ci finds it puts back, over its own
     rt ci 2>&1 | tee "$scratch/gate" | sed '$d' || {
         tail -n 1 "$scratch/gate"
         return 1
     }
-    touch crates/chinese_number/out/gate # bindings/library.sh goes by it
+    echo "$sources" > crates/chinese_number/out/gate # bindings/library.sh goes by it
 }
 
+time python3 bindings/dist.py check
 time python3 checks/names.py crates bindings/rust/tests/interface.rs
 time python3 checks/edits.py crates
 time python3 checks/codes.py crates/cn_c bindings
@@ -56,6 +61,7 @@ time python3 checks/readers_without_memory.py crates/cn_vectors
 
 # The library for other languages and for browsers, made of what the gate has proved.
 time bash bindings/archive.sh "$scratch/bindings"
+time python3 bindings/dist.py again "$scratch/bindings"
 time bash bindings/web/test.sh $numeral
 time python3 checks/c_binding.py bindings/c "$scratch/bindings"
 time python3 checks/rust_binding.py bindings/rust crates/cn_vectors "$scratch/bindings"

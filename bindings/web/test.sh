@@ -1,5 +1,5 @@
 #!/usr/bin/env bash
-# test.sh NUMERAL [PICTURES]: builds the modules; under node compares each with the native program NUMERAL, and tries the
+# test.sh NUMERAL [PICTURES]: under node compares each module of dist/ with the native program NUMERAL, and tries the
 # page with each in a Chromium ($CHROMIUM, or one on the path). Where there is no node or no Chromium it says so and passes.
 set -euo pipefail
 numeral=$(realpath "$1")
@@ -9,9 +9,8 @@ scratch=$(mktemp -d)
 trap 'rm -rf "$scratch"' EXIT
 pictures=$(realpath "${2:-$scratch}")
 
-"$web/build.sh" "$scratch"
 if ! command -v node > /dev/null; then
-    echo "web: NOT TRIED, since no node is at hand: the JavaScript and the page (the modules were built)"
+    echo "web: NOT TRIED, since no node is at hand: the JavaScript and the page"
     exit 0
 fi
 chromium=${CHROMIUM:-$(command -v chromium chromium-browser google-chrome google-chrome-stable | head -n 1 || true)}
@@ -20,7 +19,7 @@ chromium=${CHROMIUM:-$(command -v chromium chromium-browser google-chrome google
 flag=()
 node --experimental-wasm-memory64 -e '' 2> /dev/null && flag=(--experimental-wasm-memory64)
 
-for module in "$scratch"/*.wasm; do
+for module in "$web"/../../dist/*.wasm; do
     # The module under both names, so that it is the one that is tried, whatever the host has.
     folder=$scratch/$(basename "$module" .wasm)
     mkdir "$folder"

@@ -1,0 +1,212 @@
+#!/usr/bin/env python3
+"""Makes `dist/`, of which the library is installed without its toolchain, and holds it to its
+sources.
+
+Usage: dist.py make | check | again ARCHIVE
+
+make builds cn_c for WebAssembly, and C source of that, and writes `dist/` and the copies of its
+files where the tools of other languages look. It takes the toolchain, a C compiler, wasm-opt and
+wasm2c.
+
+check sees that `dist/` was made of the sources that are here, that its files have the sums that its
+PROVENANCE.json names, and that each copy is as its original. It takes Python from 3.8 on alone.
+
+again makes the files once more, and compares each byte. By other tools than PROVENANCE.json names,
+or another toolchain of the same logic, bytes may differ: then it compares what checks/same.c shows
+over the C source and over the archive in the folder ARCHIVE, as archive.sh fills it.
+"""
+import json
+import shutil
+import subprocess
+import sys
+import tempfile
+from pathlib import Path
+
+from provenance import first_line, logic_of, sum_of, verdict
+from sources import TOP, read, sum_of_sources
+
+HERE, PROVENANCE = TOP / "bindings", "dist/PROVENANCE.json"
+TARGET, ARCHIVE = "wasm64-unknown-unknown", "libchinese_number.a"
+REMEDY = "run `python3 bindings/dist.py make`, which takes the toolchain"
+MADE = ("chinese_number.c", "chinese-number.32.wasm", "chinese-number.64.wasm")
+# Each copy, and its original.
+COPIES = {
+    "dist/CMakeLists.txt": "bindings/source/CMakeLists.txt",
+    "dist/LICENSE": "LICENSE",
+    "dist/LICENSE-wabt": "bindings/source/LICENSE-wabt",
+    "dist/chinese_number.h": "bindings/c/chinese_number.h",
+    "bindings/python/source/chinese_number.c": "dist/chinese_number.c",
+    "bindings/python/source/chinese_number.h": "bindings/c/chinese_number.h",
+    "bindings/rust/source/chinese_number.c": "dist/chinese_number.c",
+    "bindings/web/files/chinese-number.32.wasm": "dist/chinese-number.32.wasm",
+    "bindings/web/files/chinese-number.64.wasm": "dist/chinese-number.64.wasm",
+}
+COUNT = "1000"
+WHAT = (
+    "The library cn_c as modules for WebAssembly and as C source. `verdict` is the toolchain's own "
+    "line over the module with a 64-bit memory, built of proved code: of the sources whose sum "
+    "bindings/sources.py prints. The other files are made of that module. `answers` is what "
+    f"`same {COUNT}` of checks/same.c shows over the C source, and over an archive of the same "
+    "sources. bindings/dist.py makes and compares all this. This file is not signed."
+)
+
+
+def stop(why):
+    sys.exit(f"dist: {why}")
+
+
+def said(*words):
+    """What a command prints, where it ends well."""
+    words = [str(word) for word in words]
+    ended = subprocess.run(words, stdout=subprocess.PIPE, encoding="utf-8")
+    if ended.returncode:
+        stop(f"{' '.join(words)}: status {ended.returncode}\n{ended.stdout[-2000:]}")
+    return ended.stdout
+
+
+def tools():
+    """What these files are made by. Without the toolchain nothing is."""
+    if subprocess.run(["bash", HERE / "toolchain.sh"]).returncode:
+        sys.exit(1)
+    return {
+        "toolchain": said("rt", "version").strip(),
+        "the module with a 32-bit memory": first_line("wasm-opt"),
+        "C source of that module": first_line("wasm2c"),
+    }
+
+
+def answers(library):
+    """What checks/same.c shows over a library, be it an archive or C source."""
+    with tempfile.TemporaryDirectory() as scratch:
+        program = Path(scratch) / "same"
+        said("cc", "-O1", "-I", HERE / "c", TOP / "checks/same.c", library, "-o", program)
+        return said(program, COUNT).strip()
+
+
+def files_of(made):
+    """All files but PROVENANCE.json, by path, made of those that are built, by name."""
+    files = {f"dist/{name}": made[name] for name in MADE}
+    for path, original in COPIES.items():
+        files[path] = files[original] if original in files else read(TOP / original)
+    return files
+
+
+def sums_of(files):
+    """The sums of the files in `dist/`, by name."""
+    in_dist = {path: data for path, data in files.items() if path.startswith("dist/")}
+    return {Path(path).name: sum_of(data) for path, data in in_dist.items()}
+
+
+def built(archive, by):
+    """All files, by path, built of the sources that are here. The archive has to answer alike."""
+    sources = sum_of_sources()
+    with tempfile.TemporaryDirectory() as scratch:
+        folder = Path(scratch)
+        log = said("bash", HERE / "web/build.sh", folder)
+        said(sys.executable, HERE / "source/source.py", folder / "chinese-number.32.wasm", folder)
+        files = files_of({name: (folder / name).read_bytes() for name in MADE})
+        shown, of_archive = answers(folder / "chinese_number.c"), answers(archive)
+    if shown != of_archive:
+        stop(f"the C source shows {shown}, and the archive {of_archive}")
+    told = {
+        "what": WHAT,
+        "sources": sources,
+        "tools": by,
+        **verdict(log, TARGET, logic_of(by["toolchain"])),
+        "answers": shown,
+        "sha256": sums_of(files),
+    }
+    text = json.dumps(told, ensure_ascii=False, indent=2)
+    return {**files, PROVENANCE: f"{text}\n".encode()}
+
+
+def make():
+    by = tools()
+    for tool, package in (("wasm-opt", "binaryen"), ("wasm2c", "wabt")):
+        if not shutil.which(tool):
+            stop(f"there is no {tool}: install {package}, which has it")
+    with tempfile.TemporaryDirectory() as scratch:
+        said("bash", HERE / "archive.sh", scratch)
+        files = built(Path(scratch) / ARCHIVE, by)
+    for path, data in files.items():
+        (TOP / path).parent.mkdir(parents=True, exist_ok=True)
+        (TOP / path).write_bytes(data)
+    print(f"dist: made {len(files)} files")
+
+
+def found(path):
+    """The bytes of a file; none where there is no such file."""
+    return (TOP / path).read_bytes() if (TOP / path).is_file() else b""
+
+
+def faults(told):
+    if told.get("sources") != sum_of_sources():
+        yield "the sources are not those that dist/ was made of"
+    files = files_of({name: found(f"dist/{name}") for name in MADE})
+    named = told.get("sha256", {})
+    for name, it in sums_of({path: found(path) for path in files}).items():
+        if it != named.get(name):
+            yield f"dist/{name} has not the sum that {PROVENANCE} names"
+    for path, data in files.items():
+        if found(path) != data:
+            yield f"{path} is not as made of {COPIES.get(path, 'dist/')}"
+
+
+def check():
+    """What PROVENANCE.json tells, where all is well."""
+    try:
+        told = json.loads(found(PROVENANCE))
+    except ValueError:
+        stop(f"{PROVENANCE} is missing, or no JSON: {REMEDY}")
+    wrong = list(faults(told))
+    if wrong:
+        stop("\ndist: ".join([*wrong, REMEDY]))
+    print(f"dist: made of the sources {told['sources']}, and as {PROVENANCE} names it")
+    return told
+
+
+def compare_bytes(files):
+    others = [path for path, data in files.items() if found(path) != data]
+    if others:
+        stop(f"made again, there are other bytes in {', '.join(others)}: {REMEDY}")
+    print("dist: made again, each byte is the same")
+
+
+def compare_answers(archive, told, why):
+    for library in (archive, TOP / "dist/chinese_number.c"):
+        shown = answers(library)
+        if shown != told["answers"]:
+            stop(f"{library} shows {shown}, and {PROVENANCE} names {told['answers']}: {REMEDY}")
+    print(f"dist: not made again, since {why}; the archive and the C source show {shown}")
+
+
+def again(archive):
+    told, by = check(), tools()
+    named = told["tools"]
+    if not archive.is_file():
+        stop(f"there is no {archive}: `bash bindings/archive.sh {archive.parent}` makes it")
+    if logic_of(by["toolchain"]) != logic_of(named["toolchain"]):
+        stop(f"it was made by {named['toolchain']}, and here is {by['toolchain']}: {REMEDY}")
+    others = [
+        f"{named[it]} made it, and here is {by[it] or 'none'}" for it in by if by[it] != named[it]
+    ]
+    if others:
+        compare_answers(archive, told, "; ".join(others))
+    else:
+        compare_bytes(built(archive, by))
+
+
+def main():
+    words = sys.argv[1:]
+    if words == ["make"]:
+        make()
+    elif words == ["check"]:
+        check()
+    elif len(words) == 2 and words[0] == "again":
+        again(Path(words[1]) / ARCHIVE)
+    else:
+        sys.exit(__doc__)
+
+
+if __name__ == "__main__":
+    main()

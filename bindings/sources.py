@@ -1,0 +1,67 @@
+#!/usr/bin/env python3
+"""Prints one sum over what the library for other languages is made of.
+
+Usage: sources.py
+
+Of `cn_c` and of each crate below it, that is: its line of crates.txt, its sources without the
+modules of tests, its definitions and its proofs; and the scripts that build the modules and the C
+source, with the program whose answers are kept beside them. Names and contents alone count, and a
+line ends in a line feed however it ends here.
+"""
+import hashlib
+import re
+from pathlib import Path
+
+TOP = Path(__file__).resolve().parent.parent
+LIBRARY = "cn_c"
+KINDS = (("src", "*.rt"), ("specs", "*.antt"), ("proofs", "*.antt"))
+TESTS = re.compile(r"^#\[cfg\(test\)\]\nmod (\w+);", re.MULTILINE)
+SCRIPTS = (
+    "bindings/library.sh",
+    "bindings/web/build.sh",
+    "bindings/source/source.py",
+    "bindings/source/chinese_number.c.in",
+    "checks/same.c",
+)
+
+
+def read(path):
+    """The bytes of a text, with line feeds at the ends of its lines."""
+    return path.read_bytes().replace(b"\r\n", b"\n")
+
+
+def lines_below(name):
+    """The line of crates.txt for a crate, and for each that it stands on."""
+    text = read(TOP / "crates.txt").decode()
+    lines = {line.split(":")[0].split()[0]: line for line in text.splitlines() if line.strip()}
+    found, left = {}, [name]
+    while left:
+        name = left.pop()
+        if name in lines and name not in found:
+            found[name] = lines[name]
+            left += lines[name].partition(":")[2].split()
+    return found
+
+
+def files_of(crate):
+    folder = TOP / "crates" / crate
+    tests = TESTS.findall(read(folder / "src/lib.rt").decode())
+    for kind, pattern in KINDS:
+        for path in (folder / kind).rglob(pattern):
+            first = path.relative_to(folder / kind).parts[0]
+            if kind != "src" or first not in {*tests, *(f"{it}.rt" for it in tests)}:
+                yield path
+
+
+def sum_of_sources():
+    crates = lines_below(LIBRARY)
+    files = [TOP / script for script in SCRIPTS]
+    files += [path for crate in crates for path in files_of(crate)]
+    named = sorted((path.relative_to(TOP).as_posix(), path) for path in files)
+    lines = sorted(crates.values())
+    lines += [f"{hashlib.sha256(read(path)).hexdigest()}  {name}" for name, path in named]
+    return hashlib.sha256("\n".join(lines).encode()).hexdigest()
+
+
+if __name__ == "__main__":
+    print(sum_of_sources())
