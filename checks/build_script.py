@@ -41,6 +41,8 @@ ROWS = (
     ("aarch64-unknown-none", LINUX, {}, "CC_aarch64_unknown_none"),
     ("x86_64-unknown-freebsd", LINUX, {}, "CC_x86_64_unknown_freebsd"),
     ("aarch64-linux-android", LINUX, {}, "CC_aarch64_linux_android"),
+    ("armv4t-unknown-linux-gnueabi", LINUX, {}, "CC_armv4t_unknown_linux_gnueabi"),
+    ("arm-unknown-linux-gnueabihf", LINUX, {}, "CC_arm_unknown_linux_gnueabihf"),
     (MAC, LINUX, {}, "CC_aarch64_apple_darwin"),
     (MICROSOFT, LINUX, {}, "CC_x86_64_pc_windows_msvc"),
     ("i686-pc-windows-msvc", MICROSOFT, {}, "CC_i686_pc_windows_msvc"),
