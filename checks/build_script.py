@@ -41,6 +41,8 @@ ROWS = (
     ("aarch64-unknown-none", LINUX, {}, "CC_aarch64_unknown_none"),
     ("x86_64-unknown-freebsd", LINUX, {}, "CC_x86_64_unknown_freebsd"),
     ("aarch64-linux-android", LINUX, {}, "CC_aarch64_linux_android"),
+    ("armv4t-unknown-linux-gnueabi", LINUX, {}, "CC_armv4t_unknown_linux_gnueabi"),
+    ("arm-unknown-linux-gnueabihf", LINUX, {}, "CC_arm_unknown_linux_gnueabihf"),
     (MAC, LINUX, {}, "CC_aarch64_apple_darwin"),
     (MICROSOFT, LINUX, {}, "CC_x86_64_pc_windows_msvc"),
     ("i686-pc-windows-msvc", MICROSOFT, {}, "CC_i686_pc_windows_msvc"),
@@ -63,7 +65,7 @@ def fail(why):
 def of_target(target):
     """What cargo tells a build script of a target, by rustc's own word."""
     command = ["rustc", "--print", "cfg", "--target", target]
-    said = subprocess.run(command, capture_output=True, text=True, check=True).stdout
+    said = subprocess.run(command, stdout=subprocess.PIPE, text=True, check=True).stdout
     found = re.findall(r'^(target_\w+)="(.*)"$', said, re.M)
     return {f"CARGO_CFG_{name.upper()}": value for name, value in found}
 

@@ -68,11 +68,11 @@ OF_READERS_OF_CAPITALS = (
     "bindings/python/chinese_number.py",
     "bindings/web/chinese-number.mjs",
 )
-# Python prints what is a date already, so its file has no text for one that is none.
 OF_PRINTERS_OF_CAPITALS = (
     "bindings/c/chinese_number.h",
     "bindings/rust/src/print.rs",
     "bindings/rust/tests/interface.rs",
+    "bindings/python/chinese_number.py",
     "bindings/web/chinese-number.mjs",
 )
 

@@ -11,9 +11,12 @@ Usage: documents.py NUMERAL CHEQUE
 - The example in the comment of each of the 96 calls by name is asked, with its type and method.
 - Each block of Rust in README.md stands, line by line, in a source of `examples` or `first`.
 - Each folder of `crates/` and `bindings/` has a row in docs/DESIGN.md.
+- The toolchain is named in one place of the documents, with the logic that `rt version` says; where
+  there is no rt, that is said.
 """
 import itertools
 import re
+import shutil
 import subprocess
 import sys
 from pathlib import Path
@@ -100,6 +103,18 @@ def examples():
                 yield name, f"print {way} traditional lower {int(number)}", f"ok {text}"
 
 
+def compare_toolchain():
+    """The documents name one toolchain, once, and its logic, which decides, is the logic of rt."""
+    if not shutil.which("rt"):
+        print("documents: LEFT OUT: the toolchain's logic, since there is no rt here")
+        return
+    said = subprocess.run(["rt", "version"], capture_output=True, text=True, check=True).stdout
+    pages = [page for it in ("*.md", "docs/*.md", "bindings/**/*.md") for page in TOP.glob(it)]
+    named = re.findall(r"rattle-kit-\w+|logic [0-9a-f]{16}\b", "".join(map(text_of, pages)))
+    if len(named) != 2 or not said.strip().endswith(f" {named[1]}"):
+        sys.exit(f"documents: rt is {said.strip()}, and they name {' and '.join(named)}")
+
+
 def compare_numeral(numeral):
     """Each row and each example is what `numeral` answers; how many there are of either."""
     in_documents, in_comments = list(rows()), list(examples())
@@ -143,6 +158,7 @@ def main():
     if len(sys.argv) != 3 or sys.argv[1].startswith("-"):
         sys.exit(__doc__)
     numeral, cheque = sys.argv[1:]
+    compare_toolchain()
     compare_folders()
     compare_characters()
     blocks = compare_blocks()

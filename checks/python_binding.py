@@ -5,19 +5,23 @@ Usage: python_binding.py PYTHON_FOLDER OUT
 
 OUT is the folder that `bindings/archive.sh` filled. The ends of each type go there and back by each
 way, script and case; texts are refused as the rules say, with their place; numbers of any length
-and arguments of another kind are refused. Amounts, dates and the numbers of a text answer as the
-rows of `cn_amount`, `cn_date` and `cn_find` say. Four threads call at once; the status of a text
-that is too long is an OverflowError; and where the shared object is not found, the message says
-what to do.
+and arguments of another kind are refused, and a message cuts what it shows of them. Python 3.8 too
+can evaluate the annotations. Amounts, dates and the numbers of a text answer as the rows of
+`cn_amount`, `cn_date` and `cn_find` say. Four threads call at once; the status of a text that is
+too long is an OverflowError; and where the shared object is not found, the message says what to do.
 """
+import ast
 import doctest
+import inspect
 import os
 import pickle
 import subprocess
 import sys
+import typing
 from concurrent.futures import ThreadPoolExecutor
 from datetime import date, datetime, timedelta
 from decimal import Decimal, localcontext
+from fractions import Fraction
 from itertools import product
 from pathlib import Path
 from unittest import mock
@@ -27,6 +31,8 @@ import rows
 CRATES = Path(__file__).resolve().parent.parent / "crates"
 LIMIT_OF_LOW = 10**16
 LIMIT_OF_AMOUNTS = 10**18
+# It has more digits than Python's int turns into a text.
+WITHOUT_REPR = 10**5000
 
 
 def check(holds, what):
@@ -121,14 +127,52 @@ class OtherText(str):
         return "1"
 
 
+class NoDate(date):
+    year = 0
+
+
+def annotations(numerals):
+    """Each can be evaluated, and by Python 3.8: it has no `|`, and brackets behind typing's names alone."""
+    public = [getattr(numerals, name) for name in numerals.__all__]
+    methods = [it for name in public for _, it in inspect.getmembers(name, inspect.isfunction)]
+    for it in public + methods:
+        typing.get_type_hints(it)
+    nodes = list(ast.walk(ast.parse(inspect.getsource(numerals), feature_version=(3, 8))))
+    imports = [it for it in nodes if isinstance(it, ast.ImportFrom) and it.module == "typing"]
+    of_typing = {name.name for it in imports for name in it.names}
+    found = [getattr(it, name, None) for it in nodes for name in ("annotation", "returns")]
+    parts = [part for whole in found if whole for part in ast.walk(whole)]
+    newer = [it for it in parts if isinstance(it, ast.BinOp)]
+    newer += [it for it in parts if isinstance(it, ast.Subscript) and it.value.id not in of_typing]
+    check(not newer, f"the annotations of the lines {[it.lineno for it in newer]} are newer than 3.8")
+
+
+def messages(numerals):
+    """A message shows at most 100 characters of a value, and of one that has no repr its type."""
+    fen_of, many, fraction = numerals.yuan_to_fen, 1_000_000, Fraction(1, WITHOUT_REPR)
+    for call, argument, shown in [
+        (fen_of, "x" * 98, f"'{'x' * 98}'"),
+        (fen_of, "x" * 99, f"'{'x' * 99}..."),
+        (fen_of, "\0" * many, "'" + r"\x00" * 24 + r"\x0..."),
+        (fen_of, Decimal("1" * many + ".000"), f"Decimal('{'1' * 91}..."),
+        (fen_of, WITHOUT_REPR, object.__repr__(WITHOUT_REPR)),
+        (numerals.to_number, b"1" * many, f"b'{'1' * 98}..."),
+        (numerals.amount_to_chinese, fraction, object.__repr__(fraction)),
+    ]:
+        said = str(refusal(call, argument, error=(TypeError, ValueError)))
+        check(said.endswith(f", and not {shown}"), f"{shown}: {said[:200]}")
+
+
 def other_arguments(numerals):
     to_number, to_chinese = numerals.to_number, numerals.to_chinese
     for call, argument, words in [
         (to_number, b"\xe4\xb8\x80", {}),
         (to_number, None, {}),
         (to_number, 1, {}),
+        (to_number, WITHOUT_REPR, {}),
         (to_number, "一", {"kind": numerals.Way.LOW}),
         (to_number, "一", {"kind": 0}),
+        (to_number, "一", {"kind": WITHOUT_REPR}),
         (to_number, "一", {"way": numerals.Kind.U8}),
         (to_chinese, "1", {}),
         (to_chinese, 1.0, {}),
@@ -140,11 +184,13 @@ def other_arguments(numerals):
         (numerals.amount_to_chinese, 1, {"case": numerals.Case.UPPER}),
         (numerals.chinese_to_amount, "零元整".encode(), {}),
         *((numerals.date_to_chinese, day, {}) for day in (datetime(2026, 1, 15), "2026-01-15", (2026, 1, 15), None)),
+        (numerals.date_to_chinese, WITHOUT_REPR, {}),
         (numerals.date_to_chinese, date(2026, 1, 15), {"script": 0}),
         (numerals.chinese_to_date, None, {}),
         *((numerals.yuan_to_fen, yuan, {}) for yuan in (15, 15.0, True, b"15", None)),
         (numerals.find_numbers, b"1", {}),
         (numerals.find_numbers, "一", {"upper": 1}),
+        (numerals.find_numbers, "一", {"upper": WITHOUT_REPR}),
         (numerals.find_numbers, "一", {"greatest": 6}),
         (numerals.find_numbers, "一", {"greatest": numerals.Kind.I64}),
     ]:
@@ -206,11 +252,14 @@ def dates(numerals):
 def refused_dates(numerals):
     tables, status = rows.python_of(rows.of_crate(CRATES / "cn_date")), numerals.Status
     wrong = [*tables["INCORRECT"], ("贰零\ud800年", 2), ("贰零贰陆年零壹月壹拾伍日\0", 12)]
-    refused = [(text, status.UNFINISHED, None, "the date is not finished") for text in tables["UNFINISHED"]]
-    refused += [(text, status.INCORRECT, at, f"the date is incorrect (position: {at})") for text, at in wrong]
-    for text, *wanted in refused:
-        error = refusal(numerals.chinese_to_date, text, error=numerals.DateError)
-        check([error.status, error.char_index, str(error)] == wanted, f"{ascii(text)}: {error!r}")
+    read, write, no_date = numerals.chinese_to_date, numerals.date_to_chinese, NoDate(2026, 1, 15)
+    unfinished, incorrect = "the date is not finished", "the date is incorrect (position: {})"
+    refused = [(read, text, status.UNFINISHED, None, unfinished) for text in tables["UNFINISHED"]]
+    refused += [(read, text, status.INCORRECT, place, incorrect.format(place)) for text, place in wrong]
+    refused.append((write, no_date, status.NOT_A_DATE, None, "there is no such date"))
+    for call, argument, *wanted in refused:
+        error = refusal(call, argument, error=numerals.DateError)
+        check([error.status, error.char_index, str(error)] == wanted, f"{ascii(argument)}: {error!r}")
         same_when_pickled(error)
 
 
@@ -308,6 +357,8 @@ def main():
     texts = each_type(numerals)
     refusals(numerals)
     other_arguments(numerals)
+    messages(numerals)
+    annotations(numerals)
     fens = amounts(numerals)
     days = dates(numerals)
     refused_amounts(numerals)

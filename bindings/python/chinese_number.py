@@ -37,7 +37,7 @@ from datetime import date, datetime
 from decimal import Decimal
 from enum import Enum
 from pathlib import Path
-from typing import Any, Iterator, NamedTuple
+from typing import Any, Dict, Iterator, NamedTuple, Optional, Tuple, Type, Union
 
 __all__ = [
     "AmountError", "Case", "DateError", "Found", "Kind", "NumeralError", "Script", "Status", "Unit", "Way",
@@ -116,7 +116,7 @@ class Unit(Enum):
 
 class Status(Enum):
     """What a call answers. A NumeralError has one of those from EMPTY to TOO_SMALL, or NOT_HELD; an AmountError has
-    INCORRECT, UNFINISHED, TOO_LARGE or TOO_SMALL, and a DateError INCORRECT or UNFINISHED."""
+    INCORRECT, UNFINISHED, TOO_LARGE or TOO_SMALL, and a DateError INCORRECT, UNFINISHED or NOT_A_DATE."""
 
     DONE = 0
     EMPTY = 1
@@ -154,25 +154,25 @@ class NumeralError(ValueError):
     the chinese number is incorrect (position: 3) Status.INCORRECT 3
     """
 
-    def __init__(self, status: Status, kind: Kind, char_index: int | None = None) -> None:
+    def __init__(self, status: Status, kind: Kind, char_index: Optional[int] = None) -> None:
         super().__init__(_TEXTS.get(status, status.name).format(kind=kind.name, char_index=char_index))
         self.status = status
         self.kind = kind
         self.char_index = char_index
 
-    def __reduce__(self) -> tuple[type[NumeralError], tuple[Status, Kind, int | None]]:
+    def __reduce__(self) -> Tuple[Any, ...]:
         return NumeralError, (self.status, self.kind, self.char_index)
 
 
 class _CapitalsError(ValueError):
-    _texts: dict[Status, str]
+    _texts: Dict[Status, str]
 
-    def __init__(self, status: Status, char_index: int | None = None) -> None:
+    def __init__(self, status: Status, char_index: Optional[int] = None) -> None:
         super().__init__(self._texts.get(status, status.name).format(char_index=char_index))
         self.status = status
         self.char_index = char_index
 
-    def __reduce__(self) -> tuple[type[_CapitalsError], tuple[Status, int | None]]:
+    def __reduce__(self) -> Tuple[Any, ...]:
         return type(self), (self.status, self.char_index)
 
 
@@ -201,7 +201,8 @@ class DateError(_CapitalsError):
     """Why a text is no date.
 
     status says why: UNFINISHED where something is missing at the end, INCORRECT where no date begins so; char_index is
-    then the place of the first character that is wrong, and else None.
+    then the place of the first character that is wrong, and else None. A subclass of datetime.date that says of itself
+    what is no date, as the year 0, is NOT_A_DATE.
 
     >>> try:
     ...     chinese_to_date('贰零贰伍年零贰月贰拾玖日')
@@ -213,6 +214,7 @@ class DateError(_CapitalsError):
     _texts = {
         Status.INCORRECT: "the date is incorrect (position: {char_index})",
         Status.UNFINISHED: "the date is not finished",
+        Status.NOT_A_DATE: "there is no such date",
     }
 
 
@@ -265,6 +267,7 @@ def _library() -> ctypes.CDLL:
 
 
 _calls = _library()
+_MOST_SHOWN = 100
 _MOST_BYTES = 234
 _Room = ctypes.c_char * _MOST_BYTES
 _MOST_AMOUNT_BYTES = 108
@@ -277,7 +280,7 @@ _HALF = (1 << 64) - 1
 _FIRST_SIGNED = Kind.I8.value
 
 
-def _printed(call: Any, room: Any, *arguments: Any) -> tuple[int, str]:
+def _printed(call: Any, room: Any, *arguments: Any) -> Tuple[int, str]:
     length = ctypes.c_size_t()
     status = call(*arguments, room, len(room), ctypes.byref(length))
     return status, room.raw[: length.value].decode()
@@ -289,16 +292,25 @@ def _refused(status: int) -> Status:
     return Status(status)
 
 
-def _code(value: Enum, of: type[Enum]) -> int:
+def _shown(value: object) -> str:
+    """The beginning of a value's repr, for a message. Where it has none, as an int of 5,000 digits, its type is told."""
+    try:
+        text = repr(value[:_MOST_SHOWN] if isinstance(value, str) else value)
+    except Exception:
+        text = object.__repr__(value)
+    return text if len(text) <= _MOST_SHOWN else f"{text[:_MOST_SHOWN]}..."
+
+
+def _code(value: Enum, of: Type[Enum]) -> int:
     if not isinstance(value, of):
-        raise TypeError(f"a {of.__name__} is wanted, and not {value!r}")
+        raise TypeError(f"a {of.__name__} is wanted, and not {_shown(value)}")
     code: int = value._value_
     return code
 
 
 def _bytes(text: str) -> bytes:
     if not isinstance(text, str):
-        raise TypeError(f"a str is wanted, and not {text!r}")
+        raise TypeError(f"a str is wanted, and not {_shown(text)}")
     # Half of a surrogate pair has no bytes in UTF-8, and goes as a question mark, which is no numeral either.
     return str.encode(text, "utf-8", "replace")
 
@@ -368,7 +380,7 @@ def amount_to_chinese(fen: int, *, script: Script = Script.TRADITIONAL) -> str:
     TypeError: an int is wanted, in fen, and not 15.0
     """
     if not isinstance(fen, int) or isinstance(fen, bool):
-        raise TypeError(f"an int is wanted, in fen, and not {fen!r}")
+        raise TypeError(f"an int is wanted, in fen, and not {_shown(fen)}")
     code = _code(script, Script)
     if not 0 <= fen < _FIRST_NOT_WRITTEN:
         raise AmountError(Status.TOO_SMALL if fen < 0 else Status.TOO_LARGE)
@@ -397,7 +409,7 @@ def chinese_to_amount(text: str) -> int:
     return fen
 
 
-def yuan_to_fen(value: Decimal | str) -> int:
+def yuan_to_fen(value: Union[Decimal, str]) -> int:
     """The fen of an amount in yuan, exactly. It is given in figures: ASCII digits, with at most one point, and one or two
     digits behind it. A Decimal has to be one whose str is of that form. All else is a ValueError, so nothing is rounded.
 
@@ -414,11 +426,11 @@ def yuan_to_fen(value: Decimal | str) -> int:
     elif isinstance(value, Decimal):
         text = Decimal.__str__(value)
     else:
-        raise TypeError(f"a Decimal or a str is wanted, in yuan, and not {value!r}")
+        raise TypeError(f"a Decimal or a str is wanted, in yuan, and not {_shown(value)}")
     whole, point, places = text.partition(".")
     figures = whole + places
     if not (whole and figures.isascii() and figures.isdigit() and len(places) <= 2 and bool(places) == bool(point)):
-        raise ValueError(f"figures with at most two places are wanted, and not {value!r}")
+        raise ValueError(f"figures with at most two places are wanted, and not {_shown(value)}")
     figures = whole.lstrip("0") + places.ljust(2, "0")
     if len(figures) > 18:
         raise AmountError(Status.TOO_LARGE)
@@ -437,7 +449,7 @@ def date_to_chinese(day: date, *, script: Script = Script.TRADITIONAL) -> str:
     A datetime is refused, since which day it is depends on where one asks.
     """
     if not isinstance(day, date) or isinstance(day, datetime):
-        raise TypeError(f"a date is wanted, and not {day!r}")
+        raise TypeError(f"a date is wanted, and not {_shown(day)}")
     code = _code(script, Script)
     status, text = _printed(_calls.chinese_date_print, _DateRoom(), day.year, day.month, day.day, code)
     if status:
@@ -498,7 +510,7 @@ def find_numbers(text: str, *, upper: bool = False, greatest: Unit = Unit.ZHAO) 
     is one character, and parts a text.
     """
     if not isinstance(upper, bool):
-        raise TypeError(f"a bool is wanted, and not {upper!r}")
+        raise TypeError(f"a bool is wanted, and not {_shown(upper)}")
     return _found(_bytes(text), upper, _code(greatest, Unit))
 
 
