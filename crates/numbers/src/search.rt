@@ -1,5 +1,5 @@
 ghost use Rattle.std.specs.Prelude.{◌≡◌, ◌++◌, ◌∷◌, [], ℕ, ℤ, List, length, chars, Result, IfOk, OnOk, IfSome};
-ghost use Rattle.std.specs.Io.Buffered.{reader_remaining, writer_contents};
+ghost use Rattle.std.specs.Io.Buffered.{reader_remaining, writer_buffer, writer_contents};
 ghost use Rattle.std.specs.Io.KnownBytes.{Appends, Keeps};
 ghost use Rattle.std.specs.Io.BufRead.{strip_last};
 ghost use Rattle.chinese_number.specs.Number.{IsAnswer};
@@ -118,7 +118,8 @@ pub fn search_lines<R: Read + Drop, W: Write + Drop>(
     writer: &mut BufWriter<W>,
     search: Search,
 ) -> io::Result<()>
-    ensures { OnOk result (IfSome (reader_remaining R.remaining reader.old) (λ input.
+    ensures sent { OnOk result (writer_buffer writer.new ≡ []) }
+    ensures answers { OnOk result (IfSome (reader_remaining R.remaining reader.old) (λ input.
         (written : List ℕ) × Answers search input written
         × Appends (writer_contents W.contents writer.old)
         (writer_contents W.contents writer.new) written)) }

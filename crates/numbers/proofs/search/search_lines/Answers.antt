@@ -17,8 +17,8 @@ loop-line-preserved g c =
     (left c.search_line.new.reader) (contents c.flush_before_read.new.writer)
     (contents c.search_line.new.writer)) c.if-not-branch.false c.in_ok-search_line.ensures)
 
-pub returns-then-not-branch : goal.returns-then-not-branch
-returns-then-not-branch g c =
+pub returns-then-not-branch-clause-answers : goal.returns-then-not-branch-clause-answers
+returns-then-not-branch-clause-answers g c =
     let left = reader_remaining g.R.Read.remaining in
     let contents = writer_contents g.W.Write.contents in
     let all = Answered-all c.args.search c.loop-line.line (left c.args.reader.now)
