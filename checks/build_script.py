@@ -65,7 +65,7 @@ def fail(why):
 def of_target(target):
     """What cargo tells a build script of a target, by rustc's own word."""
     command = ["rustc", "--print", "cfg", "--target", target]
-    said = subprocess.run(command, capture_output=True, text=True, check=True).stdout
+    said = subprocess.run(command, stdout=subprocess.PIPE, text=True, check=True).stdout
     found = re.findall(r'^(target_\w+)="(.*)"$', said, re.M)
     return {f"CARGO_CFG_{name.upper()}": value for name, value in found}
 

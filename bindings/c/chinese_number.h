@@ -190,8 +190,8 @@ typedef struct cn_amount {
  * too small. */
 uint32_t chinese_amount_print(uint64_t fen, uint32_t script, uint8_t *room, size_t room_length, size_t *length);
 
-/* Reads a text in capitals, in UTF-8, as an amount: each form that the rules for cheques and invoices allow, and no other.
- * White space is at fault where it stands. Writes *reading whole at each status, and nothing else.
+/* Reads a text in capitals, in UTF-8, as an amount. White space is at fault where it stands. Writes *reading whole at each
+ * status, and nothing else.
  *
  * Returns CN_DONE, CN_UNFINISHED (also for the empty text), CN_INCORRECT at the first character with which no amount
  * begins, or CN_NOT_UTF8. The whole text is tested to be UTF-8, and then read up to the character at fault, which is among
@@ -215,8 +215,8 @@ typedef struct cn_date {
 uint32_t chinese_date_print(uint32_t year, uint32_t month, uint32_t day, uint32_t script, uint8_t *room, size_t room_length,
                             size_t *length);
 
-/* Reads a text in capitals, in UTF-8, as a date: each form that the rules for bills allow, of a date that there is, and no
- * other. White space is at fault where it stands. Writes *reading whole at each status, and nothing else.
+/* Reads a text in capitals, in UTF-8, as a date. White space is at fault where it stands. Writes *reading whole at each
+ * status, and nothing else.
  *
  * Returns CN_DONE, CN_UNFINISHED (also for the empty text), CN_INCORRECT at the first character with which no date begins,
  * or CN_NOT_UTF8. The whole text is tested to be UTF-8, and then read up to the character at fault, which is among the

@@ -368,7 +368,7 @@ def to_chinese(
 
 
 def amount_to_chinese(fen: int, *, script: Script = Script.TRADITIONAL) -> str:
-    """The text of an amount of money, in capitals as a bank takes it. The amount is an int, in fen; an AmountError says
+    """The text of an amount of money, in capitals as on a cheque. The amount is an int, in fen; an AmountError says
     why there is no text: it is below zero, or 10**18 or more.
 
     >>> amount_to_chinese(1500)
@@ -391,7 +391,7 @@ def amount_to_chinese(fen: int, *, script: Script = Script.TRADITIONAL) -> str:
 
 
 def chinese_to_amount(text: str) -> int:
-    """The amount of a text, in fen: of each form that the rules for bills allow; an AmountError says why it is none.
+    """The amount of a text in capitals, in fen; an AmountError says why it is none.
 
     >>> chinese_to_amount('人民币壹拾伍圆正')
     1500
@@ -438,7 +438,7 @@ def yuan_to_fen(value: Union[Decimal, str]) -> int:
 
 
 def date_to_chinese(day: date, *, script: Script = Script.TRADITIONAL) -> str:
-    """The text of a date, in capitals as a bank takes it. Each datetime.date has one.
+    """The text of a date, in capitals as on a cheque. Each datetime.date has one.
 
     >>> date_to_chinese(date(2026, 10, 20))
     '貳零貳陸年零壹拾月零貳拾日'
@@ -458,7 +458,7 @@ def date_to_chinese(day: date, *, script: Script = Script.TRADITIONAL) -> str:
 
 
 def chinese_to_date(text: str) -> date:
-    """The date of a text: of each form that the rules for bills allow; a DateError says why it is none.
+    """The date of a text in capitals; a DateError says why it is none.
 
     >>> chinese_to_date('贰零贰陆年零叁月零壹日')
     datetime.date(2026, 3, 1)

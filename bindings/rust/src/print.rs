@@ -202,7 +202,7 @@ impl Display for AmountToChineseError {
 
 impl core::error::Error for AmountToChineseError {}
 
-/// Writes an amount of money, in fen, in capitals as a bank takes it. It refuses 10^18 fen and more.
+/// Writes an amount of money, in fen, in capitals as on a cheque. It refuses 10^18 fen and more.
 ///
 /// ```rust
 /// use chinese_number::{amount_to_chinese, AmountToChineseError, ChineseVariant};
@@ -240,7 +240,7 @@ impl Display for DateToChineseError {
 
 impl core::error::Error for DateToChineseError {}
 
-/// Writes a date in capitals as a bank takes it. It refuses what is no day of the Gregorian calendar from year 1 to 9999.
+/// Writes a date in capitals as on a cheque. It refuses what is no day of the Gregorian calendar from year 1 to 9999.
 ///
 /// ```rust
 /// use chinese_number::{date_to_chinese, BillDate, ChineseVariant, DateToChineseError};

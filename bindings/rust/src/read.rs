@@ -185,7 +185,7 @@ impl Display for ChineseToAmountError {
 
 impl core::error::Error for ChineseToAmountError {}
 
-/// Reads an amount of money in capitals, in fen: each form that the rules for bills allow, and no other text.
+/// Reads an amount of money in capitals, in fen.
 ///
 /// ```rust
 /// use chinese_number::{chinese_to_amount, ChineseToAmountError};
@@ -228,7 +228,7 @@ impl Display for ChineseToDateError {
 
 impl core::error::Error for ChineseToDateError {}
 
-/// Reads a date in capitals: each form that the rules for bills allow, of a date that there is, and no other text.
+/// Reads a date in capitals.
 ///
 /// ```rust
 /// use chinese_number::{chinese_to_date, BillDate, ChineseToDateError};

@@ -1,5 +1,4 @@
-//! Amounts of money in Chinese capitals, as they must stand on cheques and invoices: written in one
-//! form, and read in each form that the rules allow.
+//! Amounts of money in Chinese capitals, as on cheques: written in one form, and read in each.
 //!
 //! What a form is stands in `specs/Form`, by places from the top: a digit that is not 0 with its
 //! unit, and 零 in front of it where the digit directly before it is 0. `Choices` are what the rules

@@ -9,8 +9,8 @@ use crate::state::State;
 use crate::sum::Sum;
 use cn_core::split_first_char;
 
-/// The amount for which a text in capitals stands, in fen: `Ok` exactly where the text is a form
-/// that the rules for cheques and invoices allow. It takes no memory.
+/// The amount for which a text in capitals stands, in fen: `Ok` exactly where the text is a form of
+/// an amount. It takes no memory.
 ///
 /// ```text
 /// chinese_to_amount("壹仟肆佰零玖元伍角整") == Ok(140_950)
@@ -19,9 +19,9 @@ use cn_core::split_first_char;
 /// chinese_to_amount("拾伍元整") == Err(ChineseToAmountError::Incorrect { char_index: 0 })
 /// ```
 ///
-/// `Unfinished` exactly where something behind the text can make it an amount; else `Incorrect` at
-/// the first character with which no amount begins. White space is refused at its place, since
-/// nothing may be put in there.
+/// `Unfinished` exactly where the text is no amount, and something behind it can make it one; else
+/// `Incorrect` at the first character with which no amount begins. White space is refused at its
+/// place, since nothing may be put in there.
 pub fn chinese_to_amount(text: &str) -> Result<u64, ChineseToAmountError>
     ensures { ReadsAmount text.now (answer_of result) }
 {

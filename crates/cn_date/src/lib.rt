@@ -1,5 +1,4 @@
-//! Dates in Chinese capitals, as they must stand on cheques: written in one form, and read in each
-//! form that the rules allow.
+//! Dates in Chinese capitals, as on cheques: written in one form, and read in each.
 //!
 //! What a form is stands in `specs/Form`, and which dates there are in `specs/Calendar`.
 //!

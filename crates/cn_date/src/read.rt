@@ -7,8 +7,8 @@ use crate::state::State;
 use crate::{BillDate, ChineseToDateError};
 use cn_core::split_first_char;
 
-/// The date for which a text in capitals stands: `Ok` exactly where the text is a form that the rules
-/// for bills allow, of a date that there is. It takes no memory.
+/// The date for which a text in capitals stands: `Ok` exactly where the text is a form of a date that
+/// there is. It takes no memory.
 ///
 /// ```text
 /// chinese_to_date("贰零贰陆年零壹月壹拾伍日") == Ok(BillDate { year: 2026, month: 1, day: 15 })

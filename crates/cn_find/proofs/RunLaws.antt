@@ -2,7 +2,8 @@
 use Rattle.std.proofs.Common.{◌≡◌, ◌≢◌, ◌⊎◌, inl, inr, ℕ, zero, suc, ◌+◌, Bool, true, false, not, ◌&&◌, List, [], ◌∷◌, ◌++◌, length, chars, encode_utf8, encode_utf8_all, refl, sym, ap, subst, ◌∙◌, arith, append-nil, append_assoc, ◌≤◌, nat_le, length-append, IsUtf8}
 use Rattle.std.specs.List.{Contains}
 use Rattle.std.proofs.lemmas.Bool.Decides.{nat_tests}
-use Rattle.std.proofs.lemmas.Str.{length-le-encodes, encodes-chars}
+use Rattle.std.proofs.lemmas.Str.{length-le-encodes, encodes-chars, scalars-chars}
+use Rattle.std.proofs.Math.Utf8.{scalar, scalars}
 use Rattle.cn_core.proofs.Fronts.{and-left, and-right, both}
 use Rattle.cn_find.specs.declared.wanted.Wanted.{Wanted}
 use Rattle.cn_find.specs.Belongs.{belongs, is_joined}
@@ -343,4 +344,23 @@ few-left wanted whole rest ended =
       count-after wanted false (text_before whole rest) (chars rest),
       length-le-encodes (chars rest),
       ap length (encodes-chars rest ended),
+    )
+
+scalars-end : (front end : List ℕ) → scalars (front ++ end) ≡ true → scalars end ≡ true
+scalars-end [] end h = h
+scalars-end (c ∷ front) end h = scalars-end front end (and-right (scalar c) _ h)
+
+-- what stands behind the first number of a text is UTF-8, as the text is
+pub utf8-behind : (wanted : Wanted) (bytes : List ℕ) (first : Span) (rest : List Span)
+    → spans wanted bytes ≡ first ∷ rest → IsUtf8 bytes → IsUtf8 first.after
+utf8-behind wanted bytes first rest e whole =
+    let run : IsRun wanted (chars bytes) first = span-is_run wanted bytes first
+    (rw e (0, omega arith, refl)) in
+    let all : scalars (run.left ++ (run.run ++ run.right)) ≡ true =
+    ap scalars (sym run.parts) ∙ scalars-chars bytes whole in (
+      run.right,
+      (
+        scalars-end run.run run.right (scalars-end run.left (run.run ++ run.right) all),
+        sym run.after_is,
+      ),
     )

@@ -49,7 +49,7 @@ pub fn unwanted_characters_part_texts(wanted: Wanted)
 /// in what stands behind that number. So a caller in C finds one number after the other.
 pub fn searches_go_on_behind_a_number(wanted: Wanted)
     ensures { (bytes : List ℕ) (first : Span) (rest : List Span)
-        → spans wanted bytes ≡ first ∷ rest → IsUtf8 first.after
+        → spans wanted bytes ≡ first ∷ rest → IsUtf8 bytes
         → rest ≡ map (with_text_before (first.before ++ first.text)) (spans wanted first.after) }
 {}
 

@@ -1,15 +1,18 @@
 -- What is written for lines, one after the other.
-use Rattle.std.proofs.Common.{◌≡◌, ℕ, ◌+◌, ◌<◌, Bool, true, false, List, [], ◌∷◌, ◌++◌, length, codes, decimal, IsUtf8, Option, Some, None, refl, sym, ap, ◌∙◌, append_assoc, append-nil, arith, subst}
+use Rattle.std.proofs.Common.{◌≡◌, ◌≢◌, ℕ, ◌+◌, Bool, true, false, List, [], ◌∷◌, ◌++◌, codes, decimal, IsUtf8, Option, Some, None, Result, Ok, Err, refl, sym, arith, append_assoc, append-nil, subst, ap, ◌∙◌}
 use Rattle.std.proofs.lemmas.Str.{is_utf8-from_IsUtf8, IsUtf8-from_is_utf8}
 use Rattle.std.proofs.KnownBytes.{Appends-nil, Appends-trans, Appends-kept}
-use Rattle.std.specs.Io.BufRead.{DropsThrough, drop_through, first_piece, strip_last, take_through}
+use Rattle.std.specs.Io.BufRead.{drop_through, strip_last}
 use Rattle.std.specs.Io.KnownBytes.{Appends, Keeps}
-use Rattle.std.specs.Prelude.{IfSome}
+use Rattle.std.specs.Prelude.{IfSome, IfErr}
 use Rattle.std.specs.Str.{is_utf8}
 use Rattle.chinese_number.specs.Spans.{spans}
+use Rattle.numbers.specs.declared.fault.RunError.{RunError}
+use Rattle.numbers.specs.declared.fault.RunError.TheVariants.{Read, Write, Memory}
 use Rattle.numbers.specs.declared.options.Search.{Search}
-use Rattle.numbers.specs.Answers.{Answers, AnswersLine, AnswersLines, AreFound}
-use Rattle.numbers.specs.Private.{Steps, StepsFrom}
+use Rattle.numbers.specs.Answers.{AnswersFirst, AnswersLine, AnswersLines, AreFirstLines, AreFound}
+use Rattle.numbers.specs.Leaves.{Leaves, ReadWithinLine, Wrote, WroteBeginning}
+use Rattle.numbers.specs.Private.{TakesLine, Replies}
 
 pub AnswersLine-text : (search : Search) (line : ℕ) (bytes written : List ℕ) → IsUtf8 bytes
     → AreFound search line 1 (spans search.wanted bytes) written
@@ -24,92 +27,141 @@ AnswersLine-none search line bytes none = by (is_utf8 bytes) refl where
   by true e = absurd (none (IsUtf8-from_is_utf8 bytes e))
   by false e = rw e refl
 
-some-left : (input : List ℕ) → 0 < length (take_through 10 input) → 0 < length input
-some-left [] some = some
-some-left (byte ∷ input) some = omega arith
-
--- a line that was read and answered is a step
-pub Steps-line : (search : Search) (line : ℕ) (given left old new : Option (List ℕ))
-    (front bytes text : List ℕ) → front ≡ []
-    → IfSome given (λ input. bytes ≡ front ++ take_through 10 input) → DropsThrough given left 10
-    → 0 < length bytes → text ≡ strip_last 10 bytes
-    → ((written : List ℕ) × AnswersLine search line text written × Appends old new written)
-    → Steps search line true given left old new
-Steps-line search line None left old new front bytes text none e behind some is answers = tt
-Steps-line search line (Some input) left old new front bytes text none e behind some is answers =
-    let all : bytes ≡ take_through 10 input = e ∙ ap (λ l. l ++ take_through 10 input) none in (
-      some-left input (subst (λ l. 0 < length l) all some),
-      behind,
-      answers.0,
-      subst (λ l. AnswersLine search line l answers.0) (is ∙ ap (strip_last 10) all) answers.1,
-      answers.2,
-    )
-
--- so many lines were answered, and what is written for the rest completes it
+-- so many lines were answered, and what is written for the next ones goes on behind it
 pub record Answered (search : Search) (line : ℕ) (input : List ℕ) (left old now : Option (List ℕ))
     : Type 0 where
   pub rest : List ℕ
   pub is_left : left ≡ Some rest
   pub written : List ℕ
   pub appends : Appends old now written
-  pub completes : (lines : List (List ℕ)) (more : List ℕ)
-      → AnswersLines search line lines rest more → Answers search input (written ++ more)
-
-abbrev pub AnsweredAny : Search → ℕ → Option (List ℕ) → Option (List ℕ) → Option (List ℕ)
-    → Option (List ℕ) → Type 0
-AnsweredAny search line given left old now =
-    IfSome given (λ input. Answered search line input left old now)
+  pub goes_on : (lines : List (List ℕ)) (behind more : List ℕ)
+      → AreFirstLines lines rest behind → AnswersLines search line lines more
+      → AnswersFirst search input behind (written ++ more)
 
 pub Answered-none : (search : Search) (given old : Option (List ℕ))
-    → AnsweredAny search 1 given given old old
+    → IfSome given (λ input. Answered search 1 input given old old)
 Answered-none search None old = tt
 Answered-none search (Some input) old = record {
   rest = input;
   is_left = refl;
   written = [];
   appends = Appends-nil _;
-  completes = λ lines more answers. (lines, answers);
+  goes_on = λ lines behind more are answers. (lines, are, answers);
 }
 
-pub Answered-more : (search : Search) (line : ℕ) (given left behind old now kept new : Option (List ℕ))
-    → AnsweredAny search line given left old now → Keeps now kept
-    → Steps search line true left behind kept new
-    → AnsweredAny search (line + 1) given behind old new
-Answered-more search line None left behind old now kept new a same step = tt
-Answered-more search line (Some input) left behind old now kept new a same step =
-    let s : StepsFrom search line true a.rest behind kept new =
-    subst (λ l. Steps search line true l behind kept new) a.is_left step in
-    record {
-      rest = drop_through 10 a.rest;
-      is_left = s.1;
-      written = a.written ++ s.2;
-      appends = Appends-trans _ _ _ _ _ (Appends-kept _ _ _ _ a.appends same) s.4;
-      completes = λ lines more answers. subst (Answers search input)
-          (sym (append_assoc a.written s.2 more))
-          (a.completes (first_piece 10 a.rest ∷ lines) (s.2 ++ more)
-          (s.2, more, s.0, refl, s.3, answers, refl));
-    }
+-- a line was taken off what was left, or there was none
+abbrev pub Takes : Bool → Option (List ℕ) → Option (List ℕ) → List ℕ → Type 0
+Takes more left behind bytes = IfSome left (λ rest. TakesLine more rest behind bytes)
 
-pub Answered-all : (search : Search) (line : ℕ) (given left behind old now kept new : Option (List ℕ))
-    → AnsweredAny search line given left old now → Keeps now kept
-    → Steps search line false left behind kept new
-    → IfSome given (λ input. (written : List ℕ) × Answers search input written
-    × Appends old new written)
-Answered-all search line None left behind old now kept new a same step = tt
-Answered-all search line (Some input) left behind old now kept new a same step =
-    let s : StepsFrom search line false a.rest behind kept new =
-    subst (λ l. Steps search line false l behind kept new) a.is_left step in (
-      a.written,
-      subst (Answers search input) (append-nil a.written) (a.completes [] [] (s.0, refl)),
-      Appends-kept _ _ _ _ (Appends-kept _ _ _ _ a.appends same) s.1,
+-- at most a line was
+abbrev pub ReadWithin : Option (List ℕ) → Option (List ℕ) → Type 0
+ReadWithin left behind = IfSome left (λ rest. ReadWithinLine rest behind)
+
+none_unwritten : (search : Search) (input rest : List ℕ) (old now : Option (List ℕ))
+    → Wrote search input rest old now → WroteBeginning search input rest old now
+none_unwritten search input rest old now w =
+    (w.0, [], subst (AnswersFirst search input rest) (sym (append-nil w.0)) w.1, w.2)
+
+module _ {search : Search} {line : ℕ} {input : List ℕ} {left old now : Option (List ℕ)}
+    (a : Answered search line input left old now) where
+  pub Answered-kept : (kept : Option (List ℕ)) → Keeps now kept
+      → Answered search line input left old kept
+  Answered-kept kept same = record {
+    rest = a.rest;
+    is_left = a.is_left;
+    written = a.written;
+    appends = Appends-kept _ _ _ _ a.appends same;
+    goes_on = a.goes_on;
+  }
+
+  pub Answered-more : (x : Unit {0}) (behind new : Option (List ℕ)) (bytes text : List ℕ)
+      → Takes true left behind bytes → text ≡ strip_last 10 bytes
+      → Replies search line text now new (Ok x)
+      → Answered search (line + 1) input behind old new
+  Answered-more x behind new bytes text takes is reply =
+      let t : TakesLine true a.rest behind bytes =
+      subst (λ l. Takes true l behind bytes) a.is_left takes in
+      record {
+        rest = drop_through 10 a.rest;
+        is_left = t.2;
+        written = a.written ++ reply.0;
+        appends = Appends-trans _ _ _ _ _ a.appends reply.2;
+        goes_on = λ lines end more are answers. subst (AnswersFirst search input end)
+            (sym (append_assoc a.written reply.0 more))
+            (a.goes_on (text ∷ lines) end (reply.0 ++ more)
+            (t.0, is ∙ ap (strip_last 10) t.1, are)
+            (reply.0, more, reply.1, answers, refl));
+      }
+
+  -- all that was read is answered
+  Answered-whole : Wrote search input a.rest old now
+  Answered-whole = (
+    a.written,
+    subst (AnswersFirst search input a.rest) (append-nil a.written)
+        (a.goes_on [] a.rest [] refl refl),
+    a.appends,
+  )
+
+  -- the search ends here: a write fails
+  pub Leaves-unsent : (e : RunError) → e ≡ Write
+      → Leaves {T = Unit {0}} search input left old now (Err e)
+  Leaves-unsent e is = rw is (a.rest, a.is_left, none_unwritten _ _ _ _ _ Answered-whole)
+
+  -- a read fails or memory runs out, and at most a line was read since
+  pub Leaves-within : (e : RunError) (behind : Option (List ℕ)) → ReadWithin left behind
+      → e ≢ Write → Leaves {T = Unit {0}} search input behind old now (Err e)
+  Leaves-within e behind within other = by e other where
+    w : ReadWithinLine a.rest behind
+    w = subst (λ l. ReadWithin l behind) a.is_left within
+
+    by : (e : RunError) → e ≢ Write → Leaves {T = Unit {0}} search input behind old now (Err e)
+    by Read other = (a.rest, w, Answered-whole)
+    by Write other = absurd (other refl)
+    by Memory other = (a.rest, w, Answered-whole)
+
+  -- nothing was read since
+  pub Leaves-at : Leaves {T = Unit {0}} search input left old now (Err Read)
+  Leaves-at = rw a.is_left (a.rest, ([], λ k d low e. omega (arith, low), refl), Answered-whole)
+
+  -- there is no further line
+  pub Leaves-ended : (r : Result (Unit {0}) RunError) (behind : Option (List ℕ))
+      → Takes false left behind [] → IfErr r (λ e. e ≡ Write)
+      → Leaves search input behind old now r
+  Leaves-ended r behind takes fails = by r fails where
+    t : TakesLine false a.rest behind []
+    t = subst (λ l. Takes false l behind []) a.is_left takes
+
+    whole : Wrote search input [] old now
+    whole = subst (λ rest. Wrote search input rest old now) t.0 Answered-whole
+
+    by : (r : Result (Unit {0}) RunError) → IfErr r (λ e. e ≡ Write) → Leaves search input behind old now r
+    by (Ok x) fails = (t.1, whole)
+    by (Err e) fails = rw fails ([], t.1, none_unwritten _ _ _ _ _ whole)
+
+-- a line was read, and is not answered as a whole
+pub Leaves-line : {search : Search} {line : ℕ} {input : List ℕ} {left old now : Option (List ℕ)}
+    (a : Answered search line input left old now) (e : RunError)
+    (behind new : Option (List ℕ)) (bytes text : List ℕ) → Takes true left behind bytes
+    → ReadWithin left behind → text ≡ strip_last 10 bytes
+    → Replies {T = Unit {0}} search line text now new (Err e)
+    → Leaves {T = Unit {0}} search input behind old new (Err e)
+Leaves-line a Read behind new bytes text takes within is reply = absurd reply
+Leaves-line a Memory behind new bytes text takes within is reply =
+    Leaves-within (Answered-kept a new reply) Memory behind within (λ e. cc)
+Leaves-line {search} {input = input} a Write behind new bytes text takes within is reply =
+    let t : TakesLine true a.rest behind bytes =
+    subst (λ l. Takes true l behind bytes) a.is_left takes in
+    let answer = reply.0 ++ reply.1 in (
+      drop_through 10 a.rest,
+      t.2,
+      (
+        a.written ++ reply.0,
+        reply.1,
+        subst (AnswersFirst search input (drop_through 10 a.rest))
+            (sym (append_assoc a.written reply.0 reply.1))
+            (a.goes_on (text ∷ []) (drop_through 10 a.rest) answer
+            (t.0, is ∙ ap (strip_last 10) t.1, refl)
+            (answer, [], reply.2, refl, sym (append-nil answer))),
+        Appends-trans _ _ _ _ _ a.appends reply.3,
+      ),
     )
-
--- what was written stays where it is kept
-pub Answers-kept : (search : Search) (given old now new : Option (List ℕ))
-    → IfSome given (λ input. (written : List ℕ) × Answers search input written
-    × Appends old now written) → Keeps now new
-    → IfSome given (λ input. (written : List ℕ) × Answers search input written
-    × Appends old new written)
-Answers-kept search None old now new a same = tt
-Answers-kept search (Some input) old now new a same =
-    (a.0, a.1, Appends-kept _ _ _ _ a.2 same)

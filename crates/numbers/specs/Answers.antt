@@ -40,16 +40,22 @@ AnswersLine search line bytes written =
     MatchBool (is_utf8 bytes) (AreFound search line 1 (spans search.wanted bytes) written)
     (written ≡ decimal line ++ codes ":1 bad line\n")
 
--- what is written for the lines of an input, of which the first has this number: each line goes up to
--- a line feed, and the last to the end
-abbrev pub AnswersLines : Search → ℕ → List (List ℕ) → List ℕ → List ℕ → Type 0
-AnswersLines search line [] input written = (input ≡ []) × (written ≡ [])
-AnswersLines search line (bytes ∷ lines) input written =
-    (first : List ℕ) × (rest : List ℕ) × (0 < length input) × (bytes ≡ first_piece 10 input)
-    × AnswersLine search line bytes first
-    × AnswersLines search (line + 1) lines (drop_through 10 input) rest
-    × (written ≡ first ++ rest)
+-- these lines stand at the front of an input, and this is left behind them: each line goes up to a
+-- line feed, and the last of the input to its end
+abbrev pub AreFirstLines : List (List ℕ) → List ℕ → List ℕ → Type 0
+AreFirstLines [] input left = left ≡ input
+AreFirstLines (bytes ∷ lines) input left =
+    (0 < length input) × (bytes ≡ first_piece 10 input)
+    × AreFirstLines lines (drop_through 10 input) left
 
--- what is written for an input
-abbrev pub Answers : Search → List ℕ → List ℕ → Type 0
-Answers search input written = (lines : List (List ℕ)) × AnswersLines search 1 lines input written
+-- what is written for these lines, of which the first has this number
+abbrev pub AnswersLines : Search → ℕ → List (List ℕ) → List ℕ → Type 0
+AnswersLines search line [] written = written ≡ []
+AnswersLines search line (bytes ∷ lines) written =
+    (first : List ℕ) × (rest : List ℕ) × AnswersLine search line bytes first
+    × AnswersLines search (line + 1) lines rest × (written ≡ first ++ rest)
+
+-- what is written for the first lines of an input, behind which this is left
+abbrev pub AnswersFirst : Search → List ℕ → List ℕ → List ℕ → Type 0
+AnswersFirst search input left written =
+    (lines : List (List ℕ)) × AreFirstLines lines input left × AnswersLines search 1 lines written

@@ -1,20 +1,36 @@
--- One step of the program. No contract of a public call cites it.
-use Rattle.std.specs.Prelude.{◌≡◌, ℕ, ◌<◌, Bool, true, false, List, [], length, Option, Some, IfSome}
-use Rattle.std.specs.Io.BufRead.{drop_through, first_piece}
+-- The steps of a search. No contract of a public call cites them.
+use Rattle.std.specs.Prelude.{◌≡◌, ◌<◌, ◌++◌, ℕ, Bool, true, false, List, [], length, Option, Some, Result, Ok, Err}
+use Rattle.std.specs.Io.BufRead.{drop_through, take_through}
 use Rattle.std.specs.Io.KnownBytes.{Appends, Keeps}
+use Rattle.numbers.specs.declared.fault.RunError.{RunError}
+use Rattle.numbers.specs.declared.fault.RunError.TheVariants.{Read, Write, Memory}
 use Rattle.numbers.specs.declared.options.Search.{Search}
 use Rattle.numbers.specs.Answers.{AnswersLine}
 
--- a line was taken off what the reader had left, and answered; or there was none
-abbrev pub StepsFrom : Search → ℕ → Bool → List ℕ → Option (List ℕ) → Option (List ℕ)
-    → Option (List ℕ) → Type 0
-StepsFrom search line true input left old new =
-    (0 < length input) × (left ≡ Some (drop_through 10 input))
-    × (written : List ℕ) × AnswersLine search line (first_piece 10 input) written
-    × Appends old new written
-StepsFrom search line false input left old new = (input ≡ []) × Keeps old new
+-- a line was taken off what the reader had left; or there was none
+abbrev pub TakesLine : Bool → List ℕ → Option (List ℕ) → List ℕ → Type 0
+TakesLine true input left bytes =
+    (0 < length input) × (bytes ≡ take_through 10 input) × (left ≡ Some (drop_through 10 input))
+TakesLine false input left bytes = (input ≡ []) × (left ≡ Some [])
 
-abbrev pub Steps : Search → ℕ → Bool → Option (List ℕ) → Option (List ℕ) → Option (List ℕ)
-    → Option (List ℕ) → Type 0
-Steps search line more given left old new =
-    IfSome given (λ input. StepsFrom search line more input left old new)
+-- the bytes are written: all of them, or a beginning where a write failed
+abbrev pub Puts : {T : Type 0}
+    → Option (List ℕ) → Option (List ℕ) → List ℕ → Result T RunError → Type 0
+Puts old new bytes (Ok x) = Appends old new bytes
+Puts old new bytes (Err Read) = ⊥
+Puts old new bytes (Err Write) =
+    (written : List ℕ) × (unwritten : List ℕ)
+    × (bytes ≡ written ++ unwritten) × Appends old new written
+Puts old new bytes (Err Memory) = ⊥
+
+-- a line is answered: as a whole, or by a beginning where a write failed, or not at all where memory
+-- ran out
+abbrev pub Replies : {T : Type 0} → Search → ℕ → List ℕ → Option (List ℕ) → Option (List ℕ)
+    → Result T RunError → Type 0
+Replies search line bytes old new (Ok x) =
+    (written : List ℕ) × AnswersLine search line bytes written × Appends old new written
+Replies search line bytes old new (Err Read) = ⊥
+Replies search line bytes old new (Err Write) =
+    (written : List ℕ) × (unwritten : List ℕ)
+    × AnswersLine search line bytes (written ++ unwritten) × Appends old new written
+Replies search line bytes old new (Err Memory) = Keeps old new

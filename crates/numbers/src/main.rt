@@ -13,13 +13,15 @@
 //! memory ran out or a word of the command line is unknown.
 #![tactic(auto)]
 
+mod fault;
 mod options;
 mod search;
 
+use crate::fault::RunError;
 use crate::options::{Request, Search, request_of};
 use crate::search::search_lines;
 use std::env;
-use std::io::{self, BufReader, BufWriter, ErrorKind};
+use std::io::{self, BufReader, BufWriter};
 use std::process::ExitCode;
 
 static USAGE: &str = "\
@@ -36,19 +38,19 @@ fn request(rt: &HostRuntime) -> io::Result<Option<Request>> {
     Ok(request_of(words.as_slice()))
 }
 
-fn search_input(rt: &HostRuntime, search: Search) -> io::Result<()> {
-    let mut reader = BufReader::new(rt.alloc(), rt.reader())?;
-    let mut writer = BufWriter::new(rt.alloc(), io::writer(rt))?;
+fn search_input(rt: &HostRuntime, search: Search) -> Result<(), RunError> {
+    let mut reader = BufReader::new(rt.alloc(), rt.reader()).map_err(|_| RunError::Memory)?;
+    let mut writer = BufWriter::new(rt.alloc(), io::writer(rt)).map_err(|_| RunError::Memory)?;
     search_lines(rt.alloc(), &mut reader, &mut writer, search)
 }
 
 // Answers the request, and says whether there was one.
-fn serve(rt: &HostRuntime) -> io::Result<bool> {
-    match request(rt)? {
-        Some(Request::Help) => println!(rt; "{USAGE}")?,
+fn serve(rt: &HostRuntime) -> Result<bool, RunError> {
+    match request(rt).map_err(RunError::of_read)? {
+        Some(Request::Help) => println!(rt; "{USAGE}").map_err(|_| RunError::Write)?,
         Some(Request::Search(search)) => search_input(rt, search)?,
         None => {
-            eprintln!(rt; "{USAGE}")?;
+            eprintln!(rt; "{USAGE}").map_err(|_| RunError::Write)?;
             return Ok(false);
         }
     }
@@ -58,8 +60,7 @@ fn serve(rt: &HostRuntime) -> io::Result<bool> {
 fn main(rt: HostRuntime) -> ExitCode {
     match serve(&rt) {
         Ok(true) => ExitCode::from(0),
-        Ok(false) => ExitCode::from(2),
-        Err(error) if error.kind() == ErrorKind::OutOfMemory => ExitCode::from(2),
+        Ok(false) | Err(RunError::Memory) => ExitCode::from(2),
         Err(_) => ExitCode::from(1),
     }
 }

@@ -1,18 +1,20 @@
-ghost use Rattle.std.specs.Prelude.{◌≡◌, ◌++◌, ◌∷◌, [], ℕ, ℤ, List, length, chars, Result, IfOk, OnOk, IfSome};
-ghost use Rattle.std.specs.Io.Buffered.{reader_remaining, writer_contents};
+ghost use Rattle.std.specs.Prelude.{◌≡◌, ◌≢◌, ◌≤◌, ◌++◌, ◌∷◌, [], ℕ, ℤ, List, length, chars, drop, Result, IfErr, IfOk, OnOk, IfSome};
+ghost use Rattle.std.specs.Io.Buffered.{reader_remaining, writer_buffer, writer_contents};
 ghost use Rattle.std.specs.Io.KnownBytes.{Appends, Keeps};
 ghost use Rattle.std.specs.Io.BufRead.{strip_last};
 ghost use Rattle.chinese_number.specs.Number.{IsAnswer};
 ghost use Rattle.chinese_number.specs.Refusal.{Refusal};
 ghost use Rattle.chinese_number.specs.Spans.{spans};
 ghost use Rattle.chinese_number.specs.Whole.{unsigned_kind};
-ghost use Rattle.numbers.specs.Answers.{Answers, AnswersLine, AreFound, found_text};
-ghost use Rattle.numbers.specs.Private.{Steps};
+ghost use Rattle.numbers.specs.Answers.{AnswersLine, AreFound, found_text};
+ghost use Rattle.numbers.specs.Leaves.{Leaves, ReadWithinLine};
+ghost use Rattle.numbers.specs.Private.{TakesLine, Puts, Replies};
 
+use crate::fault::RunError;
 use crate::options::Search;
 use chinese_number::{Found, find_numbers};
 use std::alloc::Global;
-use std::io::{self, BufRead, BufReader, BufWriter, ErrorKind, Read, Write};
+use std::io::{self, BufRead, BufReader, BufWriter, Read, Write};
 
 // Writes the line of a number found.
 fn write_found<W: Write>(
@@ -76,59 +78,105 @@ fn without_feed(line: &[u8]) -> &[u8]
     line.strip_suffix(b"\n").unwrap_or(line)
 }
 
-// Searches the next line, and says whether there was one.
-fn search_line<R: BufRead, W: Write>(
-    reader: &mut R,
-    writer: &mut W,
-    bytes: &mut Vec<u8>,
-    line: u64,
-    search: Search,
-) -> io::Result<bool>
-    ensures { IfOk result (λ more. Steps search line more (R.remaining reader.old)
-        (R.remaining reader.new) (W.contents writer.old) (W.contents writer.new)) }
+// Reads the next line, with its line feed, and says whether there was one.
+fn read_line<R: BufRead>(reader: &mut R, bytes: &mut Vec<u8>) -> Result<bool, RunError>
+    ensures line { IfOk result (λ more. IfSome (R.remaining reader.old) (λ input.
+        TakesLine more input (R.remaining reader.new) bytes.new.items)) }
+    ensures within { IfSome (R.remaining reader.old) (λ input.
+        ReadWithinLine input (R.remaining reader.new)) }
+    ensures fault { IfErr result (λ error. error ≢ RunError.Write) }
 {
     bytes.clear();
-    if reader.read_until(b'\n', bytes)? == 0 {
-        return Ok(false);
+    let count = reader.read_until(b'\n', bytes).map_err(RunError::of_read)?;
+    Ok(count > 0)
+}
+
+// What is left of the bytes after so many were written.
+fn bytes_after(bytes: &[u8], count: usize) -> &[u8]
+    requires { count ≤ length bytes.now }
+    ensures { result.now ≡ drop count bytes.now }
+{
+    bytes.split_at(count).1
+}
+
+// Writes all the bytes, in as many writes as it takes.
+fn write_all<W: Write>(writer: &mut W, bytes: &[u8]) -> Result<(), RunError>
+    ensures { Puts (W.contents writer.old) (W.contents writer.new) bytes.now result }
+{
+    let mut rest = bytes;
+    while !rest.is_empty() {
+        match writer.write(rest) {
+            Ok(count) if count > 0 => rest = bytes_after(rest, count),
+            _ => return Err(RunError::Write),
+        }
     }
-    write_line(writer, line, without_feed(bytes.as_slice()), search)?;
-    Ok(true)
+    Ok(())
+}
+
+// Answers a line. The answer is whole before any of it is written.
+fn answer_line<W: Write>(
+    writer: &mut W,
+    answer: &mut Vec<u8>,
+    line: u64,
+    bytes: &[u8],
+    search: Search,
+) -> Result<(), RunError>
+    ensures { Replies search line bytes.now (W.contents writer.old) (W.contents writer.new) result }
+{
+    answer.clear();
+    write_line(answer, line, bytes, search).map_err(|_| RunError::Memory)?;
+    write_all(writer, answer.as_slice())
+}
+
+// Hands on what was written.
+fn flush<W: Write + Drop>(writer: &mut BufWriter<W>) -> Result<(), RunError>
+    ensures sent { OnOk result (writer_buffer writer.new ≡ []) }
+    ensures kept { Keeps (writer_contents W.contents writer.old)
+        (writer_contents W.contents writer.new) }
+    ensures fault { IfErr result (λ error. error ≡ RunError.Write) }
+{
+    writer.flush().map_err(|_| RunError::Write)
 }
 
 // Hands on what was written, where the next read may wait.
 fn flush_before_read<R: Read + Drop, W: Write + Drop>(
     reader: &BufReader<R>,
     writer: &mut BufWriter<W>,
-) -> io::Result<()>
-    ensures { OnOk result (Keeps (writer_contents W.contents writer.old)
-        (writer_contents W.contents writer.new)) }
+) -> Result<(), RunError>
+    ensures kept { Keeps (writer_contents W.contents writer.old)
+        (writer_contents W.contents writer.new) }
+    ensures fault { IfErr result (λ error. error ≡ RunError.Write) }
 {
     if reader.buffer().contains(&b'\n') {
         Ok(())
     } else {
-        writer.flush()
+        flush(writer)
     }
 }
 
 /// Searches the lines of the reader to its end, and writes a line for each number. What was written
-/// is flushed before a read that may wait, and at the end.
+/// is flushed before a read that may wait, and at the end. A line is read and its answer is whole
+/// before any of that is written: at `Read` and `Memory` just the lines before it are answered.
 pub fn search_lines<R: Read + Drop, W: Write + Drop>(
     alloc: Global,
     reader: &mut BufReader<R>,
     writer: &mut BufWriter<W>,
     search: Search,
-) -> io::Result<()>
-    ensures { OnOk result (IfSome (reader_remaining R.remaining reader.old) (λ input.
-        (written : List ℕ) × Answers search input written
-        × Appends (writer_contents W.contents writer.old)
-        (writer_contents W.contents writer.new) written)) }
+) -> Result<(), RunError>
+    ensures sent { OnOk result (writer_buffer writer.new ≡ []) }
+    ensures leaves { IfSome (reader_remaining R.remaining reader.old) (λ input.
+        Leaves search input (reader_remaining R.remaining reader.new)
+        (writer_contents W.contents writer.old) (writer_contents W.contents writer.new) result) }
 {
     let mut bytes = Vec::new(alloc);
+    let mut answer = Vec::new(alloc);
     for line in 1..u64::MAX {
         flush_before_read(reader, writer)?;
-        if !search_line(reader, writer, &mut bytes, line, search)? {
-            return writer.flush();
+        if !read_line(reader, &mut bytes)? {
+            return flush(writer);
         }
+        let text = without_feed(bytes.as_slice());
+        answer_line(writer, &mut answer, line, text, search)?;
     }
-    Err(io::Error::from(ErrorKind::FileTooLarge))
+    Err(RunError::Read)
 }

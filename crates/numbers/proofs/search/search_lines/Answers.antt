@@ -1,32 +1,54 @@
-use Rattle.std.proofs.Common.{subst}
-use Rattle.std.proofs.lemmas.Result.{on_ok_weaker}
-use Rattle.std.specs.Io.Buffered.{reader_remaining, writer_contents}
-use Rattle.numbers.specs.Private.{Steps}
-use Rattle.numbers.proofs.Lines.{Answered-none, Answered-more, Answered-all, Answers-kept}
+use Rattle.std.proofs.Common.{ap, ◌∙◌}
+use Rattle.std.proofs.lemmas.Option.{IfSome_then}
+use Rattle.std.proofs.lemmas.Result.{err_from_is_err_and}
+use Rattle.std.specs.Io.BufRead.{strip_last}
+use Rattle.numbers.proofs.Lines.{Answered-none, Answered-kept, Answered-more, Leaves-at, Leaves-unsent, Leaves-within, Leaves-ended, Leaves-line}
 use Rattle.numbers.proofs.search.search_lines.Goals as goal
 
 pub loop-line-init : goal.loop-line-init
 loop-line-init g c = Answered-none _ _ _
 
+pub returns-in_err-flush_before_read-clause-leaves :
+    goal.returns-in_err-flush_before_read-clause-leaves
+returns-in_err-flush_before_read-clause-leaves g c =
+    let p = err_from_is_err_and c.from_residual.result c.from_residual.ensures.1 in
+    rw (p.1, p.2) (IfSome_then _ c.loop-line.invariant (λ input a.
+    Leaves-unsent (Answered-kept a _ c.in_err-flush_before_read.ensures.kept) _
+    c.in_err-flush_before_read.ensures.fault))
+
+pub returns-in_err-read_line-clause-leaves : goal.returns-in_err-read_line-clause-leaves
+returns-in_err-read_line-clause-leaves g c =
+    let r = c.from_residual-in_err-read_line in
+    let p = err_from_is_err_and r.result r.ensures.1 in
+    rw (p.1, p.2) (IfSome_then _ c.loop-line.invariant (λ input a.
+    Leaves-within (Answered-kept a _ c.in_ok-flush_before_read.ensures.kept) _ _
+    c.in_err-read_line.ensures.within c.in_err-read_line.ensures.fault))
+
+pub returns-then-not-branch-clause-leaves : goal.returns-then-not-branch-clause-leaves
+returns-then-not-branch-clause-leaves g c =
+    let takes = rw c.if-not-branch.true at c.in_ok-read_line.ensures.line in
+    IfSome_then _ c.loop-line.invariant (λ input a.
+    Leaves-ended (Answered-kept (Answered-kept a _ c.in_ok-flush_before_read.ensures.kept) _
+    c.flush.ensures.kept) c.flush.result _ takes c.flush.ensures.fault)
+
+pub returns-in_err-answer_line-clause-leaves : goal.returns-in_err-answer_line-clause-leaves
+returns-in_err-answer_line-clause-leaves g c =
+    let r = c.from_residual-in_err-answer_line in
+    let p = err_from_is_err_and r.result r.ensures.1 in
+    let takes = rw c.if-not-branch.false at c.in_ok-read_line.ensures.line in
+    rw (p.1, p.2) (IfSome_then _ c.loop-line.invariant (λ input a.
+    Leaves-line (Answered-kept a _ c.in_ok-flush_before_read.ensures.kept) _ _ _ _ _ takes
+    c.in_ok-read_line.ensures.within
+    (c.without_feed-text.ensures ∙ ap (strip_last 10) c.as_slice.ensures.value)
+    c.in_err-answer_line.ensures))
+
 pub loop-line-preserved : goal.loop-line-preserved
 loop-line-preserved g c =
-    let left = reader_remaining g.R.Read.remaining in
-    let contents = writer_contents g.W.Write.contents in
-    Answered-more _ _ _ _ _ _ _ _ _ c.loop-line.invariant c.in_ok-flush_before_read.ensures
-    (subst (λ more. Steps c.args.search c.loop-line.line more (left c.loop-line.reader)
-    (left c.search_line.new.reader) (contents c.flush_before_read.new.writer)
-    (contents c.search_line.new.writer)) c.if-not-branch.false c.in_ok-search_line.ensures)
+    let takes = rw c.if-not-branch.false at c.in_ok-read_line.ensures.line in
+    IfSome_then _ c.loop-line.invariant (λ input a.
+    Answered-more (Answered-kept a _ c.in_ok-flush_before_read.ensures.kept) _ _ _ _ _ takes
+    (c.without_feed-text.ensures ∙ ap (strip_last 10) c.as_slice.ensures.value)
+    c.in_ok-answer_line.ensures)
 
-pub returns-then-not-branch : goal.returns-then-not-branch
-returns-then-not-branch g c =
-    let left = reader_remaining g.R.Read.remaining in
-    let contents = writer_contents g.W.Write.contents in
-    let all = Answered-all c.args.search c.loop-line.line (left c.args.reader.now)
-    (left c.loop-line.reader) (left c.search_line.new.reader) (contents c.args.writer.now)
-    (contents c.loop-line.writer) (contents c.flush_before_read.new.writer)
-    (contents c.search_line.new.writer) c.loop-line.invariant
-    c.in_ok-flush_before_read.ensures
-    (subst (λ more. Steps c.args.search c.loop-line.line more (left c.loop-line.reader)
-    (left c.search_line.new.reader) (contents c.flush_before_read.new.writer)
-    (contents c.search_line.new.writer)) c.if-not-branch.true c.in_ok-search_line.ensures) in
-    on_ok_weaker c.flush.result (λ u. Answers-kept _ _ _ _ _ all c.flush.ensures.bytes) c.flush.ensures.ok
+pub returns-clause-leaves : goal.returns-clause-leaves
+returns-clause-leaves g c = IfSome_then _ c.loop-line.invariant (λ input a. Leaves-at a)

@@ -1,8 +1,11 @@
 use Rattle.std.specs.Io.Buffered.{reader_remaining, writer_contents}
-use Rattle.numbers.proofs.Lines.{AnsweredAny}
+use Rattle.std.specs.Prelude.{IfSome}
+use Rattle.numbers.proofs.Lines.{Answered}
 use Rattle.numbers.proofs.search.search_lines.Given as goal
 
 abbrev pub invariant-loop-line : goal.invariant-loop-line
-invariant-loop-line g l = AnsweredAny l.search l.line (reader_remaining g.R.Read.remaining l.fn.reader)
-    (reader_remaining g.R.Read.remaining l.reader) (writer_contents g.W.Write.contents l.fn.writer)
-    (writer_contents g.W.Write.contents l.writer)
+invariant-loop-line g l =
+    let left = reader_remaining g.R.Read.remaining in
+    let contents = writer_contents g.W.Write.contents in
+    IfSome (left l.fn.reader) (λ input.
+    Answered l.search l.line input (left l.reader) (contents l.fn.writer) (contents l.writer))

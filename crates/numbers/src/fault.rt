@@ -1,0 +1,28 @@
+ghost use Rattle.std.specs.Prelude.{◌≡◌};
+ghost use Rattle.std.specs.IoError.{error_kind};
+ghost use Rattle.numbers.specs.Faults.{fault_of_read};
+
+use std::io::{self, ErrorKind};
+
+/// Why a run stopped before its end.
+#[derive(Debug, Copy, Clone)]
+pub enum RunError {
+    /// A read failed.
+    Read,
+    /// A write failed.
+    Write,
+    /// Memory ran out.
+    Memory,
+}
+
+impl RunError {
+    /// Why a run stops at a read that fails so: it may have asked for memory.
+    pub fn of_read(error: io::Error) -> RunError
+        ensures { result ≡ fault_of_read (error_kind error) }
+    {
+        match error.kind() {
+            ErrorKind::OutOfMemory => RunError::Memory,
+            _ => RunError::Read,
+        }
+    }
+}
