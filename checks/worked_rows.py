@@ -32,11 +32,11 @@ def of_numeral():
 
 
 def of_cheque():
-    """The page, the word and the answer of each row of `cheque`."""
-    for page, text in pages():
+    """The word and the answer of each row of `cheque`."""
+    for _, text in pages():
         for asked, answer in ROW.findall(text):
             if not OF_NUMERAL.fullmatch(answer):
-                yield page, asked, answer
+                yield asked, answer
 
 
 def of_numbers():
@@ -80,7 +80,7 @@ def questions():
     for _, line, answer in of_numeral():
         if answer != "bad line":
             yield line.split(" ", WORDS[line.split(" ")[0]] - 1), answer
-    for _, word, answer in of_cheque():
+    for word, answer in of_cheque():
         yield from questions_on_capitals(word, answer)
     for text, numbers, answers in of_numbers():
         yield ["find", text], f"ok {in_place(text, numbers, answers)}"

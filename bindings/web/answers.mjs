@@ -1,4 +1,4 @@
-// Answers the questions of test.py, which says what they are: lines of words parted by tabs.
+// Answers the questions of test.py, which says what they are, a line each.
 import { readFileSync } from 'node:fs';
 
 import {
