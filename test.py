@@ -92,21 +92,23 @@ class Clone:
         flags = ["-O2", "-fPIC", "-fvisibility=hidden"]
         run(*self.cc, *flags, "-c", DIST / "chinese_number.c", "-o", self.object)
 
-    def compiled(self, name, words, source):
-        program = self.scratch / name
-        run(*words, "-O1", "-I", DIST, *source, self.object, "-o", program)
+    def compiled(self, words, language, source):
+        """A program, in a folder of its own: so its header is the one in dist/."""
+        folder = Path(tempfile.mkdtemp(dir=self.scratch))
+        own, program = shutil.copy(source, folder), folder / "program"
+        as_written = ["-x", language, own, "-x", "none"]
+        run(*words, "-O1", "-I", DIST, *as_written, self.object, "-o", program)
         return program
 
     def same(self, _):
-        return run(self.compiled("same", self.cc, [TOP / "checks/same.c"]), 1000)
+        return run(self.compiled(self.cc, "c", TOP / "checks/same.c"), 1000)
 
     def c(self, asked):
-        return run(self.compiled("answers_c", self.cc, [BINDINGS / "c/answers.c"]), text=asked)
+        return run(self.compiled(self.cc, "c", BINDINGS / "c/answers.c"), text=asked)
 
     def cpp(self, asked):
-        source = ["-x", "c++", BINDINGS / "c/answers.c", "-x", "none"]
         words = compiler("CXX", "c++", "g++", "clang++")
-        return run(self.compiled("answers_cpp", words, source), text=asked)
+        return run(self.compiled(words, "c++", BINDINGS / "c/answers.c"), text=asked)
 
     def python(self, asked):
         run(*self.cc, "-shared", self.object, "-o", self.scratch / f"libchinese_number.{SHARED}")
