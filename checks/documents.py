@@ -3,10 +3,7 @@
 
 Usage: documents.py NUMERAL CHEQUE
 
-- Each row of a table in README.md and docs/ whose second cell is an answer of `numeral` is asked:
-  where the first cell is no line of the program, it is a text that is read as an `i64` by
-  `ten_thousand`.
-- What docs/RULES.md shows of amounts and dates, first cell and answer, is asked of `cheque`.
+- The rows of `numeral` and of `cheque` in the tables of README.md and docs/ are asked.
 - The characters that it lists for them are those of the definitions, each read as what it says.
 - The example in the comment of each of the 96 calls by name is asked, with its type and method.
 - Each block of Rust in README.md stands, line by line, in a source of `examples` or `first`.
@@ -21,9 +18,9 @@ import subprocess
 import sys
 from pathlib import Path
 
+import worked_rows
+
 TOP = Path(__file__).resolve().parent.parent
-ROW = re.compile(r"^\| `([^`]*)` \| `((?:ok|err) [^`]*|bad line)` \|", re.MULTILINE)
-ROW_OF_CHEQUE = re.compile(r"^\| `([^`]+)` \| `([^`]+)` \|", re.MULTILINE)
 ROW_OF_CHARACTERS = re.compile(r"^\| ([^|]*) \| ([^|]*)\| ([^|]*)\|$", re.MULTILINE)
 DEFINED = re.compile(r'\(codes "(\w+)", (\w+(?: \d)?)\)')
 # What the list of characters calls the capitals of the definitions. Ling is the 0 of amounts.
@@ -46,14 +43,6 @@ def text_of(path):
     return path.read_text(encoding="utf-8")
 
 
-def rows():
-    """The questions and answers of the documents."""
-    for document in [TOP / "README.md", *sorted(TOP.glob("docs/*.md"))]:
-        for first, answer in ROW.findall(text_of(document)):
-            is_line = answer == "bad line" or re.match(r"(?:read|print) \w+ \w+ ", first)
-            yield document.name, first if is_line else f"read i64 ten_thousand {first}", answer
-
-
 def chapter(heading):
     """What stands in RULES under a heading, up to the next one."""
     found = re.search(rf"^## {heading}\n(.*?)^## ", text_of(TOP / "docs/RULES.md"), re.M | re.S)
@@ -64,7 +53,7 @@ def chapter(heading):
 
 def compare_cheque(cheque):
     """Each row on amounts and dates is what `cheque` answers; how many rows there are."""
-    found = ROW_OF_CHEQUE.findall(chapter("Amounts of money") + chapter("Dates on bills"))
+    found = list(worked_rows.of_cheque())
     for word, wanted in found:
         told = subprocess.run([cheque, word], capture_output=True, encoding="utf-8")
         got = (told.stdout + told.stderr).removesuffix("\n")
@@ -117,7 +106,7 @@ def compare_toolchain():
 
 def compare_numeral(numeral):
     """Each row and each example is what `numeral` answers; how many there are of either."""
-    in_documents, in_comments = list(rows()), list(examples())
+    in_documents, in_comments = list(worked_rows.of_numeral()), list(examples())
     if len({name for name, _, _ in in_comments}) != 96:
         sys.exit(f"documents: {len(in_comments)} examples of the 96 calls by name")
     asked = in_documents + in_comments
