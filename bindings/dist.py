@@ -38,6 +38,7 @@ COPIES = {
     "bindings/python/source/chinese_number.c": "dist/chinese_number.c",
     "bindings/python/source/chinese_number.h": "bindings/c/chinese_number.h",
     "bindings/rust/source/chinese_number.c": "dist/chinese_number.c",
+    "bindings/rust/source/chinese_number.h": "bindings/c/chinese_number.h",
     "bindings/web/files/chinese-number.32.wasm": "dist/chinese-number.32.wasm",
     "bindings/web/files/chinese-number.64.wasm": "dist/chinese-number.64.wasm",
 }
@@ -57,8 +58,8 @@ def stop(why):
 
 def said(*words):
     """What a command prints, where it ends well."""
-    words = [str(word) for word in words]
-    ended = subprocess.run(words, stdout=subprocess.PIPE, encoding="utf-8")
+    words, how = [str(word) for word in words], {"stderr": subprocess.STDOUT, "encoding": "utf-8"}
+    ended = subprocess.run(words, stdout=subprocess.PIPE, **how)
     if ended.returncode:
         stop(f"{' '.join(words)}: status {ended.returncode}\n{ended.stdout[-2000:]}")
     return ended.stdout

@@ -4,9 +4,9 @@ tells each.
 
 Usage: wrong_dist.py [ARCHIVE]
 
-Without ARCHIVE it tries what `dist.py check` tells. With the folder ARCHIVE, as archive.sh fills it
-over the proofs that stand here, it also tries `dist.py again`, with tools that call themselves by
-other versions: this is no part of check.sh, and is run when dist.py changes.
+It tries what `dist.py check` tells. With the folder ARCHIVE, as archive.sh fills it, it also tries
+`dist.py again`, by the tools that PROVENANCE.json names and by ones that say another version: that
+is no part of check.sh, and is run when dist.py changes.
 """
 import importlib
 import json
@@ -63,33 +63,20 @@ CHECKED = (
     ("line ends of a source", "crates/cn_core/src/case.rt", with_carriage_returns, None),
     ("line ends of an original", "bindings/c/chinese_number.h", with_carriage_returns, None),
 )
-# What is changed: a tool, by what sed does to its version, and the C source, with its sums made right.
-# Then whether again ends well, and what it tells.
-WASM_OPT = ("wasm-opt", "s/[0-9]*$/0/")
+# What is changed: a tool, by what sed does to its version, and the C source, with its sums made
+# right. Then whether again ends well, and what it tells.
+WASM_OPT, ALIKE = ("wasm-opt", "s/[0-9]*$/0/"), "; the archive and the C source show"
+COMMENT = replaced(b"/* Chinese numerals", b"/* Some numerals")
 WRONG_ANSWER = replaced(b"amount_print(&m, fen, script", b"amount_print(&m, fen ^ 1, script")
 AGAIN = (
     ("nothing", None, None, True, "made again, each byte is the same"),
-    (
-        "a comment",
-        None,
-        replaced(b"/* Chinese", b"/* Some"),
-        False,
-        f"in {C_SOURCE}, bindings/",
-    ),
-    ("wasm-opt", WASM_OPT, None, True, "wasm-opt version 0; the archive and the C source show"),
-    ("wasm2c", ("wasm2c", "s/.*/1.0.0/"), None, True, "wasm2c 1.0.0; the archive and the C source"),
-    (
-        "the toolchain",
-        ("rt", "s/^[^ ]*/another/"),
-        None,
-        True,
-        "; the archive and the C source show",
-    ),
-    ("the logic", ("rt", "s/[^ ]*$/0/"), None, False, "made by rattle-kit"),
+    ("a comment", None, COMMENT, False, f"made again, there are other bytes in {C_SOURCE}"),
+    ("wasm-opt", WASM_OPT, None, True, ALIKE),
+    ("wasm2c", ("wasm2c", "s/.*/1.0.0/"), None, True, ALIKE),
+    ("the toolchain", ("rt", "s/^[^ ]*/another/"), None, True, ALIKE),
+    ("the logic", ("rt", "s/[^ ]*$/0/"), None, False, "it was made by "),
     ("an answer, and wasm-opt", WASM_OPT, WRONG_ANSWER, False, f"{C_SOURCE} shows"),
 )
-
-
 # A tool that says its version otherwise, and is else as it was.
 OTHERWISE = """\
 #!/bin/sh
