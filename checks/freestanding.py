@@ -127,9 +127,9 @@ def try_target(project, target):
     missing = [it for it in tools if not shutil.which(it, path=ENVIRONMENT["PATH"])]
     found = library(target)
     if not found:
-        missing.append("rustc's core and alloc for it, or their source")
+        missing.append("rustc's core and alloc or their source")
     if missing:
-        return f"{target} LEFT OUT, since there is no {', no '.join(missing)}"
+        return f"{target} LEFT OUT for want of {', '.join(missing)}"
     built = build(project, target, *found)
     run(*runner, built / program, cwd=project, wanted=ANSWERS)
     version = " ".join(asked(found[0], "--version").split()[:2])
