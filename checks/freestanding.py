@@ -18,7 +18,7 @@ from concurrent.futures import ThreadPoolExecutor
 from functools import partial
 from pathlib import Path
 
-from installing import ENVIRONMENT, LEFT_OUT, TRIED, fail, run, write
+from installing import ENVIRONMENT, fail, run, write
 
 CHECKS = Path(__file__).resolve().parent
 CRATE = CHECKS.parent / "bindings/rust"
@@ -96,7 +96,10 @@ def library(target):
             return rustc, []
         source = Path(asked(rustc, "--print", "sysroot"), "lib/rustlib/src/rust/library")
         if (source / "compiler-builtins").is_dir() and (source / "vendor").is_dir():
-            crates = f"source.own.directory='{source}/vendor'", "source.crates-io.replace-with='own'"
+            crates = (
+                f"source.own.directory='{source}/vendor'",
+                "source.crates-io.replace-with='own'",
+            )
             return rustc, ["-Zbuild-std=core,alloc", *(f"--config={it}" for it in crates)]
     return None
 
@@ -118,35 +121,38 @@ def build(project, target, rustc, words):
 
 
 def try_target(project, target):
+    """Builds and runs the program for a target; says by what, or what is missing."""
     linker, runner, program = TARGETS[target]
     tools = ("cargo", "clang", linker[0], runner[0])
-    lacking = [it for it in tools if not shutil.which(it, path=ENVIRONMENT["PATH"])]
+    missing = [it for it in tools if not shutil.which(it, path=ENVIRONMENT["PATH"])]
     found = library(target)
     if not found:
-        lacking.append("its core and alloc")
-    if lacking:
-        LEFT_OUT.append(f"{target}, for want of {', '.join(lacking)}")
-        return
+        missing.append("rustc's core and alloc or their source")
+    if missing:
+        return f"{target} LEFT OUT for want of {', '.join(missing)}"
     built = build(project, target, *found)
     run(*runner, built / program, cwd=project, wanted=ANSWERS)
-    TRIED.append(f"{target} by {asked(found[0], '--version').partition(' (')[0]} in {runner[0]}")
+    version = " ".join(asked(found[0], "--version").split()[:2])
+    return f"{target} by {version} in {runner[0]}"
 
 
 def main():
-    if len(sys.argv) > 2 or any(it.startswith("-") for it in sys.argv[1:]):
+    if len(sys.argv) > 2 or sys.argv[-1].startswith("-"):
         sys.exit(__doc__)
+    source = Path(sys.argv[1]) if len(sys.argv) == 2 else CRATE / "source"
+    if not (source / "chinese_number.c").is_file():
+        fail(f"{source} has no chinese_number.c")
     with tempfile.TemporaryDirectory() as scratch:
         project = Path(scratch)
-        shutil.copytree(CRATE, project / "crate", ignore=shutil.ignore_patterns("target", "lib"))
-        for folder in sys.argv[1:]:
-            shutil.copytree(folder, project / "crate/source", dirs_exist_ok=True)
+        ignored = shutil.ignore_patterns("target", "lib", "source")
+        shutil.copytree(CRATE, project / "crate", ignore=ignored)
+        shutil.copytree(source, project / "crate/source")
         shutil.copy(CHECKS / "freestanding.rs", project)
         write(project / "Cargo.toml", MANIFEST)
         write(project / "layout.ld", LAYOUT)
         with ThreadPoolExecutor() as pool:
-            list(pool.map(partial(try_target, project), TARGETS))
-    left = "; ".join(LEFT_OUT) or "nothing"
-    print(f"freestanding: {'; '.join(TRIED) or 'NOTHING'}; left out: {left}")
+            said = list(pool.map(partial(try_target, project), TARGETS))
+    print(f"freestanding: {'; '.join(said)}")
 
 
 main()

@@ -1,5 +1,5 @@
-//! What the Rust crate answers where there is no operating system, as a text that ends in a zero byte.
-//! `freestanding.py` builds it: node asks the module for the text, a Cortex-M4 shows it to qemu.
+//! What the Rust crate answers where there is no operating system, as a text with a zero byte at its
+//! end. `freestanding.py` builds it: node asks the module for the text, a Cortex-M4 hands it to qemu.
 
 #![no_std]
 #![no_main]
@@ -25,7 +25,9 @@ const METHOD: ChineseCountMethod = ChineseCountMethod::TenThousand;
 fn number() -> String {
     // Both of its words have bits, and other ones.
     let number = -170141183460469231731687303715884105727i128;
-    let text = number.to_chinese(ChineseVariant::Traditional, ChineseCase::Lower, METHOD).unwrap();
+    let text = number
+        .to_chinese(ChineseVariant::Traditional, ChineseCase::Lower, METHOD)
+        .unwrap();
     let read = from_chinese_to_i128_ten_thousand(&text).unwrap();
     format!("{text}\n{read}\n")
 }
@@ -37,7 +39,11 @@ fn amount() -> String {
 }
 
 fn date() -> String {
-    let date = BillDate { year: 2026, month: 10, day: 20 };
+    let date = BillDate {
+        year: 2026,
+        month: 10,
+        day: 20,
+    };
     let text = date_to_chinese(ChineseVariant::Simple, date).unwrap();
     let BillDate { year, month, day } = chinese_to_date(&text).unwrap();
     format!("{text}\n{year}-{month}-{day}\n")
@@ -46,7 +52,10 @@ fn date() -> String {
 fn found() -> String {
     let chapter = find_numbers("第二十三回", Wanted::EVERYDAY).next().unwrap();
     let number: u16 = chapter.number(METHOD).unwrap();
-    format!("{} {} {} {number}\n", chapter.before, chapter.text, chapter.after)
+    format!(
+        "{} {} {} {number}\n",
+        chapter.before, chapter.text, chapter.after
+    )
 }
 
 fn refusals() -> String {
@@ -70,7 +79,7 @@ static GIVEN: AtomicUsize = AtomicUsize::new(0);
 #[global_allocator]
 static MEMORY: Memory = Memory;
 
-// SAFETY: each request has bytes of its own, in a room that is aligned as any of this program's types.
+// SAFETY: each request has bytes of its own, in a room that is aligned for all types of this program.
 unsafe impl GlobalAlloc for Memory {
     unsafe fn alloc(&self, layout: Layout) -> *mut u8 {
         let from = GIVEN.load(Relaxed).next_multiple_of(layout.align());

@@ -1,5 +1,5 @@
-"""What the checks of the packages share: commands that run as a user's do, without `rt` and this
-repository's environment; the READMEs of the packages; and what was tried and left out."""
+"""What checks share that do as a user does: commands without `rt` and without this repository's
+environment; the READMEs of the packages; and what was tried and left out."""
 import json
 import os
 import platform
@@ -16,7 +16,7 @@ NATIVE = platform.machine()
 
 
 def fail(why):
-    sys.exit(f"packages: {why}")
+    sys.exit(f"{Path(sys.argv[0]).stem}: {why}")
 
 
 def outside():

@@ -23,6 +23,7 @@ SANITIZED = ("-fno-sanitize-recover=all", *THREADS)
 BUILDS = (
     (("x86_64-w64-mingw32-gcc", "-O2", "-static"), ("wine", "wine64", "/usr/lib/wine/wine64")),
     (("gcc", "-O2", *THREADS), ()),
+    (("gcc", "-O2", "-ffreestanding", *THREADS), ()),
     (("clang", "-O2", *THREADS), ()),
     # Each by the level by which it is compiled and run in the least time.
     (("clang", "-O0", "-fsanitize=address,undefined", *SANITIZED), ()),
