@@ -1,3 +1,4 @@
 mod Amounts
 mod Digits
+mod Replies
 mod Shown

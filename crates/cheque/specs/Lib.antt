@@ -1,4 +1,3 @@
 pub mod DateFigures
 pub mod Figures
-pub mod Writes
-pub mod WritesDate
+pub mod Reply

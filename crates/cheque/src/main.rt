@@ -18,107 +18,28 @@
 //! failed, and 2 where memory ran out or the words of the command line ask for nothing.
 #![tactic(auto)]
 
-pub mod answer;
 pub mod dates;
 pub mod figures;
 pub mod laws;
+mod reply;
 mod request;
 
-use crate::answer::{DateError, WritingError, capitals_of, date_capitals_of};
-use crate::dates::DateFigures;
-use crate::figures::Figures;
-use crate::request::{Request, request_of};
-use chinese_number::{DateToChineseError, chinese_to_amount, chinese_to_date};
+use crate::reply::write_reply;
+use crate::request::request_of;
 use std::env;
-use std::io::{self, ErrorKind};
+use std::io::{self, ErrorKind, LineWriter};
 use std::process::ExitCode;
 
-static USAGE: &str = "\
-usage: cheque [--prefix] FIGURES | cheque CAPITALS
-Writes an amount of yuan in capitals, as 壹仟肆佰零玖元伍角整 of 1409.50, or reads capitals and writes
-the amount in figures. Figures are digits, and then nothing, or a point and one or two digits.
---prefix writes 人民币 in front of the capitals of an amount.
-Writes a date in capitals, as 贰零贰陆年零壹月壹拾伍日 of 2026-01-15, or reads capitals with 年 and writes
-the date in figures: four digits of the year, two of the month and two of the day.";
-
-fn write_capitals(rt: &HostRuntime, figures: &str, prefix: &str) -> io::Result<u8> {
-    match capitals_of(rt.alloc(), figures) {
-        Ok(capitals) => {
-            println!(rt; "{prefix}{capitals}")?;
-            Ok(0)
-        }
-        Err(WritingError::Refused(error)) => {
-            eprintln!(rt; "{error}")?;
-            Ok(1)
-        }
-        Err(WritingError::OutOfMemory) => Ok(2),
-    }
-}
-
-fn write_figures(rt: &HostRuntime, capitals: &str) -> io::Result<u8> {
-    match chinese_to_amount(capitals) {
-        Ok(fen) => {
-            println!(rt; "{}", Figures { fen })?;
-            Ok(0)
-        }
-        Err(error) => {
-            eprintln!(rt; "{error}")?;
-            Ok(1)
-        }
-    }
-}
-
-fn write_date_capitals(rt: &HostRuntime, figures: &str) -> io::Result<u8> {
-    match date_capitals_of(rt.alloc(), figures) {
-        Ok(capitals) => {
-            println!(rt; "{capitals}")?;
-            Ok(0)
-        }
-        Err(DateError::Figures(error)) => {
-            eprintln!(rt; "{error}")?;
-            Ok(1)
-        }
-        Err(DateError::Capitals(DateToChineseError::OutOfMemory)) => Ok(2),
-        Err(DateError::Capitals(error)) => {
-            eprintln!(rt; "{error}")?;
-            Ok(1)
-        }
-    }
-}
-
-fn write_date_figures(rt: &HostRuntime, capitals: &str) -> io::Result<u8> {
-    match chinese_to_date(capitals) {
-        Ok(date) => {
-            println!(rt; "{}", DateFigures { date })?;
-            Ok(0)
-        }
-        Err(error) => {
-            eprintln!(rt; "{error}")?;
-            Ok(1)
-        }
-    }
-}
-
-// Answers the words of the command line, and gives the status.
+// Replies to the words of the command line, and gives the status.
 fn serve(rt: &HostRuntime) -> io::Result<u8> {
     let mut words = Vec::new(rt.alloc());
     for word in env::args(rt)?.skip(1) {
         words.push(word)?;
     }
-    match request_of(words.as_slice()) {
-        Some(Request::Help) => {
-            println!(rt; "{USAGE}")?;
-            Ok(0)
-        }
-        Some(Request::Write { figures, prefix }) => write_capitals(rt, figures, prefix),
-        Some(Request::Read { capitals }) => write_figures(rt, capitals),
-        Some(Request::WriteDate { figures }) => write_date_capitals(rt, figures),
-        Some(Request::ReadDate { capitals }) => write_date_figures(rt, capitals),
-        None => {
-            eprintln!(rt; "{USAGE}")?;
-            Ok(2)
-        }
-    }
+    let request = request_of(words.as_slice());
+    let mut output = LineWriter::new(rt.alloc(), rt.stdout())?;
+    let mut errors = LineWriter::new(rt.alloc(), rt.stderr())?;
+    write_reply(rt.alloc(), &mut output, &mut errors, request)
 }
 
 fn main(rt: HostRuntime) -> ExitCode {

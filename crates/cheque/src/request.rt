@@ -3,22 +3,13 @@
 pub enum Request<'a> {
     Help,
     /// The capitals of these figures, with 人民币 in front or not.
-    Write {
-        figures: &'a str,
-        prefix: &'static str,
-    },
+    Write { figures: &'a str, prefixed: bool },
     /// The figures of these capitals.
-    Read {
-        capitals: &'a str,
-    },
+    Read { capitals: &'a str },
     /// The capitals of a date in these figures.
-    WriteDate {
-        figures: &'a str,
-    },
+    WriteDate { figures: &'a str },
     /// The figures of a date in these capitals.
-    ReadDate {
-        capitals: &'a str,
-    },
+    ReadDate { capitals: &'a str },
 }
 
 // Whether figures are meant: whatever begins with ASCII is refused as figures.
@@ -38,7 +29,7 @@ fn request_of_word(word: &str) -> Request<'_> {
     } else if is_figures(word) {
         Request::Write {
             figures: word,
-            prefix: "",
+            prefixed: false,
         }
     } else if word.contains('年') {
         Request::ReadDate { capitals: word }
@@ -52,7 +43,7 @@ fn request_with_prefix(word: &str) -> Option<Request<'_>> {
     if is_figures(word) && !is_date_figures(word) {
         Some(Request::Write {
             figures: word,
-            prefix: "人民币",
+            prefixed: true,
         })
     } else {
         None

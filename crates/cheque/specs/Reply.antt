@@ -1,0 +1,110 @@
+-- What is replied to a request.
+use Rattle.std.specs.Prelude.{◌≡◌, ◌⊎◌, ◌++◌, ℕ, Bool, List, [], ◌∷◌, Option, Some, None, Result, Ok, Err, codes, encode_utf8_all, if◌then◌else◌}
+use Rattle.std.specs.Io.KnownBytes.{Appends}
+use Rattle.chinese_number.specs.AmountAnswer as AmountAnswer
+use Rattle.chinese_number.specs.AmountErrorText as AmountErrorText
+use Rattle.chinese_number.specs.AmountReading.{ReadsAmount}
+use Rattle.chinese_number.specs.AmountWrites.{amount_text}
+use Rattle.chinese_number.specs.DateAnswer as DateAnswer
+use Rattle.chinese_number.specs.DateCalendar.{IsDate}
+use Rattle.chinese_number.specs.DateErrorText as DateErrorText
+use Rattle.chinese_number.specs.DateReading.{ReadsDate}
+use Rattle.chinese_number.specs.DateWrites.{date_text}
+use Rattle.chinese_number.specs.declared.BillDate.{BillDate}
+use Rattle.chinese_number.specs.declared.ChineseToAmountError.{ChineseToAmountError}
+use Rattle.chinese_number.specs.declared.ChineseToDateError.{ChineseToDateError}
+use Rattle.chinese_number.specs.declared.ChineseVariant.TheVariants.{Simple}
+use Rattle.chinese_number.specs.declared.DateToChineseError.TheVariants.{NotADate}
+use Rattle.cheque.specs.declared.dates.DateFiguresError.{DateFiguresError}
+use Rattle.cheque.specs.declared.figures.FiguresError.{FiguresError}
+use Rattle.cheque.specs.declared.reply.TheConstants.{USAGE}
+use Rattle.cheque.specs.declared.request.Request.{Request}
+use Rattle.cheque.specs.declared.request.Request.TheVariants.{Help, Write, Read, WriteDate, ReadDate}
+use Rattle.cheque.specs.DateFigures as DateFigures
+use Rattle.cheque.specs.Figures as Figures
+
+-- what is written to the output and to the errors, and the status
+pub record Reply : Type 0 where
+  pub output : List ℕ
+  pub errors : List ℕ
+  pub status : ℕ
+
+-- a text and a line feed
+abbrev pub line : List ℕ → List ℕ
+line text = text ++ 10 ∷ []
+
+-- the request is answered
+abbrev pub answered : List ℕ → Reply
+answered text = record { output = line text; errors = []; status = 0 }
+
+-- it is refused
+abbrev pub refused : List ℕ → Reply
+refused text = record { output = []; errors = line text; status = 1 }
+
+-- there was no memory for the answer
+abbrev pub out_of_memory : Reply
+out_of_memory = record { output = []; errors = []; status = 2 }
+
+-- the words ask for nothing
+abbrev pub not_asked : Reply
+not_asked = record { output = []; errors = line USAGE.now; status = 2 }
+
+-- the request is answered, or there was no memory for it
+abbrev pub AnswersInMemory : List ℕ → Reply → Type 0
+AnswersInMemory text reply = (reply ≡ answered text) ⊎ (reply ≡ out_of_memory)
+
+-- what stands in front of capitals
+abbrev pub prefix_text : Bool → List ℕ
+prefix_text prefixed = if prefixed then encode_utf8_all (codes "人民币") else []
+
+-- the capitals of an amount, by what its figures are
+abbrev pub RepliesCapitals : Bool → Result ℕ FiguresError → Reply → Type 0
+RepliesCapitals prefixed (Ok fen) reply =
+    AnswersInMemory (prefix_text prefixed ++ encode_utf8_all (amount_text Simple fen)) reply
+RepliesCapitals prefixed (Err error) reply = reply ≡ refused (Figures.refusal_text error)
+
+-- the figures of an amount, by what its capitals are
+abbrev pub figures_reply : Result ℕ ChineseToAmountError → Reply
+figures_reply (Ok fen) = answered (Figures.figures_of fen)
+figures_reply (Err error) = refused (AmountErrorText.reading_error_text error)
+
+abbrev pub RepliesFigures : List ℕ → Reply → Type 0
+RepliesFigures capitals reply =
+    (result : Result ℕ ChineseToAmountError)
+    × ReadsAmount capitals (AmountAnswer.answer_of result) × (reply ≡ figures_reply result)
+
+-- the capitals of a date, by what its figures are
+abbrev pub RepliesDateCapitals : Result BillDate DateFiguresError → Reply → Type 0
+RepliesDateCapitals (Ok date) reply =
+    (IsDate date × AnswersInMemory (encode_utf8_all (date_text Simple date)) reply)
+    ⊎ (¬ IsDate date × (reply ≡ refused (DateErrorText.writing_error_text NotADate)))
+RepliesDateCapitals (Err error) reply = reply ≡ refused (DateFigures.refusal_text error)
+
+-- the figures of a date, by what its capitals are
+abbrev pub date_figures_reply : Result BillDate ChineseToDateError → Reply
+date_figures_reply (Ok date) = answered (DateFigures.figures_of date)
+date_figures_reply (Err error) = refused (DateErrorText.reading_error_text error)
+
+abbrev pub RepliesDateFigures : List ℕ → Reply → Type 0
+RepliesDateFigures capitals reply =
+    (result : Result BillDate ChineseToDateError)
+    × ReadsDate capitals (DateAnswer.answer_of result) × (reply ≡ date_figures_reply result)
+
+-- the reply to a request, or to words that are none
+abbrev pub Replies : Option Request → Reply → Type 0
+Replies (Some Help) reply = reply ≡ answered USAGE.now
+Replies (Some (Write figures prefixed)) reply =
+    RepliesCapitals prefixed (Figures.fen_of figures.now) reply
+Replies (Some (Read capitals)) reply = RepliesFigures capitals.now reply
+Replies (Some (WriteDate figures)) reply =
+    RepliesDateCapitals (DateFigures.date_of figures.now) reply
+Replies (Some (ReadDate capitals)) reply = RepliesDateFigures capitals.now reply
+Replies None reply = reply ≡ not_asked
+
+-- such a reply is given: the status is its own, and its parts are what the output and the errors,
+-- which are given by their bytes before and after, grew by
+abbrev pub Gives : (Reply → Type 0) → ℕ → Option (List ℕ) → Option (List ℕ) → Option (List ℕ)
+    → Option (List ℕ) → Type 0
+Gives IsRight status output new_output errors new_errors =
+    (reply : Reply) × IsRight reply × (status ≡ reply.status)
+    × Appends output new_output reply.output × Appends errors new_errors reply.errors

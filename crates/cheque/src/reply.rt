@@ -1,0 +1,156 @@
+//! What is replied to a request.
+ghost use Rattle.std.specs.Prelude.{◌≡◌, IfOk, IfSome};
+ghost use Rattle.std.specs.Io.KnownBytes.{Appends};
+ghost use Rattle.cheque.specs.DateFigures.{date_of};
+ghost use Rattle.cheque.specs.Figures.{fen_of};
+ghost use Rattle.cheque.specs.Reply.{Gives, Replies, line, RepliesCapitals, RepliesDateCapitals, RepliesFigures, RepliesDateFigures, prefix_text};
+
+use crate::dates::{DateFigures, date_of};
+use crate::figures::{Figures, yuan_to_fen};
+use crate::request::Request;
+use chinese_number::{
+    AmountToChineseError, ChineseVariant, DateToChineseError, amount_to_chinese, chinese_to_amount,
+    chinese_to_date, date_to_chinese,
+};
+use std::alloc::Global;
+use std::fmt::Display;
+use std::io::{self, Write};
+
+static USAGE: &str = "\
+usage: cheque [--prefix] FIGURES | cheque CAPITALS
+Writes an amount of yuan in capitals, as 壹仟肆佰零玖元伍角整 of 1409.50, or reads capitals and writes
+the amount in figures. Figures are digits, and then nothing, or a point and one or two digits.
+--prefix writes 人民币 in front of the capitals of an amount.
+Writes a date in capitals, as 贰零贰陆年零壹月壹拾伍日 of 2026-01-15, or reads capitals with 年 and writes
+the date in figures: four digits of the year, two of the month and two of the day.";
+
+// Writes an answer, and gives the status.
+fn show<W: Write, D: Display + Drop>(output: &mut W, answer: D) -> io::Result<u8>
+    ensures { IfOk result (λ status. (status ≡ 0) × IfSome (D.output answer) (λ text.
+        Appends (W.contents output.old) (W.contents output.new) (line text))) }
+{
+    writeln!(output, "{answer}")?;
+    Ok(0)
+}
+
+// Writes why there is none, and gives the status.
+fn refuse<E: Write, D: Display + Drop>(errors: &mut E, error: D) -> io::Result<u8>
+    ensures { IfOk result (λ status. (status ≡ 1) × IfSome (D.output error) (λ text.
+        Appends (E.contents errors.old) (E.contents errors.new) (line text))) }
+{
+    writeln!(errors, "{error}")?;
+    Ok(1)
+}
+
+// What stands in front of capitals.
+fn prefix_text(prefixed: bool) -> &'static str
+    ensures { result.now ≡ prefix_text prefixed }
+{
+    if prefixed { "人民币" } else { "" }
+}
+
+// The capitals of an amount in figures, with 人民币 in front or not.
+fn write_capitals<W: Write, E: Write>(
+    alloc: Global,
+    output: &mut W,
+    errors: &mut E,
+    figures: &str,
+    prefixed: bool,
+) -> io::Result<u8>
+    ensures { IfOk result (λ status. Gives (RepliesCapitals prefixed (fen_of figures.now))
+        status (W.contents output.old) (W.contents output.new)
+        (E.contents errors.old) (E.contents errors.new)) }
+{
+    let fen = match yuan_to_fen(figures) {
+        Ok(fen) => fen,
+        Err(error) => return refuse(errors, error),
+    };
+    let prefix = prefix_text(prefixed);
+    match amount_to_chinese(alloc, ChineseVariant::Simple, fen) {
+        Ok(capitals) => show(output, format_args!("{prefix}{capitals}")),
+        Err(AmountToChineseError::OutOfMemory) => Ok(2),
+        Err(error) => refuse(errors, error),
+    }
+}
+
+// The figures of an amount in capitals.
+fn write_figures<W: Write, E: Write>(
+    output: &mut W,
+    errors: &mut E,
+    capitals: &str,
+) -> io::Result<u8>
+    ensures { IfOk result (λ status. Gives (RepliesFigures capitals.now)
+        status (W.contents output.old) (W.contents output.new)
+        (E.contents errors.old) (E.contents errors.new)) }
+{
+    match chinese_to_amount(capitals) {
+        Ok(fen) => show(output, Figures { fen }),
+        Err(error) => refuse(errors, error),
+    }
+}
+
+// The capitals of a date in figures.
+fn write_date_capitals<W: Write, E: Write>(
+    alloc: Global,
+    output: &mut W,
+    errors: &mut E,
+    figures: &str,
+) -> io::Result<u8>
+    ensures { IfOk result (λ status. Gives (RepliesDateCapitals (date_of figures.now))
+        status (W.contents output.old) (W.contents output.new)
+        (E.contents errors.old) (E.contents errors.new)) }
+{
+    let date = match date_of(figures) {
+        Ok(date) => date,
+        Err(error) => return refuse(errors, error),
+    };
+    match date_to_chinese(alloc, ChineseVariant::Simple, date) {
+        Ok(capitals) => show(output, capitals),
+        Err(DateToChineseError::OutOfMemory) => Ok(2),
+        Err(error) => refuse(errors, error),
+    }
+}
+
+// The figures of a date in capitals.
+fn write_date_figures<W: Write, E: Write>(
+    output: &mut W,
+    errors: &mut E,
+    capitals: &str,
+) -> io::Result<u8>
+    ensures { IfOk result (λ status. Gives (RepliesDateFigures capitals.now)
+        status (W.contents output.old) (W.contents output.new)
+        (E.contents errors.old) (E.contents errors.new)) }
+{
+    match chinese_to_date(capitals) {
+        Ok(date) => show(output, DateFigures { date }),
+        Err(error) => refuse(errors, error),
+    }
+}
+
+/// Writes the reply to a request, or to words that are none, and gives the status.
+pub fn write_reply<W: Write, E: Write>(
+    alloc: Global,
+    output: &mut W,
+    errors: &mut E,
+    request: Option<Request<'_>>,
+) -> io::Result<u8>
+    ensures { IfOk result (λ status. Gives (Replies request.entry)
+        status (W.contents output.old) (W.contents output.new)
+        (E.contents errors.old) (E.contents errors.new)) }
+{
+    match request {
+        Some(Request::Help) => show(output, USAGE),
+        Some(Request::Write { figures, prefixed }) => {
+            write_capitals(alloc, output, errors, figures, prefixed)
+        }
+        Some(Request::Read { capitals }) => write_figures(output, errors, capitals),
+        Some(Request::WriteDate { figures }) => {
+            write_date_capitals(alloc, output, errors, figures)
+        }
+        Some(Request::ReadDate { capitals }) => write_date_figures(output, errors, capitals),
+        None => {
+            writeln!(errors, "{USAGE}")?;
+            Ok(2)
+        }
+    }
+}
