@@ -40,6 +40,12 @@ time python3 checks/quotes.py bindings
 time python3 checks/build_script.py bindings/rust/build.rs
 time python3 checks/mark_table.py crates/cn_core/src/characters_read.rt --check crates/cn_judge/src/mark.rt
 
+# What a clone has, by itself and with no `rt` on the path.
+mkdir "$scratch/clone"
+tar -c README.md bindings checks dist docs test.py | tar -x -C "$scratch/clone"
+without_rt=$(tr : '\n' <<< "$PATH" | grep -vxF "$(dirname "$(command -v rt)")" | paste -sd :)
+time PATH=$without_rt python3 "$scratch/clone/test.py"
+
 if [ $# -gt 0 ]; then
     mkdir "$scratch/copy"
     tar -c --exclude=./.git --exclude=must-fail --exclude=wrong-bodies --exclude=out . \

@@ -3,9 +3,7 @@
 
 Usage: documents.py NUMERAL
 
-- Each row of a table in README.md and docs/ whose second cell is an answer of the program is asked:
-  where the first cell is no line of the program, it is a text that is read as an `i64` by
-  `ten_thousand`.
+- The lines in the tables of README.md and docs/ are asked.
 - The example in the comment of each of the 96 calls by name is asked, with its type and method.
 - Each block of Rust in README.md stands, line by line, in a source of `examples` or `first`.
 - Each folder of `crates/` and `bindings/` has a row in docs/DESIGN.md.
@@ -18,8 +16,9 @@ import subprocess
 import sys
 from pathlib import Path
 
+import worked_rows
+
 TOP = Path(__file__).resolve().parent.parent
-ROW = re.compile(r"^\| `([^`]*)` \| `((?:ok|err) [^`]*|bad line)` \|", re.MULTILINE)
 CALL = re.compile(r"((?:^///.*\n)+)pub fn (from_\w+)", re.MULTILINE)
 READ = re.compile(r"^/// Reads .*: `(\S+)` is (-?[\d_]+)\.$", re.MULTILINE)
 PRINTED = re.compile(r"^/// Writes .*: (-?[\d_]+) is `(\S+)` in traditional", re.MULTILINE)
@@ -28,14 +27,6 @@ NAME = re.compile(r"from_(?:chinese_to_)?([iu](?:\d+|size))(?:_to_chinese)?_?(\w
 
 def text_of(path):
     return path.read_text(encoding="utf-8")
-
-
-def rows():
-    """The questions and answers of the documents."""
-    for document in [TOP / "README.md", *sorted(TOP.glob("docs/*.md"))]:
-        for first, answer in ROW.findall(text_of(document)):
-            is_line = answer == "bad line" or re.match(r"(?:read|print) \w+ \w+ ", first)
-            yield document.name, first if is_line else f"read i64 ten_thousand {first}", answer
 
 
 def examples():
@@ -66,7 +57,7 @@ def main():
     if len(sys.argv) != 2 or sys.argv[1].startswith("-"):
         sys.exit(__doc__)
     compare_toolchain()
-    in_documents, in_comments = list(rows()), list(examples())
+    in_documents, in_comments = list(worked_rows.of_numeral()), list(examples())
     if len({name for name, _, _ in in_comments}) != 96:
         sys.exit(f"documents: {len(in_comments)} examples of the 96 calls by name")
     asked = in_documents + in_comments

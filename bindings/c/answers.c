@@ -1,0 +1,201 @@
+/* Answers the questions of test.py, which says what they are, a line each. */
+#include "chinese_number.h"
+
+#include <stdio.h>
+#include <stdlib.h>
+#include <string.h>
+
+enum { MOST_BYTES_OF_LINE = 4096, MOST_WORDS = 6 };
+
+/* The names, in the order of their codes. */
+static const char *const KINDS[] = {
+    "u8", "u16", "u32", "u64", "u128", "i8", "i16", "i32", "i64", "i128", NULL,
+};
+static const char *const WAYS[] = {"naive", "low", "ten_thousand", "middle", "high", NULL};
+static const char *const SCRIPTS[] = {"traditional", "simple", NULL};
+static const char *const CASES[] = {"upper", "lower", NULL};
+
+/* The code of a name. That of an unknown one is the first that the library refuses. */
+static uint32_t code_of(const char *const *names, const char *name) {
+    uint32_t code = 0;
+    while (names[code] != NULL && strcmp(names[code], name) != 0)
+        code++;
+    return code;
+}
+
+static cn_number negated(cn_number number) {
+    number.high = ~number.high + (number.low == 0);
+    number.low = ~number.low + 1;
+    return number;
+}
+
+/* The number of a text in decimal, in 128 bits: 32 bits are multiplied at a time. */
+static cn_number number_of(const char *text) {
+    cn_number number = {0, 0};
+    int is_negative = *text == '-';
+    for (text += is_negative; *text != '\0'; text++) {
+        uint64_t low = (number.low & UINT32_MAX) * 10 + (uint64_t)(*text - '0');
+        uint64_t middle = (number.low >> 32) * 10 + (low >> 32);
+        number.low = middle << 32 | (low & UINT32_MAX);
+        number.high = number.high * 10 + (middle >> 32);
+    }
+    return is_negative ? negated(number) : number;
+}
+
+/* Takes the last digit off a number in decimal. */
+static char take_digit(cn_number *number) {
+    uint64_t middle = (number->high % 10) << 32 | number->low >> 32;
+    uint64_t low = (middle % 10) << 32 | (number->low & UINT32_MAX);
+    number->high /= 10;
+    number->low = (middle / 10) << 32 | low / 10;
+    return (char)('0' + low % 10);
+}
+
+static void put_number(cn_number number, uint32_t kind) {
+    char digits[40];
+    size_t first = sizeof digits - 1;
+    if (kind >= CN_I8 && number.high >> 63) {
+        putchar('-');
+        number = negated(number);
+    }
+    digits[first] = '\0';
+    do
+        digits[--first] = take_digit(&number);
+    while (number.low != 0 || number.high != 0);
+    fputs(digits + first, stdout);
+}
+
+/* Puts why a text is no number, amount or date, or why there is no text. */
+static void put_refusal(const char *what, uint32_t status, size_t char_index) {
+    if (status == CN_INCORRECT)
+        printf("err the %s is incorrect (position: %lu)", what, (unsigned long)char_index);
+    else if (status == CN_UNFINISHED)
+        printf("err the %s is not finished", what);
+    else
+        printf("err %s", cn_status_text(status));
+}
+
+static void put_reading(const char *text, size_t length, uint32_t kind, uint32_t way) {
+    cn_reading reading;
+    uint32_t status = cn_read(text, length, kind, way, &reading);
+    if (status == CN_DONE) {
+        fputs("ok ", stdout);
+        put_number(reading.number, kind);
+    } else {
+        put_refusal("chinese number", status, reading.char_index);
+    }
+}
+
+static void put_printed(const char *what, uint32_t status, const char *text) {
+    if (status == CN_DONE)
+        printf("ok %s", text);
+    else
+        put_refusal(what, status, 0);
+}
+
+static void answer_read(char **words) {
+    put_reading(words[3], strlen(words[3]), code_of(KINDS, words[1]), code_of(WAYS, words[2]));
+}
+
+static void answer_print(char **words) {
+    char text[CN_MOST_BYTES + 1];
+    uint32_t kind = code_of(KINDS, words[1]), way = code_of(WAYS, words[2]);
+    uint32_t script = code_of(SCRIPTS, words[3]), letter_case = code_of(CASES, words[4]);
+    cn_number number = number_of(words[5]);
+    put_printed("chinese number",
+                cn_print(number, kind, way, script, letter_case, text, sizeof text), text);
+}
+
+static void answer_read_amount(char **words) {
+    cn_amount amount;
+    uint32_t status = cn_read_amount(words[1], strlen(words[1]), &amount);
+    if (status == CN_DONE)
+        printf("ok %llu", (unsigned long long)amount.fen);
+    else
+        put_refusal("amount", status, amount.char_index);
+}
+
+static void answer_print_amount(char **words) {
+    char text[CN_MOST_AMOUNT_BYTES + 1];
+    uint64_t fen = strtoull(words[2], NULL, 10);
+    uint32_t script = code_of(SCRIPTS, words[1]);
+    put_printed("amount", cn_print_amount(fen, script, text, sizeof text), text);
+}
+
+static void answer_read_date(char **words) {
+    cn_date date;
+    uint32_t status = cn_read_date(words[1], strlen(words[1]), &date);
+    if (status == CN_DONE)
+        printf("ok %04u-%02u-%02u", date.year, date.month, date.day);
+    else
+        put_refusal("date", status, date.char_index);
+}
+
+static void answer_print_date(char **words) {
+    char text[CN_MOST_DATE_BYTES + 1];
+    unsigned year = 0, month = 0, day = 0;
+    uint32_t script = code_of(SCRIPTS, words[1]);
+    sscanf(words[2], "%u-%u-%u", &year, &month, &day);
+    put_printed("date", cn_print_date(year, month, day, script, text, sizeof text), text);
+}
+
+/* Each search goes on behind the number before it. */
+static void answer_find(char **words) {
+    const char *rest = words[1];
+    size_t left = strlen(rest);
+    cn_span span;
+    uint32_t status = chinese_number_find((const uint8_t *)rest, left, 0, CN_ZHAO, &span);
+    fputs("ok ", stdout);
+    while (status == CN_DONE) {
+        uint32_t way = span.digits ? CN_DIGITS : CN_TEN_THOUSAND;
+        printf("%.*s[", (int)span.start, rest);
+        put_reading(rest + span.start, span.end - span.start, CN_I128, way);
+        putchar(']');
+        rest += span.end;
+        left -= span.end;
+        status = chinese_number_find_utf8((const uint8_t *)rest, left, 0, CN_ZHAO, &span);
+    }
+    fputs(rest, stdout);
+}
+
+static const struct {
+    const char *name;
+    size_t words;
+    void (*answer)(char **words);
+} CALLS[] = {
+    {"read", 4, answer_read},
+    {"print", 6, answer_print},
+    {"read_amount", 2, answer_read_amount},
+    {"print_amount", 3, answer_print_amount},
+    {"read_date", 2, answer_read_date},
+    {"print_date", 3, answer_print_date},
+    {"find", 2, answer_find},
+};
+
+/* Parts a line into its words, and says how many they are. */
+static size_t part(char *line, char **words) {
+    size_t count = 0;
+    while (line != NULL && count < MOST_WORDS) {
+        words[count++] = line;
+        line = strchr(line, '\t');
+        if (line != NULL)
+            *line++ = '\0';
+    }
+    return count;
+}
+
+static void answer(char **words, size_t count) {
+    for (size_t i = 0; i < sizeof CALLS / sizeof *CALLS; i++)
+        if (strcmp(words[0], CALLS[i].name) == 0 && count == CALLS[i].words)
+            CALLS[i].answer(words);
+    putchar('\n');
+}
+
+int main(void) {
+    char line[MOST_BYTES_OF_LINE], *words[MOST_WORDS];
+    while (fgets(line, sizeof line, stdin) != NULL) {
+        line[strcspn(line, "\n")] = '\0';
+        answer(words, part(line, words));
+    }
+    return 0;
+}

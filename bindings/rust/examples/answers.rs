@@ -1,0 +1,136 @@
+//! Answers the questions of test.py, which says what they are, a line each.
+
+use std::fmt::{Debug, Display};
+use std::io;
+use std::str::FromStr;
+
+use chinese_number::{
+    amount_to_chinese, chinese_to_amount, chinese_to_date, date_to_chinese, find_numbers, BillDate,
+    ChineseCase, ChineseCountMethod, ChineseToNumber, ChineseVariant, NumberToChinese, Wanted,
+};
+
+fn told<T: Display, E: Display>(answer: Result<T, E>) -> String {
+    match answer {
+        Ok(value) => format!("ok {value}"),
+        Err(error) => format!("err {error}"),
+    }
+}
+
+/// The method of a name, and none for plain digits.
+fn method(way: &str) -> Option<ChineseCountMethod> {
+    match way {
+        "naive" => None,
+        "low" => Some(ChineseCountMethod::Low),
+        "ten_thousand" => Some(ChineseCountMethod::TenThousand),
+        "middle" => Some(ChineseCountMethod::Middle),
+        "high" => Some(ChineseCountMethod::High),
+        _ => panic!("no way is named {way}"),
+    }
+}
+
+fn variant(script: &str) -> ChineseVariant {
+    match script {
+        "traditional" => ChineseVariant::Traditional,
+        "simple" => ChineseVariant::Simple,
+        _ => panic!("no script is named {script}"),
+    }
+}
+
+fn case(name: &str) -> ChineseCase {
+    match name {
+        "upper" => ChineseCase::Upper,
+        "lower" => ChineseCase::Lower,
+        _ => panic!("no case is named {name}"),
+    }
+}
+
+fn number<T: FromStr<Err: Debug>>(decimal: &str) -> T {
+    decimal.parse().expect("a number of the type")
+}
+
+fn read<T: Display>(way: &str, text: &str) -> String
+where
+    for<'a> &'a str: ChineseToNumber<T>,
+{
+    told(match method(way) {
+        Some(method) => text.to_number(method),
+        None => text.to_number_naive(),
+    })
+}
+
+fn print<T>(way: &str, script: &str, letter_case: &str, decimal: &str) -> String
+where
+    T: NumberToChinese + FromStr<Err: Debug>,
+{
+    let (variant, case) = (variant(script), case(letter_case));
+    let value: T = number(decimal);
+    told(match method(way) {
+        Some(method) => value.to_chinese(variant, case, method),
+        None => Ok(value.to_chinese_naive(variant, case)),
+    })
+}
+
+fn read_date(text: &str) -> String {
+    let figures = |date: BillDate| format!("{:04}-{:02}-{:02}", date.year, date.month, date.day);
+    told(chinese_to_date(text).map(figures))
+}
+
+fn print_date(script: &str, date: &str) -> String {
+    let parts: Vec<u16> = date.split('-').map(number).collect();
+    let date = BillDate {
+        year: parts[0],
+        month: parts[1] as u8,
+        day: parts[2] as u8,
+    };
+    told(date_to_chinese(variant(script), date))
+}
+
+fn find(text: &str) -> String {
+    let (mut done, mut at) = (String::from("ok "), 0);
+    for found in find_numbers(text, Wanted::EVERYDAY) {
+        let answer = told(found.number::<i128>(ChineseCountMethod::TenThousand));
+        done += &format!("{}[{answer}]", &text[at..found.start()]);
+        at = found.end();
+    }
+    done + &text[at..]
+}
+
+macro_rules! by_kind {
+    ($kind:expr, $call:ident($($word:expr),*)) => {
+        match $kind {
+            "u8" => $call::<u8>($($word),*),
+            "u16" => $call::<u16>($($word),*),
+            "u32" => $call::<u32>($($word),*),
+            "u64" => $call::<u64>($($word),*),
+            "u128" => $call::<u128>($($word),*),
+            "i8" => $call::<i8>($($word),*),
+            "i16" => $call::<i16>($($word),*),
+            "i32" => $call::<i32>($($word),*),
+            "i64" => $call::<i64>($($word),*),
+            "i128" => $call::<i128>($($word),*),
+            kind => panic!("no kind is named {kind}"),
+        }
+    };
+}
+
+fn answer(line: &str) -> String {
+    let words: Vec<&str> = line.split('\t').collect();
+    match words[..] {
+        ["read", kind, way, text] => by_kind!(kind, read(way, text)),
+        ["print", kind, way, script, letter_case, decimal] => {
+            by_kind!(kind, print(way, script, letter_case, decimal))
+        }
+        ["read_amount", text] => told(chinese_to_amount(text)),
+        ["print_amount", script, fen] => told(amount_to_chinese(variant(script), number(fen))),
+        ["read_date", text] => read_date(text),
+        ["print_date", script, date] => print_date(script, date),
+        ["find", text] => find(text),
+        _ => panic!("no question: {line}"),
+    }
+}
+
+fn main() {
+    for line in io::stdin().lines() {
+        println!("{}", answer(&line.expect("a line in UTF-8")));
+    }
+}

@@ -1,0 +1,200 @@
+#!/usr/bin/env python3
+"""Tests the library as a clone has it, without its toolchain and without a network.
+
+Usage: python3 test.py
+
+It takes half a minute, and needs Python from 3.8 on and a C compiler; CC and CXX may name others.
+
+- The C source in dist/ is compiled. What it answers to 96,468 numbers, amounts, dates and texts has
+  to have the sum that the answers of the proved archive have, by dist/PROVENANCE.json.
+- Each language that is here is asked the worked rows in the tables of README.md and docs/. What is
+  not here is left out, and named.
+
+Each language has a program `answers` in bindings/. It is given questions, a line each, of words
+parted by tabs. An answer is `ok` and what the call gives, or `err` and the error's text:
+
+    read KIND WAY TEXT                  the number of a text; docs/RULES.md has these names
+    print KIND WAY SCRIPT CASE NUMBER   the text of a number
+    read_amount TEXT                    the fen of a text
+    print_amount SCRIPT FEN             the text of an amount
+    read_date TEXT                      the date of a text, as 2026-01-15
+    print_date SCRIPT DATE              the text of a date
+    find TEXT                           the text, with the answer in the place of each number
+"""
+import json
+import os
+import re
+import shlex
+import shutil
+import subprocess
+import sys
+import tempfile
+from concurrent.futures import ThreadPoolExecutor
+from pathlib import Path
+
+TOP = Path(__file__).resolve().parent
+BINDINGS, DIST = TOP / "bindings", TOP / "dist"
+sys.path.insert(0, str(TOP / "checks"))
+sys.dont_write_bytecode = True
+import worked_rows
+
+SHARED = {"darwin": "dylib", "win32": "dll"}.get(sys.platform, "so")
+
+
+class LeftOut(Exception):
+    """Why a language is not asked."""
+
+
+class Failed(Exception):
+    """What a command said that did not end well."""
+
+
+def run(*words, text="", **more):
+    """What a command answers to a text, where it ends well."""
+    words = [str(word) for word in words]
+    pipes = {"stdout": subprocess.PIPE, "stderr": subprocess.PIPE}
+    try:
+        ended = subprocess.run(words, input=text.encode(), **pipes, **more)
+    except OSError as error:
+        raise Failed(error)
+    if ended.returncode != 0:
+        said = ended.stderr.decode(errors="replace")[-3000:]
+        raise Failed(f"{' '.join(words)}: status {ended.returncode}\n{said}")
+    return ended.stdout.decode(errors="replace")
+
+
+def compiler(variable, *names):
+    """The words with which a compiler's call begins: the variable's, else a name that is there."""
+    named = shlex.split(os.environ.get(variable, ""))
+    for words in [named] if named else [[name] for name in names]:
+        if shutil.which(words[0]):
+            return words
+    raise LeftOut(f"there is no {named[0] if named else ' and no '.join(names)}")
+
+
+def needs(tool, *least):
+    """Refuses a tool that is not there, or older than that."""
+    if not shutil.which(tool):
+        raise LeftOut(f"there is no {tool}")
+    version = re.search(r"\d+(\.\d+)+", run(tool, "--version"))[0]
+    if tuple(map(int, version.split("."))) < least:
+        wanted = ".".join(map(str, least))
+        raise LeftOut(f"{tool} is of version {version}, and {wanted} or later is needed")
+
+
+class Clone:
+    """What is made in a scratch folder, of what the clone has."""
+
+    def __init__(self, scratch):
+        self.scratch, self.object = scratch, scratch / "chinese_number.o"
+        self.library = dict(os.environ, CHINESE_NUMBER_LIB=str(scratch), PYTHONUTF8="1")
+        self.cc = compiler("CC", "cc", "gcc", "clang")
+        flags = ["-O2", "-fPIC", "-fvisibility=hidden"]
+        run(*self.cc, *flags, "-c", DIST / "chinese_number.c", "-o", self.object)
+
+    def compiled(self, words, language, source):
+        """A program, in a folder of its own: so its header is the one in dist/."""
+        folder = Path(tempfile.mkdtemp(dir=self.scratch))
+        own, program = shutil.copy(source, folder), folder / "program"
+        as_written = ["-x", language, own, "-x", "none"]
+        run(*words, "-O1", "-I", DIST, *as_written, self.object, "-o", program)
+        return program
+
+    def same(self, _):
+        return run(self.compiled(self.cc, "c", TOP / "checks/same.c"), 1000)
+
+    def c(self, asked):
+        return run(self.compiled(self.cc, "c", BINDINGS / "c/answers.c"), text=asked)
+
+    def cpp(self, asked):
+        words = compiler("CXX", "c++", "g++", "clang++")
+        return run(self.compiled(words, "c++", BINDINGS / "c/answers.c"), text=asked)
+
+    def python(self, asked):
+        run(*self.cc, "-shared", self.object, "-o", self.scratch / f"libchinese_number.{SHARED}")
+        program = BINDINGS / "python/answers.py"
+        return run(sys.executable, "-B", program, text=asked, env=self.library)
+
+    def rust(self, asked):
+        needs("cargo", 1, 82)
+        run("ar", "crs", self.scratch / "libchinese_number.a", self.object)
+        own = self.scratch / "rust"
+        shutil.copytree(BINDINGS / "rust", own, ignore=shutil.ignore_patterns("target"))
+        words = ("run", "--quiet", "--offline", "--example", "answers")
+        return run("cargo", *words, text=asked, cwd=own, env=self.library)
+
+    def javascript(self, asked):
+        needs("node", 20)
+        own = self.scratch / "web"
+        own.mkdir()
+        for path in [*BINDINGS.glob("web/*.mjs"), *DIST.glob("*.wasm")]:
+            shutil.copy(path, own)
+        return run("node", own / "answers.mjs", text=asked)
+
+
+LANGUAGES = {
+    "C": Clone.c,
+    "C++": Clone.cpp,
+    "Python": Clone.python,
+    "Rust": Clone.rust,
+    "JavaScript": Clone.javascript,
+}
+
+
+def of_archive():
+    """What `same 1000` of checks/same.c shows over the proved archive."""
+    return json.loads((DIST / "PROVENANCE.json").read_text(encoding="utf-8"))["answers"]
+
+
+def wrong_rows(rows, answers):
+    """The rows that are answered otherwise, each in words."""
+    missing = ["nothing"] * (len(rows) - len(answers))
+    for (question, wanted), answer in zip(rows, [*answers, *missing]):
+        if answer != wanted:
+            yield f"    {' '.join(question)}\n        wanted: {wanted}\n        found:  {answer}"
+
+
+def told(name, rows, asking):
+    """Says how a test ended: how many rows passed, and how many failed."""
+    try:
+        wrong = list(wrong_rows(rows, asking.result().splitlines()))
+    except LeftOut as why:
+        print(f"{name}: left out, since {why}")
+        return 0, 0
+    except Failed as why:
+        print(f"{name}: 0 passed, {len(rows)} failed\n{why}")
+        return 0, len(rows)
+    passed, failed = len(rows) - len(wrong), len(wrong)
+    print(f"{name}: {passed} passed" + (f", {failed} failed" if wrong else ""), *wrong, sep="\n")
+    return passed, failed
+
+
+def try_all(clone, rows):
+    """How many rows passed in all, and how many failed."""
+    asked = "".join("\t".join(question) + "\n" for question, _ in rows)
+    same = [(["same", "1000"], of_archive())]
+    tests = [("C source, beside the proved archive", same, Clone.same)]
+    tests += [(name, rows, ask) for name, ask in LANGUAGES.items()]
+    with ThreadPoolExecutor() as pool:
+        running = [(name, its, pool.submit(ask, clone, asked)) for name, its, ask in tests]
+        counts = [told(*test) for test in running]
+    return map(sum, zip(*counts))
+
+
+def main():
+    if sys.version_info < (3, 8) or len(sys.argv) != 1:
+        sys.exit(__doc__)
+    sys.stdout.reconfigure(errors="backslashreplace")
+    with tempfile.TemporaryDirectory() as scratch:
+        try:
+            clone = Clone(Path(scratch))
+        except LeftOut as why:
+            sys.exit(f"test: {why}: install one, as by `apt install gcc`, or name another by CC")
+        except Failed as why:
+            sys.exit(f"test: the C source was not compiled\n{why}")
+        passed, failed = try_all(clone, list(worked_rows.questions()))
+    print(f"{passed} passed, {failed} failed")
+    sys.exit(1 if failed else 0)
+
+
+main()
