@@ -51,7 +51,7 @@ typedef int64_t s64;
  *
  * An access outside, or a write outside its own memory, ends the program by abort(). */
 #define STACK_BYTES UINT64_C(1440)
-#define LENT_BYTES UINT64_C(288)
+#define LENT_BYTES UINT64_C(272)
 #define OWN_BYTES (STACK_BYTES + LENT_BYTES)
 #define FIRST_CONSTANT UINT64_C(65536)
 #define FIRST_LENT (FIRST_CONSTANT - LENT_BYTES)
@@ -59,12 +59,10 @@ typedef int64_t s64;
 #define FIRST_OF_TEXT UINT64_C(1048576)
 #define MOST_OF_TEXT UINT32_C(4293918720) /* what is left of 32-bit addresses */
 
-/* What is lent: room for what a reader tells, for a number, for the length of a printed text, and
- * for that text. */
+/* What is lent: room for what a reader tells, for a printed text's length, and for that text. */
 #define TOLD FIRST_LENT
-#define NUMBER (FIRST_LENT + 24)
-#define LENGTH (FIRST_LENT + 40)
-#define ROOM (FIRST_LENT + 48)
+#define LENGTH (FIRST_LENT + 24)
+#define ROOM (FIRST_LENT + 32)
 
 typedef struct module {
     u64 w2c_g0; /* where the module's stack ends */
@@ -504,7 +502,7 @@ static u32 w2c_chinese_number_find(module *, u64, u64, u32, u32, u64);
 static u32 w2c_f41(module *, u64, u64, u32, u32, u64);
 static u32 w2c_chinese_number_find_utf8(module *, u64, u64, u32, u32, u64);
 static u32 w2c_f43(module *, u64, u64, u32, u32, u64);
-static u32 w2c_chinese_number_print(module *, u64, u32, u32, u32, u32, u64, u64, u64);
+static u32 w2c_chinese_number_print(module *, u64, u64, u32, u32, u32, u32, u64, u64, u64);
 static u32 w2c_f45(module *, u64, u64, u32, u32, u32, u32, u64, u64, u64);
 static u32 w2c_chinese_number_read(module *, u64, u64, u32, u32, u64);
 static u32 w2c_f47(module *, u64, u64, u32, u32, u64);
@@ -23877,9 +23875,9 @@ static u32 w2c_f43(module *m, u64 w2c_p0, u64 w2c_p1, u32 w2c_p2, u32 w2c_p3, u6
   return w2c_i0;
 }
 
-static u32 w2c_chinese_number_print(module *m, u64 w2c_p0, u32 w2c_p1, u32 w2c_p2, u32 w2c_p3, u32 w2c_p4, u64 w2c_p5, u64 w2c_p6, u64 w2c_p7) {
-  u32 w2c_i0, w2c_i1, w2c_i2, w2c_i3, w2c_i4, w2c_i5;
-  u64 w2c_j0, w2c_j1, w2c_j2, w2c_j6, w2c_j7, w2c_j8;
+static u32 w2c_chinese_number_print(module *m, u64 w2c_p0, u64 w2c_p1, u32 w2c_p2, u32 w2c_p3, u32 w2c_p4, u32 w2c_p5, u64 w2c_p6, u64 w2c_p7, u64 w2c_p8) {
+  u32 w2c_i0, w2c_i2, w2c_i3, w2c_i4, w2c_i5;
+  u64 w2c_j0, w2c_j1, w2c_j6, w2c_j7, w2c_j8;
   w2c_i0 = w2c_f0(m);
   w2c_i0 = !(w2c_i0);
   if (w2c_i0) {goto w2c_B0;}
@@ -23887,24 +23885,18 @@ static u32 w2c_chinese_number_print(module *m, u64 w2c_p0, u32 w2c_p1, u32 w2c_p
   UNREACHABLE;
   w2c_B0:;
   w2c_j0 = w2c_p0;
-  w2c_i0 = (u32)(w2c_j0);
-  w2c_j0 = i64_load(m, (u64)(w2c_i0));
-  w2c_j1 = w2c_p0;
-  w2c_j2 = 8ull;
-  w2c_j1 += w2c_j2;
-  w2c_i1 = (u32)(w2c_j1);
-  w2c_j1 = i64_load(m, (u64)(w2c_i1));
-  w2c_i2 = w2c_p1;
-  w2c_i3 = w2c_p2;
-  w2c_i4 = w2c_p3;
-  w2c_i5 = w2c_p4;
-  w2c_j6 = w2c_p5;
-  w2c_j7 = w2c_p6;
-  w2c_j8 = w2c_p7;
+  w2c_j1 = w2c_p1;
+  w2c_i2 = w2c_p2;
+  w2c_i3 = w2c_p3;
+  w2c_i4 = w2c_p4;
+  w2c_i5 = w2c_p5;
+  w2c_j6 = w2c_p6;
+  w2c_j7 = w2c_p7;
+  w2c_j8 = w2c_p8;
   w2c_i0 = w2c_f45(m, w2c_j0, w2c_j1, w2c_i2, w2c_i3, w2c_i4, w2c_i5, w2c_j6, w2c_j7, w2c_j8);
-  w2c_p4 = w2c_i0;
+  w2c_p5 = w2c_i0;
   w2c_f1(m);
-  w2c_i0 = w2c_p4;
+  w2c_i0 = w2c_p5;
   return w2c_i0;
 }
 
@@ -26575,7 +26567,7 @@ static int begin(module *m, const uint8_t *text, size_t text_length) {
     m->w2c_g1 = 0;
     m->text = text;
     m->text_length = text_length;
-    memset(writable(m, TOLD, NUMBER - TOLD), 0, NUMBER - TOLD);
+    memset(writable(m, TOLD, LENGTH - TOLD), 0, LENGTH - TOLD);
     return text_length <= MOST_OF_TEXT;
 }
 
@@ -26627,15 +26619,13 @@ uint32_t chinese_number_read_utf8(const uint8_t *text, size_t text_length, uint3
     return tell_number(&m, status, reading);
 }
 
-uint32_t chinese_number_print(cn_number number, uint32_t kind, uint32_t way, uint32_t script,
-                              uint32_t letter_case, uint8_t *room, size_t room_length,
-                              size_t *length) {
+uint32_t chinese_number_print(uint64_t low, uint64_t high, uint32_t kind, uint32_t way,
+                              uint32_t script, uint32_t letter_case, uint8_t *room,
+                              size_t room_length, size_t *length) {
     module m;
     uint32_t status;
     begin(&m, constants, 0);
-    i64_store(&m, NUMBER, number.low);
-    i64_store(&m, NUMBER + 8, number.high);
-    status = w2c_chinese_number_print(&m, NUMBER, kind, way, script, letter_case, ROOM,
+    status = w2c_chinese_number_print(&m, low, high, kind, way, script, letter_case, ROOM,
                                       lesser(room_length, CN_MOST_BYTES), LENGTH);
     return tell_text(&m, status, room, room_length, length);
 }

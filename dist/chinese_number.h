@@ -154,13 +154,14 @@ uint32_t chinese_number_read(const uint8_t *text, size_t text_length, uint32_t k
 uint32_t chinese_number_read_utf8(const uint8_t *text, size_t text_length, uint32_t kind, uint32_t way,
                                   cn_reading *reading);
 
-/* Prints a number of a type at the start of a room, in UTF-8. Writes *length at each status: at CN_DONE and CN_NO_ROOM how
- * many bytes the text has, else 0. Writes to the room at CN_DONE alone, and there no more than the text.
+/* Prints a number of a type, given in its two halves, at the start of a room, in UTF-8. Writes *length at each status: at
+ * CN_DONE and CN_NO_ROOM how many bytes the text has, else 0. Writes to the room at CN_DONE alone, and there no more than
+ * the text.
  *
  * Returns CN_DONE, CN_TOO_LARGE, CN_TOO_SMALL, CN_NO_ROOM, CN_NOT_HELD or CN_UNKNOWN. A room of CN_MOST_BYTES is never
  * too small. */
-uint32_t chinese_number_print(cn_number number, uint32_t kind, uint32_t way, uint32_t script, uint32_t letter_case,
-                              uint8_t *room, size_t room_length, size_t *length);
+uint32_t chinese_number_print(uint64_t low, uint64_t high, uint32_t kind, uint32_t way, uint32_t script,
+                              uint32_t letter_case, uint8_t *room, size_t room_length, size_t *length);
 
 /* Finds the first number of a text in UTF-8: the first run of digits and of units up to the greatest one, of the lower case
  * (upper 0) or of both (1). Writes *span whole at each status, and nothing else. The next number is the first of what
@@ -249,7 +250,8 @@ static inline uint32_t cn_read(const char *text, size_t text_length, uint32_t ki
 static inline uint32_t cn_print(cn_number number, uint32_t kind, uint32_t way, uint32_t script, uint32_t letter_case,
                                 char *room, size_t room_length) {
     size_t length, most = room_length == 0 ? 0 : room_length - 1;
-    uint32_t status = chinese_number_print(number, kind, way, script, letter_case, (uint8_t *)room, most, &length);
+    uint32_t status = chinese_number_print(number.low, number.high, kind, way, script, letter_case, (uint8_t *)room,
+                                           most, &length);
     if (status == CN_DONE)
         room[length] = '\0';
     return status;
