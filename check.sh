@@ -89,5 +89,6 @@ fi
 } > "$scratch/checked"
 time bash bindings/packages.sh --draft "$scratch/packages" "$scratch/checked"
 time python3 checks/packages.py "$scratch/packages"
+time python3 checks/clone_npm.py
 
 tail -n 1 "$scratch/checked"
