@@ -73,8 +73,8 @@ def installed(project, *flag):
     npm("ls", *flag, cwd=project)
     answer = answers(project)
     if has("tsc"):
-        for name in ("typed.mts", "typed.cts"):
-            run(*TSC, write(project / name, TYPED), cwd=project)
+        both = [write(project / name, TYPED) for name in ("typed.mts", "typed.cts")]
+        run(*TSC, *both, cwd=project)
     if has("esbuild"):
         for name in ("import.mjs", "require.cjs"):
             run(*BUNDLE, "--outfile=bundle.cjs", name, cwd=project, wanted="")

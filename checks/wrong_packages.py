@@ -75,6 +75,8 @@ WRONG = (
     ("another module inside", NPM, "package/compiled.mjs", other_module, "javascript", "is none of"),
     ("a byte of the module inside", NPM, "package/compiled.mjs", other_byte_inside, "javascript",
      "is none of the files"),
+    ("a byte of the module for require", NPM, "package/chinese-number.cjs", other_byte_inside,
+     "javascript", "is none of the files"),
     ("another prefix in the .pc", NATIVE_C, ".pc", replaced("${pcfiledir}/../..", "/usr/local"), "c",
      "pkg-config"),
     ("another soname for CMake", NATIVE_C, "number-config.cmake",
