@@ -125,11 +125,7 @@ class Clone:
 
     def javascript(self, asked):
         needs("node", 20)
-        own = self.scratch / "web"
-        own.mkdir()
-        for path in [*BINDINGS.glob("web/*.mjs"), *DIST.glob("*.wasm")]:
-            shutil.copy(path, own)
-        return run("node", own / "answers.mjs", text=asked)
+        return run("node", BINDINGS / "web/answers.mjs", text=asked)
 
 
 LANGUAGES = {

@@ -15,7 +15,9 @@ again makes the files once more, and compares each byte. By other tools than PRO
 or another toolchain of the same logic, bytes may differ: then it compares what checks/same.c shows
 over the C source and over the archive in the folder ARCHIVE, as archive.sh fills it.
 """
+import base64
 import json
+import re
 import shutil
 import subprocess
 import sys
@@ -39,9 +41,19 @@ COPIES = {
     "bindings/python/source/chinese_number.h": "bindings/c/chinese_number.h",
     "bindings/rust/source/chinese_number.c": "dist/chinese_number.c",
     "bindings/rust/source/chinese_number.h": "bindings/c/chinese_number.h",
+    "bindings/web/LICENSE": "LICENSE",
+    "bindings/web/chinese-number.d.cts": "bindings/web/chinese-number.d.mts",
     "bindings/web/files/chinese-number.32.wasm": "dist/chinese-number.32.wasm",
     "bindings/web/files/chinese-number.64.wasm": "dist/chinese-number.64.wasm",
+    "bindings/web/files/chinese-number.mjs": "bindings/web/chinese-number.mjs",
 }
+COMPILED = """\
+// The module chinese-number.32.wasm, compiled; made by bindings/dist.py.
+const base64 = '{}';
+const bytes = Uint8Array.from(atob(base64), (it) => it.charCodeAt(0));
+export const compiled = new WebAssembly.Module(bytes);
+"""
+IMPORT = "import { compiled } from './compiled.mjs';\n"
 COUNT = "1000"
 WHAT = (
     "The library cn_c as modules for WebAssembly and as C source. `verdict` is the toolchain's own "
@@ -84,12 +96,29 @@ def answers(library):
         return said(program, COUNT).strip()
 
 
+def common_js(compiled, face):
+    """Two modules as one of CommonJS, for `require`."""
+    names = re.findall(r"^export \w+ (\w+)", face, re.MULTILINE)
+    both = re.sub(r"^export ", "", compiled + face.replace(IMPORT, ""), flags=re.MULTILINE)
+    return f"'use strict';\n{both}\nmodule.exports = {{ {', '.join(names)} }};\n"
+
+
+def of_javascript(module):
+    """The files that have the module inside, by path."""
+    compiled = COMPILED.format(base64.b64encode(module).decode())
+    face = read(HERE / "web/chinese-number.mjs").decode()
+    return {
+        "bindings/web/compiled.mjs": compiled.encode(),
+        "bindings/web/chinese-number.cjs": common_js(compiled, face).encode(),
+    }
+
+
 def files_of(made):
     """All files but PROVENANCE.json, by path, made of those that are built, by name."""
     files = {f"dist/{name}": made[name] for name in MADE}
     for path, original in COPIES.items():
         files[path] = files[original] if original in files else read(TOP / original)
-    return files
+    return {**files, **of_javascript(made["chinese-number.32.wasm"])}
 
 
 def sums_of(files):
@@ -150,7 +179,7 @@ def faults(told):
             yield f"dist/{name} has not the sum that {PROVENANCE} names"
     for path, data in files.items():
         if found(path) != data:
-            yield f"{path} is not as made of {COPIES.get(path, 'dist/')}"
+            yield f"{path} is not as made of {COPIES.get(path, 'its originals')}"
 
 
 def check():

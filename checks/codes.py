@@ -46,6 +46,7 @@ BOUNDS = {"MOST_BYTES": "src/printing.rt", "MOST_AMOUNT_BYTES": "src/amount.rt",
 VERSIONS = (
     (HEADER, r'^#define CN_VERSION "(.*)"'),
     ("rust/Cargo.toml", r'^version = "(.*)"'),
+    ("web/package.json", r'^  "version": "(.*)"'),
     (PYTHON, r'^__version__ = "(.*)"'),
     ("../CHANGELOG.md", r"^## ([\d.]+)"),
 )
@@ -194,7 +195,7 @@ def main():
                 sys.exit(f"codes: {name} of {language}: {table}, and not {right}")
 
     versions = {re.search(pattern, text_of(bindings / file), re.MULTILINE)[1] for file, pattern in VERSIONS}
-    for page in ("../README.md", "README.md"):
+    for page in ("../README.md", "README.md", "web/README.md"):
         versions.update(re.findall(r"chinese.number[a-z-_]*-(\d[\d.]*\d)\b", text_of(bindings / page)))
     versions.add(".".join(re.findall(r"^#define CN_VERSION_\w+ (\d+)", texts[HEADER], re.MULTILINE)))
     if len(versions) != 1:

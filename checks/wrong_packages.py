@@ -48,13 +48,13 @@ def replaced(old, new):
 def other_module(data):
     """Another module inside the JavaScript: one that has nothing in it."""
     nothing = base64.b64encode(b"\0asm\1\0\0\0").decode()
-    return re.sub(rb"(?m)^const module = '.*';$", f"const module = '{nothing}';".encode(), data)
+    return re.sub(rb"(?m)^const base64 = '.*';$", f"const base64 = '{nothing}';".encode(), data)
 
 
 def other_byte_inside(data):
-    inside = base64.b64decode(re.search(rb"(?m)^const module = '(.*)';$", data)[1])
+    inside = base64.b64decode(re.search(rb"(?m)^const base64 = '(.*)';$", data)[1])
     changed = base64.b64encode(a_byte(inside)).decode()
-    return re.sub(rb"(?m)^const module = '.*';$", f"const module = '{changed}';".encode(), data)
+    return re.sub(rb"(?m)^const base64 = '.*';$", f"const base64 = '{changed}';".encode(), data)
 
 
 NATIVE_WHEEL, NATIVE_C = f"*_{CHECK.NATIVE}.whl", f"chinese-number-*-{CHECK.NATIVE}.tar.gz"
@@ -75,6 +75,8 @@ WRONG = (
     ("another module inside", NPM, "package/compiled.mjs", other_module, "javascript", "is none of"),
     ("a byte of the module inside", NPM, "package/compiled.mjs", other_byte_inside, "javascript",
      "is none of the files"),
+    ("a byte of the module for require", NPM, "package/chinese-number.cjs", other_byte_inside,
+     "javascript", "is none of the files"),
     ("another prefix in the .pc", NATIVE_C, ".pc", replaced("${pcfiledir}/../..", "/usr/local"), "c",
      "pkg-config"),
     ("another soname for CMake", NATIVE_C, "number-config.cmake",

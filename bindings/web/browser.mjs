@@ -13,7 +13,7 @@ export async function serve(folder, changed = (name, bytes) => bytes) {
   const server = createServer(async (request, response) => {
     const name = request.url === '/' ? 'index.html' : request.url.slice(1);
     try {
-      if (!/^[\w.-]+$/.test(name)) throw new Error('no such file');
+      if (!/^(files\/)?[\w.-]+$/.test(name)) throw new Error('no such file');
       const bytes = await changed(name, await readFile(join(folder, name)));
       response.writeHead(200, { 'content-type': KINDS[extname(name)] ?? 'application/octet-stream' }).end(bytes);
       asked.push({ name, bytes: bytes.length });

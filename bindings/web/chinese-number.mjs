@@ -1,4 +1,4 @@
-// Chinese numerals, read and printed by the proved library, which is the WebAssembly module beside this file.
+// Chinese numerals, read and printed by the proved library, which is a WebAssembly module.
 //
 //     toNumber('一百二', { kind: 'u64' })                       120n
 //     toChinese(120, { script: 'simple', case: 'upper' })    '壹佰贰拾'

@@ -12,7 +12,7 @@ const WAY_NAMES = {
 
 let library;
 try {
-  library = await import('./chinese-number.mjs');
+  library = await import('./files/chinese-number.mjs');
 } catch (error) {
   loading.textContent = `The library did not load: ${error.message}`;
   throw error;

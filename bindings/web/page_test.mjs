@@ -63,7 +63,7 @@ async function opens() {
   assert.equal(asked.length % 5, 0, 'a cache was not empty');
   const files = asked.slice(0, asked.length / 5);
   const bits = (await value('WebAssembly.validate(Uint8Array.of(0, 0x61, 0x73, 0x6d, 1, 0, 0, 0, 5, 3, 1, 4, 1))')) ? 64 : 32;
-  assert.deepEqual(files.map((it) => it.name).filter((it) => it.endsWith('.wasm')), [`chinese-number.${bits}.wasm`]);
+  assert.deepEqual(files.map((it) => it.name).filter((it) => it.endsWith('.wasm')), [`files/chinese-number.${bits}.wasm`]);
   console.log(`opens after ${times.join(', ')} ms with an empty cache; ${files.length} files, ${files.reduce((sum, it) => sum + it.bytes, 0)} bytes`);
   assert(Math.min(...times) < 1000, 'the page takes a second to open');
 }
@@ -495,7 +495,7 @@ async function saysWhatIsMissing() {
 async function runsTheModule() {
   tab = await openTab(browser, 720, 760);
   await tab.send('Page.navigate', { url: `${site.url}index.css` });
-  const runs = await value(`fetch('chinese-number.64.wasm').then((it) => it.arrayBuffer()).then((it) => WebAssembly.validate(it))`);
+  const runs = await value(`fetch('files/chinese-number.64.wasm').then((it) => it.arrayBuffer()).then((it) => WebAssembly.validate(it))`);
   await tab.close();
   site.asked.splice(0);
   return runs;

@@ -7,7 +7,7 @@ import { existsSync, readdirSync, readFileSync } from 'node:fs';
 import {
   AmountError, CASES, DateError, Found, KINDS, NumeralError, SCRIPTS, UNITS, WAYS, amountToChinese, chineseToAmount, chineseToDate,
   dateToChinese, findNumbers, toChinese, toNumber, yuanToFen,
-} from './chinese-number.mjs';
+} from './files/chinese-number.mjs';
 
 const [program, crates] = process.argv.slice(2);
 const READINGS = 60_000, PRINTINGS = 30_000, AMOUNTS = 20_000, DATES = 20_000, TEXTS = 20_000;
@@ -128,7 +128,7 @@ function tablesOf(crate) {
 // The modules ask nothing of their host, and offer the calls of cn_c.
 function lookAtTheModules() {
   for (const bits of [64, 32]) {
-    const file = new URL(`chinese-number.${bits}.wasm`, import.meta.url);
+    const file = new URL(`files/chinese-number.${bits}.wasm`, import.meta.url);
     if (!existsSync(file) || !WebAssembly.validate(readFileSync(file))) continue;
     const compiled = new WebAssembly.Module(readFileSync(file));
     assert.deepEqual(WebAssembly.Module.imports(compiled), []);

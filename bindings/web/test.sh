@@ -1,5 +1,5 @@
 #!/usr/bin/env bash
-# test.sh NUMERAL [PICTURES]: under node compares each module of dist/ with the native program NUMERAL, and tries the
+# test.sh NUMERAL [PICTURES]: under node compares each module in files/ with the native program NUMERAL, and tries the
 # page with each in a Chromium ($CHROMIUM, or one on the path). Where there is no node or no Chromium it says so and passes.
 set -euo pipefail
 numeral=$(realpath "$1")
@@ -19,12 +19,13 @@ chromium=${CHROMIUM:-$(command -v chromium chromium-browser google-chrome google
 flag=()
 node --experimental-wasm-memory64 -e '' 2> /dev/null && flag=(--experimental-wasm-memory64)
 
-for module in "$web"/../../dist/*.wasm; do
+for module in "$web"/files/*.wasm; do
     # The module under both names, so that it is the one that is tried, whatever the host has.
     folder=$scratch/$(basename "$module" .wasm)
-    mkdir "$folder"
+    mkdir -p "$folder/files"
     cp "$web"/*.mjs "$web"/index.{html,css} "$folder"
-    for bits in 64 32; do cp "$module" "$folder/chinese-number.$bits.wasm"; done
+    cp "$web"/files/*.mjs "$folder/files"
+    for bits in 64 32; do cp "$module" "$folder/files/chinese-number.$bits.wasm"; done
     echo "$(basename "$module"), $(wc -c < "$module") bytes:"
     if node "${flag[@]}" -e 'process.exit(WebAssembly.validate(require("fs").readFileSync(process.argv[1])) ? 0 : 1)' "$module"; then
         timeout 300 node "${flag[@]}" "$folder/test.mjs" "$numeral" "$crates"

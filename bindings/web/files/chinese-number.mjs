@@ -1,0 +1,560 @@
+// Chinese numerals, read and printed by the proved library, which is a WebAssembly module.
+//
+//     toNumber('一百二', { kind: 'u64' })                       120n
+//     toChinese(120, { script: 'simple', case: 'upper' })    '壹佰贰拾'
+//     amountToChinese(yuanToFen('15'), { script: 'simple' })  '壹拾伍元整'
+//     chineseToAmount('壹拾伍元整')                             1500n
+//     chineseToDate('伍年零壹月壹拾伍日')                       { year: 5, month: 1, day: 15 }
+//     for (const found of findNumbers('第二十三回')) ..          found.number() is 23n
+//
+// The module takes no memory of its own: this file lends it what lies past its __heap_base.
+
+import { compiled } from './compiled.mjs';
+
+// Each list is in the order of the codes that the module has for these names.
+
+/** The integer types. */
+export const KINDS = Object.freeze(/** @type {const} */ (
+  ['u8', 'u16', 'u32', 'u64', 'u128', 'i8', 'i16', 'i32', 'i64', 'i128']));
+
+/** How a number is written: as plain digits (一二三), or with units (一百二十三) by one of four methods. */
+export const WAYS = Object.freeze(/** @type {const} */ (['digits', 'low', 'tenThousand', 'middle', 'high']));
+
+/** The scripts. */
+export const SCRIPTS = Object.freeze(/** @type {const} */ (['traditional', 'simple']));
+
+/** The cases: 'upper' has the characters of cheques. */
+export const CASES = Object.freeze(/** @type {const} */ (['upper', 'lower']));
+
+/** The units, each greater than the one before: 個, 十, 百, 千, 萬, 億, 兆, 京, 垓, 秭, 穰, 溝, 澗, 正, 載 and 極. */
+export const UNITS = Object.freeze(/** @type {const} */ (['ge', 'shi', 'bai', 'qian', 'wan', 'yi', 'zhao', 'jing', 'gai', 'zi',
+  'rang', 'gou', 'jian', 'zheng', 'zai', 'ji']));
+
+const STATUSES = ['done', 'empty', 'incorrect', 'tooLarge', 'tooSmall', 'notUtf8', 'noRoom', 'notHeld', 'unknown', 'unfinished',
+  'none', 'notADate'];
+
+const MESSAGES = {
+  empty: 'a chinese number cannot be empty',
+  incorrect: 'the chinese number is incorrect',
+  tooLarge: 'number is too large',
+  tooSmall: 'number is too small',
+  notHeld: 'does not hold the number', // behind the name of the kind
+  outOfMemory: 'out of memory',
+};
+
+const AMOUNT_MESSAGES = {
+  unfinished: 'the amount is not finished',
+  incorrect: 'the amount is incorrect',
+  tooLarge: 'number is too large',
+  tooSmall: 'number is too small',
+};
+
+const DATE_MESSAGES = {
+  unfinished: 'the date is not finished',
+  incorrect: 'the date is incorrect',
+  notADate: 'there is no such date',
+};
+
+/**
+ * @typedef {typeof KINDS[number]} Kind
+ * @typedef {typeof WAYS[number]} Way
+ * @typedef {typeof SCRIPTS[number]} Script
+ * @typedef {typeof CASES[number]} Case
+ * @typedef {typeof UNITS[number]} Unit
+ * @typedef {{ kind?: Kind, way?: Way }} ReadOptions
+ * @typedef {{ kind?: Kind, way?: Way, script?: Script, case?: Case }} PrintOptions
+ * @typedef {{ script?: Script }} ScriptOptions
+ * @typedef {{ upper?: boolean, greatest?: Unit }} Wanted
+ * @typedef {{ year: number, month: number, day: number }} BillDate
+ * @typedef {{ charIndex: number, start: number, end: number }} Place
+ */
+
+/** A refusal, with the place of the character at fault where there is one. */
+class Refusal extends Error {
+  /**
+   * @param {string} message
+   * @param {Place} [place]
+   * @param {ErrorOptions} [options]
+   */
+  constructor(message, place, options) {
+    super(place ? `${message} (position: ${place.charIndex})` : message, options);
+    /** At 'incorrect': how many characters stand in front of the one at fault. */
+    this.charIndex = place?.charIndex;
+    /** At 'incorrect': where it starts in the string, in UTF-16 code units, as setSelectionRange and slice take it. */
+    this.start = place?.start;
+    /** At 'incorrect': where it ends, likewise. */
+    this.end = place?.end;
+  }
+}
+
+/**
+ * Why a text was not read, or a number not printed.
+ *
+ * `code` is
+ * - 'empty': nothing is left of the text without its white space and, for a signed type, one sign;
+ * - 'incorrect': a character cannot stand where it stands;
+ * - 'tooLarge', 'tooSmall': the number read does not fit the type, or by 'low' the number has no text;
+ * - 'notHeld': the type does not hold the number that is to be printed;
+ * - 'outOfMemory': the host has no memory for the text, which may be that of any call.
+ */
+export class NumeralError extends Refusal {
+  /**
+   * @param {keyof typeof MESSAGES} code
+   * @param {Kind} [kind]
+   * @param {Place} [place]
+   * @param {ErrorOptions} [options]
+   */
+  constructor(code, kind, place, options) {
+    super(code === 'notHeld' ? `${kind} ${MESSAGES[code]}` : MESSAGES[code], place, options);
+    this.name = 'NumeralError';
+    this.code = code;
+    /** The integer type that the number was to have; at 'outOfMemory' none is named. */
+    this.kind = kind;
+  }
+}
+
+/**
+ * Why a text was not read as an amount of money, or an amount not written.
+ *
+ * `code` is
+ * - 'unfinished': the text is no amount, and something behind it can make it one, as '壹佰元';
+ * - 'incorrect': no amount begins with the text up to and with a character;
+ * - 'tooLarge', 'tooSmall': the amount to be written is 10n ** 18n fen or more, or below zero.
+ */
+export class AmountError extends Refusal {
+  /**
+   * @param {keyof typeof AMOUNT_MESSAGES} code
+   * @param {Place} [place]
+   */
+  constructor(code, place) {
+    super(AMOUNT_MESSAGES[code], place);
+    this.name = 'AmountError';
+    this.code = code;
+  }
+}
+
+/**
+ * Why a text was not read as a date, or a date not written.
+ *
+ * `code` is
+ * - 'unfinished': the text is no date, and something behind it can make it one;
+ * - 'incorrect': no date begins with the text up to and with a character;
+ * - 'notADate': there is no such date to be written.
+ */
+export class DateError extends Refusal {
+  /**
+   * @param {keyof typeof DATE_MESSAGES} code
+   * @param {Place} [place]
+   */
+  constructor(code, place) {
+    super(DATE_MESSAGES[code], place);
+    this.name = 'DateError';
+    this.code = code;
+  }
+}
+
+/** @type {any} What the instance in use exports; null after a trap, since its memory may be half written then. */
+let library = new WebAssembly.Instance(compiled).exports;
+
+// What is lent: a reading (24 bytes; an amount, a date and a span fit there too), a length (8), and the text.
+const READING = Math.ceil(Number(library.__heap_base.value) / 16) * 16;
+const LENGTH = READING + 24;
+const TEXT = LENGTH + 8;
+const [READING_AT, LENGTH_AT, TEXT_AT] = [READING, LENGTH, TEXT].map(BigInt);
+const MOST_BYTES = 234;
+const MOST_AMOUNT_BYTES = 108;
+const MOST_DATE_BYTES = 39;
+const PAGE = 65536;
+const encoder = new TextEncoder();
+const decoder = new TextDecoder();
+/** @type {BigUint64Array} The reading (or amount, date or span) and the length. */
+let words;
+/** @type {Uint8Array} */
+let text = new Uint8Array(0);
+
+/**
+ * Lends room for so many bytes of text.
+ * @param {number} bytes
+ */
+function lend(bytes) {
+  library ??= new WebAssembly.Instance(compiled).exports;
+  const { memory } = library;
+  const missing = TEXT + bytes - memory.buffer.byteLength;
+  if (missing > 0) grow(memory, Math.ceil(missing / PAGE));
+  // A memory that has grown has another buffer, and so has that of a new instance.
+  if (text.buffer !== memory.buffer) {
+    words = new BigUint64Array(memory.buffer, READING, 4);
+    text = new Uint8Array(memory.buffer, TEXT);
+  }
+}
+
+/**
+ * @param {any} memory
+ * @param {number} pages
+ */
+function grow(memory, pages) {
+  try {
+    // A 64-bit memory counts its pages by a BigInt, though early hosts and 32-bit memories do so by a Number.
+    try {
+      memory.grow(BigInt(pages));
+    } catch (error) {
+      if (!(error instanceof TypeError)) throw error;
+      memory.grow(pages);
+    }
+  } catch (cause) {
+    throw new NumeralError('outOfMemory', undefined, undefined, { cause });
+  }
+}
+
+/**
+ * Calls the module. Where that traps, as on a full stack of the host, the next call has a new instance.
+ * @param {() => number} call
+ */
+function statusOf(call) {
+  try {
+    return call();
+  } catch (error) {
+    library = null;
+    throw error;
+  }
+}
+
+/**
+ * Writes a string where the module reads it, and gives how many bytes it has there.
+ * @param {string} string
+ */
+function hand(string) {
+  if (typeof string !== 'string') throw new TypeError('a text is a string');
+  lend(3 * string.length);
+  // An encoder writes UTF-8 and nothing else (half a surrogate pair as U+FFFD), so the module need not test it.
+  return Number(encoder.encodeInto(string, text).written);
+}
+
+/**
+ * Has the module read a string, by a call that is given where it stands and how long it is there. Else throws the refusal,
+ * with the place of the character at fault, of which a word tells how many stand in front.
+ * @param {string} string
+ * @param {(at: bigint, length: bigint) => number} call
+ * @param {number} word
+ * @param {(code: any, place?: Place) => Error} refusal
+ */
+function read(string, call, word, refusal) {
+  const length = BigInt(hand(string));
+  const code = STATUSES[statusOf(() => call(TEXT_AT, length))];
+  if (code !== 'done') throw refusal(code, code === 'incorrect' ? placeOf(string, Number(words[word])) : undefined);
+}
+
+/**
+ * Has the module print, by a call that is given a room of so many bytes and where the length goes. Gives the text, or throws
+ * the refusal.
+ * @param {number} most
+ * @param {(room: bigint, most: bigint, length: bigint) => number} call
+ * @param {(code: any) => Error} refusal
+ */
+function print(most, call, refusal) {
+  lend(most);
+  const code = STATUSES[statusOf(() => call(TEXT_AT, BigInt(most), LENGTH_AT))];
+  if (code !== 'done') throw refusal(code);
+  return decoder.decode(text.subarray(0, Number(words[3])));
+}
+
+/** @param {bigint | number} number */
+function wholeOf(number) {
+  if (typeof number === 'bigint') return number;
+  if (!Number.isSafeInteger(number)) throw new TypeError('a number is a BigInt, or a whole Number up to 2 ** 53 - 1');
+  return BigInt(number);
+}
+
+/**
+ * @param {readonly string[]} names
+ * @param {string} name
+ * @param {string} what
+ */
+function codeOf(names, name, what) {
+  const code = names.indexOf(name);
+  if (code < 0) throw new TypeError(`no ${what} is named ${String(name)}`);
+  return code;
+}
+
+/**
+ * Refuses options with another name than these, so that none is passed over in silence.
+ * @param {object} options
+ * @param {readonly string[]} names
+ */
+function refuseOthers(options, names) {
+  const other = typeof options === 'string' ? options : Object.keys(options).find((it) => !names.includes(it));
+  if (other !== undefined) throw new TypeError(`no option is named ${other}`);
+}
+
+/**
+ * The code of the script, of options that have nothing else.
+ * @param {ScriptOptions} options
+ */
+function scriptOf(options) {
+  refuseOthers(options, ['script']);
+  const { script = 'traditional' } = options;
+  return codeOf(SCRIPTS, script, 'script');
+}
+
+/**
+ * What stands in the lower half of a word, of which the module may have left the upper one as it was.
+ * @param {bigint} word
+ */
+const lowHalf = (word) => Number(BigInt.asUintN(32, word));
+
+/** @param {Kind} kind */
+const isSigned = (kind) => kind.startsWith('i');
+
+/**
+ * Where the character with so many in front stands in a string.
+ * @param {string} string
+ * @param {number} charIndex
+ */
+function placeOf(string, charIndex) {
+  /** @param {number} at */
+  const next = (at) => at + (Number(string.codePointAt(at)) > 0xffff ? 2 : 1);
+  let start = 0;
+  for (let left = charIndex; left > 0; left--) start = next(start);
+  return { charIndex, start, end: next(start) };
+}
+
+/**
+ * Reads a numeral, and gives a BigInt: `toNumber('一百二')` is 120n. `Number(toNumber(..))` is a Number, exact up to 2 ** 53.
+ *
+ * The number is one of a kind, 'i128' where none is named, and is read by a way, else 'tenThousand'. Throws a NumeralError
+ * where the text is no numeral or its number does not fit the kind, and a TypeError where the text is no string, or an option
+ * or what it names is unknown.
+ *
+ * @param {string} string
+ * @param {ReadOptions} options
+ * @returns {bigint}
+ */
+export function toNumber(string, options = {}) {
+  refuseOthers(options, ['kind', 'way']);
+  const { kind = 'i128', way = 'tenThousand' } = options;
+  const codes = [codeOf(KINDS, kind, 'kind'), codeOf(WAYS, way, 'way')];
+  read(string, (at, length) => library.chinese_number_read_utf8(at, length, ...codes, READING_AT), 2,
+    (code, place) => new NumeralError(code, kind, place));
+  const bits = (words[1] << 64n) | words[0];
+  return isSigned(kind) ? BigInt.asIntN(128, bits) : bits;
+}
+
+/**
+ * The text of a number: `toChinese(120)` is '一百二十'. The number is a BigInt, or a whole Number that is exact.
+ *
+ * It is one of a kind, 'i128' where none is named, and is written by a way, else 'tenThousand', in a script, else
+ * 'traditional', and a case, else 'lower'. Throws a NumeralError where the kind does not hold the number or the way has no
+ * text for it, and a TypeError where it is no such number, or an option or what it names is unknown.
+ *
+ * @param {bigint | number} number
+ * @param {PrintOptions} options
+ * @returns {string}
+ */
+export function toChinese(number, options = {}) {
+  refuseOthers(options, ['kind', 'way', 'script', 'case']);
+  const { kind = 'i128', way = 'tenThousand', script = 'traditional', case: letterCase = 'lower' } = options;
+  const codes = [codeOf(KINDS, kind, 'kind'), codeOf(WAYS, way, 'way'),
+    codeOf(SCRIPTS, script, 'script'), codeOf(CASES, letterCase, 'case')];
+  const whole = wholeOf(number);
+  // The module takes 64 bits of each half, so the number must be the one that these 128 bits stand for.
+  const bits = isSigned(kind) ? BigInt.asIntN(128, whole) : BigInt.asUintN(128, whole);
+  if (bits !== whole) throw new NumeralError('notHeld', kind);
+  return print(MOST_BYTES, (...room) => library.chinese_number_print(bits, bits >> 64n, ...codes, ...room),
+    (code) => new NumeralError(code, kind));
+}
+
+/**
+ * An amount of money in capitals, as it stands on a cheque: `amountToChinese(1500n)` is '壹拾伍元整'.
+ *
+ * The amount is given in fen, the hundredth part of a yuan, as a BigInt, and is written in a script, else 'traditional'.
+ * Throws an AmountError where it is below zero or 10n ** 18n or more, and a TypeError where it is no BigInt, or an option or
+ * what it names is unknown.
+ *
+ * @param {bigint} fen
+ * @param {ScriptOptions} options
+ * @returns {string}
+ */
+export function amountToChinese(fen, options = {}) {
+  const script = scriptOf(options);
+  if (typeof fen !== 'bigint') throw new TypeError('an amount is a BigInt, in fen');
+  // The module is handed 64 bits.
+  if (BigInt.asUintN(64, fen) !== fen) throw new AmountError(fen < 0n ? 'tooSmall' : 'tooLarge');
+  return print(MOST_AMOUNT_BYTES, (...room) => library.chinese_amount_print(fen, script, ...room),
+    (code) => new AmountError(code));
+}
+
+/**
+ * Reads an amount of money in capitals, and gives its fen as a BigInt: `chineseToAmount('壹拾伍元整')` is 1500n.
+ *
+ * Every form that the rules for cheques and invoices allow is read, and no other. Throws an AmountError where the text is none,
+ * and a TypeError where it is no string. White space is refused like any other character.
+ *
+ * @param {string} string
+ * @returns {bigint}
+ */
+export function chineseToAmount(string) {
+  read(string, (at, length) => library.chinese_amount_read(at, length, READING_AT), 1,
+    (code, place) => new AmountError(code, place));
+  return words[0];
+}
+
+const FIGURES = /^([0-9]+)(?:\.([0-9]{1,2}))?$/;
+
+/**
+ * The fen of an amount in yuan that is written in figures, exactly: `yuanToFen('1409.5')` is 140950n.
+ *
+ * Figures are ASCII digits, with a point and one or two more or none. Throws a RangeError for any other text, as one with a
+ * sign, a comma or a third place; an AmountError for 10n ** 16n yuan or more; and a TypeError for what is no string. Nothing
+ * is rounded.
+ *
+ * @param {string} figures
+ * @returns {bigint}
+ */
+export function yuanToFen(figures) {
+  if (typeof figures !== 'string') throw new TypeError('an amount in figures is a string');
+  const [, yuan, places = ''] = FIGURES.exec(figures) ?? [];
+  if (yuan === undefined) throw new RangeError('figures are digits, and may have a point with one or two more behind it');
+  const fen = (yuan + places.padEnd(2, '0')).replace(/^0+/, '');
+  if (fen.length > 18) throw new AmountError('tooLarge');
+  return BigInt(fen);
+}
+
+/**
+ * A date in capitals, as it stands on a cheque: `dateToChinese({ year: 2026, month: 1, day: 15 })` is
+ * '貳零貳陸年零壹月壹拾伍日'.
+ *
+ * The date is an object with three whole Numbers of its own, and is written in a script, else 'traditional'. A Date is not
+ * taken: it is an instant, and no day of the calendar before a time zone is named. Throws a DateError where there is no such
+ * day in the Gregorian calendar from year 1 to 9999, and a TypeError where it is no such object, or an option or what it names
+ * is unknown.
+ *
+ * @param {BillDate} date
+ * @param {ScriptOptions} options
+ * @returns {string}
+ */
+export function dateToChinese(date, options = {}) {
+  const script = scriptOf(options);
+  // What is its own alone, since a class may count the years of another calendar.
+  const { year, month, day } = { ...date };
+  const parts = [year, month, day];
+  if (!parts.every(Number.isInteger)) throw new TypeError('a date is an object with a year, month and day, and no Date');
+  // The module is handed 32 bits of each.
+  if (parts.some((it) => it >>> 0 !== it)) throw new DateError('notADate');
+  return print(MOST_DATE_BYTES, (...room) => library.chinese_date_print(...parts, script, ...room),
+    (code) => new DateError(code));
+}
+
+/**
+ * Reads a date in capitals: `chineseToDate('贰零贰陆年零壹月壹拾伍日')` is { year: 2026, month: 1, day: 15 }.
+ *
+ * What the rule for cheques allows is read, and nothing else. Throws a DateError where the text is none, and a TypeError where
+ * it is no string. White space is refused like any other character.
+ *
+ * @param {string} string
+ * @returns {BillDate}
+ */
+export function chineseToDate(string) {
+  read(string, (at, length) => library.chinese_date_read(at, length, READING_AT), 2,
+    (code, place) => new DateError(code, place));
+  const [yearAndMonth, day] = words;
+  return { year: lowHalf(yearAndMonth), month: lowHalf(yearAndMonth >> 32n), day: lowHalf(day) };
+}
+
+/** A number in its text, as findNumbers gives it. */
+export class Found {
+  /**
+   * @param {number} start
+   * @param {string} text
+   * @param {boolean} isPlain
+   */
+  constructor(start, text, isPlain) {
+    /** Where it starts in the string, in UTF-16 code units, as setSelectionRange and slice take it. */
+    this.start = start;
+    /** Where it ends, likewise. */
+    this.end = start + text.length;
+    /** Its own text. */
+    this.text = text;
+    /** Whether it is plain digits: 二零二五 is, 十 is not. */
+    this.isPlain = isPlain;
+  }
+
+  /**
+   * The number, as toNumber reads its text: as plain digits where it is those, else by the way that is named.
+   *
+   * Throws what toNumber throws; a place counts within the number's own text.
+   *
+   * @param {ReadOptions} options
+   * @returns {bigint}
+   */
+  number(options = {}) {
+    refuseOthers(options, ['kind', 'way']);
+    const { kind, way } = options;
+    if (way !== undefined) codeOf(WAYS, way, 'way');
+    return toNumber(this.text, { kind, way: this.isPlain ? 'digits' : way });
+  }
+}
+
+/**
+ * Finds the numbers of a text, in order, and gives them one by one: of '第二十三回' that is 二十三, from 1 to 4.
+ *
+ * A number is a longest stretch of characters that can stand in one; whether it can be read, its `number()` says. Looked for
+ * are digits, and units up to the `greatest`, else 'zhao', which is 兆; and the characters of cheques where `upper` is true.
+ * Sentences are not understood: 一起 has a 1 in it. Throws a TypeError where the text is no string, or an option or what it
+ * names is unknown. The whole text is searched by the call.
+ *
+ * @param {string} string
+ * @param {Wanted} options
+ * @returns {Generator<Found, void, undefined>}
+ */
+export function findNumbers(string, options = {}) {
+  refuseOthers(options, ['upper', 'greatest']);
+  const { upper = false, greatest = 'zhao' } = options;
+  if (typeof upper !== 'boolean') throw new TypeError('upper is true or false');
+  return foundIn(string, spansOf(string, Number(upper), codeOf(UNITS, greatest, 'unit')));
+}
+
+/**
+ * @param {string} string
+ * @param {{ start: number, end: number, isPlain: boolean }[]} spans
+ * @returns {Generator<Found, void, undefined>}
+ */
+function* foundIn(string, spans) {
+  for (const { start, end, isPlain } of spans) yield new Found(start, string.slice(start, end), isPlain);
+}
+
+/**
+ * Where the numbers of a string stand. They are looked for at once, since a call in between writes over the text that is lent.
+ * @param {string} string
+ * @param {number} upper
+ * @param {number} greatest
+ */
+function spansOf(string, upper, greatest) {
+  const length = hand(string);
+  /** @param {number} at */
+  const find = (at) => library.chinese_number_find_utf8(BigInt(TEXT + at), BigInt(length - at), upper, greatest, READING_AT);
+  const spans = [];
+  let at = 0, position = 0;
+  while (STATUSES[statusOf(() => find(at))] === 'done') {
+    const start = at + Number(words[0]), end = at + Number(words[1]);
+    const before = position + unitsBetween(at, start);
+    position = before + unitsBetween(start, end);
+    spans.push({ start: before, end: position, isPlain: lowHalf(words[2]) === 1 });
+    at = end;
+  }
+  return spans;
+}
+
+/**
+ * How many UTF-16 code units the characters between two bytes of the text have.
+ * @param {number} start
+ * @param {number} end
+ */
+function unitsBetween(start, end) {
+  let units = 0;
+  for (let at = start; at < end; at++) {
+    const byte = text[at];
+    // A byte inside a character adds none, and one that begins four bytes stands for a surrogate pair.
+    if ((byte & 0xc0) !== 0x80) units += byte < 0xf0 ? 1 : 2;
+  }
+  return units;
+}
