@@ -8,10 +8,10 @@ names the statuses. The header, the Rust crate and the Python file name each of 
 same number, and no other; the JavaScript file lists them in this order. The header declares each
 call that the crate exports, and no language has any other. Alike, too, are the most bytes of a
 text of each kind, which a clause of `printing.rt`, `amount.rt` and `date.rt` bounds; the status of
-the C source alone for a text that is too long, and how long that is; and the version of all, which
-is that of the first heading of CHANGELOG and of the files that README installs; and the authors,
-who are those of LICENSE. The texts of refusals are those of `Refusal.antt`, and of amounts and dates those of each `ErrorText.antt`,
-wherever they are written again.
+the C source alone for a text that is too long, and how long that is; the version of all, which is
+that of the first heading of CHANGELOG and of the files that README installs; and the authors, who
+are those of LICENSE. The texts of refusals are those of `Refusal.antt`, and of amounts and dates
+those of each `ErrorText.antt`, wherever they are written again.
 """
 import re
 import sys

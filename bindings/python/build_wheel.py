@@ -21,7 +21,7 @@ from pathlib import Path
 HERE = Path(__file__).resolve().parent
 NAME = "chinese-number-proved"
 MODULE = ("chinese_number/__init__.py", "chinese_number/py.typed")
-# Of version 2.1, which each twine takes. A page of the project on the net has no address yet.
+# Version 2.1 and `License` are what older twine takes too.
 METADATA = """\
 Metadata-Version: 2.1
 Name: {name}
