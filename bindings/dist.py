@@ -42,6 +42,7 @@ COPIES = {
     "bindings/rust/LICENSE": "LICENSE",
     "bindings/rust/source/LICENSE-wabt": "bindings/source/LICENSE-wabt",
     "bindings/rust/source/chinese_number.c": "dist/chinese_number.c",
+    "bindings/rust/source/chinese_number.h": "bindings/c/chinese_number.h",
     "bindings/web/files/chinese-number.32.wasm": "dist/chinese-number.32.wasm",
     "bindings/web/files/chinese-number.64.wasm": "dist/chinese-number.64.wasm",
 }

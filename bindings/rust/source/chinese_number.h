@@ -1,0 +1,313 @@
+/* Chinese numerals for whole numbers, printed, read and found in a text, and amounts of money and dates in capitals: the C
+ * face of the proved library chinese_number.
+ *
+ * On Linux on x86-64 and aarch64, with any C library, link libchinese_number.a or libchinese_number.so. They need at most
+ * memcpy and memset of it, and __udivti3 of the compiler's. On other systems compile chinese_number.c, which is the proved
+ * module for WebAssembly as C source. It needs abort, memcpy, memmove and memset at most. No call takes memory, opens a
+ * file, reads the locale or keeps anything between calls, so any number of threads may call at once.
+ *
+ * What the caller must see to, since nothing tests it:
+ * - no pointer is NULL, not that of an empty text or room either;
+ * - a text and a room have as many bytes as the length says, at most PTRDIFF_MAX;
+ * - what a call writes (the room, *length, *reading, *span) overlaps nothing else that the call is given;
+ * - nothing else writes to what a call is given before it returns.
+ *
+ * All names begin with chinese_, cn_ or CN_. */
+#ifndef CHINESE_NUMBER_H
+#define CHINESE_NUMBER_H
+
+#include <stddef.h>
+#include <stdint.h>
+
+#if SIZE_MAX != UINT64_MAX && SIZE_MAX != UINT32_MAX
+#error "chinese_number.h: the library is for processors where size_t has 64 or 32 bits"
+#endif
+
+#define CN_VERSION "0.1.0"
+#define CN_VERSION_MAJOR 0
+#define CN_VERSION_MINOR 1
+#define CN_VERSION_PATCH 0
+
+#ifdef __cplusplus
+extern "C" {
+#endif
+
+/* The integer type of a number. */
+enum {
+    CN_U8 = 0,
+    CN_U16 = 1,
+    CN_U32 = 2,
+    CN_U64 = 3,
+    CN_U128 = 4,
+    CN_I8 = 5,
+    CN_I16 = 6,
+    CN_I32 = 7,
+    CN_I64 = 8,
+    CN_I128 = 9,
+#if SIZE_MAX == UINT64_MAX
+    CN_USIZE = CN_U64, /* size_t */
+    CN_ISIZE = CN_I64  /* ptrdiff_t */
+#else
+    CN_USIZE = CN_U32,
+    CN_ISIZE = CN_I32
+#endif
+};
+
+/* The way in which a number is written: as plain digits (一二三), or with units (一百二十三) by one of four methods. */
+enum {
+    CN_DIGITS = 0,
+    CN_LOW = 1,          /* each unit is ten times the one before: 億 is 10^5 */
+    CN_TEN_THOUSAND = 2, /* the one to use: after 萬 each is 10^4 times the one before. 10^12 is 兆, as in Taiwan; by the next two 萬億, as on the mainland */
+    CN_MIDDLE = 3,       /* after 億 each is 10^8 times the one before: 兆 is 10^16, 京 is 10^24 */
+    CN_HIGH = 4          /* from 億 on each is the square of the one before: 兆 is 10^16, 京 is 10^32 */
+};
+
+/* The script of a printed text: 萬 or 万. Both are read. */
+enum {
+    CN_TRADITIONAL = 0,
+    CN_SIMPLE = 1
+};
+
+/* The case of a printed text: 壹拾 or 一十. Both are read. */
+enum {
+    CN_UPPER = 0,
+    CN_LOWER = 1
+};
+
+/* The units, by rank: the greatest one that is looked for in a text. */
+enum {
+    CN_GE = 0,
+    CN_SHI = 1,
+    CN_BAI = 2,
+    CN_QIAN = 3,
+    CN_WAN = 4,
+    CN_YI = 5,
+    CN_ZHAO = 6, /* the one to use: greater ones nearly always mean something else in a sentence */
+    CN_JING = 7,
+    CN_GAI = 8,
+    CN_ZI = 9,
+    CN_RANG = 10,
+    CN_GOU = 11,
+    CN_JIAN = 12,
+    CN_ZHENG = 13,
+    CN_ZAI = 14,
+    CN_JI = 15
+};
+
+/* The status that a call returns. */
+enum {
+    CN_DONE = 0,      /* the text was read or printed, or a number was found in it */
+    CN_EMPTY = 1,     /* read: nothing is left of the text without white space and, for signed types, one sign */
+    CN_INCORRECT = 2, /* read: the character at char_index cannot stand there; no amount or date begins with what ends there */
+    CN_TOO_LARGE = 3, /* read: past the type's greatest, or no number of 128 bits; print by CN_LOW: 10^16 or more; print an amount: 10^18 fen or more */
+    CN_TOO_SMALL = 4, /* read: past the type's least; print by CN_LOW: -10^16 or less */
+    CN_NOT_UTF8 = 5,  /* read, find: the bytes are no UTF-8 */
+    CN_NO_ROOM = 6,   /* print: the text has more bytes than the room; *length says how many */
+    CN_NOT_HELD = 7,  /* print: the type does not hold the number */
+    CN_UNKNOWN = 8,   /* a code names no type, way, script, case or unit */
+    CN_UNFINISHED = 9, /* read an amount or a date: the text is none, but something behind it can make it one */
+    CN_NONE = 10,      /* find: there is no number in the text */
+    CN_NOT_A_DATE = 11 /* print a date: there is no such date */
+};
+
+/* No number is printed with more bytes. A zero byte at the end, which cn_print alone writes, is not among them. */
+#define CN_MOST_BYTES 234
+
+/* No amount is printed with more bytes, but for a zero byte that cn_print_amount writes. */
+#define CN_MOST_AMOUNT_BYTES 108
+
+/* No date is printed with more bytes, but for a zero byte that cn_print_date writes. */
+#define CN_MOST_DATE_BYTES 39
+
+/* What the C source alone returns where a text has more than 4293918720 bytes, and what is written is 0; no call of the
+ * archives answers it. */
+#define CN_TOO_LONG UINT32_MAX
+
+/* A whole number in two halves of 64 bits; for a signed type, in two's complement of 128 bits. So (int8_t)number.low is
+ * the value of a number of the type CN_I8. */
+typedef struct cn_number {
+    uint64_t low;
+    uint64_t high;
+} cn_number;
+
+/* What was read: the number at CN_DONE, and at CN_INCORRECT how many characters stand in front of the one at fault, white
+ * space among them. All else is 0. */
+typedef struct cn_reading {
+    cn_number number;
+    size_t char_index;
+} cn_reading;
+
+/* Where a number stands in a text, in bytes from its start, and whether each of its characters is a digit: 1, and then it
+ * is read by CN_DIGITS, or 0, and then by a method. */
+typedef struct cn_span {
+    size_t start;
+    size_t end;
+    uint32_t digits;
+} cn_span;
+
+/* Reads a text, in UTF-8, as a number of a type. Writes *reading whole at each status, and nothing else.
+ *
+ * Returns CN_DONE, CN_EMPTY, CN_INCORRECT, CN_TOO_LARGE, CN_TOO_SMALL, CN_NOT_UTF8 or CN_UNKNOWN. */
+uint32_t chinese_number_read(const uint8_t *text, size_t text_length, uint32_t kind, uint32_t way, cn_reading *reading);
+
+/* The same for bytes that the caller knows to be UTF-8. Nothing tests that: with other bytes the behaviour is undefined. */
+uint32_t chinese_number_read_utf8(const uint8_t *text, size_t text_length, uint32_t kind, uint32_t way,
+                                  cn_reading *reading);
+
+/* Prints a number of a type at the start of a room, in UTF-8. Writes *length at each status: at CN_DONE and CN_NO_ROOM how
+ * many bytes the text has, else 0. Writes to the room at CN_DONE alone, and there no more than the text.
+ *
+ * Returns CN_DONE, CN_TOO_LARGE, CN_TOO_SMALL, CN_NO_ROOM, CN_NOT_HELD or CN_UNKNOWN. A room of CN_MOST_BYTES is never
+ * too small. */
+uint32_t chinese_number_print(cn_number number, uint32_t kind, uint32_t way, uint32_t script, uint32_t letter_case,
+                              uint8_t *room, size_t room_length, size_t *length);
+
+/* Finds the first number of a text in UTF-8: the first run of digits and of units up to the greatest one, of the lower case
+ * (upper 0) or of both (1). Writes *span whole at each status, and nothing else. The next number is the first of what
+ * stands behind span.end.
+ *
+ * Returns CN_DONE, CN_NONE, CN_NOT_UTF8 or CN_UNKNOWN. The whole text is tested, so a loop over all numbers of a text calls
+ * this once, and from then on chinese_number_find_utf8 (example.c has such a loop). */
+uint32_t chinese_number_find(const uint8_t *text, size_t text_length, uint32_t upper, uint32_t greatest, cn_span *span);
+
+/* The same for bytes that the caller knows to be UTF-8. Nothing tests that: with other bytes the behaviour is undefined. */
+uint32_t chinese_number_find_utf8(const uint8_t *text, size_t text_length, uint32_t upper, uint32_t greatest,
+                                  cn_span *span);
+
+/* What was read as an amount: how many fen, the hundredth part of a yuan, at CN_DONE, and at CN_INCORRECT how many
+ * characters stand in front of the one at fault. All else is 0. */
+typedef struct cn_amount {
+    uint64_t fen;
+    size_t char_index;
+} cn_amount;
+
+/* Prints an amount of fen in capitals, as it stands on a cheque, at the start of a room, in UTF-8. Writes *length at each
+ * status: at CN_DONE and CN_NO_ROOM how many bytes the text has, else 0. Writes to the room at CN_DONE alone, and there no
+ * more than the text.
+ *
+ * Returns CN_DONE, CN_NO_ROOM, CN_TOO_LARGE (from 10^18 fen on) or CN_UNKNOWN. A room of CN_MOST_AMOUNT_BYTES is never
+ * too small. */
+uint32_t chinese_amount_print(uint64_t fen, uint32_t script, uint8_t *room, size_t room_length, size_t *length);
+
+/* Reads a text in capitals, in UTF-8, as an amount: each form that the rules for cheques and invoices allow, and no other.
+ * White space is at fault where it stands. Writes *reading whole at each status, and nothing else.
+ *
+ * Returns CN_DONE, CN_UNFINISHED (also for the empty text), CN_INCORRECT at the first character with which no amount
+ * begins, or CN_NOT_UTF8. The whole text is tested to be UTF-8, and then read up to the character at fault, which is among
+ * the first 40. */
+uint32_t chinese_amount_read(const uint8_t *text, size_t text_length, cn_amount *reading);
+
+/* What was read as a date: its year, month (1 is January) and day at CN_DONE, and at CN_INCORRECT how many characters stand
+ * in front of the one at fault. All else is 0. */
+typedef struct cn_date {
+    uint32_t year;
+    uint32_t month;
+    uint32_t day;
+    size_t char_index;
+} cn_date;
+
+/* Prints a date in capitals, as it stands on a cheque, at the start of a room, in UTF-8: one of the Gregorian calendar, from
+ * year 1 to 9999. Writes *length at each status: at CN_DONE and CN_NO_ROOM how many bytes the text has, else 0. Writes to
+ * the room at CN_DONE alone, and there no more than the text.
+ *
+ * Returns CN_DONE, CN_NO_ROOM, CN_NOT_A_DATE or CN_UNKNOWN. A room of CN_MOST_DATE_BYTES is never too small. */
+uint32_t chinese_date_print(uint32_t year, uint32_t month, uint32_t day, uint32_t script, uint8_t *room, size_t room_length,
+                            size_t *length);
+
+/* Reads a text in capitals, in UTF-8, as a date: each form that the rules for bills allow, of a date that there is, and no
+ * other. White space is at fault where it stands. Writes *reading whole at each status, and nothing else.
+ *
+ * Returns CN_DONE, CN_UNFINISHED (also for the empty text), CN_INCORRECT at the first character with which no date begins,
+ * or CN_NOT_UTF8. The whole text is tested to be UTF-8, and then read up to the character at fault, which is among the
+ * first 14. */
+uint32_t chinese_date_read(const uint8_t *text, size_t text_length, cn_date *reading);
+
+/* The halves of a number of an unsigned type of up to 64 bits. */
+static inline cn_number cn_unsigned(uint64_t value) {
+    cn_number number;
+    number.low = value;
+    number.high = 0;
+    return number;
+}
+
+/* The halves of a number of a signed type of up to 64 bits. */
+static inline cn_number cn_signed(int64_t value) {
+    cn_number number;
+    number.low = (uint64_t)value;
+    number.high = value < 0 ? UINT64_MAX : 0;
+    return number;
+}
+
+/* chinese_number_read for a text in char. It may have zero bytes, which are no numeral; strlen(text) tells the length of
+ * one that ends with the first. */
+static inline uint32_t cn_read(const char *text, size_t text_length, uint32_t kind, uint32_t way, cn_reading *reading) {
+    return chinese_number_read((const uint8_t *)text, text_length, kind, way, reading);
+}
+
+/* chinese_number_print into a room of char, with a zero byte at the end of the text at CN_DONE. That byte needs room too: a
+ * room of CN_MOST_BYTES + 1 is never too small. */
+static inline uint32_t cn_print(cn_number number, uint32_t kind, uint32_t way, uint32_t script, uint32_t letter_case,
+                                char *room, size_t room_length) {
+    size_t length, most = room_length == 0 ? 0 : room_length - 1;
+    uint32_t status = chinese_number_print(number, kind, way, script, letter_case, (uint8_t *)room, most, &length);
+    if (status == CN_DONE)
+        room[length] = '\0';
+    return status;
+}
+
+/* chinese_amount_print into a room of char, with a zero byte at the end of the text at CN_DONE: a room of
+ * CN_MOST_AMOUNT_BYTES + 1 is never too small. */
+static inline uint32_t cn_print_amount(uint64_t fen, uint32_t script, char *room, size_t room_length) {
+    size_t length, most = room_length == 0 ? 0 : room_length - 1;
+    uint32_t status = chinese_amount_print(fen, script, (uint8_t *)room, most, &length);
+    if (status == CN_DONE)
+        room[length] = '\0';
+    return status;
+}
+
+/* chinese_amount_read for a text in char. */
+static inline uint32_t cn_read_amount(const char *text, size_t text_length, cn_amount *reading) {
+    return chinese_amount_read((const uint8_t *)text, text_length, reading);
+}
+
+/* chinese_date_print into a room of char, with a zero byte at the end of the text at CN_DONE: a room of
+ * CN_MOST_DATE_BYTES + 1 is never too small. */
+static inline uint32_t cn_print_date(uint32_t year, uint32_t month, uint32_t day, uint32_t script, char *room,
+                                     size_t room_length) {
+    size_t length, most = room_length == 0 ? 0 : room_length - 1;
+    uint32_t status = chinese_date_print(year, month, day, script, (uint8_t *)room, most, &length);
+    if (status == CN_DONE)
+        room[length] = '\0';
+    return status;
+}
+
+/* chinese_date_read for a text in char. */
+static inline uint32_t cn_read_date(const char *text, size_t text_length, cn_date *reading) {
+    return chinese_date_read((const uint8_t *)text, text_length, reading);
+}
+
+/* A status in words. */
+static inline const char *cn_status_text(uint32_t status) {
+    switch (status) {
+    case CN_DONE: return "done";
+    case CN_EMPTY: return "a chinese number cannot be empty";
+    case CN_INCORRECT: return "the chinese number is incorrect";
+    case CN_TOO_LARGE: return "number is too large";
+    case CN_TOO_SMALL: return "number is too small";
+    case CN_NOT_UTF8: return "the text is no UTF-8";
+    case CN_NO_ROOM: return "the room is too small for the text";
+    case CN_NOT_HELD: return "the type does not hold the number";
+    case CN_UNKNOWN: return "a code names no type, way, script, case or unit";
+    case CN_UNFINISHED: return "the amount or date is not finished";
+    case CN_NONE: return "there is no number in the text";
+    case CN_NOT_A_DATE: return "there is no such date";
+    case CN_TOO_LONG: return "the text is too long";
+    default: return "no status of this library";
+    }
+}
+
+#ifdef __cplusplus
+}
+#endif
+
+#endif
