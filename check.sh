@@ -83,5 +83,6 @@ fi
 } > "$scratch/checked"
 time bash bindings/packages.sh --draft "$scratch/packages" "$scratch/checked"
 time python3 checks/packages.py "$scratch/packages"
+time python3 checks/clone.py
 
 tail -n 1 "$scratch/checked"

@@ -37,8 +37,11 @@ def by_page(heading, which=0):
     return textwrap.dedent(commands(section)[which])
 
 
-NUMBER, USE = "十萬五千\n", 'python -c "from chinese_number import to_chinese; print(to_chinese(105_000))"\n'
-URL = "file://${CLONE// /%20}"
+NUMBER, URL = "十萬五千\n", "file://${CLONE// /%20}"
+USE = 'python -c "from chinese_number import to_chinese; print(to_chinese(105_000))"\n'
+EDITABLE = f'pip install -e "$CLONE/bindings/python"\n{USE}'
+BY_GIT = f'pip install "git+{URL}#subdirectory=bindings/python"\n{USE}'
+BESIDE_MODULE = "bindings/python/chinese_number/libchinese_number.so"
 WITHOUT_COMPILER = """\
 if CC=/nowhere pip install "$CLONE/bindings/python" > said 2>&1; then exit 1; fi
 if grep Traceback said; then exit 1; fi
@@ -46,9 +49,8 @@ grep -o 'install a C compiler' said
 """
 # Each way of pip, what it has to say at the end, and what it leaves in the clone.
 OF_PIP = {
-    "pip install -e": (f'pip install -e "$CLONE/bindings/python"\n{USE}', NUMBER,
-                       "bindings/python/chinese_number/libchinese_number.so"),
-    "pip install git+file": (f'pip install "git+{URL}#subdirectory=bindings/python"\n{USE}', NUMBER, ""),
+    "pip install -e": (EDITABLE, NUMBER, BESIDE_MODULE),
+    "pip install git+file": (BY_GIT, NUMBER, ""),
     "pip install without a compiler": (WITHOUT_COMPILER, "install a C compiler\n", ""),
 }
 VENDORED = f"""\
@@ -59,10 +61,11 @@ cargo vendor --quiet vendored > .cargo/config.toml
 export CARGO_HOME=$PWD/other CARGO_TARGET_DIR=$PWD/other
 cargo run --quiet
 """
+PACKED, LOCKED = 'cd "$CLONE/bindings/rust"\ncargo package --quiet\n', "bindings/rust/Cargo.lock"
 OF_CARGO = {
     "cargo add --path": (f"{by_page('Rust')}cargo run --quiet\n", ""),
     "cargo add --git, and vendored": (VENDORED, ""),
-    "cargo package": ('cd "$CLONE/bindings/rust"\ncargo package --quiet\n', "bindings/rust/Cargo.lock"),
+    "cargo package": (PACKED, LOCKED),
 }
 USER_OF_CMAKE = """\
 cmake_minimum_required(VERSION 3.11)
@@ -98,9 +101,10 @@ cmake -S . -B build -DCMAKE_PREFIX_PATH="$at" -DCMAKE_LIBRARY_ARCHITECTURE=here 
 cmake --build build >> log
 build/user > by_cmake
 export PKG_CONFIG_PATH=$at/lib/here/pkgconfig LD_LIBRARY_PATH=$at/lib/here
-eval cc '"$CLONE/bindings/c/example.c"' $(pkg-config --cflags --libs 'chinese-number >= 0.1.0') -o user
+words=$(pkg-config --cflags --libs 'chinese-number >= 0.1.0')
+eval cc '"$CLONE/bindings/c/example.c"' "$words" -o user
 ./user
-cmp by_cmake <(./user)
+./user | cmp - by_cmake
 """
 OF_C = {
     "cc": (by_page("C and C++"), ["cc"], ""),
@@ -113,8 +117,9 @@ OF_C = {
 def without_network():
     """What a command begins with, so that it has no network."""
     words = ("unshare", "--map-root-user", "--net")
-    if shutil.which(words[0]) and not subprocess.run([*words, "true"], capture_output=True).returncode:
-        return words
+    if shutil.which(words[0]):
+        if not subprocess.run([*words, "true"], capture_output=True).returncode:
+            return words
     LEFT_OUT.append("the network's absence, since unshare may not")
     return ()
 
@@ -143,7 +148,7 @@ class Clones:
             run("git", *OF_GIT, *words, cwd=self.first)
 
     def follow(self, what, prepare, command, wanted, left):
-        """Follows a command in a folder and with a clone of its own, which gets no files but `left`."""
+        """Follows a command in a folder of its own, with a clone in which it leaves one file or none."""
         folder = Path(tempfile.mkdtemp(dir=self.scratch))
         user, clone = folder / "user", folder / "a clone"
         user.mkdir()
@@ -176,7 +181,7 @@ def by_cmake(text, user):
 
 
 def jobs():
-    """Each way of installing: its name, what prepares for it, its command, what that says, what it leaves."""
+    """Each way of installing, as `follow` takes it."""
     if has("cc"):
         for version, program in pythons().items():
             command = f'cd "$CLONE"\n{by_page("Python")}'
