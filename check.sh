@@ -91,6 +91,7 @@ fi
 time bash bindings/packages.sh --draft "$scratch/packages" "$scratch/checked"
 time python3 checks/packages.py "$scratch/packages"
 time python3 checks/freestanding.py
+time python3 checks/clone.py
 time python3 checks/clone_npm.py
 
 tail -n 1 "$scratch/checked"

@@ -8,10 +8,10 @@ names the statuses. The header, the Rust crate and the Python file name each of 
 same number, and no other; the JavaScript file lists them in this order. The header declares each
 call that the crate exports, and no language has any other. Alike, too, are the most bytes of a
 text of each kind, which a clause of `printing.rt`, `amount.rt` and `date.rt` bounds; the status of
-the C source alone for a text that is too long, and how long that is; and the version of all, which
-is that of the first heading of CHANGELOG and of the files that README installs. The texts of
-refusals are those of `Refusal.antt`, and of amounts and dates those of each `ErrorText.antt`,
-wherever they are written again.
+the C source alone for a text that is too long, and how long that is; the version of all, which is
+that of the first heading of CHANGELOG and of the files that README installs; and the authors, who
+are those of LICENSE. The texts of refusals are those of `Refusal.antt`, and of amounts and dates
+those of each `ErrorText.antt`, wherever they are written again.
 """
 import re
 import sys
@@ -22,7 +22,7 @@ TABLE = re.compile(r"^pub static (\w+): \[.*?\] = \[(.*?)\];", re.MULTILINE | re
 NAMED = re.compile(r"(?:^|[,;{])[ \t]*(?:pub const )?(?:CN_)?(\w+)(?:: u32)? = (\d+)\b", re.MULTILINE)
 END_OF_TABLE = re.compile(r"\n\};?\n|\n\n\n")
 
-HEADER, RUST, PYTHON = "c/chinese_number.h", "rust/src/abi.rs", "python/chinese_number.py"
+HEADER, RUST, PYTHON = "c/chinese_number.h", "rust/src/abi.rs", "python/chinese_number/__init__.py"
 JAVASCRIPT = "web/chinese-number.mjs"
 # Where each table begins, in the order of the tables, the statuses last.
 BEGINNINGS = {
@@ -50,13 +50,17 @@ VERSIONS = (
     (PYTHON, r'^__version__ = "(.*)"'),
     ("../CHANGELOG.md", r"^## ([\d.]+)"),
 )
+AUTHORS = (
+    ("../LICENSE", r"^Copyright \(c\) \d+ (.*)"),
+    ("rust/Cargo.toml", r'^authors = \["(.*)"\]'),
+)
 # Where the texts of refusals are written again, from the repository's top.
 REFUSALS = "crates/cn_core/specs/Refusal.antt"
 OF_READERS = (
     "bindings/c/chinese_number.h",
     "bindings/rust/src/read.rs",
     "bindings/rust/tests/interface.rs",
-    "bindings/python/chinese_number.py",
+    "bindings/python/chinese_number/__init__.py",
     "bindings/web/chinese-number.mjs",
     "crates/numeral/src/main.rt",
     "docs/RULES.md",
@@ -66,20 +70,25 @@ REFUSALS_OF_CAPITALS = ("crates/cn_amount/specs/ErrorText.antt", "crates/cn_date
 OF_READERS_OF_CAPITALS = (
     "bindings/rust/src/read.rs",
     "bindings/rust/tests/interface.rs",
-    "bindings/python/chinese_number.py",
+    "bindings/python/chinese_number/__init__.py",
     "bindings/web/chinese-number.mjs",
 )
 OF_PRINTERS_OF_CAPITALS = (
     "bindings/c/chinese_number.h",
     "bindings/rust/src/print.rs",
     "bindings/rust/tests/interface.rs",
-    "bindings/python/chinese_number.py",
+    "bindings/python/chinese_number/__init__.py",
     "bindings/web/chinese-number.mjs",
 )
 
 
 def text_of(path):
     return path.read_text(encoding="utf-8")
+
+
+def found_by(bindings, patterns):
+    """What stands in each of these files, by its pattern."""
+    return {re.search(pattern, text_of(bindings / file), re.MULTILINE)[1] for file, pattern in patterns}
 
 
 def snake(name):
@@ -194,12 +203,12 @@ def main():
             if table != right or not right:
                 sys.exit(f"codes: {name} of {language}: {table}, and not {right}")
 
-    versions = {re.search(pattern, text_of(bindings / file), re.MULTILINE)[1] for file, pattern in VERSIONS}
+    authors, versions = found_by(bindings, AUTHORS), found_by(bindings, VERSIONS)
     for page in ("../README.md", "README.md", "web/README.md"):
         versions.update(re.findall(r"chinese.number[a-z-_]*-(\d[\d.]*\d)\b", text_of(bindings / page)))
     versions.add(".".join(re.findall(r"^#define CN_VERSION_\w+ (\d+)", texts[HEADER], re.MULTILINE)))
-    if len(versions) != 1:
-        sys.exit(f"codes: versions {sorted(versions)}")
+    if len(versions) != 1 or len(authors) != 1:
+        sys.exit(f"codes: versions {sorted(versions)}, and authors {sorted(authors)}")
     for language, line in TOO_LONG.items():
         if texts[language].count(line) != 1:
             sys.exit(f"codes: {language} lacks the line {line.strip()!r}")

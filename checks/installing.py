@@ -1,5 +1,6 @@
-"""What checks share that do as a user does: commands without `rt` and without this repository's
-environment; the READMEs of the packages; and what was tried and left out."""
+"""What the checks of installing share: commands that run as a user's do, without `rt` and this
+repository's environment; what pip and cargo install into; the pages that say how to install; and
+what was tried and left out."""
 import json
 import os
 import platform
@@ -67,19 +68,25 @@ def commands(text):
     return re.findall(r"(?:^    .*\n)+", re.sub(r"^```.*?^```$", "", text, flags=re.M | re.S), re.M)
 
 
-class Readme:
-    """The README of a package: its install lines, and its example, whose comments say its answers."""
+class Page:
+    """The install lines of a page, and its example in a language, whose comments say its answers."""
 
-    def __init__(self, package, name, language):
-        files = listed(package)
-        text = next(data for it, data in files.items() if it.endswith(name)).decode()
+    def __init__(self, text, name, language):
         blocks = re.findall(rf"^```{language}\n(.*?)^```$", text, re.M | re.S)
         if len(blocks) != 1:
-            fail(f"the README of {package.name} has {len(blocks)} blocks of {language}")
+            fail(f"{name} has {len(blocks)} blocks of {language}")
         self.example = blocks[0]
         self.installs = commands(text)
         answers = re.findall(r"(?://|/\*) (.*?)(?: \*/)?$", self.example, re.M)
         self.answer = "".join(f"{it}\n" for it in answers)
+
+
+class Readme(Page):
+    """The README of a package."""
+
+    def __init__(self, package, name, language):
+        text = next(data for it, data in listed(package).items() if it.endswith(name)).decode()
+        super().__init__(text, f"the README of {package.name}", language)
 
     def follow(self, out, folder, which=0, **more):
         """Follows install lines, the first of the page or others, in a folder that has the packages."""
@@ -111,3 +118,36 @@ def unpacked(tarball, scratch):
     with tarfile.open(tarball) as packed:
         packed.extractall(first)
     return next(first.iterdir()).rename(scratch / f"a folder {len(list(scratch.iterdir()))}")
+
+
+def virtual_environment(program, folder):
+    """A new virtual environment of a Python, for which pip asks no index: the variables that choose it."""
+    run(program, "-m", "venv", "--clear", folder, cwd=folder.parent)
+    quiet = {"PIP_DISABLE_PIP_VERSION_CHECK": "1", "PIP_QUIET": "1", "PIP_NO_CACHE_DIR": "1"}
+    path = f"{folder}/bin:{ENVIRONMENT['PATH']}"
+    return dict(quiet, PATH=path, PIP_NO_INDEX="1", PYTHONIOENCODING="utf-8")
+
+
+MANIFEST = """\
+[package]
+name = "user"
+version = "0.0.0"
+edition = "2021"
+
+[workspace]
+
+[dependencies]
+"""
+
+
+def of_rust(project, page):
+    """A project whose program is the example of a page."""
+    uses, lines = re.fullmatch(r"(use .*?;\n)(.*)", page.example, re.S).groups()
+    write(project / "src/main.rs", f"{uses}\nfn main() {{\n{lines}}}\n")
+    return write(project / "Cargo.toml", MANIFEST).parent
+
+
+def print_tried(name, more=""):
+    """The last line of a check: what it has tried, and what it has left out."""
+    tried, left = (", ".join(dict.fromkeys(names)) for names in (TRIED, LEFT_OUT))
+    print(f"{name}: {more}tried with {tried}; not here, and so left out: {left or 'nothing'}")

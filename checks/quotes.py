@@ -13,7 +13,7 @@ BLOCK = re.compile(r"^```(\w+)$\n(.*?)^```$", re.MULTILINE | re.DOTALL)
 FILES = {
     "c": "c/example.c",
     "rust": "rust/src/lib.rs",
-    "python": "python/chinese_number.py",
+    "python": "python/chinese_number/__init__.py",
     "js": "web/README.md",
 }
 # The languages of the examples on each page.

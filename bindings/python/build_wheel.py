@@ -1,8 +1,9 @@
-"""Makes a wheel of the source package, with a C compiler and Python's standard library alone.
+"""Makes a wheel of a clone or of the source package, with a C compiler and Python's standard
+library alone.
 
-It is the package's build backend, so pip calls `build_wheel`. The compiler is the one that CC
-names, else Python's own, else the first that is there. bindings/packages.py packs its wheels by this
-file too.
+It is the build backend, so pip calls `build_wheel`, and for `pip install -e` `build_editable`. The
+compiler is the one that CC names, else Python's own, else the first that is there.
+bindings/packages.py packs by this file too, which alone has the metadata.
 """
 import base64
 import hashlib
@@ -11,12 +12,33 @@ import re
 import shlex
 import shutil
 import subprocess
+import sys
 import sysconfig
 import tempfile
 import zipfile
 from pathlib import Path
 
 HERE = Path(__file__).resolve().parent
+NAME = "chinese-number-proved"
+MODULE = ("chinese_number/__init__.py", "chinese_number/py.typed")
+# Version 2.1 and `License` are what older twine takes too.
+METADATA = """\
+Metadata-Version: 2.1
+Name: {name}
+Version: {version}
+Summary: Chinese numerals, and amounts and dates in capitals, read, written and found by a proved library
+Keywords: chinese,numeral,number,cheque
+Author: {author}
+License: {license}
+Requires-Python: >=3.8
+Description-Content-Type: text/markdown
+Classifier: Programming Language :: Python :: 3
+Classifier: Natural Language :: Chinese (Simplified)
+Classifier: Natural Language :: Chinese (Traditional)
+Classifier: Topic :: Text Processing :: Linguistic
+Classifier: Typing :: Typed
+
+{readme}"""
 WHEEL = """\
 Wheel-Version: 1.0
 Generator: build_wheel.py
@@ -27,6 +49,44 @@ COMPILERS = ("cc", "gcc", "clang", "cl")
 
 class UnsupportedOperation(Exception):
     """What a frontend looks for where a backend cannot do something."""
+
+
+def stop(why):
+    """Ends by a sentence, which pip shows as it is. A traceback would hide it."""
+    sys.exit(f"{NAME}: {why}")
+
+
+def text_of(name):
+    return (HERE / name).read_text(encoding="utf-8")
+
+
+def package():
+    """The name and the version, as a package's file name begins."""
+    version = re.search(r'^__version__ = "(.*)"', text_of(MODULE[0]), re.M)[1]
+    return f"{NAME.replace('-', '_')}-{version}"
+
+
+def metadata(license):
+    """What pip reads of a package, with the README."""
+    return METADATA.format(
+        name=NAME,
+        version=package().rpartition("-")[2],
+        author=re.search(r"^Copyright \(c\) \d+ (.*)$", text_of("LICENSE"), re.M)[1],
+        license=license,
+        readme=text_of("README.md"),
+    ).encode()
+
+
+def about():
+    """The files about a wheel of C source: of wabt's licence, too, which is that of Apache."""
+    licenses = (HERE / "LICENSE", HERE / "source/LICENSE-wabt")
+    files = {"METADATA": metadata("MIT AND Apache-2.0")}
+    files.update({f"licenses/{path.name}": path.read_bytes() for path in licenses})
+    # The source package's own, or a clone's.
+    for folder in (HERE, HERE.parent.parent / "dist"):
+        if (folder / "PROVENANCE.json").is_file():
+            return {**files, "PROVENANCE.json": (folder / "PROVENANCE.json").read_bytes()}
+    return files
 
 
 def write_wheel(path, info, files):
@@ -44,16 +104,23 @@ def write_wheel(path, info, files):
             packed.writestr(entry, data)
 
 
-def pack(folder, name, platforms, module, about):
-    """Writes a wheel of the module's files and of those about it, and gives its file name."""
-    info = f"{name}.dist-info"
+def pack(folder, platforms, files, about):
+    """Writes a wheel of files and of those about it, and gives its file name."""
+    info = f"{package()}.dist-info"
     tags = "".join(f"Tag: py3-none-{platform}\n" for platform in platforms)
-    files = {f"chinese_number/{it}": data for it, data in module.items()}
-    files.update({f"{info}/{it}": data for it, data in about.items()})
+    files = {**files, **{f"{info}/{it}": data for it, data in about.items()}}
     files[f"{info}/WHEEL"] = (WHEEL + tags).encode()
-    wheel = f"{name}-py3-none-{'.'.join(platforms)}.whl"
+    wheel = f"{package()}-py3-none-{'.'.join(platforms)}.whl"
     write_wheel(Path(folder) / wheel, info, files)
     return wheel
+
+
+def this_platform():
+    return re.sub(r"[-.]", "_", sysconfig.get_platform())
+
+
+def module():
+    return {it: (HERE / it).read_bytes() for it in MODULE}
 
 
 def compiler():
@@ -63,7 +130,8 @@ def compiler():
         words = shlex.split(words or "", posix=os.name == "posix")
         if words and shutil.which(words[0]):
             return words
-    raise RuntimeError(f"there is no C compiler {named or 'here'}: install one, or name another by CC")
+    missing = f", since {named}, which CC names, is not here" if named else ""
+    return stop(f"install a C compiler (on Debian: apt install gcc), or name one by CC{missing}")
 
 
 def call(source, library):
@@ -81,25 +149,28 @@ def call(source, library):
     return [*words, "-O2", "-fvisibility=hidden", *flags, str(source), "-o", str(library)]
 
 
-def shared_library(suffix):
+def shared_library():
+    """The library, by the path that it has in a wheel."""
+    suffix = {"win": ".dll", "mac": ".dylib"}.get(sysconfig.get_platform()[:3], ".so")
     with tempfile.TemporaryDirectory() as folder:
         library = Path(folder) / f"libchinese_number{suffix}"
-        subprocess.run(call(HERE / "source/chinese_number.c", library), cwd=folder, check=True)
-        return {library.name: library.read_bytes()}
+        words = call(HERE / "source/chinese_number.c", library)
+        if subprocess.run(words, cwd=folder).returncode:
+            stop(f"the C compiler failed, or is incomplete: {' '.join(words)}")
+        return {f"chinese_number/{library.name}": library.read_bytes()}
 
 
 def build_wheel(wheel_directory, config_settings=None, metadata_directory=None):
-    platform = sysconfig.get_platform()
-    suffix = {"win": ".dll", "mac": ".dylib"}.get(platform[:3], ".so")
-    metadata = (HERE / "PKG-INFO").read_text(encoding="utf-8")
-    name, version = re.search(r"^Name: (.*)\nVersion: (.*)$", metadata, re.M).groups()
-    module = {it: (HERE / "chinese_number" / it).read_bytes() for it in ("__init__.py", "py.typed")}
-    provenance = (HERE / "PROVENANCE.json").read_bytes()
-    about = {"METADATA": metadata.encode(), "PROVENANCE.json": provenance}
-    about.update({f"licenses/{it.name}": it.read_bytes() for it in sorted(HERE.glob("LICENSE*"))})
-    package = f"{name.replace('-', '_')}-{version}"
-    tag = re.sub(r"[-.]", "_", platform)
-    return pack(wheel_directory, package, [tag], {**module, **shared_library(suffix)}, about)
+    files = {**module(), **shared_library()}
+    return pack(wheel_directory, [this_platform()], files, about())
+
+
+def build_editable(wheel_directory, config_settings=None, metadata_directory=None):
+    """The library goes beside the module, which stays here, and the wheel says where that is."""
+    for path, data in shared_library().items():
+        (HERE / path).write_bytes(data)
+    files = {f"{NAME}.pth": os.fsencode(f"{HERE}\n")}
+    return pack(wheel_directory, [this_platform()], files, about())
 
 
 def build_sdist(sdist_directory, config_settings=None):

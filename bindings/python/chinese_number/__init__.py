@@ -21,10 +21,10 @@ datetime.date(2026, 1, 15)
 >>> [found.number() for found in find_numbers('第二十三回，二零二五年')]
 [23, 2025]
 
-The shared library libchinese_number.so, on macOS .dylib and on Windows .dll, stands beside this file, as a wheel puts it, or
-in the folder that CHINESE_NUMBER_LIB names, as bindings/archive.sh makes it. It takes no memory, keeps nothing between calls
-and reads no locale, and a call lets other threads of Python run. Where it is made of C source, a text of more than
-4,293,918,720 bytes is an OverflowError.
+The shared library libchinese_number.so, on macOS .dylib and on Windows .dll, stands beside this file, as pip puts it, or in
+the folder that CHINESE_NUMBER_LIB names, as bindings/archive.sh makes it, which comes first. It takes no memory, keeps
+nothing between calls and reads no locale, and a call lets other threads of Python run. Where it is made of C source, a text
+of more than 4,293,918,720 bytes is an OverflowError.
 """
 
 from __future__ import annotations
@@ -238,13 +238,14 @@ class _Span(ctypes.Structure):
 
 def _opened() -> ctypes.CDLL:
     name = "libchinese_number." + {"darwin": "dylib", "win32": "dll"}.get(sys.platform, "so")
-    beside = Path(__file__).resolve().parent / name
-    path = beside if beside.exists() else Path(os.environ.get("CHINESE_NUMBER_LIB", "")).resolve() / name
+    named = os.environ.get("CHINESE_NUMBER_LIB")
+    path = Path(named or Path(__file__).parent).resolve() / name
     try:
         return ctypes.CDLL(str(path))
     except OSError as error:
         raise ImportError(
-            f"{error}\nSet CHINESE_NUMBER_LIB to a folder with {name}, as bindings/archive.sh OUT makes it on Linux."
+            f"{error}\nRun `pip install ./bindings/python` at the top of a clone, or set CHINESE_NUMBER_LIB to a folder "
+            f"with {name}, as bindings/archive.sh OUT makes it on Linux."
         ) from None
 
 
