@@ -37,8 +37,8 @@ export function amountToChinese(fen: bigint, options?: ScriptOptions): string;
 /**
  * Reads an amount of money in capitals, and gives its fen as a BigInt: `chineseToAmount('壹拾伍元整')` is 1500n.
  *
- * Every form that the rules for cheques and invoices allow is read, and no other. Throws an AmountError where the text is none,
- * and a TypeError where it is no string. White space is refused like any other character.
+ * Throws an AmountError where the text is none, and a TypeError where it is no string. White space is refused like any other
+ * character.
  *
  * @param {string} string
  * @returns {bigint}
@@ -72,8 +72,8 @@ export function dateToChinese(date: BillDate, options?: ScriptOptions): string;
 /**
  * Reads a date in capitals: `chineseToDate('贰零贰陆年零壹月壹拾伍日')` is { year: 2026, month: 1, day: 15 }.
  *
- * What the rule for cheques allows is read, and nothing else. Throws a DateError where the text is none, and a TypeError where
- * it is no string. White space is refused like any other character.
+ * Throws a DateError where the text is none, and a TypeError where it is no string. White space is refused like any other
+ * character.
  *
  * @param {string} string
  * @returns {BillDate}

@@ -154,13 +154,14 @@ uint32_t chinese_number_read(const uint8_t *text, size_t text_length, uint32_t k
 uint32_t chinese_number_read_utf8(const uint8_t *text, size_t text_length, uint32_t kind, uint32_t way,
                                   cn_reading *reading);
 
-/* Prints a number of a type at the start of a room, in UTF-8. Writes *length at each status: at CN_DONE and CN_NO_ROOM how
- * many bytes the text has, else 0. Writes to the room at CN_DONE alone, and there no more than the text.
+/* Prints a number of a type, given in its two halves, at the start of a room, in UTF-8. Writes *length at each status: at
+ * CN_DONE and CN_NO_ROOM how many bytes the text has, else 0. Writes to the room at CN_DONE alone, and there no more than
+ * the text.
  *
  * Returns CN_DONE, CN_TOO_LARGE, CN_TOO_SMALL, CN_NO_ROOM, CN_NOT_HELD or CN_UNKNOWN. A room of CN_MOST_BYTES is never
  * too small. */
-uint32_t chinese_number_print(cn_number number, uint32_t kind, uint32_t way, uint32_t script, uint32_t letter_case,
-                              uint8_t *room, size_t room_length, size_t *length);
+uint32_t chinese_number_print(uint64_t low, uint64_t high, uint32_t kind, uint32_t way, uint32_t script,
+                              uint32_t letter_case, uint8_t *room, size_t room_length, size_t *length);
 
 /* Finds the first number of a text in UTF-8: the first run of digits and of units up to the greatest one, of the lower case
  * (upper 0) or of both (1). Writes *span whole at each status, and nothing else. The next number is the first of what
@@ -189,8 +190,8 @@ typedef struct cn_amount {
  * too small. */
 uint32_t chinese_amount_print(uint64_t fen, uint32_t script, uint8_t *room, size_t room_length, size_t *length);
 
-/* Reads a text in capitals, in UTF-8, as an amount: each form that the rules for cheques and invoices allow, and no other.
- * White space is at fault where it stands. Writes *reading whole at each status, and nothing else.
+/* Reads a text in capitals, in UTF-8, as an amount. White space is at fault where it stands. Writes *reading whole at each
+ * status, and nothing else.
  *
  * Returns CN_DONE, CN_UNFINISHED (also for the empty text), CN_INCORRECT at the first character with which no amount
  * begins, or CN_NOT_UTF8. The whole text is tested to be UTF-8, and then read up to the character at fault, which is among
@@ -214,8 +215,8 @@ typedef struct cn_date {
 uint32_t chinese_date_print(uint32_t year, uint32_t month, uint32_t day, uint32_t script, uint8_t *room, size_t room_length,
                             size_t *length);
 
-/* Reads a text in capitals, in UTF-8, as a date: each form that the rules for bills allow, of a date that there is, and no
- * other. White space is at fault where it stands. Writes *reading whole at each status, and nothing else.
+/* Reads a text in capitals, in UTF-8, as a date. White space is at fault where it stands. Writes *reading whole at each
+ * status, and nothing else.
  *
  * Returns CN_DONE, CN_UNFINISHED (also for the empty text), CN_INCORRECT at the first character with which no date begins,
  * or CN_NOT_UTF8. The whole text is tested to be UTF-8, and then read up to the character at fault, which is among the
@@ -249,7 +250,8 @@ static inline uint32_t cn_read(const char *text, size_t text_length, uint32_t ki
 static inline uint32_t cn_print(cn_number number, uint32_t kind, uint32_t way, uint32_t script, uint32_t letter_case,
                                 char *room, size_t room_length) {
     size_t length, most = room_length == 0 ? 0 : room_length - 1;
-    uint32_t status = chinese_number_print(number, kind, way, script, letter_case, (uint8_t *)room, most, &length);
+    uint32_t status = chinese_number_print(number.low, number.high, kind, way, script, letter_case, (uint8_t *)room,
+                                           most, &length);
     if (status == CN_DONE)
         room[length] = '\0';
     return status;
