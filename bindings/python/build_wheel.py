@@ -168,7 +168,10 @@ def build_wheel(wheel_directory, config_settings=None, metadata_directory=None):
 def build_editable(wheel_directory, config_settings=None, metadata_directory=None):
     """The library goes beside the module, which stays here, and the wheel says where that is."""
     for path, data in shared_library().items():
-        (HERE / path).write_bytes(data)
+        try:
+            (HERE / path).write_bytes(data)
+        except OSError as error:
+            stop(f"{error}. An editable install writes there; install without it")
     files = {f"{NAME}.pth": os.fsencode(f"{HERE}\n")}
     return pack(wheel_directory, [this_platform()], files, about())
 
