@@ -61,11 +61,10 @@ cargo vendor --quiet vendored > .cargo/config.toml
 export CARGO_HOME=$PWD/other CARGO_TARGET_DIR=$PWD/other
 cargo run --quiet
 """
-PACKED, LOCKED = 'cd "$CLONE/bindings/rust"\ncargo package --quiet\n', "bindings/rust/Cargo.lock"
 OF_CARGO = {
-    "cargo add --path": (f"{by_page('Rust')}cargo run --quiet\n", ""),
-    "cargo add --git, and vendored": (VENDORED, ""),
-    "cargo package": (PACKED, LOCKED),
+    "cargo add --path": f"{by_page('Rust')}cargo run --quiet\n",
+    "cargo add --git, and vendored": VENDORED,
+    "cargo package": 'cd "$CLONE/bindings/rust"\ncargo package --quiet\n',
 }
 USER_OF_CMAKE = """\
 cmake_minimum_required(VERSION 3.11)
@@ -94,13 +93,14 @@ build/user
 """
 INSTALLED = """\
 at=$PWD/installed
-cmake -S "$CLONE/dist" -B made -DCMAKE_INSTALL_LIBDIR=lib/here -DBUILD_SHARED_LIBS={} > log
+lib=lib/$(cc -print-multiarch)
+cmake -S "$CLONE/dist" -B made -DCMAKE_INSTALL_LIBDIR="$lib" -DBUILD_SHARED_LIBS={} > log
 cmake --build made >> log
 cmake --install made --prefix "$at" >> log
-cmake -S . -B build -DCMAKE_PREFIX_PATH="$at" -DCMAKE_LIBRARY_ARCHITECTURE=here >> log
+cmake -S . -B build -DCMAKE_PREFIX_PATH="$at" >> log
 cmake --build build >> log
 build/user > by_cmake
-export PKG_CONFIG_PATH=$at/lib/here/pkgconfig LD_LIBRARY_PATH=$at/lib/here
+export PKG_CONFIG_PATH=$at/$lib/pkgconfig LD_LIBRARY_PATH=$at/$lib
 words=$(pkg-config --cflags --libs 'chinese-number >= 0.1.0')
 eval cc '"$CLONE/bindings/c/example.c"' "$words" -o user
 ./user
@@ -190,8 +190,8 @@ def jobs():
         for what, (command, wanted, left) in OF_PIP.items():
             yield what, partial(by_pip, sys.executable), command, wanted, left
     if has("cc") and has("cargo"):
-        for what, (command, left) in OF_CARGO.items():
-            yield what, by_cargo, command, "", left
+        for what, command in OF_CARGO.items():
+            yield what, by_cargo, command, "", ""
     for what, (command, tools, text) in OF_C.items():
         if all(map(has, tools)):
             yield what, partial(by_cmake, text), command, C.answer, ""
