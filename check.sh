@@ -58,7 +58,6 @@ time bash bindings/archive.sh "$scratch/bindings"
 time bash bindings/web/test.sh $numeral
 time python3 checks/c_binding.py bindings/c "$scratch/bindings"
 time python3 checks/rust_binding.py bindings/rust crates/cn_vectors "$scratch/bindings"
-time python3 checks/freestanding.py
 time python3 checks/python_binding.py bindings/python "$scratch/bindings"
 
 # The wrong bodies, over the libraries that the gate has left.
@@ -77,5 +76,6 @@ fi
 } > "$scratch/checked"
 time bash bindings/packages.sh --draft "$scratch/packages" "$scratch/checked"
 time python3 checks/packages.py "$scratch/packages"
+time python3 checks/freestanding.py
 
 tail -n 1 "$scratch/checked"

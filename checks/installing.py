@@ -1,5 +1,5 @@
-"""What the checks of the packages share: commands that run as a user's do, without `rt` and this
-repository's environment; the READMEs of the packages; and what was tried and left out."""
+"""What checks share that do as a user does: commands without `rt` and without this repository's
+environment; the READMEs of the packages; and what was tried and left out."""
 import json
 import os
 import platform
