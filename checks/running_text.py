@@ -5,8 +5,9 @@ Usage: running_text.py NUMBERS REFUSE_GROWTH.so
 
 Answers go to standard output and the usage of an unknown word to standard error; the other stays
 empty. With each growth of memory refused in turn, by checks/refuse_growth.c, the status is 2, and
-what is written is a beginning of the answers.
+what is written are the whole answers to the first lines.
 """
+import itertools
 import os
 import select
 import subprocess
@@ -25,9 +26,15 @@ ANSWERED = [
     ([], "x四\né五\n文六\n😀七", "1:2 四 4\n2:2 五 5\n3:2 六 6\n4:2 七 7\n"),
     ([], "二　三\u2028四", "1:1 二 2\n1:3 三 3\n1:5 四 4\n"),
     ([], "三個人、三個億", "1:1 三 3\n1:5 三個億 300000000\n"),
+    ([], "三京", "1:1 三 3\n"),
+    (["--all"], "三京", "1:1 三京 30000000000000000\n"),
     ([], "初三參加", "1:2 三 3\n"),
     (["--all"], "初三參加", "1:2 三參 33\n"),
-    (["--all"], "壹佰元正", "1:1 壹佰 100\n1:4 正 err the chinese number is incorrect (position: 0)\n"),
+    (
+        ["--all"],
+        "壹佰元正",
+        "1:1 壹佰 100\n1:4 正 err the chinese number is incorrect (position: 0)\n",
+    ),
     ([], "9" * 40, "1:1 " + "9" * 40 + " err number is too large\n"),
     ([], LARGE, f"1:1 {LARGE} 9999999900000000\n"),
     (["ten_thousand"], "三兆", "1:1 三兆 3000000000000\n"),
@@ -37,10 +44,20 @@ ANSWERED = [
     (["low", "--all", "high"], "三兆貳", "1:1 三兆貳 32000000000000000\n"),
     (["--all", "low"], "三兆", "1:1 三兆 3000000\n"),
 ]
-# What stands in a line that is no UTF-8: a byte that begins nothing, a character cut off, and a surrogate.
+# What stands in a line that is no UTF-8: a byte that begins nothing, a character cut off, a
+# surrogate, and a character in more bytes than it has.
 BAD = [b"\xff", "三".encode()[:2], "三".encode() + b"\xed\xa0\x80", b"\xc0\x80"]
 # Options of which one is unknown: the usage, at status 2.
-UNKNOWN = [["--every"], ["-"], [""], ["naive"], ["Low"], ["--all", "all"], ["--help", "me"], ["low", "二十三"]]
+UNKNOWN = [
+    ["--every"],
+    ["-"],
+    [""],
+    ["naive"],
+    ["Low"],
+    ["--all", "all"],
+    ["--help", "me"],
+    ["low", "二十三"],
+]
 SAMPLE = "第二十三回，他五六十歲\n買2兩\n".encode() + b"\xff\n" + "初三".encode()
 
 
@@ -53,8 +70,9 @@ def run(program, words=(), data=b"", **more):
 
 
 def expect(what, got, status, output=b"", error=b""):
-    if (got.returncode, got.stdout, got.stderr) != (status, output, error):
-        fail(f"{what}: {got.returncode} {got.stdout[:99]!r} {got.stderr[:99]!r}, and not {status} {output[:99]!r} {error[:99]!r}")
+    ended, wanted = (got.returncode, got.stdout, got.stderr), (status, output, error)
+    if ended != wanted:
+        fail(f"{what}: {ended!r:.300}, and not {wanted!r:.300}")
 
 
 def check_rows(program):
@@ -78,11 +96,17 @@ def check_streams(program):
     expect("many lines", run(program, (), many), 0, answers)
     with open("/dev/full", "wb") as full:
         for words, data in (([], SAMPLE), ([], many), (["--help"], b"")):
-            ended = subprocess.run([program, *words], input=data, stdout=full, stderr=subprocess.DEVNULL)
+            ended = subprocess.run(
+                [program, *words], input=data, stdout=full, stderr=subprocess.DEVNULL
+            )
             if ended.returncode != 1:
                 fail(f"a full output: status {ended.returncode}, and not 1")
     folder = os.open("/", os.O_RDONLY)
-    expect("an input that cannot be read", subprocess.run([program], stdin=folder, capture_output=True), 1)
+    expect(
+        "an input that cannot be read",
+        subprocess.run([program], stdin=folder, capture_output=True),
+        1,
+    )
     os.close(folder)
 
 
@@ -102,18 +126,37 @@ def check_dialogue(program):
         fail("the program did not end with status 0 and no further byte")
 
 
+def first_answers(answers):
+    """The whole answers to the first lines, for each number of them."""
+    of_lines = itertools.groupby(answers.splitlines(True), lambda answer: answer.split(b":")[0])
+    return list(itertools.accumulate((b"".join(line) for _, line in of_lines), initial=b""))
+
+
 def growths_refused(program, words, data, library):
-    """How many growths of memory a run takes, each of them refused in a run of its own."""
+    """What a run writes with each growth of memory that it takes refused in turn."""
     ample = run(program, words, data).stdout
-    number = 1
+    allowed = first_answers(ample)
+    written = []
     while True:
-        got = run(program, words, data, env={**os.environ, "LD_PRELOAD": library, "REFUSE": str(number)})
+        refusing = {**os.environ, "LD_PRELOAD": library, "REFUSE": str(len(written) + 1)}
+        got = run(program, words, data, env=refusing)
         if not got.stderr:
             expect(f"{words}, with no growth refused", got, 0, ample)
-            return number - 1
-        if (got.returncode, got.stderr) != (2, b"refused\n") or not ample.startswith(got.stdout):
-            fail(f"{words}, growth {number} refused: {got.returncode} {got.stdout!r} {got.stderr!r}")
-        number += 1
+            return written
+        written.append(got.stdout)
+        if (got.returncode, got.stderr) != (2, b"refused\n") or got.stdout not in allowed:
+            fail(f"{words}, growth {len(written)} refused: {got!r:.300}")
+
+
+def check_memory(program, library):
+    """Says how many growths were refused."""
+    runs = [([], b""), (["--all", "high"], SAMPLE), (["--help"], b"")]
+    refused = [growths_refused(program, words, data, library) for words, data in runs]
+    # The last growth is for the long line, so those before it are answered.
+    refused.append(growths_refused(program, [], b"\xff\n" + "二十三，".encode() * 30000, library))
+    if refused[-1][-1] != b"1:1 bad line\n":
+        fail(f"with no memory for a long line {refused[-1][-1]!r:.300} is written")
+    return sum(map(len, refused))
 
 
 def main():
@@ -123,11 +166,9 @@ def main():
     check_rows(program)
     check_streams(program)
     check_dialogue(program)
-    long_line = "二十三，".encode() * 30000
-    runs = [([], b""), (["--all", "high"], SAMPLE), (["--help"], b""), ([], SAMPLE + long_line)]
-    growths = sum(growths_refused(program, words, data, refuse_growth) for words, data in runs)
+    growths = check_memory(program, refuse_growth)
     rows = len(ANSWERED) + len(BAD) + len(UNKNOWN)
-    print(f"numbers: {rows} rows, a full output, a line at a time, and {growths} growths of memory refused")
+    print(f"numbers: {rows} rows, a full output, a line at a time, {growths} growths refused")
 
 
 main()

@@ -16,7 +16,7 @@ pub enum RunError {
 }
 
 impl RunError {
-    /// Why a run stops at a read that fails so: it may have asked for memory.
+    /// Why a run stops where a read fails so: reads ask for memory too.
     pub fn of_read(error: io::Error) -> RunError
         ensures { result ≡ fault_of_read (error_kind error) }
     {

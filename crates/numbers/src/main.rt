@@ -10,7 +10,8 @@
 //! counts within the number's text. A line that is no UTF-8 is answered LINE:1 `bad line`.
 //!
 //! The status is 0 where all was read and answered, 1 where a read or a write failed, and 2 where
-//! memory ran out or a word of the command line is unknown.
+//! memory ran out or a word of the command line is unknown. Where it is not 0, the answers to the
+//! first lines were written, whole unless a write failed.
 #![tactic(auto)]
 
 mod fault;

@@ -1,4 +1,4 @@
-ghost use Rattle.std.specs.Prelude.{◌≡◌, ◌≢◌, ◌≤◌, ◌++◌, ◌∷◌, [], ℕ, ℤ, List, length, chars, drop, Result, IfErr, IfOk, OnOk, IfSome};
+ghost use Rattle.std.specs.Prelude.{◌≡◌, ◌≢◌, ◌++◌, ◌∷◌, [], ℕ, ℤ, List, length, chars, Result, IfErr, IfOk, OnOk, IfSome};
 ghost use Rattle.std.specs.Io.Buffered.{reader_remaining, writer_buffer, writer_contents};
 ghost use Rattle.std.specs.Io.KnownBytes.{Appends, Keeps};
 ghost use Rattle.std.specs.Io.BufRead.{strip_last};
@@ -91,14 +91,6 @@ fn read_line<R: BufRead>(reader: &mut R, bytes: &mut Vec<u8>) -> Result<bool, Ru
     Ok(count > 0)
 }
 
-// What is left of the bytes after so many were written.
-fn bytes_after(bytes: &[u8], count: usize) -> &[u8]
-    requires { count ≤ length bytes.now }
-    ensures { result.now ≡ drop count bytes.now }
-{
-    bytes.split_at(count).1
-}
-
 // Writes all the bytes, in as many writes as it takes.
 fn write_all<W: Write>(writer: &mut W, bytes: &[u8]) -> Result<(), RunError>
     ensures { Puts (W.contents writer.old) (W.contents writer.new) bytes.now result }
@@ -106,7 +98,7 @@ fn write_all<W: Write>(writer: &mut W, bytes: &[u8]) -> Result<(), RunError>
     let mut rest = bytes;
     while !rest.is_empty() {
         match writer.write(rest) {
-            Ok(count) if count > 0 => rest = bytes_after(rest, count),
+            Ok(count) if count > 0 => rest = rest.split_at(count).1,
             _ => return Err(RunError::Write),
         }
     }
@@ -155,8 +147,10 @@ fn flush_before_read<R: Read + Drop, W: Write + Drop>(
 }
 
 /// Searches the lines of the reader to its end, and writes a line for each number. What was written
-/// is flushed before a read that may wait, and at the end. A line is read and its answer is whole
-/// before any of that is written: at `Read` and `Memory` just the lines before it are answered.
+/// is flushed before a read that may wait, and at the end.
+///
+/// At `Write` a beginning of the answers to the lines read was written. At `Read` and `Memory` the
+/// answers to the lines before the one in hand were written, whole, and nothing else.
 pub fn search_lines<R: Read + Drop, W: Write + Drop>(
     alloc: Global,
     reader: &mut BufReader<R>,
@@ -178,5 +172,6 @@ pub fn search_lines<R: Read + Drop, W: Write + Drop>(
         let text = without_feed(bytes.as_slice());
         answer_line(writer, &mut answer, line, text, search)?;
     }
+    // There are more lines than a `u64` counts.
     Err(RunError::Read)
 }

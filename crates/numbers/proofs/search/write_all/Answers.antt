@@ -6,6 +6,6 @@ pub loop-rest-preserved : goal.loop-rest-preserved
 loop-rest-preserved g c =
     let i = c.loop-rest.invariant in (
       i.0 ++ take c.in-Ok.count c.loop-rest.rest.now,
-      rw (c.bytes_after-rest.ensures, append_assoc, take-append-drop) i.1,
+      rw (c.split_at.ensures.back, append_assoc, take-append-drop) i.1,
       Appends-trans _ _ _ _ _ i.2 c.in-Ok.ensures.bytes,
     )
