@@ -57,6 +57,7 @@ Takes more left behind bytes = IfSome left (λ rest. TakesLine more rest behind 
 abbrev pub ReadWithin : Option (List ℕ) → Option (List ℕ) → Type 0
 ReadWithin left behind = IfSome left (λ rest. ReadWithinLine rest behind)
 
+-- all is a beginning too
 none_unwritten : (search : Search) (input rest : List ℕ) (old now : Option (List ℕ))
     → Wrote search input rest old now → WroteBeginning search input rest old now
 none_unwritten search input rest old now w =
@@ -64,6 +65,7 @@ none_unwritten search input rest old now w =
 
 module _ {search : Search} {line : ℕ} {input : List ℕ} {left old now : Option (List ℕ)}
     (a : Answered search line input left old now) where
+  -- what was written stays
   pub Answered-kept : (kept : Option (List ℕ)) → Keeps now kept
       → Answered search line input left old kept
   Answered-kept kept same = record {
@@ -74,6 +76,7 @@ module _ {search : Search} {line : ℕ} {input : List ℕ} {left old now : Optio
     goes_on = a.goes_on;
   }
 
+  -- one more line is answered
   pub Answered-more : (x : Unit {0}) (behind new : Option (List ℕ)) (bytes text : List ℕ)
       → Takes true left behind bytes → text ≡ strip_last 10 bytes
       → Replies search line text now new (Ok x)
@@ -134,7 +137,8 @@ module _ {search : Search} {line : ℕ} {input : List ℕ} {left old now : Optio
     whole : Wrote search input [] old now
     whole = subst (λ rest. Wrote search input rest old now) t.0 Answered-whole
 
-    by : (r : Result (Unit {0}) RunError) → IfErr r (λ e. e ≡ Write) → Leaves search input behind old now r
+    by : (r : Result (Unit {0}) RunError) → IfErr r (λ e. e ≡ Write)
+        → Leaves search input behind old now r
     by (Ok x) fails = (t.1, whole)
     by (Err e) fails = rw fails ([], t.1, none_unwritten _ _ _ _ _ whole)
 
