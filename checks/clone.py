@@ -20,8 +20,8 @@ from concurrent.futures import ThreadPoolExecutor
 from functools import partial
 from pathlib import Path
 
-from installing import ENVIRONMENT, LEFT_OUT, TRIED, Page, commands, fail, has, of_rust, print_tried
-from installing import run, virtual_environment, write
+from installing import ENVIRONMENT, LEFT_OUT, TRIED, Page, commands, fail, has, has_no_toolchain
+from installing import of_rust, print_tried, run, virtual_environment, write
 
 TOP = Path(__file__).resolve().parent.parent
 PAGE = (TOP / "bindings/README.md").read_text(encoding="utf-8")
@@ -189,7 +189,7 @@ def jobs():
             yield what, partial(by_pip, program), command, NUMBER, ""
         for what, (command, wanted, left) in OF_PIP.items():
             yield what, partial(by_pip, sys.executable), command, wanted, left
-    if has("cc") and has("cargo"):
+    if has("cc") and has("cargo", 1, 82):
         for what, command in OF_CARGO.items():
             yield what, by_cargo, command, "", ""
     for what, (command, tools, text) in OF_C.items():
@@ -200,8 +200,10 @@ def jobs():
 def main():
     if len(sys.argv) != 1:
         sys.exit(__doc__)
-    if shutil.which("rt", path=ENVIRONMENT["PATH"]):
-        fail("there still is an rt on the path")
+    has_no_toolchain()
+    if not has("git"):
+        print("clone: NOT TRIED, since there is no git here")
+        return
     with tempfile.TemporaryDirectory() as folder, ThreadPoolExecutor(2) as pool:
         clones = Clones(Path(folder))
         for job in [pool.submit(clones.follow, *job) for job in jobs()]:

@@ -13,7 +13,8 @@ import sys
 import tempfile
 from pathlib import Path
 
-from installing import ENVIRONMENT, LEFT_OUT, TRIED, fail, has, run, write
+from installing import ENVIRONMENT, LEFT_OUT, TRIED, fail, has, has_no_toolchain, print_tried
+from installing import run, write
 
 NAME, WEB = "chinese-number-proved", Path(__file__).resolve().parent.parent / "bindings/web"
 PACKED = {
@@ -92,8 +93,7 @@ def packed(web):
 def main():
     if len(sys.argv) != 1:
         sys.exit(__doc__)
-    if shutil.which("rt", path=ENVIRONMENT["PATH"]):
-        fail("there still is an rt on the path")
+    has_no_toolchain()
     if not (has("node") and has("npm")):
         print(f"clone_npm: NOT TRIED, since not here: {', '.join(LEFT_OUT)}")
         return
@@ -106,8 +106,7 @@ def main():
             installed(project, *flag)
         if sorted(web.rglob("*")) != before:
             fail("npm left other files in bindings/web")
-    tried, left = (", ".join(dict.fromkeys(names)) for names in (TRIED, LEFT_OUT))
-    print(f"clone_npm: tried with {tried}; not here, and so left out: {left or 'nothing'}")
+    print_tried("clone_npm")
 
 
 if __name__ == "__main__":

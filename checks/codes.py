@@ -9,8 +9,8 @@ same number, and no other; the JavaScript file lists them in this order. The hea
 call that the crate exports, and no language has any other. Alike, too, are the most bytes of a
 text of each kind, which a clause of `printing.rt`, `amount.rt` and `date.rt` bounds; the status of
 the C source alone for a text that is too long, and how long that is; the version of all, which is
-that of the first heading of CHANGELOG and of the files that README installs; and the authors, who
-are those of LICENSE. The texts of refusals are those of `Refusal.antt`, and of amounts and dates
+that of the first heading of CHANGELOG and of the packages that the pages of `bindings/` install; and
+the authors, who are those of LICENSE. The texts of refusals are those of `Refusal.antt`, and of amounts and dates
 those of each `ErrorText.antt`, wherever they are written again.
 """
 import re
@@ -53,6 +53,7 @@ VERSIONS = (
 AUTHORS = (
     ("../LICENSE", r"^Copyright \(c\) \d+ (.*)"),
     ("rust/Cargo.toml", r'^authors = \["(.*)"\]'),
+    ("web/package.json", r'^  "author": "(.*)"'),
 )
 # Where the texts of refusals are written again, from the repository's top.
 REFUSALS = "crates/cn_core/specs/Refusal.antt"
@@ -204,7 +205,7 @@ def main():
                 sys.exit(f"codes: {name} of {language}: {table}, and not {right}")
 
     authors, versions = found_by(bindings, AUTHORS), found_by(bindings, VERSIONS)
-    for page in ("../README.md", "README.md", "web/README.md"):
+    for page in ("README.md", "web/README.md"):
         versions.update(re.findall(r"chinese.number[a-z-_]*-(\d[\d.]*\d)\b", text_of(bindings / page)))
     versions.add(".".join(re.findall(r"^#define CN_VERSION_\w+ (\d+)", texts[HEADER], re.MULTILINE)))
     if len(versions) != 1 or len(authors) != 1:

@@ -91,7 +91,10 @@ def library(target):
         rustc = Path(folder) / "rustc"
         if not rustc.is_file():
             continue
-        built = Path(asked(rustc, "--print", "target-libdir", "--target", target))
+        try:
+            built = Path(asked(rustc, "--print", "target-libdir", "--target", target))
+        except subprocess.CalledProcessError:  # one that only hands on, to what is not installed
+            continue
         if any(built.glob("libcore-*.rlib")):
             return rustc, []
         source = Path(asked(rustc, "--print", "sysroot"), "lib/rustlib/src/rust/library")

@@ -42,9 +42,18 @@ def run(*words, cwd, wanted=None, **more):
     return ended.stdout
 
 
-def has(name):
+def has_no_toolchain():
+    if shutil.which("rt", path=ENVIRONMENT["PATH"]):
+        fail("there still is an rt on the path")
+
+
+def has(name, *least):
+    """Whether there is a program, of this version or a later one where one is asked for."""
     there = shutil.which(name, path=ENVIRONMENT["PATH"]) is not None
-    (TRIED if there else LEFT_OUT).append(name)
+    if there and least:
+        said = run(name, "--version", cwd=Path.home())
+        there = tuple(map(int, re.search(r"(\d+)\.(\d+)", said).groups())) >= least
+    (TRIED if there else LEFT_OUT).append(" ".join([name, *[".".join(map(str, least))] * bool(least)]))
     return there
 
 
