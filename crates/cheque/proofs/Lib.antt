@@ -1,4 +1,5 @@
 mod Amounts
 mod Digits
+pub mod Examples
 mod Replies
 mod Shown

@@ -1,3 +1,4 @@
 pub mod DateFigures
 pub mod Figures
 pub mod Reply
+pub mod Request

@@ -18,10 +18,9 @@ use Rattle.chinese_number.specs.declared.DateToChineseError.TheVariants.{NotADat
 use Rattle.cheque.specs.declared.dates.DateFiguresError.{DateFiguresError}
 use Rattle.cheque.specs.declared.figures.FiguresError.{FiguresError}
 use Rattle.cheque.specs.declared.reply.TheConstants.{USAGE}
-use Rattle.cheque.specs.declared.request.Request.{Request}
-use Rattle.cheque.specs.declared.request.Request.TheVariants.{Help, Write, Read, WriteDate, ReadDate}
 use Rattle.cheque.specs.DateFigures as DateFigures
 use Rattle.cheque.specs.Figures as Figures
+use Rattle.cheque.specs.Request.{Asked, help, write, read, write_date, read_date}
 
 -- what is written to the output and to the errors, and the status
 pub record Reply : Type 0 where
@@ -90,15 +89,15 @@ RepliesDateFigures capitals reply =
     (result : Result BillDate ChineseToDateError)
     × ReadsDate capitals (DateAnswer.answer_of result) × (reply ≡ date_figures_reply result)
 
--- the reply to a request, or to words that are none
-abbrev pub Replies : Option Request → Reply → Type 0
-Replies (Some Help) reply = reply ≡ answered USAGE.now
-Replies (Some (Write figures prefixed)) reply =
-    RepliesCapitals prefixed (Figures.fen_of figures.now) reply
-Replies (Some (Read capitals)) reply = RepliesFigures capitals.now reply
-Replies (Some (WriteDate figures)) reply =
-    RepliesDateCapitals (DateFigures.date_of figures.now) reply
-Replies (Some (ReadDate capitals)) reply = RepliesDateFigures capitals.now reply
+-- the reply to what is asked for
+abbrev pub Replies : Option Asked → Reply → Type 0
+Replies (Some help) reply = reply ≡ answered USAGE.now
+Replies (Some (write figures prefixed)) reply =
+    RepliesCapitals prefixed (Figures.fen_of figures) reply
+Replies (Some (read capitals)) reply = RepliesFigures capitals reply
+Replies (Some (write_date figures)) reply =
+    RepliesDateCapitals (DateFigures.date_of figures) reply
+Replies (Some (read_date capitals)) reply = RepliesDateFigures capitals reply
 Replies None reply = reply ≡ not_asked
 
 -- such a reply is given: the status is its own, and its parts are what the output and the errors,

@@ -25,7 +25,6 @@ mod reply;
 mod request;
 
 use crate::reply::write_reply;
-use crate::request::request_of;
 use std::env;
 use std::io::{self, ErrorKind, LineWriter};
 use std::process::ExitCode;
@@ -36,10 +35,9 @@ fn serve(rt: &HostRuntime) -> io::Result<u8> {
     for word in env::args(rt)?.skip(1) {
         words.push(word)?;
     }
-    let request = request_of(words.as_slice());
     let mut output = LineWriter::new(rt.alloc(), rt.stdout())?;
     let mut errors = LineWriter::new(rt.alloc(), rt.stderr())?;
-    write_reply(rt.alloc(), &mut output, &mut errors, request)
+    write_reply(rt.alloc(), &mut output, &mut errors, words.as_slice())
 }
 
 fn main(rt: HostRuntime) -> ExitCode {

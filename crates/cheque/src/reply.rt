@@ -1,13 +1,14 @@
 //! What is replied to a request.
-ghost use Rattle.std.specs.Prelude.{◌≡◌, IfOk, IfSome};
+ghost use Rattle.std.specs.Prelude.{◌≡◌, IfOk, IfSome, map, string_bytes};
 ghost use Rattle.std.specs.Io.KnownBytes.{Appends};
 ghost use Rattle.cheque.specs.DateFigures.{date_of};
 ghost use Rattle.cheque.specs.Figures.{fen_of};
 ghost use Rattle.cheque.specs.Reply.{Gives, Replies, line, RepliesCapitals, RepliesDateCapitals, RepliesFigures, RepliesDateFigures, prefix_text};
+ghost use Rattle.cheque.specs.Request.{asked};
 
 use crate::dates::{DateFigures, date_of};
 use crate::figures::{Figures, yuan_to_fen};
-use crate::request::Request;
+use crate::request::{Request, request_of};
 use chinese_number::{
     AmountToChineseError, ChineseVariant, DateToChineseError, amount_to_chinese, chinese_to_amount,
     chinese_to_date, date_to_chinese,
@@ -127,18 +128,20 @@ fn write_date_figures<W: Write, E: Write>(
     }
 }
 
-/// Writes the reply to a request, or to words that are none, and gives the status.
+/// Writes the reply to the words of a command line, and gives the status: 0 where they are
+/// answered, 1 where they are refused, 2 where memory ran out or they ask for nothing. Of a write
+/// that fails nothing is known: part of the reply may be written.
 pub fn write_reply<W: Write, E: Write>(
     alloc: Global,
     output: &mut W,
     errors: &mut E,
-    request: Option<Request<'_>>,
+    words: &[String],
 ) -> io::Result<u8>
-    ensures { IfOk result (λ status. Gives (Replies request.entry)
+    ensures { IfOk result (λ status. Gives (Replies (asked (map string_bytes words.now)))
         status (W.contents output.old) (W.contents output.new)
         (E.contents errors.old) (E.contents errors.new)) }
 {
-    match request {
+    match request_of(words) {
         Some(Request::Help) => show(output, USAGE),
         Some(Request::Write { figures, prefixed }) => {
             write_capitals(alloc, output, errors, figures, prefixed)

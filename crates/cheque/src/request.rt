@@ -1,3 +1,7 @@
+ghost use Rattle.std.specs.Prelude.{◌≡◌, map, not, option_map, position, string_bytes};
+ghost use Rattle.std.specs.Char.{is_ascii_digit};
+ghost use Rattle.cheque.specs.Request.{are_date_capitals, are_date_figures, are_figures, asked, asked_alone, asked_of, asked_with_option};
+
 /// What the words of the command line ask for.
 #[derive(Debug, Copy, Clone)]
 pub enum Request<'a> {
@@ -13,34 +17,67 @@ pub enum Request<'a> {
 }
 
 // Whether figures are meant: whatever begins with ASCII is refused as figures.
-fn is_figures(word: &str) -> bool {
-    word.starts_with(|c: char| c.is_ascii())
-}
-
-// Whether the figures of a date are meant: digits at the start, and a hyphen behind them.
-fn is_date_figures(figures: &str) -> bool {
-    let behind = figures.trim_start_matches(|c: char| c.is_ascii_digit());
-    behind.len() < figures.len() && behind.starts_with('-')
-}
-
-fn request_of_word(word: &str) -> Request<'_> {
-    if is_date_figures(word) {
-        Request::WriteDate { figures: word }
-    } else if is_figures(word) {
-        Request::Write {
-            figures: word,
-            prefixed: false,
-        }
-    } else if word.contains('年') {
-        Request::ReadDate { capitals: word }
-    } else {
-        Request::Read { capitals: word }
+fn are_figures(word: &str) -> bool
+    ensures { result ≡ are_figures word.now }
+{
+    match word.as_bytes() {
+        [byte, ..] => byte.is_ascii(),
+        [] => false,
     }
 }
 
-// With 人民币 in front, the capitals of an amount alone.
-fn request_with_prefix(word: &str) -> Option<Request<'_>> {
-    if is_figures(word) && !is_date_figures(word) {
+// Where the digits in front end, if anything stands behind them.
+fn first_other(bytes: &[u8]) -> Option<usize>
+    ensures { result ≡ position (λ byte. not (is_ascii_digit byte)) bytes.now }
+{
+    bytes.iter().position(|byte| !byte.is_ascii_digit())
+}
+
+// Whether the figures of a date are meant: digits in front, and a hyphen behind them.
+fn are_date_figures(word: &str) -> bool
+    ensures { result ≡ are_date_figures word.now }
+{
+    let bytes = word.as_bytes();
+    match first_other(bytes) {
+        Some(place) => place > 0 && bytes[place] == b'-',
+        None => false,
+    }
+}
+
+// Whether the capitals of a date are meant: 年 is among them.
+fn are_date_capitals(word: &str) -> bool
+    ensures { result ≡ are_date_capitals word.now }
+{
+    word.chars().any(|c| c == '年')
+}
+
+// What a word alone asks for.
+fn request_of_word(word: &str) -> Option<Request<'_>>
+    ensures { option_map asked_of result ≡ asked_alone word.now }
+{
+    if word == "--help" {
+        Some(Request::Help)
+    } else if word == "--prefix" {
+        None
+    } else if are_date_figures(word) {
+        Some(Request::WriteDate { figures: word })
+    } else if are_figures(word) {
+        Some(Request::Write {
+            figures: word,
+            prefixed: false,
+        })
+    } else if are_date_capitals(word) {
+        Some(Request::ReadDate { capitals: word })
+    } else {
+        Some(Request::Read { capitals: word })
+    }
+}
+
+// What a word behind an option asks for: with 人民币 in front, the capitals of an amount alone.
+fn request_with_option<'a>(option: &str, word: &'a str) -> Option<Request<'a>>
+    ensures { option_map asked_of result ≡ asked_with_option option.now word.now }
+{
+    if option == "--prefix" && are_figures(word) && !are_date_figures(word) {
         Some(Request::Write {
             figures: word,
             prefixed: true,
@@ -51,12 +88,13 @@ fn request_with_prefix(word: &str) -> Option<Request<'_>> {
 }
 
 /// The request of these words; `None` where it is none.
-pub fn request_of(words: &[String]) -> Option<Request<'_>> {
+pub fn request_of(words: &[String]) -> Option<Request<'_>>
+    ensures { option_map asked_of result ≡ asked (map string_bytes words.now) }
+{
     match words {
-        [word] if word.as_str() == "--help" => Some(Request::Help),
-        [word] if word.as_str() == "--prefix" => None,
-        [word] => Some(request_of_word(word.as_str())),
-        [option, word] if option.as_str() == "--prefix" => request_with_prefix(word.as_str()),
+        [] => None,
+        [word] => request_of_word(word.as_str()),
+        [option, word] => request_with_option(option.as_str(), word.as_str()),
         _ => None,
     }
 }
