@@ -1,6 +1,5 @@
 -- What a short text holds.
 use Rattle.std.specs.Prelude.{◌≡◌, ℕ, ◌+◌, ◌≤◌, nat_le, List, ◌++◌, length, take, encode_utf8_all, string_bytes, string_len, string_capacity, if◌then◌else◌}
-use Rattle.std.specs.Char.{encode_utf8}
 use Rattle.std.specs.declared.string.String.{String}
 use Rattle.cn_short_text.specs.declared.ShortText.{ShortText}
 
@@ -8,11 +7,9 @@ use Rattle.cn_short_text.specs.declared.ShortText.{ShortText}
 abbrev pub text_bytes : ShortText → List ℕ
 text_bytes text = take text.len text.bytes
 
--- the bytes of a text with one more character, if the room holds it
-abbrev pub bytes_with : List ℕ → ℕ → List ℕ
-bytes_with bytes character =
-    if nat_le (length bytes + length (encode_utf8 character)) 108
-    then bytes ++ encode_utf8 character else bytes
+-- the bytes of a text with more behind them, if the room holds these
+abbrev pub bytes_with : List ℕ → List ℕ → List ℕ
+bytes_with bytes more = if nat_le (length bytes + length more) 108 then bytes ++ more else bytes
 
 -- it holds these characters, if the room is enough for them
 unfoldable pub HasPut : ShortText → List ℕ → Type 0

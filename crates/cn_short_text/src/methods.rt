@@ -1,5 +1,6 @@
 // What a short text is built by, and what it is read by.
 ghost use Rattle.std.specs.Prelude.{◌≡◌, [], ◌∷◌, IfOk, IsUtf8};
+ghost use Rattle.std.specs.Char.{encode_utf8};
 ghost use Rattle.cn_short_text.specs.ShortText.{text_bytes, bytes_with, HasPut, PutsMore, IsStringOf};
 
 use crate::{MOST_BYTES, ShortText};
@@ -20,14 +21,21 @@ impl ShortText {
 
     /// Puts one more character behind the text. One that the room does not hold is left out.
     pub fn put(&mut self, character: char)
-        ensures bytes { text_bytes self.new ≡ bytes_with (text_bytes self.old) character }
+        ensures bytes { text_bytes self.new ≡ bytes_with (text_bytes self.old) (encode_utf8 character) }
         ensures puts { PutsMore self.old self.new (character ∷ []) }
     {
         let mut room = [0; 4];
-        let encoded = character.encode_utf8(&mut room).as_bytes();
-        if encoded.len() <= MOST_BYTES - self.len {
-            let end = self.len + encoded.len();
-            self.bytes[self.len..end].copy_from_slice(encoded);
+        self.put_encoded(character.encode_utf8(&mut room));
+    }
+
+    // Puts a text behind the text, if the room holds it.
+    fn put_encoded(&mut self, more: &str)
+        ensures { text_bytes self.new ≡ bytes_with (text_bytes self.old) more.now }
+    {
+        let more = more.as_bytes();
+        if more.len() <= MOST_BYTES - self.len {
+            let end = self.len + more.len();
+            self.bytes[self.len..end].copy_from_slice(more);
             self.len = end;
         }
     }
