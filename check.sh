@@ -34,7 +34,8 @@ gate() {
 
 time python3 bindings/dist.py check
 time python3 checks/wrong_dist.py
-time python3 checks/names.py crates bindings/rust/tests/interface.rs
+time python3 checks/calls.py .
+time python3 checks/wrong_calls.py
 time python3 checks/edits.py crates
 time python3 checks/codes.py crates/cn_c bindings
 time python3 checks/quotes.py bindings

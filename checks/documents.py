@@ -35,7 +35,7 @@ CAPITALS = {
 }
 CALL = re.compile(r"((?:^///.*\n)+)pub fn (from_\w+)", re.MULTILINE)
 READ = re.compile(r"^/// Reads .*: `(\S+)` is (-?[\d_]+)\.$", re.MULTILINE)
-PRINTED = re.compile(r"^/// Writes .*: (-?[\d_]+) is `(\S+)` in traditional", re.MULTILINE)
+PRINTED = re.compile(r"^/// Writes .*: (-?[\d_]+) is `(\S+)`\n/// in traditional", re.MULTILINE)
 NAME = re.compile(r"from_(?:chinese_to_)?([iu](?:\d+|size))(?:_to_chinese)?_?(\w*)")
 
 

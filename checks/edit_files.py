@@ -4,12 +4,13 @@ A wrong body is made by an edit. Those of a crate stand in its file `wrong-bodie
 lines, each under its name; a few stand in `must-fail/NAME.edit`, where `rt ci` tries them too, and
 what `rt` does not read begins with `# `. An edit has a line `file:`, a line `refused:` with the
 functions that have to be refused for it, and pairs of lines `old:` and `new:`. Behind a `new:` that
-changes the shape of the code stands a line `twin:`, the same shape with the right value.
+changes the shape of the code stands a line `twin:`, the same shape with the right value. A line
+`why:` says what an edit is for that turns nothing that users call.
 """
 import re
 from collections import namedtuple
 
-Edit = namedtuple("Edit", "name file refused changes")
+Edit = namedtuple("Edit", "name why file refused changes")
 Change = namedtuple("Change", "old new twin")
 COMMENT = re.compile(r"/\*.*?\*/|//[^\n]*", re.DOTALL)
 TOKEN = re.compile(
@@ -45,11 +46,13 @@ def edits_of(crate):
 
 def read(name, text):
     """An edit, by the text below its name."""
-    file, refused, changes, old = None, (), [], None
+    why, file, refused, changes, old = None, None, (), [], None
     for line in text.split("\n"):
         word, _, value = line.removeprefix("# ").partition(": ")
         if word == "file" and file is None:
             file = value
+        elif word == "why" and why is None:
+            why = value
         elif word == "refused":
             refused = tuple(value.split(", "))
         elif word == "old":
@@ -62,7 +65,7 @@ def read(name, text):
             raise ValueError(f"{name}: a line that no edit has: {line!r}")
     if file is None or not refused or not changes:
         raise ValueError(f"{name}: it lacks a line file:, refused:, old: or new:")
-    return Edit(name, file, refused, changes)
+    return Edit(name, why, file, refused, changes)
 
 
 def has_twin(edit):

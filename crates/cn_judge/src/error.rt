@@ -10,7 +10,8 @@ pub enum ChineseToNumberError {
     /// Nothing is left of the text without its white space and, for signed types, one sign: `負` as
     /// an `i8`.
     ChineseNumberEmpty,
-    /// The text is no numeral or, to a naive reader, not all digits.
+    /// The text is no numeral or, to a naive reader, not all digits. Of an unsigned type a sign is
+    /// at fault too: `正一` as a `u8`.
     ///
     /// `char_index` says how many characters of the caller's string, white space among them, stand
     /// before the one at fault. To a unit reader that is, as a rule, the rightmost one that nothing

@@ -9,7 +9,8 @@ use cn_core::{ChineseCase, ChineseCountMethod, ChineseVariant};
 use cn_spell::print_by_units;
 use std::alloc::{AllocError, Global};
 
-/// Writes a `u32` by `High`: 100_000 is `十萬` in traditional script and lower case.
+/// Writes a `u32` by `High`: 100_000 is `十萬`
+/// in traditional script and lower case.
 ///
 /// The only error is `AllocError`, where memory runs out.
 pub fn from_u32_to_chinese_high(
@@ -18,12 +19,14 @@ pub fn from_u32_to_chinese_high(
     case: ChineseCase,
     value: u32,
 ) -> Result<String, AllocError>
-    ensures { IfOk result (Writes (spelled_text variant case High (pos value)) (most_bytes High)) }
+    ensures { IfOk result (Writes (spelled_text variant case High (pos value))
+        (most_bytes High)) }
 {
     print_by_units::<u32>(alloc, variant, case, ChineseCountMethod::High, value)
 }
 
-/// Writes a `u64` by `High`: 10_000_000_000_000_000 is `一兆` in traditional script and lower case.
+/// Writes a `u64` by `High`: 10_000_000_000_000_000 is `一兆`
+/// in traditional script and lower case.
 ///
 /// The only error is `AllocError`, where memory runs out.
 pub fn from_u64_to_chinese_high(
@@ -32,13 +35,14 @@ pub fn from_u64_to_chinese_high(
     case: ChineseCase,
     value: u64,
 ) -> Result<String, AllocError>
-    ensures { IfOk result (Writes (spelled_text variant case High (pos value)) (most_bytes High)) }
+    ensures { IfOk result (Writes (spelled_text variant case High (pos value))
+        (most_bytes High)) }
 {
     print_by_units::<u64>(alloc, variant, case, ChineseCountMethod::High, value)
 }
 
-/// Writes a `u128` by `High`: 1_000_000_000_000_000_000_000_000 is `一億兆` in traditional script
-/// and lower case.
+/// Writes a `u128` by `High`: 10_000_000_000_000_000 is `一兆`
+/// in traditional script and lower case.
 ///
 /// The only error is `AllocError`, where memory runs out.
 pub fn from_u128_to_chinese_high(
@@ -47,13 +51,14 @@ pub fn from_u128_to_chinese_high(
     case: ChineseCase,
     value: u128,
 ) -> Result<String, AllocError>
-    ensures { IfOk result (Writes (spelled_text variant case High (pos value)) (most_bytes High)) }
+    ensures { IfOk result (Writes (spelled_text variant case High (pos value))
+        (most_bytes High)) }
 {
     print_by_units::<u128>(alloc, variant, case, ChineseCountMethod::High, value)
 }
 
-/// Writes a `usize` by `High`: 10_000_000_000_000_000 is `一兆` in traditional script and lower
-/// case.
+/// Writes a `usize` by `High`: 10_000_000_000_000_000 is `一兆`
+/// in traditional script and lower case.
 ///
 /// The only error is `AllocError`, where memory runs out.
 pub fn from_usize_to_chinese_high(
@@ -62,12 +67,14 @@ pub fn from_usize_to_chinese_high(
     case: ChineseCase,
     value: usize,
 ) -> Result<String, AllocError>
-    ensures { IfOk result (Writes (spelled_text variant case High (pos value)) (most_bytes High)) }
+    ensures { IfOk result (Writes (spelled_text variant case High (pos value))
+        (most_bytes High)) }
 {
     print_by_units::<usize>(alloc, variant, case, ChineseCountMethod::High, value)
 }
 
-/// Writes an `i32` by `High`: -100_000 is `負十萬` in traditional script and lower case.
+/// Writes an `i32` by `High`: -100_000 is `負十萬`
+/// in traditional script and lower case.
 ///
 /// The only error is `AllocError`, where memory runs out.
 pub fn from_i32_to_chinese_high(
@@ -76,13 +83,14 @@ pub fn from_i32_to_chinese_high(
     case: ChineseCase,
     value: i32,
 ) -> Result<String, AllocError>
-    ensures { IfOk result (Writes (spelled_text variant case High value) (most_bytes High)) }
+    ensures { IfOk result (Writes (spelled_text variant case High value)
+        (most_bytes High)) }
 {
     print_by_units::<i32>(alloc, variant, case, ChineseCountMethod::High, value)
 }
 
-/// Writes an `i64` by `High`: -10_000_000_000_000_000 is `負一兆` in traditional script and lower
-/// case.
+/// Writes an `i64` by `High`: -10_000_000_000_000_000 is `負一兆`
+/// in traditional script and lower case.
 ///
 /// The only error is `AllocError`, where memory runs out.
 pub fn from_i64_to_chinese_high(
@@ -91,13 +99,14 @@ pub fn from_i64_to_chinese_high(
     case: ChineseCase,
     value: i64,
 ) -> Result<String, AllocError>
-    ensures { IfOk result (Writes (spelled_text variant case High value) (most_bytes High)) }
+    ensures { IfOk result (Writes (spelled_text variant case High value)
+        (most_bytes High)) }
 {
     print_by_units::<i64>(alloc, variant, case, ChineseCountMethod::High, value)
 }
 
-/// Writes an `i128` by `High`: -1_000_000_000_000_000_000_000_000 is `負一億兆` in traditional
-/// script and lower case.
+/// Writes an `i128` by `High`: -10_000_000_000_000_000 is `負一兆`
+/// in traditional script and lower case.
 ///
 /// The only error is `AllocError`, where memory runs out.
 pub fn from_i128_to_chinese_high(
@@ -106,13 +115,14 @@ pub fn from_i128_to_chinese_high(
     case: ChineseCase,
     value: i128,
 ) -> Result<String, AllocError>
-    ensures { IfOk result (Writes (spelled_text variant case High value) (most_bytes High)) }
+    ensures { IfOk result (Writes (spelled_text variant case High value)
+        (most_bytes High)) }
 {
     print_by_units::<i128>(alloc, variant, case, ChineseCountMethod::High, value)
 }
 
-/// Writes an `isize` by `High`: -10_000_000_000_000_000 is `負一兆` in traditional script and lower
-/// case.
+/// Writes an `isize` by `High`: -10_000_000_000_000_000 is `負一兆`
+/// in traditional script and lower case.
 ///
 /// The only error is `AllocError`, where memory runs out.
 pub fn from_isize_to_chinese_high(
@@ -121,7 +131,8 @@ pub fn from_isize_to_chinese_high(
     case: ChineseCase,
     value: isize,
 ) -> Result<String, AllocError>
-    ensures { IfOk result (Writes (spelled_text variant case High value) (most_bytes High)) }
+    ensures { IfOk result (Writes (spelled_text variant case High value)
+        (most_bytes High)) }
 {
     print_by_units::<isize>(alloc, variant, case, ChineseCountMethod::High, value)
 }

@@ -13,7 +13,8 @@ use cn_core::{ChineseCase, ChineseCountMethod, ChineseVariant};
 use cn_spell::{NumberToChineseError, print_by_units, print_or_refuse};
 use std::alloc::{AllocError, Global};
 
-/// Writes a `u8` by `Low`: 12 is `十二` in traditional script and lower case.
+/// Writes a `u8` by `Low`: 12 is `十二`
+/// in traditional script and lower case.
 ///
 /// The only error is `AllocError`, where memory runs out.
 pub fn from_u8_to_chinese(
@@ -22,12 +23,14 @@ pub fn from_u8_to_chinese(
     case: ChineseCase,
     value: u8,
 ) -> Result<String, AllocError>
-    ensures { IfOk result (Writes (spelled_text variant case Low (pos value)) (most_bytes Low)) }
+    ensures { IfOk result (Writes (spelled_text variant case Low (pos value))
+        (most_bytes Low)) }
 {
     print_by_units::<u8>(alloc, variant, case, ChineseCountMethod::Low, value)
 }
 
-/// Writes a `u16` by `Low`: 12 is `十二` in traditional script and lower case.
+/// Writes a `u16` by `Low`: 12 is `十二`
+/// in traditional script and lower case.
 ///
 /// The only error is `AllocError`, where memory runs out.
 pub fn from_u16_to_chinese(
@@ -36,12 +39,14 @@ pub fn from_u16_to_chinese(
     case: ChineseCase,
     value: u16,
 ) -> Result<String, AllocError>
-    ensures { IfOk result (Writes (spelled_text variant case Low (pos value)) (most_bytes Low)) }
+    ensures { IfOk result (Writes (spelled_text variant case Low (pos value))
+        (most_bytes Low)) }
 {
     print_by_units::<u16>(alloc, variant, case, ChineseCountMethod::Low, value)
 }
 
-/// Writes a `u32` by `Low`: 100_000 is `一億` in traditional script and lower case.
+/// Writes a `u32` by `Low`: 100_000 is `一億`
+/// in traditional script and lower case.
 ///
 /// The only error is `AllocError`, where memory runs out.
 pub fn from_u32_to_chinese_low(
@@ -50,12 +55,14 @@ pub fn from_u32_to_chinese_low(
     case: ChineseCase,
     value: u32,
 ) -> Result<String, AllocError>
-    ensures { IfOk result (Writes (spelled_text variant case Low (pos value)) (most_bytes Low)) }
+    ensures { IfOk result (Writes (spelled_text variant case Low (pos value))
+        (most_bytes Low)) }
 {
     print_by_units::<u32>(alloc, variant, case, ChineseCountMethod::Low, value)
 }
 
-/// Writes a `u64` by `Low`: 100_000 is `一億` in traditional script and lower case.
+/// Writes a `u64` by `Low`: 100_000 is `一億`
+/// in traditional script and lower case.
 ///
 /// A number from 10^16 up is refused with `Overflow`, before memory is asked for. Where memory runs
 /// out the error is `OutOfMemory`.
@@ -70,7 +77,8 @@ pub fn from_u64_to_chinese_low(
     print_or_refuse::<u64>(alloc, variant, case, ChineseCountMethod::Low, value)
 }
 
-/// Writes a `u128` by `Low`: 100_000 is `一億` in traditional script and lower case.
+/// Writes a `u128` by `Low`: 100_000 is `一億`
+/// in traditional script and lower case.
 ///
 /// A number from 10^16 up is refused with `Overflow`, before memory is asked for. Where memory runs
 /// out the error is `OutOfMemory`.
@@ -85,7 +93,8 @@ pub fn from_u128_to_chinese_low(
     print_or_refuse::<u128>(alloc, variant, case, ChineseCountMethod::Low, value)
 }
 
-/// Writes a `usize` by `Low`: 100_000 is `一億` in traditional script and lower case.
+/// Writes a `usize` by `Low`: 100_000 is `一億`
+/// in traditional script and lower case.
 ///
 /// A number from 10^16 up is refused with `Overflow`, before memory is asked for. Where memory runs
 /// out the error is `OutOfMemory`.
@@ -100,7 +109,8 @@ pub fn from_usize_to_chinese_low(
     print_or_refuse::<usize>(alloc, variant, case, ChineseCountMethod::Low, value)
 }
 
-/// Writes an `i8` by `Low`: -12 is `負十二` in traditional script and lower case.
+/// Writes an `i8` by `Low`: -12 is `負十二`
+/// in traditional script and lower case.
 ///
 /// The only error is `AllocError`, where memory runs out.
 pub fn from_i8_to_chinese(
@@ -109,12 +119,14 @@ pub fn from_i8_to_chinese(
     case: ChineseCase,
     value: i8,
 ) -> Result<String, AllocError>
-    ensures { IfOk result (Writes (spelled_text variant case Low value) (most_bytes Low)) }
+    ensures { IfOk result (Writes (spelled_text variant case Low value)
+        (most_bytes Low)) }
 {
     print_by_units::<i8>(alloc, variant, case, ChineseCountMethod::Low, value)
 }
 
-/// Writes an `i16` by `Low`: -12 is `負十二` in traditional script and lower case.
+/// Writes an `i16` by `Low`: -12 is `負十二`
+/// in traditional script and lower case.
 ///
 /// The only error is `AllocError`, where memory runs out.
 pub fn from_i16_to_chinese(
@@ -123,12 +135,14 @@ pub fn from_i16_to_chinese(
     case: ChineseCase,
     value: i16,
 ) -> Result<String, AllocError>
-    ensures { IfOk result (Writes (spelled_text variant case Low value) (most_bytes Low)) }
+    ensures { IfOk result (Writes (spelled_text variant case Low value)
+        (most_bytes Low)) }
 {
     print_by_units::<i16>(alloc, variant, case, ChineseCountMethod::Low, value)
 }
 
-/// Writes an `i32` by `Low`: -100_000 is `負一億` in traditional script and lower case.
+/// Writes an `i32` by `Low`: -100_000 is `負一億`
+/// in traditional script and lower case.
 ///
 /// The only error is `AllocError`, where memory runs out.
 pub fn from_i32_to_chinese_low(
@@ -137,12 +151,14 @@ pub fn from_i32_to_chinese_low(
     case: ChineseCase,
     value: i32,
 ) -> Result<String, AllocError>
-    ensures { IfOk result (Writes (spelled_text variant case Low value) (most_bytes Low)) }
+    ensures { IfOk result (Writes (spelled_text variant case Low value)
+        (most_bytes Low)) }
 {
     print_by_units::<i32>(alloc, variant, case, ChineseCountMethod::Low, value)
 }
 
-/// Writes an `i64` by `Low`: -100_000 is `負一億` in traditional script and lower case.
+/// Writes an `i64` by `Low`: -100_000 is `負一億`
+/// in traditional script and lower case.
 ///
 /// A number from 10^16 up is refused with `Overflow`, and one from -10^16 down with `Underflow`,
 /// before memory is asked for. Where memory runs out the error is `OutOfMemory`.
@@ -157,7 +173,8 @@ pub fn from_i64_to_chinese_low(
     print_or_refuse::<i64>(alloc, variant, case, ChineseCountMethod::Low, value)
 }
 
-/// Writes an `i128` by `Low`: -100_000 is `負一億` in traditional script and lower case.
+/// Writes an `i128` by `Low`: -100_000 is `負一億`
+/// in traditional script and lower case.
 ///
 /// A number from 10^16 up is refused with `Overflow`, and one from -10^16 down with `Underflow`,
 /// before memory is asked for. Where memory runs out the error is `OutOfMemory`.
@@ -172,7 +189,8 @@ pub fn from_i128_to_chinese_low(
     print_or_refuse::<i128>(alloc, variant, case, ChineseCountMethod::Low, value)
 }
 
-/// Writes an `isize` by `Low`: -100_000 is `負一億` in traditional script and lower case.
+/// Writes an `isize` by `Low`: -100_000 is `負一億`
+/// in traditional script and lower case.
 ///
 /// A number from 10^16 up is refused with `Overflow`, and one from -10^16 down with `Underflow`,
 /// before memory is asked for. Where memory runs out the error is `OutOfMemory`.

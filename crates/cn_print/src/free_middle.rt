@@ -9,7 +9,8 @@ use cn_core::{ChineseCase, ChineseCountMethod, ChineseVariant};
 use cn_spell::print_by_units;
 use std::alloc::{AllocError, Global};
 
-/// Writes a `u32` by `Middle`: 100_000 is `十萬` in traditional script and lower case.
+/// Writes a `u32` by `Middle`: 100_000 is `十萬`
+/// in traditional script and lower case.
 ///
 /// The only error is `AllocError`, where memory runs out.
 pub fn from_u32_to_chinese_middle(
@@ -24,7 +25,8 @@ pub fn from_u32_to_chinese_middle(
     print_by_units::<u32>(alloc, variant, case, ChineseCountMethod::Middle, value)
 }
 
-/// Writes a `u64` by `Middle`: 1_000_000_000_000 is `一萬億` in traditional script and lower case.
+/// Writes a `u64` by `Middle`: 1_000_000_000_000 is `一萬億`
+/// in traditional script and lower case.
 ///
 /// The only error is `AllocError`, where memory runs out.
 pub fn from_u64_to_chinese_middle(
@@ -39,8 +41,8 @@ pub fn from_u64_to_chinese_middle(
     print_by_units::<u64>(alloc, variant, case, ChineseCountMethod::Middle, value)
 }
 
-/// Writes a `u128` by `Middle`: 1_000_000_000_000_000_000_000_000 is `一京` in traditional script
-/// and lower case.
+/// Writes a `u128` by `Middle`: 1_000_000_000_000 is `一萬億`
+/// in traditional script and lower case.
 ///
 /// The only error is `AllocError`, where memory runs out.
 pub fn from_u128_to_chinese_middle(
@@ -55,8 +57,8 @@ pub fn from_u128_to_chinese_middle(
     print_by_units::<u128>(alloc, variant, case, ChineseCountMethod::Middle, value)
 }
 
-/// Writes a `usize` by `Middle`: 1_000_000_000_000 is `一萬億` in traditional script and lower
-/// case.
+/// Writes a `usize` by `Middle`: 1_000_000_000_000 is `一萬億`
+/// in traditional script and lower case.
 ///
 /// The only error is `AllocError`, where memory runs out.
 pub fn from_usize_to_chinese_middle(
@@ -71,7 +73,8 @@ pub fn from_usize_to_chinese_middle(
     print_by_units::<usize>(alloc, variant, case, ChineseCountMethod::Middle, value)
 }
 
-/// Writes an `i32` by `Middle`: -100_000 is `負十萬` in traditional script and lower case.
+/// Writes an `i32` by `Middle`: -100_000 is `負十萬`
+/// in traditional script and lower case.
 ///
 /// The only error is `AllocError`, where memory runs out.
 pub fn from_i32_to_chinese_middle(
@@ -80,13 +83,14 @@ pub fn from_i32_to_chinese_middle(
     case: ChineseCase,
     value: i32,
 ) -> Result<String, AllocError>
-    ensures { IfOk result (Writes (spelled_text variant case Middle value) (most_bytes Middle)) }
+    ensures { IfOk result (Writes (spelled_text variant case Middle value)
+        (most_bytes Middle)) }
 {
     print_by_units::<i32>(alloc, variant, case, ChineseCountMethod::Middle, value)
 }
 
-/// Writes an `i64` by `Middle`: -1_000_000_000_000 is `負一萬億` in traditional script and lower
-/// case.
+/// Writes an `i64` by `Middle`: -1_000_000_000_000 is `負一萬億`
+/// in traditional script and lower case.
 ///
 /// The only error is `AllocError`, where memory runs out.
 pub fn from_i64_to_chinese_middle(
@@ -95,13 +99,14 @@ pub fn from_i64_to_chinese_middle(
     case: ChineseCase,
     value: i64,
 ) -> Result<String, AllocError>
-    ensures { IfOk result (Writes (spelled_text variant case Middle value) (most_bytes Middle)) }
+    ensures { IfOk result (Writes (spelled_text variant case Middle value)
+        (most_bytes Middle)) }
 {
     print_by_units::<i64>(alloc, variant, case, ChineseCountMethod::Middle, value)
 }
 
-/// Writes an `i128` by `Middle`: -1_000_000_000_000_000_000_000_000 is `負一京` in traditional
-/// script and lower case.
+/// Writes an `i128` by `Middle`: -1_000_000_000_000 is `負一萬億`
+/// in traditional script and lower case.
 ///
 /// The only error is `AllocError`, where memory runs out.
 pub fn from_i128_to_chinese_middle(
@@ -110,13 +115,14 @@ pub fn from_i128_to_chinese_middle(
     case: ChineseCase,
     value: i128,
 ) -> Result<String, AllocError>
-    ensures { IfOk result (Writes (spelled_text variant case Middle value) (most_bytes Middle)) }
+    ensures { IfOk result (Writes (spelled_text variant case Middle value)
+        (most_bytes Middle)) }
 {
     print_by_units::<i128>(alloc, variant, case, ChineseCountMethod::Middle, value)
 }
 
-/// Writes an `isize` by `Middle`: -1_000_000_000_000 is `負一萬億` in traditional script and lower
-/// case.
+/// Writes an `isize` by `Middle`: -1_000_000_000_000 is `負一萬億`
+/// in traditional script and lower case.
 ///
 /// The only error is `AllocError`, where memory runs out.
 pub fn from_isize_to_chinese_middle(
@@ -125,7 +131,8 @@ pub fn from_isize_to_chinese_middle(
     case: ChineseCase,
     value: isize,
 ) -> Result<String, AllocError>
-    ensures { IfOk result (Writes (spelled_text variant case Middle value) (most_bytes Middle)) }
+    ensures { IfOk result (Writes (spelled_text variant case Middle value)
+        (most_bytes Middle)) }
 {
     print_by_units::<isize>(alloc, variant, case, ChineseCountMethod::Middle, value)
 }

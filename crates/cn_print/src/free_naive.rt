@@ -7,7 +7,8 @@ use cn_core::{ChineseCase, ChineseVariant};
 use cn_spell::print_naive;
 use std::alloc::{AllocError, Global};
 
-/// Writes a `u8` digit by digit: 120 is `一二零` in traditional script and lower case.
+/// Writes a `u8` digit by digit: 120 is `一二零`
+/// in traditional script and lower case.
 ///
 /// The only error is `AllocError`, where memory runs out.
 pub fn from_u8_to_chinese_naive(
@@ -21,7 +22,8 @@ pub fn from_u8_to_chinese_naive(
     print_naive::<u8>(alloc, variant, case, value)
 }
 
-/// Writes a `u16` digit by digit: 120 is `一二零` in traditional script and lower case.
+/// Writes a `u16` digit by digit: 120 is `一二零`
+/// in traditional script and lower case.
 ///
 /// The only error is `AllocError`, where memory runs out.
 pub fn from_u16_to_chinese_naive(
@@ -35,7 +37,8 @@ pub fn from_u16_to_chinese_naive(
     print_naive::<u16>(alloc, variant, case, value)
 }
 
-/// Writes a `u32` digit by digit: 120 is `一二零` in traditional script and lower case.
+/// Writes a `u32` digit by digit: 120 is `一二零`
+/// in traditional script and lower case.
 ///
 /// The only error is `AllocError`, where memory runs out.
 pub fn from_u32_to_chinese_naive(
@@ -49,7 +52,8 @@ pub fn from_u32_to_chinese_naive(
     print_naive::<u32>(alloc, variant, case, value)
 }
 
-/// Writes a `u64` digit by digit: 120 is `一二零` in traditional script and lower case.
+/// Writes a `u64` digit by digit: 120 is `一二零`
+/// in traditional script and lower case.
 ///
 /// The only error is `AllocError`, where memory runs out.
 pub fn from_u64_to_chinese_naive(
@@ -63,7 +67,8 @@ pub fn from_u64_to_chinese_naive(
     print_naive::<u64>(alloc, variant, case, value)
 }
 
-/// Writes a `u128` digit by digit: 120 is `一二零` in traditional script and lower case.
+/// Writes a `u128` digit by digit: 120 is `一二零`
+/// in traditional script and lower case.
 ///
 /// The only error is `AllocError`, where memory runs out.
 pub fn from_u128_to_chinese_naive(
@@ -77,7 +82,8 @@ pub fn from_u128_to_chinese_naive(
     print_naive::<u128>(alloc, variant, case, value)
 }
 
-/// Writes a `usize` digit by digit: 120 is `一二零` in traditional script and lower case.
+/// Writes a `usize` digit by digit: 120 is `一二零`
+/// in traditional script and lower case.
 ///
 /// The only error is `AllocError`, where memory runs out.
 pub fn from_usize_to_chinese_naive(
@@ -91,7 +97,8 @@ pub fn from_usize_to_chinese_naive(
     print_naive::<usize>(alloc, variant, case, value)
 }
 
-/// Writes an `i8` digit by digit: -120 is `負一二零` in traditional script and lower case.
+/// Writes an `i8` digit by digit: -120 is `負一二零`
+/// in traditional script and lower case.
 ///
 /// The only error is `AllocError`, where memory runs out.
 pub fn from_i8_to_chinese_naive(
@@ -105,7 +112,8 @@ pub fn from_i8_to_chinese_naive(
     print_naive::<i8>(alloc, variant, case, value)
 }
 
-/// Writes an `i16` digit by digit: -120 is `負一二零` in traditional script and lower case.
+/// Writes an `i16` digit by digit: -120 is `負一二零`
+/// in traditional script and lower case.
 ///
 /// The only error is `AllocError`, where memory runs out.
 pub fn from_i16_to_chinese_naive(
@@ -119,7 +127,8 @@ pub fn from_i16_to_chinese_naive(
     print_naive::<i16>(alloc, variant, case, value)
 }
 
-/// Writes an `i32` digit by digit: -120 is `負一二零` in traditional script and lower case.
+/// Writes an `i32` digit by digit: -120 is `負一二零`
+/// in traditional script and lower case.
 ///
 /// The only error is `AllocError`, where memory runs out.
 pub fn from_i32_to_chinese_naive(
@@ -133,7 +142,8 @@ pub fn from_i32_to_chinese_naive(
     print_naive::<i32>(alloc, variant, case, value)
 }
 
-/// Writes an `i64` digit by digit: -120 is `負一二零` in traditional script and lower case.
+/// Writes an `i64` digit by digit: -120 is `負一二零`
+/// in traditional script and lower case.
 ///
 /// The only error is `AllocError`, where memory runs out.
 pub fn from_i64_to_chinese_naive(
@@ -147,7 +157,8 @@ pub fn from_i64_to_chinese_naive(
     print_naive::<i64>(alloc, variant, case, value)
 }
 
-/// Writes an `i128` digit by digit: -120 is `負一二零` in traditional script and lower case.
+/// Writes an `i128` digit by digit: -120 is `負一二零`
+/// in traditional script and lower case.
 ///
 /// The only error is `AllocError`, where memory runs out.
 pub fn from_i128_to_chinese_naive(
@@ -161,7 +172,8 @@ pub fn from_i128_to_chinese_naive(
     print_naive::<i128>(alloc, variant, case, value)
 }
 
-/// Writes an `isize` digit by digit: -120 is `負一二零` in traditional script and lower case.
+/// Writes an `isize` digit by digit: -120 is `負一二零`
+/// in traditional script and lower case.
 ///
 /// The only error is `AllocError`, where memory runs out.
 pub fn from_isize_to_chinese_naive(

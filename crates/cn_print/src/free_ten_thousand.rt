@@ -9,7 +9,8 @@ use cn_core::{ChineseCase, ChineseCountMethod, ChineseVariant};
 use cn_spell::print_by_units;
 use std::alloc::{AllocError, Global};
 
-/// Writes a `u32` by `TenThousand`: 100_000 is `十萬` in traditional script and lower case.
+/// Writes a `u32` by `TenThousand`: 100_000 is `十萬`
+/// in traditional script and lower case.
 ///
 /// The only error is `AllocError`, where memory runs out.
 pub fn from_u32_to_chinese_ten_thousand(
@@ -24,8 +25,8 @@ pub fn from_u32_to_chinese_ten_thousand(
     print_by_units::<u32>(alloc, variant, case, ChineseCountMethod::TenThousand, value)
 }
 
-/// Writes a `u64` by `TenThousand`: 1_000_000_000_000 is `一兆` in traditional script and lower
-/// case.
+/// Writes a `u64` by `TenThousand`: 1_000_000_000_000 is `一兆`
+/// in traditional script and lower case.
 ///
 /// The only error is `AllocError`, where memory runs out.
 pub fn from_u64_to_chinese_ten_thousand(
@@ -40,8 +41,8 @@ pub fn from_u64_to_chinese_ten_thousand(
     print_by_units::<u64>(alloc, variant, case, ChineseCountMethod::TenThousand, value)
 }
 
-/// Writes a `u128` by `TenThousand`: 1_000_000_000_000 is `一兆` in traditional script and lower
-/// case.
+/// Writes a `u128` by `TenThousand`: 1_000_000_000_000 is `一兆`
+/// in traditional script and lower case.
 ///
 /// The only error is `AllocError`, where memory runs out.
 pub fn from_u128_to_chinese_ten_thousand(
@@ -56,8 +57,8 @@ pub fn from_u128_to_chinese_ten_thousand(
     print_by_units::<u128>(alloc, variant, case, ChineseCountMethod::TenThousand, value)
 }
 
-/// Writes a `usize` by `TenThousand`: 1_000_000_000_000 is `一兆` in traditional script and lower
-/// case.
+/// Writes a `usize` by `TenThousand`: 1_000_000_000_000 is `一兆`
+/// in traditional script and lower case.
 ///
 /// The only error is `AllocError`, where memory runs out.
 pub fn from_usize_to_chinese_ten_thousand(
@@ -72,7 +73,8 @@ pub fn from_usize_to_chinese_ten_thousand(
     print_by_units::<usize>(alloc, variant, case, ChineseCountMethod::TenThousand, value)
 }
 
-/// Writes an `i32` by `TenThousand`: -100_000 is `負十萬` in traditional script and lower case.
+/// Writes an `i32` by `TenThousand`: -100_000 is `負十萬`
+/// in traditional script and lower case.
 ///
 /// The only error is `AllocError`, where memory runs out.
 pub fn from_i32_to_chinese_ten_thousand(
@@ -87,8 +89,8 @@ pub fn from_i32_to_chinese_ten_thousand(
     print_by_units::<i32>(alloc, variant, case, ChineseCountMethod::TenThousand, value)
 }
 
-/// Writes an `i64` by `TenThousand`: -1_000_000_000_000 is `負一兆` in traditional script and lower
-/// case.
+/// Writes an `i64` by `TenThousand`: -1_000_000_000_000 is `負一兆`
+/// in traditional script and lower case.
 ///
 /// The only error is `AllocError`, where memory runs out.
 pub fn from_i64_to_chinese_ten_thousand(
@@ -103,8 +105,8 @@ pub fn from_i64_to_chinese_ten_thousand(
     print_by_units::<i64>(alloc, variant, case, ChineseCountMethod::TenThousand, value)
 }
 
-/// Writes an `i128` by `TenThousand`: -1_000_000_000_000 is `負一兆` in traditional script and
-/// lower case.
+/// Writes an `i128` by `TenThousand`: -1_000_000_000_000 is `負一兆`
+/// in traditional script and lower case.
 ///
 /// The only error is `AllocError`, where memory runs out.
 pub fn from_i128_to_chinese_ten_thousand(
@@ -119,8 +121,8 @@ pub fn from_i128_to_chinese_ten_thousand(
     print_by_units::<i128>(alloc, variant, case, ChineseCountMethod::TenThousand, value)
 }
 
-/// Writes an `isize` by `TenThousand`: -1_000_000_000_000 is `負一兆` in traditional script and
-/// lower case.
+/// Writes an `isize` by `TenThousand`: -1_000_000_000_000 is `負一兆`
+/// in traditional script and lower case.
 ///
 /// The only error is `AllocError`, where memory runs out.
 pub fn from_isize_to_chinese_ten_thousand(

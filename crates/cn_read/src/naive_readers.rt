@@ -8,9 +8,7 @@ use cn_judge::{ChineseToNumberError, read_naive};
 
 /// Reads plain digits as a `u8`: `零一二` is 12.
 ///
-/// A text of nothing but white space is empty, the first character that is no digit is incorrect,
-/// 正 and 負 too, and a number above `u8::MAX` is an overflow. Where the digits pass 128 bits, what
-/// follows is not looked at.
+/// [`ChineseToNumberError`] says when each error comes.
 pub fn from_chinese_to_u8_naive(text: &str) -> Result<u8, ChineseToNumberError>
     ensures { answer_of pos result ≡ naive_reading (unsigned_kind 8) text.now }
 {
@@ -19,9 +17,7 @@ pub fn from_chinese_to_u8_naive(text: &str) -> Result<u8, ChineseToNumberError>
 
 /// Reads plain digits as a `u16`: `零一二` is 12.
 ///
-/// A text of nothing but white space is empty, the first character that is no digit is incorrect,
-/// 正 and 負 too, and a number above `u16::MAX` is an overflow. Where the digits pass 128 bits,
-/// what follows is not looked at.
+/// [`ChineseToNumberError`] says when each error comes.
 pub fn from_chinese_to_u16_naive(text: &str) -> Result<u16, ChineseToNumberError>
     ensures { answer_of pos result ≡ naive_reading (unsigned_kind 16) text.now }
 {
@@ -30,9 +26,7 @@ pub fn from_chinese_to_u16_naive(text: &str) -> Result<u16, ChineseToNumberError
 
 /// Reads plain digits as a `u32`: `零一二` is 12.
 ///
-/// A text of nothing but white space is empty, the first character that is no digit is incorrect,
-/// 正 and 負 too, and a number above `u32::MAX` is an overflow. Where the digits pass 128 bits,
-/// what follows is not looked at.
+/// [`ChineseToNumberError`] says when each error comes.
 pub fn from_chinese_to_u32_naive(text: &str) -> Result<u32, ChineseToNumberError>
     ensures { answer_of pos result ≡ naive_reading (unsigned_kind 32) text.now }
 {
@@ -41,9 +35,7 @@ pub fn from_chinese_to_u32_naive(text: &str) -> Result<u32, ChineseToNumberError
 
 /// Reads plain digits as a `u64`: `零一二` is 12.
 ///
-/// A text of nothing but white space is empty, the first character that is no digit is incorrect,
-/// 正 and 負 too, and a number above `u64::MAX` is an overflow. Where the digits pass 128 bits,
-/// what follows is not looked at.
+/// [`ChineseToNumberError`] says when each error comes.
 pub fn from_chinese_to_u64_naive(text: &str) -> Result<u64, ChineseToNumberError>
     ensures { answer_of pos result ≡ naive_reading (unsigned_kind 64) text.now }
 {
@@ -52,9 +44,7 @@ pub fn from_chinese_to_u64_naive(text: &str) -> Result<u64, ChineseToNumberError
 
 /// Reads plain digits as a `u128`: `零一二` is 12.
 ///
-/// A text of nothing but white space is empty, the first character that is no digit is incorrect,
-/// 正 and 負 too, and a number above `u128::MAX` is an overflow. Where the digits pass 128 bits,
-/// what follows is not looked at.
+/// [`ChineseToNumberError`] says when each error comes.
 pub fn from_chinese_to_u128_naive(text: &str) -> Result<u128, ChineseToNumberError>
     ensures { answer_of pos result ≡ naive_reading (unsigned_kind 128) text.now }
 {
@@ -63,9 +53,7 @@ pub fn from_chinese_to_u128_naive(text: &str) -> Result<u128, ChineseToNumberErr
 
 /// Reads plain digits as a `usize`: `零一二` is 12.
 ///
-/// A text of nothing but white space is empty, the first character that is no digit is incorrect,
-/// 正 and 負 too, and a number above `usize::MAX` is an overflow. Where the digits pass 128 bits,
-/// what follows is not looked at.
+/// [`ChineseToNumberError`] says when each error comes.
 pub fn from_chinese_to_usize_naive(text: &str) -> Result<usize, ChineseToNumberError>
     ensures { answer_of pos result ≡ naive_reading (unsigned_kind 64) text.now }
 {
@@ -74,9 +62,7 @@ pub fn from_chinese_to_usize_naive(text: &str) -> Result<usize, ChineseToNumberE
 
 /// Reads plain digits after at most one sign as an `i8`: `負一二` is -12.
 ///
-/// A text of nothing but white space and one sign is empty, the first character after the sign that
-/// is no digit is incorrect, a number above `i8::MAX` is an overflow, and one below `i8::MIN` an
-/// underflow. Where the digits pass 128 bits, what follows is not looked at.
+/// [`ChineseToNumberError`] says when each error comes.
 pub fn from_chinese_to_i8_naive(text: &str) -> Result<i8, ChineseToNumberError>
     ensures { answer_of (λ z. z) result ≡ naive_reading (signed_kind 8) text.now }
 {
@@ -85,9 +71,7 @@ pub fn from_chinese_to_i8_naive(text: &str) -> Result<i8, ChineseToNumberError>
 
 /// Reads plain digits after at most one sign as an `i16`: `負一二` is -12.
 ///
-/// A text of nothing but white space and one sign is empty, the first character after the sign that
-/// is no digit is incorrect, a number above `i16::MAX` is an overflow, and one below `i16::MIN` an
-/// underflow. Where the digits pass 128 bits, what follows is not looked at.
+/// [`ChineseToNumberError`] says when each error comes.
 pub fn from_chinese_to_i16_naive(text: &str) -> Result<i16, ChineseToNumberError>
     ensures { answer_of (λ z. z) result ≡ naive_reading (signed_kind 16) text.now }
 {
@@ -96,9 +80,7 @@ pub fn from_chinese_to_i16_naive(text: &str) -> Result<i16, ChineseToNumberError
 
 /// Reads plain digits after at most one sign as an `i32`: `負一二` is -12.
 ///
-/// A text of nothing but white space and one sign is empty, the first character after the sign that
-/// is no digit is incorrect, a number above `i32::MAX` is an overflow, and one below `i32::MIN` an
-/// underflow. Where the digits pass 128 bits, what follows is not looked at.
+/// [`ChineseToNumberError`] says when each error comes.
 pub fn from_chinese_to_i32_naive(text: &str) -> Result<i32, ChineseToNumberError>
     ensures { answer_of (λ z. z) result ≡ naive_reading (signed_kind 32) text.now }
 {
@@ -107,9 +89,7 @@ pub fn from_chinese_to_i32_naive(text: &str) -> Result<i32, ChineseToNumberError
 
 /// Reads plain digits after at most one sign as an `i64`: `負一二` is -12.
 ///
-/// A text of nothing but white space and one sign is empty, the first character after the sign that
-/// is no digit is incorrect, a number above `i64::MAX` is an overflow, and one below `i64::MIN` an
-/// underflow. Where the digits pass 128 bits, what follows is not looked at.
+/// [`ChineseToNumberError`] says when each error comes.
 pub fn from_chinese_to_i64_naive(text: &str) -> Result<i64, ChineseToNumberError>
     ensures { answer_of (λ z. z) result ≡ naive_reading (signed_kind 64) text.now }
 {
@@ -118,9 +98,7 @@ pub fn from_chinese_to_i64_naive(text: &str) -> Result<i64, ChineseToNumberError
 
 /// Reads plain digits after at most one sign as an `i128`: `負一二` is -12.
 ///
-/// A text of nothing but white space and one sign is empty, the first character after the sign that
-/// is no digit is incorrect, a number above `i128::MAX` is an overflow, and one below `i128::MIN`
-/// an underflow. Where the digits pass 128 bits, what follows is not looked at.
+/// [`ChineseToNumberError`] says when each error comes.
 pub fn from_chinese_to_i128_naive(text: &str) -> Result<i128, ChineseToNumberError>
     ensures { answer_of (λ z. z) result ≡ naive_reading (signed_kind 128) text.now }
 {
@@ -129,9 +107,7 @@ pub fn from_chinese_to_i128_naive(text: &str) -> Result<i128, ChineseToNumberErr
 
 /// Reads plain digits after at most one sign as an `isize`: `負一二` is -12.
 ///
-/// A text of nothing but white space and one sign is empty, the first character after the sign that
-/// is no digit is incorrect, a number above `isize::MAX` is an overflow, and one below `isize::MIN`
-/// an underflow. Where the digits pass 128 bits, what follows is not looked at.
+/// [`ChineseToNumberError`] says when each error comes.
 pub fn from_chinese_to_isize_naive(text: &str) -> Result<isize, ChineseToNumberError>
     ensures { answer_of (λ z. z) result ≡ naive_reading (signed_kind 64) text.now }
 {

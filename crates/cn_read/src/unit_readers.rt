@@ -12,9 +12,7 @@ use cn_judge::ChineseToNumberError;
 
 /// Reads a numeral by `Low` as a `u8`: `一百二` is 120.
 ///
-/// A text of nothing but white space is empty, a number above `u8::MAX` is an overflow, and a text
-/// that is no numeral is incorrect; [`ChineseToNumberError`] says when each comes, and which comes
-/// first.
+/// [`ChineseToNumberError`] says when each error comes.
 pub fn from_chinese_to_u8(text: &str) -> Result<u8, ChineseToNumberError>
     ensures { Reads (unsigned_kind 8) Low text.now (answer_of pos result) }
 {
@@ -23,9 +21,7 @@ pub fn from_chinese_to_u8(text: &str) -> Result<u8, ChineseToNumberError>
 
 /// Reads a numeral by `Low` as a `u16`: `一百二` is 120.
 ///
-/// A text of nothing but white space is empty, a number above `u16::MAX` is an overflow, and a text
-/// that is no numeral is incorrect; [`ChineseToNumberError`] says when each comes, and which comes
-/// first.
+/// [`ChineseToNumberError`] says when each error comes.
 pub fn from_chinese_to_u16(text: &str) -> Result<u16, ChineseToNumberError>
     ensures { Reads (unsigned_kind 16) Low text.now (answer_of pos result) }
 {
@@ -34,9 +30,7 @@ pub fn from_chinese_to_u16(text: &str) -> Result<u16, ChineseToNumberError>
 
 /// Reads a numeral by `Low` as a `u32`: `一億二` is 120_000.
 ///
-/// A text of nothing but white space is empty, a number above `u32::MAX` is an overflow, and a text
-/// that is no numeral is incorrect; [`ChineseToNumberError`] says when each comes, and which comes
-/// first.
+/// [`ChineseToNumberError`] says when each error comes.
 pub fn from_chinese_to_u32_low(text: &str) -> Result<u32, ChineseToNumberError>
     ensures { Reads (unsigned_kind 32) Low text.now (answer_of pos result) }
 {
@@ -45,9 +39,7 @@ pub fn from_chinese_to_u32_low(text: &str) -> Result<u32, ChineseToNumberError>
 
 /// Reads a numeral by `TenThousand` as a `u32`: `一億二` is 120_000_000.
 ///
-/// A text of nothing but white space is empty, a number above `u32::MAX` is an overflow, and a text
-/// that is no numeral is incorrect; [`ChineseToNumberError`] says when each comes, and which comes
-/// first.
+/// [`ChineseToNumberError`] says when each error comes.
 pub fn from_chinese_to_u32_ten_thousand(text: &str) -> Result<u32, ChineseToNumberError>
     ensures { Reads (unsigned_kind 32) TenThousand text.now (answer_of pos result) }
 {
@@ -56,9 +48,7 @@ pub fn from_chinese_to_u32_ten_thousand(text: &str) -> Result<u32, ChineseToNumb
 
 /// Reads a numeral by `Middle` as a `u32`: `一億二` is 120_000_000.
 ///
-/// A text of nothing but white space is empty, a number above `u32::MAX` is an overflow, and a text
-/// that is no numeral is incorrect; [`ChineseToNumberError`] says when each comes, and which comes
-/// first.
+/// [`ChineseToNumberError`] says when each error comes.
 pub fn from_chinese_to_u32_middle(text: &str) -> Result<u32, ChineseToNumberError>
     ensures { Reads (unsigned_kind 32) Middle text.now (answer_of pos result) }
 {
@@ -67,9 +57,7 @@ pub fn from_chinese_to_u32_middle(text: &str) -> Result<u32, ChineseToNumberErro
 
 /// Reads a numeral by `High` as a `u32`: `一億二` is 120_000_000.
 ///
-/// A text of nothing but white space is empty, a number above `u32::MAX` is an overflow, and a text
-/// that is no numeral is incorrect; [`ChineseToNumberError`] says when each comes, and which comes
-/// first.
+/// [`ChineseToNumberError`] says when each error comes.
 pub fn from_chinese_to_u32_high(text: &str) -> Result<u32, ChineseToNumberError>
     ensures { Reads (unsigned_kind 32) High text.now (answer_of pos result) }
 {
@@ -78,9 +66,7 @@ pub fn from_chinese_to_u32_high(text: &str) -> Result<u32, ChineseToNumberError>
 
 /// Reads a numeral by `Low` as a `u64`: `一億二` is 120_000.
 ///
-/// A text of nothing but white space is empty, a number above `u64::MAX` is an overflow, and a text
-/// that is no numeral is incorrect; [`ChineseToNumberError`] says when each comes, and which comes
-/// first.
+/// [`ChineseToNumberError`] says when each error comes.
 pub fn from_chinese_to_u64_low(text: &str) -> Result<u64, ChineseToNumberError>
     ensures { Reads (unsigned_kind 64) Low text.now (answer_of pos result) }
 {
@@ -89,9 +75,7 @@ pub fn from_chinese_to_u64_low(text: &str) -> Result<u64, ChineseToNumberError>
 
 /// Reads a numeral by `TenThousand` as a `u64`: `一億二` is 120_000_000.
 ///
-/// A text of nothing but white space is empty, a number above `u64::MAX` is an overflow, and a text
-/// that is no numeral is incorrect; [`ChineseToNumberError`] says when each comes, and which comes
-/// first.
+/// [`ChineseToNumberError`] says when each error comes.
 pub fn from_chinese_to_u64_ten_thousand(text: &str) -> Result<u64, ChineseToNumberError>
     ensures { Reads (unsigned_kind 64) TenThousand text.now (answer_of pos result) }
 {
@@ -100,9 +84,7 @@ pub fn from_chinese_to_u64_ten_thousand(text: &str) -> Result<u64, ChineseToNumb
 
 /// Reads a numeral by `Middle` as a `u64`: `一億二` is 120_000_000.
 ///
-/// A text of nothing but white space is empty, a number above `u64::MAX` is an overflow, and a text
-/// that is no numeral is incorrect; [`ChineseToNumberError`] says when each comes, and which comes
-/// first.
+/// [`ChineseToNumberError`] says when each error comes.
 pub fn from_chinese_to_u64_middle(text: &str) -> Result<u64, ChineseToNumberError>
     ensures { Reads (unsigned_kind 64) Middle text.now (answer_of pos result) }
 {
@@ -111,9 +93,7 @@ pub fn from_chinese_to_u64_middle(text: &str) -> Result<u64, ChineseToNumberErro
 
 /// Reads a numeral by `High` as a `u64`: `一億二` is 120_000_000.
 ///
-/// A text of nothing but white space is empty, a number above `u64::MAX` is an overflow, and a text
-/// that is no numeral is incorrect; [`ChineseToNumberError`] says when each comes, and which comes
-/// first.
+/// [`ChineseToNumberError`] says when each error comes.
 pub fn from_chinese_to_u64_high(text: &str) -> Result<u64, ChineseToNumberError>
     ensures { Reads (unsigned_kind 64) High text.now (answer_of pos result) }
 {
@@ -122,9 +102,7 @@ pub fn from_chinese_to_u64_high(text: &str) -> Result<u64, ChineseToNumberError>
 
 /// Reads a numeral by `Low` as a `u128`: `一億二` is 120_000.
 ///
-/// A text of nothing but white space is empty, a number above `u128::MAX` is an overflow, and a
-/// text that is no numeral is incorrect; [`ChineseToNumberError`] says when each comes, and which
-/// comes first.
+/// [`ChineseToNumberError`] says when each error comes.
 pub fn from_chinese_to_u128_low(text: &str) -> Result<u128, ChineseToNumberError>
     ensures { Reads (unsigned_kind 128) Low text.now (answer_of pos result) }
 {
@@ -133,9 +111,7 @@ pub fn from_chinese_to_u128_low(text: &str) -> Result<u128, ChineseToNumberError
 
 /// Reads a numeral by `TenThousand` as a `u128`: `一億二` is 120_000_000.
 ///
-/// A text of nothing but white space is empty, a number above `u128::MAX` is an overflow, and a
-/// text that is no numeral is incorrect; [`ChineseToNumberError`] says when each comes, and which
-/// comes first.
+/// [`ChineseToNumberError`] says when each error comes.
 pub fn from_chinese_to_u128_ten_thousand(text: &str) -> Result<u128, ChineseToNumberError>
     ensures { Reads (unsigned_kind 128) TenThousand text.now (answer_of pos result) }
 {
@@ -144,9 +120,7 @@ pub fn from_chinese_to_u128_ten_thousand(text: &str) -> Result<u128, ChineseToNu
 
 /// Reads a numeral by `Middle` as a `u128`: `一億二` is 120_000_000.
 ///
-/// A text of nothing but white space is empty, a number above `u128::MAX` is an overflow, and a
-/// text that is no numeral is incorrect; [`ChineseToNumberError`] says when each comes, and which
-/// comes first.
+/// [`ChineseToNumberError`] says when each error comes.
 pub fn from_chinese_to_u128_middle(text: &str) -> Result<u128, ChineseToNumberError>
     ensures { Reads (unsigned_kind 128) Middle text.now (answer_of pos result) }
 {
@@ -155,9 +129,7 @@ pub fn from_chinese_to_u128_middle(text: &str) -> Result<u128, ChineseToNumberEr
 
 /// Reads a numeral by `High` as a `u128`: `一億二` is 120_000_000.
 ///
-/// A text of nothing but white space is empty, a number above `u128::MAX` is an overflow, and a
-/// text that is no numeral is incorrect; [`ChineseToNumberError`] says when each comes, and which
-/// comes first.
+/// [`ChineseToNumberError`] says when each error comes.
 pub fn from_chinese_to_u128_high(text: &str) -> Result<u128, ChineseToNumberError>
     ensures { Reads (unsigned_kind 128) High text.now (answer_of pos result) }
 {
@@ -166,9 +138,7 @@ pub fn from_chinese_to_u128_high(text: &str) -> Result<u128, ChineseToNumberErro
 
 /// Reads a numeral by `Low` as a `usize`: `一億二` is 120_000.
 ///
-/// A text of nothing but white space is empty, a number above `usize::MAX` is an overflow, and a
-/// text that is no numeral is incorrect; [`ChineseToNumberError`] says when each comes, and which
-/// comes first.
+/// [`ChineseToNumberError`] says when each error comes.
 pub fn from_chinese_to_usize_low(text: &str) -> Result<usize, ChineseToNumberError>
     ensures { Reads (unsigned_kind 64) Low text.now (answer_of pos result) }
 {
@@ -177,9 +147,7 @@ pub fn from_chinese_to_usize_low(text: &str) -> Result<usize, ChineseToNumberErr
 
 /// Reads a numeral by `TenThousand` as a `usize`: `一億二` is 120_000_000.
 ///
-/// A text of nothing but white space is empty, a number above `usize::MAX` is an overflow, and a
-/// text that is no numeral is incorrect; [`ChineseToNumberError`] says when each comes, and which
-/// comes first.
+/// [`ChineseToNumberError`] says when each error comes.
 pub fn from_chinese_to_usize_ten_thousand(text: &str) -> Result<usize, ChineseToNumberError>
     ensures { Reads (unsigned_kind 64) TenThousand text.now (answer_of pos result) }
 {
@@ -188,9 +156,7 @@ pub fn from_chinese_to_usize_ten_thousand(text: &str) -> Result<usize, ChineseTo
 
 /// Reads a numeral by `Middle` as a `usize`: `一億二` is 120_000_000.
 ///
-/// A text of nothing but white space is empty, a number above `usize::MAX` is an overflow, and a
-/// text that is no numeral is incorrect; [`ChineseToNumberError`] says when each comes, and which
-/// comes first.
+/// [`ChineseToNumberError`] says when each error comes.
 pub fn from_chinese_to_usize_middle(text: &str) -> Result<usize, ChineseToNumberError>
     ensures { Reads (unsigned_kind 64) Middle text.now (answer_of pos result) }
 {
@@ -199,9 +165,7 @@ pub fn from_chinese_to_usize_middle(text: &str) -> Result<usize, ChineseToNumber
 
 /// Reads a numeral by `High` as a `usize`: `一億二` is 120_000_000.
 ///
-/// A text of nothing but white space is empty, a number above `usize::MAX` is an overflow, and a
-/// text that is no numeral is incorrect; [`ChineseToNumberError`] says when each comes, and which
-/// comes first.
+/// [`ChineseToNumberError`] says when each error comes.
 pub fn from_chinese_to_usize_high(text: &str) -> Result<usize, ChineseToNumberError>
     ensures { Reads (unsigned_kind 64) High text.now (answer_of pos result) }
 {
@@ -210,9 +174,7 @@ pub fn from_chinese_to_usize_high(text: &str) -> Result<usize, ChineseToNumberEr
 
 /// Reads a numeral by `Low` as an `i8`: `負一百二` is -120.
 ///
-/// A text of nothing but white space and one sign is empty, a number above `i8::MAX` is an
-/// overflow, one below `i8::MIN` an underflow, and a text that is no numeral is incorrect;
-/// [`ChineseToNumberError`] says when each comes, and which comes first.
+/// [`ChineseToNumberError`] says when each error comes.
 pub fn from_chinese_to_i8(text: &str) -> Result<i8, ChineseToNumberError>
     ensures { Reads (signed_kind 8) Low text.now (answer_of (λ z. z) result) }
 {
@@ -221,9 +183,7 @@ pub fn from_chinese_to_i8(text: &str) -> Result<i8, ChineseToNumberError>
 
 /// Reads a numeral by `Low` as an `i16`: `負一百二` is -120.
 ///
-/// A text of nothing but white space and one sign is empty, a number above `i16::MAX` is an
-/// overflow, one below `i16::MIN` an underflow, and a text that is no numeral is incorrect;
-/// [`ChineseToNumberError`] says when each comes, and which comes first.
+/// [`ChineseToNumberError`] says when each error comes.
 pub fn from_chinese_to_i16(text: &str) -> Result<i16, ChineseToNumberError>
     ensures { Reads (signed_kind 16) Low text.now (answer_of (λ z. z) result) }
 {
@@ -232,9 +192,7 @@ pub fn from_chinese_to_i16(text: &str) -> Result<i16, ChineseToNumberError>
 
 /// Reads a numeral by `Low` as an `i32`: `負一億二` is -120_000.
 ///
-/// A text of nothing but white space and one sign is empty, a number above `i32::MAX` is an
-/// overflow, one below `i32::MIN` an underflow, and a text that is no numeral is incorrect;
-/// [`ChineseToNumberError`] says when each comes, and which comes first.
+/// [`ChineseToNumberError`] says when each error comes.
 pub fn from_chinese_to_i32_low(text: &str) -> Result<i32, ChineseToNumberError>
     ensures { Reads (signed_kind 32) Low text.now (answer_of (λ z. z) result) }
 {
@@ -243,9 +201,7 @@ pub fn from_chinese_to_i32_low(text: &str) -> Result<i32, ChineseToNumberError>
 
 /// Reads a numeral by `TenThousand` as an `i32`: `負一億二` is -120_000_000.
 ///
-/// A text of nothing but white space and one sign is empty, a number above `i32::MAX` is an
-/// overflow, one below `i32::MIN` an underflow, and a text that is no numeral is incorrect;
-/// [`ChineseToNumberError`] says when each comes, and which comes first.
+/// [`ChineseToNumberError`] says when each error comes.
 pub fn from_chinese_to_i32_ten_thousand(text: &str) -> Result<i32, ChineseToNumberError>
     ensures { Reads (signed_kind 32) TenThousand text.now (answer_of (λ z. z) result) }
 {
@@ -254,9 +210,7 @@ pub fn from_chinese_to_i32_ten_thousand(text: &str) -> Result<i32, ChineseToNumb
 
 /// Reads a numeral by `Middle` as an `i32`: `負一億二` is -120_000_000.
 ///
-/// A text of nothing but white space and one sign is empty, a number above `i32::MAX` is an
-/// overflow, one below `i32::MIN` an underflow, and a text that is no numeral is incorrect;
-/// [`ChineseToNumberError`] says when each comes, and which comes first.
+/// [`ChineseToNumberError`] says when each error comes.
 pub fn from_chinese_to_i32_middle(text: &str) -> Result<i32, ChineseToNumberError>
     ensures { Reads (signed_kind 32) Middle text.now (answer_of (λ z. z) result) }
 {
@@ -265,9 +219,7 @@ pub fn from_chinese_to_i32_middle(text: &str) -> Result<i32, ChineseToNumberErro
 
 /// Reads a numeral by `High` as an `i32`: `負一億二` is -120_000_000.
 ///
-/// A text of nothing but white space and one sign is empty, a number above `i32::MAX` is an
-/// overflow, one below `i32::MIN` an underflow, and a text that is no numeral is incorrect;
-/// [`ChineseToNumberError`] says when each comes, and which comes first.
+/// [`ChineseToNumberError`] says when each error comes.
 pub fn from_chinese_to_i32_high(text: &str) -> Result<i32, ChineseToNumberError>
     ensures { Reads (signed_kind 32) High text.now (answer_of (λ z. z) result) }
 {
@@ -276,9 +228,7 @@ pub fn from_chinese_to_i32_high(text: &str) -> Result<i32, ChineseToNumberError>
 
 /// Reads a numeral by `Low` as an `i64`: `負一億二` is -120_000.
 ///
-/// A text of nothing but white space and one sign is empty, a number above `i64::MAX` is an
-/// overflow, one below `i64::MIN` an underflow, and a text that is no numeral is incorrect;
-/// [`ChineseToNumberError`] says when each comes, and which comes first.
+/// [`ChineseToNumberError`] says when each error comes.
 pub fn from_chinese_to_i64_low(text: &str) -> Result<i64, ChineseToNumberError>
     ensures { Reads (signed_kind 64) Low text.now (answer_of (λ z. z) result) }
 {
@@ -287,9 +237,7 @@ pub fn from_chinese_to_i64_low(text: &str) -> Result<i64, ChineseToNumberError>
 
 /// Reads a numeral by `TenThousand` as an `i64`: `負一億二` is -120_000_000.
 ///
-/// A text of nothing but white space and one sign is empty, a number above `i64::MAX` is an
-/// overflow, one below `i64::MIN` an underflow, and a text that is no numeral is incorrect;
-/// [`ChineseToNumberError`] says when each comes, and which comes first.
+/// [`ChineseToNumberError`] says when each error comes.
 pub fn from_chinese_to_i64_ten_thousand(text: &str) -> Result<i64, ChineseToNumberError>
     ensures { Reads (signed_kind 64) TenThousand text.now (answer_of (λ z. z) result) }
 {
@@ -298,9 +246,7 @@ pub fn from_chinese_to_i64_ten_thousand(text: &str) -> Result<i64, ChineseToNumb
 
 /// Reads a numeral by `Middle` as an `i64`: `負一億二` is -120_000_000.
 ///
-/// A text of nothing but white space and one sign is empty, a number above `i64::MAX` is an
-/// overflow, one below `i64::MIN` an underflow, and a text that is no numeral is incorrect;
-/// [`ChineseToNumberError`] says when each comes, and which comes first.
+/// [`ChineseToNumberError`] says when each error comes.
 pub fn from_chinese_to_i64_middle(text: &str) -> Result<i64, ChineseToNumberError>
     ensures { Reads (signed_kind 64) Middle text.now (answer_of (λ z. z) result) }
 {
@@ -309,9 +255,7 @@ pub fn from_chinese_to_i64_middle(text: &str) -> Result<i64, ChineseToNumberErro
 
 /// Reads a numeral by `High` as an `i64`: `負一億二` is -120_000_000.
 ///
-/// A text of nothing but white space and one sign is empty, a number above `i64::MAX` is an
-/// overflow, one below `i64::MIN` an underflow, and a text that is no numeral is incorrect;
-/// [`ChineseToNumberError`] says when each comes, and which comes first.
+/// [`ChineseToNumberError`] says when each error comes.
 pub fn from_chinese_to_i64_high(text: &str) -> Result<i64, ChineseToNumberError>
     ensures { Reads (signed_kind 64) High text.now (answer_of (λ z. z) result) }
 {
@@ -320,9 +264,7 @@ pub fn from_chinese_to_i64_high(text: &str) -> Result<i64, ChineseToNumberError>
 
 /// Reads a numeral by `Low` as an `i128`: `負一億二` is -120_000.
 ///
-/// A text of nothing but white space and one sign is empty, a number above `i128::MAX` is an
-/// overflow, one below `i128::MIN` an underflow, and a text that is no numeral is incorrect;
-/// [`ChineseToNumberError`] says when each comes, and which comes first.
+/// [`ChineseToNumberError`] says when each error comes.
 pub fn from_chinese_to_i128_low(text: &str) -> Result<i128, ChineseToNumberError>
     ensures { Reads (signed_kind 128) Low text.now (answer_of (λ z. z) result) }
 {
@@ -331,9 +273,7 @@ pub fn from_chinese_to_i128_low(text: &str) -> Result<i128, ChineseToNumberError
 
 /// Reads a numeral by `TenThousand` as an `i128`: `負一億二` is -120_000_000.
 ///
-/// A text of nothing but white space and one sign is empty, a number above `i128::MAX` is an
-/// overflow, one below `i128::MIN` an underflow, and a text that is no numeral is incorrect;
-/// [`ChineseToNumberError`] says when each comes, and which comes first.
+/// [`ChineseToNumberError`] says when each error comes.
 pub fn from_chinese_to_i128_ten_thousand(text: &str) -> Result<i128, ChineseToNumberError>
     ensures { Reads (signed_kind 128) TenThousand text.now (answer_of (λ z. z) result) }
 {
@@ -342,9 +282,7 @@ pub fn from_chinese_to_i128_ten_thousand(text: &str) -> Result<i128, ChineseToNu
 
 /// Reads a numeral by `Middle` as an `i128`: `負一億二` is -120_000_000.
 ///
-/// A text of nothing but white space and one sign is empty, a number above `i128::MAX` is an
-/// overflow, one below `i128::MIN` an underflow, and a text that is no numeral is incorrect;
-/// [`ChineseToNumberError`] says when each comes, and which comes first.
+/// [`ChineseToNumberError`] says when each error comes.
 pub fn from_chinese_to_i128_middle(text: &str) -> Result<i128, ChineseToNumberError>
     ensures { Reads (signed_kind 128) Middle text.now (answer_of (λ z. z) result) }
 {
@@ -353,9 +291,7 @@ pub fn from_chinese_to_i128_middle(text: &str) -> Result<i128, ChineseToNumberEr
 
 /// Reads a numeral by `High` as an `i128`: `負一億二` is -120_000_000.
 ///
-/// A text of nothing but white space and one sign is empty, a number above `i128::MAX` is an
-/// overflow, one below `i128::MIN` an underflow, and a text that is no numeral is incorrect;
-/// [`ChineseToNumberError`] says when each comes, and which comes first.
+/// [`ChineseToNumberError`] says when each error comes.
 pub fn from_chinese_to_i128_high(text: &str) -> Result<i128, ChineseToNumberError>
     ensures { Reads (signed_kind 128) High text.now (answer_of (λ z. z) result) }
 {
@@ -364,9 +300,7 @@ pub fn from_chinese_to_i128_high(text: &str) -> Result<i128, ChineseToNumberErro
 
 /// Reads a numeral by `Low` as an `isize`: `負一億二` is -120_000.
 ///
-/// A text of nothing but white space and one sign is empty, a number above `isize::MAX` is an
-/// overflow, one below `isize::MIN` an underflow, and a text that is no numeral is incorrect;
-/// [`ChineseToNumberError`] says when each comes, and which comes first.
+/// [`ChineseToNumberError`] says when each error comes.
 pub fn from_chinese_to_isize_low(text: &str) -> Result<isize, ChineseToNumberError>
     ensures { Reads (signed_kind 64) Low text.now (answer_of (λ z. z) result) }
 {
@@ -375,9 +309,7 @@ pub fn from_chinese_to_isize_low(text: &str) -> Result<isize, ChineseToNumberErr
 
 /// Reads a numeral by `TenThousand` as an `isize`: `負一億二` is -120_000_000.
 ///
-/// A text of nothing but white space and one sign is empty, a number above `isize::MAX` is an
-/// overflow, one below `isize::MIN` an underflow, and a text that is no numeral is incorrect;
-/// [`ChineseToNumberError`] says when each comes, and which comes first.
+/// [`ChineseToNumberError`] says when each error comes.
 pub fn from_chinese_to_isize_ten_thousand(text: &str) -> Result<isize, ChineseToNumberError>
     ensures { Reads (signed_kind 64) TenThousand text.now (answer_of (λ z. z) result) }
 {
@@ -386,9 +318,7 @@ pub fn from_chinese_to_isize_ten_thousand(text: &str) -> Result<isize, ChineseTo
 
 /// Reads a numeral by `Middle` as an `isize`: `負一億二` is -120_000_000.
 ///
-/// A text of nothing but white space and one sign is empty, a number above `isize::MAX` is an
-/// overflow, one below `isize::MIN` an underflow, and a text that is no numeral is incorrect;
-/// [`ChineseToNumberError`] says when each comes, and which comes first.
+/// [`ChineseToNumberError`] says when each error comes.
 pub fn from_chinese_to_isize_middle(text: &str) -> Result<isize, ChineseToNumberError>
     ensures { Reads (signed_kind 64) Middle text.now (answer_of (λ z. z) result) }
 {
@@ -397,9 +327,7 @@ pub fn from_chinese_to_isize_middle(text: &str) -> Result<isize, ChineseToNumber
 
 /// Reads a numeral by `High` as an `isize`: `負一億二` is -120_000_000.
 ///
-/// A text of nothing but white space and one sign is empty, a number above `isize::MAX` is an
-/// overflow, one below `isize::MIN` an underflow, and a text that is no numeral is incorrect;
-/// [`ChineseToNumberError`] says when each comes, and which comes first.
+/// [`ChineseToNumberError`] says when each error comes.
 pub fn from_chinese_to_isize_high(text: &str) -> Result<isize, ChineseToNumberError>
     ensures { Reads (signed_kind 64) High text.now (answer_of (λ z. z) result) }
 {

@@ -1,4 +1,4 @@
--- The check finds this by itself; it is written so that an edit is refused sooner.
+-- The check finds this by itself; with it an edit is refused sooner, and not at a limit.
 use Rattle.std.proofs.Common.{rules}
 use Rattle.cn_print.proofs.free_naive.from_usize_to_chinese_naive.Goals as goal
 
