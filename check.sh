@@ -58,7 +58,7 @@ time gate
 
 # The programs that the gate has proved and built.
 cc -O1 -shared -fPIC -o "$refuse_growth" checks/refuse_growth.c -ldl
-time python3 checks/out_of_memory.py crates/cn_memory/out/cn_memory "$refuse_growth"
+time python3 checks/out_of_memory.py crates/allocating_calls/out/allocating_calls "$refuse_growth"
 time python3 checks/short_of_memory.py $numeral "$refuse_growth" < crates/numeral/stdin
 time python3 checks/documents.py $numeral crates/cheque/out/cheque
 time python3 checks/dialogue.py $numeral

@@ -6,7 +6,7 @@ Usage: documents.py NUMERAL CHEQUE
 - The rows of `numeral` and of `cheque` in the tables of README.md and docs/ are asked.
 - The characters that it lists for them are those of the definitions, each read as what it says.
 - The example in the comment of each of the 96 calls by name is asked, with its type and method.
-- Each block of Rust in README.md stands, line by line, in a source of `examples` or `first`.
+- Each block of Rust in README.md stands, line by line, in a source of `examples`.
 - Each folder of `crates/` and `bindings/` has a row in docs/DESIGN.md.
 - The toolchain is named in one place of the documents, with the logic that `rt version` says; where
   there is no rt, that is said.
@@ -125,11 +125,10 @@ def compare_numeral(numeral):
 
 def compare_blocks():
     """The Rust of README stands in sources; how many blocks there are."""
-    sources = [*TOP.glob("crates/examples/src/*.rt"), *TOP.glob("crates/first/src/*.rt")]
-    texts = [text_of(path) for path in sources]
+    texts = [text_of(path) for path in TOP.glob("crates/examples/src/*.rt")]
     blocks = re.findall(r"^```rust\n(.*?)^```$", text_of(TOP / "README.md"), re.M | re.S)
     if not blocks or not all(any(block in text for text in texts) for block in blocks):
-        sys.exit("documents: the Rust of README.md does not stand in a source of examples or first")
+        sys.exit("documents: the Rust of README.md does not stand in a source of examples")
     return len(blocks)
 
 

@@ -10,7 +10,7 @@ Usage: edits.py CRATES
 - Each edit turns one value and keeps the shape of the code, or has a twin: a line behind a `new:`,
   of the same shape as it and with the right value. wrong_bodies.py shows that twins are proved.
 - Each has a name of its own: its function first (of a method also its type and then the function;
-  of a table or a constant its name or a function that cites it), and then its fault.
+  of a table, a constant or a macro its name or a function that cites it), and then its fault.
 - Those of `must-fail/` are the ones that docs/DESIGN.md names for a fault.
 """
 import re
@@ -24,7 +24,7 @@ import edit_files
 HEAD = re.compile(
     r'(\s*)(pub )?(?:pub\(crate\) )?(?:final )?(?:const )?(?:unsafe )?(?:extern "C" )?fn (\w+)'
 )
-TABLE = re.compile(r"\s*(?:pub )?(?:static|const) (\w+)")
+TABLE = re.compile(r"\s*(?:pub )?(?:static|const|macro_rules!) (\w+)")
 HOLDER = re.compile(r"(?:impl\b(?:.* for |(?:<.*?>)? )|(?:pub )?trait )(?:\w+::)*(\w+)")
 # What a line may belong to: where its head, its body and what follows it begin; whether users call
 # it, and whether it has to have an edit.
@@ -76,7 +76,7 @@ def snake(name):
 
 
 def items_of(crate, root, texts):
-    """The functions of a crate, and its tables and constants."""
+    """The functions of a crate, and its tables, constants and macros."""
     told = texts[f"src/{root.name}"]
     handed_on = " ".join(re.findall(r"^pub use ([^;]*);", told, re.MULTILINE))
     handed_on = set(re.findall(r"\w+\b(?!::)", handed_on))

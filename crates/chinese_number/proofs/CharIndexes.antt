@@ -1,13 +1,13 @@
 -- The char_index_of of a refusal is that of a character.
 use Rattle.std.proofs.Common.{◌≡◌, ◌⊎◌, inl, inr, ℕ, zero, suc, ◌+◌, ◌-◌, ◌^◌, ◌<◌, ◌≤◌, ℤ, int_lt, Bool, true, false, not, ◌&&◌, nat_lt, nat_le, if◌then◌else◌, List, [], ◌∷◌, length, filter, reverse, take, drop, slice_get, chars, Option, Some, None, Result, Ok, Err, is_ok, refl, sym, ap, subst, ◌∙◌, arith, length-drop}
-use Rattle.std.proofs.lemmas.List.{length-reverse, length-take-le}
+use Rattle.std.proofs.lemmas.List.{length-reverse, length-take-le, length-map}
 use Rattle.std.specs.Char.{is_whitespace, is_not_whitespace}
 use Rattle.std.specs.Option.{option_or}
 use Rattle.cn_core.specs.declared.method.ChineseCountMethod.{ChineseCountMethod}
 use Rattle.cn_core.specs.declared.sign.Sign.{Sign}
 use Rattle.cn_core.specs.declared.sign.Sign.TheVariants.{Plus, Minus}
 use Rattle.cn_core.specs.Judge.{Judges, RefusesBody, numeral_answer, last_mark_answer}
-use Rattle.cn_core.specs.Mark.{Mark, digit, unit, other}
+use Rattle.cn_core.specs.Mark.{Mark, digit, unit, other, mark_of}
 use Rattle.cn_core.specs.Naive.{naive_answer, first_fault, refused_or, decimal_value}
 use Rattle.cn_core.specs.Numeral.{is_numeral, Completable}
 use Rattle.cn_core.specs.Place.{body, ends_apart, is_early, some_unfit}
@@ -201,10 +201,6 @@ after_sign signed text place h = omega (
   length-drop (sign_len (leading_sign signed text)) text,
 )
 
-length-marks : (text : List ℕ) → length (marks_of text) ≡ length text
-length-marks [] = refl
-length-marks (c ∷ text) = ap suc (length-marks text)
-
 pub refusal_points : (kind : Kind) (bytes : List ℕ) (judged : Result ℕ Refusal) (char_index : ℕ)
     → let text = text_of bytes in let sign = leading_sign kind.signed text in
     ((place : ℕ) → judged ≡ Err (incorrect_at place)
@@ -218,7 +214,7 @@ refusal_points kind bytes judged char_index within h =
     let p = place_behind kind bytes sign judged char_index h in
     let l = within p.0 p.1 in
     let low : p.0 < length (drop (sign_len sign) text) =
-    omega (arith, l, length-marks (drop (sign_len sign) text)) in (
+    omega (arith, l, length-map (drop (sign_len sign) text) mark_of) in (
       p.0,
       p.1,
       subst (λ s. PointsAt bytes s (p.0 + sign_len sign)) p.2

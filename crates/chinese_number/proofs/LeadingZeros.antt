@@ -2,6 +2,7 @@
 use Rattle.std.proofs.Common.{◌≡◌, ℕ, ℤ, Bool, true, false, ◌||◌, ◌==◌, if◌then◌else◌, List, [], ◌∷◌, ◌++◌, take, drop, All, Option, Some, None, Ok, refl, sym, ap, ◌∙◌, arith}
 use Rattle.std.proofs.lemmas.Bool.Decides.{nat_tests}
 use Rattle.std.proofs.lemmas.List.Elements.{All-head, All-tail, All-nil, All-cons}
+use Rattle.std.proofs.lemmas.List.{map-append}
 use Rattle.cn_core.specs.declared.sign.Sign.{Sign}
 use Rattle.cn_core.specs.declared.sign.Sign.TheVariants.{Plus, Minus}
 use Rattle.cn_core.specs.Characters.{digit_of, sign_of}
@@ -40,10 +41,6 @@ sign_no_digit c value h = by (0x6B63 == c) (0x8CA0 == c) (0x8D1F == c) refl refl
   by false false false e f g = refl
 
 -- zeros after the sign hide no sign and make none
-marks_of-append : (xs ys : List ℕ) → marks_of (xs ++ ys) ≡ marks_of xs ++ marks_of ys
-marks_of-append [] ys = refl
-marks_of-append (x ∷ xs) ys = ap (λ l. mark_of x ∷ l) (marks_of-append xs ys)
-
 with_zeros : (signed : Bool) (text zeros more : List ℕ) → All (λ c. digit_of c ≡ Some 0) zeros
     → (sign : Option Sign) → leading_sign signed text ≡ sign
     → more ≡ take (sign_len sign) text ++ zeros ++ drop (sign_len sign) text
@@ -51,14 +48,14 @@ with_zeros : (signed : Bool) (text zeros more : List ℕ) → All (λ c. digit_o
     × (marks_of (drop (sign_len sign) more)
     ≡ marks_of zeros ++ marks_of (drop (sign_len sign) text))
 with_zeros false text zeros more z (Some sign) s parts = cc
-with_zeros false text zeros more z None s parts = rw parts (refl, marks_of-append zeros text)
+with_zeros false text zeros more z None s parts = rw parts (refl, map-append mark_of zeros text)
 with_zeros true [] zeros more z (Some sign) s parts = cc
 with_zeros true (c ∷ rest) zeros more z (Some sign) s parts =
-    rw parts (s, marks_of-append zeros rest)
+    rw parts (s, map-append mark_of zeros rest)
 with_zeros true text [] more z None s parts = rw parts (s, refl)
 with_zeros true text (c ∷ zeros) more z None s parts =
     let d = All-head (λ c. digit_of c ≡ Some 0) c zeros z in
-    rw parts (sign_no_digit c 0 d, marks_of-append (c ∷ zeros) text)
+    rw parts (sign_no_digit c 0 d, map-append mark_of (c ∷ zeros) text)
 
 marks_of-zeros : (zeros : List ℕ) → All (λ c. digit_of c ≡ Some 0) zeros
     → All (λ mark. mark ≡ digit 0) (marks_of zeros)

@@ -17,26 +17,13 @@ use Rattle.cn_core.specs.Numeral.{with_first_digit, starts_with_digit}
 use Rattle.cn_core.specs.Text.{text_of, marks_of}
 use Rattle.cn_core.specs.Printing.{mark_char, signed_text, signed_bytes}
 use Rattle.cn_core.proofs.Fronts.{and-left, and-right, both}
+use Rattle.cn_core.proofs.Marks.{same_mark, same_mark-is}
 
 -- a digit of one place, or a unit
 abbrev pub is_printed : Mark → Bool
 is_printed (digit value) = nat_lt value 10
 is_printed (unit rank) = nat_lt rank 16
 is_printed other = false
-
-abbrev same_mark : Mark → Mark → Bool
-same_mark (digit a) (digit b) = a == b
-same_mark (unit a) (unit b) = a == b
-same_mark a b = false
-
-same_mark-true : (a b : Mark) → same_mark a b ≡ true → a ≡ b
-same_mark-true (digit a) (digit b) h = let e : a ≡ b = grind (arith, nat_tests) in ap digit e
-same_mark-true (digit a) (unit b) h = cc
-same_mark-true (digit a) other h = cc
-same_mark-true (unit a) (digit b) h = cc
-same_mark-true (unit a) (unit b) h = let e : a ≡ b = grind (arith, nat_tests) in ap unit e
-same_mark-true (unit a) other h = cc
-same_mark-true other b h = cc
 
 -- a test of each number below a bound
 abbrev each_below : (ℕ → Bool) → ℕ → Bool
@@ -98,7 +85,7 @@ IsReadBack-marks variant case [] h = IsReadBack-nil
 IsReadBack-marks variant case (mark ∷ marks) h =
     let c = mark_char variant case mark in
     let t = read_back variant case mark (and-left (is_printed mark) _ h) in
-    let same = same_mark-true (mark_of c) mark
+    let same = same_mark-is (mark_of c) mark
     (and-left (same_mark (mark_of c) mark) _
     (and-left (same_mark (mark_of c) mark && all_scalars (c ∷ [])) _ t)) in
     let scalar = and-right (same_mark (mark_of c) mark) (all_scalars (c ∷ []))

@@ -194,7 +194,3 @@ naive_reading-not_small kind bytes unsigned zero_least h =
     typed_not_small kind bytes judged zero_least
     (naive_not_small (marks_of (unsigned_text kind bytes)))
     (sym (ap (λ sign. typed_answer kind bytes sign judged) (no_sign_at kind bytes unsigned)) ∙ h)
-
-pub false-from_not : (b : Bool) → not b ≡ true → b ≡ false
-false-from_not true h = sym h
-false-from_not false h = refl

@@ -1,14 +1,11 @@
 // The characters of an amount.
-ghost use Rattle.std.specs.Prelude.{◌≡◌, ◌==◌, ◌<◌, ◌*◌, ◌/◌, ◌%◌, slice_index_or, if◌then◌else◌};
+ghost use Rattle.std.specs.Prelude.{◌≡◌, ◌==◌, ◌*◌, ◌/◌, ◌%◌, slice_index_or, if◌then◌else◌};
 ghost use Rattle.cn_amount.specs.declared.capital.Capital.TheVariants.{Foreign};
-ghost use Rattle.cn_core.specs.Characters.{digit_char};
-ghost use Rattle.cn_core.specs.declared.case.ChineseCase.TheVariants.{Upper};
-ghost use Rattle.cn_core.specs.declared.script.ChineseVariant.TheVariants.{Simple, Traditional};
 ghost use Rattle.cn_amount.specs.Working.Putting.{IsWritten};
 ghost use Rattle.cn_amount.specs.Writes.{capital_char};
 ghost use Rattle.cn_amount.specs.Reading.{capital_of};
 
-use cn_core::ChineseVariant;
+use cn_core::{ChineseCase, ChineseVariant, Unit, digit_char, unit_char};
 
 /// What a character of an amount is.
 #[derive(Clone, Copy)]
@@ -45,104 +42,27 @@ pub enum Capital {
     Foreign,
 }
 
-// The digits of the simple script.
-#[tactic(auto, unfolding(cn_core::specs::Characters::digit_char))]
-fn simple_digit(digit: u8) -> char
-    requires { digit < 10 }
-    ensures { result ≡ digit_char Simple Upper digit }
-{
-    match digit {
-        1 => '壹',
-        2 => '贰',
-        3 => '叁',
-        4 => '肆',
-        5 => '伍',
-        6 => '陆',
-        7 => '柒',
-        8 => '捌',
-        9 => '玖',
-        _ => '零',
-    }
-}
-
-// The characters of the simple script.
-#[tactic(auto, unfolding(cn_core::specs::Characters::digit_char, cn_core::specs::Characters::unit_char))]
-fn simple_char(capital: Capital) -> char
-    requires { IsWritten capital }
-    ensures { result ≡ capital_char Simple capital }
-{
-    match capital {
-        Capital::Ling => '零',
-        Capital::Digit(digit) => simple_digit(digit),
-        Capital::Shi => '拾',
-        Capital::Bai => '佰',
-        Capital::Qian => '仟',
-        Capital::Wan => '万',
-        Capital::Yi => '亿',
-        Capital::Yuan => '元',
-        Capital::Jiao => '角',
-        Capital::Fen => '分',
-        Capital::Zheng => '整',
-        Capital::Ren => '人',
-        Capital::Min => '民',
-        Capital::Bi => '币',
-        Capital::Foreign => '?',
-    }
-}
-
-// The digits of the traditional script.
-#[tactic(auto, unfolding(cn_core::specs::Characters::digit_char))]
-fn traditional_digit(digit: u8) -> char
-    requires { digit < 10 }
-    ensures { result ≡ digit_char Traditional Upper digit }
-{
-    match digit {
-        1 => '壹',
-        2 => '貳',
-        3 => '參',
-        4 => '肆',
-        5 => '伍',
-        6 => '陸',
-        7 => '柒',
-        8 => '捌',
-        9 => '玖',
-        _ => '零',
-    }
-}
-
-// The characters of the traditional script.
-#[tactic(auto, unfolding(cn_core::specs::Characters::digit_char, cn_core::specs::Characters::unit_char))]
-fn traditional_char(capital: Capital) -> char
-    requires { IsWritten capital }
-    ensures { result ≡ capital_char Traditional capital }
-{
-    match capital {
-        Capital::Ling => '零',
-        Capital::Digit(digit) => traditional_digit(digit),
-        Capital::Shi => '拾',
-        Capital::Bai => '佰',
-        Capital::Qian => '仟',
-        Capital::Wan => '萬',
-        Capital::Yi => '億',
-        Capital::Yuan => '元',
-        Capital::Jiao => '角',
-        Capital::Fen => '分',
-        Capital::Zheng => '整',
-        Capital::Ren => '人',
-        Capital::Min => '民',
-        Capital::Bi => '币',
-        Capital::Foreign => '?',
-    }
-}
-
 /// The character that writes a capital.
 pub fn capital_char(variant: ChineseVariant, capital: Capital) -> char
     requires { IsWritten capital }
     ensures { result ≡ capital_char variant capital }
 {
-    match variant {
-        ChineseVariant::Simple => simple_char(capital),
-        ChineseVariant::Traditional => traditional_char(capital),
+    match capital {
+        Capital::Ling => digit_char(variant, ChineseCase::Upper, 0),
+        Capital::Digit(digit) => digit_char(variant, ChineseCase::Upper, digit),
+        Capital::Shi => unit_char(variant, ChineseCase::Upper, Unit::Shi),
+        Capital::Bai => unit_char(variant, ChineseCase::Upper, Unit::Bai),
+        Capital::Qian => unit_char(variant, ChineseCase::Upper, Unit::Qian),
+        Capital::Wan => unit_char(variant, ChineseCase::Upper, Unit::Wan),
+        Capital::Yi => unit_char(variant, ChineseCase::Upper, Unit::Yi),
+        Capital::Yuan => '元',
+        Capital::Jiao => '角',
+        Capital::Fen => '分',
+        Capital::Zheng => '整',
+        Capital::Ren => '人',
+        Capital::Min => '民',
+        Capital::Bi => '币',
+        Capital::Foreign => '?',
     }
 }
 

@@ -14,18 +14,19 @@ use Rattle.cn_core.specs.Printing.{signed_text, naive_text, spelled_text, is_pri
 use Rattle.cn_core.specs.Mark.{Mark}
 use Rattle.cn_core.proofs.Fronts.{and-left, and-right}
 use Rattle.cn_spell.proofs.NaiveTexts.{three-naive}
-use Rattle.cn_spell.proofs.ThreeBytes.{takes_three, IsUtf8-three, three-minus}
+use Rattle.cn_core.proofs.Characters.{takes_three}
+use Rattle.cn_spell.proofs.ThreeBytes.{IsUtf8-three, three-minus}
 use Rattle.chinese_number.proofs.PlainDigits.{naive_reading-signed_text}
 use Rattle.chinese_number.proofs.Printed.{is_printed, IsReadBack-marks}
 use Rattle.chinese_number.proofs.Reading.{IsWhole, Reads-same, Reads-spelled}
 use Rattle.chinese_number.proofs.SpelledMarks.{below_square, spelling-printed}
 use Rattle.cn_c.specs.declared.codes.Kind.{Kind as KindCode}
 use Rattle.cn_c.specs.declared.codes.Kind.TheVariants.{U8, U16, U32, U64, U128, I8, I16, I32, I64, I128}
-use Rattle.cn_ways.specs.declared.Way.{Way}
-use Rattle.cn_ways.specs.declared.Way.TheVariants.{Digits, Units}
+use Rattle.cn_faces.specs.declared.Way.{Way}
+use Rattle.cn_faces.specs.declared.Way.TheVariants.{Digits, Units}
 use Rattle.cn_c.specs.declared.number.Number.{Number}
 use Rattle.cn_c.specs.declared.reading.Reading.{Reading}
-use Rattle.cn_ways.specs.Ways.{ReadsBy, unprintable, written_by}
+use Rattle.cn_faces.specs.Ways.{ReadsBy, unprintable, written_by}
 use Rattle.cn_c.specs.Codes.{CN_DONE, refusal_status}
 use Rattle.cn_c.specs.Halves.{number_of}
 use Rattle.cn_c.specs.Kinds.{the_kind}

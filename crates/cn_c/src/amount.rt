@@ -8,7 +8,7 @@ use crate::room::put_text;
 use crate::status::{DONE, INCORRECT, NOT_UTF8, TOO_LARGE, UNFINISHED, UNKNOWN};
 use chinese_number::{AMOUNT_LIMIT, ChineseToAmountError, chinese_to_amount};
 use cn_amount::amount_text;
-use cn_ways::utf8_text;
+use cn_faces::utf8_text;
 
 /// What was read: the amount in fen, or the char_index of the character at fault.
 #[repr(C)]

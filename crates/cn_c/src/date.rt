@@ -9,7 +9,7 @@ use crate::room::put_text;
 use crate::status::{DONE, INCORRECT, NOT_A_DATE, NOT_UTF8, UNFINISHED, UNKNOWN};
 use chinese_number::{BillDate, ChineseToDateError, chinese_to_date};
 use cn_date::date_text;
-use cn_ways::utf8_text;
+use cn_faces::utf8_text;
 
 /// What was read: the date, or the char_index of the character at fault.
 #[repr(C)]

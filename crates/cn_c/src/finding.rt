@@ -5,7 +5,7 @@ ghost use Rattle.cn_c.specs.Finds.{TellsFirst, IsFound};
 use crate::codes::{unit_of, upper_of};
 use crate::status::{DONE, NONE, NOT_UTF8, UNKNOWN};
 use chinese_number::{Wanted, find_numbers};
-use cn_ways::utf8_text;
+use cn_faces::utf8_text;
 use std::str;
 
 /// Where a number stands in its text, in bytes, and whether it is plain digits, as 1, or not, as 0.

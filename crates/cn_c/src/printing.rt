@@ -3,14 +3,14 @@ ghost use Rattle.std.specs.Prelude.{◌≡◌, ◌≤◌};
 ghost use Rattle.cn_c.specs.Halves.{number_of};
 ghost use Rattle.cn_c.specs.Kinds.{the_kind};
 ghost use Rattle.cn_c.specs.Prints.{PutsWritten, PrintsNumber, IsPrinted};
-ghost use Rattle.cn_ways.specs.Ways.{stands_for, written_by};
+ghost use Rattle.cn_faces.specs.Ways.{stands_for, written_by};
 
 use crate::codes::{Kind, case_of, kind_of, script_of, way_of};
 use crate::number::{Number, signed_magnitude};
 use crate::status::{DONE, NO_ROOM, NOT_HELD, TOO_LARGE, TOO_SMALL, UNKNOWN};
 use chinese_number::{ChineseCase, ChineseVariant, Whole};
+use cn_faces::{SignedMagnitude, Way};
 use cn_spell::{is_printable, put_by_units, put_naive};
-use cn_ways::{SignedMagnitude, Way};
 
 /// How a number is to be written.
 #[derive(Clone, Copy)]

@@ -9,7 +9,7 @@ use crate::codes::{Kind, kind_of, way_of};
 use crate::number::{Number, halves};
 use crate::status::{DONE, EMPTY, INCORRECT, NOT_UTF8, TOO_LARGE, TOO_SMALL, UNKNOWN};
 use chinese_number::{ChineseToNumberError, Whole};
-use cn_ways::{Way, read_by, utf8_text};
+use cn_faces::{Way, read_by, utf8_text};
 use std::str;
 
 /// What was read: the number, or the char_index of the character at fault.

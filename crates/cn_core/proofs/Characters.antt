@@ -1,7 +1,9 @@
--- Where each digit and unit stands among the printed characters.
-use Rattle.std.proofs.Common.{◌≡◌, ℕ, ◌+◌, ◌<◌, [], ◌∷◌, ◌++◌, length, slice_index, refl, ◌∙◌, arith, length-append}
+-- How many characters write digits and units, and at which place each unit stands.
+use Rattle.std.proofs.Common.{◌≡◌, ◌≤◌, ◌<◌, ℕ, zero, suc, Bool, true, ◌&&◌, nat_le, nat_lt, List, [], ◌∷◌, slice_index, length, refl, arith}
+use Rattle.std.specs.List.{list_all}
+use Rattle.std.proofs.lemmas.Bool.Decides.{nat_tests}
+use Rattle.cn_core.proofs.Fronts.{and-left, and-right}
 use denote.Enum.Declared.{tag_of}
-use Rattle.std.proofs.lemmas.List.{get_or_append_left, get_or-append-add}
 use Rattle.cn_core.specs.contracts.unit.Unit.{the_type}
 use Rattle.cn_core.specs.declared.script.ChineseVariant.{ChineseVariant}
 use Rattle.cn_core.specs.declared.script.ChineseVariant.TheVariants.{Traditional, Simple}
@@ -9,34 +11,18 @@ use Rattle.cn_core.specs.declared.case.ChineseCase.{ChineseCase}
 use Rattle.cn_core.specs.declared.case.ChineseCase.TheVariants.{Upper, Lower}
 use Rattle.cn_core.specs.declared.unit.Unit.{Unit as NumeralUnit}
 use Rattle.cn_core.specs.declared.unit.Unit.TheVariants.{Ge, Shi, Bai, Qian, Wan, Yi, Zhao, Jing, Gai, Zi, Rang, Gou, Jian, Zheng, Zai, Ji}
-use Rattle.cn_core.specs.Characters.{printed_digits, printed_units, printed_characters, rank, digit_char, unit_char, minus_char}
+use Rattle.cn_core.specs.Characters.{printed_digits, printed_units, rank, digit_char, unit_char}
 
-length-digits : (variant : ChineseVariant) (case : ChineseCase) → length (printed_digits variant case) ≡ 10
+pub length-digits : (variant : ChineseVariant) (case : ChineseCase) → length (printed_digits variant case) ≡ 10
 length-digits variant Lower = refl
 length-digits Traditional Upper = refl
 length-digits Simple Upper = refl
 
-length-units : (variant : ChineseVariant) (case : ChineseCase) → length (printed_units variant case) ≡ 16
+pub length-units : (variant : ChineseVariant) (case : ChineseCase) → length (printed_units variant case) ≡ 16
 length-units Traditional Lower = refl
 length-units Traditional Upper = refl
 length-units Simple Lower = refl
 length-units Simple Upper = refl
-
-pub length-printed : (variant : ChineseVariant) (case : ChineseCase) → length (printed_characters variant case) ≡ 27
-length-printed variant case = omega (arith, length-append {A = ℕ}, length-digits variant case, length-units variant case)
-
--- a digit stands at its position
-pub digit_at : (variant : ChineseVariant) (case : ChineseCase) (digit : ℕ) → digit < 10 → slice_index (printed_characters variant case) digit ≡ digit_char variant case digit
-unfolding digit_char
-digit_at variant case digit h =
-    get_or_append_left (printed_digits variant case) (printed_units variant case ++ minus_char variant ∷ []) 0 digit (omega (arith, h, length-digits variant case))
-
--- a unit stands ten positions behind its rank
-pub rank_at : (variant : ChineseVariant) (case : ChineseCase) (unit : ℕ) → unit < 16 → slice_index (printed_characters variant case) (10 + unit) ≡ unit_char variant case unit
-unfolding unit_char
-rank_at variant case unit h =
-    rw (← length-digits variant case) (get_or-append-add (printed_digits variant case) (printed_units variant case ++ minus_char variant ∷ []) unit 0)
-    ∙ get_or_append_left (printed_units variant case) (minus_char variant ∷ []) 0 unit (omega (arith, h, length-units variant case))
 
 pub rank-low : (unit : NumeralUnit) → rank unit < 16
 rank-low = elim [
@@ -61,8 +47,8 @@ rank-low = elim [
 ]
 
 -- the number that the code makes of a unit is its rank
-tag-rank : (unit : NumeralUnit) → tag_of the_type unit ≡ rank unit
-tag-rank = elim [
+pub tag_rank : (unit : NumeralUnit) → tag_of the_type unit ≡ rank unit
+tag_rank = elim [
   | Ge ↦ refl
   | Shi ↦ refl
   | Bai ↦ refl
@@ -81,5 +67,49 @@ tag-rank = elim [
   | Ji ↦ refl
 ]
 
-pub unit_at : (variant : ChineseVariant) (case : ChineseCase) (unit : NumeralUnit) → slice_index (printed_characters variant case) (10 + tag_of the_type unit) ≡ unit_char variant case (rank unit)
-unit_at variant case unit = rw (tag-rank unit) (rank_at variant case (rank unit) (rank-low unit))
+-- from 0x800 up, below the surrogates: three bytes in UTF-8
+abbrev pub takes_three : ℕ → Bool
+takes_three c = nat_le 0x800 c && nat_lt c 0xD800
+
+-- a test that each passes is passed at each index
+passes-at : (test : ℕ → Bool) (xs : List ℕ) (k : ℕ) → list_all test xs ≡ true → k < length xs
+    → test (slice_index xs k) ≡ true
+passes-at test [] k h less = absurd (omega (arith, less))
+passes-at test (x ∷ xs) zero h less = and-left (test x) _ h
+passes-at test (x ∷ xs) (suc k) h less =
+    passes-at test xs k (and-right (test x) _ h) (omega (arith, less))
+
+three-digits : (variant : ChineseVariant) (case : ChineseCase) → list_all takes_three (printed_digits variant case) ≡ true
+three-digits variant Lower = refl
+three-digits Traditional Upper = refl
+three-digits Simple Upper = refl
+
+three-units : (variant : ChineseVariant) (case : ChineseCase) → list_all takes_three (printed_units variant case) ≡ true
+three-units Traditional Lower = refl
+three-units Traditional Upper = refl
+three-units Simple Lower = refl
+three-units Simple Upper = refl
+
+pub three-digit : (variant : ChineseVariant) (case : ChineseCase) (digit : ℕ) → digit < 10 → takes_three (digit_char variant case digit) ≡ true
+unfolding digit_char
+three-digit variant case digit h =
+    passes-at takes_three (printed_digits variant case) digit (three-digits variant case) (omega (arith, h, length-digits variant case))
+
+pub three-unit : (variant : ChineseVariant) (case : ChineseCase) (unit : NumeralUnit) → takes_three (unit_char variant case (rank unit)) ≡ true
+unfolding unit_char
+three-unit variant case unit =
+    passes-at takes_three (printed_units variant case) (rank unit) (three-units variant case) (omega (arith, rank-low unit, length-units variant case))
+
+in-three : (c : ℕ) → takes_three c ≡ true → (2048 ≤ c) × (c < 55296)
+in-three c h =
+    let low : nat_le 0x800 c ≡ true = and-left (nat_le 0x800 c) _ h in
+    let high : nat_lt c 0xD800 ≡ true = and-right (nat_le 0x800 c) _ h in
+    (grind (arith, nat_tests, low), grind (arith, nat_tests, high))
+
+pub digit_three : (variant : ChineseVariant) (case : ChineseCase) (digit : ℕ) → digit < 10 → (2048 ≤ slice_index (printed_digits variant case) digit) × (slice_index (printed_digits variant case) digit < 55296)
+unfolding digit_char
+digit_three variant case digit h = in-three _ (three-digit variant case digit h)
+
+pub unit_three : (variant : ChineseVariant) (case : ChineseCase) (unit : NumeralUnit) → (2048 ≤ slice_index (printed_units variant case) (rank unit)) × (slice_index (printed_units variant case) (rank unit) < 55296)
+unfolding unit_char
+unit_three variant case unit = in-three _ (three-unit variant case unit)

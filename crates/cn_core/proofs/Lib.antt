@@ -7,6 +7,7 @@ pub mod Fronts
 pub mod Grammar
 pub mod Judging
 pub mod Lengths
+pub mod Marks
 pub mod NaiveExamples
 pub mod NumeralExamples
 pub mod OpenUnits

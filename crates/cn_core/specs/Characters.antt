@@ -1,5 +1,5 @@
 -- Which characters are digits, units and signs, and which one writes each digit, unit and sign.
-use Rattle.std.specs.Prelude.{ℕ, if◌then◌else◌, List, [], ◌∷◌, ◌++◌, codes, position, Option, Some, None, slice_index}
+use Rattle.std.specs.Prelude.{ℕ, if◌then◌else◌, List, [], ◌∷◌, codes, position, Option, Some, None, slice_index}
 use Rattle.std.specs.Char.{char_set_contains}
 use Rattle.cn_core.specs.declared.script.ChineseVariant.{ChineseVariant}
 use Rattle.cn_core.specs.declared.script.ChineseVariant.TheVariants.{Traditional, Simple}
@@ -85,8 +85,3 @@ unit_char variant case unit = slice_index (printed_units variant case) unit
 unfoldable pub minus_char : ChineseVariant → ℕ
 minus_char Traditional = slice_index (codes "負") 0
 minus_char Simple = slice_index (codes "负") 0
-
--- all of them: the ten digits, the sixteen units and the minus sign
-abbrev pub printed_characters : ChineseVariant → ChineseCase → List ℕ
-printed_characters variant case =
-    printed_digits variant case ++ (printed_units variant case ++ minus_char variant ∷ [])

@@ -1,40 +1,106 @@
 // The characters that write digits, units and signs.
-ghost use Rattle.std.specs.Prelude.{◌≡◌, ◌<◌, slice_index, encode_utf8_all};
-ghost use Rattle.cn_core.specs.Characters.{rank, digit_char, unit_char, minus_char, printed_characters};
+ghost use Rattle.std.specs.Prelude.{◌≡◌, ◌≤◌, ◌<◌, map, encode_utf8};
+ghost use Rattle.cn_core.specs.Characters.{rank, digit_char, unit_char, minus_char, printed_digits, printed_units};
 
 use crate::{ChineseCase, ChineseVariant, Unit};
 
-/// Where the first unit stands among the printed characters.
-pub const FIRST_UNIT: usize = 10;
+/// What a script and case are printed with.
+pub struct PrintedCharacters {
+    /// The digits from 0 to 9.
+    pub digits: [char; 10],
+    /// The units from 個 to 極.
+    pub units: [char; 16],
+    /// The minus sign.
+    pub minus: char,
+    /// The three bytes of each digit.
+    pub digit_bytes: [[u8; 3]; 10],
+    /// Those of each unit.
+    pub unit_bytes: [[u8; 3]; 16],
+    /// Those of the minus sign.
+    pub minus_bytes: [u8; 3],
+}
 
-/// Where the minus sign stands among them.
-pub const MINUS_SIGN: usize = 26;
+// The bytes of a character that takes three.
+macro_rules! three_bytes {
+    ($character:literal) => {
+        [
+            (0xe0 | $character as u32 >> 12) as u8,
+            (0x80 | $character as u32 >> 6 & 0x3f) as u8,
+            (0x80 | $character as u32 & 0x3f) as u8,
+        ]
+    };
+}
 
-/// What a script and case are printed with: the digits from 0 to 9, the units from 個 to 極, the
-/// minus sign.
-pub fn printed_characters(variant: ChineseVariant, case: ChineseCase) -> &'static str
-    ensures { result.now ≡ encode_utf8_all (printed_characters variant case) }
+// The digits, units and minus sign of a script and case, and their bytes.
+macro_rules! printed {
+    ($($digit:literal)*; $($unit:literal)*; $minus:literal) => {
+        PrintedCharacters {
+            digits: [$($digit),*],
+            units: [$($unit),*],
+            minus: $minus,
+            digit_bytes: [$(three_bytes!($digit)),*],
+            unit_bytes: [$(three_bytes!($unit)),*],
+            minus_bytes: three_bytes!($minus),
+        }
+    };
+}
+
+static TRADITIONAL_LOWER: PrintedCharacters = printed! {
+    '零' '一' '二' '三' '四' '五' '六' '七' '八' '九';
+    '個' '十' '百' '千' '萬' '億' '兆' '京' '垓' '秭' '穰' '溝' '澗' '正' '載' '極';
+    '負'
+};
+
+static TRADITIONAL_UPPER: PrintedCharacters = printed! {
+    '零' '壹' '貳' '參' '肆' '伍' '陸' '柒' '捌' '玖';
+    '個' '拾' '佰' '仟' '萬' '億' '兆' '京' '垓' '秭' '穰' '溝' '澗' '正' '載' '極';
+    '負'
+};
+
+static SIMPLE_LOWER: PrintedCharacters = printed! {
+    '零' '一' '二' '三' '四' '五' '六' '七' '八' '九';
+    '个' '十' '百' '千' '万' '亿' '兆' '京' '垓' '秭' '穰' '沟' '涧' '正' '载' '极';
+    '负'
+};
+
+static SIMPLE_UPPER: PrintedCharacters = printed! {
+    '零' '壹' '贰' '叁' '肆' '伍' '陆' '柒' '捌' '玖';
+    '个' '拾' '佰' '仟' '万' '亿' '兆' '京' '垓' '秭' '穰' '沟' '涧' '正' '载' '极';
+    '负'
+};
+
+/// The characters of a script and case, each found by a look-up.
+#[tactic(auto, unfolding(crate::specs::Characters::minus_char))]
+pub fn printed_characters(variant: ChineseVariant, case: ChineseCase) -> &'static PrintedCharacters
+    ensures digits { result.now.digits ≡ printed_digits variant case }
+    ensures units { result.now.units ≡ printed_units variant case }
+    ensures minus { result.now.minus ≡ minus_char variant }
+    ensures bytes { (result.now.digit_bytes ≡ map encode_utf8 (printed_digits variant case))
+        × (result.now.unit_bytes ≡ map encode_utf8 (printed_units variant case))
+        × (result.now.minus_bytes ≡ encode_utf8 (minus_char variant)) }
 {
     match variant {
         ChineseVariant::Traditional => match case {
-            ChineseCase::Lower => "零一二三四五六七八九個十百千萬億兆京垓秭穰溝澗正載極負",
-            ChineseCase::Upper => "零壹貳參肆伍陸柒捌玖個拾佰仟萬億兆京垓秭穰溝澗正載極負",
+            ChineseCase::Lower => &TRADITIONAL_LOWER,
+            ChineseCase::Upper => &TRADITIONAL_UPPER,
         },
         ChineseVariant::Simple => match case {
-            ChineseCase::Lower => "零一二三四五六七八九个十百千万亿兆京垓秭穰沟涧正载极负",
-            ChineseCase::Upper => "零壹贰叁肆伍陆柒捌玖个拾佰仟万亿兆京垓秭穰沟涧正载极负",
+            ChineseCase::Lower => &SIMPLE_LOWER,
+            ChineseCase::Upper => &SIMPLE_UPPER,
         },
     }
 }
 
-fn character_at(variant: ChineseVariant, case: ChineseCase, position: usize) -> char
-    requires { position < 27 }
-    ensures { result ≡ slice_index (printed_characters variant case) position }
+// A printed character, of which this tells the compiler that it takes three bytes.
+#[inline(always)]
+fn of_three_bytes(character: char) -> char
+    requires { (2048 ≤ character) × (character < 55296) }
+    ensures { result ≡ character }
 {
-    printed_characters(variant, case)
-        .chars()
-        .nth(position)
-        .unwrap()
+    if character < '\u{800}' || character > '\u{d7ff}' {
+        unreachable!()
+    }
+    character
 }
 
 /// The character that writes a digit, which the caller keeps from 0 to 9.
@@ -42,12 +108,13 @@ fn character_at(variant: ChineseVariant, case: ChineseCase, position: usize) -> 
 /// ```text
 /// digit_char(ChineseVariant::Simple, ChineseCase::Upper, 2) == '贰'
 /// ```
-#[tactic(auto, using(crate::proofs::Characters::digit_at))]
+#[inline(always)]
+#[tactic(auto, using(crate::proofs::Characters::digit_three), unfolding(crate::specs::Characters::digit_char))]
 pub fn digit_char(variant: ChineseVariant, case: ChineseCase, digit: u8) -> char
     requires { digit < 10 }
     ensures { result ≡ digit_char variant case digit }
 {
-    character_at(variant, case, digit as usize)
+    of_three_bytes(printed_characters(variant, case).digits[digit as usize])
 }
 
 /// The character that writes a unit: 個 or 个 for `Unit::Ge`, which no printer writes.
@@ -55,11 +122,12 @@ pub fn digit_char(variant: ChineseVariant, case: ChineseCase, digit: u8) -> char
 /// ```text
 /// unit_char(ChineseVariant::Simple, ChineseCase::Upper, Unit::Shi) == '拾'
 /// ```
-#[tactic(auto, using(crate::proofs::Characters::unit_at))]
+#[inline(always)]
+#[tactic(auto, using(crate::proofs::Characters::tag_rank, crate::proofs::Characters::unit_three), unfolding(crate::specs::Characters::unit_char))]
 pub fn unit_char(variant: ChineseVariant, case: ChineseCase, unit: Unit) -> char
     ensures { result ≡ unit_char variant case (rank unit) }
 {
-    character_at(variant, case, FIRST_UNIT + unit as usize)
+    of_three_bytes(printed_characters(variant, case).units[unit as usize])
 }
 
 /// The character that writes the minus sign.
@@ -71,5 +139,5 @@ pub fn unit_char(variant: ChineseVariant, case: ChineseCase, unit: Unit) -> char
 pub fn minus_char(variant: ChineseVariant) -> char
     ensures { result ≡ minus_char variant }
 {
-    character_at(variant, ChineseCase::Lower, MINUS_SIGN)
+    printed_characters(variant, ChineseCase::Lower).minus
 }

@@ -16,7 +16,7 @@ pub mod whole;
 pub use case::ChineseCase;
 pub use characters_read::{digit_of, sign_of, unit_of};
 pub use characters_written::{
-    FIRST_UNIT, MINUS_SIGN, digit_char, minus_char, printed_characters, unit_char,
+    PrintedCharacters, digit_char, minus_char, printed_characters, unit_char,
 };
 pub use method::ChineseCountMethod;
 pub use scales::{exponent, power_of_ten, scale};

@@ -2,16 +2,13 @@
 use Rattle.std.proofs.Common.{◌≡◌, ℕ, Bool, true, false, not, ◌&&◌, ◌||◌, List, [], ◌∷◌, ◌++◌, map, chars, encode_utf8, encode_utf8_all, IsUtf8, refl, sym, ap, subst, ◌∙◌, append-nil, append_assoc, if◌then◌else◌}
 use Rattle.std.proofs.lemmas.List.{map-append}
 use Rattle.std.proofs.lemmas.Str.{chars-append, chars_past_char, IsUtf8-past_char, encodes-append, encodes-chars, encodes_same}
+use Rattle.std.proofs.Math.Bool.{and-false}
 use Rattle.cn_core.specs.Mark.{mark_of}
 use Rattle.cn_find.specs.declared.wanted.Wanted.{Wanted}
 use Rattle.cn_find.specs.Belongs.{belongs, counts_next, is_ge, is_great, is_joined, is_parted, is_wanted}
 use Rattle.cn_find.specs.Parting.{with_text_before, with_text_after}
 use Rattle.cn_find.specs.Spans.{Span, run_of, after_run, span_at, begun_at, spans_after, spans}
 use Rattle.cn_find.proofs.Runs.{first-span, next-character, not-joined}
-
-and-false : (b : Bool) → (b && false) ≡ false
-and-false true = refl
-and-false false = refl
 
 -- a character that is not wanted belongs to no number
 unwanted : (wanted : Wanted) (c : ℕ) (after : List ℕ) → is_wanted wanted c ≡ false

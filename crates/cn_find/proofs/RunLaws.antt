@@ -4,6 +4,7 @@ use Rattle.std.specs.List.{Contains}
 use Rattle.std.proofs.lemmas.Bool.Decides.{nat_tests}
 use Rattle.std.proofs.lemmas.Str.{length-le-encodes, encodes-chars, scalars-chars}
 use Rattle.std.proofs.Math.Utf8.{scalar, scalars}
+use Rattle.std.proofs.lemmas.Bool.{not-true}
 use Rattle.cn_core.proofs.Fronts.{and-left, and-right, both}
 use Rattle.cn_find.specs.declared.wanted.Wanted.{Wanted}
 use Rattle.cn_find.specs.Belongs.{belongs, is_joined}
@@ -25,10 +26,6 @@ here wanted true true at c after e = cc
 here wanted true false at c after e = rw e
 here wanted false true at c after e = refl
 here wanted false false at c after e = rw e
-
-is-false : (b : Bool) → not b ≡ true → b ≡ false
-is-false true h = cc
-is-false false h = refl
 
 none-in : (span : Span) → Contains [] span → ⊥
 none-in span (k, low, e) = omega (arith, low)
@@ -163,7 +160,7 @@ sound wanted joined at (c ∷ after) span found =
           → IsRunAfter wanted (is_joined wanted c after) (at ++ encode_utf8 c) after span)
           → IsRunAfter wanted joined at (c ∷ after) span
       by true e found ih = elim (cons-cases _ _ span found) [
-        | inl same ↦ begins wanted joined at c after span (is-false _ (and-left _ _ e))
+        | inl same ↦ begins wanted joined at c after span (not-true _ (and-left _ _ e))
             (and-right (not joined) _ e) same
         | inr other ↦ further wanted joined at c after span (ih other)
       ]

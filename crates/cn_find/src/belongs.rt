@@ -98,7 +98,7 @@ pub fn belongs(wanted: Wanted, c: char, mark: Mark, after: &str) -> bool
     }
 }
 
-// The same of a digit or a unit.
+// Whether a digit or a unit is one of a number, by what follows it.
 #[tactic(auto, unfolding(crate::specs::Belongs::belongs))]
 fn known_belongs(wanted: Wanted, c: char, mark: Mark, after: &str) -> bool
     requires { marked mark ≡ mark_of c }

@@ -15,13 +15,14 @@ use Rattle.cn_judge.specs.Private.Stack.{StackEntry, total_sum}
 use Rattle.cn_judge.specs.Private.Walked.{IsWalked}
 use Rattle.cn_judge.proofs.OpenSums.{total-value}
 use Rattle.cn_judge.proofs.Faults.{plain, plain-walked}
-use Rattle.cn_judge.proofs.Steps.{sound-none}
+use Rattle.cn_judge.proofs.Steps.{or-right, sound-none}
 use Rattle.cn_judge.proofs.Tails.{judge-one, judge-two, judge-plain, judge-tail}
-use Rattle.cn_judge.proofs.WalkSteps.{digit-low, marks-length, marks-append}
+use Rattle.cn_judge.proofs.WalkSteps.{digit-low}
 use Rattle.cn_core.specs.Judge.{Judges}
 use Rattle.cn_core.specs.Judging.{judge}
 use Rattle.std.specs.Result.{IsErr, IsErrAnd}
 use Rattle.std.specs.Option.{SomeIff, ok_or}
+use Rattle.std.proofs.lemmas.List.{length-map, map-append}
 use Rattle.cn_judge.specs.Judged.{after_first}
 use Rattle.cn_judge.specs.Answer.{answer_of, refusal_of}
 use Rattle.cn_judge.specs.declared.error.ChineseToNumberError.{ChineseToNumberError}
@@ -124,10 +125,7 @@ unfit-end method [] rank h = by (scale_fits method rank) h where
   by true h = refl
   by false h = cc
 unfit-end method (m ∷ front) rank h =
-    unfit-end method front rank (right (is_unfit method m) _ h) where
-      right : (a b : Bool) → (a || b) ≡ false → b ≡ false
-      right true b h = cc
-      right false b h = h
+    unfit-end method front rank (or-right (is_unfit method m) _ h)
 
 walked-sound : (method : ChineseCountMethod) (first : Mark) (marks : List Mark) (number : ℕ)
     → Ok number ≡ walked_answer method first marks → faults method marks ≡ None
@@ -165,7 +163,7 @@ pub judged_tail : (method : ChineseCountMethod) (text rest before : List ℕ) (f
     → tail_answer method place rank last body ≡ answer → Judges method (marks_of text) answer
 judged_tail method text rest before first last rank place answer body parts tail at is h =
     let there : place ≡ length (marks_of before) + 1 =
-    (let l = marks-length before in omega (arith, l, at)) in
+    (let l = length-map before mark_of in omega (arith, l, at)) in
     judged method text rest first answer parts
     (judge-has_tail method (mark_of first) (marks_of rest) (marks_of before) rank last place tail
     there
@@ -186,11 +184,11 @@ pub has-tail : (text before more : List ℕ) (last second rank : ℕ) (last_mark
     → HasTail (marks_of text) (marks_of before) rank last_mark
 has-tail text before more last second rank last_mark second_mark parts more_parts last_is second_is
     is apart = (
-      ap marks_of parts ∙ marks-append before (last ∷ [])
+      ap marks_of parts ∙ map-append mark_of before (last ∷ [])
           ∙ ap (λ m. marks_of before ++ m ∷ []) (sym last_is),
       (
         marks_of more,
-        ap marks_of more_parts ∙ marks-append more (second ∷ [])
+        ap marks_of more_parts ∙ map-append mark_of more (second ∷ [])
             ∙ ap (λ m. marks_of more ++ m ∷ []) (sym second_is ∙ is),
       ),
       ap (λ m. is_tail m last_mark) (sym is) ∙ apart,

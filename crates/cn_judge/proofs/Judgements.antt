@@ -2,6 +2,7 @@
 -- in the string.
 use Rattle.std.proofs.Common.{◌≡◌, ◌≢◌, ℕ, zero, suc, ◌+◌, ◌*◌, ◌/◌, ◌<◌, Bool, true, false, List, [], ◌∷◌, ◌++◌, length, filter, chars, Option, Some, None, Result, Ok, Err, refl, sym, ap, ◌∙◌, arith, if◌then◌else◌, add-one}
 use Rattle.std.specs.Char.{is_whitespace, is_not_whitespace}
+use Rattle.std.proofs.lemmas.List.{length-map, nil_from_length}
 use Rattle.cn_core.specs.declared.method.ChineseCountMethod.{ChineseCountMethod}
 use Rattle.cn_core.specs.Mark.{Mark, digit, mark_of}
 use Rattle.cn_core.specs.Numeral.{may_precede, is_numeral, with_first_digit}
@@ -20,7 +21,6 @@ use Rattle.cn_judge.specs.Private.Walk.{walked_answer, tail_answer, faults, faul
 use Rattle.cn_judge.proofs.Endings.{judged_plain, judged_tail}
 use Rattle.cn_judge.proofs.Pieces.{StandsAt-dark, char_index-at, char_index-rest}
 use Rattle.cn_judge.proofs.Walking.{filter-append}
-use Rattle.cn_judge.proofs.WalkSteps.{marks-length}
 
 -- places count on from the first character
 pub answer_at-first : (skipped : ℕ) (text rest : List ℕ) (index c : ℕ) (answer : Result ℕ Refusal)
@@ -51,11 +51,8 @@ text-first text rest index c at dark = rw (
   at.parts,
   filter-append,
   dark,
-  none (filter is_not_whitespace at.front) at.place_is,
-) where
-  none : (xs : List ℕ) → length xs ≡ 0 → xs ≡ []
-  none [] h = refl
-  none (x ∷ xs) h = absurd (omega (arith, h))
+  nil_from_length (filter is_not_whitespace at.front) at.place_is,
+)
 
 -- a fault stands in the list
 faults-low : (method : ChineseCountMethod) (marks : List Mark) (place : ℕ)
@@ -124,7 +121,7 @@ front-same method char_index first before rest more parts =
           → char_index_of before place ≡ char_index_of rest place
       moved place e =
           let low = faults-low method (marks_of (text_of before)) place e in
-          let size = marks-length (text_of before) in
+          let size = length-map (text_of before) mark_of in
           rw parts (sym (char_index-prefix (chars before) more place (omega (arith, low, size))))
 
       by : (f : Option Refusal) → faults method (marks_of (text_of before)) ≡ f

@@ -11,7 +11,7 @@ use Rattle.cn_core.specs.Refusal.{incorrect_at, too_large}
 use Rattle.cn_core.specs.Scale.{scale, scale_fits}
 use Rattle.cn_core.specs.Value.{value, records_from}
 use Rattle.cn_core.specs.Judging.{place_of}
-use Rattle.cn_core.proofs.Fronts.{and-left, and-right}
+use Rattle.cn_core.proofs.Fronts.{and-left, and-right, both}
 use Rattle.cn_core.proofs.OpenUnits.{in_ranks, length-records}
 use Rattle.cn_judge.specs.Private.Walk.{sum_of, opens_of, fault_of, faults, leading_rank, multiplies_by}
 use Rattle.cn_judge.specs.Private.Stack.{StackEntry, closed_sum, still_open, top_of}
@@ -28,7 +28,7 @@ or-left : (a b : Bool) → (a || b) ≡ false → a ≡ false
 or-left true b h = cc
 or-left false b h = refl
 
-or-right : (a b : Bool) → (a || b) ≡ false → b ≡ false
+pub or-right : (a b : Bool) → (a || b) ≡ false → b ≡ false
 or-right true b h = cc
 or-right false b h = h
 
@@ -265,12 +265,9 @@ unit-keeps : (method : ChineseCountMethod) (u : ℕ) (marks : List Mark)
     → multiplies_by u (leading_rank marks) ≡ true → (u ≡ 0 → leading_rank marks ≢ None)
     → top_of (still_open u (opens_of method marks)) ≢ Some u → may_precede (unit u) marks ≡ true
 unit-keeps method u marks h some top =
-    precedes-unit method u marks ∙ all _ _ _ (multiplies-leading u marks ∙ h)
-    (counts-either u marks h some) (top-above u (opens_of method marks) top) where
-      all : (a b c : Bool) → a ≡ true → b ≡ true → c ≡ true → (a && b && c) ≡ true
-      all true true c p q r = r
-      all true false c p q r = cc
-      all false b c p q r = cc
+    precedes-unit method u marks ∙ both _ _
+    (both _ _ (multiplies-leading u marks ∙ h) (counts-either u marks h some))
+    (top-above u (opens_of method marks) top)
 
 pub unit-step : (method : ChineseCountMethod) (u : ℕ) (marks : List Mark) (b : Bool)
     → IsSound method marks → multiplies_by u (leading_rank marks) ≡ true

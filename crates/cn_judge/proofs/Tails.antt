@@ -13,7 +13,7 @@ use Rattle.cn_core.specs.Scale.{scale}
 use Rattle.cn_core.specs.Value.{value, colloquial_value, weight, records_from}
 use Rattle.cn_core.specs.Judge.{numeral_answer, last_mark_answer}
 use Rattle.cn_core.specs.Judging.{place_of, judge, judge_body}
-use Rattle.cn_core.proofs.Fronts.{and-left, and-right}
+use Rattle.cn_core.proofs.Fronts.{and-left, and-right, each-append}
 use Rattle.cn_judge.proofs.Faults.{plain, numeral_tail}
 use Rattle.cn_judge.specs.Private.Walk.{number_answer, tail_answer}
 
@@ -303,17 +303,12 @@ digit_tail method x xs r d place h =
       by false number = body_refused method place r (digit d) (x ∷ xs ++ unit r ∷ [])
 
 -- a mark that may stand before nothing ends no numeral
-each-end : (xs marks : List Mark) → each_may_precede (xs ++ marks) ≡ true
-    → each_may_precede marks ≡ true
-each-end [] marks h = h
-each-end (x ∷ xs) marks h = each-end xs marks (and-right (may_precede x (xs ++ marks)) _ h)
-
 numeral-end : (x : Mark) (xs : List Mark) (s l : Mark) → may_precede l [] ≡ false
     → is_numeral (x ∷ xs ++ s ∷ l ∷ []) ≡ false
 numeral-end x xs s l h = by (is_numeral (x ∷ xs ++ s ∷ l ∷ [])) refl where
   by : (k : Bool) → is_numeral (x ∷ xs ++ s ∷ l ∷ []) ≡ k → k ≡ false
   by true e = absurd (let t = and-right (may_precede s (l ∷ [])) _
-      (each-end xs (s ∷ l ∷ []) (numeral_tail x (xs ++ s ∷ l ∷ []) e)) in let u =
+      (each-append xs (s ∷ l ∷ []) (numeral_tail x (xs ++ s ∷ l ∷ []) e)) in let u =
       and-left (may_precede l []) _ t in cc)
   by false e = refl
 

@@ -3,7 +3,7 @@ use Rattle.std.proofs.Common.{◌≡◌, ℕ, ◌+◌, ◌*◌, ◌/◌, ◌%◌
 use Rattle.std.specs.Int.{w32, from_le_bytes}
 use Rattle.std.specs.Str.{IsCharBoundary}
 use Rattle.std.proofs.lemmas.Str.{IsUtf8-take, IsUtf8-drop, IsUtf8-past_char, IsCharBoundary-from_drop, chars_past_char}
-use Rattle.std.proofs.lemmas.List.{take-append-drop}
+use Rattle.std.proofs.lemmas.List.{take-append-drop, nil_from_length}
 use lib.Dec.{T, ltb→lt}
 use lib.Seq.{drop_at, get_or-drop}
 use lib.Utf8.{next, encode, encodes}
@@ -119,17 +119,14 @@ last-three bytes before start a b d code whole boundary long cut p q r low sum =
       get_or-drop start bytes 2 0,
     ) in
     let none : drop 3 (drop start bytes) ≡ [] =
-    is_nil _ (omega (arith, length-drop 3 (drop start bytes), length-drop start bytes, long)) in
+    nil_from_length _ (omega (arith, length-drop 3 (drop start bytes), length-drop start bytes, long)) in
     let last : drop start bytes ≡ encode_utf8 code =
     three.parts ∙ ap (λ c. encode_utf8 c ++ drop 3 (drop start bytes)) same
     ∙ ap (λ l. encode_utf8 code ++ l) none ∙ append-nil (encode_utf8 code) in
     chars-back bytes before code whole
     (subst IsUtf8 (sym cut) (IsUtf8-take bytes start whole boundary))
     (sym (take-append-drop start bytes) ∙ ap (λ l. l ++ drop start bytes) (sym cut)
-    ∙ ap (λ l. before ++ l) last) where
-      is_nil : (xs : List ℕ) → length xs ≡ 0 → xs ≡ []
-      is_nil [] e = refl
-      is_nil (x ∷ xs) e = absurd (omega (arith, e))
+    ∙ ap (λ l. before ++ l) last)
 
 -- a key by its bytes, the first of them lowest
 pub record HasBytes (key a b d : ℕ) : Type 0 where

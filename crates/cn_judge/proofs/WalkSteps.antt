@@ -1,5 +1,5 @@
 -- The steps of the walk, over what its state says.
-use Rattle.std.proofs.Common.{◌≡◌, ◌≢◌, ◌↔◌, ℕ, suc, ◌+◌, ◌^◌, ◌<◌, Bool, true, false, IsTrue, List, [], ◌∷◌, length, Option, Some, None, refl, sym, ap, ◌∙◌, arith, if◌then◌else◌, ◌++◌, append_assoc, filter, chars, Result, Ok, Err, subst}
+use Rattle.std.proofs.Common.{◌≡◌, ◌≢◌, ◌↔◌, ℕ, ◌+◌, ◌^◌, ◌<◌, Bool, true, false, IsTrue, List, [], ◌∷◌, length, Option, Some, None, refl, sym, ap, ◌∙◌, arith, if◌then◌else◌, ◌++◌, append_assoc, filter, chars, Result, Ok, Err, subst}
 use Rattle.std.specs.Result.{IsErr, IsErrAnd, MatchResult}
 use Rattle.cn_core.specs.declared.method.ChineseCountMethod.{ChineseCountMethod}
 use Rattle.cn_core.specs.Characters.{digit_of, rank_of}
@@ -13,6 +13,7 @@ use Rattle.cn_judge.specs.declared.mark.Mark.{Mark as ReadMark}
 use Rattle.cn_judge.specs.declared.mark.Mark.TheVariants.{Digit}
 use Rattle.cn_judge.specs.Private.Walk.{sum_of, opens_of, fault_of, faults, leading_rank, multiplies_by, unit_next, further_or}
 use Rattle.std.specs.Char.{is_whitespace, is_not_whitespace}
+use Rattle.std.proofs.lemmas.List.{length-map, map-append}
 use Rattle.cn_core.specs.CharIndex.{char_index_of}
 use Rattle.cn_judge.specs.Piece.{StandsAt, EndsWith, answer_at}
 use Rattle.cn_judge.proofs.Walking.{filter-append}
@@ -163,14 +164,6 @@ wrong-front method [] marks h = h
 wrong-front method (m ∷ front) marks h =
     ap (λ f. further_or f (fault_of method m (front ++ marks))) (wrong-front method front marks h)
 
-pub marks-append : (xs ys : List ℕ) → marks_of (xs ++ ys) ≡ marks_of xs ++ marks_of ys
-marks-append [] ys = refl
-marks-append (x ∷ xs) ys = ap (λ l. mark_of x ∷ l) (marks-append xs ys)
-
-pub marks-length : (xs : List ℕ) → length (marks_of xs) ≡ length xs
-marks-length [] = refl
-marks-length (x ∷ xs) = ap suc (marks-length xs)
-
 -- a digit's value is below 10
 pub digit-low : (c value : ℕ) → digit value ≡ mark_of c → value < 10
 digit-low c value h = by (digit_of c) (rank_of c) refl h where
@@ -242,7 +235,7 @@ text-parts : (bytes before after : List ℕ) (c : ℕ) → EndsAt bytes before a
 text-parts bytes before after c at dark =
     ap (λ l. marks_of (filter is_not_whitespace l)) at.parts
     ∙ ap marks_of (filter-append is_not_whitespace (chars before) (c ∷ at.more))
-    ∙ marks-append (text_of before) (filter is_not_whitespace (c ∷ at.more))
+    ∙ map-append mark_of (text_of before) (filter is_not_whitespace (c ∷ at.more))
     ∙ ap (λ l. marks_of (text_of before) ++ marks_of l) (kept-dark c at.more after dark at.kept)
 
 fault_here : (method : ChineseCountMethod) (walked : List ℕ) (sum : ℕ) (units : List StackEntry)
@@ -288,6 +281,6 @@ HasWalked-wrong method skipped bytes ahead before sum units next c char_index h 
       ap (faults method) (text-parts bytes before h.after c at e.dark)
           ∙ wrong-front method (marks_of (text_of before)) (marks_of (c ∷ walked))
           (fault_here method walked sum units next c (incorrect_at 0) h.state (step walked h.state))
-          ∙ ap (λ n. Some (incorrect_at n)) (marks-length (text_of before)),
+          ∙ ap (λ n. Some (incorrect_at n)) (length-map (text_of before) mark_of),
       ap (λ n. Err (incorrect_at n)) (place ∙ ap (λ n. skipped + n) (sym index_is)),
     )

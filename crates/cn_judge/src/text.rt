@@ -125,7 +125,8 @@ pub fn split_first_known(text: &str) -> Option<(Mark, &str)>
     Some((mark, after))
 }
 
-// The mark of the only character where the table of marks has it, and the nothing before it.
+// The mark of the only character where the table of marks has it, and the nothing before it: the
+// first of a text that is walked. Left to `split_last_slowly`, 一百五 takes 650 instructions for 510.
 #[inline(always)]
 fn split_only_known(text: &str) -> Option<(Mark, &str)>
     ensures parts { IfSome result (λ r. (c : ℕ) × (chars text.now ≡ chars r.1.now ++ c ∷ [])
@@ -156,7 +157,8 @@ pub fn split_last_mark(text: &str) -> Option<(Mark, &str)>
     split_last_slowly(text)
 }
 
-// The same, whatever the character.
+// The mark of the last character that is no white space, by std's decoding, and what stands before
+// it.
 fn split_last_slowly(text: &str) -> Option<(Mark, &str)>
     ensures parts { IfSome result (λ r. (c : ℕ) × EndsWith text.now c r.1.now
         × (marked r.0 ≡ mark_of c)) }

@@ -1,8 +1,9 @@
 -- What the fields of a line stand for.
 use Rattle.std.proofs.Math.Nat.{pow-le-pow_right}
 use Rattle.std.proofs.lemmas.List.Sums.{fold_more, fold-append}
-use Rattle.std.proofs.Common.{◌≡◌, ◌<◌, ◌≤◌, ◌+◌, ◌-◌, ◌*◌, ◌^◌, [], ◌∷◌, length, take, drop, get_or, take-append-drop, sym, ap, ◌∙◌, arith, lit<, ℕ, List}
-use Rattle.cn_lines.specs.Question.{value_after}
+use Rattle.std.proofs.Common.{◌≡◌, ◌<◌, ◌≤◌, ◌+◌, ◌-◌, ◌*◌, ◌^◌, length, take, drop, get_or, take-append-drop, sym, ap, ◌∙◌, arith, lit<, ℕ, List}
+use Rattle.cn_faces.specs.Decimal.{value_after}
+use Rattle.cn_faces.proofs.Decimal.{value_after-grows}
 
 -- one more decimal digit after fewer than 19
 pub one_more_fits : (value i n digit : ℕ) → value < 10 ^ i → i < n → n ≤ 19 → digit ≤ 9
@@ -11,13 +12,7 @@ one_more_fits value i n digit small before few single =
     let e : 10 ^ i ≤ 10 ^ 18 = pow-le-pow_right {n = 10} (lit< tt) {i = i} {j = 18} (omega arith) in
     omega (arith, e)
 
--- the number of more digits is no less
-pub value_after-grows : (start : ℕ) (digits : List ℕ) → start ≤ value_after start digits
-value_after-grows start [] = omega arith
-value_after-grows start (digit ∷ digits) =
-    omega (arith, value_after-grows (start * 10 + (digit - 48)) digits)
-
--- so a number that is too great after one more digit stays so
+-- a number that is too great after one more digit stays so
 pub value_after-beyond : (start : ℕ) (digits : List ℕ) (i value most : ℕ) → i < length digits
     → value ≡ value_after start (take i digits)
     → most ≤ value * 10 + (get_or digits i 0 - 48) → most ≤ value_after start digits

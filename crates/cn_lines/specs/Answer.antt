@@ -5,8 +5,8 @@ use Rattle.chinese_number.specs.declared.ChineseVariant.{ChineseVariant}
 use Rattle.chinese_number.specs.declared.ChineseCase.{ChineseCase}
 use Rattle.chinese_number.specs.Refusal.{Refusal, refusal_text}
 use Rattle.chinese_number.specs.Whole.{Kind, holds}
-use Rattle.cn_ways.specs.Ways.{ReadsBy, written_by}
-use Rattle.cn_ways.specs.declared.Way.{Way}
+use Rattle.cn_faces.specs.Ways.{ReadsBy, written_by}
+use Rattle.cn_faces.specs.declared.Way.{Way}
 use Rattle.cn_lines.specs.Question.{Question, read, print, question_of}
 
 -- what is answered to a text that was read

@@ -1,5 +1,5 @@
 -- What a line asks.
-use Rattle.std.specs.Prelude.{◌==◌, ◌&&◌, ◌+◌, ◌-◌, ◌*◌, ℕ, ℤ, nat_lt, true, false, List, [], ◌∷◌, length, take, drop, fold, position, codes, bytes_eq, Option, Some, None, option_map, option_and_then, if◌then◌else◌}
+use Rattle.std.specs.Prelude.{◌==◌, ◌&&◌, ◌+◌, ℕ, ℤ, nat_lt, true, false, List, [], ◌∷◌, length, take, drop, position, codes, bytes_eq, Option, Some, None, option_map, option_and_then, if◌then◌else◌}
 use Rattle.std.specs.Char.{is_ascii_digit}
 use Rattle.std.specs.List.{list_all}
 use Rattle.std.specs.Str.{is_utf8}
@@ -8,8 +8,9 @@ use Rattle.chinese_number.specs.declared.ChineseVariant.TheVariants.{Traditional
 use Rattle.chinese_number.specs.declared.ChineseCase.{ChineseCase}
 use Rattle.chinese_number.specs.declared.ChineseCase.TheVariants.{Upper, Lower}
 use Rattle.chinese_number.specs.Whole.{Kind, unsigned_kind, signed_kind, signed_number}
-use Rattle.cn_ways.specs.Ways.{named, way_named}
-use Rattle.cn_ways.specs.declared.Way.{Way}
+use Rattle.cn_faces.specs.Decimal.{value_of}
+use Rattle.cn_faces.specs.Ways.{named, way_named}
+use Rattle.cn_faces.specs.declared.Way.{Way}
 
 infixl 10 ◌>>=◌
 abbrev pub ◌>>=◌ : {A B : Type 0} → Option A → (A → Option B) → Option B
@@ -37,14 +38,6 @@ script_named name = named name ((codes "traditional", Traditional) ∷ (codes "s
 -- the case of a name
 abbrev pub case_named : List ℕ → Option ChineseCase
 case_named name = named name ((codes "upper", Upper) ∷ (codes "lower", Lower) ∷ [])
-
--- the number that these decimal digits write after those of another number
-abbrev pub value_after : ℕ → List ℕ → ℕ
-value_after number digits = fold (λ number digit. number * 10 + (digit - 48)) number digits
-
--- the number that these decimal digits write
-abbrev pub value_of : List ℕ → ℕ
-value_of digits = value_after 0 digits
 
 -- the magnitude of at least one decimal digit
 abbrev pub magnitude_of : List ℕ → Option ℕ

@@ -3,11 +3,11 @@ ghost use Rattle.std.specs.Prelude.{◌≡◌, ◌++◌, [], OnOk, codes, string
 ghost use Rattle.chinese_number.specs.Answer.{answer_of};
 ghost use Rattle.cn_lines.specs.Question.{read_question, print_question};
 ghost use Rattle.cn_lines.specs.Answer.{Answers, AnswersAny, AnswersRead, AnswersPrinting, bad_line, reading_text};
-ghost use Rattle.cn_ways.specs.Ways.{ReadsBy, stands_for};
+ghost use Rattle.cn_faces.specs.Ways.{ReadsBy, stands_for};
 
 use crate::question::{Printing, Reading, asked_printing, asked_reading, cut};
 use chinese_number::{ChineseToNumberError, NumberToChinese, NumberToChineseError, Whole};
-use cn_ways::{SignedMagnitude, Way, print_by, read_by};
+use cn_faces::{SignedMagnitude, Way, print_by, read_by};
 use std::alloc::{AllocError, Global};
 
 // Puts the answer to a line that asks nothing.

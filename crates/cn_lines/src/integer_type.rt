@@ -2,9 +2,9 @@
 ghost use Rattle.std.specs.Prelude.{◌≡◌, ◌+◌, ◌^◌, ◌<◌, false, true};
 ghost use Rattle.chinese_number.specs.Whole.{holds};
 ghost use Rattle.cn_lines.specs.Private.{kind_between};
-ghost use Rattle.cn_ways.specs.Ways.{stands_for};
+ghost use Rattle.cn_faces.specs.Ways.{stands_for};
 
-use cn_ways::SignedMagnitude;
+use cn_faces::SignedMagnitude;
 use std::marker::Model;
 
 /// An integer type, by the greatest magnitude that it holds below zero, and above.

@@ -15,7 +15,7 @@ pub(crate) fn first_position(byte: u8, bytes: &[u8]) -> Option<usize>
     bytes.iter().position(|b| *b == byte)
 }
 
-// The same, or the length.
+// The position of the first byte of this value, or the length.
 fn near_position(byte: u8, bytes: &[u8]) -> usize
     ensures position { result ≡ position_or_len (λ b. b == byte) bytes.now }
     ensures bound { result ≤ length bytes.now }

@@ -2,15 +2,16 @@
 ghost use Rattle.std.specs.Prelude.{◌≡◌, ◌==◌, ◌+◌, ◌*◌, ◌^◌, ◌<◌, ◌≤◌, ◌∷◌, position, length, IsTrue, SomeIff, IfNone, IfSome, MatchOption};
 ghost use Rattle.std.specs.List.{list_all};
 ghost use Rattle.std.specs.Char.{is_ascii_digit};
-ghost use Rattle.cn_lines.specs.Question.{cut, type_named, script_named, case_named, value_of, value_after, magnitude_of, decimal_number, read, print, read_question, print_question};
+ghost use Rattle.cn_lines.specs.Question.{cut, type_named, script_named, case_named, magnitude_of, decimal_number, read, print, read_question, print_question};
 ghost use Rattle.cn_lines.specs.Answer.{bad_line, AnswersAny};
 ghost use Rattle.cn_lines.specs.Private.{IsBeyondAll};
-ghost use Rattle.cn_ways.specs.Ways.{stands_for};
+ghost use Rattle.cn_faces.specs.Decimal.{value_after, value_of};
+ghost use Rattle.cn_faces.specs.Ways.{stands_for};
 
 use crate::integer_type::IntegerType;
 use crate::lines::first_position;
 use chinese_number::{ChineseCase, ChineseVariant};
-use cn_ways::{SignedMagnitude, Way, utf8_text, way_named};
+use cn_faces::{SignedMagnitude, Way, utf8_text, way_named};
 
 /// The first field, which a space ends, and all that follows the space.
 pub(crate) fn cut(bytes: &[u8]) -> Option<(&[u8], &[u8])>

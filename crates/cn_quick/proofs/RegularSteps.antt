@@ -12,10 +12,10 @@ use Rattle.cn_core.specs.Place.{some_unfit}
 use Rattle.cn_core.specs.Scale.{scale, exponent}
 use Rattle.cn_core.specs.Text.{text_of, marks_of}
 use Rattle.cn_core.specs.Value.{value, weight, product, records_from, record_units}
-use Rattle.cn_core.proofs.Fronts.{and-left, and-right}
+use Rattle.cn_core.proofs.Fronts.{and-left, and-right, both}
 use Rattle.cn_core.proofs.Judging.{Judges-by_walk}
 use Rattle.cn_core.proofs.OpenUnits.{first_not_smaller-record, in_ranks, length-records}
-use Rattle.cn_quick.specs.declared.QuickState.{QuickState}
+use Rattle.cn_quick.specs.declared.state.QuickState.{QuickState}
 use Rattle.cn_quick.specs.Private.Regular.{OpenEntry, IsRegular, StandsRegular, LeavesNoTail, MayOpen, exponents, entries_for, top_exponent, is_below_top, is_regular_mark, closing_rank, not_smaller, with_last}
 use Rattle.cn_judge.specs.Private.Walk.{HasNoTail}
 use Rattle.cn_judge.proofs.OpenSums.{from_rank}
@@ -23,15 +23,6 @@ use Rattle.cn_core.proofs.Chars.{chars-from_empty}
 use Rattle.cn_quick.proofs.RegularSums.{product-last, exponent-small, closing_rank-within, length-for, top-for, left-for, is_first, first-for, first-strict, first-left, next-left, last-left, records-first, records-unit, records-great, records-small, records-above, records-above_small}
 use Rattle.cn_judge.proofs.Endings.{judge-plain_end}
 use Rattle.cn_judge.proofs.Faults.{numeral_fits, plain-numeral}
-
-all_three : (a b c : Bool) → a ≡ true → b ≡ true → c ≡ true → (a && b && c) ≡ true
-all_three true true c p q r = r
-all_three true false c p q r = cc
-all_three false b c p q r = cc
-
-both : (a b : Bool) → a ≡ true → b ≡ true → (a && b) ≡ true
-both true b p q = q
-both false b p q = cc
 
 -- a unit before what follows it
 multiplies : (rank : ℕ) (marks : List Mark) → list_all is_regular_mark marks ≡ true
@@ -144,9 +135,8 @@ precedes : (method : ChineseCountMethod) (rank last : ℕ) (marks : List Mark) �
     → is_first rank (from_rank rank (records_from (closing_rank method) marks)) ≡ true
     → may_precede (unit rank) marks ≡ true
 precedes method rank last marks some low regular records h first =
-    all_three (multiplies_upwards (unit rank) marks) (counts_a_unit (unit rank) marks)
-    (groups_strictly (unit rank) marks)
-    (multiplies rank marks regular h) (counts rank marks some)
+    both _ (groups_strictly (unit rank) marks)
+    (both _ _ (multiplies rank marks regular h) (counts rank marks some))
     (strictly method rank last marks records low first)
 
 -- one below 萬

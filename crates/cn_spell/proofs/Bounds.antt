@@ -8,7 +8,7 @@ use Rattle.cn_core.specs.Printing.{is_printable}
 use Rattle.cn_core.proofs.Lengths.{length-spelling}
 use Rattle.cn_spell.specs.Prints.{most_bytes}
 use Rattle.cn_spell.specs.Working.Units.{powers_within}
-use Rattle.cn_spell.proofs.Walks.{square}
+use Rattle.cn_spell.proofs.Walks.{powers-fit, few-of}
 
 -- its digits are few enough for the method's units
 pub fits : (method : ChineseCountMethod) (number : ℤ) → is_printable method number ≡ true
@@ -31,7 +31,7 @@ pub marks-fit : (method : ChineseCountMethod) (number : ℤ) → is_printable me
 marks-fit method number printable small =
     let less = fits method number printable small in
     let marks = length-spelling method (nat_abs number) (powers_within method) (some-powers method)
-    less (square method (nat_abs number) (powers_within method) less (omega arith)) in
+    less (few-of method (nat_abs number) (powers_within method) less (powers-fit method)) in
     omega (arith, marks, bytes method) where
       bytes : (method : ChineseCountMethod) → 6 * powers_within method ≤ most_bytes method
       bytes Low = omega arith

@@ -14,7 +14,8 @@ use Rattle.cn_core.specs.Mark.{Mark, digit}
 use Rattle.cn_core.specs.Naive.{decimal_digits}
 use Rattle.cn_core.specs.Printing.{mark_char, signed_text}
 use Rattle.cn_spell.specs.Working.Sections.{HoldsSections, lowest_marks}
-use Rattle.cn_spell.proofs.ThreeBytes.{takes_three, three-digit, three-minus}
+use Rattle.cn_core.proofs.Characters.{takes_three, three-digit}
+use Rattle.cn_spell.proofs.ThreeBytes.{three-minus}
 
 length-lowest : (count number : ℕ) → length (lowest_marks count number) ≡ count
 length-lowest zero number = refl

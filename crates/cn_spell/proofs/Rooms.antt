@@ -9,7 +9,8 @@ use Rattle.cn_core.specs.Mark.{Mark}
 use Rattle.cn_core.specs.Printing.{mark_char}
 use Rattle.cn_spell.specs.Working.Sections.{kept}
 use Rattle.cn_spell.specs.Working.Room.{Counts, Shows}
-use Rattle.cn_spell.proofs.ThreeBytes.{takes_three, encode-three}
+use Rattle.cn_core.proofs.Characters.{takes_three}
+use Rattle.cn_spell.proofs.ThreeBytes.{encode-three, IsUtf8-three}
 
 drop-sets : (items : List ℕ) (start a b d : ℕ) → start + 3 ≤ length items
     → drop start (set (set (set items start a) (start + 1) b) (start + 2) d)
@@ -84,14 +85,14 @@ pub Shows-if : (is_kept : Bool) (c : ℕ) {free next : ℕ} {bytes after charact
     → 3 ≤ free → next ≡ (if is_kept then free - 3 else free)
     → drop next after ≡ (if is_kept then character ++ drop free bytes else drop free bytes)
     → length after ≡ length bytes
-    → character ≡ encode_utf8 c → IsUtf8 character → Shows free bytes cs
+    → character ≡ encode_utf8 c → takes_three c ≡ true → Shows free bytes cs
     → Shows next after ((if is_kept then c ∷ [] else []) ++ cs)
-Shows-if true c three e t l same utf8 h = record {
+Shows-if true c three e t l same takes h = record {
   text = t ∙ ap₂ (λ first rest. first ++ rest) same h.text;
-  utf8 = rw t (IsUtf8-append _ _ utf8 h.utf8);
+  utf8 = rw (t, same) (IsUtf8-append _ _ (IsUtf8-three c takes) h.utf8);
   size = omega (arith, e, l, three, h.size);
 }
-Shows-if false c three e t l same utf8 h =
+Shows-if false c three e t l same takes h =
     record { text = t ∙ h.text; utf8 = rw t h.utf8; size = omega (arith, e, l, h.size) }
 
 -- a full room shows all of its bytes

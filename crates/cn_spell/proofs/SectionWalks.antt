@@ -6,6 +6,7 @@ use Rattle.std.proofs.Math.Decide.{dec_lt}
 use Rattle.std.proofs.Math.Nat.{mul-le-mul_right, mod-lt, mod-eq_of_lt, mod-mod_of_dvd, one-le-pow}
 use Rattle.std.proofs.lemmas.Nat.{pow-add, div-add-mod'}
 use Rattle.std.proofs.lemmas.Nat.Gcd.{dvd_of_mod-eq-zero}
+use Rattle.std.proofs.Math.Bool.{and-false}
 use Rattle.cn_core.specs.declared.method.ChineseCountMethod.{ChineseCountMethod}
 use Rattle.cn_core.specs.declared.method.ChineseCountMethod.TheVariants.{Low, TenThousand, Middle, High}
 use Rattle.cn_core.specs.Mark.{Mark, digit, unit}
@@ -16,14 +17,14 @@ use Rattle.cn_core.proofs.Fronts.{and-left, and-right}
 use Rattle.cn_core.proofs.Sums.{spelled-digit}
 use Rattle.cn_spell.specs.Working.Sections.{HoldsSections, sections_within, above_limit, kept, section_marks}
 use Rattle.cn_spell.specs.Working.Units.{widths_of, powers_within, rank_at, start_of, units_over, units_behind}
-use Rattle.cn_spell.proofs.Walks.{Fills, is_chain_of_four, section-over}
-use Rattle.cn_spell.proofs.Tops.{powers-few, filled_of, Filled, lower-less, part-none, parts-grow, over-none, over-head, single, behind-zero}
+use Rattle.cn_spell.proofs.Walks.{Fills, is_chain, lead-over, over-none}
+use Rattle.cn_spell.proofs.Tops.{powers-few, filled_of, Filled, lower-less, part-none, parts-grow, over-head, single, behind-zero}
 use Rattle.cn_spell.proofs.Single.{so_far, section-is}
 use Rattle.cn_spell.proofs.SingleTops.{part-top, top-of}
 
 -- the methods that write sections
 abbrev pub HasSections : ChineseCountMethod → Type 0
-HasSections method = (is_chain_of_four method 64 (widths_of method) ≡ true)
+HasSections method = (is_chain 4 method 64 (widths_of method) ≡ true)
     × (44 ≤ exponent method 15 + exponent method 15)
 
 has-sections : (method : ChineseCountMethod) → 0 < sections_within method → HasSections method
@@ -50,7 +51,7 @@ section-lead method power g below filled some most four pos ten small fills =
     let has = has-sections method some in
     let within = starts-within method power most in
     let all : power % 64 ≡ power = mod-eq_of_lt (omega (arith, within, powers-few method)) in
-    let over = section-over method (widths_of method) 64 power g below filled filled (max filled 1)
+    let over = lead-over method (widths_of method) 4 64 power g below filled filled (max filled 1)
     has.0 within (omega (arith, within, powers-few method, has.1)) four pos ten (rw all small)
     fills
     (omega (arith, all)) (λ some. omega (arith, some)) (λ none. omega (arith, none)) in
@@ -222,10 +223,7 @@ short_spelling-over : (g rank : ℕ) (rest : List Mark) → 0 < g → g < 10 ^ 4
     ≡ short_spelling (part Low g) ++ (unit rank ∷ rest)
 short_spelling-over g rank rest pos small other = by (top-of g 4 small pos) where
   flat : (d : ℕ) → short_spelling (digit d ∷ unit rank ∷ rest) ≡ digit d ∷ unit rank ∷ rest
-  flat d = let f : (d == 1 && rank == 1) ≡ false = rw other (never (d == 1)) in rw f refl where
-    never : (b : Bool) → (b && false) ≡ false
-    never true = refl
-    never false = refl
+  flat d = let f : (d == 1 && rank == 1) ≡ false = rw other (and-false (d == 1)) in rw f refl
 
   deep : (d power : ℕ) (more : List Mark)
       → short_spelling ((digit d ∷ unit power ∷ more) ++ (unit rank ∷ rest))

@@ -4,6 +4,7 @@ use Rattle.std.proofs.lemmas.Bool.Decides.{nat_tests}
 use Rattle.std.proofs.Math.Decide.{dec_lt}
 use Rattle.std.proofs.Math.Nat.{mod-eq_of_lt, one-le-pow, pow-le-pow_right, mul-le-mul_right, div-div-eq-div-mul, lt_of_mul-lt-mul_right, div-mul-le_self}
 use Rattle.std.proofs.lemmas.Nat.{div-add-mod'}
+use Rattle.std.proofs.Math.Bool.{and-false}
 use Rattle.cn_core.specs.declared.method.ChineseCountMethod.TheVariants.{Low}
 use Rattle.cn_core.specs.Mark.{Mark, digit, unit}
 use Rattle.cn_core.specs.Spelling.{spelling, short_spelling, spelling_within}
@@ -66,11 +67,8 @@ pub spelled-top : (number power : ℕ) → power < 16 → number < 10 ^ suc powe
 spelled-top number zero within less reach =
     let small : number < 10 = omega (arith, less) in
     let same : number / 10 ^ 0 ≡ number = omega arith in
-    let flag : (number == 1 && 0 == 1) ≡ false = never (number == 1) in
-    rw (same, flag, part-none Low number, spelled-digit number Low number small) refl where
-      never : (b : Bool) → (b && false) ≡ false
-      never true = refl
-      never false = refl
+    let flag : (number == 1 && 0 == 1) ≡ false = and-false (number == 1) in
+    rw (same, flag, part-none Low number, spelled-digit number Low number small) refl
 spelled-top number (suc p) within less reach =
     let power = suc p in
     let high : 10 ^ power ≤ number = reach (omega arith) in

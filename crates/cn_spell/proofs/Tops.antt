@@ -8,9 +8,10 @@ use Rattle.std.proofs.lemmas.Nat.{pow-add}
 use Rattle.cn_core.specs.declared.method.ChineseCountMethod.{ChineseCountMethod}
 use Rattle.cn_core.specs.declared.method.ChineseCountMethod.TheVariants.{Low, TenThousand, Middle, High}
 use Rattle.cn_core.specs.Mark.{Mark, digit, unit}
-use Rattle.cn_core.proofs.Cuts.{part}
+use Rattle.cn_core.proofs.Cuts.{part, part-some}
+use Rattle.cn_core.proofs.Sums.{spelled-digit}
 use Rattle.cn_spell.specs.Working.Units.{widths_of, powers_within, rank_at, start_of, unit_behind, units_over, units_behind}
-use Rattle.cn_spell.proofs.Walks.{Fills, chain, digit-over}
+use Rattle.cn_spell.proofs.Walks.{Fills, powers-fit, chain, lead-over, over-none}
 
 pub powers-few : (method : ChineseCountMethod) → powers_within method ≤ 39
 powers-few Low = omega arith
@@ -25,10 +26,12 @@ pub digit-lead : (method : ChineseCountMethod) (power d below filled : ℕ)
     ≡ digit d ∷ (units_behind method power filled ++ part method below)
 digit-lead method power d below filled within pos ten small fills =
     let all : power % 64 ≡ power = mod-eq_of_lt (omega (arith, within, powers-few method)) in
-    let over = digit-over method (widths_of method) 64 power d below filled filled (max filled 1)
-    (chain method) within pos ten (rw all small) fills (omega (arith, all))
-    (λ some. omega (arith, some)) (λ none. omega (arith, none)) in
-    rw all at over
+    let over = lead-over method (widths_of method) 1 64 power d below filled filled (max filled 1)
+    (chain method) within (omega (arith, within, powers-fit method)) (omega arith) pos ten
+    (rw all small) fills (omega (arith, all)) (λ some. omega (arith, some))
+    (λ none. omega (arith, none)) in
+    let alone : part method d ≡ digit d ∷ [] = part-some method d pos ∙ spelled-digit d method d ten in
+    rw (all, alone) at over
 
 -- the digit at a power
 abbrev pub at : ℕ → ℕ → ℕ
@@ -152,13 +155,6 @@ single Low = refl
 single TenThousand = refl
 single Middle = refl
 single High = refl
-
-pub over-none : (method : ChineseCountMethod) (widths : List ℕ) (power filled above : ℕ)
-    → power < above → units_over method power filled above widths ≡ []
-over-none method [] power filled above past = refl
-over-none method (width ∷ widths) power filled above past =
-    let test : nat_le above (start_of width power) ≡ false = grind (arith, nat_tests, past) in
-    rw test (over-none method widths power filled above past)
 
 pub over-head : (method : ChineseCountMethod) (widths : List ℕ) (power filled above : ℕ)
     → ends_single widths ≡ true → above ≤ power

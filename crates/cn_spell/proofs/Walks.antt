@@ -1,5 +1,6 @@
 -- The units before a digit, and the spelling that they make.
-use Rattle.std.proofs.Common.{◌≡◌, ℕ, zero, suc, ◌+◌, ◌-◌, ◌*◌, ◌/◌, ◌%◌, ◌^◌, ◌<◌, ◌≤◌, max, Bool, true, false, ◌==◌, ◌&&◌, ◌||◌, nat_le, nat_lt, List, [], ◌∷◌, ◌++◌, refl, sym, ap, subst, ◌∙◌, arith, append_assoc, append-nil, if◌then◌else◌}
+use Rattle.std.proofs.Common.{◌≡◌, ℕ, zero, suc, ◌+◌, ◌-◌, ◌*◌, ◌/◌, ◌%◌, ◌^◌, ◌<◌, ◌≤◌, max, Bool, true, false, inl, inr, ◌==◌, ◌&&◌, ◌||◌, nat_le, nat_lt, List, [], ◌∷◌, ◌++◌, refl, sym, ap, subst, ◌∙◌, arith, append_assoc, append-nil, if◌then◌else◌}
+use Rattle.std.proofs.lemmas.Bool.{cases_Bool}
 use Rattle.std.proofs.lemmas.Bool.Decides.{nat_tests}
 use Rattle.std.proofs.Math.Decide.{dec_lt}
 use Rattle.std.proofs.Math.Nat.{mul-le-mul_left, mul-le-mul_right, pow-le-pow_right, mod-mod_of_dvd, mul-div_cancel, mod-le, mod-lt, div-add-mod, div-mul-le_self, lt_of_mul-lt-mul_right, one-le-pow}
@@ -9,10 +10,9 @@ use Rattle.cn_core.specs.declared.method.ChineseCountMethod.{ChineseCountMethod}
 use Rattle.cn_core.specs.declared.method.ChineseCountMethod.TheVariants.{Low, TenThousand, Middle, High}
 use Rattle.cn_core.specs.Mark.{Mark, digit, unit}
 use Rattle.cn_core.specs.Scale.{scale, exponent}
-use Rattle.cn_core.proofs.Cuts.{part, gap, part-cut, part-some}
+use Rattle.cn_core.proofs.Cuts.{part, gap, part-cut}
 use Rattle.cn_core.proofs.Fronts.{and-left, and-right}
 use Rattle.cn_core.proofs.ScaleLaws.{scale-mono}
-use Rattle.cn_core.proofs.Sums.{spelled-digit}
 use Rattle.cn_spell.specs.Working.Units.{widths_of, powers_within, rank_at, start_of, unit_behind, units_over}
 
 -- the number has digits at the powers below `filled`, and one that is not 0 just below it
@@ -36,13 +36,14 @@ all_stand method outer width zero = true
 all_stand method outer width (suc power) =
     stands method outer width power && all_stand method outer width power
 
--- the widths part a group of the outer width, one inside the other, down to single powers
-abbrev pub is_chain : ChineseCountMethod → ℕ → List ℕ → Bool
-is_chain method outer [] = outer == 1
-is_chain method outer (width ∷ widths) = nat_lt 0 width && outer % width == 0
-    && all_stand method outer width (powers_within method) && is_chain method width widths
+-- the widths part a group of the outer width, one inside the other, down to groups of so many powers
+abbrev pub is_chain : ℕ → ChineseCountMethod → ℕ → List ℕ → Bool
+is_chain least method outer [] = outer == least
+is_chain least method outer (width ∷ widths) = outer == least
+    || (nat_lt 0 width && outer % width == 0 && width % least == 0
+    && all_stand method outer width (powers_within method) && is_chain least method width widths)
 
-pub chain : (method : ChineseCountMethod) → is_chain method 64 (widths_of method) ≡ true
+pub chain : (method : ChineseCountMethod) → is_chain 1 method 64 (widths_of method) ≡ true
 chain Low = refl
 chain TenThousand = refl
 chain Middle = refl
@@ -107,21 +108,23 @@ all_stand-at method outer width (suc limit) power h less = elim (dec_lt power li
       in rw e at (and-left (stands method outer width limit) _ h)
 ]
 
--- the printable numbers stay below the square of the greatest unit
-pub square : (method : ChineseCountMethod) (number powers : ℕ) → number < 10 ^ powers
-    → powers ≤ powers_within method → number < scale method 15 * scale method 15
-square method number powers h within =
+-- a printable number has no more powers than the square of the greatest unit
+pub powers-fit : (method : ChineseCountMethod)
+    → powers_within method ≤ exponent method 15 + exponent method 15
+powers-fit Low = omega arith
+powers-fit TenThousand = omega arith
+powers-fit Middle = omega arith
+powers-fit High = omega arith
+
+-- and is less than that square
+pub few-of : (method : ChineseCountMethod) (number powers : ℕ) → number < 10 ^ powers
+    → powers ≤ exponent method 15 + exponent method 15 → number < scale method 15 * scale method 15
+few-of method number powers h within =
     let e : 10 ^ (exponent method 15 + exponent method 15) ≡ scale method 15 * scale method 15 =
     pow-add 10 (exponent method 15) (exponent method 15) in
     let p : 10 ^ powers ≤ 10 ^ (exponent method 15 + exponent method 15) =
-    pow-le-pow_right (omega arith) (omega (arith, within, most method)) in
-    omega (arith, h, p, e) where
-      most : (method : ChineseCountMethod)
-          → powers_within method ≤ exponent method 15 + exponent method 15
-      most Low = omega arith
-      most TenThousand = omega arith
-      most Middle = omega arith
-      most High = omega arith
+    pow-le-pow_right (omega arith) within in
+    omega (arith, h, p, e)
 
 cut : (method : ChineseCountMethod) (high below size width rank : ℕ)
     → Stands method size width rank → 0 < high → below < 10 ^ size
@@ -251,332 +254,181 @@ join method lead below size width rank lead_marks marks unit_is least fits few k
     ∙ ap (λ rest. lead_marks ++ rest) (append_assoc marks (part method high) tail)
     ∙ ap (λ rest. lead_marks ++ (marks ++ rest)) (sym two ∙ ap (λ n. part method n) (sym split))
 
--- a digit in front of what stands below it: the units of the groups that it is the first to fill
--- stand between
-pub digit-over : (method : ChineseCountMethod) (widths : List ℕ)
-    (outer power d below inner filled above : ℕ) → is_chain method outer widths ≡ true
-    → power < powers_within method → 0 < d → d < 10
-    → below < 10 ^ (power % outer) → Fills inner below → above ≡ (power - power % outer)
-    + max inner 1 → (0 < inner → filled ≡ above) → (inner ≡ 0 → filled < above)
-    → part method (d * 10 ^ (power % outer) + below)
-    ≡ digit d ∷ (units_over method power filled above widths ++ part method below)
-digit-over method [] outer power d below inner filled above links within pos ten small fills
-    is_above some none =
-    let one : outer ≡ 1 = grind (arith, nat_tests, links) in
-    let zero : power % outer ≡ 0 = rw one (omega arith) in
-    let empty : below ≡ 0 = let p : 10 ^ (power % outer) ≡ 1 =
-    ap (λ n. 10 ^ n) zero in omega (arith, p, small) in
-    let only : d * 10 ^ 0 + 0 ≡ d = omega arith in
-    rw (zero, empty, only, part-some method d pos, spelled-digit d method d ten) refl
-digit-over method (width ∷ widths) outer power d below inner filled above links within pos ten
-    small fills is_above some none =
-    let two = and-left (nat_lt 0 width && outer % width == 0) _
-    (and-left (nat_lt 0 width && outer % width == 0
-    && all_stand method outer width (powers_within method)) _ links) in
-    let wide : nat_lt 0 width ≡ true = and-left (nat_lt 0 width) _ two in
-    let even : (outer % width == 0) ≡ true = and-right (nat_lt 0 width) _ two in
-    let stand = all_stand-at method outer width (powers_within method) power
-    (and-right (nat_lt 0 width && outer % width == 0) _
-    (and-left (nat_lt 0 width && outer % width == 0
-    && all_stand method outer width (powers_within method)) _ links)) within in
-    let rest : is_chain method width widths ≡ true =
-    and-right (nat_lt 0 width && outer % width == 0
-    && all_stand method outer width (powers_within method)) _ links in
-    let start = start_of width power in
-    let size = power % outer - power % width in
-    let wider : 0 < width = grind (arith, nat_tests, wide) in
-    let divides : outer % width ≡ 0 = grind (arith, nat_tests, even) in
-    let inside : power % outer % width ≡ power % width =
-    mod-mod_of_dvd width power (dvd_of_mod-eq-zero width divides) in
-    let rest_less : power % width < width = omega (arith, wider) in
-    let rest_in : power % width ≤ power % outer =
-    omega (arith, inside, mod-le (power % outer) width) in
-    let outer_in : power % outer ≤ power = mod-le power outer in
-    let is_start : start ≡ (power - power % outer) + size = omega (arith, rest_in, outer_in) in
-    let raised : 10 ^ (power % outer) ≡ 10 ^ (power % width) * 10 ^ size =
-    let e : power % outer ≡ power % width + size =
-    omega (arith, rest_in) in ap (λ n. 10 ^ n) e ∙ pow-add 10 (power % width) size in
-    let whole : d * 10 ^ (power % outer) ≡ d * 10 ^ (power % width) * 10 ^ size =
-    ap (λ n. d * n) raised ∙ omega arith in
-    let top : 10 ^ (power % outer + 1) ≡ 10 ^ (power % outer) * 10 = pow-add 10 (power % outer) 1 in
-    let d_most : d * 10 ^ (power % outer) ≤ 9 * 10 ^ (power % outer) =
-    mul-le-mul_right (10 ^ (power % outer)) (omega (arith, ten)) in
-    let number : d * 10 ^ (power % outer) + below < 10 ^ (power % outer + 1) =
-    omega (arith, d_most, small, top) in
-    let fits : d * 10 ^ (power % outer) + below < 10 ^ (size + width) =
-    let p : 10 ^ (power % outer + 1) ≤ 10 ^ (size + width) =
-    pow-le-pow_right (omega arith) (omega (arith, rest_less, rest_in))
-    in omega (arith, p, number) in
-    let few : d * 10 ^ (power % outer) + below < scale method 15 * scale method 15 =
-    square method _ (power % outer + 1) number (omega (arith, outer_in, within)) in
-    let lead : 0 < d * 10 ^ (power % width) = let p : 1 ≤ 10 ^ (power % width) =
-    one-le-pow (power % width) 10 (omega arith) in let q : d * 1 ≤ d * 10 ^ (power % width) =
-    mul-le-mul_left d p in omega (arith, q, pos) in
-    elim (dec_lt start above) [
-      | no reach ↦
-          let test : nat_le above start ≡ true = grind (arith, nat_tests, reach) in
-          let one : 1 ≤ size = omega (arith, reach, is_start, is_above) in
-          let inner_in : inner ≤ size = omega (arith, reach, is_start, is_above) in
-          let below_small : below < 10 ^ size = let p : 10 ^ inner ≤ 10 ^ size =
-          pow-le-pow_right (omega arith) inner_in in omega (arith, p, fills.below) in
-          let unit_is = Stands-stands method outer width power stand (omega (arith, one)) in
-          let lower : filled < start + 1 =
-          elim (dec_lt 0 inner) [
-            | yes p ↦ omega (arith, some p, reach)
-            | no p ↦
-                omega (arith, none (omega (arith, p)), reach)
-          ] in
-          let more = digit-over method widths width power d 0 0 filled (start + 1) rest within pos
-          ten (one-le-pow (power % width) 10 (omega arith))
-          (record { below = omega arith; reach = λ z. absurd (omega (arith, z)) })
-          (omega arith) (λ z. absurd (omega (arith, z))) (λ z. lower) in
-          let lead_part : part method (d * 10 ^ (power % width))
-          ≡ digit d ∷ units_over method power filled (start + 1) widths =
-          let e : d * 10 ^ (power % width) + 0 ≡ d * 10 ^ (power % width) = omega arith in
-          let none_left = append-nil (units_over method power filled (start + 1) widths) in
-          rw e at more ∙ ap (λ marks. digit d ∷ marks) none_left in
-          let split = cut method (d * 10 ^ (power % width)) below size width (rank_at method start)
-          unit_is lead below_small (omega (arith, fits, whole)) (omega (arith, few, whole)) in
-          let flag = gap-flag inner size filled above below start (power - power % outer) fills
-          inner_in one is_start is_above some none in
-          ap (λ n. part method (n + below)) whole ∙ split
-          ∙ ap (λ marks. marks ++ (unit (rank_at method start)
-          ∷ (gap below (10 ^ size) ++ part method below))) lead_part
-          ∙ ap (λ marks. digit d ∷ (units_over method power filled (start + 1) widths
-          ++ (unit (rank_at method start) ∷ (marks ++ part method below)))) flag
-          ∙ ap (λ marks. digit d ∷ marks) (sym (append_assoc (units_over method power filled
-          (start + 1) widths) (unit_behind method filled above start) (part method below)))
-          ∙ ap (λ marks. digit d ∷ (marks ++ part method below))
-          (if-then (units_over method power filled (start + 1) widths
-          ++ unit_behind method filled above start) (units_over method power filled above
-          widths) test)
-      | yes short ↦
-          let test : nat_le above start ≡ false = grind (arith, nat_tests, short) in
-          let otherwise = if-else {b = nat_le above start}
-          (units_over method power filled (start + 1) widths
-          ++ unit_behind method filled above start) (units_over method power filled above
-          widths) test in
-          elim (dec_lt 0 size) [
-            | no none_in ↦
-                let same : power % outer ≡ power % width = omega (arith, none_in, rest_in) in
-                let more = digit-over method widths width power d below inner filled above rest
-                within pos ten (rw same at small) fills (rw same at is_above) some none in
-                ap (λ n. part method (d * 10 ^ n + below)) same ∙ more
-                ∙ ap (λ marks. digit d ∷ (marks ++ part method below)) otherwise
-            | yes some_in ↦
-                let deep : size < inner = omega (arith, short, is_start, is_above, some_in) in
-                let least : 10 ^ size ≤ below = let p : 10 ^ size ≤ 10 ^ (inner - 1) =
-                pow-le-pow_right (omega arith) (omega (arith, deep))
-                in omega (arith, p, fills.reach (omega (arith, deep))) in
-                let high_small : below / 10 ^ size < 10 ^ (power % width) =
-                lt_of_mul-lt-mul_right (10 ^ size)
-                (omega (arith, small, raised, div-mul-le_self below (10 ^ size))) in
-                let more = digit-over method widths width power d (below / 10 ^ size)
-                (inner - size) filled above rest within pos ten high_small
-                (Fills-above inner size below fills deep)
-                (omega (arith, is_above, is_start, deep)) (λ z. some (omega (arith, deep)))
-                (λ z. absurd (omega (arith, z, deep))) in
-                ap (λ n. part method (n + below)) whole
-                ∙ join method (d * 10 ^ (power % width)) below size width (rank_at method start)
-                (digit d ∷ []) (units_over method power filled above widths)
-                (Stands-stands method outer width power stand some_in) least
-                (omega (arith, fits, whole)) (omega (arith, few, whole)) more
-                ∙ ap (λ marks. digit d ∷ (marks ++ part method below)) otherwise
-          ]
-    ]
+-- from one multiple to a greater one it is a multiple at least
+multiples-apart : (k a b : ℕ) → a % k ≡ 0 → b % k ≡ 0 → a < b → a + k ≤ b
+multiples-apart k a b one two less =
+    let low = div-add-mod a k in
+    let high = div-add-mod b k in
+    let fewer : a / k < b / k = lt_of_mul-lt-mul_right k (omega (arith, one, two, less, low, high)) in
+    let step : (a / k + 1) * k ≤ b / k * k = mul-le-mul_right k (omega (arith, fewer)) in
+    omega (arith, one, two, low, high, step)
 
--- the same for a section: the widths part a group of the outer width down to sections
-abbrev pub is_chain_of_four : ChineseCountMethod → ℕ → List ℕ → Bool
-is_chain_of_four method outer [] = false
-is_chain_of_four method outer (width ∷ []) = outer == 4 && width == 1
-is_chain_of_four method outer (width ∷ next ∷ widths) =
-    nat_lt 0 width && outer % width == 0 && width % 4 == 0
-    && all_stand method outer width (powers_within method)
-    && is_chain_of_four method width (next ∷ widths)
+-- above a power there is no unit of a group that holds it
+pub over-none : (method : ChineseCountMethod) (widths : List ℕ) (power filled above : ℕ)
+    → power < above → units_over method power filled above widths ≡ []
+over-none method [] power filled above past = refl
+over-none method (width ∷ widths) power filled above past =
+    let test : nat_le above (start_of width power) ≡ false = grind (arith, nat_tests, past) in
+    rw test (over-none method widths power filled above past)
 
--- a unit stands at no start below what is written
-past-one : (method : ChineseCountMethod) (power filled above : ℕ) → power < above
-    → units_over method power filled above (1 ∷ []) ≡ []
-past-one method power filled above past =
-    let test : nat_le above (start_of 1 power) ≡ false = grind (arith, nat_tests, past) in
-    rw test refl
-
-few-of : (method : ChineseCountMethod) (number powers : ℕ) → number < 10 ^ powers
-    → powers ≤ exponent method 15 + exponent method 15 → number < scale method 15 * scale method 15
-few-of method number powers h within =
-    let e : 10 ^ (exponent method 15 + exponent method 15) ≡ scale method 15 * scale method 15 =
-    pow-add 10 (exponent method 15) (exponent method 15) in
-    let p : 10 ^ powers ≤ 10 ^ (exponent method 15 + exponent method 15) =
-    pow-le-pow_right (omega arith) within in
-    omega (arith, h, p, e)
-
--- a section in front of what stands below it
-pub section-over : (method : ChineseCountMethod) (widths : List ℕ)
-    (outer power g below inner filled above : ℕ) → is_chain_of_four method outer widths ≡ true
-    → power < powers_within method
-    → power + 4 ≤ exponent method 15 + exponent method 15 → power % 4 ≡ 0 → 0 < g → g < 10 ^ 4
-    → below < 10 ^ (power % outer) → Fills inner below → above ≡ (power - power % outer)
-    + max inner 1 → (0 < inner → filled ≡ above) → (inner ≡ 0 → filled < above)
-    → part method (g * 10 ^ (power % outer) + below)
-    ≡ part method g ++ (units_over method power filled above widths ++ part method below)
-section-over method [] outer power g below inner filled above links within room four pos ten small
-    fills is_above some none = cc
-section-over method (width ∷ []) outer power g below inner filled above links within room four pos
-    ten small fills is_above some none =
-    let is_four : outer ≡ 4 = let t =
-    and-left (outer == 4) _ links in grind (arith, nat_tests, t) in
-    let is_one : width ≡ 1 = let t =
-    and-right (outer == 4) _ links in grind (arith, nat_tests, t) in
-    let zero : power % outer ≡ 0 = rw is_four four in
+-- a lead whose group holds nothing else
+lead-alone : (method : ChineseCountMethod) (widths : List ℕ)
+    (powers outer power lead below inner filled above : ℕ) → outer ≡ powers → power % powers ≡ 0
+    → below < 10 ^ (power % outer) → above ≡ (power - power % outer) + max inner 1
+    → part method (lead * 10 ^ (power % outer) + below)
+    ≡ part method lead ++ (units_over method power filled above widths ++ part method below)
+lead-alone method widths powers outer power lead below inner filled above same multiple small
+    is_above =
+    let zero : power % outer ≡ 0 = rw same multiple in
     let empty : below ≡ 0 = let p : 10 ^ (power % outer) ≡ 1 =
     ap (λ n. 10 ^ n) zero in omega (arith, p, small) in
     let past : power < above = omega (arith, is_above, zero) in
-    let only : g * 10 ^ 0 + 0 ≡ g = omega arith in
-    rw (
-      zero,
-      empty,
-      only,
-      is_one,
-      past-one method power filled above
-          past,
-    ) (sym (append-nil (part method g)))
-section-over method (width ∷ next ∷ widths) outer power g below inner filled above links
-    within room four pos ten small fills is_above some none =
-    let two = and-left (nat_lt 0 width && outer % width == 0) _
-    (and-left (nat_lt 0 width && outer % width == 0 && width % 4 == 0) _
-    (and-left (nat_lt 0 width && outer % width == 0 && width % 4 == 0
-    && all_stand method outer width (powers_within method)) _ links)) in
-    let wide : nat_lt 0 width ≡ true = and-left (nat_lt 0 width) _ two in
-    let even : (outer % width == 0) ≡ true = and-right (nat_lt 0 width) _ two in
-    let fours : (width % 4 == 0) ≡ true =
-    and-right (nat_lt 0 width && outer % width == 0) _
-    (and-left (nat_lt 0 width && outer % width == 0 && width % 4 == 0) _
-    (and-left (nat_lt 0 width && outer % width == 0 && width % 4 == 0
-    && all_stand method outer width (powers_within method)) _ links)) in
-    let stand = all_stand-at method outer width (powers_within method) power
-    (and-right (nat_lt 0 width && outer % width == 0 && width % 4 == 0) _
-    (and-left (nat_lt 0 width && outer % width == 0 && width % 4 == 0
-    && all_stand method outer width (powers_within method)) _ links)) within in
-    let rest : is_chain_of_four method width (next ∷ widths) ≡ true =
-    and-right (nat_lt 0 width && outer % width == 0 && width % 4 == 0
-    && all_stand method outer width (powers_within method)) _ links in
-    let start = start_of width power in
-    let size = power % outer - power % width in
-    let wider : 0 < width = grind (arith, nat_tests, wide) in
-    let divides : outer % width ≡ 0 = grind (arith, nat_tests, even) in
-    let of_four : width % 4 ≡ 0 = grind (arith, nat_tests, fours) in
-    let inside : power % outer % width ≡ power % width =
-    mod-mod_of_dvd width power (dvd_of_mod-eq-zero width divides) in
-    let inside_four : power % width % 4 ≡ 0 =
-    mod-mod_of_dvd 4 power (dvd_of_mod-eq-zero 4 of_four) ∙ four in
-    let rest_less : power % width < width = omega (arith, wider) in
-    let rest_four : power % width + 4 ≤ width =
-    omega (
-      arith,
-      rest_less,
-      inside_four,
-      of_four,
-      div-add-mod (power % width) 4,
-      div-add-mod width 4,
-    ) in
-    let rest_in : power % width ≤ power % outer =
-    omega (arith, inside, mod-le (power % outer) width) in
-    let outer_in : power % outer ≤ power = mod-le power outer in
-    let is_start : start ≡ (power - power % outer) + size = omega (arith, rest_in, outer_in) in
-    let raised : 10 ^ (power % outer) ≡ 10 ^ (power % width) * 10 ^ size =
-    let e : power % outer ≡ power % width + size =
-    omega (arith, rest_in) in ap (λ n. 10 ^ n) e ∙ pow-add 10 (power % width) size in
-    let whole : g * 10 ^ (power % outer) ≡ g * 10 ^ (power % width) * 10 ^ size =
-    ap (λ n. g * n) raised ∙ omega arith in
-    let top : 10 ^ (power % outer + 4) ≡ 10 ^ (power % outer) * 10000 =
-    pow-add 10 (power % outer) 4 in
-    let g_most : g * 10 ^ (power % outer) ≤ 9999 * 10 ^ (power % outer) =
-    mul-le-mul_right (10 ^ (power % outer)) (omega (arith, ten)) in
-    let number : g * 10 ^ (power % outer) + below < 10 ^ (power % outer + 4) =
-    omega (arith, g_most, small, top) in
-    let fits : g * 10 ^ (power % outer) + below < 10 ^ (size + width) =
-    let p : 10 ^ (power % outer + 4) ≤ 10 ^ (size + width) =
-    pow-le-pow_right (omega arith) (omega (arith, rest_four, rest_in))
-    in omega (arith, p, number) in
-    let few : g * 10 ^ (power % outer) + below < scale method 15 * scale method 15 =
-    few-of method _ (power % outer + 4) number (omega (arith, outer_in, room)) in
-    let lead : 0 < g * 10 ^ (power % width) = let p : 1 ≤ 10 ^ (power % width) =
-    one-le-pow (power % width) 10 (omega arith) in let q : g * 1 ≤ g * 10 ^ (power % width) =
-    mul-le-mul_left g p in omega (arith, q, pos) in
-    elim (dec_lt start above) [
-      | no reach ↦
-          let test : nat_le above start ≡ true = grind (arith, nat_tests, reach) in
-          let one : 1 ≤ size = omega (arith, reach, is_start, is_above) in
-          let inner_in : inner ≤ size = omega (arith, reach, is_start, is_above) in
-          let below_small : below < 10 ^ size = let p : 10 ^ inner ≤ 10 ^ size =
-          pow-le-pow_right (omega arith) inner_in in omega (arith, p, fills.below) in
-          let unit_is = Stands-stands method outer width power stand (omega (arith, one)) in
-          let lower : filled < start + 1 =
-          elim (dec_lt 0 inner) [
-            | yes p ↦ omega (arith, some p, reach)
-            | no p ↦
-                omega (arith, none (omega (arith, p)), reach)
-          ] in
-          let more = section-over method (next ∷ widths) width power g 0 0 filled (start + 1) rest
-          within room four pos ten (one-le-pow (power % width) 10 (omega arith))
-          (record { below = omega arith; reach = λ z. absurd (omega (arith, z)) })
-          (omega arith) (λ z. absurd (omega (arith, z))) (λ z. lower) in
-          let lead_part : part method (g * 10 ^ (power % width))
-          ≡ part method g ++ units_over method power filled (start + 1) (next ∷ widths) =
-          let e : g * 10 ^ (power % width) + 0 ≡ g * 10 ^ (power % width) = omega arith in
-          let none_left = append-nil (units_over method power filled (start + 1) (next ∷ widths)) in
-          rw e at more ∙ ap (λ marks. part method g ++ marks) none_left in
-          let split = cut method (g * 10 ^ (power % width)) below size width (rank_at method start)
-          unit_is lead below_small (omega (arith, fits, whole)) (omega (arith, few, whole)) in
-          let flag = gap-flag inner size filled above below start (power - power % outer) fills
-          inner_in one is_start is_above some none in
-          ap (λ n. part method (n + below)) whole ∙ split
-          ∙ ap (λ marks. marks ++ (unit (rank_at method start)
-          ∷ (gap below (10 ^ size) ++ part method below))) lead_part
-          ∙ append_assoc (part method g)
-          (units_over method power filled (start + 1) (next ∷ widths)) (unit (rank_at method start)
-          ∷ (gap below (10 ^ size) ++ part method below))
-          ∙ ap (λ marks. part method g ++ (units_over method power filled (start + 1)
-          (next ∷ widths) ++ (unit (rank_at method start) ∷ (marks ++ part method below)))) flag
-          ∙ ap (λ marks. part method g ++ marks)
-          (sym (append_assoc (units_over method power filled (start + 1) (next ∷ widths))
-          (unit_behind method filled above start) (part method below)))
-          ∙ ap (λ marks. part method g ++ (marks ++ part method below))
-          (if-then (units_over method power filled (start + 1) (next ∷ widths)
-          ++ unit_behind method filled above start) (units_over method power filled above
-          (next ∷ widths)) test)
-      | yes short ↦
-          let test : nat_le above start ≡ false = grind (arith, nat_tests, short) in
-          let otherwise = if-else {b = nat_le above start}
-          (units_over method power filled (start + 1) (next ∷ widths)
-          ++ unit_behind method filled above start) (units_over method power filled above
-          (next ∷ widths)) test in
-          elim (dec_lt 0 size) [
-            | no none_in ↦
-                let same : power % outer ≡ power % width = omega (arith, none_in, rest_in) in
-                let more = section-over method (next ∷ widths) width power g below inner filled
-                above rest within room four pos ten (rw same at small) fills
-                (rw same at is_above) some none in
-                ap (λ n. part method (g * 10 ^ n + below)) same ∙ more
-                ∙ ap (λ marks. part method g ++ (marks ++ part method below)) otherwise
-            | yes some_in ↦
-                let deep : size < inner = omega (arith, short, is_start, is_above, some_in) in
-                let least : 10 ^ size ≤ below = let p : 10 ^ size ≤ 10 ^ (inner - 1) =
-                pow-le-pow_right (omega arith) (omega (arith, deep))
-                in omega (arith, p, fills.reach (omega (arith, deep))) in
-                let high_small : below / 10 ^ size < 10 ^ (power % width) =
-                lt_of_mul-lt-mul_right (10 ^ size)
-                (omega (arith, small, raised, div-mul-le_self below (10 ^ size))) in
-                let more = section-over method (next ∷ widths) width power g (below / 10 ^ size)
-                (inner - size) filled above rest within room four pos ten high_small
-                (Fills-above inner size below fills deep)
-                (omega (arith, is_above, is_start, deep)) (λ z. some (omega (arith, deep)))
-                (λ z. absurd (omega (arith, z, deep))) in
-                ap (λ n. part method (n + below)) whole
-                ∙ join method (g * 10 ^ (power % width)) below size width (rank_at method start)
-                (part method g) (units_over method power filled above (next ∷ widths))
-                (Stands-stands method outer width power stand some_in) least
-                (omega (arith, fits, whole)) (omega (arith, few, whole)) more
-                ∙ ap (λ marks. part method g ++ (marks ++ part method below)) otherwise
+    let only : lead * 10 ^ 0 + 0 ≡ lead = omega arith in
+    rw (zero, empty, only, over-none method widths power filled above past)
+    (sym (append-nil (part method lead)))
+
+-- a lead of so many powers in front of what stands below it: the units of the groups that it is the
+-- first to fill stand between
+pub lead-over : (method : ChineseCountMethod) (widths : List ℕ)
+    (powers outer power lead below inner filled above : ℕ)
+    → is_chain powers method outer widths ≡ true → power < powers_within method
+    → power + powers ≤ exponent method 15 + exponent method 15 → power % powers ≡ 0
+    → 0 < lead → lead < 10 ^ powers → below < 10 ^ (power % outer) → Fills inner below
+    → above ≡ (power - power % outer) + max inner 1 → (0 < inner → filled ≡ above)
+    → (inner ≡ 0 → filled < above)
+    → part method (lead * 10 ^ (power % outer) + below)
+    ≡ part method lead ++ (units_over method power filled above widths ++ part method below)
+lead-over method [] powers outer power lead below inner filled above links within room multiple pos
+    less small fills is_above some none =
+    lead-alone method [] powers outer power lead below inner filled above
+    (grind (arith, nat_tests, links)) multiple small is_above
+lead-over method (width ∷ widths) powers outer power lead below inner filled above links within room
+    multiple pos less small fills is_above some none =
+    elim (cases_Bool (outer == powers)) [
+      | inl same ↦ lead-alone method (width ∷ widths) powers outer power lead below inner filled
+          above (grind (arith, nat_tests, same)) multiple small is_above
+      | inr other ↦
+          let all = or-cases (outer == powers) _ links other in
+          let rest = and-right _ (is_chain powers method width widths) all in
+          let four = and-left _ (is_chain powers method width widths) all in
+          let stand = all_stand-at method outer width (powers_within method) power
+          (and-right _ (all_stand method outer width (powers_within method)) four) within in
+          let three = and-left _ (all_stand method outer width (powers_within method)) four in
+          let whole_width = and-right _ (width % powers == 0) three in
+          let two = and-left _ (width % powers == 0) three in
+          let even = and-right _ (outer % width == 0) two in
+          let wide = and-left _ (outer % width == 0) two in
+          let start = start_of width power in
+          let size = power % outer - power % width in
+          let wider : 0 < width = grind (arith, nat_tests, wide) in
+          let divides : outer % width ≡ 0 = grind (arith, nat_tests, even) in
+          let multiples : width % powers ≡ 0 = grind (arith, nat_tests, whole_width) in
+          let inside : power % outer % width ≡ power % width =
+          mod-mod_of_dvd width power (dvd_of_mod-eq-zero width divides) in
+          let rest_multiple : power % width % powers ≡ 0 =
+          mod-mod_of_dvd powers power (dvd_of_mod-eq-zero powers multiples) ∙ multiple in
+          let rest_less : power % width < width = omega (arith, wider) in
+          let rest_few : power % width + powers ≤ width =
+          multiples-apart powers (power % width) width rest_multiple multiples rest_less in
+          let rest_in : power % width ≤ power % outer =
+          omega (arith, inside, mod-le (power % outer) width) in
+          let outer_in : power % outer ≤ power = mod-le power outer in
+          let is_start : start ≡ (power - power % outer) + size = omega (arith, rest_in, outer_in) in
+          let raised : 10 ^ (power % outer) ≡ 10 ^ (power % width) * 10 ^ size =
+          let e : power % outer ≡ power % width + size =
+          omega (arith, rest_in) in ap (λ n. 10 ^ n) e ∙ pow-add 10 (power % width) size in
+          let whole : lead * 10 ^ (power % outer) ≡ lead * 10 ^ (power % width) * 10 ^ size =
+          ap (λ n. lead * n) raised ∙ omega arith in
+          let top : 10 ^ (power % outer + powers) ≡ 10 ^ (power % outer) * 10 ^ powers =
+          pow-add 10 (power % outer) powers in
+          let most : (lead + 1) * 10 ^ (power % outer) ≤ 10 ^ powers * 10 ^ (power % outer) =
+          mul-le-mul_right (10 ^ (power % outer)) (omega (arith, less)) in
+          let number : lead * 10 ^ (power % outer) + below < 10 ^ (power % outer + powers) =
+          omega (arith, most, small, top) in
+          let fits : lead * 10 ^ (power % outer) + below < 10 ^ (size + width) =
+          let p : 10 ^ (power % outer + powers) ≤ 10 ^ (size + width) =
+          pow-le-pow_right (omega arith) (omega (arith, rest_few, rest_in))
+          in omega (arith, p, number) in
+          let few : lead * 10 ^ (power % outer) + below < scale method 15 * scale method 15 =
+          few-of method _ (power % outer + powers) number (omega (arith, outer_in, room)) in
+          let lead_pos : 0 < lead * 10 ^ (power % width) = let p : 1 ≤ 10 ^ (power % width) =
+          one-le-pow (power % width) 10 (omega arith) in let q : lead * 1 ≤ lead * 10 ^ (power % width) =
+          mul-le-mul_left lead p in omega (arith, q, pos) in
+          elim (dec_lt start above) [
+            | no reach ↦
+                let test : nat_le above start ≡ true = grind (arith, nat_tests, reach) in
+                let one : 1 ≤ size = omega (arith, reach, is_start, is_above) in
+                let inner_in : inner ≤ size = omega (arith, reach, is_start, is_above) in
+                let below_small : below < 10 ^ size = let p : 10 ^ inner ≤ 10 ^ size =
+                pow-le-pow_right (omega arith) inner_in in omega (arith, p, fills.below) in
+                let unit_is = Stands-stands method outer width power stand (omega (arith, one)) in
+                let lower : filled < start + 1 =
+                elim (dec_lt 0 inner) [
+                  | yes p ↦ omega (arith, some p, reach)
+                  | no p ↦
+                      omega (arith, none (omega (arith, p)), reach)
+                ] in
+                let more = lead-over method widths powers width power lead 0 0 filled (start + 1) rest
+                within room multiple pos less (one-le-pow (power % width) 10 (omega arith))
+                (record { below = omega arith; reach = λ z. absurd (omega (arith, z)) })
+                (omega arith) (λ z. absurd (omega (arith, z))) (λ z. lower) in
+                let lead_part : part method (lead * 10 ^ (power % width))
+                ≡ part method lead ++ units_over method power filled (start + 1) widths =
+                let e : lead * 10 ^ (power % width) + 0 ≡ lead * 10 ^ (power % width) = omega arith in
+                let none_left = append-nil (units_over method power filled (start + 1) widths) in
+                rw e at more ∙ ap (λ marks. part method lead ++ marks) none_left in
+                let split = cut method (lead * 10 ^ (power % width)) below size width (rank_at method start)
+                unit_is lead_pos below_small (omega (arith, fits, whole)) (omega (arith, few, whole)) in
+                let flag = gap-flag inner size filled above below start (power - power % outer) fills
+                inner_in one is_start is_above some none in
+                ap (λ n. part method (n + below)) whole ∙ split
+                ∙ ap (λ marks. marks ++ (unit (rank_at method start)
+                ∷ (gap below (10 ^ size) ++ part method below))) lead_part
+                ∙ append_assoc (part method lead)
+                (units_over method power filled (start + 1) widths) (unit (rank_at method start)
+                ∷ (gap below (10 ^ size) ++ part method below))
+                ∙ ap (λ marks. part method lead ++ (units_over method power filled (start + 1)
+                widths ++ (unit (rank_at method start) ∷ (marks ++ part method below)))) flag
+                ∙ ap (λ marks. part method lead ++ marks)
+                (sym (append_assoc (units_over method power filled (start + 1) widths)
+                (unit_behind method filled above start) (part method below)))
+                ∙ ap (λ marks. part method lead ++ (marks ++ part method below))
+                (if-then (units_over method power filled (start + 1) widths
+                ++ unit_behind method filled above start) (units_over method power filled above
+                widths) test)
+            | yes short ↦
+                let test : nat_le above start ≡ false = grind (arith, nat_tests, short) in
+                let otherwise = if-else {b = nat_le above start}
+                (units_over method power filled (start + 1) widths
+                ++ unit_behind method filled above start) (units_over method power filled above
+                widths) test in
+                elim (dec_lt 0 size) [
+                  | no none_in ↦
+                      let same : power % outer ≡ power % width = omega (arith, none_in, rest_in) in
+                      let more = lead-over method widths powers width power lead below inner filled
+                      above rest within room multiple pos less (rw same at small) fills
+                      (rw same at is_above) some none in
+                      ap (λ n. part method (lead * 10 ^ n + below)) same ∙ more
+                      ∙ ap (λ marks. part method lead ++ (marks ++ part method below)) otherwise
+                  | yes some_in ↦
+                      let deep : size < inner = omega (arith, short, is_start, is_above, some_in) in
+                      let least : 10 ^ size ≤ below = let p : 10 ^ size ≤ 10 ^ (inner - 1) =
+                      pow-le-pow_right (omega arith) (omega (arith, deep))
+                      in omega (arith, p, fills.reach (omega (arith, deep))) in
+                      let high_small : below / 10 ^ size < 10 ^ (power % width) =
+                      lt_of_mul-lt-mul_right (10 ^ size)
+                      (omega (arith, small, raised, div-mul-le_self below (10 ^ size))) in
+                      let more = lead-over method widths powers width power lead (below / 10 ^ size)
+                      (inner - size) filled above rest within room multiple pos less high_small
+                      (Fills-above inner size below fills deep)
+                      (omega (arith, is_above, is_start, deep)) (λ z. some (omega (arith, deep)))
+                      (λ z. absurd (omega (arith, z, deep))) in
+                      ap (λ n. part method (n + below)) whole
+                      ∙ join method (lead * 10 ^ (power % width)) below size width (rank_at method start)
+                      (part method lead) (units_over method power filled above widths)
+                      (Stands-stands method outer width power stand some_in) least
+                      (omega (arith, fits, whole)) (omega (arith, few, whole)) more
+                      ∙ ap (λ marks. part method lead ++ (marks ++ part method below)) otherwise
+                ]
           ]
     ]

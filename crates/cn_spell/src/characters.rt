@@ -1,17 +1,18 @@
 // The characters of one script and case, as the three bytes that each takes.
-ghost use Rattle.std.specs.Prelude.{◌≡◌, ◌<◌, slice_index, encode_utf8, encode_utf8_all};
-ghost use Rattle.std.specs.Str.{IsUtf8};
-ghost use Rattle.cn_core.specs.Characters.{rank, digit_char, unit_char, minus_char, printed_characters};
+ghost use Rattle.std.specs.Prelude.{◌≡◌, ◌<◌, map, encode_utf8};
+ghost use Rattle.cn_core.specs.Characters.{rank, digit_char, unit_char, minus_char, printed_digits, printed_units};
 
-use cn_core::{ChineseCase, ChineseVariant, FIRST_UNIT, MINUS_SIGN, Unit, printed_characters};
+use cn_core::{ChineseCase, ChineseVariant, PrintedCharacters, Unit, printed_characters};
 
 /// The characters of a script and case.
 #[derive(Clone, Copy)]
 pub struct Characters {
     pub variant: ChineseVariant,
     pub case: ChineseCase,
-    table: &'static [u8],
-    ghost is_table: { table.now ≡ encode_utf8_all (printed_characters variant case) },
+    table: &'static PrintedCharacters,
+    ghost digits: { table.now.digit_bytes ≡ map encode_utf8 (printed_digits variant case) },
+    ghost units: { table.now.unit_bytes ≡ map encode_utf8 (printed_units variant case) },
+    ghost minus: { table.now.minus_bytes ≡ encode_utf8 (minus_char variant) },
 }
 
 impl Characters {
@@ -23,52 +24,34 @@ impl Characters {
         Characters {
             variant,
             case,
-            table: printed_characters(variant, case).as_bytes(),
+            table: printed_characters(variant, case),
         }
-    }
-
-    #[inline(always)]
-    fn nth(self, index: usize) -> [u8; 3]
-        requires { index < 27 }
-        ensures bytes { result
-            ≡ encode_utf8 (slice_index (printed_characters self.variant self.case) index) }
-        ensures utf8 { IsUtf8 result }
-    {
-        let start = 3 * index;
-        [
-            self.table[start],
-            self.table[start + 1],
-            self.table[start + 2],
-        ]
     }
 
     /// The character of a digit from 0 to 9.
     #[inline(always)]
-    #[tactic(auto, using(cn_core::proofs::Characters::digit_at))]
+    #[tactic(auto, using(crate::proofs::ThreeBytes::digit_bytes))]
     pub fn digit(self, digit: u8) -> [u8; 3]
         requires { digit < 10 }
-        ensures bytes { result ≡ encode_utf8 (digit_char self.variant self.case digit) }
-        ensures utf8 { IsUtf8 result }
+        ensures { result ≡ encode_utf8 (digit_char self.variant self.case digit) }
     {
-        self.nth(digit as usize)
+        self.table.digit_bytes[digit as usize]
     }
 
     /// The character of a unit.
     #[inline(always)]
-    #[tactic(auto, using(cn_core::proofs::Characters::unit_at))]
+    #[tactic(auto, using(crate::proofs::ThreeBytes::unit_bytes))]
     pub fn unit(self, unit: Unit) -> [u8; 3]
-        ensures bytes { result ≡ encode_utf8 (unit_char self.variant self.case (rank unit)) }
-        ensures utf8 { IsUtf8 result }
+        ensures { result ≡ encode_utf8 (unit_char self.variant self.case (rank unit)) }
     {
-        self.nth(FIRST_UNIT + unit as usize)
+        self.table.unit_bytes[unit as usize]
     }
 
     /// The minus sign.
     #[inline(always)]
     pub fn minus(self) -> [u8; 3]
-        ensures bytes { result ≡ encode_utf8 (minus_char self.variant) }
-        ensures utf8 { IsUtf8 result }
+        ensures { result ≡ encode_utf8 (minus_char self.variant) }
     {
-        self.nth(MINUS_SIGN)
+        self.table.minus_bytes
     }
 }

@@ -117,7 +117,8 @@ fn put_plain(room: &mut [u8], characters: Characters, negative: bool, magnitude:
     LentRoom { bytes: room }.take(&text)
 }
 
-/// The same at the beginning of a room, where it fits; the result is how many bytes it has.
+/// A number as plain digits at the beginning of a room, where it fits; the result is how many bytes
+/// it has.
 pub fn put_naive<T: Whole>(
     room: &mut [u8],
     variant: ChineseVariant,

@@ -35,7 +35,7 @@ pub trait Pen {
         ensures marks { (marks : List Mark) → has_put self.old marks
             → has_put self.new (kept is_kept (digit value) ++ marks) };
 
-    // The same for a unit.
+    // Puts a unit where it is kept; there is room for it in either case.
     fn put_unit_if(&mut self, is_kept: bool, value: Unit)
         requires room { 3 ≤ left self.old }
         ensures setting { setting self.new ≡ setting self.old }

@@ -44,7 +44,7 @@ fn spell_known<M: KnownMethod, P: Target>(
     target.take(&Spelled::<M>::of(&mut taken, characters, negative, magnitude))
 }
 
-// The same by a method that is given.
+// The text of a sign and a magnitude, by a method that is given.
 fn spell_magnitude<P: Target>(
     target: &mut P,
     characters: Characters,
@@ -73,7 +73,7 @@ fn spell_magnitude<P: Target>(
     }
 }
 
-// The same of a number.
+// The text of a number, by a method that is given.
 #[inline(always)]
 fn spell_number<P: Target, T: Whole>(
     target: &mut P,
@@ -111,7 +111,8 @@ pub fn print_by_units<T: Whole>(
     spell_number(&mut string, Characters::new(variant, case), method, value)
 }
 
-/// The same at the beginning of a room, where it fits; the result is how many bytes it has.
+/// The spelling of a number that the method writes at the beginning of a room, where it fits; the
+/// result is how many bytes it has.
 pub fn put_by_units<T: Whole>(
     room: &mut [u8],
     variant: ChineseVariant,

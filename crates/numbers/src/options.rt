@@ -1,4 +1,5 @@
 use chinese_number::{ChineseCountMethod, Wanted};
+use cn_faces::{Way, way_named};
 
 /// What is looked for, and how it is read.
 #[derive(Debug, Copy, Clone)]
@@ -14,16 +15,6 @@ pub enum Request {
     Search(Search),
 }
 
-fn method_named(word: &str) -> Option<ChineseCountMethod> {
-    match word {
-        "low" => Some(ChineseCountMethod::Low),
-        "ten_thousand" => Some(ChineseCountMethod::TenThousand),
-        "middle" => Some(ChineseCountMethod::Middle),
-        "high" => Some(ChineseCountMethod::High),
-        _ => None,
-    }
-}
-
 /// The request of these words; `None` where one of them is unknown.
 pub fn request_of(words: &[String]) -> Option<Request> {
     let mut search = Search {
@@ -35,7 +26,10 @@ pub fn request_of(words: &[String]) -> Option<Request> {
         match word.as_str() {
             "--help" => asks_help = true,
             "--all" => search.wanted = Wanted::ALL,
-            name => search.method = method_named(name)?,
+            name => match way_named(name.as_bytes()) {
+                Some(Way::Units(method)) => search.method = method,
+                _ => return None,
+            },
         }
     }
     if asks_help {

@@ -12,8 +12,8 @@ use Rattle.cn_core.specs.Numeral.{may_precede, each_may_precede, starts_with_dig
 use Rattle.cn_core.specs.Place.{is_tail, some_unfit}
 use Rattle.cn_core.specs.Scale.{exponent}
 use Rattle.cn_core.specs.Value.{value, records_from, record_units}
-use Rattle.cn_quick.specs.declared.OpenExponent.{OpenExponent}
-use Rattle.cn_quick.specs.declared.QuickState.{QuickState}
+use Rattle.cn_quick.specs.declared.open_exponents.OpenExponent.{OpenExponent}
+use Rattle.cn_quick.specs.declared.state.QuickState.{QuickState}
 use Rattle.cn_judge.specs.Entries.{stacked}
 use Rattle.cn_judge.specs.Private.Walk.{HasNoTail}
 

@@ -3,18 +3,18 @@ use Rattle.std.specs.Char.{encode_utf8}
 use Rattle.cn_core.specs.Characters.{minus_char}
 use Rattle.cn_core.proofs.characters_written.printed_characters.Goals as goal
 
-pub returns-in-Lower : goal.returns-in-Lower
+pub returns-in-Lower-clause-bytes : goal.returns-in-Lower-clause-bytes
 unfolding encode_utf8 minus_char
-returns-in-Lower c = search rules
+returns-in-Lower-clause-bytes c = search rules
 
-pub returns-in-Upper : goal.returns-in-Upper
+pub returns-in-Upper-clause-bytes : goal.returns-in-Upper-clause-bytes
 unfolding encode_utf8 minus_char
-returns-in-Upper c = search rules
+returns-in-Upper-clause-bytes c = search rules
 
-pub returns-in-Lower-case : goal.returns-in-Lower-case
+pub returns-in-Lower-case-clause-bytes : goal.returns-in-Lower-case-clause-bytes
 unfolding encode_utf8 minus_char
-returns-in-Lower-case c = search rules
+returns-in-Lower-case-clause-bytes c = search rules
 
-pub returns-in-Upper-case : goal.returns-in-Upper-case
+pub returns-in-Upper-case-clause-bytes : goal.returns-in-Upper-case-clause-bytes
 unfolding encode_utf8 minus_char
-returns-in-Upper-case c = search rules
+returns-in-Upper-case-clause-bytes c = search rules

@@ -2,7 +2,7 @@ use Rattle.std.proofs.Common.{refl, arith}
 use Rattle.cn_core.specs.Characters.{digit_char}
 use Rattle.cn_core.specs.Mark.{digit}
 use Rattle.cn_spell.proofs.Rooms.{Counts-if, kept-char}
-use Rattle.cn_spell.proofs.ThreeBytes.{three-digit}
+use Rattle.cn_core.proofs.Characters.{three-digit}
 use Rattle.cn_spell.proofs.pen.CountPen.put_digit_if.Goals as goal
 
 pub returns-clause-marks : goal.returns-clause-marks

@@ -2,7 +2,7 @@ use Rattle.std.proofs.Common.{refl, arith}
 use Rattle.cn_core.specs.Characters.{rank, unit_char}
 use Rattle.cn_core.specs.Mark.{unit}
 use Rattle.cn_spell.proofs.Rooms.{Counts-if, kept-char}
-use Rattle.cn_spell.proofs.ThreeBytes.{three-unit}
+use Rattle.cn_core.proofs.Characters.{three-unit}
 use Rattle.cn_spell.proofs.pen.CountPen.put_unit_if.Goals as goal
 
 pub returns-clause-marks : goal.returns-clause-marks

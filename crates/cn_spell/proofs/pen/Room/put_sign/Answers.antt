@@ -1,6 +1,7 @@
 use Rattle.std.proofs.Common.{true}
 use Rattle.cn_core.specs.Characters.{minus_char}
 use Rattle.cn_spell.proofs.Rooms.{Shows-if}
+use Rattle.cn_spell.proofs.ThreeBytes.{three-minus}
 use Rattle.cn_spell.proofs.pen.Room.put_sign.Goals as goal
 
 pub returns-then-negative-clause-shows : goal.returns-then-negative-clause-shows
@@ -8,4 +9,4 @@ returns-then-negative-clause-shows c =
     let put = c.put_if.ensures in
     λ rest h. rw c.if-negative.true (Shows-if true
     (minus_char c.args.self.now.characters.now.variant) (c.requires c.if-negative.true)
-    put.free put.text put.length c.minus.ensures.bytes c.minus.ensures.utf8 h)
+    put.free put.text put.length c.minus.ensures (three-minus c.args.self.now.characters.now.variant) h)

@@ -1,0 +1,62 @@
+-- What a way is called, and what is read and written in it.
+use Rattle.std.specs.Prelude.{◌≡◌, ℕ, ℤ, pos, int_lt, List, [], ◌∷◌, codes, bytes_eq, encode_utf8_all, string_bytes, Option, Some, None, Result, Ok, Err, MatchResult, if◌then◌else◌}
+use Rattle.std.specs.declared.string.String.{String}
+use Rattle.chinese_number.specs.declared.ChineseCase.{ChineseCase}
+use Rattle.chinese_number.specs.declared.ChineseCountMethod.TheVariants.{Low, TenThousand, Middle, High}
+use Rattle.chinese_number.specs.declared.ChineseVariant.{ChineseVariant}
+use Rattle.chinese_number.specs.declared.NumberToChineseError.{NumberToChineseError}
+use Rattle.chinese_number.specs.declared.NumberToChineseError.TheVariants.{Overflow, Underflow, OutOfMemory}
+use Rattle.chinese_number.specs.Printing.{naive_text, spelled_text, is_printable}
+use Rattle.chinese_number.specs.Refusal.{Refusal, too_large, too_small}
+use Rattle.chinese_number.specs.Reading.{Reads, naive_reading}
+use Rattle.chinese_number.specs.Whole.{Kind, signed_number}
+use Rattle.cn_faces.specs.declared.way.SignedMagnitude.{SignedMagnitude}
+use Rattle.cn_faces.specs.declared.way.Way.{Way}
+use Rattle.cn_faces.specs.declared.way.Way.TheVariants.{Digits, Units}
+
+-- what stands beside the name in a table
+abbrev pub named : {A : Type 0} → List ℕ → List (List ℕ × A) → Option A
+named name [] = None
+named name (row ∷ rows) = if bytes_eq name row.0 then Some row.1 else named name rows
+
+-- the way of a name
+abbrev pub way_named : List ℕ → Option Way
+way_named name = named name
+    ((codes "naive", Digits) ∷ (codes "low", Units Low)
+    ∷ (codes "ten_thousand", Units TenThousand) ∷ (codes "middle", Units Middle)
+    ∷ (codes "high", Units High) ∷ [])
+
+-- the answer to a string that is read in a way
+abbrev pub ReadsBy : Kind → Way → List ℕ → Result ℤ Refusal → Type 0
+ReadsBy kind Digits text answer = answer ≡ naive_reading kind text
+ReadsBy kind (Units method) text answer = Reads kind method text answer
+
+-- why a method does not write a number
+abbrev pub unprintable : ℤ → Refusal
+unprintable number = if int_lt number (pos 0) then too_small else too_large
+
+-- the characters of a number that is written in a way, or why there are none
+abbrev pub written_by : Way → ChineseVariant → ChineseCase → ℤ → Result (List ℕ) Refusal
+written_by Digits script case number = Ok (naive_text script case number)
+written_by (Units method) script case number =
+    if is_printable method number then Ok (spelled_text script case method number)
+    else Err (unprintable number)
+
+-- which error comes: that of the refusal; where there are characters, out of memory alone
+abbrev pub Explains : NumberToChineseError → Result (List ℕ) Refusal → Type 0
+Explains Overflow written = written ≡ Err too_large
+Explains Underflow written = written ≡ Err too_small
+Explains OutOfMemory written = (characters : List ℕ) × (written ≡ Ok characters)
+
+-- what comes of a number that is written in a way: the text of its characters, or an error
+abbrev pub PrintsBy : {Z : Type 0} → Way → ChineseVariant → ChineseCase → ℤ
+    → Result (String Z) NumberToChineseError → Type 0
+PrintsBy way script case number result =
+    MatchResult result
+    (λ text. (characters : List ℕ) × (written_by way script case number ≡ Ok characters)
+    × (string_bytes text ≡ encode_utf8_all characters))
+    (λ error. Explains error (written_by way script case number))
+
+-- the number with this sign and magnitude
+abbrev pub stands_for : SignedMagnitude → ℤ
+stands_for number = signed_number number.negative number.magnitude

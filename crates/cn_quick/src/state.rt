@@ -1,0 +1,53 @@
+// Where a quick walk stands, and what one more digit or section makes of its sums.
+ghost use Rattle.std.specs.Prelude.{◌≡◌, ◌≤◌, ◌+◌, ◌*◌, ◌^◌, ◌<◌, IfSome};
+ghost use Rattle.cn_core.specs.Characters.{rank};
+ghost use Rattle.cn_quick.specs.Private.Regular.{top_exponent};
+
+use crate::open_exponents::OpenExponents;
+use cn_core::{Unit, power_of_ten};
+
+/// Where a quick walk stands between two characters.
+#[derive(Copy, Clone)]
+pub(crate) struct QuickState {
+    /// The sum of the digits behind the last unit that closed a section.
+    pub(crate) total: u128,
+    /// The sum of the section since then, as if no unit was open.
+    pub(crate) sum: u64,
+    /// The last unit since then, or 個 if there is none.
+    pub(crate) last: Unit,
+    /// Whether a digit has just been met.
+    pub(crate) at_digit: bool,
+}
+
+// The number that a unit of a section stands for.
+fn section_scale(unit: Unit) -> u64
+    ensures value { result ≡ 10 ^ rank unit }
+    ensures most { result ≤ 10 ^ 15 }
+{
+    let Some(power) = power_of_ten(unit as usize) else {
+        unreachable!()
+    };
+    power as u64
+}
+
+/// The section's sum with one more digit, if it fits.
+pub(crate) fn add_digit(state: QuickState, value: u8) -> Option<u64>
+    ensures { IfSome result (λ sum. sum ≡ state.sum + value * 10 ^ rank state.last) }
+{
+    let more = value as u64 * section_scale(state.last);
+    state.sum.checked_add(more)
+}
+
+/// The sum so far with a section that the open units multiply, if it fits.
+pub(crate) fn add_section(units: &OpenExponents, total: u128, sum: u64) -> Option<u128>
+    ensures { IfSome result (λ n. (n ≡ total + sum * 10 ^ top_exponent units.now)
+        × (n < 2 ^ 128)) }
+{
+    let exponent = units.exponent();
+    let size = power_of_ten(exponent)?;
+    if exponent <= 19 {
+        total.checked_add(sum as u128 * size)
+    } else {
+        total.checked_add((sum as u128).checked_mul(size)?)
+    }
+}

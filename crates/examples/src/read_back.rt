@@ -1,0 +1,24 @@
+ghost use Rattle.std.specs.Prelude.{◌≡◌, Ok, IfOk};
+
+use chinese_number::laws::spellings_read_back;
+use chinese_number::{
+    ChineseCase, ChineseCountMethod, ChineseToNumber, ChineseToNumberError, ChineseVariant,
+    NumberToChinese, NumberToChineseError,
+};
+use std::alloc::Global;
+
+/// Prints a number, and reads what was printed: the same number, wherever there is a text at all.
+pub fn print_and_read<T: NumberToChinese>(
+    alloc: Global,
+    variant: ChineseVariant,
+    case: ChineseCase,
+    method: ChineseCountMethod,
+    number: T,
+) -> Result<Result<T, ChineseToNumberError>, NumberToChineseError>
+    ensures { IfOk result (λ answer. answer ≡ Ok number) }
+{
+    let _magnitude = number.magnitude();
+    spellings_read_back::<T>();
+    let text = number.to_chinese(alloc, variant, case, method)?;
+    Ok(text.as_str().to_number(method))
+}
