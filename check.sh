@@ -40,7 +40,7 @@ time python3 checks/edits.py crates
 time python3 checks/codes.py crates/cn_c bindings
 time python3 checks/quotes.py bindings
 time python3 checks/build_script.py bindings/rust/build.rs
-time python3 checks/mark_table.py crates/cn_core/src/characters_read.rt --check crates/cn_judge/src/mark.rt
+time python3 checks/tables.py crates --check
 
 # What a clone has, by itself and with no `rt` on the path.
 mkdir "$scratch/clone"

@@ -29,8 +29,6 @@ HOLDER = re.compile(r"(?:impl\b(?:.* for |(?:<.*?>)? )|(?:pub )?trait )(?:\w+::)
 # What a line may belong to: where its head, its body and what follows it begin; whether users call
 # it, and whether it has to have an edit.
 Item = namedtuple("Item", "file name holder is_public is_asked start body end")
-# The crates whose edits have no `why:` yet.
-UNSORTED = {"cheque", "cn_amount", "cn_date"}
 
 
 def functions_of(lines):
@@ -217,7 +215,7 @@ def look_at(crate, made, in_design):
         faults = list(faults_of(edit, owners, items, texts))
         if names.count(edit.name) > 1:
             faults.append("two edits have this name")
-        if crate.name not in UNSORTED and (crate.name, edit.name) not in in_design:
+        if (crate.name, edit.name) not in in_design:
             faults += filter(None, [fault_of_purpose(edit, turns_public(edit, owners, items))])
         wrong += [f"{crate.name}/{edit.name}: {fault}" for fault in faults]
     for item in sorted(bare.values()):

@@ -1,5 +1,6 @@
-mod Amounts
-mod Digits
+mod DateFiguresRead
+mod DigitValues
 pub mod Examples
+mod FiguresRead
 mod Replies
 mod Shown

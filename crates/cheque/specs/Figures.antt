@@ -1,66 +1,53 @@
--- An amount in figures: the digits of the yuan, and then nothing, or a point and one or two digits.
--- They are given as the bytes of a string. Those in front of one that is refused are ASCII, so its
--- place counts characters too.
-use Rattle.std.specs.Prelude.{ℕ, ◌+◌, ◌-◌, ◌*◌, ◌/◌, ◌%◌, ◌^◌, ◌<◌, ◌==◌, nat_lt, List, [], ◌∷◌, ◌++◌, length, take, drop, IsTrue, Result, Ok, Err, codes, decimal, if◌then◌else◌}
-use Rattle.std.specs.Char.{is_ascii_digit}
-use Rattle.std.specs.List.{list_all, prefix_len}
+-- An amount in figures, as 1409.50: digits of the yuan, and then nothing, or a point and one or two
+-- digits. Figures are given by their characters.
+use Rattle.std.specs.Prelude.{◌≡◌, ℕ, ◌+◌, ◌*◌, ◌/◌, ◌%◌, ◌<◌, ◌≤◌, nat_lt, List, [], ◌∷◌, ◌++◌, length, Option, Some, None, Result, Ok, Err, codes, chars, decimal, if◌then◌else◌}
 use Rattle.chinese_number.specs.AmountPlaces.{amount_limit}
+use Rattle.cn_capitals.specs.declared.refusal.Refusal.{Refusal}
+use Rattle.cn_capitals.specs.declared.refusal.Refusal.TheVariants.{Unfinished as unfinished, Incorrect as incorrect_at}
+use Rattle.cn_capitals.specs.Answers as answers
 use Rattle.cheque.specs.declared.figures.FiguresError.{FiguresError}
 use Rattle.cheque.specs.declared.figures.FiguresError.TheVariants.{Unfinished, Incorrect, TooLarge}
+use Rattle.cheque.specs.Digits.{value_of, AreDigits}
 
--- the number that decimal digits write after those of another, and the number that they write
-abbrev pub value_after : ℕ → List ℕ → ℕ
-value_after number [] = number
-value_after number (digit ∷ digits) = value_after (10 * number + (digit - 48)) digits
+-- digits behind a point, with the point; nothing stands for none
+abbrev pub pointed : List ℕ → List ℕ
+pointed [] = []
+pointed (digit ∷ digits) = codes "." ++ digit ∷ digits
 
-abbrev pub value_of : List ℕ → ℕ
-value_of digits = value_after 0 digits
+-- the fen that they write: one digit is of the jiao, two are of the fen
+abbrev pub fen_of : List ℕ → ℕ
+fen_of (jiao ∷ []) = 10 * value_of (jiao ∷ [])
+fen_of places = value_of places
 
--- digits that write so many yuan, of which an amount can be
-abbrev pub AreYuan : List ℕ → Type 0
-AreYuan digits =
-    (0 < length digits) × IsTrue (list_all is_ascii_digit digits) × (value_of digits < 10 ^ 16)
+-- these figures write so many fen
+pub record IsFigures (figures : List ℕ) (fen : ℕ) : Type 0 where
+  pub yuan : List ℕ
+  pub places : List ℕ
+  pub some : 0 < length yuan
+  pub few : length places ≤ 2
+  pub yuan_digits : AreDigits yuan
+  pub place_digits : AreDigits places
+  pub form : figures ≡ yuan ++ pointed places
+  pub value : fen ≡ 100 * value_of yuan + fen_of places
 
--- nothing stands behind the last digit, at this place
-abbrev pub ended : ℕ → ℕ → List ℕ → Result ℕ FiguresError
-ended place fen [] = Ok fen
-ended place fen (byte ∷ bytes) = Err (Incorrect place)
+-- an amount, and none from the limit on
+abbrev pub below : ℕ → Option ℕ
+below fen = if nat_lt fen amount_limit then Some fen else None
 
--- behind the first digit after the point: nothing, or the second
-abbrev pub behind_jiao : ℕ → ℕ → List ℕ → Result ℕ FiguresError
-behind_jiao place fen [] = Ok fen
-behind_jiao place fen (byte ∷ bytes) =
-    if is_ascii_digit byte then ended (place + 1) (fen + (byte - 48)) bytes
-    else Err (Incorrect place)
+-- these figures write this amount, or one from the limit on
+abbrev pub WriteAmount : List ℕ → Option ℕ → Type 0
+WriteAmount figures amount = (fen : ℕ) × IsFigures figures fen × (amount ≡ below fen)
 
--- behind the point: a digit
-abbrev pub behind_point : ℕ → List ℕ → Result ℕ FiguresError
-behind_point place [] = Err Unfinished
-behind_point place (byte ∷ bytes) =
-    if is_ascii_digit byte then behind_jiao (place + 1) (10 * (byte - 48)) bytes
-    else Err (Incorrect place)
+-- the answer as one that is read from the left
+abbrev pub answer_of : Result ℕ FiguresError → Result (Option ℕ) Refusal
+answer_of (Ok fen) = Ok (Some fen)
+answer_of (Err TooLarge) = Ok None
+answer_of (Err Unfinished) = Err unfinished
+answer_of (Err (Incorrect place)) = Err (incorrect_at place)
 
--- behind the yuan: nothing, or a point
-abbrev pub behind_yuan : ℕ → List ℕ → Result ℕ FiguresError
-behind_yuan place [] = Ok 0
-behind_yuan place (byte ∷ bytes) =
-    if byte == 46 then behind_point (place + 1) bytes else Err (Incorrect place)
-
--- so many yuan and the fen behind them, below the limit
-abbrev pub with_yuan : ℕ → Result ℕ FiguresError → Result ℕ FiguresError
-with_yuan yuan (Ok fen) =
-    let amount = 100 * yuan + fen in if nat_lt amount amount_limit then Ok amount else Err TooLarge
-with_yuan yuan (Err error) = Err error
-
--- the amount that figures write, in fen, or why they are refused
-abbrev pub fen_of : List ℕ → Result ℕ FiguresError
-fen_of [] = Err Unfinished
-fen_of (byte ∷ bytes) =
-    let figures = byte ∷ bytes in
-    let count = prefix_len is_ascii_digit figures in
-    if is_ascii_digit byte then
-    with_yuan (value_of (take count figures)) (behind_yuan count (drop count figures))
-    else Err (Incorrect 0)
+-- the answer to figures that are given by their bytes
+abbrev pub ReadsFigures : List ℕ → Result ℕ FiguresError → Type 0
+ReadsFigures bytes answer = answers.Answers WriteAmount (chars bytes) (answer_of answer)
 
 -- what is shown of a refusal
 abbrev pub refusal_text : FiguresError → List ℕ

@@ -1,4 +1,6 @@
 pub mod DateFigures
+pub mod Digits
 pub mod Figures
 pub mod Reply
 pub mod Request
+pub mod Working

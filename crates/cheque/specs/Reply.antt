@@ -15,7 +15,6 @@ use Rattle.chinese_number.specs.declared.ChineseToAmountError.{ChineseToAmountEr
 use Rattle.chinese_number.specs.declared.ChineseToDateError.{ChineseToDateError}
 use Rattle.chinese_number.specs.declared.ChineseVariant.TheVariants.{Simple}
 use Rattle.chinese_number.specs.declared.DateToChineseError.TheVariants.{NotADate}
-use Rattle.cheque.specs.declared.dates.DateFiguresError.{DateFiguresError}
 use Rattle.cheque.specs.declared.figures.FiguresError.{FiguresError}
 use Rattle.cheque.specs.declared.reply.TheConstants.{USAGE}
 use Rattle.cheque.specs.DateFigures as DateFigures
@@ -57,10 +56,15 @@ abbrev pub prefix_text : Bool → List ℕ
 prefix_text prefixed = if prefixed then encode_utf8_all (codes "人民币") else []
 
 -- the capitals of an amount, by what its figures are
-abbrev pub RepliesCapitals : Bool → Result ℕ FiguresError → Reply → Type 0
-RepliesCapitals prefixed (Ok fen) reply =
+abbrev pub IsCapitalsReply : Bool → Result ℕ FiguresError → Reply → Type 0
+IsCapitalsReply prefixed (Ok fen) reply =
     AnswersInMemory (prefix_text prefixed ++ encode_utf8_all (amount_text Simple fen)) reply
-RepliesCapitals prefixed (Err error) reply = reply ≡ refused (Figures.refusal_text error)
+IsCapitalsReply prefixed (Err error) reply = reply ≡ refused (Figures.refusal_text error)
+
+abbrev pub RepliesCapitals : Bool → List ℕ → Reply → Type 0
+RepliesCapitals prefixed figures reply =
+    (result : Result ℕ FiguresError)
+    × Figures.ReadsFigures figures result × IsCapitalsReply prefixed result reply
 
 -- the figures of an amount, by what its capitals are
 abbrev pub figures_reply : Result ℕ ChineseToAmountError → Reply
@@ -73,11 +77,16 @@ RepliesFigures capitals reply =
     × ReadsAmount capitals (AmountAnswer.answer_of result) × (reply ≡ figures_reply result)
 
 -- the capitals of a date, by what its figures are
-abbrev pub RepliesDateCapitals : Result BillDate DateFiguresError → Reply → Type 0
-RepliesDateCapitals (Ok date) reply =
+abbrev pub IsDateCapitalsReply : Result BillDate ChineseToDateError → Reply → Type 0
+IsDateCapitalsReply (Ok date) reply =
     (IsDate date × AnswersInMemory (encode_utf8_all (date_text Simple date)) reply)
     ⊎ (¬ IsDate date × (reply ≡ refused (DateErrorText.writing_error_text NotADate)))
-RepliesDateCapitals (Err error) reply = reply ≡ refused (DateFigures.refusal_text error)
+IsDateCapitalsReply (Err error) reply = reply ≡ refused (DateErrorText.reading_error_text error)
+
+abbrev pub RepliesDateCapitals : List ℕ → Reply → Type 0
+RepliesDateCapitals figures reply =
+    (result : Result BillDate ChineseToDateError)
+    × DateFigures.ReadsDateFigures figures result × IsDateCapitalsReply result reply
 
 -- the figures of a date, by what its capitals are
 abbrev pub date_figures_reply : Result BillDate ChineseToDateError → Reply
@@ -92,11 +101,9 @@ RepliesDateFigures capitals reply =
 -- the reply to what is asked for
 abbrev pub Replies : Option Asked → Reply → Type 0
 Replies (Some help) reply = reply ≡ answered USAGE.now
-Replies (Some (write figures prefixed)) reply =
-    RepliesCapitals prefixed (Figures.fen_of figures) reply
+Replies (Some (write figures prefixed)) reply = RepliesCapitals prefixed figures reply
 Replies (Some (read capitals)) reply = RepliesFigures capitals reply
-Replies (Some (write_date figures)) reply =
-    RepliesDateCapitals (DateFigures.date_of figures) reply
+Replies (Some (write_date figures)) reply = RepliesDateCapitals figures reply
 Replies (Some (read_date capitals)) reply = RepliesDateFigures capitals reply
 Replies None reply = reply ≡ not_asked
 

@@ -1,36 +1,12 @@
 //! Dates in figures, as 2026-01-15.
-ghost use Rattle.std.specs.Prelude.{◌≡◌, ◌<◌, IfOk, Some};
-ghost use Rattle.cheque.specs.DateFigures.{digit_at, two_digits_at, hyphen_at, date_of};
+ghost use Rattle.std.specs.Prelude.{◌≡◌, ◌<◌, Some};
+ghost use Rattle.cheque.specs.DateFigures.{IsDateFigures, ReadsDateFigures};
+ghost use Rattle.cheque.specs.Working.DateSteps.{AreBelow, with_digit, after_digit, after_hyphen, date_machine};
 
-use chinese_number::BillDate;
-use std::error::Error;
+use crate::digits::digit_of;
+use chinese_number::{BillDate, ChineseToDateError};
+use cn_capitals::{Grammar, Refusal, read};
 use std::fmt;
-
-/// Why the figures of a date were refused.
-#[derive(Debug, Copy, Clone, Eq, PartialEq)]
-pub enum DateFiguresError {
-    /// A digit or a hyphen is missing at the end.
-    Unfinished,
-    /// No figures begin with the text up to and with this character.
-    Incorrect { char_index: usize },
-}
-
-impl fmt::Display for DateFiguresError {
-    ghost use Rattle.cheque.specs.DateFigures.{refusal_text};
-
-    ghost output = { λ error. Some (refusal_text error) };
-
-    fn fmt<W: fmt::Write>(&self, f: &mut fmt::Formatter<W>) -> fmt::Result {
-        match self {
-            DateFiguresError::Unfinished => f.write_str("the date is not finished"),
-            DateFiguresError::Incorrect { char_index } => {
-                write!(f, "the date is incorrect (position: {char_index})")
-            }
-        }
-    }
-}
-
-impl Error for DateFiguresError {}
 
 // The two digits of a number below 100.
 #[derive(Debug, Copy, Clone)]
@@ -71,49 +47,106 @@ impl fmt::Display for DateFigures {
     }
 }
 
-// The digit at a place.
-#[tactic(auto, unfolding(crate::specs::DateFigures::digit_at))]
-fn digit_at(bytes: &[u8], place: usize) -> Result<u8, DateFiguresError>
-    ensures value { result ≡ digit_at bytes.now place }
-    ensures below { IfOk result (λ digit. digit < 10) }
-{
-    if place < bytes.len() {
-        let byte = bytes[place];
-        if byte.is_ascii_digit() {
-            Ok(byte - b'0')
+// A number, and how many of its digits are read.
+#[derive(Clone, Copy)]
+struct Number {
+    digits: u8,
+    value: u16,
+}
+
+impl Number {
+    // Nothing is read of it.
+    const NONE: Number = Number {
+        digits: 0,
+        value: 0,
+    };
+
+    // With one more digit, of so many that it has.
+    fn with_digit(self, digit: u8, most: u8) -> Option<Number>
+        requires digit { digit < 10 }
+        requires below { self.digits < most → self.value < 1000 }
+        ensures { result ≡ with_digit self digit most }
+    {
+        if self.digits < most {
+            Some(Number {
+                digits: self.digits + 1,
+                value: 10 * self.value + digit as u16,
+            })
         } else {
-            Err(DateFiguresError::Incorrect { char_index: place })
+            None
         }
-    } else {
-        Err(DateFiguresError::Unfinished)
     }
 }
 
-// The number that two digits write.
-#[tactic(auto, unfolding(crate::specs::DateFigures::two_digits_at))]
-fn two_digits_at(bytes: &[u8], place: usize) -> Result<u8, DateFiguresError>
-    requires { place < 10 }
-    ensures value { result ≡ two_digits_at bytes.now place }
-    ensures below { IfOk result (λ number. number < 100) }
-{
-    let tens = digit_at(bytes, place)?;
-    let ones = digit_at(bytes, place + 1)?;
-    Ok(10 * tens + ones)
+// How far figures are read.
+#[derive(Clone, Copy)]
+enum State {
+    /// Digits of the year.
+    Year(Number),
+    /// The year, and digits of the month.
+    Month(u16, Number),
+    /// The year and the month, and digits of the day.
+    Day(u16, u16, Number),
 }
 
-// A hyphen at a place.
-#[tactic(auto, unfolding(crate::specs::DateFigures::hyphen_at))]
-fn hyphen_at(bytes: &[u8], place: usize) -> Result<(), DateFiguresError>
-    ensures { result ≡ hyphen_at bytes.now place }
-{
-    if place < bytes.len() {
-        if bytes[place] == b'-' {
-            Ok(())
-        } else {
-            Err(DateFiguresError::Incorrect { char_index: place })
+impl State {
+    fn after_digit(self, digit: u8) -> Option<State>
+        requires digit { digit < 10 }
+        requires below { AreBelow self }
+        ensures { result ≡ after_digit self digit }
+    {
+        match self {
+            State::Year(year) => Some(State::Year(year.with_digit(digit, 4)?)),
+            State::Month(year, month) => Some(State::Month(year, month.with_digit(digit, 2)?)),
+            State::Day(year, month, day) => Some(State::Day(
+                year,
+                month,
+                day.with_digit(digit, 2)?,
+            )),
         }
-    } else {
-        Err(DateFiguresError::Unfinished)
+    }
+
+    fn after_hyphen(self) -> Option<State>
+        ensures { result ≡ after_hyphen self }
+    {
+        match self {
+            State::Year(year) if year.digits == 4 => Some(State::Month(year.value, Number::NONE)),
+            State::Month(year, month) if month.digits == 2 => {
+                Some(State::Day(year, month.value, Number::NONE))
+            }
+            _ => None,
+        }
+    }
+}
+
+impl Grammar for State {
+    type Value = BillDate;
+
+    ghost is_form = { IsDateFigures };
+
+    ghost machine = { date_machine };
+
+    fn begin() -> State {
+        State::Year(Number::NONE)
+    }
+
+    fn step(self, character: char) -> Option<State> {
+        if character == '-' {
+            self.after_hyphen()
+        } else {
+            self.after_digit(digit_of(character)?)
+        }
+    }
+
+    fn end(self) -> Option<BillDate> {
+        match self {
+            State::Day(year, month, day) if day.digits == 2 => Some(BillDate {
+                year,
+                month: month as u8,
+                day: day.value as u8,
+            }),
+            _ => None,
+        }
     }
 }
 
@@ -122,26 +155,15 @@ fn hyphen_at(bytes: &[u8], place: usize) -> Result<(), DateFiguresError>
 ///
 /// ```text
 /// date_of("2026-01-15") == Ok(BillDate { year: 2026, month: 1, day: 15 })
-/// date_of("2026-1-15") == Err(DateFiguresError::Incorrect { char_index: 6 })
-/// date_of("2026-01") == Err(DateFiguresError::Unfinished)
+/// date_of("2026-1-15") == Err(ChineseToDateError::Incorrect { char_index: 6 })
+/// date_of("2026-01") == Err(ChineseToDateError::Unfinished)
 /// ```
-#[tactic(auto, unfolding(crate::specs::DateFigures::date_of, crate::specs::DateFigures::ended))]
-pub fn date_of(figures: &str) -> Result<BillDate, DateFiguresError>
-    ensures { result ≡ date_of figures.now }
+pub fn date_of(figures: &str) -> Result<BillDate, ChineseToDateError>
+    ensures { ReadsDateFigures figures.now result }
 {
-    let bytes = figures.as_bytes();
-    let century = two_digits_at(bytes, 0)?;
-    let year = two_digits_at(bytes, 2)?;
-    hyphen_at(bytes, 4)?;
-    let month = two_digits_at(bytes, 5)?;
-    hyphen_at(bytes, 7)?;
-    let day = two_digits_at(bytes, 8)?;
-    if bytes.len() > 10 {
-        return Err(DateFiguresError::Incorrect { char_index: 10 });
+    match read::<State>(figures) {
+        Ok(date) => Ok(date),
+        Err(Refusal::Unfinished) => Err(ChineseToDateError::Unfinished),
+        Err(Refusal::Incorrect { char_index }) => Err(ChineseToDateError::Incorrect { char_index }),
     }
-    Ok(BillDate {
-        year: 100 * century as u16 + year as u16,
-        month,
-        day,
-    })
 }

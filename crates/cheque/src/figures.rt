@@ -1,10 +1,11 @@
 //! Amounts in figures, as 1409.50.
-ghost use Rattle.std.specs.Prelude.{◌≡◌, ◌+◌, ◌^◌, ◌<◌, ◌≤◌, length, IsTrue, MatchOption, Some};
-ghost use Rattle.std.specs.Char.{is_ascii_digit};
-ghost use Rattle.std.specs.List.{list_all, prefix_len};
-ghost use Rattle.cheque.specs.Figures.{ended, behind_jiao, behind_point, behind_yuan, fen_of, value_of, with_yuan};
+ghost use Rattle.std.specs.Prelude.{◌≡◌, ◌<◌, Some};
+ghost use Rattle.cheque.specs.Figures.{WriteAmount, ReadsFigures};
+ghost use Rattle.cheque.specs.Working.FiguresSteps.{with_more, after_digit, after_point, figures_machine};
 
+use crate::digits::digit_of;
 use chinese_number::AMOUNT_LIMIT;
+use cn_capitals::{Grammar, Refusal, read};
 use std::error::Error;
 use std::fmt;
 
@@ -54,93 +55,80 @@ impl fmt::Display for Figures {
     }
 }
 
-// Behind the second digit after the point, which is worth so many fen with the first.
-fn ended(place: usize, fen: u64, bytes: &[u8]) -> Result<u64, FiguresError>
-    ensures { result ≡ ended place fen bytes.now }
-{
-    match bytes {
-        [] => Ok(fen),
-        _ => Err(FiguresError::Incorrect { char_index: place }),
-    }
+// How far figures are read, and behind the first digit the fen of what is read: none from the limit
+// on.
+#[derive(Clone, Copy)]
+enum State {
+    /// Nothing is read.
+    Beginning,
+    /// Digits of the yuan.
+    Yuan(Option<u64>),
+    /// The point, too.
+    Point(Option<u64>),
+    /// The digit of the jiao, too.
+    Jiao(Option<u64>),
+    /// That of the fen, too: nothing may follow.
+    Fen(Option<u64>),
 }
 
-// Behind the first digit after the point.
-fn behind_jiao(place: usize, fen: u64, bytes: &[u8]) -> Result<u64, FiguresError>
-    requires room { place + length bytes.now < 2 ^ 64 }
-    requires jiao { fen ≤ 90 }
-    ensures { result ≡ behind_jiao place fen bytes.now }
+// So many times the fen, and so many more.
+fn with_more(fen: Option<u64>, times: u64, more: u64) -> Option<u64>
+    ensures { result ≡ with_more fen times more }
 {
-    match bytes {
-        [] => Ok(fen),
-        [digit, rest @ ..] if digit.is_ascii_digit() => {
-            ended(place + 1, fen + (digit - b'0') as u64, rest)
+    let fen = fen?.checked_mul(times)?.checked_add(more)?;
+    if fen < AMOUNT_LIMIT { Some(fen) } else { None }
+}
+
+impl State {
+    fn after_digit(self, digit: u8) -> Option<State>
+        requires { digit < 10 }
+        ensures { result ≡ after_digit self digit }
+    {
+        let digit = digit as u64;
+        match self {
+            State::Beginning => Some(State::Yuan(with_more(Some(0), 10, 100 * digit))),
+            State::Yuan(fen) => Some(State::Yuan(with_more(fen, 10, 100 * digit))),
+            State::Point(fen) => Some(State::Jiao(with_more(fen, 1, 10 * digit))),
+            State::Jiao(fen) => Some(State::Fen(with_more(fen, 1, digit))),
+            State::Fen(_) => None,
         }
-        _ => Err(FiguresError::Incorrect { char_index: place }),
     }
-}
 
-// Behind the point.
-fn behind_point(place: usize, bytes: &[u8]) -> Result<u64, FiguresError>
-    requires { place + length bytes.now < 2 ^ 64 }
-    ensures { result ≡ behind_point place bytes.now }
-{
-    match bytes {
-        [] => Err(FiguresError::Unfinished),
-        [digit, rest @ ..] if digit.is_ascii_digit() => {
-            behind_jiao(place + 1, 10 * (digit - b'0') as u64, rest)
+    fn after_point(self) -> Option<State>
+        ensures { result ≡ after_point self }
+    {
+        match self {
+            State::Yuan(fen) => Some(State::Point(fen)),
+            _ => None,
         }
-        _ => Err(FiguresError::Incorrect { char_index: place }),
     }
 }
 
-// Behind the yuan.
-fn behind_yuan(place: usize, bytes: &[u8]) -> Result<u64, FiguresError>
-    requires { place + length bytes.now < 2 ^ 64 }
-    ensures { result ≡ behind_yuan place bytes.now }
-{
-    match bytes {
-        [] => Ok(0),
-        [b'.', rest @ ..] => behind_point(place + 1, rest),
-        _ => Err(FiguresError::Incorrect { char_index: place }),
-    }
-}
+impl Grammar for State {
+    type Value = Option<u64>;
 
-// How many digits stand at the start.
-fn count_digits(bytes: &[u8]) -> usize
-    ensures count { result ≡ prefix_len is_ascii_digit bytes.now }
-    ensures bound { result ≤ length bytes.now }
-{
-    let mut count = 0;
-    let mut rest = bytes;
-    'digits: while let [byte, behind @ ..] = rest {
-        if !byte.is_ascii_digit() {
-            break;
+    ghost is_form = { WriteAmount };
+
+    ghost machine = { figures_machine };
+
+    fn begin() -> State {
+        State::Beginning
+    }
+
+    fn step(self, character: char) -> Option<State> {
+        if character == '.' {
+            self.after_point()
+        } else {
+            self.after_digit(digit_of(character)?)
         }
-        count += 1;
-        rest = behind;
     }
-    count
-}
 
-// So many yuan are no amount.
-const YUAN_LIMIT: u64 = AMOUNT_LIMIT / 100;
-
-// The yuan that digits write, if they are below the limit.
-fn yuan_of(digits: &[u8]) -> Option<u64>
-    requires { IsTrue (list_all is_ascii_digit digits.now) }
-    ensures { MatchOption result (10 ^ 16 ≤ value_of digits.now)
-        (λ yuan. (yuan < 10 ^ 16) × (yuan ≡ value_of digits.now)) }
-{
-    let mut yuan = 0;
-    let mut rest = digits;
-    'digits: while let [digit, behind @ ..] = rest {
-        yuan = 10 * yuan + (digit - b'0') as u64;
-        if yuan >= YUAN_LIMIT {
-            return None;
+    fn end(self) -> Option<Option<u64>> {
+        match self {
+            State::Yuan(fen) | State::Jiao(fen) | State::Fen(fen) => Some(fen),
+            State::Beginning | State::Point(_) => None,
         }
-        rest = behind;
     }
-    Some(yuan)
 }
 
 /// The amount that figures write, in fen: digits, and then nothing, or a point and one or two
@@ -153,20 +141,12 @@ fn yuan_of(digits: &[u8]) -> Option<u64>
 /// yuan_to_fen("15.") == Err(FiguresError::Unfinished)
 /// ```
 pub fn yuan_to_fen(figures: &str) -> Result<u64, FiguresError>
-    ensures { result ≡ fen_of figures.now }
+    ensures { ReadsFigures figures.now result }
 {
-    let bytes = figures.as_bytes();
-    if bytes.is_empty() {
-        return Err(FiguresError::Unfinished);
-    }
-    let count = count_digits(bytes);
-    if count == 0 {
-        return Err(FiguresError::Incorrect { char_index: 0 });
-    }
-    let (digits, rest) = bytes.split_at(count);
-    let fen = behind_yuan(count, rest)?;
-    match yuan_of(digits) {
-        Some(yuan) => Ok(100 * yuan + fen),
-        None => Err(FiguresError::TooLarge),
+    match read::<State>(figures) {
+        Ok(Some(fen)) => Ok(fen),
+        Ok(None) => Err(FiguresError::TooLarge),
+        Err(Refusal::Unfinished) => Err(FiguresError::Unfinished),
+        Err(Refusal::Incorrect { char_index }) => Err(FiguresError::Incorrect { char_index }),
     }
 }

@@ -19,6 +19,7 @@
 #![tactic(auto)]
 
 pub mod dates;
+mod digits;
 pub mod figures;
 pub mod laws;
 mod reply;

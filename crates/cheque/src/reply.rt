@@ -1,8 +1,6 @@
 //! What is replied to a request.
 ghost use Rattle.std.specs.Prelude.{◌≡◌, IfOk, IfSome, map, string_bytes};
 ghost use Rattle.std.specs.Io.KnownBytes.{Appends};
-ghost use Rattle.cheque.specs.DateFigures.{date_of};
-ghost use Rattle.cheque.specs.Figures.{fen_of};
 ghost use Rattle.cheque.specs.Reply.{Gives, Replies, line, RepliesCapitals, RepliesDateCapitals, RepliesFigures, RepliesDateFigures, prefix_text};
 ghost use Rattle.cheque.specs.Request.{asked};
 
@@ -58,7 +56,7 @@ fn write_capitals<W: Write, E: Write>(
     figures: &str,
     prefixed: bool,
 ) -> io::Result<u8>
-    ensures { IfOk result (λ status. Gives (RepliesCapitals prefixed (fen_of figures.now))
+    ensures { IfOk result (λ status. Gives (RepliesCapitals prefixed figures.now)
         status (W.contents output.old) (W.contents output.new)
         (E.contents errors.old) (E.contents errors.new)) }
 {
@@ -97,7 +95,7 @@ fn write_date_capitals<W: Write, E: Write>(
     errors: &mut E,
     figures: &str,
 ) -> io::Result<u8>
-    ensures { IfOk result (λ status. Gives (RepliesDateCapitals (date_of figures.now))
+    ensures { IfOk result (λ status. Gives (RepliesDateCapitals figures.now)
         status (W.contents output.old) (W.contents output.new)
         (E.contents errors.old) (E.contents errors.new)) }
 {

@@ -1,539 +1,466 @@
--- Each text that is read to its end is a form.
-use Rattle.std.proofs.Common.{◌≡◌, ℕ, zero, suc, ◌<◌, Bool, true, false, ◌⊎◌, inl, inr, List, [], ◌∷◌, ◌++◌, refl, sym, ap, ◌∙◌, arith}
+-- Each text that is written along the ways is a form, and so is what is read to its end.
+use Rattle.std.proofs.Common.{◌≡◌, ℕ, zero, suc, ◌<◌, Bool, true, false, not, ◌&&◌, ◌||◌, nat_lt, ◌⊎◌, inl, inr, List, [], ◌∷◌, ◌++◌, map, Some, None, refl, sym, ap, ap₂, ◌∙◌, append-nil, append_assoc, arith, if◌then◌else◌}
 use Rattle.std.specs.List.{list_all}
+use Rattle.std.proofs.Math.Bool.{and-true, and-false, or-true}
+use Rattle.std.proofs.lemmas.Bool.Decides.{nat_tests}
+use Rattle.cn_core.proofs.Fronts.{and-left, and-right}
 use Rattle.cn_amount.specs.declared.before.Before.{Before}
 use Rattle.cn_amount.specs.declared.before.Before.TheVariants.{Nothing, Gap, Filled}
 use Rattle.cn_amount.specs.declared.capital.Capital.{Capital}
-use Rattle.cn_amount.specs.declared.capital.Capital.TheVariants.{Ling, Digit, Wan, Yi, Yuan, Jiao, Fen, Ren, Min, Bi}
+use Rattle.cn_amount.specs.declared.capital.Capital.TheVariants.{Ling, Digit, Wan, Yi, Yuan, Zheng, Ren, Min, Bi}
 use Rattle.cn_amount.specs.declared.places.Section.{Section}
 use Rattle.cn_amount.specs.declared.places.Places.{Places}
-use Rattle.cn_amount.specs.declared.state.Stage.{Stage}
-use Rattle.cn_amount.specs.declared.state.Stage.TheVariants.{Top, BelowWan, BelowYi, BelowYiGap, OnlyWan, Last}
-use Rattle.cn_amount.specs.declared.state.State.TheVariants.{Beginning, AfterRen, AfterCurrency, NoYuan, FirstDigit, AfterGreat, AfterYuan}
-use Rattle.cn_amount.specs.Form.{Choices, is_zero, is_empty, is_written, after_section, behind, place_text, section_text, yuan_text, from_wan, from_yi, from_top, amount_form}
+use Rattle.cn_amount.specs.declared.state.State.TheVariants.{Beginning}
+use Rattle.cn_amount.specs.Form.{Choices, written, is_empty, is_written, are_zero, after_digit, after_places, after_section, after_unit, after_yuan_unit, behind, closing, place_text, places_text, small_places, small_text, section_text, unit_text, yuan_unit, from_yuan, from_wan, from_yi, from_top, amount_form}
 use Rattle.cn_amount.specs.Places.{AreDigits, ArePlaces}
 use Rattle.cn_amount.specs.Working.Steps.{accepts}
-use Rattle.cn_amount.proofs.Closed.{By, closed-last, closed-only_wan, closed-below_yi, closed-below_yi_gap, closed-below_wan, closed-top, with-top, with-below_wan, with-below_yi, with-last}
-use Rattle.cn_amount.proofs.Joins.{front, four, empty_section, written-behind, after-written, after-some, yuan-joined, wan-joined, yi-joined}
-use Rattle.cn_amount.proofs.Sections.{is_proper, digit-low, rest-proper, closed, stage_with, FirstHundreds, FirstThousands, ReadThousands, ling-hundreds, ling-thousands, at-thousands, below-thousands-first}
-use Rattle.cn_amount.proofs.SmallRead.{ReadFen, after-jiao, after-yuan, closing-one, complete-nil}
+use Rattle.cn_amount.proofs.Points.{Part, wan_yi, yi, wan, yuan, small, known, either, Point, Way, at, start, finish, units_of, behind_unit, digit_way, place_ways, front_ways, unit_ways, close_of, ways, opened, fits, spells, spells-first, spells-cases, none-spelled, fits-is}
+use Rattle.cn_amount.proofs.States.{is_proper, reads-ways}
 
--- a section behind 万 or 亿, at whose place the digit is 0 or not
-record ReadBelow (stage : Stage) (is_round : Bool) (t : List Capital) : Type 0 where
-  keeps : Bool
-  s : Section
-  digits : AreDigits s
+abbrev are_proper : List Capital → Bool
+are_proper t = list_all is_proper t
+
+-- a text that begins with these capitals, and goes on from a point
+record Begins (word : List Capital) (p : Point) (t : List Capital) : Type 0 where
   rest : List Capital
-  is : t ≡ section_text (behind keeps (front is_round)) s ++ rest
-  ends : closed stage (is_zero s.ones) rest ≡ true
-  proper : list_all is_proper rest ≡ true
+  is : t ≡ word ++ rest
+  goes_on : spells (ways p) rest ≡ true
+  proper : are_proper rest ≡ true
 
-below-thousands : (stage : Stage) (is_round : Bool) (t : List Capital) → ReadThousands stage t
-    → ReadBelow stage is_round t
-below-thousands stage true t r = record {
-  keeps = false;
-  s = four (suc r.before_thousands) r.hundreds r.tens r.ones;
-  digits = (r.low_thousands, r.low_hundreds, r.low_tens, r.low);
-  rest = r.rest;
-  is = r.is;
-  ends = r.ends;
-  proper = r.proper;
-}
-below-thousands stage false t r = record {
-  keeps = true;
-  s = four (suc r.before_thousands) r.hundreds r.tens r.ones;
-  digits = (r.low_thousands, r.low_hundreds, r.low_tens, r.low);
-  rest = r.rest;
-  is = r.is;
-  ends = r.ends;
-  proper = r.proper;
-}
+word-read : (word : List Capital) (p : Point) (t : List Capital) → are_proper t ≡ true
+    → spells (opened (map Some word, p)) t ≡ true → Begins word p t
+word-read [] p t proper h = record { rest = t; is = refl; goes_on = h; proper = proper }
+word-read (c ∷ word) p [] proper h = cc
+word-read (c ∷ word) p (x ∷ t) proper h =
+    by (fits (Some c) x) refl h (λ k. word-read word p t (and-right (is_proper x) _ proper) k) where
+      by : (b : Bool) → fits (Some c) x ≡ b
+          → spells (elim b [ true ↦ opened (map Some word, p) | false ↦ [] ] ++ []) t ≡ true
+          → (spells (opened (map Some word, p)) t ≡ true → Begins word p t)
+          → Begins (c ∷ word) p (x ∷ t)
+      by false e h ih = let none = none-spelled t in cc
+      by true e h ih =
+          let r = ih (ap (λ more. spells more t) (sym (append-nil (opened (map Some word, p)))) ∙ h) in
+          let first : x ≡ c = fits-is c x e in
+          record {
+            rest = r.rest;
+            is = ap (λ x. x ∷ t) first ∙ ap (λ t. c ∷ t) r.is;
+            goes_on = r.goes_on;
+            proper = r.proper;
+          }
 
-below-gap : (stage : Stage) (t : List Capital) → ((n : ℕ) → stage_with n stage ≡ stage)
-    → FirstThousands stage t → ReadBelow stage true (Ling ∷ t)
-below-gap stage t plain r = record {
-  keeps = true;
-  s = four r.thousands r.hundreds r.tens r.ones;
-  digits = (r.low_thousands, r.low_hundreds, r.low_tens, r.low);
-  rest = r.rest;
-  is = r.gap;
-  ends = ap (λ stage. closed stage (is_zero r.ones) r.rest) (sym (plain r.thousands)) ∙ r.ends;
-  proper = r.proper;
-}
+-- a text that begins with a digit and its unit
+record BeginsDigit (part : Part) (unit : List Capital) (units : List (List Capital))
+    (before : Before) (t : List Capital) : Type 0 where
+  less : ℕ
+  low : suc less < 10
+  rest : List Capital
+  is : t ≡ place_text before (suc less) unit ++ rest
+  goes_on : spells (ways (at part units Filled false)) rest ≡ true
+  proper : are_proper rest ≡ true
 
-below-filled : (stage : Stage) (t : List Capital) → FirstHundreds stage t
-    → ReadBelow stage false (Ling ∷ t)
-below-filled stage t r = record {
-  keeps = true;
-  s = four 0 r.hundreds r.tens r.ones;
-  digits = (omega arith, r.low_hundreds, r.low_tens, r.low);
-  rest = r.rest;
-  is = r.gap;
-  ends = r.ends;
-  proper = r.proper;
-}
+digit-low : (n : ℕ) (t : List Capital) → are_proper (Digit (suc n) ∷ t) ≡ true → suc n < 10
+digit-low n t p = let low : nat_lt (suc n) 10 ≡ true =
+    and-right (nat_lt 0 (suc n)) _ (and-left (is_proper (Digit (suc n))) _ p)
+    in grind (arith, nat_tests)
 
-below-none : (stage : Stage) (is_round : Bool) (t : List Capital) → list_all is_proper t ≡ true
-    → closed stage true t ≡ true → ReadBelow stage is_round t
-below-none stage is_round t p h = record {
-  keeps = true;
-  s = empty_section;
-  digits = (omega arith, omega arith, omega arith, omega arith);
+plain-digit : (part : Part) (unit : List Capital) (units : List (List Capital)) (t : List Capital)
+    → are_proper t ≡ true
+    → spells ((None ∷ map Some unit, at part units Filled false) ∷ []) t ≡ true
+    → BeginsDigit part unit units Filled t
+plain-digit part unit units [] proper h = cc
+plain-digit part unit units (Digit zero ∷ t) proper h = cc
+plain-digit part unit units (Digit (suc n) ∷ t) proper h =
+    let p = at part units Filled false in
+    let r = word-read unit p t (and-right (is_proper (Digit (suc n))) _ proper)
+    (ap (λ more. spells more t) (sym (append-nil (opened (map Some unit, p)))) ∙ h) in
+    record {
+      less = n;
+      low = digit-low n t proper;
+      rest = r.rest;
+      is = ap (λ t. Digit (suc n) ∷ t) r.is;
+      goes_on = r.goes_on;
+      proper = r.proper;
+    }
+plain-digit part unit units (x ∷ t) proper h = let none = none-spelled t in cc
+
+digit-read : (part : Part) (unit : List Capital) (units : List (List Capital)) (before : Before)
+    (t : List Capital) → are_proper t ≡ true
+    → spells (digit_way part unit units before ∷ []) t ≡ true
+    → BeginsDigit part unit units before t
+digit-read part unit units Filled t proper h = plain-digit part unit units t proper h
+digit-read part unit units Nothing t proper h =
+    let r = plain-digit part unit units t proper h in
+    record { less = r.less; low = r.low; rest = r.rest; is = r.is; goes_on = r.goes_on; proper = r.proper }
+digit-read part unit units Gap [] proper h = cc
+digit-read part unit units Gap (Ling ∷ t) proper h =
+    let r = plain-digit part unit units t (and-right true _ proper) h in
+    record {
+      less = r.less;
+      low = r.low;
+      rest = r.rest;
+      is = ap (λ t. Ling ∷ t) r.is;
+      goes_on = r.goes_on;
+      proper = r.proper;
+    }
+digit-read part unit units Gap (x ∷ t) proper h = let none = none-spelled t in cc
+
+-- digits, one for each unit
+abbrev Digits : List (List Capital) → Type 0
+Digits [] = Unit {0}
+Digits (unit ∷ units) = ℕ × Digits units
+
+abbrev placed : (units : List (List Capital)) → Digits units → List (ℕ × List Capital)
+placed [] digits = []
+placed (unit ∷ units) digits = (digits.0, unit) ∷ placed units digits.1
+
+abbrev AreLow : (units : List (List Capital)) → Digits units → Type 0
+AreLow [] digits = Unit {0}
+AreLow (unit ∷ units) digits = (digits.0 < 10) × AreLow units digits.1
+
+-- a text that begins with the places of a part
+record BeginsPlaces (part : Part) (units : List (List Capital)) (before : Before) (empty : Bool)
+    (t : List Capital) : Type 0 where
+  digits : Digits units
+  low : AreLow units digits
+  rest : List Capital
+  is : t ≡ places_text before (placed units digits) ++ rest
+  closes : spells (close_of part (after_places before (placed units digits))
+      (empty && are_zero (placed units digits))) rest ≡ true
+  proper : are_proper rest ≡ true
+
+places-read : (part : Part) (units : List (List Capital)) (before : Before) (empty : Bool)
+    (t : List Capital) → are_proper t ≡ true
+    → spells (place_ways (close_of part) part units before empty) t ≡ true
+    → BeginsPlaces part units before empty t
+places-read part [] before empty t proper h = record {
+  digits = tt;
+  low = tt;
   rest = t;
   is = refl;
-  ends = h;
-  proper = p;
+  closes = ap (λ b. spells (close_of part before b) t) (and-true empty) ∙ h;
+  proper = proper;
 }
+places-read part (unit ∷ units) before empty t proper h =
+    by (spells-cases (digit_way part unit units before ∷ [])
+    (place_ways (close_of part) part units (after_digit before 0) empty) t h)
+    (λ t proper h. places-read part units Filled false t proper h)
+    (λ h. places-read part units (after_digit before 0) empty t proper h) where
+      by : (spells (digit_way part unit units before ∷ []) t ≡ true)
+          ⊎ (spells (place_ways (close_of part) part units (after_digit before 0) empty) t ≡ true)
+          → ((t : List Capital) → are_proper t ≡ true
+          → spells (place_ways (close_of part) part units Filled false) t ≡ true
+          → BeginsPlaces part units Filled false t)
+          → (spells (place_ways (close_of part) part units (after_digit before 0) empty) t ≡ true
+          → BeginsPlaces part units (after_digit before 0) empty t)
+          → BeginsPlaces part (unit ∷ units) before empty t
+      by (inl first) filled zeros =
+          let d = digit-read part unit units before t proper first in
+          let r = filled d.rest d.proper d.goes_on in
+          record {
+            digits = (suc d.less, r.digits);
+            low = (d.low, r.low);
+            rest = r.rest;
+            is = d.is ∙ ap (λ l. place_text before (suc d.less) unit ++ l) r.is
+                ∙ sym (append_assoc (place_text before (suc d.less) unit)
+                (places_text Filled (placed units r.digits)) r.rest);
+            closes = ap (λ b. spells (close_of part
+                (after_places Filled (placed units r.digits)) b) r.rest) (and-false empty) ∙ r.closes;
+            proper = r.proper;
+          }
+      by (inr more) filled zeros =
+          let r = zeros more in
+          record {
+            digits = (0, r.digits);
+            low = (omega arith, r.low);
+            rest = r.rest;
+            is = r.is;
+            closes = r.closes;
+            proper = r.proper;
+          }
 
-great-last : (is_round : Bool) (t : List Capital) → list_all is_proper t ≡ true
-    → accepts (AfterGreat Last is_round) t ≡ true → ReadBelow Last is_round t
-great-last is_round [] p h = cc
-great-last is_round (Digit zero ∷ t) p h = cc
-great-last is_round (Digit (suc n) ∷ t) p h =
-    below-thousands Last is_round _ (at-thousands Last n t p h)
-great-last true (Ling ∷ t) p h = below-gap Last t with-last
-    (ling-thousands Last t (rest-proper Ling t p) h)
-great-last false (Ling ∷ t) p h =
-    below-filled Last t (ling-hundreds Last t (rest-proper Ling t p) h)
-great-last is_round (capital ∷ t) p h = below-none Last is_round (capital ∷ t) p h
+-- where a 0 at the unit may count, it does or it does not
+either-read : (part : Part) (units : List (List Capital)) (empty : Bool) (t : List Capital)
+    → spells (front_ways (close_of part) part units either empty) t ≡ true
+    → (keeps : Bool)
+    × (spells (place_ways (close_of part) part units (behind keeps Gap) empty) t ≡ true)
+either-read part [] empty t h =
+    elim (spells-cases (close_of part Filled empty) (close_of part Gap empty) t h) [
+      | inl first ↦ (false, first)
+      | inr more ↦ (true, more)
+    ]
+either-read part (unit ∷ units) empty t h =
+    let filled = digit_way part unit units Filled ∷ [] in
+    let rest = place_ways (close_of part) part units Gap empty in
+    elim (spells-cases filled (digit_way part unit units Gap ∷ rest) t h) [
+      | inl first ↦ (false, spells-first filled rest t first)
+      | inr more ↦ (true, more)
+    ]
 
-great-below_wan : (is_round : Bool) (t : List Capital) → list_all is_proper t ≡ true
-    → accepts (AfterGreat BelowWan is_round) t ≡ true → ReadBelow BelowWan is_round t
-great-below_wan is_round [] p h = cc
-great-below_wan is_round (Digit zero ∷ t) p h = cc
-great-below_wan is_round (Digit (suc n) ∷ t) p h =
-    below-thousands BelowWan is_round _ (at-thousands BelowWan n t p h)
-great-below_wan true (Ling ∷ t) p h = below-gap BelowWan t with-below_wan
-    (ling-thousands BelowWan t (rest-proper Ling t p) h)
-great-below_wan false (Ling ∷ t) p h =
-    below-filled BelowWan t (ling-hundreds BelowWan t (rest-proper Ling t p) h)
-great-below_wan is_round (capital ∷ t) p h = below-none BelowWan is_round (capital ∷ t) p h
+front-read : (part : Part) (before : Before) (t : List Capital)
+    → spells (ways (start part (behind_unit before))) t ≡ true
+    → (keeps : Bool) × (spells (ways (start part (known (behind keeps before)))) t ≡ true)
+front-read part Gap t h = either-read part (units_of part) true t h
+front-read part Nothing t h = (true, h)
+front-read part Filled t h = (true, h)
 
--- choices where no 零元 is written for no yuan
-abbrev pub chosen : Bool → Bool → Bool → Bool → Bool → Choices
-chosen wan_yi yi wan yuan jiao = record {
-  currency = false;
-  no_yuan = false;
-  behind_wan_yi = wan_yi;
-  behind_yi = yi;
-  behind_wan = wan;
-  behind_yuan = yuan;
-  behind_jiao = jiao;
-}
-
--- from the section of 万 on
-record ReadFromWan (before : Before) (t : List Capital) : Type 0 where
-  wan_keeps : Bool
-  yuan_keeps : Bool
-  jiao_keeps : Bool
-  wan : Section
-  yuan : Section
-  jiao : ℕ
-  fen : ℕ
-  wan_digits : AreDigits wan
-  yuan_digits : AreDigits yuan
-  low_jiao : jiao < 10
-  low_fen : fen < 10
-  is : t ≡ from_wan (chosen true true wan_keeps yuan_keeps jiao_keeps) before
-      (record {
-        wan_yi = empty_section;
-        yi = empty_section;
-        wan = wan;
-        yuan = yuan;
-        jiao =
-            jiao;
-        fen = fen;
-      })
-
--- with a section that 万 counts
-wan-then : (before : Before) (s : Section) (t rest : List Capital) → AreDigits s
-    → is_empty s ≡ false → after_section before s ≡ front (is_zero s.ones)
-    → t ≡ section_text before s ++ rest → By Wan (AfterGreat Last (is_zero s.ones)) rest
-    → ReadFromWan before t
-wan-then before s t rest digits some after is wan =
-    let q = great-last (is_zero s.ones) wan.0 wan.3 wan.2 in
-    let unit = closed-last (is_zero q.s.ones) q.rest q.proper q.ends in
-    let small = after-yuan (is_zero q.s.ones) unit.0 unit.3 unit.2 in
-    let choices = chosen true true q.keeps small.keeps small.closes in
-    let below = behind q.keeps (front (is_zero s.ones)) in
-    let after_below = after-written below q.s (written-behind q.keeps (is_zero s.ones)) in
-    let yuan = yuan-joined choices below q.s small.jiao small.fen wan.0 q.rest unit.0 after_below
-    q.is unit.1 small.is in
-    record {
-      wan_keeps = q.keeps;
-      yuan_keeps = small.keeps;
-      jiao_keeps = small.closes;
-      wan = s;
-      yuan = q.s;
-      jiao = small.jiao;
-      fen = small.fen;
-      wan_digits = digits;
-      yuan_digits = q.digits;
-      low_jiao = small.low_jiao;
-      low_fen = small.low_fen;
-      is = wan-joined q.keeps before s (λ b. yuan_text choices b q.s small.jiao small.fen)
-          t rest wan.0 some after is wan.1 yuan;
-    }
-
--- with none
-yuan-then : (before : Before) (s : Section) (t rest : List Capital) → AreDigits s
-    → after_section (after_section before empty_section) s ≡ front (is_zero s.ones)
-    → t ≡ section_text (after_section before empty_section) s ++ rest
-    → By Yuan (AfterYuan (is_zero s.ones)) rest → ReadFromWan before t
-yuan-then before s t rest digits after is unit =
-    let small = after-yuan (is_zero s.ones) unit.0 unit.3 unit.2 in
-    let choices = chosen true true true small.keeps small.closes in
-    record {
-      wan_keeps = true;
-      yuan_keeps = small.keeps;
-      jiao_keeps = small.closes;
-      wan = empty_section;
-      yuan = s;
-      jiao = small.jiao;
-      fen = small.fen;
-      wan_digits = (omega arith, omega arith, omega arith, omega arith);
-      yuan_digits = digits;
-      low_jiao = small.low_jiao;
-      low_fen = small.low_fen;
-      is = yuan-joined choices (after_section before empty_section) s small.jiao small.fen
-          t rest unit.0 after is unit.1 small.is;
-    }
-
--- behind 亿
-record ReadBelowYi (is_round : Bool) (t : List Capital) : Type 0 where
+-- the unit of a section, and the next part
+record BeginsUnit (part : Part) (unit : Capital) (counts : Bool) (before : Before)
+    (t : List Capital) : Type 0 where
   keeps : Bool
-  below : ReadFromWan (behind keeps (front is_round)) t
+  rest : List Capital
+  is : t ≡ unit_text counts unit ++ rest
+  goes_on : spells (ways (start part (known (after_unit counts keeps before)))) rest ≡ true
+  proper : are_proper rest ≡ true
 
-yi-thousands : (is_round : Bool) (t : List Capital) → ReadThousands OnlyWan t → ReadFromWan Filled t
-yi-thousands is_round t r =
-    let s : Section = four (suc r.before_thousands) r.hundreds r.tens r.ones in
-    wan-then Filled s t r.rest (r.low_thousands, r.low_hundreds, r.low_tens, r.low) refl
-    (after-written Filled s refl) r.is (closed-only_wan (is_zero r.ones) r.rest r.proper r.ends)
+unit-read : (part : Part) (unit : Capital) (counts : Bool) (before : Before) (t : List Capital)
+    → are_proper t ≡ true → spells (unit_ways (close_of part) part unit counts before) t ≡ true
+    → BeginsUnit part unit counts before t
+unit-read part unit true before t proper h =
+    let r = word-read (unit ∷ []) (start part (behind_unit before)) t proper h in
+    let front = front-read part before r.rest r.goes_on in
+    record { keeps = front.0; rest = r.rest; is = r.is; goes_on = front.1; proper = r.proper }
+unit-read part unit false before t proper h =
+    record { keeps = true; rest = t; is = refl; goes_on = h; proper = proper }
 
-yi-gap : (t : List Capital) → FirstThousands BelowYi t → ReadFromWan Gap (Ling ∷ t)
-yi-gap t r = by (closed-below_yi (is_zero r.ones) r.rest r.proper
-    (ap (λ stage. closed stage (is_zero r.ones) r.rest) (sym (with-below_yi r.thousands))
-    ∙ r.ends)) where
-      s : Section
-      s = four r.thousands r.hundreds r.tens r.ones
-
-      by : By Wan (AfterGreat Last (is_zero r.ones)) r.rest
-          ⊎ By Yuan (AfterYuan (is_zero r.ones)) r.rest → ReadFromWan Gap (Ling ∷ t)
-      by (inl unit) = wan-then Gap s (Ling ∷ t) r.rest
-          (r.low_thousands, r.low_hundreds, r.low_tens, r.low) r.some (after-written Gap s refl) r.gap
-          unit
-      by (inr unit) = yuan-then Gap s (Ling ∷ t) r.rest
-          (r.low_thousands, r.low_hundreds, r.low_tens, r.low) (after-written Gap s refl) r.gap unit
-
-yi-filled : (t : List Capital) (thousands hundreds tens ones : ℕ) (rest : List Capital)
-    → AreDigits (four thousands hundreds tens ones)
-    → is_empty (four thousands hundreds tens ones)
-    ≡ false
-    → Ling ∷ t ≡ section_text Gap (four thousands hundreds tens ones) ++ rest
-    → closed (stage_with thousands BelowYiGap) (is_zero ones) rest ≡ true
-    → list_all is_proper rest ≡ true
-    → ReadFromWan Filled (Ling ∷ t)
-yi-filled t (suc n) hundreds tens ones rest digits some gap ends proper =
-    let s : Section = four (suc n) hundreds tens ones in
-    yuan-then Filled s (Ling ∷ t) rest digits (after-written Gap s refl) gap
-    (closed-last (is_zero ones) rest proper ends)
-yi-filled t zero hundreds tens ones rest digits some gap ends proper =
-    by (closed-below_yi_gap (is_zero ones) rest proper ends) where
-      s : Section
-      s = four 0 hundreds tens ones
-
-      by : By Wan (AfterGreat Last (is_zero ones)) rest ⊎ By Yuan (AfterYuan (is_zero ones)) rest
-          → ReadFromWan Filled (Ling ∷ t)
-      by (inl unit) = wan-then Filled s (Ling ∷ t) rest digits some (after-written Filled s refl) gap
-          unit
-      by (inr unit) = yuan-then Filled s (Ling ∷ t) rest digits (after-written Gap s refl) gap unit
-
-yi-none : (before : Before) (t : List Capital) → is_written before ≡ true → list_all is_proper t
-    ≡ true → accepts (AfterYuan true) t ≡ true → ReadFromWan before (Yuan ∷ t)
-yi-none before t written p h =
-    yuan-then before empty_section (Yuan ∷ t) (Yuan ∷ t)
-    (omega arith, omega arith, omega arith, omega arith)
-    (after-written (after_section before empty_section) empty_section
-    (ap is_written (after-written before empty_section written)))
-    refl (t, refl, h, p)
-
-great-below_yi : (is_round : Bool) (t : List Capital) → list_all is_proper t ≡ true
-    → accepts (AfterGreat BelowYi is_round) t ≡ true → ReadBelowYi is_round t
-great-below_yi is_round [] p h = cc
-great-below_yi is_round (Digit zero ∷ t) p h = cc
-great-below_yi true (Digit (suc n) ∷ t) p h =
-    record { keeps = false; below = yi-thousands true _ (at-thousands OnlyWan n t p h) }
-great-below_yi false (Digit (suc n) ∷ t) p h =
-    record { keeps = true; below = yi-thousands false _ (at-thousands OnlyWan n t p h) }
-great-below_yi true (Ling ∷ t) p h = record {
-  keeps = true;
-  below =
-      yi-gap t (ling-thousands BelowYi t (rest-proper Ling t p) h);
-}
-great-below_yi false (Ling ∷ t) p h =
-    let r = ling-thousands BelowYiGap t (rest-proper Ling t p) h in
-    record {
-      keeps = true;
-      below = yi-filled t r.thousands r.hundreds r.tens r.ones r.rest
-          (r.low_thousands, r.low_hundreds, r.low_tens, r.low) r.some r.gap r.ends r.proper;
-    }
-great-below_yi is_round (Yuan ∷ t) p h =
-    record {
-      keeps = true;
-      below = yi-none (behind true (front is_round)) t
-          (written-behind true is_round) (rest-proper Yuan t p) h;
-    }
-great-below_yi is_round (capital ∷ t) p h = cc
-
--- the text is a form with no currency in front
-record IsForm (t : List Capital) : Type 0 where
-  choices : Choices
-  places : Places
-  digits : ArePlaces places
-  is : t ≡ from_top choices places
-
-no-digits : AreDigits empty_section
-no-digits = (omega arith, omega arith, omega arith, omega arith)
-
--- no section stands in front of that of 万
-alone : (t : List Capital) → ReadFromWan Nothing t → IsForm t
-alone t r = record {
-  choices = chosen true true r.wan_keeps r.yuan_keeps r.jiao_keeps;
-  places = record {
-    wan_yi = empty_section;
-    yi = empty_section;
-    wan = r.wan;
-    yuan = r.yuan;
-    jiao =
-        r.jiao;
-    fen = r.fen;
-  };
-  digits = (no-digits, no-digits, r.wan_digits, r.yuan_digits, r.low_jiao, r.low_fen);
-  is = r.is;
-}
-
--- behind a first section that 亿 counts
-with-yi : (s : Section) (t rest : List Capital) → AreDigits s → is_empty s ≡ false → t
-    ≡ section_text Nothing s ++ rest → By Yi (AfterGreat BelowYi (is_zero s.ones)) rest → IsForm t
-with-yi s t rest digits some is unit =
-    let q = great-below_yi (is_zero s.ones) unit.0 unit.3 unit.2 in
-    let r = q.below in
-    let choices = chosen true q.keeps r.wan_keeps r.yuan_keeps r.jiao_keeps in
-    let p : Places = record {
-      wan_yi = empty_section;
-      yi = s;
-      wan = r.wan;
-      yuan = r.yuan;
-      jiao =
-          r.jiao;
-      fen = r.fen;
-    } in
-    record {
-      choices = choices;
-      places = p;
-      digits = (no-digits, digits, r.wan_digits, r.yuan_digits, r.low_jiao, r.low_fen);
-      is = yi-joined q.keeps Nothing s (λ b. from_wan choices b p) t rest unit.0
-          (after-some s some) is unit.1 r.is;
-    }
-
--- behind a first section that 万 counts, and one that 亿 counts
-with-wan_yi : (s : Section) (t rest : List Capital) (q : ReadBelow BelowWan (is_zero s.ones) rest)
-    → AreDigits s → is_empty s ≡ false → t ≡ section_text Nothing s ++ Wan ∷ rest
-    → By Yi (AfterGreat BelowYi (is_zero q.s.ones)) q.rest → IsForm t
-with-wan_yi s t rest q digits some is unit =
-    let y = great-below_yi (is_zero q.s.ones) unit.0 unit.3 unit.2 in
-    let r = y.below in
-    let choices = chosen q.keeps y.keeps r.wan_keeps r.yuan_keeps r.jiao_keeps in
-    let p : Places = record {
-      wan_yi = s;
-      yi = q.s;
-      wan = r.wan;
-      yuan = r.yuan;
-      jiao =
-          r.jiao;
-      fen = r.fen;
-    } in
-    let below = behind q.keeps (front (is_zero s.ones)) in
-    let after_below = after-written below q.s (written-behind q.keeps (is_zero s.ones)) in
-    let yi = yi-joined y.keeps below q.s (λ b. from_wan choices b p) rest q.rest unit.0 after_below
-    q.is unit.1 r.is in
-    record {
-      choices = choices;
-      places = p;
-      digits = (digits, q.digits, r.wan_digits, r.yuan_digits, r.low_jiao, r.low_fen);
-      is = wan-joined q.keeps Nothing s (λ b. from_yi choices b p) t (Wan ∷ rest) rest some
-          (after-some s some) is refl yi;
-    }
-
--- behind a first section that 万 counts, and the last one
-with-wan : (s : Section) (t rest : List Capital) (q : ReadBelow BelowWan (is_zero s.ones) rest)
-    → AreDigits s → is_empty s ≡ false → t ≡ section_text Nothing s ++ Wan ∷ rest
-    → By Yuan (AfterYuan (is_zero q.s.ones)) q.rest → IsForm t
-with-wan s t rest q digits some is unit =
-    let small = after-yuan (is_zero q.s.ones) unit.0 unit.3 unit.2 in
-    let choices = chosen true true q.keeps small.keeps small.closes in
-    let below = behind q.keeps (front (is_zero s.ones)) in
-    let after_below = after-written below q.s (written-behind q.keeps (is_zero s.ones)) in
-    let yuan = yuan-joined choices below q.s small.jiao small.fen rest q.rest unit.0 after_below
-    q.is unit.1 small.is in
-    record {
-      choices = choices;
-      places = record {
-        wan_yi = empty_section;
-        yi = empty_section;
-        wan = s;
-        yuan = q.s;
-        jiao =
-            small.jiao;
-        fen = small.fen;
-      };
-      digits = (no-digits, no-digits, digits, q.digits, small.low_jiao, small.low_fen);
-      is = wan-joined q.keeps Nothing s (λ b. yuan_text choices b q.s small.jiao small.fen)
-          t (Wan ∷ rest) rest some (after-some s some) is refl yuan;
-    }
-
--- behind a first section that 元 closes
-with-yuan : (s : Section) (t rest : List Capital) → AreDigits s → is_empty s ≡ false
-    → t ≡ section_text Nothing s ++ rest → By Yuan (AfterYuan (is_zero s.ones)) rest → IsForm t
-with-yuan s t rest digits some is unit =
-    alone t (yuan-then Nothing s t rest digits (after-some s some) is unit)
-
-first-section : (t : List Capital) → FirstThousands Top t → IsForm t
-first-section t r = by (closed-top (is_zero r.ones) r.rest r.proper
-    (ap (λ stage. closed stage (is_zero r.ones) r.rest) (sym (with-top r.thousands))
-    ∙ r.ends)) where
-      s : Section
-      s = four r.thousands r.hundreds r.tens r.ones
-
-      digits : AreDigits s
-      digits = (r.low_thousands, r.low_hundreds, r.low_tens, r.low)
-
-      behind_wan : (u : List Capital) → t ≡ section_text Nothing s ++ Wan ∷ u
-          → (q : ReadBelow BelowWan (is_zero s.ones) u)
-          → By Yi (AfterGreat BelowYi (is_zero q.s.ones)) q.rest
-          ⊎ By Yuan (AfterYuan (is_zero q.s.ones)) q.rest → IsForm t
-      behind_wan u is q (inl unit) = with-wan_yi s t u q digits r.some is unit
-      behind_wan u is q (inr unit) = with-wan s t u q digits r.some is unit
-
-      by : By Wan (AfterGreat BelowWan (is_zero r.ones)) r.rest
-          ⊎ (By Yi (AfterGreat BelowYi (is_zero r.ones)) r.rest
-          ⊎ By Yuan (AfterYuan (is_zero r.ones)) r.rest) → IsForm t
-      by (inl unit) =
-          let q = great-below_wan (is_zero r.ones) unit.0 unit.3 unit.2 in
-          behind_wan unit.0 (r.is ∙ ap (λ l. section_text Nothing s ++ l) unit.1) q
-          (closed-below_wan (is_zero q.s.ones) q.rest q.proper q.ends)
-      by (inr (inl unit)) = with-yi s t r.rest digits r.some r.is unit
-      by (inr (inr unit)) = with-yuan s t r.rest digits r.some r.is unit
-
--- jiao or fen alone
-jiao-alone : (n : ℕ) (t : List Capital) → suc n < 10 → ReadFen t → IsForm (Digit (suc n) ∷ Jiao ∷ t)
-jiao-alone n t low r = record {
-  choices = chosen true true true true r.closes;
-  places = record {
-    wan_yi = empty_section;
-    yi = empty_section;
-    wan = empty_section;
-    yuan =
-        empty_section;
-    jiao = suc n;
-    fen = r.fen;
-  };
-  digits = (no-digits, no-digits, no-digits, no-digits, low, r.low);
-  is = ap (λ l. Digit (suc n) ∷ Jiao ∷ l)
-      (r.is ∙ ap (λ l. place_text Filled r.fen (Fen ∷ []) ++ l) (closing-one n r.fen r.closes));
-}
-
-first-digit : (n : ℕ) (t : List Capital) → list_all is_proper (Digit (suc n) ∷ t) ≡ true
-    → accepts FirstDigit t ≡ true → IsForm (Digit (suc n) ∷ t)
-first-digit n [] p h = cc
-first-digit n (Jiao ∷ t) p h = jiao-alone n t (digit-low n (Jiao ∷ t) p)
-    (after-jiao t (rest-proper Jiao t (rest-proper (Digit (suc n)) (Jiao ∷ t) p)) h)
-first-digit n (Fen ∷ t) p h = record {
-  choices = chosen true true true true true;
-  places = record {
-    wan_yi = empty_section;
-    yi = empty_section;
-    wan = empty_section;
-    yuan =
-        empty_section;
-    jiao = 0;
-    fen = suc n;
-  };
-  digits = (no-digits, no-digits, no-digits, no-digits, omega arith, digit-low n (Fen ∷ t) p);
-  is = ap (λ l. Digit (suc n) ∷ Fen ∷ l) (complete-nil t h);
-}
-first-digit n (capital ∷ t) p h = first-section _ (below-thousands-first Top n (capital ∷ t) p h)
-
--- 零元 in front
-no-yuan : (t : List Capital) → list_all is_proper t ≡ true → accepts NoYuan t ≡ true
-    → IsForm (Ling ∷ t)
-no-yuan [] p h = cc
-no-yuan (Yuan ∷ t) p h =
-    let small = after-yuan true t (rest-proper Yuan t p) h in
-    record {
-      choices = record {
-        currency = false;
-        no_yuan = true;
-        behind_wan_yi = true;
-        behind_yi = true;
-        behind_wan = true;
-        behind_yuan = small.keeps;
-        behind_jiao = small.closes;
-      };
-      places = record {
-        wan_yi = empty_section;
-        yi = empty_section;
-        wan = empty_section;
-        yuan =
-            empty_section;
-        jiao = small.jiao;
-        fen = small.fen;
-      };
-      digits = (no-digits, no-digits, no-digits, no-digits, small.low_jiao, small.low_fen);
-      is = ap (λ l. Ling ∷ Yuan ∷ l) small.is;
-    }
-no-yuan (capital ∷ t) p h = cc
-
-after-currency : (t : List Capital) → list_all is_proper t ≡ true → accepts AfterCurrency t ≡ true
-    → IsForm t
-after-currency [] p h = cc
-after-currency (Ling ∷ t) p h = no-yuan t (rest-proper Ling t p) h
-after-currency (Digit zero ∷ t) p h = cc
-after-currency (Digit (suc n) ∷ t) p h = first-digit n t p h
-after-currency (capital ∷ t) p h = cc
-
--- a text that is a form
-pub record IsWhole (t : List Capital) : Type 0 where
+-- a text that is a form, or what stands of one from a part on
+pub record IsForm (form : Choices → Places → List Capital) (t : List Capital) : Type 0 where
   pub choices : Choices
   pub places : Places
   pub digits : ArePlaces places
-  pub is : t ≡ amount_form choices places
+  pub is : t ≡ form choices places
 
-plain : (t : List Capital) → IsForm t → IsWhole t
-plain t r = record {
-  choices = record r.choices { currency = false };
+-- jiao and fen, and what closes them; something is written
+record IsSmall (before : Before) (t : List Capital) : Type 0 where
+  jiao : ℕ
+  fen : ℕ
+  low_jiao : jiao < 10
+  low_fen : fen < 10
+  closes : Bool
+  is : t ≡ small_text before jiao fen closes
+  some : (is_written before || not (are_zero (small_places jiao fen))) ≡ true
+
+small-read : (before : Before) (t : List Capital) → are_proper t ≡ true
+    → spells (ways (start small (known before))) t ≡ true → IsSmall before t
+small-read before t proper h =
+    let r = places-read small (units_of small) before true t proper h in
+    let c = closing-read before r.digits.0 r.digits.1.0 r.rest r.proper r.closes in
+    record {
+      jiao = r.digits.0;
+      fen = r.digits.1.0;
+      low_jiao = r.low.0;
+      low_fen = r.low.1.0;
+      closes = c.0;
+      is = r.is ∙ ap (λ l. places_text before (small_places r.digits.0 r.digits.1.0) ++ l) c.1;
+      some = c.2;
+    } where
+      nothing-more : (t : List Capital) → spells (([], finish) ∷ []) t ≡ true → t ≡ []
+      nothing-more [] h = refl
+      nothing-more (x ∷ t) h = let none = none-spelled t in cc
+
+      zheng-read : (t : List Capital) → are_proper t ≡ true
+          → spells ((Some Zheng ∷ [], finish) ∷ []) t ≡ true → t ≡ Zheng ∷ []
+      zheng-read t proper h =
+          let r = word-read (Zheng ∷ []) finish t proper h in
+          r.is ∙ ap (λ t. Zheng ∷ t) (nothing-more r.rest r.goes_on)
+
+      closing-read : (before : Before) (jiao fen : ℕ) (t : List Capital) → are_proper t ≡ true
+          → spells (close_of small (after_places before (small_places jiao fen))
+          (are_zero (small_places jiao fen))) t ≡ true
+          → (closes : Bool) × (t ≡ closing jiao fen closes)
+          × ((is_written before || not (are_zero (small_places jiao fen))) ≡ true)
+      closing-read Nothing zero zero t proper h = let none = none-spelled t in cc
+      closing-read Gap zero zero t proper h = (true, zheng-read t proper h, refl)
+      closing-read Filled zero zero t proper h = (true, zheng-read t proper h, refl)
+      closing-read before (suc j) zero t proper h =
+          elim (spells-cases (([], finish) ∷ []) ((Some Zheng ∷ [], finish) ∷ []) t h) [
+            | inl none ↦ (false, nothing-more t none, or-true (is_written before))
+            | inr closes ↦ (true, zheng-read t proper closes, or-true (is_written before))
+          ]
+      closing-read before zero (suc f) t proper h =
+          (true, nothing-more t h, or-true (is_written before))
+      closing-read before (suc j) (suc f) t proper h =
+          (true, nothing-more t h, or-true (is_written before))
+
+no-digits : AreDigits (record { thousands = 0; hundreds = 0; tens = 0; ones = 0 })
+no-digits = (omega arith, omega arith, omega arith, omega arith)
+
+-- the amount with jiao and fen alone
+abbrev small_alone : ℕ → ℕ → Places
+small_alone jiao fen =
+    let none : Section = record { thousands = 0; hundreds = 0; tens = 0; ones = 0 } in
+    record { wan_yi = none; yi = none; wan = none; yuan = none; jiao = jiao; fen = fen }
+
+-- 元 and what stands behind it
+abbrev yuan_rest : Before → Choices → Places → List Capital
+yuan_rest after choices p =
+    let named = choices.no_yuan || are_zero (small_places p.jiao p.fen) in
+    yuan_unit after named
+    ++ small_text (after_yuan_unit choices.behind_yuan after named) p.jiao p.fen
+    choices.behind_jiao
+
+unit-then : (after before : Before) (no_yuan keeps : Bool) (word t rest : List Capital)
+    → t ≡ word ++ rest → (r : IsSmall before rest)
+    → ((none : Bool) → are_zero (small_places r.jiao r.fen) ≡ none
+    → (yuan_unit after (no_yuan || none) ≡ word)
+    × (after_yuan_unit keeps after (no_yuan || none) ≡ before))
+    → IsForm (yuan_rest after) t
+unit-then after before no_yuan keeps word t rest is r unit =
+    let named = unit (are_zero (small_places r.jiao r.fen)) refl in
+    record {
+      choices = record written { no_yuan = no_yuan; behind_yuan = keeps; behind_jiao = r.closes };
+      places = small_alone r.jiao r.fen;
+      digits = (no-digits, no-digits, no-digits, no-digits, r.low_jiao, r.low_fen);
+      is = is ∙ ap (λ l. word ++ l) r.is
+          ∙ sym (ap₂ (λ (word : List Capital) (before : Before).
+          word ++ small_text before r.jiao r.fen r.closes) named.0 named.1);
+    }
+
+yuan-unit-read : (after : Before) (empty : Bool) (t : List Capital) → are_proper t ≡ true
+    → spells (close_of yuan after empty) t ≡ true → IsForm (yuan_rest after) t
+yuan-unit-read after empty t proper h = by after h where
+  behind-word : (after before : Before) (no_yuan : Bool) (word : List Capital)
+      → ((keeps none : Bool) → (yuan_unit after (no_yuan || none) ≡ word)
+      × (after_yuan_unit keeps after (no_yuan || none) ≡ behind keeps before))
+      → spells (opened (map Some word, start small (behind_unit before))) t ≡ true
+      → IsForm (yuan_rest after) t
+  behind-word after before no_yuan word unit h =
+      let r = word-read word (start small (behind_unit before)) t proper h in
+      let front = front-read small before r.rest r.goes_on in
+      unit-then after (behind front.0 before) no_yuan front.0 word t r.rest r.is
+      (small-read (behind front.0 before) r.rest r.proper front.1)
+      (λ none e. unit front.0 none)
+
+  filled-behind : (keeps : Bool) → Filled ≡ behind keeps Filled
+  filled-behind true = refl
+  filled-behind false = refl
+
+  by : (after : Before) → spells (close_of yuan after empty) t ≡ true → IsForm (yuan_rest after) t
+  by Nothing h =
+      elim (spells-cases ((Some Ling ∷ Some Yuan ∷ [], start small either) ∷ [])
+      (ways (start small (known Nothing))) t h) [
+        | inl named ↦ behind-word Nothing Gap true (Ling ∷ Yuan ∷ []) (λ keeps none. (refl, refl)) named
+        | inr not_named ↦
+            let r = small-read Nothing t proper not_named in
+            unit-then Nothing Nothing false true [] t t refl r (λ none e. by-none r none e)
+      ] where
+        by-none : (r : IsSmall Nothing t) (none : Bool) → are_zero (small_places r.jiao r.fen) ≡ none
+            → (yuan_unit Nothing none ≡ []) × (after_yuan_unit true Nothing none ≡ Nothing)
+        by-none r true e =
+            let some = r.some in
+            let no : not (are_zero (small_places r.jiao r.fen)) ≡ false = ap not e in
+            absurd (cc)
+        by-none r false e = (refl, refl)
+  by Gap h = behind-word Gap Gap false (Yuan ∷ []) (λ keeps none. (refl, refl)) h
+  by Filled h = behind-word Filled Filled false (Yuan ∷ [])
+      (λ keeps none. (refl, filled-behind keeps)) h
+
+-- the digits of a section
+abbrev Four : Type 0
+Four = Digits (units_of wan)
+
+abbrev section_by : Four → Section
+section_by d = record { thousands = d.0; hundreds = d.1.0; tens = d.1.1.0; ones = d.1.1.1.0 }
+
+-- three pieces, one behind the other
+joined : (t first rest second last below : List Capital) → t ≡ first ++ rest
+    → rest ≡ second ++ last → last ≡ below → t ≡ (first ++ second) ++ below
+joined t first rest second last below a b c =
+    a ∙ ap (λ l. first ++ l) (b ∙ ap (λ l. second ++ l) c) ∙ sym (append_assoc first second below)
+
+abbrev are_low : (d : Four) → AreLow (units_of wan) d → AreDigits (section_by d)
+are_low d low = (low.0, low.1.0, low.1.1.0, low.1.1.1.0)
+
+-- from each section on
+from-yuan : (before : Before) (t : List Capital) → are_proper t ≡ true
+    → spells (ways (start yuan (known before))) t ≡ true
+    → IsForm (λ choices p. from_yuan choices before p) t
+from-yuan before t proper h =
+    let r = places-read yuan (units_of yuan) before true t proper h in
+    let s = section_by r.digits in
+    let u = yuan-unit-read (after_section before s) (is_empty s) r.rest r.proper r.closes in
+    let d = u.digits in
+    record {
+      choices = u.choices;
+      places = record u.places { yuan = s };
+      digits = (d.0, d.1, d.2, are_low r.digits r.low, d.4, d.5);
+      is = r.is ∙ ap (λ l. section_text before s ++ l) u.is;
+    }
+
+from-wan : (before : Before) (t : List Capital) → are_proper t ≡ true
+    → spells (ways (start wan (known before))) t ≡ true
+    → IsForm (λ choices p. from_wan choices before p) t
+from-wan before t proper h =
+    let r = places-read wan (units_of wan) before true t proper h in
+    let s = section_by r.digits in
+    let after = after_section before s in
+    let counts = not (is_empty s) in
+    let u = unit-read yuan Wan counts after r.rest r.proper r.closes in
+    let below = from-yuan (after_unit counts u.keeps after) u.rest u.proper u.goes_on in
+    let d = below.digits in
+    record {
+      choices = record below.choices { behind_wan = u.keeps };
+      places = record below.places { wan = s };
+      digits = (d.0, d.1, are_low r.digits r.low, d.3, d.4, d.5);
+      is = joined t (section_text before s) r.rest (unit_text counts Wan) u.rest
+          (from_yuan below.choices (after_unit counts u.keeps after) below.places) r.is u.is below.is;
+    }
+
+from-yi : (before : Before) (t : List Capital) → are_proper t ≡ true
+    → spells (ways (start yi (known before))) t ≡ true
+    → IsForm (λ choices p. from_yi choices before p) t
+from-yi before t proper h =
+    let r = places-read yi (units_of yi) before true t proper h in
+    let s = section_by r.digits in
+    let after = after_section before s in
+    let counts = is_written after in
+    let u = unit-read wan Yi counts after r.rest r.proper r.closes in
+    let below = from-wan (after_unit counts u.keeps after) u.rest u.proper u.goes_on in
+    let d = below.digits in
+    record {
+      choices = record below.choices { behind_yi = u.keeps };
+      places = record below.places { yi = s };
+      digits = (d.0, are_low r.digits r.low, d.2, d.3, d.4, d.5);
+      is = joined t (section_text before s) r.rest (unit_text counts Yi) u.rest
+          (from_wan below.choices (after_unit counts u.keeps after) below.places) r.is u.is below.is;
+    }
+
+from-top : (t : List Capital) → are_proper t ≡ true
+    → spells (ways (start wan_yi (known Nothing))) t ≡ true → IsForm from_top t
+from-top t proper h =
+    let r = places-read wan_yi (units_of wan_yi) Nothing true t proper h in
+    let s = section_by r.digits in
+    let after = after_section Nothing s in
+    let counts = not (is_empty s) in
+    let u = unit-read yi Wan counts after r.rest r.proper r.closes in
+    let below = from-yi (after_unit counts u.keeps after) u.rest u.proper u.goes_on in
+    let d = below.digits in
+    record {
+      choices = record below.choices { behind_wan_yi = u.keeps };
+      places = record below.places { wan_yi = s };
+      digits = (are_low r.digits r.low, d.1, d.2, d.3, d.4, d.5);
+      is = joined t (section_text Nothing s) r.rest (unit_text counts Wan) u.rest
+          (from_yi below.choices (after_unit counts u.keeps after) below.places) r.is u.is below.is;
+    }
+
+with-currency : (currency : Bool) (front t rest : List Capital)
+    → front ≡ (if currency then Ren ∷ Min ∷ Bi ∷ [] else []) → t ≡ front ++ rest
+    → IsForm from_top rest → IsForm amount_form t
+with-currency currency front t rest e is r = record {
+  choices = record r.choices { currency = currency };
   places = r.places;
   digits = r.digits;
-  is = r.is;
+  is = is ∙ ap₂ (λ (front rest : List Capital). front ++ rest) e r.is;
 }
 
-after-ren : (t : List Capital) → list_all is_proper t ≡ true → accepts AfterRen t ≡ true
-    → IsWhole (Ren ∷ t)
-after-ren [] p h = cc
-after-ren (Min ∷ []) p h = cc
-after-ren (Min ∷ Bi ∷ t) p h =
-    let r = after-currency t (rest-proper Bi t (rest-proper Min (Bi ∷ t) p)) h in
-    record {
-      choices = record r.choices { currency = true };
-      places = r.places;
-      digits = r.digits;
-      is = ap (λ l. Ren ∷ Min ∷ Bi ∷ l) r.is;
-    }
-after-ren (Min ∷ capital ∷ t) p h = cc
-after-ren (capital ∷ t) p h = cc
-
-pub accepted : (t : List Capital) → list_all is_proper t ≡ true → accepts Beginning t ≡ true
-    → IsWhole t
-accepted [] p h = cc
-accepted (Ren ∷ t) p h = after-ren t (rest-proper Ren t p) h
-accepted (capital ∷ t) p h = plain (capital ∷ t) (after-currency (capital ∷ t) p h)
+pub accepted : (t : List Capital) → are_proper t ≡ true → accepts Beginning t ≡ true
+    → IsForm amount_form t
+accepted t proper h =
+    let top = start wan_yi (known Nothing) in
+    let currency : List Way = (Some Ren ∷ Some Min ∷ Some Bi ∷ [], top) ∷ [] in
+    elim (spells-cases currency (ways top) t (sym (reads-ways Beginning t) ∙ h)) [
+      | inl named ↦
+          let r = word-read (Ren ∷ Min ∷ Bi ∷ []) top t proper named in
+          with-currency true (Ren ∷ Min ∷ Bi ∷ []) t r.rest refl r.is
+          (from-top r.rest r.proper r.goes_on)
+      | inr plain ↦ with-currency false [] t t refl refl (from-top t proper plain)
+    ]

@@ -1,5 +1,5 @@
 -- Worked examples: what the definitions compute to. Those that are marked stand in the rules.
-use Rattle.std.proofs.Common.{◌≡◌, ◌-◌, ◌^◌, Bool, true, false, refl, codes}
+use Rattle.std.proofs.Common.{◌≡◌, ◌-◌, ◌^◌, Bool, true, false, map, Some, refl, codes}
 use Rattle.cn_core.specs.declared.script.ChineseVariant.TheVariants.{Traditional, Simple}
 use Rattle.cn_core.specs.Characters.{digit_char, unit_char}
 use Rattle.cn_amount.specs.Form.{Choices, amount_form}
@@ -107,32 +107,32 @@ choosing currency no_yuan wan yuan jiao = record {
 
 -- in the rules
 no_zero_behind_wan : capitals_of (codes "壹拾万柒仟元零伍角叁分")
-    ≡ amount_form (choosing false false false true true) (places_of 10700053)
+    ≡ map Some (amount_form (choosing false false false true true) (places_of 10700053))
 unfolding capital_of
 no_zero_behind_wan = refl
 
 -- in the rules
 nothing_behind_jiao : capitals_of (codes "壹仟肆佰零玖元伍角")
-    ≡ amount_form (choosing false false true true false) (places_of 140950)
+    ≡ map Some (amount_form (choosing false false true true false) (places_of 140950))
 unfolding capital_of
 nothing_behind_jiao = refl
 
 zero_before_jiao : capitals_of (codes "壹拾元零壹角整")
-    ≡ amount_form (choosing false false true true true) (places_of 1010)
+    ≡ map Some (amount_form (choosing false false true true true) (places_of 1010))
 unfolding capital_of
 zero_before_jiao = refl
 
 no_yuan_named : capitals_of (codes "零元伍角")
-    ≡ amount_form (choosing false true true false false) (places_of 50)
+    ≡ map Some (amount_form (choosing false true true false false) (places_of 50))
 unfolding capital_of
 no_yuan_named = refl
 
 no_yuan_and_zero : capitals_of (codes "零元零伍分")
-    ≡ amount_form (choosing false true true false false) (places_of 5)
+    ≡ map Some (amount_form (choosing false true true false false) (places_of 5))
 unfolding capital_of
 no_yuan_and_zero = refl
 
 currency_in_front : capitals_of (codes "人民幣叄佰貳拾伍圓零肆分")
-    ≡ amount_form (choosing true false true true true) (places_of 32504)
+    ≡ map Some (amount_form (choosing true false true true true) (places_of 32504))
 unfolding capital_of
 currency_in_front = refl

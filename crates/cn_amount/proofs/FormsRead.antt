@@ -1,517 +1,235 @@
--- Each form is read to its end.
-use Rattle.std.proofs.Common.{◌≡◌, ℕ, zero, suc, Bool, true, false, ◌&&◌, List, [], ◌∷◌, ◌++◌, refl, sym, ap, subst, ◌∙◌, if◌then◌else◌}
+-- Each form is written along the ways, and so read to its end.
+use Rattle.std.proofs.Common.{◌≡◌, ℕ, zero, suc, Bool, true, false, not, ◌&&◌, ◌||◌, inl, inr, List, [], ◌∷◌, ◌++◌, map, Some, refl, sym, ap, ◌∙◌, append-nil, append_assoc, if◌then◌else◌}
+use Rattle.std.proofs.Math.Bool.{and-true, and-false}
 use Rattle.cn_amount.specs.declared.before.Before.{Before}
 use Rattle.cn_amount.specs.declared.before.Before.TheVariants.{Nothing, Gap, Filled}
 use Rattle.cn_amount.specs.declared.capital.Capital.{Capital}
-use Rattle.cn_amount.specs.declared.capital.Capital.TheVariants.{Ling, Digit, Shi, Bai, Qian, Wan, Yi, Yuan, Ren, Min, Bi}
+use Rattle.cn_amount.specs.declared.capital.Capital.TheVariants.{Ling, Wan, Yi, Yuan, Ren, Min, Bi}
 use Rattle.cn_amount.specs.declared.places.Section.{Section}
 use Rattle.cn_amount.specs.declared.places.Places.{Places}
-use Rattle.cn_amount.specs.declared.state.Place.{Place}
-use Rattle.cn_amount.specs.declared.state.Place.TheVariants.{Ones, Tens, Hundreds, Thousands}
-use Rattle.cn_amount.specs.declared.state.Stage.{Stage}
-use Rattle.cn_amount.specs.declared.state.Stage.TheVariants.{Top, BelowWan, BelowYi, BelowYiGap, OnlyWan, Last}
-use Rattle.cn_amount.specs.declared.state.State.TheVariants.{Beginning, AfterCurrency, FirstDigit, AfterGreat, AfterLing, DigitBelow, AfterUnit, AfterYuan}
-use Rattle.cn_amount.specs.Form.{Choices, is_zero, is_empty, after_section, behind, ones_text, tens_text, hundreds_text, section_text, small_text, yuan_text, from_wan, from_yi, from_top, amount_form}
-use Rattle.cn_amount.specs.Working.Steps.{bare, behind_thousands, after_ling, accepts}
-use Rattle.cn_amount.proofs.Joins.{front, four, lower, empty_section, written-behind, after-written, after-some, yuan-is, wan-is, yi-is}
-use Rattle.cn_amount.proofs.Sections.{closed, at-ones, below-ones, stage_with}
+use Rattle.cn_amount.specs.declared.state.State.TheVariants.{Beginning}
+use Rattle.cn_amount.specs.Form.{Choices, is_empty, is_written, are_zero, after_digit, after_places, after_section, after_unit, after_yuan_unit, behind, closing, place_text, places_text, places_in, small_places, small_text, section_text, unit_text, yuan_unit, from_yuan, from_wan, from_yi, from_top, amount_form}
+use Rattle.cn_amount.specs.Working.Steps.{accepts}
+use Rattle.cn_amount.proofs.Points.{Part, wan_yi, yi, wan, yuan, small, known, either, Point, Way, at, start, units_of, behind_unit, digit_way, place_ways, front_ways, unit_ways, close_of, ways, opened, spells, spells-first, spells-more, spells-cases, fits-self}
+use Rattle.cn_amount.proofs.States.{reads-ways}
 
-below-closed : (stage : Stage) (place : Place) (t : List Capital) → closed stage false t ≡ true
-    → accepts (DigitBelow stage place) t ≡ true
-below-closed stage place [] h = cc
-below-closed stage Ones (capital ∷ t) h = h
-below-closed stage Tens (Shi ∷ t) h = cc
-below-closed stage Tens (capital ∷ t) h = h
-below-closed stage Hundreds (Shi ∷ t) h = cc
-below-closed stage Hundreds (Bai ∷ t) h = cc
-below-closed stage Hundreds (capital ∷ t) h = h
-below-closed stage Thousands (Shi ∷ t) h = cc
-below-closed stage Thousands (Bai ∷ t) h = cc
-below-closed stage Thousands (Qian ∷ t) h = cc
-below-closed stage Thousands (capital ∷ t) h = h
+-- capitals that come next, and what stands behind them
+word-spelled : (word : List Capital) (p : Point) (t : List Capital)
+    → spells (opened (map Some word, p)) (word ++ t) ≡ spells (ways p) t
+word-spelled [] p t = refl
+word-spelled (c ∷ word) p t =
+    ap (λ b. spells (elim b [ true ↦ opened (map Some word, p) | false ↦ [] ] ++ []) (word ++ t))
+    (fits-self c)
+    ∙ ap (λ more. spells more (word ++ t)) (append-nil (opened (map Some word, p)))
+    ∙ word-spelled word p t
 
-unit-closed : (stage : Stage) (place : Place) (t : List Capital) → closed stage true t ≡ true
-    → accepts (AfterUnit stage place) t ≡ true
-unit-closed stage place [] h = cc
-unit-closed stage Ones (capital ∷ t) h = h
-unit-closed stage Tens (Digit value ∷ t) h = cc
-unit-closed stage Tens (capital ∷ t) h = h
-unit-closed stage Hundreds (Digit value ∷ t) h = cc
-unit-closed stage Hundreds (Ling ∷ t) h = cc
-unit-closed stage Hundreds (capital ∷ t) h = h
-unit-closed stage Thousands (Digit value ∷ t) h = cc
-unit-closed stage Thousands (Ling ∷ t) h = cc
-unit-closed stage Thousands (capital ∷ t) h = h
+digit-spelled : (part : Part) (unit : List Capital) (units : List (List Capital))
+    (before : Before) (n : ℕ) (t : List Capital) → spells (ways (at part units Filled false)) t ≡ true
+    → spells (digit_way part unit units before ∷ []) (place_text before (suc n) unit ++ t) ≡ true
+digit-spelled part unit units before n t h = by before where
+  p : Point
+  p = at part units Filled false
 
-first-closed : (t : List Capital) → closed Top false t ≡ true → accepts FirstDigit t ≡ true
-first-closed [] h = cc
-first-closed (Wan ∷ t) h = h
-first-closed (Yi ∷ t) h = h
-first-closed (Yuan ∷ t) h = h
-first-closed (capital ∷ t) h = cc
+  plain : spells (opened (map Some unit, p) ++ []) (unit ++ t) ≡ true
+  plain = ap (λ more. spells more (unit ++ t)) (append-nil (opened (map Some unit, p)))
+      ∙ word-spelled unit p t ∙ h
 
--- behind 拾, 佰 and 仟
-read-tens : (stage : Stage) (ones : ℕ) (t : List Capital) → closed stage (is_zero ones) t ≡ true
-    → accepts (AfterUnit stage Tens) (ones_text Filled ones ++ t) ≡ true
-read-tens stage zero t h = unit-closed stage Tens t h
-read-tens stage (suc n) t h = at-ones stage t ∙ h
+  by : (before : Before) → spells (digit_way part unit units before ∷ [])
+      (place_text before (suc n) unit ++ t) ≡ true
+  by Nothing = plain
+  by Gap = plain
+  by Filled = plain
 
-read-hundreds : (stage : Stage) (tens ones : ℕ) (t : List Capital) → closed stage (is_zero ones) t
-    ≡ true → accepts (AfterUnit stage Hundreds) (tens_text Filled tens ones ++ t) ≡ true
-read-hundreds stage (suc n) ones t h = read-tens stage ones t h
-read-hundreds stage zero (suc m) t h = below-ones stage t ∙ h
-read-hundreds stage zero zero t h = unit-closed stage Hundreds t h
+-- places
+abbrev units_in : List (ℕ × List Capital) → List (List Capital)
+units_in [] = []
+units_in (place ∷ rest) = place.1 ∷ units_in rest
 
-read-thousands : (stage : Stage) (hundreds tens ones : ℕ) (t : List Capital)
-    → closed stage (is_zero ones) t ≡ true
-    → accepts (AfterUnit stage Thousands) (hundreds_text Filled hundreds tens ones ++ t) ≡ true
-read-thousands stage (suc n) tens ones t h = read-hundreds stage tens ones t h
-read-thousands stage zero (suc m) ones t h = read-tens stage ones t h
-read-thousands stage zero zero (suc k) t h = below-closed stage Tens t h
-read-thousands stage zero zero zero t h = unit-closed stage Thousands t h
+places-spelled : (part : Part) (places : List (ℕ × List Capital)) (before : Before) (empty : Bool)
+    (t : List Capital)
+    → spells (close_of part (after_places before places) (empty && are_zero places)) t ≡ true
+    → spells (place_ways (close_of part) part (units_in places) before empty)
+    (places_text before places ++ t) ≡ true
+places-spelled part [] before empty t h =
+    ap (λ b. spells (close_of part before b) t) (sym (and-true empty)) ∙ h
+places-spelled part ((zero, unit) ∷ places) before empty t h =
+    spells-more (digit_way part unit (units_in places) before ∷ [])
+    (place_ways (close_of part) part (units_in places) (after_digit before 0) empty)
+    (places_text (after_digit before 0) places ++ t)
+    (places-spelled part places (after_digit before 0) empty t h)
+places-spelled part ((suc n, unit) ∷ places) before empty t h =
+    let rest = places-spelled part places Filled false t
+    (ap (λ b. spells (close_of part (after_places Filled places) b) t) (sym (and-false empty))
+    ∙ h) in
+    ap (spells (place_ways (close_of part) part (unit ∷ units_in places) before empty))
+    (append_assoc (place_text before (suc n) unit) (places_text Filled places) t)
+    ∙ spells-first (digit_way part unit (units_in places) before ∷ [])
+    (place_ways (close_of part) part (units_in places) (after_digit before 0) empty)
+    (place_text before (suc n) unit ++ (places_text Filled places ++ t))
+    (digit-spelled part unit (units_in places) before n (places_text Filled places ++ t) rest)
 
--- behind 零, right behind a unit
-ling-hundreds : (stage : Stage) (hundreds tens ones : ℕ) (t : List Capital)
-    → (is_zero hundreds && (is_zero tens && is_zero ones)) ≡ false
-    → closed stage (is_zero ones) t ≡ true
-    → accepts (AfterLing stage Hundreds) (hundreds_text Nothing hundreds tens ones ++ t) ≡ true
-ling-hundreds stage (suc n) tens ones t some h = read-hundreds stage tens ones t h
-ling-hundreds stage zero (suc m) ones t some h = read-tens stage ones t h
-ling-hundreds stage zero zero (suc k) t some h = below-closed stage Hundreds t h
-ling-hundreds stage zero zero zero t some h = cc
+-- where a 0 at the unit may count
+either-spelled : (part : Part) (units : List (List Capital)) (keeps empty : Bool) (t : List Capital)
+    → spells (place_ways (close_of part) part units (behind keeps Gap) empty) t ≡ true
+    → spells (front_ways (close_of part) part units either empty) t ≡ true
+either-spelled part [] true empty t h =
+    spells-more (close_of part Filled empty) (close_of part Gap empty) t h
+either-spelled part [] false empty t h =
+    spells-first (close_of part Filled empty) (close_of part Gap empty) t h
+either-spelled part (unit ∷ units) true empty t h =
+    spells-more (digit_way part unit units Filled ∷ [])
+    (digit_way part unit units Gap ∷ place_ways (close_of part) part units Gap empty) t h
+either-spelled part (unit ∷ units) false empty t h =
+    let rest = place_ways (close_of part) part units Gap empty in
+    elim (spells-cases (digit_way part unit units Filled ∷ []) rest t h) [
+      | inl first ↦ spells-first (digit_way part unit units Filled ∷ [])
+          (digit_way part unit units Gap ∷ rest) t first
+      | inr more ↦ spells-more (digit_way part unit units Filled ∷ digit_way part unit units Gap ∷ [])
+          rest t more
+    ]
 
-ling-thousands : (stage : Stage) (thousands hundreds tens ones : ℕ) (t : List Capital)
-    → (is_zero thousands && (is_zero hundreds && (is_zero tens && is_zero ones))) ≡ false
-    → closed (stage_with thousands stage) (is_zero ones) t ≡ true
-    → accepts (AfterLing stage Thousands)
-    (section_text Nothing (four thousands hundreds tens ones) ++ t) ≡ true
-ling-thousands stage (suc n) hundreds tens ones t some h =
-    read-thousands (behind_thousands stage) hundreds tens ones t h
-ling-thousands stage zero (suc m) tens ones t some h = read-hundreds stage tens ones t h
-ling-thousands stage zero zero (suc k) ones t some h = read-tens stage ones t h
-ling-thousands stage zero zero zero (suc l) t some h = below-closed stage Thousands t h
-ling-thousands stage zero zero zero zero t some h = cc
+front-spelled : (part : Part) (before : Before) (keeps : Bool) (t : List Capital)
+    → spells (ways (start part (known (behind keeps before)))) t ≡ true
+    → spells (ways (start part (behind_unit before))) t ≡ true
+front-spelled part Gap keeps t h = either-spelled part (units_of part) keeps true t h
+front-spelled part Nothing true t h = h
+front-spelled part Nothing false t h = h
+front-spelled part Filled true t h = h
+front-spelled part Filled false t h = h
 
--- the first section
-first-read : (thousands hundreds tens ones : ℕ) (t : List Capital)
-    → (is_zero thousands && (is_zero hundreds && (is_zero tens && is_zero ones))) ≡ false
-    → closed Top (is_zero ones) t ≡ true
-    → accepts AfterCurrency (section_text Nothing
-    (four thousands hundreds tens ones) ++ t) ≡ true
-first-read (suc n) hundreds tens ones t some h = read-thousands Top hundreds tens ones t h
-first-read zero (suc m) tens ones t some h = read-hundreds Top tens ones t h
-first-read zero zero (suc k) ones t some h = read-tens Top ones t h
-first-read zero zero zero (suc l) t some h = first-closed t h
-first-read zero zero zero zero t some h = cc
+unit-spelled : (part : Part) (unit : Capital) (counts keeps : Bool) (before : Before)
+    (t : List Capital)
+    → spells (ways (start part (known (after_unit counts keeps before)))) t ≡ true
+    → spells (unit_ways (close_of part) part unit counts before) (unit_text counts unit ++ t) ≡ true
+unit-spelled part unit true keeps before t h =
+    word-spelled (unit ∷ []) (start part (behind_unit before)) t
+    ∙ front-spelled part before keeps t h
+unit-spelled part unit false keeps before t h = h
 
--- behind 零: the text of a section begins with it
-gap-is : (thousands hundreds tens ones : ℕ) (t : List Capital)
-    → (is_zero thousands && (is_zero hundreds && (is_zero tens && is_zero ones))) ≡ false
-    → section_text Gap (four thousands hundreds tens ones) ++ t
-    ≡ Ling ∷ section_text Nothing (four thousands hundreds tens ones) ++ t
-gap-is (suc n) hundreds tens ones t some = refl
-gap-is zero (suc m) tens ones t some = refl
-gap-is zero zero (suc k) ones t some = refl
-gap-is zero zero zero (suc l) t some = refl
-gap-is zero zero zero zero t some = cc
+-- jiao and fen, where something is written
+small-spelled : (before : Before) (jiao fen : ℕ) (closes : Bool)
+    → (is_written before || not (are_zero (small_places jiao fen))) ≡ true
+    → spells (ways (start small (known before))) (small_text before jiao fen closes) ≡ true
+small-spelled before jiao fen closes some =
+    places-spelled small (small_places jiao fen) before true (closing jiao fen closes)
+    (by before jiao fen closes some) where
+      by : (before : Before) (jiao fen : ℕ) (closes : Bool)
+          → (is_written before || not (are_zero (small_places jiao fen))) ≡ true
+          → spells (close_of small (after_places before (small_places jiao fen))
+          (are_zero (small_places jiao fen))) (closing jiao fen closes) ≡ true
+      by Nothing zero zero closes some = cc
+      by Gap zero zero closes some = refl
+      by Filled zero zero closes some = refl
+      by before (suc j) zero true some = refl
+      by before (suc j) zero false some = refl
+      by before jiao (suc f) closes some = refl
 
--- an empty section
-empty-is : (thousands hundreds tens ones : ℕ)
-    → (is_zero thousands && (is_zero hundreds && (is_zero tens && is_zero ones))) ≡ true
-    → empty_section ≡ four thousands hundreds tens ones
-empty-is zero zero zero zero h = refl
-empty-is (suc n) hundreds tens ones h = cc
-empty-is zero (suc m) tens ones h = cc
-empty-is zero zero (suc k) ones h = cc
-empty-is zero zero zero (suc l) h = cc
+-- 元 and what stands behind it
+yuan-spelled : (choices : Choices) (after : Before) (empty : Bool) (jiao fen : ℕ)
+    → (let named = choices.no_yuan || are_zero (small_places jiao fen) in
+    spells (close_of yuan after empty) (yuan_unit after named
+    ++ small_text (after_yuan_unit choices.behind_yuan after named) jiao fen choices.behind_jiao)
+    ≡ true)
+yuan-spelled choices after empty jiao fen =
+    by after choices.no_yuan (are_zero (small_places jiao fen)) refl where
+      keeps : Bool
+      keeps = choices.behind_yuan
 
--- a section is empty or not
-pub by-empty : (P : Section → Type 0) (s : Section) → P empty_section → (is_empty s ≡ false → P s)
-    → P s
-by-empty P s none some = by (is_empty s) refl where
-  by : (b : Bool) → is_empty s ≡ b → P s
-  by true e = subst P (empty-is s.thousands s.hundreds s.tens s.ones e) none
-  by false e = some e
+      small_of : Before → List Capital
+      small_of before = small_text before jiao fen choices.behind_jiao
 
--- behind a 万 that stands in front of 亿 or 元, or the last 万
-record Plain (stage : Stage) : Type 0 where
-  bare_is : bare stage ≡ stage
-  ling_is : after_ling stage false ≡ AfterLing stage Hundreds
-  thousands_is : behind_thousands stage ≡ stage
-  no_wan : (t : List Capital) → closed stage true (Wan ∷ t) ≡ false
+      behind-yuan : (before : Before) (keeps : Bool) → is_written (behind keeps before) ≡ true
+          → spells (ways (start small (behind_unit before)))
+          (small_text (behind keeps before) jiao fen choices.behind_jiao) ≡ true
+      behind-yuan before keeps w = front-spelled small before keeps
+          (small_text (behind keeps before) jiao fen choices.behind_jiao)
+          (small-spelled (behind keeps before) jiao fen choices.behind_jiao
+          (ap (λ b. b || not (are_zero (small_places jiao fen))) w))
 
-plain-last : Plain Last
-plain-last = record { bare_is = refl; ling_is = refl; thousands_is = refl; no_wan = λ t. refl }
+      written-gap : (keeps : Bool) → is_written (behind keeps Gap) ≡ true
+      written-gap true = refl
+      written-gap false = refl
 
-plain-below_wan : Plain BelowWan
-plain-below_wan = record { bare_is = refl; ling_is = refl; thousands_is = refl; no_wan = λ t. refl }
-
-plain-with : (stage : Stage) → Plain stage → (n : ℕ) → stage_with n stage ≡ stage
-plain-with stage plain zero = refl
-plain-with stage plain (suc n) = plain.thousands_is
-
-great-closed : (stage : Stage) (is_round : Bool) (t : List Capital) → Plain stage
-    → closed stage true t ≡ true → accepts (AfterGreat stage is_round) t ≡ true
-great-closed stage is_round [] plain h = cc
-great-closed stage is_round (Ling ∷ t) plain h = cc
-great-closed stage is_round (Digit value ∷ t) plain h = cc
-great-closed stage is_round (Wan ∷ t) plain h = let e : closed stage true (Wan ∷ t) ≡ false =
-    plain.no_wan t in cc
-great-closed stage is_round (capital ∷ t) plain h = h
-
-great-thousands : (stage : Stage) (is_round : Bool) (n hundreds tens ones : ℕ) (t : List Capital)
-    → Plain stage → closed stage (is_zero ones) t ≡ true
-    → accepts (AfterGreat stage is_round)
-    (section_text Filled (four (suc n) hundreds tens ones) ++ t) ≡ true
-great-thousands stage is_round n hundreds tens ones t plain h =
-    ap (λ stage. accepts (AfterUnit stage Thousands)
-    (hundreds_text Filled hundreds tens ones ++ t)) plain.bare_is
-    ∙ read-thousands stage hundreds tens ones t h
-
-great-gap : (stage : Stage) (thousands hundreds tens ones : ℕ) (t : List Capital) → Plain stage
-    → (is_zero thousands && (is_zero hundreds && (is_zero tens && is_zero ones))) ≡ false
-    → closed stage (is_zero ones) t ≡ true
-    → accepts (AfterGreat stage true) (section_text Gap
-    (four thousands hundreds tens ones) ++ t) ≡ true
-great-gap stage thousands hundreds tens ones t plain some h =
-    ap (accepts (AfterGreat stage true)) (gap-is thousands hundreds tens ones t some)
-    ∙ ling-thousands stage thousands hundreds tens ones t some
-    (ap (λ stage. closed stage (is_zero ones) t) (plain-with stage plain thousands) ∙ h)
-
--- a section behind 万, in front of whose first digit is a 0
-gap-read : (stage : Stage) (is_round : Bool) (s : Section) (t : List Capital) → Plain stage
-    → (is_empty s ≡ false → closed stage (is_zero s.ones) t ≡ true
-    → accepts (AfterGreat stage is_round) (section_text Gap s ++ t) ≡ true)
-    → closed stage (is_zero s.ones) t ≡ true
-    → accepts (AfterGreat stage is_round) (section_text Gap s ++ t) ≡ true
-gap-read stage is_round s t plain some =
-    by-empty (λ s. closed stage (is_zero s.ones) t ≡ true
-    → accepts (AfterGreat stage is_round) (section_text Gap s ++ t) ≡ true) s
-    (great-closed stage is_round t plain) some
-
-below-gap : (stage : Stage) (s : Section) (t : List Capital) → Plain stage
-    → closed stage (is_zero s.ones) t ≡ true
-    → accepts (AfterGreat stage true) (section_text Gap s ++ t) ≡ true
-below-gap stage s t plain = gap-read stage true s t plain
-    (great-gap stage s.thousands s.hundreds s.tens s.ones t plain)
-
--- any section behind 万
-below-filled : (stage : Stage) (thousands hundreds tens ones : ℕ) (t : List Capital) → Plain stage
-    → closed stage (is_zero ones) t ≡ true
-    → accepts (AfterGreat stage false)
-    (section_text Filled (four thousands hundreds tens ones) ++ t) ≡ true
-below-filled stage (suc n) hundreds tens ones t plain h =
-    great-thousands stage false n hundreds tens ones t plain h
-below-filled stage zero hundreds tens ones t plain h =
-    gap-read stage false (four 0 hundreds tens ones) t plain
-    (λ some h. ap (accepts (AfterGreat stage false)) (gap-is 0 hundreds tens ones t some)
-    ∙ ap (λ state. accepts state (hundreds_text Nothing hundreds tens ones ++ t)) plain.ling_is
-    ∙ ling-hundreds stage hundreds tens ones t some h) h
-
-below-round : (stage : Stage) (thousands hundreds tens ones : ℕ) (t : List Capital) → Plain stage
-    → closed stage (is_zero ones) t ≡ true
-    → accepts (AfterGreat stage true)
-    (section_text Filled (four thousands hundreds tens ones) ++ t) ≡ true
-below-round stage (suc n) hundreds tens ones t plain h =
-    great-thousands stage true n hundreds tens ones t plain h
-below-round stage zero hundreds tens ones t plain h =
-    below-gap stage (four 0 hundreds tens ones) t plain h
-
-below-read : (stage : Stage) (keeps is_round : Bool) (s : Section) (t : List Capital) → Plain stage
-    → closed stage (is_zero s.ones) t ≡ true
-    → accepts (AfterGreat stage is_round) (section_text (behind keeps (front is_round)) s ++ t)
-    ≡ true
-below-read stage true true s t plain h = below-gap stage s t plain h
-below-read stage true false s t plain h =
-    below-filled stage s.thousands s.hundreds s.tens s.ones t plain h
-below-read stage false true s t plain h =
-    below-round stage s.thousands s.hundreds s.tens s.ones t plain h
-below-read stage false false s t plain h =
-    below-filled stage s.thousands s.hundreds s.tens s.ones t plain h
-
--- behind 元
-small-read : (is_round keeps : Bool) (jiao fen : ℕ) (closes : Bool)
-    → accepts (AfterYuan is_round) (small_text (behind keeps (front is_round)) jiao fen closes)
-    ≡ true
-small-read true true zero zero closes = refl
-small-read true true zero (suc f) closes = refl
-small-read true true (suc j) zero true = refl
-small-read true true (suc j) zero false = refl
-small-read true true (suc j) (suc f) closes = refl
-small-read true false zero zero closes = refl
-small-read true false zero (suc f) closes = refl
-small-read true false (suc j) zero true = refl
-small-read true false (suc j) zero false = refl
-small-read true false (suc j) (suc f) closes = refl
-small-read false true zero zero closes = refl
-small-read false true zero (suc f) closes = refl
-small-read false true (suc j) zero true = refl
-small-read false true (suc j) zero false = refl
-small-read false true (suc j) (suc f) closes = refl
-small-read false false zero zero closes = refl
-small-read false false zero (suc f) closes = refl
-small-read false false (suc j) zero true = refl
-small-read false false (suc j) zero false = refl
-small-read false false (suc j) (suc f) closes = refl
-
--- behind 亿, with 零
-abbrev behind_yi : Bool → Stage
-behind_yi true = BelowYi
-behind_yi false = BelowYiGap
-
-yi-gap : (is_round : Bool) (s : Section) (t : List Capital) → is_empty s ≡ false
-    → closed (stage_with s.thousands (behind_yi is_round)) (is_zero s.ones) t ≡ true
-    → accepts (AfterGreat BelowYi is_round) (section_text Gap s ++ t) ≡ true
-yi-gap true s t some h =
-    ap (accepts (AfterGreat BelowYi true)) (gap-is s.thousands s.hundreds s.tens s.ones t some)
-    ∙ ling-thousands BelowYi s.thousands s.hundreds s.tens s.ones t some h
-yi-gap false s t some h =
-    ap (accepts (AfterGreat BelowYi false)) (gap-is s.thousands s.hundreds s.tens s.ones t some)
-    ∙ ling-thousands BelowYiGap s.thousands s.hundreds s.tens s.ones t some h
-
--- with a section that 万 counts
-yi-wan : (keeps is_round : Bool) (thousands hundreds tens ones : ℕ) (t : List Capital)
-    → (is_zero thousands && (is_zero hundreds && (is_zero tens && is_zero ones))) ≡ false
-    → accepts (AfterGreat Last (is_zero ones)) t ≡ true
-    → accepts (AfterGreat BelowYi is_round)
-    (section_text (behind keeps (front is_round)) (four thousands hundreds tens ones)
-    ++ Wan ∷ t) ≡ true
-yi-wan true true (suc n) hundreds tens ones t some h =
-    yi-gap true (four (suc n) hundreds tens ones) (Wan ∷ t) some h
-yi-wan true false (suc n) hundreds tens ones t some h =
-    read-thousands OnlyWan hundreds tens ones (Wan ∷ t) h
-yi-wan false true (suc n) hundreds tens ones t some h =
-    read-thousands OnlyWan hundreds tens ones (Wan ∷ t) h
-yi-wan false false (suc n) hundreds tens ones t some h =
-    read-thousands OnlyWan hundreds tens ones (Wan ∷ t) h
-yi-wan true true zero hundreds tens ones t some h =
-    yi-gap true (four 0 hundreds tens ones) (Wan ∷ t) some h
-yi-wan true false zero hundreds tens ones t some h =
-    yi-gap false (four 0 hundreds tens ones) (Wan ∷ t) some h
-yi-wan false true zero hundreds tens ones t some h =
-    yi-gap true (four 0 hundreds tens ones) (Wan ∷ t) some h
-yi-wan false false zero hundreds tens ones t some h =
-    yi-gap false (four 0 hundreds tens ones) (Wan ∷ t) some h
-
--- with none
-yuan-closes : (is_round : Bool) (n : ℕ) (b : Bool) (t : List Capital)
-    → closed (stage_with n (behind_yi is_round)) b (Yuan ∷ t) ≡ accepts (AfterYuan b) t
-yuan-closes true zero b t = refl
-yuan-closes true (suc n) b t = refl
-yuan-closes false zero b t = refl
-yuan-closes false (suc n) b t = refl
-
-yi-yuan : (is_round : Bool) (s : Section) (t : List Capital)
-    → accepts (AfterYuan (is_zero s.ones)) t ≡ true
-    → accepts (AfterGreat BelowYi is_round) (section_text Gap s ++ Yuan ∷ t) ≡ true
-yi-yuan is_round s t =
-    by-empty (λ s. accepts (AfterYuan (is_zero s.ones)) t ≡ true
-    → accepts (AfterGreat BelowYi is_round) (section_text Gap s ++ Yuan ∷ t) ≡ true) s
-    (λ h. h)
-    (λ some h. yi-gap is_round s (Yuan ∷ t) some
-    (yuan-closes is_round s.thousands (is_zero s.ones) t ∙ h))
-
--- the yuan behind a section, and what stands behind them
-yuan-read : (choices : Choices) (stage : Stage) (keeps is_round : Bool) (s : Section)
-    (jiao fen : ℕ) → Plain stage
-    → ((b : Bool) (t : List Capital) → closed stage b (Yuan ∷ t) ≡ accepts (AfterYuan b) t)
-    → accepts (AfterGreat stage is_round)
-    (yuan_text choices (behind keeps (front is_round)) s jiao fen) ≡ true
-yuan-read choices stage keeps is_round s jiao fen plain ends =
-    let before = behind keeps (front is_round) in
-    let small = small_text (behind choices.behind_yuan (front (is_zero s.ones))) jiao fen
-    choices.behind_jiao in
-    ap (accepts (AfterGreat stage is_round))
-    (sym (yuan-is choices before s jiao fen small
-    (after-written before s (written-behind keeps is_round)) refl))
-    ∙ below-read stage keeps is_round s (Yuan ∷ small)
-    plain (ends (is_zero s.ones) small
-    ∙ small-read (is_zero s.ones) choices.behind_yuan jiao fen choices.behind_jiao)
-
--- from the section of 万 on, behind 亿
-wan-read : (choices : Choices) (keeps is_round : Bool) (wan yuan : Section) (jiao fen : ℕ)
-    → accepts (AfterGreat BelowYi is_round)
-    (from_wan choices (behind keeps (front is_round))
-    (lower wan yuan jiao fen)) ≡ true
-wan-read choices keeps is_round wan yuan jiao fen =
-    by-empty
-    (λ wan. accepts (AfterGreat BelowYi is_round)
-    (from_wan choices (behind keeps (front is_round))
-    (lower wan yuan jiao fen)) ≡ true)
-    wan (none keeps is_round) some where
-      small : List Capital
-      small = small_text (behind choices.behind_yuan (front (is_zero yuan.ones))) jiao fen
-          choices.behind_jiao
-
-      gap : accepts (AfterGreat BelowYi is_round) (yuan_text choices Gap yuan jiao fen) ≡ true
-      gap =
-          ap (accepts (AfterGreat BelowYi is_round))
-          (sym (yuan-is choices Gap yuan jiao fen small (after-written Gap yuan refl) refl))
-          ∙ yi-yuan is_round yuan small
-          (small-read (is_zero yuan.ones) choices.behind_yuan jiao fen choices.behind_jiao)
-
-      none : (k r : Bool) → accepts (AfterGreat BelowYi is_round)
-          (yuan_text choices (after_section (behind k (front r)) empty_section) yuan jiao fen)
+      named-spelled : spells (close_of yuan Nothing empty) (Ling ∷ Yuan ∷ small_of (behind keeps Gap))
           ≡ true
-      none true true = gap
-      none true false = gap
-      none false true = gap
-      none false false = gap
+      named-spelled = spells-first ((Some Ling ∷ Some Yuan ∷ [], start small either) ∷ [])
+          (ways (start small (known Nothing))) (Ling ∷ Yuan ∷ small_of (behind keeps Gap))
+          (word-spelled (Ling ∷ Yuan ∷ []) (start small either) (small_of (behind keeps Gap))
+          ∙ behind-yuan Gap keeps (written-gap keeps))
 
-      some : is_empty wan ≡ false
-          → accepts (AfterGreat BelowYi is_round)
-          (from_wan choices (behind keeps (front is_round))
-          (lower wan yuan jiao fen)) ≡ true
-      some e =
-          let before = behind keeps (front is_round) in
-          let below = λ (b : Before). yuan_text choices b yuan jiao fen in
-          ap (accepts (AfterGreat BelowYi is_round))
-          (sym (wan-is choices.behind_wan before wan below e
-          (after-written before wan (written-behind keeps is_round))))
-          ∙ yi-wan keeps is_round wan.thousands wan.hundreds wan.tens wan.ones
-          (below (behind choices.behind_wan (front (is_zero wan.ones)))) e
-          (yuan-read choices Last choices.behind_wan (is_zero wan.ones) yuan jiao fen plain-last
-          (λ b t. refl))
-
--- from the section of 亿 on, behind 万
-yi-read : (choices : Choices) (keeps is_round : Bool) (yi wan yuan : Section) (jiao fen : ℕ)
-    → accepts (AfterGreat BelowWan is_round)
-    (from_yi choices (behind keeps (front is_round))
-    (record {
-      wan_yi = empty_section;
-      yi = yi;
-      wan = wan;
-      yuan = yuan;
-      jiao = jiao;
-      fen =
-          fen;
-    })) ≡ true
-yi-read choices keeps is_round yi wan yuan jiao fen =
-    let before = behind keeps (front is_round) in
-    let p : Places = record {
-      wan_yi = empty_section;
-      yi = yi;
-      wan = wan;
-      yuan = yuan;
-      jiao =
-          jiao;
-      fen = fen;
-    } in
-    let below = λ (b : Before). from_wan choices b p in
-    ap (accepts (AfterGreat BelowWan is_round))
-    (sym (yi-is choices.behind_yi before yi below
-    (after-written before yi (written-behind keeps is_round))))
-    ∙ below-read BelowWan keeps is_round yi
-    (Yi ∷ below (behind choices.behind_yi (front (is_zero yi.ones)))) plain-below_wan
-    (wan-read choices choices.behind_yi (is_zero yi.ones) wan yuan jiao fen)
-
--- no yuan
-no-yuan : (choices : Choices) (jiao fen : ℕ)
-    → accepts AfterCurrency (yuan_text choices Nothing empty_section jiao fen) ≡ true
-no-yuan choices jiao fen = by choices.no_yuan jiao fen choices.behind_yuan choices.behind_jiao where
-  named-read : (jiao fen : ℕ) (keeps closes : Bool)
-      → accepts AfterCurrency (Ling ∷ Yuan ∷ small_text (behind keeps Gap) jiao fen closes) ≡ true
-  named-read jiao fen keeps closes = small-read true keeps jiao fen closes
-
-  by : (named : Bool) (jiao fen : ℕ) (keeps closes : Bool)
-      → accepts AfterCurrency
-      (yuan_text (record {
-        currency = false;
-        no_yuan = named;
-        behind_wan_yi = true;
-        behind_yi =
-            true;
-        behind_wan = true;
-        behind_yuan = keeps;
-        behind_jiao = closes;
-      }) Nothing
-      empty_section jiao fen) ≡ true
-  by true jiao fen keeps closes = named-read jiao fen keeps closes
-  by false zero zero keeps closes = named-read 0 0 keeps closes
-  by false zero (suc f) keeps closes = refl
-  by false (suc j) zero keeps true = refl
-  by false (suc j) zero keeps false = refl
-  by false (suc j) (suc f) keeps closes = refl
-
--- from the top
-top-read : (choices : Choices) (p : Places) → accepts AfterCurrency (from_top choices p) ≡ true
-top-read choices p = by-empty (λ s. Read s p.yi p.wan p.yuan) p.wan_yi without_wan_yi
-    with_wan_yi where
-      places : Section → Section → Section → Section → Places
-      places wan_yi yi wan yuan = record {
-        wan_yi = wan_yi;
-        yi = yi;
-        wan = wan;
-        yuan = yuan;
-        jiao =
-            p.jiao;
-        fen = p.fen;
-      }
-
-      Read : Section → Section → Section → Section → Type 0
-      Read wan_yi yi wan yuan = accepts AfterCurrency (from_top choices (places wan_yi yi wan yuan))
+      by : (after : Before) (no_yuan none : Bool) → are_zero (small_places jiao fen) ≡ none
+          → spells (close_of yuan after empty) (yuan_unit after (no_yuan || none)
+          ++ small_text (after_yuan_unit keeps after (no_yuan || none)) jiao fen choices.behind_jiao)
           ≡ true
+      by Nothing true none e = named-spelled
+      by Nothing false true e = named-spelled
+      by Nothing false false e =
+          spells-more ((Some Ling ∷ Some Yuan ∷ [], start small either) ∷ [])
+          (ways (start small (known Nothing))) (small_of Nothing)
+          (small-spelled Nothing jiao fen choices.behind_jiao (ap not e))
+      by Gap no_yuan none e = word-spelled (Yuan ∷ []) (start small either) (small_of (behind keeps Gap))
+          ∙ behind-yuan Gap keeps (written-gap keeps)
+      by Filled no_yuan none e = word-spelled (Yuan ∷ []) (start small (known Filled)) (small_of Filled)
+          ∙ behind-yuan Filled true refl
 
-      small : Section → List Capital
-      small yuan = small_text (behind choices.behind_yuan (front (is_zero yuan.ones))) p.jiao p.fen
-          choices.behind_jiao
+-- from each section on
+from-yuan : (choices : Choices) (before : Before) (p : Places)
+    → spells (ways (start yuan (known before))) (from_yuan choices before p) ≡ true
+from-yuan choices before p =
+    places-spelled yuan (places_in p.yuan) before true _
+    (yuan-spelled choices (after_section before p.yuan) (is_empty p.yuan) p.jiao p.fen)
 
-      yuan_alone : is_empty p.yuan ≡ false → Read empty_section empty_section empty_section p.yuan
-      yuan_alone e =
-          let s = p.yuan in
-          ap (accepts AfterCurrency) (sym (yuan-is choices Nothing s p.jiao p.fen (small s)
-          (after-some s e) refl))
-          ∙ first-read s.thousands s.hundreds s.tens s.ones (Yuan ∷ small s) e
-          (small-read (is_zero s.ones) choices.behind_yuan p.jiao p.fen choices.behind_jiao)
+section-spelled : (part : Part) (before : Before) (s : Section) (unit rest : List Capital)
+    → units_of part ≡ units_in (places_in s)
+    → spells (close_of part (after_section before s) (is_empty s)) (unit ++ rest) ≡ true
+    → spells (ways (start part (known before))) ((section_text before s ++ unit) ++ rest) ≡ true
+section-spelled part before s unit rest four h =
+    ap (λ units. spells (place_ways (close_of part) part units before true)
+    ((section_text before s ++ unit) ++ rest)) four
+    ∙ ap (spells (place_ways (close_of part) part (units_in (places_in s)) before true))
+    (append_assoc (section_text before s) unit rest)
+    ∙ places-spelled part (places_in s) before true (unit ++ rest) h
 
-      without_wan : Read empty_section empty_section empty_section p.yuan
-      without_wan = by-empty (λ s. Read empty_section empty_section empty_section s) p.yuan
-          (no-yuan choices p.jiao p.fen) yuan_alone
+from-wan : (choices : Choices) (before : Before) (p : Places)
+    → spells (ways (start wan (known before))) (from_wan choices before p) ≡ true
+from-wan choices before p =
+    let counts = not (is_empty p.wan) in
+    let after = after_section before p.wan in
+    let below = after_unit counts choices.behind_wan after in
+    section-spelled wan before p.wan (unit_text counts Wan) (from_yuan choices below p) refl
+    (unit-spelled yuan Wan counts choices.behind_wan after (from_yuan choices below p)
+    (from-yuan choices below p))
 
-      with_wan : is_empty p.wan ≡ false → Read empty_section empty_section p.wan p.yuan
-      with_wan e =
-          let s = p.wan in
-          let below = λ (b : Before). yuan_text choices b p.yuan p.jiao p.fen in
-          ap (accepts AfterCurrency)
-          (sym (wan-is choices.behind_wan Nothing s below e (after-some s e)))
-          ∙ first-read s.thousands s.hundreds s.tens s.ones
-          (Wan ∷ below (behind choices.behind_wan (front (is_zero s.ones)))) e
-          (yuan-read choices BelowWan choices.behind_wan (is_zero s.ones) p.yuan p.jiao p.fen
-          plain-below_wan (λ b t. refl))
+from-yi : (choices : Choices) (before : Before) (p : Places)
+    → spells (ways (start yi (known before))) (from_yi choices before p) ≡ true
+from-yi choices before p =
+    let after = after_section before p.yi in
+    let counts = is_written after in
+    let below = after_unit counts choices.behind_yi after in
+    section-spelled yi before p.yi (unit_text counts Yi) (from_wan choices below p) refl
+    (unit-spelled wan Yi counts choices.behind_yi after (from_wan choices below p)
+    (from-wan choices below p))
 
-      without_yi : Read empty_section empty_section p.wan p.yuan
-      without_yi = by-empty (λ s. Read empty_section empty_section s p.yuan) p.wan without_wan with_wan
-
-      with_yi : is_empty p.yi ≡ false → Read empty_section p.yi p.wan p.yuan
-      with_yi e =
-          let s = p.yi in
-          let below = λ (b : Before). from_wan choices b p in
-          ap (accepts AfterCurrency) (sym (yi-is choices.behind_yi Nothing s below (after-some s e)))
-          ∙ first-read s.thousands s.hundreds s.tens s.ones
-          (Yi ∷ below (behind choices.behind_yi (front (is_zero s.ones)))) e
-          (wan-read choices choices.behind_yi (is_zero s.ones) p.wan p.yuan p.jiao p.fen)
-
-      without_wan_yi : Read empty_section p.yi p.wan p.yuan
-      without_wan_yi = by-empty (λ s. Read empty_section s p.wan p.yuan) p.yi without_yi with_yi
-
-      with_wan_yi : is_empty p.wan_yi ≡ false → Read p.wan_yi p.yi p.wan p.yuan
-      with_wan_yi e =
-          let s = p.wan_yi in
-          let below = λ (b : Before). from_yi choices b p in
-          ap (accepts AfterCurrency) (sym (wan-is choices.behind_wan_yi Nothing s below e
-          (after-some s e)))
-          ∙ first-read s.thousands s.hundreds s.tens s.ones
-          (Wan ∷ below (behind choices.behind_wan_yi (front (is_zero s.ones)))) e
-          (yi-read choices choices.behind_wan_yi (is_zero s.ones) p.yi p.wan p.yuan p.jiao p.fen)
-
-opening-is : (t : List Capital) → accepts AfterCurrency t ≡ true → accepts Beginning t ≡ true
-opening-is [] h = h
-opening-is (Ren ∷ t) h = cc
-opening-is (capital ∷ t) h = h
+from-top : (choices : Choices) (p : Places)
+    → spells (ways (start wan_yi (known Nothing))) (from_top choices p) ≡ true
+from-top choices p =
+    let counts = not (is_empty p.wan_yi) in
+    let after = after_section Nothing p.wan_yi in
+    let below = after_unit counts choices.behind_wan_yi after in
+    section-spelled wan_yi Nothing p.wan_yi (unit_text counts Wan) (from_yi choices below p) refl
+    (unit-spelled yi Wan counts choices.behind_wan_yi after (from_yi choices below p)
+    (from-yi choices below p))
 
 pub form-read : (choices : Choices) (p : Places) → accepts Beginning (amount_form choices p) ≡ true
-form-read choices p = by choices.currency where
-  by : (b : Bool) → accepts Beginning
+form-read choices p = reads-ways Beginning (amount_form choices p) ∙ by choices.currency where
+  top : Point
+  top = start wan_yi (known Nothing)
+
+  currency : List Way
+  currency = (Some Ren ∷ Some Min ∷ Some Bi ∷ [], top) ∷ []
+
+  by : (b : Bool) → spells (currency ++ ways top)
       ((if b then Ren ∷ Min ∷ Bi ∷ [] else []) ++ from_top choices p) ≡ true
-  by true = top-read choices p
-  by false = opening-is (from_top choices p) (top-read choices p)
+  by true = spells-first currency (ways top) (Ren ∷ Min ∷ Bi ∷ from_top choices p)
+      (word-spelled (Ren ∷ Min ∷ Bi ∷ []) top (from_top choices p) ∙ from-top choices p)
+  by false = spells-more currency (ways top) (from_top choices p) (from-top choices p)

@@ -1,12 +1,12 @@
 -- No form has more than 39 characters.
-use Rattle.std.proofs.Common.{ℕ, zero, suc, ◌+◌, ◌≤◌, Bool, true, false, ◌||◌, ◌&&◌, [], ◌∷◌, ◌++◌, length, if◌then◌else◌, arith, length-append}
+use Rattle.std.proofs.Common.{ℕ, zero, suc, ◌+◌, ◌≤◌, Bool, true, false, not, ◌||◌, [], ◌∷◌, ◌++◌, length, if◌then◌else◌, arith, length-append}
 use Rattle.cn_amount.specs.declared.before.Before.{Before}
 use Rattle.cn_amount.specs.declared.before.Before.TheVariants.{Nothing, Gap, Filled}
 use Rattle.cn_amount.specs.declared.capital.Capital.{Capital}
 use Rattle.cn_amount.specs.declared.capital.Capital.TheVariants.{Shi, Bai, Qian, Wan, Yi, Jiao, Fen, Ren, Min, Bi}
 use Rattle.cn_amount.specs.declared.places.Section.{Section}
 use Rattle.cn_amount.specs.declared.places.Places.{Places}
-use Rattle.cn_amount.specs.Form.{Choices, is_zero, is_empty, is_written, after_digit, after_section, after_wan, after_yi, after_yuan_unit, behind, place_text, section_text, wan_text, yi_text, yuan_unit, closing, small_text, yuan_text, from_wan, from_yi, from_top, amount_form}
+use Rattle.cn_amount.specs.Form.{Choices, is_empty, is_written, are_zero, after_digit, after_section, after_unit, after_wan, after_yi, after_yuan_unit, behind, place_text, small_places, section_text, unit_text, wan_text, yi_text, yuan_unit, closing, small_text, from_yuan, from_wan, from_yi, from_top, amount_form}
 
 -- a 零 that is still to come; and where nothing is written, how many characters could have been
 abbrev owed : ℕ → Before → ℕ
@@ -46,9 +46,10 @@ owed-section before s =
     let last = place_text c s.ones [] in
     omega (
       arith,
-      length-append first (second ++ (third ++ last)),
-      length-append second (third ++ last),
-      length-append third last,
+      length-append first (second ++ (third ++ (last ++ []))),
+      length-append second (third ++ (last ++ [])),
+      length-append third (last ++ []),
+      length-append last [],
       owed-place 0 before s.thousands Qian,
       owed-place 2 a s.hundreds Bai,
       owed-place 4 b s.tens Shi,
@@ -61,50 +62,26 @@ owed-more unused Gap = omega arith
 owed-more unused Filled = omega arith
 
 owed-behind : (keeps : Bool) (before : Before) → owed 0 (behind keeps before) ≤ owed 0 before
-owed-behind keeps Nothing = omega arith
-owed-behind true Gap = omega arith
+owed-behind true before = omega arith
+owed-behind false Nothing = omega arith
 owed-behind false Gap = omega arith
-owed-behind keeps Filled = omega arith
+owed-behind false Filled = omega arith
 
-owed-small : (before : Before) → owed 0 before ≤ 1
-owed-small Nothing = omega arith
-owed-small Gap = omega arith
-owed-small Filled = omega arith
+owed-unit : (counts keeps : Bool) (unit : Capital) (before : Before)
+    → length (unit_text counts unit) + owed 0 (after_unit counts keeps before) ≤ 1 + owed 7 before
+owed-unit true keeps unit before = omega (arith, owed-behind keeps before, owed-more 7 before)
+owed-unit false keeps unit before = omega (arith, owed-more 7 before)
 
-owed-wan : (keeps : Bool) (before : Before) (s : Section)
-    → length (wan_text before s) + owed 0 (after_wan keeps before s) ≤ 8 + owed 0 before
-owed-wan keeps before s = by (is_empty s) where
-  by : (b : Bool) → length (if b then [] else section_text before s ++ Wan ∷ [])
-      + owed 0 (if b then after_section before s else behind keeps (after_section before s))
-      ≤ 8 + owed 0 before
-  by true = omega (arith, owed-small (after_section before s))
-  by false = omega (
-    arith,
-    length-append (section_text before s) (Wan ∷ []),
-    owed-section before s,
-    owed-more 7 (after_section before s),
-    owed-behind keeps (after_section before s),
-  )
-
-owed-yi : (keeps : Bool) (before : Before) (s : Section)
-    → length (yi_text before s) + owed 0 (after_yi keeps before s) ≤ 8 + owed 0 before
-owed-yi keeps before s = by (is_written (after_section before s)) where
-  by : (b : Bool) → length (section_text before s ++ (if b then Yi ∷ [] else []))
-      + owed 0 (after_yi keeps before s) ≤ 8 + owed 0 before
-  by true = omega (
-    arith,
-    length-append (section_text before s) (Yi ∷ []),
-    owed-section before s,
-    owed-more 7 (after_section before s),
-    owed-behind keeps (after_section before s),
-  )
-  by false = omega (
-    arith,
-    length-append {A = Capital} (section_text before s) [],
-    owed-section before s,
-    owed-more 7 (after_section before s),
-    owed-behind keeps (after_section before s),
-  )
+-- a section and its unit
+owed-counted : (counts keeps : Bool) (unit : Capital) (before : Before) (s : Section)
+    → length (section_text before s ++ unit_text counts unit)
+    + owed 0 (after_unit counts keeps (after_section before s)) ≤ 8 + owed 0 before
+owed-counted counts keeps unit before s = omega (
+  arith,
+  length-append (section_text before s) (unit_text counts unit),
+  owed-section before s,
+  owed-unit counts keeps unit (after_section before s),
+)
 
 owed-closing : (before : Before) (jiao fen : ℕ) (closes : Bool)
     → length (place_text before fen (Fen ∷ [])) + length (closing jiao fen closes)
@@ -124,8 +101,9 @@ length-small before jiao fen closes =
     let second = place_text after fen (Fen ∷ []) in
     omega (
       arith,
-      length-append first (second ++ closing jiao fen closes),
-      length-append second (closing jiao fen closes),
+      length-append (first ++ (second ++ [])) (closing jiao fen closes),
+      length-append first (second ++ []),
+      length-append second [],
       owed-place 0 before jiao Jiao,
       owed-more 2 after,
       owed-closing after jiao fen closes,
@@ -140,21 +118,21 @@ owed-yuan_unit true Gap named = omega arith
 owed-yuan_unit false Gap named = omega arith
 owed-yuan_unit keeps Filled named = omega arith
 
-length-yuan : (choices : Choices) (before : Before) (s : Section) (jiao fen : ℕ)
-    → length (yuan_text choices before s jiao fen) ≤ 12 + owed 0 before
-length-yuan choices before s jiao fen =
-    let after = after_section before s in
-    let named = choices.no_yuan || (is_zero jiao && is_zero fen) in
+length-yuan : (choices : Choices) (before : Before) (p : Places)
+    → length (from_yuan choices before p) ≤ 12 + owed 0 before
+length-yuan choices before p =
+    let after = after_section before p.yuan in
+    let named = choices.no_yuan || are_zero (small_places p.jiao p.fen) in
     let unit = yuan_unit after named in
     let below = after_yuan_unit choices.behind_yuan after named in
-    let small = small_text below jiao fen choices.behind_jiao in
+    let small = small_text below p.jiao p.fen choices.behind_jiao in
     omega (
       arith,
-      length-append (section_text before s) (unit ++ small),
+      length-append (section_text before p.yuan) (unit ++ small),
       length-append unit small,
-      owed-section before s,
+      owed-section before p.yuan,
       owed-yuan_unit choices.behind_yuan after named,
-      length-small below jiao fen choices.behind_jiao,
+      length-small below p.jiao p.fen choices.behind_jiao,
     )
 
 -- 壹仟壹佰壹拾壹万壹仟壹佰壹拾壹亿壹仟壹佰壹拾壹万壹仟壹佰壹拾壹元壹角壹分
@@ -167,11 +145,11 @@ length-top choices p =
       arith,
       length-append (wan_text Nothing p.wan_yi) (from_yi choices a p),
       length-append (yi_text a p.yi) (from_wan choices b p),
-      length-append (wan_text b p.wan) (yuan_text choices c p.yuan p.jiao p.fen),
-      owed-wan choices.behind_wan_yi Nothing p.wan_yi,
-      owed-yi choices.behind_yi a p.yi,
-      owed-wan choices.behind_wan b p.wan,
-      length-yuan choices c p.yuan p.jiao p.fen,
+      length-append (wan_text b p.wan) (from_yuan choices c p),
+      owed-counted (not (is_empty p.wan_yi)) choices.behind_wan_yi Wan Nothing p.wan_yi,
+      owed-counted (is_written (after_section a p.yi)) choices.behind_yi Yi a p.yi,
+      owed-counted (not (is_empty p.wan)) choices.behind_wan Wan b p.wan,
+      length-yuan choices c p,
     )
 
 -- the same behind 人民币

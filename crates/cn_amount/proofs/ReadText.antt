@@ -1,189 +1,195 @@
--- What is known of a text while it is read, and what the answers to it rest on.
-use Rattle.std.proofs.Common.{◌≡◌, ℕ, ◌+◌, ◌<◌, true, false, List, [], ◌∷◌, ◌++◌, length, map, take, chars, Some, None, refl, sym, ap, ap₂, subst, ◌∙◌, append-nil, append_assoc, length-append, arith}
+-- What is known of a text while it is read, and that the states read the amounts.
+use Rattle.std.proofs.Common.{◌≡◌, ℕ, ◌<◌, Bool, true, false, List, [], ◌∷◌, ◌++◌, map, Option, Some, None, refl, sym, ap, ap₂, subst, ◌∙◌, if◌then◌else◌, append-nil, arith}
 use Rattle.std.specs.List.{list_all}
 use Rattle.std.proofs.lemmas.List.{map-append}
-use Rattle.std.proofs.Math.Seq.{take-append_seam}
+use Rattle.std.proofs.lemmas.List.Folds.{list_all-append}
 use Rattle.cn_core.specs.declared.script.ChineseVariant.TheVariants.{Simple}
+use Rattle.cn_core.proofs.Fronts.{both}
+use Rattle.cn_capitals.specs.Machine.{Leads, Reached, Reads, step_as}
+use Rattle.cn_capitals.specs.Machine as machine
+use Rattle.cn_capitals.proofs.Runs.{some-is, ran, run-more, run-map, kept}
+use Rattle.cn_amount.specs.declared.capital.Capital.{Capital}
+use Rattle.cn_amount.specs.declared.progress.Progress.{Progress}
 use Rattle.cn_amount.specs.declared.state.State.{State}
 use Rattle.cn_amount.specs.declared.state.State.TheVariants.{Beginning}
 use Rattle.cn_amount.specs.declared.sum.Sum.{Sum}
+use Rattle.cn_amount.specs.Form.{amount_form}
 use Rattle.cn_amount.specs.Places.{amount_limit}
 use Rattle.cn_amount.specs.Reading.{capital_of, capitals_of, IsAmount, Begins}
-use Rattle.cn_amount.specs.Working.Steps.{step, run, accepts, is_end, add, sum_of, summed, no_sum}
+use Rattle.cn_amount.specs.Working.Steps.{step, run, accepts, is_end, add, sum_of, summed, no_sum, with_sum, advance, end, amount_machine}
 use Rattle.cn_amount.specs.Writes.{capital_char}
 use Rattle.cn_amount.proofs.Accepted.{accepted}
 use Rattle.cn_amount.proofs.FormsRead.{form-read}
-use Rattle.cn_amount.proofs.Runs.{run-accepts, run-more, run-refused, completion, completed, completion-shown, sum-below}
-use Rattle.cn_amount.proofs.Sections.{is_proper}
-use Rattle.cn_amount.proofs.Shows.{capitals-read, text-proper}
+use Rattle.cn_amount.proofs.Runs.{run-accepts, ends-at, sum-below}
+use Rattle.cn_amount.proofs.Shows.{capitals-read, proper-of}
+use Rattle.cn_amount.proofs.States.{is_proper, completion, completed, completion-proper}
 use Rattle.cn_amount.proofs.Values.{form-sum, sum-append}
 
 -- these characters are read, and lead to this state and this sum
-pub record IsRead (start : List ℕ) (state : State) (sum : Sum) : Type 0 where
-  pub runs : run Beginning (capitals_of start) ≡ Some state
-  pub sums : sum ≡ sum_of no_sum (capitals_of start)
+record IsRead (text : List ℕ) (progress : Progress) : Type 0 where
+  capitals : List Capital
+  is : capitals_of text ≡ map Some capitals
+  proper : list_all is_proper capitals ≡ true
+  runs : run Beginning capitals ≡ Some progress.state
+  sums : progress.sum ≡ sum_of no_sum capitals
 
-pub nothing-read : IsRead [] Beginning no_sum
-nothing-read = record { runs = refl; sums = refl }
+all-proper : (front back : List Capital) → list_all is_proper front ≡ true
+    → list_all is_proper back ≡ true → list_all is_proper (front ++ back) ≡ true
+all-proper front back p q = list_all-append is_proper front back
+    ∙ both (list_all is_proper front) (list_all is_proper back) p q
 
-pub read-more : (start : List ℕ) (state next : State) (sum : Sum) (c : ℕ) → IsRead start state sum
-    → step state (capital_of c) ≡ Some next
-    → IsRead (start ++ c ∷ []) next (add sum (capital_of c))
-read-more start state next sum c r e = record {
-  runs = ap (run Beginning) (map-append capital_of start (c ∷ []))
-      ∙ run-more Beginning (capitals_of start) (capital_of c) state r.runs ∙ e;
-  sums = ap (λ sum. add sum (capital_of c)) r.sums
-      ∙ sym (sum-append no_sum (capitals_of start) (capital_of c ∷ []))
-      ∙ ap (sum_of no_sum) (sym (map-append capital_of start (c ∷ [])));
-}
+read-both : (front back : List ℕ) (a b : List Capital) → capitals_of front ≡ map Some a
+    → capitals_of back ≡ map Some b → capitals_of (front ++ back) ≡ map Some (a ++ b)
+read-both front back a b p q = map-append capital_of front back
+    ∙ ap₂ (λ (a b : List (Option Capital)). a ++ b) p q ∙ sym (map-append Some a b)
 
--- an amount is read to its end
-pub amount-accepted : (text : List ℕ) (fen : ℕ) → IsAmount text fen
-    → accepts Beginning (capitals_of text) ≡ true
-amount-accepted text fen h = ap (accepts Beginning) h.form ∙ form-read h.choices h.places
+read-more : (progress next : Progress) (text : List ℕ) (c : ℕ) → IsRead text progress
+    → amount_machine.step progress c ≡ Some next → IsRead (text ++ c ∷ []) next
+read-more progress next text c r e = by (capital_of c) refl e where
+  with-capital : (capital : Capital) → capital_of c ≡ Some capital → (o : Option State)
+      → step progress.state capital ≡ o → with_sum (add progress.sum capital) o ≡ Some next
+      → IsRead (text ++ c ∷ []) next
+  with-capital capital is None s e = absurd (cc)
+  with-capital capital is (Some state) s e =
+      let after : Progress = record { state = state; sum = add progress.sum capital } in
+      subst (IsRead (text ++ c ∷ [])) (some-is after next e) (record {
+        capitals = r.capitals ++ capital ∷ [];
+        is = read-both text (c ∷ []) r.capitals (capital ∷ []) r.is (ap (λ x. x ∷ []) is);
+        proper = all-proper r.capitals (capital ∷ []) r.proper
+            (both (is_proper capital) true (proper-of c capital is) refl);
+        runs = run-more step Beginning r.capitals capital progress.state r.runs ∙ s;
+        sums = ap (λ sum. add sum capital) r.sums
+            ∙ sym (sum-append no_sum r.capitals (capital ∷ []));
+      })
 
--- and what is read to its end is one: of its sum
-pub accepted-amount : (text : List ℕ) → accepts Beginning (capitals_of text) ≡ true → (fen : ℕ)
-    → fen ≡ (sum_of no_sum (capitals_of text)).fen → IsAmount text fen
-accepted-amount text h fen e =
-    let r = accepted (capitals_of text) (text-proper text) h in
+  by : (read : Option Capital) → capital_of c ≡ read
+      → step_as advance progress read ≡ Some next → IsRead (text ++ c ∷ []) next
+  by None is e = absurd (cc)
+  by (Some capital) is e = with-capital capital is (step progress.state capital) refl e
+
+is-read : (text : List ℕ) (progress : Progress) → Leads amount_machine text progress
+    → IsRead text progress
+is-read text progress e =
+    kept amount_machine.step (λ (progress : Progress) text. IsRead text progress) read-more []
+    text amount_machine.begin progress
+    (record { capitals = []; is = refl; proper = refl; runs = refl; sums = refl }) e
+
+-- what is read to its end is an amount, of its sum
+whole-read : (text : List ℕ) (capitals : List Capital) → capitals_of text ≡ map Some capitals
+    → list_all is_proper capitals ≡ true → accepts Beginning capitals ≡ true
+    → IsAmount text (sum_of no_sum capitals).fen
+whole-read text capitals is proper h =
+    let r = accepted capitals proper h in
     record {
       choices = r.choices;
       places = r.places;
       digits = r.digits;
-      form = r.is;
-      value = e ∙ ap (λ (sum : Sum). sum.fen)
+      form = is ∙ ap (map Some) r.is;
+      value = ap (λ (sum : Sum). sum.fen)
           (ap (sum_of no_sum) r.is ∙ form-sum r.choices r.places);
     }
 
-after-read : (start behind : List ℕ) (state : State) (sum : Sum) → IsRead start state sum
-    → accepts Beginning (capitals_of (start ++ behind)) ≡ accepts state (capitals_of behind)
-after-read start behind state sum r =
-    ap (accepts Beginning) (map-append capital_of start behind)
-    ∙ run-accepts Beginning (capitals_of start) (capitals_of behind) state r.runs
+-- what is read so far can be completed
+completes : (text : List ℕ) (progress : Progress) (r : IsRead text progress)
+    → accepts Beginning (r.capitals ++ completion progress.state) ≡ true
+completes text progress r =
+    run-accepts Beginning r.capitals (completion progress.state) progress.state r.runs
+    ∙ completed progress.state
 
-pub completes : (start : List ℕ) (state : State) (sum : Sum) → IsRead start state sum
-    → (behind : List ℕ) × (accepts Beginning (capitals_of (start ++ behind)) ≡ true)
-completes start state sum r =
-    let behind = map (capital_char Simple) (completion state) in (
+completes-proper : (text : List ℕ) (progress : Progress) (r : IsRead text progress)
+    → list_all is_proper (r.capitals ++ completion progress.state) ≡ true
+completes-proper text progress r = all-proper r.capitals (completion progress.state) r.proper
+    (completion-proper progress.state)
+
+begins-read : (text : List ℕ) (progress : Progress) → IsRead text progress → Begins text
+begins-read text progress r =
+    let more = completion progress.state in
+    let behind = map (capital_char Simple) more in
+    let all = r.capitals ++ more in (
       behind,
-      after-read start behind state sum r
-          ∙ ap (accepts state) (capitals-read Simple (completion state) (completion-shown state))
-          ∙ completed state,
-    )
-
-pub begins-read : (start : List ℕ) (state : State) (sum : Sum) → IsRead start state sum
-    → Begins start
-begins-read start state sum r =
-    let c = completes start state sum r in (
-      c.0,
-      (sum_of no_sum (capitals_of (start ++ c.0))).fen,
-      accepted-amount (start ++ c.0) c.1 _ refl,
+      (sum_of no_sum all).fen,
+      whole-read (text ++ behind) all
+          (read-both text behind r.capitals more r.is
+          (capitals-read Simple more (completion-proper progress.state)))
+          (completes-proper text progress r) (completes text progress r),
     )
 
 -- the sum stays below the limit
-pub sum-fits : (start : List ℕ) (state : State) (sum : Sum) → IsRead start state sum
-    → summed sum < amount_limit
-sum-fits start state sum r =
-    let c = completes start state sum r in
-    let e : capitals_of (start ++ c.0) ≡ capitals_of start ++ capitals_of c.0 =
-    map-append capital_of start c.0 in
-    let proper : list_all is_proper (capitals_of start ++ capitals_of c.0) ≡ true =
-    ap (list_all is_proper) (sym e) ∙ text-proper (start ++ c.0) in
-    let h : accepts Beginning (capitals_of start ++ capitals_of c.0) ≡ true =
-    ap (accepts Beginning) (sym e) ∙ c.1 in
-    let less = sum-below (capitals_of start) (capitals_of c.0) proper h in
-    let same : summed sum ≡ summed (sum_of no_sum (capitals_of start)) = ap summed r.sums in
+sum-fits : (text : List ℕ) (progress : Progress) → IsRead text progress
+    → summed progress.sum < amount_limit
+sum-fits text progress r =
+    let less = sum-below r.capitals (completion progress.state) (completes-proper text progress r)
+    (completes text progress r) in
+    let same : summed progress.sum ≡ summed (sum_of no_sum r.capitals) = ap summed r.sums in
     omega (arith, less, same)
 
--- at the end
-pub end-read : (text : List ℕ) (state : State) (sum : Sum) → IsRead text state sum
-    → accepts Beginning (capitals_of text) ≡ is_end state
-end-read text state sum r =
-    ap (accepts Beginning) (sym (append-nil (capitals_of text)))
-    ∙ run-accepts Beginning (capitals_of text) [] state r.runs
+pub step-fits : (progress : Progress) (capital : Capital) (next : State) (c : ℕ)
+    → Reached amount_machine progress → capital_of c ≡ Some capital
+    → step progress.state capital ≡ Some next
+    → summed (add progress.sum capital) < amount_limit
+step-fits progress capital next c reached is e =
+    let after : Progress = record { state = next; sum = add progress.sum capital } in
+    sum-fits (reached.0 ++ c ∷ []) after (read-more progress after reached.0 c
+    (is-read reached.0 progress reached.1)
+    (ap (step_as advance progress) is ∙ ap (with_sum (add progress.sum capital)) e))
 
-pub whole-read : (text : List ℕ) (state : State) (sum : Sum) → IsRead text state sum
-    → is_end state ≡ true → IsAmount text sum.fen
-whole-read text state sum r e = accepted-amount text (end-read text state sum r ∙ e) sum.fen
-    (ap (λ (sum : Sum). sum.fen) r.sums)
+-- the states and the sums together
+runs-summed : (state last : State) (sum : Sum) (capitals : List Capital)
+    → run state capitals ≡ Some last
+    → machine.run advance (record { state = state; sum = sum }) capitals
+    ≡ Some (record { state = last; sum = sum_of sum capitals })
+runs-summed state last sum [] e =
+    ap (λ (state : State). let at : Progress = record { state = state; sum = sum } in Some at)
+    (some-is state last e)
+runs-summed state last sum (capital ∷ rest) e =
+    by (step state capital) (λ next k. runs-summed next last (add sum capital) rest k) e where
+      all : Progress
+      all = record { state = last; sum = sum_of (add sum capital) rest }
 
-pub unfinished-read : (text : List ℕ) (state : State) (sum : Sum) → IsRead text state sum
-    → is_end state ≡ false → Begins text × ((fen : ℕ) → ¬ IsAmount text fen)
-unfinished-read text state sum r e = (
-  begins-read text state sum r,
-  λ fen h. let a = amount-accepted text fen h in let b =
-      end-read text state sum r in absurd (cc),
-)
+      by : (o : Option State)
+          → ((next : State) → run next rest ≡ Some last
+          → machine.run advance (record { state = next; sum = add sum capital }) rest ≡ Some all)
+          → ran step o rest ≡ Some last
+          → ran advance (with_sum (add sum capital) o) rest ≡ Some all
+      by None ih e = absurd (cc)
+      by (Some next) ih e = ih next e
 
--- at a character with which no amount goes on
-pub refused-read : (start : List ℕ) (state : State) (sum : Sum) (c : ℕ) → IsRead start state sum
-    → step state (capital_of c) ≡ None → ¬ Begins (start ++ c ∷ [])
-refused-read start state sum c r e = λ h.
-    let text = (start ++ c ∷ []) ++ h.0 in
-    let a : accepts Beginning (capitals_of text) ≡ true = amount-accepted text h.1 h.2 in
-    let s : text ≡ start ++ c ∷ h.0 = append_assoc start (c ∷ []) h.0 in
-    let b : accepts Beginning (capitals_of text) ≡ accepts state (capital_of c ∷ capitals_of h.0) =
-    ap (λ text. accepts Beginning (capitals_of text)) s ∙ after-read start (c ∷ h.0) state sum r in
-    let n = run-refused state (capital_of c) (capitals_of h.0) e in
-    absurd (cc)
-
-pub place-refused : (text start : List ℕ) (rest : List ℕ) (place : ℕ) (state : State) (sum : Sum)
-    (c : ℕ) → text ≡ start ++ c ∷ rest → place ≡ length start
-    → IsRead start state sum → step state (capital_of c) ≡ None
-    → (place < length text) × Begins (take place text) × ¬ Begins (take (place + 1) text)
-place-refused text start rest place state sum c is at r e =
-    let len : length text ≡ length start + length (c ∷ rest) =
-    ap length is ∙ length-append start (c ∷ rest) in
-    let one : take place text ≡ start = ap₂ take at is ∙ take-append_seam start (c ∷ rest) in
-    let seam : text ≡ (start ++ c ∷ []) ++ rest = is ∙ sym (append_assoc start (c ∷ []) rest) in
-    let more : place + 1 ≡ length (start ++ c ∷ []) =
-    omega (arith, at, length-append start (c ∷ [])) in
-    let two : take (place + 1) text ≡ start ++ c ∷ [] =
-    ap₂ take more seam ∙ take-append_seam (start ++ c ∷ []) rest in (
-      omega (arith, at, len),
-      subst Begins (sym one) (begins-read start state sum r),
-      λ h. refused-read start state sum c r e (subst Begins two h),
+each-read : (text : List ℕ) (fen : ℕ) → IsAmount text fen
+    → (progress : Progress) × Leads amount_machine text progress × (end progress ≡ Some fen)
+each-read text fen h =
+    let form = amount_form h.choices h.places in
+    let last = ends-at Beginning form (form-read h.choices h.places) in
+    let all : Progress = record { state = last.0; sum = sum_of no_sum form } in
+    let value : (sum_of no_sum form).fen ≡ fen =
+    ap (λ (sum : Sum). sum.fen) (form-sum h.choices h.places) ∙ sym h.value in (
+      all,
+      run-map (step_as advance) capital_of amount_machine.begin text
+          ∙ ap (machine.run (step_as advance) amount_machine.begin) h.form
+          ∙ sym (run-map (step_as advance) Some amount_machine.begin form)
+          ∙ runs-summed Beginning last.0 no_sum form last.1,
+      ap (λ (b : Bool). if b then Some (sum_of no_sum form).fen else None) last.2
+          ∙ ap Some value,
     )
 
--- the text so far: what is read, and what is not
-pub record IsReading (text rest : List ℕ) (state : State) (sum : Sum) (count : ℕ) : Type 0 where
-  pub start : List ℕ
-  pub is : chars text ≡ start ++ chars rest
-  pub counts : count ≡ length start
-  pub read : IsRead start state sum
+only-read : (text : List ℕ) (progress : Progress) (fen : ℕ) → Leads amount_machine text progress
+    → end progress ≡ Some fen → IsAmount text fen
+only-read text progress fen leads e =
+    by (is_end progress.state) refl e (is-read text progress leads) where
+      by : (b : Bool) → is_end progress.state ≡ b
+          → (if b then Some progress.sum.fen else None) ≡ Some fen → IsRead text progress
+          → IsAmount text fen
+      by false is e r = absurd (cc)
+      by true is e r =
+          let ends : accepts Beginning r.capitals ≡ true =
+          ap (accepts Beginning) (sym (append-nil r.capitals))
+          ∙ run-accepts Beginning r.capitals [] progress.state r.runs ∙ is in
+          subst (IsAmount text)
+          (sym (ap (λ (sum : Sum). sum.fen) r.sums) ∙ some-is progress.sum.fen fen e)
+          (whole-read text r.capitals r.is r.proper ends)
 
--- one more character
-pub reading-more : (text rest after : List ℕ) (state next : State) (sum : Sum) (count c : ℕ)
-    → IsReading text rest state sum count → chars rest ≡ c ∷ chars after
-    → step state (capital_of c) ≡ Some next
-    → IsReading text after next (add sum (capital_of c)) (count + 1)
-reading-more text rest after state next sum count c r parts e = record {
-  start = r.start ++ c ∷ [];
-  is = r.is ∙ ap (λ l. r.start ++ l) parts ∙ sym (append_assoc r.start (c ∷ []) (chars after));
-  counts = let n = r.counts in omega (arith, n, length-append r.start (c ∷ []));
-  read = read-more r.start state next sum c r.read e;
+pub amount-reads : Reads IsAmount amount_machine
+amount-reads = record {
+  each = each-read;
+  only = only-read;
+  begins = λ text progress leads. begins-read text progress (is-read text progress leads);
 }
-
-pub reading-fits : (text rest : List ℕ) (state next : State) (sum : Sum) (count c : ℕ)
-    → IsReading text rest state sum count → step state (capital_of c) ≡ Some next
-    → summed (add sum (capital_of c)) < amount_limit
-reading-fits text rest state next sum count c r e =
-    sum-fits (r.start ++ c ∷ []) next (add sum (capital_of c))
-    (read-more r.start state next sum c r.read e)
-
-pub reading-refused : (text rest after : List ℕ) (state : State) (sum : Sum) (count c : ℕ)
-    → IsReading text rest state sum count → chars rest ≡ c ∷ chars after
-    → step state (capital_of c) ≡ None
-    → (count < length (chars text)) × Begins (take count (chars text))
-    × ¬ Begins (take (count + 1) (chars text))
-reading-refused text rest after state sum count c r parts e =
-    place-refused (chars text) r.start (chars after) count state sum c
-    (r.is ∙ ap (λ l. r.start ++ l) parts) r.counts r.read e
-
--- at the end of the text
-pub reading-ended : (text rest : List ℕ) (state : State) (sum : Sum) (count : ℕ)
-    → IsReading text rest state sum count → chars rest ≡ [] → IsRead (chars text) state sum
-reading-ended text rest state sum count r none =
-    subst (λ start. IsRead start state sum)
-    (sym (r.is ∙ ap (λ l. r.start ++ l) none ∙ append-nil r.start)) r.read

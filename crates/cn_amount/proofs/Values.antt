@@ -1,17 +1,15 @@
 -- The sum of a form is its amount.
-use Rattle.std.proofs.Common.{◌≡◌, ℕ, zero, suc, ◌+◌, ◌*◌, Bool, true, false, ◌&&◌, ◌||◌, List, [], ◌∷◌, ◌++◌, refl, sym, ap, ◌∙◌, if◌then◌else◌, arith}
+use Rattle.std.proofs.Common.{◌≡◌, ℕ, zero, suc, ◌+◌, ◌*◌, Bool, true, false, not, ◌||◌, List, [], ◌∷◌, ◌++◌, refl, sym, ap, ap₂, ◌∙◌, append-nil, if◌then◌else◌, arith}
 use Rattle.cn_amount.specs.declared.before.Before.{Before}
 use Rattle.cn_amount.specs.declared.before.Before.TheVariants.{Nothing, Gap, Filled}
 use Rattle.cn_amount.specs.declared.capital.Capital.{Capital}
-use Rattle.cn_amount.specs.declared.capital.Capital.TheVariants.{Shi, Bai, Qian, Wan, Yi, Yuan, Jiao, Fen, Ren, Min, Bi}
+use Rattle.cn_amount.specs.declared.capital.Capital.TheVariants.{Shi, Bai, Qian, Wan, Yi, Jiao, Fen, Ren, Min, Bi}
 use Rattle.cn_amount.specs.declared.places.Section.{Section}
 use Rattle.cn_amount.specs.declared.places.Places.{Places}
 use Rattle.cn_amount.specs.declared.sum.Sum.{Sum}
-use Rattle.cn_amount.specs.Form.{Choices, is_zero, is_empty, is_written, after_digit, after_section, yuan_unit, after_yuan_unit, behind, place_text, closing, section_text, small_text, yuan_text, from_wan, from_yi, from_top, amount_form}
+use Rattle.cn_amount.specs.Form.{Choices, is_empty, is_written, are_zero, after_digit, after_places, after_section, after_unit, yuan_unit, after_yuan_unit, behind, place_text, places_text, closing, places_in, small_places, section_text, small_text, unit_text, from_yuan, from_wan, from_yi, from_top, amount_form}
 use Rattle.cn_amount.specs.Places.{section_value, amount_value}
 use Rattle.cn_amount.specs.Working.Steps.{add, sum_of, no_sum}
-use Rattle.cn_amount.proofs.Joins.{front, lower, empty_section, written-behind, after-written, after-some, yuan-is, wan-is, yi-is}
-use Rattle.cn_amount.proofs.FormsRead.{by-empty}
 
 abbrev sums : ℕ → ℕ → ℕ → ℕ → Sum
 sums fen yuan section digit = record { fen = fen; yuan = yuan; section = section; digit = digit }
@@ -72,20 +70,22 @@ small-sum : (before : Before) (start jiao fen : ℕ) (closes : Bool)
     ≡ sums (start + 10 * jiao + fen) 0 0 0
 small-sum before start jiao fen closes =
     let after = after_digit before jiao in
-    joined-sum (sums start 0 0 0) (sums (start + 10 * jiao) 0 0 0)
-    (sums (start + 10 * jiao + fen) 0 0 0) (place_text before jiao (Jiao ∷ []))
-    (place_text after fen (Fen ∷ []) ++ closing jiao fen closes)
-    (jiaos before start jiao)
-    (joined-sum (sums (start + 10 * jiao) 0 0 0) (sums (start + 10 * jiao + fen) 0 0 0)
-    (sums (start + 10 * jiao + fen) 0 0 0) (place_text after fen (Fen ∷ []))
+    let all = sums (start + 10 * jiao + fen) 0 0 0 in
+    joined-sum (sums start 0 0 0) all all (places_text before (small_places jiao fen))
     (closing jiao fen closes)
-    (fens after (start + 10 * jiao) fen) (closings (sums (start + 10 * jiao + fen) 0 0 0) jiao fen
-    closes))
+    (joined-sum (sums start 0 0 0) (sums (start + 10 * jiao) 0 0 0) all
+    (place_text before jiao (Jiao ∷ [])) (place_text after fen (Fen ∷ []) ++ [])
+    (jiaos before start jiao)
+    (ap (sum_of (sums (start + 10 * jiao) 0 0 0)) (append-nil (place_text after fen (Fen ∷ [])))
+    ∙ fens after (start + 10 * jiao) fen))
+    (closings all jiao fen closes)
 
 -- a section, whose last digit waits
+abbrev counted_digits : Section → ℕ
+counted_digits s = 0 + 1000 * s.thousands + 100 * s.hundreds + 10 * s.tens
+
 section-sum : (before : Before) (fen yuan : ℕ) (s : Section)
-    → sum_of (sums fen yuan 0 0) (section_text before s)
-    ≡ sums fen yuan (0 + 1000 * s.thousands + 100 * s.hundreds + 10 * s.tens) s.ones
+    → sum_of (sums fen yuan 0 0) (section_text before s) ≡ sums fen yuan (counted_digits s) s.ones
 section-sum before fen yuan s =
     let a = after_digit before s.thousands in
     let b = after_digit a s.hundreds in
@@ -98,212 +98,198 @@ section-sum before fen yuan s =
     let third = place_text b s.tens (Shi ∷ []) in
     let last = place_text c s.ones [] in
     joined-sum (sums fen yuan 0 0) (sums fen yuan x 0) (sums fen yuan z s.ones) first
-    (second ++ (third ++ last)) (counted Qian 1000 (λ f y n d. refl) before fen yuan 0 s.thousands)
+    (second ++ (third ++ (last ++ [])))
+    (counted Qian 1000 (λ f y n d. refl) before fen yuan 0 s.thousands)
     (joined-sum (sums fen yuan x 0) (sums fen yuan y 0) (sums fen yuan z s.ones) second
-    (third ++ last) (counted Bai 100 (λ f y n d. refl) a fen yuan x s.hundreds)
-    (joined-sum (sums fen yuan y 0) (sums fen yuan z 0) (sums fen yuan z s.ones) third last
-    (counted Shi 10 (λ f y n d. refl) b fen yuan y s.tens) (ones c fen yuan z s.ones)))
+    (third ++ (last ++ [])) (counted Bai 100 (λ f y n d. refl) a fen yuan x s.hundreds)
+    (joined-sum (sums fen yuan y 0) (sums fen yuan z 0) (sums fen yuan z s.ones) third (last ++ [])
+    (counted Shi 10 (λ f y n d. refl) b fen yuan y s.tens)
+    (ap (sum_of (sums fen yuan z 0)) (append-nil last) ∙ ones c fen yuan z s.ones)))
 
--- a section and its unit
-wan-sum : (before : Before) (yuan : ℕ) (s : Section) (rest : List Capital) (total : Sum)
-    → sum_of (sums 0 (yuan + 10000 * section_value s) 0 0) rest ≡ total
-    → sum_of (sums 0 yuan 0 0) (section_text before s ++ Wan ∷ rest) ≡ total
-wan-sum before yuan s rest total h =
-    let digits = 0 + 1000 * s.thousands + 100 * s.hundreds + 10 * s.tens in
-    let e : yuan + 10000 * (digits + s.ones) ≡ yuan + 10000 * section_value s = omega arith in
-    joined-sum (sums 0 yuan 0 0) (sums 0 yuan digits s.ones) total (section_text before s)
-    (Wan ∷ rest) (section-sum before 0 yuan s)
-    (ap (λ n. sum_of (sums 0 n 0 0) rest) e ∙ h)
+-- no digit of an empty section counts
+empty-zero : (a b c d : ℕ) (s : Section)
+    → s ≡ record { thousands = a; hundreds = b; tens = c; ones = d } → is_empty s ≡ true
+    → (counted_digits s ≡ 0) × (s.ones ≡ 0)
+empty-zero zero zero zero zero s is e =
+    (ap counted_digits is, ap (λ (s : Section). s.ones) is)
+empty-zero (suc a) b c d s is e = let no = ap is_empty is in absurd (cc)
+empty-zero zero (suc b) c d s is e = let no = ap is_empty is in absurd (cc)
+empty-zero zero zero (suc c) d s is e = let no = ap is_empty is in absurd (cc)
+empty-zero zero zero zero (suc d) s is e = let no = ap is_empty is in absurd (cc)
 
-yi-sum : (before : Before) (yuan : ℕ) (s : Section) (rest : List Capital) (total : Sum)
-    → sum_of (sums 0 (100000000 * (yuan + section_value s)) 0 0) rest ≡ total
-    → sum_of (sums 0 yuan 0 0) (section_text before s ++ Yi ∷ rest) ≡ total
-yi-sum before yuan s rest total h =
-    let digits = 0 + 1000 * s.thousands + 100 * s.hundreds + 10 * s.tens in
-    let e : 100000000 * (yuan + digits + s.ones) ≡ 100000000 * (yuan + section_value s) =
-    omega arith in
-    joined-sum (sums 0 yuan 0 0) (sums 0 yuan digits s.ones) total (section_text before s)
-    (Yi ∷ rest) (section-sum before 0 yuan s)
-    (ap (λ n. sum_of (sums 0 n 0 0) rest) e ∙ h)
+zero-section : (s : Section) → is_empty s ≡ true → (counted_digits s ≡ 0) × (s.ones ≡ 0)
+zero-section s e = empty-zero s.thousands s.hundreds s.tens s.ones s refl e
 
-yuan-sum : (before : Before) (yuan : ℕ) (s : Section) (rest : List Capital) (total : Sum)
-    → sum_of (sums (100 * (yuan + section_value s)) 0 0 0) rest ≡ total
-    → sum_of (sums 0 yuan 0 0) (section_text before s ++ Yuan ∷ rest) ≡ total
-yuan-sum before yuan s rest total h =
-    let digits = 0 + 1000 * s.thousands + 100 * s.hundreds + 10 * s.tens in
-    let e : 0 + 100 * (yuan + digits + s.ones) ≡ 100 * (yuan + section_value s) = omega arith in
-    joined-sum (sums 0 yuan 0 0) (sums 0 yuan digits s.ones) total (section_text before s)
-    (Yuan ∷ rest) (section-sum before 0 yuan s)
-    (ap (λ n. sum_of (sums n 0 0 0) rest) e ∙ h)
+-- where nothing is written, nothing counts
+abbrev Counts : Before → ℕ → Type 0
+Counts before yuan = is_written before ≡ false → yuan ≡ 0
 
--- from each section on, where something stands in front
-abbrev total : ℕ → Section → Section → ℕ → ℕ → Sum
-total yuan wan s jiao fen = sums (100 * (yuan + 10000 * section_value wan + section_value s)
-    + 10 * jiao + fen) 0 0 0
+unwritten : (before : Before) (places : List (ℕ × List Capital))
+    → is_written (after_places before places) ≡ false
+    → (is_written before ≡ false) × (are_zero places ≡ true)
+unwritten before [] h = (h, refl)
+unwritten before ((zero, unit) ∷ places) h =
+    by before (unwritten (after_digit before 0) places h) where
+      by : (before : Before)
+          → (is_written (after_digit before 0) ≡ false) × (are_zero places ≡ true)
+          → (is_written before ≡ false) × (are_zero places ≡ true)
+      by Nothing h = h
+      by Gap h = h
+      by Filled h = absurd (cc)
+unwritten before ((suc n, unit) ∷ places) h =
+    let none = unwritten Filled places h in absurd (cc)
 
-from-yuan : (choices : Choices) (before : Before) (yuan : ℕ) (s : Section) (jiao fen : ℕ)
-    → after_section before s ≡ front (is_zero s.ones)
-    → sum_of (sums 0 yuan 0 0) (yuan_text choices before s jiao fen)
+nothing-counted : (before : Before) (yuan : ℕ) (s : Section) → Counts before yuan
+    → is_written (after_section before s) ≡ false
+    → (yuan ≡ 0) × (counted_digits s ≡ 0) × (s.ones ≡ 0)
+nothing-counted before yuan s counts h =
+    let none = unwritten before (places_in s) h in
+    let zeros = zero-section s none.1 in
+    (counts none.0, zeros.0, zeros.1)
+
+unit-written : (counts keeps : Bool) (after : Before)
+    → is_written (after_unit counts keeps after) ≡ is_written after
+unit-written false keeps after = refl
+unit-written true true after = refl
+unit-written true false Nothing = refl
+unit-written true false Gap = refl
+unit-written true false Filled = refl
+
+-- behind a section
+section-then : (before : Before) (yuan : ℕ) (s : Section) (unit rest : List Capital)
+    (middle total : Sum) → sum_of (sums 0 yuan (counted_digits s) s.ones) unit ≡ middle
+    → sum_of middle rest ≡ total
+    → sum_of (sums 0 yuan 0 0) ((section_text before s ++ unit) ++ rest) ≡ total
+section-then before yuan s unit rest middle total a b =
+    joined-sum (sums 0 yuan 0 0) middle total (section_text before s ++ unit) rest
+    (joined-sum (sums 0 yuan 0 0) (sums 0 yuan (counted_digits s) s.ones) middle
+    (section_text before s) unit (section-sum before 0 yuan s) a) b
+
+wan-sum : (s : Section) (yuan : ℕ)
+    → sum_of (sums 0 yuan (counted_digits s) s.ones) (unit_text (not (is_empty s)) Wan)
+    ≡ sums 0 (yuan + 10000 * section_value s) 0 0
+wan-sum s yuan = by (is_empty s) refl where
+  by : (b : Bool) → is_empty s ≡ b
+      → sum_of (sums 0 yuan (counted_digits s) s.ones) (unit_text (not b) Wan)
+      ≡ sums 0 (yuan + 10000 * section_value s) 0 0
+  by true e =
+      let none = zero-section s e in
+      let n : yuan ≡ yuan + 10000 * section_value s = omega (arith, none.0, none.1) in
+      ap₂ (λ (section digit : ℕ). sums 0 yuan section digit) none.0 none.1
+      ∙ ap (λ n. sums 0 n 0 0) n
+  by false e =
+      let n : yuan + 10000 * (counted_digits s + s.ones) ≡ yuan + 10000 * section_value s =
+      omega arith in ap (λ n. sums 0 n 0 0) n
+
+yi-sum : (after : Before) (s : Section) (yuan : ℕ)
+    → (is_written after ≡ false → (yuan ≡ 0) × (counted_digits s ≡ 0) × (s.ones ≡ 0))
+    → sum_of (sums 0 yuan (counted_digits s) s.ones) (unit_text (is_written after) Yi)
+    ≡ sums 0 (100000000 * (yuan + section_value s)) 0 0
+yi-sum after s yuan none = by (is_written after) refl where
+  by : (b : Bool) → is_written after ≡ b
+      → sum_of (sums 0 yuan (counted_digits s) s.ones) (unit_text b Yi)
+      ≡ sums 0 (100000000 * (yuan + section_value s)) 0 0
+  by true e =
+      let n : 100000000 * (yuan + counted_digits s + s.ones)
+      ≡ 100000000 * (yuan + section_value s) = omega arith in ap (λ n. sums 0 n 0 0) n
+  by false e =
+      let zeros = none e in
+      let n : yuan ≡ 100000000 * (yuan + section_value s) =
+      omega (arith, zeros.0, zeros.1, zeros.2) in
+      ap₂ (λ (section digit : ℕ). sums 0 yuan section digit) zeros.1 zeros.2
+      ∙ ap (λ n. sums 0 n 0 0) n
+
+yuan-sum : (after : Before) (s : Section) (yuan : ℕ) (named keeps closes : Bool) (jiao fen : ℕ)
+    → (is_written after ≡ false → (yuan ≡ 0) × (counted_digits s ≡ 0) × (s.ones ≡ 0))
+    → sum_of (sums 0 yuan (counted_digits s) s.ones) (yuan_unit after named
+    ++ small_text (after_yuan_unit keeps after named) jiao fen closes)
     ≡ sums (100 * (yuan + section_value s) + 10 * jiao + fen) 0 0 0
-from-yuan choices before yuan s jiao fen after =
-    let below = behind choices.behind_yuan (front (is_zero s.ones)) in
-    let small = small_text below jiao fen choices.behind_jiao in
-    ap (sum_of (sums 0 yuan 0 0)) (sym (yuan-is choices before s jiao fen small after refl))
-    ∙ yuan-sum before yuan s small _ (small-sum below (100 * (yuan + section_value s)) jiao fen
-    choices.behind_jiao)
+yuan-sum after s yuan named keeps closes jiao fen none = by after named none where
+  total : Sum
+  total = sums (100 * (yuan + section_value s) + 10 * jiao + fen) 0 0 0
 
-wan-counted : (choices : Choices) (before : Before) (yuan : ℕ) (wan s : Section) (jiao fen : ℕ)
-    → is_empty wan ≡ false → after_section before wan ≡ front (is_zero wan.ones)
-    → sum_of (sums 0 yuan 0 0) (from_wan choices before (lower wan s jiao fen))
-    ≡ total yuan wan s jiao fen
-wan-counted choices before yuan wan s jiao fen some after =
-    let below = behind choices.behind_wan (front (is_zero wan.ones)) in
-    ap (sum_of (sums 0 yuan 0 0)) (sym (wan-is choices.behind_wan before wan
-    (λ b. yuan_text choices b s jiao fen) some after))
-    ∙ wan-sum before yuan wan (yuan_text choices below s jiao fen) _
-    (from-yuan choices below (yuan + 10000 * section_value wan) s jiao fen
-    (after-written below s (written-behind choices.behind_wan (is_zero wan.ones))))
+  behind-yuan : (before : Before)
+      → sum_of (sums (0 + 100 * (yuan + counted_digits s + s.ones)) 0 0 0)
+      (small_text before jiao fen closes) ≡ total
+  behind-yuan before =
+      let n : 0 + 100 * (yuan + counted_digits s + s.ones) + 10 * jiao + fen
+      ≡ 100 * (yuan + section_value s) + 10 * jiao + fen = omega arith in
+      small-sum before (0 + 100 * (yuan + counted_digits s + s.ones)) jiao fen closes
+      ∙ ap (λ n. sums n 0 0 0) n
 
-wan-none : (choices : Choices) (before : Before) (yuan : ℕ) (s : Section) (jiao fen : ℕ)
-    → is_written (after_section before empty_section) ≡ true
-    → sum_of (sums 0 yuan 0 0) (from_wan choices before (lower empty_section s jiao fen))
-    ≡ total yuan empty_section s jiao fen
-wan-none choices before yuan s jiao fen written =
-    let e : 100 * (yuan + section_value s) + 10 * jiao + fen
-    ≡ 100 * (yuan + 10000 * 0 + section_value s) + 10 * jiao + fen = omega arith in
-    from-yuan choices (after_section before empty_section) yuan s jiao fen
-    (after-written (after_section before empty_section) s written)
-    ∙ ap (λ n. sums n 0 0 0) e
+  by : (after : Before) (named : Bool)
+      → (is_written after ≡ false → (yuan ≡ 0) × (counted_digits s ≡ 0) × (s.ones ≡ 0))
+      → sum_of (sums 0 yuan (counted_digits s) s.ones) (yuan_unit after named
+      ++ small_text (after_yuan_unit keeps after named) jiao fen closes) ≡ total
+  by Nothing true none = behind-yuan (behind keeps Gap)
+  by Nothing false none =
+      let zeros = none refl in
+      let n : 0 + 10 * jiao + fen ≡ 100 * (yuan + section_value s) + 10 * jiao + fen =
+      omega (arith, zeros.0, zeros.1, zeros.2) in
+      ap (λ yuan. sum_of (sums 0 yuan (counted_digits s) s.ones)
+      (small_text Nothing jiao fen closes)) zeros.0
+      ∙ ap₂ (λ (section digit : ℕ). sum_of (sums 0 0 section digit)
+      (small_text Nothing jiao fen closes)) zeros.1 zeros.2
+      ∙ small-sum Nothing 0 jiao fen closes ∙ ap (λ n. sums n 0 0 0) n
+  by Gap named none = behind-yuan (behind keeps Gap)
+  by Filled named none = behind-yuan Filled
 
-from-wan : (choices : Choices) (keeps is_round : Bool) (yuan : ℕ) (wan s : Section) (jiao fen : ℕ)
-    → sum_of (sums 0 yuan 0 0) (from_wan choices (behind keeps (front is_round))
-    (lower wan s jiao fen)) ≡ total yuan wan s jiao fen
-from-wan choices keeps is_round yuan wan s jiao fen =
-    let before = behind keeps (front is_round) in
-    let written = written-behind keeps is_round in
-    by-empty (λ wan. sum_of (sums 0 yuan 0 0) (from_wan choices before (lower wan s jiao fen))
-    ≡ total yuan wan s jiao fen) wan
-    (wan-none choices before yuan s jiao fen
-    (ap is_written (after-written before empty_section written)))
-    (λ some. wan-counted choices before yuan wan s jiao fen some (after-written before wan written))
+-- from each section on
+from-yuan : (choices : Choices) (before : Before) (yuan : ℕ) (p : Places) → Counts before yuan
+    → sum_of (sums 0 yuan 0 0) (from_yuan choices before p)
+    ≡ sums (100 * (yuan + section_value p.yuan) + 10 * p.jiao + p.fen) 0 0 0
+from-yuan choices before yuan p counts =
+    joined-sum (sums 0 yuan 0 0) (sums 0 yuan (counted_digits p.yuan) p.yuan.ones) _
+    (section_text before p.yuan) _ (section-sum before 0 yuan p.yuan)
+    (yuan-sum (after_section before p.yuan) p.yuan yuan
+    (choices.no_yuan || are_zero (small_places p.jiao p.fen)) choices.behind_yuan
+    choices.behind_jiao p.jiao p.fen (nothing-counted before yuan p.yuan counts))
 
--- the sum of all sections
-abbrev whole : Section → Section → Section → Section → ℕ → ℕ → Sum
-whole wan_yi yi wan s jiao fen = sums (amount_value (record {
-  wan_yi = wan_yi;
-  yi = yi;
-  wan =
-      wan;
-  yuan = s;
-  jiao = jiao;
-  fen = fen;
-})) 0 0 0
+from-wan : (choices : Choices) (before : Before) (yuan : ℕ) (p : Places) → Counts before yuan
+    → sum_of (sums 0 yuan 0 0) (from_wan choices before p)
+    ≡ sums (100 * (yuan + 10000 * section_value p.wan + section_value p.yuan) + 10 * p.jiao
+    + p.fen) 0 0 0
+from-wan choices before yuan p counts =
+    let after = after_section before p.wan in
+    let below = after_unit (not (is_empty p.wan)) choices.behind_wan after in
+    let more = yuan + 10000 * section_value p.wan in
+    section-then before yuan p.wan (unit_text (not (is_empty p.wan)) Wan)
+    (from_yuan choices below p) (sums 0 more 0 0) _ (wan-sum p.wan yuan)
+    (from-yuan choices below more p (λ e.
+    let none = nothing-counted before yuan p.wan counts
+    (sym (unit-written (not (is_empty p.wan)) choices.behind_wan after) ∙ e) in
+    omega (arith, none.0, none.1, none.2)))
 
-none-sum : (named keeps : Bool) (jiao fen : ℕ) (closes : Bool)
-    → sum_of no_sum (yuan_unit Nothing named
-    ++ small_text (after_yuan_unit keeps Nothing named) jiao fen closes)
-    ≡ sums (0 + 10 * jiao + fen) 0 0 0
-none-sum true keeps jiao fen closes = small-sum (behind keeps Gap) 0 jiao fen closes
-none-sum false keeps jiao fen closes = small-sum Nothing 0 jiao fen closes
+from-yi : (choices : Choices) (before : Before) (yuan : ℕ) (p : Places) → Counts before yuan
+    → sum_of (sums 0 yuan 0 0) (from_yi choices before p)
+    ≡ sums (100 * (100000000 * (yuan + section_value p.yi) + 10000 * section_value p.wan
+    + section_value p.yuan) + 10 * p.jiao + p.fen) 0 0 0
+from-yi choices before yuan p counts =
+    let after = after_section before p.yi in
+    let below = after_unit (is_written after) choices.behind_yi after in
+    let more = 100000000 * (yuan + section_value p.yi) in
+    section-then before yuan p.yi (unit_text (is_written after) Yi) (from_wan choices below p)
+    (sums 0 more 0 0) _ (yi-sum after p.yi yuan (nothing-counted before yuan p.yi counts))
+    (from-wan choices below more p (λ e.
+    let none = nothing-counted before yuan p.yi counts
+    (sym (unit-written (is_written after) choices.behind_yi after) ∙ e) in
+    omega (arith, none.0, none.1, none.2)))
 
 top-sum : (choices : Choices) (p : Places)
     → sum_of no_sum (from_top choices p) ≡ sums (amount_value p) 0 0 0
-top-sum choices p = by-empty (λ s. Sums s p.yi p.wan p.yuan) p.wan_yi without_wan_yi
-    with_wan_yi where
-      Sums : Section → Section → Section → Section → Type 0
-      Sums wan_yi yi wan yuan =
-          sum_of no_sum (from_top choices (record {
-            wan_yi = wan_yi;
-            yi = yi;
-            wan = wan;
-            yuan =
-                yuan;
-            jiao = p.jiao;
-            fen = p.fen;
-          })) ≡ whole wan_yi yi wan yuan p.jiao p.fen
-
-      without_yuan : Sums empty_section empty_section empty_section empty_section
-      without_yuan = none-sum (choices.no_yuan || (is_zero p.jiao && is_zero p.fen))
-          choices.behind_yuan p.jiao p.fen choices.behind_jiao
-
-      with_yuan : is_empty p.yuan ≡ false → Sums empty_section empty_section empty_section p.yuan
-      with_yuan e =
-          let n : 100 * (0 + section_value p.yuan) + 10 * p.jiao + p.fen
-          ≡ amount_value (record {
-            wan_yi = empty_section;
-            yi = empty_section;
-            wan =
-                empty_section;
-            yuan = p.yuan;
-            jiao = p.jiao;
-            fen = p.fen;
-          }) = omega arith in
-          from-yuan choices Nothing 0 p.yuan p.jiao p.fen (after-some p.yuan e)
-          ∙ ap (λ n. sums n 0 0 0) n
-
-      without_wan : Sums empty_section empty_section empty_section p.yuan
-      without_wan = by-empty (λ s. Sums empty_section empty_section empty_section s) p.yuan
-          without_yuan with_yuan
-
-      with_wan : is_empty p.wan ≡ false → Sums empty_section empty_section p.wan p.yuan
-      with_wan e =
-          let n : 100 * (0 + 10000 * section_value p.wan + section_value p.yuan) + 10 * p.jiao + p.fen
-          ≡ amount_value (record {
-            wan_yi = empty_section;
-            yi = empty_section;
-            wan = p.wan;
-            yuan =
-                p.yuan;
-            jiao = p.jiao;
-            fen = p.fen;
-          }) = omega arith in
-          wan-counted choices Nothing 0 p.wan p.yuan p.jiao p.fen e (after-some p.wan e)
-          ∙ ap (λ n. sums n 0 0 0) n
-
-      without_yi : Sums empty_section empty_section p.wan p.yuan
-      without_yi = by-empty (λ s. Sums empty_section empty_section s p.yuan) p.wan without_wan with_wan
-
-      with_yi : is_empty p.yi ≡ false → Sums empty_section p.yi p.wan p.yuan
-      with_yi e =
-          let s = p.yi in
-          let below = λ (b : Before). from_wan choices b p in
-          let n : 100 * (100000000 * (0 + section_value s) + 10000 * section_value p.wan
-          + section_value p.yuan) + 10 * p.jiao + p.fen
-          ≡ amount_value (record {
-            wan_yi = empty_section;
-            yi = s;
-            wan = p.wan;
-            yuan = p.yuan;
-            jiao =
-                p.jiao;
-            fen = p.fen;
-          }) = omega arith in
-          ap (sum_of no_sum) (sym (yi-is choices.behind_yi Nothing s below (after-some s e)))
-          ∙ yi-sum Nothing 0 s (below (behind choices.behind_yi (front (is_zero s.ones)))) _
-          (from-wan choices choices.behind_yi (is_zero s.ones) (100000000 * (0 + section_value s))
-          p.wan p.yuan p.jiao p.fen)
-          ∙ ap (λ n. sums n 0 0 0) n
-
-      without_wan_yi : Sums empty_section p.yi p.wan p.yuan
-      without_wan_yi = by-empty (λ s. Sums empty_section s p.wan p.yuan) p.yi without_yi with_yi
-
-      with_wan_yi : is_empty p.wan_yi ≡ false → Sums p.wan_yi p.yi p.wan p.yuan
-      with_wan_yi e =
-          let s = p.wan_yi in
-          let before = behind choices.behind_wan_yi (front (is_zero s.ones)) in
-          let high = 0 + 10000 * section_value s in
-          let wan = λ (b : Before). from_wan choices b p in
-          let yi = λ (b : Before). from_yi choices b p in
-          let n : 100 * (100000000 * (high + section_value p.yi) + 10000 * section_value p.wan
-          + section_value p.yuan) + 10 * p.jiao + p.fen ≡ amount_value p = omega arith in
-          ap (sum_of no_sum) (sym (wan-is choices.behind_wan_yi Nothing s yi e (after-some s e)))
-          ∙ wan-sum Nothing 0 s (yi before) _
-          (ap (sum_of (sums 0 high 0 0)) (sym (yi-is choices.behind_yi before p.yi wan
-          (after-written before p.yi (written-behind choices.behind_wan_yi (is_zero s.ones)))))
-          ∙ yi-sum before high p.yi (wan (behind choices.behind_yi (front (is_zero p.yi.ones)))) _
-          (from-wan choices choices.behind_yi (is_zero p.yi.ones)
-          (100000000 * (high + section_value p.yi)) p.wan p.yuan p.jiao p.fen))
-          ∙ ap (λ n. sums n 0 0 0) n
+top-sum choices p =
+    let after = after_section Nothing p.wan_yi in
+    let below = after_unit (not (is_empty p.wan_yi)) choices.behind_wan_yi after in
+    let more = 0 + 10000 * section_value p.wan_yi in
+    let n : 100 * (100000000 * (more + section_value p.yi) + 10000 * section_value p.wan
+    + section_value p.yuan) + 10 * p.jiao + p.fen ≡ amount_value p = omega arith in
+    section-then Nothing 0 p.wan_yi (unit_text (not (is_empty p.wan_yi)) Wan)
+    (from_yi choices below p) (sums 0 more 0 0) _ (wan-sum p.wan_yi 0)
+    (from-yi choices below more p (λ e.
+    let none = nothing-counted Nothing 0 p.wan_yi (λ e. refl)
+    (sym (unit-written (not (is_empty p.wan_yi)) choices.behind_wan_yi after) ∙ e) in
+    omega (arith, none.0, none.1, none.2))
+    ∙ ap (λ n. sums n 0 0 0) n)
 
 pub form-sum : (choices : Choices) (p : Places)
     → sum_of no_sum (amount_form choices p) ≡ sums (amount_value p) 0 0 0

@@ -1,7 +1,7 @@
 -- In which forms an amount may stand, and in which one it is written. The rule goes by places, from
 -- the top: a digit that is not 0 is written with its unit, and 零 in front of it where the digit
 -- directly before it is 0.
-use Rattle.std.specs.Prelude.{ℕ, zero, suc, Bool, true, false, ◌&&◌, ◌||◌, List, [], ◌∷◌, ◌++◌, if◌then◌else◌}
+use Rattle.std.specs.Prelude.{ℕ, zero, suc, Bool, true, false, not, ◌&&◌, ◌||◌, List, [], ◌∷◌, ◌++◌, if◌then◌else◌}
 use Rattle.cn_amount.specs.declared.before.Before.{Before}
 use Rattle.cn_amount.specs.declared.before.Before.TheVariants.{Nothing, Gap, Filled}
 use Rattle.cn_amount.specs.declared.capital.Capital.{Capital}
@@ -60,56 +60,64 @@ place_text Nothing (suc n) unit = Digit (suc n) ∷ unit
 place_text Gap (suc n) unit = Ling ∷ Digit (suc n) ∷ unit
 place_text Filled (suc n) unit = Digit (suc n) ∷ unit
 
--- the lowest place of a section, the lowest two, three, and all four: 肆佰零玖 of 0, 4, 0, 9
-abbrev pub ones_text : Before → ℕ → List Capital
-ones_text before ones = place_text before ones []
+-- places one behind the other, each a digit and its unit, from the top
+abbrev pub places_text : Before → List (ℕ × List Capital) → List Capital
+places_text before [] = []
+places_text before (place ∷ rest) =
+    place_text before place.0 place.1 ++ places_text (after_digit before place.0) rest
 
-abbrev pub tens_text : Before → ℕ → ℕ → List Capital
-tens_text before tens ones =
-    place_text before tens (Shi ∷ []) ++ ones_text (after_digit before tens) ones
+abbrev pub after_places : Before → List (ℕ × List Capital) → Before
+after_places before [] = before
+after_places before (place ∷ rest) = after_places (after_digit before place.0) rest
 
-abbrev pub hundreds_text : Before → ℕ → ℕ → ℕ → List Capital
-hundreds_text before hundreds tens ones =
-    place_text before hundreds (Bai ∷ []) ++ tens_text (after_digit before hundreds) tens ones
+abbrev pub are_zero : List (ℕ × List Capital) → Bool
+are_zero [] = true
+are_zero (place ∷ rest) = is_zero place.0 && are_zero rest
+
+-- the four places of a section: 肆佰零玖 of 0, 4, 0, 9
+abbrev pub places_in : Section → List (ℕ × List Capital)
+places_in s =
+    (s.thousands, Qian ∷ []) ∷ (s.hundreds, Bai ∷ []) ∷ (s.tens, Shi ∷ []) ∷ (s.ones, []) ∷ []
 
 abbrev pub section_text : Before → Section → List Capital
-section_text before s =
-    place_text before s.thousands (Qian ∷ [])
-    ++ hundreds_text (after_digit before s.thousands) s.hundreds s.tens s.ones
+section_text before s = places_text before (places_in s)
 
 abbrev pub after_section : Before → Section → Before
-after_section before s =
-    after_digit (after_digit (after_digit (after_digit before s.thousands) s.hundreds) s.tens)
-    s.ones
+after_section before s = after_places before (places_in s)
+
+abbrev pub is_empty : Section → Bool
+is_empty s = are_zero (places_in s)
 
 -- What stands in front of the place behind a unit above 仟: a 0 at the unit's place counts as one,
--- or
--- it does not. Where the next digit is 0 too, there is a 零 all the same.
+-- or it does not. Where the next digit is 0 too, there is a 零 all the same.
 abbrev pub behind : Bool → Before → Before
-behind keeps Nothing = Nothing
-behind true Gap = Gap
-behind false Gap = Filled
-behind keeps Filled = Filled
+behind true before = before
+behind false Nothing = Nothing
+behind false before = Filled
 
--- a section that 万 counts; an empty one is not written
-abbrev pub is_empty : Section → Bool
-is_empty s =
-    is_zero s.thousands && (is_zero s.hundreds && (is_zero s.tens && is_zero s.ones))
+-- the unit of a section, if it counts something, and what stands in front of the place behind it
+abbrev pub unit_text : Bool → Capital → List Capital
+unit_text true unit = unit ∷ []
+unit_text false unit = []
 
+abbrev pub after_unit : Bool → Bool → Before → Before
+after_unit true keeps before = behind keeps before
+after_unit false keeps before = before
+
+-- 万 counts its section, if that is not empty
 abbrev pub wan_text : Before → Section → List Capital
-wan_text before s = if is_empty s then [] else section_text before s ++ Wan ∷ []
+wan_text before s = section_text before s ++ unit_text (not (is_empty s)) Wan
 
 abbrev pub after_wan : Bool → Before → Section → Before
-after_wan keeps before s =
-    if is_empty s then after_section before s else behind keeps (after_section before s)
+after_wan keeps before s = after_unit (not (is_empty s)) keeps (after_section before s)
 
--- the section that 亿 counts, with what stands in front of it
+-- 亿 counts its section with all that stands in front of it
 abbrev pub yi_text : Before → Section → List Capital
-yi_text before s = section_text before s
-    ++ (if is_written (after_section before s) then Yi ∷ [] else [])
+yi_text before s = section_text before s ++ unit_text (is_written (after_section before s)) Yi
 
 abbrev pub after_yi : Bool → Before → Section → Before
-after_yi keeps before s = behind keeps (after_section before s)
+after_yi keeps before s =
+    after_unit (is_written (after_section before s)) keeps (after_section before s)
 
 -- 元; where there are no yuan, 零元 or nothing
 abbrev pub yuan_unit : Before → Bool → List Capital
@@ -132,25 +140,28 @@ closing (suc n) zero true = Zheng ∷ []
 closing (suc n) zero false = []
 
 -- jiao, fen and what closes them
+abbrev pub small_places : ℕ → ℕ → List (ℕ × List Capital)
+small_places jiao fen = (jiao, Jiao ∷ []) ∷ (fen, Fen ∷ []) ∷ []
+
 abbrev pub small_text : Before → ℕ → ℕ → Bool → List Capital
 small_text before jiao fen closes =
-    place_text before jiao (Jiao ∷ [])
-    ++ (place_text (after_digit before jiao) fen (Fen ∷ []) ++ closing jiao fen closes)
+    places_text before (small_places jiao fen) ++ closing jiao fen closes
 
 -- the yuan without a greater unit, 元, and the rest
-abbrev pub yuan_text : Choices → Before → Section → ℕ → ℕ → List Capital
-yuan_text choices before s jiao fen =
-    let after = after_section before s in
-    let named = choices.no_yuan || (is_zero jiao && is_zero fen) in
-    section_text before s
+abbrev pub from_yuan : Choices → Before → Places → List Capital
+from_yuan choices before p =
+    let after = after_section before p.yuan in
+    let named = choices.no_yuan || are_zero (small_places p.jiao p.fen) in
+    section_text before p.yuan
     ++ (yuan_unit after named
-    ++ small_text (after_yuan_unit choices.behind_yuan after named) jiao fen choices.behind_jiao)
+    ++ small_text (after_yuan_unit choices.behind_yuan after named) p.jiao p.fen
+    choices.behind_jiao)
 
 -- from the section of 万 on, from that of 亿 on, and from the top
 abbrev pub from_wan : Choices → Before → Places → List Capital
 from_wan choices before p =
     wan_text before p.wan
-    ++ yuan_text choices (after_wan choices.behind_wan before p.wan) p.yuan p.jiao p.fen
+    ++ from_yuan choices (after_wan choices.behind_wan before p.wan) p
 
 abbrev pub from_yi : Choices → Before → Places → List Capital
 from_yi choices before p =

@@ -1,8 +1,11 @@
 -- What is read as an amount, and what is answered of a text.
-use Rattle.std.specs.Prelude.{◌≡◌, ℕ, ◌+◌, ◌<◌, List, [], ◌∷◌, ◌++◌, length, map, take, Result, Ok, Err, codes, chars, if◌then◌else◌}
-use Rattle.std.specs.Char.{char_set_contains}
+use Rattle.std.specs.Prelude.{◌≡◌, ℕ, List, [], ◌∷◌, map, Option, Some, Result, codes, chars}
+pub use Rattle.cn_capitals.specs.declared.refusal.Refusal.{Refusal as AmountRefusal}
+pub use Rattle.cn_capitals.specs.declared.refusal.Refusal.TheVariants.{Unfinished as unfinished, Incorrect as incorrect_at}
+use Rattle.cn_capitals.specs.Answers as answers
+use Rattle.cn_capitals.specs.Characters.{first_with}
 use Rattle.cn_amount.specs.declared.capital.Capital.{Capital}
-use Rattle.cn_amount.specs.declared.capital.Capital.TheVariants.{Ling, Digit, Shi, Bai, Qian, Wan, Yi, Yuan, Jiao, Fen, Zheng, Ren, Min, Bi, Foreign}
+use Rattle.cn_amount.specs.declared.capital.Capital.TheVariants.{Ling, Digit, Shi, Bai, Qian, Wan, Yi, Yuan, Jiao, Fen, Zheng, Ren, Min, Bi}
 use Rattle.cn_amount.specs.declared.places.Places.{Places}
 use Rattle.cn_amount.specs.Form.{Choices, amount_form}
 use Rattle.cn_amount.specs.Places.{ArePlaces, amount_value}
@@ -17,15 +20,11 @@ capital_rows =
     ∷ (codes "角", Jiao) ∷ (codes "分", Fen) ∷ (codes "整正", Zheng) ∷ (codes "人", Ren)
     ∷ (codes "民", Min) ∷ (codes "币幣", Bi) ∷ []
 
-abbrev pub first_with : List (List ℕ × Capital) → ℕ → Capital
-first_with [] c = Foreign
-first_with (row ∷ rows) c = if char_set_contains row.0 c then row.1 else first_with rows c
-
--- what a character is
-unfoldable pub capital_of : ℕ → Capital
+-- what a character is read as, if it is read
+unfoldable pub capital_of : ℕ → Option Capital
 capital_of c = first_with capital_rows c
 
-abbrev pub capitals_of : List ℕ → List Capital
+abbrev pub capitals_of : List ℕ → List (Option Capital)
 capitals_of text = map capital_of text
 
 -- the characters are a form of the amount
@@ -33,26 +32,16 @@ pub record IsAmount (text : List ℕ) (fen : ℕ) : Type 0 where
   pub choices : Choices
   pub places : Places
   pub digits : ArePlaces places
-  pub form : capitals_of text ≡ amount_form choices places
+  pub form : capitals_of text ≡ map Some (amount_form choices places)
   pub value : fen ≡ amount_value places
 
 -- an amount can begin with these characters
 abbrev pub Begins : List ℕ → Type 0
-Begins text = (behind : List ℕ) × (fen : ℕ) × IsAmount (text ++ behind) fen
-
--- why a text is refused: something is missing at its end, or no amount begins with what stands up
--- to
--- and with the character at this place
-pub data AmountRefusal : Type 0 where
-  unfinished : AmountRefusal
-  incorrect_at : ℕ → AmountRefusal
+Begins text = answers.Begins IsAmount text
 
 -- the answer to a text
 abbrev pub Answers : List ℕ → Result ℕ AmountRefusal → Type 0
-Answers text (Ok fen) = IsAmount text fen
-Answers text (Err unfinished) = Begins text × ((fen : ℕ) → ¬ IsAmount text fen)
-Answers text (Err (incorrect_at place)) =
-    (place < length text) × Begins (take place text) × ¬ Begins (take (place + 1) text)
+Answers text answer = answers.Answers IsAmount text answer
 
 -- the answer to a string, given by its bytes
 abbrev pub ReadsAmount : List ℕ → Result ℕ AmountRefusal → Type 0

@@ -5,7 +5,7 @@ use Rattle.cn_core.specs.Characters.{digit_char, unit_char}
 use Rattle.cn_core.specs.declared.case.ChineseCase.TheVariants.{Upper}
 use Rattle.cn_core.specs.declared.script.ChineseVariant.{ChineseVariant}
 use Rattle.cn_amount.specs.declared.capital.Capital.{Capital}
-use Rattle.cn_amount.specs.declared.capital.Capital.TheVariants.{Ling, Digit, Shi, Bai, Qian, Wan, Yi, Yuan, Jiao, Fen, Zheng, Ren, Min, Bi, Foreign}
+use Rattle.cn_amount.specs.declared.capital.Capital.TheVariants.{Ling, Digit, Shi, Bai, Qian, Wan, Yi, Yuan, Jiao, Fen, Zheng, Ren, Min, Bi}
 use Rattle.cn_amount.specs.declared.error.AmountToChineseError.{AmountToChineseError}
 use Rattle.cn_amount.specs.declared.error.AmountToChineseError.TheVariants.{Overflow, OutOfMemory}
 use Rattle.cn_amount.specs.Form.{written, amount_form}
@@ -15,7 +15,7 @@ use Rattle.cn_amount.specs.Places.{amount_limit, places_of}
 abbrev pub char_of : List ℕ → ℕ
 char_of text = slice_index text 0
 
--- the character that writes each; none of the last four is written
+-- the character that writes each; none of the last three is written
 abbrev pub capital_char : ChineseVariant → Capital → ℕ
 capital_char variant Ling = digit_char variant Upper 0
 capital_char variant (Digit value) = digit_char variant Upper value
@@ -31,7 +31,6 @@ capital_char variant Zheng = char_of (codes "整")
 capital_char variant Ren = char_of (codes "人")
 capital_char variant Min = char_of (codes "民")
 capital_char variant Bi = char_of (codes "币")
-capital_char variant Foreign = char_of (codes "?")
 
 -- the bytes that write capitals
 abbrev pub shown : ChineseVariant → List Capital → List ℕ

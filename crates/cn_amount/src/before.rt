@@ -40,7 +40,7 @@ impl Before {
         }
     }
 
-    /// The same behind four digits.
+    /// What stands in front of the place behind four digits.
     pub fn after_section(self, section: Section) -> Before
         ensures { result ≡ after_section self section }
     {
@@ -50,14 +50,16 @@ impl Before {
             .after_digit(section.ones)
     }
 
-    /// The same behind a section that 万 counts, in the form that is written.
+    /// What stands in front of the place behind a section that 万 counts, in the form that is
+    /// written.
     pub fn after_wan(self, section: Section) -> Before
         ensures { result ≡ after_wan true self section }
     {
         self.after_section(section)
     }
 
-    /// The same behind 元, in the form that is written, where 零元 is `named` for no yuan.
+    /// What stands in front of the jiao, in the form that is written, where 零元 is `named` for no
+    /// yuan.
     pub fn after_yuan_unit(self, named: bool) -> Before
         ensures { result ≡ after_yuan_unit false self named }
     {

@@ -1,10 +1,10 @@
 // The characters of an amount.
 ghost use Rattle.std.specs.Prelude.{◌≡◌, ◌==◌, ◌*◌, ◌/◌, ◌%◌, slice_index_or, if◌then◌else◌};
-ghost use Rattle.cn_amount.specs.declared.capital.Capital.TheVariants.{Foreign};
 ghost use Rattle.cn_amount.specs.Working.Putting.{IsWritten};
 ghost use Rattle.cn_amount.specs.Writes.{capital_char};
 ghost use Rattle.cn_amount.specs.Reading.{capital_of};
 
+use cn_capitals::Written;
 use cn_core::{ChineseCase, ChineseVariant, Unit, digit_char, unit_char};
 
 /// What a character of an amount is.
@@ -38,105 +38,104 @@ pub enum Capital {
     Min,
     /// 币
     Bi,
-    /// Any other.
-    Foreign,
 }
 
-/// The character that writes a capital.
-pub fn capital_char(variant: ChineseVariant, capital: Capital) -> char
-    requires { IsWritten capital }
-    ensures { result ≡ capital_char variant capital }
-{
-    match capital {
-        Capital::Ling => digit_char(variant, ChineseCase::Upper, 0),
-        Capital::Digit(digit) => digit_char(variant, ChineseCase::Upper, digit),
-        Capital::Shi => unit_char(variant, ChineseCase::Upper, Unit::Shi),
-        Capital::Bai => unit_char(variant, ChineseCase::Upper, Unit::Bai),
-        Capital::Qian => unit_char(variant, ChineseCase::Upper, Unit::Qian),
-        Capital::Wan => unit_char(variant, ChineseCase::Upper, Unit::Wan),
-        Capital::Yi => unit_char(variant, ChineseCase::Upper, Unit::Yi),
-        Capital::Yuan => '元',
-        Capital::Jiao => '角',
-        Capital::Fen => '分',
-        Capital::Zheng => '整',
-        Capital::Ren => '人',
-        Capital::Min => '民',
-        Capital::Bi => '币',
-        Capital::Foreign => '?',
+impl Written for Capital {
+    ghost can_write = { IsWritten };
+
+    ghost character = { capital_char };
+
+    fn character(self, variant: ChineseVariant) -> char {
+        match self {
+            Capital::Ling => digit_char(variant, ChineseCase::Upper, 0),
+            Capital::Digit(digit) => digit_char(variant, ChineseCase::Upper, digit),
+            Capital::Shi => unit_char(variant, ChineseCase::Upper, Unit::Shi),
+            Capital::Bai => unit_char(variant, ChineseCase::Upper, Unit::Bai),
+            Capital::Qian => unit_char(variant, ChineseCase::Upper, Unit::Qian),
+            Capital::Wan => unit_char(variant, ChineseCase::Upper, Unit::Wan),
+            Capital::Yi => unit_char(variant, ChineseCase::Upper, Unit::Yi),
+            Capital::Yuan => '元',
+            Capital::Jiao => '角',
+            Capital::Fen => '分',
+            Capital::Zheng => '整',
+            Capital::Ren => '人',
+            Capital::Min => '民',
+            Capital::Bi => '币',
+        }
     }
 }
 
 // The characters that are read, each at its slot. 無, which is none, fills the empty ones.
-static CAPITALS: [(char, Capital); 64] = [
-    ('玖', Capital::Digit(9)),
-    ('無', Capital::Foreign),
-    ('無', Capital::Foreign),
-    ('無', Capital::Foreign),
-    ('無', Capital::Foreign),
-    ('萬', Capital::Wan),
-    ('肆', Capital::Digit(4)),
-    ('無', Capital::Foreign),
-    ('無', Capital::Foreign),
-    ('無', Capital::Foreign),
-    ('無', Capital::Foreign),
-    ('無', Capital::Foreign),
-    ('無', Capital::Foreign),
-    ('仟', Capital::Qian),
-    ('民', Capital::Min),
-    ('億', Capital::Yi),
-    ('無', Capital::Foreign),
-    ('陆', Capital::Digit(6)),
-    ('角', Capital::Jiao),
-    ('無', Capital::Foreign),
-    ('無', Capital::Foreign),
-    ('元', Capital::Yuan),
-    ('佰', Capital::Bai),
-    ('無', Capital::Foreign),
-    ('人', Capital::Ren),
-    ('無', Capital::Foreign),
-    ('無', Capital::Foreign),
-    ('無', Capital::Foreign),
-    ('無', Capital::Foreign),
-    ('無', Capital::Foreign),
-    ('伍', Capital::Digit(5)),
-    ('無', Capital::Foreign),
-    ('無', Capital::Foreign),
-    ('無', Capital::Foreign),
-    ('壹', Capital::Digit(1)),
-    ('無', Capital::Foreign),
-    ('万', Capital::Wan),
-    ('貳', Capital::Digit(2)),
-    ('無', Capital::Foreign),
-    ('圓', Capital::Yuan),
-    ('亿', Capital::Yi),
-    ('無', Capital::Foreign),
-    ('正', Capital::Zheng),
-    ('捌', Capital::Digit(8)),
-    ('無', Capital::Foreign),
-    ('柒', Capital::Digit(7)),
-    ('陸', Capital::Digit(6)),
-    ('贰', Capital::Digit(2)),
-    ('叁', Capital::Digit(3)),
-    ('無', Capital::Foreign),
-    ('幣', Capital::Bi),
-    ('無', Capital::Foreign),
-    ('無', Capital::Foreign),
-    ('拾', Capital::Shi),
-    ('參', Capital::Digit(3)),
-    ('整', Capital::Zheng),
-    ('無', Capital::Foreign),
-    ('叄', Capital::Digit(3)),
-    ('無', Capital::Foreign),
-    ('零', Capital::Ling),
-    ('分', Capital::Fen),
-    ('币', Capital::Bi),
-    ('圆', Capital::Yuan),
-    ('無', Capital::Foreign),
+static CAPITALS: [(char, Option<Capital>); 64] = [
+    ('玖', Some(Capital::Digit(9))),
+    ('無', None),
+    ('無', None),
+    ('無', None),
+    ('無', None),
+    ('萬', Some(Capital::Wan)),
+    ('肆', Some(Capital::Digit(4))),
+    ('無', None),
+    ('無', None),
+    ('無', None),
+    ('無', None),
+    ('無', None),
+    ('無', None),
+    ('仟', Some(Capital::Qian)),
+    ('民', Some(Capital::Min)),
+    ('億', Some(Capital::Yi)),
+    ('無', None),
+    ('陆', Some(Capital::Digit(6))),
+    ('角', Some(Capital::Jiao)),
+    ('無', None),
+    ('無', None),
+    ('元', Some(Capital::Yuan)),
+    ('佰', Some(Capital::Bai)),
+    ('無', None),
+    ('人', Some(Capital::Ren)),
+    ('無', None),
+    ('無', None),
+    ('無', None),
+    ('無', None),
+    ('無', None),
+    ('伍', Some(Capital::Digit(5))),
+    ('無', None),
+    ('無', None),
+    ('無', None),
+    ('壹', Some(Capital::Digit(1))),
+    ('無', None),
+    ('万', Some(Capital::Wan)),
+    ('貳', Some(Capital::Digit(2))),
+    ('無', None),
+    ('圓', Some(Capital::Yuan)),
+    ('亿', Some(Capital::Yi)),
+    ('無', None),
+    ('正', Some(Capital::Zheng)),
+    ('捌', Some(Capital::Digit(8))),
+    ('無', None),
+    ('柒', Some(Capital::Digit(7))),
+    ('陸', Some(Capital::Digit(6))),
+    ('贰', Some(Capital::Digit(2))),
+    ('叁', Some(Capital::Digit(3))),
+    ('無', None),
+    ('幣', Some(Capital::Bi)),
+    ('無', None),
+    ('無', None),
+    ('拾', Some(Capital::Shi)),
+    ('參', Some(Capital::Digit(3))),
+    ('整', Some(Capital::Zheng)),
+    ('無', None),
+    ('叄', Some(Capital::Digit(3))),
+    ('無', None),
+    ('零', Some(Capital::Ling)),
+    ('分', Some(Capital::Fen)),
+    ('币', Some(Capital::Bi)),
+    ('圆', Some(Capital::Yuan)),
+    ('無', None),
 ];
 
 // The entry at the slot of a character: no two of those that are read share one.
 #[inline(always)]
-fn entry(character: char) -> (char, Capital)
+fn entry(character: char) -> (char, Option<Capital>)
     ensures { result ≡ slice_index_or CAPITALS (character * 3227 / 1024 % 64) result }
 {
     CAPITALS[(character as u32 * 3227 / 1024 % 64) as usize]
@@ -144,20 +143,16 @@ fn entry(character: char) -> (char, Capital)
 
 // What an entry says of a character: nothing, where it has another one.
 #[inline(always)]
-fn known_in(entry: (char, Capital), character: char) -> Capital
-    ensures { result ≡ (if entry.0 == character then entry.1 else Foreign) }
+fn known_in(entry: (char, Option<Capital>), character: char) -> Option<Capital>
+    ensures { result ≡ (if entry.0 == character then entry.1 else None) }
 {
     let (known, capital) = entry;
-    if known == character {
-        capital
-    } else {
-        Capital::Foreign
-    }
+    if known == character { capital } else { None }
 }
 
-/// What a character is, of either script, by a look-up without a search.
+/// What a character of either script is read as, by a look-up without a search.
 #[inline(always)]
-pub fn capital_of(character: char) -> Capital
+pub fn capital_of(character: char) -> Option<Capital>
     ensures { result ≡ capital_of character }
 {
     known_in(entry(character), character)

@@ -5,9 +5,10 @@
 //! leave open; the form that is written makes one choice of each.
 //!
 //! Writing puts that form piece by piece into room for the longest one, from which a string is made.
-//! Reading goes from the left, by states that say what may follow. That it is right is shown in
-//! three parts: each form is read to its end (`proofs/FormsRead`), each text that is read to its end
-//! is a form (`proofs/Accepted`), and each state can be completed (`proofs/Runs`). The sum that is
+//! Reading goes from the left, by states that say what may follow. What can still be written at each
+//! point of a form is a list of ways (`proofs/Points`), and each state stands for such a list, checked
+//! by computing it (`proofs/States`). So reading is right where forms are what is written along the
+//! ways: each form is (`proofs/FormsRead`), and nothing else is (`proofs/Accepted`). The sum that is
 //! taken on the way is the amount (`proofs/Values`).
 #![tactic(auto)]
 
@@ -16,13 +17,13 @@ mod capital;
 mod error;
 pub mod laws;
 mod places;
+mod progress;
 mod put;
 mod read;
 mod state;
 mod sum;
 #[cfg(test)]
 mod tests;
-mod text;
 mod write;
 
 pub use error::{AmountToChineseError, ChineseToAmountError};

@@ -2,17 +2,17 @@
 // it where the digit directly before it is 0.
 ghost use Rattle.std.specs.Prelude.{◌≡◌, ◌<◌, true, List, [], ◌∷◌, ◌++◌};
 ghost use Rattle.cn_amount.specs.declared.capital.Capital.{Capital};
-ghost use Rattle.cn_amount.specs.Form.{place_text, section_text, wan_text, yi_text, yuan_unit, small_text, yuan_text, from_wan, from_yi, amount_form, written};
+ghost use Rattle.cn_amount.specs.Form.{place_text, section_text, wan_text, yi_text, yuan_unit, small_text, from_yuan, from_wan, from_yi, amount_form, written};
 ghost use Rattle.cn_amount.specs.Places.{AreDigits, ArePlaces};
 ghost use Rattle.cn_amount.specs.Working.Putting.{IsWritten, PutsMore};
 
 use crate::before::Before;
 use crate::capital::Capital;
 use crate::places::{Places, Section};
-use crate::text::AmountText;
+use cn_capitals::CapitalText;
 
 // A digit of a place that has no unit of its own.
-fn put_digit(text: &mut AmountText, before: Before, digit: u8)
+fn put_digit(text: &mut CapitalText, before: Before, digit: u8)
     requires { digit < 10 }
     ensures { PutsMore text.old text.new (place_text before digit []) }
 {
@@ -25,7 +25,7 @@ fn put_digit(text: &mut AmountText, before: Before, digit: u8)
 }
 
 /// A digit and its unit.
-pub fn put_place(text: &mut AmountText, before: Before, digit: u8, unit: Capital)
+pub fn put_place(text: &mut CapitalText, before: Before, digit: u8, unit: Capital)
     requires digit { digit < 10 }
     requires unit { IsWritten unit }
     ensures { PutsMore text.old text.new (place_text before digit (unit ∷ [])) }
@@ -37,7 +37,7 @@ pub fn put_place(text: &mut AmountText, before: Before, digit: u8, unit: Capital
 }
 
 /// Four digits.
-pub fn put_section(text: &mut AmountText, before: Before, section: Section)
+pub fn put_section(text: &mut CapitalText, before: Before, section: Section)
     requires { AreDigits section }
     ensures { PutsMore text.old text.new (section_text before section) }
 {
@@ -50,7 +50,7 @@ pub fn put_section(text: &mut AmountText, before: Before, section: Section)
 }
 
 // A section that 万 counts, and 万.
-fn put_wan(text: &mut AmountText, before: Before, section: Section)
+fn put_wan(text: &mut CapitalText, before: Before, section: Section)
     requires { AreDigits section }
     ensures { PutsMore text.old text.new (wan_text before section) }
 {
@@ -61,7 +61,7 @@ fn put_wan(text: &mut AmountText, before: Before, section: Section)
 }
 
 // The section that 亿 counts, and 亿, if there is something that it counts.
-fn put_yi(text: &mut AmountText, before: Before, section: Section)
+fn put_yi(text: &mut CapitalText, before: Before, section: Section)
     requires { AreDigits section }
     ensures { PutsMore text.old text.new (yi_text before section) }
 {
@@ -72,7 +72,7 @@ fn put_yi(text: &mut AmountText, before: Before, section: Section)
 }
 
 // Behind the yuan: 元, or 零元 for nothing at all.
-fn put_yuan_unit(text: &mut AmountText, after: Before, named: bool)
+fn put_yuan_unit(text: &mut CapitalText, after: Before, named: bool)
     ensures { PutsMore text.old text.new (yuan_unit after named) }
 {
     if after.is_written() {
@@ -84,7 +84,7 @@ fn put_yuan_unit(text: &mut AmountText, after: Before, named: bool)
 }
 
 // The jiao, the fen, and 整 where there are no fen.
-fn put_small(text: &mut AmountText, before: Before, jiao: u8, fen: u8)
+fn put_small(text: &mut CapitalText, before: Before, jiao: u8, fen: u8)
     requires jiao { jiao < 10 }
     requires fen { fen < 10 }
     ensures { PutsMore text.old text.new (small_text before jiao fen true) }
@@ -97,9 +97,9 @@ fn put_small(text: &mut AmountText, before: Before, jiao: u8, fen: u8)
 }
 
 // From the section of 一 down.
-fn put_yuan(text: &mut AmountText, before: Before, places: Places)
+fn put_yuan(text: &mut CapitalText, before: Before, places: Places)
     requires { ArePlaces places }
-    ensures { PutsMore text.old text.new (yuan_text written before places.yuan places.jiao places.fen) }
+    ensures { PutsMore text.old text.new (from_yuan written before places) }
 {
     put_section(text, before, places.yuan);
     let after = before.after_section(places.yuan);
@@ -109,7 +109,7 @@ fn put_yuan(text: &mut AmountText, before: Before, places: Places)
 }
 
 // From the section of 万 down.
-fn put_from_wan(text: &mut AmountText, before: Before, places: Places)
+fn put_from_wan(text: &mut CapitalText, before: Before, places: Places)
     requires { ArePlaces places }
     ensures { PutsMore text.old text.new (from_wan written before places) }
 {
@@ -118,7 +118,7 @@ fn put_from_wan(text: &mut AmountText, before: Before, places: Places)
 }
 
 // From the section of 亿 down.
-fn put_from_yi(text: &mut AmountText, before: Before, places: Places)
+fn put_from_yi(text: &mut CapitalText, before: Before, places: Places)
     requires { ArePlaces places }
     ensures { PutsMore text.old text.new (from_yi written before places) }
 {
@@ -127,7 +127,7 @@ fn put_from_yi(text: &mut AmountText, before: Before, places: Places)
 }
 
 /// The form that is written.
-pub fn put_amount(text: &mut AmountText, places: Places)
+pub fn put_amount(text: &mut CapitalText, places: Places)
     requires { ArePlaces places }
     ensures { PutsMore text.old text.new (amount_form written places) }
 {

@@ -1,13 +1,10 @@
-// Reading, in one pass from the left.
-ghost use Rattle.std.specs.Prelude.{◌≡◌};
+// Reading, by the states of an amount.
 ghost use Rattle.cn_amount.specs.Answer.{answer_of};
 ghost use Rattle.cn_amount.specs.Reading.{ReadsAmount};
 
 use crate::ChineseToAmountError;
-use crate::capital::capital_of;
-use crate::state::State;
-use crate::sum::Sum;
-use cn_core::split_first_char;
+use crate::progress::Progress;
+use cn_capitals::{Refusal, read};
 
 /// The amount for which a text in capitals stands, in fen: `Ok` exactly where the text is a form of
 /// an amount. It takes no memory.
@@ -25,23 +22,11 @@ use cn_core::split_first_char;
 pub fn chinese_to_amount(text: &str) -> Result<u64, ChineseToAmountError>
     ensures { ReadsAmount text.now (answer_of result) }
 {
-    let mut state = State::Beginning;
-    let mut sum = Sum::NONE;
-    let mut char_index = 0;
-    let mut rest = text;
-    'reading: while let Some((character, after)) = split_first_char(rest) {
-        let capital = capital_of(character);
-        match state.step(capital) {
-            Some(next) => state = next,
-            None => return Err(ChineseToAmountError::Incorrect { char_index }),
+    match read::<Progress>(text) {
+        Ok(fen) => Ok(fen),
+        Err(Refusal::Unfinished) => Err(ChineseToAmountError::Unfinished),
+        Err(Refusal::Incorrect { char_index }) => {
+            Err(ChineseToAmountError::Incorrect { char_index })
         }
-        sum = sum.add(capital);
-        char_index += 1;
-        rest = after;
-    }
-    if state.is_end() {
-        Ok(sum.fen)
-    } else {
-        Err(ChineseToAmountError::Unfinished)
     }
 }

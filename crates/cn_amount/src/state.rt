@@ -1,6 +1,6 @@
 // How far a text is read as an amount, from the left. Each state stands for what may follow.
 ghost use Rattle.std.specs.Prelude.{◌≡◌};
-ghost use Rattle.cn_amount.specs.Working.Steps.{behind_thousands, close_wan, close_yi, close_yuan, close, below_tens, below_hundreds, below_thousands, digit_below, digit_at, after_unit, bare, after_ling, after_great, first_digit, opening, begin, after_yuan, small_digit, after_jiao, after_a_digit, after_word, step, is_end};
+ghost use Rattle.cn_amount.specs.Working.Steps.{behind_thousands, bare, close, digit_at, digit_below, after_unit, after_ling, after_great, first_digit, outside, step, is_end};
 
 use crate::capital::Capital;
 
@@ -46,8 +46,12 @@ pub enum State {
     NoYuan,
     /// The first digit.
     FirstDigit,
-    /// 万 or 亿, with which stage below it, and whether the digit at its place is 0.
-    AfterGreat(Stage, bool),
+    /// The first 万, and whether the digit at its place is 0.
+    AfterFirstWan(bool),
+    /// 亿, and whether the digit at its place is 0.
+    AfterYi(bool),
+    /// The last 万, and whether the digit at its place is 0.
+    AfterLastWan(bool),
     /// 零, where a digit has to follow, at this place at most.
     AfterLing(Stage, Place),
     /// A digit at this place.
@@ -93,78 +97,32 @@ impl Stage {
         }
     }
 
-    // 万 behind a section, whose last digit is 0 or not.
-    fn close_wan(self, is_round: bool) -> Option<State>
-        ensures { result ≡ close_wan self is_round }
-    {
-        match self {
-            Stage::Top => Some(State::AfterGreat(Stage::BelowWan, is_round)),
-            Stage::BelowYi | Stage::BelowYiGap | Stage::OnlyWan => {
-                Some(State::AfterGreat(Stage::Last, is_round))
-            }
-            Stage::BelowWan | Stage::Last => None,
-        }
-    }
-
-    // The same for 亿.
-    fn close_yi(self, is_round: bool) -> Option<State>
-        ensures { result ≡ close_yi self is_round }
-    {
-        match self {
-            Stage::Top | Stage::BelowWan => Some(State::AfterGreat(Stage::BelowYi, is_round)),
-            _ => None,
-        }
-    }
-
-    // The same for 元.
-    fn close_yuan(self, is_round: bool) -> Option<State>
-        ensures { result ≡ close_yuan self is_round }
-    {
-        match self {
-            Stage::OnlyWan => None,
-            _ => Some(State::AfterYuan(is_round)),
-        }
-    }
-
-    // What closes a section.
+    // What closes a section, whose last digit is 0 or not.
     fn close(self, is_round: bool, capital: Capital) -> Option<State>
         ensures { result ≡ close self is_round capital }
     {
-        match capital {
-            Capital::Wan => self.close_wan(is_round),
-            Capital::Yi => self.close_yi(is_round),
-            Capital::Yuan => self.close_yuan(is_round),
+        match (self, capital) {
+            (Stage::Top, Capital::Wan) => Some(State::AfterFirstWan(is_round)),
+            (Stage::BelowYi | Stage::BelowYiGap | Stage::OnlyWan, Capital::Wan) => {
+                Some(State::AfterLastWan(is_round))
+            }
+            (Stage::Top | Stage::BelowWan, Capital::Yi) => Some(State::AfterYi(is_round)),
+            (Stage::OnlyWan, Capital::Yuan) => None,
+            (_, Capital::Yuan) => Some(State::AfterYuan(is_round)),
             _ => None,
         }
     }
 
-    // Behind a digit of tens or ones.
-    fn below_tens(self, capital: Capital) -> Option<State>
-        ensures { result ≡ below_tens self capital }
+    // Behind a digit at a place.
+    fn digit_at(self, place: Place, capital: Capital) -> Option<State>
+        ensures { result ≡ digit_at self place capital }
     {
-        match capital {
-            Capital::Shi => Some(State::AfterUnit(self, Place::Tens)),
-            _ => self.close(false, capital),
-        }
-    }
-
-    // Behind a digit of hundreds or less.
-    fn below_hundreds(self, capital: Capital) -> Option<State>
-        ensures { result ≡ below_hundreds self capital }
-    {
-        match capital {
-            Capital::Bai => Some(State::AfterUnit(self, Place::Hundreds)),
-            _ => self.below_tens(capital),
-        }
-    }
-
-    // Behind a digit of any place.
-    fn below_thousands(self, capital: Capital) -> Option<State>
-        ensures { result ≡ below_thousands self capital }
-    {
-        match capital {
-            Capital::Qian => Some(State::AfterUnit(self.behind_thousands(), Place::Thousands)),
-            _ => self.below_hundreds(capital),
+        match (place, capital) {
+            (Place::Thousands, Capital::Qian)
+            | (Place::Hundreds, Capital::Bai)
+            | (Place::Tens, Capital::Shi) => Some(State::AfterUnit(self, place)),
+            (Place::Ones, _) => self.close(false, capital),
+            _ => None,
         }
     }
 
@@ -173,31 +131,22 @@ impl Stage {
         ensures { result ≡ digit_below self place capital }
     {
         match place {
-            Place::Ones => self.close(false, capital),
-            Place::Tens => self.below_tens(capital),
-            Place::Hundreds => self.below_hundreds(capital),
-            Place::Thousands => self.below_thousands(capital),
-        }
-    }
-
-    // Behind a digit at a place.
-    fn digit_at(self, place: Place, capital: Capital) -> Option<State>
-        ensures { result ≡ digit_at self place capital }
-    {
-        match place {
-            Place::Ones => self.close(false, capital),
-            Place::Tens => match capital {
+            Place::Thousands => match capital {
+                Capital::Qian => Some(State::AfterUnit(self.behind_thousands(), Place::Thousands)),
+                Capital::Bai => Some(State::AfterUnit(self, Place::Hundreds)),
                 Capital::Shi => Some(State::AfterUnit(self, Place::Tens)),
-                _ => None,
+                _ => self.close(false, capital),
             },
             Place::Hundreds => match capital {
                 Capital::Bai => Some(State::AfterUnit(self, Place::Hundreds)),
-                _ => None,
+                Capital::Shi => Some(State::AfterUnit(self, Place::Tens)),
+                _ => self.close(false, capital),
             },
-            Place::Thousands => match capital {
-                Capital::Qian => Some(State::AfterUnit(self, Place::Thousands)),
-                _ => None,
+            Place::Tens => match capital {
+                Capital::Shi => Some(State::AfterUnit(self, Place::Tens)),
+                _ => self.close(false, capital),
             },
+            Place::Ones => self.close(false, capital),
         }
     }
 
@@ -206,9 +155,9 @@ impl Stage {
         ensures { result ≡ after_unit self place capital }
     {
         match place {
-            Place::Ones => self.close(true, capital),
-            Place::Tens => match capital {
-                Capital::Digit(_) => Some(State::DigitAt(self, Place::Ones)),
+            Place::Thousands => match capital {
+                Capital::Digit(_) => Some(State::DigitAt(self, Place::Hundreds)),
+                Capital::Ling => Some(State::AfterLing(self, Place::Tens)),
                 _ => self.close(true, capital),
             },
             Place::Hundreds => match capital {
@@ -216,11 +165,11 @@ impl Stage {
                 Capital::Ling => Some(State::AfterLing(self, Place::Ones)),
                 _ => self.close(true, capital),
             },
-            Place::Thousands => match capital {
-                Capital::Digit(_) => Some(State::DigitAt(self, Place::Hundreds)),
-                Capital::Ling => Some(State::AfterLing(self, Place::Tens)),
+            Place::Tens => match capital {
+                Capital::Digit(_) => Some(State::DigitAt(self, Place::Ones)),
                 _ => self.close(true, capital),
             },
+            Place::Ones => self.close(true, capital),
         }
     }
 
@@ -228,12 +177,10 @@ impl Stage {
     fn after_ling(self, is_round: bool) -> State
         ensures { result ≡ after_ling self is_round }
     {
-        if is_round {
-            return State::AfterLing(self, Place::Thousands);
-        }
-        match self {
-            Stage::BelowYi => State::AfterLing(Stage::BelowYiGap, Place::Thousands),
-            stage => State::AfterLing(stage, Place::Hundreds),
+        match (self, is_round) {
+            (_, true) => State::AfterLing(self, Place::Thousands),
+            (Stage::BelowYi, false) => State::AfterLing(Stage::BelowYiGap, Place::Thousands),
+            (_, false) => State::AfterLing(self, Place::Hundreds),
         }
     }
 
@@ -257,131 +204,52 @@ fn first_digit(capital: Capital) -> Option<State>
     match capital {
         Capital::Jiao => Some(State::AfterJiao),
         Capital::Fen => Some(State::Complete),
-        _ => Stage::Top.below_thousands(capital),
-    }
-}
-
-// At the beginning, behind the currency.
-fn opening(capital: Capital) -> Option<State>
-    ensures { result ≡ opening capital }
-{
-    match capital {
-        Capital::Ling => Some(State::NoYuan),
-        Capital::Digit(_) => Some(State::FirstDigit),
-        _ => None,
-    }
-}
-
-// At the beginning.
-fn begin(capital: Capital) -> Option<State>
-    ensures { result ≡ begin capital }
-{
-    match capital {
-        Capital::Ren => Some(State::AfterRen),
-        _ => opening(capital),
-    }
-}
-
-// Behind 元.
-fn after_yuan(is_round: bool, capital: Capital) -> Option<State>
-    ensures { result ≡ after_yuan is_round capital }
-{
-    match capital {
-        Capital::Zheng => Some(State::Complete),
-        Capital::Ling => Some(State::AfterYuanLing(is_round)),
-        Capital::Digit(_) => Some(State::JiaoDigit),
-        _ => None,
-    }
-}
-
-// Behind 元, 零 and a digit.
-fn small_digit(is_round: bool, capital: Capital) -> Option<State>
-    ensures { result ≡ small_digit is_round capital }
-{
-    match capital {
-        Capital::Jiao => {
-            if is_round {
-                Some(State::AfterJiao)
-            } else {
-                None
-            }
-        }
-        Capital::Fen => Some(State::Complete),
-        _ => None,
-    }
-}
-
-// Behind 角.
-fn after_jiao(capital: Capital) -> Option<State>
-    ensures { result ≡ after_jiao capital }
-{
-    match capital {
-        Capital::Zheng => Some(State::Complete),
-        Capital::Digit(_) => Some(State::FenDigit),
-        _ => None,
-    }
-}
-
-// Where a digit has to follow.
-fn after_digit(capital: Capital, next: State) -> Option<State>
-    ensures { result ≡ after_a_digit capital next }
-{
-    match capital {
-        Capital::Digit(_) => Some(next),
-        _ => None,
-    }
-}
-
-// Where one word has to follow: 民, 币, 元, 角 or 分.
-fn after_word(state: State, capital: Capital) -> Option<State>
-    ensures { result ≡ after_word state capital }
-{
-    match state {
-        State::AfterRen => match capital {
-            Capital::Min => Some(State::AfterMin),
-            _ => None,
-        },
-        State::AfterMin => match capital {
-            Capital::Bi => Some(State::AfterCurrency),
-            _ => None,
-        },
-        State::NoYuan => match capital {
-            Capital::Yuan => Some(State::AfterYuan(true)),
-            _ => None,
-        },
-        State::JiaoDigit => match capital {
-            Capital::Jiao => Some(State::AfterJiao),
-            _ => None,
-        },
-        State::FenDigit => match capital {
-            Capital::Fen => Some(State::Complete),
-            _ => None,
-        },
-        _ => None,
+        _ => Stage::Top.digit_below(Place::Thousands, capital),
     }
 }
 
 impl State {
+    // Outside of a section.
+    fn outside(self, capital: Capital) -> Option<State>
+        ensures { result ≡ outside self capital }
+    {
+        match (self, capital) {
+            (State::Beginning, Capital::Ren) => Some(State::AfterRen),
+            (State::AfterRen, Capital::Min) => Some(State::AfterMin),
+            (State::AfterMin, Capital::Bi) => Some(State::AfterCurrency),
+            (State::Beginning | State::AfterCurrency, Capital::Ling) => Some(State::NoYuan),
+            (State::Beginning | State::AfterCurrency, Capital::Digit(_)) => Some(State::FirstDigit),
+            (State::NoYuan, Capital::Yuan) => Some(State::AfterYuan(true)),
+            (State::AfterYuan(_) | State::AfterJiao, Capital::Zheng) => Some(State::Complete),
+            (State::AfterYuan(is_round), Capital::Ling) => Some(State::AfterYuanLing(is_round)),
+            (State::AfterYuan(_), Capital::Digit(_)) => Some(State::JiaoDigit),
+            (State::AfterYuanLing(is_round), Capital::Digit(_)) => Some(State::SmallDigit(
+                is_round,
+            )),
+            (State::JiaoDigit | State::SmallDigit(true), Capital::Jiao) => Some(State::AfterJiao),
+            (State::FenDigit | State::SmallDigit(_), Capital::Fen) => Some(State::Complete),
+            (State::AfterJiao, Capital::Digit(_)) => Some(State::FenDigit),
+            _ => None,
+        }
+    }
+
     /// The state after one more capital; `None` where no amount goes on so.
     pub fn step(self, capital: Capital) -> Option<State>
         ensures { result ≡ step self capital }
     {
         match self {
-            State::Beginning => begin(capital),
-            State::AfterCurrency => opening(capital),
             State::FirstDigit => first_digit(capital),
-            State::AfterGreat(stage, is_round) => stage.after_great(is_round, capital),
-            State::AfterLing(stage, place) => {
-                after_digit(capital, State::DigitBelow(stage, place))
-            }
+            State::AfterFirstWan(is_round) => Stage::BelowWan.after_great(is_round, capital),
+            State::AfterYi(is_round) => Stage::BelowYi.after_great(is_round, capital),
+            State::AfterLastWan(is_round) => Stage::Last.after_great(is_round, capital),
+            State::AfterLing(stage, place) => match capital {
+                Capital::Digit(_) => Some(State::DigitBelow(stage, place)),
+                _ => None,
+            },
             State::DigitAt(stage, place) => stage.digit_at(place, capital),
             State::DigitBelow(stage, place) => stage.digit_below(place, capital),
             State::AfterUnit(stage, place) => stage.after_unit(place, capital),
-            State::AfterYuan(is_round) => after_yuan(is_round, capital),
-            State::AfterYuanLing(is_round) => after_digit(capital, State::SmallDigit(is_round)),
-            State::SmallDigit(is_round) => small_digit(is_round, capital),
-            State::AfterJiao => after_jiao(capital),
-            _ => after_word(self, capital),
+            _ => self.outside(capital),
         }
     }
 

@@ -1,29 +1,29 @@
 // Writing.
 ghost use Rattle.std.specs.Prelude.{◌≡◌, ◌<◌, ◌≤◌, length, encode_utf8_all};
-ghost use Rattle.cn_short_text.specs.ShortText.{text_bytes};
+ghost use Rattle.cn_capitals.specs.Text.{text_bytes};
 ghost use Rattle.cn_amount.specs.Places.{amount_limit};
 ghost use Rattle.cn_amount.specs.Writes.{WritesAmount, amount_text};
 
 use crate::AmountToChineseError;
+use crate::capital::Capital;
 use crate::places::Places;
 use crate::put::put_amount;
-use crate::text::AmountText;
+use cn_capitals::CapitalText;
 use cn_core::ChineseVariant;
-use cn_short_text::ShortText;
 use std::alloc::Global;
 
 /// The first amount that is not written: 10^16 yuan, in fen.
 pub const AMOUNT_LIMIT: u64 = 1_000_000_000_000_000_000;
 
 /// The text of an amount below the limit, in room of its own.
-pub fn amount_text(variant: ChineseVariant, fen: u64) -> ShortText
+pub fn amount_text(variant: ChineseVariant, fen: u64) -> CapitalText
     requires { fen < amount_limit }
     ensures bytes { text_bytes result ≡ encode_utf8_all (amount_text variant fen) }
     ensures most { length (text_bytes result) ≤ 108 }
 {
-    let mut text = AmountText::new(variant);
+    let mut text = CapitalText::new::<Capital>(variant);
     put_amount(&mut text, Places::of(fen));
-    text.text
+    text
 }
 
 /// The amount in capitals, as it stands on a cheque. It is given in fen, the hundredth part of a

@@ -5,10 +5,12 @@ use Rattle.std.proofs.lemmas.Str.{is_utf8-from_IsUtf8}
 use Rattle.std.specs.Str.{IsUtf8}
 use Rattle.cn_core.specs.declared.script.ChineseVariant.{ChineseVariant}
 use Rattle.cn_amount.specs.Places.{amount_limit}
-use Rattle.cn_amount.specs.Reading.{AmountRefusal, ReadsAmount}
+use Rattle.cn_amount.specs.Reading.{AmountRefusal, IsAmount, ReadsAmount}
+use Rattle.cn_amount.specs.Working.Steps.{amount_machine}
 use Rattle.cn_amount.specs.Writes.{amount_text}
 use Rattle.cn_amount.proofs.FormsShown.{written-read, written-utf8}
-use Rattle.cn_amount.proofs.OneAnswer.{each-answer}
+use Rattle.cn_amount.proofs.ReadText.{amount-reads}
+use Rattle.cn_capitals.proofs.OneAnswer as every
 use Rattle.cn_c.specs.declared.amount.Amount.{Amount}
 use Rattle.cn_c.specs.Amounts.{TellsAmount, IsAmountRead, IsAmountPrintedAs}
 use Rattle.cn_c.specs.Codes.{CN_DONE}
@@ -20,9 +22,9 @@ one-answer : (script : ChineseVariant) (fen : ℕ) (text : List ℕ) (answer : R
     → fen < amount_limit → text ≡ encode_utf8_all (amount_text script fen)
     → ReadsAmount text answer → answer ≡ Ok fen
 one-answer script fen text answer below is reads =
-    let each = each-answer (chars text) in
-    let read = subst (λ text. ReadsAmount text (Ok fen)) (sym is) (written-read script fen below) in
-    each.2 answer reads ∙ sym (each.2 (Ok fen) read)
+    every.one-answer IsAmount (every.one-value IsAmount amount_machine amount-reads) (chars text)
+    answer (Ok fen) reads
+    (subst (λ text. ReadsAmount text (Ok fen)) (sym is) (written-read script fen below))
 
 pub amount-back : (fen : ℕ) (script : Option ChineseVariant) (old new : List ℕ) (len : ℕ)
     → IsAmountPrintedAs fen script old CN_DONE new len

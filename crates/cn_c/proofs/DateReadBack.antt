@@ -5,12 +5,12 @@ use Rattle.std.specs.Str.{IsUtf8}
 use Rattle.cn_core.specs.declared.script.ChineseVariant.{ChineseVariant}
 use Rattle.cn_date.specs.declared.date.BillDate.{BillDate}
 use Rattle.cn_date.specs.Calendar.{IsDate}
-use Rattle.cn_date.specs.Form.{written, date_form}
-use Rattle.cn_date.specs.Reading.{DateRefusal, ReadsDate}
+use Rattle.cn_date.specs.Reading.{DateRefusal, IsDateText, ReadsDate}
+use Rattle.cn_date.specs.Working.Steps.{date_machine}
 use Rattle.cn_date.specs.Writes.{date_text}
-use Rattle.cn_date.proofs.OneAnswer.{each-answer}
-use Rattle.cn_date.proofs.Shows.{scalars-shown}
-use Rattle.cn_date.proofs.Written.{shown-form, written-read}
+use Rattle.cn_date.proofs.ReadText.{date-reads}
+use Rattle.cn_capitals.proofs.OneAnswer as every
+use Rattle.cn_date.proofs.Written.{written-read, written-utf8}
 use Rattle.cn_c.specs.declared.date.Date.{Date}
 use Rattle.cn_c.specs.Dates.{date_told, TellsDate, IsDateRead, IsDatePrintedAs}
 use Rattle.cn_c.specs.Codes.{CN_DONE}
@@ -21,9 +21,9 @@ one-answer : (script : ChineseVariant) (date : BillDate) (text : List ℕ) (answ
     → IsDate date → text ≡ encode_utf8_all (date_text script date)
     → ReadsDate text answer → answer ≡ Ok date
 one-answer script date text answer there is reads =
-    let each = each-answer (chars text) in
-    let read = subst (λ text. ReadsDate text (Ok date)) (sym is) (written-read script date there) in
-    each.2 answer reads ∙ sym (each.2 (Ok date) read)
+    every.one-answer IsDateText (every.one-value IsDateText date_machine date-reads) (chars text)
+    answer (Ok date) reads
+    (subst (λ text. ReadsDate text (Ok date)) (sym is) (written-read script date there))
 
 pub date-back : (date : BillDate) (script : Option ChineseVariant) (old new : List ℕ) (len : ℕ)
     → IsDatePrintedAs date script old CN_DONE new len
@@ -34,10 +34,7 @@ date-back date None old new len printed = absurd (omega (arith, printed.0))
 date-back date (Some script) old new len (inr none) = absurd (omega (arith, none.1.0))
 date-back date (Some script) old new len (inl put) =
     let text = put-text (encode_utf8_all (date_text script date)) old new len put.1 in
-    let utf8 : IsUtf8 (take len new) = (
-      date_text script date,
-      (scalars-shown script (date_form written date) (shown-form date put.0), sym text),
-    ) in (
+    let utf8 = written-utf8 script date (take len new) put.0 text in (
       utf8,
       λ status told is.
           let read : (answer : Result BillDate DateRefusal) × ReadsDate (take len new) answer

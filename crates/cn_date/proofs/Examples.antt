@@ -1,6 +1,10 @@
 -- Worked examples: what the definitions compute to. The month and the day of those that are
 -- marked stand in the rules.
-use Rattle.std.proofs.Common.{◌≡◌, ℕ, true, List, ◌∷◌, ◌++◌, length, Some, None, Err, codes, refl, arith}
+use Rattle.std.proofs.Common.{◌≡◌, ℕ, true, List, ◌∷◌, ◌++◌, length, map, Some, None, Err, codes, refl, ◌∙◌, arith}
+use Rattle.cn_capitals.specs.Machine.{Leads}
+use Rattle.cn_capitals.specs.Machine as machine
+use Rattle.cn_capitals.proofs.Reading.{unfinished-read, place-refused}
+use Rattle.cn_capitals.proofs.Runs.{run-map}
 use Rattle.cn_core.specs.Characters.{digit_char, unit_char}
 use Rattle.cn_core.specs.declared.script.ChineseVariant.TheVariants.{Traditional, Simple}
 use Rattle.cn_date.specs.declared.date.BillDate.{BillDate}
@@ -9,10 +13,10 @@ use Rattle.cn_date.specs.declared.state.State.{State}
 use Rattle.cn_date.specs.declared.state.State.TheVariants.{Year, Month, Day, Complete}
 use Rattle.cn_date.specs.Calendar.{IsDate, days_of}
 use Rattle.cn_date.specs.Form.{date_form}
-use Rattle.cn_date.specs.Reading.{unfinished, incorrect_at, capital_of, capitals_of, Answers}
-use Rattle.cn_date.specs.Working.Steps.{step, run}
+use Rattle.cn_date.specs.Reading.{unfinished, incorrect_at, capital_of, capitals_of, IsDateText, Answers}
+use Rattle.cn_date.specs.Working.Steps.{step, end, date_machine}
 use Rattle.cn_date.specs.Writes.{date_text}
-use Rattle.cn_date.proofs.ReadText.{run-read, unfinished-read, place-refused}
+use Rattle.cn_date.proofs.ReadText.{date-reads}
 
 abbrev on : ℕ → ℕ → ℕ → BillDate
 on year month day = record { year = year; month = month; day = day }
@@ -182,45 +186,51 @@ traditional = refl
 
 -- what is read beside what is written: 零 in front of 叁月 to 玖月
 
-zero_before_march : capitals_of (codes "伍年零叁月零壹日") ≡ date_form true (on 5 3 1)
+zero_before_march : capitals_of (codes "伍年零叁月零壹日") ≡ map Some (date_form true (on 5 3 1))
 unfolding capital_of
 zero_before_march = refl
 
-zero_before_september : capitals_of (codes "伍年零玖月零壹日") ≡ date_form true (on 5 9 1)
+zero_before_september : capitals_of (codes "伍年零玖月零壹日") ≡ map Some (date_form true (on 5 9 1))
 unfolding capital_of
 zero_before_september = refl
 
-mixed_scripts : capitals_of (codes "貳零贰陸年零叄月零參日") ≡ date_form true (on 2026 3 3)
+mixed_scripts : capitals_of (codes "貳零贰陸年零叄月零參日") ≡ map Some (date_form true (on 2026 3 3))
 unfolding capital_of
 mixed_scripts = refl
 
 -- what is not finished
-not-ended : (text : List ℕ) (state : State) → run (Year 0) (capitals_of text) ≡ Some state
-    → ((date : BillDate) → ¬ (state ≡ Complete date)) → Answers text (Err unfinished)
-not-ended text state e other = unfinished-read text state (run-read text state e) other
+leads : (text : List ℕ) (state : State) → machine.run (machine.step_as step) (Year 0) (capitals_of text) ≡ Some state
+    → Leads date_machine text state
+leads text state e = run-map (machine.step_as step) capital_of (Year 0) text ∙ e
+
+not-ended : (text : List ℕ) (state : State) → machine.run (machine.step_as step) (Year 0) (capitals_of text) ≡ Some state
+    → end state ≡ None → Answers text (Err unfinished)
+not-ended text state e none =
+    unfinished-read IsDateText date_machine date-reads text state (leads text state e) none
 
 nothing : Answers (codes "") (Err unfinished)
 unfolding capital_of
-nothing = not-ended (codes "") (Year 0) refl (λ date e. absurd (cc))
+nothing = not-ended (codes "") (Year 0) refl refl
 
 year : Answers (codes "贰零贰陆") (Err unfinished)
 unfolding capital_of
-year = not-ended (codes "贰零贰陆") (Year 2026) refl (λ date e. absurd (cc))
+year = not-ended (codes "贰零贰陆") (Year 2026) refl refl
 
 tens_of_a_day : Answers (codes "贰零贰伍年零贰月贰拾") (Err unfinished)
 unfolding capital_of
-tens_of_a_day = not-ended (codes "贰零贰伍年零贰月贰拾") (Day 2025 2 28 (Tens 2)) refl (λ date e. absurd (cc))
+tens_of_a_day = not-ended (codes "贰零贰伍年零贰月贰拾") (Day 2025 2 28 (Tens 2)) refl refl
 
 day_without_ri : Answers (codes "贰零贰陆年零壹月壹拾伍") (Err unfinished)
 unfolding capital_of
-day_without_ri = not-ended (codes "贰零贰陆年零壹月壹拾伍") (Day 2026 1 31 (Both 1 5)) refl (λ date e. absurd (cc))
+day_without_ri = not-ended (codes "贰零贰陆年零壹月壹拾伍") (Day 2026 1 31 (Both 1 5)) refl refl
 
 -- what is refused, and where
 refused : (front : List ℕ) (c : ℕ) (behind : List ℕ) (state : State)
-    → run (Year 0) (capitals_of front) ≡ Some state → step state (capital_of c) ≡ None
+    → machine.run (machine.step_as step) (Year 0) (capitals_of front) ≡ Some state → machine.step_as step state (capital_of c) ≡ None
     → Answers (front ++ c ∷ behind) (Err (incorrect_at (length front)))
-refused front c behind state e none = place-refused (front ++ c ∷ behind) front behind
-    (length front) state c refl refl (run-read front state e) none
+refused front c behind state e none =
+    place-refused IsDateText date_machine date-reads (front ++ c ∷ behind) front behind
+    (length front) state c refl refl (leads front state e) none
 
 zero_year : Answers (codes "零伍年叁月零壹日") (Err (incorrect_at 0))
 unfolding capital_of

@@ -9,19 +9,9 @@ use Rattle.cn_date.specs.declared.state.State.TheVariants.{Year, Month, Day, Com
 use Rattle.cn_date.specs.Calendar.{IsDate, days_of, is_leap}
 use Rattle.cn_date.specs.Form.{figures, year_text, month_text, day_text, date_form}
 use Rattle.cn_date.specs.Working.Steps.{step, run}
-use Rattle.cn_date.proofs.Runs.{run-behind, run-more, run-ran}
+use Rattle.cn_capitals.proofs.Runs.{run-behind, run-more, run-ran}
+use Rattle.cn_capitals.proofs.Characters.{AllBelow, all-at}
 use Rattle.cn_date.proofs.Years.{figures-more, not-zero}
-
-abbrev pub AllBelow : (ℕ → Type 0) → ℕ → Type 0
-AllBelow P zero = Unit {0}
-AllBelow P (suc n) = P n × AllBelow P n
-
-pub all-at : (P : ℕ → Type 0) (n k : ℕ) → AllBelow P n → k < n → P k
-all-at P zero k h low = absurd (omega (arith, low))
-all-at P (suc n) k h low = elim (dec_lt k n) [
-  | yes less ↦ all-at P n k h.1 less
-  | no last ↦ let e : n ≡ k = omega (arith, low, last) in subst P e h.0
-]
 
 -- each day of a month, by its days
 abbrev ReadsDay : ℕ → ℕ → ℕ → ℕ → Type 0
@@ -84,7 +74,7 @@ reads-figures (suc count) (suc n) low all =
     let last = suc n % 10 in
     let same : 10 * front + last ≡ suc n = omega arith in
     ap (run (Year 0)) (figures-more count (suc n) (omega arith))
-    ∙ run-more (Year 0) (figures count front) (Digit last) (Year front)
+    ∙ run-more step (Year 0) (figures count front) (Digit last) (Year front)
     (reads-figures count front (omega (arith, low)) (omega (arith, all)))
     ∙ year-step front last (omega (arith, all)) (omega (arith, same))
     ∙ ap (λ year. Some (Year year)) same
@@ -124,9 +114,9 @@ form-read choice date is =
     let y = date.year in
     let m = date.month in
     let rest = month_text choice m ++ day_text date.day in
-    run-behind (Year 0) (year_text y) (Nian ∷ rest) (Year y)
+    run-behind step (Year 0) (year_text y) (Nian ∷ rest) (Year y)
     (reads-figures 4 y (omega (arith, is.1)) is.1)
-    ∙ run-ran (Year y) Nian rest (Some (Month y Nothing)) (some-year y is.0)
-    ∙ run-behind (Month y Nothing) (month_text choice m) (day_text date.day)
+    ∙ run-ran step (Year y) Nian rest (Some (Month y Nothing)) (some-year y is.0)
+    ∙ run-behind step (Month y Nothing) (month_text choice m) (day_text date.day)
     (Day y m (days_of y m) Nothing) (reads-month y choice m is.2 is.3)
     ∙ whole-day y m date.day is.4 is.5

@@ -2,10 +2,7 @@ pub mod Completed
 pub mod Examples
 pub mod FormsRead
 pub mod Fronts
-pub mod OneAnswer
 pub mod ReadText
-pub mod Runs
-pub mod Shown
 pub mod Shows
 pub mod Written
 pub mod Years

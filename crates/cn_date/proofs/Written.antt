@@ -1,6 +1,7 @@
 -- What is written for a date, by its bytes.
 use Rattle.std.proofs.Common.{◌≡◌, ℕ, zero, suc, ◌*◌, ◌<◌, ◌≤◌, ◌/◌, ◌%◌, Bool, true, false, ◌==◌, nat_lt, List, [], ◌∷◌, ◌++◌, length, encode_utf8_all, Ok, refl, sym, ap, subst, ◌∙◌, if◌then◌else◌, length-append, arith}
 use Rattle.std.specs.List.{list_all}
+use Rattle.std.specs.Str.{IsUtf8}
 use Rattle.std.specs.String.{string_bytes, string_len}
 use Rattle.std.specs.declared.string.String.{String}
 use Rattle.std.proofs.lemmas.Bool.Decides.{nat_tests}
@@ -14,42 +15,43 @@ use Rattle.cn_date.specs.declared.capital.Capital.TheVariants.{Digit, Nian}
 use Rattle.cn_date.specs.declared.date.BillDate.{BillDate}
 use Rattle.cn_date.specs.Calendar.{IsDate}
 use Rattle.cn_date.specs.Form.{figures, year_text, month_text, day_text, date_form, written}
-use Rattle.cn_date.specs.Reading.{IsDateText, ReadsDate}
+use Rattle.cn_date.specs.Reading.{capital_of, IsDateText, ReadsDate}
 use Rattle.cn_date.specs.Writes.{capital_char, date_text, IsText}
 use Rattle.cn_date.specs.Working.Putting.{HasPut}
-use Rattle.cn_date.specs.declared.text.DateText.{DateText}
-use Rattle.cn_short_text.specs.ShortText.{text_bytes, IsStringOf}
-use Rattle.cn_short_text.specs.ShortText as short
+use Rattle.cn_capitals.specs.declared.text.CapitalText.{CapitalText}
+use Rattle.cn_capitals.specs.Text.{text_bytes, HasPut as HasPutAny, IsStringOf}
 use Rattle.cn_date.proofs.FormsRead.{days-bounds}
-use Rattle.cn_date.proofs.Shows.{is_shown, each_below-at, capitals-read, scalars-shown, length-shown}
+use Rattle.cn_capitals.proofs.Characters.{each_below-at}
+use Rattle.cn_capitals.proofs.Characters as every
+use Rattle.cn_date.proofs.Shows.{is_proper, capital-back, capitals-read, capitals-scalar}
 
-shown-both : (front back : List Capital) → list_all is_shown front ≡ true
-    → list_all is_shown back ≡ true → list_all is_shown (front ++ back) ≡ true
-shown-both front back p q = list_all-append is_shown front back
-    ∙ both (list_all is_shown front) (list_all is_shown back) p q
+shown-both : (front back : List Capital) → list_all is_proper front ≡ true
+    → list_all is_proper back ≡ true → list_all is_proper (front ++ back) ≡ true
+shown-both front back p q = list_all-append is_proper front back
+    ∙ both (list_all is_proper front) (list_all is_proper back) p q
 
-shown-figures : (count n : ℕ) → list_all is_shown (figures count n) ≡ true
+shown-figures : (count n : ℕ) → list_all is_proper (figures count n) ≡ true
 shown-figures zero n = refl
 shown-figures (suc count) n = by (n == 0) (shown-figures count (n / 10)) where
   last : nat_lt (n % 10) 10 ≡ true
   last = grind (arith, nat_tests)
 
-  by : (b : Bool) → list_all is_shown (figures count (n / 10)) ≡ true
-      → list_all is_shown (if b then [] else figures count (n / 10) ++ Digit (n % 10) ∷ []) ≡ true
+  by : (b : Bool) → list_all is_proper (figures count (n / 10)) ≡ true
+      → list_all is_proper (if b then [] else figures count (n / 10) ++ Digit (n % 10) ∷ []) ≡ true
   by true h = refl
   by false h = shown-both (figures count (n / 10)) (Digit (n % 10) ∷ []) h (rw last refl)
 
-shown-month : (month : ℕ) → month < 13 → list_all is_shown (month_text written month) ≡ true
-shown-month month low = each_below-at (λ month. list_all is_shown (month_text written month)) 13 month refl low
+shown-month : (month : ℕ) → month < 13 → list_all is_proper (month_text written month) ≡ true
+shown-month month low = each_below-at (λ month. list_all is_proper (month_text written month)) 13 month refl low
 
-shown-day : (day : ℕ) → day < 32 → list_all is_shown (day_text day) ≡ true
-shown-day day low = each_below-at (λ day. list_all is_shown (day_text day)) 32 day refl low
+shown-day : (day : ℕ) → day < 32 → list_all is_proper (day_text day) ≡ true
+shown-day day low = each_below-at (λ day. list_all is_proper (day_text day)) 32 day refl low
 
-pub shown-form : (date : BillDate) → IsDate date → list_all is_shown (date_form written date) ≡ true
+shown-form : (date : BillDate) → IsDate date → list_all is_proper (date_form written date) ≡ true
 shown-form date is =
     let bounds = days-bounds date.year date.month in
     shown-both (year_text date.year) _ (shown-figures 4 date.year)
-    (both (is_shown Nian) _ refl
+    (both (is_proper Nian) _ refl
     (shown-both (month_text written date.month) (day_text date.day)
     (shown-month date.month (omega (arith, is.3)))
     (shown-day date.day (omega (arith, is.5, bounds.1)))))
@@ -59,12 +61,19 @@ pub written-read : (variant : ChineseVariant) (date : BillDate) → IsDate date
 written-read variant date is =
     subst (λ text. IsDateText text date)
     (sym (chars-encodes (date_text variant date)
-    (scalars-shown variant (date_form written date) (shown-form date is))))
+    (capitals-scalar variant (date_form written date) (shown-form date is))))
     (record {
       choice = written;
       is_date = is;
       form = capitals-read variant (date_form written date) (shown-form date is);
     })
+
+pub written-utf8 : (variant : ChineseVariant) (date : BillDate) (bytes : List ℕ) → IsDate date
+    → bytes ≡ encode_utf8_all (date_text variant date) → IsUtf8 bytes
+written-utf8 variant date bytes ok is = (
+  date_text variant date,
+  (capitals-scalar variant (date_form written date) (shown-form date ok), sym is),
+)
 
 text-length : {Z : Type 0} (text : String Z) → string_len text ≡ length (string_bytes text)
 text-length text = let ok = text.bytes.ok in omega (arith, ok)
@@ -72,7 +81,8 @@ text-length text = let ok = text.bytes.ok in omega (arith, ok)
 written-length : (variant : ChineseVariant) (date : BillDate) → IsDate date
     → length (encode_utf8_all (date_text variant date)) ≡ 3 * length (date_text variant date)
 written-length variant date ok =
-    length-shown variant (date_form written date) (shown-form date ok)
+    every.capitals-three capital_of (capital_char variant) is_proper (capital-back variant)
+    (date_form written date) (shown-form date ok)
 
 pub written-is : {Z : Type 0} (variant : ChineseVariant) (date : BillDate) (text : String Z)
     (bytes : List ℕ) → IsDate date → IsStringOf bytes text
@@ -126,8 +136,8 @@ few-bytes variant date ok = omega (
 )
 
 -- what has been put for a date is its text
-pub text-of : (variant : ChineseVariant) (date : BillDate) (text : DateText) → IsDate date
+pub text-of : (variant : ChineseVariant) (date : BillDate) (text : CapitalText) → IsDate date
     → HasPut variant text (date_form written date)
-    → text_bytes text.text ≡ encode_utf8_all (date_text variant date)
-unfolding HasPut short.HasPut
+    → text_bytes text ≡ encode_utf8_all (date_text variant date)
+unfolding HasPutAny
 text-of variant date text ok put = put.1 (omega (arith, few-bytes variant date ok))

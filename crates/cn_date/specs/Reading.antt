@@ -1,8 +1,11 @@
 -- What is read as a date, and what is answered of a text.
-use Rattle.std.specs.Prelude.{◌≡◌, ℕ, ◌+◌, ◌<◌, Bool, List, [], ◌∷◌, ◌++◌, length, map, take, Result, Ok, Err, codes, chars, if◌then◌else◌}
-use Rattle.std.specs.Char.{char_set_contains}
+use Rattle.std.specs.Prelude.{◌≡◌, ℕ, Bool, List, [], ◌∷◌, map, Option, Some, Result, codes, chars}
+pub use Rattle.cn_capitals.specs.declared.refusal.Refusal.{Refusal as DateRefusal}
+pub use Rattle.cn_capitals.specs.declared.refusal.Refusal.TheVariants.{Unfinished as unfinished, Incorrect as incorrect_at}
+use Rattle.cn_capitals.specs.Answers as answers
+use Rattle.cn_capitals.specs.Characters.{first_with}
 use Rattle.cn_date.specs.declared.capital.Capital.{Capital}
-use Rattle.cn_date.specs.declared.capital.Capital.TheVariants.{Digit, Shi, Nian, Yue, Ri, Foreign}
+use Rattle.cn_date.specs.declared.capital.Capital.TheVariants.{Digit, Shi, Nian, Yue, Ri}
 use Rattle.cn_date.specs.declared.date.BillDate.{BillDate}
 use Rattle.cn_date.specs.Calendar.{IsDate}
 use Rattle.cn_date.specs.Form.{date_form}
@@ -16,39 +19,26 @@ capital_rows =
     ∷ (codes "玖", Digit 9) ∷ (codes "拾", Shi) ∷ (codes "年", Nian) ∷ (codes "月", Yue)
     ∷ (codes "日", Ri) ∷ []
 
-abbrev pub first_with : List (List ℕ × Capital) → ℕ → Capital
-first_with [] c = Foreign
-first_with (row ∷ rows) c = if char_set_contains row.0 c then row.1 else first_with rows c
-
--- what a character is
-unfoldable pub capital_of : ℕ → Capital
+-- what a character is read as, if it is read
+unfoldable pub capital_of : ℕ → Option Capital
 capital_of c = first_with capital_rows c
 
-abbrev pub capitals_of : List ℕ → List Capital
+abbrev pub capitals_of : List ℕ → List (Option Capital)
 capitals_of text = map capital_of text
 
 -- the characters are a form of the date
 pub record IsDateText (text : List ℕ) (date : BillDate) : Type 0 where
   pub choice : Bool
   pub is_date : IsDate date
-  pub form : capitals_of text ≡ date_form choice date
+  pub form : capitals_of text ≡ map Some (date_form choice date)
 
 -- a date can begin with these characters
 abbrev pub Begins : List ℕ → Type 0
-Begins text = (behind : List ℕ) × (date : BillDate) × IsDateText (text ++ behind) date
-
--- why a text is refused: something is missing at its end, or no date begins with what stands up to
--- and with the character at this place
-pub data DateRefusal : Type 0 where
-  unfinished : DateRefusal
-  incorrect_at : ℕ → DateRefusal
+Begins text = answers.Begins IsDateText text
 
 -- the answer to a text
 abbrev pub Answers : List ℕ → Result BillDate DateRefusal → Type 0
-Answers text (Ok date) = IsDateText text date
-Answers text (Err unfinished) = Begins text × ((date : BillDate) → ¬ IsDateText text date)
-Answers text (Err (incorrect_at place)) =
-    (place < length text) × Begins (take place text) × ¬ Begins (take (place + 1) text)
+Answers text answer = answers.Answers IsDateText text answer
 
 -- the answer to a string, given by its bytes
 abbrev pub ReadsDate : List ℕ → Result BillDate DateRefusal → Type 0

@@ -5,7 +5,7 @@ use Rattle.cn_core.specs.Characters.{digit_char, unit_char}
 use Rattle.cn_core.specs.declared.case.ChineseCase.TheVariants.{Upper}
 use Rattle.cn_core.specs.declared.script.ChineseVariant.{ChineseVariant}
 use Rattle.cn_date.specs.declared.capital.Capital.{Capital}
-use Rattle.cn_date.specs.declared.capital.Capital.TheVariants.{Digit, Shi, Nian, Yue, Ri, Foreign}
+use Rattle.cn_date.specs.declared.capital.Capital.TheVariants.{Digit, Shi, Nian, Yue, Ri}
 use Rattle.cn_date.specs.declared.date.BillDate.{BillDate}
 use Rattle.cn_date.specs.declared.error.DateToChineseError.{DateToChineseError}
 use Rattle.cn_date.specs.declared.error.DateToChineseError.TheVariants.{NotADate, OutOfMemory}
@@ -23,7 +23,6 @@ capital_char variant Shi = unit_char variant Upper 1
 capital_char variant Nian = char_of (codes "年")
 capital_char variant Yue = char_of (codes "月")
 capital_char variant Ri = char_of (codes "日")
-capital_char variant Foreign = char_of (codes "?")
 
 -- the bytes that write capitals
 abbrev pub shown : ChineseVariant → List Capital → List ℕ

@@ -18,7 +18,6 @@ mod read;
 mod state;
 #[cfg(test)]
 mod tests;
-mod text;
 mod write;
 
 pub use date::BillDate;

@@ -1,11 +1,10 @@
-// Reading, in one pass from the left.
+// Reading, by the states of a date.
 ghost use Rattle.cn_date.specs.Answer.{answer_of};
 ghost use Rattle.cn_date.specs.Reading.{ReadsDate};
 
-use crate::capital::capital_of;
 use crate::state::State;
 use crate::{BillDate, ChineseToDateError};
-use cn_core::split_first_char;
+use cn_capitals::{Refusal, read};
 
 /// The date for which a text in capitals stands: `Ok` exactly where the text is a form of a date that
 /// there is. It takes no memory.
@@ -22,19 +21,9 @@ use cn_core::split_first_char;
 pub fn chinese_to_date(text: &str) -> Result<BillDate, ChineseToDateError>
     ensures { ReadsDate text.now (answer_of result) }
 {
-    let mut state = State::Year(0);
-    let mut char_index = 0;
-    let mut rest = text;
-    'reading: while let Some((character, after)) = split_first_char(rest) {
-        match state.step(capital_of(character)) {
-            Some(next) => state = next,
-            None => return Err(ChineseToDateError::Incorrect { char_index }),
-        }
-        char_index += 1;
-        rest = after;
-    }
-    match state {
-        State::Complete(date) => Ok(date),
-        _ => Err(ChineseToDateError::Unfinished),
+    match read::<State>(text) {
+        Ok(date) => Ok(date),
+        Err(Refusal::Unfinished) => Err(ChineseToDateError::Unfinished),
+        Err(Refusal::Incorrect { char_index }) => Err(ChineseToDateError::Incorrect { char_index }),
     }
 }

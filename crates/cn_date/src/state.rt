@@ -1,11 +1,13 @@
 // How far a text is read as a date, from the left.
 ghost use Rattle.std.specs.Prelude.{◌≡◌};
+ghost use Rattle.cn_date.specs.Reading.{IsDateText};
 ghost use Rattle.cn_date.specs.Working.Putting.{IsWritten};
-ghost use Rattle.cn_date.specs.Working.Steps.{IsPart, HasPart, year_step, month_step, day_step, step};
+ghost use Rattle.cn_date.specs.Working.Steps.{IsPart, HasPart, year_step, month_step, day_step, step, date_machine};
 
-use crate::capital::Capital;
+use crate::capital::{Capital, capital_of};
 use crate::date::{BillDate, days_of};
 use crate::part::Part;
+use cn_capitals::Grammar;
 
 /// What is read.
 #[derive(Clone, Copy)]
@@ -90,7 +92,7 @@ fn day_step(year: u16, month: u8, days: u8, part: Part, capital: Capital) -> Opt
 
 impl State {
     /// The state with one more character, if a date can go on so.
-    pub fn step(self, capital: Capital) -> Option<State>
+    fn after(self, capital: Capital) -> Option<State>
         requires part { HasPart self }
         requires digit { IsWritten capital }
         ensures { result ≡ step self capital }
@@ -105,6 +107,29 @@ impl State {
                 part,
             } => day_step(year, month, days, part, capital),
             State::Complete(_) => None,
+        }
+    }
+}
+
+impl Grammar for State {
+    type Value = BillDate;
+
+    ghost is_form = { IsDateText };
+
+    ghost machine = { date_machine };
+
+    fn begin() -> State {
+        State::Year(0)
+    }
+
+    fn step(self, character: char) -> Option<State> {
+        self.after(capital_of(character)?)
+    }
+
+    fn end(self) -> Option<BillDate> {
+        match self {
+            State::Complete(date) => Some(date),
+            _ => None,
         }
     }
 }

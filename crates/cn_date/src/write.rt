@@ -1,26 +1,26 @@
 // Writing.
 ghost use Rattle.std.specs.Prelude.{◌≡◌, ◌≤◌, length, encode_utf8_all};
-ghost use Rattle.cn_short_text.specs.ShortText.{text_bytes};
+ghost use Rattle.cn_capitals.specs.Text.{text_bytes};
 ghost use Rattle.cn_date.specs.Calendar.{IsDate};
 ghost use Rattle.cn_date.specs.Writes.{WritesDate, date_text};
 
 use crate::DateToChineseError;
+use crate::capital::Capital;
 use crate::date::BillDate;
 use crate::put::put_date;
-use crate::text::DateText;
+use cn_capitals::CapitalText;
 use cn_core::ChineseVariant;
-use cn_short_text::ShortText;
 use std::alloc::Global;
 
 /// The text of a date that there is, in room of its own: three bytes for each of its characters.
-pub fn date_text(variant: ChineseVariant, date: BillDate) -> ShortText
+pub fn date_text(variant: ChineseVariant, date: BillDate) -> CapitalText
     requires { IsDate date }
     ensures bytes { text_bytes result ≡ encode_utf8_all (date_text variant date) }
     ensures most { length (text_bytes result) ≤ 39 }
 {
-    let mut text = DateText::new(variant);
+    let mut text = CapitalText::new::<Capital>(variant);
     put_date(&mut text, date);
-    text.text
+    text
 }
 
 /// The date in capitals, as it stands on a cheque.

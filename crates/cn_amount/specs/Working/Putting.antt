@@ -1,11 +1,11 @@
 -- Words that private contracts alone cite.
-use Rattle.std.specs.Prelude.{◌≡◌, ◌<◌, List, ◌++◌, map}
+use Rattle.std.specs.Prelude.{◌<◌, List}
 use Rattle.cn_core.specs.declared.script.ChineseVariant.{ChineseVariant}
 use Rattle.cn_amount.specs.declared.capital.Capital.{Capital}
 use Rattle.cn_amount.specs.declared.capital.Capital.TheVariants.{Digit}
-use Rattle.cn_amount.specs.declared.text.AmountText.{AmountText}
+use Rattle.cn_capitals.specs.declared.text.CapitalText.{CapitalText}
+use Rattle.cn_capitals.specs.Text as capital_text
 use Rattle.cn_amount.specs.Writes.{capital_char}
-use Rattle.cn_short_text.specs.ShortText as short
 
 -- a capital that can be written: a digit has one place
 abbrev pub IsWritten : Capital → Type 0
@@ -13,12 +13,9 @@ IsWritten (Digit value) = value < 10
 IsWritten capital = Unit {0}
 
 -- what has been put are these capitals, in this script
-unfoldable pub HasPut : ChineseVariant → AmountText → List Capital → Type 0
-HasPut variant text capitals =
-    (text.variant ≡ variant) × short.HasPut text.text (map (capital_char variant) capitals)
+abbrev pub HasPut : ChineseVariant → CapitalText → List Capital → Type 0
+HasPut variant text capitals = capital_text.HasPut capital_char variant text capitals
 
 -- these capitals are put behind what has been put
-abbrev pub PutsMore : AmountText → AmountText → List Capital → Type 0
-PutsMore old new more =
-    (variant : ChineseVariant) → (capitals : List Capital)
-    → HasPut variant old capitals → HasPut variant new (capitals ++ more)
+abbrev pub PutsMore : CapitalText → CapitalText → List Capital → Type 0
+PutsMore old new more = capital_text.PutsMore capital_char old new more

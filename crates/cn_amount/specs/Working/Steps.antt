@@ -2,14 +2,18 @@
 use Rattle.std.specs.Prelude.{ℕ, ◌+◌, ◌*◌, Bool, true, false, List, [], ◌∷◌, Option, Some, None, if◌then◌else◌}
 use Rattle.cn_amount.specs.declared.capital.Capital.{Capital}
 use Rattle.cn_amount.specs.declared.capital.Capital.TheVariants.{Ling, Digit, Shi, Bai, Qian, Wan, Yi, Yuan, Jiao, Fen, Zheng, Ren, Min, Bi}
+use Rattle.cn_amount.specs.declared.progress.Progress.{Progress}
 use Rattle.cn_amount.specs.declared.sum.Sum.{Sum}
+use Rattle.cn_amount.specs.Reading.{capital_of}
+use Rattle.cn_capitals.specs.Machine as machine
 use Rattle.cn_amount.specs.declared.state.Place.{Place}
 use Rattle.cn_amount.specs.declared.state.Place.TheVariants.{Ones, Tens, Hundreds, Thousands}
 use Rattle.cn_amount.specs.declared.state.Stage.{Stage}
 use Rattle.cn_amount.specs.declared.state.Stage.TheVariants.{Top, BelowWan, BelowYi, BelowYiGap, OnlyWan, Last}
 use Rattle.cn_amount.specs.declared.state.State.{State}
-use Rattle.cn_amount.specs.declared.state.State.TheVariants.{Beginning, AfterRen, AfterMin, AfterCurrency, NoYuan, FirstDigit, AfterGreat, AfterLing, DigitAt, DigitBelow, AfterUnit, AfterYuan, AfterYuanLing, SmallDigit, JiaoDigit, AfterJiao, FenDigit, Complete}
+use Rattle.cn_amount.specs.declared.state.State.TheVariants.{Beginning, AfterRen, AfterMin, AfterCurrency, NoYuan, FirstDigit, AfterFirstWan, AfterYi, AfterLastWan, AfterLing, DigitAt, DigitBelow, AfterUnit, AfterYuan, AfterYuanLing, SmallDigit, JiaoDigit, AfterJiao, FenDigit, Complete}
 
+-- the stage of a section in which 仟 stands, and of one that begins with it right behind 万 or 亿
 abbrev pub behind_thousands : Stage → Stage
 behind_thousands BelowYiGap = Last
 behind_thousands stage = stage
@@ -18,85 +22,45 @@ abbrev pub bare : Stage → Stage
 bare BelowYi = OnlyWan
 bare stage = stage
 
-abbrev pub close_wan : Stage → Bool → Option State
-close_wan Top is_round = Some (AfterGreat BelowWan is_round)
-close_wan BelowWan is_round = None
-close_wan BelowYi is_round = Some (AfterGreat Last is_round)
-close_wan BelowYiGap is_round = Some (AfterGreat Last is_round)
-close_wan OnlyWan is_round = Some (AfterGreat Last is_round)
-close_wan Last is_round = None
-
-abbrev pub close_yi : Stage → Bool → Option State
-close_yi Top is_round = Some (AfterGreat BelowYi is_round)
-close_yi BelowWan is_round = Some (AfterGreat BelowYi is_round)
-close_yi stage is_round = None
-
-abbrev pub close_yuan : Stage → Bool → Option State
-close_yuan OnlyWan is_round = None
-close_yuan stage is_round = Some (AfterYuan is_round)
-
+-- what closes a section, whose last digit is 0 or not
 abbrev pub close : Stage → Bool → Capital → Option State
-close stage is_round Wan = close_wan stage is_round
-close stage is_round Yi = close_yi stage is_round
-close stage is_round Yuan = close_yuan stage is_round
+close Top is_round Wan = Some (AfterFirstWan is_round)
+close BelowYi is_round Wan = Some (AfterLastWan is_round)
+close BelowYiGap is_round Wan = Some (AfterLastWan is_round)
+close OnlyWan is_round Wan = Some (AfterLastWan is_round)
+close Top is_round Yi = Some (AfterYi is_round)
+close BelowWan is_round Yi = Some (AfterYi is_round)
+close OnlyWan is_round Yuan = None
+close stage is_round Yuan = Some (AfterYuan is_round)
 close stage is_round capital = None
 
-abbrev pub below_tens : Stage → Capital → Option State
-below_tens stage Shi = Some (AfterUnit stage Tens)
-below_tens stage capital = close stage false capital
-
-abbrev pub below_hundreds : Stage → Capital → Option State
-below_hundreds stage Bai = Some (AfterUnit stage Hundreds)
-below_hundreds stage capital = below_tens stage capital
-
-abbrev pub below_thousands : Stage → Capital → Option State
-below_thousands stage Qian = Some (AfterUnit (behind_thousands stage) Thousands)
-below_thousands stage capital = below_hundreds stage capital
+-- behind a digit at a place, and behind one at a place or a lower one
+abbrev pub digit_at : Stage → Place → Capital → Option State
+digit_at stage Thousands Qian = Some (AfterUnit stage Thousands)
+digit_at stage Hundreds Bai = Some (AfterUnit stage Hundreds)
+digit_at stage Tens Shi = Some (AfterUnit stage Tens)
+digit_at stage Ones capital = close stage false capital
+digit_at stage place capital = None
 
 abbrev pub digit_below : Stage → Place → Capital → Option State
-digit_below stage Ones capital = close stage false capital
-digit_below stage Tens capital = below_tens stage capital
-digit_below stage Hundreds capital = below_hundreds stage capital
-digit_below stage Thousands capital = below_thousands stage capital
+digit_below stage Thousands Qian = Some (AfterUnit (behind_thousands stage) Thousands)
+digit_below stage Thousands Bai = Some (AfterUnit stage Hundreds)
+digit_below stage Hundreds Bai = Some (AfterUnit stage Hundreds)
+digit_below stage Thousands Shi = Some (AfterUnit stage Tens)
+digit_below stage Hundreds Shi = Some (AfterUnit stage Tens)
+digit_below stage Tens Shi = Some (AfterUnit stage Tens)
+digit_below stage place capital = close stage false capital
 
-abbrev pub tens_digit : Stage → Capital → Option State
-tens_digit stage Shi = Some (AfterUnit stage Tens)
-tens_digit stage capital = None
-
-abbrev pub hundreds_digit : Stage → Capital → Option State
-hundreds_digit stage Bai = Some (AfterUnit stage Hundreds)
-hundreds_digit stage capital = None
-
-abbrev pub thousands_digit : Stage → Capital → Option State
-thousands_digit stage Qian = Some (AfterUnit stage Thousands)
-thousands_digit stage capital = None
-
-abbrev pub digit_at : Stage → Place → Capital → Option State
-digit_at stage Ones capital = close stage false capital
-digit_at stage Tens capital = tens_digit stage capital
-digit_at stage Hundreds capital = hundreds_digit stage capital
-digit_at stage Thousands capital = thousands_digit stage capital
-
-abbrev pub after_tens : Stage → Capital → Option State
-after_tens stage (Digit value) = Some (DigitAt stage Ones)
-after_tens stage capital = close stage true capital
-
-abbrev pub after_hundreds : Stage → Capital → Option State
-after_hundreds stage (Digit value) = Some (DigitAt stage Tens)
-after_hundreds stage Ling = Some (AfterLing stage Ones)
-after_hundreds stage capital = close stage true capital
-
-abbrev pub after_thousands : Stage → Capital → Option State
-after_thousands stage (Digit value) = Some (DigitAt stage Hundreds)
-after_thousands stage Ling = Some (AfterLing stage Tens)
-after_thousands stage capital = close stage true capital
-
+-- behind the unit of a place
 abbrev pub after_unit : Stage → Place → Capital → Option State
-after_unit stage Ones capital = close stage true capital
-after_unit stage Tens capital = after_tens stage capital
-after_unit stage Hundreds capital = after_hundreds stage capital
-after_unit stage Thousands capital = after_thousands stage capital
+after_unit stage Thousands (Digit value) = Some (DigitAt stage Hundreds)
+after_unit stage Thousands Ling = Some (AfterLing stage Tens)
+after_unit stage Hundreds (Digit value) = Some (DigitAt stage Tens)
+after_unit stage Hundreds Ling = Some (AfterLing stage Ones)
+after_unit stage Tens (Digit value) = Some (DigitAt stage Ones)
+after_unit stage place capital = close stage true capital
 
+-- right behind 万 or 亿, at whose place the digit is 0 or not
 abbrev pub after_ling : Stage → Bool → State
 after_ling stage true = AfterLing stage Thousands
 after_ling BelowYi false = AfterLing BelowYiGap Thousands
@@ -111,80 +75,41 @@ after_great stage is_round capital = close stage true capital
 abbrev pub first_digit : Capital → Option State
 first_digit Jiao = Some AfterJiao
 first_digit Fen = Some Complete
-first_digit capital = below_thousands Top capital
+first_digit capital = digit_below Top Thousands capital
 
-abbrev pub opening : Capital → Option State
-opening Ling = Some NoYuan
-opening (Digit value) = Some FirstDigit
-opening capital = None
-
-abbrev pub begin : Capital → Option State
-begin Ren = Some AfterRen
-begin capital = opening capital
-
-abbrev pub after_yuan : Bool → Capital → Option State
-after_yuan is_round Zheng = Some Complete
-after_yuan is_round Ling = Some (AfterYuanLing is_round)
-after_yuan is_round (Digit value) = Some JiaoDigit
-after_yuan is_round capital = None
-
-abbrev pub small_digit : Bool → Capital → Option State
-small_digit is_round Jiao = if is_round then Some AfterJiao else None
-small_digit is_round Fen = Some Complete
-small_digit is_round capital = None
-
-abbrev pub after_jiao : Capital → Option State
-after_jiao Zheng = Some Complete
-after_jiao (Digit value) = Some FenDigit
-after_jiao capital = None
-
-abbrev pub after_a_digit : Capital → State → Option State
-after_a_digit (Digit value) next = Some next
-after_a_digit capital next = None
-
-abbrev pub after_ren : Capital → Option State
-after_ren Min = Some AfterMin
-after_ren capital = None
-
-abbrev pub after_min : Capital → Option State
-after_min Bi = Some AfterCurrency
-after_min capital = None
-
-abbrev pub after_no_yuan : Capital → Option State
-after_no_yuan Yuan = Some (AfterYuan true)
-after_no_yuan capital = None
-
-abbrev pub jiao_digit : Capital → Option State
-jiao_digit Jiao = Some AfterJiao
-jiao_digit capital = None
-
-abbrev pub fen_digit : Capital → Option State
-fen_digit Fen = Some Complete
-fen_digit capital = None
-
-abbrev pub after_word : State → Capital → Option State
-after_word AfterRen capital = after_ren capital
-after_word AfterMin capital = after_min capital
-after_word NoYuan capital = after_no_yuan capital
-after_word JiaoDigit capital = jiao_digit capital
-after_word FenDigit capital = fen_digit capital
-after_word state capital = None
+-- outside of a section
+abbrev pub outside : State → Capital → Option State
+outside Beginning Ren = Some AfterRen
+outside AfterRen Min = Some AfterMin
+outside AfterMin Bi = Some AfterCurrency
+outside Beginning Ling = Some NoYuan
+outside AfterCurrency Ling = Some NoYuan
+outside Beginning (Digit value) = Some FirstDigit
+outside AfterCurrency (Digit value) = Some FirstDigit
+outside NoYuan Yuan = Some (AfterYuan true)
+outside (AfterYuan is_round) Zheng = Some Complete
+outside AfterJiao Zheng = Some Complete
+outside (AfterYuan is_round) Ling = Some (AfterYuanLing is_round)
+outside (AfterYuan is_round) (Digit value) = Some JiaoDigit
+outside (AfterYuanLing is_round) (Digit value) = Some (SmallDigit is_round)
+outside JiaoDigit Jiao = Some AfterJiao
+outside (SmallDigit true) Jiao = Some AfterJiao
+outside FenDigit Fen = Some Complete
+outside (SmallDigit is_round) Fen = Some Complete
+outside AfterJiao (Digit value) = Some FenDigit
+outside state capital = None
 
 -- the state after one more capital, if an amount can go on so
 abbrev pub step : State → Capital → Option State
-step Beginning capital = begin capital
-step AfterCurrency capital = opening capital
 step FirstDigit capital = first_digit capital
-step (AfterGreat stage is_round) capital = after_great stage is_round capital
-step (AfterLing stage place) capital = after_a_digit capital (DigitBelow stage place)
+step (AfterFirstWan is_round) capital = after_great BelowWan is_round capital
+step (AfterYi is_round) capital = after_great BelowYi is_round capital
+step (AfterLastWan is_round) capital = after_great Last is_round capital
+step (AfterLing stage place) (Digit value) = Some (DigitBelow stage place)
 step (DigitAt stage place) capital = digit_at stage place capital
 step (DigitBelow stage place) capital = digit_below stage place capital
 step (AfterUnit stage place) capital = after_unit stage place capital
-step (AfterYuan is_round) capital = after_yuan is_round capital
-step (AfterYuanLing is_round) capital = after_a_digit capital (SmallDigit is_round)
-step (SmallDigit is_round) capital = small_digit is_round capital
-step AfterJiao capital = after_jiao capital
-step state capital = after_word state capital
+step state capital = outside state capital
 
 abbrev pub is_end : State → Bool
 is_end AfterJiao = true
@@ -193,8 +118,7 @@ is_end state = false
 
 -- the state after a text
 abbrev pub run : State → List Capital → Option State
-run state [] = Some state
-run state (capital ∷ rest) = elim (step state capital) [ None ↦ None | Some next ↦ run next rest ]
+run state capitals = machine.run step state capitals
 
 -- whether a text is an amount from this state on
 abbrev pub accepts : State → List Capital → Bool
@@ -240,3 +164,23 @@ summed sum = sum.fen + 100 * (sum.yuan + sum.section)
 
 abbrev pub no_sum : Sum
 no_sum = record { fen = 0; yuan = 0; section = 0; digit = 0 }
+
+-- what is read, and the sum of it, with one more capital
+abbrev pub with_sum : Sum → Option State → Option Progress
+with_sum sum None = None
+with_sum sum (Some state) = Some (record { state = state; sum = sum })
+
+abbrev pub advance : Progress → Capital → Option Progress
+advance progress capital = with_sum (add progress.sum capital) (step progress.state capital)
+
+-- the fen, where an amount may end
+abbrev pub end : Progress → Option ℕ
+end progress = if is_end progress.state then Some progress.sum.fen else None
+
+-- the states that read amounts, character by character
+abbrev pub amount_machine : machine.Machine Progress ℕ
+amount_machine = record {
+  begin = record { state = Beginning; sum = no_sum };
+  step = λ progress c. machine.step_as advance progress (capital_of c);
+  end = end;
+}

@@ -1,12 +1,15 @@
 -- Reading from the left: the state after each character.
-use Rattle.std.specs.Prelude.{ℕ, zero, suc, ◌+◌, ◌*◌, ◌<◌, ◌==◌, nat_lt, nat_le, Bool, true, not, ◌&&◌, List, [], ◌∷◌, Option, Some, None, if◌then◌else◌}
+use Rattle.std.specs.Prelude.{ℕ, zero, suc, ◌+◌, ◌*◌, ◌<◌, ◌==◌, nat_lt, nat_le, Bool, true, not, ◌&&◌, List, Option, Some, None, if◌then◌else◌}
 use Rattle.cn_date.specs.declared.capital.Capital.{Capital}
 use Rattle.cn_date.specs.declared.capital.Capital.TheVariants.{Digit, Shi, Nian, Yue, Ri}
 use Rattle.cn_date.specs.declared.part.Part.{Part}
 use Rattle.cn_date.specs.declared.part.Part.TheVariants.{Nothing, Ling, LingOne, LingTens, One, Tens, Both}
 use Rattle.cn_date.specs.declared.state.State.{State}
 use Rattle.cn_date.specs.declared.state.State.TheVariants.{Year, Month, Day, Complete}
+use Rattle.cn_date.specs.declared.date.BillDate.{BillDate}
 use Rattle.cn_date.specs.Calendar.{days_of}
+use Rattle.cn_date.specs.Reading.{capital_of}
+use Rattle.cn_capitals.specs.Machine as machine
 
 -- each digit is one from 1 to 9
 abbrev pub IsPart : Part → Type 0
@@ -107,5 +110,13 @@ step (Complete date) capital = None
 
 -- the state after a text
 abbrev pub run : State → List Capital → Option State
-run state [] = Some state
-run state (capital ∷ rest) = elim (step state capital) [ None ↦ None | Some next ↦ run next rest ]
+run state capitals = machine.run step state capitals
+
+-- the date, where all is read
+abbrev pub end : State → Option BillDate
+end (Complete date) = Some date
+end state = None
+
+-- the states that read dates, character by character
+abbrev pub date_machine : machine.Machine State BillDate
+date_machine = record { begin = Year 0; step = λ state c. machine.step_as step state (capital_of c); end = end }

@@ -1,16 +1,20 @@
-use Rattle.std.proofs.Common.{rules}
+use Rattle.std.proofs.Common.{Ok, Err, rules}
 use Rattle.cheque.proofs.Replies.{gives_answer, gives_refusal, gives_nothing}
 use Rattle.cheque.proofs.reply.write_date_capitals.Goals as goal
 
 pub returns-in-Err : goal.returns-in-Err
-returns-in-Err g c = gives_refusal _ _ _ _ _ _ (search rules) c.refuse.ensures
+returns-in-Err g c =
+    gives_refusal _ _ _ _ _ _ (Err c.in-Err.error, c.in-Err.ensures, search rules) c.refuse.ensures
 
 pub returns-in-Ok-date_to_chinese : goal.returns-in-Ok-date_to_chinese
-returns-in-Ok-date_to_chinese g c = gives_answer _ _ _ _ _ _ (search rules) c.show.ensures
+returns-in-Ok-date_to_chinese g c =
+    gives_answer _ _ _ _ _ _ (Ok c.in-Ok.date, c.in-Ok.ensures, search rules) c.show.ensures
 
 pub returns-in-Err-OutOfMemory : goal.returns-in-Err-OutOfMemory
-returns-in-Err-OutOfMemory g c = gives_nothing _ _ _ (search rules)
+returns-in-Err-OutOfMemory g c =
+    gives_nothing _ _ _ (Ok c.in-Ok.date, c.in-Ok.ensures, search rules)
 
 pub returns-in-Err-date_to_chinese : goal.returns-in-Err-date_to_chinese
 returns-in-Err-date_to_chinese g c =
-    gives_refusal _ _ _ _ _ _ (search rules) c.refuse-in-Err-date_to_chinese.ensures
+    gives_refusal _ _ _ _ _ _ (Ok c.in-Ok.date, c.in-Ok.ensures, search rules)
+    c.refuse-in-Err-date_to_chinese.ensures

@@ -1,0 +1,26 @@
+-- Decimal digits, as characters, and the number that they write.
+use Rattle.std.specs.Prelude.{ℕ, ◌+◌, ◌-◌, ◌*◌, ◌==◌, List, [], ◌∷◌, IsTrue, Option, Some, None, if◌then◌else◌}
+use Rattle.std.specs.Char.{is_ascii_digit}
+use Rattle.std.specs.List.{list_all}
+
+-- the number that decimal digits write after those of another, and the number that they write
+abbrev pub value_after : ℕ → List ℕ → ℕ
+value_after number [] = number
+value_after number (digit ∷ digits) = value_after (10 * number + (digit - 48)) digits
+
+abbrev pub value_of : List ℕ → ℕ
+value_of digits = value_after 0 digits
+
+-- each is a digit
+abbrev pub AreDigits : List ℕ → Type 0
+AreDigits digits = IsTrue (list_all is_ascii_digit digits)
+
+-- the digit that a character is
+abbrev pub digit_of : ℕ → Option ℕ
+digit_of c = if is_ascii_digit c then Some (c - 48) else None
+
+-- what comes of a character: one thing of a mark, and another of a digit
+abbrev pub by_character : {A : Type 0} → ℕ → Option A → (ℕ → Option A) → ℕ → Option A
+by_character mark at_mark at_digit c =
+    if c == mark then at_mark
+    else (elim (digit_of c) [ None ↦ None | Some digit ↦ at_digit digit ])

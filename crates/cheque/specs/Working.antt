@@ -1,0 +1,2 @@
+pub mod DateSteps
+pub mod FiguresSteps

@@ -1,0 +1,47 @@
+// How far a text is read, and what is read of its sum.
+ghost use Rattle.cn_amount.specs.Reading.{IsAmount};
+ghost use Rattle.cn_amount.specs.Working.Steps.{amount_machine};
+
+use crate::capital::capital_of;
+use crate::state::State;
+use crate::sum::Sum;
+use cn_capitals::Grammar;
+
+/// What is read, and its sum.
+#[derive(Clone, Copy)]
+pub struct Progress {
+    state: State,
+    sum: Sum,
+}
+
+impl Grammar for Progress {
+    type Value = u64;
+
+    ghost is_form = { IsAmount };
+
+    ghost machine = { amount_machine };
+
+    fn begin() -> Progress {
+        Progress {
+            state: State::Beginning,
+            sum: Sum::NONE,
+        }
+    }
+
+    fn step(self, character: char) -> Option<Progress> {
+        let capital = capital_of(character)?;
+        let state = self.state.step(capital)?;
+        Some(Progress {
+            state,
+            sum: self.sum.add(capital),
+        })
+    }
+
+    fn end(self) -> Option<u64> {
+        if self.state.is_end() {
+            Some(self.sum.fen)
+        } else {
+            None
+        }
+    }
+}

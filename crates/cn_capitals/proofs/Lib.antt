@@ -1,0 +1,5 @@
+pub mod Characters
+pub mod OneAnswer
+pub mod Puts
+pub mod Reading
+pub mod Runs

@@ -1,0 +1,4 @@
+pub mod Answers
+pub mod Characters
+pub mod Machine
+pub mod Text

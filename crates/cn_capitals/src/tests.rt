@@ -1,0 +1,39 @@
+// That a text is put and copied, that memory is asked for once, and what the room does not hold.
+ghost use Rattle.std.specs.Prelude.{◌≡◌};
+
+use crate::{CapitalText, Written};
+use cn_core::ChineseVariant;
+
+#[derive(Clone, Copy)]
+struct Same(char);
+
+impl Written for Same {
+    ghost can_write = { λ _. Unit {0} };
+
+    ghost character = { λ _ same. same.0 };
+
+    fn character(self, _variant: ChineseVariant) -> char {
+        self.0
+    }
+}
+
+#[test]
+fn holds_what_is_put(rt: HostRuntime) {
+    let mut text = CapitalText::new::<Same>(ChineseVariant::Simple);
+    text.put(Same('元'));
+    text.put(Same('$'));
+    assert!(rt; *text.as_bytes() == *"元$".as_bytes());
+    if let Ok(string) = text.to_string(rt.alloc()) {
+        assert_eq!(rt; string.as_str(), "元$");
+        assert_eq!(rt; string.capacity(), 4);
+    }
+}
+
+#[test]
+fn leaves_out_what_does_not_fit(rt: HostRuntime) {
+    let mut text = CapitalText::new::<Same>(ChineseVariant::Simple);
+    for _ in 0..37 {
+        text.put(Same('元'));
+    }
+    assert_eq!(rt; text.as_bytes().len(), 108);
+}
