@@ -1,19 +1,94 @@
 #!/usr/bin/env bash
-# check.sh [--quick]: runs the gate, `rt ci`, and what stands beside it; stops at the first failure,
-# and says how long each part took. The first line names the commit, the last counts what `rt ci`
-# passed and the wrong bodies that were refused. By the two a release's packages quote the gate
-# (bindings/packages.sh). With --quick, for daily work, all is done but the wrong bodies, which take
-# half of the time: the gate and what follows run in a copy without them.
+# check.sh [--quick | -k WORD]: runs the gate, `rt ci`, and what stands beside it; stops at the
+# first failure, and says how long each part took. The first line names the commit, the last counts
+# what `rt ci` passed and the wrong bodies that were refused. By the two a release's packages quote
+# the gate (bindings/packages.sh). What a missing tool is needed for is left out, and named at the
+# end; nothing is installed. With --quick, for daily work, all is done but the wrong bodies, which
+# take half of the time: the gate and what follows run in a copy without them. With -k the scripts
+# and tests run that have WORD in their names, over what an earlier run has built.
 set -euo pipefail
 cd "$(dirname "$0")"
-[ $# -eq 0 ] || [ "$*" = --quick ] || { sed -n '2,6s/^# //p' check.sh >&2; exit 2; }
+part=
+[ "${1:-}" != -k ] || part=${2:-}
+[ $# -eq 0 ] || [ "$*" = --quick ] || [ -n "$part" ] || {
+    sed -n '2,8s/^# //p' check.sh >&2
+    exit 2
+}
 . bindings/toolchain.sh
 
 scratch=$(mktemp -d)
 trap 'rm -rf "$scratch"' EXIT
 TIMEFORMAT='    %0lR, and %0lU + %0lS of processor time'
-numeral=crates/numeral/out/numeral
-refuse_growth=$scratch/refuse_growth.so
+
+leave_out() {
+    [ -z "${CI:-}" ] || { echo "left out, which under CI nothing is: $1" >&2; exit 1; }
+    echo "$1" >> "$scratch/left_out"
+}
+
+# What compares texts.
+scripts() {
+    cat << 'END'
+bindings/dist.py check
+checks/wrong_dist.py
+checks/calls.py .
+checks/wrong_calls.py
+checks/edits.py crates
+checks/codes.py crates/cn_c bindings
+checks/quotes.py bindings
+checks/tables.py crates --check
+END
+}
+
+ran=no
+run_scripts() { # WORD
+    local words
+    while read -r words; do
+        [[ $words == *$1* ]] || continue
+        echo "python3 $words"
+        time python3 $words < /dev/null
+        ran=yes
+    done < <(scripts)
+    [[ black != *$1* ]] || layout
+}
+
+layout() {
+    if command -v black > /dev/null; then
+        time black --check .
+        ran=yes
+    else
+        leave_out 'the layout of Python, since there is no black'
+    fi
+}
+
+# Debian's pytest is that of its own Python, which is not always the first on the path.
+for python in /usr/bin/python3 python3 ''; do
+    [ -n "$python" ] || leave_out 'the tests, since there is no pytest'
+    ! "${python:-true}" -m pytest --version > /dev/null 2>&1 || break
+done
+at_once=()
+! "${python:-false}" -c 'import xdist' 2> /dev/null || at_once=(-n "$(nproc)")
+
+run_tests() { # WORD..
+    [ -n "$python" ] || return 0
+    local words=(-m pytest -q tests --basetemp "$scratch/of_tests")
+    time "$python" "${words[@]}" "$@" | tee "$scratch/tests" || {
+        [ "${PIPESTATUS[0]}" -eq 5 ] && [ "$ran" = yes ] # no test has this name, and a script has
+    }
+    sed -n 's/^SKIPPED \[[0-9]*\] [^ ]* //p' "$scratch/tests" >> "$scratch/left_out"
+}
+
+say_what_is_left_out() {
+    [ -s "$scratch/left_out" ] || echo nothing > "$scratch/left_out"
+    sort -u "$scratch/left_out" | sed 's/^/left out: /'
+}
+
+touch "$scratch/left_out"
+if [ -n "$part" ]; then
+    run_scripts "$part"
+    run_tests -k "$part"
+    say_what_is_left_out
+    exit
+fi
 
 # The commit, and whether it is what is checked.
 commit=$(git rev-parse HEAD 2> /dev/null || echo unknown)
@@ -32,19 +107,12 @@ gate() {
     echo "$sources" > crates/chinese_number/out/gate # bindings/library.sh goes by it
 }
 
-time python3 bindings/dist.py check
-time python3 checks/wrong_dist.py
-time python3 checks/calls.py .
-time python3 checks/wrong_calls.py
-time python3 checks/edits.py crates
-time python3 checks/codes.py crates/cn_c bindings
-time python3 checks/quotes.py bindings
-time python3 checks/build_script.py bindings/rust/build.rs
-time python3 checks/tables.py crates --check
+run_scripts ''
+run_tests "${at_once[@]}" -m 'not built and not packages'
 
 # What a clone has, by itself and with no `rt` on the path.
 mkdir "$scratch/clone"
-tar -c README.md bindings checks dist docs test.py | tar -x -C "$scratch/clone"
+tar -c README.md bindings checks dist docs test.py tests | tar -x -C "$scratch/clone"
 without_rt=$(tr : '\n' <<< "$PATH" | grep -vxF "$(dirname "$(command -v rt)")" | paste -sd :)
 time PATH=$without_rt python3 "$scratch/clone/test.py"
 
@@ -56,24 +124,10 @@ if [ $# -gt 0 ]; then
 fi
 time gate
 
-# The programs that the gate has proved and built.
-cc -O1 -shared -fPIC -o "$refuse_growth" checks/refuse_growth.c -ldl
-time python3 checks/out_of_memory.py crates/allocating_calls/out/allocating_calls "$refuse_growth"
-time python3 checks/short_of_memory.py $numeral "$refuse_growth" < crates/numeral/stdin
-time python3 checks/documents.py $numeral crates/cheque/out/cheque
-time python3 checks/dialogue.py $numeral
-time python3 checks/statuses.py $numeral
-time python3 checks/cheque.py crates/cheque/out/cheque "$refuse_growth"
-time python3 checks/running_text.py crates/numbers/out/numbers "$refuse_growth"
-time python3 checks/readers_without_memory.py crates/cn_vectors
-
-# The library for other languages and for browsers, made of what the gate has proved.
-time bash bindings/archive.sh "$scratch/bindings"
-time python3 bindings/dist.py again "$scratch/bindings"
-time bash bindings/web/test.sh $numeral
-time python3 checks/c_binding.py bindings/c "$scratch/bindings"
-time python3 checks/rust_binding.py bindings/rust crates/cn_vectors "$scratch/bindings"
-time python3 checks/python_binding.py bindings/python "$scratch/bindings"
+# The programs, and the library for other languages, made of what the gate has proved.
+time bash bindings/archive.sh "$scratch/library"
+time python3 bindings/dist.py again "$scratch/library"
+run_tests "${at_once[@]}" --library "$scratch/library" -m built
 
 # The wrong bodies, over the libraries that the gate has left.
 passed=$(sed -n '$s/ passed, 0 failed$//p' "$scratch/gate")
@@ -90,9 +144,7 @@ fi
     echo "$passed passed, 0 failed"
 } > "$scratch/checked"
 time bash bindings/packages.sh --draft "$scratch/packages" "$scratch/checked"
-time python3 checks/packages.py "$scratch/packages"
-time python3 checks/freestanding.py
-time python3 checks/clone.py
-time python3 checks/clone_npm.py
+run_tests "${at_once[@]}" --packages "$scratch/packages" -m packages
 
+say_what_is_left_out
 tail -n 1 "$scratch/checked"

@@ -7,8 +7,8 @@ It takes half a minute, and needs Python from 3.8 on and a C compiler; CC and CX
 
 - The C source in dist/ is compiled. What it answers to 96,468 numbers, amounts, dates and texts has
   to have the sum that the answers of the proved archive have, by dist/PROVENANCE.json.
-- Each language that is here is asked the worked rows in the tables of README.md and docs/. What is
-  not here is left out, and named.
+- Each language that is here is asked the rows of tests/rows, and the worked rows in the tables of
+  README.md and docs/. What is not here is left out, and named.
 
 Each language has a program `answers` in bindings/. It is given questions, a line each, of words
 parted by tabs. An answer is `ok` and what the call gives, or `err` and the error's text:
@@ -34,9 +34,9 @@ from pathlib import Path
 
 TOP = Path(__file__).resolve().parent
 BINDINGS, DIST = TOP / "bindings", TOP / "dist"
-sys.path.insert(0, str(TOP / "checks"))
+sys.path.insert(0, str(TOP / "tests"))
 sys.dont_write_bytecode = True
-import worked_rows
+import questions
 
 SHARED = {"darwin": "dylib", "win32": "dll"}.get(sys.platform, "so")
 
@@ -188,7 +188,7 @@ def main():
             sys.exit(f"test: {why}: install one, as by `apt install gcc`, or name another by CC")
         except Failed as why:
             sys.exit(f"test: the C source was not compiled\n{why}")
-        passed, failed = try_all(clone, list(worked_rows.questions()))
+        passed, failed = try_all(clone, list(questions.questions()))
     print(f"{passed} passed, {failed} failed")
     sys.exit(1 if failed else 0)
 

@@ -19,16 +19,39 @@ from pathlib import Path
 
 TABLES = ("KINDS", "WAYS", "SCRIPTS", "CASES", "UNITS")
 TABLE = re.compile(r"^pub static (\w+): \[.*?\] = \[(.*?)\];", re.MULTILINE | re.DOTALL)
-NAMED = re.compile(r"(?:^|[,;{])[ \t]*(?:pub const )?(?:CN_)?(\w+)(?:: u32)? = (\d+)\b", re.MULTILINE)
+NAMED = re.compile(
+    r"(?:^|[,;{])[ \t]*(?:pub const )?(?:CN_)?(\w+)(?:: u32)? = (\d+)\b", re.MULTILINE
+)
 END_OF_TABLE = re.compile(r"\n\};?\n|\n\n\n")
 
 HEADER, RUST, PYTHON = "c/chinese_number.h", "rust/src/abi.rs", "python/chinese_number/__init__.py"
 JAVASCRIPT = "web/chinese-number.mjs"
 # Where each table begins, in the order of the tables, the statuses last.
 BEGINNINGS = {
-    HEADER: ("/* The integer type", "/* The way", "/* The script", "/* The case", "/* The units", "/* The status"),
-    RUST: ("pub enum Kind ", "pub enum Way ", "pub enum ChineseVariant ", "pub enum ChineseCase ", "pub enum Unit ", "pub mod status "),
-    PYTHON: ("class Kind(", "class Way(", "class Script(", "class Case(", "class Unit(", "class Status("),
+    HEADER: (
+        "/* The integer type",
+        "/* The way",
+        "/* The script",
+        "/* The case",
+        "/* The units",
+        "/* The status",
+    ),
+    RUST: (
+        "pub enum Kind ",
+        "pub enum Way ",
+        "pub enum ChineseVariant ",
+        "pub enum ChineseCase ",
+        "pub enum Unit ",
+        "pub mod status ",
+    ),
+    PYTHON: (
+        "class Kind(",
+        "class Way(",
+        "class Script(",
+        "class Case(",
+        "class Unit(",
+        "class Status(",
+    ),
 }
 # How each language names what no call of the crate answers, but the C source made of it.
 TOO_LONG = {
@@ -40,9 +63,15 @@ TOO_LONG = {
 SOURCE = "source/chinese_number.c.in"
 OF_LENGTH = (HEADER, RUST, PYTHON, "source/README.md", "rust/src/lib.rs")
 EXPORTED = re.compile(r'^pub (?:unsafe )?extern "C" fn (\w+)', re.MULTILINE)
-CALLED = re.compile(r"\b(chinese_(?:number|amount|date)_\w+)\(|\blibrary\.(chinese_(?:number|amount|date)_\w+)")
+CALLED = re.compile(
+    r"\b(chinese_(?:number|amount|date)_\w+)\(|\blibrary\.(chinese_(?:number|amount|date)_\w+)"
+)
 # The most bytes of a text: what each language names so, and the file whose clauses have it.
-BOUNDS = {"MOST_BYTES": "src/printing.rt", "MOST_AMOUNT_BYTES": "src/amount.rt", "MOST_DATE_BYTES": "src/date.rt"}
+BOUNDS = {
+    "MOST_BYTES": "src/printing.rt",
+    "MOST_AMOUNT_BYTES": "src/amount.rt",
+    "MOST_DATE_BYTES": "src/date.rt",
+}
 VERSIONS = (
     (HEADER, r'^#define CN_VERSION "(.*)"'),
     ("rust/Cargo.toml", r'^version = "(.*)"'),
@@ -67,7 +96,10 @@ OF_READERS = (
     "docs/RULES.md",
 )
 OF_PRINTERS = ("bindings/rust/src/print.rs",)
-REFUSALS_OF_CAPITALS = ("crates/cn_amount/specs/ErrorText.antt", "crates/cn_date/specs/ErrorText.antt")
+REFUSALS_OF_CAPITALS = (
+    "crates/cn_amount/specs/ErrorText.antt",
+    "crates/cn_date/specs/ErrorText.antt",
+)
 OF_READERS_OF_CAPITALS = (
     "bindings/rust/src/read.rs",
     "bindings/rust/tests/interface.rs",
@@ -89,7 +121,9 @@ def text_of(path):
 
 def found_by(bindings, patterns):
     """What stands in each of these files, by its pattern."""
-    return {re.search(pattern, text_of(bindings / file), re.MULTILINE)[1] for file, pattern in patterns}
+    return {
+        re.search(pattern, text_of(bindings / file), re.MULTILINE)[1] for file, pattern in patterns
+    }
 
 
 def snake(name):
@@ -127,8 +161,14 @@ def of_language(language, text):
 
 def of_lists(text):
     """The tables of the JavaScript file: the names in the order of their codes."""
-    lists = [re.search(rf"\b{name} =[^\[]*?\[((?:\s*'\w+',?)+)\]", text) for name in (*TABLES, "STATUSES")]
-    return [{snake(name): code for code, name in enumerate(re.findall(r"\w+", found[1]))} for found in lists]
+    lists = [
+        re.search(rf"\b{name} =[^\[]*?\[((?:\s*'\w+',?)+)\]", text)
+        for name in (*TABLES, "STATUSES")
+    ]
+    return [
+        {snake(name): code for code, name in enumerate(re.findall(r"\w+", found[1]))}
+        for found in lists
+    ]
 
 
 def compare_calls(crate, texts):
@@ -137,13 +177,18 @@ def compare_calls(crate, texts):
     for language, text in texts.items():
         found = {one or other for one, other in CALLED.findall(text)}
         if not found or not found <= wanted or language == HEADER and found != wanted:
-            sys.exit(f"codes: {language} has the calls {sorted(found)}, and the crate exports {sorted(wanted)}")
+            sys.exit(
+                f"codes: {language} has the calls {sorted(found)}, and the crate exports {sorted(wanted)}"
+            )
     return len(wanted)
 
 
 def texts_of(path, name, count):
     """The texts that a definition gives, up to a position."""
-    found = [text.strip() for text in re.findall(rf'^{name} \S.*?codes "([^"(]*)', text_of(path), re.M | re.S)]
+    found = [
+        text.strip()
+        for text in re.findall(rf'^{name} \S.*?codes "([^"(]*)', text_of(path), re.M | re.S)
+    ]
     if len(found) != count:
         sys.exit(f"codes: {path} has the texts {found}, and not {count}")
     return found
@@ -161,20 +206,30 @@ def compare_bounds(crate, texts):
 
 def compare_length(bindings):
     """Each file that names the length of a text that the C source refuses names the same."""
-    named = dict(re.findall(r"^#define (\w+_OF_TEXT) UINT\d+_C\((\d+)\)", text_of(bindings / SOURCE), re.MULTILINE))
+    named = dict(
+        re.findall(
+            r"^#define (\w+_OF_TEXT) UINT\d+_C\((\d+)\)", text_of(bindings / SOURCE), re.MULTILINE
+        )
+    )
     first, most = int(named["FIRST_OF_TEXT"]), int(named["MOST_OF_TEXT"])
     if first + most != 2**32:
         sys.exit(f"codes: {SOURCE} has texts of {most} bytes from {first} on")
     for file in OF_LENGTH:
         found = set(re.findall(r"more than ([\d,]+) bytes", text_of(bindings / file)))
         if {int(length.replace(",", "")) for length in found} != {most}:
-            sys.exit(f"codes: {file} has texts of at most {sorted(found)} bytes, and {SOURCE} of {most}")
+            sys.exit(
+                f"codes: {file} has texts of at most {sorted(found)} bytes, and {SOURCE} of {most}"
+            )
 
 
 def compare_refusals(top):
     """Each text of a refusal, up to the position that one of them has, stands in each file."""
     texts = texts_of(top / REFUSALS, "refusal_text", 4)
-    read = [text for path in REFUSALS_OF_CAPITALS for text in texts_of(top / path, "reading_error_text", 2)]
+    read = [
+        text
+        for path in REFUSALS_OF_CAPITALS
+        for text in texts_of(top / path, "reading_error_text", 2)
+    ]
     # The other one is out of memory, which is no refusal.
     printed = [texts_of(top / path, "writing_error_text", 2)[0] for path in REFUSALS_OF_CAPITALS]
     for files, wanted in (
@@ -206,8 +261,12 @@ def main():
 
     authors, versions = found_by(bindings, AUTHORS), found_by(bindings, VERSIONS)
     for page in ("README.md", "web/README.md"):
-        versions.update(re.findall(r"chinese.number[a-z-_]*-(\d[\d.]*\d)\b", text_of(bindings / page)))
-    versions.add(".".join(re.findall(r"^#define CN_VERSION_\w+ (\d+)", texts[HEADER], re.MULTILINE)))
+        versions.update(
+            re.findall(r"chinese.number[a-z-_]*-(\d[\d.]*\d)\b", text_of(bindings / page))
+        )
+    versions.add(
+        ".".join(re.findall(r"^#define CN_VERSION_\w+ (\d+)", texts[HEADER], re.MULTILINE))
+    )
     if len(versions) != 1 or len(authors) != 1:
         sys.exit(f"codes: versions {sorted(versions)}, and authors {sorted(authors)}")
     for language, line in TOO_LONG.items():
@@ -217,7 +276,9 @@ def main():
     compare_bounds(crate, texts)
     compare_length(bindings)
     compare_refusals(bindings.resolve().parent)
-    print(f"codes: {calls} calls, {sum(map(len, wanted))} codes and statuses, alike in C, Rust, Python and JavaScript, of version {versions.pop()}")
+    print(
+        f"codes: {calls} calls, {sum(map(len, wanted))} codes and statuses, alike in C, Rust, Python and JavaScript, of version {versions.pop()}"
+    )
 
 
 main()

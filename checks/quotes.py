@@ -3,7 +3,7 @@
 
 Usage: quotes.py BINDINGS
 
-An example of JavaScript stands in the package's README, which `checks/packages.py` runs.
+An example of JavaScript stands in the package's README, which `tests/test_packages.py` runs.
 """
 import re
 import sys
@@ -17,7 +17,12 @@ FILES = {
     "js": "web/README.md",
 }
 # The languages of the examples on each page.
-PAGES = {"README.md": [*FILES], "c/README.md": ["c"], "rust/README.md": ["rust"], "python/README.md": ["python"]}
+PAGES = {
+    "README.md": [*FILES],
+    "c/README.md": ["c"],
+    "rust/README.md": ["rust"],
+    "python/README.md": ["python"],
+}
 
 
 def lines_of(text):
@@ -32,7 +37,9 @@ def main():
     for page, languages in PAGES.items():
         blocks = BLOCK.findall((bindings / page).read_text(encoding="utf-8"))
         if sorted(language for language, _ in blocks) != sorted(languages):
-            sys.exit(f"quotes: {page} has blocks of {[language for language, _ in blocks]}, and not one each of {languages}")
+            sys.exit(
+                f"quotes: {page} has blocks of {[language for language, _ in blocks]}, and not one each of {languages}"
+            )
         for language, block in blocks:
             quoted = lines_of(block)
             lines = lines_of((bindings / FILES[language]).read_text(encoding="utf-8"))

@@ -44,13 +44,17 @@ class Table:
         """The least multiplier that gives each character a slot of its own, and the slots."""
         multiplier = self.multiplier
         while True:
-            slots = {self.key(char) * multiplier // self.divisor % self.slots: char for char in chars}
+            slots = {
+                self.key(char) * multiplier // self.divisor % self.slots: char for char in chars
+            }
             if len(slots) == len(chars):
                 return multiplier, slots
             multiplier += 2
 
     def written(self, found, placed):
-        rows = "".join(f"    {self.row(placed.get(slot, FILLER), found)}\n" for slot in range(self.slots))
+        rows = "".join(
+            f"    {self.row(placed.get(slot, FILLER), found)}\n" for slot in range(self.slots)
+        )
         return f"static {self.name}: [{self.kind}; {self.slots}] = [\n{rows}];\n"
 
 
@@ -94,12 +98,30 @@ def capital_row(char, found):
 
 
 TABLES = [
-    Table("MARKS", "cn_judge/src/mark.rt", "(u32, Mark)", marks, mark_row, key_of,
-          "MARKS[(key as u64 * {multiplier} / {divisor:_} % {slots}) as usize]",
-          953_497, 33_554_432, 128),
-    Table("CAPITALS", "cn_amount/src/capital.rt", "(char, Option<Capital>)", capitals, capital_row, ord,
-          "CAPITALS[(character as u32 * {multiplier} / {divisor} % {slots}) as usize]",
-          3227, 1024, 64),
+    Table(
+        "MARKS",
+        "cn_judge/src/mark.rt",
+        "(u32, Mark)",
+        marks,
+        mark_row,
+        key_of,
+        "MARKS[(key as u64 * {multiplier} / {divisor:_} % {slots}) as usize]",
+        953_497,
+        33_554_432,
+        128,
+    ),
+    Table(
+        "CAPITALS",
+        "cn_amount/src/capital.rt",
+        "(char, Option<Capital>)",
+        capitals,
+        capital_row,
+        ord,
+        "CAPITALS[(character as u32 * {multiplier} / {divisor} % {slots}) as usize]",
+        3227,
+        1024,
+        64,
+    ),
 ]
 
 
@@ -116,14 +138,20 @@ def main():
         written = table.written(found, placed)
         if len(arguments) == 1:
             if multiplier != table.multiplier:
-                print(f"the multiplier of {table.name} is {multiplier:_}, here and in {table.place}")
+                print(
+                    f"the multiplier of {table.name} is {multiplier:_}, here and in {table.place}"
+                )
             print(written, end="")
             continue
         there = text_of(crates / table.place)
         if there.count(table.slot_text(multiplier)) != 1:
-            sys.exit(f"tables: a slot is {table.slot_text(multiplier)}, and not so in {table.place}")
+            sys.exit(
+                f"tables: a slot is {table.slot_text(multiplier)}, and not so in {table.place}"
+            )
         if there.count(written) != 1:
-            sys.exit(f"tables: {table.place} has another {table.name}; this script prints the right one")
+            sys.exit(
+                f"tables: {table.place} has another {table.name}; this script prints the right one"
+            )
         print(f"tables: {table.name} has {len(found)} characters, each at its slot")
 
 

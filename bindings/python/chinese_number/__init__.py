@@ -40,9 +40,24 @@ from pathlib import Path
 from typing import Any, Dict, Iterator, NamedTuple, Optional, Tuple, Type, Union
 
 __all__ = [
-    "AmountError", "Case", "DateError", "Found", "Kind", "NumeralError", "Script", "Status", "Unit", "Way",
-    "amount_to_chinese", "chinese_to_amount", "chinese_to_date", "date_to_chinese", "find_numbers", "to_chinese",
-    "to_number", "yuan_to_fen",
+    "AmountError",
+    "Case",
+    "DateError",
+    "Found",
+    "Kind",
+    "NumeralError",
+    "Script",
+    "Status",
+    "Unit",
+    "Way",
+    "amount_to_chinese",
+    "chinese_to_amount",
+    "chinese_to_date",
+    "date_to_chinese",
+    "find_numbers",
+    "to_chinese",
+    "to_number",
+    "yuan_to_fen",
 ]
 __version__ = "0.1.0"
 
@@ -116,7 +131,8 @@ class Unit(Enum):
 
 class Status(Enum):
     """What a call answers. A NumeralError has one of those from EMPTY to TOO_SMALL, or NOT_HELD; an AmountError has
-    INCORRECT, UNFINISHED, TOO_LARGE or TOO_SMALL, and a DateError INCORRECT, UNFINISHED or NOT_A_DATE."""
+    INCORRECT, UNFINISHED, TOO_LARGE or TOO_SMALL, and a DateError INCORRECT, UNFINISHED or NOT_A_DATE.
+    """
 
     DONE = 0
     EMPTY = 1
@@ -155,7 +171,9 @@ class NumeralError(ValueError):
     """
 
     def __init__(self, status: Status, kind: Kind, char_index: Optional[int] = None) -> None:
-        super().__init__(_TEXTS.get(status, status.name).format(kind=kind.name, char_index=char_index))
+        super().__init__(
+            _TEXTS.get(status, status.name).format(kind=kind.name, char_index=char_index)
+        )
         self.status = status
         self.kind = kind
         self.char_index = char_index
@@ -219,7 +237,11 @@ class DateError(_CapitalsError):
 
 
 class _Reading(ctypes.Structure):
-    _fields_ = [("low", ctypes.c_uint64), ("high", ctypes.c_uint64), ("char_index", ctypes.c_size_t)]
+    _fields_ = [
+        ("low", ctypes.c_uint64),
+        ("high", ctypes.c_uint64),
+        ("char_index", ctypes.c_size_t),
+    ]
 
 
 class _Amount(ctypes.Structure):
@@ -228,7 +250,10 @@ class _Amount(ctypes.Structure):
 
 class _Date(ctypes.Structure):
     _fields_ = [
-        ("year", ctypes.c_uint32), ("month", ctypes.c_uint32), ("day", ctypes.c_uint32), ("char_index", ctypes.c_size_t)
+        ("year", ctypes.c_uint32),
+        ("month", ctypes.c_uint32),
+        ("day", ctypes.c_uint32),
+        ("char_index", ctypes.c_size_t),
     ]
 
 
@@ -330,9 +355,13 @@ def to_number(text: str, *, kind: Kind = Kind.I128, way: Way = Way.TEN_THOUSAND)
     Half of a surrogate pair is one character, and at fault.
     """
     data, reading, code = _bytes(text), _Reading(), _code(kind, Kind)
-    status = _calls.chinese_number_read(data, len(data), code, _code(way, Way), ctypes.byref(reading))
+    status = _calls.chinese_number_read(
+        data, len(data), code, _code(way, Way), ctypes.byref(reading)
+    )
     if status:
-        raise NumeralError(_refused(status), kind, reading.char_index if status == Status.INCORRECT.value else None)
+        raise NumeralError(
+            _refused(status), kind, reading.char_index if status == Status.INCORRECT.value else None
+        )
     number: int = reading.high << 64 | reading.low
     return number - (1 << 128) if code >= _FIRST_SIGNED and number >> 127 else number
 
@@ -405,7 +434,9 @@ def chinese_to_amount(text: str) -> int:
     data, reading = _bytes(text), _Amount()
     status = _calls.chinese_amount_read(data, len(data), ctypes.byref(reading))
     if status:
-        raise AmountError(_refused(status), reading.char_index if status == Status.INCORRECT.value else None)
+        raise AmountError(
+            _refused(status), reading.char_index if status == Status.INCORRECT.value else None
+        )
     fen: int = reading.fen
     return fen
 
@@ -430,7 +461,13 @@ def yuan_to_fen(value: Union[Decimal, str]) -> int:
         raise TypeError(f"a Decimal or a str is wanted, in yuan, and not {_shown(value)}")
     whole, point, places = text.partition(".")
     figures = whole + places
-    if not (whole and figures.isascii() and figures.isdigit() and len(places) <= 2 and bool(places) == bool(point)):
+    if not (
+        whole
+        and figures.isascii()
+        and figures.isdigit()
+        and len(places) <= 2
+        and bool(places) == bool(point)
+    ):
         raise ValueError(f"figures with at most two places are wanted, and not {_shown(value)}")
     figures = whole.lstrip("0") + places.ljust(2, "0")
     if len(figures) > 18:
@@ -452,7 +489,9 @@ def date_to_chinese(day: date, *, script: Script = Script.TRADITIONAL) -> str:
     if not isinstance(day, date) or isinstance(day, datetime):
         raise TypeError(f"a date is wanted, and not {_shown(day)}")
     code = _code(script, Script)
-    status, text = _printed(_calls.chinese_date_print, _DateRoom(), day.year, day.month, day.day, code)
+    status, text = _printed(
+        _calls.chinese_date_print, _DateRoom(), day.year, day.month, day.day, code
+    )
     if status:
         raise DateError(Status(status))
     return text
@@ -472,7 +511,9 @@ def chinese_to_date(text: str) -> date:
     data, reading = _bytes(text), _Date()
     status = _calls.chinese_date_read(data, len(data), ctypes.byref(reading))
     if status:
-        raise DateError(_refused(status), reading.char_index if status == Status.INCORRECT.value else None)
+        raise DateError(
+            _refused(status), reading.char_index if status == Status.INCORRECT.value else None
+        )
     return date(reading.year, reading.month, reading.day)
 
 
@@ -521,7 +562,9 @@ def _found(data: bytes, upper: bool, greatest: int) -> Iterator[Found]:
     call, span = _calls.chinese_number_find_utf8, _Span()
     first = ctypes.cast(ctypes.c_char_p(data), ctypes.c_void_p).value or 0
     searched = index = 0
-    while not (status := call(first + searched, len(data) - searched, upper, greatest, ctypes.byref(span))):
+    while not (
+        status := call(first + searched, len(data) - searched, upper, greatest, ctypes.byref(span))
+    ):
         begin, end = searched + span.start, searched + span.end
         text = data[begin:end].decode()
         start = index + len(data[searched:begin].decode())

@@ -1,5 +1,6 @@
-//! The interface of the upstream crate for the integer types: each name with its signature, and what each type and trait
-//! can do; the texts of the errors, an empty text, and several threads at once.
+//! The interface of the upstream crate for the integer types: each name with its signature, and the
+//! answers of its trait; what each type and trait can do; the texts of the errors, an empty text, and
+//! several threads at once.
 
 use std::error::Error;
 use std::fmt::{Debug, Display};
@@ -11,24 +12,60 @@ use chinese_number::*;
 type Answer<T> = Result<T, ChineseToNumberError>;
 type Printed = Result<String, NumberToChineseError>;
 
+/// The way in the name of a call: none digit by digit, and `Low` where the name has none.
+fn way(name: &str) -> Option<ChineseCountMethod> {
+    use ChineseCountMethod::*;
+    let named = [("_naive", None), ("_ten_thousand", Some(TenThousand)), ("_middle", Some(Middle))];
+    let found = named.iter().find(|(end, _)| name.ends_with(end));
+    found.map_or(Some(if name.ends_with("_high") { High } else { Low }), |(_, way)| *way)
+}
+
+/// Texts that tell the ways apart: the greatest unit whose scale fits, and the next one.
+const TEXTS: [&str; 11] = [
+    "", "零極零五", "零澗零五", "負零澗零五", "零正零五", "零垓零五", "零秭零五", "零京零五", "零億五",
+    "一二三", "負一二三",
+];
+
+/// A number that fits the type, and is written otherwise by each way that can be told there.
+const NUMBERS: [u128; 4] = [10, 100_000, 1_000_100_000_000, 1_000_000_000_000_000_000_000_000];
+
+/// Each of these calls has this type, and answers as the trait does by the way of its name.
 macro_rules! readers {
     ($($t:ty: $($name:ident)+;)+) => {
         $($(
             let _: fn(&'static str) -> Answer<$t> = $name::<&str>;
             let _: fn(String) -> Answer<$t> = $name::<String>;
             let _: fn(&'static String) -> Answer<$t> = $name::<&String>;
+            for text in TEXTS {
+                let by_trait: Answer<$t> = match way(stringify!($name)) {
+                    Some(method) => text.to_number(method),
+                    None => text.to_number_naive(),
+                };
+                assert_eq!($name(text), by_trait, "{} of {text}", stringify!($name));
+            }
         )+)+
     };
 }
 
 macro_rules! printers {
-    ($printed:ty; $($t:ty: $($name:ident)+;)+) => {
-        $($(let _: fn(ChineseVariant, ChineseCase, $t) -> $printed = $name;)+)+
+    ($printed:ty, $written:expr; $($t:ty: $($name:ident)+;)+) => {
+        $($(
+            let _: fn(ChineseVariant, ChineseCase, $t) -> $printed = $name;
+            for number in NUMBERS.into_iter().filter_map(|it| <$t>::try_from(it).ok()) {
+                let (script, case) = (ChineseVariant::Simple, ChineseCase::Upper);
+                let by_trait: Printed = match way(stringify!($name)) {
+                    Some(method) => number.to_chinese(script, case, method),
+                    None => Ok(number.to_chinese_naive(script, case)),
+                };
+                let written = $written($name(script, case, number));
+                assert_eq!(written, by_trait, "{} of {number}", stringify!($name));
+            }
+        )+)+
     };
 }
 
 #[test]
-fn signatures_of_readers() {
+fn readers_by_name() {
     readers! {
         u8: from_chinese_to_u8_naive from_chinese_to_u8;
         u16: from_chinese_to_u16_naive from_chinese_to_u16;
@@ -56,8 +93,8 @@ fn signatures_of_readers() {
 }
 
 #[test]
-fn signatures_of_printers() {
-    printers! { String;
+fn printers_by_name() {
+    printers! { String, Ok;
         u8: from_u8_to_chinese_naive from_u8_to_chinese;
         u16: from_u16_to_chinese_naive from_u16_to_chinese;
         u32: from_u32_to_chinese_naive from_u32_to_chinese_low from_u32_to_chinese_ten_thousand
@@ -79,7 +116,7 @@ fn signatures_of_printers() {
         isize: from_isize_to_chinese_naive from_isize_to_chinese_ten_thousand
             from_isize_to_chinese_middle from_isize_to_chinese_high;
     }
-    printers! { Printed;
+    printers! { Printed, |it| it;
         u64: from_u64_to_chinese_low;
         u128: from_u128_to_chinese_low;
         usize: from_usize_to_chinese_low;
@@ -202,7 +239,8 @@ fn empty_texts() {
     }
 }
 
-// Each number of 64 bits that this step leads to, ten thousand of them, is printed by each method and read back.
+// Each number of 64 bits that this step leads to, ten thousand of them, is printed by each method and
+// read back.
 fn reads_back(step: i64) {
     let limits = -9_999_999_999_999_999..=9_999_999_999_999_999;
     for number in (0..10_000).map(|count| step.wrapping_mul(count)) {

@@ -1,7 +1,7 @@
 //! Makes each call that takes memory once, and prints what came of it in a line: its text, or the
 //! name of the error.
 //!
-//! Each line takes one growth, so that `checks/out_of_memory.py` can refuse them in turn. The last
+//! Each line takes one growth, so that `tests/test_memory.py` can refuse them in turn. The last
 //! lines take none: they refuse their number or date by name.
 #![tactic(auto)]
 

@@ -1,5 +1,5 @@
-//! Tests alone, by the public calls and one of the quick way: worked examples, the upstream crate's
-//! vectors, and callers who print and read back.
+//! Tests alone, by the public calls and one of the quick way: each call by its name, long texts, and
+//! callers who print and read back. Worked examples and the upstream crate's vectors are `tests/rows`.
 #![tactic(auto)]
 
 #[cfg(test)]
@@ -11,16 +11,10 @@ mod error_texts;
 #[cfg(test)]
 mod long;
 #[cfg(test)]
-mod printing;
-#[cfg(test)]
-mod printing_digits;
-#[cfg(test)]
 mod reading_at_once;
 #[cfg(test)]
 mod reading_back;
 #[cfg(test)]
 mod scales;
-#[cfg(test)]
-mod upstream_printing;
 #[cfg(test)]
 mod without_memory;

@@ -1,0 +1,90 @@
+"""What tests are given: the programs that the gate has built, and the library and its packages."""
+import subprocess
+from pathlib import Path
+
+import pytest
+
+from running import TOP, Program, leave_out, needs, needs_rt, run
+
+
+def pytest_addoption(parser):
+    parser.addoption("--library", type=Path, help="a folder that bindings/archive.sh has filled")
+    parser.addoption("--packages", type=Path, help="a folder that bindings/packages.sh has filled")
+    parser.addoption("--pictures", type=Path, help="a folder for pictures of the page")
+
+
+def made(request, tmp_path_factory, option, *words):
+    """The folder that an option names, or a new one that a script of bindings/ fills."""
+    if folder := request.config.getoption(option):
+        return folder.resolve()
+    needs_rt()
+    folder = tmp_path_factory.mktemp(option.strip("-"))
+    subprocess.run(["bash", *words, folder], cwd=TOP / "bindings", check=True)
+    return folder
+
+
+@pytest.fixture(scope="session")
+def archive(request, tmp_path_factory):
+    """The folder of the proved archive and its shared object."""
+    return made(request, tmp_path_factory, "--library", "archive.sh")
+
+
+@pytest.fixture(scope="session")
+def packages(request, tmp_path_factory):
+    """The folder of the packages, each of them made of what is proved."""
+    return made(request, tmp_path_factory, "--packages", "packages.sh", "--draft")
+
+
+@pytest.fixture(scope="session")
+def of_c_source(tmp_path_factory):
+    """A folder with an archive and a shared object as a compiler makes them of the C source."""
+    needs("cc")
+    lib = tmp_path_factory.mktemp("of_c_source")
+    words = ("cc", "-O2", "-fPIC", "-fvisibility=hidden", "-c", TOP / "dist/chinese_number.c")
+    run(*words, cwd=lib)
+    run("ar", "crs", "libchinese_number.a", "chinese_number.o", cwd=lib)
+    run("cc", "-shared", "chinese_number.o", "-o", "libchinese_number.so", cwd=lib)
+    return lib
+
+
+@pytest.fixture(scope="session", params=["archive", "of_c_source"])
+def library(request):
+    """Both: the tests of a language are run over each."""
+    return request.getfixturevalue(request.param)
+
+
+@pytest.fixture(scope="session")
+def refuse_growth(tmp_path_factory):
+    """A library that refuses growths of the memory of the program into which it is loaded."""
+    needs("cc")
+    made = tmp_path_factory.mktemp("refuse") / "refuse_growth.so"
+    source = TOP / "tests/refuse_growth.c"
+    run("cc", "-O1", "-shared", "-fPIC", "-o", made, source, "-ldl", cwd=TOP)
+    return made
+
+
+def program(name):
+    """A fixture: the program of a crate."""
+
+    @pytest.fixture(scope="session", name=name)
+    def give(refuse_growth):
+        path = TOP / f"crates/{name}/out/{name}"
+        if not path.is_file():
+            leave_out(f"{path.relative_to(TOP)} is not there, which `rt ci` builds")
+        return Program(path, refuse_growth)
+
+    return give
+
+
+numeral, cheque, numbers = map(program, ("numeral", "cheque", "numbers"))
+allocating_calls = program("allocating_calls")
+
+
+def pytest_collection_modifyitems(items):
+    """Marks what takes something that `rt` builds, and what takes the packages."""
+    for item in items:
+        names = set(item.fixturenames)
+        if "packages" in names:
+            item.add_marker("packages")
+        elif names & {"archive", "library", "numeral", "cheque", "numbers", "allocating_calls"}:
+            item.add_marker("built")

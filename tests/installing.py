@@ -1,0 +1,129 @@
+"""What the tests of installing share: the pages that say how to install, the packages, and what pip
+and cargo install into."""
+import json
+import platform
+import re
+import shutil
+import sys
+import tarfile
+import zipfile
+from pathlib import Path
+
+from running import PATH, TOP, fail, leave_out, numbers_of, run, write
+
+USERS = TOP / "tests/users"
+NATIVE = platform.machine()
+MANIFEST = """\
+[package]
+name = "user"
+version = "0.0.0"
+edition = "2021"
+
+[workspace]
+
+[dependencies]
+"""
+
+
+def user(name):
+    """The text of a user's program."""
+    return (USERS / name).read_text(encoding="utf-8")
+
+
+def listed(path):
+    """The files of a package: each name with its bytes."""
+    if path.suffix == ".whl":
+        with zipfile.ZipFile(path) as packed:
+            return {name: packed.read(name) for name in packed.namelist()}
+    with tarfile.open(path) as packed:
+        return {it.name: packed.extractfile(it).read() for it in packed if it.isfile()}
+
+
+def commands(text):
+    """The commands that a page has in lines that are set in, outside of its examples."""
+    return re.findall(r"(?:^    .*\n)+", re.sub(r"^```.*?^```$", "", text, flags=re.M | re.S), re.M)
+
+
+class Page:
+    """The install lines of a page, and its example in a language, with answers in comments."""
+
+    def __init__(self, text, name, language):
+        blocks = re.findall(rf"^```{language}\n(.*?)^```$", text, re.M | re.S)
+        if len(blocks) != 1:
+            fail(f"{name} has {len(blocks)} blocks of {language}")
+        self.example = blocks[0]
+        self.installs = commands(text)
+        answers = re.findall(r"(?://|/\*) (.*?)(?: \*/)?$", self.example, re.M)
+        self.answer = "".join(f"{it}\n" for it in answers)
+
+
+class Readme(Page):
+    """The README of a package."""
+
+    def __init__(self, package, name, language):
+        text = next(data for it, data in listed(package).items() if it.endswith(name)).decode()
+        super().__init__(text, f"the README of {package.name}", language)
+
+    def follow(self, packages, folder, which=0, **more):
+        """Follows install lines, the first of the page or others, in a folder that has the
+        packages."""
+        folder.mkdir(exist_ok=True)
+        for package in packages_in(packages):
+            shutil.copy(package, folder)
+        run("bash", "-euc", self.installs[which], cwd=folder, **more)
+
+
+def packages_in(folder):
+    kinds = (".whl", ".gz", ".tgz", ".crate")
+    return sorted(path for path in folder.iterdir() if path.suffix in kinds)
+
+
+def package(packages, pattern, what):
+    """The one package of this name. Where PROVENANCE.json says that it was left out, so is the
+    test."""
+    found = list(packages.glob(pattern))
+    if len(found) != 1:
+        provenance = json.loads((packages / "PROVENANCE.json").read_bytes())
+        if found or not any(it.startswith(f"left out: {what}") for it in provenance["draft"]):
+            fail(f"{packages} has {len(found)} files {pattern}")
+        leave_out(f"there is no package for {what}")
+    return found[0]
+
+
+def unpacked(tarball, folder):
+    """A folder with the files of a tarball. Where it stands is of no matter."""
+    with tarfile.open(tarball) as packed:
+        packed.extractall(folder / "first")
+    return next((folder / "first").iterdir()).rename(folder / "a folder")
+
+
+def pythons():
+    """This Python, and the first and the last of pyenv's from 3.8 on, where there are any."""
+    programs = Path.home().glob(".pyenv/versions/3.*/bin/python3")
+    found = {numbers_of(it.parent.parent.name): str(it) for it in programs}
+    found = {version: found[version] for version in sorted(found) if version >= (3, 8)}
+    ends = list(found)[:: max(1, len(found) - 1)]
+    return {**{it: found[it] for it in ends}, sys.version_info[:3]: sys.executable}
+
+
+def virtual_environment(program, folder):
+    """A new virtual environment of a Python, for which pip asks no index: the variables that choose
+    it."""
+    run(program, "-m", "venv", "--clear", folder, cwd=folder.parent)
+    quiet = {"PIP_DISABLE_PIP_VERSION_CHECK": "1", "PIP_QUIET": "1", "PIP_NO_CACHE_DIR": "1"}
+    quiet.update(PIP_NO_INDEX="1", PYTHONIOENCODING="utf-8")
+    return dict(quiet, PATH=f"{folder}/bin:{PATH}")
+
+
+def of_rust(project, page):
+    """A project whose program is the example of a page."""
+    write(project / "src/main.rs", f"fn main() {{\n{page.example}}}\n")
+    return write(project / "Cargo.toml", MANIFEST).parent
+
+
+def npm(*words, cwd):
+    """What npm says, with settings of nobody, and with a registry where nothing listens."""
+    settings = {"cache": cwd.parent / "npm", "registry": "http://127.0.0.1:9/", "offline": "true"}
+    settings.update(userconfig="/dev/null", audit="false", fund="false", update_notifier="false")
+    own = {f"npm_config_{name}": str(value) for name, value in settings.items()}
+    return run("npm", *words, cwd=cwd, **own)

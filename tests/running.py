@@ -1,0 +1,178 @@
+"""What all tests run programs by. A program's memory and its disk are refused here, it is talked to
+line by line here, and a test for which a tool is missing is left out here, and nowhere else."""
+import os
+import re
+import resource
+import select
+import shutil
+import subprocess
+from pathlib import Path
+
+import pytest
+
+TOP = Path(__file__).resolve().parent.parent
+SECONDS = 10  # for an answer in a dialogue
+
+
+def leave_out(why):
+    """Leaves a test out. Under CI, where every tool has to be, it fails."""
+    if os.environ.get("CI"):
+        fail(f"left out, which under CI nothing is: {why}")
+    pytest.skip(f"{os.environ['PYTEST_CURRENT_TEST'].split('::')[0]}: {why}")
+
+
+def needs(*tools):
+    """Leaves a test out where one of these tools is missing; of two with a bar between them either
+    will do, and behind a blank stands the least version. Gives the last one."""
+    for tool in tools:
+        names, _, least = tool.partition(" ")
+        found = next((it for it in names.split("|") if shutil.which(it, path=PATH)), None)
+        if not found:
+            leave_out(f"there is no {names.replace('|', ' and no ')}")
+        if least and version_of(found) < numbers_of(least):
+            leave_out(f"{found} is older than {least}")
+    return found
+
+
+def needs_rt():
+    if not shutil.which("rt"):
+        leave_out("there is no rt")
+
+
+def needs_compiler(folder, *words):
+    """Leaves a test out where no compiler takes these words."""
+    needs(words[0])
+    source = write(folder / "empty.c", "int main(void) { return 0; }\n")
+    words = [*words, source, "-o", folder / "empty.exe"]
+    if subprocess.run(words, env=ENVIRONMENT, capture_output=True).returncode:
+        leave_out(f"{words[0]} takes no {' '.join(words[1:-3])}")
+
+
+def numbers_of(text):
+    return tuple(map(int, re.search(r"\d+(\.\d+)*", text)[0].split(".")))
+
+
+def version_of(tool):
+    return numbers_of(run(tool, "--version", cwd=TOP))
+
+
+def outside():
+    """The environment of a user who has neither the toolchain nor this repository."""
+    path = [it for it in os.environ["PATH"].split(os.pathsep) if it]
+    path = [it for it in path if not os.access(Path(it) / "rt", os.X_OK)]
+    ours = re.compile("PYTHON|PYTEST|CHINESE|CARGO_TARGET|RUSTFLAGS|VIRTUAL|npm_")
+    left = {name: value for name, value in os.environ.items() if not ours.match(name)}
+    return dict(left, PATH=os.pathsep.join(path))
+
+
+ENVIRONMENT = outside()
+PATH = ENVIRONMENT["PATH"]
+
+
+def fail(why):
+    pytest.fail(why, pytrace=False)
+
+
+def run(*words, cwd, wanted=None, stdin="", fails=False, **more):
+    """What a user's command says, where it ends well, or with `fails` ill; `wanted` is all that it
+    has to say."""
+    words = [str(word) for word in words]
+    pipes = {"stdout": subprocess.PIPE, "stderr": subprocess.STDOUT, "encoding": "utf-8"}
+    own = {"input": stdin, "cwd": cwd, "env": dict(ENVIRONMENT, **more), "errors": "replace"}
+    ended = subprocess.run(words, timeout=900, **own, **pipes)
+    if bool(ended.returncode) != fails or (wanted is not None and ended.stdout != wanted):
+        fail(f"{' '.join(words)}: status {ended.returncode}\n{ended.stdout[-4000:]}")
+    return ended.stdout
+
+
+def write(path, text):
+    path.parent.mkdir(parents=True, exist_ok=True)
+    path.write_text(text, encoding="utf-8")
+    return path
+
+
+class Program:
+    """A program that the gate has built, and the library that refuses growths of its memory."""
+
+    def __init__(self, path, refuse_growth):
+        self.path, self.refuse_growth = path, refuse_growth
+
+    def __call__(self, *words, data=b"", megabytes=None, **more):
+        """Its status, and what it writes to its output and to standard error."""
+        limit = (megabytes << 20 if megabytes else resource.RLIM_INFINITY,) * 2
+        more.setdefault("stdout", subprocess.PIPE)
+        if "stdin" not in more:
+            more["input"] = data
+        ended = subprocess.run(
+            [self.path, *words],
+            stderr=subprocess.PIPE,
+            timeout=60,
+            preexec_fn=lambda: resource.setrlimit(resource.RLIMIT_AS, limit),
+            **more,
+        )
+        return ended.returncode, ended.stdout, ended.stderr
+
+    def with_refused(self, first, *words, more=0, **other):
+        """The same with this growth of memory refused, counted from 1, and the next ones."""
+        own = {"LD_PRELOAD": str(self.refuse_growth), "REFUSE": str(first), "MORE": str(more)}
+        return self(*words, env={**os.environ, **own, "SIZES": "1"}, **other)
+
+    def each_growth_refused(self, *words, data=b""):
+        """What it has written with each growth that it takes refused in turn, in a run of its own.
+        Each time the status is 2; and where a growth is not asked for, all is well."""
+        written = []
+        while True:
+            status, output, error = self.with_refused(len(written) + 1, *words, data=data)
+            if not error:
+                assert (status, output) == self(*words, data=data)[:2]
+                return written
+            assert (status, error[:8], error.count(b"\n")) == (2, b"refused ", 1), error
+            written.append(output)
+
+    def onto_a_full_disk(self, *words, data=b""):
+        """Its status, and what it says, where nothing can be written."""
+        with open("/dev/full", "wb") as full:
+            status, _, error = self(*words, data=data, stdout=full)
+        return status, error
+
+    def of_no_file(self, *words):
+        """The same as of a call, where its input is a folder and cannot be read."""
+        folder = os.open("/", os.O_RDONLY)
+        try:
+            return self(*words, stdin=folder)
+        finally:
+            os.close(folder)
+
+    def dialogue(self):
+        return Dialogue(self.path)
+
+
+class Dialogue:
+    """A program that is asked a line at a time, and has to answer before the next one is sent."""
+
+    def __init__(self, path):
+        pipes = {"stdin": subprocess.PIPE, "stdout": subprocess.PIPE, "bufsize": 0}
+        self.process = subprocess.Popen([path], **pipes)
+
+    def __enter__(self):
+        return self
+
+    def ask(self, line):
+        """The one answer to a line."""
+        self.process.stdin.write(line.encode() + b"\n")
+        answer = b""
+        while not answer.endswith(b"\n"):
+            ready, _, _ = select.select([self.process.stdout], [], [], SECONDS)
+            got = os.read(self.process.stdout.fileno(), 4096) if ready else b""
+            assert got, f"no answer to {line!r}"
+            answer += got
+        assert answer.count(b"\n") == 1, f"more than one answer to {line!r}"
+        return answer.decode()[:-1]
+
+    def __exit__(self, failed, *_):
+        """At the end of its input it ends well, without a further byte."""
+        self.process.stdin.close()
+        if failed:
+            self.process.kill()
+        rest, status = self.process.stdout.read(), self.process.wait(SECONDS)
+        assert failed or (rest, status) == (b"", 0)

@@ -1,0 +1,92 @@
+"""The build script of the Rust crate: which tools it calls for many targets.
+
+It runs as cargo runs it, with what rustc says of the target, over C source and no archive. It finds
+only tools that say how they were called, so no compiler for any target is needed.
+"""
+import re
+import subprocess
+
+import pytest
+
+from running import TOP, needs, run, write
+
+LINUX, ARM = "x86_64-unknown-linux-gnu", "aarch64-unknown-linux-gnu"
+INTEL_MAC, MAC = "x86_64-apple-darwin", "aarch64-apple-darwin"
+MICROSOFT, WEB, BARE = "x86_64-pc-windows-msvc", "wasm32-unknown-unknown", "thumbv8m.main-none-eabi"
+OF_WEB, OF_BARE = "CC_wasm32_unknown_unknown", "CC_thumbv8m_main_none_eabi"
+# A target, the host, variables, and the compiler and the archiver that are called; or the variable
+# that the script asks for.
+ROWS = (
+    (LINUX, LINUX, {}, "cc, ar"),
+    (ARM, ARM, {}, "cc, ar"),
+    (MICROSOFT, MICROSOFT, {}, "cl.exe, lib.exe"),
+    (MAC, MAC, {}, "cc -arch arm64, ar"),
+    (INTEL_MAC, MAC, {}, "cc -arch x86_64, ar"),
+    (ARM, LINUX, {}, "aarch64-linux-gnu-gcc, aarch64-linux-gnu-ar"),
+    (LINUX, MAC, {}, "x86_64-linux-gnu-gcc, x86_64-linux-gnu-ar"),
+    ("armv7-unknown-linux-gnueabihf", LINUX, {}, "arm-linux-gnueabihf-gcc, arm-linux-gnueabihf-ar"),
+    ("riscv64gc-unknown-linux-gnu", LINUX, {}, "riscv64-linux-gnu-gcc, riscv64-linux-gnu-ar"),
+    ("s390x-unknown-linux-gnu", LINUX, {}, "s390x-linux-gnu-gcc, s390x-linux-gnu-ar"),
+    ("x86_64-pc-windows-gnu", LINUX, {}, "x86_64-w64-mingw32-gcc, x86_64-w64-mingw32-ar"),
+    (WEB, LINUX, {}, OF_WEB),
+    (WEB, MAC, {}, OF_WEB),
+    (BARE, LINUX, {}, OF_BARE),
+    ("thumbv7em-none-eabihf", LINUX, {}, "CC_thumbv7em_none_eabihf"),
+    ("riscv32imac-unknown-none-elf", LINUX, {}, "CC_riscv32imac_unknown_none_elf"),
+    ("x86_64-unknown-none", LINUX, {}, "CC_x86_64_unknown_none"),
+    ("aarch64-unknown-none", LINUX, {}, "CC_aarch64_unknown_none"),
+    ("x86_64-unknown-freebsd", LINUX, {}, "CC_x86_64_unknown_freebsd"),
+    ("aarch64-linux-android", LINUX, {}, "CC_aarch64_linux_android"),
+    ("armv4t-unknown-linux-gnueabi", LINUX, {}, "CC_armv4t_unknown_linux_gnueabi"),
+    ("arm-unknown-linux-gnueabihf", LINUX, {}, "CC_arm_unknown_linux_gnueabihf"),
+    (MAC, LINUX, {}, "CC_aarch64_apple_darwin"),
+    (MICROSOFT, LINUX, {}, "CC_x86_64_pc_windows_msvc"),
+    ("i686-pc-windows-msvc", MICROSOFT, {}, "CC_i686_pc_windows_msvc"),
+    # Named tools, each before the usual one and before those that are named for more targets.
+    (WEB, LINUX, {"CC": "", "AR": "llvm-ar"}, OF_WEB),
+    (WEB, LINUX, {"CC": "clang --target=wasm32"}, "clang --target=wasm32, ar"),
+    (LINUX, LINUX, {"CC": "clang", "AR": "llvm-ar"}, "clang, llvm-ar"),
+    (MICROSOFT, LINUX, {"CC": "clang-cl", "AR": "llvm-lib"}, "clang-cl, llvm-lib"),
+    (BARE, LINUX, {"TARGET_CC": "clang", "CC": "cc"}, "clang, ar"),
+    (BARE, LINUX, {OF_BARE: "clang", "TARGET_CC": "cc"}, "clang, ar"),
+    (BARE, LINUX, {f"CC_{BARE}": "clang", OF_BARE: "cc"}, "clang, ar"),
+)
+TOOL = '#!/bin/sh\necho "called ${0##*/} $*"\n'
+
+
+@pytest.fixture(scope="module")
+def script(tmp_path_factory):
+    """The script in a folder with C source, and with each tool that a row names."""
+    needs("rustc")
+    folder = tmp_path_factory.mktemp("script")
+    write(folder / "source/chinese_number.c", "")
+    for name in {call.split()[0] for *_, wanted in ROWS for call in wanted.split(", ")}:
+        write(folder / "tools" / name, TOOL).chmod(0o755)
+    source = TOP / "bindings/rust/build.rs"
+    run("rustc", "--edition=2021", "-Dwarnings", source, "-o", folder / "build", cwd=folder)
+    return folder / "build"
+
+
+def of_target(target):
+    """What cargo tells a build script of a target, by rustc's own word."""
+    said = run("rustc", "--print", "cfg", "--target", target, cwd=TOP)
+    found = re.findall(r'^(target_\w+)="(.*)"$', said, re.M)
+    return {f"CARGO_CFG_{name.upper()}": value for name, value in found}
+
+
+def outcome(script, target, host, variables):
+    """The tools' calls, up to the words that the script puts behind, or what it asks for."""
+    folder = str(script.parent)
+    told = {"TARGET": target, "HOST": host, "CARGO_MANIFEST_DIR": folder, "OUT_DIR": folder}
+    told |= {"PATH": f"{folder}/tools", **of_target(target), **variables}
+    ended = subprocess.run([script], env=told, capture_output=True, text=True)
+    calls = re.findall(r"^called (.*?) (?:-O2|crs|/nologo) ", ended.stdout, re.M)
+    asked = re.search(r" Set (\S+) to one\.$", ended.stderr.strip())
+    if ended.returncode == 1 and asked and not calls:
+        return asked[1]
+    return ", ".join(calls) if ended.returncode == 0 else ended.stderr
+
+
+@pytest.mark.parametrize("target, host, variables, wanted", ROWS)
+def test_tools(script, target, host, variables, wanted):
+    assert outcome(script, target, host, variables) == wanted

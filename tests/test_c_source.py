@@ -1,0 +1,97 @@
+"""The C source of `dist/`: what each compiler makes of it answers as the archive does.
+
+`same.c` shows one sum over what the calls answer. The object is looked at, and CMake builds it as a
+part of a user's project. test_packages.py follows the page of its package.
+"""
+import re
+
+import pytest
+
+from running import TOP, needs, needs_compiler, run, write
+from test_c import FIRST_STEPS
+
+DIST, EXAMPLE = TOP / "dist", TOP / "bindings/c/example.c"
+THREADS = ("-DTHREADS", "-pthread")
+STATIC = ("-O2", "-static", *THREADS)
+SANITIZED = ("-fno-sanitize-recover=all", *THREADS)
+# What compiles, and what runs the program where this machine does not: the first that is there.
+BUILDS = {
+    "gcc": (("gcc", "-O2", *THREADS), None),
+    "gcc, freestanding": (("gcc", "-O2", "-ffreestanding", *THREADS), None),
+    "clang": (("clang", "-O2", *THREADS), None),
+    # Each by the level by which it is compiled and run in the least time.
+    "addresses": (("clang", "-O0", "-fsanitize=address,undefined", *SANITIZED), None),
+    "threads": (("clang", "-O1", "-fsanitize=thread", *SANITIZED), None),
+    "memory": (("clang", "-O1", "-fsanitize=memory", *SANITIZED), None),
+    "musl": (("musl-gcc", *STATIC), None),
+    "aarch64": (("aarch64-linux-gnu-gcc", *STATIC), "qemu-aarch64|qemu-aarch64-static"),
+    "arm": (("arm-linux-gnueabihf-gcc", *STATIC), "qemu-arm|qemu-arm-static"),
+    "s390x": (("s390x-linux-gnu-gcc", *STATIC), "qemu-s390x|qemu-s390x-static"),
+    "windows": (
+        ("x86_64-w64-mingw32-gcc", "-O2", "-static"),
+        "wine|wine64|/usr/lib/wine/wine64",
+    ),
+}
+# Each request for memory is refused. There are no threads, which ask for some themselves.
+REFUSING = {"REFUSE": "1", "MORE": "1000000000"}
+ASKED = {"abort", "memcpy", "memmove", "memset"}
+
+
+def sum_of(folder, words, library, runner=(), **more):
+    """The sum that `same.c` shows over a library."""
+    program = folder / "same.exe"
+    run(*words, "-I", DIST, TOP / "checks/same.c", library, "-o", program, cwd=folder)
+    # For wine: a Windows of its own, without what asks for downloads or makes menus.
+    own = {"HOME": str(folder), "WINEPREFIX": str(folder / "wine"), "WINEDEBUG": "-all"}
+    own["WINEDLLOVERRIDES"] = "mscoree,mshtml,winemenubuilder.exe="
+    said = run(*runner, program, cwd=folder, **own, **more)
+    (found,) = set(re.findall(r"sum ([0-9a-f]{16})", said))
+    return found
+
+
+@pytest.fixture(scope="module")
+def of_archive(archive, tmp_path_factory):
+    needs("cc")
+    folder = tmp_path_factory.mktemp("same")
+    return sum_of(folder, ("cc", "-O2", *THREADS), archive / "libchinese_number.a")
+
+
+@pytest.mark.parametrize("name", BUILDS)
+def test_sum(of_archive, tmp_path, name):
+    words, runner = BUILDS[name]
+    needs_compiler(tmp_path, *words)
+    runner = [needs(runner)] if runner else []
+    assert sum_of(tmp_path, words, DIST / "chinese_number.c", runner) == of_archive
+
+
+def test_sum_without_memory(of_archive, refuse_growth, tmp_path):
+    needs("gcc")
+    own = {"LD_PRELOAD": str(refuse_growth), **REFUSING}
+    assert sum_of(tmp_path, ("gcc", "-Os"), DIST / "chinese_number.c", **own) == of_archive
+
+
+def test_object(tmp_path):
+    """It shows the header's calls alone, asks for four names, and has no data to write."""
+    needs("cc", "nm", "size")
+    # What some systems have their compilers add would ask for more.
+    plain = ("-fno-stack-protector", "-U_FORTIFY_SOURCE", "-O2", "-fvisibility=hidden")
+    run("cc", *plain, "-c", DIST / "chinese_number.c", cwd=tmp_path)
+    header = (DIST / "chinese_number.h").read_text(encoding="utf-8")
+    names = run("nm", "-g", "chinese_number.o", cwd=tmp_path)
+    shown, asked = (set(re.findall(rf" {it} (\S+)$", names, re.M)) for it in ("[^U]", "U"))
+    assert shown == set(re.findall(r"^uint32_t (chinese_\w+)\(", header, re.M))
+    assert asked <= ASKED
+    sizes = run("size", "-A", "chinese_number.o", cwd=tmp_path)
+    assert not re.findall(r"^\.t?(?:data|bss)(?!\.rel\.ro)\S* +[1-9]\d*", sizes, re.M)
+
+
+def test_shared_by_cmake(tmp_path):
+    """CMake builds a program over it as a shared library, in a project of the user's."""
+    needs("cc", "cmake")
+    project = (TOP / "tests/users/part.cmake").read_text(encoding="utf-8")
+    write(tmp_path / "CMakeLists.txt", project)
+    where = (f"-DDIST={DIST}", f"-DSOURCE={EXAMPLE}", "-DBUILD_SHARED_LIBS=ON")
+    run("cmake", "-S", ".", "-B", "build", *where, "-DCMAKE_BUILD_TYPE=Debug", cwd=tmp_path)
+    run("cmake", "--build", "build", cwd=tmp_path)
+    assert list(tmp_path.rglob("libchinese_number.so*"))
+    run("build/user", cwd=tmp_path, wanted=FIRST_STEPS)

@@ -1,0 +1,173 @@
+"""The library, installed from a clone as bindings/README.md says and in further ways of pip, cargo,
+CMake and cc, where there is no `rt` on the path and no network.
+
+The clones are of the files that are here, each in a folder with a blank in its name. Behind each
+installing stands a use of what was installed, and then the clone has no file more than was said.
+"""
+import re
+import shutil
+import subprocess
+import sys
+import textwrap
+from pathlib import Path
+
+import pytest
+
+from installing import Page, commands, of_rust, pythons, user, virtual_environment
+from running import ENVIRONMENT, TOP, fail, needs, run, write
+
+PAGE = (TOP / "bindings/README.md").read_text(encoding="utf-8")
+OF_C_PAGE = (TOP / "bindings/c/README.md").read_text(encoding="utf-8")
+RUST, C = Page(PAGE, "bindings/README.md", "rust"), Page(OF_C_PAGE, "bindings/c/README.md", "c")
+NOT_CLONED = shutil.ignore_patterns(".git", "out", "target", "__pycache__")
+OF_GIT = ("-c", "user.name=clone", "-c", "user.email=", "-c", "init.defaultBranch=main")
+OFFLINE = ("unshare", "--map-root-user", "--net")
+
+
+def by_page(heading):
+    """The lines that the page has for a clone, the first ones of a language's section."""
+    section = re.search(rf"^## {re.escape(heading)}$(.*?)(?=^## |\Z)", PAGE, re.M | re.S)[1]
+    return textwrap.dedent(commands(section)[0])
+
+
+@pytest.fixture(scope="module")
+def first(tmp_path_factory):
+    """The first clone, of all files that are here."""
+    needs("git")
+    folder = tmp_path_factory.mktemp("clone") / "first"
+    shutil.copytree(TOP, folder, ignore=NOT_CLONED)
+    for words in (("init", "-q"), ("add", "."), ("commit", "-qm", "All files")):
+        run("git", *OF_GIT, *words, cwd=folder)
+    return folder
+
+
+@pytest.fixture(scope="module")
+def begin():
+    """What a command begins with, so that it has no network."""
+    tried = subprocess.run([*OFFLINE, "true"], env=ENVIRONMENT, capture_output=True)
+    return () if tried.returncode else OFFLINE
+
+
+@pytest.fixture
+def follow(first, begin, tmp_path):
+    """Follows commands in a folder of their own, with a clone in which they leave one file or
+    none."""
+    own = tmp_path / "user"
+    own.mkdir()
+
+    def call(text, wanted="", left="", **more):
+        clone = tmp_path / "a clone"
+        run("git", "clone", "-q", first, clone, cwd=tmp_path)
+        more.update(CLONE=str(clone), HOME=str(Path.home()), PYTHONDONTWRITEBYTECODE="1")
+        said = run(*begin, "bash", "-euo", "pipefail", "-c", text, cwd=own, **more)
+        if not said.endswith(wanted):
+            fail(f"it says\n{said[-2000:]}")
+        status = ("status", "--porcelain", "--ignored", "--untracked-files=all")
+        run("git", *status, cwd=clone, wanted=f"!! {left}\n" if left else "")
+
+    call.folder = own
+    return call
+
+
+def test_there_is_no_network(begin):
+    if not begin:
+        pytest.skip("unshare may not, so the network is there")
+
+
+NUMBER, URL = "十萬五千\n", "file://${CLONE// /%20}"
+USE = 'python -c "from chinese_number import to_chinese; print(to_chinese(105_000))"\n'
+BY_PAGE = f'cd "$CLONE"\n{by_page("Python")}'
+EDITABLE = f'pip install -e "$CLONE/bindings/python"\n{USE}'
+BY_GIT = f'pip install "git+{URL}#subdirectory=bindings/python"\n{USE}'
+BESIDE_MODULE = "bindings/python/chinese_number/libchinese_number.so"
+WITHOUT_COMPILER = """\
+if CC=/nowhere pip install "$CLONE/bindings/python" > said 2>&1; then exit 1; fi
+if grep Traceback said; then exit 1; fi
+grep -o 'install a C compiler' said
+"""
+# Each way of pip, what it has to say at the end, and what it leaves in the clone.
+OF_PIP = {
+    "editable": (EDITABLE, NUMBER, BESIDE_MODULE),
+    "by git": (BY_GIT, NUMBER, ""),
+    "without a compiler": (WITHOUT_COMPILER, "install a C compiler\n", ""),
+}
+
+
+@pytest.mark.parametrize("program", pythons().values(), ids=lambda it: it.split("/")[-3])
+def test_pip(follow, program):
+    needs("cc")
+    follow(BY_PAGE, NUMBER, **virtual_environment(program, follow.folder / "environment"))
+
+
+@pytest.mark.parametrize("way", OF_PIP)
+def test_pip_otherwise(follow, way):
+    needs("cc")
+    own = virtual_environment(sys.executable, follow.folder / "environment")
+    follow(*OF_PIP[way], **own)
+
+
+VENDORED = f"""\
+cargo add --quiet --git "{URL}" chinese-number-proved
+cargo run --quiet
+mkdir .cargo
+cargo vendor --quiet vendored > .cargo/config.toml
+export CARGO_HOME=$PWD/other CARGO_TARGET_DIR=$PWD/other
+cargo run --quiet
+"""
+OF_CARGO = {
+    "by path": f"{by_page('Rust')}cargo run --quiet\n",
+    "by git, and vendored": VENDORED,
+    "packed": 'cd "$CLONE/bindings/rust"\ncargo package --quiet\n',
+}
+
+
+@pytest.mark.parametrize("way", OF_CARGO)
+def test_cargo(follow, way):
+    needs("cc", "cargo 1.82")
+    user = of_rust(follow.folder, RUST)
+    own = {"CARGO_HOME": str(user / "cargo"), "CARGO_TARGET_DIR": str(user / "target")}
+    follow(OF_CARGO[way], **own)
+
+
+# As a part it builds as its user's project does, and installs nothing of its own.
+AS_PART = """\
+cmake -S . -B build -DDIST="$CLONE/dist" -DSOURCE="$CLONE/bindings/c/example.c" > log
+cmake --build build >> log
+cmake --install build --prefix installed >> log
+[ "$(find installed -type f)" = installed/bin/user ]
+grep -qx CMAKE_BUILD_TYPE:STRING= build/CMakeCache.txt
+build/user
+"""
+INSTALLED = """\
+at=$PWD/installed
+lib=lib/$(cc -print-multiarch)
+cmake -S "$CLONE/dist" -B made -DCMAKE_INSTALL_LIBDIR="$lib" -DBUILD_SHARED_LIBS=$SHARED > log
+cmake --build made >> log
+cmake --install made --prefix "$at" >> log
+cmake -S . -B build -DCMAKE_PREFIX_PATH="$at" -DSOURCE="$CLONE/bindings/c/example.c" >> log
+cmake --build build >> log
+build/user > by_cmake
+export PKG_CONFIG_PATH=$at/$lib/pkgconfig LD_LIBRARY_PATH=$at/$lib
+words=$(pkg-config --cflags --libs 'chinese-number >= 0.1.0')
+eval cc '"$CLONE/bindings/c/example.c"' "$words" -o user
+./user
+./user | cmp - by_cmake
+"""
+
+
+def test_cc(follow):
+    needs("cc")
+    follow(by_page("C and C++"), C.answer)
+
+
+def test_cmake_part(follow):
+    needs("cc", "cmake")
+    write(follow.folder / "CMakeLists.txt", user("part.cmake"))
+    follow(AS_PART, C.answer)
+
+
+@pytest.mark.parametrize("shared", ["OFF", "ON"])
+def test_cmake_installed(follow, shared):
+    needs("cc", "cmake", "pkg-config")
+    write(follow.folder / "CMakeLists.txt", user("found.cmake"))
+    follow(INSTALLED, C.answer, SHARED=shared)

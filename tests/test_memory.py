@@ -1,0 +1,63 @@
+"""Calls that take memory, with each growth refused in turn; and readers, which take none.
+
+The program `allocating_calls` prints a line for each call that takes memory. Each growth is refused by
+itself and with the next one. Each line has one growth, of exactly as many bytes as its text. Where
+that is refused the line says that memory was short, and every other line stays as it is; so a
+second growth of a line would be seen. At the end stand the calls that refuse their number or date
+by name: they ask for no memory.
+"""
+import re
+import subprocess
+
+import pytest
+
+from running import TOP, needs_rt
+
+# The names of errors: of memory, and of what is refused before memory is asked for.
+SHORT = ("AllocError", "OutOfMemory")
+BY_NAME = ("Overflow", "Underflow", "NotADate")
+MODULE = "without_memory"
+
+
+def lines_with(allocating_calls, first, more):
+    """What is printed with these growths refused, as calls and answers, and how many bytes each of
+    them asked for."""
+    status, output, error = allocating_calls.with_refused(first, more=more)
+    assert status == 0
+    sizes = [int(line.removeprefix("refused ")) for line in error.decode().splitlines()]
+    return [tuple(line.rsplit(": ", 1)) for line in output.decode().splitlines()], sizes
+
+
+@pytest.mark.parametrize("more", (0, 1))
+def test_each_growth(allocating_calls, more):
+    ample, _ = lines_with(allocating_calls, 0, 0)
+    growing = sum(answer not in BY_NAME for _, answer in ample)
+    assert growing and all(answer not in BY_NAME for _, answer in ample[:growing])
+    for first in range(1, growing + 2):
+        lines, sizes = lines_with(allocating_calls, first, more)
+        hit = range(first - 1, min(first + more, growing))
+        assert sizes == [len(ample[place][1].encode()) for place in hit], f"growth {first}"
+        assert all(lines[place][1] in SHORT for place in hit), f"growth {first}"
+        wanted = [
+            (call, lines[at][1] if at in hit else text) for at, (call, text) in enumerate(ample)
+        ]
+        assert lines == wanted, f"growth {first}"
+
+
+@pytest.mark.built
+def test_readers():
+    """Each reader that callers can name stands in one module of tests, and all of these pass with
+    their first growth refused."""
+    needs_rt()
+    crate = TOP / "crates/cn_vectors"
+    files = [crate / f"src/{MODULE}.rt", *crate.glob(f"src/{MODULE}/*.rt")]
+    source = "".join(file.read_text(encoding="utf-8") for file in files)
+    public = (TOP / "crates/chinese_number/src/lib.rt").read_text(encoding="utf-8")
+    readers = set(re.findall(r"\bfrom_chinese_\w+", public))
+    assert readers and readers <= set(re.findall(r"\bfrom_chinese_\w+", source))
+    words = ["rt", "try", "--test", "--fail-alloc", "1"]
+    tried = subprocess.run(words, cwd=crate, capture_output=True, text=True).stdout
+    tests = re.findall(rf"^test {MODULE}::(\S+) \.\.\. (\S+)$", tried, re.M)
+    assert {outcome for _, outcome in tests} == {"ok"} and len(tests) == source.count(
+        "#[test]"
+    ), tried

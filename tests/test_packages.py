@@ -1,0 +1,334 @@
+"""The packages of `bindings/packages.sh`, installed as their users do, with no `rt` on the path.
+
+In an empty folder the install line of each package's README is followed, and then its example,
+which answers as its comments say. The types are checked, what can be uninstalled is, and aarch64
+runs under qemu. Of the C source a wheel is made, a library, and the crate without its archives.
+"""
+import base64
+import csv
+import hashlib
+import json
+import re
+import shutil
+import subprocess
+import sys
+import tarfile
+import textwrap
+from pathlib import Path
+
+import pytest
+
+from installing import MANIFEST, NATIVE, USERS, Readme, commands, listed, npm, of_rust, package
+from installing import packages_in, pythons, unpacked, user, virtual_environment
+from running import ENVIRONMENT, fail, needs, run, write
+
+NAME = "chinese-number-proved"
+
+
+def sha256(data):
+    return hashlib.sha256(data).hexdigest()
+
+
+def test_sums(packages):
+    """The sums beside the packages, and in each package those of what was built for its
+    processor."""
+    for line in (packages / "SHA256SUMS").read_text(encoding="utf-8").splitlines():
+        digest, name = line.split("  ")
+        if sha256((packages / name).read_bytes()) != digest:
+            fail(f"{name} has another sum than SHA256SUMS says")
+    provenance = (packages / "PROVENANCE.json").read_bytes()
+    builds = json.loads(provenance)["builds"]
+    for path in packages_in(packages):
+        files = listed(path)
+        names = {name.rpartition("/")[2] for name in files}
+        if provenance not in files.values() or "LICENSE" not in names:
+            fail(f"{path.name} has no PROVENANCE.json or no LICENSE")
+        if "chinese_number.c" in names and "LICENSE-wabt" not in names:
+            fail(f"{path.name} has no LICENSE-wabt, and C source that wasm2c wrote")
+        if any(name.endswith(".cargo_vcs_info.json") for name in files):
+            fail(f"{path.name} names a commit of its own")
+        of_builds(path.name, files, builds)
+
+
+def of_builds(package_name, files, builds):
+    """What was built is of the builds that PROVENANCE.json names."""
+    for name, data in files.items():
+        if name in ("package/compiled.mjs", "package/chinese-number.cjs"):
+            data = base64.b64decode(re.search(rb"^const base64 = '(.*)';$", data, re.M)[1])
+        elif not re.search(r"\.(a|so|wasm)(\.[\d.]+)?$|/chinese_number\.c$", name):
+            continue
+        whole = f"{package_name}/{name}"
+        build = next((it for it in builds if it in whole), "dist")
+        if sha256(data) not in builds[build]["sha256"].values():
+            fail(f"{whole} is none of the files that PROVENANCE.json names for {build}")
+
+
+@pytest.mark.parametrize("program", pythons().values(), ids=lambda it: it.split("/")[-3])
+def test_wheel(packages, tmp_path, program):
+    wheel = package(packages, f"*_{NATIVE}.whl", NATIVE)
+    by_pip(packages, tmp_path, Readme(wheel, "METADATA", "python"), program)
+
+
+def test_python_source(packages, tmp_path):
+    needs("cc")
+    sdist = package(packages, "chinese_number_proved-*.tar.gz", "the C source")
+    by_pip(packages, tmp_path, Readme(sdist, "PKG-INFO", "python"), which=1)
+
+
+def by_pip(packages, scratch, readme, program=sys.executable, which=0):
+    """Installs by one of the README's install lines, tries what is there, and uninstalls it."""
+    own = virtual_environment(program, scratch / "venv")
+    where = "import sysconfig; print(sysconfig.get_path('purelib'))"
+    site = Path(run("python", "-Ic", where, cwd=scratch, **own).strip())
+    before = set(site.iterdir())
+    readme.follow(packages, scratch / "python", which, **own)
+    compare_record(site)
+    example, program = write(scratch / "user/example.txt", readme.example), USERS / "user.py"
+    run("python", USERS / "doctests.py", example, cwd=scratch, wanted="0 True 0 True\n", **own)
+    run("python", program, cwd=scratch, wanted=user("user.py.txt"), **own)
+    run("pip", "uninstall", "--yes", NAME, cwd=scratch, **own)
+    if set(site.iterdir()) != before:
+        fail(f"pip uninstall left {set(site.iterdir()) - before}")
+
+
+def compare_record(site):
+    """Each installed file has the sum and the size that the wheel's RECORD names."""
+    record = next(site.glob("chinese_number_proved-*.dist-info")) / "RECORD"
+    for name, digest, size in csv.reader(record.read_text(encoding="utf-8").splitlines()):
+        data = (site / name).read_bytes()
+        found = base64.urlsafe_b64encode(hashlib.sha256(data).digest()).rstrip(b"=").decode()
+        if digest and (digest, size) != (f"sha256={found}", str(len(data))):
+            fail(f"RECORD: {name}")
+
+
+def test_types_of_wheel(packages, tmp_path):
+    needs("mypy")
+    own = virtual_environment(sys.executable, tmp_path / "venv")
+    wheel = package(packages, f"*_{NATIVE}.whl", NATIVE)
+    Readme(wheel, "METADATA", "python").follow(packages, tmp_path / "python", **own)
+    strict = ("mypy", "--strict", "--python-executable", tmp_path / "venv/bin/python")
+    for words in ([USERS / "user.py"], ["-p", "chinese_number"]):
+        run(*strict, *words, cwd=tmp_path)
+
+
+VENDORED = """\
+[source.crates-io]
+replace-with = "vendored"
+
+[source.vendored]
+directory = "vendor"
+"""
+
+
+@pytest.fixture
+def crate(packages):
+    needs("cargo 1.82")
+    return package(packages, "*.crate", "Rust")
+
+
+@pytest.fixture
+def of_cargo(tmp_path):
+    own = {"CARGO_TARGET_DIR": str(tmp_path / "target"), "CARGO_NET_OFFLINE": "true"}
+    return dict(own, RUSTFLAGS="-D warnings", RUSTDOCFLAGS="-D warnings")
+
+
+def test_crate(packages, crate, of_cargo, tmp_path):
+    readme = Readme(crate, "/README.md", "rust")
+    project = of_rust(tmp_path / "project", readme)
+    readme.follow(packages, project, **of_cargo)
+    run("cargo", "run", "--quiet", cwd=project, wanted="", **of_cargo)
+    inside = project / crate.stem
+    run("cargo", "test", "--doc", cwd=inside, **of_cargo)
+    run("cargo", "doc", "--no-deps", cwd=inside, **of_cargo)
+    # What cargo would pack: it has the archives, or it would not link.
+    run("cargo", "package", "--allow-dirty", cwd=inside, **of_cargo)
+
+
+def test_crate_vendored(crate, of_cargo, tmp_path):
+    """As cargo takes it from a registry: by its version and its sum."""
+    project = of_rust(tmp_path / "project", Readme(crate, "/README.md", "rust"))
+    version = re.search(r"-([\d.]+)\.crate$", crate.name)[1]
+    write(project / "Cargo.toml", f'{MANIFEST}{NAME} = "{version}"\n')
+    write(project / ".cargo/config.toml", VENDORED)
+    with tarfile.open(crate) as packed:
+        packed.extractall(project / "vendor")
+    inside = next((project / "vendor").iterdir())
+    told = {"files": {}, "package": sha256(crate.read_bytes())}
+    write(inside / ".cargo-checksum.json", json.dumps(told))
+    run("cargo", "run", "--quiet", cwd=project, wanted="", **of_cargo)
+
+
+def test_crate_without_archives(packages, crate, of_cargo, tmp_path):
+    """cargo compiles the crate's C source where there is no archive, and says so where it
+    cannot."""
+    readme = Readme(crate, "/README.md", "rust")
+    project = of_rust(tmp_path / "project", readme)
+    readme.follow(packages, project, **of_cargo)
+    shutil.rmtree(next(project.glob("*/lib")))
+    said = run("cargo", "run", "--quiet", cwd=project, fails=True, CC="/nowhere", **of_cargo)
+    if "CC_<target> names the tool" not in said:
+        fail("without a compiler, cargo does not say what names one")
+    run("cargo", "run", "--quiet", cwd=project, wanted="", **of_cargo)
+
+
+TSC = ("tsc", "--strict", "--target", "es2022", "--module", "nodenext", "--lib", "es2022,dom")
+BUNDLES = (("browser", "esm"), ("browser", "iife"), ("node", "cjs"), ("neutral", "esm"))
+
+
+@pytest.fixture
+def readme_of_npm(packages):
+    needs("node 20", "npm")
+    return Readme(package(packages, "*.tgz", "JavaScript"), "package/README.md", "js")
+
+
+@pytest.fixture
+def project(packages, readme_of_npm, tmp_path):
+    """A project of JavaScript in which the package is installed."""
+    made = write(tmp_path / "project/package.json", '{ "private": true }\n').parent
+    own = {"HOME": str(tmp_path), "npm_config_cache": str(tmp_path / "npm")}
+    own.update(npm_config_offline="true", npm_config_audit="false", npm_config_fund="false")
+    readme_of_npm.follow(packages, made, which=1, **own)
+    return made
+
+
+def test_npm(readme_of_npm, project):
+    write(project / "example.mjs", readme_of_npm.example)
+    flag = "--experimental-wasm-memory64"
+    known = not subprocess.run(["node", flag, "-e", ""], env=ENVIRONMENT).returncode
+    answers = {"example.mjs": readme_of_npm.answer, "user.mjs": "", "user.cjs": "1n\n"}
+    for name, wanted in answers.items():
+        if name.startswith("user"):
+            shutil.copy(USERS / name, project)
+        for flags in ([], [flag])[: 1 + known]:
+            run("node", *flags, name, cwd=project, wanted=wanted)
+    npm("uninstall", NAME, cwd=project)
+    if (project / "node_modules" / NAME).exists():
+        fail("npm uninstall left the package")
+
+
+def test_types_of_npm(project, tmp_path):
+    """The types serve a user, and are those of the JavaScript, down to the comments."""
+    needs("tsc")
+    here = project / "node_modules" / NAME
+    # Elsewhere, since tsc looks at no JavaScript in node_modules.
+    for name in ("chinese-number.mjs", "compiled.mjs"):
+        write(tmp_path / "sources" / name, (here / "files" / name).read_text(encoding="utf-8"))
+    made = ("--declaration", "--emitDeclarationOnly", "--allowJs", "--checkJs", "--outDir", "types")
+    run(*TSC, *made, "sources/chinese-number.mjs", cwd=tmp_path)
+    for name in ("typed.mts", "same.mts"):
+        run(*TSC, "--noEmit", shutil.copy(USERS / name, project), cwd=project)
+    packed, written = (
+        {" ".join(it.split()) for it in re.findall(r"/\*\*.*?\*/", path.read_text("utf-8"), re.S)}
+        for path in (here / "chinese-number.d.mts", here / "chinese-number.mjs")
+    )
+    assert packed - written == set()
+
+
+@pytest.mark.parametrize("target, form", BUNDLES)
+def test_bundle(readme_of_npm, project, tmp_path, target, form):
+    needs("esbuild")
+    write(project / "bundle.mjs", readme_of_npm.example)
+    bundle = tmp_path / f"bundle.{'mjs' if form == 'esm' else 'cjs'}"
+    words = ("--bundle", "--minify", f"--format={form}", f"--platform={target}")
+    silent = ("--log-level=warning", f"--outfile={bundle}")
+    run("esbuild", *words, *silent, "bundle.mjs", cwd=project, wanted="")
+    run("node", bundle, cwd=tmp_path, wanted=readme_of_npm.answer)
+
+
+STRICT = (
+    "-Wall -Wextra -Werror -pedantic -Wconversion -Wsign-conversion -Wshadow -Wundef -Wcast-qual"
+)
+NATIVE_C = f"chinese-number-*-{NATIVE}.tar.gz"
+COMPILERS = {
+    "cc": "-std=c99",
+    "gcc": "-std=c2x",
+    "clang": "-std=c11",
+    "musl-gcc": "-std=c99",
+    "g++": "-x c++ -std=c++11",
+    "clang++": "-x c++ -std=c++11",
+}
+
+
+class OfC:
+    """A package for C: its page, what it unpacks to, and two programs over it that answer alike."""
+
+    def __init__(self, packages, scratch, pattern, processor):
+        tarball = package(packages, pattern, processor)
+        self.page, self.scratch = Readme(tarball, "README.md", "c"), scratch
+        self.prefix = unpacked(tarball, scratch)
+        write(scratch / "example_of_page.h", textwrap.indent(self.page.example, "    "))
+        example = self.prefix / "share/doc/chinese-number/example.c"
+        self.programs = (USERS / "main.c", example)
+        self.lib = f"{self.prefix}/lib"
+
+    def compile(self, compiler, *words, runner=()):
+        """Each program is compiled with each of the two files, and answers."""
+        own, output = {"LD_LIBRARY_PATH": self.lib}, ("-o", "program")
+        for source in self.programs:
+            first = [compiler, *words, *STRICT.split(), f"-I{self.prefix}/include", "-I."]
+            first += [source, *(["-x", "none"] if "-x" in words else [])]
+            for library in (
+                [f"-L{self.lib}", "-lchinese_number"],
+                [f"{self.lib}/libchinese_number.a"],
+            ):
+                run(*first, *library, *output, cwd=self.scratch)
+                self.answers(*runner, "./program", **own)
+
+    def answers(self, *words, **own):
+        run(*words, cwd=self.scratch, wanted=self.page.answer, **own)
+
+
+@pytest.fixture
+def of_c(packages, tmp_path):
+    return OfC(packages, tmp_path, NATIVE_C, NATIVE)
+
+
+def test_c(packages, of_c, tmp_path):
+    needs("cc")
+    of_c.page.follow(packages, tmp_path / "c")
+    of_c.answers(next(tmp_path.glob("c/*/a.out")))
+
+
+@pytest.mark.parametrize("compiler", COMPILERS)
+def test_c_by_compiler(of_c, compiler):
+    needs(compiler)
+    of_c.compile(compiler, *COMPILERS[compiler].split())
+
+
+def test_c_by_pkg_config(of_c):
+    needs("cc", "pkg-config")
+    own = {"PKG_CONFIG_PATH": f"{of_c.lib}/pkgconfig", "LD_LIBRARY_PATH": of_c.lib}
+    words = "$(pkg-config --cflags --libs 'chinese-number >= 0.1.0')"
+    call = ("bash", "-euc", f'eval cc "$1" -I. -o user {words}', "", of_c.programs[0])
+    run(*call, cwd=of_c.scratch, **own)
+    of_c.answers("./user", **own)
+
+
+def test_c_by_cmake(of_c, tmp_path):
+    needs("cc", "cmake")
+    write(tmp_path / "CMakeLists.txt", user("found.cmake"))
+    source, prefix = f"-DSOURCE={of_c.programs[1]}", f"-DCMAKE_PREFIX_PATH={of_c.prefix}"
+    run("cmake", "-S", ".", "-B", "build", source, prefix, cwd=tmp_path)
+    run("cmake", "--build", "build", cwd=tmp_path)
+    for name in ("user", "static"):
+        of_c.answers(f"build/{name}")
+
+
+def test_c_for_aarch64(packages, tmp_path):
+    needs("aarch64-linux-gnu-gcc", "qemu-aarch64")
+    other = OfC(packages, tmp_path, "chinese-number-*-aarch64.tar.gz", "aarch64")
+    runner = ("qemu-aarch64", "-L", "/usr/aarch64-linux-gnu")
+    other.compile("aarch64-linux-gnu-gcc", "-std=c99", runner=runner)
+
+
+def test_c_source(packages, of_c, tmp_path):
+    """By the commands of the page: the compiler alone, and CMake, which installs it."""
+    needs("cc", "cmake")
+    tarball = package(packages, "chinese-number-*-source.tar.gz", "the C source")
+    folder = unpacked(tarball, tmp_path / "source")
+    by_compiler, by_cmake = commands((folder / "README.md").read_text(encoding="utf-8"))
+    run("bash", "-euc", by_compiler, cwd=folder)
+    run("bash", "-euc", by_cmake, cwd=folder, DESTDIR=str(tmp_path / "installed"))
+    header, library = (next((tmp_path / "installed").rglob(it)) for it in ("*.h", "*.a"))
+    run("cc", of_c.programs[1], "-I", header.parent, library, "-o", "program", cwd=tmp_path)
+    of_c.answers("./program")

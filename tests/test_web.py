@@ -1,0 +1,61 @@
+"""The JavaScript under node, and the page in a Chromium ($CHROMIUM, or one on the path), with each
+module of `bindings/web/files`."""
+import os
+import shutil
+import subprocess
+
+import pytest
+
+from questions import wrong_answers
+from running import ENVIRONMENT, TOP, leave_out, needs, run, write
+
+WEB = TOP / "bindings/web"
+VALID = "process.exit(WebAssembly.validate(require('fs').readFileSync(process.argv[1])) ? 0 : 1)"
+CHROMIUM = "chromium|chromium-browser|google-chrome|google-chrome-stable"
+
+
+@pytest.fixture(scope="module", params=["64", "32"])
+def folder(request, tmp_path_factory):
+    """The face with this module alone: it has both names, whatever the host would take."""
+    made = tmp_path_factory.mktemp(request.param)
+    for path in (*WEB.glob("index.*"), WEB / "answers.mjs", *(TOP / "tests/web").glob("*.mjs")):
+        shutil.copy(path, made)
+    shutil.copy(TOP / "bindings/c/chinese_number.h", made)
+    shutil.copytree(TOP / "tests/rows", made / "rows")
+    shutil.copytree(WEB / "files", made / "files")
+    write(made / "chinese-number.mjs", "export * from './files/chinese-number.mjs';\n")
+    for bits in ("64", "32"):
+        name = f"chinese-number.{request.param}.wasm"
+        shutil.copy(WEB / "files" / name, made / f"files/chinese-number.{bits}.wasm")
+    return made
+
+
+@pytest.fixture(scope="module")
+def node(folder):
+    """How node is called. Version 20 has 64-bit memories behind a flag, which later ones need not
+    know."""
+    needs("node 20")
+    flag = "--experimental-wasm-memory64"
+    asked = ["node", flag, "-e", VALID, folder / "files/chinese-number.64.wasm"]
+    for words in (asked, [it for it in asked if it != flag]):
+        if not subprocess.run(words, env=ENVIRONMENT, capture_output=True).returncode:
+            return words[: words.index("-e")]
+    return leave_out("node has no 64-bit memories")
+
+
+def test_answers(node, folder):
+    assert wrong_answers(lambda asked: run(*node, "answers.mjs", cwd=folder, stdin=asked)) == []
+
+
+def test_face(node, folder, numeral):
+    run(*node, "face_test.mjs", numeral.path, cwd=folder)
+
+
+def test_page(folder, tmp_path, request):
+    """Without flags, so that the module has to be one that this browser takes."""
+    needs("node 20")
+    chromium = os.environ.get("CHROMIUM") or needs(CHROMIUM)
+    pictures = request.config.getoption("--pictures") or tmp_path
+    said = run("node", "page_test.mjs", chromium, pictures.resolve(), cwd=folder)
+    if "has no 64-bit memories" in said:
+        leave_out("the Chromium has no 64-bit memories")

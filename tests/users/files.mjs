@@ -1,0 +1,2 @@
+import * as it from 'chinese-number-proved/files';
+console.log(Object.keys(it).sort().join(), it.toNumber('十萬五'), it.toChinese(120));

@@ -1,0 +1,2 @@
+const { toNumber } = require('chinese-number-proved');
+console.log(toNumber('一'));

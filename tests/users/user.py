@@ -1,0 +1,66 @@
+from datetime import date
+from decimal import Decimal
+from typing import List, Optional
+
+from chinese_number import (
+    AmountError,
+    DateError,
+    Found,
+    Kind,
+    NumeralError,
+    Script,
+    Status,
+    Unit,
+    Way,
+)
+from chinese_number import __version__, amount_to_chinese, chinese_to_amount, find_numbers
+from chinese_number import chinese_to_date, date_to_chinese, to_chinese, to_number, yuan_to_fen
+
+
+def chapter(text: str) -> Optional[int]:
+    try:
+        return to_number(text, kind=Kind.U16)
+    except NumeralError as error:
+        place: Optional[int] = error.char_index
+        status: Status = error.status
+        kind: Kind = error.kind
+        print(status.name, kind.name, place)
+        return None
+
+
+def fen(text: str) -> Optional[int]:
+    try:
+        return chinese_to_amount(text)
+    except AmountError as error:
+        place: Optional[int] = error.char_index
+        status: Status = error.status
+        print(status.name, place)
+        return None
+
+
+def day(text: str) -> Optional[date]:
+    try:
+        return chinese_to_date(text)
+    except DateError as error:
+        place: Optional[int] = error.char_index
+        print(error, place)
+        return None
+
+
+def cheque(yuan: Decimal, day: date) -> List[str]:
+    script = Script.SIMPLE
+    return [
+        amount_to_chinese(yuan_to_fen(yuan), script=script),
+        date_to_chinese(day, script=script),
+    ]
+
+
+def years(text: str) -> List[str]:
+    found: List[Found] = [it for it in find_numbers(text, greatest=Unit.YI) if it.is_plain]
+    return [to_chinese(it.number(kind=Kind.U32), way=Way.DIGITS) for it in found]
+
+
+if __name__ == "__main__":
+    print(chapter("二十三"), chapter("二十十"), years("二〇二五年十一月"), len(__version__.split(".")))
+    print(fen("壹佰元整"), fen("壹佰贰元整"), fen("壹佰元"), day("伍年叁月零壹日"), day("伍年拾月"))
+    print(cheque(Decimal("12805.00"), date(2026, 1, 15)))
