@@ -9,7 +9,8 @@ use Rattle.cn_capitals.proofs.Runs.{some-is, run-ran, run-behind, kept}
 use Rattle.cheque.specs.declared.dates.Number.{Number}
 use Rattle.cheque.specs.declared.dates.State.{State}
 use Rattle.cheque.specs.declared.dates.State.TheVariants.{Year, Month, Day}
-use Rattle.cheque.specs.Digits.{value_after, value_of, AreDigits}
+use Rattle.cn_faces.specs.Decimal.{value_after, value_of}
+use Rattle.cheque.specs.Digits.{AreDigits}
 use Rattle.cheque.specs.DateFigures.{WriteNumber, IsDateFigures}
 use Rattle.cheque.specs.Working.DateSteps.{AreBelow, no_number, with_digit, after_digit, after_hyphen, step, end, date_machine}
 use Rattle.cheque.proofs.DigitValues.{first-digit, rest-digits, one-digit, digits-more, value-more, digit-low, at-digit, by-either}
@@ -224,6 +225,8 @@ run-number W most steps count value (c ∷ digits) h is =
     ∙ ap (λ (b : Bool). option_map W (if b then Some next else None)) less)
     ∙ run-number W most steps (count + 1) (10 * value + (c - 48)) digits (rest-digits c digits h)
     (omega (arith, is))
+    ∙ (let same : 10 * value + (c - 48) ≡ value * 10 + (c - 48) = omega arith in
+    ap (λ v. Some (W (record { digits = most; value = value_after v digits }))) same)
 
 each-read : (text : List ℕ) (date : BillDate) → IsDateFigures text date
     → (state : State) × Leads date_machine text state × (end state ≡ Some date)

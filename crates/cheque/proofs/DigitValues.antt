@@ -4,7 +4,8 @@ use Rattle.std.specs.Char.{is_ascii_digit}
 use Rattle.std.specs.List.{list_all}
 use Rattle.std.proofs.lemmas.Bool.Decides.{nat_tests}
 use Rattle.std.proofs.lemmas.List.Folds.{list_all-append}
-use Rattle.cheque.specs.Digits.{value_after, AreDigits, digit_of, by_character}
+use Rattle.cn_faces.specs.Decimal.{value_after}
+use Rattle.cheque.specs.Digits.{AreDigits, digit_of, by_character}
 
 pub and-front : (a b : Bool) → (a && b) ≡ true → a ≡ true
 and-front true b h = refl
@@ -35,8 +36,8 @@ digits-more digits more h k = list_all-append is_ascii_digit digits more
 
 pub value-more : (number : ℕ) (digits : List ℕ) (digit : ℕ)
     → value_after number (digits ++ digit ∷ []) ≡ 10 * value_after number digits + (digit - 48)
-value-more number [] digit = refl
-value-more number (first ∷ digits) digit = value-more (10 * number + (first - 48)) digits digit
+value-more number [] digit = omega arith
+value-more number (first ∷ digits) digit = value-more (number * 10 + (first - 48)) digits digit
 
 pub digit-low : (digit : ℕ) → is_ascii_digit digit ≡ true → digit - 48 < 10
 digit-low digit h = grind (arith, nat_tests)

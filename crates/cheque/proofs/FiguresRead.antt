@@ -8,7 +8,8 @@ use Rattle.cn_capitals.specs.Machine.{run, Leads, Reads}
 use Rattle.cn_capitals.proofs.Runs.{some-is, run-ran, run-behind, kept}
 use Rattle.cheque.specs.declared.figures.State.{State}
 use Rattle.cheque.specs.declared.figures.State.TheVariants.{Beginning, Yuan, Point, Jiao, Fen}
-use Rattle.cheque.specs.Digits.{value_after, value_of, AreDigits}
+use Rattle.cn_faces.specs.Decimal.{value_after, value_of}
+use Rattle.cheque.specs.Digits.{AreDigits}
 use Rattle.cheque.specs.Figures.{pointed, fen_of, below, WriteAmount}
 use Rattle.cheque.specs.Working.FiguresSteps.{with_more, after_digit, after_point, step, end, figures_machine}
 use Rattle.cheque.proofs.DigitValues.{first-digit, rest-digits, one-digit, digits-more, value-more, at-digit, by-either}
@@ -161,20 +162,20 @@ run-yuan : (v : ℕ) (digits : List ℕ) → AreDigits digits
 run-yuan v [] h = refl
 run-yuan v (c ∷ digits) h =
     let d = first-digit c digits h in
-    let more : 100 * v * 10 + 100 * (c - 48) ≡ 100 * (10 * v + (c - 48)) = omega arith in
-    run-ran step (Yuan (below (100 * v))) c digits (Some (Yuan (below (100 * (10 * v + (c - 48))))))
+    let more : 100 * v * 10 + 100 * (c - 48) ≡ 100 * (v * 10 + (c - 48)) = omega arith in
+    run-ran step (Yuan (below (100 * v))) c digits (Some (Yuan (below (100 * (v * 10 + (c - 48))))))
     (step-digit (Yuan (below (100 * v))) c d ∙ ap (λ a. Some (Yuan a))
     (below-more (100 * v) 10 (100 * (c - 48)) (omega arith) ∙ ap below more))
-    ∙ run-yuan (10 * v + (c - 48)) digits (rest-digits c digits h)
+    ∙ run-yuan (v * 10 + (c - 48)) digits (rest-digits c digits h)
 
 run-beginning : (yuan : List ℕ) → 0 < length yuan → AreDigits yuan
     → run step Beginning yuan ≡ Some (Yuan (below (100 * value_of yuan)))
 run-beginning [] some h = absurd (omega (arith, some))
 run-beginning (c ∷ digits) some h =
-    let more : 0 * 10 + 100 * (c - 48) ≡ 100 * (10 * 0 + (c - 48)) = omega arith in
-    run-ran step Beginning c digits (Some (Yuan (below (100 * (10 * 0 + (c - 48))))))
+    let more : 0 * 10 + 100 * (c - 48) ≡ 100 * (0 * 10 + (c - 48)) = omega arith in
+    run-ran step Beginning c digits (Some (Yuan (below (100 * (0 * 10 + (c - 48))))))
     (step-digit Beginning c (first-digit c digits h) ∙ ap (λ fen. Some (Yuan (below fen))) more)
-    ∙ run-yuan (10 * 0 + (c - 48)) digits (rest-digits c digits h)
+    ∙ run-yuan (0 * 10 + (c - 48)) digits (rest-digits c digits h)
 
 -- what stands behind the yuan
 run-behind-yuan : (yuan : ℕ) (places : List ℕ) → length places ≤ 2 → AreDigits places

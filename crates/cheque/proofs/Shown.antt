@@ -7,7 +7,8 @@ use Rattle.std.proofs.lemmas.Str.{chars-IsAscii, IsAscii-append}
 use Rattle.std.proofs.lemmas.Str.Parse.{IsNumeralModel, IsDigitsTest, FoldsDigits, numerals_by_fold}
 use Rattle.chinese_number.specs.AmountPlaces.{amount_limit}
 use Rattle.chinese_number.specs.declared.BillDate.{BillDate}
-use Rattle.cheque.specs.Digits.{value_after, value_of, AreDigits}
+use Rattle.cn_faces.specs.Decimal.{value_after, value_of}
+use Rattle.cheque.specs.Digits.{AreDigits}
 use Rattle.cheque.specs.DateFigures as Date
 use Rattle.cheque.specs.Figures.{IsFigures, ReadsFigures, figures_of}
 use Rattle.cheque.proofs.DigitValues.{first-digit, rest-digits, one-digit, digits-more, digit-is}
@@ -23,9 +24,7 @@ tells = record {
 folds : FoldsDigits value_after
 folds = record {
   empty = λ n. refl;
-  more = λ n c cs k.
-      let next : 10 * n + (c - 48) ≡ n * 10 + (c - 48) = omega arith in
-      ap (λ m. value_after m cs) next;
+  more = λ n c cs k. refl;
 }
 
 model : IsNumeralModel AreDigits value_of

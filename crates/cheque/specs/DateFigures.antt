@@ -5,7 +5,8 @@ use Rattle.chinese_number.specs.declared.BillDate.{BillDate}
 use Rattle.chinese_number.specs.declared.ChineseToDateError.{ChineseToDateError}
 use Rattle.chinese_number.specs.DateAnswer.{answer_of}
 use Rattle.cn_capitals.specs.Answers as answers
-use Rattle.cheque.specs.Digits.{value_of, AreDigits}
+use Rattle.cn_faces.specs.Decimal.{value_of}
+use Rattle.cheque.specs.Digits.{AreDigits}
 
 -- so many digits write this number
 abbrev pub WriteNumber : ℕ → List ℕ → ℕ → Type 0

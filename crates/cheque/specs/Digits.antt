@@ -1,15 +1,7 @@
--- Decimal digits, as characters, and the number that they write.
-use Rattle.std.specs.Prelude.{ℕ, ◌+◌, ◌-◌, ◌*◌, ◌==◌, List, [], ◌∷◌, IsTrue, Option, Some, None, if◌then◌else◌}
+-- Decimal digits, as characters.
+use Rattle.std.specs.Prelude.{ℕ, ◌-◌, ◌==◌, List, IsTrue, Option, Some, None, if◌then◌else◌}
 use Rattle.std.specs.Char.{is_ascii_digit}
 use Rattle.std.specs.List.{list_all}
-
--- the number that decimal digits write after those of another, and the number that they write
-abbrev pub value_after : ℕ → List ℕ → ℕ
-value_after number [] = number
-value_after number (digit ∷ digits) = value_after (10 * number + (digit - 48)) digits
-
-abbrev pub value_of : List ℕ → ℕ
-value_of digits = value_after 0 digits
 
 -- each is a digit
 abbrev pub AreDigits : List ℕ → Type 0

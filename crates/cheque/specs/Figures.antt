@@ -7,7 +7,8 @@ use Rattle.cn_capitals.specs.declared.refusal.Refusal.TheVariants.{Unfinished as
 use Rattle.cn_capitals.specs.Answers as answers
 use Rattle.cheque.specs.declared.figures.FiguresError.{FiguresError}
 use Rattle.cheque.specs.declared.figures.FiguresError.TheVariants.{Unfinished, Incorrect, TooLarge}
-use Rattle.cheque.specs.Digits.{value_of, AreDigits}
+use Rattle.cn_faces.specs.Decimal.{value_of}
+use Rattle.cheque.specs.Digits.{AreDigits}
 
 -- digits behind a point, with the point; nothing stands for none
 abbrev pub pointed : List ℕ → List ℕ
