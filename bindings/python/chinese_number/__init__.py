@@ -1,43 +1,55 @@
-"""Chinese numerals for whole numbers: texts as numbers, and numbers as texts, by the proved library chinese_number.
+"""Chinese numerals for whole numbers: texts as numbers and numbers as texts, by a proved library.
 
->>> from datetime import date
->>> from chinese_number import Kind, Script, amount_to_chinese, chinese_to_amount, chinese_to_date
+>>> from chinese_number import amount_to_chinese, chinese_to_amount, chinese_to_date
 >>> from chinese_number import date_to_chinese, find_numbers, to_chinese, to_number, yuan_to_fen
->>> to_chinese(105_000)
-'十萬五千'
->>> to_number('十萬五')
-105000
->>> to_number('負一百二十九', kind=Kind.I8)
+>>> [found.value() for found in find_numbers('百分之五十的人')]
+[None, 50]
+>>> to_number('十万五'), to_number('二〇二五')
+(105000, 2025)
+>>> to_chinese(105_000), to_chinese(105_000, script='traditional')
+('十万五千', '十萬五千')
+>>> to_number('负一百二十九', kind='i8')
 Traceback (most recent call last):
 chinese_number.NumeralError: number is too small
->>> amount_to_chinese(yuan_to_fen('1409.50'), script=Script.SIMPLE)
+>>> amount_to_chinese(yuan_to_fen('1409.50'))
 '壹仟肆佰零玖元伍角整'
 >>> chinese_to_amount('壹仟肆佰零玖元伍角')
 140950
->>> date_to_chinese(date(2026, 1, 15), script=Script.SIMPLE)
+>>> from datetime import date
+>>> date_to_chinese(date(2026, 1, 15))
 '贰零贰陆年零壹月壹拾伍日'
 >>> chinese_to_date('贰零贰陆年零壹月壹拾伍日')
 datetime.date(2026, 1, 15)
->>> [found.number() for found in find_numbers('第二十三回，二零二五年')]
-[23, 2025]
 
-The shared library libchinese_number.so, on macOS .dylib and on Windows .dll, stands beside this file, as pip puts it, or in
-the folder that CHINESE_NUMBER_LIB names, as bindings/archive.sh makes it, which comes first. It takes no memory, keeps
-nothing between calls and reads no locale, and a call lets other threads of Python run. Where it is made of C source, a text
-of more than 4,293,918,720 bytes is an OverflowError.
+A kind, way, script, case or unit is a member of its enum, or its name in lower case.
+
+The shared library libchinese_number.so, on macOS .dylib and on Windows .dll, stands beside this
+file, as pip puts it, or in the folder that CHINESE_NUMBER_LIB names, as bindings/archive.sh makes
+it, which comes first. It takes no memory, keeps nothing between calls and reads no locale, and a
+call lets other threads of Python run. Where it is made of C source, a text of more than
+4,293,918,720 bytes is an OverflowError.
 """
 
 from __future__ import annotations
 
-import ctypes
 import operator
-import os
-import sys
 from datetime import date, datetime
 from decimal import Decimal
 from enum import Enum
-from pathlib import Path
-from typing import Any, Dict, Iterator, NamedTuple, Optional, Tuple, Type, Union
+from typing import (
+    Any,
+    Dict,
+    Iterator,
+    NamedTuple,
+    Optional,
+    SupportsIndex,
+    Tuple,
+    Type,
+    TypeVar,
+)
+from typing import Union
+
+from . import _library
 
 __all__ = [
     "AmountError",
@@ -60,6 +72,7 @@ __all__ = [
     "yuan_to_fen",
 ]
 __version__ = "0.1.0"
+_library.load(__version__)
 
 
 class Kind(Enum):
@@ -78,13 +91,14 @@ class Kind(Enum):
 
 
 class Way(Enum):
-    """How a number is written: as plain digits (一二三), or with units (一百二十三) by one of four methods.
+    """How a number is written: as plain digits (一二三), or with units (一百二十三) by four methods.
 
     LOW: each unit is ten times the one before.
     TEN_THOUSAND, the one to use: after 萬 each unit is 10**4 times the one before. At 10**12 it
     writes 兆, as in Taiwan, where MIDDLE and HIGH write 萬億, as on the mainland.
     MIDDLE: after 億 each unit is 10**8 times the one before.
     HIGH: from 億 on each unit is the square of the one before.
+    ANY, for reading alone: as DIGITS where all of the text is digits, else as TEN_THOUSAND.
     """
 
     DIGITS = 0
@@ -92,13 +106,14 @@ class Way(Enum):
     TEN_THOUSAND = 2
     MIDDLE = 3
     HIGH = 4
+    ANY = 5
 
 
 class Script(Enum):
     """萬 or 万."""
 
     TRADITIONAL = 0
-    SIMPLE = 1
+    SIMPLIFIED = 1
 
 
 class Case(Enum):
@@ -130,8 +145,11 @@ class Unit(Enum):
 
 
 class Status(Enum):
-    """What a call answers. A NumeralError has one of those from EMPTY to TOO_SMALL, or NOT_HELD; an AmountError has
-    INCORRECT, UNFINISHED, TOO_LARGE or TOO_SMALL, and a DateError INCORRECT, UNFINISHED or NOT_A_DATE.
+    """What a call answers.
+
+    A NumeralError has one of those from EMPTY to TOO_SMALL, or NOT_HELD; an AmountError has
+    INCORRECT, UNFINISHED, TOO_LARGE or TOO_SMALL, and a DateError INCORRECT or UNFINISHED. The
+    command alone tells NOT_A_DATE, of figures.
     """
 
     DONE = 0
@@ -160,8 +178,9 @@ _TEXTS = {
 class NumeralError(ValueError):
     """Why a text is no number of a type, or a number is not written.
 
-    status says why, and kind as which type; char_index, where a character cannot stand in its place, how many characters
-    of the text stand in front of it, white space among them, and else None.
+    status says why, and kind as which type; char_index, where a character cannot stand in its
+    place, how many characters of the text stand in front of it, white space among them, and else
+    None.
 
     >>> try:
     ...     to_number(' 二 十 十 ')
@@ -170,9 +189,13 @@ class NumeralError(ValueError):
     the chinese number is incorrect (position: 3) Status.INCORRECT 3
     """
 
-    def __init__(self, status: Status, kind: Kind, char_index: Optional[int] = None) -> None:
+    def __init__(
+        self, status: Status, kind: Kind, char_index: Optional[int] = None
+    ) -> None:
         super().__init__(
-            _TEXTS.get(status, status.name).format(kind=kind.name, char_index=char_index)
+            _TEXTS.get(status, status.name).format(
+                kind=kind.name.lower(), char_index=char_index
+            )
         )
         self.status = status
         self.kind = kind
@@ -186,7 +209,9 @@ class _CapitalsError(ValueError):
     _texts: Dict[Status, str]
 
     def __init__(self, status: Status, char_index: Optional[int] = None) -> None:
-        super().__init__(self._texts.get(status, status.name).format(char_index=char_index))
+        super().__init__(
+            self._texts.get(status, status.name).format(char_index=char_index)
+        )
         self.status = status
         self.char_index = char_index
 
@@ -197,8 +222,8 @@ class _CapitalsError(ValueError):
 class AmountError(_CapitalsError):
     """Why a text is no amount of money, or an amount is not written.
 
-    status says why: UNFINISHED where something is missing at the end, INCORRECT where no amount begins so; char_index is
-    then the place of the first character that is wrong, and else None.
+    status says why: UNFINISHED where something is missing at the end, INCORRECT where no amount
+    begins so; char_index is then the place of the first character that is wrong, and else None.
 
     >>> try:
     ...     chinese_to_amount('壹佰贰元整')
@@ -218,9 +243,8 @@ class AmountError(_CapitalsError):
 class DateError(_CapitalsError):
     """Why a text is no date.
 
-    status says why: UNFINISHED where something is missing at the end, INCORRECT where no date begins so; char_index is
-    then the place of the first character that is wrong, and else None. A subclass of datetime.date that says of itself
-    what is no date, as the year 0, is NOT_A_DATE.
+    status says why: UNFINISHED where something is missing at the end, INCORRECT where no date
+    begins so; char_index is then the place of the first character that is wrong, and else None.
 
     >>> try:
     ...     chinese_to_date('贰零贰伍年零贰月贰拾玖日')
@@ -236,90 +260,20 @@ class DateError(_CapitalsError):
     }
 
 
-class _Reading(ctypes.Structure):
-    _fields_ = [
-        ("low", ctypes.c_uint64),
-        ("high", ctypes.c_uint64),
-        ("char_index", ctypes.c_size_t),
-    ]
-
-
-class _Amount(ctypes.Structure):
-    _fields_ = [("fen", ctypes.c_uint64), ("char_index", ctypes.c_size_t)]
-
-
-class _Date(ctypes.Structure):
-    _fields_ = [
-        ("year", ctypes.c_uint32),
-        ("month", ctypes.c_uint32),
-        ("day", ctypes.c_uint32),
-        ("char_index", ctypes.c_size_t),
-    ]
-
-
-class _Span(ctypes.Structure):
-    _fields_ = [("start", ctypes.c_size_t), ("end", ctypes.c_size_t), ("digits", ctypes.c_uint32)]
-
-
-def _opened() -> ctypes.CDLL:
-    name = "libchinese_number." + {"darwin": "dylib", "win32": "dll"}.get(sys.platform, "so")
-    named = os.environ.get("CHINESE_NUMBER_LIB")
-    path = Path(named or Path(__file__).parent).resolve() / name
-    try:
-        return ctypes.CDLL(str(path))
-    except OSError as error:
-        raise ImportError(
-            f"{error}\nRun `pip install ./bindings/python` at the top of a clone, or set CHINESE_NUMBER_LIB to a folder "
-            f"with {name}, as bindings/archive.sh OUT makes it on Linux."
-        ) from None
-
-
-def _library() -> ctypes.CDLL:
-    library = _opened()
-    code, word, size, at = ctypes.c_uint32, ctypes.c_uint64, ctypes.c_size_t, ctypes.POINTER
-    text, room = (ctypes.c_char_p, size), (ctypes.c_char_p, size, at(size))
-
-    def declare(call: Any, *arguments: Any) -> None:
-        call.restype, call.argtypes = code, arguments
-
-    declare(library.chinese_number_read, *text, code, code, at(_Reading))
-    declare(library.chinese_number_print, word, word, code, code, code, code, *room)
-    declare(library.chinese_number_find_utf8, ctypes.c_void_p, size, code, code, at(_Span))
-    declare(library.chinese_amount_read, *text, at(_Amount))
-    declare(library.chinese_amount_print, word, code, *room)
-    declare(library.chinese_date_read, *text, at(_Date))
-    declare(library.chinese_date_print, code, code, code, code, *room)
-    return library
-
-
-_calls = _library()
 _MOST_SHOWN = 100
-_MOST_BYTES = 234
-_Room = ctypes.c_char * _MOST_BYTES
-_MOST_AMOUNT_BYTES = 108
-_AmountRoom = ctypes.c_char * _MOST_AMOUNT_BYTES
-_MOST_DATE_BYTES = 39
-_DateRoom = ctypes.c_char * _MOST_DATE_BYTES
 _FIRST_NOT_WRITTEN = 10**18
-_TOO_LONG = 2**32 - 1
-_HALF = (1 << 64) - 1
 _FIRST_SIGNED = Kind.I8.value
-
-
-def _printed(call: Any, room: Any, *arguments: Any) -> Tuple[int, str]:
-    length = ctypes.c_size_t()
-    status = call(*arguments, room, len(room), ctypes.byref(length))
-    return status, room.raw[: length.value].decode()
-
-
-def _refused(status: int) -> Status:
-    if status == _TOO_LONG:
-        raise OverflowError("the text is too long: it has more than 4,293,918,720 bytes")
-    return Status(status)
+# What each choice of a word adds to the form in which an amount is written.
+_CURRENCY = 1
+_YUAN = {"元": 0, "圆": 2, "圓": 2}
+_CLOSING = {"整": 0, "正": 4}
 
 
 def _shown(value: object) -> str:
-    """The beginning of a value's repr, for a message. Where it has none, as an int of 5,000 digits, its type is told."""
+    """The beginning of a value's repr, for a message.
+
+    Where it has none, as an int of 5,000 digits, its type is told.
+    """
     try:
         text = repr(value[:_MOST_SHOWN] if isinstance(value, str) else value)
     except Exception:
@@ -327,26 +281,73 @@ def _shown(value: object) -> str:
     return text if len(text) <= _MOST_SHOWN else f"{text[:_MOST_SHOWN]}..."
 
 
-def _code(value: Enum, of: Type[Enum]) -> int:
-    if not isinstance(value, of):
-        raise TypeError(f"a {of.__name__} is wanted, and not {_shown(value)}")
-    code: int = value._value_
-    return code
+_Choice = TypeVar("_Choice", bound=Enum)
+
+
+def _member(of: Type[_Choice], value: Union[_Choice, str]) -> _Choice:
+    """The member itself, or the one of this name in lower case."""
+    if isinstance(value, of):
+        return value
+    return _of_word({it.name.lower(): it for it in of}, value, of.__name__.lower())
+
+
+_Meant = TypeVar("_Meant")
+
+
+def _of_word(meanings: Dict[str, _Meant], word: Any, what: str) -> _Meant:
+    """What a word means."""
+    if not isinstance(word, str):
+        raise TypeError(f"a {what} is wanted, and not {_shown(word)}")
+    if word not in meanings:
+        raise ValueError(
+            f"a {what} is one of {', '.join(meanings)}, and not {_shown(word)}"
+        )
+    return meanings[word]
+
+
+def _flag(value: bool) -> bool:
+    if not isinstance(value, bool):
+        raise TypeError(f"a bool is wanted, and not {_shown(value)}")
+    return value
+
+
+def _whole(value: SupportsIndex, what: str) -> int:
+    """A whole number of any type that is one, but no bool."""
+    if isinstance(value, bool) or not hasattr(type(value), "__index__"):
+        raise TypeError(f"{what} is wanted, and not {_shown(value)}")
+    return operator.index(value)
 
 
 def _bytes(text: str) -> bytes:
     if not isinstance(text, str):
         raise TypeError(f"a str is wanted, and not {_shown(text)}")
-    # Half of a surrogate pair has no bytes in UTF-8, and goes as a question mark, which is no numeral either.
+    # Half of a surrogate pair has no bytes in UTF-8, and goes as a question mark, which is no
+    # numeral either.
     return str.encode(text, "utf-8", "replace")
 
 
-def to_number(text: str, *, kind: Kind = Kind.I128, way: Way = Way.TEN_THOUSAND) -> int:
+def _place(status: Status, char_index: int) -> Optional[int]:
+    return char_index if status is Status.INCORRECT else None
+
+
+def _read(text: str, kind: Kind, way: Way) -> Tuple[Status, int, Optional[int]]:
+    """The status, the number, and the place of the character at fault."""
+    code: int = kind.value
+    answer, number, char_index = _library.read_number(_bytes(text), code, way.value)
+    status = Status(answer)
+    if code >= _FIRST_SIGNED and number >> 127:
+        number -= 1 << 128
+    return status, number, _place(status, char_index)
+
+
+def to_number(
+    text: str, *, kind: Union[Kind, str] = Kind.I128, way: Union[Way, str] = Way.ANY
+) -> int:
     """The number of a text; a NumeralError says why it is none of the type.
 
-    >>> to_number('一百二')
-    120
-    >>> to_number('零〇1兩', kind=Kind.U8, way=Way.DIGITS)
+    >>> to_number('一百二'), to_number('一二〇')
+    (120, 120)
+    >>> to_number('零〇1兩', kind='u8', way='digits')
     12
     >>> to_number('')
     Traceback (most recent call last):
@@ -354,67 +355,78 @@ def to_number(text: str, *, kind: Kind = Kind.I128, way: Way = Way.TEN_THOUSAND)
 
     Half of a surrogate pair is one character, and at fault.
     """
-    data, reading, code = _bytes(text), _Reading(), _code(kind, Kind)
-    status = _calls.chinese_number_read(
-        data, len(data), code, _code(way, Way), ctypes.byref(reading)
-    )
-    if status:
-        raise NumeralError(
-            _refused(status), kind, reading.char_index if status == Status.INCORRECT.value else None
-        )
-    number: int = reading.high << 64 | reading.low
-    return number - (1 << 128) if code >= _FIRST_SIGNED and number >> 127 else number
+    kind = _member(Kind, kind)
+    status, number, place = _read(text, kind, _member(Way, way))
+    if status is not Status.DONE:
+        raise NumeralError(status, kind, place)
+    return number
 
 
 def to_chinese(
-    number: int,
+    number: SupportsIndex,
     *,
-    kind: Kind = Kind.I128,
-    way: Way = Way.TEN_THOUSAND,
-    script: Script = Script.TRADITIONAL,
-    case: Case = Case.LOWER,
+    kind: Union[Kind, str] = Kind.I128,
+    way: Union[Way, str] = Way.TEN_THOUSAND,
+    script: Union[Script, str] = Script.SIMPLIFIED,
+    case: Union[Case, str] = Case.LOWER,
 ) -> str:
-    """The text of a number; a NumeralError says why there is none: the type does not hold it, or it has 17 digits or more
-    and the way is LOW.
+    """The text of a number; a NumeralError says why there is none.
 
-    >>> to_chinese(123, script=Script.SIMPLE, case=Case.UPPER)
-    '壹佰贰拾叁'
+    Either the type does not hold it, or it has 17 digits or more and the way is LOW. The way ANY
+    is a ValueError.
+
+    >>> to_chinese(123, script='traditional', case='upper')
+    '壹佰貳拾參'
     >>> to_chinese(-123, way=Way.DIGITS)
-    '負一二三'
+    '负一二三'
     >>> to_chinese(256, kind=Kind.U8)
     Traceback (most recent call last):
-    chinese_number.NumeralError: U8 does not hold the number
+    chinese_number.NumeralError: u8 does not hold the number
     """
-    number = operator.index(number)
-    codes = _code(kind, Kind), _code(way, Way), _code(script, Script), _code(case, Case)
-    least = -(1 << 127) if codes[0] >= _FIRST_SIGNED else 0
-    if not least <= number < least + (1 << 128):
+    whole = _whole(number, "a whole number")
+    kind, way = _member(Kind, kind), _member(Way, way)
+    if way is Way.ANY:
+        raise ValueError("the way any is for reading alone")
+    least = -(1 << 127) if kind.value >= _FIRST_SIGNED else 0
+    if not least <= whole < least + (1 << 128):
         raise NumeralError(Status.NOT_HELD, kind)
-    halves = number & _HALF, number >> 64 & _HALF
-    status, text = _printed(_calls.chinese_number_print, _Room(), *halves, *codes)
+    look = _member(Script, script).value, _member(Case, case).value
+    status, text = _library.print_number(whole, kind.value, way.value, *look)
     if status:
         raise NumeralError(Status(status), kind)
     return text
 
 
-def amount_to_chinese(fen: int, *, script: Script = Script.TRADITIONAL) -> str:
-    """The text of an amount of money, in capitals as on a cheque. The amount is an int, in fen; an AmountError says
-    why there is no text: it is below zero, or 10**18 or more.
+def amount_to_chinese(
+    fen: SupportsIndex,
+    *,
+    script: Union[Script, str] = Script.SIMPLIFIED,
+    currency: bool = False,
+    yuan: str = "元",
+    closing: str = "整",
+) -> str:
+    """The text of an amount of money, in capitals as on a cheque.
+
+    The amount is a whole number of fen; an AmountError says why there is no text: it is below zero,
+    or 10**18 or more. currency puts 人民币 in front; yuan is 元 or 圆, and closing is 整 or 正.
 
     >>> amount_to_chinese(1500)
     '壹拾伍元整'
-    >>> amount_to_chinese(10700053, script=Script.SIMPLE)
-    '壹拾万零柒仟元伍角叁分'
+    >>> amount_to_chinese(1500, currency=True, yuan='圆', closing='正')
+    '人民币壹拾伍圆正'
+    >>> amount_to_chinese(10700053, script='traditional')
+    '壹拾萬零柒仟元伍角參分'
     >>> amount_to_chinese(15.0)
     Traceback (most recent call last):
-    TypeError: an int is wanted, in fen, and not 15.0
+    TypeError: a whole number, in fen, is wanted, and not 15.0
     """
-    if not isinstance(fen, int) or isinstance(fen, bool):
-        raise TypeError(f"an int is wanted, in fen, and not {_shown(fen)}")
-    code = _code(script, Script)
-    if not 0 <= fen < _FIRST_NOT_WRITTEN:
-        raise AmountError(Status.TOO_SMALL if fen < 0 else Status.TOO_LARGE)
-    status, text = _printed(_calls.chinese_amount_print, _AmountRoom(), fen, code)
+    whole = _whole(fen, "a whole number, in fen,")
+    code: int = _member(Script, script).value
+    form = _CURRENCY if _flag(currency) else 0
+    form |= _of_word(_YUAN, yuan, "yuan") | _of_word(_CLOSING, closing, "closing")
+    if not 0 <= whole < _FIRST_NOT_WRITTEN:
+        raise AmountError(Status.TOO_SMALL if whole < 0 else Status.TOO_LARGE)
+    status, text = _library.print_amount(whole, code, form)
     if status:
         raise AmountError(Status(status))
     return text
@@ -431,19 +443,19 @@ def chinese_to_amount(text: str) -> int:
 
     White space and half of a surrogate pair are refused at their place.
     """
-    data, reading = _bytes(text), _Amount()
-    status = _calls.chinese_amount_read(data, len(data), ctypes.byref(reading))
-    if status:
-        raise AmountError(
-            _refused(status), reading.char_index if status == Status.INCORRECT.value else None
-        )
-    fen: int = reading.fen
+    answer, fen, char_index = _library.read_amount(_bytes(text))
+    status = Status(answer)
+    if status is not Status.DONE:
+        raise AmountError(status, _place(status, char_index))
     return fen
 
 
 def yuan_to_fen(value: Union[Decimal, str]) -> int:
-    """The fen of an amount in yuan, exactly. It is given in figures: ASCII digits, with at most one point, and one or two
-    digits behind it. A Decimal has to be one whose str is of that form. All else is a ValueError, so nothing is rounded.
+    """The fen of an amount in yuan, exactly.
+
+    It is given in figures: ASCII digits, with at most one point, and one or two digits behind it.
+    A Decimal has to be one whose str is of that form. All else is a ValueError, so nothing is
+    rounded.
 
     >>> yuan_to_fen('1409.5')
     140950
@@ -458,7 +470,9 @@ def yuan_to_fen(value: Union[Decimal, str]) -> int:
     elif isinstance(value, Decimal):
         text = Decimal.__str__(value)
     else:
-        raise TypeError(f"a Decimal or a str is wanted, in yuan, and not {_shown(value)}")
+        raise TypeError(
+            f"a Decimal or a str is wanted, in yuan, and not {_shown(value)}"
+        )
     whole, point, places = text.partition(".")
     figures = whole + places
     if not (
@@ -468,18 +482,22 @@ def yuan_to_fen(value: Union[Decimal, str]) -> int:
         and len(places) <= 2
         and bool(places) == bool(point)
     ):
-        raise ValueError(f"figures with at most two places are wanted, and not {_shown(value)}")
+        raise ValueError(
+            f"figures with at most two places are wanted, and not {_shown(value)}"
+        )
     figures = whole.lstrip("0") + places.ljust(2, "0")
     if len(figures) > 18:
         raise AmountError(Status.TOO_LARGE)
     return int(figures)
 
 
-def date_to_chinese(day: date, *, script: Script = Script.TRADITIONAL) -> str:
+def date_to_chinese(
+    day: date, *, script: Union[Script, str] = Script.SIMPLIFIED
+) -> str:
     """The text of a date, in capitals as on a cheque. Each datetime.date has one.
 
     >>> date_to_chinese(date(2026, 10, 20))
-    '貳零貳陸年零壹拾月零貳拾日'
+    '贰零贰陆年零壹拾月零贰拾日'
     >>> date_to_chinese(datetime(2026, 10, 20, 23, 30))
     Traceback (most recent call last):
     TypeError: a date is wanted, and not datetime.datetime(2026, 10, 20, 23, 30)
@@ -488,10 +506,10 @@ def date_to_chinese(day: date, *, script: Script = Script.TRADITIONAL) -> str:
     """
     if not isinstance(day, date) or isinstance(day, datetime):
         raise TypeError(f"a date is wanted, and not {_shown(day)}")
-    code = _code(script, Script)
-    status, text = _printed(
-        _calls.chinese_date_print, _DateRoom(), day.year, day.month, day.day, code
-    )
+    code: int = _member(Script, script).value
+    # The day that it is, whatever a subclass says of itself.
+    plain = date.fromordinal(date.toordinal(day))
+    status, text = _library.print_date(plain.year, plain.month, plain.day, code)
     if status:
         raise DateError(Status(status))
     return text
@@ -508,13 +526,11 @@ def chinese_to_date(text: str) -> date:
 
     White space and half of a surrogate pair are refused at their place.
     """
-    data, reading = _bytes(text), _Date()
-    status = _calls.chinese_date_read(data, len(data), ctypes.byref(reading))
-    if status:
-        raise DateError(
-            _refused(status), reading.char_index if status == Status.INCORRECT.value else None
-        )
-    return date(reading.year, reading.month, reading.day)
+    answer, fields, char_index = _library.read_date(_bytes(text))
+    status = Status(answer)
+    if status is not Status.DONE:
+        raise DateError(status, _place(status, char_index))
+    return date(*fields)
 
 
 class Found(NamedTuple):
@@ -528,46 +544,56 @@ class Found(NamedTuple):
     text: str
     is_plain: bool
 
-    def number(self, *, kind: Kind = Kind.I128, way: Way = Way.TEN_THOUSAND) -> int:
-        """Its number as plain digits where it is those, else by units; a NumeralError says why it is none of the type. Its
-        char_index counts within the run.
+    def number(
+        self, *, kind: Union[Kind, str] = Kind.I128, way: Union[Way, str] = Way.ANY
+    ) -> int:
+        """Its number, as plain digits where it is those; a NumeralError says why it is none.
+
+        Its char_index counts within the run.
 
         >>> [(found.text, found.number()) for found in find_numbers('二〇二五年十一月')]
         [('二〇二五', 2025), ('十一', 11)]
         """
         return to_number(self.text, kind=kind, way=Way.DIGITS if self.is_plain else way)
 
+    def value(
+        self, *, kind: Union[Kind, str] = Kind.I128, way: Union[Way, str] = Way.ANY
+    ) -> Optional[int]:
+        """Its number as number() gives it, or None where that is refused.
 
-def find_numbers(text: str, *, upper: bool = False, greatest: Unit = Unit.ZHAO) -> Iterator[Found]:
-    """The numbers of a text, from the first to the last: its longest runs of digits and of units up to the greatest one,
-    with or without the forms that only cheques have. A run ends between an ASCII digit and a digit that is none, and 個 is
-    of a run directly before 萬 or a greater unit alone.
+        >>> [(found.text, found.value()) for found in find_numbers('百分之二十')]
+        [('百', None), ('二十', 20)]
+        """
+        kind, way = _member(Kind, kind), _member(Way, way)
+        status, number, _ = _read(self.text, kind, Way.DIGITS if self.is_plain else way)
+        return number if status is Status.DONE else None
 
-    >>> [(found.start, found.end, found.text) for found in find_numbers('买2两，三個億')]
-    [(1, 2, '2'), (2, 3, '两'), (4, 7, '三個億')]
-    >>> [found.text for found in find_numbers('正在參加', upper=True, greatest=Unit.JI)]
+
+def find_numbers(
+    text: str, *, upper: bool = False, greatest: Union[Unit, str] = Unit.ZHAO
+) -> Iterator[Found]:
+    """The numbers of a text, from the first to the last.
+
+    They are its longest runs of digits and of units up to the greatest one, with or without the
+    forms that only cheques have. A run ends between an ASCII digit and a digit that is none, and 個
+    is of a run directly before 萬 or a greater unit alone.
+
+    >>> [(found.start, found.end, found.text) for found in find_numbers('买2两，三个亿')]
+    [(1, 2, '2'), (2, 3, '两'), (4, 7, '三个亿')]
+    >>> [found.text for found in find_numbers('正在參加', upper=True, greatest='ji')]
     ['正', '參']
 
-    It does not understand sentences: 一起 has a 1 in it, 兩三個 is 23, and 3.5萬 is two numbers. Half of a surrogate pair
-    is one character, and parts a text.
+    It does not understand sentences: 一起 has a 1 in it, 两三个 is 23, and 3.5万 is two numbers.
+    Half of a surrogate pair is one character, and parts a text.
     """
-    if not isinstance(upper, bool):
-        raise TypeError(f"a bool is wanted, and not {_shown(upper)}")
-    return _found(_bytes(text), upper, _code(greatest, Unit))
+    code: int = _member(Unit, greatest).value
+    return _found(_bytes(text), _flag(upper), code)
 
 
 def _found(data: bytes, upper: bool, greatest: int) -> Iterator[Found]:
-    # The bytes are UTF-8 and stay where they are, so each call begins behind the run before it, and none is tested or
-    # copied twice.
-    call, span = _calls.chinese_number_find_utf8, _Span()
-    first = ctypes.cast(ctypes.c_char_p(data), ctypes.c_void_p).value or 0
     searched = index = 0
-    while not (
-        status := call(first + searched, len(data) - searched, upper, greatest, ctypes.byref(span))
-    ):
-        begin, end = searched + span.start, searched + span.end
+    for begin, end, is_plain in _library.find_numbers(data, upper, greatest):
         text = data[begin:end].decode()
         start = index + len(data[searched:begin].decode())
         searched, index = end, start + len(text)
-        yield Found(start, index, text, bool(span.digits))
-    _refused(status)
+        yield Found(start, index, text, is_plain)

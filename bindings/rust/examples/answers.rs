@@ -5,8 +5,9 @@ use std::io;
 use std::str::FromStr;
 
 use chinese_number::{
-    amount_to_chinese, chinese_to_amount, chinese_to_date, date_to_chinese, find_numbers, BillDate,
-    ChineseCase, ChineseCountMethod, ChineseToNumber, ChineseVariant, NumberToChinese, Wanted,
+    amount_to_chinese, amount_to_chinese_as, chinese_to_amount, chinese_to_date, date_to_chinese,
+    find_numbers, AmountForm, BillDate, ChineseCase, ChineseCountMethod, ChineseToNumber,
+    ChineseVariant, NumberToChinese, Wanted,
 };
 
 fn told<T: Display, E: Display>(answer: Result<T, E>) -> String {
@@ -16,14 +17,12 @@ fn told<T: Display, E: Display>(answer: Result<T, E>) -> String {
     }
 }
 
-/// The method of a name, and none for plain digits.
-fn method(way: &str) -> Option<ChineseCountMethod> {
+fn method(way: &str) -> ChineseCountMethod {
     match way {
-        "naive" => None,
-        "low" => Some(ChineseCountMethod::Low),
-        "ten_thousand" => Some(ChineseCountMethod::TenThousand),
-        "middle" => Some(ChineseCountMethod::Middle),
-        "high" => Some(ChineseCountMethod::High),
+        "low" => ChineseCountMethod::Low,
+        "ten_thousand" => ChineseCountMethod::TenThousand,
+        "middle" => ChineseCountMethod::Middle,
+        "high" => ChineseCountMethod::High,
         _ => panic!("no way is named {way}"),
     }
 }
@@ -52,9 +51,10 @@ fn read<T: Display>(way: &str, text: &str) -> String
 where
     for<'a> &'a str: ChineseToNumber<T>,
 {
-    told(match method(way) {
-        Some(method) => text.to_number(method),
-        None => text.to_number_naive(),
+    told(match way {
+        "any" => text.to_number_any(),
+        "naive" => text.to_number_naive(),
+        _ => text.to_number(method(way)),
     })
 }
 
@@ -64,10 +64,33 @@ where
 {
     let (variant, case) = (variant(script), case(letter_case));
     let value: T = number(decimal);
-    told(match method(way) {
-        Some(method) => value.to_chinese(variant, case, method),
-        None => Ok(value.to_chinese_naive(variant, case)),
+    told(match way {
+        "naive" => Ok(value.to_chinese_naive(variant, case)),
+        _ => value.to_chinese(variant, case, method(way)),
     })
+}
+
+/// The form of its words with `+` between them, as `currency+round_yuan`; `plain` is none of them.
+fn form(words: &str) -> AmountForm {
+    let mut form = AmountForm::PLAIN;
+    for word in words.split('+') {
+        match word {
+            "plain" => (),
+            "currency" => form.currency = true,
+            "round_yuan" => form.round_yuan = true,
+            "upright_closing" => form.upright_closing = true,
+            _ => panic!("no form is named {word}"),
+        }
+    }
+    form
+}
+
+fn print_amount_as(script: &str, words: &str, fen: &str) -> String {
+    told(amount_to_chinese_as(
+        variant(script),
+        form(words),
+        number(fen),
+    ))
 }
 
 fn read_date(text: &str) -> String {
@@ -76,11 +99,11 @@ fn read_date(text: &str) -> String {
 }
 
 fn print_date(script: &str, date: &str) -> String {
-    let parts: Vec<u16> = date.split('-').map(number).collect();
+    let parts: Vec<&str> = date.split('-').collect();
     let date = BillDate {
-        year: parts[0],
-        month: parts[1] as u8,
-        day: parts[2] as u8,
+        year: number(parts[0]),
+        month: number(parts[1]),
+        day: number(parts[2]),
     };
     told(date_to_chinese(variant(script), date))
 }
@@ -89,7 +112,7 @@ fn find(text: &str) -> String {
     let (mut done, mut at) = (String::from("ok "), 0);
     for found in find_numbers(text, Wanted::EVERYDAY) {
         let answer = told(found.number::<i128>(ChineseCountMethod::TenThousand));
-        done += &format!("{}[{answer}]", &text[at..found.start()]);
+        done.extend([&text[at..found.start()], "[", &answer, "]"]);
         at = found.end();
     }
     done + &text[at..]
@@ -122,6 +145,7 @@ fn answer(line: &str) -> String {
         }
         ["read_amount", text] => told(chinese_to_amount(text)),
         ["print_amount", script, fen] => told(amount_to_chinese(variant(script), number(fen))),
+        ["print_amount_as", script, form, fen] => print_amount_as(script, form, fen),
         ["read_date", text] => read_date(text),
         ["print_date", script, date] => print_date(script, date),
         ["find", text] => find(text),

@@ -2,17 +2,15 @@
 
 #![cfg_attr(
     not(all(feature = "number-to-chinese", feature = "chinese-to-number")),
-    allow(dead_code)
+    allow(dead_code, reason = "each feature has calls of its own")
 )]
 
 use core::mem::MaybeUninit;
 
-use alloc::string::String;
-
 use crate::{BillDate, ChineseCase, ChineseCountMethod, ChineseVariant, Unit};
 
 /// The statuses.
-#[allow(dead_code)]
+#[allow(dead_code, reason = "some tell what this crate never asks for")]
 pub mod status {
     pub const DONE: u32 = 0;
     pub const EMPTY: u32 = 1;
@@ -45,7 +43,7 @@ pub enum Kind {
     I128 = 9,
 }
 
-/// The ways in which a number is written.
+/// The ways in which a number is written; by `Any` it is read alone.
 #[derive(Copy, Clone)]
 pub enum Way {
     Digits = 0,
@@ -53,6 +51,7 @@ pub enum Way {
     TenThousand = 2,
     Middle = 3,
     High = 4,
+    Any = 5,
 }
 
 impl From<ChineseCountMethod> for Way {
@@ -67,42 +66,43 @@ impl From<ChineseCountMethod> for Way {
     }
 }
 
-// No printed text of a number has more bytes.
-const MOST_BYTES: usize = 234;
-
-// No printed text of an amount has more bytes.
-const MOST_AMOUNT_BYTES: usize = 108;
-
-// No printed text of a date has more bytes.
+/// No printed text has more bytes: a number's has at most so many, and all others have fewer.
+pub const MOST_BYTES: usize = 234;
+const MOST_AMOUNT_BYTES: usize = 117;
 const MOST_DATE_BYTES: usize = 39;
+const _: () = assert!(MOST_AMOUNT_BYTES < MOST_BYTES && MOST_DATE_BYTES < MOST_BYTES);
 
+/// The bytes of a room for one printed text.
+pub type Bytes = [MaybeUninit<u8>; MOST_BYTES];
+
+/// The bits of an integer, extended by its sign to 128.
+#[derive(Default)]
 #[repr(C)]
-struct Number {
+pub struct Number {
     low: u64,
     high: u64,
 }
 
-#[repr(C)]
-struct Reading {
-    number: Number,
-    char_index: usize,
-}
-
-#[repr(C)]
-struct Amount {
-    fen: u64,
-    char_index: usize,
-}
-
+#[derive(Default)]
 #[repr(C)]
 struct Date {
     year: u32,
     month: u32,
     day: u32,
-    char_index: usize,
 }
 
-/// A run in a text: where it begins and ends, in bytes, and 1 where each of its characters is a digit, else 0.
+// What is read of a text, of each kind that is read, and the place of the character at fault.
+#[derive(Default)]
+#[repr(C)]
+struct Reading<T> {
+    value: T,
+    char_index: usize,
+    _byte_index: usize,
+}
+
+/// A run in a text: where it begins and ends, in bytes, and 1 where each of its characters is a
+/// digit, else 0.
+#[derive(Default)]
 #[repr(C)]
 pub struct Span {
     pub start: usize,
@@ -116,7 +116,7 @@ unsafe extern "C" {
         text_length: usize,
         kind: u32,
         way: u32,
-        reading: *mut Reading,
+        reading: *mut Reading<Number>,
     ) -> u32;
 
     fn chinese_number_print(
@@ -131,17 +131,18 @@ unsafe extern "C" {
         length: *mut usize,
     ) -> u32;
 
-    fn chinese_amount_read(text: *const u8, text_length: usize, reading: *mut Amount) -> u32;
+    fn chinese_amount_read(text: *const u8, text_length: usize, reading: *mut Reading<u64>) -> u32;
 
     fn chinese_amount_print(
         fen: u64,
         script: u32,
+        form: u32,
         room: *mut u8,
         room_length: usize,
         length: *mut usize,
     ) -> u32;
 
-    fn chinese_date_read(text: *const u8, text_length: usize, reading: *mut Date) -> u32;
+    fn chinese_date_read(text: *const u8, text_length: usize, reading: *mut Reading<Date>) -> u32;
 
     fn chinese_date_print(
         year: u32,
@@ -162,30 +163,40 @@ unsafe extern "C" {
     ) -> u32;
 }
 
-/// An integer type: its code, and its values in 128 bits, extended by their sign.
+/// An integer type: its code, and its values as the library has them.
 pub trait Whole: Copy {
     const KIND: Kind;
 
-    fn bits(self) -> u128;
+    fn number(self) -> Number;
 
-    fn of_bits(bits: u128) -> Self;
+    fn of_number(number: Number) -> Self;
 }
 
 macro_rules! whole {
     ($($t:ty: $kind:ident;)*) => {
-        $(impl Whole for $t {
-            const KIND: Kind = Kind::$kind;
+        $(
+            #[allow(
+                clippy::cast_lossless,
+                clippy::cast_possible_truncation,
+                clippy::cast_possible_wrap,
+                clippy::cast_sign_loss,
+                reason = "the bits of all twelve types cross in one way, extended by the sign"
+            )]
+            impl Whole for $t {
+                const KIND: Kind = Kind::$kind;
 
-            #[inline]
-            fn bits(self) -> u128 {
-                self as u128
-            }
+                #[inline]
+                fn number(self) -> Number {
+                    let high = (self as i128 >> 64) as u64;
+                    Number { low: self as u64, high }
+                }
 
-            #[inline]
-            fn of_bits(bits: u128) -> Self {
-                bits as Self
+                #[inline]
+                fn of_number(Number { low, high }: Number) -> Self {
+                    ((high as u128) << 64 | low as u128) as Self
+                }
             }
-        })*
+        )*
     };
 }
 
@@ -200,173 +211,148 @@ whole! { usize: U64; isize: I64; }
 #[cfg(target_pointer_width = "32")]
 whole! { usize: U32; isize: I32; }
 
-// A status that a reader tells. The interface has no error for a text that the C source refuses for its length.
+// What a call answers for a text, once it is done; else its status. The interface has no error for
+// a text that the C source refuses for its length.
 #[inline]
-fn told(status: u32) -> u32 {
-    if status == status::TOO_LONG {
-        panic!("the text is too long: it has more than 4,293,918,720 bytes");
+fn answered<A: Default>(call: impl FnOnce(*mut A) -> u32) -> (A, Result<(), u32>) {
+    let mut answer = A::default();
+    let status = call(&raw mut answer);
+    assert!(
+        status != status::TOO_LONG,
+        "the text is too long: it has more than 4,293,918,720 bytes"
+    );
+    (
+        answer,
+        if status == status::DONE {
+            Ok(())
+        } else {
+            Err(status)
+        },
+    )
+}
+
+// What is read, or the status and the place.
+#[inline]
+fn read_by<T: Default>(call: impl FnOnce(*mut Reading<T>) -> u32) -> Result<T, (u32, usize)> {
+    let (reading, status) = answered(call);
+    match status {
+        Ok(()) => Ok(reading.value),
+        Err(status) => Err((status, reading.char_index)),
     }
-    status
 }
 
 /// The number of a text, or the status and the place.
 #[inline]
 pub fn read<T: Whole>(text: &str, way: Way) -> Result<T, (u32, usize)> {
-    let mut reading = Reading {
-        number: Number { low: 0, high: 0 },
-        char_index: 0,
-    };
-    // SAFETY: the declaration is that of the header; the pointer and the length are those of one `str`, which is lent
-    // until the call returns, is UTF-8, and whose pointer is never null; `reading` is a place of its own.
-    let status = unsafe {
-        chinese_number_read_utf8(
-            text.as_ptr(),
-            text.len(),
-            T::KIND as u32,
-            way as u32,
-            &mut reading,
-        )
-    };
-    if status == status::DONE {
-        let Number { low, high } = reading.number;
-        Ok(T::of_bits((high as u128) << 64 | low as u128))
-    } else {
-        Err((told(status), reading.char_index))
-    }
-}
-
-// The text that a call prints into a room of `MOST` bytes, or its status.
-//
-// SAFETY: the call is given a room and a length of its own, and knows that it may write to both until it returns; and at
-// `DONE` it has written so many bytes, at most `MOST`, at the start of the room, and they are UTF-8.
-#[inline]
-unsafe fn printed<const MOST: usize>(
-    call: impl FnOnce(*mut u8, *mut usize) -> u32,
-) -> Result<String, u32> {
-    let mut room = [MaybeUninit::<u8>::uninit(); MOST];
-    let mut length = 0;
-    let status = call(room.as_mut_ptr().cast(), &mut length);
-    if status != status::DONE {
-        return Err(status);
-    }
-    debug_assert!(length <= MOST);
-    let bytes = core::slice::from_raw_parts(room.as_ptr().cast(), length);
-    Ok(String::from(core::str::from_utf8_unchecked(bytes)))
-}
-
-/// The text of a number, or the status.
-#[inline]
-pub fn print<T: Whole>(
-    script: ChineseVariant,
-    case: ChineseCase,
-    way: Way,
-    value: T,
-) -> Result<String, u32> {
-    let bits = value.bits();
-    let (low, high) = (bits as u64, (bits >> 64) as u64);
-    let (kind, way, script, case) = (T::KIND as u32, way as u32, script as u32, case as u32);
-    // SAFETY: the declaration is that of the header. The library writes to the room, of this length, and does not read it;
-    // and no text of a number has more bytes.
-    unsafe {
-        printed::<MOST_BYTES>(|room, length| {
-            chinese_number_print(low, high, kind, way, script, case, room, MOST_BYTES, length)
-        })
-    }
+    let (kind, way) = (T::KIND as u32, way as u32);
+    // SAFETY: the declaration is that of the header; the pointer and the length are those of one
+    // `str`, which is lent until the call returns, is UTF-8, and whose pointer is never null; the
+    // reading is a place of its own.
+    let number = read_by(|reading| unsafe {
+        chinese_number_read_utf8(text.as_ptr(), text.len(), kind, way, reading)
+    });
+    number.map(T::of_number)
 }
 
 /// The amount of a text, or the status and the place.
 #[inline]
 pub fn read_amount(text: &str) -> Result<u64, (u32, usize)> {
-    let mut reading = Amount {
-        fen: 0,
-        char_index: 0,
-    };
-    // SAFETY: the declaration is that of the header; the pointer and the length are those of one `str`, which is lent
-    // until the call returns, and whose pointer is never null; `reading` is a place of its own.
-    let status = unsafe { chinese_amount_read(text.as_ptr(), text.len(), &mut reading) };
-    if status == status::DONE {
-        Ok(reading.fen)
-    } else {
-        Err((told(status), reading.char_index))
-    }
-}
-
-/// The text of an amount, or the status.
-#[inline]
-pub fn print_amount(script: ChineseVariant, fen: u64) -> Result<String, u32> {
-    // SAFETY: as for a number; and no text of an amount has more bytes than this room.
-    unsafe {
-        printed::<MOST_AMOUNT_BYTES>(|room, length| {
-            chinese_amount_print(fen, script as u32, room, MOST_AMOUNT_BYTES, length)
-        })
-    }
+    // SAFETY: as for a number.
+    read_by(|reading| unsafe { chinese_amount_read(text.as_ptr(), text.len(), reading) })
 }
 
 /// The date of a text, or the status and the place.
 #[inline]
+#[allow(
+    clippy::cast_possible_truncation,
+    reason = "the year of a date that is read is below 10,000, its month at most 12, its day 31"
+)]
 pub fn read_date(text: &str) -> Result<BillDate, (u32, usize)> {
-    let mut reading = Date {
-        year: 0,
-        month: 0,
-        day: 0,
-        char_index: 0,
-    };
-    // SAFETY: as for an amount.
-    let status = unsafe { chinese_date_read(text.as_ptr(), text.len(), &mut reading) };
-    if status == status::DONE {
-        // A date's year is below 10,000, its month at most 12 and its day at most 31.
-        Ok(BillDate {
-            year: reading.year as u16,
-            month: reading.month as u8,
-            day: reading.day as u8,
-        })
-    } else {
-        Err((told(status), reading.char_index))
-    }
-}
-
-/// The text of a date, or the status.
-#[inline]
-pub fn print_date(script: ChineseVariant, date: BillDate) -> Result<String, u32> {
-    let (year, month, day) = (date.year.into(), date.month.into(), date.day.into());
-    // SAFETY: as for a number; and no text of a date has more bytes than this room.
-    unsafe {
-        printed::<MOST_DATE_BYTES>(|room, length| {
-            chinese_date_print(
-                year,
-                month,
-                day,
-                script as u32,
-                room,
-                MOST_DATE_BYTES,
-                length,
-            )
-        })
-    }
+    // SAFETY: as for a number.
+    let date: Result<Date, _> =
+        read_by(|reading| unsafe { chinese_date_read(text.as_ptr(), text.len(), reading) });
+    date.map(|Date { year, month, day }| BillDate {
+        year: year as u16,
+        month: month as u8,
+        day: day as u8,
+    })
 }
 
 /// The first run of a text, or the status.
 #[inline]
 pub fn find(text: &str, upper: bool, greatest: Unit) -> Result<Span, u32> {
-    let mut span = Span {
-        start: 0,
-        end: 0,
-        digits: 0,
-    };
-    // SAFETY: the declaration is that of the header; the pointer and the length are those of one `str`, which is lent
-    // until the call returns, is UTF-8, and whose pointer is never null; `span` is a place of its own.
-    let status = unsafe {
-        chinese_number_find_utf8(
-            text.as_ptr(),
-            text.len(),
-            upper as u32,
-            greatest as u32,
-            &mut span,
-        )
-    };
-    if status == status::DONE {
-        Ok(span)
-    } else {
-        Err(told(status))
+    // SAFETY: as for a number; the span is a place of its own.
+    let (span, status) = answered(|span| unsafe {
+        let (upper, greatest) = (u32::from(upper), greatest as u32);
+        chinese_number_find_utf8(text.as_ptr(), text.len(), upper, greatest, span)
+    });
+    status.map(|()| span)
+}
+
+// The text that a call prints into a room, or its status.
+//
+// SAFETY: the call is given a room of `MOST_BYTES` bytes and a length of its own, and knows that it
+// may write to both until it returns; and at `DONE` it has written so many bytes, at most
+// `MOST_BYTES`, at the start of the room, and they are UTF-8.
+#[inline]
+unsafe fn printed(
+    room: &mut Bytes,
+    call: impl FnOnce(*mut u8, *mut usize) -> u32,
+) -> Result<&str, u32> {
+    let mut length = 0;
+    let status = call(room.as_mut_ptr().cast(), &raw mut length);
+    if status != status::DONE {
+        return Err(status);
+    }
+    debug_assert!(length <= MOST_BYTES);
+    let bytes = core::slice::from_raw_parts(room.as_ptr().cast(), length);
+    Ok(core::str::from_utf8_unchecked(bytes))
+}
+
+/// The text of a number, or the status.
+#[inline]
+pub fn print<T: Whole>(
+    room: &mut Bytes,
+    script: ChineseVariant,
+    case: ChineseCase,
+    way: Way,
+    value: T,
+) -> Result<&str, u32> {
+    let Number { low, high } = value.number();
+    let (kind, way, script, case) = (T::KIND as u32, way as u32, script as u32, case as u32);
+    // SAFETY: the declaration is that of the header. The library writes to the room, of this length,
+    // and does not read it; and no text of a number has more bytes.
+    unsafe {
+        printed(room, |room, length| {
+            chinese_number_print(low, high, kind, way, script, case, room, MOST_BYTES, length)
+        })
+    }
+}
+
+/// The text of an amount, or the status.
+#[inline]
+pub fn print_amount(
+    room: &mut Bytes,
+    script: ChineseVariant,
+    form: u32,
+    fen: u64,
+) -> Result<&str, u32> {
+    // SAFETY: as for a number; and no text of an amount has more bytes than this room.
+    unsafe {
+        printed(room, |room, length| {
+            chinese_amount_print(fen, script as u32, form, room, MOST_BYTES, length)
+        })
+    }
+}
+
+/// The text of a date, or the status.
+#[inline]
+pub fn print_date(room: &mut Bytes, script: ChineseVariant, date: BillDate) -> Result<&str, u32> {
+    let (year, month, day) = (date.year.into(), date.month.into(), date.day.into());
+    // SAFETY: as for a number; and no text of a date has more bytes than this room.
+    unsafe {
+        printed(room, |room, length| {
+            chinese_date_print(year, month, day, script as u32, room, MOST_BYTES, length)
+        })
     }
 }

@@ -1,12 +1,13 @@
 //! The numbers in running text.
 
 use core::iter::FusedIterator;
+use core::ops::Range;
 
 use crate::abi;
 use crate::{ChineseCountMethod, ChineseToNumber, ChineseToNumberError, Unit};
 
-/// Which characters are looked for: the digits and the units up to the greatest one, with or without the forms that only
-/// cheques have, as 參 and 陸, which mean other things in a sentence.
+/// Which characters are looked for: the digits and the units up to the greatest one, with or without
+/// the forms that only cheques have, as 參 and 陸, which mean other things in a sentence.
 #[derive(Debug, Copy, Clone, Eq, PartialEq, Hash)]
 pub struct Wanted {
     /// Whether the forms of the upper case are looked for too.
@@ -43,23 +44,38 @@ pub struct Found<'a> {
 impl<'a> Found<'a> {
     /// How many bytes stand before it.
     #[inline]
+    #[must_use]
     pub fn start(self) -> usize {
         self.before.len()
     }
 
     /// How many bytes stand before what follows it.
     #[inline]
+    #[must_use]
     pub fn end(self) -> usize {
         self.start() + self.text.len()
     }
 
+    /// Where it stands in its text, in bytes.
+    #[inline]
+    #[must_use]
+    pub fn range(self) -> Range<usize> {
+        self.start()..self.end()
+    }
+
     /// Whether it is plain digits: a single digit is, 十 is not.
     #[inline]
+    #[must_use]
     pub fn is_plain(self) -> bool {
         self.is_plain
     }
 
-    /// Its number as plain digits where it is those, else by units. A `char_index` counts within the run.
+    /// Its number as plain digits where it is those, else by units.
+    ///
+    /// # Errors
+    ///
+    /// Not each run is a numeral: 五六十 is refused, and a number that the type does not hold. A
+    /// `char_index` counts within the run.
     #[inline]
     pub fn number<T>(self, method: ChineseCountMethod) -> Result<T, ChineseToNumberError>
     where
@@ -71,10 +87,21 @@ impl<'a> Found<'a> {
             self.text.to_number(method)
         }
     }
+
+    /// Its number as [`ChineseToNumber::to_number_any`] reads it, and none where that refuses it.
+    #[inline]
+    #[must_use]
+    pub fn value<T>(self) -> Option<T>
+    where
+        &'a str: ChineseToNumber<T>,
+    {
+        self.text.to_number_any().ok()
+    }
 }
 
 /// The numbers of a text, as [`find_numbers`] gives them.
 #[derive(Debug, Clone)]
+#[must_use = "the text is searched as far as numbers are asked for"]
 pub struct Numbers<'a> {
     wanted: Wanted,
     whole: &'a str,
@@ -82,18 +109,19 @@ pub struct Numbers<'a> {
     next: usize,
 }
 
-/// The numbers of a text, from the first to the last: its longest runs of characters that are looked for. A run ends
-/// between an ASCII digit and a digit that is none, and 個 is of a run directly before 萬 or a greater unit alone.
+/// The numbers of a text, from the first to the last: its longest runs of characters that are looked
+/// for. A run ends between an ASCII digit and a digit that is none, and 個 is of a run directly before
+/// 萬 or a greater unit alone.
 ///
 /// It does not understand sentences: 一起 has a 1 in it, 兩三個 is 23, and 3.5萬 is two numbers.
 ///
 /// ```rust
-/// use chinese_number::{find_numbers, ChineseCountMethod, Wanted};
+/// use chinese_number::{find_numbers, Wanted};
 ///
-/// let numbers: Vec<u32> = find_numbers("二零二五年十一月二十三日", Wanted::EVERYDAY)
-///     .flat_map(|found| found.number(ChineseCountMethod::TenThousand))
+/// let numbers: Vec<u32> = find_numbers("二零二五年十一月，百分之五十的人", Wanted::EVERYDAY)
+///     .filter_map(|found| found.value())
 ///     .collect();
-/// assert_eq!(numbers, [2025, 11, 23]);
+/// assert_eq!(numbers, [2025, 11, 50]);
 /// ```
 #[inline]
 pub fn find_numbers(text: &str, wanted: Wanted) -> Numbers<'_> {

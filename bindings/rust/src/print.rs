@@ -1,6 +1,7 @@
 //! The printers: numbers, amounts of money and dates as texts.
 
 use core::fmt::{self, Display, Formatter};
+use core::mem::MaybeUninit;
 
 use alloc::string::String;
 
@@ -27,41 +28,165 @@ impl Display for NumberToChineseError {
 
 impl core::error::Error for NumberToChineseError {}
 
-#[inline]
-fn print<T: Whole>(
-    variant: ChineseVariant,
-    case: ChineseCase,
-    way: Way,
-    value: T,
-) -> Result<String, NumberToChineseError> {
-    abi::print(variant, case, way, value).map_err(|status| match status {
-        status::TOO_LARGE => NumberToChineseError::Overflow,
-        status::TOO_SMALL => NumberToChineseError::Underflow,
-        _ => unreachable!("the codes are the library's, the type holds its value, and no text is longer than the room"),
-    })
+/// A room for one text, which is printed without taking memory: the text lies in the room until the
+/// next one is printed there. It is large enough for each number, amount and date.
+///
+/// ```rust
+/// use core::fmt::{self, Display, Formatter};
+///
+/// use chinese_number::{AmountForm, ChineseVariant, Room};
+///
+/// struct Price(u32);
+///
+/// impl Display for Price {
+///     fn fmt(&self, f: &mut Formatter<'_>) -> fmt::Result {
+///         let (mut room, form) = (Room::new(), AmountForm::PLAIN);
+///         let text = room.amount(ChineseVariant::Simple, form, self.0.into());
+///         f.write_str(text.map_err(|_| fmt::Error)?)
+///     }
+/// }
+///
+/// assert_eq!(Price(1_500).to_string(), "壹拾伍元整");
+/// ```
+#[derive(Clone)]
+pub struct Room(abi::Bytes);
+
+impl Room {
+    /// A room with no text in it.
+    #[inline]
+    #[must_use]
+    pub const fn new() -> Self {
+        Self([MaybeUninit::uninit(); abi::MOST_BYTES])
+    }
+
+    /// Prints a number with units, as [`NumberToChinese::to_chinese`] does.
+    ///
+    /// # Errors
+    ///
+    /// `Low` refuses 10^16 and more, -10^16 and less.
+    #[inline]
+    pub fn number<T: Whole>(
+        &mut self,
+        chinese_variant: ChineseVariant,
+        chinese_case: ChineseCase,
+        method: ChineseCountMethod,
+        value: T,
+    ) -> Result<&str, NumberToChineseError> {
+        self.by_way(chinese_variant, chinese_case, method.into(), value)
+    }
+
+    /// Prints a number as plain digits, as [`NumberToChinese::to_chinese_naive`] does.
+    #[inline]
+    pub fn number_naive<T: Whole>(
+        &mut self,
+        chinese_variant: ChineseVariant,
+        chinese_case: ChineseCase,
+        value: T,
+    ) -> &str {
+        self.unrefused(chinese_variant, chinese_case, Way::Digits, value)
+    }
+
+    // Prints a number that this way never refuses.
+    #[inline]
+    fn unrefused<T: Whole>(
+        &mut self,
+        variant: ChineseVariant,
+        case: ChineseCase,
+        way: Way,
+        value: T,
+    ) -> &str {
+        match self.by_way(variant, case, way, value) {
+            Ok(text) => text,
+            Err(_) => unreachable!("`Low` alone refuses numbers, from 10^16 on"),
+        }
+    }
+
+    #[inline]
+    fn by_way<T: Whole>(
+        &mut self,
+        variant: ChineseVariant,
+        case: ChineseCase,
+        way: Way,
+        value: T,
+    ) -> Result<&str, NumberToChineseError> {
+        let text = abi::print(&mut self.0, variant, case, way, value);
+        text.map_err(|status| match status {
+            status::TOO_LARGE => NumberToChineseError::Overflow,
+            status::TOO_SMALL => NumberToChineseError::Underflow,
+            _ => unreachable!("the codes are the library's, and the type holds its value"),
+        })
+    }
+
+    /// Prints an amount of money, in fen, as [`amount_to_chinese_as`] does.
+    ///
+    /// # Errors
+    ///
+    /// An amount of 10^18 fen or more is refused.
+    #[inline]
+    pub fn amount(
+        &mut self,
+        chinese_variant: ChineseVariant,
+        form: AmountForm,
+        fen: u64,
+    ) -> Result<&str, AmountToChineseError> {
+        let text = abi::print_amount(&mut self.0, chinese_variant, form.code(), fen);
+        text.map_err(|status| match status {
+            status::TOO_LARGE => AmountToChineseError::Overflow,
+            _ => unreachable!("the codes are the library's"),
+        })
+    }
+
+    /// Prints a date, as [`date_to_chinese`] does.
+    ///
+    /// # Errors
+    ///
+    /// What is no day of the Gregorian calendar from year 1 to 9999 is refused.
+    #[inline]
+    pub fn date(
+        &mut self,
+        chinese_variant: ChineseVariant,
+        date: BillDate,
+    ) -> Result<&str, DateToChineseError> {
+        let text = abi::print_date(&mut self.0, chinese_variant, date);
+        text.map_err(|status| match status {
+            status::NOT_A_DATE => DateToChineseError::NotADate,
+            _ => unreachable!("the code is the library's"),
+        })
+    }
 }
 
-// Prints a number that this way never refuses.
-#[inline]
-fn print_any<T: Whole>(variant: ChineseVariant, case: ChineseCase, way: Way, value: T) -> String {
-    match print(variant, case, way, value) {
-        Ok(text) => text,
-        Err(_) => unreachable!("`Low` alone refuses numbers, from 10^16 on"),
+impl Default for Room {
+    #[inline]
+    fn default() -> Self {
+        Self::new()
+    }
+}
+
+impl fmt::Debug for Room {
+    fn fmt(&self, f: &mut Formatter<'_>) -> fmt::Result {
+        f.write_str("Room")
     }
 }
 
 /// A number that is written in Chinese.
 ///
 /// ```rust
-/// use chinese_number::{ChineseCase, ChineseCountMethod, ChineseVariant, NumberToChinese, NumberToChineseError};
+/// use chinese_number::{
+///     ChineseCase, ChineseCountMethod, ChineseVariant, NumberToChinese, NumberToChineseError,
+/// };
 ///
-/// let text = 123i8.to_chinese(ChineseVariant::Simple, ChineseCase::Upper, ChineseCountMethod::Low);
+/// let (script, case) = (ChineseVariant::Simple, ChineseCase::Upper);
+/// let text = 123i8.to_chinese(script, case, ChineseCountMethod::Low);
 /// assert_eq!(text.unwrap(), "壹佰贰拾叁");
-/// let text = u64::MAX.to_chinese(ChineseVariant::Simple, ChineseCase::Upper, ChineseCountMethod::Low);
+/// let text = u64::MAX.to_chinese(script, case, ChineseCountMethod::Low);
 /// assert_eq!(text, Err(NumberToChineseError::Overflow));
 /// ```
 pub trait NumberToChinese {
-    /// Writes the number with units, by a method: 123 is 一百二十三. `Low` refuses 10^16 and more, -10^16 and less.
+    /// Writes the number with units, by a method: 123 is 一百二十三.
+    ///
+    /// # Errors
+    ///
+    /// `Low` refuses 10^16 and more, -10^16 and less.
     fn to_chinese(
         self,
         chinese_variant: ChineseVariant,
@@ -70,27 +195,39 @@ pub trait NumberToChinese {
     ) -> Result<String, NumberToChineseError>;
 
     /// Writes the number as plain digits: 123 is 一二三.
+    #[must_use]
     fn to_chinese_naive(self, chinese_variant: ChineseVariant, chinese_case: ChineseCase)
         -> String;
 }
 
 macro_rules! printer {
-    ($t:ty, $name:ident, $method:ident) => {
-        #[doc = concat!("Writes a `", stringify!($t), "` by `", stringify!($method), "`.")]
+    ($t:ty, $name:ident, $way:ident) => {
+        #[doc = concat!("Writes a `", stringify!($t), "` by `", stringify!($way), "`.")]
         #[inline]
-        pub fn $name(chinese_variant: ChineseVariant, chinese_case: ChineseCase, value: $t) -> String {
-            print_any(chinese_variant, chinese_case, Way::$method, value)
+        #[must_use]
+        pub fn $name(
+            chinese_variant: ChineseVariant,
+            chinese_case: ChineseCase,
+            value: $t,
+        ) -> String {
+            Room::new()
+                .unrefused(chinese_variant, chinese_case, Way::$way, value)
+                .into()
         }
     };
-    ($t:ty, $name:ident, $method:ident refuses) => {
-        #[doc = concat!("Writes a `", stringify!($t), "` by `", stringify!($method), "`, which refuses 10^16 and more, -10^16 and less.")]
+    ($t:ty, $name:ident, $way:ident refuses) => {
+        #[doc = concat!("Writes a `", stringify!($t), "` by `", stringify!($way), "`.")]
+        ///
+        /// # Errors
+        ///
+        /// It refuses 10^16 and more, -10^16 and less.
         #[inline]
         pub fn $name(
             chinese_variant: ChineseVariant,
             chinese_case: ChineseCase,
             value: $t,
         ) -> Result<String, NumberToChineseError> {
-            print(chinese_variant, chinese_case, Way::$method, value)
+            value.to_chinese(chinese_variant, chinese_case, ChineseCountMethod::$way)
         }
     };
 }
@@ -105,21 +242,20 @@ macro_rules! printers {
                 chinese_case: ChineseCase,
                 method: ChineseCountMethod,
             ) -> Result<String, NumberToChineseError> {
-                print(chinese_variant, chinese_case, method.into(), self)
+                Room::new().number(chinese_variant, chinese_case, method, self).map(String::from)
             }
 
             #[inline]
-            fn to_chinese_naive(self, chinese_variant: ChineseVariant, chinese_case: ChineseCase) -> String {
-                print_any(chinese_variant, chinese_case, Way::Digits, self)
+            fn to_chinese_naive(
+                self,
+                chinese_variant: ChineseVariant,
+                chinese_case: ChineseCase,
+            ) -> String {
+                $naive(chinese_variant, chinese_case, self)
             }
         }
 
-        #[doc = concat!("Writes a `", stringify!($t), "` as plain digits.")]
-        #[inline]
-        pub fn $naive(chinese_variant: ChineseVariant, chinese_case: ChineseCase, value: $t) -> String {
-            print_any(chinese_variant, chinese_case, Way::Digits, value)
-        }
-
+        printer!($t, $naive, Digits);
         $(printer!($t, $name, $method $($refuses)?);)*
     };
 }
@@ -185,7 +321,35 @@ printers! {
     from_isize_to_chinese_high High
 }
 
+/// How an amount of money is written, where cheques differ.
+#[derive(Debug, Default, Copy, Clone, Eq, PartialEq, Hash)]
+pub struct AmountForm {
+    /// Whether 人民币 (人民幣) stands in front.
+    pub currency: bool,
+    /// Whether 圆 (圓) stands in place of 元.
+    pub round_yuan: bool,
+    /// Whether 正 stands in place of 整.
+    pub upright_closing: bool,
+}
+
+impl AmountForm {
+    /// With 元 and 整, and nothing in front.
+    pub const PLAIN: Self = Self {
+        currency: false,
+        round_yuan: false,
+        upright_closing: false,
+    };
+
+    #[inline]
+    fn code(self) -> u32 {
+        u32::from(self.currency)
+            + 2 * u32::from(self.round_yuan)
+            + 4 * u32::from(self.upright_closing)
+    }
+}
+
 /// Why an amount is not written.
+#[non_exhaustive]
 #[derive(Debug, Copy, Clone, Eq, PartialEq)]
 pub enum AmountToChineseError {
     /// The amount is 10^18 fen or more.
@@ -202,7 +366,11 @@ impl Display for AmountToChineseError {
 
 impl core::error::Error for AmountToChineseError {}
 
-/// Writes an amount of money, in fen, in capitals as on a cheque. It refuses 10^18 fen and more.
+/// Writes an amount of money, in fen, in capitals as on a cheque, in the plain form.
+///
+/// # Errors
+///
+/// An amount of 10^18 fen or more is refused.
 ///
 /// ```rust
 /// use chinese_number::{amount_to_chinese, AmountToChineseError, ChineseVariant};
@@ -217,13 +385,35 @@ pub fn amount_to_chinese(
     chinese_variant: ChineseVariant,
     fen: u64,
 ) -> Result<String, AmountToChineseError> {
-    abi::print_amount(chinese_variant, fen).map_err(|status| match status {
-        status::TOO_LARGE => AmountToChineseError::Overflow,
-        _ => unreachable!("the code is the library's, and no text is longer than the room"),
-    })
+    amount_to_chinese_as(chinese_variant, AmountForm::PLAIN, fen)
+}
+
+/// Writes an amount of money, in fen, in capitals as on a cheque, in a form.
+///
+/// # Errors
+///
+/// An amount of 10^18 fen or more is refused.
+///
+/// ```rust
+/// use chinese_number::{amount_to_chinese_as, AmountForm, ChineseVariant};
+///
+/// let form = AmountForm { currency: true, round_yuan: true, ..AmountForm::PLAIN };
+/// let text = amount_to_chinese_as(ChineseVariant::Simple, form, 1_500);
+/// assert_eq!(text.unwrap(), "人民币壹拾伍圆整");
+/// ```
+#[inline]
+pub fn amount_to_chinese_as(
+    chinese_variant: ChineseVariant,
+    form: AmountForm,
+    fen: u64,
+) -> Result<String, AmountToChineseError> {
+    Room::new()
+        .amount(chinese_variant, form, fen)
+        .map(String::from)
 }
 
 /// Why a date is not written.
+#[non_exhaustive]
 #[derive(Debug, Copy, Clone, Eq, PartialEq)]
 pub enum DateToChineseError {
     /// There is no such date.
@@ -240,7 +430,11 @@ impl Display for DateToChineseError {
 
 impl core::error::Error for DateToChineseError {}
 
-/// Writes a date in capitals as on a cheque. It refuses what is no day of the Gregorian calendar from year 1 to 9999.
+/// Writes a date in capitals as on a cheque.
+///
+/// # Errors
+///
+/// What is no day of the Gregorian calendar from year 1 to 9999 is refused.
 ///
 /// ```rust
 /// use chinese_number::{date_to_chinese, BillDate, ChineseVariant, DateToChineseError};
@@ -256,8 +450,5 @@ pub fn date_to_chinese(
     chinese_variant: ChineseVariant,
     date: BillDate,
 ) -> Result<String, DateToChineseError> {
-    abi::print_date(chinese_variant, date).map_err(|status| match status {
-        status::NOT_A_DATE => DateToChineseError::NotADate,
-        _ => unreachable!("the code is the library's, and no text is longer than the room"),
-    })
+    Room::new().date(chinese_variant, date).map(String::from)
 }

@@ -59,17 +59,64 @@ fn read<T: Whole>(text: &str, way: Way) -> Result<T, ChineseToNumberError> {
 /// assert_eq!(number, Ok(-128));
 /// let number: Result<i8, _> = " 二 十 十 ".to_number(ChineseCountMethod::TenThousand);
 /// assert_eq!(number, Err(ChineseToNumberError::ChineseNumberIncorrect { char_index: 3 }));
+/// let numbers = ["一二三", "一百二十三"].map(|text| text.to_number_any());
+/// assert_eq!(numbers, [Ok(123i8), Ok(123)]);
 /// ```
 pub trait ChineseToNumber<T> {
     /// Reads a numeral with units, by a method: 一百二 is 120.
+    ///
+    /// # Errors
+    ///
+    /// [`ChineseToNumberError`] says for what a text is refused.
     fn to_number(&self, method: ChineseCountMethod) -> Result<T, ChineseToNumberError>;
 
     /// Reads plain digits: 一二三 is 123.
+    ///
+    /// # Errors
+    ///
+    /// [`ChineseToNumberError`] says for what a text is refused.
     fn to_number_naive(&self) -> Result<T, ChineseToNumberError>;
+
+    /// Reads a numeral that is written either way: as plain digits where it is digits alone, else
+    /// by `TenThousand`. Both 一二三 and 一百二十三 are 123.
+    ///
+    /// # Errors
+    ///
+    /// [`ChineseToNumberError`] says for what a text is refused.
+    fn to_number_any(&self) -> Result<T, ChineseToNumberError> {
+        match self.to_number_naive() {
+            Err(ChineseToNumberError::ChineseNumberIncorrect { .. }) => {
+                self.to_number(ChineseCountMethod::TenThousand)
+            }
+            read => read,
+        }
+    }
+}
+
+macro_rules! reader {
+    ($t:ty, $name:ident, $way:ident, $reads:expr) => {
+        #[doc = concat!("Reads ", $reads, " as a `", stringify!($t), "`.")]
+        ///
+        /// # Errors
+        ///
+        /// [`ChineseToNumberError`] says for what a text is refused.
+        #[inline]
+        pub fn $name<S: AsRef<str>>(chinese_number: S) -> Result<$t, ChineseToNumberError> {
+            read(chinese_number.as_ref(), Way::$way)
+        }
+    };
+    ($t:ty, $name:ident, $way:ident) => {
+        reader!(
+            $t,
+            $name,
+            $way,
+            concat!("a numeral, by `", stringify!($way), "`,")
+        );
+    };
 }
 
 macro_rules! readers {
-    ($t:ty: $naive:ident $(, $name:ident $method:ident)*) => {
+    ($t:ty: $any:ident, $naive:ident $(, $name:ident $method:ident)*) => {
         impl<S: AsRef<str>> ChineseToNumber<$t> for S {
             #[inline]
             fn to_number(&self, method: ChineseCountMethod) -> Result<$t, ChineseToNumberError> {
@@ -78,81 +125,76 @@ macro_rules! readers {
 
             #[inline]
             fn to_number_naive(&self) -> Result<$t, ChineseToNumberError> {
-                read(self.as_ref(), Way::Digits)
+                $naive(self)
             }
-        }
 
-        #[doc = concat!("Reads plain digits as a `", stringify!($t), "`.")]
-        #[inline]
-        pub fn $naive<S: AsRef<str>>(chinese_number: S) -> Result<$t, ChineseToNumberError> {
-            read(chinese_number.as_ref(), Way::Digits)
-        }
-
-        $(
-            #[doc = concat!("Reads a numeral as a `", stringify!($t), "` by `", stringify!($method), "`.")]
             #[inline]
-            pub fn $name<S: AsRef<str>>(chinese_number: S) -> Result<$t, ChineseToNumberError> {
-                read(chinese_number.as_ref(), Way::$method)
+            fn to_number_any(&self) -> Result<$t, ChineseToNumberError> {
+                $any(self)
             }
-        )*
+        }
+
+        reader!($t, $any, Any, "a numeral that is written either way");
+        reader!($t, $naive, Digits, "plain digits");
+        $(reader!($t, $name, $method);)*
     };
 }
 
-readers! { u8: from_chinese_to_u8_naive, from_chinese_to_u8 Low }
-readers! { u16: from_chinese_to_u16_naive, from_chinese_to_u16 Low }
+readers! { u8: from_chinese_to_u8_any, from_chinese_to_u8_naive, from_chinese_to_u8 Low }
+readers! { u16: from_chinese_to_u16_any, from_chinese_to_u16_naive, from_chinese_to_u16 Low }
 readers! {
-    u32: from_chinese_to_u32_naive,
+    u32: from_chinese_to_u32_any, from_chinese_to_u32_naive,
     from_chinese_to_u32_low Low,
     from_chinese_to_u32_ten_thousand TenThousand,
     from_chinese_to_u32_middle Middle,
     from_chinese_to_u32_high High
 }
 readers! {
-    u64: from_chinese_to_u64_naive,
+    u64: from_chinese_to_u64_any, from_chinese_to_u64_naive,
     from_chinese_to_u64_low Low,
     from_chinese_to_u64_ten_thousand TenThousand,
     from_chinese_to_u64_middle Middle,
     from_chinese_to_u64_high High
 }
 readers! {
-    u128: from_chinese_to_u128_naive,
+    u128: from_chinese_to_u128_any, from_chinese_to_u128_naive,
     from_chinese_to_u128_low Low,
     from_chinese_to_u128_ten_thousand TenThousand,
     from_chinese_to_u128_middle Middle,
     from_chinese_to_u128_high High
 }
 readers! {
-    usize: from_chinese_to_usize_naive,
+    usize: from_chinese_to_usize_any, from_chinese_to_usize_naive,
     from_chinese_to_usize_low Low,
     from_chinese_to_usize_ten_thousand TenThousand,
     from_chinese_to_usize_middle Middle,
     from_chinese_to_usize_high High
 }
-readers! { i8: from_chinese_to_i8_naive, from_chinese_to_i8 Low }
-readers! { i16: from_chinese_to_i16_naive, from_chinese_to_i16 Low }
+readers! { i8: from_chinese_to_i8_any, from_chinese_to_i8_naive, from_chinese_to_i8 Low }
+readers! { i16: from_chinese_to_i16_any, from_chinese_to_i16_naive, from_chinese_to_i16 Low }
 readers! {
-    i32: from_chinese_to_i32_naive,
+    i32: from_chinese_to_i32_any, from_chinese_to_i32_naive,
     from_chinese_to_i32_low Low,
     from_chinese_to_i32_ten_thousand TenThousand,
     from_chinese_to_i32_middle Middle,
     from_chinese_to_i32_high High
 }
 readers! {
-    i64: from_chinese_to_i64_naive,
+    i64: from_chinese_to_i64_any, from_chinese_to_i64_naive,
     from_chinese_to_i64_low Low,
     from_chinese_to_i64_ten_thousand TenThousand,
     from_chinese_to_i64_middle Middle,
     from_chinese_to_i64_high High
 }
 readers! {
-    i128: from_chinese_to_i128_naive,
+    i128: from_chinese_to_i128_any, from_chinese_to_i128_naive,
     from_chinese_to_i128_low Low,
     from_chinese_to_i128_ten_thousand TenThousand,
     from_chinese_to_i128_middle Middle,
     from_chinese_to_i128_high High
 }
 readers! {
-    isize: from_chinese_to_isize_naive,
+    isize: from_chinese_to_isize_any, from_chinese_to_isize_naive,
     from_chinese_to_isize_low Low,
     from_chinese_to_isize_ten_thousand TenThousand,
     from_chinese_to_isize_middle Middle,
@@ -160,10 +202,11 @@ readers! {
 }
 
 /// Why a text is no amount of money.
+#[non_exhaustive]
 #[derive(Debug, Copy, Clone, Eq, PartialEq)]
 pub enum ChineseToAmountError {
-    /// Something is missing at the end: the text begins an amount, and is none. `壹佰元` wants 整 or 伍角. The empty text
-    /// is unfinished, too.
+    /// Something is missing at the end: the text begins an amount, and is none. `壹佰元` wants 整 or
+    /// 伍角. The empty text is unfinished, too.
     Unfinished,
     /// No amount begins with the text up to and with this character.
     Incorrect {
@@ -187,12 +230,17 @@ impl core::error::Error for ChineseToAmountError {}
 
 /// Reads an amount of money in capitals, in fen.
 ///
+/// # Errors
+///
+/// [`ChineseToAmountError`] says for what a text is refused.
+///
 /// ```rust
 /// use chinese_number::{chinese_to_amount, ChineseToAmountError};
 ///
 /// assert_eq!(chinese_to_amount("人民币壹拾伍圆正"), Ok(1_500));
 /// assert_eq!(chinese_to_amount("壹佰元"), Err(ChineseToAmountError::Unfinished));
-/// assert_eq!(chinese_to_amount("壹佰贰元整"), Err(ChineseToAmountError::Incorrect { char_index: 3 }));
+/// let refused = Err(ChineseToAmountError::Incorrect { char_index: 3 });
+/// assert_eq!(chinese_to_amount("壹佰贰元整"), refused);
 /// ```
 #[inline]
 pub fn chinese_to_amount(text: &str) -> Result<u64, ChineseToAmountError> {
@@ -204,9 +252,11 @@ pub fn chinese_to_amount(text: &str) -> Result<u64, ChineseToAmountError> {
 }
 
 /// Why a text is no date.
+#[non_exhaustive]
 #[derive(Debug, Copy, Clone, Eq, PartialEq)]
 pub enum ChineseToDateError {
-    /// Something is missing at the end: the text begins a date, and is none. The empty text is unfinished, too.
+    /// Something is missing at the end: the text begins a date, and is none. The empty text is
+    /// unfinished, too.
     Unfinished,
     /// No date begins with the text up to and with this character.
     Incorrect {
@@ -229,6 +279,10 @@ impl Display for ChineseToDateError {
 impl core::error::Error for ChineseToDateError {}
 
 /// Reads a date in capitals.
+///
+/// # Errors
+///
+/// [`ChineseToDateError`] says for what a text is refused.
 ///
 /// ```rust
 /// use chinese_number::{chinese_to_date, BillDate, ChineseToDateError};

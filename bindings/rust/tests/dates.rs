@@ -21,15 +21,19 @@ fn reads_back_each_date() {
             }
         }
     }
-    // 25 times 400 years of 365 days with 97 leap days, without the year 10,000, which is a leap year.
+    // 25 times 400 years of 365 days with 97 leap days, without the year 10,000, a leap year.
     assert_eq!(count, 2 * (25 * (400 * 365 + 97) - 366));
 }
 
 #[test]
 fn refuses_what_is_no_date() {
-    for row in include_str!("../../../tests/rows/no_dates.tsv").lines().skip(1) {
-        let parts: Vec<u16> = row.split('\t').map(|it| it.parse().unwrap()).collect();
-        let date = date_of(parts[0], parts[1] as u8, parts[2] as u8);
+    for row in include_str!("../../../tests/rows/no_dates.tsv")
+        .lines()
+        .skip(1)
+    {
+        let parts: Vec<&str> = row.split('\t').collect();
+        let (year, month, day) = (parts[0].parse(), parts[1].parse(), parts[2].parse());
+        let date = date_of(year.unwrap(), month.unwrap(), day.unwrap());
         let refused = date_to_chinese(ChineseVariant::Simple, date);
         assert_eq!(refused, Err(DateToChineseError::NotADate), "{row}");
     }

@@ -15,19 +15,40 @@ type Printed = Result<String, NumberToChineseError>;
 /// The way in the name of a call: none digit by digit, and `Low` where the name has none.
 fn way(name: &str) -> Option<ChineseCountMethod> {
     use ChineseCountMethod::*;
-    let named = [("_naive", None), ("_ten_thousand", Some(TenThousand)), ("_middle", Some(Middle))];
+    let named = [
+        ("_naive", None),
+        ("_ten_thousand", Some(TenThousand)),
+        ("_middle", Some(Middle)),
+    ];
     let found = named.iter().find(|(end, _)| name.ends_with(end));
-    found.map_or(Some(if name.ends_with("_high") { High } else { Low }), |(_, way)| *way)
+    found.map_or(
+        Some(if name.ends_with("_high") { High } else { Low }),
+        |(_, way)| *way,
+    )
 }
 
 /// Texts that tell the ways apart: the greatest unit whose scale fits, and the next one.
 const TEXTS: [&str; 11] = [
-    "", "零極零五", "零澗零五", "負零澗零五", "零正零五", "零垓零五", "零秭零五", "零京零五", "零億五",
-    "一二三", "負一二三",
+    "",
+    "零極零五",
+    "零澗零五",
+    "負零澗零五",
+    "零正零五",
+    "零垓零五",
+    "零秭零五",
+    "零京零五",
+    "零億五",
+    "一二三",
+    "負一二三",
 ];
 
 /// A number that fits the type, and is written otherwise by each way that can be told there.
-const NUMBERS: [u128; 4] = [10, 100_000, 1_000_100_000_000, 1_000_000_000_000_000_000_000_000];
+const NUMBERS: [u128; 4] = [
+    10,
+    100_000,
+    1_000_100_000_000,
+    1_000_000_000_000_000_000_000_000,
+];
 
 /// Each of these calls has this type, and answers as the trait does by the way of its name.
 macro_rules! readers {

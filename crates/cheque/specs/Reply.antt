@@ -1,5 +1,5 @@
 -- What is replied to a request.
-use Rattle.std.specs.Prelude.{◌≡◌, ◌⊎◌, ◌++◌, ℕ, Bool, List, [], ◌∷◌, Option, Some, None, Result, Ok, Err, codes, encode_utf8_all, if◌then◌else◌}
+use Rattle.std.specs.Prelude.{◌≡◌, ◌⊎◌, ◌++◌, ℕ, Bool, false, List, [], ◌∷◌, Option, Some, None, Result, Ok, Err, encode_utf8_all}
 use Rattle.std.specs.Io.KnownBytes.{Appends}
 use Rattle.chinese_number.specs.AmountAnswer as AmountAnswer
 use Rattle.chinese_number.specs.AmountErrorText as AmountErrorText
@@ -10,6 +10,7 @@ use Rattle.chinese_number.specs.DateCalendar.{IsDate}
 use Rattle.chinese_number.specs.DateErrorText as DateErrorText
 use Rattle.chinese_number.specs.DateReading.{ReadsDate}
 use Rattle.chinese_number.specs.DateWrites.{date_text}
+use Rattle.chinese_number.specs.declared.AmountForm.{AmountForm}
 use Rattle.chinese_number.specs.declared.BillDate.{BillDate}
 use Rattle.chinese_number.specs.declared.ChineseToAmountError.{ChineseToAmountError}
 use Rattle.chinese_number.specs.declared.ChineseToDateError.{ChineseToDateError}
@@ -51,14 +52,18 @@ not_asked = record { output = []; errors = line USAGE.now; status = 2 }
 abbrev pub AnswersInMemory : List ℕ → Reply → Type 0
 AnswersInMemory text reply = (reply ≡ answered text) ⊎ (reply ≡ out_of_memory)
 
--- what stands in front of capitals
-abbrev pub prefix_text : Bool → List ℕ
-prefix_text prefixed = if prefixed then encode_utf8_all (codes "人民币") else []
+-- the form in which capitals are written: with 人民币 in front or not
+abbrev pub form_of : Bool → AmountForm
+form_of prefixed = record {
+  currency = prefixed;
+  round_yuan = false;
+  upright_closing = false;
+}
 
 -- the capitals of an amount, by what its figures are
 abbrev pub IsCapitalsReply : Bool → Result ℕ FiguresError → Reply → Type 0
 IsCapitalsReply prefixed (Ok fen) reply =
-    AnswersInMemory (prefix_text prefixed ++ encode_utf8_all (amount_text Simple fen)) reply
+    AnswersInMemory (encode_utf8_all (amount_text Simple (form_of prefixed) fen)) reply
 IsCapitalsReply prefixed (Err error) reply = reply ≡ refused (Figures.refusal_text error)
 
 abbrev pub RepliesCapitals : Bool → List ℕ → Reply → Type 0

@@ -1,15 +1,15 @@
 //! What is replied to a request.
 ghost use Rattle.std.specs.Prelude.{◌≡◌, IfOk, IfSome, map, string_bytes};
 ghost use Rattle.std.specs.Io.KnownBytes.{Appends};
-ghost use Rattle.cheque.specs.Reply.{Gives, Replies, line, RepliesCapitals, RepliesDateCapitals, RepliesFigures, RepliesDateFigures, prefix_text};
+ghost use Rattle.cheque.specs.Reply.{Gives, Replies, line, RepliesCapitals, RepliesDateCapitals, RepliesFigures, RepliesDateFigures, form_of};
 ghost use Rattle.cheque.specs.Request.{asked};
 
 use crate::dates::{DateFigures, date_of};
 use crate::figures::{Figures, yuan_to_fen};
 use crate::request::{Request, request_of};
 use chinese_number::{
-    AmountToChineseError, ChineseVariant, DateToChineseError, amount_to_chinese, chinese_to_amount,
-    chinese_to_date, date_to_chinese,
+    AmountForm, AmountToChineseError, ChineseVariant, DateToChineseError, amount_to_chinese_as,
+    chinese_to_amount, chinese_to_date, date_to_chinese,
 };
 use std::alloc::Global;
 use std::fmt::Display;
@@ -41,11 +41,14 @@ fn refuse<E: Write, D: Display + Drop>(errors: &mut E, error: D) -> io::Result<u
     Ok(1)
 }
 
-// What stands in front of capitals.
-fn prefix_text(prefixed: bool) -> &'static str
-    ensures { result.now ≡ prefix_text prefixed }
+// The form in which capitals are written.
+fn form_of(prefixed: bool) -> AmountForm
+    ensures { result ≡ form_of prefixed }
 {
-    if prefixed { "人民币" } else { "" }
+    AmountForm {
+        currency: prefixed,
+        ..AmountForm::PLAIN
+    }
 }
 
 // The capitals of an amount in figures, with 人民币 in front or not.
@@ -64,9 +67,8 @@ fn write_capitals<W: Write, E: Write>(
         Ok(fen) => fen,
         Err(error) => return refuse(errors, error),
     };
-    let prefix = prefix_text(prefixed);
-    match amount_to_chinese(alloc, ChineseVariant::Simple, fen) {
-        Ok(capitals) => show(output, format_args!("{prefix}{capitals}")),
+    match amount_to_chinese_as(alloc, ChineseVariant::Simple, form_of(prefixed), fen) {
+        Ok(capitals) => show(output, capitals),
         Err(AmountToChineseError::OutOfMemory) => Ok(2),
         Err(error) => refuse(errors, error),
     }

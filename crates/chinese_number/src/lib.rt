@@ -7,9 +7,11 @@
 pub mod laws;
 
 pub use cn_amount::AMOUNT_LIMIT;
+pub use cn_amount::AmountForm;
 pub use cn_amount::AmountToChineseError;
 pub use cn_amount::ChineseToAmountError;
 pub use cn_amount::amount_to_chinese;
+pub use cn_amount::amount_to_chinese_as;
 pub use cn_amount::chinese_to_amount;
 pub use cn_core::ChineseCase;
 pub use cn_core::ChineseCountMethod;

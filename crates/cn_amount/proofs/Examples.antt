@@ -2,96 +2,121 @@
 use Rattle.std.proofs.Common.{◌≡◌, ◌-◌, ◌^◌, Bool, true, false, map, Some, refl, codes}
 use Rattle.cn_core.specs.declared.script.ChineseVariant.TheVariants.{Traditional, Simple}
 use Rattle.cn_core.specs.Characters.{digit_char, unit_char}
+use Rattle.cn_amount.specs.declared.form.AmountForm.{AmountForm}
 use Rattle.cn_amount.specs.Form.{Choices, amount_form}
 use Rattle.cn_amount.specs.Places.{places_of}
 use Rattle.cn_amount.specs.Reading.{capital_of, capitals_of}
-use Rattle.cn_amount.specs.Writes.{amount_text}
+use Rattle.cn_amount.specs.Writes.{amount_text, plain}
 
 -- in the rules, without 整
-jiao_alone : amount_text Simple 140950 ≡ codes "壹仟肆佰零玖元伍角整"
+jiao_alone : amount_text Simple plain 140950 ≡ codes "壹仟肆佰零玖元伍角整"
 unfolding digit_char unit_char
 jiao_alone = refl
 
 -- in the rules
-zeros_inside : amount_text Simple 600714 ≡ codes "陆仟零柒元壹角肆分"
+zeros_inside : amount_text Simple plain 600714 ≡ codes "陆仟零柒元壹角肆分"
 unfolding digit_char unit_char
 zeros_inside = refl
 
 -- in the rules
-none_before_jiao : amount_text Simple 168032 ≡ codes "壹仟陆佰捌拾元叁角贰分"
+none_before_jiao : amount_text Simple plain 168032 ≡ codes "壹仟陆佰捌拾元叁角贰分"
 unfolding digit_char unit_char
 none_before_jiao = refl
 
 -- in the rules
-zero_behind_wan : amount_text Simple 10700053 ≡ codes "壹拾万零柒仟元伍角叁分"
+zero_behind_wan : amount_text Simple plain 10700053 ≡ codes "壹拾万零柒仟元伍角叁分"
 unfolding digit_char unit_char
 zero_behind_wan = refl
 
 -- in the rules
-zero_before_fen : amount_text Simple 1640902 ≡ codes "壹万陆仟肆佰零玖元零贰分"
+zero_before_fen : amount_text Simple plain 1640902 ≡ codes "壹万陆仟肆佰零玖元零贰分"
 unfolding digit_char unit_char
 zero_before_fen = refl
 
 -- in the rules
-fen_alone : amount_text Simple 32504 ≡ codes "叁佰贰拾伍元零肆分"
+fen_alone : amount_text Simple plain 32504 ≡ codes "叁佰贰拾伍元零肆分"
 unfolding digit_char unit_char
 fen_alone = refl
 
-fifteen : amount_text Simple 1500 ≡ codes "壹拾伍元整"
+fifteen : amount_text Simple plain 1500 ≡ codes "壹拾伍元整"
 unfolding digit_char unit_char
 fifteen = refl
 
-traditional : amount_text Traditional 23600000000 ≡ codes "貳億參仟陸佰萬元整"
+traditional : amount_text Traditional plain 23600000000 ≡ codes "貳億參仟陸佰萬元整"
 unfolding digit_char unit_char
 traditional = refl
 
-ten_and_jiao : amount_text Simple 1010 ≡ codes "壹拾元壹角整"
+ten_and_jiao : amount_text Simple plain 1010 ≡ codes "壹拾元壹角整"
 unfolding digit_char unit_char
 ten_and_jiao = refl
 
-ten_and_fen : amount_text Simple 1001 ≡ codes "壹拾元零壹分"
+ten_and_fen : amount_text Simple plain 1001 ≡ codes "壹拾元零壹分"
 unfolding digit_char unit_char
 ten_and_fen = refl
 
-nothing : amount_text Simple 0 ≡ codes "零元整"
+nothing : amount_text Simple plain 0 ≡ codes "零元整"
 unfolding digit_char unit_char
 nothing = refl
 
-five_fen : amount_text Simple 5 ≡ codes "伍分"
+five_fen : amount_text Simple plain 5 ≡ codes "伍分"
 unfolding digit_char unit_char
 five_fen = refl
 
-five_jiao : amount_text Simple 50 ≡ codes "伍角整"
+five_jiao : amount_text Simple plain 50 ≡ codes "伍角整"
 unfolding digit_char unit_char
 five_jiao = refl
 
-hundred_thousand : amount_text Simple 10000000 ≡ codes "壹拾万元整"
+hundred_thousand : amount_text Simple plain 10000000 ≡ codes "壹拾万元整"
 unfolding digit_char unit_char
 hundred_thousand = refl
 
-zero_before_hundreds : amount_text Simple 128050000 ≡ codes "壹佰贰拾捌万零伍佰元整"
+zero_before_hundreds : amount_text Simple plain 128050000 ≡ codes "壹佰贰拾捌万零伍佰元整"
 unfolding digit_char unit_char
 zero_before_hundreds = refl
 
-zero_before_tens : amount_text Simple 10010000000 ≡ codes "壹亿零壹拾万元整"
+zero_before_tens : amount_text Simple plain 10010000000 ≡ codes "壹亿零壹拾万元整"
 unfolding digit_char unit_char
 zero_before_tens = refl
 
-zero_behind_yi : amount_text Simple 102000000000 ≡ codes "壹拾亿零贰仟万元整"
+zero_behind_yi : amount_text Simple plain 102000000000 ≡ codes "壹拾亿零贰仟万元整"
 unfolding digit_char unit_char
 zero_behind_yi = refl
 
-no_wan : amount_text Simple 100000700000 ≡ codes "壹拾亿零柒仟元整"
+no_wan : amount_text Simple plain 100000700000 ≡ codes "壹拾亿零柒仟元整"
 unfolding digit_char unit_char
 no_wan = refl
 
-wan_yi : amount_text Simple (10 ^ 14) ≡ codes "壹万亿元整"
+wan_yi : amount_text Simple plain (10 ^ 14) ≡ codes "壹万亿元整"
 unfolding digit_char unit_char
 wan_yi = refl
 
-greatest : amount_text Simple (10 ^ 18 - 1) ≡ codes "玖仟玖佰玖拾玖万玖仟玖佰玖拾玖亿玖仟玖佰玖拾玖万玖仟玖佰玖拾玖元玖角玖分"
+greatest : amount_text Simple plain (10 ^ 18 - 1) ≡ codes "玖仟玖佰玖拾玖万玖仟玖佰玖拾玖亿玖仟玖佰玖拾玖万玖仟玖佰玖拾玖元玖角玖分"
 unfolding digit_char unit_char
 greatest = refl
+
+-- what is asked for
+abbrev asking : Bool → Bool → Bool → AmountForm
+asking currency round upright = record {
+  currency = currency;
+  round_yuan = round;
+  upright_closing = upright;
+}
+
+currency_asked_for : amount_text Simple (asking true false false) 1500 ≡ codes "人民币壹拾伍元整"
+unfolding digit_char unit_char
+currency_asked_for = refl
+
+round_yuan_asked_for : amount_text Simple (asking false true false) 1500 ≡ codes "壹拾伍圆整"
+unfolding digit_char unit_char
+round_yuan_asked_for = refl
+
+upright_closing_asked_for : amount_text Simple (asking false false true) 1500 ≡ codes "壹拾伍元正"
+unfolding digit_char unit_char
+upright_closing_asked_for = refl
+
+all_asked_for : amount_text Traditional (asking true true true) 1500 ≡ codes "人民幣壹拾伍圓正"
+unfolding digit_char unit_char
+all_asked_for = refl
 
 -- what is read: the other forms that the rules allow, by their choices
 abbrev choosing : Bool → Bool → Bool → Bool → Bool → Choices

@@ -14,12 +14,14 @@ use Rattle.cn_amount.specs.declared.before.Before.{Before}
 use Rattle.cn_amount.specs.declared.before.Before.TheVariants.{Nothing, Gap, Filled}
 use Rattle.cn_amount.specs.declared.capital.Capital.{Capital}
 use Rattle.cn_amount.specs.declared.capital.Capital.TheVariants.{Digit, Shi, Bai, Qian, Wan, Yi, Jiao, Fen, Ren, Min, Bi}
+use Rattle.cn_amount.specs.declared.form.AmountForm.{AmountForm}
+use Rattle.cn_amount.specs.declared.form.Hand.{Hand}
 use Rattle.cn_amount.specs.declared.places.Section.{Section}
 use Rattle.cn_amount.specs.declared.places.Places.{Places}
-use Rattle.cn_amount.specs.Form.{Choices, written, is_empty, is_written, are_zero, after_digit, after_section, after_wan, after_yi, after_yuan_unit, place_text, places_text, small_places, closing, section_text, unit_text, wan_text, yi_text, yuan_unit, small_text, from_yuan, from_wan, from_yi, from_top, amount_form}
+use Rattle.cn_amount.specs.Form.{Choices, written_as, is_empty, is_written, are_zero, after_digit, after_section, after_wan, after_yi, after_yuan_unit, place_text, places_text, small_places, closing, section_text, unit_text, wan_text, yi_text, yuan_unit, small_text, from_yuan, from_wan, from_yi, from_top, amount_form}
 use Rattle.cn_amount.specs.Places.{AreDigits, ArePlaces, section_of, section_value, places_of, amount_value, amount_limit}
 use Rattle.cn_amount.specs.Reading.{capital_of, IsAmount, ReadsAmount}
-use Rattle.cn_amount.proofs.Lengths.{length-top}
+use Rattle.cn_amount.proofs.Lengths.{length-form}
 use Rattle.cn_capitals.specs.declared.text.CapitalText.{CapitalText}
 use Rattle.cn_capitals.specs.Text.{text_bytes, HasPut as HasPutAny, IsStringOf}
 use Rattle.cn_amount.specs.Working.Putting.{HasPut}
@@ -154,42 +156,42 @@ amount-of amount low =
     )
 
 -- what is written is an amount
-pub written-amount : (variant : ChineseVariant) (amount : ℕ) → amount < amount_limit
-    → IsAmount (amount_text variant amount) amount
-written-amount variant amount low = record {
-  choices = written;
+pub written-amount : (variant : ChineseVariant) (form : AmountForm) (amount : ℕ) → amount < amount_limit
+    → IsAmount (amount_text variant form amount) amount
+written-amount variant form amount low = record {
+  choices = written_as form;
   places = places_of amount;
   digits = places-of amount;
-  form = capitals-read variant (amount_form written (places_of amount))
-      (shown-form written (places_of amount) (places-of amount));
+  form = capitals-read variant form (amount_form (written_as form) (places_of amount))
+      (shown-form (written_as form) (places_of amount) (places-of amount));
   value = amount-of amount low;
 }
 
-pub written-read : (variant : ChineseVariant) (amount : ℕ) → amount < amount_limit
-    → ReadsAmount (encode_utf8_all (amount_text variant amount)) (Ok amount)
-written-read variant amount low =
+pub written-read : (variant : ChineseVariant) (form : AmountForm) (amount : ℕ) → amount < amount_limit
+    → ReadsAmount (encode_utf8_all (amount_text variant form amount)) (Ok amount)
+written-read variant form amount low =
     subst (λ text. IsAmount text amount)
-    (sym (chars-encodes (amount_text variant amount)
-    (capitals-scalar variant (amount_form written (places_of amount))
-    (shown-form written (places_of amount) (places-of amount)))))
-    (written-amount variant amount low)
+    (sym (chars-encodes (amount_text variant form amount)
+    (capitals-scalar variant form (amount_form (written_as form) (places_of amount))
+    (shown-form (written_as form) (places_of amount) (places-of amount)))))
+    (written-amount variant form amount low)
 
 -- it takes three bytes for each capital, and they are UTF-8
-pub written-length : (variant : ChineseVariant) (amount : ℕ)
-    → length (encode_utf8_all (amount_text variant amount)) ≡ 3 * length (amount_text variant amount)
-written-length variant amount =
-    every.capitals-three capital_of (capital_char variant) is_proper (capital-back variant)
-    (amount_form written (places_of amount))
-    (shown-form written (places_of amount) (places-of amount))
+pub written-length : (variant : ChineseVariant) (form : AmountForm) (amount : ℕ)
+    → length (encode_utf8_all (amount_text variant form amount)) ≡ 3 * length (amount_text variant form amount)
+written-length variant form amount =
+    every.capitals-three capital_of (capital_char variant form) is_proper (capital-back variant form)
+    (amount_form (written_as form) (places_of amount))
+    (shown-form (written_as form) (places_of amount) (places-of amount))
 
-pub written-utf8 : (variant : ChineseVariant) (amount : ℕ) (bytes : List ℕ)
-    → bytes ≡ encode_utf8_all (amount_text variant amount) → IsUtf8 bytes
-written-utf8 variant amount bytes is =
-    let form = amount_form written (places_of amount) in
-    let shows = shown-form written (places_of amount) (places-of amount) in (
-      amount_text variant amount,
+pub written-utf8 : (variant : ChineseVariant) (form : AmountForm) (amount : ℕ) (bytes : List ℕ)
+    → bytes ≡ encode_utf8_all (amount_text variant form amount) → IsUtf8 bytes
+written-utf8 variant form amount bytes is =
+    let capitals = amount_form (written_as form) (places_of amount) in
+    let shows = shown-form (written_as form) (places_of amount) (places-of amount) in (
+      amount_text variant form amount,
       (
-        capitals-scalar variant form shows,
+        capitals-scalar variant form capitals shows,
         sym is,
       ),
     )
@@ -197,29 +199,30 @@ written-utf8 variant amount bytes is =
 text-length : {Z : Type 0} (text : String Z) → string_len text ≡ length (string_bytes text)
 text-length text = let ok = text.bytes.ok in omega (arith, ok)
 
-pub written_is : {Z : Type 0} (variant : ChineseVariant) (amount : ℕ) (text : String Z)
+pub written_is : {Z : Type 0} (variant : ChineseVariant) (form : AmountForm) (amount : ℕ) (text : String Z)
     (bytes : List ℕ) → amount < amount_limit → IsStringOf bytes text
-    → bytes ≡ encode_utf8_all (amount_text variant amount) → IsText variant amount text
-written_is variant amount text bytes below is written =
+    → bytes ≡ encode_utf8_all (amount_text variant form amount) → IsText variant form amount text
+written_is variant form amount text bytes below is written =
     let same = is.content ∙ written in
     let size = text-length text in
     record {
       below = below;
       bytes = same;
-      len = omega (arith, size, ap length same, written-length variant amount);
+      len = omega (arith, size, ap length same, written-length variant form amount);
       capacity = is.capacity;
     }
 
 -- what has been put for an amount is its text, and no longer than the room
-pub text-of : (variant : ChineseVariant) (amount : ℕ) (text : CapitalText)
-    → HasPut variant text (amount_form written (places_of amount))
-    → text_bytes text ≡ encode_utf8_all (amount_text variant amount)
+pub text-of : (variant : ChineseVariant) (form : AmountForm) (amount : ℕ) (text : CapitalText Hand)
+    → HasPut (record { variant = variant; form = form }) text (amount_form (written_as form) (places_of amount))
+    → text_bytes text ≡ encode_utf8_all (amount_text variant form amount)
 unfolding HasPutAny
-text-of variant amount text put =
-    let form = length-map (amount_form written (places_of amount)) (capital_char variant) in
+text-of variant form amount text put =
+    let same = length-map (amount_form (written_as form) (places_of amount))
+    (capital_char variant form) in
     put.1 (omega (
       arith,
-      form,
-      written-length variant amount,
-      length-top written (places_of amount),
+      same,
+      written-length variant form amount,
+      length-form (written_as form) (places_of amount),
     ))

@@ -17,7 +17,7 @@ use Rattle.cn_amount.specs.Form.{amount_form}
 use Rattle.cn_amount.specs.Places.{amount_limit}
 use Rattle.cn_amount.specs.Reading.{capital_of, capitals_of, IsAmount, Begins}
 use Rattle.cn_amount.specs.Working.Steps.{step, run, accepts, is_end, add, sum_of, summed, no_sum, with_sum, advance, end, amount_machine}
-use Rattle.cn_amount.specs.Writes.{capital_char}
+use Rattle.cn_amount.specs.Writes.{capital_char, plain}
 use Rattle.cn_amount.proofs.Accepted.{accepted}
 use Rattle.cn_amount.proofs.FormsRead.{form-read}
 use Rattle.cn_amount.proofs.Runs.{run-accepts, ends-at, sum-below}
@@ -104,13 +104,13 @@ completes-proper text progress r = all-proper r.capitals (completion progress.st
 begins-read : (text : List ℕ) (progress : Progress) → IsRead text progress → Begins text
 begins-read text progress r =
     let more = completion progress.state in
-    let behind = map (capital_char Simple) more in
+    let behind = map (capital_char Simple plain) more in
     let all = r.capitals ++ more in (
       behind,
       (sum_of no_sum all).fen,
       whole-read (text ++ behind) all
           (read-both text behind r.capitals more r.is
-          (capitals-read Simple more (completion-proper progress.state)))
+          (capitals-read Simple plain more (completion-proper progress.state)))
           (completes-proper text progress r) (completes text progress r),
     )
 

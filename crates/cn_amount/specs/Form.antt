@@ -6,6 +6,7 @@ use Rattle.cn_amount.specs.declared.before.Before.{Before}
 use Rattle.cn_amount.specs.declared.before.Before.TheVariants.{Nothing, Gap, Filled}
 use Rattle.cn_amount.specs.declared.capital.Capital.{Capital}
 use Rattle.cn_amount.specs.declared.capital.Capital.TheVariants.{Ling, Digit, Shi, Bai, Qian, Wan, Yi, Yuan, Jiao, Fen, Zheng, Ren, Min, Bi}
+use Rattle.cn_amount.specs.declared.form.AmountForm.{AmountForm}
 use Rattle.cn_amount.specs.declared.places.Section.{Section}
 use Rattle.cn_amount.specs.declared.places.Places.{Places}
 
@@ -34,6 +35,18 @@ written = record {
   behind_wan = true;
   behind_yuan = false;
   behind_jiao = true;
+}
+
+-- the same, with 人民币 in front where it is asked for
+abbrev pub written_as : AmountForm → Choices
+written_as form = record {
+  currency = form.currency;
+  no_yuan = written.no_yuan;
+  behind_wan_yi = written.behind_wan_yi;
+  behind_yi = written.behind_yi;
+  behind_wan = written.behind_wan;
+  behind_yuan = written.behind_yuan;
+  behind_jiao = written.behind_jiao;
 }
 
 abbrev pub is_zero : ℕ → Bool

@@ -1,44 +1,64 @@
 -- How an amount is written, and what the printer of amounts answers.
-use Rattle.std.specs.Prelude.{◌≡◌, ℕ, ◌*◌, ◌<◌, ◌≤◌, List, length, map, codes, slice_index, Result, MatchResult, encode_utf8_all, string_bytes, string_len, string_capacity}
+use Rattle.std.specs.Prelude.{◌≡◌, ℕ, ◌*◌, ◌<◌, ◌≤◌, Bool, true, false, List, length, map, codes, slice_index, Result, MatchResult, encode_utf8_all, string_bytes, string_len, string_capacity}
 use Rattle.std.specs.declared.string.String.{String}
 use Rattle.cn_core.specs.Characters.{digit_char, unit_char}
 use Rattle.cn_core.specs.declared.case.ChineseCase.TheVariants.{Upper}
 use Rattle.cn_core.specs.declared.script.ChineseVariant.{ChineseVariant}
+use Rattle.cn_core.specs.declared.script.ChineseVariant.TheVariants.{Traditional, Simple}
 use Rattle.cn_amount.specs.declared.capital.Capital.{Capital}
 use Rattle.cn_amount.specs.declared.capital.Capital.TheVariants.{Ling, Digit, Shi, Bai, Qian, Wan, Yi, Yuan, Jiao, Fen, Zheng, Ren, Min, Bi}
 use Rattle.cn_amount.specs.declared.error.AmountToChineseError.{AmountToChineseError}
 use Rattle.cn_amount.specs.declared.error.AmountToChineseError.TheVariants.{Overflow, OutOfMemory}
-use Rattle.cn_amount.specs.Form.{written, amount_form}
+use Rattle.cn_amount.specs.declared.form.AmountForm.{AmountForm}
+use Rattle.cn_amount.specs.declared.form.Hand.{Hand}
+use Rattle.cn_amount.specs.Form.{written_as, amount_form}
 use Rattle.cn_amount.specs.Places.{amount_limit, places_of}
 
 -- a character of a text
 abbrev pub char_of : List ℕ → ℕ
 char_of text = slice_index text 0
 
--- the character that writes each; none of the last three is written
-abbrev pub capital_char : ChineseVariant → Capital → ℕ
-capital_char variant Ling = digit_char variant Upper 0
-capital_char variant (Digit value) = digit_char variant Upper value
-capital_char variant Shi = unit_char variant Upper 1
-capital_char variant Bai = unit_char variant Upper 2
-capital_char variant Qian = unit_char variant Upper 3
-capital_char variant Wan = unit_char variant Upper 4
-capital_char variant Yi = unit_char variant Upper 5
-capital_char variant Yuan = char_of (codes "元")
-capital_char variant Jiao = char_of (codes "角")
-capital_char variant Fen = char_of (codes "分")
-capital_char variant Zheng = char_of (codes "整")
-capital_char variant Ren = char_of (codes "人")
-capital_char variant Min = char_of (codes "民")
-capital_char variant Bi = char_of (codes "币")
+-- 元, or 圆 (圓) where it is asked for
+abbrev pub yuan_char : ChineseVariant → Bool → ℕ
+yuan_char variant false = char_of (codes "元")
+yuan_char Simple true = char_of (codes "圆")
+yuan_char Traditional true = char_of (codes "圓")
 
--- the bytes that write capitals
-abbrev pub shown : ChineseVariant → List Capital → List ℕ
-shown variant capitals = encode_utf8_all (map (capital_char variant) capitals)
+-- 整, or 正 where it is asked for
+abbrev pub closing_char : Bool → ℕ
+closing_char false = char_of (codes "整")
+closing_char true = char_of (codes "正")
 
--- the characters of an amount
-abbrev pub amount_text : ChineseVariant → ℕ → List ℕ
-amount_text variant amount = map (capital_char variant) (amount_form written (places_of amount))
+-- 币 (幣)
+abbrev pub currency_char : ChineseVariant → ℕ
+currency_char Simple = char_of (codes "币")
+currency_char Traditional = char_of (codes "幣")
+
+-- the character that writes each in a form
+abbrev pub capital_char : ChineseVariant → AmountForm → Capital → ℕ
+capital_char variant form Ling = digit_char variant Upper 0
+capital_char variant form (Digit value) = digit_char variant Upper value
+capital_char variant form Shi = unit_char variant Upper 1
+capital_char variant form Bai = unit_char variant Upper 2
+capital_char variant form Qian = unit_char variant Upper 3
+capital_char variant form Wan = unit_char variant Upper 4
+capital_char variant form Yi = unit_char variant Upper 5
+capital_char variant form Yuan = yuan_char variant form.round_yuan
+capital_char variant form Jiao = char_of (codes "角")
+capital_char variant form Fen = char_of (codes "分")
+capital_char variant form Zheng = closing_char form.upright_closing
+capital_char variant form Ren = char_of (codes "人")
+capital_char variant form Min = char_of (codes "民")
+capital_char variant form Bi = currency_char variant
+
+-- and by a hand
+abbrev pub char_by : Hand → Capital → ℕ
+char_by hand capital = capital_char hand.variant hand.form capital
+
+-- the characters of an amount in a form
+abbrev pub amount_text : ChineseVariant → AmountForm → ℕ → List ℕ
+amount_text variant form amount =
+    map (capital_char variant form) (amount_form (written_as form) (places_of amount))
 
 -- when each refusal comes: memory is asked for only where the amount is written
 abbrev pub RefusesAmount : ℕ → AmountToChineseError → Type 0
@@ -46,15 +66,24 @@ RefusesAmount amount Overflow = amount_limit ≤ amount
 RefusesAmount amount OutOfMemory = amount < amount_limit
 
 -- the text of an amount, three bytes for each character; it holds no more memory than its bytes
-pub record IsText {Z : Type 0} (variant : ChineseVariant) (amount : ℕ) (text : String Z)
-    : Type 0 where
+pub record IsText {Z : Type 0} (variant : ChineseVariant) (form : AmountForm) (amount : ℕ)
+    (text : String Z) : Type 0 where
   pub below : amount < amount_limit
-  pub bytes : string_bytes text ≡ encode_utf8_all (amount_text variant amount)
-  pub len : string_len text ≡ 3 * length (amount_text variant amount)
+  pub bytes : string_bytes text ≡ encode_utf8_all (amount_text variant form amount)
+  pub len : string_len text ≡ 3 * length (amount_text variant form amount)
   pub capacity : string_capacity text ≡ string_len text
 
--- the text of an amount, or the refusal
+-- the text of an amount in a form, or the refusal
+abbrev pub WritesAmountAs : {Z : Type 0} → ChineseVariant → AmountForm → ℕ
+    → Result (String Z) AmountToChineseError → Type 0
+WritesAmountAs variant form amount result =
+    MatchResult result (IsText variant form amount) (RefusesAmount amount)
+
+-- the form that is plain: nothing is asked for
+abbrev pub plain : AmountForm
+plain = record { currency = false; round_yuan = false; upright_closing = false }
+
+-- the same in the plain form
 abbrev pub WritesAmount : {Z : Type 0} → ChineseVariant → ℕ
     → Result (String Z) AmountToChineseError → Type 0
-WritesAmount variant amount result =
-    MatchResult result (IsText variant amount) (RefusesAmount amount)
+WritesAmount variant amount result = WritesAmountAs variant plain amount result

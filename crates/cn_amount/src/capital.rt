@@ -1,9 +1,10 @@
 // The characters of an amount.
 ghost use Rattle.std.specs.Prelude.{◌≡◌, ◌==◌, ◌*◌, ◌/◌, ◌%◌, slice_index_or, if◌then◌else◌};
 ghost use Rattle.cn_amount.specs.Working.Putting.{IsWritten};
-ghost use Rattle.cn_amount.specs.Writes.{capital_char};
+ghost use Rattle.cn_amount.specs.Writes.{char_by, yuan_char, closing_char, currency_char};
 ghost use Rattle.cn_amount.specs.Reading.{capital_of};
 
+use crate::form::Hand;
 use cn_capitals::Written;
 use cn_core::{ChineseCase, ChineseVariant, Unit, digit_char, unit_char};
 
@@ -24,13 +25,13 @@ pub enum Capital {
     Wan,
     /// 亿, 10^8.
     Yi,
-    /// 元
+    /// 元, or 圆.
     Yuan,
     /// 角, the tenth part of a yuan.
     Jiao,
     /// 分, the hundredth.
     Fen,
-    /// 整, which closes an amount.
+    /// 整, or 正, which closes an amount.
     Zheng,
     /// 人, the first character of the currency, 人民币.
     Ren,
@@ -40,12 +41,41 @@ pub enum Capital {
     Bi,
 }
 
-impl Written for Capital {
+// 元, or 圆 where it is asked for.
+fn yuan_char(hand: Hand) -> char
+    ensures { result ≡ yuan_char hand.variant hand.form.round_yuan }
+{
+    match (hand.form.round_yuan, hand.variant) {
+        (false, _) => '元',
+        (true, ChineseVariant::Simple) => '圆',
+        (true, ChineseVariant::Traditional) => '圓',
+    }
+}
+
+// 整, or 正 where it is asked for.
+fn closing_char(upright: bool) -> char
+    ensures { result ≡ closing_char upright }
+{
+    if upright { '正' } else { '整' }
+}
+
+// 币
+fn currency_char(variant: ChineseVariant) -> char
+    ensures { result ≡ currency_char variant }
+{
+    match variant {
+        ChineseVariant::Simple => '币',
+        ChineseVariant::Traditional => '幣',
+    }
+}
+
+impl Written<Hand> for Capital {
     ghost can_write = { IsWritten };
 
-    ghost character = { capital_char };
+    ghost character = { char_by };
 
-    fn character(self, variant: ChineseVariant) -> char {
+    fn character(self, hand: Hand) -> char {
+        let variant = hand.variant;
         match self {
             Capital::Ling => digit_char(variant, ChineseCase::Upper, 0),
             Capital::Digit(digit) => digit_char(variant, ChineseCase::Upper, digit),
@@ -54,13 +84,13 @@ impl Written for Capital {
             Capital::Qian => unit_char(variant, ChineseCase::Upper, Unit::Qian),
             Capital::Wan => unit_char(variant, ChineseCase::Upper, Unit::Wan),
             Capital::Yi => unit_char(variant, ChineseCase::Upper, Unit::Yi),
-            Capital::Yuan => '元',
+            Capital::Yuan => yuan_char(hand),
             Capital::Jiao => '角',
             Capital::Fen => '分',
-            Capital::Zheng => '整',
+            Capital::Zheng => closing_char(hand.form.upright_closing),
             Capital::Ren => '人',
             Capital::Min => '民',
-            Capital::Bi => '币',
+            Capital::Bi => currency_char(variant),
         }
     }
 }

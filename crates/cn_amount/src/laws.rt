@@ -1,14 +1,16 @@
 //! What users can count on, each as the contract of a function that does nothing.
 ghost use Rattle.std.specs.Prelude.{◌≡◌, ℕ, ◌<◌, ◌≤◌, List, ◌++◌, length, Result, Ok, Err, encode_utf8_all};
 ghost use Rattle.cn_core.specs.declared.script.ChineseVariant.{ChineseVariant};
+ghost use Rattle.cn_amount.specs.declared.form.AmountForm.{AmountForm};
 ghost use Rattle.cn_amount.specs.Places.{amount_limit};
 ghost use Rattle.cn_amount.specs.Reading.{AmountRefusal, incorrect_at, IsAmount, Answers, ReadsAmount};
 ghost use Rattle.cn_amount.specs.Writes.{amount_text};
 
-/// What is written for an amount is read as that amount, by the definition of reading.
+/// What is written for an amount, in each form, is read as that amount, by the definition of reading.
 pub fn written_amounts_are_amounts()
-    ensures { (variant : ChineseVariant) → (amount : ℕ) → amount < amount_limit
-        → ReadsAmount (encode_utf8_all (amount_text variant amount)) (Ok amount) }
+    ensures { (variant : ChineseVariant) → (form : AmountForm) → (amount : ℕ)
+        → amount < amount_limit
+        → ReadsAmount (encode_utf8_all (amount_text variant form amount)) (Ok amount) }
 {}
 
 /// No text stands for two amounts.

@@ -2,7 +2,8 @@
 //!
 //! What a form is stands in `specs/Form`, by places from the top: a digit that is not 0 with its
 //! unit, and 零 in front of it where the digit directly before it is 0. `Choices` are what the rules
-//! leave open; the form that is written makes one choice of each.
+//! leave open; the form that is written makes one choice of each, but that 人民币 may be asked for, and
+//! so may 圆 and 正 in place of 元 and 整.
 //!
 //! Writing puts that form piece by piece into room for the longest one, from which a string is made.
 //! Reading goes from the left, by states that say what may follow. What can still be written at each
@@ -15,6 +16,7 @@
 mod before;
 mod capital;
 mod error;
+mod form;
 pub mod laws;
 mod places;
 mod progress;
@@ -27,5 +29,6 @@ mod tests;
 mod write;
 
 pub use error::{AmountToChineseError, ChineseToAmountError};
+pub use form::AmountForm;
 pub use read::chinese_to_amount;
-pub use write::{AMOUNT_LIMIT, amount_text, amount_to_chinese};
+pub use write::{AMOUNT_LIMIT, amount_text, amount_to_chinese, amount_to_chinese_as};

@@ -1,18 +1,20 @@
 // A form of an amount, put piece by piece: each digit that is not 0 with its unit, and 零 in front of
 // it where the digit directly before it is 0.
-ghost use Rattle.std.specs.Prelude.{◌≡◌, ◌<◌, true, List, [], ◌∷◌, ◌++◌};
+ghost use Rattle.std.specs.Prelude.{◌≡◌, ◌<◌, true, List, [], ◌∷◌, ◌++◌, if◌then◌else◌};
 ghost use Rattle.cn_amount.specs.declared.capital.Capital.{Capital};
-ghost use Rattle.cn_amount.specs.Form.{place_text, section_text, wan_text, yi_text, yuan_unit, small_text, from_yuan, from_wan, from_yi, amount_form, written};
+ghost use Rattle.cn_amount.specs.declared.capital.Capital.TheVariants.{Ren, Min, Bi};
+ghost use Rattle.cn_amount.specs.Form.{place_text, section_text, wan_text, yi_text, yuan_unit, small_text, from_yuan, from_wan, from_yi, amount_form, written, written_as};
 ghost use Rattle.cn_amount.specs.Places.{AreDigits, ArePlaces};
 ghost use Rattle.cn_amount.specs.Working.Putting.{IsWritten, PutsMore};
 
 use crate::before::Before;
 use crate::capital::Capital;
+use crate::form::{AmountForm, Hand};
 use crate::places::{Places, Section};
 use cn_capitals::CapitalText;
 
 // A digit of a place that has no unit of its own.
-fn put_digit(text: &mut CapitalText, before: Before, digit: u8)
+fn put_digit(text: &mut CapitalText<Hand>, before: Before, digit: u8)
     requires { digit < 10 }
     ensures { PutsMore text.old text.new (place_text before digit []) }
 {
@@ -25,7 +27,7 @@ fn put_digit(text: &mut CapitalText, before: Before, digit: u8)
 }
 
 /// A digit and its unit.
-pub fn put_place(text: &mut CapitalText, before: Before, digit: u8, unit: Capital)
+pub fn put_place(text: &mut CapitalText<Hand>, before: Before, digit: u8, unit: Capital)
     requires digit { digit < 10 }
     requires unit { IsWritten unit }
     ensures { PutsMore text.old text.new (place_text before digit (unit ∷ [])) }
@@ -37,7 +39,7 @@ pub fn put_place(text: &mut CapitalText, before: Before, digit: u8, unit: Capita
 }
 
 /// Four digits.
-pub fn put_section(text: &mut CapitalText, before: Before, section: Section)
+pub fn put_section(text: &mut CapitalText<Hand>, before: Before, section: Section)
     requires { AreDigits section }
     ensures { PutsMore text.old text.new (section_text before section) }
 {
@@ -50,7 +52,7 @@ pub fn put_section(text: &mut CapitalText, before: Before, section: Section)
 }
 
 // A section that 万 counts, and 万.
-fn put_wan(text: &mut CapitalText, before: Before, section: Section)
+fn put_wan(text: &mut CapitalText<Hand>, before: Before, section: Section)
     requires { AreDigits section }
     ensures { PutsMore text.old text.new (wan_text before section) }
 {
@@ -61,7 +63,7 @@ fn put_wan(text: &mut CapitalText, before: Before, section: Section)
 }
 
 // The section that 亿 counts, and 亿, if there is something that it counts.
-fn put_yi(text: &mut CapitalText, before: Before, section: Section)
+fn put_yi(text: &mut CapitalText<Hand>, before: Before, section: Section)
     requires { AreDigits section }
     ensures { PutsMore text.old text.new (yi_text before section) }
 {
@@ -72,7 +74,7 @@ fn put_yi(text: &mut CapitalText, before: Before, section: Section)
 }
 
 // Behind the yuan: 元, or 零元 for nothing at all.
-fn put_yuan_unit(text: &mut CapitalText, after: Before, named: bool)
+fn put_yuan_unit(text: &mut CapitalText<Hand>, after: Before, named: bool)
     ensures { PutsMore text.old text.new (yuan_unit after named) }
 {
     if after.is_written() {
@@ -84,7 +86,7 @@ fn put_yuan_unit(text: &mut CapitalText, after: Before, named: bool)
 }
 
 // The jiao, the fen, and 整 where there are no fen.
-fn put_small(text: &mut CapitalText, before: Before, jiao: u8, fen: u8)
+fn put_small(text: &mut CapitalText<Hand>, before: Before, jiao: u8, fen: u8)
     requires jiao { jiao < 10 }
     requires fen { fen < 10 }
     ensures { PutsMore text.old text.new (small_text before jiao fen true) }
@@ -97,7 +99,7 @@ fn put_small(text: &mut CapitalText, before: Before, jiao: u8, fen: u8)
 }
 
 // From the section of 一 down.
-fn put_yuan(text: &mut CapitalText, before: Before, places: Places)
+fn put_yuan(text: &mut CapitalText<Hand>, before: Before, places: Places)
     requires { ArePlaces places }
     ensures { PutsMore text.old text.new (from_yuan written before places) }
 {
@@ -109,7 +111,7 @@ fn put_yuan(text: &mut CapitalText, before: Before, places: Places)
 }
 
 // From the section of 万 down.
-fn put_from_wan(text: &mut CapitalText, before: Before, places: Places)
+fn put_from_wan(text: &mut CapitalText<Hand>, before: Before, places: Places)
     requires { ArePlaces places }
     ensures { PutsMore text.old text.new (from_wan written before places) }
 {
@@ -118,7 +120,7 @@ fn put_from_wan(text: &mut CapitalText, before: Before, places: Places)
 }
 
 // From the section of 亿 down.
-fn put_from_yi(text: &mut CapitalText, before: Before, places: Places)
+fn put_from_yi(text: &mut CapitalText<Hand>, before: Before, places: Places)
     requires { ArePlaces places }
     ensures { PutsMore text.old text.new (from_yi written before places) }
 {
@@ -126,11 +128,23 @@ fn put_from_yi(text: &mut CapitalText, before: Before, places: Places)
     put_from_wan(text, before.after_section(places.yi), places);
 }
 
-/// The form that is written.
-pub fn put_amount(text: &mut CapitalText, places: Places)
-    requires { ArePlaces places }
-    ensures { PutsMore text.old text.new (amount_form written places) }
+// 人民币, where it is asked for.
+fn put_currency(text: &mut CapitalText<Hand>, currency: bool)
+    ensures { PutsMore text.old text.new (if currency then Ren ∷ Min ∷ Bi ∷ [] else []) }
 {
+    if currency {
+        text.put(Capital::Ren);
+        text.put(Capital::Min);
+        text.put(Capital::Bi);
+    }
+}
+
+/// The form that is written, as it is asked for.
+pub fn put_amount(text: &mut CapitalText<Hand>, form: AmountForm, places: Places)
+    requires { ArePlaces places }
+    ensures { PutsMore text.old text.new (amount_form (written_as form) places) }
+{
+    put_currency(text, form.currency);
     put_wan(text, Before::Nothing, places.wan_yi);
     put_from_yi(text, Before::Nothing.after_wan(places.wan_yi), places);
 }

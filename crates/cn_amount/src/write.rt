@@ -2,10 +2,11 @@
 ghost use Rattle.std.specs.Prelude.{◌≡◌, ◌<◌, ◌≤◌, length, encode_utf8_all};
 ghost use Rattle.cn_capitals.specs.Text.{text_bytes};
 ghost use Rattle.cn_amount.specs.Places.{amount_limit};
-ghost use Rattle.cn_amount.specs.Writes.{WritesAmount, amount_text};
+ghost use Rattle.cn_amount.specs.Writes.{WritesAmountAs, WritesAmount, amount_text};
 
 use crate::AmountToChineseError;
 use crate::capital::Capital;
+use crate::form::{AmountForm, Hand};
 use crate::places::Places;
 use crate::put::put_amount;
 use cn_capitals::CapitalText;
@@ -16,13 +17,13 @@ use std::alloc::Global;
 pub const AMOUNT_LIMIT: u64 = 1_000_000_000_000_000_000;
 
 /// The text of an amount below the limit, in room of its own.
-pub fn amount_text(variant: ChineseVariant, fen: u64) -> CapitalText
+pub fn amount_text(variant: ChineseVariant, form: AmountForm, fen: u64) -> CapitalText<Hand>
     requires { fen < amount_limit }
-    ensures bytes { text_bytes result ≡ encode_utf8_all (amount_text variant fen) }
-    ensures most { length (text_bytes result) ≤ 108 }
+    ensures bytes { text_bytes result ≡ encode_utf8_all (amount_text variant form fen) }
+    ensures most { length (text_bytes result) ≤ 117 }
 {
-    let mut text = CapitalText::new::<Capital>(variant);
-    put_amount(&mut text, Places::of(fen));
+    let mut text = CapitalText::<Hand>::new::<Capital>(Hand { variant, form });
+    put_amount(&mut text, form, Places::of(fen));
     text
 }
 
@@ -43,8 +44,25 @@ pub fn amount_to_chinese(
 ) -> Result<String, AmountToChineseError>
     ensures { WritesAmount variant fen result }
 {
+    amount_to_chinese_as(alloc, variant, AmountForm::PLAIN, fen)
+}
+
+/// The amount in capitals, as `amount_to_chinese` writes it, but in the form that is asked for.
+///
+/// ```text
+/// let form = AmountForm { currency: true, ..AmountForm::PLAIN };
+/// amount_to_chinese_as(alloc, ChineseVariant::Simple, form, 1_500) == Ok("人民币壹拾伍元整")
+/// ```
+pub fn amount_to_chinese_as(
+    alloc: Global,
+    variant: ChineseVariant,
+    form: AmountForm,
+    fen: u64,
+) -> Result<String, AmountToChineseError>
+    ensures { WritesAmountAs variant form fen result }
+{
     if fen >= AMOUNT_LIMIT {
         return Err(AmountToChineseError::Overflow);
     }
-    Ok(amount_text(variant, fen).to_string(alloc)?)
+    Ok(amount_text(variant, form, fen).to_string(alloc)?)
 }

@@ -4,6 +4,7 @@ use Rattle.std.proofs.lemmas.Bool.{ltb-true}
 use Rattle.std.proofs.lemmas.Str.{is_utf8-from_IsUtf8}
 use Rattle.std.specs.Str.{IsUtf8}
 use Rattle.cn_core.specs.declared.script.ChineseVariant.{ChineseVariant}
+use Rattle.cn_amount.specs.declared.form.AmountForm.{AmountForm}
 use Rattle.cn_amount.specs.Places.{amount_limit}
 use Rattle.cn_amount.specs.Reading.{AmountRefusal, IsAmount, ReadsAmount}
 use Rattle.cn_amount.specs.Working.Steps.{amount_machine}
@@ -18,41 +19,43 @@ use Rattle.cn_c.specs.Prints.{PutsNothing, PutsIfItFits}
 use Rattle.cn_c.proofs.ReadBack.{put-text}
 
 -- the one answer to a text that is written for an amount is this amount
-one-answer : (script : ChineseVariant) (fen : ℕ) (text : List ℕ) (answer : Result ℕ AmountRefusal)
-    → fen < amount_limit → text ≡ encode_utf8_all (amount_text script fen)
+one-answer : (script : ChineseVariant) (form : AmountForm) (fen : ℕ) (text : List ℕ)
+    (answer : Result ℕ AmountRefusal) → fen < amount_limit → text ≡ encode_utf8_all (amount_text script form fen)
     → ReadsAmount text answer → answer ≡ Ok fen
-one-answer script fen text answer below is reads =
+one-answer script form fen text answer below is reads =
     every.one-answer IsAmount (every.one-value IsAmount amount_machine amount-reads) (chars text)
     answer (Ok fen) reads
-    (subst (λ text. ReadsAmount text (Ok fen)) (sym is) (written-read script fen below))
+    (subst (λ text. ReadsAmount text (Ok fen)) (sym is) (written-read script form fen below))
 
-pub amount-back : (fen : ℕ) (script : Option ChineseVariant) (old new : List ℕ) (len : ℕ)
-    → IsAmountPrintedAs fen script old CN_DONE new len
+pub amount-back : (fen : ℕ) (script : Option ChineseVariant)
+    (form : Option AmountForm) (old new : List ℕ) (len : ℕ)
+    → IsAmountPrintedAs fen script form old CN_DONE new len
     → IsUtf8 (take len new)
     × ((status : ℕ) (amount : Amount) → IsAmountRead (take len new) status amount
-    → (status ≡ CN_DONE) × (amount ≡ record { fen = fen; char_index = 0 }))
-amount-back fen None old new len printed = absurd (omega (arith, printed.0))
-amount-back fen (Some script) old new len printed = by (nat_lt fen amount_limit) refl printed where
+    → (status ≡ CN_DONE) × (amount ≡ record { fen = fen; char_index = 0; byte_index = 0 }))
+amount-back fen None form old new len printed = absurd (omega (arith, printed.0))
+amount-back fen (Some script) None old new len printed = absurd (omega (arith, printed.0))
+amount-back fen (Some script) (Some form) old new len printed = by (nat_lt fen amount_limit) refl printed where
   bytes : List ℕ
-  bytes = encode_utf8_all (amount_text script fen)
+  bytes = encode_utf8_all (amount_text script form fen)
 
   told : (status : ℕ) (amount : Amount) (answer : Result ℕ AmountRefusal) → answer ≡ Ok fen
-      → TellsAmount answer status amount
-      → (status ≡ CN_DONE) × (amount ≡ record { fen = fen; char_index = 0 })
+      → TellsAmount (take len new) answer status amount
+      → (status ≡ CN_DONE) × (amount ≡ record { fen = fen; char_index = 0; byte_index = 0 })
   told status amount answer e tells = rw e at tells
 
   by : (b : Bool) → nat_lt fen amount_limit ≡ b
       → MatchBool b (PutsIfItFits bytes old CN_DONE new len) (PutsNothing 3 old CN_DONE new len)
       → IsUtf8 (take len new)
       × ((status : ℕ) (amount : Amount) → IsAmountRead (take len new) status amount
-      → (status ≡ CN_DONE) × (amount ≡ record { fen = fen; char_index = 0 }))
+      → (status ≡ CN_DONE) × (amount ≡ record { fen = fen; char_index = 0; byte_index = 0 }))
   by true e h =
       let text = put-text bytes old new len h in
-      let utf8 = written-utf8 script fen (take len new) text in (
+      let utf8 = written-utf8 script form fen (take len new) text in (
         utf8,
         λ status amount is.
             let read : (answer : Result ℕ AmountRefusal) × ReadsAmount (take len new) answer
-            × TellsAmount answer status amount = rw (is_utf8-from_IsUtf8 (take len new) utf8) at is in
-            told status amount read.0 (one-answer script fen (take len new) read.0 (ltb-true fen amount_limit e) text read.1) read.2,
+            × TellsAmount (take len new) answer status amount = rw (is_utf8-from_IsUtf8 (take len new) utf8) at is in
+            told status amount read.0 (one-answer script form fen (take len new) read.0 (ltb-true fen amount_limit e) text read.1) read.2,
       )
   by false e h = absurd (omega (arith, h.0))

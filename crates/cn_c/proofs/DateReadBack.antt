@@ -38,9 +38,9 @@ date-back date (Some script) old new len (inl put) =
       utf8,
       λ status told is.
           let read : (answer : Result BillDate DateRefusal) × ReadsDate (take len new) answer
-          × TellsDate answer status told = rw (is_utf8-from_IsUtf8 (take len new) utf8) at is in
+          × TellsDate (take len new) answer status told = rw (is_utf8-from_IsUtf8 (take len new) utf8) at is in
           tells status told read.0 (one-answer script date (take len new) read.0 put.0 text read.1) read.2,
     ) where
       tells : (status : ℕ) (told : Date) (answer : Result BillDate DateRefusal) → answer ≡ Ok date
-          → TellsDate answer status told → (status ≡ CN_DONE) × (told ≡ date_told date)
+          → TellsDate (take len new) answer status told → (status ≡ CN_DONE) × (told ≡ date_told date)
       tells status told answer e is = rw e at is

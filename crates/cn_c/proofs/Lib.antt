@@ -1,3 +1,4 @@
 pub mod AmountReadBack
 pub mod DateReadBack
+pub mod Passing
 pub mod ReadBack

@@ -1,5 +1,5 @@
 -- What is printed is read back as the same number.
-use Rattle.std.proofs.Common.{◌≡◌, ℕ, ◌-◌, ◌^◌, ◌<◌, ◌≤◌, ℤ, pos, int_lt, nat_abs, nat_le, Bool, true, false, MatchBool, MatchOption, List, [], ◌∷◌, ◌++◌, length, take, drop, encode_utf8_all, Option, Some, None, Result, Ok, Err, if◌then◌else◌, refl, ◌∙◌, arith}
+use Rattle.std.proofs.Common.{◌≡◌, ℕ, suc, decimal, is_some, ◌&&◌, slice_get, option_map, sym, ap, subst, ◌-◌, ◌^◌, ◌<◌, ◌≤◌, ℤ, pos, int_lt, nat_abs, nat_le, Bool, true, false, MatchBool, MatchOption, List, [], ◌∷◌, ◌++◌, length, take, drop, encode_utf8_all, Option, Some, None, Result, Ok, Err, if◌then◌else◌, refl, ◌∙◌, arith}
 use Rattle.std.proofs.Math.Seq.{take-append_seam}
 use Rattle.std.proofs.lemmas.Int.{ints}
 use Rattle.std.proofs.lemmas.Str.{IsUtf8-nil, IsUtf8-append, IsUtf8-encode, is_utf8-from_IsUtf8}
@@ -10,15 +10,22 @@ use Rattle.cn_core.specs.declared.script.ChineseVariant.{ChineseVariant}
 use Rattle.cn_core.specs.Refusal.{Refusal, too_large, too_small}
 use Rattle.cn_core.specs.Spelling.{spelling}
 use Rattle.cn_core.specs.Whole.{Kind, holds, unsigned_kind, signed_kind}
-use Rattle.cn_core.specs.Printing.{signed_text, naive_text, spelled_text, is_printable}
-use Rattle.cn_core.specs.Mark.{Mark}
+use Rattle.cn_core.specs.Printing.{signed_text, signed_bytes, naive_text, spelled_text, is_printable}
+use Rattle.cn_core.specs.Characters.{digit_of, rank_of}
+use Rattle.cn_core.specs.Mark.{Mark, mark_from}
+use Rattle.cn_core.specs.Naive.{decimal_digits, decimal_value, naive_answer}
+use Rattle.cn_core.specs.Reading.{naive_reading, sign_len, typed_answer}
+use Rattle.cn_core.specs.Text.{text_of, marks_of}
+use Rattle.chinese_number.specs.Digits.{is_digit}
+use Rattle.chinese_number.specs.Number.{is_plain}
+use Rattle.chinese_number.specs.Parts.{unsigned_text}
 use Rattle.cn_core.proofs.Fronts.{and-left, and-right}
 use Rattle.cn_spell.proofs.NaiveTexts.{three-naive}
 use Rattle.cn_core.proofs.Characters.{takes_three}
 use Rattle.cn_spell.proofs.ThreeBytes.{IsUtf8-three, three-minus}
-use Rattle.chinese_number.proofs.PlainDigits.{naive_reading-signed_text}
+use Rattle.chinese_number.proofs.PlainDigits.{naive_reading-signed_text, decimal_is, starts}
 use Rattle.chinese_number.proofs.Printed.{is_printed, IsReadBack-marks}
-use Rattle.chinese_number.proofs.Reading.{IsWhole, Reads-same, Reads-spelled}
+use Rattle.chinese_number.proofs.Reading.{IsWhole, HasParts-signed_text, minus_is_signed, Reads-same, Reads-spelled}
 use Rattle.chinese_number.proofs.SpelledMarks.{below_square, spelling-printed}
 use Rattle.cn_c.specs.declared.codes.Kind.{Kind as KindCode}
 use Rattle.cn_c.specs.declared.codes.Kind.TheVariants.{U8, U16, U32, U64, U128, I8, I16, I32, I64, I128}
@@ -27,11 +34,13 @@ use Rattle.cn_faces.specs.declared.Way.TheVariants.{Digits, Units}
 use Rattle.cn_c.specs.declared.number.Number.{Number}
 use Rattle.cn_c.specs.declared.reading.Reading.{Reading}
 use Rattle.cn_faces.specs.Ways.{ReadsBy, unprintable, written_by}
-use Rattle.cn_c.specs.Codes.{CN_DONE, refusal_status}
+use Rattle.cn_c.specs.declared.codes.ReadingWay.{ReadingWay}
+use Rattle.cn_c.specs.declared.codes.ReadingWay.TheVariants.{By, Either}
+use Rattle.cn_c.specs.Codes.{CN_DONE, ways, reading_ways, refusal_status}
 use Rattle.cn_c.specs.Halves.{number_of}
 use Rattle.cn_c.specs.Kinds.{the_kind}
 use Rattle.cn_c.specs.Prints.{PutsNothing, PutsIfItFits, PutsWritten, PrintsNumber, IsPrintedAs}
-use Rattle.cn_c.specs.Reads.{Tells, ReadsInto, IsReadAs}
+use Rattle.cn_c.specs.Reads.{Answers, Tells, ReadsInto, IsReadAs}
 
 -- what is put where all goes well
 pub put-text : (text old new : List ℕ) (len : ℕ) → PutsIfItFits text old CN_DONE new len
@@ -114,52 +123,109 @@ whole I64 = signed-whole 64 (omega arith)
 whole I128 = signed-whole 128 (omega arith)
 
 -- and so it is told
-read-as : (kind : KindCode) (way : Way) (script : ChineseVariant) (case : ChineseCase) (number : Number) (old new : List ℕ) (len : ℕ)
+told : (signed : Bool) (text : List ℕ) (value : ℤ) (status : ℕ) (reading : Reading)
+    (answer : Result ℤ Refusal) → answer ≡ Ok value → Tells signed text answer status reading
+    → (status ≡ CN_DONE) × (number_of signed reading.number ≡ value)
+    × (reading.char_index ≡ 0) × (reading.byte_index ≡ 0)
+told signed text value status reading answer e tells = rw e at tells
+
+-- the bytes are read back, by the type and the way that two codes name
+abbrev pub ReadsBackAs : List ℕ → Option KindCode → Option ReadingWay → Number → Type 0
+ReadsBackAs bytes kind way number =
+    IsUtf8 bytes × ((status : ℕ) (reading : Reading) → IsReadAs kind way bytes status reading
+    → (status ≡ CN_DONE) × MatchOption kind ⊥
+    (λ kind. number_of (the_kind kind).signed reading.number
+    ≡ number_of (the_kind kind).signed number)
+    × (reading.char_index ≡ 0) × (reading.byte_index ≡ 0))
+
+-- so is what is printed in one way, where another way answers it by its number
+abbrev IsAnswered : Way → ReadingWay → Type 0
+IsAnswered way to_read = (kind : Kind) (script : ChineseVariant) (case : ChineseCase) (number : ℤ)
+    (old new : List ℕ) (len : ℕ) → IsWhole kind → holds kind number ≡ true
+    → PutsWritten (written_by way script case number) old CN_DONE new len
+    → IsUtf8 (take len new) × ((answer : Result ℤ Refusal)
+    → Answers kind to_read (take len new) answer → answer ≡ Ok number)
+
+read-as : (way : Way) (to_read : ReadingWay) → IsAnswered way to_read
+    → (kind : KindCode) (script : ChineseVariant) (case : ChineseCase) (number : Number) (old new : List ℕ) (len : ℕ)
     → PrintsNumber (the_kind kind) way script case (number_of (the_kind kind).signed number) old CN_DONE new len
-    → IsUtf8 (take len new)
-    × ((status : ℕ) (reading : Reading)
-    → IsReadAs (Some kind) (Some way) (take len new) status reading
-    → (status ≡ CN_DONE) × (number_of (the_kind kind).signed reading.number
-    ≡ number_of (the_kind kind).signed number) × (reading.char_index ≡ 0))
-read-as code way script case number old new len = by (holds kind value) refl where
+    → ReadsBackAs (take len new) (Some kind) (Some to_read) number
+read-as way to_read answered code script case number old new len = by (holds kind value) refl where
   kind : Kind
   kind = the_kind code
 
   value : ℤ
   value = number_of kind.signed number
 
-  told : (status : ℕ) (reading : Reading) (answer : Result ℤ Refusal) → answer ≡ Ok value
-      → Tells kind.signed answer status reading
-      → (status ≡ CN_DONE) × (number_of kind.signed reading.number ≡ value)
-      × (reading.char_index ≡ 0)
-  told status reading answer e tells = rw e at tells
-
   by : (b : Bool) → holds kind value ≡ b → MatchBool b (PutsWritten (written_by way script case value) old CN_DONE new len) (PutsNothing 7 old CN_DONE new len)
-      → IsUtf8 (take len new)
-      × ((status : ℕ) (reading : Reading)
-      → IsReadAs (Some code) (Some way) (take len new) status reading
-      → (status ≡ CN_DONE) × (number_of kind.signed reading.number ≡ value)
-      × (reading.char_index ≡ 0))
+      → ReadsBackAs (take len new) (Some code) (Some to_read) number
   by true e h =
-      let back = read-by kind way script case value old new len (whole code) e h in (
+      let back = answered kind script case value old new len (whole code) e h in (
         back.0,
         λ status reading is.
-            let read : ReadsInto kind way (take len new) status reading =
+            let read : ReadsInto kind to_read (take len new) status reading =
             rw (is_utf8-from_IsUtf8 (take len new) back.0) at is in
-            told status reading read.0 (back.1 read.0 read.1) read.2,
+            told kind.signed (take len new) value status reading read.0 (back.1 read.0 read.1) read.2,
       )
   by false e h = absurd (omega (arith, h.0))
 
-pub read-back : (number : Number) (kind : Option KindCode) (way : Option Way) (script : Option ChineseVariant) (case : Option ChineseCase) (old new : List ℕ) (len : ℕ)
-    → IsPrintedAs number kind way script case old CN_DONE new len
-    → IsUtf8 (take len new)
-    × ((status : ℕ) (reading : Reading) → IsReadAs kind way (take len new) status reading
-    → (status ≡ CN_DONE) × MatchOption kind ⊥
-    (λ kind. number_of (the_kind kind).signed reading.number
-    ≡ number_of (the_kind kind).signed number) × (reading.char_index ≡ 0))
-read-back number (Some kind) (Some way) (Some script) (Some case) old new len h = read-as kind way script case number old new len h
-read-back number None way script case old new len h = absurd (omega (arith, h.0))
-read-back number (Some kind) None script case old new len h = absurd (omega (arith, h.0))
-read-back number (Some kind) (Some way) None case old new len h = absurd (omega (arith, h.0))
-read-back number (Some kind) (Some way) (Some script) None old new len h =
-    absurd (omega (arith, h.0))
+read-named : (way : Way) (to_read : ReadingWay) → IsAnswered way to_read
+    → (number : Number) (kind : Option KindCode) (script : Option ChineseVariant) (case : Option ChineseCase) (old new : List ℕ) (len : ℕ)
+    → IsPrintedAs number kind (Some way) script case old CN_DONE new len
+    → ReadsBackAs (take len new) kind (Some to_read) number
+read-named way to_read answered number (Some kind) (Some script) (Some case) old new len h = read-as way to_read answered kind script case number old new len h
+read-named way to_read answered number None script case old new len h = absurd (omega (arith, h.0))
+read-named way to_read answered number (Some kind) None case old new len h = absurd (omega (arith, h.0))
+read-named way to_read answered number (Some kind) (Some script) None old new len h = absurd (omega (arith, h.0))
+
+-- a way's code names it for reading too
+reading_way : (code : ℕ) (way : Way) → slice_get ways code ≡ Some way
+    → slice_get reading_ways code ≡ Some (By way)
+reading_way 0 way e = ap (option_map By) e
+reading_way 1 way e = ap (option_map By) e
+reading_way 2 way e = ap (option_map By) e
+reading_way 3 way e = ap (option_map By) e
+reading_way 4 way e = ap (option_map By) e
+reading_way (suc (suc (suc (suc (suc code))))) way e = cc
+
+pub read-back : (number : Number) (kind : Option KindCode) (way : ℕ) (script : Option ChineseVariant) (case : Option ChineseCase) (old new : List ℕ) (len : ℕ)
+    → IsPrintedAs number kind (slice_get ways way) script case old CN_DONE new len
+    → ReadsBackAs (take len new) kind (slice_get reading_ways way) number
+read-back number kind code script case old new len h = by (slice_get ways code) refl h where
+  unnamed : (kind : Option KindCode) → IsPrintedAs number kind None script case old CN_DONE new len → ⊥
+  unnamed None h = omega (arith, h.0)
+  unnamed (Some kind) h = omega (arith, h.0)
+
+  by : (way : Option Way) → slice_get ways code ≡ way
+      → IsPrintedAs number kind way script case old CN_DONE new len
+      → ReadsBackAs (take len new) kind (slice_get reading_ways code) number
+  by None e h = absurd (unnamed kind h)
+  by (Some way) e h = subst (λ w. ReadsBackAs (take len new) kind w number)
+      (sym (reading_way code way e))
+      (read-named way (By way) (λ kind. read-by kind way) number kind script case old new len h)
+
+-- each mark of plain digits is a digit
+plain-marks : (text : List ℕ) → is_plain text ≡ list_all is_digit (marks_of text)
+plain-marks [] = refl
+plain-marks (c ∷ text) = by (digit_of c) (rank_of c) (plain-marks text) where
+  by : (d r : Option ℕ) → is_plain text ≡ list_all is_digit (marks_of text)
+      → (is_some d && is_plain text) ≡ (is_digit (mark_from d r) && list_all is_digit (marks_of text))
+  by (Some value) r h = h
+  by None (Some rank) h = refl
+  by None None h = refl
+
+pub either-digits : IsAnswered Digits Either
+either-digits kind script case number old new len whole held h =
+    let small = whole.fits number held in
+    let negative = int_lt number (pos 0) in
+    let marks = decimal_digits (nat_abs number) in
+    let d = decimal_is (nat_abs number) small in
+    let text = put-text (encode_utf8_all (naive_text script case number)) old new len h in
+    let parts = HasParts-signed_text kind script case negative marks (minus_is_signed kind number whole held) d.printed (starts (decimal (nat_abs number)) d.some) in
+    let plain : is_plain (unsigned_text kind (signed_bytes script case negative marks)) ≡ true =
+    plain-marks (unsigned_text kind (signed_bytes script case negative marks))
+    ∙ ap (list_all is_digit) (ap (λ s. marks_of (drop (sign_len s) (text_of (signed_bytes script case negative marks)))) parts.sign_is ∙ parts.marks_is) ∙ d.digits in
+    let back = read-by kind Digits script case number old new len whole held h in (
+      back.0,
+      λ answer r. back.1 answer (rw (text, plain) at r; rw text r),
+    )

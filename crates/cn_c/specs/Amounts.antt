@@ -2,43 +2,48 @@
 use Rattle.std.specs.Prelude.{◌≡◌, ℕ, nat_lt, List, encode_utf8_all, Option, Some, Result, Ok, Err, slice_get}
 use Rattle.std.specs.Bool.{MatchBool}
 use Rattle.std.specs.Str.{is_utf8}
+use Rattle.chinese_number.specs.declared.AmountForm.{AmountForm}
 use Rattle.chinese_number.specs.declared.ChineseVariant.{ChineseVariant}
 use Rattle.chinese_number.specs.AmountPlaces.{amount_limit}
 use Rattle.chinese_number.specs.AmountReading.{AmountRefusal, unfinished, incorrect_at, ReadsAmount}
 use Rattle.chinese_number.specs.AmountWrites.{amount_text}
 use Rattle.cn_c.specs.declared.amount.Amount.{Amount}
-use Rattle.cn_c.specs.Codes.{scripts, CN_DONE, CN_INCORRECT, CN_TOO_LARGE, CN_NOT_UTF8, CN_UNKNOWN, CN_UNFINISHED}
+use Rattle.cn_c.specs.ByteIndex.{byte_index}
+use Rattle.cn_c.specs.Codes.{scripts, forms, CN_DONE, CN_INCORRECT, CN_TOO_LARGE, CN_NOT_UTF8, CN_UNKNOWN, CN_UNFINISHED}
 use Rattle.cn_c.specs.Prints.{PutsNothing, PutsIfItFits}
 
--- what is put for an amount in a script, if one names it: its text below the limit
-abbrev pub IsAmountPrintedAs : ℕ → Option ChineseVariant → List ℕ → ℕ → List ℕ → ℕ → Type 0
-IsAmountPrintedAs fen (Some script) old status new len =
+-- what is put for an amount in a script and a form, if they are named: its text below the limit
+abbrev pub IsAmountPrintedAs : ℕ → Option ChineseVariant → Option AmountForm → List ℕ → ℕ
+    → List ℕ → ℕ → Type 0
+IsAmountPrintedAs fen (Some script) (Some form) old status new len =
     MatchBool (nat_lt fen amount_limit)
-    (PutsIfItFits (encode_utf8_all (amount_text script fen)) old status new len)
+    (PutsIfItFits (encode_utf8_all (amount_text script form fen)) old status new len)
     (PutsNothing CN_TOO_LARGE old status new len)
-IsAmountPrintedAs fen script old status new len = PutsNothing CN_UNKNOWN old status new len
+IsAmountPrintedAs fen script form old status new len = PutsNothing CN_UNKNOWN old status new len
 
--- what is put for an amount and the code of a script
-abbrev pub IsAmountPrinted : ℕ → ℕ → List ℕ → ℕ → List ℕ → ℕ → Type 0
-IsAmountPrinted fen script old status new len =
-    IsAmountPrintedAs fen (slice_get scripts script) old status new len
+-- what is put for an amount and the codes of a script and a form
+abbrev pub IsAmountPrinted : ℕ → ℕ → ℕ → List ℕ → ℕ → List ℕ → ℕ → Type 0
+IsAmountPrinted fen script form old status new len =
+    IsAmountPrintedAs fen (slice_get scripts script) (slice_get forms form) old status new len
 
 -- what is told where there is no amount
-abbrev pub no_amount : ℕ → Amount
-no_amount char_index = record { fen = 0; char_index = char_index }
+abbrev pub no_amount : ℕ → ℕ → Amount
+no_amount char_index byte_index =
+    record { fen = 0; char_index = char_index; byte_index = byte_index }
 
--- how an answer is told: by the status and what is written
-abbrev pub TellsAmount : Result ℕ AmountRefusal → ℕ → Amount → Type 0
-TellsAmount (Ok fen) status amount =
-    (status ≡ CN_DONE) × (amount ≡ record { fen = fen; char_index = 0 })
-TellsAmount (Err unfinished) status amount = (status ≡ CN_UNFINISHED) × (amount ≡ no_amount 0)
-TellsAmount (Err (incorrect_at char_index)) status amount =
-    (status ≡ CN_INCORRECT) × (amount ≡ no_amount char_index)
+-- how an answer to a text is told: by the status and what is written
+abbrev pub TellsAmount : List ℕ → Result ℕ AmountRefusal → ℕ → Amount → Type 0
+TellsAmount text (Ok fen) status amount =
+    (status ≡ CN_DONE) × (amount ≡ record { fen = fen; char_index = 0; byte_index = 0 })
+TellsAmount text (Err unfinished) status amount =
+    (status ≡ CN_UNFINISHED) × (amount ≡ no_amount 0 0)
+TellsAmount text (Err (incorrect_at char_index)) status amount =
+    (status ≡ CN_INCORRECT) × (amount ≡ no_amount char_index (byte_index text char_index))
 
 -- what is told of bytes
 abbrev pub IsAmountRead : List ℕ → ℕ → Amount → Type 0
 IsAmountRead bytes status amount =
     MatchBool (is_utf8 bytes)
     ((answer : Result ℕ AmountRefusal) × ReadsAmount bytes answer
-    × TellsAmount answer status amount)
-    ((status ≡ CN_NOT_UTF8) × (amount ≡ no_amount 0))
+    × TellsAmount bytes answer status amount)
+    ((status ≡ CN_NOT_UTF8) × (amount ≡ no_amount 0 0))

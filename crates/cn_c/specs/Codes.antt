@@ -1,5 +1,6 @@
 -- What each code names and what each status says, as in `chinese_number.h`.
-use Rattle.std.specs.Prelude.{ℕ, Bool, true, false, List, [], ◌∷◌}
+use Rattle.std.specs.Prelude.{ℕ, Bool, true, false, List, [], ◌∷◌, ◌++◌, map}
+use Rattle.chinese_number.specs.declared.AmountForm.{AmountForm}
 use Rattle.chinese_number.specs.declared.ChineseCase.{ChineseCase}
 use Rattle.chinese_number.specs.declared.ChineseCase.TheVariants.{Upper, Lower}
 use Rattle.chinese_number.specs.declared.ChineseCountMethod.TheVariants.{Low, TenThousand, Middle, High}
@@ -10,6 +11,8 @@ use Rattle.chinese_number.specs.declared.Unit.TheVariants.{Ge, Shi, Bai, Qian, W
 use Rattle.chinese_number.specs.Refusal.{Refusal, empty, incorrect_at, too_large, too_small}
 use Rattle.cn_c.specs.declared.codes.Kind.{Kind}
 use Rattle.cn_c.specs.declared.codes.Kind.TheVariants.{U8, U16, U32, U64, U128, I8, I16, I32, I64, I128}
+use Rattle.cn_c.specs.declared.codes.ReadingWay.{ReadingWay}
+use Rattle.cn_c.specs.declared.codes.ReadingWay.TheVariants.{By, Either}
 use Rattle.cn_faces.specs.declared.Way.{Way}
 use Rattle.cn_faces.specs.declared.Way.TheVariants.{Digits, Units}
 
@@ -21,6 +24,20 @@ kinds = U8 ∷ U16 ∷ U32 ∷ U64 ∷ U128 ∷ I8 ∷ I16 ∷ I32 ∷ I64 ∷ I
 abbrev pub ways : List Way
 ways = Digits ∷ Units Low ∷ Units TenThousand ∷ Units Middle ∷ Units High ∷ []
 
+-- the ways to read: these, and behind them either way
+abbrev pub reading_ways : List ReadingWay
+reading_ways = map By ways ++ Either ∷ []
+
+-- the codes of plain digits, of the standard method and of reading either way
+abbrev pub CN_DIGITS : ℕ
+CN_DIGITS = 0
+
+abbrev pub CN_TEN_THOUSAND : ℕ
+CN_TEN_THOUSAND = 2
+
+abbrev pub CN_ANY : ℕ
+CN_ANY = 5
+
 -- the scripts
 abbrev pub scripts : List ChineseVariant
 scripts = Traditional ∷ Simple ∷ []
@@ -28,6 +45,21 @@ scripts = Traditional ∷ Simple ∷ []
 -- the cases
 abbrev pub cases : List ChineseCase
 cases = Upper ∷ Lower ∷ []
+
+-- the form of an amount: whether 人民币 stands in front, 圆 in place of 元, and 正 in place of 整
+abbrev pub asking : Bool → Bool → Bool → AmountForm
+asking currency round upright = record {
+  currency = currency;
+  round_yuan = round;
+  upright_closing = upright;
+}
+
+-- the forms: the first counts 1, the second 2 and the third 4
+abbrev pub forms : List AmountForm
+forms =
+    asking false false false ∷ asking true false false ∷ asking false true false
+    ∷ asking true true false ∷ asking false false true ∷ asking true false true
+    ∷ asking false true true ∷ asking true true true ∷ []
 
 -- the units, by rank
 abbrev pub units : List NumeralUnit

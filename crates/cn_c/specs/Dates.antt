@@ -8,6 +8,7 @@ use Rattle.cn_date.specs.Calendar.{IsDate}
 use Rattle.cn_date.specs.Reading.{DateRefusal, unfinished, incorrect_at, ReadsDate}
 use Rattle.cn_date.specs.Writes.{date_text}
 use Rattle.cn_c.specs.declared.date.Date.{Date}
+use Rattle.cn_c.specs.ByteIndex.{byte_index}
 use Rattle.cn_c.specs.Codes.{scripts, CN_DONE, CN_INCORRECT, CN_NOT_UTF8, CN_UNKNOWN, CN_UNFINISHED, CN_NOT_A_DATE}
 use Rattle.cn_c.specs.Prints.{PutsNothing, PutsIfItFits}
 
@@ -29,22 +30,29 @@ IsDatePrinted year month day script old status new len =
 
 -- what is told of a date, and where there is none
 abbrev pub date_told : BillDate → Date
-date_told date =
-    record { year = date.year; month = date.month; day = date.day; char_index = 0 }
+date_told date = record {
+  year = date.year;
+  month = date.month;
+  day = date.day;
+  char_index = 0;
+  byte_index = 0;
+}
 
-abbrev pub no_date : ℕ → Date
-no_date char_index = record { year = 0; month = 0; day = 0; char_index = char_index }
+abbrev pub no_date : ℕ → ℕ → Date
+no_date char_index byte_index =
+    record { year = 0; month = 0; day = 0; char_index = char_index; byte_index = byte_index }
 
--- how an answer is told: by the status and what is written
-abbrev pub TellsDate : Result BillDate DateRefusal → ℕ → Date → Type 0
-TellsDate (Ok date) status told = (status ≡ CN_DONE) × (told ≡ date_told date)
-TellsDate (Err unfinished) status told = (status ≡ CN_UNFINISHED) × (told ≡ no_date 0)
-TellsDate (Err (incorrect_at char_index)) status told =
-    (status ≡ CN_INCORRECT) × (told ≡ no_date char_index)
+-- how an answer to a text is told: by the status and what is written
+abbrev pub TellsDate : List ℕ → Result BillDate DateRefusal → ℕ → Date → Type 0
+TellsDate text (Ok date) status told = (status ≡ CN_DONE) × (told ≡ date_told date)
+TellsDate text (Err unfinished) status told = (status ≡ CN_UNFINISHED) × (told ≡ no_date 0 0)
+TellsDate text (Err (incorrect_at char_index)) status told =
+    (status ≡ CN_INCORRECT) × (told ≡ no_date char_index (byte_index text char_index))
 
 -- what is told of bytes
 abbrev pub IsDateRead : List ℕ → ℕ → Date → Type 0
 IsDateRead bytes status told =
     MatchBool (is_utf8 bytes)
-    ((answer : Result BillDate DateRefusal) × ReadsDate bytes answer × TellsDate answer status told)
-    ((status ≡ CN_NOT_UTF8) × (told ≡ no_date 0))
+    ((answer : Result BillDate DateRefusal) × ReadsDate bytes answer
+    × TellsDate bytes answer status told)
+    ((status ≡ CN_NOT_UTF8) × (told ≡ no_date 0 0))

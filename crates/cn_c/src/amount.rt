@@ -3,52 +3,64 @@ ghost use Rattle.std.specs.Prelude.{◌≤◌};
 ghost use Rattle.chinese_number.specs.AmountAnswer.{answer_of};
 ghost use Rattle.cn_c.specs.Amounts.{TellsAmount, IsAmountPrinted, IsAmountRead};
 
-use crate::codes::script_of;
+use crate::codes::{form_of, script_of};
+use crate::place::byte_index;
 use crate::room::put_text;
 use crate::status::{DONE, INCORRECT, NOT_UTF8, TOO_LARGE, UNFINISHED, UNKNOWN};
 use chinese_number::{AMOUNT_LIMIT, ChineseToAmountError, chinese_to_amount};
 use cn_amount::amount_text;
 use cn_faces::utf8_text;
 
-/// What was read: the amount in fen, or the char_index of the character at fault.
+/// What was read: the amount in fen, or of the character at fault how many characters and how many
+/// bytes of the text stand in front of it.
 #[repr(C)]
 #[derive(Clone, Copy)]
 pub struct Amount {
     pub fen: u64,
     pub char_index: usize,
+    pub byte_index: usize,
 }
 
 const NOTHING: Amount = Amount {
     fen: 0,
     char_index: 0,
+    byte_index: 0,
 };
 
-/// Prints an amount of fen into the caller's room, where 108 bytes are enough for any.
+/// Prints an amount of fen in a form into the caller's room, where 117 bytes are enough for any.
 ///
 /// Writes `*len`, and the bytes in front of it where the text fits; all else in the room stays.
 #[unsafe(no_mangle)]
 pub extern "C" fn chinese_amount_print(
     fen: u64,
     script: u32,
+    form: u32,
     room: &mut [u8],
     len: &mut usize,
 ) -> u32
-    ensures printed { IsAmountPrinted fen script room.old result room.new len.new }
-    ensures bound { len.new ≤ 108 }
+    ensures printed { IsAmountPrinted fen script form room.old result room.new len.new }
+    ensures bound { len.new ≤ 117 }
 {
     *len = 0;
     let Some(script) = script_of(script) else {
         return UNKNOWN;
     };
+    let Some(form) = form_of(form) else {
+        return UNKNOWN;
+    };
     if fen >= AMOUNT_LIMIT {
         return TOO_LARGE;
     }
-    put_text(amount_text(script, fen).as_bytes(), room, len)
+    put_text(amount_text(script, form, fen).as_bytes(), room, len)
 }
 
-// Tells an answer to C.
-fn tell_amount(answer: Result<u64, ChineseToAmountError>, amount: &mut Amount) -> u32
-    ensures { TellsAmount (answer_of answer) result amount.new }
+// Tells an answer to a text to C.
+fn tell_amount(
+    text: &str,
+    answer: Result<u64, ChineseToAmountError>,
+    amount: &mut Amount,
+) -> u32
+    ensures { TellsAmount text.now (answer_of answer) result amount.new }
 {
     *amount = NOTHING;
     match answer {
@@ -59,6 +71,7 @@ fn tell_amount(answer: Result<u64, ChineseToAmountError>, amount: &mut Amount) -
         Err(ChineseToAmountError::Unfinished) => UNFINISHED,
         Err(ChineseToAmountError::Incorrect { char_index }) => {
             amount.char_index = char_index;
+            amount.byte_index = byte_index(text, char_index);
             INCORRECT
         }
     }
@@ -74,7 +87,7 @@ pub extern "C" fn chinese_amount_read(text: &[u8], amount: &mut Amount) -> u32
 {
     *amount = NOTHING;
     match utf8_text(text) {
-        Some(text) => tell_amount(chinese_to_amount(text), amount),
+        Some(text) => tell_amount(text, chinese_to_amount(text), amount),
         None => NOT_UTF8,
     }
 }

@@ -5,13 +5,15 @@ ghost use Rattle.cn_date.specs.Answer.{answer_of};
 ghost use Rattle.cn_date.specs.Calendar.{IsDate};
 
 use crate::codes::script_of;
+use crate::place::byte_index;
 use crate::room::put_text;
 use crate::status::{DONE, INCORRECT, NOT_A_DATE, NOT_UTF8, UNFINISHED, UNKNOWN};
 use chinese_number::{BillDate, ChineseToDateError, chinese_to_date};
 use cn_date::date_text;
 use cn_faces::utf8_text;
 
-/// What was read: the date, or the char_index of the character at fault.
+/// What was read: the date, or of the character at fault how many characters and how many bytes of
+/// the text stand in front of it.
 #[repr(C)]
 #[derive(Clone, Copy)]
 pub struct Date {
@@ -19,6 +21,7 @@ pub struct Date {
     pub month: u32,
     pub day: u32,
     pub char_index: usize,
+    pub byte_index: usize,
 }
 
 const NOTHING: Date = Date {
@@ -26,6 +29,7 @@ const NOTHING: Date = Date {
     month: 0,
     day: 0,
     char_index: 0,
+    byte_index: 0,
 };
 
 // The date of these numbers, if there is such a date.
@@ -66,9 +70,13 @@ pub extern "C" fn chinese_date_print(
     }
 }
 
-// Tells an answer to C.
-fn tell_date(answer: Result<BillDate, ChineseToDateError>, date: &mut Date) -> u32
-    ensures { TellsDate (answer_of answer) result date.new }
+// Tells an answer to a text to C.
+fn tell_date(
+    text: &str,
+    answer: Result<BillDate, ChineseToDateError>,
+    date: &mut Date,
+) -> u32
+    ensures { TellsDate text.now (answer_of answer) result date.new }
 {
     *date = NOTHING;
     match answer {
@@ -81,6 +89,7 @@ fn tell_date(answer: Result<BillDate, ChineseToDateError>, date: &mut Date) -> u
         Err(ChineseToDateError::Unfinished) => UNFINISHED,
         Err(ChineseToDateError::Incorrect { char_index }) => {
             date.char_index = char_index;
+            date.byte_index = byte_index(text, char_index);
             INCORRECT
         }
     }
@@ -96,7 +105,7 @@ pub extern "C" fn chinese_date_read(text: &[u8], date: &mut Date) -> u32
 {
     *date = NOTHING;
     match utf8_text(text) {
-        Some(text) => tell_date(chinese_to_date(text), date),
+        Some(text) => tell_date(text, chinese_to_date(text), date),
         None => NOT_UTF8,
     }
 }

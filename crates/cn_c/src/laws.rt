@@ -2,15 +2,13 @@
 ghost use Rattle.std.specs.Prelude.{◌≡◌, ℕ, List, take};
 ghost use Rattle.std.specs.Str.{IsUtf8};
 ghost use Rattle.cn_c.specs.Amounts.{IsAmountPrinted, IsAmountRead};
-ghost use Rattle.cn_c.specs.Codes.{CN_DONE};
+ghost use Rattle.cn_c.specs.Codes.{CN_ANY, CN_DIGITS, CN_DONE, CN_TEN_THOUSAND};
 ghost use Rattle.cn_c.specs.Dates.{IsDatePrinted, IsDateRead};
-ghost use Rattle.cn_c.specs.Kinds.{AreSame};
 ghost use Rattle.cn_c.specs.Prints.{IsPrinted};
-ghost use Rattle.cn_c.specs.Reads.{IsRead};
+ghost use Rattle.cn_c.specs.Reads.{ReadsBack};
 ghost use Rattle.cn_c.specs.declared.amount.Amount.{Amount};
 ghost use Rattle.cn_c.specs.declared.date.Date.{Date};
 ghost use Rattle.cn_c.specs.declared.number.Number.{Number};
-ghost use Rattle.cn_c.specs.declared.reading.Reading.{Reading};
 
 /// What `chinese_number_print` writes is UTF-8, and `chinese_number_read_utf8` reads it, as the
 /// same type and in the same way, as the same number.
@@ -19,18 +17,29 @@ ghost use Rattle.cn_c.specs.declared.reading.Reading.{Reading};
 pub fn printed_numbers_read_back()
     ensures { (number : Number) (kind way script case : ℕ) (old new : List ℕ) (len : ℕ)
         → IsPrinted number.low number.high kind way script case old CN_DONE new len
-        → IsUtf8 (take len new)
-        × ((status : ℕ) (reading : Reading) → IsRead (take len new) kind way status reading
-        → (status ≡ CN_DONE) × AreSame kind reading.number number × (reading.char_index ≡ 0)) }
+        → ReadsBack (take len new) kind way number }
 {}
 
-/// What `chinese_amount_print` writes is UTF-8, and `chinese_amount_read` reads it as the same amount.
+/// What it writes as plain digits or by the standard method is read either way as the same number.
+///
+/// For callers who do not know how a number was written.
+pub fn printed_numbers_read_back_either_way()
+    ensures digits { (number : Number) (kind script case : ℕ) (old new : List ℕ) (len : ℕ)
+        → IsPrinted number.low number.high kind CN_DIGITS script case old CN_DONE new len
+        → ReadsBack (take len new) kind CN_ANY number }
+    ensures ten_thousand { (number : Number) (kind script case : ℕ) (old new : List ℕ) (len : ℕ)
+        → IsPrinted number.low number.high kind CN_TEN_THOUSAND script case old CN_DONE new len
+        → ReadsBack (take len new) kind CN_ANY number }
+{}
+
+/// What `chinese_amount_print` writes, in each form, is UTF-8, and `chinese_amount_read` reads it as
+/// the same amount.
 pub fn printed_amounts_read_back()
-    ensures { (fen script : ℕ) (old new : List ℕ) (len : ℕ)
-        → IsAmountPrinted fen script old CN_DONE new len
+    ensures { (fen script form : ℕ) (old new : List ℕ) (len : ℕ)
+        → IsAmountPrinted fen script form old CN_DONE new len
         → IsUtf8 (take len new)
         × ((status : ℕ) (amount : Amount) → IsAmountRead (take len new) status amount
-        → (status ≡ CN_DONE) × (amount ≡ record { fen = fen; char_index = 0 })) }
+        → (status ≡ CN_DONE) × (amount ≡ record { fen = fen; char_index = 0; byte_index = 0 })) }
 {}
 
 /// What `chinese_date_print` writes is UTF-8, and `chinese_date_read` reads it as the same date.
@@ -40,5 +49,11 @@ pub fn printed_dates_read_back()
         → IsUtf8 (take len new)
         × ((status : ℕ) (date : Date) → IsDateRead (take len new) status date
         → (status ≡ CN_DONE)
-        × (date ≡ record { year = year; month = month; day = day; char_index = 0 })) }
+        × (date ≡ record {
+          year = year;
+          month = month;
+          day = day;
+          char_index = 0;
+          byte_index = 0;
+        })) }
 {}

@@ -11,10 +11,12 @@ mod date;
 mod finding;
 pub mod laws;
 mod number;
+mod place;
 mod printing;
 mod reading;
 mod room;
 mod status;
+mod version;
 #[cfg(test)]
 mod tests;
 
@@ -24,3 +26,4 @@ pub use finding::{Span, chinese_number_find, chinese_number_find_utf8};
 pub use number::Number;
 pub use printing::chinese_number_print;
 pub use reading::{Reading, chinese_number_read, chinese_number_read_utf8};
+pub use version::chinese_number_version;

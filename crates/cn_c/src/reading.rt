@@ -3,32 +3,40 @@ ghost use Rattle.std.specs.Prelude.{IsUtf8};
 ghost use Rattle.chinese_number.specs.Answer.{answer_of};
 ghost use Rattle.cn_c.specs.Halves.{FitsHalves};
 ghost use Rattle.cn_c.specs.Kinds.{the_kind};
-ghost use Rattle.cn_c.specs.Reads.{ReadsInto, Tells, IsRead};
+ghost use Rattle.cn_c.specs.Reads.{Answers, ReadsInto, Tells, IsRead};
 
-use crate::codes::{Kind, kind_of, way_of};
+use crate::codes::{Kind, ReadingWay, kind_of, reading_way_of};
 use crate::number::{Number, halves};
+use crate::place::byte_index;
 use crate::status::{DONE, EMPTY, INCORRECT, NOT_UTF8, TOO_LARGE, TOO_SMALL, UNKNOWN};
 use chinese_number::{ChineseToNumberError, Whole};
-use cn_faces::{Way, read_by, utf8_text};
+use cn_faces::{read_by, read_either, utf8_text};
 use std::str;
 
-/// What was read: the number, or the char_index of the character at fault.
+/// What was read: the number, or of the character at fault how many characters and how many bytes
+/// of the text stand in front of it.
 #[repr(C)]
 #[derive(Clone, Copy)]
 pub struct Reading {
     pub number: Number,
     pub char_index: usize,
+    pub byte_index: usize,
 }
 
 const NOTHING: Reading = Reading {
     number: Number { low: 0, high: 0 },
     char_index: 0,
+    byte_index: 0,
 };
 
-// Tells an answer to C.
-fn tell<T: Whole>(answer: Result<T, ChineseToNumberError>, reading: &mut Reading) -> u32
+// Tells an answer to a text to C.
+fn tell<T: Whole>(
+    text: &str,
+    answer: Result<T, ChineseToNumberError>,
+    reading: &mut Reading,
+) -> u32
     requires { FitsHalves T.kind }
-    ensures { Tells T.kind.signed (answer_of T.number answer) result reading.new }
+    ensures { Tells T.kind.signed text.now (answer_of T.number answer) result reading.new }
 {
     *reading = NOTHING;
     match answer {
@@ -39,6 +47,7 @@ fn tell<T: Whole>(answer: Result<T, ChineseToNumberError>, reading: &mut Reading
         Err(ChineseToNumberError::ChineseNumberEmpty) => EMPTY,
         Err(ChineseToNumberError::ChineseNumberIncorrect { char_index }) => {
             reading.char_index = char_index;
+            reading.byte_index = byte_index(text, char_index);
             INCORRECT
         }
         Err(ChineseToNumberError::Overflow) => TOO_LARGE,
@@ -46,15 +55,25 @@ fn tell<T: Whole>(answer: Result<T, ChineseToNumberError>, reading: &mut Reading
     }
 }
 
-fn read_as<T: Whole>(way: Way, text: &str, reading: &mut Reading) -> u32
+// The answer to a text.
+fn answer<T: Whole>(way: ReadingWay, text: &str) -> Result<T, ChineseToNumberError>
+    ensures { Answers T.kind way text.now (answer_of T.number result) }
+{
+    match way {
+        ReadingWay::By(way) => read_by(way, text),
+        ReadingWay::Either => read_either(text),
+    }
+}
+
+fn read_as<T: Whole>(way: ReadingWay, text: &str, reading: &mut Reading) -> u32
     requires { FitsHalves T.kind }
     ensures { ReadsInto T.kind way text.now result reading.new }
 {
-    tell(read_by::<T>(way, text), reading)
+    tell(text, answer::<T>(way, text), reading)
 }
 
 #[inline(always)]
-fn read_kind(kind: Kind, way: Way, text: &str, reading: &mut Reading) -> u32
+fn read_kind(kind: Kind, way: ReadingWay, text: &str, reading: &mut Reading) -> u32
     ensures { ReadsInto (the_kind kind) way text.now result reading.new }
 {
     match kind {
@@ -84,7 +103,7 @@ pub extern "C" fn chinese_number_read(
     ensures { IsRead text.now kind way result reading.new }
 {
     *reading = NOTHING;
-    let (Some(kind), Some(way)) = (kind_of(kind), way_of(way)) else {
+    let (Some(kind), Some(way)) = (kind_of(kind), reading_way_of(way)) else {
         return UNKNOWN;
     };
     match utf8_text(text) {
@@ -105,7 +124,7 @@ pub unsafe extern "C" fn chinese_number_read_utf8(
     ensures { IsRead text.now kind way result reading.new }
 {
     *reading = NOTHING;
-    let (Some(kind), Some(way)) = (kind_of(kind), way_of(way)) else {
+    let (Some(kind), Some(way)) = (kind_of(kind), reading_way_of(way)) else {
         return UNKNOWN;
     };
     let text = unsafe { str::from_utf8_unchecked(text) };

@@ -8,7 +8,6 @@ use Rattle.std.specs.declared.vec.Vec.{Vec}
 use Rattle.std.proofs.lemmas.Bool.{le-leb}
 use Rattle.std.proofs.lemmas.List.{map-append}
 use Rattle.std.proofs.lemmas.Str.{encodes-append}
-use Rattle.cn_core.specs.declared.script.ChineseVariant.{ChineseVariant}
 use Rattle.cn_capitals.specs.declared.text.CapitalText.{CapitalText}
 use Rattle.cn_capitals.specs.Text.{text_bytes, bytes_with, written, HasPut, PutsMore, IsStringOf}
 
@@ -22,19 +21,19 @@ written-more character capitals capital =
     (append-nil (encode_utf8 (character capital)))
 
 -- more that the room holds is put
-with-held : (bytes more : List ℕ) → length bytes + length more ≤ 108
+with-held : (bytes more : List ℕ) → length bytes + length more ≤ 117
     → bytes_with bytes more ≡ bytes ++ more
 with-held bytes more held = rw (le-leb _ _ held) refl
 
 -- a capital is put where the room holds it, and else the text is too long for the room
-pub puts-one : {C : Type 0} (character : ChineseVariant → C → ℕ) (old new : CapitalText)
-    (capital : C) → new.variant ≡ old.variant
+pub puts-one : {H C : Type 0} (character : H → C → ℕ) (old new : CapitalText H)
+    (capital : C) → new.hand ≡ old.hand
     → text_bytes new
-    ≡ bytes_with (text_bytes old) (encode_utf8 (character old.variant capital))
+    ≡ bytes_with (text_bytes old) (encode_utf8 (character old.hand capital))
     → PutsMore character old new (capital ∷ [])
 unfolding HasPut
-puts-one character old new capital same is = λ variant capitals h.
-    let by = character variant in
+puts-one character old new capital same is = λ hand capitals h.
+    let by = character hand in
     let bytes = encode_utf8 (by capital) in
     let more = written-more by capitals capital in
     let size : length (written by (capitals ++ capital ∷ []))
@@ -49,12 +48,12 @@ puts-one character old new capital same is = λ variant capitals h.
     )
 
 -- two pieces, one behind the other
-pub puts-two : {C : Type 0} (character : ChineseVariant → C → ℕ) (old mid new : CapitalText)
+pub puts-two : {H C : Type 0} (character : H → C → ℕ) (old mid new : CapitalText H)
     (a b : List C) → PutsMore character old mid a → PutsMore character mid new b
     → PutsMore character old new (a ++ b)
-puts-two character old mid new a b first second = λ variant capitals h.
-    subst (HasPut character variant new) (append_assoc capitals a b)
-    (second variant (capitals ++ a) (first variant capitals h))
+puts-two character old mid new a b first second = λ hand capitals h.
+    subst (HasPut character hand new) (append_assoc capitals a b)
+    (second hand (capitals ++ a) (first hand capitals h))
 
 pub string-of : {Z : Type 0} (text : String Z) (bytes : Vec ℕ Z) (content : List ℕ)
     → string_vec text ≡ bytes → bytes.items ≡ content

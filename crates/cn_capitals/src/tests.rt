@@ -7,7 +7,7 @@ use cn_core::ChineseVariant;
 #[derive(Clone, Copy)]
 struct Same(char);
 
-impl Written for Same {
+impl Written<ChineseVariant> for Same {
     ghost can_write = { λ _. Unit {0} };
 
     ghost character = { λ _ same. same.0 };
@@ -19,7 +19,7 @@ impl Written for Same {
 
 #[test]
 fn holds_what_is_put(rt: HostRuntime) {
-    let mut text = CapitalText::new::<Same>(ChineseVariant::Simple);
+    let mut text = CapitalText::<ChineseVariant>::new::<Same>(ChineseVariant::Simple);
     text.put(Same('元'));
     text.put(Same('$'));
     assert!(rt; *text.as_bytes() == *"元$".as_bytes());
@@ -31,9 +31,9 @@ fn holds_what_is_put(rt: HostRuntime) {
 
 #[test]
 fn leaves_out_what_does_not_fit(rt: HostRuntime) {
-    let mut text = CapitalText::new::<Same>(ChineseVariant::Simple);
-    for _ in 0..37 {
+    let mut text = CapitalText::<ChineseVariant>::new::<Same>(ChineseVariant::Simple);
+    for _ in 0..40 {
         text.put(Same('元'));
     }
-    assert_eq!(rt; text.as_bytes().len(), 108);
+    assert_eq!(rt; text.as_bytes().len(), 117);
 }

@@ -1,17 +1,14 @@
 ghost use Rattle.std.specs.Prelude.{◌≡◌, ℕ};
-ghost use Rattle.cn_core.specs.declared.script.ChineseVariant.{ChineseVariant};
 
-use cn_core::ChineseVariant;
-
-/// A capital, which each script writes by a character.
-pub trait Written: Copy {
+/// A capital, which each hand writes by a character: a script is one, or a script and a form.
+pub trait Written<H>: Copy {
     // Whether it can be written.
     ghost can_write: { Self → Type 0 };
 
-    ghost character: { ChineseVariant → Self → ℕ };
+    ghost character: { H → Self → ℕ };
 
     /// The character that writes it.
-    fn character(self, variant: ChineseVariant) -> char
+    fn character(self, hand: H) -> char
         requires { can_write self }
-        ensures { result ≡ character variant self };
+        ensures { result ≡ character hand self };
 }

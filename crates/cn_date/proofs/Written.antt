@@ -136,7 +136,7 @@ few-bytes variant date ok = omega (
 )
 
 -- what has been put for a date is its text
-pub text-of : (variant : ChineseVariant) (date : BillDate) (text : CapitalText) → IsDate date
+pub text-of : (variant : ChineseVariant) (date : BillDate) (text : CapitalText ChineseVariant) → IsDate date
     → HasPut variant text (date_form written date)
     → text_bytes text ≡ encode_utf8_all (date_text variant date)
 unfolding HasPutAny

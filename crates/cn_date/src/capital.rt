@@ -22,7 +22,7 @@ pub enum Capital {
     Ri,
 }
 
-impl Written for Capital {
+impl Written<ChineseVariant> for Capital {
     ghost can_write = { IsWritten };
 
     ghost character = { capital_char };

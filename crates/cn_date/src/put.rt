@@ -8,10 +8,11 @@ ghost use Rattle.cn_date.specs.Working.Putting.{PutsMore};
 use crate::capital::Capital;
 use crate::date::BillDate;
 use cn_capitals::CapitalText;
+use cn_core::ChineseVariant;
 
 // The figures of a year.
 #[tactic(auto, using(crate::proofs::Years::year_snoc))]
-fn put_year(text: &mut CapitalText, year: u16)
+fn put_year(text: &mut CapitalText<ChineseVariant>, year: u16)
     requires { year < 10000 }
     ensures { PutsMore text.old text.new (year_text year) }
 {
@@ -22,7 +23,7 @@ fn put_year(text: &mut CapitalText, year: u16)
 }
 
 // The number of a month or a day.
-fn put_number(text: &mut CapitalText, number: u8)
+fn put_number(text: &mut CapitalText<ChineseVariant>, number: u8)
     requires { number < 100 }
     ensures { PutsMore text.old text.new (number_text number) }
 {
@@ -38,7 +39,7 @@ fn put_number(text: &mut CapitalText, number: u8)
 }
 
 // 零 where it stands in front.
-fn put_ling(text: &mut CapitalText, stands: bool)
+fn put_ling(text: &mut CapitalText<ChineseVariant>, stands: bool)
     ensures { PutsMore text.old text.new (ling_text stands) }
 {
     if stands {
@@ -47,7 +48,7 @@ fn put_ling(text: &mut CapitalText, stands: bool)
 }
 
 // The month.
-fn put_month(text: &mut CapitalText, month: u8)
+fn put_month(text: &mut CapitalText<ChineseVariant>, month: u8)
     requires { month < 100 }
     ensures { PutsMore text.old text.new (month_text written month) }
 {
@@ -57,7 +58,7 @@ fn put_month(text: &mut CapitalText, month: u8)
 }
 
 // The day.
-fn put_day(text: &mut CapitalText, day: u8)
+fn put_day(text: &mut CapitalText<ChineseVariant>, day: u8)
     requires { day < 100 }
     ensures { PutsMore text.old text.new (day_text day) }
 {
@@ -67,7 +68,7 @@ fn put_day(text: &mut CapitalText, day: u8)
 }
 
 /// The form that is written.
-pub fn put_date(text: &mut CapitalText, date: BillDate)
+pub fn put_date(text: &mut CapitalText<ChineseVariant>, date: BillDate)
     requires { IsDate date }
     ensures { PutsMore text.old text.new (date_form written date) }
 {

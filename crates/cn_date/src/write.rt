@@ -13,12 +13,12 @@ use cn_core::ChineseVariant;
 use std::alloc::Global;
 
 /// The text of a date that there is, in room of its own: three bytes for each of its characters.
-pub fn date_text(variant: ChineseVariant, date: BillDate) -> CapitalText
+pub fn date_text(variant: ChineseVariant, date: BillDate) -> CapitalText<ChineseVariant>
     requires { IsDate date }
     ensures bytes { text_bytes result ≡ encode_utf8_all (date_text variant date) }
     ensures most { length (text_bytes result) ≤ 39 }
 {
-    let mut text = CapitalText::new::<Capital>(variant);
+    let mut text = CapitalText::<ChineseVariant>::new::<Capital>(variant);
     put_date(&mut text, date);
     text
 }

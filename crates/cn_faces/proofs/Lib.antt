@@ -1,2 +1,3 @@
 pub mod Characters
 pub mod Decimal
+pub mod PlainTexts

@@ -1,21 +1,21 @@
 -- Words that private contracts alone cite.
 use Rattle.std.specs.Prelude.{◌<◌, List}
-use Rattle.cn_core.specs.declared.script.ChineseVariant.{ChineseVariant}
 use Rattle.cn_amount.specs.declared.capital.Capital.{Capital}
 use Rattle.cn_amount.specs.declared.capital.Capital.TheVariants.{Digit}
+use Rattle.cn_amount.specs.declared.form.Hand.{Hand}
 use Rattle.cn_capitals.specs.declared.text.CapitalText.{CapitalText}
 use Rattle.cn_capitals.specs.Text as capital_text
-use Rattle.cn_amount.specs.Writes.{capital_char}
+use Rattle.cn_amount.specs.Writes.{char_by}
 
 -- a capital that can be written: a digit has one place
 abbrev pub IsWritten : Capital → Type 0
 IsWritten (Digit value) = value < 10
 IsWritten capital = Unit {0}
 
--- what has been put are these capitals, in this script
-abbrev pub HasPut : ChineseVariant → CapitalText → List Capital → Type 0
-HasPut variant text capitals = capital_text.HasPut capital_char variant text capitals
+-- what has been put are these capitals, by this hand
+abbrev pub HasPut : Hand → CapitalText Hand → List Capital → Type 0
+HasPut hand text capitals = capital_text.HasPut char_by hand text capitals
 
 -- these capitals are put behind what has been put
-abbrev pub PutsMore : CapitalText → CapitalText → List Capital → Type 0
-PutsMore old new more = capital_text.PutsMore capital_char old new more
+abbrev pub PutsMore : CapitalText Hand → CapitalText Hand → List Capital → Type 0
+PutsMore old new more = capital_text.PutsMore char_by old new more

@@ -1,24 +1,30 @@
 // The calls for amounts, with statuses by their numbers.
 use crate::{Amount, chinese_amount_print, chinese_amount_read};
 
-// An amount in fen, the code of a script and the bytes of the room; the status, and the text or how
-// long it would be.
-static PRINTED: [(u64, u32, usize, u32, &str, usize); 6] = [
-    (140_950, 1, 30, 0, "壹仟肆佰零玖元伍角整", 30),
-    (23_600_000_000, 0, 48, 0, "貳億參仟陸佰萬元整", 27),
-    (1_500, 1, 14, 6, "", 15),
-    (0, 1, 0, 6, "", 9),
-    (1_000_000_000_000_000_000, 1, 48, 3, "", 0),
-    (1_000_000_000_000_000_000, 2, 48, 8, "", 0),
+// An amount in fen, the codes of a script and a form, and the bytes of the room; the status, and the
+// text or how long it would be.
+static PRINTED: [(u64, u32, u32, usize, u32, &str, usize); 12] = [
+    (140_950, 1, 0, 30, 0, "壹仟肆佰零玖元伍角整", 30),
+    (23_600_000_000, 0, 0, 48, 0, "貳億參仟陸佰萬元整", 27),
+    (1_500, 1, 1, 48, 0, "人民币壹拾伍元整", 24),
+    (1_500, 1, 2, 48, 0, "壹拾伍圆整", 15),
+    (1_500, 1, 4, 48, 0, "壹拾伍元正", 15),
+    (1_500, 0, 7, 48, 0, "人民幣壹拾伍圓正", 24),
+    (1_500, 1, 8, 48, 8, "", 0),
+    (1_500, 1, 1, 23, 6, "", 24),
+    (1_500, 1, 0, 14, 6, "", 15),
+    (0, 1, 0, 0, 6, "", 9),
+    (1_000_000_000_000_000_000, 1, 0, 48, 3, "", 0),
+    (1_000_000_000_000_000_000, 2, 0, 48, 8, "", 0),
 ];
 
 #[test]
 fn prints_amounts(rt: HostRuntime) {
-    for (fen, script, size, status, text, wanted) in &PRINTED {
+    for (fen, script, form, size, status, text, wanted) in &PRINTED {
         let mut bytes = [7; 48];
         let (room, _) = bytes.split_at_mut(*size);
         let mut len = 7;
-        let answer = chinese_amount_print(*fen, *script, room, &mut len);
+        let answer = chinese_amount_print(*fen, *script, *form, room, &mut len);
         assert_eq!(rt; answer, *status);
         assert_eq!(rt; len, *wanted);
         let (front, behind) = bytes.split_at(text.len());

@@ -4,36 +4,35 @@ ghost use Rattle.cn_capitals.specs.Text.{text_bytes, bytes_with, HasPut, PutsMor
 
 use super::{CapitalText, MOST_BYTES};
 use crate::Written;
-use cn_core::ChineseVariant;
 use std::alloc::{AllocError, Global};
 
-impl CapitalText {
+impl<H: Copy> CapitalText<H> {
     /// Nothing yet.
     #[tactic(auto, unfolding(crate::specs::Text::HasPut))]
-    pub fn new<C: Written>(variant: ChineseVariant) -> CapitalText
-        ensures { HasPut C.character variant result [] }
+    pub fn new<C: Written<H>>(hand: H) -> CapitalText<H>
+        ensures { HasPut C.character hand result [] }
     {
         CapitalText {
-            variant,
+            hand,
             bytes: [0; MOST_BYTES],
             len: 0,
         }
     }
 
     /// Puts one more capital behind the text. One that the room does not hold is left out.
-    pub fn put<C: Written>(&mut self, capital: C)
+    pub fn put<C: Written<H>>(&mut self, capital: C)
         requires { C.can_write capital }
         ensures { PutsMore C.character self.old self.new (capital ∷ []) }
     {
         let mut room = [0; 4];
-        let character = capital.character(self.variant);
+        let character = capital.character(self.hand);
         self.put_encoded(character.encode_utf8(&mut room));
     }
 
     // Puts what is encoded behind the text, if the room holds it.
     fn put_encoded(&mut self, more: &str)
         ensures bytes { text_bytes self.new ≡ bytes_with (text_bytes self.old) more.now }
-        ensures variant { self.new.variant ≡ self.old.variant }
+        ensures hand { self.new.hand ≡ self.old.hand }
     {
         let more = more.as_bytes();
         if more.len() <= MOST_BYTES - self.len {

@@ -13,9 +13,10 @@ IsWritten (Digit value) = value < 10
 IsWritten capital = Unit {0}
 
 -- what has been put are these capitals, in this script
-abbrev pub HasPut : ChineseVariant → CapitalText → List Capital → Type 0
+abbrev pub HasPut : ChineseVariant → CapitalText ChineseVariant → List Capital → Type 0
 HasPut variant text capitals = capital_text.HasPut capital_char variant text capitals
 
 -- these capitals are put behind what has been put
-abbrev pub PutsMore : CapitalText → CapitalText → List Capital → Type 0
+abbrev pub PutsMore : CapitalText ChineseVariant → CapitalText ChineseVariant → List Capital
+    → Type 0
 PutsMore old new more = capital_text.PutsMore capital_char old new more

@@ -5,7 +5,7 @@ use Rattle.std.proofs.lemmas.Slice.{take-put_mid}
 use Rattle.cn_capitals.proofs.text.CapitalText.put_encoded.Goals as goal
 
 pub invariant_of-self-clause-utf8 : goal.invariant_of-self-clause-utf8
-invariant_of-self-clause-utf8 c =
+invariant_of-self-clause-utf8 g c =
     let old = c.args.self.now in
     let more = c.as_bytes-more.result.now in
     let put = take-put_mid old.len _ old.bytes c.copy_from_slice.new.self (old.len + length more)

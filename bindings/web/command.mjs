@@ -1,0 +1,254 @@
+#!/usr/bin/env node
+// The command chinese-number: amounts, dates and numerals are written and read, and the numbers of
+// a text are found. Answers go to standard output, refusals and the usage of what asks for nothing
+// to standard error. The status is 0 where all is answered, 1 where something is refused or cannot
+// be read or written, and 2 where the words of the command line ask for nothing.
+
+import {
+  AmountError, DateError, KINDS, NumeralError, VERSION, WAYS, amountToChinese,
+  chineseToAmountBigInt, chineseToDate, dateToChinese, findNumbers, toBigInt, toChinese,
+  yuanToFenBigInt,
+} from './chinese-number.mjs';
+
+// The words that ask for nothing.
+class Misuse extends Error {}
+
+const FLAG = null;
+const valuesOf = (names, spell = (it) => it) => new Map(names.map((it) => [spell(it), it]));
+const snake = (name) => name.replace(/[A-Z]/g, (it) => `_${it.toLowerCase()}`);
+const KIND = valuesOf(KINDS), WAY = valuesOf(WAYS, snake);
+const PRINT_WAY = valuesOf(WAYS.filter((it) => it !== 'any'), snake);
+
+// Each command: its line of the usage, what it does, the options that it has, and what runs.
+const COMMANDS = {
+  amount: {
+    usage: 'amount [--traditional] [--currency] [--yuan 圆] [--closing 正] WORD..',
+    about: 'Writes amounts of yuan in capitals, 1409.50 as 壹仟肆佰零玖元伍角整, and reads capitals.',
+    options: {
+      traditional: FLAG, currency: FLAG,
+      yuan: valuesOf(['元', '圆', '圓']), closing: valuesOf(['整', '正']),
+    },
+    run: (options, words) => answerEach(words, (word) => answerAmount(word, options)),
+  },
+  date: {
+    usage: 'date [--traditional] WORD..',
+    about: 'Writes dates in capitals, 2026-01-15 as 贰零贰陆年零壹月壹拾伍日, and reads capitals.',
+    options: { traditional: FLAG },
+    run: (options, words) => answerEach(words, (word) => answerDate(word, options)),
+  },
+  read: {
+    usage: 'read [--kind i128] [--way any] WORD..',
+    about: 'Reads numerals, 一百二 as 120.',
+    options: { kind: KIND, way: WAY },
+    run: (options, words) => answerEach(words, (word) => toBigInt(word, options)),
+  },
+  print: {
+    usage: 'print [--traditional] [--upper] [--kind i128] [--way ten_thousand] -- NUMBER..',
+    about: 'Writes whole numbers as numerals, -120 as 负一百二十.',
+    options: { traditional: FLAG, upper: FLAG, kind: KIND, way: PRINT_WAY },
+    run: (options, words) => {
+      const { upper, ...others } = options, numbers = words.map(wholeOf);
+      const all = { ...others, case: upper ? 'upper' : 'lower' };
+      return answerEach(numbers, (number) => toChinese(number, all));
+    },
+  },
+  find: {
+    usage: 'find [--all] [--way any] [--kind i128]',
+    about: 'Finds the numbers in standard input, and writes LINE:COLUMN TEXT NUMBER of each, or err\n'
+      + 'and why it is refused. --all looks for the characters of cheques, too, and units above 兆.',
+    options: { all: FLAG, way: WAY, kind: KIND },
+    run: findInInput,
+  },
+};
+
+const NAMES = `\
+A kind is ${KINDS.join(', ')}; a way to read
+is ${[...WAY.keys()].join(', ')}, and to write each but any.`;
+
+// The usage of one command, or of all.
+function usageOf(name) {
+  const names = name ? [name] : Object.keys(COMMANDS);
+  const lines = names.map((it) => `chinese-number ${COMMANDS[it].usage}`);
+  if (!name) lines.push('chinese-number --help | --version', 'chinese-number COMMAND --help');
+  const about = names.map((it) => COMMANDS[it].about);
+  return `usage: ${lines.join('\n       ')}\n\n${[...about, NAMES].join('\n')}\n`;
+}
+
+// Parts the words behind a command: its options, each with what it is set to, and the other words.
+// A hyphen and a digit begin a number, and behind -- there are no options.
+function parted(words, known) {
+  const options = {}, left = [...words], others = [];
+  while (left.length) {
+    const word = left.shift();
+    if (word === '--') return { options, others: [...others, ...left] };
+    if (/^-[^0-9]/.test(word)) Object.assign(options, optionOf(word, left, known));
+    else others.push(word);
+  }
+  return { options, others };
+}
+
+// What a word sets, with the one behind it where it needs a value.
+function optionOf(word, left, known) {
+  const [, name, value] = /^--([a-z]+)(?:=(.*))?$/s.exec(word) ?? [];
+  if (!name || !Object.hasOwn(known, name)) throw new Misuse();
+  if (known[name] === FLAG && value === undefined) return { [name]: true };
+  const chosen = value ?? left.shift();
+  if (!known[name]?.has(chosen)) throw new Misuse();
+  return { [name]: known[name].get(chosen) };
+}
+
+const isRefusal = (error) => [NumeralError, AmountError, DateError].some((it) => error instanceof it)
+  && error.code !== 'outOfMemory';
+
+// Answers words, each on a line of its own, and gives the status.
+function answerEach(words, answerOf) {
+  if (words.length === 0) throw new Misuse();
+  let status = 0;
+  for (const word of words) {
+    try {
+      process.stdout.write(`${answerOf(word)}\n`);
+    } catch (error) {
+      if (!isRefusal(error)) throw error;
+      process.stderr.write(`${error.message}\n`);
+      status = 1;
+    }
+  }
+  return status;
+}
+
+function wholeOf(word) {
+  if (!/^-?[0-9]+$/.test(word)) throw new Misuse();
+  return BigInt(word);
+}
+
+// What begins with an ASCII character is figures, and refused as such.
+const areFigures = (word) => /^[\0-\x7f]/.test(word);
+const padded = (number, digits) => String(number).padStart(digits, '0');
+
+// Figures, where a pattern takes the front that can begin some, and another one what is whole.
+function figuresOf(word, front, whole, Refusal) {
+  const [{ length }] = front.exec(word);
+  if (length < word.length) {
+    throw new Refusal('incorrect', { charIndex: length, start: length, end: length + 1 });
+  }
+  if (!whole.test(word)) throw new Refusal('unfinished');
+  return word;
+}
+
+function answerAmount(word, options) {
+  if (!areFigures(word)) {
+    const fen = chineseToAmountBigInt(word);
+    return `${fen / 100n}.${padded(fen % 100n, 2)}`;
+  }
+  const figures = figuresOf(word, /^(?:[0-9]+(?:\.[0-9]{0,2})?)?/, /[0-9]$/, AmountError);
+  return amountToChinese(yuanToFenBigInt(figures), options);
+}
+
+const FRONT_OF_DATE = /^(?:[0-9]{4}-[0-9]{2}-[0-9]{0,2}|[0-9]{4}-[0-9]{0,2}|[0-9]{0,4})/;
+
+function answerDate(word, options) {
+  if (!areFigures(word)) {
+    const { year, month, day } = chineseToDate(word);
+    return `${padded(year, 4)}-${padded(month, 2)}-${padded(day, 2)}`;
+  }
+  const [year, month, day] = figuresOf(word, FRONT_OF_DATE, /^.{10}$/, DateError)
+    .split('-').map(Number);
+  return dateToChinese({ year, month, day }, options);
+}
+
+// The lines of a stream in bytes, without their line feeds: those that each piece of it ends.
+async function* linesOf(stream) {
+  let begun = [];
+  for await (const piece of stream) {
+    const lines = [];
+    let at = 0;
+    for (let end; (end = piece.indexOf(10, at)) >= 0; at = end + 1) {
+      lines.push(Buffer.concat([...begun, piece.subarray(at, end)]));
+      begun = [];
+    }
+    begun.push(piece.subarray(at));
+    yield lines;
+  }
+  const rest = Buffer.concat(begun);
+  if (rest.length) yield [rest];
+}
+
+const decoder = new TextDecoder('utf-8', { fatal: true, ignoreBOM: true });
+
+// The text of a line, or null where it is no UTF-8.
+function textOf(line) {
+  try {
+    return decoder.decode(line);
+  } catch (error) {
+    if (error instanceof TypeError) return null;
+    throw error;
+  }
+}
+
+function answerFound(found, options) {
+  try {
+    return String(found.bigInt(options));
+  } catch (error) {
+    if (!isRefusal(error)) throw error;
+    return `err ${error.message}`;
+  }
+}
+
+// What is written of a line: of each of its numbers a line.
+function answersTo(text, line, wanted, options) {
+  if (text === null) return `${line}:1 bad line\n`;
+  let answers = '', column = 1, at = 0;
+  for (const found of findNumbers(text, wanted)) {
+    for (const _ of text.slice(at, found.start)) column++;
+    answers += `${line}:${column} ${found.text} ${answerFound(found, options)}\n`;
+    at = found.start;
+  }
+  return answers;
+}
+
+async function findInInput({ all, ...options }, words) {
+  if (words.length) throw new Misuse();
+  const wanted = all ? { upper: true, greatest: 'ji' } : {};
+  let count = 0;
+  for await (const lines of linesOf(process.stdin)) {
+    const answers = lines.map((line) => answersTo(textOf(line), ++count, wanted, options)).join('');
+    if (answers && !process.stdout.write(answers)) {
+      await new Promise((done) => process.stdout.once('drain', done));
+    }
+  }
+  return 0;
+}
+
+// Runs a command, and gives the status.
+async function run(name, words) {
+  if (name === '--version') process.stdout.write(`chinese-number ${VERSION}\n`);
+  else if (name === '--help') process.stdout.write(usageOf());
+  else if (name === undefined || !Object.hasOwn(COMMANDS, name)) throw new Misuse();
+  else {
+    const command = COMMANDS[name];
+    const { options, others } = parted(words, { ...command.options, help: FLAG });
+    const { help, traditional, ...rest } = options;
+    if (!help) return command.run(traditional ? { ...rest, script: 'traditional' } : rest, others);
+    process.stdout.write(usageOf(name));
+  }
+  return 0;
+}
+
+// A reader that wants no more is no fault to be told. What else cannot be written is one.
+function endOf(error) {
+  if (error.code !== 'EPIPE') process.stderr.write(`chinese-number: ${error.message}\n`);
+  process.exit(1);
+}
+
+async function main([name, ...words]) {
+  for (const it of [process.stdout, process.stderr]) it.on('error', endOf);
+  try {
+    process.exitCode = await run(name, words);
+  } catch (error) {
+    if (!(error instanceof Misuse)) endOf(error);
+    process.stderr.write(usageOf(Object.hasOwn(COMMANDS, name ?? '') ? name : undefined));
+    process.exitCode = 2;
+  }
+}
+
+await main(process.argv.slice(2));

@@ -1,0 +1,53 @@
+// Numerals that are read either way: as plain digits or with units, whichever they are.
+ghost use Rattle.std.specs.Prelude.{◌≡◌, ◌||◌, chars, is_some};
+ghost use Rattle.std.specs.Char.{is_whitespace};
+ghost use Rattle.std.specs.List.{list_all};
+ghost use Rattle.chinese_number.specs.Answer.{answer_of};
+ghost use Rattle.chinese_number.specs.Characters.{digit_of};
+ghost use Rattle.chinese_number.specs.Number.{is_plain};
+ghost use Rattle.chinese_number.specs.Text.{text_of};
+ghost use Rattle.cn_faces.specs.Either.{either_way, ReadsEither};
+
+use crate::way::{Way, read_by};
+use chinese_number::{ChineseCountMethod, ChineseToNumberError, Whole, digit_of};
+use cn_judge::split_sign;
+
+// Whether a character is a digit or white space.
+fn is_digit_or_white(c: char) -> bool
+    ensures { result ≡ (is_some (digit_of c) || is_whitespace c) }
+{
+    digit_of(c).is_some() || c.is_whitespace()
+}
+
+// Whether each character is a digit or white space.
+fn is_digits_and_white(text: &str) -> bool
+    ensures { result ≡ list_all (λ c. is_some (digit_of c) || is_whitespace c) (chars text.now) }
+{
+    text.chars().all(|c| is_digit_or_white(c))
+}
+
+// Whether each character that is no white space is a digit.
+fn is_plain(text: &str) -> bool
+    ensures { result ≡ is_plain (text_of text.now) }
+{
+    is_digits_and_white(text)
+}
+
+// The way in which a text is read either way as a number of a type.
+fn either_way<T: Whole>(text: &str) -> Way
+    ensures { result ≡ either_way T.kind text.now }
+{
+    if is_plain(split_sign(T::SIGNED, text).rest) {
+        Way::Digits
+    } else {
+        Way::Units(ChineseCountMethod::TenThousand)
+    }
+}
+
+/// Reads a text either way, as a number of a type: plain digits as such, and any other text by
+/// `TenThousand`.
+pub fn read_either<T: Whole>(text: &str) -> Result<T, ChineseToNumberError>
+    ensures { ReadsEither T.kind text.now (answer_of T.number result) }
+{
+    read_by(either_way::<T>(text), text)
+}
