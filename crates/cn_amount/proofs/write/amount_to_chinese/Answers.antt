@@ -1,6 +1,0 @@
-use Rattle.std.proofs.Common.{rules}
-use Rattle.cn_amount.proofs.FormsShown.{written_is}
-use Rattle.cn_amount.proofs.write.amount_to_chinese.Goals as goal
-
-pub returns : goal.returns
-returns c = written_is _ _ _ _ (search rules) c.in_ok-to_string.ensures (search rules)
