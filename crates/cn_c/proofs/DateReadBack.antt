@@ -1,5 +1,5 @@
 -- What is printed for a date is read back as the same date.
-use Rattle.std.proofs.Common.{◌≡◌, ℕ, inl, inr, List, take, chars, encode_utf8_all, Option, Some, None, Result, Ok, sym, subst, ◌∙◌, arith}
+use Rattle.std.proofs.Common.{◌≡◌, ℕ, inl, inr, List, take, chars, encode_utf8_all, Option, Some, None, Result, Ok, sym, subst, arith}
 use Rattle.std.proofs.lemmas.Str.{is_utf8-from_IsUtf8}
 use Rattle.std.specs.Str.{IsUtf8}
 use Rattle.cn_core.specs.declared.script.ChineseVariant.{ChineseVariant}

@@ -1,4 +1,5 @@
 pub mod AmountReadBack
 pub mod DateReadBack
+pub mod EitherBack
 pub mod Passing
 pub mod ReadBack

@@ -1,5 +1,5 @@
 -- What is printed is read back as the same number.
-use Rattle.std.proofs.Common.{◌≡◌, ℕ, suc, decimal, is_some, ◌&&◌, slice_get, option_map, sym, ap, subst, ◌-◌, ◌^◌, ◌<◌, ◌≤◌, ℤ, pos, int_lt, nat_abs, nat_le, Bool, true, false, MatchBool, MatchOption, List, [], ◌∷◌, ◌++◌, length, take, drop, encode_utf8_all, Option, Some, None, Result, Ok, Err, if◌then◌else◌, refl, ◌∙◌, arith}
+use Rattle.std.proofs.Common.{◌≡◌, ℕ, zero, suc, slice_get, option_map, sym, ap, subst, ◌-◌, ◌^◌, ◌<◌, ◌≤◌, ℤ, pos, int_lt, nat_abs, nat_le, Bool, true, false, MatchBool, MatchOption, List, [], ◌∷◌, ◌++◌, length, take, drop, encode_utf8_all, Option, Some, None, Result, Ok, Err, if◌then◌else◌, refl, ◌∙◌, arith}
 use Rattle.std.proofs.Math.Seq.{take-append_seam}
 use Rattle.std.proofs.lemmas.Int.{ints}
 use Rattle.std.proofs.lemmas.Str.{IsUtf8-nil, IsUtf8-append, IsUtf8-encode, is_utf8-from_IsUtf8}
@@ -10,22 +10,15 @@ use Rattle.cn_core.specs.declared.script.ChineseVariant.{ChineseVariant}
 use Rattle.cn_core.specs.Refusal.{Refusal, too_large, too_small}
 use Rattle.cn_core.specs.Spelling.{spelling}
 use Rattle.cn_core.specs.Whole.{Kind, holds, unsigned_kind, signed_kind}
-use Rattle.cn_core.specs.Printing.{signed_text, signed_bytes, naive_text, spelled_text, is_printable}
-use Rattle.cn_core.specs.Characters.{digit_of, rank_of}
-use Rattle.cn_core.specs.Mark.{Mark, mark_from}
-use Rattle.cn_core.specs.Naive.{decimal_digits, decimal_value, naive_answer}
-use Rattle.cn_core.specs.Reading.{naive_reading, sign_len, typed_answer}
-use Rattle.cn_core.specs.Text.{text_of, marks_of}
-use Rattle.chinese_number.specs.Digits.{is_digit}
-use Rattle.chinese_number.specs.Number.{is_plain}
-use Rattle.chinese_number.specs.Parts.{unsigned_text}
+use Rattle.cn_core.specs.Printing.{signed_text, naive_text, spelled_text, is_printable}
+use Rattle.cn_core.specs.Mark.{Mark}
 use Rattle.cn_core.proofs.Fronts.{and-left, and-right}
 use Rattle.cn_spell.proofs.NaiveTexts.{three-naive}
 use Rattle.cn_core.proofs.Characters.{takes_three}
 use Rattle.cn_spell.proofs.ThreeBytes.{IsUtf8-three, three-minus}
-use Rattle.chinese_number.proofs.PlainDigits.{naive_reading-signed_text, decimal_is, starts}
+use Rattle.chinese_number.proofs.PlainDigits.{naive_reading-signed_text}
 use Rattle.chinese_number.proofs.Printed.{is_printed, IsReadBack-marks}
-use Rattle.chinese_number.proofs.Reading.{IsWhole, HasParts-signed_text, minus_is_signed, Reads-same, Reads-spelled}
+use Rattle.chinese_number.proofs.Reading.{IsWhole, Reads-same, Reads-spelled}
 use Rattle.chinese_number.proofs.SpelledMarks.{below_square, spelling-printed}
 use Rattle.cn_c.specs.declared.codes.Kind.{Kind as KindCode}
 use Rattle.cn_c.specs.declared.codes.Kind.TheVariants.{U8, U16, U32, U64, U128, I8, I16, I32, I64, I128}
@@ -35,7 +28,7 @@ use Rattle.cn_c.specs.declared.number.Number.{Number}
 use Rattle.cn_c.specs.declared.reading.Reading.{Reading}
 use Rattle.cn_faces.specs.Ways.{ReadsBy, unprintable, written_by}
 use Rattle.cn_c.specs.declared.codes.ReadingWay.{ReadingWay}
-use Rattle.cn_c.specs.declared.codes.ReadingWay.TheVariants.{By, Either}
+use Rattle.cn_c.specs.declared.codes.ReadingWay.TheVariants.{By}
 use Rattle.cn_c.specs.Codes.{CN_DONE, ways, reading_ways, refusal_status}
 use Rattle.cn_c.specs.Halves.{number_of}
 use Rattle.cn_c.specs.Kinds.{the_kind}
@@ -68,7 +61,7 @@ utf8-signed_text variant case true marks h = IsUtf8-append _ _ (IsUtf8-three _ (
 utf8-signed_text variant case false marks h = utf8-scalars _ (IsReadBack-marks variant case marks h).scalars
 
 -- a number that is printed in a way is read in it
-read-by : (kind : Kind) (way : Way) (script : ChineseVariant) (case : ChineseCase) (number : ℤ) (old new : List ℕ) (len : ℕ) → IsWhole kind → holds kind number ≡ true
+pub read-by : (kind : Kind) (way : Way) (script : ChineseVariant) (case : ChineseCase) (number : ℤ) (old new : List ℕ) (len : ℕ) → IsWhole kind → holds kind number ≡ true
     → PutsWritten (written_by way script case number) old CN_DONE new len
     → IsUtf8 (take len new) × ((answer : Result ℤ Refusal) → ReadsBy kind way (take len new) answer
     → answer ≡ Ok number)
@@ -138,8 +131,8 @@ ReadsBackAs bytes kind way number =
     ≡ number_of (the_kind kind).signed number)
     × (reading.char_index ≡ 0) × (reading.byte_index ≡ 0))
 
--- so is what is printed in one way, where another way answers it by its number
-abbrev IsAnswered : Way → ReadingWay → Type 0
+-- what is printed in one way is answered in another by its number
+abbrev pub IsAnswered : Way → ReadingWay → Type 0
 IsAnswered way to_read = (kind : Kind) (script : ChineseVariant) (case : ChineseCase) (number : ℤ)
     (old new : List ℕ) (len : ℕ) → IsWhole kind → holds kind number ≡ true
     → PutsWritten (written_by way script case number) old CN_DONE new len
@@ -169,7 +162,7 @@ read-as way to_read answered code script case number old new len = by (holds kin
       )
   by false e h = absurd (omega (arith, h.0))
 
-read-named : (way : Way) (to_read : ReadingWay) → IsAnswered way to_read
+pub read-named : (way : Way) (to_read : ReadingWay) → IsAnswered way to_read
     → (number : Number) (kind : Option KindCode) (script : Option ChineseVariant) (case : Option ChineseCase) (old new : List ℕ) (len : ℕ)
     → IsPrintedAs number kind (Some way) script case old CN_DONE new len
     → ReadsBackAs (take len new) kind (Some to_read) number
@@ -181,11 +174,11 @@ read-named way to_read answered number (Some kind) (Some script) None old new le
 -- a way's code names it for reading too
 reading_way : (code : ℕ) (way : Way) → slice_get ways code ≡ Some way
     → slice_get reading_ways code ≡ Some (By way)
-reading_way 0 way e = ap (option_map By) e
-reading_way 1 way e = ap (option_map By) e
-reading_way 2 way e = ap (option_map By) e
-reading_way 3 way e = ap (option_map By) e
-reading_way 4 way e = ap (option_map By) e
+reading_way zero way e = ap (option_map By) e
+reading_way (suc zero) way e = ap (option_map By) e
+reading_way (suc (suc zero)) way e = ap (option_map By) e
+reading_way (suc (suc (suc zero))) way e = ap (option_map By) e
+reading_way (suc (suc (suc (suc zero)))) way e = ap (option_map By) e
 reading_way (suc (suc (suc (suc (suc code))))) way e = cc
 
 pub read-back : (number : Number) (kind : Option KindCode) (way : ℕ) (script : Option ChineseVariant) (case : Option ChineseCase) (old new : List ℕ) (len : ℕ)
@@ -203,29 +196,3 @@ read-back number kind code script case old new len h = by (slice_get ways code) 
   by (Some way) e h = subst (λ w. ReadsBackAs (take len new) kind w number)
       (sym (reading_way code way e))
       (read-named way (By way) (λ kind. read-by kind way) number kind script case old new len h)
-
--- each mark of plain digits is a digit
-plain-marks : (text : List ℕ) → is_plain text ≡ list_all is_digit (marks_of text)
-plain-marks [] = refl
-plain-marks (c ∷ text) = by (digit_of c) (rank_of c) (plain-marks text) where
-  by : (d r : Option ℕ) → is_plain text ≡ list_all is_digit (marks_of text)
-      → (is_some d && is_plain text) ≡ (is_digit (mark_from d r) && list_all is_digit (marks_of text))
-  by (Some value) r h = h
-  by None (Some rank) h = refl
-  by None None h = refl
-
-pub either-digits : IsAnswered Digits Either
-either-digits kind script case number old new len whole held h =
-    let small = whole.fits number held in
-    let negative = int_lt number (pos 0) in
-    let marks = decimal_digits (nat_abs number) in
-    let d = decimal_is (nat_abs number) small in
-    let text = put-text (encode_utf8_all (naive_text script case number)) old new len h in
-    let parts = HasParts-signed_text kind script case negative marks (minus_is_signed kind number whole held) d.printed (starts (decimal (nat_abs number)) d.some) in
-    let plain : is_plain (unsigned_text kind (signed_bytes script case negative marks)) ≡ true =
-    plain-marks (unsigned_text kind (signed_bytes script case negative marks))
-    ∙ ap (list_all is_digit) (ap (λ s. marks_of (drop (sign_len s) (text_of (signed_bytes script case negative marks)))) parts.sign_is ∙ parts.marks_is) ∙ d.digits in
-    let back = read-by kind Digits script case number old new len whole held h in (
-      back.0,
-      λ answer r. back.1 answer (rw (text, plain) at r; rw text r),
-    )

@@ -55,11 +55,7 @@ pub extern "C" fn chinese_amount_print(
 }
 
 // Tells an answer to a text to C.
-fn tell_amount(
-    text: &str,
-    answer: Result<u64, ChineseToAmountError>,
-    amount: &mut Amount,
-) -> u32
+fn tell_amount(text: &str, answer: Result<u64, ChineseToAmountError>, amount: &mut Amount) -> u32
     ensures { TellsAmount text.now (answer_of answer) result amount.new }
 {
     *amount = NOTHING;

@@ -71,11 +71,7 @@ pub extern "C" fn chinese_date_print(
 }
 
 // Tells an answer to a text to C.
-fn tell_date(
-    text: &str,
-    answer: Result<BillDate, ChineseToDateError>,
-    date: &mut Date,
-) -> u32
+fn tell_date(text: &str, answer: Result<BillDate, ChineseToDateError>, date: &mut Date) -> u32
     ensures { TellsDate text.now (answer_of answer) result date.new }
 {
     *date = NOTHING;

@@ -16,9 +16,9 @@ mod printing;
 mod reading;
 mod room;
 mod status;
-mod version;
 #[cfg(test)]
 mod tests;
+mod version;
 
 pub use amount::{Amount, chinese_amount_print, chinese_amount_read};
 pub use date::{Date, chinese_date_print, chinese_date_read};

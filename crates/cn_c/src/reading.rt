@@ -30,11 +30,7 @@ const NOTHING: Reading = Reading {
 };
 
 // Tells an answer to a text to C.
-fn tell<T: Whole>(
-    text: &str,
-    answer: Result<T, ChineseToNumberError>,
-    reading: &mut Reading,
-) -> u32
+fn tell<T: Whole>(text: &str, answer: Result<T, ChineseToNumberError>, reading: &mut Reading) -> u32
     requires { FitsHalves T.kind }
     ensures { Tells T.kind.signed text.now (answer_of T.number answer) result reading.new }
 {

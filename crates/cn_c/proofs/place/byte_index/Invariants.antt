@@ -5,6 +5,6 @@ use Rattle.cn_c.proofs.place.byte_index.Given as goal
 
 abbrev pub invariant-passing : goal.invariant-passing
 invariant-passing l = record {
-  passed : Passed l.text.now l.rest l._passed;
+  passed : Passed l.text l.rest l._passed;
   utf8 : shadow (Utf8 l.rest);
 }
