@@ -208,7 +208,7 @@ uint32_t chinese_number_print(uint64_t low, uint64_t high, uint32_t kind, uint32
  * stands behind span.end.
  *
  * Returns CN_DONE, CN_NONE, CN_NOT_UTF8 or CN_UNKNOWN. The whole text is tested, so a loop over all numbers of a text calls
- * this once, and from then on chinese_number_find_utf8 (example.c has such a loop). */
+ * this once, and from then on chinese_number_find_utf8, as cn_find_next does. */
 uint32_t chinese_number_find(const uint8_t *text, size_t text_length, uint32_t upper, uint32_t greatest, cn_span *span);
 
 /* The same for bytes that the caller knows to be UTF-8. Nothing tests that: with other bytes the behaviour is undefined. */
@@ -223,9 +223,9 @@ typedef struct cn_amount {
     size_t byte_index;
 } cn_amount;
 
-/* Prints an amount of fen in capitals, as it stands on a cheque, in a form, at the start of a room, in UTF-8. Writes *length at each
- * status: at CN_DONE and CN_NO_ROOM how many bytes the text has, else 0. Writes to the room at CN_DONE alone, and there no
- * more than the text.
+/* Prints an amount of fen in capitals, as it stands on a cheque, in a form, at the start of a room, in UTF-8. Writes
+ * *length at each status: at CN_DONE and CN_NO_ROOM how many bytes the text has, else 0. Writes to the room at CN_DONE
+ * alone, and there no more than the text.
  *
  * Returns CN_DONE, CN_NO_ROOM, CN_TOO_LARGE (from 10^18 fen on) or CN_UNKNOWN. A room of CN_MOST_AMOUNT_BYTES is never
  * too small. */
