@@ -90,7 +90,7 @@ typedef enum cn_way CN_OF_CODE {
     CN_TEN_THOUSAND = 2, /* the one to use: after 萬 each is 10^4 times the one before. 10^12 is 兆, as in Taiwan; by the next two 萬億, as on the mainland */
     CN_MIDDLE = 3,       /* after 億 each is 10^8 times the one before: 兆 is 10^16, 京 is 10^24 */
     CN_HIGH = 4,         /* from 億 on each is the square of the one before: 兆 is 10^16, 京 is 10^32 */
-    CN_ANY = 5           /* for reading alone: CN_DIGITS where all is digits but white space and, for a signed type, one leading sign, else CN_TEN_THOUSAND */
+    CN_ANY = 5           /* for reading alone: digits as CN_DIGITS, with a sign or without, and any other text as CN_TEN_THOUSAND */
 } cn_way;
 
 /* The script of a printed text: 萬 or 万. Both are read. */

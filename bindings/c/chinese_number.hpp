@@ -121,8 +121,13 @@ template <typename T>
 inline constexpr bool is_128_bits = false;
 #endif
 
+template <typename T, typename... Others>
+inline constexpr bool is_one_of = (std::is_same_v<T, Others> || ...);
+
+/* The integers, without characters and truth values. */
 template <typename T>
-inline constexpr bool is_whole = is_128_bits<T> || (std::is_integral_v<T> && !std::is_same_v<T, bool>);
+inline constexpr bool is_whole =
+    is_128_bits<T> || (std::is_integral_v<T> && !is_one_of<T, bool, char, wchar_t, char16_t, char32_t>);
 
 template <typename T>
 inline constexpr bool is_signed = static_cast<T>(-1) < static_cast<T>(1);
@@ -130,7 +135,7 @@ inline constexpr bool is_signed = static_cast<T>(-1) < static_cast<T>(1);
 /* The signed types stand behind the unsigned ones, and each has twice the bits of the one before it. */
 template <typename T>
 constexpr cn_kind kind_of() {
-    static_assert(is_whole<T>, "the numbers of chinese_number are integers of 8 to 128 bits");
+    static_assert(is_whole<T>, "a number is an integer of 8 to 128 bits, and no character");
     std::uint32_t code = is_signed<T> ? CN_I8 : CN_U8;
     for (std::size_t bytes = 1; bytes < sizeof(T); bytes *= 2)
         code++;
@@ -306,6 +311,10 @@ private:
 inline Numbers find_numbers(std::string_view text, Wanted wanted = {}) {
     return {text, wanted};
 }
+
+/* Not of a string that ends before its numbers are looked at. */
+template <typename String, std::enable_if_t<std::is_same_v<String, std::string>, int> = 0>
+Numbers find_numbers(String &&text, Wanted wanted = {}) = delete;
 
 } // namespace chinese_number
 
