@@ -61,7 +61,9 @@ EACH_WARNING = {
     "g++": "-Wall -Wextra -pedantic -Wconversion -Wcast-qual -Wshadow -Wundef -Wold-style-cast",
     "clang++": "-Weverything -Wno-padded -Wno-c++98-compat -Wno-c++98-compat-pedantic",
 }
-SANITIZERS = ("-fsanitize=address,undefined", "-fno-sanitize-recover=all")
+# no_null.h declares the proved calls so that a NULL for one of them is undefined behaviour.
+NO_NULL = ("-include", TOP / "tests/no_null.h")
+SANITIZERS = ("-fsanitize=address,undefined", "-fno-sanitize-recover=all", *NO_NULL)
 STEP = "31"  # of the numbers under valgrind, which takes fifty times as long
 VALGRIND = "valgrind --quiet --error-exitcode=9 --leak-check=full --show-leak-kinds=all"
 
