@@ -13,10 +13,13 @@ It takes half a minute, and needs Python from 3.8 on and a C compiler; CC and CX
 Each language has a program `answers` in bindings/. It is given questions, a line each, of words
 parted by tabs. An answer is `ok` and what the call gives, or `err` and the error's text:
 
-    read KIND WAY TEXT                  the number of a text; docs/RULES.md has these names
+    read KIND WAY TEXT                  the number of a text; docs/RULES.md has these names, and
+                                        `any` is plain digits or, else, ten_thousand
     print KIND WAY SCRIPT CASE NUMBER   the text of a number
     read_amount TEXT                    the fen of a text
     print_amount SCRIPT FEN             the text of an amount
+    print_amount_as SCRIPT FORM FEN     the same in a form: `plain`, or with + between them some of
+                                        `currency`, `round_yuan` and `upright_closing`
     read_date TEXT                      the date of a text, as 2026-01-15
     print_date SCRIPT DATE              the text of a date
     find TEXT                           the text, with the answer in the place of each number
@@ -107,8 +110,8 @@ class Clone:
         return run(self.compiled(self.cc, "c", BINDINGS / "c/answers.c"), text=asked)
 
     def cpp(self, asked):
-        words = compiler("CXX", "c++", "g++", "clang++")
-        return run(self.compiled(words, "c++", BINDINGS / "c/answers.c"), text=asked)
+        words = [*compiler("CXX", "c++", "g++", "clang++"), "-std=c++17"]
+        return run(self.compiled(words, "c++", BINDINGS / "c/answers.cpp"), text=asked)
 
     def python(self, asked):
         run(*self.cc, "-shared", self.object, "-o", self.scratch / f"libchinese_number.{SHARED}")

@@ -37,6 +37,7 @@ COPIES = {
     "dist/LICENSE": "LICENSE",
     "dist/LICENSE-wabt": "bindings/source/LICENSE-wabt",
     "dist/chinese_number.h": "bindings/c/chinese_number.h",
+    "dist/chinese_number.hpp": "bindings/c/chinese_number.hpp",
     "bindings/python/LICENSE": "LICENSE",
     "bindings/python/source/LICENSE-wabt": "bindings/source/LICENSE-wabt",
     "bindings/python/source/chinese_number.c": "dist/chinese_number.c",

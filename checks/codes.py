@@ -3,9 +3,10 @@
 
 Usage: codes.py CN_C BINDINGS
 
-The tables of `codes.rt` give a type, way, script, case or unit its place as its code, and `status.rt`
-names the statuses. The header, the Rust crate and the Python file name each of them once, with the
-same number, and no other; the JavaScript file lists them in this order. The header declares each
+The tables of `codes.rt` give a type, way, script, case, form or unit its place as its code, `ANY` is
+the way behind them, and `status.rt` names the statuses. The header, the Rust crate and the Python
+file name each of them once, with the same number or in this order, and no other, as the JavaScript
+file lists them; but what a form is made of is named by the header alone. The header declares each
 call that the crate exports, and no language has any other. Alike, too, are the most bytes of a
 text of each kind, which a clause of `printing.rt`, `amount.rt` and `date.rt` bounds; the status of
 the C source alone for a text that is too long, and how long that is; the version of all, which is
@@ -17,42 +18,51 @@ import re
 import sys
 from pathlib import Path
 
-TABLES = ("KINDS", "WAYS", "SCRIPTS", "CASES", "UNITS")
+TABLES = ("KINDS", "WAYS", "SCRIPTS", "CASES", "FORMS", "UNITS")
+ANY = re.compile(r"^pub const ANY: u32 = (\d+);", re.MULTILINE)
+ASKING = re.compile(r"^const fn asking\((.*?)\)", re.MULTILINE)
+FORM = re.compile(r"PLAIN|asking\((.*?)\)")
 TABLE = re.compile(r"^pub static (\w+): \[.*?\] = \[(.*?)\];", re.MULTILINE | re.DOTALL)
 NAMED = re.compile(
     r"(?:^|[,;{])[ \t]*(?:pub const )?(?:CN_)?(\w+)(?:: u32)? = (\d+)\b", re.MULTILINE
 )
-END_OF_TABLE = re.compile(r"\n\};?\n|\n\n\n")
+LISTED = re.compile(r"^    (\w+) = \"", re.MULTILINE)
+END_OF_TABLE = re.compile(r"\n\}[ \w]*;?\n|\n\n\n")
 
 HEADER, RUST, PYTHON = "c/chinese_number.h", "rust/src/abi.rs", "python/chinese_number/__init__.py"
 JAVASCRIPT = "web/chinese-number.mjs"
-# Where each table begins, in the order of the tables, the statuses last.
+# The second file of a face.
+MORE = {RUST: "rust/src/lib.rs", PYTHON: "python/chinese_number/_library.py"}
+# Where each table begins.
 BEGINNINGS = {
-    HEADER: (
-        "/* The integer type",
-        "/* The way",
-        "/* The script",
-        "/* The case",
-        "/* The units",
-        "/* The status",
-    ),
-    RUST: (
-        "pub enum Kind ",
-        "pub enum Way ",
-        "pub enum ChineseVariant ",
-        "pub enum ChineseCase ",
-        "pub enum Unit ",
-        "pub mod status ",
-    ),
-    PYTHON: (
-        "class Kind(",
-        "class Way(",
-        "class Script(",
-        "class Case(",
-        "class Unit(",
-        "class Status(",
-    ),
+    HEADER: {
+        "KINDS": "/* The integer type",
+        "WAYS": "/* The way",
+        "SCRIPTS": "/* The script",
+        "CASES": "/* The case",
+        "FORMS": "/* The form",
+        "UNITS": "/* The units",
+        "STATUSES": "/* The status",
+    },
+    RUST: {
+        "KINDS": "pub enum Kind ",
+        "WAYS": "pub enum Way ",
+        "SCRIPTS": "pub enum ChineseVariant ",
+        "CASES": "pub enum ChineseCase ",
+        "UNITS": "pub enum Unit ",
+        "STATUSES": "pub mod status ",
+    },
+    PYTHON: {
+        "KINDS": "class Kind(",
+        "WAYS": "class Way(",
+        "SCRIPTS": "class Script(",
+        "CASES": "class Case(",
+        "UNITS": "class Unit(",
+        "STATUSES": "class Status(",
+    },
 }
+# The inherited name of a script, which the crates in Rattle and Rust keep.
+INHERITED = {"simple": "simplified"}
 # How each language names what no call of the crate answers, but the C source made of it.
 TOO_LONG = {
     HEADER: "#define CN_TOO_LONG UINT32_MAX\n",
@@ -61,7 +71,7 @@ TOO_LONG = {
 }
 # The C source's text begins at an address of 32 bits, and so has a most length, which these files name.
 SOURCE = "source/chinese_number.c.in"
-OF_LENGTH = (HEADER, RUST, PYTHON, "source/README.md", "rust/src/lib.rs")
+OF_LENGTH = (HEADER, RUST, MORE[PYTHON], "source/README.md", MORE[RUST])
 EXPORTED = re.compile(r'^pub (?:unsafe )?extern "C" fn (\w+)', re.MULTILINE)
 CALLED = re.compile(
     r"\b(chinese_(?:number|amount|date)_\w+)\(|\blibrary\.(chinese_(?:number|amount|date)_\w+)"
@@ -131,44 +141,68 @@ def snake(name):
     return name.lower() if name.isupper() else re.sub(r"\B([A-Z])", r"_\1", name).lower()
 
 
+def numbered(names):
+    return {name: code for code, name in enumerate(names)}
+
+
+def forms_of(table, text):
+    """What a form is made of, each with its bit. The table has each sum of them at its place."""
+    names = re.findall(r"(\w+): bool", ASKING.search(text)[1])
+    forms = [flags.split(", ") for flags in FORM.findall(table)]
+    sums = [sum(1 << bit for bit, flag in enumerate(it) if flag == "true") for it in forms]
+    if sums != list(range(1 << len(names))):
+        sys.exit(f"codes: codes.rt has the forms {sums}")
+    return {"plain": 0, **{name: 1 << bit for bit, name in enumerate(names)}}
+
+
 def of_sources(crate):
-    """The tables: each name with its code."""
-    tables = dict(TABLE.findall(text_of(crate / "src/codes.rt")))
+    """The tables, by name: each name with its code."""
+    text = text_of(crate / "src/codes.rt")
+    tables = dict(TABLE.findall(text))
     if tuple(tables) != TABLES:
         sys.exit(f"codes: codes.rt has the tables {list(tables)}, and not {list(TABLES)}")
-    found = []
-    for table in tables.values():
+    found = {}
+    for name, table in tables.items():
         names = re.findall(r"(\w+)\)?\s*(?:,|$)", table.strip())
-        found.append({snake(name): code for code, name in enumerate(names)})
-    return [*found, of_table(text_of(crate / "src/status.rt"))]
+        found[name] = numbered(map(inherited, names))
+    found["WAYS"]["any"] = int(ANY.search(text)[1])
+    found["FORMS"] = forms_of(tables["FORMS"], text)
+    found["STATUSES"] = of_table(text_of(crate / "src/status.rt"))
+    return found
+
+
+def inherited(name):
+    return INHERITED.get(snake(name), snake(name))
 
 
 def of_table(text):
     named = NAMED.findall(text)
     if len(dict(named)) != len(named):
         sys.exit(f"codes: a name stands twice: {named}")
-    return {snake(name): int(code) for name, code in named}
+    return {snake(name): int(code) for name, code in named} or numbered(
+        map(snake, LISTED.findall(text))
+    )
 
 
 def of_language(language, text):
-    found = []
-    for beginning in BEGINNINGS[language]:
+    found = {}
+    for name, beginning in BEGINNINGS[language].items():
         if text.count(beginning) != 1:
             sys.exit(f"codes: {language}: {beginning!r} stands there {text.count(beginning)} times")
-        found.append(of_table(END_OF_TABLE.split(text.split(beginning)[1])[0]))
+        table = of_table(END_OF_TABLE.split(text.split(beginning)[1])[0])
+        if language == RUST and name == "SCRIPTS":
+            table = {inherited(it): code for it, code in table.items()}
+        found[name] = table
     return found
 
 
 def of_lists(text):
     """The tables of the JavaScript file: the names in the order of their codes."""
-    lists = [
-        re.search(rf"\b{name} =[^\[]*?\[((?:\s*'\w+',?)+)\]", text)
-        for name in (*TABLES, "STATUSES")
-    ]
-    return [
-        {snake(name): code for code, name in enumerate(re.findall(r"\w+", found[1]))}
-        for found in lists
-    ]
+    found = {}
+    for name in BEGINNINGS[PYTHON]:
+        listed = re.search(rf"\b{name} =[^\[]*?\[((?:\s*'\w+',?)+)\]", text)[1]
+        found[name] = numbered(map(snake, re.findall(r"\w+", listed)))
+    return found
 
 
 def compare_calls(crate, texts):
@@ -249,15 +283,16 @@ def main():
         sys.exit(__doc__)
     crate, bindings = map(Path, sys.argv[1:])
     texts = {language: text_of(bindings / language) for language in BEGINNINGS}
-    texts[RUST] += text_of(bindings / "rust/src/lib.rs")
+    for language, file in MORE.items():
+        texts[language] += text_of(bindings / file)
     found = {language: of_language(language, text) for language, text in texts.items()}
     texts[JAVASCRIPT] = text_of(bindings / JAVASCRIPT)
     found[JAVASCRIPT] = of_lists(texts[JAVASCRIPT])
     wanted = of_sources(crate)
-    for language, text in texts.items():
-        for name, table, right in zip((*TABLES, "statuses"), found[language], wanted):
-            if table != right or not right:
-                sys.exit(f"codes: {name} of {language}: {table}, and not {right}")
+    for language, tables in found.items():
+        for name, table in tables.items():
+            if table != wanted[name] or not table:
+                sys.exit(f"codes: {name} of {language}: {table}, and not {wanted[name]}")
 
     authors, versions = found_by(bindings, AUTHORS), found_by(bindings, VERSIONS)
     for page in ("README.md", "web/README.md"):
@@ -267,6 +302,8 @@ def main():
     versions.add(
         ".".join(re.findall(r"^#define CN_VERSION_\w+ (\d+)", texts[HEADER], re.MULTILINE))
     )
+    number = int(re.search(r"= ([\d_]+);", text_of(crate / "src/version.rt"))[1])
+    versions.add(f"{number // 1_000_000}.{number // 1_000 % 1_000}.{number % 1_000}")
     if len(versions) != 1 or len(authors) != 1:
         sys.exit(f"codes: versions {sorted(versions)}, and authors {sorted(authors)}")
     for language, line in TOO_LONG.items():
@@ -277,7 +314,7 @@ def main():
     compare_length(bindings)
     compare_refusals(bindings.resolve().parent)
     print(
-        f"codes: {calls} calls, {sum(map(len, wanted))} codes and statuses, alike in C, Rust, Python and JavaScript, of version {versions.pop()}"
+        f"codes: {calls} calls, {sum(map(len, wanted.values()))} codes and statuses, alike in C, Rust, Python and JavaScript, of version {versions.pop()}"
     )
 
 

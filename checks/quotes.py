@@ -12,6 +12,7 @@ from pathlib import Path
 BLOCK = re.compile(r"^```(\w+)$\n(.*?)^```$", re.MULTILINE | re.DOTALL)
 FILES = {
     "c": "c/example.c",
+    "cpp": "c/example.cpp",
     "rust": "rust/src/lib.rs",
     "python": "python/chinese_number/__init__.py",
     "js": "web/README.md",
@@ -19,7 +20,7 @@ FILES = {
 # The languages of the examples on each page.
 PAGES = {
     "README.md": [*FILES],
-    "c/README.md": ["c"],
+    "c/README.md": ["c", "cpp"],
     "rust/README.md": ["rust"],
     "python/README.md": ["python"],
 }

@@ -1,7 +1,7 @@
 /* same [COUNT [ROUNDS]]: shows one sum over what each call of chinese_number.h answers to COUNT
- * pseudo-random numbers of each type by each way, to ten times as many amounts, dates and texts,
- * and at the ends: what is printed, each room to its last byte, and what is read and found in texts
- * as they were printed, changed and cut. Builds of one library have to show one sum. With -DTHREADS
+ * pseudo-random numbers of each type by each way, to ten times as many amounts in all forms, dates
+ * and texts, and at the ends: what is printed, each room to its last byte, and what is read, either
+ * way too, and found in texts as they were printed, changed and cut. Builds of one library have to show one sum. With -DTHREADS
  * four threads have to find it at once. With ROUNDS it shows what a call takes, too, in the best of
  * so many rounds. */
 #include "chinese_number.h"
@@ -89,6 +89,7 @@ static void add_reading(run *r, uint32_t status, const cn_reading *reading) {
     add_word(r, reading->number.low);
     add_word(r, reading->number.high);
     add_word(r, reading->char_index);
+    add_word(r, reading->byte_index);
 }
 
 /* Only where a text was tested are its bytes known to be UTF-8. */
@@ -97,7 +98,7 @@ static int is_utf8(uint32_t status) {
 }
 
 static void try_read(run *r, const text *t, uint32_t kind, uint32_t way) {
-    cn_reading reading = {{1, 2}, 3};
+    cn_reading reading = {{1, 2}, 3, 4};
     uint32_t status = chinese_number_read(t->bytes, t->length, kind, way, &reading);
     add_reading(r, status, &reading);
     if (is_utf8(status)) {
@@ -124,22 +125,24 @@ static void try_find(run *r, const text *t, uint32_t upper, uint32_t greatest) {
 }
 
 static void try_read_capitals(run *r, const text *t) {
-    cn_amount amount = {1, 2};
-    cn_date date = {1, 2, 3, 4};
+    cn_amount amount = {1, 2, 3};
+    cn_date date = {1, 2, 3, 4, 5};
     add_word(r, chinese_amount_read(t->bytes, t->length, &amount));
     add_word(r, amount.fen);
     add_word(r, amount.char_index);
+    add_word(r, amount.byte_index);
     add_word(r, chinese_date_read(t->bytes, t->length, &date));
     add_word(r, date.year);
     add_word(r, date.month);
     add_word(r, date.day);
     add_word(r, date.char_index);
+    add_word(r, date.byte_index);
 }
 
 /* Each code is drawn in a statement of its own, since a call may draw its arguments in any order. */
 static void try_read_and_find(run *r, const text *t) {
     uint32_t kind = code(r, CN_I128 + 1);
-    uint32_t way = code(r, CN_HIGH + 1);
+    uint32_t way = code(r, CN_ANY + 1);
     uint32_t upper = code(r, 2);
     uint32_t greatest = code(r, CN_JI + 1);
     try_read(r, t, kind, way);
@@ -183,6 +186,7 @@ static void try_number(run *r, uint32_t kind, uint32_t way, cn_number number) {
                                            t.bytes, room, &length);
     add_printed(r, status, length, &t);
     try_read(r, &t, kind, way);
+    try_read(r, &t, kind, CN_ANY);
     change(r, &t);
     try_read(r, &t, kind, way);
     try_read_and_find(r, &t);
@@ -198,7 +202,8 @@ static void try_capitals(run *r, text *t) {
 static void try_amount(run *r, uint64_t fen) {
     text t;
     size_t length = 1, room = begin(r, &t, CN_MOST_AMOUNT_BYTES);
-    uint32_t status = chinese_amount_print(fen, code(r, 2), t.bytes, room, &length);
+    uint32_t script = code(r, 2), form = code(r, 8);
+    uint32_t status = chinese_amount_print(fen, script, form, t.bytes, room, &length);
     add_printed(r, status, length, &t);
     try_capitals(r, &t);
 }
@@ -229,7 +234,7 @@ static void try_ends(run *r) {
         {0, 0}, {1, 0}, {UINT64_MAX, 0}, {0, 1}, {UINT64_MAX, UINT64_MAX}, {0, (uint64_t)1 << 63},
     };
     for (uint32_t kind = 0; kind <= CN_I128 + 1; kind++)
-        for (uint32_t way = 0; way <= CN_HIGH + 1; way++)
+        for (uint32_t way = 0; way <= CN_ANY; way++)
             for (size_t i = 0; i < sizeof ENDS / sizeof *ENDS; i++)
                 try_number(r, kind, way, ENDS[i]);
     for (uint64_t fen = 1; fen < UINT64_C(10000000000000000000); fen *= 10) {
@@ -239,6 +244,7 @@ static void try_ends(run *r) {
     for (uint32_t day = 0; day <= 32; day++)
         try_date(r, 1900 + 100 * (day % 2), 2, day);
     try_text(r, 0);
+    add_word(r, chinese_number_version());
 }
 
 static void try_all(run *r) {
@@ -246,7 +252,7 @@ static void try_all(run *r) {
     r->sum = UINT64_C(14695981039346656037);
     r->cases = 0;
     for (uint32_t kind = 0; kind <= CN_I128 + 1; kind++)
-        for (uint32_t way = 0; way <= CN_HIGH + 1; way++)
+        for (uint32_t way = 0; way <= CN_ANY; way++)
             for (long i = 0; i < r->count; i++)
                 try_number(r, kind, way, some_number(r));
     for (long i = 0; i < 10 * r->count; i++) {
@@ -298,7 +304,7 @@ static void show_times(run *r, int rounds) {
     for (int round = 0; round < rounds; round++) {
         clock_t start = clock(), middle, end;
         for (int i = 0; i < SAMPLES; i++)
-            chinese_number_print(numbers[i], 0, CN_U64, CN_TEN_THOUSAND, CN_SIMPLE, CN_LOWER,
+            chinese_number_print(numbers[i], 0, CN_U64, CN_TEN_THOUSAND, CN_SIMPLIFIED, CN_LOWER,
                                  rooms[i], CN_MOST_BYTES, &lengths[i]);
         middle = clock();
         for (int i = 0; i < SAMPLES; i++)

@@ -23,10 +23,10 @@ def table(name):
     return [line.split("\t") for line in text.splitlines() if not line.startswith("# ")]
 
 
-def of_files():
-    """What stands in `tests/rows`: the words of a question, and the answer. What is asked of
-    several ways stands there once."""
-    for name in ("numbers", "amounts", "dates"):
+def of_files(names=("numbers", "amounts", "dates")):
+    """What stands in files of `tests/rows`: the words of a question, and the answer. What is asked
+    of several ways stands there once."""
+    for name in names:
         for *words, answer in table(name):
             ways = words[2].split(" ") if name == "numbers" else [None]
             for way in ways:
@@ -95,6 +95,7 @@ def questions():
     """What the calls of the library are asked, as test.py says it: the words of a question, of
     which the first one names the call, and the answer."""
     yield from of_files()
+    yield from of_files(("any", "forms"))  # of the libraries alone: no program is asked these
     for _, line, answer in of_numeral():
         if answer != "bad line":
             yield line.split(" ", WORDS[line.split(" ")[0]] - 1), answer

@@ -1,35 +1,71 @@
-"""The examples in C, compiled as C and as C++ by each compiler, over the archive and the C source.
+"""The examples in C, compiled as C and as C++ by each compiler, over the archive and the C source,
+and those of the header for C++.
 
 `example.c` meets each status, `sixteen_bits.c` prints and reads back each number of 16 bits, and
-each from 0 on as an amount, in four threads. They run under valgrind too, and with the sanitizers
-for addresses and for undefined behaviour.
+each from 0 on as an amount in each form, in four threads; `example.cpp` has what the rows of
+`tests/rows` do not ask. They run under valgrind too, and with the sanitizers for addresses and for
+undefined behaviour. No compiler warns of a header, and each warns of a wrong call.
 """
 import pytest
 
 from questions import wrong_answers
-from running import TOP, needs, needs_compiler, run
+from running import TOP, needs, needs_compiler, run, write
 
 C = TOP / "bindings/c"
 FIRST_STEPS = """\
-負十萬五千
+负十万五千
 -105000
+50
 壹仟肆佰零玖元伍角整
 140950
 贰零贰陆年零壹月壹拾伍日
 2026-01-15
 """
-EXAMPLES = {"example.c": FIRST_STEPS, "sixteen_bits.c": ""}
-AS_C, AS_CPP = ("-x", "c", "-std=c99"), ("-x", "c++")
+FIRST_STEPS_OF_CPP = """\
+负十万五千
+120
+50
+the chinese number is incorrect (position: 1)
+人民币壹拾伍元整
+1500
+贰零贰陆年零壹月壹拾伍日
+"""
+EXAMPLES = {"example.c": FIRST_STEPS, "sixteen_bits.c": "", "example.cpp": FIRST_STEPS_OF_CPP}
+AS_C, AS_CPP = ("-x", "c", "-std=c99"), ("-x", "c++", "-std=c++17")
 COMPILERS = {"cc": AS_C, "gcc": AS_C, "clang": AS_C, "g++": AS_CPP, "clang++": AS_CPP}
+# Of each example its compilers: those of C++ take C too.
+RUNS = [
+    (name, compiler)
+    for name in EXAMPLES
+    for compiler, words in COMPILERS.items()
+    if name.endswith(".c") or words is AS_CPP
+]
+# And those of its own language.
+OWN = [
+    (name, compiler)
+    for name, compiler in RUNS
+    if name.endswith(".cpp") == (COMPILERS[compiler] is AS_CPP) and compiler != "cc"
+]
+ANSWERS = [
+    ("answers.c", "cc"),
+    ("answers.c", "g++"),
+    ("answers.cpp", "g++"),
+    ("answers.cpp", "clang++"),
+]
 STRICT = ("-Wall", "-Wextra", "-Werror", "-pedantic", "-O1", "-g", "-pthread")
-SANITIZERS = ("-fsanitize=address,undefined", "-fno-sanitize-recover=all")
+# All warnings but that a struct of the interface has bytes between its members, and that C++ is
+# younger than that of 1998.
+EACH_WARNING = {
+    "gcc": "-Wall -Wextra -pedantic -Wconversion -Wcast-qual -Wshadow -Wundef",
+    "clang": "-Weverything -Wno-padded",
+    "g++": "-Wall -Wextra -pedantic -Wconversion -Wcast-qual -Wshadow -Wundef -Wold-style-cast",
+    "clang++": "-Weverything -Wno-padded -Wno-c++98-compat -Wno-c++98-compat-pedantic",
+}
+# no_null.h declares the proved calls so that a NULL for one of them is undefined behaviour.
+NO_NULL = ("-include", TOP / "tests/no_null.h")
+SANITIZERS = ("-fsanitize=address,undefined", "-fno-sanitize-recover=all", *NO_NULL)
 STEP = "31"  # of the numbers under valgrind, which takes fifty times as long
 VALGRIND = "valgrind --quiet --error-exitcode=9 --leak-check=full --show-leak-kinds=all"
-
-
-@pytest.fixture(params=EXAMPLES)
-def example(request):
-    return request.param
 
 
 @pytest.fixture
@@ -37,6 +73,7 @@ def compiled(library, tmp_path):
     """What compiles a program of `bindings/c`, with the archive or the shared object."""
 
     def call(name, compiler, *flags, shared=False):
+        needs(compiler)
         linked = [library / "libchinese_number.a"]
         if shared:
             linked = [f"-L{library}", "-lchinese_number", f"-Wl,-rpath,{library}"]
@@ -49,25 +86,63 @@ def compiled(library, tmp_path):
 
 
 @pytest.mark.parametrize("shared", [False, True], ids=["static", "shared"])
-@pytest.mark.parametrize("compiler", COMPILERS)
-def test_examples(compiled, example, compiler, shared):
-    needs(compiler)
-    run(compiled(example, compiler, shared=shared), cwd=TOP, wanted=EXAMPLES[example])
+@pytest.mark.parametrize("name, compiler", RUNS)
+def test_examples(compiled, name, compiler, shared):
+    run(compiled(name, compiler, shared=shared), cwd=TOP, wanted=EXAMPLES[name])
 
 
-def test_under_valgrind(compiled, example):
-    needs("cc", "valgrind")
-    run(*VALGRIND.split(), compiled(example, "cc"), STEP, cwd=TOP, wanted=EXAMPLES[example])
+@pytest.mark.parametrize("name, compiler", [it for it in OWN if it[1].startswith("g")])
+def test_under_valgrind(compiled, name, compiler):
+    needs("valgrind")
+    run(*VALGRIND.split(), compiled(name, compiler), STEP, cwd=TOP, wanted=EXAMPLES[name])
 
 
-@pytest.mark.parametrize("compiler", ["gcc", "clang"])
-def test_sanitized(compiled, example, compiler, tmp_path):
+@pytest.mark.parametrize("name, compiler", OWN)
+def test_sanitized(compiled, name, compiler, tmp_path):
     needs_compiler(tmp_path, compiler, *SANITIZERS)
-    run(compiled(example, compiler, *SANITIZERS), cwd=TOP, wanted=EXAMPLES[example])
+    run(compiled(name, compiler, *SANITIZERS), cwd=TOP, wanted=EXAMPLES[name])
 
 
-@pytest.mark.parametrize("compiler", ["cc", "g++"])
-def test_answers(compiled, compiler):
-    needs(compiler)
-    program = compiled("answers.c", compiler)
+@pytest.mark.parametrize("name, compiler", ANSWERS)
+def test_answers(compiled, name, compiler):
+    program = compiled(name, compiler)
     assert wrong_answers(lambda asked: run(program, cwd=TOP, stdin=asked)) == []
+
+
+@pytest.mark.parametrize("compiler", EACH_WARNING)
+def test_no_warning(compiler, tmp_path):
+    """Neither header has a cause for one; of that for C++, the example makes what its templates
+    say."""
+    needs(compiler)
+    header = write(tmp_path / "header.c", '#include "chinese_number.h"\n')
+    words = (*COMPILERS[compiler], *EACH_WARNING[compiler].split(), "-Werror", "-O2", "-I", C)
+    sources = [header, C / "example.cpp"] if words[:3] == AS_CPP else [header]
+    for source in sources:
+        run(compiler, *words, "-c", source, "-o", "made.o", cwd=tmp_path, wanted="")
+
+
+WRONG = """\
+#include "chinese_number.h"
+
+cn_status wrong(char *room, size_t length);
+
+cn_status wrong(char *room, size_t length) {{
+    {} cn_print(cn_unsigned(1), CN_U8, CN_LOW, {}, room, length);
+    return CN_DONE;
+}}
+"""
+RIGHT = WRONG.format("return", "CN_SIMPLIFIED, CN_UPPER")
+EXCHANGED = WRONG.format("return", "CN_UPPER, CN_SIMPLIFIED")
+UNUSED = WRONG.format("", "CN_SIMPLIFIED, CN_UPPER")
+
+
+@pytest.mark.parametrize("compiler", EACH_WARNING)
+def test_wrong_calls(compiler, tmp_path):
+    """Exchanged arguments are warned of in C and refused in C++, and a status that is not looked
+    at is warned of."""
+    needs(compiler)
+    exchanged = "enum-conversion" if COMPILERS[compiler] is AS_C else "cn_case"
+    for text, told in ((RIGHT, ""), (EXCHANGED, exchanged), (UNUSED, "unused-result")):
+        source = write(tmp_path / "call.c", text)
+        words = (*COMPILERS[compiler], "-Wextra", "-Werror", "-I", C, "-c", source)
+        assert told in run(compiler, *words, cwd=tmp_path, fails=bool(told))

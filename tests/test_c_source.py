@@ -1,14 +1,15 @@
 """The C source of `dist/`: what each compiler makes of it answers as the archive does.
 
-`same.c` shows one sum over what the calls answer. The object is looked at, and CMake builds it as a
-part of a user's project. test_packages.py follows the page of its package.
+`same.c` shows one sum over what the calls answer. No compiler warns of the source. The object is
+looked at, and CMake builds it as a part of a user's project, and installs it with both headers.
+test_packages.py follows the page of its package.
 """
 import re
 
 import pytest
 
 from running import TOP, needs, needs_compiler, run, write
-from test_c import FIRST_STEPS
+from test_c import EACH_WARNING, FIRST_STEPS, FIRST_STEPS_OF_CPP
 
 DIST, EXAMPLE = TOP / "dist", TOP / "bindings/c/example.c"
 THREADS = ("-DTHREADS", "-pthread")
@@ -70,6 +71,13 @@ def test_sum_without_memory(of_archive, refuse_growth, tmp_path):
     assert sum_of(tmp_path, ("gcc", "-Os"), DIST / "chinese_number.c", **own) == of_archive
 
 
+@pytest.mark.parametrize("compiler", ["gcc", "clang"])
+def test_no_warning(compiler, tmp_path):
+    needs(compiler)
+    words = ("-std=c99", *EACH_WARNING[compiler].split(), "-Werror", "-O2")
+    run(compiler, *words, "-c", DIST / "chinese_number.c", cwd=tmp_path, wanted="")
+
+
 def test_object(tmp_path):
     """It shows the header's calls alone, asks for four names, and has no data to write."""
     needs("cc", "nm", "size")
@@ -95,3 +103,15 @@ def test_shared_by_cmake(tmp_path):
     run("cmake", "--build", "build", cwd=tmp_path)
     assert list(tmp_path.rglob("libchinese_number.so*"))
     run("build/user", cwd=tmp_path, wanted=FIRST_STEPS)
+
+
+def test_installed_by_cmake(tmp_path):
+    """What CMake installs of it serves a program in C++ by its header and pkg-config."""
+    needs("g++", "cmake", "pkg-config")
+    run("cmake", "-S", DIST, "-B", "build", "-DCMAKE_INSTALL_LIBDIR=lib", cwd=tmp_path)
+    run("cmake", "--build", "build", cwd=tmp_path)
+    run("cmake", "--install", "build", "--prefix", tmp_path / "installed", cwd=tmp_path)
+    own = {"PKG_CONFIG_PATH": f"{tmp_path}/installed/lib/pkgconfig"}
+    words = run("pkg-config", "--cflags", "--libs", "chinese-number", cwd=tmp_path, **own).split()
+    run("g++", "-std=c++17", EXAMPLE.with_suffix(".cpp"), *words, "-o", "user", cwd=tmp_path)
+    run("./user", cwd=tmp_path, wanted=FIRST_STEPS_OF_CPP)

@@ -295,6 +295,16 @@ def test_c_by_compiler(of_c, compiler):
     of_c.compile(compiler, *COMPILERS[compiler].split())
 
 
+def test_cpp(packages, of_c):
+    """The example of the header for C++ answers as the page says."""
+    needs("g++")
+    page = Readme(package(packages, NATIVE_C, NATIVE), "README.md", "cpp")
+    words = ("-std=c++17", *STRICT.split(), f"-I{of_c.prefix}/include", "-o", "program")
+    example, archive = of_c.programs[1].with_suffix(".cpp"), f"{of_c.lib}/libchinese_number.a"
+    run("g++", *words, example, archive, cwd=of_c.scratch)
+    run("./program", cwd=of_c.scratch, wanted=page.answer)
+
+
 def test_c_by_pkg_config(of_c):
     needs("cc", "pkg-config")
     own = {"PKG_CONFIG_PATH": f"{of_c.lib}/pkgconfig", "LD_LIBRARY_PATH": of_c.lib}

@@ -11,9 +11,11 @@ enum { MOST_BYTES_OF_LINE = 4096, MOST_WORDS = 6 };
 static const char *const KINDS[] = {
     "u8", "u16", "u32", "u64", "u128", "i8", "i16", "i32", "i64", "i128", NULL,
 };
-static const char *const WAYS[] = {"naive", "low", "ten_thousand", "middle", "high", NULL};
+static const char *const WAYS[] = {"naive", "low", "ten_thousand", "middle", "high", "any", NULL};
 static const char *const SCRIPTS[] = {"traditional", "simple", NULL};
 static const char *const CASES[] = {"upper", "lower", NULL};
+/* Those of the forms are added together. */
+static const char *const FORMS[] = {"currency", "round_yuan", "upright_closing", NULL};
 
 /* The code of a name. That of an unknown one is the first that the library refuses. */
 static uint32_t code_of(const char *const *names, const char *name) {
@@ -21,6 +23,15 @@ static uint32_t code_of(const char *const *names, const char *name) {
     while (names[code] != NULL && strcmp(names[code], name) != 0)
         code++;
     return code;
+}
+
+/* The form of words with `+` between them; `plain` is none of them. */
+static cn_form form_of(char *words) {
+    uint32_t form = CN_PLAIN;
+    for (char *word = strtok(words, "+"); word != NULL; word = strtok(NULL, "+"))
+        if (strcmp(word, "plain") != 0)
+            form |= UINT32_C(1) << code_of(FORMS, word);
+    return (cn_form)form;
 }
 
 static cn_number negated(cn_number number) {
@@ -51,7 +62,7 @@ static char take_digit(cn_number *number) {
     return (char)('0' + low % 10);
 }
 
-static void put_number(cn_number number, uint32_t kind) {
+static void put_number(cn_number number, cn_kind kind) {
     char digits[40];
     size_t first = sizeof digits - 1;
     if (kind >= CN_I8 && number.high >> 63) {
@@ -66,7 +77,7 @@ static void put_number(cn_number number, uint32_t kind) {
 }
 
 /* Puts why a text is no number, amount or date, or why there is no text. */
-static void put_refusal(const char *what, uint32_t status, size_t char_index) {
+static void put_refusal(const char *what, cn_status status, size_t char_index) {
     if (status == CN_INCORRECT)
         printf("err the %s is incorrect (position: %lu)", what, (unsigned long)char_index);
     else if (status == CN_UNFINISHED)
@@ -75,18 +86,16 @@ static void put_refusal(const char *what, uint32_t status, size_t char_index) {
         printf("err %s", cn_status_text(status));
 }
 
-static void put_reading(const char *text, size_t length, uint32_t kind, uint32_t way) {
-    cn_reading reading;
-    uint32_t status = cn_read(text, length, kind, way, &reading);
+static void put_reading(cn_status status, const cn_reading *reading, cn_kind kind) {
     if (status == CN_DONE) {
         fputs("ok ", stdout);
-        put_number(reading.number, kind);
+        put_number(reading->number, kind);
     } else {
-        put_refusal("chinese number", status, reading.char_index);
+        put_refusal("chinese number", status, reading->char_index);
     }
 }
 
-static void put_printed(const char *what, uint32_t status, const char *text) {
+static void put_printed(const char *what, cn_status status, const char *text) {
     if (status == CN_DONE)
         printf("ok %s", text);
     else
@@ -94,13 +103,18 @@ static void put_printed(const char *what, uint32_t status, const char *text) {
 }
 
 static void answer_read(char **words) {
-    put_reading(words[3], strlen(words[3]), code_of(KINDS, words[1]), code_of(WAYS, words[2]));
+    cn_kind kind = (cn_kind)code_of(KINDS, words[1]);
+    cn_way way = (cn_way)code_of(WAYS, words[2]);
+    cn_reading reading;
+    put_reading(cn_read(words[3], strlen(words[3]), kind, way, &reading), &reading, kind);
 }
 
 static void answer_print(char **words) {
     char text[CN_MOST_BYTES + 1];
-    uint32_t kind = code_of(KINDS, words[1]), way = code_of(WAYS, words[2]);
-    uint32_t script = code_of(SCRIPTS, words[3]), letter_case = code_of(CASES, words[4]);
+    cn_kind kind = (cn_kind)code_of(KINDS, words[1]);
+    cn_way way = (cn_way)code_of(WAYS, words[2]);
+    cn_script script = (cn_script)code_of(SCRIPTS, words[3]);
+    cn_case letter_case = (cn_case)code_of(CASES, words[4]);
     cn_number number = number_of(words[5]);
     put_printed("chinese number",
                 cn_print(number, kind, way, script, letter_case, text, sizeof text), text);
@@ -108,23 +122,31 @@ static void answer_print(char **words) {
 
 static void answer_read_amount(char **words) {
     cn_amount amount;
-    uint32_t status = cn_read_amount(words[1], strlen(words[1]), &amount);
+    cn_status status = cn_read_amount(words[1], strlen(words[1]), &amount);
     if (status == CN_DONE)
         printf("ok %llu", (unsigned long long)amount.fen);
     else
         put_refusal("amount", status, amount.char_index);
 }
 
-static void answer_print_amount(char **words) {
+static void put_amount(const char *script, cn_form form, const char *figures) {
     char text[CN_MOST_AMOUNT_BYTES + 1];
-    uint64_t fen = strtoull(words[2], NULL, 10);
-    uint32_t script = code_of(SCRIPTS, words[1]);
-    put_printed("amount", cn_print_amount(fen, script, text, sizeof text), text);
+    uint64_t fen = strtoull(figures, NULL, 10);
+    cn_script code = (cn_script)code_of(SCRIPTS, script);
+    put_printed("amount", cn_print_amount(fen, code, form, text, sizeof text), text);
+}
+
+static void answer_print_amount(char **words) {
+    put_amount(words[1], CN_PLAIN, words[2]);
+}
+
+static void answer_print_amount_as(char **words) {
+    put_amount(words[1], form_of(words[2]), words[3]);
 }
 
 static void answer_read_date(char **words) {
     cn_date date;
-    uint32_t status = cn_read_date(words[1], strlen(words[1]), &date);
+    cn_status status = cn_read_date(words[1], strlen(words[1]), &date);
     if (status == CN_DONE)
         printf("ok %04u-%02u-%02u", date.year, date.month, date.day);
     else
@@ -134,28 +156,25 @@ static void answer_read_date(char **words) {
 static void answer_print_date(char **words) {
     char text[CN_MOST_DATE_BYTES + 1];
     unsigned year = 0, month = 0, day = 0;
-    uint32_t script = code_of(SCRIPTS, words[1]);
+    cn_script script = (cn_script)code_of(SCRIPTS, words[1]);
     sscanf(words[2], "%u-%u-%u", &year, &month, &day);
     put_printed("date", cn_print_date(year, month, day, script, text, sizeof text), text);
 }
 
-/* Each search goes on behind the number before it. */
 static void answer_find(char **words) {
-    const char *rest = words[1];
-    size_t left = strlen(rest);
-    cn_span span;
-    uint32_t status = chinese_number_find((const uint8_t *)rest, left, 0, CN_ZHAO, &span);
+    const char *text = words[1];
+    size_t length = strlen(text), at = 0;
+    cn_span span = {0, 0, 0};
+    cn_reading reading;
     fputs("ok ", stdout);
-    while (status == CN_DONE) {
-        uint32_t way = span.digits ? CN_DIGITS : CN_TEN_THOUSAND;
-        printf("%.*s[", (int)span.start, rest);
-        put_reading(rest + span.start, span.end - span.start, CN_I128, way);
+    while (cn_find_next(text, length, 0, CN_ZHAO, &span) == CN_DONE) {
+        printf("%.*s[", (int)(span.start - at), text + at);
+        put_reading(cn_read_found(text, &span, CN_I128, CN_TEN_THOUSAND, &reading), &reading,
+                    CN_I128);
         putchar(']');
-        rest += span.end;
-        left -= span.end;
-        status = chinese_number_find_utf8((const uint8_t *)rest, left, 0, CN_ZHAO, &span);
+        at = span.end;
     }
-    fputs(rest, stdout);
+    fputs(text + at, stdout);
 }
 
 static const struct {
@@ -167,6 +186,7 @@ static const struct {
     {"print", 6, answer_print},
     {"read_amount", 2, answer_read_amount},
     {"print_amount", 3, answer_print_amount},
+    {"print_amount_as", 4, answer_print_amount_as},
     {"read_date", 2, answer_read_date},
     {"print_date", 3, answer_print_date},
     {"find", 2, answer_find},

@@ -16,43 +16,42 @@ static void expect(const char *what, int holds) {
 static void first_steps(void) {
     char text[CN_MOST_BYTES + 1];
     cn_reading reading;
-    cn_print(cn_signed(-105000), CN_I64, CN_TEN_THOUSAND, CN_TRADITIONAL, CN_LOWER, text, sizeof text);
-    puts(text); /* 負十萬五千 */
-    if (cn_read(text, strlen(text), CN_I64, CN_TEN_THOUSAND, &reading) == CN_DONE)
+    if (cn_print(cn_signed(-105000), CN_I64, CN_TEN_THOUSAND, CN_SIMPLIFIED, CN_LOWER, text, sizeof text) == CN_DONE)
+        puts(text); /* 负十万五千 */
+    if (cn_read(text, strlen(text), CN_I64, CN_ANY, &reading) == CN_DONE)
         printf("%lld\n", (long long)reading.number.low); /* -105000 */
+
+    const char sentence[] = "百分之五十的人";
+    cn_span span = {0, 0, 0};
+    while (cn_find_next(sentence, strlen(sentence), 0, CN_ZHAO, &span) == CN_DONE)
+        if (cn_read_found(sentence, &span, CN_I64, CN_TEN_THOUSAND, &reading) == CN_DONE)
+            printf("%lld\n", (long long)reading.number.low); /* 50 */
 
     char capitals[CN_MOST_AMOUNT_BYTES + 1];
     cn_amount amount;
-    cn_print_amount(140950, CN_SIMPLE, capitals, sizeof capitals);
-    puts(capitals); /* 壹仟肆佰零玖元伍角整 */
+    if (cn_print_amount(140950, CN_SIMPLIFIED, CN_PLAIN, capitals, sizeof capitals) == CN_DONE)
+        puts(capitals); /* 壹仟肆佰零玖元伍角整 */
     if (cn_read_amount(capitals, strlen(capitals), &amount) == CN_DONE)
         printf("%llu\n", (unsigned long long)amount.fen); /* 140950 */
 
     cn_date date;
-    cn_print_date(2026, 1, 15, CN_SIMPLE, capitals, sizeof capitals);
-    puts(capitals); /* 贰零贰陆年零壹月壹拾伍日 */
+    if (cn_print_date(2026, 1, 15, CN_SIMPLIFIED, capitals, sizeof capitals) == CN_DONE)
+        puts(capitals); /* 贰零贰陆年零壹月壹拾伍日 */
     if (cn_read_date(capitals, strlen(capitals), &date) == CN_DONE)
         printf("%u-%02u-%02u\n", date.year, date.month, date.day); /* 2026-01-15 */
 }
 
-/* Finds each number of a text: the text is tested once, and each search goes on behind the number before it. */
+/* Finds each number of a text. */
 static void numbers_of_a_text(void) {
     const char text[] = "第二十三回，二零二五年";
-    const uint8_t *rest = (const uint8_t *)text;
-    size_t left = strlen(text), count = 0;
     uint64_t numbers[2] = {0, 0};
-    cn_span span;
+    size_t count = 0;
+    cn_span span = {0, 0, 0};
     cn_reading reading;
-    uint32_t status = chinese_number_find(rest, left, 0, CN_ZHAO, &span);
-    while (status == CN_DONE && count < 2) {
-        uint32_t way = span.digits ? CN_DIGITS : CN_TEN_THOUSAND;
-        if (chinese_number_read_utf8(rest + span.start, span.end - span.start, CN_U64, way, &reading) == CN_DONE)
+    while (cn_find_next(text, strlen(text), 0, CN_ZHAO, &span) == CN_DONE && count < 2)
+        if (cn_read_found(text, &span, CN_U64, CN_TEN_THOUSAND, &reading) == CN_DONE)
             numbers[count++] = reading.number.low;
-        rest += span.end;
-        left -= span.end;
-        status = chinese_number_find_utf8(rest, left, 0, CN_ZHAO, &span);
-    }
-    expect("all numbers are found", status == CN_NONE && numbers[0] == 23 && numbers[1] == 2025);
+    expect("all numbers are found", count == 2 && numbers[0] == 23 && numbers[1] == 2025 && span.end == 0);
 }
 
 /* Finds the first number of a text, with this status and where it stands. */
@@ -75,27 +74,30 @@ static void each_status_of_finding(void) {
 }
 
 /* Reads a text, which has this status, number and place. */
-static void reads(const char *text, uint32_t kind, uint32_t way, uint32_t status, cn_number number, size_t char_index) {
+static void reads(const char *text, uint32_t kind, uint32_t way, uint32_t status, cn_number number, size_t char_index,
+                  size_t byte_index) {
     cn_reading reading;
     expect(text, chinese_number_read((const uint8_t *)text, strlen(text), kind, way, &reading) == status
                      && reading.number.low == number.low && reading.number.high == number.high
-                     && reading.char_index == char_index);
+                     && reading.char_index == char_index && reading.byte_index == byte_index);
 }
 
 static void each_status_of_reading(void) {
     cn_number none = cn_unsigned(0);
     cn_reading reading;
-    reads("十萬五", CN_USIZE, CN_TEN_THOUSAND, CN_DONE, cn_unsigned(105000), 0);
-    reads("負一百二十八", CN_I8, CN_LOW, CN_DONE, cn_signed(-128), 0);
-    reads("", CN_I8, CN_LOW, CN_EMPTY, none, 0);
-    reads(" 負 ", CN_ISIZE, CN_DIGITS, CN_EMPTY, none, 0);
-    reads(" 二 十 十 ", CN_U128, CN_TEN_THOUSAND, CN_INCORRECT, none, 3);
-    reads("二百五十六", CN_U8, CN_LOW, CN_TOO_LARGE, none, 0);
-    reads("負一百二十九", CN_I8, CN_LOW, CN_TOO_SMALL, none, 0);
-    reads("\xff", CN_U8, CN_DIGITS, CN_NOT_UTF8, none, 0);
-    reads("一", CN_I128 + 1, CN_DIGITS, CN_UNKNOWN, none, 0);
-    reads("一", CN_U8, CN_HIGH + 1, CN_UNKNOWN, none, 0);
-    reads("一", UINT32_MAX, UINT32_MAX, CN_UNKNOWN, none, 0);
+    reads("十萬五", CN_USIZE, CN_TEN_THOUSAND, CN_DONE, cn_unsigned(105000), 0, 0);
+    reads("負一百二十八", CN_I8, CN_LOW, CN_DONE, cn_signed(-128), 0, 0);
+    reads("", CN_I8, CN_LOW, CN_EMPTY, none, 0, 0);
+    reads(" 負 ", CN_ISIZE, CN_DIGITS, CN_EMPTY, none, 0, 0);
+    reads(" 二 十 十 ", CN_U128, CN_TEN_THOUSAND, CN_INCORRECT, none, 3, 5);
+    reads("二百五十六", CN_U8, CN_LOW, CN_TOO_LARGE, none, 0, 0);
+    reads("負一百二十九", CN_I8, CN_LOW, CN_TOO_SMALL, none, 0, 0);
+    reads("\xff", CN_U8, CN_DIGITS, CN_NOT_UTF8, none, 0, 0);
+    reads("一", CN_I128 + 1, CN_DIGITS, CN_UNKNOWN, none, 0, 0);
+    reads("二零二五", CN_U16, CN_ANY, CN_DONE, cn_unsigned(2025), 0, 0);
+    reads("二千零二十五", CN_U16, CN_ANY, CN_DONE, cn_unsigned(2025), 0, 0);
+    reads("一", CN_U8, CN_ANY + 1, CN_UNKNOWN, none, 0, 0);
+    reads("一", UINT32_MAX, UINT32_MAX, CN_UNKNOWN, none, 0, 0);
     expect("a text that is known to be UTF-8",
            chinese_number_read_utf8((const uint8_t *)"十", 3, CN_U8, CN_LOW, &reading) == CN_DONE && reading.number.low == 10);
 }
@@ -116,63 +118,67 @@ static void prints(cn_number number, uint32_t kind, uint32_t way, uint32_t scrip
 static void each_status_of_printing(void) {
     cn_number limit = cn_unsigned(UINT64_C(10000000000000000)), below = cn_signed(-INT64_C(10000000000000000));
     cn_number least = {0, UINT64_C(1) << 63};
-    prints(cn_unsigned(123), CN_U8, CN_LOW, CN_SIMPLE, CN_UPPER, CN_MOST_BYTES, CN_DONE, 15, "壹佰贰拾叁");
+    prints(cn_unsigned(123), CN_U8, CN_LOW, CN_SIMPLIFIED, CN_UPPER, CN_MOST_BYTES, CN_DONE, 15, "壹佰贰拾叁");
     prints(least, CN_I128, CN_DIGITS, CN_TRADITIONAL, CN_LOWER, 120, CN_DONE, 120,
            "負一七零一四一一八三四六零四六九二三一七三一六八七三零三七一五八八四一零五七二八");
-    prints(limit, CN_U64, CN_LOW, CN_SIMPLE, CN_UPPER, CN_MOST_BYTES, CN_TOO_LARGE, 0, "too large for the method");
-    prints(below, CN_I64, CN_LOW, CN_SIMPLE, CN_UPPER, CN_MOST_BYTES, CN_TOO_SMALL, 0, "too small for the method");
-    prints(cn_unsigned(123), CN_U8, CN_DIGITS, CN_SIMPLE, CN_LOWER, 9, CN_DONE, 9, "一二三");
-    prints(cn_unsigned(123), CN_U8, CN_DIGITS, CN_SIMPLE, CN_LOWER, 8, CN_NO_ROOM, 9, "a room that is a byte too small");
-    prints(cn_unsigned(123), CN_U8, CN_DIGITS, CN_SIMPLE, CN_LOWER, 0, CN_NO_ROOM, 9, "a room without a byte");
-    prints(cn_unsigned(256), CN_U8, CN_DIGITS, CN_SIMPLE, CN_LOWER, CN_MOST_BYTES, CN_NOT_HELD, 0, "not held");
+    prints(limit, CN_U64, CN_LOW, CN_SIMPLIFIED, CN_UPPER, CN_MOST_BYTES, CN_TOO_LARGE, 0, "too large for the method");
+    prints(below, CN_I64, CN_LOW, CN_SIMPLIFIED, CN_UPPER, CN_MOST_BYTES, CN_TOO_SMALL, 0, "too small for the method");
+    prints(cn_unsigned(123), CN_U8, CN_DIGITS, CN_SIMPLIFIED, CN_LOWER, 9, CN_DONE, 9, "一二三");
+    prints(cn_unsigned(123), CN_U8, CN_DIGITS, CN_SIMPLIFIED, CN_LOWER, 8, CN_NO_ROOM, 9, "a room that is a byte too small");
+    prints(cn_unsigned(123), CN_U8, CN_DIGITS, CN_SIMPLIFIED, CN_LOWER, 0, CN_NO_ROOM, 9, "a room without a byte");
+    prints(cn_unsigned(256), CN_U8, CN_DIGITS, CN_SIMPLIFIED, CN_LOWER, CN_MOST_BYTES, CN_NOT_HELD, 0, "not held");
     prints(cn_unsigned((uint64_t)-5), CN_I64, CN_DIGITS, 0, 0, CN_MOST_BYTES, CN_NOT_HELD, 0, "a sign that is not extended");
     prints(cn_unsigned(1), CN_I128 + 1, 0, 0, 0, CN_MOST_BYTES, CN_UNKNOWN, 0, "an unknown type");
-    prints(cn_unsigned(1), 0, CN_HIGH + 1, 0, 0, CN_MOST_BYTES, CN_UNKNOWN, 0, "an unknown way");
-    prints(cn_unsigned(1), 0, 0, CN_SIMPLE + 1, 0, CN_MOST_BYTES, CN_UNKNOWN, 0, "an unknown script");
+    prints(cn_unsigned(1), 0, CN_ANY, 0, 0, CN_MOST_BYTES, CN_UNKNOWN, 0, "a way to read alone");
+    prints(cn_unsigned(1), 0, CN_ANY + 1, 0, 0, CN_MOST_BYTES, CN_UNKNOWN, 0, "an unknown way");
+    prints(cn_unsigned(1), 0, 0, CN_SIMPLIFIED + 1, 0, CN_MOST_BYTES, CN_UNKNOWN, 0, "an unknown script");
     prints(cn_unsigned(1), 0, 0, 0, CN_LOWER + 1, CN_MOST_BYTES, CN_UNKNOWN, 0, "an unknown case");
 }
 
 /* Prints an amount into a room of this length, with this status and length; the text is this one. */
-static void prints_amount(uint64_t fen, uint32_t script, size_t room_length, uint32_t status, size_t wanted,
+static void prints_amount(uint64_t fen, uint32_t script, uint32_t form, size_t room_length, uint32_t status, size_t wanted,
                           const char *text) {
     uint8_t room[CN_MOST_AMOUNT_BYTES], untouched[CN_MOST_AMOUNT_BYTES];
     size_t length, written = status == CN_DONE ? wanted : 0;
     memset(room, 7, sizeof room);
     memset(untouched, 7, sizeof untouched);
-    expect(text, chinese_amount_print(fen, script, room, room_length, &length) == status && length == wanted
+    expect(text, chinese_amount_print(fen, script, form, room, room_length, &length) == status && length == wanted
                      && memcmp(room, text, written) == 0
                      && memcmp(room + written, untouched, sizeof room - written) == 0);
 }
 
 static void each_status_of_printing_amounts(void) {
     uint64_t limit = UINT64_C(1000000000000000000);
-    prints_amount(10700053, CN_SIMPLE, CN_MOST_AMOUNT_BYTES, CN_DONE, 33, "壹拾万零柒仟元伍角叁分");
-    prints_amount(UINT64_C(23600000000), CN_TRADITIONAL, 27, CN_DONE, 27, "貳億參仟陸佰萬元整");
-    prints_amount(limit - 1, CN_SIMPLE, CN_MOST_AMOUNT_BYTES, CN_DONE, CN_MOST_AMOUNT_BYTES,
-                  "玖仟玖佰玖拾玖万玖仟玖佰玖拾玖亿玖仟玖佰玖拾玖万玖仟玖佰玖拾玖元玖角玖分");
-    prints_amount(0, CN_SIMPLE, 8, CN_NO_ROOM, 9, "a room that is a byte too small for an amount");
-    prints_amount(0, CN_SIMPLE, 0, CN_NO_ROOM, 9, "a room without a byte for an amount");
-    prints_amount(limit, CN_SIMPLE, CN_MOST_AMOUNT_BYTES, CN_TOO_LARGE, 0, "an amount that is too large");
-    prints_amount(UINT64_MAX, CN_SIMPLE, 0, CN_TOO_LARGE, 0, "the greatest of 64 bits");
-    prints_amount(limit, CN_SIMPLE + 1, CN_MOST_AMOUNT_BYTES, CN_UNKNOWN, 0, "an unknown script of an amount");
+    uint32_t all = CN_CURRENCY | CN_ROUND_YUAN | CN_UPRIGHT_CLOSING;
+    prints_amount(10700053, CN_SIMPLIFIED, CN_PLAIN, CN_MOST_AMOUNT_BYTES, CN_DONE, 33, "壹拾万零柒仟元伍角叁分");
+    prints_amount(UINT64_C(23600000000), CN_TRADITIONAL, CN_PLAIN, 27, CN_DONE, 27, "貳億參仟陸佰萬元整");
+    prints_amount(1500, CN_TRADITIONAL, all, 24, CN_DONE, 24, "人民幣壹拾伍圓正");
+    prints_amount(limit - 1, CN_SIMPLIFIED, CN_CURRENCY, CN_MOST_AMOUNT_BYTES, CN_DONE, CN_MOST_AMOUNT_BYTES,
+                  "人民币玖仟玖佰玖拾玖万玖仟玖佰玖拾玖亿玖仟玖佰玖拾玖万玖仟玖佰玖拾玖元玖角玖分");
+    prints_amount(0, CN_SIMPLIFIED, CN_PLAIN, 8, CN_NO_ROOM, 9, "a room that is a byte too small for an amount");
+    prints_amount(0, CN_SIMPLIFIED, CN_PLAIN, 0, CN_NO_ROOM, 9, "a room without a byte for an amount");
+    prints_amount(limit, CN_SIMPLIFIED, CN_PLAIN, CN_MOST_AMOUNT_BYTES, CN_TOO_LARGE, 0, "an amount that is too large");
+    prints_amount(UINT64_MAX, CN_SIMPLIFIED, CN_PLAIN, 0, CN_TOO_LARGE, 0, "the greatest of 64 bits");
+    prints_amount(limit, CN_SIMPLIFIED + 1, CN_PLAIN, 0, CN_UNKNOWN, 0, "an unknown script of an amount");
+    prints_amount(limit, CN_SIMPLIFIED, all + 1, 0, CN_UNKNOWN, 0, "an unknown form of an amount");
 }
 
 /* Reads a text as an amount, which has this status, fen and place. */
-static void reads_amount(const char *text, uint32_t status, uint64_t fen, size_t char_index) {
+static void reads_amount(const char *text, uint32_t status, uint64_t fen, size_t char_index, size_t byte_index) {
     cn_amount amount;
     expect(text, chinese_amount_read((const uint8_t *)text, strlen(text), &amount) == status && amount.fen == fen
-                     && amount.char_index == char_index);
+                     && amount.char_index == char_index && amount.byte_index == byte_index);
 }
 
 static void each_status_of_reading_amounts(void) {
-    reads_amount("壹仟肆佰零玖元伍角", CN_DONE, 140950, 0);
-    reads_amount("人民币壹拾伍圆正", CN_DONE, 1500, 0);
-    reads_amount("零元整", CN_DONE, 0, 0);
-    reads_amount("壹佰元", CN_UNFINISHED, 0, 0);
-    reads_amount("", CN_UNFINISHED, 0, 0);
-    reads_amount("壹佰贰元整", CN_INCORRECT, 0, 3);
-    reads_amount("人民币 壹元整", CN_INCORRECT, 0, 3);
-    reads_amount("壹佰元\xff", CN_NOT_UTF8, 0, 0);
+    reads_amount("壹仟肆佰零玖元伍角", CN_DONE, 140950, 0, 0);
+    reads_amount("人民币壹拾伍圆正", CN_DONE, 1500, 0, 0);
+    reads_amount("零元整", CN_DONE, 0, 0, 0);
+    reads_amount("壹佰元", CN_UNFINISHED, 0, 0, 0);
+    reads_amount("", CN_UNFINISHED, 0, 0, 0);
+    reads_amount("壹佰贰元整", CN_INCORRECT, 0, 3, 9);
+    reads_amount("人民币 壹元整", CN_INCORRECT, 0, 3, 9);
+    reads_amount("壹佰元\xff", CN_NOT_UTF8, 0, 0, 0);
 }
 
 /* Prints a date into a room of this length, with this status and length; the text is this one. */
@@ -189,44 +195,52 @@ static void prints_date(uint32_t year, uint32_t month, uint32_t day, uint32_t sc
 
 static void each_status_of_printing_dates(void) {
     prints_date(2024, 2, 29, CN_TRADITIONAL, 36, CN_DONE, 36, "貳零貳肆年零貳月貳拾玖日");
-    prints_date(1999, 12, 31, CN_SIMPLE, CN_MOST_DATE_BYTES, CN_DONE, 39, "壹玖玖玖年壹拾贰月叁拾壹日");
-    prints_date(2020, 10, 20, CN_SIMPLE, CN_MOST_DATE_BYTES, CN_DONE, CN_MOST_DATE_BYTES, "贰零贰零年零壹拾月零贰拾日");
-    prints_date(5, 3, 1, CN_SIMPLE, 20, CN_NO_ROOM, 21, "a room that is a byte too small for a date");
-    prints_date(5, 3, 1, CN_SIMPLE, 0, CN_NO_ROOM, 21, "a room without a byte for a date");
-    prints_date(2025, 2, 29, CN_SIMPLE, CN_MOST_DATE_BYTES, CN_NOT_A_DATE, 0, "a date that there is not");
-    prints_date(65536 + 2026, 1, 15, CN_SIMPLE, 0, CN_NOT_A_DATE, 0, "a year that is not cut off");
-    prints_date(2026, 256 + 1, 15, CN_SIMPLE, 0, CN_NOT_A_DATE, 0, "a month that is not cut off");
-    prints_date((uint32_t)-1, 1, 15, CN_SIMPLE, 0, CN_NOT_A_DATE, 0, "a year below zero");
-    prints_date(2025, 2, 29, CN_SIMPLE + 1, CN_MOST_DATE_BYTES, CN_UNKNOWN, 0, "an unknown script of a date");
+    prints_date(1999, 12, 31, CN_SIMPLIFIED, CN_MOST_DATE_BYTES, CN_DONE, 39, "壹玖玖玖年壹拾贰月叁拾壹日");
+    prints_date(2020, 10, 20, CN_SIMPLIFIED, CN_MOST_DATE_BYTES, CN_DONE, CN_MOST_DATE_BYTES, "贰零贰零年零壹拾月零贰拾日");
+    prints_date(5, 3, 1, CN_SIMPLIFIED, 20, CN_NO_ROOM, 21, "a room that is a byte too small for a date");
+    prints_date(5, 3, 1, CN_SIMPLIFIED, 0, CN_NO_ROOM, 21, "a room without a byte for a date");
+    prints_date(2025, 2, 29, CN_SIMPLIFIED, CN_MOST_DATE_BYTES, CN_NOT_A_DATE, 0, "a date that there is not");
+    prints_date(65536 + 2026, 1, 15, CN_SIMPLIFIED, 0, CN_NOT_A_DATE, 0, "a year that is not cut off");
+    prints_date(2026, 256 + 1, 15, CN_SIMPLIFIED, 0, CN_NOT_A_DATE, 0, "a month that is not cut off");
+    prints_date((uint32_t)-1, 1, 15, CN_SIMPLIFIED, 0, CN_NOT_A_DATE, 0, "a year below zero");
+    prints_date(2025, 2, 29, CN_SIMPLIFIED + 1, CN_MOST_DATE_BYTES, CN_UNKNOWN, 0, "an unknown script of a date");
 }
 
 /* Reads a text as a date, which has this status, date and place. */
-static void reads_date(const char *text, uint32_t status, uint32_t year, uint32_t month, uint32_t day, size_t char_index) {
+static void reads_date(const char *text, uint32_t status, uint32_t year, uint32_t month, uint32_t day, size_t char_index,
+                       size_t byte_index) {
     cn_date date;
     expect(text, chinese_date_read((const uint8_t *)text, strlen(text), &date) == status && date.year == year
-                     && date.month == month && date.day == day && date.char_index == char_index);
+                     && date.month == month && date.day == day && date.char_index == char_index
+                     && date.byte_index == byte_index);
 }
 
 static void each_status_of_reading_dates(void) {
-    reads_date("伍年零叁月叁拾壹日", CN_DONE, 5, 3, 31, 0);
-    reads_date("贰零贰陆年零壹月", CN_UNFINISHED, 0, 0, 0, 0);
-    reads_date("", CN_UNFINISHED, 0, 0, 0, 0);
-    reads_date("贰零贰伍年零贰月贰拾玖日", CN_INCORRECT, 0, 0, 0, 10);
-    reads_date("贰零贰陆年 零壹月", CN_INCORRECT, 0, 0, 0, 5);
-    reads_date("贰零贰陆年\xff", CN_NOT_UTF8, 0, 0, 0, 0);
+    reads_date("伍年零叁月叁拾壹日", CN_DONE, 5, 3, 31, 0, 0);
+    reads_date("贰零贰陆年零壹月", CN_UNFINISHED, 0, 0, 0, 0, 0);
+    reads_date("", CN_UNFINISHED, 0, 0, 0, 0, 0);
+    reads_date("贰零贰伍年零贰月贰拾玖日", CN_INCORRECT, 0, 0, 0, 10, 30);
+    reads_date("贰零贰陆年 零壹月", CN_INCORRECT, 0, 0, 0, 5, 15);
+    reads_date("贰零贰陆年\xff", CN_NOT_UTF8, 0, 0, 0, 0, 0);
 }
 
-/* The forms for char: the zero byte at the end needs room, and one inside a text is a character at fault. */
+/* The calls for char: the zero byte at the end needs room, at a refusal the room is empty, and a zero byte inside a text is
+ * a character at fault. */
 static void texts_of_char(void) {
     cn_number number = cn_unsigned(123);
     cn_reading reading;
     char room[11];
     memset(room, 7, sizeof room);
-    expect("a room without a byte", cn_print(number, CN_U8, CN_DIGITS, 0, 1, room, 0) == CN_NO_ROOM);
-    expect("a room of the text alone", cn_print(number, CN_U8, CN_DIGITS, 0, 1, room, 9) == CN_NO_ROOM && room[0] == 7);
-    expect("a zero byte at the end", cn_print(number, CN_U8, CN_DIGITS, 0, 1, room, 10) == CN_DONE
+    expect("a room without a byte", cn_print(number, CN_U8, CN_DIGITS, CN_SIMPLIFIED, CN_LOWER, room, 0) == CN_NO_ROOM
+                                        && room[0] == 7);
+    expect("a room of the text alone", cn_print(number, CN_U8, CN_DIGITS, CN_SIMPLIFIED, CN_LOWER, room, 9) == CN_NO_ROOM
+                                           && room[0] == 0 && room[1] == 7);
+    expect("a zero byte at the end", cn_print(number, CN_U8, CN_DIGITS, CN_SIMPLIFIED, CN_LOWER, room, 10) == CN_DONE
                                          && strcmp(room, "一二三") == 0 && room[10] == 7);
-    expect("a zero byte inside", cn_read("一\0二", 7, CN_U8, CN_DIGITS, &reading) == CN_INCORRECT && reading.char_index == 1);
+    expect("an empty room at a refusal", cn_print(number, CN_U8, CN_ANY, CN_SIMPLIFIED, CN_LOWER, room, 10) == CN_UNKNOWN
+                                             && room[0] == 0);
+    expect("a zero byte inside", cn_read("一\0二", 7, CN_U8, CN_DIGITS, &reading) == CN_INCORRECT
+                                     && reading.char_index == 1 && reading.byte_index == 3);
     for (uint32_t status = CN_DONE; status <= CN_NOT_A_DATE; status++)
         expect("a status has words of its own", strcmp(cn_status_text(status), cn_status_text(status + 1)) != 0);
 }
@@ -236,10 +250,12 @@ static void amounts_of_char(void) {
     cn_amount amount;
     char room[11];
     memset(room, 7, sizeof room);
-    expect("an amount without a byte of room", cn_print_amount(0, CN_SIMPLE, room, 0) == CN_NO_ROOM);
-    expect("a room of the amount alone", cn_print_amount(0, CN_SIMPLE, room, 9) == CN_NO_ROOM && room[0] == 7);
-    expect("a zero byte behind an amount", cn_print_amount(0, CN_SIMPLE, room, 10) == CN_DONE
-                                               && strcmp(room, "零元整") == 0 && room[10] == 7);
+    expect("a room of the amount alone", cn_print_amount(0, CN_SIMPLIFIED, CN_PLAIN, room, 9) == CN_NO_ROOM
+                                             && room[0] == 0 && room[1] == 7);
+    expect("a zero byte behind an amount", cn_print_amount(0, CN_SIMPLIFIED, CN_ROUND_YUAN, room, 10) == CN_DONE
+                                               && strcmp(room, "零圆整") == 0 && room[10] == 7);
+    expect("no amount in the room", cn_print_amount(UINT64_MAX, CN_SIMPLIFIED, CN_PLAIN, room, 10) == CN_TOO_LARGE
+                                        && room[0] == 0);
     expect("a zero byte in an amount", cn_read_amount("壹\0元整", 10, &amount) == CN_INCORRECT && amount.char_index == 1);
 }
 
@@ -248,11 +264,28 @@ static void dates_of_char(void) {
     cn_date date;
     char room[23];
     memset(room, 7, sizeof room);
-    expect("a date without a byte of room", cn_print_date(5, 3, 1, CN_SIMPLE, room, 0) == CN_NO_ROOM);
-    expect("a room of the date alone", cn_print_date(5, 3, 1, CN_SIMPLE, room, 21) == CN_NO_ROOM && room[0] == 7);
-    expect("a zero byte behind a date", cn_print_date(5, 3, 1, CN_SIMPLE, room, 22) == CN_DONE
+    expect("a room of the date alone", cn_print_date(5, 3, 1, CN_SIMPLIFIED, room, 21) == CN_NO_ROOM
+                                           && room[0] == 0 && room[1] == 7);
+    expect("a zero byte behind a date", cn_print_date(5, 3, 1, CN_SIMPLIFIED, room, 22) == CN_DONE
                                             && strcmp(room, "伍年叁月零壹日") == 0 && room[22] == 7);
+    expect("no date in the room", cn_print_date(2025, 2, 29, CN_SIMPLIFIED, room, 22) == CN_NOT_A_DATE && room[0] == 0);
     expect("a zero byte in a date", cn_read_date("伍\0年", 7, &date) == CN_INCORRECT && date.char_index == 1);
+}
+
+/* NULL is a text and a room of length 0. */
+static void null_of_char(void) {
+    cn_number number = cn_unsigned(1);
+    cn_reading reading;
+    cn_amount amount;
+    cn_date date;
+    cn_span span = {0, 0, 0};
+    expect("no text", cn_read(NULL, 0, CN_U8, CN_ANY, &reading) == CN_EMPTY);
+    expect("no amount", cn_read_amount(NULL, 0, &amount) == CN_UNFINISHED);
+    expect("no date", cn_read_date(NULL, 0, &date) == CN_UNFINISHED);
+    expect("nothing to find", cn_find_next(NULL, 0, 0, CN_ZHAO, &span) == CN_NONE && span.end == 0);
+    expect("no room", cn_print(number, CN_U8, CN_LOW, CN_SIMPLIFIED, CN_UPPER, NULL, 0) == CN_NO_ROOM);
+    expect("no room for an amount", cn_print_amount(1, CN_SIMPLIFIED, CN_PLAIN, NULL, 0) == CN_NO_ROOM);
+    expect("no room for a date", cn_print_date(5, 3, 1, CN_SIMPLIFIED, NULL, 0) == CN_NO_ROOM);
 }
 
 int main(void) {
@@ -261,6 +294,8 @@ int main(void) {
     texts_of_char();
     amounts_of_char();
     dates_of_char();
+    null_of_char();
+    expect("the version of the library is that of the header", chinese_number_version() == CN_VERSION_NUMBER);
     each_status_of_reading();
     each_status_of_printing();
     each_status_of_finding();

@@ -1,6 +1,6 @@
-/* sixteen_bits [STEP]: prints each number of 16 bits, or the first of each STEP, by each way and as an amount of fen, and reads
- * it back: four threads, each with one script and case. The text stands in a block of just its bytes, so that a memory checker
- * sees a byte that is read or written beyond. */
+/* sixteen_bits [STEP]: prints each number of 16 bits, or the first of each STEP, by each way and as an amount of fen in each
+ * form, and reads it back, by CN_ANY too: four threads, each with one script and case. The text stands in a block of just
+ * its bytes, so that a memory checker sees a byte that is read or written beyond. */
 #include "chinese_number.h"
 
 #include <pthread.h>
@@ -20,34 +20,39 @@ static uint32_t print(cn_number number, uint32_t kind, uint32_t way, const task 
                                 length);
 }
 
-/* Whether the number is printed as a text that is read as this number. */
+/* Whether a text is read as this number. */
+static int is_read(const uint8_t *text, size_t length, cn_number number, uint32_t kind, uint32_t way) {
+    cn_reading reading;
+    return chinese_number_read(text, length, kind, way, &reading) == CN_DONE && reading.number.low == number.low
+        && reading.number.high == number.high;
+}
+
+/* Whether the number is printed as a text that is read as this number; in the two ways of CN_ANY by that too. */
 static int is_read_back(cn_number number, uint32_t kind, uint32_t way, const task *style) {
     uint8_t enough[CN_MOST_BYTES], *room;
     size_t length, same_length;
-    cn_reading reading;
-    int good;
+    int good, either = way == CN_DIGITS || way == CN_TEN_THOUSAND;
     if (print(number, kind, way, style, enough, sizeof enough, &length) != CN_DONE)
         return 0;
     room = (uint8_t *)malloc(length);
     good = room != NULL
         && print(number, kind, way, style, room, length, &same_length) == CN_DONE
         && same_length == length && memcmp(room, enough, length) == 0
-        && chinese_number_read(room, length, kind, way, &reading) == CN_DONE
-        && reading.number.low == number.low && reading.number.high == number.high;
+        && is_read(room, length, number, kind, way) && (!either || is_read(room, length, number, kind, CN_ANY));
     free(room);
     return good;
 }
 
 /* The same for an amount. */
-static int is_amount_read_back(uint64_t fen, uint32_t script) {
+static int is_amount_read_back(uint64_t fen, uint32_t script, uint32_t form) {
     uint8_t enough[CN_MOST_AMOUNT_BYTES], *room;
     size_t length, same_length;
     cn_amount amount;
     int good;
-    if (chinese_amount_print(fen, script, enough, sizeof enough, &length) != CN_DONE)
+    if (chinese_amount_print(fen, script, form, enough, sizeof enough, &length) != CN_DONE)
         return 0;
     room = (uint8_t *)malloc(length);
-    good = room != NULL && chinese_amount_print(fen, script, room, length, &same_length) == CN_DONE
+    good = room != NULL && chinese_amount_print(fen, script, form, room, length, &same_length) == CN_DONE
         && same_length == length && memcmp(room, enough, length) == 0
         && chinese_amount_read(room, length, &amount) == CN_DONE && amount.fen == fen;
     free(room);
@@ -60,7 +65,8 @@ static void *all_numbers(void *argument) {
         uint32_t kind = value <= INT16_MAX ? CN_I16 : CN_U16;
         for (uint32_t way = CN_DIGITS; way <= CN_HIGH; way++)
             mine->failed += !is_read_back(cn_signed(value), kind, way, mine);
-        mine->failed += value >= 0 && !is_amount_read_back((uint64_t)value, mine->script);
+        for (uint32_t form = CN_PLAIN; value >= 0 && form < 8; form++)
+            mine->failed += !is_amount_read_back((uint64_t)value, mine->script, form);
     }
     return NULL;
 }

@@ -1,0 +1,131 @@
+/* Answers the questions of test.py, which says what they are, a line each, by chinese_number.hpp. */
+#include "chinese_number.hpp"
+
+#include <cstdio>
+#include <iostream>
+#include <map>
+#include <sstream>
+#include <vector>
+
+namespace {
+
+using namespace chinese_number;
+using Signed = detail::Signed128;
+using Unsigned = detail::Unsigned128;
+using Words = std::vector<std::string>;
+
+const std::map<std::string, Way> ways = {
+    {"naive", Way::digits},  {"low", Way::low},   {"ten_thousand", Way::ten_thousand},
+    {"middle", Way::middle}, {"high", Way::high}, {"any", Way::any},
+};
+const std::map<std::string, Script> scripts = {
+    {"traditional", Script::traditional},
+    {"simple", Script::simplified},
+};
+const std::map<std::string, Case> cases = {{"upper", Case::upper}, {"lower", Case::lower}};
+
+std::string figures(Unsigned number) {
+    const std::string last(1, static_cast<char>('0' + static_cast<int>(number % 10)));
+    return number < 10 ? last : figures(number / 10) + last;
+}
+
+template <typename T>
+T number_of(const std::string &text) {
+    Unsigned number = 0;
+    for (char figure : text)
+        if (figure != '-')
+            number = number * 10 + static_cast<Unsigned>(figure - '0');
+    return static_cast<T>(text[0] == '-' ? -number : number);
+}
+
+std::string shown(const std::string &text) {
+    return text;
+}
+
+std::string shown(Date date) {
+    char text[40];
+    std::snprintf(text, sizeof text, "%04u-%02u-%02u", date.year, date.month, date.day);
+    return text;
+}
+
+template <typename T>
+std::string shown(T number) {
+    const auto wide = static_cast<Unsigned>(number);
+    return detail::is_signed<T> && number < T{1} && number != 0 ? '-' + figures(-wide) : figures(wide);
+}
+
+template <typename Value>
+std::string told(const Result<Value> &answer) {
+    return answer ? "ok " + shown(*answer) : "err " + answer.error().message();
+}
+
+template <typename T>
+std::string of_number(const Words &words) {
+    const Way way = ways.at(words[2]);
+    if (words[0] == "read")
+        return told(to_number<T>(words[3], way));
+    return told(to_chinese(number_of<T>(words[5]), {way, scripts.at(words[3]), cases.at(words[4])}));
+}
+
+const std::map<std::string, std::string (*)(const Words &)> kinds = {
+    {"u8", of_number<std::uint8_t>},   {"i8", of_number<std::int8_t>},
+    {"u16", of_number<std::uint16_t>}, {"i16", of_number<std::int16_t>},
+    {"u32", of_number<std::uint32_t>}, {"i32", of_number<std::int32_t>},
+    {"u64", of_number<std::uint64_t>}, {"i64", of_number<std::int64_t>},
+    {"u128", of_number<Unsigned>},     {"i128", of_number<Signed>},
+};
+
+std::string print_amount(const std::string &script, const std::string &fen, AmountForm form) {
+    return told(amount_to_chinese(number_of<std::uint64_t>(fen), form, scripts.at(script)));
+}
+
+/* The form of words with + between them; `plain` is none of them. */
+AmountForm form_of(const std::string &words) {
+    const auto has = [&](const char *word) { return words.find(word) != std::string::npos; };
+    return {has("currency"), has("round_yuan"), has("upright_closing")};
+}
+
+std::string print_date(const std::string &script, const std::string &figures_of_date) {
+    Date date = {0, 0, 0};
+    std::sscanf(figures_of_date.c_str(), "%u-%u-%u", &date.year, &date.month, &date.day);
+    return told(date_to_chinese(date, scripts.at(script)));
+}
+
+std::string find(const std::string &text) {
+    std::string done = "ok ";
+    std::size_t at = 0;
+    for (const Found &found : find_numbers(text)) {
+        done += text.substr(at, found.start - at) + '[' + told(found.number<Signed>()) + ']';
+        at = found.end;
+    }
+    return done + text.substr(at);
+}
+
+std::string answer(const Words &words) {
+    const std::string &call = words[0];
+    if (call == "read" || call == "print")
+        return kinds.at(words[1])(words);
+    if (call == "read_amount")
+        return told(chinese_to_amount(words[1]));
+    if (call == "print_amount")
+        return print_amount(words[1], words[2], {});
+    if (call == "print_amount_as")
+        return print_amount(words[1], words[3], form_of(words[2]));
+    if (call == "read_date")
+        return told(chinese_to_date(words[1]));
+    return call == "print_date" ? print_date(words[1], words[2]) : find(words[1]);
+}
+
+} // namespace
+
+int main() {
+    for (std::string line; std::getline(std::cin, line);) {
+        Words words(1);
+        for (char byte : line)
+            if (byte == '\t')
+                words.emplace_back();
+            else
+                words.back() += byte;
+        std::cout << answer(words) << '\n';
+    }
+}

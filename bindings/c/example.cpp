@@ -1,0 +1,73 @@
+/* Numbers, amounts and dates by chinese_number.hpp: the first steps, and what the rows of test.py do not ask. */
+#include "chinese_number.hpp"
+
+#include <iostream>
+#include <vector>
+
+namespace {
+
+using namespace chinese_number;
+
+int failed = 0;
+
+void expect(const char *what, bool holds) {
+    if (!holds) {
+        failed++;
+        std::cout << "not as wanted: " << what << '\n';
+    }
+}
+
+void first_steps() {
+    std::cout << to_chinese(-105000).value_or("") << '\n'; // 负十万五千
+    std::cout << to_number<int>("一百二").value_or(0) << '\n'; // 120
+    for (auto found : find_numbers("百分之五十的人"))
+        if (auto number = found.value<int>())
+            std::cout << *number << '\n'; // 50
+    if (auto number = to_number<unsigned>("二十十"); !number)
+        std::cout << number.error().message() << '\n'; // the chinese number is incorrect (position: 1)
+
+    AmountForm form;
+    form.currency = true;
+    std::cout << amount_to_chinese(1500, form).value_or("") << '\n'; // 人民币壹拾伍元整
+    std::cout << chinese_to_amount("壹拾伍圆正").value_or(0) << '\n'; // 1500
+    std::cout << date_to_chinese({2026, 1, 15}).value_or("") << '\n'; // 贰零贰陆年零壹月壹拾伍日
+}
+
+void numbers() {
+    const auto too_large = to_number<std::uint8_t>("二百五十六");
+    expect("a refusal by its status", !too_large && too_large.error().status == Status::too_large);
+    const auto fault = to_number<std::int64_t>(" 二 十 十 ");
+    expect("the place of a fault", !fault && fault.error().char_index == 3 && fault.error().byte_index == 5);
+    expect("nothing by optional", !fault.optional() && fault.value_or(7) == 7);
+    expect("the empty text", to_number<int>({}).error().status == Status::empty);
+    const auto halves = to_number("三百四十澗", CN_U128);
+    expect("a number in halves", halves && halves->high != 0);
+    expect("and its text", *to_chinese(*halves, CN_U128, {Way::ten_thousand, Script::traditional, Case::lower}) == "三百四十澗");
+    expect("no text by a way to read alone", to_chinese(1, {Way::any, Script::simplified, Case::lower}).error().status == Status::unknown);
+    expect("no text by low", to_chinese(INT64_MAX, {Way::low, Script::simplified, Case::lower}).error().status == Status::too_large);
+    expect("no such date", date_to_chinese({2025, 2, 29}).error().status == Status::not_a_date);
+    expect("a text that is no UTF-8", chinese_to_date("\xff").error().status == Status::not_utf8);
+}
+
+void found_numbers() {
+    const Numbers numbers_of_text = find_numbers("第二十三回，二零二五年");
+    const std::vector<Found> found(numbers_of_text.begin(), numbers_of_text.end());
+    expect("two numbers", found.size() == 2 && numbers_of_text.status() == Status::done);
+    expect("the first one", found[0].text == "二十三" && found[0].start == 3 && found[0].end == 12 && !found[0].is_plain);
+    expect("plain digits", found[1].is_plain && found[1].value<int>() == 2025 && !found[1].value<std::int8_t>());
+    Wanted all;
+    all.upper = true;
+    expect("both cases", find_numbers("正在參加", all).begin() != find_numbers("正在參加", all).end());
+    expect("the lower case", find_numbers("正在參加").status() == Status::none);
+    const Numbers none = find_numbers("一\xff");
+    expect("no UTF-8", none.begin() == none.end() && none.status() == Status::not_utf8);
+}
+
+} // namespace
+
+int main() {
+    first_steps();
+    numbers();
+    found_numbers();
+    return failed != 0;
+}

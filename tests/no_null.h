@@ -1,0 +1,28 @@
+/* To be included in front of a program: its calls of the proved library are given no NULL, and the sanitizer for undefined
+ * behaviour says where one is. */
+#include <stddef.h>
+#include <stdint.h>
+
+#ifdef __cplusplus
+extern "C" {
+#endif
+
+struct cn_reading;
+struct cn_span;
+struct cn_amount;
+struct cn_date;
+
+#define NO_NULL __attribute__((nonnull)) uint32_t
+NO_NULL chinese_number_read(const uint8_t *, size_t, uint32_t, uint32_t, struct cn_reading *);
+NO_NULL chinese_number_read_utf8(const uint8_t *, size_t, uint32_t, uint32_t, struct cn_reading *);
+NO_NULL chinese_number_print(uint64_t, uint64_t, uint32_t, uint32_t, uint32_t, uint32_t, uint8_t *, size_t, size_t *);
+NO_NULL chinese_number_find(const uint8_t *, size_t, uint32_t, uint32_t, struct cn_span *);
+NO_NULL chinese_number_find_utf8(const uint8_t *, size_t, uint32_t, uint32_t, struct cn_span *);
+NO_NULL chinese_amount_print(uint64_t, uint32_t, uint32_t, uint8_t *, size_t, size_t *);
+NO_NULL chinese_amount_read(const uint8_t *, size_t, struct cn_amount *);
+NO_NULL chinese_date_print(uint32_t, uint32_t, uint32_t, uint32_t, uint8_t *, size_t, size_t *);
+NO_NULL chinese_date_read(const uint8_t *, size_t, struct cn_date *);
+
+#ifdef __cplusplus
+}
+#endif
