@@ -72,7 +72,8 @@ PARTS = re.compile(
     r"/\* export: 'memory' \*/\nwasm_rt_memory_t\* Z_cnZ_memory\(Z_cn_instance_t\* instance\) \{\n"
     r"  return &instance->w2c_memory;\n\}\n\n"
     r"(?P<exports>(?:/\* export: '\w+' \*/\n.*?\n\}\n\n)+)"
-    + re.escape("""void Z_cn_init_module(void) {
+    + re.escape(
+        """void Z_cn_init_module(void) {
   assert(wasm_rt_is_initialized());
   s_module_initialized = true;
   init_func_types();
@@ -89,12 +90,14 @@ void Z_cn_instantiate(Z_cn_instance_t* instance) {
 void Z_cn_free(Z_cn_instance_t* instance) {
   wasm_rt_free_memory(&instance->w2c_memory);
 }
-"""),
+"""
+    ),
     re.DOTALL,
 )
 PARAMETERS = r"\(Z_cn_instance_t\* instance(?:, u(?:32|64) w2c_p\d+)*\) \{\n"
 FUNCTION = re.compile(
-    rf"static (?:u32|u64|void) (?P<name>w2c_\w+){PARAMETERS}(?P<body>.*?\n)\}}\n\n", re.DOTALL
+    rf"static (?:u32|u64|void) (?P<name>w2c_\w+){PARAMETERS}(?P<body>.*?\n)\}}\n\n",
+    re.DOTALL,
 )
 EXPORT = re.compile(
     rf"u32 Z_cnZ_(\w+){PARAMETERS}  return w2c_\1\(instance(?:, w2c_p\d+)*\);\n\}}\n"
@@ -106,8 +109,9 @@ TAKES = re.compile(
     r"(w2c_l\d+) = \1;\n(?P<moved>instance->w2c_g0 = \1;\n)?"
 )
 ASKS = re.compile(
-    r"(\w+) = instance->w2c_g0;\n(?:(w2c_l\d+) = \1;\n)?(\w+) = 16ull;\n"
-    r"w2c_i0 = \(u64\)\(\(s64\)\1 < \(s64\)\3\);\n(?P<moved>)"
+    r"(\w+) = instance->w2c_g0;\n(?:(w2c_l\d+) = \1;\n)?(\w+) = (?:"
+    r"16ull;\nw2c_i0 = \(u64\)\(\(s64\)\1 <|15ull;\nw2c_i0 = \(u64\)\(\(s64\)\1 >"
+    r") \(s64\)\3\);\n(?P<moved>)"
 )
 # How either gives back what it took.
 GIVES = re.compile(

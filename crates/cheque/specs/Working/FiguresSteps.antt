@@ -1,5 +1,5 @@
 -- Figures of an amount, read from the left: the state after each character.
-use Rattle.std.specs.Prelude.{ℕ, ◌+◌, ◌*◌, ◌==◌, Option, Some, None, if◌then◌else◌}
+use Rattle.std.specs.Prelude.{ℕ, ◌+◌, ◌*◌, Option, Some, None}
 use Rattle.cn_capitals.specs.Machine.{Machine}
 use Rattle.cheque.specs.declared.figures.State.{State}
 use Rattle.cheque.specs.declared.figures.State.TheVariants.{Beginning, Yuan, Point, Jiao, Fen}
