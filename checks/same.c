@@ -1,9 +1,9 @@
 /* same [COUNT [ROUNDS]]: shows one sum over what each call of chinese_number.h answers to COUNT
  * pseudo-random numbers of each type by each way, to ten times as many amounts in all forms, dates
  * and texts, and at the ends: what is printed, each room to its last byte, and what is read, either
- * way too, and found in texts as they were printed, changed and cut. Builds of one library have to show one sum. With -DTHREADS
- * four threads have to find it at once. With ROUNDS it shows what a call takes, too, in the best of
- * so many rounds. */
+ * way too, and found in texts as they were printed, changed and cut. Builds of one library have to
+ * show one sum. With -DTHREADS four threads have to find it at once. With ROUNDS it shows what a
+ * call takes, too, in the best of so many rounds. */
 #include "chinese_number.h"
 
 #include <stdio.h>

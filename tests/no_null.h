@@ -1,5 +1,5 @@
-/* To be included in front of a program: its calls of the proved library are given no NULL, and the sanitizer for undefined
- * behaviour says where one is. */
+/* To be included in front of a program: then its calls of the proved library are given no NULL, or
+ * the sanitizer for undefined behaviour ends it. */
 #include <stddef.h>
 #include <stdint.h>
 

@@ -109,14 +109,25 @@ def test_answers(compiled, name, compiler):
     assert wrong_answers(lambda asked: run(program, cwd=TOP, stdin=asked)) == []
 
 
+FLAGS = """\
+#include "chinese_number.h"
+
+cn_status flags(char *room, size_t length);
+
+cn_status flags(char *room, size_t length) {
+    return cn_print_amount(1, CN_SIMPLIFIED, CN_CURRENCY | CN_ROUND_YUAN, room, length);
+}
+"""
+
+
 @pytest.mark.parametrize("compiler", EACH_WARNING)
 def test_no_warning(compiler, tmp_path):
-    """Neither header has a cause for one; of that for C++, the example makes what its templates
-    say."""
+    """Neither header has a cause for one, nor have flags that are added together; of the header
+    for C++ the example makes what its templates say."""
     needs(compiler)
-    header = write(tmp_path / "header.c", '#include "chinese_number.h"\n')
+    flags = write(tmp_path / "flags.c", FLAGS)
     words = (*COMPILERS[compiler], *EACH_WARNING[compiler].split(), "-Werror", "-O2", "-I", C)
-    sources = [header, C / "example.cpp"] if words[:3] == AS_CPP else [header]
+    sources = [flags, C / "example.cpp"] if words[:3] == AS_CPP else [flags]
     for source in sources:
         run(compiler, *words, "-c", source, "-o", "made.o", cwd=tmp_path, wanted="")
 

@@ -74,7 +74,7 @@ def test_sum_without_memory(of_archive, refuse_growth, tmp_path):
 @pytest.mark.parametrize("compiler", ["gcc", "clang"])
 def test_no_warning(compiler, tmp_path):
     needs(compiler)
-    words = ("-std=c99", *EACH_WARNING[compiler].split(), "-Werror", "-O2")
+    words = ("-std=c99", *EACH_WARNING[compiler].split(), "-Werror", "-O1")
     run(compiler, *words, "-c", DIST / "chinese_number.c", cwd=tmp_path, wanted="")
 
 

@@ -1,4 +1,5 @@
-/* Answers the questions of test.py, which says what they are, a line each, by chinese_number.hpp. */
+/* Answers the questions of test.py, which says what they are, a line each, in C++ by
+ * chinese_number.hpp. */
 #include "chinese_number.hpp"
 
 #include <cstdio>
@@ -51,7 +52,8 @@ std::string shown(Date date) {
 template <typename T>
 std::string shown(T number) {
     const auto wide = static_cast<Unsigned>(number);
-    return detail::is_signed<T> && number < T{1} && number != 0 ? '-' + figures(-wide) : figures(wide);
+    const bool is_negative = number != 0 && number < T{1};
+    return is_negative ? '-' + figures(-wide) : figures(wide);
 }
 
 template <typename Value>
@@ -64,7 +66,8 @@ std::string of_number(const Words &words) {
     const Way way = ways.at(words[2]);
     if (words[0] == "read")
         return told(to_number<T>(words[3], way));
-    return told(to_chinese(number_of<T>(words[5]), {way, scripts.at(words[3]), cases.at(words[4])}));
+    const Style style = {way, scripts.at(words[3]), cases.at(words[4])};
+    return told(to_chinese(number_of<T>(words[5]), style));
 }
 
 const std::map<std::string, std::string (*)(const Words &)> kinds = {

@@ -40,6 +40,13 @@
 #define CN_OF_CODE
 #endif
 
+/* Of an enumeration of flags, which clang would else not let be added together. */
+#ifdef __clang__
+#define CN_FLAGS __attribute__((flag_enum))
+#else
+#define CN_FLAGS
+#endif
+
 /* In front of a call whose status is to be looked at: a compiler that can warns where it is not. */
 #if defined(__cplusplus) && __cplusplus >= 201703L
 #define CN_NODISCARD [[nodiscard]]
@@ -111,7 +118,7 @@ typedef enum cn_form CN_OF_CODE {
     CN_CURRENCY = 1,       /* 人民币 in front */
     CN_ROUND_YUAN = 2,     /* 圆 for 元 */
     CN_UPRIGHT_CLOSING = 4 /* 正 for 整 */
-} cn_form;
+} CN_FLAGS cn_form;
 
 /* The units, by rank: the greatest one that is looked for in a text. */
 typedef enum cn_unit CN_OF_CODE {

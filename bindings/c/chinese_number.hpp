@@ -1,6 +1,6 @@
-/* Chinese numerals for C++ from 17 on: numbers, amounts of money and dates on bills as std::string, and read and found in
- * a std::string_view. It is written over chinese_number.h, which says what stands behind each choice and each status, and
- * what is to be linked. Texts are UTF-8. Nothing is thrown but by std::string where memory runs out.
+/* Chinese numerals for C++ from 17 on: numbers, amounts of money and dates on bills as std::string, and read and found
+ * in a std::string_view. It is written over chinese_number.h, which says what stands behind each choice and each
+ * status, and what is to be linked. Texts are UTF-8. Nothing is thrown but by std::string where memory runs out.
  *
  *     auto number = chinese_number::to_number<int>("一百二");
  *     if (number)
@@ -300,7 +300,7 @@ public:
 
     iterator begin() const { return first; }
     iterator end() const { return {}; }
-    /* Status::done where there is a number, and Status::none, Status::not_utf8 or Status::too_long where there is none. */
+    /* Status::done where there is a number, and else Status::none, Status::not_utf8 or Status::too_long. */
     Status status() const { return first.status(); }
 
 private:

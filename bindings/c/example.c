@@ -15,9 +15,11 @@ static void expect(const char *what, int holds) {
 
 static void first_steps(void) {
     char text[CN_MOST_BYTES + 1];
+    cn_number number = cn_signed(-105000);
     cn_reading reading;
-    if (cn_print(cn_signed(-105000), CN_I64, CN_TEN_THOUSAND, CN_SIMPLIFIED, CN_LOWER, text, sizeof text) == CN_DONE)
-        puts(text); /* 负十万五千 */
+    cn_status status;
+    status = cn_print(number, CN_I64, CN_TEN_THOUSAND, CN_SIMPLIFIED, CN_LOWER, text, sizeof text);
+    puts(status == CN_DONE ? text : cn_status_text(status)); /* 负十万五千 */
     if (cn_read(text, strlen(text), CN_I64, CN_ANY, &reading) == CN_DONE)
         printf("%lld\n", (long long)reading.number.low); /* -105000 */
 

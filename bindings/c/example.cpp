@@ -1,4 +1,5 @@
-/* Numbers, amounts and dates by chinese_number.hpp: the first steps, and what the rows of test.py do not ask. */
+/* Numbers, amounts and dates by chinese_number.hpp: the first steps, and what the rows of test.py do
+ * not ask. */
 #include "chinese_number.hpp"
 
 #include <iostream>
@@ -23,8 +24,8 @@ void first_steps() {
     for (auto found : find_numbers("百分之五十的人"))
         if (auto number = found.value<int>())
             std::cout << *number << '\n'; // 50
-    if (auto number = to_number<unsigned>("二十十"); !number)
-        std::cout << number.error().message() << '\n'; // the chinese number is incorrect (position: 1)
+    if (auto it = to_number<unsigned>("二十十"); !it)
+        std::cout << it.error().message() << '\n'; // the chinese number is incorrect (position: 1)
 
     AmountForm form;
     form.currency = true;
@@ -33,31 +34,45 @@ void first_steps() {
     std::cout << date_to_chinese({2026, 1, 15}).value_or("") << '\n'; // 贰零贰陆年零壹月壹拾伍日
 }
 
+/* Whether there is no answer, for this reason. */
+template <typename Value>
+bool is_refused(const Result<Value> &answer, Status status) {
+    return !answer && answer.error().status == status;
+}
+
 void numbers() {
-    const auto too_large = to_number<std::uint8_t>("二百五十六");
-    expect("a refusal by its status", !too_large && too_large.error().status == Status::too_large);
-    const auto fault = to_number<std::int64_t>(" 二 十 十 ");
-    expect("the place of a fault", !fault && fault.error().char_index == 3 && fault.error().byte_index == 5);
-    expect("nothing by optional", !fault.optional() && fault.value_or(7) == 7);
-    expect("the empty text", to_number<int>({}).error().status == Status::empty);
-    const auto halves = to_number("三百四十澗", CN_U128);
+    const Style any = {Way::any, Script::simplified, Case::lower};
+    const Style low = {Way::low, Script::simplified, Case::lower};
+    const Style traditional = {Way::ten_thousand, Script::traditional, Case::lower};
+    expect("a type", is_refused(to_number<std::uint8_t>("二百五十六"), Status::too_large));
+    expect("no text", is_refused(to_number<int>({}), Status::empty));
+    expect("a way to read alone", is_refused(to_chinese(1, any), Status::unknown));
+    expect("a way of small numbers", is_refused(to_chinese(INT64_MAX, low), Status::too_large));
+    expect("no such date", is_refused(date_to_chinese({2025, 2, 29}), Status::not_a_date));
+    expect("no UTF-8", is_refused(chinese_to_date("\xff"), Status::not_utf8));
+
+    const Result<long> none = to_number<long>(" 二 十 十 ");
+    expect("a place", is_refused(none, Status::incorrect) && none.error().char_index == 3);
+    expect("a place in bytes", none.error().byte_index == 5);
+    expect("nothing", !none.optional() && none.value_or(7) == 7);
+
+    const Result<cn_number> halves = to_number("三百四十澗", CN_U128);
     expect("a number in halves", halves && halves->high != 0);
-    expect("and its text", *to_chinese(*halves, CN_U128, {Way::ten_thousand, Script::traditional, Case::lower}) == "三百四十澗");
-    expect("no text by a way to read alone", to_chinese(1, {Way::any, Script::simplified, Case::lower}).error().status == Status::unknown);
-    expect("no text by low", to_chinese(INT64_MAX, {Way::low, Script::simplified, Case::lower}).error().status == Status::too_large);
-    expect("no such date", date_to_chinese({2025, 2, 29}).error().status == Status::not_a_date);
-    expect("a text that is no UTF-8", chinese_to_date("\xff").error().status == Status::not_utf8);
+    expect("its text", to_chinese(*halves, CN_U128, traditional).value_or("") == "三百四十澗");
 }
 
 void found_numbers() {
     const Numbers numbers_of_text = find_numbers("第二十三回，二零二五年");
     const std::vector<Found> found(numbers_of_text.begin(), numbers_of_text.end());
     expect("two numbers", found.size() == 2 && numbers_of_text.status() == Status::done);
-    expect("the first one", found[0].text == "二十三" && found[0].start == 3 && found[0].end == 12 && !found[0].is_plain);
-    expect("plain digits", found[1].is_plain && found[1].value<int>() == 2025 && !found[1].value<std::int8_t>());
-    Wanted all;
-    all.upper = true;
-    expect("both cases", find_numbers("正在參加", all).begin() != find_numbers("正在參加", all).end());
+    expect("the first one", found[0].text == "二十三" && !found[0].is_plain);
+    expect("where it stands", found[0].start == 3 && found[0].end == 12);
+    expect("plain digits", found[1].is_plain && found[1].value<int>() == 2025);
+    expect("no such type", !found[1].value<std::int8_t>());
+
+    Wanted both_cases;
+    both_cases.upper = true;
+    expect("both cases", find_numbers("正在參加", both_cases).status() == Status::done);
     expect("the lower case", find_numbers("正在參加").status() == Status::none);
     const Numbers none = find_numbers("一\xff");
     expect("no UTF-8", none.begin() == none.end() && none.status() == Status::not_utf8);
