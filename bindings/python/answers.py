@@ -3,13 +3,7 @@ import sys
 from datetime import date
 
 from chinese_number import Case, Kind, Script, Way, amount_to_chinese, chinese_to_amount
-from chinese_number import (
-    chinese_to_date,
-    date_to_chinese,
-    find_numbers,
-    to_chinese,
-    to_number,
-)
+from chinese_number import chinese_to_date, date_to_chinese, find_numbers, to_chinese, to_number
 
 
 def told(call, *words):

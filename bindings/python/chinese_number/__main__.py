@@ -58,10 +58,7 @@ def _is_place(character: str, form: str) -> bool:
 def _day(figures: str) -> date:
     """The date in figures."""
     for place, character in enumerate(figures):
-        if (
-            not _is_place(character, _FORM_OF_DATE[place : place + 1] or "-")
-            or place > 9
-        ):
+        if not _is_place(character, _FORM_OF_DATE[place : place + 1] or "-") or place > 9:
             raise DateError(Status.INCORRECT, place)
     fields = _DATE.fullmatch(figures)
     if not fields:
@@ -155,9 +152,7 @@ def _number(word: str) -> int:
 
 
 def _add_traditional(parser: argparse.ArgumentParser) -> None:
-    parser.add_argument(
-        "--traditional", action="store_true", help="in place of simplified"
-    )
+    parser.add_argument("--traditional", action="store_true", help="in place of simplified")
 
 
 def _add_choice(parser: argparse.ArgumentParser, of: Type[Any], default: str) -> None:
@@ -170,9 +165,7 @@ def _add_choice(parser: argparse.ArgumentParser, of: Type[Any], default: str) ->
     parser.add_argument(name, choices=names, default=default, metavar=label, help=text)
 
 
-def _add_words(
-    parser: argparse.ArgumentParser, answer: Callable[..., str], **more: Any
-) -> None:
+def _add_words(parser: argparse.ArgumentParser, answer: Callable[..., str], **more: Any) -> None:
     parser.add_argument("words", nargs="+", **more)
     parser.set_defaults(run=_words, answer=answer)
 
@@ -181,22 +174,14 @@ def _add_amount(parser: argparse.ArgumentParser) -> None:
     _add_traditional(parser)
     parser.add_argument("--currency", action="store_true", help="人民币 in front")
     yuan, closing = ("元", "圆", "圓"), ("整", "正")
-    parser.add_argument(
-        "--yuan", choices=yuan, default="元", help="元 unless it is named"
-    )
-    parser.add_argument(
-        "--closing", choices=closing, default="整", help="整 unless it is named"
-    )
-    _add_words(
-        parser, _amount, metavar="AMOUNT", help="figures, as 1409.50, or capitals"
-    )
+    parser.add_argument("--yuan", choices=yuan, default="元", help="元 unless it is named")
+    parser.add_argument("--closing", choices=closing, default="整", help="整 unless it is named")
+    _add_words(parser, _amount, metavar="AMOUNT", help="figures, as 1409.50, or capitals")
 
 
 def _add_date(parser: argparse.ArgumentParser) -> None:
     _add_traditional(parser)
-    _add_words(
-        parser, _date, metavar="DATE", help="figures, as 2026-01-15, or capitals"
-    )
+    _add_words(parser, _date, metavar="DATE", help="figures, as 2026-01-15, or capitals")
 
 
 def _add_read(parser: argparse.ArgumentParser) -> None:
@@ -238,12 +223,8 @@ _COMMANDS = {
 
 def _parser() -> argparse.ArgumentParser:
     about = "Chinese numerals, and amounts and dates in capitals as on cheques."
-    parser = argparse.ArgumentParser(
-        "chinese-number", description=about, allow_abbrev=False
-    )
-    parser.add_argument(
-        "--version", action="version", version=f"%(prog)s {__version__}"
-    )
+    parser = argparse.ArgumentParser("chinese-number", description=about, allow_abbrev=False)
+    parser.add_argument("--version", action="version", version=f"%(prog)s {__version__}")
     commands = parser.add_subparsers(metavar="COMMAND", dest="command", required=True)
     for name, (add, text) in _COMMANDS.items():
         about = f"{text[0].upper()}{text[1:]}."
@@ -270,9 +251,7 @@ def main(words: Optional[List[str]] = None) -> int:
         reconfigure: Any = getattr(stream, "reconfigure")
         reconfigure(encoding="utf-8", errors="backslashreplace", newline="\n")
     try:
-        return _answered(
-            [_in_utf8(it) for it in sys.argv[1:]] if words is None else words
-        )
+        return _answered([_in_utf8(it) for it in sys.argv[1:]] if words is None else words)
     except KeyboardInterrupt:
         return _INTERRUPTED
     except OSError as error:
