@@ -245,7 +245,7 @@ class DateError(_Refusal):
 
 
 def _codes(of: Type[Enum]) -> Dict[str, int]:
-    return {it.value: code for code, it in enumerate(of)}
+    return {it: code for code, it in enumerate(of)}
 
 
 _KINDS, _WAYS, _SCRIPTS, _CASES, _UNITS = map(_codes, (Kind, Way, Script, Case, Unit))
@@ -307,12 +307,6 @@ def _place(status: Status, char_index: int) -> Optional[int]:
     return char_index if status is Status.INCORRECT else None
 
 
-def _read(text: str, kind: str, way: str) -> Tuple[int, int, int]:
-    """The status, the number, and where a character is at fault."""
-    codes = _code(_KINDS, kind, "kind"), _code(_WAYS, way, "way")
-    return _library.read_number(_text(text), *codes)
-
-
 def to_number(
     text: str, *, kind: Union[Kind, str] = Kind.I128, way: Union[Way, str] = Way.ANY
 ) -> int:
@@ -328,7 +322,8 @@ def to_number(
 
     Half of a surrogate pair is one character, and at fault.
     """
-    code, number, char_index = _read(text, kind, way)
+    kind_code, way_code = _code(_KINDS, kind, "kind"), _code(_WAYS, way, "way")
+    code, number, char_index = _library.read_number(_text(text), kind_code, way_code)
     if code:
         status = Status(code)
         raise NumeralError(status, Kind(kind), _place(status, char_index))
@@ -354,16 +349,13 @@ def to_chinese(
     Traceback (most recent call last):
     chinese_number.NumeralError: u8 does not hold the number
     """
-    whole, type_code = _whole(number, "a whole number"), _code(_KINDS, kind, "kind")
-    codes = (
-        _code(_PRINT_WAYS, way, "way"),
-        _code(_SCRIPTS, script, "script"),
-        _code(_CASES, case, "case"),
-    )
-    least = -(1 << 127) if type_code >= _FIRST_SIGNED else 0
+    whole, kind_code = _whole(number, "a whole number"), _code(_KINDS, kind, "kind")
+    way_code, script_code = _code(_PRINT_WAYS, way, "way"), _code(_SCRIPTS, script, "script")
+    case_code = _code(_CASES, case, "case")
+    least = -(1 << 127) if kind_code >= _FIRST_SIGNED else 0
     if not least <= whole < least + (1 << 128):
         raise NumeralError(Status.NOT_HELD, Kind(kind))
-    status, text = _library.print_number(whole, type_code, *codes)
+    status, text = _library.print_number(whole, kind_code, way_code, script_code, case_code)
     if status:
         raise NumeralError(Status(status), Kind(kind))
     return text
@@ -514,8 +506,10 @@ class Found(NamedTuple):
         >>> [(found.text, found.value()) for found in find_numbers('百分之二十')]
         [('百', None), ('二十', 20)]
         """
-        code, number, _ = _read(self.text, kind, Way.DIGITS if self.is_plain else way)
-        return None if code else number
+        try:
+            return self.number(kind=kind, way=way)
+        except NumeralError:
+            return None
 
 
 def find_numbers(

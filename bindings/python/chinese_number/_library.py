@@ -2,6 +2,9 @@
 
 Texts are str, choices are the codes of chinese_number.h, and places count characters. Each call
 gives the status first. Whatever calls the library in another way has these functions, and no other.
+
+Half of a surrogate pair has no bytes in UTF-8. It goes as a question mark, which is no numeral
+either.
 """
 
 from __future__ import annotations
@@ -18,7 +21,6 @@ _MOST_AMOUNT_BYTES = 117
 _MOST_DATE_BYTES = 39
 _TOO_LONG = 2**32 - 1
 _FIRST_SIGNED = 5
-_HALF = (1 << 64) - 1
 _CODE, _WORD, _SIZE = ctypes.c_uint32, ctypes.c_uint64, ctypes.c_size_t
 _PLACE = [("char_index", _SIZE), ("byte_index", _SIZE)]
 
@@ -89,69 +91,71 @@ def load(version: str) -> None:
     _calls = library
 
 
-def _bytes(text: str) -> bytes:
-    # Half of a surrogate pair has no bytes in UTF-8, and goes as a question mark, which is no
-    # numeral either.
-    return str.encode(text, "utf-8", "replace")
-
-
-def _checked(status: int) -> int:
+def _refused(status: int) -> int:
     if status == _TOO_LONG:
         raise OverflowError("the text is too long: it has more than 4,293,918,720 bytes")
     return status
 
 
-def _printed(call: Any, room: Any, *arguments: int) -> Tuple[int, str]:
-    length = _SIZE()
-    status = call(*arguments, room, len(room), byref(length))
-    return status, room.raw[: length.value].decode()
-
-
 def read_number(text: str, kind: int, way: int) -> Tuple[int, int, int]:
     """The number, and how many characters stand before one at fault."""
-    data, it = _bytes(text), _Reading()
+    data, it = str.encode(text, "utf-8", "replace"), _Reading()
     status = _calls.chinese_number_read(data, len(data), kind, way, byref(it))
+    if status:
+        return _refused(status), 0, it.char_index
     number = it.high << 64 | it.low
-    if kind >= _FIRST_SIGNED and number >> 127:
-        number -= 1 << 128
-    return _checked(status), number, it.char_index
-
-
-def print_number(number: int, kind: int, way: int, script: int, case: int) -> Tuple[int, str]:
-    """The text of a number of at most 128 bits."""
-    halves = number & _HALF, number >> 64 & _HALF
-    return _printed(_calls.chinese_number_print, _Room(), *halves, kind, way, script, case)
+    is_negative = kind >= _FIRST_SIGNED and number >> 127
+    return status, number - (1 << 128) if is_negative else number, 0
 
 
 def read_amount(text: str) -> Tuple[int, int, int]:
     """The fen, and how many characters stand before one at fault."""
-    data, it = _bytes(text), _Amount()
+    data, it = str.encode(text, "utf-8", "replace"), _Amount()
     status = _calls.chinese_amount_read(data, len(data), byref(it))
-    return _checked(status), it.fen, it.char_index
-
-
-def print_amount(fen: int, script: int, form: int) -> Tuple[int, str]:
-    """The text of an amount of less than 2**64 fen."""
-    return _printed(_calls.chinese_amount_print, _AmountRoom(), fen, script, form)
+    return _refused(status), it.fen, it.char_index
 
 
 def read_date(text: str) -> Tuple[int, Tuple[int, int, int], int]:
     """Year, month and day, and how many characters stand before one at fault."""
-    data, it = _bytes(text), _Date()
+    data, it = str.encode(text, "utf-8", "replace"), _Date()
     status = _calls.chinese_date_read(data, len(data), byref(it))
-    return _checked(status), (it.year, it.month, it.day), it.char_index
+    return _refused(status), (it.year, it.month, it.day), it.char_index
+
+
+def print_number(number: int, kind: int, way: int, script: int, case: int) -> Tuple[int, str]:
+    """The text of a number of at most 128 bits. Of what goes as a word the low 64 bits are taken."""
+    room, length = _Room(), _SIZE()
+    status = _calls.chinese_number_print(
+        number, number >> 64, kind, way, script, case, room, _MOST_BYTES, byref(length)
+    )
+    return status, room.raw[: length.value].decode()
+
+
+def print_amount(fen: int, script: int, form: int) -> Tuple[int, str]:
+    """The text of an amount of less than 2**64 fen."""
+    room, length = _AmountRoom(), _SIZE()
+    status = _calls.chinese_amount_print(fen, script, form, room, _MOST_AMOUNT_BYTES, byref(length))
+    return status, room.raw[: length.value].decode()
 
 
 def print_date(year: int, month: int, day: int, script: int) -> Tuple[int, str]:
     """The text of a date."""
-    return _printed(_calls.chinese_date_print, _DateRoom(), year, month, day, script)
+    room, length = _DateRoom(), _SIZE()
+    status = _calls.chinese_date_print(
+        year, month, day, script, room, _MOST_DATE_BYTES, byref(length)
+    )
+    return status, room.raw[: length.value].decode()
 
 
 def find_numbers(text: str, upper: bool, greatest: int) -> Iterator[Tuple[int, int, str, bool]]:
     """Where each number begins and ends, its text, and whether it is plain digits."""
     # The bytes stay where they are, so each call begins behind the run before it, and none is
     # tested or copied twice.
-    data, span, find = _bytes(text), _Span(), _calls.chinese_number_find_utf8
+    data, span, find = (
+        str.encode(text, "utf-8", "replace"),
+        _Span(),
+        _calls.chinese_number_find_utf8,
+    )
     first = ctypes.cast(ctypes.c_char_p(data), ctypes.c_void_p).value or 0
     searched = index = 0
     while not (
@@ -162,4 +166,4 @@ def find_numbers(text: str, upper: bool, greatest: int) -> Iterator[Tuple[int, i
         start = index + len(data[searched:begin].decode())
         searched, index = end, start + len(number)
         yield start, index, number, bool(span.digits)
-    _checked(status)
+    _refused(status)
