@@ -40,7 +40,7 @@ from datetime import date, datetime
 from decimal import Decimal
 from enum import Enum
 from itertools import starmap
-from typing import Any, Dict, Iterator, NamedTuple, Optional, SupportsIndex, Tuple, Type, Union
+from typing import Any, Dict, Iterable, Iterator, NamedTuple, Optional, SupportsIndex, Tuple, Union
 
 from . import _library
 
@@ -244,12 +244,13 @@ class DateError(_Refusal):
     }
 
 
-def _codes(of: Type[Enum]) -> Dict[str, int]:
+def _codes(of: Iterable[str]) -> Dict[str, int]:
     return {it: code for code, it in enumerate(of)}
 
 
-_KINDS, _WAYS, _SCRIPTS, _CASES, _UNITS = map(_codes, (Kind, Way, Script, Case, Unit))
-_PRINT_WAYS = {way: code for way, code in _WAYS.items() if way != "any"}
+_KINDS, _WAYS, _UNITS = _codes(Kind), _codes(Way), _codes(Unit)
+_SCRIPTS, _CASES = _codes(Script), _codes(Case)
+_PRINT_WAYS = {way: code for way, code in _WAYS.items() if way is not Way.ANY}
 # What each word adds to the form in which an amount is written, and the currency in front.
 _CURRENCY = 1
 _YUAN = {"元": 0, "圆": 2, "圓": 2}

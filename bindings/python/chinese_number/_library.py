@@ -12,9 +12,9 @@ from __future__ import annotations
 import ctypes
 import os
 import sys
-from ctypes import byref
+from ctypes import POINTER as _at, byref
 from pathlib import Path
-from typing import Any, Iterator, Tuple
+from typing import Any, Dict, Iterator, Tuple
 
 _MOST_BYTES = 234
 _MOST_AMOUNT_BYTES = 117
@@ -44,6 +44,17 @@ class _Span(ctypes.Structure):
 _Room = ctypes.c_char * _MOST_BYTES
 _AmountRoom = ctypes.c_char * _MOST_AMOUNT_BYTES
 _DateRoom = ctypes.c_char * _MOST_DATE_BYTES
+_TEXT = ctypes.c_char_p, _SIZE
+_ROOM = ctypes.c_char_p, _SIZE, _at(_SIZE)
+_ARGUMENTS: Dict[str, Tuple[Any, ...]] = {
+    "chinese_number_read": (*_TEXT, _CODE, _CODE, _at(_Reading)),
+    "chinese_number_print": (_WORD, _WORD, _CODE, _CODE, _CODE, _CODE, *_ROOM),
+    "chinese_number_find_utf8": (ctypes.c_void_p, _SIZE, _CODE, _CODE, _at(_Span)),
+    "chinese_amount_read": (*_TEXT, _at(_Amount)),
+    "chinese_amount_print": (_WORD, _CODE, _CODE, *_ROOM),
+    "chinese_date_read": (*_TEXT, _at(_Date)),
+    "chinese_date_print": (_CODE, _CODE, _CODE, _CODE, *_ROOM),
+}
 _SUFFIXES = {"darwin": "dylib", "win32": "dll"}
 _calls: Any = None
 
@@ -76,17 +87,8 @@ def load(version: str) -> None:
     global _calls
     library = _opened(f"libchinese_number.{_SUFFIXES.get(sys.platform, 'so')}")
     _check_version(library, version)
-    at = ctypes.POINTER
-    text, room = (ctypes.c_char_p, _SIZE), (ctypes.c_char_p, _SIZE, at(_SIZE))
-    for call, arguments in (
-        (library.chinese_number_read, (*text, _CODE, _CODE, at(_Reading))),
-        (library.chinese_number_print, (_WORD, _WORD, _CODE, _CODE, _CODE, _CODE, *room)),
-        (library.chinese_number_find_utf8, (ctypes.c_void_p, _SIZE, _CODE, _CODE, at(_Span))),
-        (library.chinese_amount_read, (*text, at(_Amount))),
-        (library.chinese_amount_print, (_WORD, _CODE, _CODE, *room)),
-        (library.chinese_date_read, (*text, at(_Date))),
-        (library.chinese_date_print, (_CODE, _CODE, _CODE, _CODE, *room)),
-    ):
+    for name, arguments in _ARGUMENTS.items():
+        call = getattr(library, name)
         call.restype, call.argtypes = _CODE, arguments
     _calls = library
 
