@@ -47,12 +47,11 @@ def is_written(found, cell):
 
 def test_rows(command):
     wrong = []
-    for line, data, output, errors, status in table("command"):
+    for line, data, *written, status in table("command"):
         words = [in_bytes(word) for word in shlex.split(line)]
-        found = command(*words, data=in_bytes(data))
-        right = is_written(found[1], output) and is_written(found[2], errors)
-        if not right or str(found[0]) != status:
-            wrong.append((line, *found))
+        found, *texts = command(*words, data=in_bytes(data))
+        if str(found) != status or not all(map(is_written, texts, written)):
+            wrong.append((line, found, *(text.decode("utf-8", "replace") for text in texts)))
     assert wrong == []
 
 
