@@ -253,7 +253,7 @@ _SCRIPTS, _CASES = _codes(Script), _codes(Case)
 _PRINT_WAYS = {way: code for way, code in _WAYS.items() if way is not Way.ANY}
 # What each word adds to the form in which an amount is written, and the currency in front.
 _CURRENCY = 1
-_YUAN = {"元": 0, "圆": 2, "圓": 2}
+_YUAN = {"元": 0, "圆": 2}
 _CLOSINGS = {"整": 0, "正": 4}
 _FIRST_NOT_WRITTEN = 10**18
 _FIRST_SIGNED = _KINDS["i8"]

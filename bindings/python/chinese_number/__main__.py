@@ -23,7 +23,7 @@ _TRADITIONAL = {"--traditional": _FLAG}
 _KIND = {"--kind": [it.value for it in Kind]}
 _WAY = {"--way": [it.value for it in Way]}
 _PRINT_WAY = {"--way": [it.value for it in Way if it is not Way.ANY]}
-_AMOUNT = {"--currency": _FLAG, "--yuan": ["元", "圆", "圓"], "--closing": ["整", "正"]}
+_AMOUNT = {"--currency": _FLAG, "--yuan": ["元", "圆"], "--closing": ["整", "正"]}
 # What a flag means to a call. Any other option is a keyword itself.
 _MEANINGS: Dict[str, Dict[str, Any]] = {
     "--traditional": {"script": "traditional"},
@@ -147,7 +147,7 @@ def _parted(words: List[str], known: Dict[str, List[Any]]) -> Tuple[List[str], D
     for word in left:
         if word == "--":
             others += left
-        elif not re.match("-[^0-9]", word):
+        elif not re.match("-[^0-9.]", word):
             others.append(word)
         else:
             name, equals, value = word.partition("=")
