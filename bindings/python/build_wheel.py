@@ -20,7 +20,9 @@ from pathlib import Path
 
 HERE = Path(__file__).resolve().parent
 NAME = "chinese-number-proved"
-MODULE = ("chinese_number/__init__.py", "chinese_number/py.typed")
+MODULE = tuple(
+    f"chinese_number/{it}" for it in ("__init__.py", "__main__.py", "_library.py", "py.typed")
+)
 # Version 2.1 and `License` are what older twine takes too.
 METADATA = """\
 Metadata-Version: 2.1
@@ -43,6 +45,10 @@ WHEEL = """\
 Wheel-Version: 1.0
 Generator: build_wheel.py
 Root-Is-Purelib: false
+"""
+ENTRY_POINTS = b"""\
+[console_scripts]
+chinese-number = chinese_number.__main__:main
 """
 COMPILERS = ("cc", "gcc", "clang", "cl")
 
@@ -110,6 +116,7 @@ def pack(folder, platforms, files, about):
     tags = "".join(f"Tag: py3-none-{platform}\n" for platform in platforms)
     files = {**files, **{f"{info}/{it}": data for it, data in about.items()}}
     files[f"{info}/WHEEL"] = (WHEEL + tags).encode()
+    files[f"{info}/entry_points.txt"] = ENTRY_POINTS
     wheel = f"{package()}-py3-none-{'.'.join(platforms)}.whl"
     write_wheel(Path(folder) / wheel, info, files)
     return wheel
