@@ -105,23 +105,24 @@ def read_number(text: str, kind: int, way: int) -> Tuple[int, int, int]:
     status = _calls.chinese_number_read(data, len(data), kind, way, byref(it))
     if status:
         return _refused(status), 0, it.char_index
-    number = it.high << 64 | it.low
-    is_negative = kind >= _FIRST_SIGNED and number >> 127
-    return status, number - (1 << 128) if is_negative else number, 0
+    high = it.high
+    if high >> 63 and kind >= _FIRST_SIGNED:
+        high -= 1 << 64
+    return status, high << 64 | it.low, 0
 
 
 def read_amount(text: str) -> Tuple[int, int, int]:
     """The fen, and how many characters stand before one at fault."""
     data, it = str.encode(text, "utf-8", "replace"), _Amount()
     status = _calls.chinese_amount_read(data, len(data), byref(it))
-    return _refused(status), it.fen, it.char_index
+    return status and _refused(status), it.fen, it.char_index
 
 
 def read_date(text: str) -> Tuple[int, Tuple[int, int, int], int]:
     """Year, month and day, and how many characters stand before one at fault."""
     data, it = str.encode(text, "utf-8", "replace"), _Date()
     status = _calls.chinese_date_read(data, len(data), byref(it))
-    return _refused(status), (it.year, it.month, it.day), it.char_index
+    return status and _refused(status), (it.year, it.month, it.day), it.char_index
 
 
 def print_number(number: int, kind: int, way: int, script: int, case: int) -> Tuple[int, str]:
