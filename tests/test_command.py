@@ -24,7 +24,7 @@ def command(request, tmp_path_factory):
     if request.param == "python":
         words = [sys.executable, "-B", "-m", "chinese_number"]
         own = {"PYTHONPATH": TOP / "bindings/python", "PYTHONCOERCECLOCALE": 0, "PYTHONUTF8": 0}
-        own["CHINESE_NUMBER_LIB"] = request.getfixturevalue("archive")
+        own["CHINESE_NUMBER_LIB"] = request.getfixturevalue("of_c_source")
     else:
         needs("node 20")
         words, own = ["node", TOP / "bindings/web/command.mjs"], {}
