@@ -71,6 +71,16 @@ def test_words_of_cheque(command, what):
         assert found == (status, wanted, b"") if status == 0 else (status, b"", wanted)
 
 
+def test_long_numbers(command):
+    for sign in ("", "-"):
+        found = command("print", "--", f"{sign}{'9' * 5000}")
+        assert found == (1, b"", b"i128 does not hold the number\n")
+
+
+def test_no_input(command):
+    assert command.of_no_file("find")[:2] == (1, b"")
+
+
 def test_full_disk(command):
     for words, data in ((["read", "一"], b""), (["find"], MANY), (["--help"], b"")):
         status, error = command.onto_a_full_disk(*words, data=data)
