@@ -497,6 +497,7 @@ class Found(NamedTuple):
         >>> [(found.text, found.number()) for found in find_numbers('二〇二五年十一月')]
         [('二〇二五', 2025), ('十一', 11)]
         """
+        _code(_WAYS, way, "way")  # plain digits go by no other, and yet it has to be one
         return to_number(self.text, kind=kind, way=Way.DIGITS if self.is_plain else way)
 
     def value(

@@ -54,26 +54,27 @@ class _Misuse(Exception):
     """The words of the command line ask for nothing."""
 
 
-_AMOUNT_BEGINS, _AMOUNT_ENDS = re.compile(r"([0-9]+(\.[0-9]{0,2})?)?"), re.compile(r".*[0-9]")
-_DATE_BEGINS = re.compile(r"[0-9]{4}-[0-9]{2}-[0-9]{0,2}|[0-9]{4}-[0-9]{0,2}|[0-9]{0,4}")
-_DATE_ENDS = re.compile(r".{10}")
+# The beginnings of figures, with the whole of them, and which of these are whole.
+_FIGURES: Dict[Any, Tuple[Pattern[str], Pattern[str]]] = {
+    AmountError: (re.compile(r"([0-9]+(\.[0-9]{0,2})?)?"), re.compile(r".*[0-9]")),
+    DateError: (
+        re.compile(r"[0-9]{4}-[0-9]{2}-[0-9]{0,2}|[0-9]{4}-[0-9]{0,2}|[0-9]{0,4}"),
+        re.compile(r".{10}"),
+    ),
+}
 
 
 def _are_figures(word: str) -> bool:
     return word != "" and word[0].isascii()
 
 
-def _check(
-    figures: str,
-    begins: Pattern[str],
-    ends: Pattern[str],
-    error: Union[Type[AmountError], Type[DateError]],
-) -> None:
-    """Refuses figures of which a pattern takes a beginning alone, and those that are unfinished."""
-    rest = begins.sub("", figures, count=1)
+def _check(figures: str, error: Union[Type[AmountError], Type[DateError]]) -> None:
+    """Refuses by this error what is no figures."""
+    beginning, whole = _FIGURES[error]
+    rest = beginning.sub("", figures, count=1)
     if rest:
         raise error(Status.INCORRECT, len(figures) - len(rest))
-    if not ends.fullmatch(figures):
+    if not whole.fullmatch(figures):
         raise error(Status.UNFINISHED)
 
 
@@ -81,14 +82,14 @@ def _amount(word: str, **options: Any) -> str:
     if not _are_figures(word):
         fen = chinese_to_amount(word)
         return f"{fen // 100}.{fen % 100:02}"
-    _check(word, _AMOUNT_BEGINS, _AMOUNT_ENDS, AmountError)
+    _check(word, AmountError)
     return amount_to_chinese(yuan_to_fen(word), **options)
 
 
 def _date(word: str, **options: Any) -> str:
     if not _are_figures(word):
         return chinese_to_date(word).isoformat()
-    _check(word, _DATE_BEGINS, _DATE_ENDS, DateError)
+    _check(word, DateError)
     try:
         day = date(*map(int, word.split("-")))
     except ValueError:
@@ -129,8 +130,8 @@ def _find(options: Dict[str, Any]) -> int:
     return 0
 
 
-# What writes the answer to a word, what it takes for the word, and which options it has.
-_COMMANDS: Dict[str, Tuple[Callable[..., object], Callable[[str], Any], Dict[str, List[Any]]]] = {
+# What gives the answer to a word, what it takes for the word, and which options it has.
+_COMMANDS: Dict[str, Tuple[Callable[..., Any], Callable[[str], Any], Dict[str, List[Any]]]] = {
     "amount": (_amount, str, {**_TRADITIONAL, **_AMOUNT}),
     "date": (_date, str, _TRADITIONAL),
     "read": (to_number, str, {**_KIND, **_WAY}),
@@ -183,9 +184,9 @@ def _run(words: List[str]) -> int:
     others, options = _parted(words[1:], {"--help": _FLAG, **known})
     if "help" in options:
         return _run(["--help"])
-    if (call is _find) == bool(others):
+    if (first == "find") == bool(others):
         raise _Misuse
-    return _find(options) if call is _find else _answered(call, [*map(of_word, others)], options)
+    return _find(options) if first == "find" else _answered(call, [*map(of_word, others)], options)
 
 
 def _stream(number: int) -> TextIO:
