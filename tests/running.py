@@ -143,16 +143,16 @@ class Program:
         finally:
             os.close(folder)
 
-    def dialogue(self):
-        return Dialogue(self.path)
+    def dialogue(self, *words):
+        return Dialogue(self.path, *words)
 
 
 class Dialogue:
     """A program that is asked a line at a time, and has to answer before the next one is sent."""
 
-    def __init__(self, path):
+    def __init__(self, *words):
         pipes = {"stdin": subprocess.PIPE, "stdout": subprocess.PIPE, "bufsize": 0}
-        self.process = subprocess.Popen([path], **pipes)
+        self.process = subprocess.Popen(words, **pipes)
 
     def __enter__(self):
         return self

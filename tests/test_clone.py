@@ -74,7 +74,7 @@ def test_there_is_no_network(begin):
         pytest.skip("unshare may not, so the network is there")
 
 
-NUMBER, URL = "十萬五千\n", "file://${CLONE// /%20}"
+NUMBER, URL = "十万五千\n", "file://${CLONE// /%20}"
 USE = 'python -c "from chinese_number import to_chinese; print(to_chinese(105_000))"\n'
 BY_PAGE = f'cd "$CLONE"\n{by_page("Python")}'
 EDITABLE = f'pip install -e "$CLONE/bindings/python"\n{USE}'

@@ -86,6 +86,7 @@ def by_pip(packages, scratch, readme, program=sys.executable, which=0):
     example, program = write(scratch / "user/example.txt", readme.example), USERS / "user.py"
     run("python", USERS / "doctests.py", example, cwd=scratch, wanted="0 True 0 True\n", **own)
     run("python", program, cwd=scratch, wanted=user("user.py.txt"), **own)
+    run("chinese-number", "read", "一百二", cwd=scratch, wanted="120\n", **own)
     run("pip", "uninstall", "--yes", NAME, cwd=scratch, **own)
     if set(site.iterdir()) != before:
         fail(f"pip uninstall left {set(site.iterdir()) - before}")

@@ -2,14 +2,17 @@
 import sys
 from datetime import date
 
-from chinese_number import Case, Kind, Script, Way, amount_to_chinese, chinese_to_amount
-from chinese_number import (
-    chinese_to_date,
-    date_to_chinese,
-    find_numbers,
-    to_chinese,
-    to_number,
-)
+from chinese_number import amount_to_chinese, chinese_to_amount, chinese_to_date, date_to_chinese
+from chinese_number import find_numbers, to_chinese, to_number
+
+# The words of questions that this package has other ones for.
+OTHERS = {"naive": "digits", "simple": "simplified"}
+FORMS = {
+    "plain": {},
+    "currency": {"currency": True},
+    "round_yuan": {"yuan": "圆"},
+    "upright_closing": {"closing": "正"},
+}
 
 
 def told(call, *words):
@@ -19,26 +22,28 @@ def told(call, *words):
         return f"err {error}"
 
 
-def way_of(name):
-    return Way.DIGITS if name == "naive" else Way[name.upper()]
-
-
 def read(kind, way, text):
-    return to_number(text, kind=Kind[kind.upper()], way=way_of(way))
+    return to_number(text, kind=kind, way=OTHERS.get(way, way))
 
 
 def write(kind, way, script, case, number):
-    options = {"kind": Kind[kind.upper()], "way": way_of(way)}
-    options.update(script=Script[script.upper()], case=Case[case.upper()])
-    return to_chinese(int(number), **options)
+    words = {"way": OTHERS.get(way, way), "script": OTHERS.get(script, script)}
+    return to_chinese(int(number), kind=kind, case=case, **words)
 
 
 def write_amount(script, fen):
-    return amount_to_chinese(int(fen), script=Script[script.upper()])
+    return write_amount_as(script, "plain", fen)
+
+
+def write_amount_as(script, form, fen):
+    words = {"script": OTHERS.get(script, script)}
+    for word in form.split("+"):
+        words.update(FORMS[word])
+    return amount_to_chinese(int(fen), **words)
 
 
 def write_date(script, day):
-    return date_to_chinese(date.fromisoformat(day), script=Script[script.upper()])
+    return date_to_chinese(date.fromisoformat(day), script=OTHERS.get(script, script))
 
 
 def find(text):
@@ -54,6 +59,7 @@ CALLS = {
     "print": write,
     "read_amount": chinese_to_amount,
     "print_amount": write_amount,
+    "print_amount_as": write_amount_as,
     "read_date": chinese_to_date,
     "print_date": write_date,
     "find": find,

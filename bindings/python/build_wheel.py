@@ -20,7 +20,9 @@ from pathlib import Path
 
 HERE = Path(__file__).resolve().parent
 NAME = "chinese-number-proved"
-MODULE = ("chinese_number/__init__.py", "chinese_number/py.typed")
+MODULE = tuple(
+    f"chinese_number/{it}" for it in ("__init__.py", "__main__.py", "_library.py", "py.typed")
+)
 # Version 2.1 and `License` are what older twine takes too.
 METADATA = """\
 Metadata-Version: 2.1
@@ -43,6 +45,10 @@ WHEEL = """\
 Wheel-Version: 1.0
 Generator: build_wheel.py
 Root-Is-Purelib: false
+"""
+ENTRY_POINTS = b"""\
+[console_scripts]
+chinese-number = chinese_number.__main__:main
 """
 COMPILERS = ("cc", "gcc", "clang", "cl")
 
@@ -85,10 +91,7 @@ def about():
     # The source package's own, or a clone's.
     for folder in (HERE, HERE.parent.parent / "dist"):
         if (folder / "PROVENANCE.json").is_file():
-            return {
-                **files,
-                "PROVENANCE.json": (folder / "PROVENANCE.json").read_bytes(),
-            }
+            return {**files, "PROVENANCE.json": (folder / "PROVENANCE.json").read_bytes()}
     return files
 
 
@@ -96,11 +99,7 @@ def write_wheel(path, info, files):
     """A zip archive of the files and of a RECORD of them, in this order, each of the same old date."""
     record = ""
     for name, data in files.items():
-        digest = (
-            base64.urlsafe_b64encode(hashlib.sha256(data).digest())
-            .rstrip(b"=")
-            .decode()
-        )
+        digest = base64.urlsafe_b64encode(hashlib.sha256(data).digest()).rstrip(b"=").decode()
         record += f"{name},sha256={digest},{len(data)}\n"
     files = {**files, f"{info}/RECORD": f"{record}{info}/RECORD,,\n".encode()}
     with zipfile.ZipFile(path, "w", zipfile.ZIP_DEFLATED) as packed:
@@ -117,6 +116,7 @@ def pack(folder, platforms, files, about):
     tags = "".join(f"Tag: py3-none-{platform}\n" for platform in platforms)
     files = {**files, **{f"{info}/{it}": data for it, data in about.items()}}
     files[f"{info}/WHEEL"] = (WHEEL + tags).encode()
+    files[f"{info}/entry_points.txt"] = ENTRY_POINTS
     wheel = f"{package()}-py3-none-{'.'.join(platforms)}.whl"
     write_wheel(Path(folder) / wheel, info, files)
     return wheel
@@ -138,9 +138,7 @@ def compiler():
         if words and shutil.which(words[0]):
             return words
     missing = f", since {named}, which CC names, is not here" if named else ""
-    return stop(
-        f"install a C compiler (on Debian: apt install gcc), or name one by CC{missing}"
-    )
+    return stop(f"install a C compiler (on Debian: apt install gcc), or name one by CC{missing}")
 
 
 def call(source, library):
@@ -150,31 +148,12 @@ def call(source, library):
         header = source.with_suffix(".h").read_text(encoding="utf-8")
         calls = re.findall(r"^uint32_t (chinese_\w+)\(", header, re.M)
         exports = [f"/EXPORT:{name}" for name in calls]
-        return [
-            *words,
-            "/nologo",
-            "/O2",
-            "/LD",
-            str(source),
-            f"/Fe:{library}",
-            "/link",
-            *exports,
-        ]
+        return [*words, "/nologo", "/O2", "/LD", str(source), f"/Fe:{library}", "/link", *exports]
     flags = ["-shared"] if library.suffix == ".dll" else ["-shared", "-fPIC"]
-    if (
-        library.suffix == ".dylib"
-    ):  # a Python for two processors wants a library for both
+    if library.suffix == ".dylib":  # a Python for two processors wants a library for both
         of_python = sysconfig.get_config_var("CFLAGS") or ""
         flags = ["-dynamiclib", *re.findall(r"-arch|(?<=-arch )\w+", of_python)]
-    return [
-        *words,
-        "-O2",
-        "-fvisibility=hidden",
-        *flags,
-        str(source),
-        "-o",
-        str(library),
-    ]
+    return [*words, "-O2", "-fvisibility=hidden", *flags, str(source), "-o", str(library)]
 
 
 def shared_library():

@@ -48,19 +48,21 @@ def day(text: str) -> Optional[date]:
 
 
 def cheque(yuan: Decimal, day: date) -> List[str]:
-    script = Script.SIMPLE
-    return [
-        amount_to_chinese(yuan_to_fen(yuan), script=script),
-        date_to_chinese(day, script=script),
-    ]
+    amount = amount_to_chinese(yuan_to_fen(yuan), currency=True, yuan="圆", closing="正")
+    return [amount, date_to_chinese(day, script=Script.TRADITIONAL)]
 
 
 def years(text: str) -> List[str]:
     found: List[Found] = [it for it in find_numbers(text, greatest=Unit.YI) if it.is_plain]
-    return [to_chinese(it.number(kind=Kind.U32), way=Way.DIGITS) for it in found]
+    return [to_chinese(it.number(kind="u32"), way=Way.DIGITS) for it in found]
+
+
+def percentages(text: str) -> List[Optional[int]]:
+    return [it.value(way="any") for it in find_numbers(text, greatest="yi")]
 
 
 if __name__ == "__main__":
     print(chapter("二十三"), chapter("二十十"), years("二〇二五年十一月"), len(__version__.split(".")))
+    print(percentages("百分之五十的人"))
     print(fen("壹佰元整"), fen("壹佰贰元整"), fen("壹佰元"), day("伍年叁月零壹日"), day("伍年拾月"))
     print(cheque(Decimal("12805.00"), date(2026, 1, 15)))

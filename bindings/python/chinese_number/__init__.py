@@ -1,27 +1,29 @@
 """Chinese numerals for whole numbers: texts as numbers and numbers as texts, by a proved library.
 
+>>> from datetime import date
 >>> from chinese_number import amount_to_chinese, chinese_to_amount, chinese_to_date
 >>> from chinese_number import date_to_chinese, find_numbers, to_chinese, to_number, yuan_to_fen
 >>> [found.value() for found in find_numbers('百分之五十的人')]
 [None, 50]
->>> to_number('十万五'), to_number('二〇二五')
-(105000, 2025)
->>> to_chinese(105_000), to_chinese(105_000, script='traditional')
-('十万五千', '十萬五千')
+>>> to_number('一百二'), to_number('一二〇'), to_number('十万五')
+(120, 120, 105000)
 >>> to_number('负一百二十九', kind='i8')
 Traceback (most recent call last):
 chinese_number.NumeralError: number is too small
+>>> to_chinese(105_000), to_chinese(105_000, script='traditional')
+('十万五千', '十萬五千')
 >>> amount_to_chinese(yuan_to_fen('1409.50'))
 '壹仟肆佰零玖元伍角整'
+>>> amount_to_chinese(1500, currency=True, closing='正')
+'人民币壹拾伍元正'
 >>> chinese_to_amount('壹仟肆佰零玖元伍角')
 140950
->>> from datetime import date
 >>> date_to_chinese(date(2026, 1, 15))
 '贰零贰陆年零壹月壹拾伍日'
 >>> chinese_to_date('贰零贰陆年零壹月壹拾伍日')
 datetime.date(2026, 1, 15)
 
-A kind, way, script, case or unit is a member of its enum, or its name in lower case.
+A kind, way, script, case or unit is a member of its enum, or the str that the member equals.
 
 The shared library libchinese_number.so, on macOS .dylib and on Windows .dll, stands beside this
 file, as pip puts it, or in the folder that CHINESE_NUMBER_LIB names, as bindings/archive.sh makes
@@ -33,21 +35,12 @@ call lets other threads of Python run. Where it is made of C source, a text of m
 from __future__ import annotations
 
 import operator
+import re
 from datetime import date, datetime
 from decimal import Decimal
 from enum import Enum
-from typing import (
-    Any,
-    Dict,
-    Iterator,
-    NamedTuple,
-    Optional,
-    SupportsIndex,
-    Tuple,
-    Type,
-    TypeVar,
-)
-from typing import Union
+from itertools import starmap
+from typing import Any, Dict, Iterable, Iterator, NamedTuple, Optional, SupportsIndex, Tuple, Union
 
 from . import _library
 
@@ -74,23 +67,25 @@ __all__ = [
 __version__ = "0.1.0"
 _library.load(__version__)
 
+# The members of each enum are in the order of the library's codes for them, from 0 on.
 
-class Kind(Enum):
+
+class Kind(str, Enum):
     """The integer type that a number has to fit."""
 
-    U8 = 0
-    U16 = 1
-    U32 = 2
-    U64 = 3
-    U128 = 4
-    I8 = 5
-    I16 = 6
-    I32 = 7
-    I64 = 8
-    I128 = 9
+    U8 = "u8"
+    U16 = "u16"
+    U32 = "u32"
+    U64 = "u64"
+    U128 = "u128"
+    I8 = "i8"
+    I16 = "i16"
+    I32 = "i32"
+    I64 = "i64"
+    I128 = "i128"
 
 
-class Way(Enum):
+class Way(str, Enum):
     """How a number is written: as plain digits (一二三), or with units (一百二十三) by four methods.
 
     LOW: each unit is ten times the one before.
@@ -101,55 +96,53 @@ class Way(Enum):
     ANY, for reading alone: as DIGITS where all of the text is digits, else as TEN_THOUSAND.
     """
 
-    DIGITS = 0
-    LOW = 1
-    TEN_THOUSAND = 2
-    MIDDLE = 3
-    HIGH = 4
-    ANY = 5
+    DIGITS = "digits"
+    LOW = "low"
+    TEN_THOUSAND = "ten_thousand"
+    MIDDLE = "middle"
+    HIGH = "high"
+    ANY = "any"
 
 
-class Script(Enum):
+class Script(str, Enum):
     """萬 or 万."""
 
-    TRADITIONAL = 0
-    SIMPLIFIED = 1
+    TRADITIONAL = "traditional"
+    SIMPLIFIED = "simplified"
 
 
-class Case(Enum):
+class Case(str, Enum):
     """壹拾 or 一十."""
 
-    UPPER = 0
-    LOWER = 1
+    UPPER = "upper"
+    LOWER = "lower"
 
 
-class Unit(Enum):
-    """A unit, each by its rank: 個 is the least, and 極 the greatest."""
+class Unit(str, Enum):
+    """個, 十, 百, 千, 萬, 億, 兆, 京, 垓, 秭, 穰, 溝, 澗, 正, 載 and 極, from the least on."""
 
-    GE = 0
-    SHI = 1
-    BAI = 2
-    QIAN = 3
-    WAN = 4
-    YI = 5
-    ZHAO = 6
-    JING = 7
-    GAI = 8
-    ZI = 9
-    RANG = 10
-    GOU = 11
-    JIAN = 12
-    ZHENG = 13
-    ZAI = 14
-    JI = 15
+    GE = "ge"
+    SHI = "shi"
+    BAI = "bai"
+    QIAN = "qian"
+    WAN = "wan"
+    YI = "yi"
+    ZHAO = "zhao"
+    JING = "jing"
+    GAI = "gai"
+    ZI = "zi"
+    RANG = "rang"
+    GOU = "gou"
+    JIAN = "jian"
+    ZHENG = "zheng"
+    ZAI = "zai"
+    JI = "ji"
 
 
 class Status(Enum):
-    """What a call answers.
-
-    A NumeralError has one of those from EMPTY to TOO_SMALL, or NOT_HELD; an AmountError has
-    INCORRECT, UNFINISHED, TOO_LARGE or TOO_SMALL, and a DateError INCORRECT or UNFINISHED. The
-    command alone tells NOT_A_DATE, of figures.
+    """What a call answers. A NumeralError has one of those from EMPTY to TOO_SMALL, or NOT_HELD; an
+    AmountError has INCORRECT, UNFINISHED, TOO_LARGE or TOO_SMALL, and a DateError INCORRECT,
+    UNFINISHED or NOT_A_DATE.
     """
 
     DONE = 0
@@ -166,16 +159,20 @@ class Status(Enum):
     NOT_A_DATE = 11
 
 
-_TEXTS = {
-    Status.EMPTY: "a chinese number cannot be empty",
-    Status.INCORRECT: "the chinese number is incorrect (position: {char_index})",
-    Status.TOO_LARGE: "number is too large",
-    Status.TOO_SMALL: "number is too small",
-    Status.NOT_HELD: "{kind} does not hold the number",
-}
+class _Refusal(ValueError):
+    _texts: Dict[Status, str]
+
+    def __init__(self, status: Status, char_index: Optional[int] = None, **more: Any) -> None:
+        text = self._texts.get(status, status.name)
+        super().__init__(text.format(char_index=char_index, **more))
+        self.status = status
+        self.char_index = char_index
+
+    def __reduce__(self) -> Tuple[Any, ...]:
+        return type(self), (self.status, self.char_index)
 
 
-class NumeralError(ValueError):
+class NumeralError(_Refusal):
     """Why a text is no number of a type, or a number is not written.
 
     status says why, and kind as which type; char_index, where a character cannot stand in its
@@ -189,37 +186,23 @@ class NumeralError(ValueError):
     the chinese number is incorrect (position: 3) Status.INCORRECT 3
     """
 
-    def __init__(
-        self, status: Status, kind: Kind, char_index: Optional[int] = None
-    ) -> None:
-        super().__init__(
-            _TEXTS.get(status, status.name).format(
-                kind=kind.name.lower(), char_index=char_index
-            )
-        )
-        self.status = status
+    _texts = {
+        Status.EMPTY: "a chinese number cannot be empty",
+        Status.INCORRECT: "the chinese number is incorrect (position: {char_index})",
+        Status.TOO_LARGE: "number is too large",
+        Status.TOO_SMALL: "number is too small",
+        Status.NOT_HELD: "{kind} does not hold the number",
+    }
+
+    def __init__(self, status: Status, kind: Kind, char_index: Optional[int] = None) -> None:
+        super().__init__(status, char_index, kind=kind.value)
         self.kind = kind
-        self.char_index = char_index
 
     def __reduce__(self) -> Tuple[Any, ...]:
-        return NumeralError, (self.status, self.kind, self.char_index)
+        return type(self), (self.status, self.kind, self.char_index)
 
 
-class _CapitalsError(ValueError):
-    _texts: Dict[Status, str]
-
-    def __init__(self, status: Status, char_index: Optional[int] = None) -> None:
-        super().__init__(
-            self._texts.get(status, status.name).format(char_index=char_index)
-        )
-        self.status = status
-        self.char_index = char_index
-
-    def __reduce__(self) -> Tuple[Any, ...]:
-        return type(self), (self.status, self.char_index)
-
-
-class AmountError(_CapitalsError):
+class AmountError(_Refusal):
     """Why a text is no amount of money, or an amount is not written.
 
     status says why: UNFINISHED where something is missing at the end, INCORRECT where no amount
@@ -240,11 +223,12 @@ class AmountError(_CapitalsError):
     }
 
 
-class DateError(_CapitalsError):
+class DateError(_Refusal):
     """Why a text is no date.
 
     status says why: UNFINISHED where something is missing at the end, INCORRECT where no date
-    begins so; char_index is then the place of the first character that is wrong, and else None.
+    begins so; char_index is then the place of the first character that is wrong, and else None. A
+    subclass of datetime.date that says of itself what is no date, as the year 0, is NOT_A_DATE.
 
     >>> try:
     ...     chinese_to_date('贰零贰伍年零贰月贰拾玖日')
@@ -260,13 +244,21 @@ class DateError(_CapitalsError):
     }
 
 
-_MOST_SHOWN = 100
-_FIRST_NOT_WRITTEN = 10**18
-_FIRST_SIGNED = Kind.I8.value
-# What each choice of a word adds to the form in which an amount is written.
+def _codes(of: Iterable[str]) -> Dict[str, int]:
+    return {it: code for code, it in enumerate(of)}
+
+
+_KINDS, _WAYS, _UNITS = _codes(Kind), _codes(Way), _codes(Unit)
+_SCRIPTS, _CASES = _codes(Script), _codes(Case)
+_PRINT_WAYS = {way: code for way, code in _WAYS.items() if way is not Way.ANY}
+# What each word adds to the form in which an amount is written, and the currency in front.
 _CURRENCY = 1
-_YUAN = {"元": 0, "圆": 2, "圓": 2}
-_CLOSING = {"整": 0, "正": 4}
+_YUAN = {"元": 0, "圆": 2}
+_CLOSINGS = {"整": 0, "正": 4}
+_FIRST_NOT_WRITTEN = 10**18
+_FIRST_SIGNED = _KINDS["i8"]
+_FIGURES = re.compile(r"([0-9]+)(?:\.([0-9]{1,2}))?")
+_MOST_SHOWN = 100
 
 
 def _shown(value: object) -> str:
@@ -281,28 +273,13 @@ def _shown(value: object) -> str:
     return text if len(text) <= _MOST_SHOWN else f"{text[:_MOST_SHOWN]}..."
 
 
-_Choice = TypeVar("_Choice", bound=Enum)
-
-
-def _member(of: Type[_Choice], value: Union[_Choice, str]) -> _Choice:
-    """The member itself, or the one of this name in lower case."""
-    if isinstance(value, of):
-        return value
-    return _of_word({it.name.lower(): it for it in of}, value, of.__name__.lower())
-
-
-_Meant = TypeVar("_Meant")
-
-
-def _of_word(meanings: Dict[str, _Meant], word: Any, what: str) -> _Meant:
-    """What a word means."""
-    if not isinstance(word, str):
-        raise TypeError(f"a {what} is wanted, and not {_shown(word)}")
-    if word not in meanings:
-        raise ValueError(
-            f"a {what} is one of {', '.join(meanings)}, and not {_shown(word)}"
-        )
-    return meanings[word]
+def _code(codes: Dict[str, int], word: str, what: str) -> int:
+    """The code of a word, which a member of an enum is too."""
+    try:
+        return codes[word]
+    except (KeyError, TypeError):  # a TypeError of what has no hash
+        error = ValueError if isinstance(word, str) else TypeError
+    raise error(f"{what} has to be one of {', '.join(codes)}, and not {_shown(word)}")
 
 
 def _flag(value: bool) -> bool:
@@ -313,31 +290,22 @@ def _flag(value: bool) -> bool:
 
 def _whole(value: SupportsIndex, what: str) -> int:
     """A whole number of any type that is one, but no bool."""
-    if isinstance(value, bool) or not hasattr(type(value), "__index__"):
-        raise TypeError(f"{what} is wanted, and not {_shown(value)}")
-    return operator.index(value)
+    if not isinstance(value, bool):
+        try:
+            return operator.index(value)
+        except TypeError:
+            pass
+    raise TypeError(f"{what} is wanted, and not {_shown(value)}")
 
 
-def _bytes(text: str) -> bytes:
-    if not isinstance(text, str):
-        raise TypeError(f"a str is wanted, and not {_shown(text)}")
-    # Half of a surrogate pair has no bytes in UTF-8, and goes as a question mark, which is no
-    # numeral either.
-    return str.encode(text, "utf-8", "replace")
+def _text(value: str) -> str:
+    if not isinstance(value, str):
+        raise TypeError(f"a str is wanted, and not {_shown(value)}")
+    return value
 
 
 def _place(status: Status, char_index: int) -> Optional[int]:
     return char_index if status is Status.INCORRECT else None
-
-
-def _read(text: str, kind: Kind, way: Way) -> Tuple[Status, int, Optional[int]]:
-    """The status, the number, and the place of the character at fault."""
-    code: int = kind.value
-    answer, number, char_index = _library.read_number(_bytes(text), code, way.value)
-    status = Status(answer)
-    if code >= _FIRST_SIGNED and number >> 127:
-        number -= 1 << 128
-    return status, number, _place(status, char_index)
 
 
 def to_number(
@@ -347,7 +315,7 @@ def to_number(
 
     >>> to_number('一百二'), to_number('一二〇')
     (120, 120)
-    >>> to_number('零〇1兩', kind='u8', way='digits')
+    >>> to_number('零〇1兩', kind='u8', way=Way.DIGITS)
     12
     >>> to_number('')
     Traceback (most recent call last):
@@ -355,10 +323,11 @@ def to_number(
 
     Half of a surrogate pair is one character, and at fault.
     """
-    kind = _member(Kind, kind)
-    status, number, place = _read(text, kind, _member(Way, way))
-    if status is not Status.DONE:
-        raise NumeralError(status, kind, place)
+    kind_code, way_code = _code(_KINDS, kind, "kind"), _code(_WAYS, way, "way")
+    code, number, char_index = _library.read_number(_text(text), kind_code, way_code)
+    if code:
+        status = Status(code)
+        raise NumeralError(status, Kind(kind), _place(status, char_index))
     return number
 
 
@@ -370,30 +339,26 @@ def to_chinese(
     script: Union[Script, str] = Script.SIMPLIFIED,
     case: Union[Case, str] = Case.LOWER,
 ) -> str:
-    """The text of a number; a NumeralError says why there is none.
+    """The text of a number; a NumeralError says why there is none: the type does not hold it, or it
+    has 17 digits or more and the way is LOW.
 
-    Either the type does not hold it, or it has 17 digits or more and the way is LOW. The way ANY
-    is a ValueError.
-
-    >>> to_chinese(123, script='traditional', case='upper')
+    >>> to_chinese(123, script='traditional', case=Case.UPPER)
     '壹佰貳拾參'
-    >>> to_chinese(-123, way=Way.DIGITS)
+    >>> to_chinese(-123, way='digits')
     '负一二三'
-    >>> to_chinese(256, kind=Kind.U8)
+    >>> to_chinese(256, kind='u8')
     Traceback (most recent call last):
     chinese_number.NumeralError: u8 does not hold the number
     """
-    whole = _whole(number, "a whole number")
-    kind, way = _member(Kind, kind), _member(Way, way)
-    if way is Way.ANY:
-        raise ValueError("the way any is for reading alone")
-    least = -(1 << 127) if kind.value >= _FIRST_SIGNED else 0
+    whole, kind_code = _whole(number, "a whole number"), _code(_KINDS, kind, "kind")
+    way_code, script_code = _code(_PRINT_WAYS, way, "way"), _code(_SCRIPTS, script, "script")
+    case_code = _code(_CASES, case, "case")
+    least = -(1 << 127) if kind_code >= _FIRST_SIGNED else 0
     if not least <= whole < least + (1 << 128):
-        raise NumeralError(Status.NOT_HELD, kind)
-    look = _member(Script, script).value, _member(Case, case).value
-    status, text = _library.print_number(whole, kind.value, way.value, *look)
+        raise NumeralError(Status.NOT_HELD, Kind(kind))
+    status, text = _library.print_number(whole, kind_code, way_code, script_code, case_code)
     if status:
-        raise NumeralError(Status(status), kind)
+        raise NumeralError(Status(status), Kind(kind))
     return text
 
 
@@ -405,28 +370,26 @@ def amount_to_chinese(
     yuan: str = "元",
     closing: str = "整",
 ) -> str:
-    """The text of an amount of money, in capitals as on a cheque.
+    """The text of an amount of money, in capitals as on a cheque. The amount is a whole number, of
+    fen; an AmountError says why there is no text: it is below zero, or 10**18 or more.
 
-    The amount is a whole number of fen; an AmountError says why there is no text: it is below zero,
-    or 10**18 or more. currency puts 人民币 in front; yuan is 元 or 圆, and closing is 整 or 正.
-
-    >>> amount_to_chinese(1500)
-    '壹拾伍元整'
-    >>> amount_to_chinese(1500, currency=True, yuan='圆', closing='正')
-    '人民币壹拾伍圆正'
     >>> amount_to_chinese(10700053, script='traditional')
     '壹拾萬零柒仟元伍角參分'
     >>> amount_to_chinese(15.0)
     Traceback (most recent call last):
     TypeError: a whole number, in fen, is wanted, and not 15.0
+
+    The currency is 人民币, in front; yuan is '元' or '圆', and closing '整' or '正'.
+
+    >>> amount_to_chinese(1500, currency=True, yuan='圆', closing='正')
+    '人民币壹拾伍圆正'
     """
-    whole = _whole(fen, "a whole number, in fen,")
-    code: int = _member(Script, script).value
-    form = _CURRENCY if _flag(currency) else 0
-    form |= _of_word(_YUAN, yuan, "yuan") | _of_word(_CLOSING, closing, "closing")
+    whole, script_code = _whole(fen, "a whole number, in fen,"), _code(_SCRIPTS, script, "script")
+    form = _code(_YUAN, yuan, "yuan") + _code(_CLOSINGS, closing, "closing")
+    form += _CURRENCY if _flag(currency) else 0
     if not 0 <= whole < _FIRST_NOT_WRITTEN:
         raise AmountError(Status.TOO_SMALL if whole < 0 else Status.TOO_LARGE)
-    status, text = _library.print_amount(whole, code, form)
+    status, text = _library.print_amount(whole, script_code, form)
     if status:
         raise AmountError(Status(status))
     return text
@@ -443,19 +406,17 @@ def chinese_to_amount(text: str) -> int:
 
     White space and half of a surrogate pair are refused at their place.
     """
-    answer, fen, char_index = _library.read_amount(_bytes(text))
-    status = Status(answer)
-    if status is not Status.DONE:
+    code, fen, char_index = _library.read_amount(_text(text))
+    if code:
+        status = Status(code)
         raise AmountError(status, _place(status, char_index))
     return fen
 
 
 def yuan_to_fen(value: Union[Decimal, str]) -> int:
-    """The fen of an amount in yuan, exactly.
-
-    It is given in figures: ASCII digits, with at most one point, and one or two digits behind it.
-    A Decimal has to be one whose str is of that form. All else is a ValueError, so nothing is
-    rounded.
+    """The fen of an amount in yuan, exactly. It is given in figures: ASCII digits, with at most one
+    point, and one or two digits behind it. A Decimal has to be one whose str is of that form. All
+    else is a ValueError, so nothing is rounded.
 
     >>> yuan_to_fen('1409.5')
     140950
@@ -466,34 +427,21 @@ def yuan_to_fen(value: Union[Decimal, str]) -> int:
     ValueError: figures with at most two places are wanted, and not '1,409.50'
     """
     if isinstance(value, str):
-        text = str.__str__(value)
+        figures = _FIGURES.fullmatch(str.__str__(value))
     elif isinstance(value, Decimal):
-        text = Decimal.__str__(value)
+        figures = _FIGURES.fullmatch(Decimal.__str__(value))
     else:
-        raise TypeError(
-            f"a Decimal or a str is wanted, in yuan, and not {_shown(value)}"
-        )
-    whole, point, places = text.partition(".")
-    figures = whole + places
-    if not (
-        whole
-        and figures.isascii()
-        and figures.isdigit()
-        and len(places) <= 2
-        and bool(places) == bool(point)
-    ):
-        raise ValueError(
-            f"figures with at most two places are wanted, and not {_shown(value)}"
-        )
-    figures = whole.lstrip("0") + places.ljust(2, "0")
-    if len(figures) > 18:
+        raise TypeError(f"a Decimal or a str is wanted, in yuan, and not {_shown(value)}")
+    if not figures:
+        raise ValueError(f"figures with at most two places are wanted, and not {_shown(value)}")
+    whole, places = figures.groups("")
+    digits = whole.lstrip("0") + places.ljust(2, "0")
+    if len(digits) > 18:
         raise AmountError(Status.TOO_LARGE)
-    return int(figures)
+    return int(digits)
 
 
-def date_to_chinese(
-    day: date, *, script: Union[Script, str] = Script.SIMPLIFIED
-) -> str:
+def date_to_chinese(day: date, *, script: Union[Script, str] = Script.SIMPLIFIED) -> str:
     """The text of a date, in capitals as on a cheque. Each datetime.date has one.
 
     >>> date_to_chinese(date(2026, 10, 20))
@@ -506,10 +454,8 @@ def date_to_chinese(
     """
     if not isinstance(day, date) or isinstance(day, datetime):
         raise TypeError(f"a date is wanted, and not {_shown(day)}")
-    code: int = _member(Script, script).value
-    # The day that it is, whatever a subclass says of itself.
-    plain = date.fromordinal(date.toordinal(day))
-    status, text = _library.print_date(plain.year, plain.month, plain.day, code)
+    code = _code(_SCRIPTS, script, "script")
+    status, text = _library.print_date(day.year, day.month, day.day, code)
     if status:
         raise DateError(Status(status))
     return text
@@ -526,9 +472,9 @@ def chinese_to_date(text: str) -> date:
 
     White space and half of a surrogate pair are refused at their place.
     """
-    answer, fields, char_index = _library.read_date(_bytes(text))
-    status = Status(answer)
-    if status is not Status.DONE:
+    code, fields, char_index = _library.read_date(_text(text))
+    if code:
+        status = Status(code)
         raise DateError(status, _place(status, char_index))
     return date(*fields)
 
@@ -544,39 +490,37 @@ class Found(NamedTuple):
     text: str
     is_plain: bool
 
-    def number(
-        self, *, kind: Union[Kind, str] = Kind.I128, way: Union[Way, str] = Way.ANY
-    ) -> int:
-        """Its number, as plain digits where it is those; a NumeralError says why it is none.
-
-        Its char_index counts within the run.
+    def number(self, *, kind: Union[Kind, str] = Kind.I128, way: Union[Way, str] = Way.ANY) -> int:
+        """Its number, as plain digits where it is those; a NumeralError says why it is none of the
+        type. Its char_index counts within the run.
 
         >>> [(found.text, found.number()) for found in find_numbers('二〇二五年十一月')]
         [('二〇二五', 2025), ('十一', 11)]
         """
+        _code(_WAYS, way, "way")  # plain digits go by no other, and yet it has to be one
         return to_number(self.text, kind=kind, way=Way.DIGITS if self.is_plain else way)
 
     def value(
         self, *, kind: Union[Kind, str] = Kind.I128, way: Union[Way, str] = Way.ANY
     ) -> Optional[int]:
-        """Its number as number() gives it, or None where that is refused.
+        """Its number, as number() gives it, or None where that is refused.
 
         >>> [(found.text, found.value()) for found in find_numbers('百分之二十')]
         [('百', None), ('二十', 20)]
         """
-        kind, way = _member(Kind, kind), _member(Way, way)
-        status, number, _ = _read(self.text, kind, Way.DIGITS if self.is_plain else way)
-        return number if status is Status.DONE else None
+        try:
+            return self.number(kind=kind, way=way)
+        except NumeralError:
+            return None
 
 
 def find_numbers(
     text: str, *, upper: bool = False, greatest: Union[Unit, str] = Unit.ZHAO
 ) -> Iterator[Found]:
-    """The numbers of a text, from the first to the last.
-
-    They are its longest runs of digits and of units up to the greatest one, with or without the
-    forms that only cheques have. A run ends between an ASCII digit and a digit that is none, and 個
-    is of a run directly before 萬 or a greater unit alone.
+    """The numbers of a text, from the first to the last: its longest runs of digits and of units up
+    to the greatest one, with or without the forms that only cheques have. A run ends between an
+    ASCII digit and a digit that is none, and 個 is of a run directly before 萬 or a greater unit
+    alone.
 
     >>> [(found.start, found.end, found.text) for found in find_numbers('买2两，三个亿')]
     [(1, 2, '2'), (2, 3, '两'), (4, 7, '三个亿')]
@@ -586,14 +530,5 @@ def find_numbers(
     It does not understand sentences: 一起 has a 1 in it, 两三个 is 23, and 3.5万 is two numbers.
     Half of a surrogate pair is one character, and parts a text.
     """
-    code: int = _member(Unit, greatest).value
-    return _found(_bytes(text), _flag(upper), code)
-
-
-def _found(data: bytes, upper: bool, greatest: int) -> Iterator[Found]:
-    searched = index = 0
-    for begin, end, is_plain in _library.find_numbers(data, upper, greatest):
-        text = data[begin:end].decode()
-        start = index + len(data[searched:begin].decode())
-        searched, index = end, start + len(text)
-        yield Found(start, index, text, is_plain)
+    wanted = _flag(upper), _code(_UNITS, greatest, "greatest")
+    return starmap(Found, _library.find_numbers(_text(text), *wanted))

@@ -1,286 +1,214 @@
-"""The command chinese-number: numbers, amounts and dates of its words, and numbers of its input.
+"""The command chinese-number: amounts, dates and numerals are written and read, and the numbers of
+a text are found.
 
-What it is asked goes to the calls of the package, and what they refuse to standard error. Texts are
-UTF-8 whatever the locale says.
+Answers go to standard output, and refusals to standard error. The status is 0 where all is
+answered, 1 where something is refused or cannot be read or written, and 2, with the usage, where
+the words of the command line ask for nothing. Texts are UTF-8, whatever the locale says.
 """
 
 from __future__ import annotations
 
-import argparse
 import os
 import re
 import sys
 from datetime import date
-from typing import Any, Callable, List, Optional, Type
+from typing import Any, Callable, Dict, Iterator, List, Pattern, TextIO, Tuple, Type, Union
 
-from . import (
-    AmountError,
-    DateError,
-    Found,
-    Kind,
-    NumeralError,
-    Status,
-    Unit,
-    Way,
-    __version__,
-)
-from . import (
-    amount_to_chinese,
-    chinese_to_amount,
-    chinese_to_date,
-    date_to_chinese,
-    find_numbers,
-)
-from . import to_chinese, to_number, yuan_to_fen
+from . import AmountError, DateError, Kind, NumeralError, Status, Way, __version__
+from . import amount_to_chinese, chinese_to_amount, chinese_to_date, date_to_chinese
+from . import find_numbers, to_chinese, to_number, yuan_to_fen
 
-_DONE, _REFUSED, _INTERRUPTED = 0, 1, 130
-_FIGURES_BEGIN = re.compile(r"(?:[0-9]+(?:\.[0-9]{0,2})?)?")
-_DATE = re.compile(r"([0-9]{4})-([0-9]{2})-([0-9]{2})")
-_FORM_OF_DATE = "0000-00-00"
+_FLAG: List[Any] = [None]
+_TRADITIONAL = {"--traditional": _FLAG}
+_KIND = {"--kind": [it.value for it in Kind]}
+_WAY = {"--way": [it.value for it in Way]}
+_PRINT_WAY = {"--way": [it.value for it in Way if it is not Way.ANY]}
+_AMOUNT = {"--currency": _FLAG, "--yuan": ["元", "圆"], "--closing": ["整", "正"]}
+# What a flag means to a call. Any other option is a keyword itself.
+_MEANINGS: Dict[str, Dict[str, Any]] = {
+    "--traditional": {"script": "traditional"},
+    "--currency": {"currency": True},
+    "--upper": {"case": "upper"},
+    "--all": {"upper": True, "greatest": "ji"},
+}
+USAGE = f"""\
+usage: chinese-number amount [--traditional] [--currency] [--yuan 圆] [--closing 正] WORD..
+       chinese-number date [--traditional] WORD..
+       chinese-number read [--kind i128] [--way any] WORD..
+       chinese-number print [--traditional] [--upper] [--kind i128] [--way ten_thousand] NUMBER..
+       chinese-number find [--all] [--kind i128] [--way any]
+       chinese-number --help | --version
 
+amount   writes yuan in capitals, 1409.50 as 壹仟肆佰零玖元伍角整, and reads capitals
+date     writes dates in capitals, 2026-01-15 as 贰零贰陆年零壹月壹拾伍日, and reads capitals
+read     reads numerals, 一百二 as 120
+print    writes whole numbers as numerals, -120 as 负一百二十
+find     writes LINE:COLUMN TEXT NUMBER of each number in standard input, or err and why it is
+         refused; with --all also of the characters of cheques and of units above 兆
 
-def _fen(figures: str) -> int:
-    """The fen of an amount in figures."""
-    begin = _FIGURES_BEGIN.match(figures)
-    begun = begin.end() if begin else 0
-    if begun < len(figures):
-        raise AmountError(Status.INCORRECT, begun)
-    if not figures or figures.endswith("."):
-        raise AmountError(Status.UNFINISHED)
-    return yuan_to_fen(figures)
-
-
-def _is_place(character: str, form: str) -> bool:
-    """Whether a character may stand where the form of a date has this one."""
-    return character == "-" if form == "-" else character in "0123456789"
+A kind is {', '.join(_KIND["--kind"])}; a way to read
+is {', '.join(_WAY["--way"])}, and to write each but any."""
 
 
-def _day(figures: str) -> date:
-    """The date in figures."""
-    for place, character in enumerate(figures):
-        if (
-            not _is_place(character, _FORM_OF_DATE[place : place + 1] or "-")
-            or place > 9
-        ):
-            raise DateError(Status.INCORRECT, place)
-    fields = _DATE.fullmatch(figures)
-    if not fields:
-        raise DateError(Status.UNFINISHED)
-    try:
-        return date(*map(int, fields.groups()))
-    except ValueError:
-        raise DateError(Status.NOT_A_DATE) from None
+class _Misuse(Exception):
+    """The words of the command line ask for nothing."""
 
 
-def _are_figures(word: str) -> bool:
-    return word[:1].isascii() and word != ""
-
-
-def _script(asked: argparse.Namespace) -> str:
-    return "traditional" if asked.traditional else "simplified"
-
-
-def _amount(word: str, asked: argparse.Namespace) -> str:
-    if not _are_figures(word):
-        fen = chinese_to_amount(word)
-        return f"{fen // 100}.{fen % 100:02}"
-    form = {"currency": asked.currency, "yuan": asked.yuan, "closing": asked.closing}
-    return amount_to_chinese(_fen(word), script=_script(asked), **form)
-
-
-def _date(word: str, asked: argparse.Namespace) -> str:
-    if not _are_figures(word):
-        return date.isoformat(chinese_to_date(word))
-    return date_to_chinese(_day(word), script=_script(asked))
-
-
-def _read(word: str, asked: argparse.Namespace) -> str:
-    return str(to_number(word, kind=asked.kind, way=asked.way))
-
-
-def _print(number: int, asked: argparse.Namespace) -> str:
-    look = {"script": _script(asked), "case": "upper" if asked.upper else "lower"}
-    return to_chinese(number, kind=asked.kind, way=asked.way, **look)
-
-
-def _words(asked: argparse.Namespace) -> int:
-    """Answers each word on a line of its own. The status is that of the worst answer."""
-    status = _DONE
-    for word in asked.words:
-        try:
-            print(asked.answer(word, asked))
-        except (NumeralError, AmountError, DateError) as error:
-            sys.stdout.flush()
-            print(error, file=sys.stderr)
-            status = _REFUSED
-    return status
-
-
-def _told(found: Found, asked: argparse.Namespace) -> str:
-    try:
-        return str(found.number(kind=asked.kind, way=asked.way))
-    except NumeralError as error:
-        return f"err {error}"
-
-
-def _answers(line: int, data: bytes, asked: argparse.Namespace) -> List[str]:
-    """What a line of the input is answered, without its line feed."""
-    try:
-        text = data.decode()
-    except UnicodeDecodeError:
-        return [f"{line}:1 bad line"]
-    options: Any = {"upper": True, "greatest": Unit.JI} if asked.all else {}
-    return [
-        f"{line}:{found.start + 1} {found.text} {_told(found, asked)}"
-        for found in find_numbers(text, **options)
-    ]
-
-
-def _find(asked: argparse.Namespace) -> int:
-    """Answers its input line by line, each before the next one is read."""
-    for line, data in enumerate(sys.stdin.buffer, 1):
-        answers = _answers(line, data[:-1] if data.endswith(b"\n") else data, asked)
-        if answers:
-            print(*answers, sep="\n", flush=True)
-    return _DONE
-
-
-def _number(word: str) -> int:
-    if not re.fullmatch(r"-?[0-9]+", word):
-        raise argparse.ArgumentTypeError(f"{word!r} is no whole number")
-    # More than 128 bits are refused alike, and Python turns no longer texts into an int.
-    digits = word.lstrip("-").lstrip("0")
-    whole = int(digits or "0") if len(digits) < 40 else 10**40
-    return -whole if word.startswith("-") else whole
-
-
-def _add_traditional(parser: argparse.ArgumentParser) -> None:
-    parser.add_argument(
-        "--traditional", action="store_true", help="in place of simplified"
-    )
-
-
-def _add_choice(parser: argparse.ArgumentParser, of: Type[Any], default: str) -> None:
-    names = [it.name.lower() for it in of if default == "any" or it is not Way.ANY]
-    name, text = (
-        f"--{of.__name__.lower()}",
-        f"{', '.join(names)}; {default} unless it is named",
-    )
-    label = of.__name__.upper()
-    parser.add_argument(name, choices=names, default=default, metavar=label, help=text)
-
-
-def _add_words(
-    parser: argparse.ArgumentParser, answer: Callable[..., str], **more: Any
-) -> None:
-    parser.add_argument("words", nargs="+", **more)
-    parser.set_defaults(run=_words, answer=answer)
-
-
-def _add_amount(parser: argparse.ArgumentParser) -> None:
-    _add_traditional(parser)
-    parser.add_argument("--currency", action="store_true", help="人民币 in front")
-    yuan, closing = ("元", "圆", "圓"), ("整", "正")
-    parser.add_argument(
-        "--yuan", choices=yuan, default="元", help="元 unless it is named"
-    )
-    parser.add_argument(
-        "--closing", choices=closing, default="整", help="整 unless it is named"
-    )
-    _add_words(
-        parser, _amount, metavar="AMOUNT", help="figures, as 1409.50, or capitals"
-    )
-
-
-def _add_date(parser: argparse.ArgumentParser) -> None:
-    _add_traditional(parser)
-    _add_words(
-        parser, _date, metavar="DATE", help="figures, as 2026-01-15, or capitals"
-    )
-
-
-def _add_read(parser: argparse.ArgumentParser) -> None:
-    _add_choice(parser, Kind, "i128")
-    _add_choice(parser, Way, "any")
-    _add_words(parser, _read, metavar="NUMERAL", help="as 一百二 or 一二〇")
-
-
-def _add_print(parser: argparse.ArgumentParser) -> None:
-    _add_traditional(parser)
-    parser.add_argument("--upper", action="store_true", help="壹拾 in place of 一十")
-    _add_choice(parser, Kind, "i128")
-    _add_choice(parser, Way, "ten_thousand")
-    _add_words(
-        parser,
-        _print,
-        type=_number,
-        metavar="NUMBER",
-        help="-- stands before one below 0",
-    )
-
-
-def _add_find(parser: argparse.ArgumentParser) -> None:
-    text = "the characters of cheques and the units above 兆 too"
-    parser.add_argument("--all", action="store_true", help=text)
-    _add_choice(parser, Way, "any")
-    _add_choice(parser, Kind, "i128")
-    parser.set_defaults(run=_find)
-
-
-_COMMANDS = {
-    "amount": (_add_amount, "write or read amounts of money in capitals"),
-    "date": (_add_date, "write or read dates in capitals"),
-    "read": (_add_read, "read numerals"),
-    "print": (_add_print, "write numbers as numerals"),
-    "find": (_add_find, "find the numbers of standard input: LINE:COLUMN TEXT NUMBER"),
+# The beginnings of figures, with the whole of them, and which of these are whole.
+_FIGURES: Dict[Any, Tuple[Pattern[str], Pattern[str]]] = {
+    AmountError: (re.compile(r"([0-9]+(\.[0-9]{0,2})?)?"), re.compile(r".*[0-9]")),
+    DateError: (
+        re.compile(r"[0-9]{4}-[0-9]{2}-[0-9]{0,2}|[0-9]{4}-[0-9]{0,2}|[0-9]{0,4}"),
+        re.compile(r".{10}"),
+    ),
 }
 
 
-def _parser() -> argparse.ArgumentParser:
-    about = "Chinese numerals, and amounts and dates in capitals as on cheques."
-    parser = argparse.ArgumentParser(
-        "chinese-number", description=about, allow_abbrev=False
-    )
-    parser.add_argument(
-        "--version", action="version", version=f"%(prog)s {__version__}"
-    )
-    commands = parser.add_subparsers(metavar="COMMAND", dest="command", required=True)
-    for name, (add, text) in _COMMANDS.items():
-        about = f"{text[0].upper()}{text[1:]}."
-        add(commands.add_parser(name, help=text, description=about, allow_abbrev=False))
-    return parser
+def _are_figures(word: str) -> bool:
+    return word != "" and word[0].isascii()
 
 
-def _in_utf8(word: str) -> str:
-    """A word of the command line as UTF-8, whatever the locale made of its bytes."""
-    return os.fsencode(word).decode("utf-8", "surrogateescape")
+def _check(figures: str, error: Union[Type[AmountError], Type[DateError]]) -> None:
+    """Refuses by this error what is no figures."""
+    beginning, whole = _FIGURES[error]
+    rest = beginning.sub("", figures, count=1)
+    if rest:
+        raise error(Status.INCORRECT, len(figures) - len(rest))
+    if not whole.fullmatch(figures):
+        raise error(Status.UNFINISHED)
 
 
-def _answered(words: List[str]) -> int:
+def _amount(word: str, **options: Any) -> str:
+    if not _are_figures(word):
+        fen = chinese_to_amount(word)
+        return f"{fen // 100}.{fen % 100:02}"
+    _check(word, AmountError)
+    return amount_to_chinese(yuan_to_fen(word), **options)
+
+
+def _date(word: str, **options: Any) -> str:
+    if not _are_figures(word):
+        return chinese_to_date(word).isoformat()
+    _check(word, DateError)
     try:
-        asked = _parser().parse_args(words)
-        return int(asked.run(asked))
-    finally:
-        sys.stdout.flush()
+        day = date(*map(int, word.split("-")))
+    except ValueError:
+        raise DateError(Status.NOT_A_DATE) from None
+    return date_to_chinese(day, **options)
 
 
-def main(words: Optional[List[str]] = None) -> int:
-    """Answers the words of a command line, and gives the status."""
-    for stream in (sys.stdout, sys.stderr):
-        reconfigure: Any = getattr(stream, "reconfigure")
-        reconfigure(encoding="utf-8", errors="backslashreplace", newline="\n")
+def _number(word: str) -> int:
+    if not re.fullmatch("-?[0-9]+", word):
+        raise _Misuse
+    digits = word.lstrip("-").lstrip("0")
+    # No kind has numbers of 40 digits, and Python makes none of more than 4,300.
+    magnitude = int(digits[:40] or "0")
+    return -magnitude if word.startswith("-") else magnitude
+
+
+def _numbers(line: bytes, wanted: Dict[str, Any], options: Dict[str, Any]) -> Iterator[str]:
+    """The column, the text and the answer of each number in a line."""
     try:
-        return _answered(
-            [_in_utf8(it) for it in sys.argv[1:]] if words is None else words
-        )
+        text = line.decode()
+    except UnicodeDecodeError:
+        yield "1 bad line"
+        return
+    for found in find_numbers(text, **wanted):
+        try:
+            answer = str(found.number(**options))
+        except NumeralError as error:
+            answer = f"err {error}"
+        yield f"{found.start + 1} {found.text} {answer}"
+
+
+def _find(options: Dict[str, Any]) -> int:
+    wanted = {it: options.pop(it) for it in ("upper", "greatest") if it in options}
+    with open(0, "rb", closefd=False) as lines:
+        for count, line in enumerate(lines, 1):
+            for answer in _numbers(line, wanted, options):
+                print(f"{count}:{answer}")
+    return 0
+
+
+# What gives the answer to a word, what it takes for the word, and which options it has.
+_COMMANDS: Dict[str, Tuple[Callable[..., Any], Callable[[str], Any], Dict[str, List[Any]]]] = {
+    "amount": (_amount, str, {**_TRADITIONAL, **_AMOUNT}),
+    "date": (_date, str, _TRADITIONAL),
+    "read": (to_number, str, {**_KIND, **_WAY}),
+    "print": (to_chinese, _number, {**_TRADITIONAL, "--upper": _FLAG, **_KIND, **_PRINT_WAY}),
+    "find": (_find, str, {"--all": _FLAG, **_KIND, **_WAY}),
+}
+
+
+def _parted(words: List[str], known: Dict[str, List[Any]]) -> Tuple[List[str], Dict[str, Any]]:
+    """The words that are no options, and what the options mean."""
+    others: List[str] = []
+    options: Dict[str, Any] = {}
+    left = iter(words)
+    for word in left:
+        if word == "--":
+            others += left
+        elif not re.match("-[^0-9.]", word):
+            others.append(word)
+        else:
+            name, equals, value = word.partition("=")
+            allowed = known.get(name, [])
+            chosen = value if equals else None if allowed is _FLAG else next(left, "")
+            if chosen not in allowed:
+                raise _Misuse
+            options.update(_MEANINGS.get(name, {name[2:]: chosen}))
+    return others, options
+
+
+def _answered(call: Callable[..., object], arguments: List[Any], options: Dict[str, Any]) -> int:
+    """Answers each of the arguments on a line of its own, and gives the status."""
+    status = 0
+    for argument in arguments:
+        try:
+            print(call(argument, **options))
+        except (NumeralError, AmountError, DateError) as error:
+            print(error, file=sys.stderr)
+            status = 1
+    return status
+
+
+def _run(words: List[str]) -> int:
+    """Does what the words of the command line ask for, and gives the status."""
+    first = words[0] if words else ""
+    if first in ("--help", "--version"):
+        print(USAGE if first == "--help" else f"chinese-number {__version__}")
+        return 0
+    if first not in _COMMANDS:
+        raise _Misuse
+    call, of_word, known = _COMMANDS[first]
+    others, options = _parted(words[1:], {"--help": _FLAG, **known})
+    if "help" in options:
+        return _run(["--help"])
+    if (first == "find") == bool(others):
+        raise _Misuse
+    return _find(options) if first == "find" else _answered(call, [*map(of_word, others)], options)
+
+
+def _stream(number: int) -> TextIO:
+    return open(number, "w", buffering=1, encoding="utf-8", newline="\n", closefd=False)
+
+
+def main() -> int:
+    """Answers the command line, and gives the status."""
+    try:
+        sys.stderr, sys.stdout = _stream(2), _stream(1)
+        return _run([os.fsencode(it).decode("utf-8", "surrogateescape") for it in sys.argv[1:]])
+    except _Misuse:
+        print(USAGE, file=sys.stderr)
+        return 2
     except KeyboardInterrupt:
-        return _INTERRUPTED
+        return 130
     except OSError as error:
-        # What is left to write goes nowhere, or Python complains of it at its end.
-        os.dup2(os.open(os.devnull, os.O_WRONLY), sys.stdout.fileno())
+        # What is left to write goes nowhere, or Python would try it again at its end.
+        os.dup2(os.open(os.devnull, os.O_WRONLY), 1)
         if not isinstance(error, BrokenPipeError):
-            print(f"chinese-number: {error}", file=sys.stderr)
-        return _REFUSED
+            print(f"chinese-number: {error.strerror}", file=sys.stderr)
+        return 1
 
 
 if __name__ == "__main__":
