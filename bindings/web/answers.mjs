@@ -25,8 +25,8 @@ function told(call) {
 }
 
 function printAmountAs(script, form, fen) {
-  const options = Object.assign({ script: named(script) }, ...form.split('+').map((it) => FORMS[it]));
-  return amountToChinese(BigInt(fen), options);
+  const options = form.split('+').map((it) => FORMS[it]);
+  return amountToChinese(BigInt(fen), Object.assign({ script: named(script) }, ...options));
 }
 
 function readDate(text) {

@@ -57,8 +57,8 @@ const COMMANDS = {
   },
   find: {
     usage: 'find [--all] [--way any] [--kind i128]',
-    about: 'Finds the numbers in standard input, and writes LINE:COLUMN TEXT NUMBER of each, or err\n'
-      + 'and why it is refused. --all looks for the characters of cheques, too, and units above 兆.',
+    about: 'Finds the numbers in standard input, and writes LINE:COLUMN TEXT NUMBER of each, or\n'
+      + 'err and why it is refused. --all looks for the characters of cheques and units above 兆, too.',
     options: { all: FLAG, way: WAY, kind: KIND },
     run: findInInput,
   },
@@ -100,8 +100,8 @@ function optionOf(word, left, known) {
   return { [name]: known[name].get(chosen) };
 }
 
-const isRefusal = (error) => [NumeralError, AmountError, DateError].some((it) => error instanceof it)
-  && error.code !== 'outOfMemory';
+const isRefusal = (error) => error.code !== 'outOfMemory'
+  && [NumeralError, AmountError, DateError].some((it) => error instanceof it);
 
 // Answers words, each on a line of its own, and gives the status.
 function answerEach(words, answerOf) {
