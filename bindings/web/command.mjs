@@ -58,7 +58,8 @@ const COMMANDS = {
   find: {
     usage: 'find [--all] [--way any] [--kind i128]',
     about: 'Finds the numbers in standard input, and writes LINE:COLUMN TEXT NUMBER of each, or\n'
-      + 'err and why it is refused. --all looks for the characters of cheques and units above 兆, too.',
+      + 'err and why it is refused. With --all the characters of cheques and the units above 兆\n'
+      + 'are looked for, too.',
     options: { all: FLAG, way: WAY, kind: KIND },
     run: findInInput,
   },
