@@ -171,13 +171,17 @@ const refusesEach = (list, call) => {
   for (const it of list) assert.throws(() => call(it), TypeError, String(it));
 };
 // What is in place of options: none of it is passed over.
-const NO_OPTIONS = ['upper', 'u8', ['upper'], [], 5, 0, true, null, () => {}, { letterCase: 'upper' }];
+const NO_OPTIONS = [
+  'upper', 'u8', ['upper'], [], 5, 0, true, null, () => {}, { letterCase: 'upper' },
+];
 
 function tryEdges() {
   for (const kind of KINDS) {
     const half = 2n ** BigInt(widthOf(kind) - 1);
     const [least, greatest] = isSigned(kind) ? [-half, half - 1n] : [0n, 2n * half - 1n];
-    for (const it of [least, greatest]) assert.equal(toBigInt(toChinese(it, { kind }), { kind }), it);
+    for (const it of [least, greatest]) {
+      assert.equal(toBigInt(toChinese(it, { kind }), { kind }), it);
+    }
     for (const it of [least - 1n, greatest + 1n, least - 2n ** 128n, greatest + 2n ** 200n]) {
       refuses('notHeld', () => toChinese(it, { kind }));
     }
@@ -188,7 +192,9 @@ function tryEdges() {
     assert.equal(toBigInt(toChinese(it)), it);
   }
   refusesEach([1.5, NaN, Infinity, 2 ** 53, '1', null, undefined], (it) => toChinese(it));
-  for (const read of [toNumber, toBigInt]) refusesEach([120, null, undefined, ['一']], (it) => read(it));
+  for (const read of [toNumber, toBigInt]) {
+    refusesEach([120, null, undefined, ['一']], (it) => read(it));
+  }
   assert.throws(() => toChinese(256, { kind: 'u8' }),
     { code: 'notHeld', kind: 'u8', message: 'u8 does not hold the number' });
   assert.throws(() => toNumber('三百', { kind: 'u8' }),
@@ -417,7 +423,9 @@ function compareADate() {
   const date = { year, month, day: 1 + below(daysOf(year, month)) };
   const capitals = dateToChinese(date);
   assert.equal(capitals, yearForm(year) + monthForms(month)[0] + dayForm(date.day));
-  for (const script of SCRIPTS) assert.deepEqual(chineseToDate(dateToChinese(date, { script })), date);
+  for (const script of SCRIPTS) {
+    assert.deepEqual(chineseToDate(dateToChinese(date, { script })), date);
+  }
   for (const it of [capitals.slice(0, below(capitals.length)), changed(capitals, OF_DATES)]) {
     assert.deepEqual(dateOf(it), wantedDateOf(it), it);
   }
@@ -494,7 +502,8 @@ function compareANumber(found, options) {
   const { text } = found, way = found.isPlain ? 'digits' : options.way, all = { ...options, way };
   const number = answerOf(() => toNumber(text, all));
   assert.deepEqual(answerOf(() => found.number(options)), number, text);
-  assert.deepEqual(answerOf(() => found.bigInt(options)), answerOf(() => toBigInt(text, all)), text);
+  const whole = answerOf(() => toBigInt(text, all));
+  assert.deepEqual(answerOf(() => found.bigInt(options)), whole, text);
   assert.equal(found.value(options), Array.isArray(number) ? null : number, text);
 }
 
@@ -523,7 +532,7 @@ function searchSideBySide() {
   const some = findNumbers('一二 三十 五'), other = findNumbers(`${'文'.repeat(200_000)}七百`);
   const next = (search) => search.next().value?.number();
   assert.deepEqual([next(some), next(other), toChinese(120)], [12, 700, '一百二十']);
-  assert.deepEqual([next(some), next(some), next(some), next(other)], [30, 5, undefined, undefined]);
+  assert.deepEqual([some, some, some, other].map(next), [30, 5, undefined, undefined]);
 }
 
 function tryRunningText() {
@@ -548,11 +557,11 @@ function tryRunningText() {
 
 function tryFound() {
   // Half a surrogate pair parts a text, and keeps positions.
-  assert.deepEqual(Array.from(findNumbers('二\ud800十\udc00😀三'), ({ start, end }) => [start, end]),
-    [[0, 1], [2, 3], [6, 7]]);
+  const places = Array.from(findNumbers('二\ud800十\udc00😀三'), (it) => [it.start, it.end]);
+  assert.deepEqual(places, [[0, 1], [2, 3], [6, 7]]);
   const values = Array.from(findNumbers('百分之五十，一涧', { greatest: 'ji' }), (it) => it.value());
   assert.deepEqual(values, [null, 50, null]);
-  const [found] = findNumbers('😀五六十歲'), [plain] = findNumbers('一'), [hundreds] = findNumbers('三百');
+  const [found] = findNumbers('😀五六十歲'), [hundreds, plain] = findNumbers('三百，一');
   assert(found instanceof Found);
   assert.throws(() => found.number(), { code: 'incorrect', charIndex: 0, start: 0, end: 1 });
   assert.throws(() => hundreds.number({ kind: 'u8' }), { code: 'tooLarge', kind: 'u8' });
