@@ -77,13 +77,11 @@ const OF_SEARCHES = ['upper', 'greatest'];
  * @typedef {{ upper?: boolean, greatest?: Unit }} Wanted
  * @typedef {{ year: number, month: number, day: number }} BillDate
  * @typedef {{ charIndex: number, start: number, end: number }} Place
- * @typedef {'notHeld' | 'outOfMemory'} OtherCode
- * @typedef {'empty' | 'incorrect' | 'tooLarge' | 'tooSmall' | 'unsafe' | OtherCode} NumeralCode
- * @typedef {'unfinished' | 'incorrect' | 'tooLarge' | 'tooSmall' | 'unsafe'} AmountCode
- * @typedef {'unfinished' | 'incorrect' | 'notADate'} DateCode
+ * @typedef {keyof typeof MESSAGES} NumeralCode
+ * @typedef {keyof typeof AMOUNT_MESSAGES} AmountCode
+ * @typedef {keyof typeof DATE_MESSAGES} DateCode
  */
 
-/** @type {Record<NumeralCode, string>} */
 const MESSAGES = {
   empty: 'a chinese number cannot be empty',
   incorrect: 'the chinese number is incorrect',
@@ -94,7 +92,6 @@ const MESSAGES = {
   outOfMemory: 'out of memory',
 };
 
-/** @type {Record<AmountCode, string>} */
 const AMOUNT_MESSAGES = {
   unfinished: 'the amount is not finished',
   incorrect: 'the amount is incorrect',
@@ -103,7 +100,6 @@ const AMOUNT_MESSAGES = {
   unsafe: 'a Number does not hold the amount exactly',
 };
 
-/** @type {Record<DateCode, string>} */
 const DATE_MESSAGES = {
   unfinished: 'the date is not finished',
   incorrect: 'the date is incorrect',
