@@ -220,6 +220,7 @@ const MOST_BYTES = 234;
 const MOST_AMOUNT_BYTES = 117;
 const MOST_DATE_BYTES = 39;
 const PAGE = 65536;
+const MOST_KEPT = 2 ** 24;
 const encoder = new TextEncoder();
 const decoder = new TextDecoder();
 /** @type {BigUint64Array} The reading (or amount, date or span) and the length. */
@@ -232,6 +233,8 @@ let text = new Uint8Array(0);
  * @param {number} bytes
  */
 function lend(bytes) {
+  // Memory is never taken from an instance: one with much of it is left by the next short text.
+  if (text.length > MOST_KEPT && bytes < MOST_KEPT) library = null;
   library ??= instance();
   const { memory } = library;
   const missing = TEXT + bytes - memory.buffer.byteLength;

@@ -458,8 +458,8 @@ function tryDates() {
   refusesEach([date, null, undefined], (it) => chineseToDate(it));
   refusesEach([...NO_OPTIONS, { case: 'upper' }, { script: 'Simplified' }],
     (it) => dateToChinese(date, it));
-  console.log(`dates: ${DATES} are written by the rule and read back, and as many texts beside them `
-    + 'are answered by it');
+  console.log(`dates: ${DATES} are written by the rule and read back, and as many texts beside `
+    + 'them are answered by it');
 }
 
 const UNIT_CHARACTERS = ['個个', '十拾', '百佰', '千仟', '萬万', '億亿', '兆', '京', '垓', '秭', '穰',
@@ -591,6 +591,19 @@ function tryWithoutMemory() {
   assert.equal(toNumber(longer), 0);
 }
 
+// How many instances of the module a call makes.
+function instancesOf(call) {
+  const { Instance } = WebAssembly;
+  let made = 0;
+  WebAssembly.Instance = function (...words) {
+    made++;
+    return new Instance(...words);
+  };
+  call();
+  WebAssembly.Instance = Instance;
+  return made;
+}
+
 // Texts longer than the memory that was there, and short ones behind them.
 function tryLongTexts() {
   const long = ' '.repeat(1_000_000) + '一百二';
@@ -602,6 +615,10 @@ function tryLongTexts() {
   assert.equal(toNumber('零'.repeat(3_000_000) + '七', { way: 'digits' }), 7);
   assert.equal(toChinese(120), '一百二十');
   tryWithoutMemory();
+  // The memory of a long text is left with its instance.
+  const read = (count) => instancesOf(() => toNumber(`${'零'.repeat(count)}七`));
+  const LONG = 6_000_000;
+  assert.deepEqual([LONG, LONG, 1, 1, LONG, LONG, 1].map(read), [0, 0, 1, 0, 0, 0, 1]);
   console.log('long texts: as wanted, also where memory does not grow');
 }
 
@@ -626,19 +643,15 @@ function onAFullStack(call, padding) {
 // A call on a full stack ends inside the module, which then traps for good: the next call has to
 // have a new instance.
 function tryTraps() {
-  const { Instance } = WebAssembly;
-  let made = 0;
-  WebAssembly.Instance = function (...words) {
-    made++;
-    return new Instance(...words);
-  };
-  for (let padding = 0; padding < 200; padding++) {
-    for (const [call, answer] of [[() => toNumber('一百二'), 120], [() => toChinese(120), '一百二十']]) {
-      onAFullStack(call, padding);
-      assert.equal(call(), answer);
+  const calls = [[() => toNumber('一百二'), 120], [() => toChinese(120), '一百二十']];
+  const made = instancesOf(() => {
+    for (let padding = 0; padding < 200; padding++) {
+      for (const [call, answer] of calls) {
+        onAFullStack(call, padding);
+        assert.equal(call(), answer);
+      }
     }
-  }
-  WebAssembly.Instance = Instance;
+  });
   assert(made > 0, 'no call trapped');
   console.log(`full stacks: ${made} new instances, and each next call answered`);
 }
