@@ -75,7 +75,8 @@ function usageOf(name) {
   const lines = names.map((it) => `chinese-number ${COMMANDS[it].usage}`);
   if (!name) lines.push('chinese-number --help | --version', 'chinese-number COMMAND --help');
   const about = names.map((it) => COMMANDS[it].about);
-  return `usage: ${lines.join('\n       ')}\n\n${[...about, NAMES].join('\n')}\n`;
+  if (names.some((it) => COMMANDS[it].options.kind)) about.push(NAMES);
+  return `usage: ${lines.join('\n       ')}\n\n${about.join('\n')}\n`;
 }
 
 // Parts the words behind a command: its options, each with what it is set to, and the other words.
