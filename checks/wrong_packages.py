@@ -53,8 +53,8 @@ WHEEL, OF_C = f"*_{installing.NATIVE}.whl", f"chinese-number-*-{installing.NATIV
 NPM, SDIST, SOURCE = "*.tgz", "chinese_number_proved-*.tar.gz", "*-source.tar.gz"
 NO_FILE = "is none of the files"
 TYPE = "export function toNumber(string: string, options?: ReadOptions): {};"
-OTHER_TYPE = replaced(TYPE.format("bigint"), TYPE.format("number"))
-NO_DEFAULT = replaced('"default": "./chinese-number.mjs"', '"default": "./chinese.mjs"')
+OTHER_TYPE = replaced(TYPE.format("number"), TYPE.format("bigint"))
+NO_MODULE = replaced("./chinese-number.node.mjs", "./chinese.mjs")
 OTHER_PREFIX = replaced("${pcfiledir}/../..", "/usr/local")
 OTHER_ANSWER = replaced("\n105000\n", "\n105001\n")
 
@@ -70,8 +70,8 @@ WRONG = (
     ("another library in the wheel", WHEEL, ".so", lambda _: b"\x7fELF", "sums", NO_FILE),
     ("no py.typed", WHEEL, "py.typed", None, "types_of_wheel", "mypy"),
     ("another answer in a README", WHEEL, "METADATA", OTHER_ANSWER, "test_wheel", "doctest"),
-    ("types that say number", NPM, ".d.mts", OTHER_TYPE, "types_of_npm", "typed.mts"),
-    ("exports to a missing file", NPM, "package.json", NO_DEFAULT, "test_npm", "node"),
+    ("types that say bigint", NPM, ".d.mts", OTHER_TYPE, "types_of_npm", "typed.mts"),
+    ("exports to a missing file", NPM, "package.json", NO_MODULE, "test_npm", "node"),
     ("another module inside", NPM, "package/compiled.mjs", other_module, "sums", NO_FILE),
     ("a byte of it", NPM, "package/compiled.mjs", other_byte_inside, "sums", NO_FILE),
     ("a byte for require", NPM, "package/chinese-number.cjs", other_byte_inside, "sums", NO_FILE),

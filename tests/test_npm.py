@@ -1,10 +1,11 @@
 """The npm package of a clone, `bindings/web` as it stands, without `rt` and a network.
 
 In a copy of the folder npm links it, and by --install-links copies it. Each time programs that
-import and require it answer alike, tsc takes both in TypeScript, and esbuild bundles them for
-browsers. What `npm pack` takes is listed below.
+import and require it answer alike, the command answers, tsc takes both in TypeScript, and esbuild
+bundles them for browsers. What `npm pack` takes is listed below.
 """
 import json
+import re
 import shutil
 
 import pytest
@@ -20,6 +21,8 @@ PACKED = {
     "chinese-number.d.cts",
     "chinese-number.d.mts",
     "chinese-number.mjs",
+    "chinese-number.node.mjs",
+    "command.mjs",
     "compiled.mjs",
     "files/chinese-number.32.wasm",
     "files/chinese-number.64.wasm",
@@ -29,7 +32,8 @@ PACKED = {
 }
 # Each program begins by taking all that the package offers.
 PROGRAMS = ("import.mjs", "files.mjs", "require.cjs")
-TSC = "tsc --strict --noEmit --target es2022 --lib es2022,dom --module nodenext typed.mts typed.cts"
+TSC = ("tsc", "--strict", "--target", "es2020", "--lib", "es2020,dom", "--module", "nodenext")
+DECLARE = ("--allowJs", "--checkJs", "--declaration", "--emitDeclarationOnly", "--outDir", "types")
 BUNDLE = (
     "esbuild --bundle --format=iife --platform=browser --log-level=warning --outfile=bundle.cjs"
 )
@@ -49,8 +53,8 @@ def web(tmp_path):
 def project(request, web, tmp_path):
     """A project in which the package is installed, and from which it is taken away again."""
     made = write(tmp_path / "project/package.json", '{ "private": true }\n').parent
-    for name in (*PROGRAMS, "typed.mts", "typed.cts"):
-        shutil.copy(USERS / name, made)
+    for path in USERS.glob("*.?[jt]s"):
+        shutil.copy(path, made)
     npm("install", *request.param, web, cwd=made)
     npm("ls", *request.param, cwd=made)
     yield made
@@ -65,12 +69,30 @@ def test_packed(web):
 def test_programs(project):
     """They answer alike."""
     (answer,) = {run("node", name, cwd=project) for name in PROGRAMS}
-    assert "findNumbers" in answer and answer.endswith(" 105000n 一百二十\n")
+    assert "findNumbers" in answer and answer.endswith(" 105000 一百二十\n")
+    run("node", "user.mjs", cwd=project, wanted="")
+    run("node", "both.mjs", cwd=project, wanted="true\n")
 
 
-def test_types(project):
+def test_command(project):
+    run("npx", "chinese-number", "read", "一百二", cwd=project, wanted="120\n")
+
+
+def comments(path):
+    """The comments of a file, however their lines are broken."""
+    found = re.findall(r"/\*\*.*?\*/", path.read_text(encoding="utf-8"), re.S)
+    return {" ".join(it.replace("\n", " ").replace(" * ", " ").split()) for it in found}
+
+
+def test_types(project, web, tmp_path):
+    """They serve a user, and are those of the JavaScript, down to the comments."""
     needs("tsc")
-    run(*TSC.split(), cwd=project)
+    for name in ("chinese-number.mjs", "compiled.mjs"):
+        write(tmp_path / "sources" / name, (web / name).read_text(encoding="utf-8"))
+    run(*TSC, *DECLARE, "sources/chinese-number.mjs", cwd=tmp_path)
+    run(*TSC, "--noEmit", "typed.mts", "typed.cts", "same.mts", cwd=project)
+    typed, written = (comments(web / f"chinese-number.{it}") for it in ("d.mts", "mjs"))
+    assert typed and typed - written == set()
 
 
 @pytest.mark.parametrize("name", ["import.mjs", "require.cjs"])

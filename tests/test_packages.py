@@ -172,7 +172,7 @@ def test_crate_without_archives(packages, crate, of_cargo, tmp_path):
     run("cargo", "run", "--quiet", cwd=project, wanted="", **of_cargo)
 
 
-TSC = ("tsc", "--strict", "--target", "es2022", "--module", "nodenext", "--lib", "es2022,dom")
+TSC = ("tsc", "--strict", "--target", "es2020", "--module", "nodenext", "--lib", "es2020,dom")
 BUNDLES = (("browser", "esm"), ("browser", "iife"), ("node", "cjs"), ("neutral", "esm"))
 
 

@@ -1,6 +1,7 @@
 """The JavaScript under node, and the page in a Chromium ($CHROMIUM, or one on the path), with each
 module of `bindings/web/files`."""
 import os
+import re
 import shutil
 import subprocess
 
@@ -49,6 +50,15 @@ def test_answers(node, folder):
 
 def test_face(node, folder, numeral):
     run(*node, "face_test.mjs", numeral.path, cwd=folder)
+
+
+def test_other_version(node, folder, tmp_path):
+    """A module of another version, as a page may have fetched it once, is refused."""
+    files = shutil.copytree(folder / "files", tmp_path / "files")
+    face = files / "chinese-number.mjs"
+    write(face, re.sub("(?<=VERSION = ')[0-9]+", "2000", face.read_text(encoding="utf-8")))
+    said = run(*node, face, cwd=files, fails=True)
+    assert re.search("Error: the module is of version [0-9]+, and not 2000[0-9]{6}", said)
 
 
 def test_page(folder, tmp_path, request):

@@ -2,8 +2,19 @@
 import { readFileSync } from 'node:fs';
 
 import {
-  amountToChinese, chineseToAmount, chineseToDate, dateToChinese, findNumbers, toChinese, toNumber,
+  amountToChinese, chineseToAmountBigInt, chineseToDate, dateToChinese, findNumbers, toBigInt,
+  toChinese,
 } from './chinese-number.mjs';
+
+// The words of a question that this face has others for.
+const OTHERS = { naive: 'digits', ten_thousand: 'tenThousand', simple: 'simplified' };
+const named = (word) => OTHERS[word] ?? word;
+
+// What a word of a form sets; `plain` sets nothing.
+const FORMS = {
+  plain: {}, currency: { currency: true }, round_yuan: { yuan: '圆' },
+  upright_closing: { closing: '正' },
+};
 
 function told(call) {
   try {
@@ -13,10 +24,9 @@ function told(call) {
   }
 }
 
-const WAYS = { naive: 'digits', ten_thousand: 'tenThousand' };
-
-function options(kind, way) {
-  return { kind, way: WAYS[way] ?? way };
+function printAmountAs(script, form, fen) {
+  const options = form.split('+').map((it) => FORMS[it]);
+  return amountToChinese(BigInt(fen), Object.assign({ script: named(script) }, ...options));
 }
 
 function readDate(text) {
@@ -27,24 +37,25 @@ function readDate(text) {
 
 function printDate(script, date) {
   const [year, month, day] = date.split('-').map(Number);
-  return dateToChinese({ year, month, day }, { script });
+  return dateToChinese({ year, month, day }, { script: named(script) });
 }
 
 function find(text) {
   let done = '', at = 0;
   for (const found of findNumbers(text)) {
-    done += `${text.slice(at, found.start)}[${told(() => found.number())}]`;
+    done += `${text.slice(at, found.start)}[${told(() => found.bigInt())}]`;
     at = found.end;
   }
   return done + text.slice(at);
 }
 
 const calls = {
-  read: (kind, way, text) => toNumber(text, options(kind, way)),
-  print: (kind, way, script, letterCase, number) =>
-    toChinese(BigInt(number), { ...options(kind, way), script, case: letterCase }),
-  read_amount: chineseToAmount,
-  print_amount: (script, fen) => amountToChinese(BigInt(fen), { script }),
+  read: (kind, way, text) => toBigInt(text, { kind, way: named(way) }),
+  print: (kind, way, script, letterCase, number) => toChinese(BigInt(number),
+    { kind, way: named(way), script: named(script), case: letterCase }),
+  read_amount: chineseToAmountBigInt,
+  print_amount: (script, fen) => printAmountAs(script, 'plain', fen),
+  print_amount_as: printAmountAs,
   read_date: readDate,
   print_date: printDate,
   find,

@@ -50,9 +50,16 @@ export const UNITS = Object.freeze(/** @type {const} */ (
 const STATUSES = ['done', 'empty', 'incorrect', 'tooLarge', 'tooSmall', 'notUtf8', 'noRoom',
   'notHeld', 'unknown', 'unfinished', 'none', 'notADate'];
 
-// 圓 is the yuan of the other script.
-const YUANS = ['元', '圆', '圓'];
+const YUANS = ['元', '圆'];
 const CLOSINGS = ['整', '正'];
+const PRINT_WAYS = WAYS.filter((it) => it !== 'any');
+
+// The names of the options that calls have.
+const OF_READING = ['kind', 'way'];
+const OF_PRINTING = ['kind', 'way', 'script', 'case'];
+const OF_AMOUNTS = ['script', 'currency', 'yuan', 'closing'];
+const OF_DATES = ['script'];
+const OF_SEARCHES = ['upper', 'greatest'];
 
 /**
  * @typedef {typeof KINDS[number]} Kind
@@ -64,19 +71,17 @@ const CLOSINGS = ['整', '正'];
  * @typedef {{ kind?: Kind, way?: Way }} ReadOptions
  * @typedef {{ kind?: Kind, way?: PrintWay, script?: Script, case?: Case }} PrintOptions
  * @typedef {{ script?: Script }} ScriptOptions
- * @typedef {'元' | '圆' | '圓'} Yuan
+ * @typedef {'元' | '圆'} Yuan
  * @typedef {'整' | '正'} Closing
  * @typedef {{ script?: Script, currency?: boolean, yuan?: Yuan, closing?: Closing }} AmountOptions
  * @typedef {{ upper?: boolean, greatest?: Unit }} Wanted
  * @typedef {{ year: number, month: number, day: number }} BillDate
  * @typedef {{ charIndex: number, start: number, end: number }} Place
- * @typedef {'notHeld' | 'outOfMemory'} OtherCode
- * @typedef {'empty' | 'incorrect' | 'tooLarge' | 'tooSmall' | 'unsafe' | OtherCode} NumeralCode
- * @typedef {'unfinished' | 'incorrect' | 'tooLarge' | 'tooSmall' | 'unsafe'} AmountCode
- * @typedef {'unfinished' | 'incorrect' | 'notADate'} DateCode
+ * @typedef {keyof typeof MESSAGES} NumeralCode
+ * @typedef {keyof typeof AMOUNT_MESSAGES} AmountCode
+ * @typedef {keyof typeof DATE_MESSAGES} DateCode
  */
 
-/** @type {Record<NumeralCode, string>} */
 const MESSAGES = {
   empty: 'a chinese number cannot be empty',
   incorrect: 'the chinese number is incorrect',
@@ -87,7 +92,6 @@ const MESSAGES = {
   outOfMemory: 'out of memory',
 };
 
-/** @type {Record<AmountCode, string>} */
 const AMOUNT_MESSAGES = {
   unfinished: 'the amount is not finished',
   incorrect: 'the amount is incorrect',
@@ -96,7 +100,6 @@ const AMOUNT_MESSAGES = {
   unsafe: 'a Number does not hold the amount exactly',
 };
 
-/** @type {Record<DateCode, string>} */
 const DATE_MESSAGES = {
   unfinished: 'the date is not finished',
   incorrect: 'the date is incorrect',
@@ -217,6 +220,7 @@ const MOST_BYTES = 234;
 const MOST_AMOUNT_BYTES = 117;
 const MOST_DATE_BYTES = 39;
 const PAGE = 65536;
+const MOST_KEPT = 2 ** 24;
 const encoder = new TextEncoder();
 const decoder = new TextDecoder();
 /** @type {BigUint64Array} The reading (or amount, date or span) and the length. */
@@ -229,6 +233,8 @@ let text = new Uint8Array(0);
  * @param {number} bytes
  */
 function lend(bytes) {
+  // Memory is never taken from an instance: one with much of it is left by the next short text.
+  if (text.length > MOST_KEPT && bytes < MOST_KEPT) library = null;
   library ??= instance();
   const { memory } = library;
   const missing = TEXT + bytes - memory.buffer.byteLength;
@@ -286,17 +292,16 @@ function hand(string) {
 }
 
 /**
- * Has the module read a string, by a call that is given where it stands and how long it is there.
- * Else throws the refusal, with the place of the character at fault, which a word and the next one
- * tell.
+ * Has the module read a string, by a call that is given how long it is at TEXT_AT. Else throws the
+ * refusal, with the place of the character at fault, which a word and the next one tell.
  * @param {string} string
- * @param {(at: bigint, length: bigint) => number} call
+ * @param {(length: bigint) => number} call
  * @param {number} word
  * @param {(code: any, place?: Place) => Error} refusal
  */
 function read(string, call, word, refusal) {
   const length = BigInt(hand(string));
-  const code = STATUSES[statusOf(() => call(TEXT_AT, length))];
+  const code = STATUSES[statusOf(() => call(length))];
   if (code !== 'done') throw refusal(code, code === 'incorrect' ? placeAt(word) : undefined);
 }
 
@@ -312,15 +317,15 @@ function placeAt(word) {
 }
 
 /**
- * Has the module print, by a call that is given a room of so many bytes and where the length goes.
- * Gives the text, or throws the refusal.
+ * Has the module print, by a call that is given how long the room at TEXT_AT is. Gives the text, or
+ * throws the refusal.
  * @param {number} most
- * @param {(room: bigint, most: bigint, length: bigint) => number} call
+ * @param {(most: bigint) => number} call
  * @param {(code: any) => Error} refusal
  */
 function print(most, call, refusal) {
   lend(most);
-  const code = STATUSES[statusOf(() => call(TEXT_AT, BigInt(most), LENGTH_AT))];
+  const code = STATUSES[statusOf(() => call(BigInt(most)))];
   if (code !== 'done') throw refusal(code);
   return decoder.decode(text.subarray(0, Number(words[4])));
 }
@@ -337,11 +342,11 @@ function wholeOf(number) {
 /**
  * The same number as a Number, where that holds it exactly.
  * @param {bigint} whole
- * @param {(code: 'unsafe') => Error} refusal
+ * @param {() => Error} refusal
  */
 function exactOf(whole, refusal) {
   const number = Number(whole);
-  if (!Number.isSafeInteger(number)) throw refusal('unsafe');
+  if (!Number.isSafeInteger(number)) throw refusal();
   return number;
 }
 
@@ -366,25 +371,18 @@ function flagOf(it, name) {
 }
 
 /**
- * Whether it is an object of no class, be it one of another window.
- * @param {unknown} it
- */
-function isPlain(it) {
-  if (typeof it !== 'object' || it === null) return false;
-  const prototype = Object.getPrototypeOf(it);
-  return prototype === null || Object.getPrototypeOf(prototype) === null;
-}
-
-/**
- * Refuses what is no plain object, and options with another name than these, so that none is passed
- * over in silence.
+ * Refuses what is no object, and options with another name than these, so that none is passed over
+ * in silence.
  * @param {object} options
  * @param {readonly string[]} names
  */
 function refuseOthers(options, names) {
-  if (!isPlain(options)) throw new TypeError('options are a plain object');
-  const other = Object.keys(options).find((it) => !names.includes(it));
-  if (other !== undefined) throw new TypeError(`no option is named ${other}`);
+  if (typeof options !== 'object' || options === null || Array.isArray(options)) {
+    throw new TypeError('options are an object');
+  }
+  for (const it of Object.keys(options)) {
+    if (!names.includes(it)) throw new TypeError(`no option is named ${it}`);
+  }
 }
 
 /**
@@ -410,7 +408,7 @@ const isSigned = (kind) => kind.startsWith('i');
  * @returns {number}
  */
 export function toNumber(string, options = {}) {
-  return exactOf(toBigInt(string, options), (code) => new NumeralError(code, kindOf(options)));
+  return exactOf(toBigInt(string, options), () => new NumeralError('unsafe', kindOf(options)));
 }
 
 /**
@@ -422,10 +420,11 @@ export function toNumber(string, options = {}) {
  * @returns {bigint}
  */
 export function toBigInt(string, options = {}) {
-  refuseOthers(options, ['kind', 'way']);
+  refuseOthers(options, OF_READING);
   const { way = 'any' } = options, kind = kindOf(options);
-  const codes = [codeOf(KINDS, kind, 'kind'), codeOf(WAYS, way, 'way')];
-  read(string, (at, length) => library.chinese_number_read_utf8(at, length, ...codes, READING_AT),
+  const kindCode = codeOf(KINDS, kind, 'kind'), wayCode = codeOf(WAYS, way, 'way');
+  read(string,
+    (length) => library.chinese_number_read_utf8(TEXT_AT, length, kindCode, wayCode, READING_AT),
     2, (code, place) => new NumeralError(code, kind, place));
   const bits = (words[1] << 64n) | words[0];
   return isSigned(kind) ? BigInt.asIntN(128, bits) : bits;
@@ -451,18 +450,18 @@ const kindOf = ({ kind = 'i128' }) => kind;
  * @returns {string}
  */
 export function toChinese(number, options = {}) {
-  refuseOthers(options, ['kind', 'way', 'script', 'case']);
-  const { way = 'tenThousand', script = 'simplified', case: letterCase = 'lower' } = options;
-  const kind = kindOf(options);
-  const codes = [codeOf(KINDS, kind, 'kind'), codeOf(WAYS.slice(0, -1), way, 'way to write'),
-    codeOf(SCRIPTS, script, 'script'), codeOf(CASES, letterCase, 'case')];
+  refuseOthers(options, OF_PRINTING);
+  const { way = 'tenThousand', case: letterCase = 'lower' } = options, kind = kindOf(options);
+  const kindCode = codeOf(KINDS, kind, 'kind'), wayCode = codeOf(PRINT_WAYS, way, 'way to write');
+  const scriptCode = scriptOf(options), caseCode = codeOf(CASES, letterCase, 'case');
   const whole = wholeOf(number);
   // The module takes 64 bits of each half, so the number must be the one that these 128 bits stand
   // for.
   const bits = isSigned(kind) ? BigInt.asIntN(128, whole) : BigInt.asUintN(128, whole);
   if (bits !== whole) throw new NumeralError('notHeld', kind);
   return print(MOST_BYTES,
-    (...room) => library.chinese_number_print(bits, bits >> 64n, ...codes, ...room),
+    (most) => library.chinese_number_print(
+      bits, bits >> 64n, kindCode, wayCode, scriptCode, caseCode, TEXT_AT, most, LENGTH_AT),
     (code) => new NumeralError(code, kind));
 }
 
@@ -471,22 +470,22 @@ export function toChinese(number, options = {}) {
  *
  * The amount is given in fen, the hundredth part of a yuan, as a BigInt or a whole Number that is
  * exact, and is written in a script, else 'simplified'. With `currency` true 人民币 stands in front;
- * `yuan` is '元', or '圆' (or '圓', which is the same: the script decides), and `closing` is '整', or
- * '正'. Throws an AmountError where the amount is below zero or 10n ** 18n or more, and a TypeError
- * where it is no such number, or an option or what it names is unknown.
+ * `yuan` is '元', or '圆', and `closing` is '整', or '正'. Throws an AmountError where the amount is
+ * below zero or 10n ** 18n or more, and a TypeError where it is no such number, or an option or
+ * what it names is unknown.
  *
  * @param {bigint | number} fen
  * @param {AmountOptions} options
  * @returns {string}
  */
 export function amountToChinese(fen, options = {}) {
-  refuseOthers(options, ['script', 'currency', 'yuan', 'closing']);
-  const codes = [scriptOf(options), formOf(options)], whole = wholeOf(fen);
+  refuseOthers(options, OF_AMOUNTS);
+  const script = scriptOf(options), form = formOf(options), whole = wholeOf(fen);
   // The module is handed 64 bits.
   if (whole < 0n) throw new AmountError('tooSmall');
   if (BigInt.asUintN(64, whole) !== whole) throw new AmountError('tooLarge');
   return print(MOST_AMOUNT_BYTES,
-    (...room) => library.chinese_amount_print(whole, ...codes, ...room),
+    (most) => library.chinese_amount_print(whole, script, form, TEXT_AT, most, LENGTH_AT),
     (code) => new AmountError(code));
 }
 
@@ -498,8 +497,8 @@ const scriptOf = ({ script = 'simplified' }) => codeOf(SCRIPTS, script, 'script'
  * @param {AmountOptions} options
  */
 function formOf({ currency = false, yuan = '元', closing = '整' }) {
-  const isRound = codeOf(YUANS, yuan, 'yuan') > 0, isUpright = codeOf(CLOSINGS, closing, 'closing');
-  return flagOf(currency, 'currency') + 2 * Number(isRound) + 4 * isUpright;
+  return flagOf(currency, 'currency') + 2 * codeOf(YUANS, yuan, 'yuan')
+    + 4 * codeOf(CLOSINGS, closing, 'closing');
 }
 
 /**
@@ -514,7 +513,7 @@ function formOf({ currency = false, yuan = '元', closing = '整' }) {
  * @returns {number}
  */
 export function chineseToAmount(string) {
-  return exactOf(chineseToAmountBigInt(string), (code) => new AmountError(code));
+  return exactOf(chineseToAmountBigInt(string), () => new AmountError('unsafe'));
 }
 
 /**
@@ -525,7 +524,7 @@ export function chineseToAmount(string) {
  * @returns {bigint}
  */
 export function chineseToAmountBigInt(string) {
-  read(string, (at, length) => library.chinese_amount_read(at, length, READING_AT), 1,
+  read(string, (length) => library.chinese_amount_read(TEXT_AT, length, READING_AT), 1,
     (code, place) => new AmountError(code, place));
   return words[0];
 }
@@ -545,7 +544,7 @@ const FIGURES = /^([0-9]+)(?:\.([0-9]{1,2}))?$/;
  * @returns {number}
  */
 export function yuanToFen(figures) {
-  return exactOf(yuanToFenBigInt(figures), (code) => new AmountError(code));
+  return exactOf(yuanToFenBigInt(figures), () => new AmountError('unsafe'));
 }
 
 /**
@@ -580,7 +579,7 @@ export function yuanToFenBigInt(figures) {
  * @returns {string}
  */
 export function dateToChinese(date, options = {}) {
-  refuseOthers(options, ['script']);
+  refuseOthers(options, OF_DATES);
   const script = scriptOf(options);
   // What is its own alone, since a class may count the years of another calendar.
   const { year, month, day } = { ...date };
@@ -591,7 +590,7 @@ export function dateToChinese(date, options = {}) {
   // The module is handed 32 bits of each.
   if (parts.some((it) => it >>> 0 !== it)) throw new DateError('notADate');
   return print(MOST_DATE_BYTES,
-    (...room) => library.chinese_date_print(...parts, script, ...room),
+    (most) => library.chinese_date_print(year, month, day, script, TEXT_AT, most, LENGTH_AT),
     (code) => new DateError(code));
 }
 
@@ -606,7 +605,7 @@ export function dateToChinese(date, options = {}) {
  * @returns {BillDate}
  */
 export function chineseToDate(string) {
-  read(string, (at, length) => library.chinese_date_read(at, length, READING_AT), 2,
+  read(string, (length) => library.chinese_date_read(TEXT_AT, length, READING_AT), 2,
     (code, place) => new DateError(code, place));
   const [yearAndMonth, day] = words;
   return { year: lowHalf(yearAndMonth), month: lowHalf(yearAndMonth >> 32n), day: lowHalf(day) };
@@ -642,7 +641,7 @@ export class Found {
    * @returns {number}
    */
   number(options = {}) {
-    return exactOf(this.bigInt(options), (code) => new NumeralError(code, kindOf(options)));
+    return exactOf(this.bigInt(options), () => new NumeralError('unsafe', kindOf(options)));
   }
 
   /**
@@ -652,7 +651,7 @@ export class Found {
    * @returns {bigint}
    */
   bigInt(options = {}) {
-    refuseOthers(options, ['kind', 'way']);
+    refuseOthers(options, OF_READING);
     const { way = 'any' } = options;
     codeOf(WAYS, way, 'way');
     return toBigInt(this.text, { ...options, way: this.isPlain ? 'digits' : way });
@@ -690,10 +689,9 @@ export class Found {
  * @returns {Generator<Found, void, undefined>}
  */
 export function findNumbers(string, options = {}) {
-  refuseOthers(options, ['upper', 'greatest']);
+  refuseOthers(options, OF_SEARCHES);
   const { upper = false, greatest = 'zhao' } = options;
-  const codes = [flagOf(upper, 'upper'), codeOf(UNITS, greatest, 'unit')];
-  return foundIn(string, spansOf(string, codes));
+  return foundIn(string, spansOf(string, flagOf(upper, 'upper'), codeOf(UNITS, greatest, 'unit')));
 }
 
 /**
@@ -711,13 +709,14 @@ function* foundIn(string, spans) {
  * Where the numbers of a string stand. They are looked for at once, since a call in between writes
  * over the text that is lent.
  * @param {string} string
- * @param {number[]} codes
+ * @param {number} upper
+ * @param {number} greatest
  */
-function spansOf(string, codes) {
+function spansOf(string, upper, greatest) {
   const length = hand(string);
   /** @param {number} at */
   const find = (at) => library.chinese_number_find_utf8(
-    BigInt(TEXT + at), BigInt(length - at), ...codes, READING_AT);
+    BigInt(TEXT + at), BigInt(length - at), upper, greatest, READING_AT);
   const spans = [];
   let at = 0, position = 0;
   while (STATUSES[statusOf(() => find(at))] === 'done') {

@@ -4,6 +4,9 @@
 // to standard error. The status is 0 where all is answered, 1 where something is refused or cannot
 // be read or written, and 2 where the words of the command line ask for nothing.
 
+import { isUtf8 } from 'node:buffer';
+import { fstatSync } from 'node:fs';
+
 import {
   AmountError, DateError, KINDS, NumeralError, VERSION, WAYS, amountToChinese,
   chineseToAmountBigInt, chineseToDate, dateToChinese, findNumbers, toBigInt, toChinese,
@@ -13,11 +16,12 @@ import {
 // The words that ask for nothing.
 class Misuse extends Error {}
 
+// What an option may be set to: each word with what it stands for. A flag takes no word.
 const FLAG = null;
-const valuesOf = (names, spell = (it) => it) => new Map(names.map((it) => [spell(it), it]));
 const snake = (name) => name.replace(/[A-Z]/g, (it) => `_${it.toLowerCase()}`);
-const KIND = valuesOf(KINDS), WAY = valuesOf(WAYS, snake);
-const PRINT_WAY = valuesOf(WAYS.filter((it) => it !== 'any'), snake);
+const wordsFor = (names) => new Map(names.map((it) => [snake(it), it]));
+const KIND = wordsFor(KINDS), WAY = wordsFor(WAYS);
+const PRINT_WAY = wordsFor(WAYS.filter((it) => it !== 'any'));
 
 // Each command: its line of the usage, what it does, the options that it has, and what runs.
 const COMMANDS = {
@@ -26,7 +30,7 @@ const COMMANDS = {
     about: 'Writes amounts of yuan in capitals, 1409.50 as 壹仟肆佰零玖元伍角整, and reads capitals.',
     options: {
       traditional: FLAG, currency: FLAG,
-      yuan: valuesOf(['元', '圆', '圓']), closing: valuesOf(['整', '正']),
+      yuan: wordsFor(['元', '圆']), closing: wordsFor(['整', '正']),
     },
     run: (options, words) => answerEach(words, (word) => answerAmount(word, options)),
   },
@@ -37,25 +41,25 @@ const COMMANDS = {
     run: (options, words) => answerEach(words, (word) => answerDate(word, options)),
   },
   read: {
-    usage: 'read [--kind i128] [--way any] WORD..',
+    usage: 'read [--kind i128] [--way any] TEXT..',
     about: 'Reads numerals, 一百二 as 120.',
     options: { kind: KIND, way: WAY },
     run: (options, words) => answerEach(words, (word) => toBigInt(word, options)),
   },
   print: {
-    usage: 'print [--traditional] [--upper] [--kind i128] [--way ten_thousand] -- NUMBER..',
+    usage: 'print [--traditional] [--upper] [--kind i128] [--way ten_thousand] NUMBER..',
     about: 'Writes whole numbers as numerals, -120 as 负一百二十.',
     options: { traditional: FLAG, upper: FLAG, kind: KIND, way: PRINT_WAY },
-    run: (options, words) => {
-      const { upper, ...others } = options, numbers = words.map(wholeOf);
-      const all = { ...others, case: upper ? 'upper' : 'lower' };
-      return answerEach(numbers, (number) => toChinese(number, all));
+    run: ({ upper, ...options }, words) => {
+      const all = { ...options, case: upper ? 'upper' : 'lower' };
+      return answerEach(words.map(wholeOf), (number) => toChinese(number, all));
     },
   },
   find: {
     usage: 'find [--all] [--way any] [--kind i128]',
-    about: 'Finds the numbers in standard input, and writes LINE:COLUMN TEXT NUMBER of each, or err\n'
-      + 'and why it is refused. --all looks for the characters of cheques, too, and units above 兆.',
+    about: 'Finds the numbers in standard input, and writes LINE:COLUMN TEXT NUMBER of each, or\n'
+      + 'err and why it is refused. With --all the characters of cheques and the units above 兆\n'
+      + 'are looked for, too.',
     options: { all: FLAG, way: WAY, kind: KIND },
     run: findInInput,
   },
@@ -71,17 +75,18 @@ function usageOf(name) {
   const lines = names.map((it) => `chinese-number ${COMMANDS[it].usage}`);
   if (!name) lines.push('chinese-number --help | --version', 'chinese-number COMMAND --help');
   const about = names.map((it) => COMMANDS[it].about);
-  return `usage: ${lines.join('\n       ')}\n\n${[...about, NAMES].join('\n')}\n`;
+  if (names.some((it) => COMMANDS[it].options.kind)) about.push(NAMES);
+  return `usage: ${lines.join('\n       ')}\n\n${about.join('\n')}\n`;
 }
 
 // Parts the words behind a command: its options, each with what it is set to, and the other words.
-// A hyphen and a digit begin a number, and behind -- there are no options.
+// A hyphen and a digit or a point begin a number, and behind -- there are no options.
 function parted(words, known) {
   const options = {}, left = [...words], others = [];
   while (left.length) {
     const word = left.shift();
     if (word === '--') return { options, others: [...others, ...left] };
-    if (/^-[^0-9]/.test(word)) Object.assign(options, optionOf(word, left, known));
+    if (/^-[^0-9.]/.test(word)) Object.assign(options, optionOf(word, left, known));
     else others.push(word);
   }
   return { options, others };
@@ -97,8 +102,8 @@ function optionOf(word, left, known) {
   return { [name]: known[name].get(chosen) };
 }
 
-const isRefusal = (error) => [NumeralError, AmountError, DateError].some((it) => error instanceof it)
-  && error.code !== 'outOfMemory';
+const isRefusal = (error) => error.code !== 'outOfMemory'
+  && [NumeralError, AmountError, DateError].some((it) => error instanceof it);
 
 // Answers words, each on a line of its own, and gives the status.
 function answerEach(words, answerOf) {
@@ -125,14 +130,14 @@ function wholeOf(word) {
 const areFigures = (word) => /^[\0-\x7f]/.test(word);
 const padded = (number, digits) => String(number).padStart(digits, '0');
 
-// Figures, where a pattern takes the front that can begin some, and another one what is whole.
-function figuresOf(word, front, whole, Refusal) {
+// Refuses figures where a pattern takes a part of them alone, which is the front that can begin
+// some, or where they do not match what is whole.
+function refuseOtherFigures(word, front, whole, Refusal) {
   const [{ length }] = front.exec(word);
   if (length < word.length) {
     throw new Refusal('incorrect', { charIndex: length, start: length, end: length + 1 });
   }
   if (!whole.test(word)) throw new Refusal('unfinished');
-  return word;
 }
 
 function answerAmount(word, options) {
@@ -140,8 +145,8 @@ function answerAmount(word, options) {
     const fen = chineseToAmountBigInt(word);
     return `${fen / 100n}.${padded(fen % 100n, 2)}`;
   }
-  const figures = figuresOf(word, /^(?:[0-9]+(?:\.[0-9]{0,2})?)?/, /[0-9]$/, AmountError);
-  return amountToChinese(yuanToFenBigInt(figures), options);
+  refuseOtherFigures(word, /^(?:[0-9]+(?:\.[0-9]{0,2})?)?/, /[0-9]$/, AmountError);
+  return amountToChinese(yuanToFenBigInt(word), options);
 }
 
 const FRONT_OF_DATE = /^(?:[0-9]{4}-[0-9]{2}-[0-9]{0,2}|[0-9]{4}-[0-9]{0,2}|[0-9]{0,4})/;
@@ -151,8 +156,8 @@ function answerDate(word, options) {
     const { year, month, day } = chineseToDate(word);
     return `${padded(year, 4)}-${padded(month, 2)}-${padded(day, 2)}`;
   }
-  const [year, month, day] = figuresOf(word, FRONT_OF_DATE, /^.{10}$/, DateError)
-    .split('-').map(Number);
+  refuseOtherFigures(word, FRONT_OF_DATE, /^.{10}$/, DateError);
+  const [year, month, day] = word.split('-').map(Number);
   return dateToChinese({ year, month, day }, options);
 }
 
@@ -173,21 +178,9 @@ async function* linesOf(stream) {
   if (rest.length) yield [rest];
 }
 
-const decoder = new TextDecoder('utf-8', { fatal: true, ignoreBOM: true });
-
-// The text of a line, or null where it is no UTF-8.
-function textOf(line) {
-  try {
-    return decoder.decode(line);
-  } catch (error) {
-    if (error instanceof TypeError) return null;
-    throw error;
-  }
-}
-
 function answerFound(found, options) {
   try {
-    return String(found.bigInt(options));
+    return found.bigInt(options);
   } catch (error) {
     if (!isRefusal(error)) throw error;
     return `err ${error.message}`;
@@ -195,8 +188,9 @@ function answerFound(found, options) {
 }
 
 // What is written of a line: of each of its numbers a line.
-function answersTo(text, line, wanted, options) {
-  if (text === null) return `${line}:1 bad line\n`;
+function answersTo(bytes, line, wanted, options) {
+  if (!isUtf8(bytes)) return `${line}:1 bad line\n`;
+  const text = bytes.toString();
   let answers = '', column = 1, at = 0;
   for (const found of findNumbers(text, wanted)) {
     for (const _ of text.slice(at, found.start)) column++;
@@ -208,10 +202,12 @@ function answersTo(text, line, wanted, options) {
 
 async function findInInput({ all, ...options }, words) {
   if (words.length) throw new Misuse();
+  // Of a folder node reads nothing, and says nothing.
+  if (fstatSync(0).isDirectory()) throw new Error('standard input is a folder');
   const wanted = all ? { upper: true, greatest: 'ji' } : {};
   let count = 0;
   for await (const lines of linesOf(process.stdin)) {
-    const answers = lines.map((line) => answersTo(textOf(line), ++count, wanted, options)).join('');
+    const answers = lines.map((it) => answersTo(it, ++count, wanted, options)).join('');
     if (answers && !process.stdout.write(answers)) {
       await new Promise((done) => process.stdout.once('drain', done));
     }
@@ -221,16 +217,12 @@ async function findInInput({ all, ...options }, words) {
 
 // Runs a command, and gives the status.
 async function run(name, words) {
-  if (name === '--version') process.stdout.write(`chinese-number ${VERSION}\n`);
-  else if (name === '--help') process.stdout.write(usageOf());
-  else if (name === undefined || !Object.hasOwn(COMMANDS, name)) throw new Misuse();
-  else {
-    const command = COMMANDS[name];
-    const { options, others } = parted(words, { ...command.options, help: FLAG });
-    const { help, traditional, ...rest } = options;
-    if (!help) return command.run(traditional ? { ...rest, script: 'traditional' } : rest, others);
-    process.stdout.write(usageOf(name));
-  }
+  if (!Object.hasOwn(COMMANDS, name)) throw new Misuse();
+  const command = COMMANDS[name];
+  const { options, others } = parted(words, { ...command.options, help: FLAG });
+  const { help, traditional, ...rest } = options;
+  if (!help) return command.run(traditional ? { ...rest, script: 'traditional' } : rest, others);
+  process.stdout.write(usageOf(name));
   return 0;
 }
 
@@ -240,13 +232,15 @@ function endOf(error) {
   process.exit(1);
 }
 
-async function main([name, ...words]) {
+async function main([name = '', ...words]) {
   for (const it of [process.stdout, process.stderr]) it.on('error', endOf);
   try {
-    process.exitCode = await run(name, words);
+    if (name === '--version') process.stdout.write(`chinese-number ${VERSION}\n`);
+    else if (name === '--help') process.stdout.write(usageOf());
+    else process.exitCode = await run(name, words);
   } catch (error) {
     if (!(error instanceof Misuse)) endOf(error);
-    process.stderr.write(usageOf(Object.hasOwn(COMMANDS, name ?? '') ? name : undefined));
+    process.stderr.write(usageOf(Object.hasOwn(COMMANDS, name) ? name : undefined));
     process.exitCode = 2;
   }
 }

@@ -1,13 +1,19 @@
-// The page: numerals, and amounts and dates in capitals, are read at each key; those in figures are written; and the numbers
-// of a text are marked. What was typed goes into the page as text alone, by textContent and by the strings of append and
-// replaceChildren.
+// The page: numerals, and amounts and dates in capitals, are read at each key; those in figures are
+// written; and the numbers of a text are marked. What was typed goes into the page as text alone,
+// by textContent and by the strings of append and replaceChildren.
 
-const { readingNumerals, writingNumerals, readingAmounts, writingAmounts, readingDates, writingDates, searching } = document.forms;
+const {
+  readingNumerals, writingNumerals, readingAmounts, writingAmounts, readingDates, writingDates,
+  searching,
+} = document.forms;
+const IDS = ['loading', 'kind', 'way', 'text', 'textMirror', 'upper', 'count', 'found'];
 const [loading, kind, way, text, textMirror, upper, count, found] =
-  ['loading', 'kind', 'way', 'text', 'textMirror', 'upper', 'count', 'found'].map((id) => document.getElementById(id));
+  IDS.map((id) => document.getElementById(id));
 
+// In the order in which they are offered.
 const WAY_NAMES = {
-  digits: 'plain digits', low: '下數 low', tenThousand: '萬進 ten thousand', middle: '中數 middle', high: '上數 high',
+  any: 'any', digits: 'plain digits', low: '下数 low', tenThousand: '万进 ten thousand',
+  middle: '中数 middle', high: '上数 high',
 };
 
 let library;
@@ -18,10 +24,13 @@ try {
   throw error;
 }
 const {
-  CASES, KINDS, SCRIPTS, WAYS, amountToChinese, chineseToAmount, chineseToDate, dateToChinese, findNumbers, toChinese, toNumber,
-  yuanToFen,
+  CASES, KINDS, amountToChinese, chineseToAmountBigInt, chineseToDate, dateToChinese, findNumbers,
+  toBigInt, toChinese, yuanToFenBigInt,
 } = library;
+const SCRIPTS = ['simplified', 'traditional'];
 const options = () => ({ kind: kind.value, way: way.value });
+// What is read by any way is written by ten thousand.
+const optionsToWrite = () => (way.value === 'any' ? { kind: kind.value } : options());
 
 function element(name, ...parts) {
   const it = document.createElement(name);
@@ -29,14 +38,16 @@ function element(name, ...parts) {
   return it;
 }
 
-// Says something below a field. What stays as it was is not written again, so a screen reader does not repeat it.
+// Says something below a field. What stays as it was is not written again, so a screen reader does
+// not repeat it.
 function say(field, output, words, isFault) {
   if (output.textContent !== words) output.textContent = words;
   output.classList.toggle('fault', isFault);
   field.setAttribute('aria-invalid', isFault);
 }
 
-// Why a call refused, in the words that there are for its code. What is no figures has none, and is a RangeError.
+// Why a call refused, in the words that there are for its code. What is no figures has none, and is
+// a RangeError.
 function reasonOf(error, words) {
   const code = error instanceof RangeError ? 'figures' : error.code;
   const reason = { outOfMemory: 'There is no memory for so long a text.', ...words }[code];
@@ -48,8 +59,11 @@ function reasonOf(error, words) {
 function reasonOfPlace(typed, { charIndex, start, end }) {
   const character = typed.slice(start, end);
   const code = character.codePointAt(0).toString(16).toUpperCase().padStart(4, '0');
-  return `Character ${charIndex + 1}, “${character}” (U+${code}), cannot stand here. Enter selects it.`;
+  const what = `Character ${charIndex + 1}, “${character}” (U+${code})`;
+  return `${what}, cannot stand here. Enter selects it.`;
 }
+
+const partsOf = (form, ...selectors) => selectors.map((it) => form.querySelector(it));
 
 // What a field's mirror has: the text with the character at fault marked, or nothing.
 function mirrored(typed, fault) {
@@ -58,10 +72,11 @@ function mirrored(typed, fault) {
   return [typed.slice(0, start), element('mark', typed.slice(start, end)), typed.slice(end)];
 }
 
-// Has a form's field read at each key: what `read` gives or throws is said, and the character at fault is marked in the
-// mirror over the field. What is empty or unfinished is no fault. Gives the function that reads.
+// Has a form's field read at each key: what `read` gives or throws is said, and the character at
+// fault is marked in the mirror over the field. What is empty or unfinished is no fault. Gives the
+// function that reads.
 function readAtEachKey(form, read, words) {
-  const [field, mirror, output] = ['input', '.mirror', 'output'].map((it) => form.querySelector(it));
+  const [field, mirror, output] = partsOf(form, 'input', '.mirror', 'output');
   let fault = null;
 
   function follow() {
@@ -82,7 +97,8 @@ function readAtEachKey(form, read, words) {
     follow();
   }
 
-  // While an input method composes, its letters are no text yet: nothing is judged, and no mark stands.
+  // While an input method composes, its letters are no text yet: nothing is judged, and no mark
+  // stands.
   field.addEventListener('input', (event) => {
     if (event.isComposing) mirror.replaceChildren();
     else judge();
@@ -97,10 +113,11 @@ function readAtEachKey(form, read, words) {
   return judge;
 }
 
-// Has what stands in a form's field written at each key: the texts that `textsOf` gives are listed, each with its script and
-// the name of its row, or why it throws is said. Figures that match `begun` are unfinished. Gives the function that writes.
+// Has what stands in a form's field written at each key: the texts that `textsOf` gives are listed,
+// each with its script and the name of its row, or why it throws is said. Figures that match
+// `begun` are unfinished. Gives the function that writes.
 function writeAtEachKey(form, begun, textsOf, words) {
-  const [field, list, output] = ['input', 'dl', 'output'].map((it) => form.querySelector(it));
+  const [field, list, output] = partsOf(form, 'input', 'dl', 'output');
 
   function write() {
     const typed = field.value.trim();
@@ -121,23 +138,23 @@ function writeAtEachKey(form, begun, textsOf, words) {
 
 function row([script, name, spelled]) {
   const it = element('dd', spelled);
-  it.lang = script === 'simple' ? 'zh-Hans' : 'zh-Hant';
+  it.lang = script === 'simplified' ? 'zh-Hans' : 'zh-Hant';
   return [element('dt', name), it];
 }
 
 // The four texts of a number.
 function textsOfNumber(typed) {
   if (!/^-?[0-9]+$/.test(typed)) throw new RangeError('no figures');
-  const number = BigInt(typed);
+  const textOf = (more) => toChinese(BigInt(typed), { ...optionsToWrite(), ...more });
   return SCRIPTS.flatMap((script) => CASES.map((letterCase) =>
-    [script, `${script}, ${letterCase}`, toChinese(number, { ...options(), script, case: letterCase })]));
+    [script, `${script}, ${letterCase}`, textOf({ script, case: letterCase })]));
 }
 
 // The two texts of an amount, and of a date.
 const inEachScript = (textOf) => SCRIPTS.map((script) => [script, script, textOf({ script })]);
 
 function textsOfAmount(typed) {
-  const fen = yuanToFen(typed);
+  const fen = yuanToFenBigInt(typed);
   return inEachScript((options) => amountToChinese(fen, options));
 }
 
@@ -149,7 +166,7 @@ function textsOfDate(typed) {
 
 // The amount of a text, 140950n fen as 1409.50 yuan, and its date, as 2026-01-15.
 function amountOf(typed) {
-  const fen = chineseToAmount(typed);
+  const fen = chineseToAmountBigInt(typed);
   return `${fen / 100n}.${padded(fen % 100n, 2)} yuan`;
 }
 
@@ -160,7 +177,8 @@ function dateOf(typed) {
 
 const padded = (number, digits) => String(number).padStart(digits, '0');
 
-const readNumeral = readAtEachKey(readingNumerals, (typed) => String(toNumber(typed, options())), () => ({
+const numberOf = (typed) => String(toBigInt(typed, options()));
+const readNumeral = readAtEachKey(readingNumerals, numberOf, () => ({
   empty: 'No numeral yet.',
   tooLarge: `The number is too large for ${kind.value}.`,
   tooSmall: `The number is too small for ${kind.value}.`,
@@ -181,15 +199,17 @@ const writeAmount = writeAtEachKey(writingAmounts, /^([0-9]+\.)?$/, textsOfAmoun
 const readDate = readAtEachKey(readingDates, dateOf, (typed) => ({
   unfinished: typed === '' ? 'No date yet.' : 'The date is not finished yet.',
 }));
-const writeDate = writeAtEachKey(writingDates, /^[0-9]{0,4}$|^[0-9]{4}-([0-9]{0,2}|[0-9]{2}-[0-9]?)$/, textsOfDate, () => ({
-  figures: 'Write four digits of the year, and two each of the month and the day, as in 2026-01-15.',
+const BEGUN_DATE = /^[0-9]{0,4}$|^[0-9]{4}-([0-9]{0,2}|[0-9]{2}-[0-9]?)$/;
+const writeDate = writeAtEachKey(writingDates, BEGUN_DATE, textsOfDate, () => ({
+  figures:
+    'Write four digits of the year, and two each of the month and the day, as in 2026-01-15.',
   notADate: 'There is no such date.',
 }));
 
 // What a number of the text is, or why it is refused, in few words; and whether it is refused.
 function valueOf(it) {
   try {
-    return [String(it.number(options())), false];
+    return [String(it.bigInt(options())), false];
   } catch (error) {
     return [reasonOf(error, {
       empty: 'a sign alone',
@@ -205,7 +225,8 @@ function markOf(isFault, ...parts) {
   return it;
 }
 
-// Marks numbers of a text in place, and below it each with its value or its refusal. Gives how many are refused.
+// Marks numbers of a text in place, and below it each with its value or its refusal. Gives how many
+// are refused.
 function show(typed, numbers) {
   const inPlace = new DocumentFragment(), below = new DocumentFragment();
   let at = 0, refused = 0;
@@ -223,21 +244,24 @@ function show(typed, numbers) {
 
 function search() {
   const typed = text.value;
+  const wanted = upper.checked ? { upper: true, greatest: 'ji' } : {};
   let numbers = [], reason = '';
   try {
-    numbers = Array.from(findNumbers(typed, { upper: upper.checked, greatest: upper.checked ? 'ji' : 'zhao' }));
+    numbers = Array.from(findNumbers(typed, wanted));
   } catch (error) {
     reason = reasonOf(error, {});
   }
   const refused = show(typed, numbers), { length } = numbers;
-  const words = `${length} ${length === 1 ? 'number' : 'numbers'}${refused ? `, ${refused} refused` : ''}.`;
-  say(text, count, reason || (typed === '' ? 'No text yet.' : words), reason !== '');
+  const words = `${length} ${length === 1 ? 'number' : 'numbers'}`;
+  const all = refused ? `${words}, ${refused} refused.` : `${words}.`;
+  say(text, count, reason || (typed === '' ? 'No text yet.' : all), reason !== '');
 }
 
 kind.append(...KINDS.map((it) => new Option(it, it, it === 'u64', it === 'u64')));
-way.append(...WAYS.map((it) => new Option(WAY_NAMES[it], it, it === 'tenThousand', it === 'tenThousand')));
+way.append(...Object.entries(WAY_NAMES).map(([it, name]) => new Option(name, it)));
 
-// While an input method composes the text stands in the mirror all the same, since the field is as high as the mirror.
+// While an input method composes the text stands in the mirror all the same, since the field is as
+// high as the mirror.
 text.addEventListener('input', (event) => {
   if (event.isComposing) textMirror.replaceChildren(text.value);
   else search();
@@ -253,5 +277,6 @@ for (const it of [kind, way]) {
   });
 }
 // What was typed while the library loaded.
-for (const it of [readNumeral, writeNumber, readAmount, writeAmount, readDate, writeDate, search]) it();
+const ALL = [readNumeral, writeNumber, readAmount, writeAmount, readDate, writeDate, search];
+for (const it of ALL) it();
 loading.hidden = true;

@@ -1,2 +1,2 @@
 import * as it from 'chinese-number-proved/files';
-console.log(Object.keys(it).sort().join(), it.toNumber('十萬五'), it.toChinese(120));
+console.log(Object.keys(it).sort().join(), it.toNumber('十万五'), it.toChinese(120));

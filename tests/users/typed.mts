@@ -1,30 +1,41 @@
-import { NumeralError, toChinese, toNumber, type Kind, type Way } from 'chinese-number-proved';
-import { amountToChinese, chineseToAmount, findNumbers, type Unit } from 'chinese-number-proved';
-import { chineseToDate, dateToChinese, type BillDate } from 'chinese-number-proved';
+import { NumeralError, toBigInt, toChinese, toNumber } from 'chinese-number-proved';
+import { amountToChinese, chineseToAmount, chineseToAmountBigInt } from 'chinese-number-proved';
+import { chineseToDate, dateToChinese, findNumbers } from 'chinese-number-proved';
+import type { BillDate, Kind, NumeralCode, PrintWay, Unit, Way } from 'chinese-number-proved';
 import { toNumber as other } from 'chinese-number-proved/files';
-const way: Way = 'tenThousand';
-const value: bigint = toNumber('一', { kind: 'u64', way });
-const text: string = toChinese(value, { script: 'simple', case: 'upper' });
-const amount: string = amountToChinese(value, { script: 'simple' }), fen: bigint = chineseToAmount(amount);
-const greatest: Unit = 'yi';
-const found: bigint[] = Array.from(findNumbers(amount, { upper: true, greatest }), (it) => it.number({ way }));
+const way: Way = 'any', printWay: PrintWay = 'tenThousand', greatest: Unit = 'yi';
+const value: number = toNumber('一', { kind: 'u64', way }), big: bigint = toBigInt('一', { way });
+const text: string = toChinese(value, { way: printWay, script: 'simplified', case: 'upper' });
+const amount: string = amountToChinese(big, { currency: true, yuan: '圆', closing: '正' });
+const fen: number = chineseToAmount(amount), bigFen: bigint = chineseToAmountBigInt(amount);
+const found = Array.from(findNumbers(amount, { upper: true, greatest }), (it) => it.value({ way }));
+const numbers: (number | null)[] = found;
 const date: BillDate = chineseToDate(dateToChinese({ year: 2026, month: 1, day: 15 }));
-console.log(fen, found, date.year);
+console.log(toChinese(big), amountToChinese(1500), fen, bigFen, numbers, date.year);
 try {
   other(text);
 } catch (error) {
   if (error instanceof NumeralError && error.code === 'incorrect') {
     const start: number | undefined = error.start, kind: Kind | undefined = error.kind;
-    console.log(start, kind);
+    const code: NumeralCode = error.code;
+    console.log(start, kind, code);
   }
 }
 // @ts-expect-error: no such option
 toChinese(1, { letterCase: 'upper' });
+// @ts-expect-error: a list is no options
+toChinese(1, []);
+// @ts-expect-error: 'any' is a way to read alone
+toChinese(1, { way: 'any' });
 // @ts-expect-error: no such kind
 toNumber('一', { kind: 'u7' });
+// @ts-expect-error: what map hands on is no options
+['一'].map(toNumber);
 // @ts-expect-error: an amount has no case
 amountToChinese(1n, { case: 'upper' });
-// @ts-expect-error: fen are a BigInt
-amountToChinese(1);
+// @ts-expect-error: fen are a number
+amountToChinese('15');
 // @ts-expect-error: a Date is an instant
 dateToChinese(new Date());
+// @ts-expect-error: what is not for users has no name here
+import type { MESSAGES } from 'chinese-number-proved';

@@ -1,2 +1,2 @@
-const { toNumber } = require('chinese-number-proved');
-console.log(toNumber('一'));
+const { toBigInt } = require('chinese-number-proved');
+console.log(toBigInt('一'));

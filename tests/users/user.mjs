@@ -1,22 +1,25 @@
 import { deepEqual, equal, throws } from 'node:assert/strict';
 import * as face from 'chinese-number-proved';
 import * as files from 'chinese-number-proved/files';
-for (const { CASES, toChinese, toNumber, NumeralError, ...other } of [face, files]) {
+for (const { CASES, toBigInt, toChinese, toNumber, NumeralError, ...other } of [face, files]) {
   const { amountToChinese, chineseToAmount, AmountError, yuanToFen, findNumbers } = other;
   const { chineseToDate, dateToChinese, DateError } = other;
   deepEqual(CASES, ['upper', 'lower']);
-  equal(toChinese(120, { script: 'simple', case: 'upper' }), '壹佰贰拾');
-  equal(toNumber('一百二', { kind: 'u64' }), 120n);
+  equal(toChinese(120, { script: 'traditional', case: 'upper' }), '壹佰貳拾');
+  equal(JSON.stringify(['一百二', '一二〇'].map((it) => toNumber(it))), '[120,120]');
+  equal(toBigInt('一澗', { kind: 'u128' }), 10n ** 36n);
   throws(() => toNumber('x', { kind: 'u8' }), (error) => error instanceof NumeralError
     && error.code === 'incorrect' && error.start === 0 && error.kind === 'u8');
-  equal(amountToChinese(yuanToFen('12805.00'), { script: 'simple' }), '壹万贰仟捌佰零伍元整');
-  equal(chineseToAmount('壹佰元整'), 10000n);
+  equal(amountToChinese(yuanToFen('12805.00')), '壹万贰仟捌佰零伍元整');
+  equal(amountToChinese(1500, { currency: true, yuan: '圆', closing: '正' }), '人民币壹拾伍圆正');
+  equal(chineseToAmount('壹佰元整'), 10000);
   throws(() => chineseToAmount('壹佰元'), (error) => error instanceof AmountError
     && error.code === 'unfinished' && error.start === undefined);
   const date = { year: 2026, month: 1, day: 15 };
-  equal(dateToChinese(date, { script: 'simple' }), '贰零贰陆年零壹月壹拾伍日');
+  equal(dateToChinese(date), '贰零贰陆年零壹月壹拾伍日');
   deepEqual(chineseToDate('貳零貳陸年零壹月壹拾伍日'), date);
   throws(() => dateToChinese({ ...date, day: 32 }), (error) => error instanceof DateError
     && error.code === 'notADate');
-  deepEqual(Array.from(findNumbers('😀第二十三回'), (it) => [it.start, it.end, it.number()]), [[3, 6, 23n]]);
+  const found = Array.from(findNumbers('😀百分之二十三'), (it) => [it.start, it.end, it.value()]);
+  deepEqual(found, [[2, 3, null], [5, 8, 23]]);
 }

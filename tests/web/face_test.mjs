@@ -1,24 +1,41 @@
-// node face_test.mjs NUMERAL: compares the face with the native program NUMERAL, line by line, and the modules' calls with the
-// header for C. What has no line of the program is compared with what RULES says: amounts, dates and running text. test_web.py
-// puts the face, the header and the rows beside this file.
+// node face_test.mjs NUMERAL: compares the face with the native program NUMERAL, line by line, and
+// the modules' calls with the header for C. What has no line of the program is compared with what
+// RULES says: amounts, dates and running text. test_web.py puts the face, the header and the rows
+// beside this file.
 import assert from 'node:assert/strict';
 import { spawnSync } from 'node:child_process';
 import { existsSync, readFileSync } from 'node:fs';
-import {
-  AmountError, CASES, DateError, Found, KINDS, NumeralError, SCRIPTS, UNITS, WAYS, amountToChinese, chineseToAmount, chineseToDate,
-  dateToChinese, findNumbers, toChinese, toNumber, yuanToFen,
-} from './files/chinese-number.mjs';
+import * as face from './files/chinese-number.mjs';
+
+const { CASES, KINDS, SCRIPTS, UNITS, WAYS, AmountError, DateError, Found, NumeralError } = face;
+const { findNumbers, toBigInt, toChinese, toNumber, chineseToDate, dateToChinese } = face;
+const { amountToChinese, chineseToAmount, chineseToAmountBigInt } = face;
+const { yuanToFen, yuanToFenBigInt } = face;
 
 const [program] = process.argv.slice(2);
 const textOf = (path) => readFileSync(new URL(path, import.meta.url), 'utf8');
 const READINGS = 60_000, PRINTINGS = 30_000, AMOUNTS = 20_000, DATES = 20_000, TEXTS = 20_000;
-const LETTERS = Array.from('零〇一二三四五六七八九十百千萬万億亿兆京垓秭壹貳叁肆伍陸柒捌玖拾佰仟兩两負负正個角分廿 \t　x1１⼀é￿😀𠀀');
+const LETTERS = Array.from('零〇一二三四五六七八九十百千萬万億亿兆京垓秭壹貳叁肆伍陸柒捌玖拾佰仟兩两負负正個角分廿'
+  + ' \t　x1１⼀é￿😀𠀀');
+const DIGITS = '零〇一二三四五六七八九兩两壹貳貮贰參叁叄参肆伍陸陆柒捌玖0123456789';
+const PRINT_WAYS = WAYS.filter((it) => it !== 'any');
 
-// The program's word for a way is the name with an underscore, but for plain digits.
-const word = (way) => (way === 'digits' ? 'naive' : way.replace(/[A-Z]/g, (it) => `_${it.toLowerCase()}`));
+// The program's words are the names with underscores, but for plain digits and simplified.
+const OTHERS = { digits: 'naive', simplified: 'simple' };
+const word = (it) => OTHERS[it] ?? it.replace(/[A-Z]/g, (capital) => `_${capital.toLowerCase()}`);
 const widthOf = (kind) => Number(kind.slice(1));
 const isSigned = (kind) => kind.startsWith('i');
-const holds = (kind, it) => (isSigned(kind) ? BigInt.asIntN : BigInt.asUintN)(widthOf(kind), it) === it;
+const holds = (kind, it) =>
+  (isSigned(kind) ? BigInt.asIntN : BigInt.asUintN)(widthOf(kind), it) === it;
+const isSafe = (it) => BigInt(Number.MIN_SAFE_INTEGER) <= it && it <= Number.MAX_SAFE_INTEGER;
+
+// The way in which any is read: as plain digits where the text is those, without its white space
+// and a sign of a signed type.
+function wayOf(kind, way, text) {
+  if (way !== 'any') return way;
+  const rest = text.replace(/\s/g, '').replace(isSigned(kind) ? /^[負负正]/ : '', '');
+  return Array.from(rest).every((it) => DIGITS.includes(it)) ? 'digits' : 'tenThousand';
+}
 
 // A generator that gives the same numbers each time (xorshift).
 let state = 88172645463325252n;
@@ -54,17 +71,19 @@ function changed(spelling, letters = LETTERS) {
 function someNumeral(kind, way) {
   const number = someNumber(one([kind, 'i128']));
   if (below(4) === 0 || !holds('i128', number)) return someText();
+  const ways = PRINT_WAYS.includes(way) ? [way, one(PRINT_WAYS)] : ['digits', 'tenThousand'];
   try {
-    return changed(toChinese(number, { way: one([way, one(WAYS)]), script: one(SCRIPTS), case: one(CASES) }));
+    const look = { way: one(ways), script: one(SCRIPTS), case: one(CASES) };
+    return changed(toChinese(number, look));
   } catch {
     return someText();
   }
 }
 
-const counts = { ok: 0, err: 0, 'bad line': 0, marked: 0, behindPairs: 0 };
+const counts = { ok: 0, err: 0, 'bad line': 0, marked: 0, behindPairs: 0, unsafe: 0 };
 
-// The face's answer as the program writes it. A character at fault has to stand where the error says, as the text is
-// decoded by the language's own iteration.
+// The face's answer as the program writes it. A character at fault has to stand where the error
+// says, as the text is decoded by the language's own iteration.
 function answered(call, text) {
   try {
     const answer = `ok ${call()}`;
@@ -73,45 +92,66 @@ function answered(call, text) {
   } catch (error) {
     assert(error instanceof NumeralError, String(error.stack));
     counts[error.code === 'notHeld' ? 'bad line' : 'err']++;
-    if (error.code === 'incorrect') {
-      const characters = Array.from(text);
-      assert.equal(error.start, characters.slice(0, error.charIndex).join('').length);
-      assert.equal(text.slice(error.start, error.end), characters[error.charIndex]);
-      counts.marked++;
-      counts.behindPairs += error.end !== error.charIndex + 1;
-    }
+    if (error.code === 'incorrect') lookAtTheFault(error, Array.from(text), text);
     return error.code === 'notHeld' ? 'bad line' : `err ${error.message}`;
   }
 }
 
-function compareWithTheProgram() {
-  const lines = [], ours = [];
-  for (let i = 0; i < PRINTINGS; i++) {
-    const [kind, way, script, letterCase] = [KINDS, WAYS, SCRIPTS, CASES].map(one);
-    const number = someNumber(one([kind, kind, one(KINDS)]));
-    lines.push(`print ${kind} ${word(way)} ${script} ${letterCase} ${number}`);
-    ours.push(answered(() => toChinese(number, { kind, way, script, case: letterCase })));
+function lookAtTheFault(error, characters, text) {
+  assert.equal(error.start, characters.slice(0, error.charIndex).join('').length);
+  assert.equal(text.slice(error.start, error.end), characters[error.charIndex]);
+  counts.marked++;
+  counts.behindPairs += error.end !== error.charIndex + 1;
+}
+
+// The number of a text as a Number is that as a BigInt, where it is safe.
+function readsTheSame(text, options) {
+  const whole = toBigInt(text, options);
+  if (isSafe(whole)) assert.equal(toNumber(text, options), Number(whole));
+  else {
+    counts.unsafe++;
+    assert.throws(() => toNumber(text, options), { code: 'unsafe', kind: options.kind });
   }
-  for (let i = 0; i < READINGS; i++) {
-    const [kind, way] = [KINDS, WAYS].map(one);
-    const text = someNumeral(kind, way);
-    lines.push(`read ${kind} ${word(way)} ${text}`);
-    ours.push(answered(() => toNumber(text, { kind, way }), text));
-  }
-  const ran = spawnSync(program, { input: `${lines.join('\n')}\n`, encoding: 'utf8', maxBuffer: 1 << 28 });
+  return whole;
+}
+
+function aPrinting() {
+  const [kind, way, script, letterCase] = [KINDS, PRINT_WAYS, SCRIPTS, CASES].map(one);
+  const number = someNumber(one([kind, kind, one(KINDS)]));
+  const line = `print ${kind} ${word(way)} ${word(script)} ${letterCase} ${number}`;
+  return [line, answered(() => toChinese(number, { kind, way, script, case: letterCase }))];
+}
+
+function aReading() {
+  const [kind, way] = [KINDS, WAYS].map(one), text = someNumeral(kind, way);
+  const line = `read ${kind} ${word(wayOf(kind, way, text))} ${text}`;
+  return [line, answered(() => readsTheSame(text, { kind, way }), text)];
+}
+
+function answersOf(lines) {
+  const how = { encoding: 'utf8', maxBuffer: 1 << 28 };
+  const ran = spawnSync(program, { input: `${lines.join('\n')}\n`, ...how });
   assert.equal(ran.status, 0, String(ran.error ?? ran.stderr));
-  const theirs = ran.stdout.split('\n').slice(0, -1);
-  assert.equal(theirs.length, lines.length);
-  const differ = lines.map((line, i) => `${line} | ${theirs[i]} | ${ours[i]}`).filter((_, i) => theirs[i] !== ours[i]);
-  assert.equal(differ.length, 0, `${differ.length} answers differ (line | program | face):\n${differ.slice(0, 20).join('\n')}`);
+  return ran.stdout.split('\n').slice(0, -1);
+}
+
+function compareWithTheProgram() {
+  const ours = [
+    ...Array.from({ length: PRINTINGS }, aPrinting), ...Array.from({ length: READINGS }, aReading),
+  ];
+  const theirs = answersOf(ours.map(([line]) => line));
+  assert.equal(theirs.length, ours.length);
+  const differ = ours.map(([line, answer], i) => [line, theirs[i], answer].join(' | '))
+    .filter((_, i) => theirs[i] !== ours[i][1]);
+  assert.deepEqual(differ.slice(0, 20), [], `${differ.length} differ: line | program | face`);
   // That the lines are of every kind: a list of refusals alone would show little.
-  for (const [answer, count] of Object.entries(counts)) assert(count > 1000, `${answer}: only ${count}`);
-  console.log(`${lines.length} lines, none differs; ok ${counts.ok}, err ${counts.err}, bad line ${counts['bad line']}; ` +
-    `${counts.marked} characters at fault stand where the face says, ${counts.behindPairs} of them on or behind a surrogate pair`);
+  for (const [answer, count] of Object.entries(counts)) assert(count > 1000, `${answer}: ${count}`);
+  console.log(`${ours.length} lines, none differs:`, counts);
 }
 
 // The calls of the header, which are those that cn_c exports.
-const calls = () => Array.from(textOf('chinese_number.h').matchAll(/^uint32_t (chinese_\w+)\(/gm), ([, name]) => name);
+const calls = () => Array.from(textOf('chinese_number.h').matchAll(/^uint32_t (chinese_\w+)\(/gm),
+  ([, name]) => name);
 
 // The modules ask nothing of their host, and offer the calls of the header.
 function lookAtTheModules() {
@@ -125,44 +165,68 @@ function lookAtTheModules() {
   }
 }
 
-const refuses = (code, call) => assert.throws(call, (error) => error instanceof NumeralError && error.code === code);
+const refuses = (code, call) =>
+  assert.throws(call, (error) => error instanceof NumeralError && error.code === code);
+const refusesEach = (list, call) => {
+  for (const it of list) assert.throws(() => call(it), TypeError, String(it));
+};
+// What is in place of options: none of it is passed over.
+const NO_OPTIONS = [
+  'upper', 'u8', ['upper'], [], 5, 0, true, null, () => {}, { letterCase: 'upper' },
+];
 
 function tryEdges() {
-  assert.equal(toNumber('負一', { kind: 'i128' }), -1n);
   for (const kind of KINDS) {
-    const [least, greatest] = isSigned(kind)
-      ? [-(2n ** BigInt(widthOf(kind) - 1)), 2n ** BigInt(widthOf(kind) - 1) - 1n]
-      : [0n, 2n ** BigInt(widthOf(kind)) - 1n];
-    for (const it of [least, greatest]) assert.equal(toNumber(toChinese(it, { kind }), { kind }), it);
-    for (const it of [least - 1n, greatest + 1n, least - 2n ** 128n, greatest + 2n ** 200n]) refuses('notHeld', () => toChinese(it, { kind }));
+    const half = 2n ** BigInt(widthOf(kind) - 1);
+    const [least, greatest] = isSigned(kind) ? [-half, half - 1n] : [0n, 2n * half - 1n];
+    for (const it of [least, greatest]) {
+      assert.equal(toBigInt(toChinese(it, { kind }), { kind }), it);
+    }
+    for (const it of [least - 1n, greatest + 1n, least - 2n ** 128n, greatest + 2n ** 200n]) {
+      refuses('notHeld', () => toChinese(it, { kind }));
+    }
   }
-  // What is left out: i128, by tenThousand, in the traditional script and in lower case.
-  assert.equal(toChinese(120), '一百二十');
-  assert.equal(toChinese(-(10n ** 36n)), '負一澗');
-  assert.equal(toNumber('負一澗'), -(10n ** 36n));
-  assert.equal(toChinese(-0), '零');
-  assert.equal(toChinese(2 ** 53 - 1), toChinese(2n ** 53n - 1n));
-  for (const it of [1.5, NaN, Infinity, 2 ** 53, '1', null, undefined]) assert.throws(() => toChinese(it), TypeError);
-  for (const it of [120, null, undefined, ['一']]) assert.throws(() => toNumber(it), TypeError);
-  for (const it of ['u7', 'U8', 'toString', '__proto__', 0, null]) assert.throws(() => toNumber('一', { kind: it }), TypeError);
-  assert.throws(() => toNumber('一', { way: 'ten_thousand' }), TypeError);
-  assert.throws(() => toChinese(1, { script: 'simplified' }), TypeError);
-  assert.throws(() => toChinese(1, { case: 'Upper' }), TypeError);
-  // Options with a name that is not known are refused, and so is a text in their place; what map hands on is not.
-  for (const it of [{ letterCase: 'upper' }, { type: 'u8' }, 'upper', ['upper'], null]) assert.throws(() => toChinese(12, it), TypeError);
-  for (const it of [{ script: 'simple' }, { case: 'upper' }, 'u8']) assert.throws(() => toNumber('一', it), TypeError);
-  assert.deepEqual(['三', '一'].map(toNumber), [3n, 1n]);
-  assert.throws(() => toChinese(256, { kind: 'u8' }), { code: 'notHeld', kind: 'u8', message: 'u8 does not hold the number' });
-  assert.throws(() => toNumber('三百', { kind: 'u8' }), { code: 'tooLarge', kind: 'u8', message: 'number is too large' });
+  for (const it of [2 ** 53 - 1, -(2 ** 53 - 1)]) assert.equal(toNumber(toChinese(it)), it);
+  for (const it of [2n ** 53n, -(2n ** 53n)]) {
+    refuses('unsafe', () => toNumber(toChinese(it)));
+    assert.equal(toBigInt(toChinese(it)), it);
+  }
+  refusesEach([1.5, NaN, Infinity, 2 ** 53, '1', null, undefined], (it) => toChinese(it));
+  for (const read of [toNumber, toBigInt]) {
+    refusesEach([120, null, undefined, ['一']], (it) => read(it));
+  }
+  assert.throws(() => toChinese(256, { kind: 'u8' }),
+    { code: 'notHeld', kind: 'u8', message: 'u8 does not hold the number' });
+  assert.throws(() => toNumber('三百', { kind: 'u8' }),
+    { code: 'tooLarge', kind: 'u8', message: 'number is too large' });
   for (const it of ['', ' 　\n', '負', ' 正 ']) refuses('empty', () => toNumber(it));
-  assert.equal(toNumber('\r\n一 '), 1n);
+  assert.equal(toNumber('\r\n一 '), 1);
   // Half a surrogate pair is one character, and at fault.
-  for (const it of ['一\ud800百', '一\udc00百']) {
-    assert.throws(() => toNumber(it), { code: 'incorrect', charIndex: 1, start: 1, end: 2 });
+  for (const [text, charIndex, start, end] of [['一\ud800百', 1, 1, 2], ['一\udc00百', 1, 1, 2],
+    ['😀一', 0, 0, 2], ['😀😀', 1, 2, 4]]) {
+    assert.throws(() => toNumber(text), { code: 'incorrect', charIndex, start, end });
   }
-  assert.throws(() => toNumber('😀一'), { code: 'incorrect', charIndex: 0, start: 0, end: 2 });
-  assert.throws(() => toNumber('😀😀'), { code: 'incorrect', charIndex: 1, start: 2, end: 4 });
   console.log('edges: as wanted');
+}
+
+// What is left out is i128, in the simplified script and in lower case; any is read, and ten
+// thousand written.
+function tryOptions() {
+  assert.equal(toChinese(-(10n ** 36n)), '负一涧');
+  assert.equal(toBigInt('負一澗'), -(10n ** 36n));
+  assert.equal(toChinese(-0), '零');
+  assert.equal(JSON.stringify(['一百二', '一二〇', '负一'].map((it) => toNumber(it))), '[120,120,-1]');
+  refusesEach(['u7', 'U8', 'toString', '__proto__', 0, null], (kind) => toNumber('一', { kind }));
+  refusesEach(['ten_thousand', 'Any', null], (way) => toNumber('一', { way }));
+  refusesEach(['any', 'naive', null], (way) => toChinese(1, { way }));
+  refusesEach(['simple', 'Simplified', null], (script) => toChinese(1, { script }));
+  refusesEach(['Upper', null], (it) => toChinese(1, { case: it }));
+  refusesEach([...NO_OPTIONS, { type: 'u8' }], (it) => toChinese(12, it));
+  refusesEach([...NO_OPTIONS, { script: 'simplified' }], (it) => toNumber('一', it));
+  assert.equal(toNumber('一', Object.assign(Object.create(null), { kind: 'u8' })), 1);
+  // What map hands on beside each text is no options.
+  assert.throws(() => ['三', '一'].map(toNumber), TypeError);
+  console.log('options: as wanted');
 }
 
 // The capitals of an amount, by its decimal places from the top.
@@ -170,12 +234,15 @@ function capitalsOf(fen) {
   const digits = String(fen).padStart(18, '0');
   let capitals = '', isGap = false;
   const put = (digit, unit) => {
-    if (digit !== '0') capitals += (isGap && capitals && unit !== '角' ? '零' : '') + '零壹贰叁肆伍陆柒捌玖'[digit] + unit;
+    const gap = isGap && capitals && unit !== '角' ? '零' : '';
+    if (digit !== '0') capitals += gap + '零壹贰叁肆伍陆柒捌玖'[digit] + unit;
     isGap = digit === '0';
   };
   for (const [at, sign] of ['万', '亿', '万', '元'].entries()) {
     const section = digits.slice(4 * at, 4 * at + 4);
-    for (const [place, digit] of Array.from(section).entries()) put(digit, ['仟', '佰', '拾', ''][place]);
+    for (const [place, digit] of Array.from(section).entries()) {
+      put(digit, ['仟', '佰', '拾', ''][place]);
+    }
     if (section !== '0000' || (at !== 0 && at !== 2 && capitals)) capitals += sign;
   }
   if (fen === 0n) return '零元整';
@@ -184,58 +251,100 @@ function capitalsOf(fen) {
   return digits[17] === '0' ? `${capitals}整` : capitals;
 }
 
+// The same as it was asked for.
+function formed(capitals, { currency, yuan, closing }) {
+  const written = capitals.replace('元', yuan).replace('整', closing);
+  return currency ? `人民币${written}` : written;
+}
+
+const someForm = () => ({ currency: below(2) === 1, yuan: one('元圆'), closing: one('整正') });
+
 function someAmount() {
   const fen = BigInt(below(2 ** 32)) * BigInt(below(2 ** 28)) % 10n ** BigInt(1 + below(18));
-  return below(2) ? fen : BigInt(Array.from(String(fen), (it) => (below(2) ? it : '0')).join(''));
+  if (below(2)) return fen;
+  return BigInt(Array.from(String(fen), (it) => (below(2) ? it : '0')).join(''));
 }
 
 // What a text of an amount is answered: fen, 'unfinished', or the place of the character at fault.
 function amountOf(text) {
   try {
-    return chineseToAmount(text);
+    return chineseToAmountBigInt(text);
   } catch (error) {
-    assert(error instanceof AmountError && ['unfinished', 'incorrect'].includes(error.code), String(error.stack));
+    assert(error instanceof AmountError, String(error.stack));
+    assert(['unfinished', 'incorrect'].includes(error.code), String(error.stack));
     return error.code === 'incorrect' ? error.charIndex : error.code;
   }
 }
 
-function tryAmounts() {
-  for (const [text, charIndex] of [['壹元整\n', 3], ['壹😀', 1], ['壹\ud800', 1]]) assert.equal(amountOf(text), charIndex, text);
-  assert.equal(amountToChinese(123456n), '壹仟貳佰參拾肆元伍角陸分');
-  for (let i = 0; i < AMOUNTS; i++) {
-    const fen = someAmount(), capitals = amountToChinese(fen, { script: 'simple' });
-    assert.equal(capitals, capitalsOf(fen));
-    for (const script of SCRIPTS) assert.equal(chineseToAmount(amountToChinese(fen, { script })), fen);
-    // No beginning is refused; and what is refused at a character was not refused in front of it.
-    const front = capitals.slice(0, below(capitals.length));
-    assert.notEqual(typeof amountOf(front), 'number', front);
-    const text = changed(capitals), at = amountOf(text);
-    if (typeof at !== 'number') continue;
-    const characters = Array.from(text);
-    assert.notEqual(typeof amountOf(characters.slice(0, at).join('')), 'number', text);
-    assert.equal(amountOf(characters.slice(0, at + 1).join('')), at, text);
+// No beginning is refused; and what is refused at a character was not refused in front of it.
+function refuseTheFirst(capitals) {
+  const front = capitals.slice(0, below(capitals.length));
+  assert.notEqual(typeof amountOf(front), 'number', front);
+  const text = changed(capitals), at = amountOf(text);
+  if (typeof at !== 'number') return;
+  const characters = Array.from(text);
+  assert.notEqual(typeof amountOf(characters.slice(0, at).join('')), 'number', text);
+  assert.equal(amountOf(characters.slice(0, at + 1).join('')), at, text);
+}
+
+function compareAnAmount() {
+  const fen = someAmount(), form = someForm(), capitals = amountToChinese(fen, form);
+  assert.equal(capitals, formed(capitalsOf(fen), form));
+  if (isSafe(fen)) assert.equal(amountToChinese(Number(fen), form), capitals);
+  for (const script of SCRIPTS) {
+    const text = amountToChinese(fen, { script, ...form });
+    assert.equal(chineseToAmountBigInt(text), fen);
+    if (isSafe(fen)) assert.equal(chineseToAmount(text), Number(fen));
+    else assert.throws(() => chineseToAmount(text), { name: 'AmountError', code: 'unsafe' });
   }
-  assert.throws(() => chineseToAmount('壹😀元'), { name: 'AmountError', code: 'incorrect', charIndex: 1, start: 1, end: 3, message: 'the amount is incorrect (position: 1)' });
-  assert.throws(() => chineseToAmount('壹'), { code: 'unfinished', start: undefined, message: 'the amount is not finished' });
-  for (const it of [10n ** 18n, 2n ** 64n - 1n, 2n ** 64n, 10n ** 30n]) assert.throws(() => amountToChinese(it), { name: 'AmountError', code: 'tooLarge', message: 'number is too large' });
-  for (const it of [-1n, -(2n ** 64n)]) assert.throws(() => amountToChinese(it), { code: 'tooSmall', message: 'number is too small' });
-  for (const it of [1, 0.5, '1', true, null, undefined]) assert.throws(() => amountToChinese(it), TypeError);
-  for (const it of [1n, null, undefined, ['壹元整']]) assert.throws(() => chineseToAmount(it), TypeError);
-  for (const it of [{ case: 'upper' }, { script: 'Simple' }, 'simple', null]) assert.throws(() => amountToChinese(1n, it), TypeError);
-  console.log(`amounts: ${AMOUNTS} are written by their places and read back, and each refusal is of the first character at fault`);
+  refuseTheFirst(capitals);
+}
+
+function tryAmounts() {
+  for (const [text, charIndex] of [['壹元整\n', 3], ['壹😀', 1], ['壹\ud800', 1]]) {
+    assert.equal(amountOf(text), charIndex, text);
+  }
+  assert.equal(amountToChinese(1500), '壹拾伍元整');
+  assert.equal(amountToChinese(123456n, { script: 'traditional' }), '壹仟貳佰參拾肆元伍角陸分');
+  assert.equal(amountToChinese(1500, { script: 'traditional', currency: true, yuan: '圆' }),
+    '人民幣壹拾伍圓整');
+  for (let i = 0; i < AMOUNTS; i++) compareAnAmount();
+  assert.throws(() => chineseToAmount('壹😀元'), { name: 'AmountError', code: 'incorrect',
+    charIndex: 1, start: 1, end: 3, message: 'the amount is incorrect (position: 1)' });
+  assert.throws(() => chineseToAmount('壹'),
+    { code: 'unfinished', start: undefined, message: 'the amount is not finished' });
+  for (const it of [10n ** 18n, 2n ** 64n - 1n, 2n ** 64n, 10n ** 30n]) {
+    assert.throws(() => amountToChinese(it),
+      { name: 'AmountError', code: 'tooLarge', message: 'number is too large' });
+  }
+  for (const it of [-1, -1n, -(2n ** 64n)]) {
+    assert.throws(() => amountToChinese(it), { code: 'tooSmall', message: 'number is too small' });
+  }
+  refusesEach([0.5, 2 ** 53, '1', true, null, undefined], (it) => amountToChinese(it));
+  refusesEach([1n, null, undefined, ['壹元整']], (it) => chineseToAmount(it));
+  refusesEach([...NO_OPTIONS, { case: 'upper' }, { script: 'Simplified' }, { currency: 1 },
+    { yuan: '圆元' }, { closing: '' }], (it) => amountToChinese(1n, it));
+  console.log(`amounts: ${AMOUNTS} are written by their places and read back, and each refusal is `
+    + 'of the first character at fault');
 }
 
 function tryFigures() {
-  for (const [figures, fen] of [['0', 0n], ['15', 1500n], ['1409.50', 140950n], ['1409.5', 140950n], ['0.05', 5n], ['0001.10', 110n],
-    ['9999999999999999.99', 10n ** 18n - 1n], ['0'.repeat(1000), 0n]]) {
+  for (const [figures, fen] of [['0', 0], ['15', 1500], ['1409.50', 140950], ['1409.5', 140950],
+    ['0.05', 5], ['0001.10', 110], ['0'.repeat(1000), 0], ['90071992547409.91', 2 ** 53 - 1]]) {
     assert.equal(yuanToFen(figures), fen);
+    assert.equal(yuanToFenBigInt(figures), BigInt(fen));
   }
-  for (const it of ['', ' ', '1,409.50', '-1', '+1', '¥1', '１５', '1.', '.5', '1.005', '1.50 ', ' 1', '1\n', '1e3', '0x1', '1..5', '1.5.5', '1_0',
-    '1n', 'NaN', 'Infinity', '一', '0'.repeat(1_000_000) + 'x']) {
+  assert.equal(yuanToFenBigInt('9999999999999999.99'), 10n ** 18n - 1n);
+  assert.throws(() => yuanToFen('90071992547409.92'), { name: 'AmountError', code: 'unsafe' });
+  for (const it of ['', ' ', '1,409.50', '-1', '+1', '¥1', '１５', '1.', '.5', '1.005', '1.50 ',
+    ' 1', '1\n', '1e3', '0x1', '1..5', '1.5.5', '1_0', '1n', 'NaN', 'Infinity', '一',
+    '0'.repeat(1_000_000) + 'x']) {
     assert.throws(() => yuanToFen(it), RangeError, it);
   }
-  for (const it of ['10000000000000000', '1'.repeat(1_000_000)]) assert.throws(() => yuanToFen(it), { name: 'AmountError', code: 'tooLarge' });
-  for (const it of [15, 15n, 1.5, null, undefined, ['15']]) assert.throws(() => yuanToFen(it), TypeError);
+  for (const it of ['10000000000000000', '1'.repeat(1_000_000)]) {
+    assert.throws(() => yuanToFen(it), { name: 'AmountError', code: 'tooLarge' });
+  }
+  refusesEach([15, 15n, 1.5, null, undefined, ['15']], (it) => yuanToFen(it));
   console.log('figures: as wanted');
 }
 
@@ -243,7 +352,8 @@ const CAPITALS = '零壹贰叁肆伍陆柒捌玖';
 const OF_DATES = Array.from(`${CAPITALS}拾年月日貳參叄陸〇一 😀`);
 
 // The forms of a month and of a day, by the rule for dates; what is written is the first of them.
-const ofTens = (it) => (it < 10 ? '' : `${CAPITALS[Math.floor(it / 10)]}拾`) + (it % 10 ? CAPITALS[it % 10] : '');
+const ofTens = (it) =>
+  (it < 10 ? '' : `${CAPITALS[Math.floor(it / 10)]}拾`) + (it % 10 ? CAPITALS[it % 10] : '');
 function monthForms(month) {
   const form = `${ofTens(month)}月`;
   if ([1, 2, 10].includes(month)) return [`零${form}`];
@@ -258,7 +368,8 @@ function daysOf(year, month) {
   return last.getUTCDate();
 }
 
-// What may stand behind 年 in a common year and in a leap year: each text with its month and day, and each beginning of one.
+// What may stand behind 年 in a common year and in a leap year: each text with its month and day,
+// and each beginning of one.
 const [OF_COMMON, OF_LEAP] = [2025, 2024].map((year) => {
   const ends = new Map(), begun = new Set();
   for (let month = 1; month <= 12; month++) {
@@ -266,7 +377,9 @@ const [OF_COMMON, OF_LEAP] = [2025, 2024].map((year) => {
       for (const form of monthForms(month)) ends.set(form + dayForm(day), { month, day });
     }
   }
-  for (const it of ends.keys()) for (let length = 0; length <= it.length; length++) begun.add(it.slice(0, length));
+  for (const it of ends.keys()) {
+    for (let length = 0; length <= it.length; length++) begun.add(it.slice(0, length));
+  }
   return { ends, begun };
 });
 const ofYear = (digits) => {
@@ -276,13 +389,16 @@ const ofYear = (digits) => {
 
 function beginsADate(text) {
   const [digits, ...rest] = text.split('年');
-  if (digits.length > 4 || digits[0] === '零' || Array.from(digits).some((it) => !CAPITALS.includes(it))) return false;
+  if (digits.length > 4 || digits[0] === '零') return false;
+  if (Array.from(digits).some((it) => !CAPITALS.includes(it))) return false;
   return rest.length === 0 || (digits !== '' && ofYear(digits).begun.has(rest.join('年')));
 }
 
-// What a text of a date is answered: the date, 'unfinished', or the place of the character at fault.
+// What a text of a date is answered: the date, 'unfinished', or the place of the character at
+// fault.
 function wantedDateOf(text) {
-  const characters = Array.from(text, (it) => ({ 貳: '贰', 參: '叁', 叄: '叁', 陸: '陆' })[it] ?? it);
+  const plain = { 貳: '贰', 參: '叁', 叄: '叁', 陸: '陆' };
+  const characters = Array.from(text, (it) => plain[it] ?? it);
   for (let at = 0; at < characters.length; at++) {
     if (!beginsADate(characters.slice(0, at + 1).join(''))) return at;
   }
@@ -296,63 +412,82 @@ function dateOf(text) {
   try {
     return chineseToDate(text);
   } catch (error) {
-    assert(error instanceof DateError && ['unfinished', 'incorrect'].includes(error.code), String(error.stack));
+    assert(error instanceof DateError, String(error.stack));
+    assert(['unfinished', 'incorrect'].includes(error.code), String(error.stack));
     return error.code === 'incorrect' ? error.charIndex : error.code;
   }
 }
 
 function compareADate() {
-  const year = 1 + below(one([9999, 3000, 30])), month = 1 + below(12), day = 1 + below(daysOf(year, month));
-  const date = { year, month, day }, capitals = dateToChinese(date, { script: 'simple' });
-  assert.equal(capitals, yearForm(year) + monthForms(month)[0] + dayForm(day));
-  for (const script of SCRIPTS) assert.deepEqual(chineseToDate(dateToChinese(date, { script })), date);
-  for (const it of [capitals.slice(0, below(capitals.length)), changed(capitals, OF_DATES)]) assert.deepEqual(dateOf(it), wantedDateOf(it), it);
+  const year = 1 + below(one([9999, 3000, 30])), month = 1 + below(12);
+  const date = { year, month, day: 1 + below(daysOf(year, month)) };
+  const capitals = dateToChinese(date);
+  assert.equal(capitals, yearForm(year) + monthForms(month)[0] + dayForm(date.day));
+  for (const script of SCRIPTS) {
+    assert.deepEqual(chineseToDate(dateToChinese(date, { script })), date);
+  }
+  for (const it of [capitals.slice(0, below(capitals.length)), changed(capitals, OF_DATES)]) {
+    assert.deepEqual(dateOf(it), wantedDateOf(it), it);
+  }
+}
+
+// Beside the rows, numbers that would be others if a part of their bits were taken.
+function refuseNoDates() {
+  const rows = textOf('rows/no_dates.tsv').split('\n').slice(1, -1);
+  for (const [year, month, day] of [...rows.map((line) => line.split('\t').map(Number)),
+    [2026, 257, 1], [2026, 1, 2 ** 32 + 1], [2 ** 32 + 2026, 1, 1], [-2026, 1, 1], [1e300, 1, 1]]) {
+    assert.throws(() => dateToChinese({ year, month, day }),
+      { name: 'DateError', code: 'notADate', message: 'there is no such date' });
+  }
 }
 
 function tryDates() {
-  const noDates = textOf('rows/no_dates.tsv').split('\n').slice(1, -1).map((line) => line.split('\t').map(Number));
   assert.equal(dateOf('贰零贰陆年零壹月壹拾伍日\n'), 12);
-  assert.equal(dateToChinese({ year: 2026, month: 2, day: 13 }), '貳零貳陸年零貳月壹拾參日');
+  assert.equal(dateToChinese({ year: 2026, month: 2, day: 13 }, { script: 'traditional' }),
+    '貳零貳陸年零貳月壹拾參日');
   for (let i = 0; i < DATES; i++) compareADate();
-  assert.throws(() => chineseToDate('伍😀年'), { name: 'DateError', code: 'incorrect', charIndex: 1, start: 1, end: 3, message: 'the date is incorrect (position: 1)' });
-  assert.throws(() => chineseToDate('伍年'), { code: 'unfinished', start: undefined, message: 'the date is not finished' });
-  // Beside the rows, numbers that would be others if a part of their bits were taken.
-  for (const [year, month, day] of [...noDates, [2026, 257, 1], [2026, 1, 2 ** 32 + 1], [2 ** 32 + 2026, 1, 1], [-2026, 1, 1], [1e300, 1, 1]]) {
-    assert.throws(() => dateToChinese({ year, month, day }), { name: 'DateError', code: 'notADate', message: 'there is no such date' });
-  }
+  assert.throws(() => chineseToDate('伍😀年'), { name: 'DateError', code: 'incorrect', charIndex: 1,
+    start: 1, end: 3, message: 'the date is incorrect (position: 1)' });
+  assert.throws(() => chineseToDate('伍年'),
+    { code: 'unfinished', start: undefined, message: 'the date is not finished' });
+  refuseNoDates();
   const date = { year: 2026, month: 1, day: 15 };
-  for (const it of [new Date(2026, 0, 15), Object.create(date), [2026, 1, 15], '2026-01-15', null, undefined, { ...date, day: undefined },
-    { ...date, day: 1.5 }, { ...date, year: 2026n }, { ...date, month: '1' }]) {
-    assert.throws(() => dateToChinese(it), TypeError);
-  }
-  for (const it of [date, null, undefined]) assert.throws(() => chineseToDate(it), TypeError);
-  for (const it of [{ case: 'upper' }, { script: 'Simple' }, 'simple', null]) assert.throws(() => dateToChinese(date, it), TypeError);
-  console.log(`dates: ${DATES} are written by the rule and read back, and as many texts beside them are answered by it`);
+  refusesEach([new Date(2026, 0, 15), Object.create(date), [2026, 1, 15], '2026-01-15', null,
+    undefined, { ...date, day: undefined }, { ...date, day: 1.5 }, { ...date, year: 2026n },
+    { ...date, month: '1' }], (it) => dateToChinese(it));
+  refusesEach([date, null, undefined], (it) => chineseToDate(it));
+  refusesEach([...NO_OPTIONS, { case: 'upper' }, { script: 'Simplified' }],
+    (it) => dateToChinese(date, it));
+  console.log(`dates: ${DATES} are written by the rule and read back, and as many texts beside `
+    + 'them are answered by it');
 }
 
-const DIGITS = '零〇一二三四五六七八九兩两壹貳貮贰參叁叄参肆伍陸陆柒捌玖0123456789';
-const UNIT_CHARACTERS = ['個个', '十拾', '百佰', '千仟', '萬万', '億亿', '兆', '京', '垓', '秭', '穰', '溝沟', '澗涧', '正', '載载', '極极'];
+const UNIT_CHARACTERS = ['個个', '十拾', '百佰', '千仟', '萬万', '億亿', '兆', '京', '垓', '秭', '穰',
+  '溝沟', '澗涧', '正', '載载', '極极'];
 const UPPER = '壹貳贰貮參叁叄参肆伍陸陆柒捌玖拾佰仟';
 const RUNNING = Array.from('二三5七個个十百千萬億兆京正載極參陸拾兩〇05第回，。 \n😀é');
 
 // The runs of a text, as RULES has them: of each the characters' indices.
-function runsOf(characters, wanted) {
+function runsOf(characters, { upper, greatest }) {
   const rank = (it) => UNIT_CHARACTERS.findIndex((units) => units.includes(it));
-  const isWanted = (it) => it !== undefined && (wanted.upper || !UPPER.includes(it))
-    && (DIGITS.includes(it) || (rank(it) >= 0 && rank(it) <= UNITS.indexOf(wanted.greatest)));
-  const belongs = (at) => isWanted(characters[at])
-    && (rank(characters[at]) !== 0 || (rank(characters[at + 1]) >= 4 && isWanted(characters[at + 1])));
+  const isWanted = (it) => it !== undefined && (upper || !UPPER.includes(it))
+    && (DIGITS.includes(it) || (rank(it) >= 0 && rank(it) <= UNITS.indexOf(greatest)));
+  const belongs = (at) => isWanted(characters[at]) && (rank(characters[at]) !== 0
+    || (rank(characters[at + 1]) >= 4 && isWanted(characters[at + 1])));
   const isAscii = (it) => it >= '0' && it <= '9';
-  const isParted = (one, other) => DIGITS.includes(one) && DIGITS.includes(other) && isAscii(one) !== isAscii(other);
+  const isParted = (one, other) =>
+    DIGITS.includes(one) && DIGITS.includes(other) && isAscii(one) !== isAscii(other);
   const runs = [];
   for (let at = 0; at < characters.length; at++) {
     if (!belongs(at)) continue;
-    if (at > 0 && belongs(at - 1) && !isParted(characters[at - 1], characters[at])) runs.at(-1).push(at);
+    const goesOn = at > 0 && belongs(at - 1) && !isParted(characters[at - 1], characters[at]);
+    if (goesOn) runs.at(-1).push(at);
     else runs.push([at]);
   }
   return runs;
 }
 
+// What a call gives, or why and where it refuses.
 function answerOf(call) {
   try {
     return call();
@@ -362,114 +497,166 @@ function answerOf(call) {
   }
 }
 
+// A number that was found is answered as its text is.
+function compareANumber(found, options) {
+  const { text } = found, way = found.isPlain ? 'digits' : options.way, all = { ...options, way };
+  const number = answerOf(() => toNumber(text, all));
+  assert.deepEqual(answerOf(() => found.number(options)), number, text);
+  const whole = answerOf(() => toBigInt(text, all));
+  assert.deepEqual(answerOf(() => found.bigInt(options)), whole, text);
+  assert.equal(found.value(options), Array.isArray(number) ? null : number, text);
+}
+
 function compareTheNumbersOf(characters) {
-  const wanted = { upper: below(2) === 1, greatest: one(UNITS) }, options = { kind: one(KINDS), way: one(WAYS.slice(1)) };
+  const wanted = { upper: below(2) === 1, greatest: one(UNITS) };
+  const options = { kind: one(KINDS), way: one(WAYS.slice(1)) };
   const string = characters.join('');
   const theirs = runsOf(characters, wanted).map((run) => {
-    const parts = run.map((at) => characters[at]), start = characters.slice(0, run[0]).join('').length;
-    return { start, end: start + parts.length, text: parts.join(''), isPlain: parts.every((it) => DIGITS.includes(it)) };
+    const parts = run.map((at) => characters[at]);
+    const start = characters.slice(0, run[0]).join('').length, end = start + parts.length;
+    return { start, end, text: parts.join(''), isPlain: parts.every((it) => DIGITS.includes(it)) };
   });
   const ours = Array.from(findNumbers(string, wanted));
   assert.deepEqual(ours.map((it) => ({ ...it })), theirs, string);
   for (const it of ours) {
     assert.equal(string.slice(it.start, it.end), it.text);
-    const way = it.isPlain ? 'digits' : options.way;
-    assert.deepEqual(answerOf(() => it.number(options)), answerOf(() => toNumber(it.text, { ...options, way })), it.text);
+    compareANumber(it, options);
   }
   return ours.length;
 }
 
-function tryRunningText() {
-  const all = (text, options) => Array.from(findNumbers(text, options), (it) => it.text);
-  for (const [text, numbers] of [['第二十三回', ['二十三']], ['二零二五年十一月二十三日', ['二零二五', '十一', '二十三']], ['買2兩，5萬，一〇', ['2', '兩', '5萬', '一〇']],
-    ['三個人有三個億，低三個百分點', ['三', '三個億', '三', '百']], ['他五六十歲', ['五六十']], ['二十 三十', ['二十', '三十']], ['正在參加', []], ['', []]]) {
-    assert.deepEqual(all(text), numbers, text);
-  }
-  assert.deepEqual(all('正在參加', { upper: true, greatest: 'ji' }), ['正', '參']);
-  let numbers = 0;
-  for (let i = 0; i < TEXTS; i++) numbers += compareTheNumbersOf(Array.from({ length: below(24) }, () => one(RUNNING)));
-  assert(numbers > TEXTS);
-  // Half a surrogate pair parts a text, and keeps positions.
-  assert.deepEqual(Array.from(findNumbers('二\ud800十\udc00😀三'), ({ start, end }) => [start, end]), [[0, 1], [2, 3], [6, 7]]);
-  const [found] = findNumbers('😀五六十歲');
-  assert(found instanceof Found);
-  assert.throws(() => found.number(), { code: 'incorrect', charIndex: 0, start: 0, end: 1 });
-  assert.throws(() => Array.from(findNumbers('三百'))[0].number({ kind: 'u8' }), { code: 'tooLarge', kind: 'u8' });
-  // Other calls in between take the room that is lent, and two searches go side by side.
+const textsIn = (text, options) => Array.from(findNumbers(text, options), (it) => it.text);
+
+// Other calls in between take the room that is lent, and two searches go side by side.
+function searchSideBySide() {
   const some = findNumbers('一二 三十 五'), other = findNumbers(`${'文'.repeat(200_000)}七百`);
-  assert.equal(some.next().value.number(), 12n);
-  assert.equal(other.next().value.number(), 700n);
-  assert.equal(toChinese(120), '一百二十');
-  assert.deepEqual([some.next().value.number(), some.next().value.number(), some.next().done, other.next().done], [30n, 5n, true, true]);
-  // Options are looked at by the call, and not at the first number.
-  for (const it of [{ upper: 1 }, { greatest: 'ZHAO' }, { greatest: 6 }, { kind: 'u8' }, 'upper', null]) assert.throws(() => findNumbers('一', it), TypeError);
-  for (const it of [1, null, undefined, ['一']]) assert.throws(() => findNumbers(it), TypeError);
-  for (const it of [{ way: 'ten' }, { kind: 'u7' }, { script: 'simple' }, null]) assert.throws(() => findNumbers('一').next().value.number(it), TypeError);
+  const next = (search) => search.next().value?.number();
+  assert.deepEqual([next(some), next(other), toChinese(120)], [12, 700, '一百二十']);
+  assert.deepEqual([some, some, some, other].map(next), [30, 5, undefined, undefined]);
+}
+
+function tryRunningText() {
+  for (const [text, numbers] of [['第二十三回', ['二十三']],
+    ['二零二五年十一月二十三日', ['二零二五', '十一', '二十三']], ['買2兩，5萬，一〇', ['2', '兩', '5萬', '一〇']],
+    ['三個人有三個億，低三個百分點', ['三', '三個億', '三', '百']], ['他五六十歲', ['五六十']],
+    ['二十 三十', ['二十', '三十']], ['正在參加', []], ['', []]]) {
+    assert.deepEqual(textsIn(text), numbers, text);
+  }
+  assert.deepEqual(textsIn('正在參加', { upper: true, greatest: 'ji' }), ['正', '參']);
+  let numbers = 0;
+  for (let i = 0; i < TEXTS; i++) {
+    numbers += compareTheNumbersOf(Array.from({ length: below(24) }, () => one(RUNNING)));
+  }
+  assert(numbers > TEXTS);
+  searchSideBySide();
   const many = Array.from(findNumbers('十a'.repeat(300_000)));
   assert.deepEqual([many.length, many.at(-1).end], [300_000, 599_999]);
-  console.log(`running text: ${numbers} numbers in ${TEXTS} texts stand where RULES says, and are answered as by toNumber`);
+  console.log(`running text: ${numbers} numbers in ${TEXTS} texts stand where RULES says, and are `
+    + 'answered as by toNumber');
 }
 
-// Texts longer than the memory that was there, and short ones behind them.
-function tryLongTexts() {
-  const long = ' '.repeat(1_000_000) + '一百二';
-  assert.equal(toNumber(long), 120n);
-  assert.throws(() => toNumber(`${long}x`), { code: 'incorrect', charIndex: 1_000_003, start: 1_000_003, end: 1_000_004 });
-  assert.throws(() => toNumber(`${'　'.repeat(1_000_000)}😀`), { code: 'incorrect', charIndex: 1_000_000, end: 1_000_002 });
-  assert.equal(toNumber('零'.repeat(3_000_000) + '七', { way: 'digits' }), 7n);
-  assert.equal(toChinese(120), '一百二十');
+function tryFound() {
+  // Half a surrogate pair parts a text, and keeps positions.
+  const places = Array.from(findNumbers('二\ud800十\udc00😀三'), (it) => [it.start, it.end]);
+  assert.deepEqual(places, [[0, 1], [2, 3], [6, 7]]);
+  const values = Array.from(findNumbers('百分之五十，一涧', { greatest: 'ji' }), (it) => it.value());
+  assert.deepEqual(values, [null, 50, null]);
+  const [found] = findNumbers('😀五六十歲'), [hundreds, plain] = findNumbers('三百，一');
+  assert(found instanceof Found);
+  assert.throws(() => found.number(), { code: 'incorrect', charIndex: 0, start: 0, end: 1 });
+  assert.throws(() => hundreds.number({ kind: 'u8' }), { code: 'tooLarge', kind: 'u8' });
+  // Options are looked at by the call, and not at the first number.
+  refusesEach([...NO_OPTIONS, { upper: 1 }, { greatest: 'ZHAO' }, { greatest: 6 }, { kind: 'u8' }],
+    (it) => findNumbers('一', it));
+  refusesEach([1, null, undefined, ['一']], (it) => findNumbers(it));
+  for (const name of ['number', 'bigInt', 'value']) {
+    refusesEach([...NO_OPTIONS, { way: 'ten' }, { kind: 'u7' }, { script: 'simplified' }],
+      (it) => plain[name](it));
+  }
+  console.log('found numbers: as wanted');
+}
 
-  // A host that has no more memory, and one that has it again.
+// A host that has no more memory, and one that has it again.
+function tryWithoutMemory() {
   const { grow } = WebAssembly.Memory.prototype;
-  const refusal = new RangeError('no more memory');
+  const cause = new RangeError('no more memory'), longer = '零'.repeat(6_000_000);
   WebAssembly.Memory.prototype.grow = () => {
-    throw refusal;
+    throw cause;
   };
-  const longer = '零'.repeat(6_000_000);
-  assert.throws(() => toNumber(longer), { name: 'NumeralError', code: 'outOfMemory', message: 'out of memory', cause: refusal, start: undefined });
-  assert.equal(toNumber('一百二'), 120n);
+  const refusal = { name: 'NumeralError', code: 'outOfMemory', message: 'out of memory', cause };
+  assert.throws(() => toNumber(longer), { ...refusal, start: undefined });
+  assert.throws(() => new Found(0, longer, true).value(), refusal);
+  assert.equal(toNumber('一百二'), 120);
   WebAssembly.Memory.prototype.grow = grow;
-  assert.equal(toNumber(longer, { way: 'digits' }), 0n);
-  console.log('long texts: as wanted, also where memory does not grow');
+  assert.equal(toNumber(longer), 0);
 }
 
-// A call on a full stack ends inside the module, which then traps for good: the next call has to have a new instance.
-function tryTraps() {
+// How many instances of the module a call makes.
+function instancesOf(call) {
   const { Instance } = WebAssembly;
   let made = 0;
   WebAssembly.Instance = function (...words) {
     made++;
     return new Instance(...words);
   };
-  const fill = (call, ...padding) => {
+  call();
+  WebAssembly.Instance = Instance;
+  return made;
+}
+
+// Texts longer than the memory that was there, and short ones behind them.
+function tryLongTexts() {
+  const long = ' '.repeat(1_000_000) + '一百二';
+  assert.equal(toNumber(long), 120);
+  assert.throws(() => toNumber(`${long}x`),
+    { code: 'incorrect', charIndex: 1_000_003, start: 1_000_003, end: 1_000_004 });
+  assert.throws(() => toNumber(`${'　'.repeat(1_000_000)}😀`),
+    { code: 'incorrect', charIndex: 1_000_000, end: 1_000_002 });
+  assert.equal(toNumber('零'.repeat(3_000_000) + '七', { way: 'digits' }), 7);
+  assert.equal(toChinese(120), '一百二十');
+  tryWithoutMemory();
+  // The memory of a long text is left with its instance.
+  const read = (count) => instancesOf(() => toNumber(`${'零'.repeat(count)}七`));
+  const LONG = 6_000_000;
+  assert.deepEqual([LONG, LONG, 1, 1, LONG, LONG, 1].map(read), [0, 0, 1, 0, 0, 0, 1]);
+  console.log('long texts: as wanted, also where memory does not grow');
+}
+
+// Calls on a stack that is full, as far as the padding lets it be.
+function onAFullStack(call, padding) {
+  const fill = (...more) => {
     try {
-      fill(call, ...padding);
+      fill(...more);
     } catch (error) {
       if (!(error instanceof RangeError)) throw error;
     }
     return call();
   };
-  for (let padding = 0; padding < 200; padding++) {
-    for (const [call, answer] of [[() => toNumber('一百二'), 120n], [() => toChinese(120), '一百二十']]) {
-      try {
-        fill(call, ...Array(padding).fill(0));
-      } catch (error) {
-        assert(error instanceof RangeError || error instanceof WebAssembly.RuntimeError, String(error.stack));
-      }
-      assert.equal(call(), answer);
-    }
+  try {
+    fill(...Array(padding).fill(0));
+  } catch (error) {
+    const isOfStack = error instanceof RangeError || error instanceof WebAssembly.RuntimeError;
+    assert(isOfStack, String(error.stack));
   }
-  WebAssembly.Instance = Instance;
+}
+
+// A call on a full stack ends inside the module, which then traps for good: the next call has to
+// have a new instance.
+function tryTraps() {
+  const calls = [[() => toNumber('一百二'), 120], [() => toChinese(120), '一百二十']];
+  const made = instancesOf(() => {
+    for (let padding = 0; padding < 200; padding++) {
+      for (const [call, answer] of calls) {
+        onAFullStack(call, padding);
+        assert.equal(call(), answer);
+      }
+    }
+  });
   assert(made > 0, 'no call trapped');
   console.log(`full stacks: ${made} new instances, and each next call answered`);
 }
 
-lookAtTheModules();
-compareWithTheProgram();
-tryEdges();
-tryAmounts();
-tryFigures();
-tryDates();
-tryRunningText();
-tryLongTexts();
-tryTraps();
+for (const it of [lookAtTheModules, compareWithTheProgram, tryEdges, tryOptions, tryAmounts,
+  tryFigures, tryDates, tryRunningText, tryFound, tryLongTexts, tryTraps]) {
+  it();
+}
