@@ -86,6 +86,7 @@ VERSIONS = (
     (HEADER, r'^#define CN_VERSION "(.*)"'),
     ("rust/Cargo.toml", r'^version = "(.*)"'),
     ("web/package.json", r'^  "version": "(.*)"'),
+    ("web/chinese-number.mjs", r"^export const VERSION = '(.*)'"),
     (PYTHON, r'^__version__ = "(.*)"'),
     ("../CHANGELOG.md", r"^## ([\d.]+)"),
 )
@@ -302,7 +303,7 @@ def main():
     versions.add(
         ".".join(re.findall(r"^#define CN_VERSION_\w+ (\d+)", texts[HEADER], re.MULTILINE))
     )
-    number = int(re.search(r"= ([\d_]+);", text_of(crate / "src/version.rt"))[1])
+    number = int(re.search(r"^    ([\d_]+)$", text_of(crate / "src/version.rt"), re.MULTILINE)[1])
     versions.add(f"{number // 1_000_000}.{number // 1_000 % 1_000}.{number % 1_000}")
     if len(versions) != 1 or len(authors) != 1:
         sys.exit(f"codes: versions {sorted(versions)}, and authors {sorted(authors)}")

@@ -68,7 +68,7 @@ def test_words_of_cheque(command, what):
         }
         wanted = "".join(f"{answer}\n" for answer in rows.values()).encode()
         found = command(what, "--", *rows)
-        assert found == (status, wanted, b"") if status == 0 else (status, b"", wanted)
+        assert found == ((status, wanted, b"") if status == 0 else (status, b"", wanted))
 
 
 def test_long_numbers(command):
