@@ -20,8 +20,6 @@ from pathlib import Path
 
 TABLES = ("KINDS", "WAYS", "SCRIPTS", "CASES", "FORMS", "UNITS")
 ANY = re.compile(r"^pub const ANY: u32 = (\d+);", re.MULTILINE)
-ASKING = re.compile(r"^const fn asking\((.*?)\)", re.MULTILINE)
-FORM = re.compile(r"PLAIN|asking\((.*?)\)")
 TABLE = re.compile(r"^pub static (\w+): \[.*?\] = \[(.*?)\];", re.MULTILINE | re.DOTALL)
 NAMED = re.compile(
     r"(?:^|[,;{])[ \t]*(?:pub const )?(?:CN_)?(\w+)(?:: u32)? = (\d+)\b", re.MULTILINE
@@ -146,12 +144,13 @@ def numbered(names):
     return {name: code for code, name in enumerate(names)}
 
 
-def forms_of(table, text):
-    """What a form is made of, each with its bit. The table has each sum of them at its place."""
-    names = re.findall(r"(\w+): bool", ASKING.search(text)[1])
-    forms = [flags.split(", ") for flags in FORM.findall(table)]
-    sums = [sum(1 << bit for bit, flag in enumerate(it) if flag == "true") for it in forms]
-    if sums != list(range(1 << len(names))):
+def forms_of(table):
+    """What a form is made of, each with its bit. The table has each sum of them at its place, behind
+    the plain form."""
+    forms = [re.findall(r"(\w+): (true|false)", it) for it in re.findall(r"\{([^}]*)\}", table)]
+    names = [name for name, _ in forms[0]]
+    sums = [sum(1 << bit for bit, (_, flag) in enumerate(it) if flag == "true") for it in forms]
+    if sums != list(range(1, 1 << len(names))):
         sys.exit(f"codes: codes.rt has the forms {sums}")
     return {"plain": 0, **{name: 1 << bit for bit, name in enumerate(names)}}
 
@@ -167,7 +166,7 @@ def of_sources(crate):
         names = re.findall(r"(\w+)\)?\s*(?:,|$)", table.strip())
         found[name] = numbered(map(inherited, names))
     found["WAYS"]["any"] = int(ANY.search(text)[1])
-    found["FORMS"] = forms_of(tables["FORMS"], text)
+    found["FORMS"] = forms_of(tables["FORMS"])
     found["STATUSES"] = of_table(text_of(crate / "src/status.rt"))
     return found
 
