@@ -22,6 +22,7 @@ mod places;
 mod progress;
 mod put;
 mod read;
+mod signed;
 mod state;
 mod sum;
 #[cfg(test)]
@@ -30,5 +31,8 @@ mod write;
 
 pub use error::{AmountToChineseError, ChineseToAmountError};
 pub use form::AmountForm;
-pub use read::chinese_to_amount;
-pub use write::{AMOUNT_LIMIT, amount_text, amount_to_chinese, amount_to_chinese_as};
+pub use read::{chinese_to_amount, chinese_to_signed_amount};
+pub use write::{
+    AMOUNT_LIMIT, amount_text, amount_to_chinese, amount_to_chinese_as, signed_amount_text,
+    signed_amount_to_chinese,
+};

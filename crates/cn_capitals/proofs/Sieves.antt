@@ -153,3 +153,15 @@ sifted-reads {F} {S} {T} {A} {B} sieve both value inner outer first IsForm is st
               is = refl;
             },
           )
+
+-- the same forms in other words
+pub reads-same : {S A : Type 0} (IsForm Same : List ℕ → A → Type 0) (machine : Machine S A)
+    → ((text : List ℕ) (value : A) → IsForm text value → Same text value)
+    → ((text : List ℕ) (value : A) → Same text value → IsForm text value)
+    → Reads IsForm machine → Reads Same machine
+reads-same IsForm Same machine to from reads = record {
+  each = λ text value h. reads.each text value (from text value h);
+  only = λ text state value leads e. to text value (reads.only text state value leads e);
+  begins = λ text state leads.
+      let h = reads.begins text state leads in (h.0, h.1, to (text ++ h.0) h.1 h.2);
+}
