@@ -12,4 +12,5 @@ pub mod Shows
 pub mod SignedReads
 pub mod SignedShown
 pub mod States
+pub mod TypedReads
 pub mod Values

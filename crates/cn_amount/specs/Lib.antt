@@ -5,5 +5,6 @@ pub mod Fronts
 pub mod Places
 pub mod Reading
 pub mod Signed
+pub mod Typed
 pub mod Working
 pub mod Writes

@@ -3,10 +3,12 @@ ghost use Rattle.std.specs.Prelude.{◌≡◌};
 ghost use Rattle.cn_amount.specs.Answer.{answer_of};
 ghost use Rattle.cn_amount.specs.Reading.{ReadsAmount};
 ghost use Rattle.cn_amount.specs.Signed.{ReadsSignedAmount};
+ghost use Rattle.cn_amount.specs.Typed.{ReadsTypedAmount};
 
 use crate::ChineseToAmountError;
 use crate::progress::Progress;
 use crate::signed::SignedProgress;
+use crate::typed::TypedProgress;
 use cn_capitals::{Refusal, read};
 
 // The same answer, with the error of amounts.
@@ -57,4 +59,23 @@ pub fn chinese_to_signed_amount(text: &str) -> Result<i64, ChineseToAmountError>
     ensures { ReadsSignedAmount text.now (answer_of result) }
 {
     told(read::<SignedProgress>(text))
+}
+
+/// The amount for which a text in capitals stands as it is typed, in fen. White space is left out
+/// wherever it stands, and so are one ⊗ in front and one colon (`:` or `：`) directly behind 人民币 in
+/// front; what is left is read as by `chinese_to_amount`. It takes no memory.
+///
+/// ```text
+/// chinese_to_amount_as_typed("人民币：壹拾伍元整") == Ok(1_500)
+/// chinese_to_amount_as_typed("⊗壹拾 伍圆整") == Ok(1_500)
+/// chinese_to_amount_as_typed("人民币 壹佰元") == Err(ChineseToAmountError::Unfinished)
+/// chinese_to_amount_as_typed("⊗ 拾伍元整") == Err(ChineseToAmountError::Incorrect { char_index: 2 })
+/// ```
+///
+/// `Unfinished` exactly where something behind the text can make it an amount; else `Incorrect` at
+/// the first character of the text, as it is typed, with which none begins.
+pub fn chinese_to_amount_as_typed(text: &str) -> Result<u64, ChineseToAmountError>
+    ensures { ReadsTypedAmount text.now (answer_of result) }
+{
+    told(read::<TypedProgress>(text))
 }
