@@ -7,6 +7,7 @@ ghost use Rattle.cn_amount.specs.Reading.{AmountRefusal, incorrect_at, IsAmount,
 ghost use Rattle.cn_amount.specs.Writes.{amount_text};
 
 pub mod signed;
+pub mod typed;
 
 /// What is written for an amount, in each form, is read as that amount, by the definition of reading.
 pub fn written_amounts_are_amounts()
