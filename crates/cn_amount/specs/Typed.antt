@@ -5,7 +5,7 @@ use Rattle.cn_capitals.specs.Answers as answers
 use Rattle.cn_amount.specs.Fronts.{without_front}
 use Rattle.cn_amount.specs.Reading.{AmountRefusal, IsAmount}
 
--- the mark that closes the field in front of an amount, and the colons of both widths
+-- the mark that invoices have in front of an amount, and the colons of both widths
 abbrev pub marks : List ℕ
 marks = codes "⊗"
 
