@@ -52,11 +52,8 @@ impl Front {
         ensures { result ≡ next self character }
     {
         match self {
-            Front::Open => if is_minus(character) {
-                Front::Minus
-            } else {
-                Front::Plain
-            },
+            Front::Open if is_minus(character) => Front::Minus,
+            Front::Open => Front::Plain,
             front => front,
         }
     }

@@ -39,25 +39,12 @@ impl Seen {
     fn advance(self, character: char) -> Seen
         ensures { result ≡ advance self character }
     {
-        match self {
-            Seen::Nothing => match character {
-                '⊗' => Seen::Mark,
-                '人' => Seen::Ren,
-                _ => Seen::Rest,
-            },
-            Seen::Mark => match character {
-                '人' => Seen::Ren,
-                _ => Seen::Rest,
-            },
-            Seen::Ren => match character {
-                '民' => Seen::Min,
-                _ => Seen::Rest,
-            },
-            Seen::Min => match character {
-                '币' | '幣' => Seen::Currency,
-                _ => Seen::Rest,
-            },
-            Seen::Currency | Seen::Rest => Seen::Rest,
+        match (self, character) {
+            (Seen::Nothing, '⊗') => Seen::Mark,
+            (Seen::Nothing | Seen::Mark, '人') => Seen::Ren,
+            (Seen::Ren, '民') => Seen::Min,
+            (Seen::Min, '币' | '幣') => Seen::Currency,
+            _ => Seen::Rest,
         }
     }
 }
