@@ -201,18 +201,18 @@ white_space_left_out = refl
 wide_space_left_out : regular (0x3000 ∷ codes "壹元整") ≡ codes "壹元整"
 wide_space_left_out = refl
 
-mark_left_out : regular (codes "⊗壹拾伍元整") ≡ codes "壹拾伍元整"
-mark_left_out = refl
+circle_left_out : regular (codes "⊗壹拾伍元整") ≡ codes "壹拾伍元整"
+circle_left_out = refl
 
 colon_left_out : regular (codes " ⊗ 人民幣 ：壹拾伍元整") ≡ codes "人民幣壹拾伍元整"
 colon_left_out = refl
 
 -- and no more than that
-second_mark_stays : regular (codes "⊗⊗壹元整") ≡ codes "⊗壹元整"
-second_mark_stays = refl
+second_circle_stays : regular (codes "⊗⊗壹元整") ≡ codes "⊗壹元整"
+second_circle_stays = refl
 
-mark_inside_stays : regular (codes "人民币⊗壹元整") ≡ codes "人民币⊗壹元整"
-mark_inside_stays = refl
+circle_inside_stays : regular (codes "人民币⊗壹元整") ≡ codes "人民币⊗壹元整"
+circle_inside_stays = refl
 
 second_colon_stays : regular (codes "人民币::壹元整") ≡ codes "人民币:壹元整"
 second_colon_stays = refl

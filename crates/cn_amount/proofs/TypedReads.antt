@@ -9,11 +9,11 @@ use Rattle.cn_capitals.specs.Sieve.{Sieve, kept, after}
 use Rattle.cn_capitals.proofs.Sieves.{IsSifted, IsKeptForm, CanStandBehind, sifted-leads, sifted-reads, reads-same}
 use Rattle.cn_core.proofs.Fronts.{and-left, and-right}
 use Rattle.cn_amount.specs.declared.typed.Seen.{Seen}
-use Rattle.cn_amount.specs.declared.typed.Seen.TheVariants.{Nothing, Mark, Ren, Min, Currency, Rest}
+use Rattle.cn_amount.specs.declared.typed.Seen.TheVariants.{Nothing, Circle, Ren, Min, Currency, Rest}
 use Rattle.cn_amount.specs.declared.typed.TypedProgress.{TypedProgress}
 use Rattle.cn_amount.specs.Fronts.{without_front}
 use Rattle.cn_amount.specs.Reading.{IsAmount}
-use Rattle.cn_amount.specs.Typed.{marks, colons, without_colon, regular, IsTypedAmount}
+use Rattle.cn_amount.specs.Typed.{circle, colons, without_colon, regular, IsTypedAmount}
 use Rattle.cn_amount.specs.Working.Steps.{end, amount_machine}
 use Rattle.cn_amount.specs.Working.Typing.{leaves_out, first_seen, advance, typed_sieve, both, typed_machine}
 use Rattle.cn_amount.proofs.AmountCharacters.{amount-passes}
@@ -63,14 +63,14 @@ either-kept : (b : Bool) (text : List ℕ)
 either-kept true text = currency-kept text
 either-kept false text = rest-kept text
 
-mark-kept : (text : List ℕ) → kept_from Mark text ≡ without_colon text
-mark-kept [] = refl
-mark-kept (a ∷ []) = refl
-mark-kept (a ∷ b ∷ []) = by (char_set_contains (codes "人") a) where
+circle-kept : (text : List ℕ) → kept_from Circle text ≡ without_colon text
+circle-kept [] = refl
+circle-kept (a ∷ []) = refl
+circle-kept (a ∷ b ∷ []) = by (char_set_contains (codes "人") a) where
   by : (x : Bool) → a ∷ kept_from (if x then Ren else Rest) (b ∷ []) ≡ a ∷ b ∷ []
   by true = refl
   by false = refl
-mark-kept (a ∷ b ∷ c ∷ text) =
+circle-kept (a ∷ b ∷ c ∷ text) =
     by (char_set_contains (codes "人") a)
     (second (char_set_contains (codes "民") b)) where
       third : Bool
@@ -91,16 +91,16 @@ mark-kept (a ∷ b ∷ c ∷ text) =
       by true more = ap (λ l. a ∷ b ∷ l) more
       by false more = ap (λ l. a ∷ b ∷ c ∷ l) (rest-kept text)
 
-nothing-kept : (text : List ℕ) → kept_from Nothing text ≡ without_colon (without_front marks text)
+nothing-kept : (text : List ℕ) → kept_from Nothing text ≡ without_colon (without_front circle text)
 nothing-kept [] = refl
-nothing-kept (c ∷ text) = by (char_set_contains marks c) (mark-kept text) (mark-kept (c ∷ text)) where
-  by : (b : Bool) → kept_from Mark text ≡ without_colon text
-      → kept_from Mark (c ∷ text) ≡ without_colon (c ∷ text)
-      → (if not b then c ∷ kept_from (if b then Mark else first_seen c) text
-      else kept_from (if b then Mark else first_seen c) text)
+nothing-kept (c ∷ text) = by (char_set_contains circle c) (circle-kept text) (circle-kept (c ∷ text)) where
+  by : (b : Bool) → kept_from Circle text ≡ without_colon text
+      → kept_from Circle (c ∷ text) ≡ without_colon (c ∷ text)
+      → (if not b then c ∷ kept_from (if b then Circle else first_seen c) text
+      else kept_from (if b then Circle else first_seen c) text)
       ≡ without_colon (if b then text else c ∷ text)
-  by true mark plain = mark
-  by false mark plain = plain
+  by true same plain = same
+  by false same plain = plain
 
 kept-is : (text : List ℕ) → kept typed_sieve Nothing text ≡ regular text
 kept-is text = kept-visible Nothing text ∙ nothing-kept (filter is_not_whitespace text)
@@ -108,7 +108,7 @@ kept-is text = kept-visible Nothing text ∙ nothing-kept (filter is_not_whitesp
 -- of the characters of a form none is left out
 abbrev is_plain : ℕ → Bool
 is_plain c =
-    not (is_whitespace c) && (not (char_set_contains marks c) && not (char_set_contains colons c))
+    not (is_whitespace c) && (not (char_set_contains circle c) && not (char_set_contains colons c))
 
 plain-keeps : (seen : Seen) (c : ℕ) → is_plain c ≡ true → typed_sieve.keeps seen c ≡ true
 plain-keeps seen c h = by seen (and-right (not (is_whitespace c)) _ h) where
@@ -116,11 +116,11 @@ plain-keeps seen c h = by seen (and-right (not (is_whitespace c)) _ h) where
   visible = and-left (not (is_whitespace c)) _ h
 
   by : (seen : Seen)
-      → (not (char_set_contains marks c) && not (char_set_contains colons c)) ≡ true
+      → (not (char_set_contains circle c) && not (char_set_contains colons c)) ≡ true
       → typed_sieve.keeps seen c ≡ true
-  by Nothing h = rw visible (and-left (not (char_set_contains marks c)) _ h)
-  by Currency h = rw visible (and-right (not (char_set_contains marks c)) _ h)
-  by Mark h = rw visible refl
+  by Nothing h = rw visible (and-left (not (char_set_contains circle c)) _ h)
+  by Currency h = rw visible (and-right (not (char_set_contains circle c)) _ h)
+  by Circle h = rw visible refl
   by Ren h = rw visible refl
   by Min h = rw visible refl
   by Rest h = rw visible refl

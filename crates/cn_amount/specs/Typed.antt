@@ -5,9 +5,9 @@ use Rattle.cn_capitals.specs.Answers as answers
 use Rattle.cn_amount.specs.Fronts.{without_front}
 use Rattle.cn_amount.specs.Reading.{AmountRefusal, IsAmount}
 
--- the mark that invoices have in front of an amount, and the colons of both widths
-abbrev pub marks : List ℕ
-marks = codes "⊗"
+-- the circle that invoices have in front of an amount, and the colons of both widths
+abbrev pub circle : List ℕ
+circle = codes "⊗"
 
 abbrev pub colons : List ℕ
 colons = codes ":："
@@ -26,7 +26,7 @@ without_colon text = text
 
 -- the text without white space, without one ⊗ in front, and without that colon
 abbrev pub regular : List ℕ → List ℕ
-regular text = without_colon (without_front marks (filter is_not_whitespace text))
+regular text = without_colon (without_front circle (filter is_not_whitespace text))
 
 -- what is left is a form of the amount
 abbrev pub IsTypedAmount : List ℕ → ℕ → Type 0

@@ -11,6 +11,9 @@
 //! by computing it (`proofs/States`). So reading is right where forms are what is written along the
 //! ways: each form is (`proofs/FormsRead`), and nothing else is (`proofs/Accepted`). The sum that is
 //! taken on the way is the amount (`proofs/Values`).
+//!
+//! An amount that may be below zero, and one as it is typed, are read by the same states behind a
+//! sieve, which passes over 負, or what is left out (`proofs/SignedReads`, `proofs/TypedReads`).
 #![tactic(auto)]
 
 mod before;

@@ -12,7 +12,7 @@ pub enum Seen {
     /// Nothing: ⊗ is left out.
     Nothing,
     /// ⊗
-    Mark,
+    Circle,
     /// 人 in front.
     Ren,
     /// 人民
@@ -40,8 +40,8 @@ impl Seen {
         ensures { result ≡ advance self character }
     {
         match (self, character) {
-            (Seen::Nothing, '⊗') => Seen::Mark,
-            (Seen::Nothing | Seen::Mark, '人') => Seen::Ren,
+            (Seen::Nothing, '⊗') => Seen::Circle,
+            (Seen::Nothing | Seen::Circle, '人') => Seen::Ren,
             (Seen::Ren, '民') => Seen::Min,
             (Seen::Min, '币' | '幣') => Seen::Currency,
             _ => Seen::Rest,

@@ -5,14 +5,14 @@ use Rattle.cn_capitals.specs.Machine as machine
 use Rattle.cn_capitals.specs.Sieve.{Sieve, sifted}
 use Rattle.cn_amount.specs.declared.progress.Progress.{Progress}
 use Rattle.cn_amount.specs.declared.typed.Seen.{Seen}
-use Rattle.cn_amount.specs.declared.typed.Seen.TheVariants.{Nothing, Mark, Ren, Min, Currency, Rest}
+use Rattle.cn_amount.specs.declared.typed.Seen.TheVariants.{Nothing, Circle, Ren, Min, Currency, Rest}
 use Rattle.cn_amount.specs.declared.typed.TypedProgress.{TypedProgress}
-use Rattle.cn_amount.specs.Typed.{marks, colons}
+use Rattle.cn_amount.specs.Typed.{circle, colons}
 use Rattle.cn_amount.specs.Working.Steps.{amount_machine}
 
 -- whether a character that is no white space is left out
 abbrev pub leaves_out : Seen → ℕ → Bool
-leaves_out Nothing c = char_set_contains marks c
+leaves_out Nothing c = char_set_contains circle c
 leaves_out Currency c = char_set_contains colons c
 leaves_out seen c = false
 
@@ -21,8 +21,8 @@ abbrev pub first_seen : ℕ → Seen
 first_seen c = if char_set_contains (codes "人") c then Ren else Rest
 
 abbrev pub advance : Seen → ℕ → Seen
-advance Nothing c = if char_set_contains marks c then Mark else first_seen c
-advance Mark c = first_seen c
+advance Nothing c = if char_set_contains circle c then Circle else first_seen c
+advance Circle c = first_seen c
 advance Ren c = if char_set_contains (codes "民") c then Min else Rest
 advance Min c = if char_set_contains (codes "币幣") c then Currency else Rest
 advance Currency c = Rest
