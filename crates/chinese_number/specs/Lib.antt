@@ -5,8 +5,11 @@ pub mod Places
 pub use Rattle.cn_amount.specs.Answer as AmountAnswer
 pub use Rattle.cn_amount.specs.ErrorText as AmountErrorText
 pub use Rattle.cn_amount.specs.Form as AmountForm
+pub use Rattle.cn_amount.specs.Fronts as AmountFronts
 pub use Rattle.cn_amount.specs.Places as AmountPlaces
 pub use Rattle.cn_amount.specs.Reading as AmountReading
+pub use Rattle.cn_amount.specs.Signed as AmountSigned
+pub use Rattle.cn_amount.specs.Typed as AmountTyped
 pub use Rattle.cn_amount.specs.Writes as AmountWrites
 pub use Rattle.cn_core.specs.CharIndex
 pub use Rattle.cn_core.specs.Characters

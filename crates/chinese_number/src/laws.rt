@@ -10,7 +10,9 @@ mod plain_digits;
 mod read_back;
 mod refusals;
 mod scripts;
+pub mod signed_amounts;
 mod signs;
+pub mod typed_amounts;
 mod white_space;
 
 pub use answers::{

@@ -1,11 +1,15 @@
 -- Worked examples: what the definitions compute to. Those that are marked stand in the rules.
-use Rattle.std.proofs.Common.{◌≡◌, ◌-◌, ◌^◌, Bool, true, false, map, Some, refl, codes}
+use Rattle.std.proofs.Common.{◌≡◌, ◌-◌, ◌^◌, pos, negsuc, Bool, true, false, ◌∷◌, map, Some, refl, codes}
 use Rattle.cn_core.specs.declared.script.ChineseVariant.TheVariants.{Traditional, Simple}
-use Rattle.cn_core.specs.Characters.{digit_char, unit_char}
+use Rattle.cn_core.specs.Characters.{digit_char, minus_char, unit_char}
+use Rattle.cn_core.specs.Whole.{signed_number}
 use Rattle.cn_amount.specs.declared.form.AmountForm.{AmountForm}
 use Rattle.cn_amount.specs.Form.{Choices, amount_form}
+use Rattle.cn_amount.specs.Fronts.{begins_with, without_front}
 use Rattle.cn_amount.specs.Places.{places_of}
 use Rattle.cn_amount.specs.Reading.{capital_of, capitals_of}
+use Rattle.cn_amount.specs.Signed.{minus_signs, signed_amount_text}
+use Rattle.cn_amount.specs.Typed.{regular}
 use Rattle.cn_amount.specs.Writes.{amount_text, plain}
 
 -- in the rules, without 整
@@ -161,3 +165,57 @@ currency_in_front : capitals_of (codes "人民幣叄佰貳拾伍圓零肆分")
     ≡ map Some (amount_form (choosing true false true true true) (places_of 32504))
 unfolding capital_of
 currency_in_front = refl
+
+-- below zero
+fifteen_below : signed_amount_text Simple plain (negsuc 1499) ≡ codes "负壹拾伍元整"
+unfolding digit_char unit_char minus_char
+fifteen_below = refl
+
+asked_for_below : signed_amount_text Traditional (asking true true true) (negsuc 1499)
+    ≡ codes "負人民幣壹拾伍圓正"
+unfolding digit_char unit_char minus_char
+asked_for_below = refl
+
+fifteen_above : signed_amount_text Simple plain (pos 1500) ≡ codes "壹拾伍元整"
+unfolding digit_char unit_char minus_char
+fifteen_above = refl
+
+zero_has_no_sign : signed_amount_text Simple plain (pos 0) ≡ codes "零元整"
+unfolding digit_char unit_char minus_char
+zero_has_no_sign = refl
+
+-- behind the sign stands an amount
+behind_the_sign : without_front minus_signs (codes "負壹拾伍元整") ≡ codes "壹拾伍元整"
+behind_the_sign = refl
+
+one_sign : without_front minus_signs (codes "负负壹元整") ≡ codes "负壹元整"
+one_sign = refl
+
+minus_zero : signed_number (begins_with minus_signs (codes "负零元整")) 0 ≡ pos 0
+minus_zero = refl
+
+-- as it is typed
+white_space_left_out : regular (codes "人民币 壹拾 伍元 整") ≡ codes "人民币壹拾伍元整"
+white_space_left_out = refl
+
+wide_space_left_out : regular (0x3000 ∷ codes "壹元整") ≡ codes "壹元整"
+wide_space_left_out = refl
+
+circle_left_out : regular (codes "⊗壹拾伍元整") ≡ codes "壹拾伍元整"
+circle_left_out = refl
+
+colon_left_out : regular (codes " ⊗ 人民幣 ：壹拾伍元整") ≡ codes "人民幣壹拾伍元整"
+colon_left_out = refl
+
+-- and no more than that
+second_circle_stays : regular (codes "⊗⊗壹元整") ≡ codes "⊗壹元整"
+second_circle_stays = refl
+
+circle_inside_stays : regular (codes "人民币⊗壹元整") ≡ codes "人民币⊗壹元整"
+circle_inside_stays = refl
+
+second_colon_stays : regular (codes "人民币::壹元整") ≡ codes "人民币:壹元整"
+second_colon_stays = refl
+
+colon_elsewhere_stays : regular (codes "壹拾:伍元整") ≡ codes "壹拾:伍元整"
+colon_elsewhere_stays = refl

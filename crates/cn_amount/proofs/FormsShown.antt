@@ -1,7 +1,7 @@
 -- Each capital of a form is one that a character stands for; so what is written is read as it.
-use Rattle.std.proofs.Common.{◌≡◌, ℕ, zero, suc, ◌/◌, ◌%◌, ◌^◌, ◌<◌, Bool, true, false, not, ◌||◌, nat_lt, List, [], ◌∷◌, ◌++◌, length, encode_utf8_all, Ok, refl, sym, subst, ◌∙◌, if◌then◌else◌, arith, ◌*◌, ap}
+use Rattle.std.proofs.Common.{◌≡◌, ℕ, zero, suc, ◌/◌, ◌%◌, ◌^◌, ◌<◌, Bool, true, false, not, ◌≤◌, ◌||◌, nat_lt, List, [], ◌∷◌, ◌++◌, length, encode_utf8_all, Ok, refl, sym, subst, ◌∙◌, if◌then◌else◌, arith, ◌*◌, ap}
 use Rattle.std.specs.List.{list_all}
-use Rattle.std.specs.Str.{IsUtf8}
+use Rattle.std.specs.Str.{IsUtf8, all_scalars}
 use Rattle.std.proofs.lemmas.Bool.Decides.{nat_tests}
 use Rattle.std.specs.String.{string_bytes, string_len}
 use Rattle.std.specs.declared.string.String.{String}
@@ -167,13 +167,17 @@ written-amount variant form amount low = record {
   value = amount-of amount low;
 }
 
+pub written-scalars : (variant : ChineseVariant) (form : AmountForm) (amount : ℕ)
+    → all_scalars (amount_text variant form amount) ≡ true
+written-scalars variant form amount =
+    capitals-scalar variant form (amount_form (written_as form) (places_of amount))
+    (shown-form (written_as form) (places_of amount) (places-of amount))
+
 pub written-read : (variant : ChineseVariant) (form : AmountForm) (amount : ℕ) → amount < amount_limit
     → ReadsAmount (encode_utf8_all (amount_text variant form amount)) (Ok amount)
 written-read variant form amount low =
     subst (λ text. IsAmount text amount)
-    (sym (chars-encodes (amount_text variant form amount)
-    (capitals-scalar variant form (amount_form (written_as form) (places_of amount))
-    (shown-form (written_as form) (places_of amount) (places-of amount)))))
+    (sym (chars-encodes (amount_text variant form amount) (written-scalars variant form amount)))
     (written-amount variant form amount low)
 
 -- it takes three bytes for each capital, and they are UTF-8
@@ -184,19 +188,22 @@ written-length variant form amount =
     (amount_form (written_as form) (places_of amount))
     (shown-form (written_as form) (places_of amount) (places-of amount))
 
+-- at most 117
+pub few-bytes : (variant : ChineseVariant) (form : AmountForm) (amount : ℕ)
+    → length (encode_utf8_all (amount_text variant form amount)) ≤ 117
+few-bytes variant form amount = omega (
+  arith,
+  length-map (amount_form (written_as form) (places_of amount)) (capital_char variant form),
+  written-length variant form amount,
+  length-form (written_as form) (places_of amount),
+)
+
 pub written-utf8 : (variant : ChineseVariant) (form : AmountForm) (amount : ℕ) (bytes : List ℕ)
     → bytes ≡ encode_utf8_all (amount_text variant form amount) → IsUtf8 bytes
 written-utf8 variant form amount bytes is =
-    let capitals = amount_form (written_as form) (places_of amount) in
-    let shows = shown-form (written_as form) (places_of amount) (places-of amount) in (
-      amount_text variant form amount,
-      (
-        capitals-scalar variant form capitals shows,
-        sym is,
-      ),
-    )
+    (amount_text variant form amount, (written-scalars variant form amount, sym is))
 
-text-length : {Z : Type 0} (text : String Z) → string_len text ≡ length (string_bytes text)
+pub text-length : {Z : Type 0} (text : String Z) → string_len text ≡ length (string_bytes text)
 text-length text = let ok = text.bytes.ok in omega (arith, ok)
 
 pub written_is : {Z : Type 0} (variant : ChineseVariant) (form : AmountForm) (amount : ℕ) (text : String Z)
@@ -218,11 +225,4 @@ pub text-of : (variant : ChineseVariant) (form : AmountForm) (amount : ℕ) (tex
     → text_bytes text ≡ encode_utf8_all (amount_text variant form amount)
 unfolding HasPutAny
 text-of variant form amount text put =
-    let same = length-map (amount_form (written_as form) (places_of amount))
-    (capital_char variant form) in
-    put.1 (omega (
-      arith,
-      same,
-      written-length variant form amount,
-      length-form (written_as form) (places_of amount),
-    ))
+    put.1 (omega (arith, few-bytes variant form amount))

@@ -1,4 +1,5 @@
 pub mod Accepted
+pub mod AmountCharacters
 pub mod CapitalTable
 pub mod Examples
 pub mod FormsRead
@@ -8,5 +9,8 @@ pub mod Points
 pub mod ReadText
 pub mod Runs
 pub mod Shows
+pub mod SignedReads
+pub mod SignedShown
 pub mod States
+pub mod TypedReads
 pub mod Values

@@ -11,7 +11,7 @@ use Rattle.cn_core.proofs.Fronts.{and-right}
 use Rattle.cn_capitals.proofs.Characters.{AllBelow, all-at, read-passes, IsWrittenBack}
 use Rattle.cn_capitals.proofs.Characters as every
 use Rattle.cn_amount.specs.declared.capital.Capital.{Capital}
-use Rattle.cn_amount.specs.declared.capital.Capital.TheVariants.{Digit, Yuan, Zheng}
+use Rattle.cn_amount.specs.declared.capital.Capital.TheVariants.{Digit, Yuan, Zheng, Fu}
 use Rattle.cn_amount.specs.declared.form.AmountForm.{AmountForm}
 use Rattle.cn_amount.specs.Reading.{capital_rows, capital_of, capitals_of}
 use Rattle.cn_amount.specs.Writes.{capital_char}
@@ -40,14 +40,16 @@ closing-back variant form false e = rw e (refl, refl, refl)
 closing-back variant form true e = rw e (refl, refl, refl)
 
 words-back : (variant : ChineseVariant) (form : AmountForm) (capital : Capital)
+    → is_proper capital ≡ true
     → ((value : ℕ) → capital ≡ Digit value → WrittenBack variant form (Digit value))
     → WrittenBack variant form capital
 unfolding capital_of digit_char unit_char encode_utf8
-words-back variant form (Digit value) digit = digit value refl
-words-back variant form Yuan digit = yuan-back variant form form.round_yuan refl
-words-back variant form Zheng digit = closing-back variant form form.upright_closing refl
-words-back Simple form capital digit = (refl, refl, refl)
-words-back Traditional form capital digit = (refl, refl, refl)
+words-back variant form (Digit value) h digit = digit value refl
+words-back variant form Fu h digit = absurd (cc)
+words-back variant form Yuan h digit = yuan-back variant form form.round_yuan refl
+words-back variant form Zheng h digit = closing-back variant form form.upright_closing refl
+words-back Simple form capital h digit = (refl, refl, refl)
+words-back Traditional form capital h digit = (refl, refl, refl)
 
 pub capital-back : (variant : ChineseVariant) (form : AmountForm) (capital : Capital)
     → is_proper capital ≡ true → WrittenBack variant form capital
@@ -56,7 +58,7 @@ capital-back variant form (Digit (suc n)) h =
     let less : nat_lt (suc n) 10 ≡ true = and-right (nat_lt 0 (suc n)) _ h in
     all-at (λ n. WrittenBack variant form (Digit (suc n))) 9 n (digits-back variant form)
     (grind (arith, nat_tests))
-capital-back variant form capital h = words-back variant form capital (λ value e. absurd (cc))
+capital-back variant form capital h = words-back variant form capital h (λ value e. absurd (cc))
 
 pub capitals-read : (variant : ChineseVariant) (form : AmountForm) (capitals : List Capital)
     → list_all is_proper capitals ≡ true

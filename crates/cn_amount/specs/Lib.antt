@@ -1,7 +1,10 @@
 pub mod Answer
 pub mod ErrorText
 pub mod Form
+pub mod Fronts
 pub mod Places
 pub mod Reading
+pub mod Signed
+pub mod Typed
 pub mod Working
 pub mod Writes

@@ -1,2 +1,4 @@
 pub mod Putting
+pub mod Signs
 pub mod Steps
+pub mod Typing

@@ -1,12 +1,12 @@
 -- How an amount is written, and what the printer of amounts answers.
 use Rattle.std.specs.Prelude.{◌≡◌, ℕ, ◌*◌, ◌<◌, ◌≤◌, Bool, true, false, List, length, map, codes, slice_index, Result, MatchResult, encode_utf8_all, string_bytes, string_len, string_capacity}
 use Rattle.std.specs.declared.string.String.{String}
-use Rattle.cn_core.specs.Characters.{digit_char, unit_char}
+use Rattle.cn_core.specs.Characters.{digit_char, minus_char, unit_char}
 use Rattle.cn_core.specs.declared.case.ChineseCase.TheVariants.{Upper}
 use Rattle.cn_core.specs.declared.script.ChineseVariant.{ChineseVariant}
 use Rattle.cn_core.specs.declared.script.ChineseVariant.TheVariants.{Traditional, Simple}
 use Rattle.cn_amount.specs.declared.capital.Capital.{Capital}
-use Rattle.cn_amount.specs.declared.capital.Capital.TheVariants.{Ling, Digit, Shi, Bai, Qian, Wan, Yi, Yuan, Jiao, Fen, Zheng, Ren, Min, Bi}
+use Rattle.cn_amount.specs.declared.capital.Capital.TheVariants.{Ling, Digit, Shi, Bai, Qian, Wan, Yi, Yuan, Jiao, Fen, Zheng, Ren, Min, Bi, Fu}
 use Rattle.cn_amount.specs.declared.error.AmountToChineseError.{AmountToChineseError}
 use Rattle.cn_amount.specs.declared.error.AmountToChineseError.TheVariants.{Overflow, OutOfMemory}
 use Rattle.cn_amount.specs.declared.form.AmountForm.{AmountForm}
@@ -50,6 +50,7 @@ capital_char variant form Zheng = closing_char form.upright_closing
 capital_char variant form Ren = char_of (codes "人")
 capital_char variant form Min = char_of (codes "民")
 capital_char variant form Bi = currency_char variant
+capital_char variant form Fu = minus_char variant
 
 -- and by a hand
 abbrev pub char_by : Hand → Capital → ℕ

@@ -6,7 +6,7 @@ ghost use Rattle.cn_amount.specs.Reading.{capital_of};
 
 use crate::form::Hand;
 use cn_capitals::Written;
-use cn_core::{ChineseCase, ChineseVariant, Unit, digit_char, unit_char};
+use cn_core::{ChineseCase, ChineseVariant, Unit, digit_char, minus_char, unit_char};
 
 /// What a character of an amount is.
 #[derive(Clone, Copy)]
@@ -39,6 +39,8 @@ pub enum Capital {
     Min,
     /// 币
     Bi,
+    /// 負, in front of an amount below zero, which alone has it.
+    Fu,
 }
 
 // 元, or 圆 where it is asked for.
@@ -91,6 +93,7 @@ impl Written<Hand> for Capital {
             Capital::Ren => '人',
             Capital::Min => '民',
             Capital::Bi => currency_char(variant),
+            Capital::Fu => minus_char(variant),
         }
     }
 }

@@ -6,6 +6,9 @@ ghost use Rattle.cn_amount.specs.Places.{amount_limit};
 ghost use Rattle.cn_amount.specs.Reading.{AmountRefusal, incorrect_at, IsAmount, Answers, ReadsAmount};
 ghost use Rattle.cn_amount.specs.Writes.{amount_text};
 
+pub mod signed;
+pub mod typed;
+
 /// What is written for an amount, in each form, is read as that amount, by the definition of reading.
 pub fn written_amounts_are_amounts()
     ensures { (variant : ChineseVariant) → (form : AmountForm) → (amount : ℕ)

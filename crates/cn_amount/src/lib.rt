@@ -11,6 +11,9 @@
 //! by computing it (`proofs/States`). So reading is right where forms are what is written along the
 //! ways: each form is (`proofs/FormsRead`), and nothing else is (`proofs/Accepted`). The sum that is
 //! taken on the way is the amount (`proofs/Values`).
+//!
+//! An amount that may be below zero, and one as it is typed, are read by the same states behind a
+//! sieve, which passes over 負, or what is left out (`proofs/SignedReads`, `proofs/TypedReads`).
 #![tactic(auto)]
 
 mod before;
@@ -22,13 +25,18 @@ mod places;
 mod progress;
 mod put;
 mod read;
+mod signed;
 mod state;
 mod sum;
 #[cfg(test)]
 mod tests;
+mod typed;
 mod write;
 
 pub use error::{AmountToChineseError, ChineseToAmountError};
 pub use form::AmountForm;
-pub use read::chinese_to_amount;
-pub use write::{AMOUNT_LIMIT, amount_text, amount_to_chinese, amount_to_chinese_as};
+pub use read::{chinese_to_amount, chinese_to_amount_as_typed, chinese_to_signed_amount};
+pub use write::{
+    AMOUNT_LIMIT, amount_text, amount_to_chinese, amount_to_chinese_as, signed_amount_text,
+    signed_amount_to_chinese,
+};

@@ -1,8 +1,8 @@
 // A form of an amount, put piece by piece: each digit that is not 0 with its unit, and 零 in front of
 // it where the digit directly before it is 0.
-ghost use Rattle.std.specs.Prelude.{◌≡◌, ◌<◌, true, List, [], ◌∷◌, ◌++◌, if◌then◌else◌};
+ghost use Rattle.std.specs.Prelude.{◌≡◌, ◌<◌, pos, int_lt, true, List, [], ◌∷◌, ◌++◌, if◌then◌else◌};
 ghost use Rattle.cn_amount.specs.declared.capital.Capital.{Capital};
-ghost use Rattle.cn_amount.specs.declared.capital.Capital.TheVariants.{Ren, Min, Bi};
+ghost use Rattle.cn_amount.specs.declared.capital.Capital.TheVariants.{Ren, Min, Bi, Fu};
 ghost use Rattle.cn_amount.specs.Form.{place_text, section_text, wan_text, yi_text, yuan_unit, small_text, from_yuan, from_wan, from_yi, amount_form, written, written_as};
 ghost use Rattle.cn_amount.specs.Places.{AreDigits, ArePlaces};
 ghost use Rattle.cn_amount.specs.Working.Putting.{IsWritten, PutsMore};
@@ -136,6 +136,15 @@ fn put_currency(text: &mut CapitalText<Hand>, currency: bool)
         text.put(Capital::Ren);
         text.put(Capital::Min);
         text.put(Capital::Bi);
+    }
+}
+
+/// 負, in front of an amount below zero.
+pub fn put_sign(text: &mut CapitalText<Hand>, fen: i64)
+    ensures { PutsMore text.old text.new (if int_lt fen (pos 0) then Fu ∷ [] else []) }
+{
+    if fen < 0 {
+        text.put(Capital::Fu);
     }
 }
 

@@ -1,10 +1,28 @@
 // Reading, by the states of an amount.
+ghost use Rattle.std.specs.Prelude.{◌≡◌};
 ghost use Rattle.cn_amount.specs.Answer.{answer_of};
 ghost use Rattle.cn_amount.specs.Reading.{ReadsAmount};
+ghost use Rattle.cn_amount.specs.Signed.{ReadsSignedAmount};
+ghost use Rattle.cn_amount.specs.Typed.{ReadsTypedAmount};
 
 use crate::ChineseToAmountError;
 use crate::progress::Progress;
+use crate::signed::SignedProgress;
+use crate::typed::TypedProgress;
 use cn_capitals::{Refusal, read};
+
+// The same answer, with the error of amounts.
+fn told<A>(answer: Result<A, Refusal>) -> Result<A, ChineseToAmountError>
+    ensures { answer_of result ≡ answer }
+{
+    match answer {
+        Ok(fen) => Ok(fen),
+        Err(Refusal::Unfinished) => Err(ChineseToAmountError::Unfinished),
+        Err(Refusal::Incorrect { char_index }) => {
+            Err(ChineseToAmountError::Incorrect { char_index })
+        }
+    }
+}
 
 /// The amount for which a text in capitals stands, in fen: `Ok` exactly where the text is a form of
 /// an amount. It takes no memory.
@@ -22,11 +40,42 @@ use cn_capitals::{Refusal, read};
 pub fn chinese_to_amount(text: &str) -> Result<u64, ChineseToAmountError>
     ensures { ReadsAmount text.now (answer_of result) }
 {
-    match read::<Progress>(text) {
-        Ok(fen) => Ok(fen),
-        Err(Refusal::Unfinished) => Err(ChineseToAmountError::Unfinished),
-        Err(Refusal::Incorrect { char_index }) => {
-            Err(ChineseToAmountError::Incorrect { char_index })
-        }
-    }
+    told(read::<Progress>(text))
+}
+
+/// The amount for which a text in capitals stands, in fen, also behind 负 (負), as on red invoices:
+/// then it is below zero. It takes no memory.
+///
+/// ```text
+/// chinese_to_signed_amount("负壹拾伍元整") == Ok(-1_500)
+/// chinese_to_signed_amount("壹拾伍元整") == Ok(1_500)
+/// chinese_to_signed_amount("负零元整") == Ok(0)
+/// chinese_to_signed_amount("负负壹元整") == Err(ChineseToAmountError::Incorrect { char_index: 1 })
+/// ```
+///
+/// Each answer is as of `chinese_to_amount`, of these texts: the sign is unfinished, and a character
+/// at fault is counted from the front of the whole text. No rule of the banks has the sign.
+pub fn chinese_to_signed_amount(text: &str) -> Result<i64, ChineseToAmountError>
+    ensures { ReadsSignedAmount text.now (answer_of result) }
+{
+    told(read::<SignedProgress>(text))
+}
+
+/// The amount for which a text in capitals stands as it is typed, in fen. White space is left out
+/// wherever it stands, and so are one ⊗ in front and one colon (`:` or `：`) directly behind 人民币 in
+/// front; what is left is read as by `chinese_to_amount`. It takes no memory.
+///
+/// ```text
+/// chinese_to_amount_as_typed("人民币：壹拾伍元整") == Ok(1_500)
+/// chinese_to_amount_as_typed("⊗壹拾 伍圆整") == Ok(1_500)
+/// chinese_to_amount_as_typed("人民币 壹佰元") == Err(ChineseToAmountError::Unfinished)
+/// chinese_to_amount_as_typed("⊗ 拾伍元整") == Err(ChineseToAmountError::Incorrect { char_index: 2 })
+/// ```
+///
+/// `Unfinished` exactly where something behind the text can make it an amount; else `Incorrect` at
+/// the first character of the text, as it is typed, with which none begins.
+pub fn chinese_to_amount_as_typed(text: &str) -> Result<u64, ChineseToAmountError>
+    ensures { ReadsTypedAmount text.now (answer_of result) }
+{
+    told(read::<TypedProgress>(text))
 }

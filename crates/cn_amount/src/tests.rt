@@ -1,5 +1,8 @@
 // What no contract says: that memory is asked for once, in the text's very size.
-use crate::{AmountForm, AmountToChineseError, amount_to_chinese, amount_to_chinese_as};
+use crate::{
+    AmountForm, AmountToChineseError, amount_to_chinese, amount_to_chinese_as,
+    chinese_to_amount_as_typed, chinese_to_signed_amount, signed_amount_to_chinese,
+};
 use cn_core::ChineseVariant;
 use cn_core::ChineseVariant::{Simple, Traditional};
 
@@ -24,32 +27,61 @@ fn writes_amounts_in_one_request(rt: HostRuntime) {
     }
 }
 
-const fn asking(currency: bool, round_yuan: bool, upright_closing: bool) -> AmountForm {
-    AmountForm {
-        currency,
-        round_yuan,
-        upright_closing,
-    }
-}
-
-// What is written for 15 yuan.
-static FORMS: [(ChineseVariant, AmountForm, &str); 5] = [
-    (Simple, AmountForm::PLAIN, "壹拾伍元整"),
-    (Simple, asking(true, false, false), "人民币壹拾伍元整"),
-    (Simple, asking(false, true, false), "壹拾伍圆整"),
-    (Simple, asking(false, false, true), "壹拾伍元正"),
-    (Traditional, asking(true, true, true), "人民幣壹拾伍圓正"),
+// What is written for 15 yuan where 人民币, 圆 and 正 are asked for or not.
+static FORMS: [(ChineseVariant, bool, bool, bool, &str); 5] = [
+    (Simple, false, false, false, "壹拾伍元整"),
+    (Simple, true, false, false, "人民币壹拾伍元整"),
+    (Simple, false, true, false, "壹拾伍圆整"),
+    (Simple, false, false, true, "壹拾伍元正"),
+    (Traditional, true, true, true, "人民幣壹拾伍圓正"),
 ];
 
 #[test]
 fn writes_amounts_as_asked_for(rt: HostRuntime) {
-    for (variant, form, text) in &FORMS {
-        match amount_to_chinese_as(rt.alloc(), *variant, *form, 1_500) {
+    for (variant, currency, round_yuan, upright_closing, text) in &FORMS {
+        let form = AmountForm {
+            currency: *currency,
+            round_yuan: *round_yuan,
+            upright_closing: *upright_closing,
+        };
+        match amount_to_chinese_as(rt.alloc(), *variant, form, 1_500) {
             Ok(written) => {
                 assert_eq!(rt; written.as_str(), *text);
                 assert_eq!(rt; written.capacity(), text.len(), "{text}");
             }
             Err(error) => assert_eq!(rt; error, AmountToChineseError::OutOfMemory),
         }
+    }
+}
+
+static SIGNED: [(ChineseVariant, i64, &str); 4] = [
+    (Simple, 1_500, "壹拾伍元整"),
+    (Simple, -1_500, "负壹拾伍元整"),
+    (Traditional, -5, "負伍分"),
+    (
+        Simple,
+        -777_777_777_777_777_777,
+        "负柒仟柒佰柒拾柒万柒仟柒佰柒拾柒亿柒仟柒佰柒拾柒万柒仟柒佰柒拾柒元柒角柒分",
+    ),
+];
+
+#[test]
+fn writes_and_reads_amounts_below_zero(rt: HostRuntime) {
+    for (variant, fen, text) in &SIGNED {
+        match signed_amount_to_chinese(rt.alloc(), *variant, AmountForm::PLAIN, *fen) {
+            Ok(written) => {
+                assert_eq!(rt; written.as_str(), *text);
+                assert_eq!(rt; written.capacity(), text.len(), "{text}");
+            }
+            Err(error) => assert_eq!(rt; error, AmountToChineseError::OutOfMemory),
+        }
+        assert_eq!(rt; chinese_to_signed_amount(text), Ok(*fen));
+    }
+}
+
+#[test]
+fn reads_amounts_as_typed(rt: HostRuntime) {
+    for text in &["⊗壹拾 伍元整", "人民币：壹拾伍圆正", " ⊗人民幣 :壹拾伍元 整 "] {
+        assert_eq!(rt; chinese_to_amount_as_typed(text), Ok(1_500));
     }
 }

@@ -1,14 +1,15 @@
 // Writing.
-ghost use Rattle.std.specs.Prelude.{◌≡◌, ◌<◌, ◌≤◌, length, encode_utf8_all};
+ghost use Rattle.std.specs.Prelude.{◌≡◌, ◌<◌, ◌≤◌, nat_abs, length, encode_utf8_all};
 ghost use Rattle.cn_capitals.specs.Text.{text_bytes};
 ghost use Rattle.cn_amount.specs.Places.{amount_limit};
+ghost use Rattle.cn_amount.specs.Signed.{WritesSignedAmount, signed_amount_text};
 ghost use Rattle.cn_amount.specs.Writes.{WritesAmountAs, WritesAmount, amount_text};
 
 use crate::AmountToChineseError;
 use crate::capital::Capital;
 use crate::form::{AmountForm, Hand};
 use crate::places::Places;
-use crate::put::put_amount;
+use crate::put::{put_amount, put_sign};
 use cn_capitals::CapitalText;
 use cn_core::ChineseVariant;
 use std::alloc::Global;
@@ -65,4 +66,40 @@ pub fn amount_to_chinese_as(
         return Err(AmountToChineseError::Overflow);
     }
     Ok(amount_text(variant, form, fen).to_string(alloc)?)
+}
+
+/// The text of an amount that may be below zero, of a magnitude below the limit, in room of its own.
+pub fn signed_amount_text(variant: ChineseVariant, form: AmountForm, fen: i64) -> CapitalText<Hand>
+    requires { nat_abs fen < amount_limit }
+    ensures bytes { text_bytes result ≡ encode_utf8_all (signed_amount_text variant form fen) }
+    ensures most { length (text_bytes result) ≤ 120 }
+{
+    let mut text = CapitalText::<Hand>::new::<Capital>(Hand { variant, form });
+    put_sign(&mut text, fen);
+    put_amount(&mut text, form, Places::of(fen.unsigned_abs()));
+    text
+}
+
+/// The amount in capitals, as `amount_to_chinese_as` writes it, but behind 负 (負) where it is below
+/// zero, as on red invoices. No rule of the banks has the sign, and no cheque takes it.
+///
+/// ```text
+/// let plain = AmountForm::PLAIN;
+/// signed_amount_to_chinese(alloc, ChineseVariant::Simple, plain, -1_500) == Ok("负壹拾伍元整")
+/// signed_amount_to_chinese(alloc, ChineseVariant::Simple, plain, 1_500) == Ok("壹拾伍元整")
+/// ```
+///
+/// `Overflow` where the magnitude is 10^18 fen or more; all else as there.
+pub fn signed_amount_to_chinese(
+    alloc: Global,
+    variant: ChineseVariant,
+    form: AmountForm,
+    fen: i64,
+) -> Result<String, AmountToChineseError>
+    ensures { WritesSignedAmount variant form fen result }
+{
+    if fen.unsigned_abs() >= AMOUNT_LIMIT {
+        return Err(AmountToChineseError::Overflow);
+    }
+    Ok(signed_amount_text(variant, form, fen).to_string(alloc)?)
 }

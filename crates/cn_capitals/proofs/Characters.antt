@@ -1,10 +1,11 @@
 -- Capitals and the characters that write them, and those that are read as them.
-use Rattle.std.proofs.Common.{◌≡◌, ℕ, zero, suc, ◌*◌, ◌<◌, Bool, true, false, ◌&&◌, List, [], ◌∷◌, map, length, Option, Some, encode_utf8_all, refl, ap₂, subst, if◌then◌else◌, length-append, arith}
+use Rattle.std.proofs.Common.{◌≡◌, ℕ, zero, suc, ◌*◌, ◌<◌, Bool, true, false, ◌&&◌, ◌||◌, ◌==◌, List, [], ◌∷◌, map, length, Option, Some, encode_utf8_all, refl, ap₂, subst, if◌then◌else◌, length-append, arith}
 use Rattle.std.specs.Char.{char_set_contains, encode_utf8}
 use Rattle.std.specs.List.{list_all}
 use Rattle.std.specs.Str.{all_scalars}
 use Rattle.std.proofs.Math.Decide.{dec_lt}
 use Rattle.std.proofs.Math.Utf8.{scalar}
+use Rattle.std.proofs.lemmas.Bool.Decides.{nat_tests}
 use Rattle.cn_core.proofs.Fronts.{and-left, and-right, both}
 use Rattle.cn_capitals.specs.Characters.{first_with}
 
@@ -45,6 +46,32 @@ read-passes {C} test (row ∷ rows) c found h e =
       by true e ih = let same : row.1 ≡ found = cc in subst (λ c. test c ≡ true) same
           (and-left (test row.1) _ h)
       by false e ih = ih e
+
+in-set : (test : ℕ → Bool) (set : List ℕ) (c : ℕ) → list_all test set ≡ true
+    → char_set_contains set c ≡ true → test c ≡ true
+in-set test [] c h e = absurd (cc)
+in-set test (first ∷ set) c h e =
+    by (first == c) refl e (in-set test set c (and-right (test first) _ h)) where
+      by : (b : Bool) → (first == c) ≡ b
+          → (b || char_set_contains set c) ≡ true
+          → (char_set_contains set c ≡ true → test c ≡ true) → test c ≡ true
+      by true is e ih = let same : first ≡ c = grind (arith, nat_tests) in
+          subst (λ c. test c ≡ true) same (and-left (test first) _ h)
+      by false is e ih = ih e
+
+-- a character that is read passes each test that all characters of the rows pass
+pub character-passes : {C : Type 0} (test : ℕ → Bool) (rows : List (List ℕ × C)) (c : ℕ) (found : C)
+    → list_all (λ row. list_all test row.0) rows ≡ true → first_with rows c ≡ Some found
+    → test c ≡ true
+character-passes test [] c found h e = absurd (cc)
+character-passes {C} test (row ∷ rows) c found h e =
+    by (char_set_contains row.0 c) refl e
+    (λ e. character-passes test rows c found (and-right (list_all test row.0) _ h) e) where
+      by : (b : Bool) → char_set_contains row.0 c ≡ b
+          → (if b then Some row.1 else first_with rows c) ≡ Some found
+          → (first_with rows c ≡ Some found → test c ≡ true) → test c ≡ true
+      by true is e ih = in-set test row.0 c (and-left (list_all test row.0) _ h) is
+      by false is e ih = ih e
 
 -- a capital is written by a character of three bytes, which is read as it
 abbrev pub IsWrittenBack : {C : Type 0} → (ℕ → Option C) → (C → ℕ) → C → Type 0

@@ -3,3 +3,4 @@ pub mod OneAnswer
 pub mod Puts
 pub mod Reading
 pub mod Runs
+pub mod Sieves

@@ -21,7 +21,7 @@ written-more character capitals capital =
     (append-nil (encode_utf8 (character capital)))
 
 -- more that the room holds is put
-with-held : (bytes more : List ℕ) → length bytes + length more ≤ 117
+with-held : (bytes more : List ℕ) → length bytes + length more ≤ 120
     → bytes_with bytes more ≡ bytes ++ more
 with-held bytes more held = rw (le-leb _ _ held) refl
 

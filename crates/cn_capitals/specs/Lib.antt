@@ -1,4 +1,5 @@
 pub mod Answers
 pub mod Characters
 pub mod Machine
+pub mod Sieve
 pub mod Text
