@@ -91,7 +91,8 @@ struct Date {
     day: u32,
 }
 
-// What is read of a text, of each kind that is read, and the place of the character at fault.
+// What is read of a text, of each kind that is read, and the place of the character at fault. In the
+// header the three numbers of a date stand in front of the place one by one, which is the same layout.
 #[derive(Default)]
 #[repr(C)]
 struct Reading<T> {
@@ -221,14 +222,7 @@ fn answered<A: Default>(call: impl FnOnce(*mut A) -> u32) -> (A, Result<(), u32>
         status != status::TOO_LONG,
         "the text is too long: it has more than 4,293,918,720 bytes"
     );
-    (
-        answer,
-        if status == status::DONE {
-            Ok(())
-        } else {
-            Err(status)
-        },
-    )
+    (answer, if status == status::DONE { Ok(()) } else { Err(status) })
 }
 
 // What is read, or the status and the place.
