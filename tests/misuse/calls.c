@@ -146,10 +146,11 @@ static answer cn_date_print(const question *it) {
                                    room_of_chars(it), it->room_length));
 }
 
-/* What is printed: first what each code serves, then others, among them the longest text and what is refused. */
-static const uint64_t numbers[][3] = {
-    {5}, {0}, {105000}, {UINT64_MAX}, {UINT64_MAX, UINT64_MAX}, {0, UINT64_C(1) << 63}, {0}};
-static const uint64_t amounts[][3] = {{1500}, {0}, {1}, {140950}, {UINT64_C(999999999999999999)}, {UINT64_MAX}};
+/* What is printed: first what each code serves, then others, among them what is refused and what has the longest text: of
+ * the numbers the last one, -1 and 38 sixes. */
+static const uint64_t numbers[][3] = {{5}, {0}, {105000}, {UINT64_MAX}, {UINT64_MAX, UINT64_MAX}, {0, UINT64_C(1) << 63},
+                                      {UINT64_C(0x9AC4719555555556), UINT64_C(0x829D2AE7691F6334)}};
+static const uint64_t amounts[][3] = {{1500}, {0}, {1}, {140950}, {UINT64_MAX}, {UINT64_C(999999999999999999)}};
 static const uint64_t dates[][3] = {{2026, 1, 15}, {2025, 12, 31}, {1, 1, 1}, {2026, 2, 29}, {2026, 257, 15}};
 
 enum { READ = STATUS(CN_DONE) | STATUS(CN_EMPTY) | STATUS(CN_INCORRECT) | STATUS(CN_TOO_LARGE) | STATUS(CN_TOO_SMALL) };
