@@ -90,9 +90,8 @@ def by_pip(packages, scratch, readme, program, which=0):
     run("python", program, cwd=scratch, wanted=user("user.py.txt"), **own)
     # It is run elsewhere, where no module of the repository stands beside it.
     answers = shutil.copy(TOP / "bindings/python/answers.py", scratch)
-    assert (
-        wrong_answers(lambda asked: run("python", answers, cwd=scratch, stdin=asked, **own)) == []
-    )
+    wrong = wrong_answers(lambda asked: run("python", answers, cwd=scratch, stdin=asked, **own))
+    assert wrong == []
     run("pip", "uninstall", "--yes", NAME, cwd=scratch, **own)
     if set(site.iterdir()) != before:
         fail(f"pip uninstall left {set(site.iterdir()) - before}")
