@@ -1,7 +1,8 @@
-/* calls THREADS STEP: calls the library as nobody should, and holds each answer to what chinese_number.h says: codes that
- * name nothing, rooms of each length, texts that are no UTF-8, and NULL at length 0. What a call is given stands beside a
- * page that nobody may touch, and all bytes that it may not write are compared. Each thread makes the same tries, one of
- * each STEP, and has to come to the same sum. Says how many tries there were, and how many went wrong. */
+/* calls THREADS STEP: calls the library as nobody should, and holds each answer to what
+ * chinese_number.h says: codes that name nothing, rooms of each length, texts that are no UTF-8,
+ * and NULL at length 0. What a call is given stands beside a page that nobody may touch, and all
+ * bytes that it may not write are compared. Each thread makes the same tries, one of each STEP, and
+ * has to come to the same sum. Says how many tries there were, and how many went wrong. */
 #define _DEFAULT_SOURCE
 #include "chinese_number.h"
 
@@ -73,22 +74,23 @@ static answer date_read(const question *it) {
 static answer number_print(const question *it) {
     size_t *to = told(it, sizeof *to);
     const uint32_t *codes = it->codes;
-    uint64_t status = chinese_number_print(it->values[0], it->values[1], codes[0], codes[1], codes[2], codes[3], it->room,
-                                           it->room_length, to);
+    uint64_t status = chinese_number_print(it->values[0], it->values[1], codes[0], codes[1],
+                                           codes[2], codes[3], it->room, it->room_length, to);
     return (answer){status, {*to}, 0, 0};
 }
 
 static answer amount_print(const question *it) {
     size_t *to = told(it, sizeof *to);
-    uint64_t status = chinese_amount_print(it->values[0], it->codes[0], it->codes[1], it->room, it->room_length, to);
+    uint64_t status = chinese_amount_print(it->values[0], it->codes[0], it->codes[1], it->room,
+                                           it->room_length, to);
     return (answer){status, {*to}, 0, 0};
 }
 
 static answer date_print(const question *it) {
     size_t *to = told(it, sizeof *to);
     const uint64_t *date = it->values;
-    uint64_t status = chinese_date_print((uint32_t)date[0], (uint32_t)date[1], (uint32_t)date[2], it->codes[0], it->room,
-                                         it->room_length, to);
+    uint64_t status = chinese_date_print((uint32_t)date[0], (uint32_t)date[1], (uint32_t)date[2],
+                                         it->codes[0], it->room, it->room_length, to);
     return (answer){status, {*to}, 0, 0};
 }
 
@@ -133,36 +135,47 @@ static answer ended(const question *it, uint64_t status) {
 static answer cn_number_print(const question *it) {
     const uint32_t *codes = it->codes;
     cn_number number = {it->values[0], it->values[1]};
-    return ended(it, cn_print(number, codes[0], codes[1], codes[2], codes[3], room_of_chars(it), it->room_length));
+    return ended(it,
+                 cn_print(number, codes[0], codes[1], codes[2], codes[3], room_of_chars(it),
+                          it->room_length));
 }
 
 static answer cn_amount_print(const question *it) {
-    return ended(it, cn_print_amount(it->values[0], it->codes[0], it->codes[1], room_of_chars(it), it->room_length));
+    return ended(it,
+                 cn_print_amount(it->values[0], it->codes[0], it->codes[1], room_of_chars(it),
+                                 it->room_length));
 }
 
 static answer cn_date_print(const question *it) {
     const uint64_t *date = it->values;
-    return ended(it, cn_print_date((uint32_t)date[0], (uint32_t)date[1], (uint32_t)date[2], it->codes[0],
-                                   room_of_chars(it), it->room_length));
+    return ended(it,
+                 cn_print_date((uint32_t)date[0], (uint32_t)date[1], (uint32_t)date[2],
+                               it->codes[0], room_of_chars(it), it->room_length));
 }
 
-/* What is printed: first what each code serves, then others, among them what is refused and what has the longest text: of
- * the numbers the last one, -1 and 38 sixes. */
-static const uint64_t numbers[][3] = {{5}, {0}, {105000}, {UINT64_MAX}, {UINT64_MAX, UINT64_MAX}, {0, UINT64_C(1) << 63},
-                                      {UINT64_C(0x9AC4719555555556), UINT64_C(0x829D2AE7691F6334)}};
-static const uint64_t amounts[][3] = {{1500}, {0}, {1}, {140950}, {UINT64_MAX}, {UINT64_C(999999999999999999)}};
-static const uint64_t dates[][3] = {{2026, 1, 15}, {2025, 12, 31}, {1, 1, 1}, {2026, 2, 29}, {2026, 257, 15}};
+/* What is printed: first what each code serves, then others, among them what is refused and what
+ * has the longest text: of the numbers the last one, -1 and 38 sixes. */
+static const uint64_t numbers[][3] = {
+    {5}, {0}, {105000}, {UINT64_MAX}, {UINT64_MAX, UINT64_MAX}, {0, UINT64_C(1) << 63},
+    {UINT64_C(0x9AC4719555555556), UINT64_C(0x829D2AE7691F6334)}};
+static const uint64_t amounts[][3] = {
+    {1500}, {0}, {1}, {140950}, {UINT64_MAX}, {UINT64_C(999999999999999999)}};
+static const uint64_t dates[][3] = {
+    {2026, 1, 15}, {2025, 12, 31}, {1, 1, 1}, {2026, 2, 29}, {2026, 257, 15}};
 
-enum { READ = STATUS(CN_DONE) | STATUS(CN_EMPTY) | STATUS(CN_INCORRECT) | STATUS(CN_TOO_LARGE) | STATUS(CN_TOO_SMALL) };
+enum {
+    READ = STATUS(CN_DONE) | STATUS(CN_EMPTY) | STATUS(CN_INCORRECT) | STATUS(CN_TOO_LARGE)
+        | STATUS(CN_TOO_SMALL)
+};
 enum { READ_CAPITALS = STATUS(CN_DONE) | STATUS(CN_UNFINISHED) | STATUS(CN_INCORRECT) };
 enum { FIND = STATUS(CN_DONE) | STATUS(CN_NONE) };
 
-/* A call is proved, or trusts its text to be UTF-8, or takes chars and is of the header. One of the last two answers a text
- * as the call before it does. */
+/* A call is proved, or trusts its text to be UTF-8, or takes chars and is of the header. One of the
+ * last two answers a text as the call before it does. */
 typedef enum style { PROVED, TRUSTS, IN_CHARS } style;
 
-/* Each call: how many codes name something in each place; and of one that takes a text its statuses where that is UTF-8, of
- * one that prints its values, and the most bytes of a text. */
+/* Each call: how many codes name something in each place; and of one that takes a text its statuses
+ * where that is UTF-8, of one that prints its values, and the most bytes of a text. */
 typedef struct call {
     const char *name;
     answer (*ask)(const question *);
@@ -216,7 +229,8 @@ static area between_pages(void) {
 }
 
 static int is_untouched(const uint8_t *from, const uint8_t *to) {
-    return from == to || (*from == UNTOUCHED && memcmp(from, from + 1, (size_t)(to - from) - 1) == 0);
+    return from == to
+        || (*from == UNTOUCHED && memcmp(from, from + 1, (size_t)(to - from) - 1) == 0);
 }
 
 static void add_to_sum(task *mine, const void *bytes, size_t length) {
@@ -224,18 +238,17 @@ static void add_to_sum(task *mine, const void *bytes, size_t length) {
         mine->sum = (mine->sum ^ ((const uint8_t *)bytes)[at]) * UINT64_C(1099511628211);
 }
 
-static int is_same(answer one, answer other) {
-    return memcmp(&one, &other, sizeof one) == 0;
-}
+static int is_same(answer one, answer other) { return memcmp(&one, &other, sizeof one) == 0; }
 
 static void judge(task *mine, int right, const call *by, const question *it) {
     const uint32_t *codes = it->codes;
     if (!right && mine->wrong++ < 9)
-        fprintf(stderr, "%s: codes %u %u %u %u, a text of %zu bytes, a room of %zu\n", by->name, codes[0], codes[1],
-                codes[2], codes[3], it->text_length, it->room_length);
+        fprintf(stderr, "%s: codes %u %u %u %u, a text of %zu bytes, a room of %zu\n", by->name,
+                codes[0], codes[1], codes[2], codes[3], it->text_length, it->room_length);
 }
 
-/* How many bytes of the room are written: the text at CN_DONE; and in chars its end, too, or the end alone. */
+/* How many bytes of the room are written: the text at CN_DONE; and in chars its end, too, or the
+ * end alone. */
 static size_t written(const call *by, const question *it, const answer *said) {
     size_t text = said->status == CN_DONE ? (size_t)said->values[0] : 0;
     if (by->most == 0)
@@ -243,7 +256,8 @@ static size_t written(const call *by, const question *it, const answer *said) {
     return text + (by->style == IN_CHARS && it->room_length != 0);
 }
 
-/* Asks, and sees that no byte is written but what is told and what may be written of the room, which it clears again. */
+/* Asks, and sees that no byte is written but what is told and what may be written of the room,
+ * which it clears again. */
 static answer ask(task *mine, const call *by, const question *it, uint8_t *text) {
     answer said = by->ask(it);
     size_t length = written(by, it, &said);
@@ -264,8 +278,8 @@ static answer ask(task *mine, const call *by, const question *it, uint8_t *text)
 
 /* ---- Codes ---- */
 
-static const uint32_t tried[] = {0,  1,  2,  3,  4,  5,   6,   7,   8,       9,         10,         11,
-                                 12, 15, 16, 17, 255, 256, 257, 1 << 16, INT32_MAX, 1u << 31, UINT32_MAX};
+static const uint32_t tried[] = {0, 1, 2, 3, 4, 5, 6, 7, 8, 9, 10, 11, 12, 15, 16, 17, 255, 256, 257,
+                                 1u << 16, INT32_MAX, 1u << 31, UINT32_MAX};
 
 /* The codes of a number in each place. Whether each of them names something. */
 static int choose(const call *by, size_t number, uint32_t *codes) {
@@ -291,7 +305,8 @@ static size_t choose_named(const call *by, size_t number, uint32_t *codes) {
 
 /* A question on a text or a value, with a room that is large enough. */
 static question ample(const task *mine, const call *by) {
-    question it = {mine->text.end, 0, by->values ? by->values[0] : NULL, {0}, NULL, by->most, mine->told.end};
+    question it = {mine->text.end, 0, by->values ? by->values[0] : NULL, {0}, NULL, by->most,
+                   mine->told.end};
     it.room_length += by->most != 0 && by->style == IN_CHARS;
     it.room = mine->room.end - it.room_length;
     return it;
@@ -309,7 +324,8 @@ static void try_codes(task *mine, const call *by) {
     for (size_t number = 0; number < all; number += mine->step) {
         int named = choose(by, number, it.codes);
         answer said = ask(mine, by, &it, NULL);
-        judge(mine, named ? said.status == CN_DONE : is_same(said, (answer){CN_UNKNOWN, {0}, 0, 0}), by, &it);
+        judge(mine, named ? said.status == CN_DONE : is_same(said, (answer){CN_UNKNOWN, {0}, 0, 0}),
+              by, &it);
     }
 }
 
@@ -325,8 +341,8 @@ static answer for_room(const call *by, const question *it, answer whole) {
     return whole;
 }
 
-/* A room of each length, directly in front of the page that nobody may touch, and directly behind the other. Gives how
- * long the text is. */
+/* A room of each length, directly in front of the page that nobody may touch, and directly behind
+ * the other. Gives how long the text is. */
 static size_t try_rooms(task *mine, const call *by, question it) {
     uint8_t text[CN_MOST_BYTES + 1], same[CN_MOST_BYTES + 1];
     answer whole = ask(mine, by, &it, text), said;
@@ -336,7 +352,8 @@ static size_t try_rooms(task *mine, const call *by, question it) {
             it.room_length = length;
             said = ask(mine, by, &it, same);
             judge(mine, is_same(said, for_room(by, &it, whole)), by, &it);
-            judge(mine, said.status != CN_DONE || memcmp(text, same, (size_t)said.values[0]) == 0, by, &it);
+            judge(mine, said.status != CN_DONE || memcmp(text, same, (size_t)said.values[0]) == 0,
+                  by, &it);
         }
     return whole.status == CN_DONE ? (size_t)whole.values[0] : 0;
 }
@@ -356,14 +373,17 @@ static void try_printing(task *mine, const call *by) {
 
 /* ---- Texts ---- */
 
-/* What texts are made of: characters of numerals and capitals, and others; and in the second row what no UTF-8 has. */
+/* What texts are made of: characters of numerals and capitals, and others; and in the second row
+ * what no UTF-8 has. */
 static const char *const parts[2][32] = {
     {"一", "二", "三", "十", "百", "千", "萬", "亿", "零", "〇", "壹", "贰", "佰", "元", "圆", "整",
      "正", "角", "分", "年", "月", "日", "负", "兩", "個", "5", "-", " ", "人民币", "，", "é", "𠀀"},
-    {"\x80", "\xBF", "\xC0\x80", "\xC1\xBF", "\xC2", "\xE0\x9F\xBF", "\xE4", "\xE4\xB8", "\xED\xA0\x80", "\xED\xBF\xBF",
-     "\xEF\xBF", "\xF0\x8F\xBF\xBF", "\xF0\xA0", "\xF0\xA0\x80", "\xF4\x90\x80\x80", "\xF5\x80\x80\x80", "\xF8\x88\x80\x80\x80",
-     "\xFE", "\xFF", "\xE4\xB8\xE4", "\xE4\x80\x7F", "\xC3\xC3", "\xDF", "\xF4", "\xF0", "\xEF", "\xED", "\xE0", "\xF3\xBF",
-     "\x81\x81", "\xA0", "\xC2\x7F"}};
+    {"\x80", "\xBF", "\xC0\x80", "\xC1\xBF", "\xC2", "\xE0\x9F\xBF", "\xE4", "\xE4\xB8",
+     "\xED\xA0\x80", "\xED\xBF\xBF", "\xEF\xBF", "\xF0\x8F\xBF\xBF", "\xF0\xA0", "\xF0\xA0\x80",
+     "\xF4\x90\x80\x80", "\xF5\x80\x80\x80", "\xF8\x88\x80\x80\x80", "\xFE", "\xFF", "\xE4\xB8\xE4",
+     "\xE4\x80\x7F", "\xC3\xC3", "\xDF", "\xF4", "\xF0", "\xEF", "\xED", "\xE0", "\xF3\xBF",
+     "\x81\x81", "\xA0", "\xC2\x7F"},
+};
 
 static uint64_t next_random(uint64_t *state) {
     *state ^= *state << 13;
@@ -372,11 +392,13 @@ static uint64_t next_random(uint64_t *state) {
     return *state >> 8;
 }
 
-/* A text of up to 24 parts; of each second text some part is broken or some byte is another one, or its end is cut. */
+/* A text of up to 24 parts; of each second text some part is broken or some byte is another one, or
+ * its end is cut. */
 static size_t make_text(uint64_t *state, uint8_t *text) {
     size_t length = 0, count = next_random(state) % 25, breaks = next_random(state) % 6;
     for (size_t at = 0; at < count; at++) {
-        const char *part = parts[breaks == 0 && next_random(state) % 8 == 0][next_random(state) % 32];
+        const char *part =
+            parts[breaks == 0 && next_random(state) % 8 == 0][next_random(state) % 32];
         memcpy(text + length, part, strlen(part));
         length += strlen(part);
     }
@@ -385,8 +407,8 @@ static size_t make_text(uint64_t *state, uint8_t *text) {
     return breaks == 2 && length != 0 ? length - 1 : length;
 }
 
-/* Whether bytes are UTF-8, by table 3-7 of the Unicode standard: how many follow the first one, and from where to where the
- * second may go. */
+/* Whether bytes are UTF-8, by table 3-7 of the Unicode standard: how many follow the first one, and
+ * from where to where the second may go. */
 static int is_utf8(const uint8_t *text, size_t length) {
     for (size_t at = 0; at < length;) {
         uint8_t first = text[at++], least = 0x80, most = 0xBF;
@@ -411,7 +433,8 @@ static int is_right_place(const question *it, answer said) {
     uint64_t characters = 0;
     for (uint64_t at = 0; at < said.byte_index && at < it->text_length; at++)
         characters += is_boundary(it, at);
-    return said.byte_index < it->text_length && is_boundary(it, said.byte_index) && characters == said.char_index;
+    return said.byte_index < it->text_length && is_boundary(it, said.byte_index)
+        && characters == said.char_index;
 }
 
 /* Whether an answer to UTF-8 has what its status has, and nothing else. */
@@ -427,8 +450,8 @@ static int is_whole(const call *by, const question *it, answer said) {
     if (said.status != CN_DONE)
         return is_same(said, nothing);
     if (by->statuses == FIND)
-        return said.values[0] < said.values[1] && is_boundary(it, said.values[0]) && is_boundary(it, said.values[1])
-            && said.values[2] <= 1;
+        return said.values[0] < said.values[1] && is_boundary(it, said.values[0])
+            && is_boundary(it, said.values[1]) && said.values[2] <= 1;
     return said.char_index == 0 && said.byte_index == 0;
 }
 
@@ -449,7 +472,8 @@ static void try_text(task *mine, const uint8_t *text, size_t length, uint64_t ch
     }
 }
 
-/* Each text stands directly in front of the page that nobody may touch, or directly behind the other. */
+/* Each text stands directly in front of the page that nobody may touch, or directly behind the
+ * other. */
 static void try_texts(task *mine) {
     uint8_t text[MOST_TEXT];
     for (uint64_t number = 0; number < TEXTS; number += mine->step) {
