@@ -278,8 +278,8 @@ static answer ask(task *mine, const call *by, const question *it, uint8_t *text)
 
 /* ---- Codes ---- */
 
-static const uint32_t tried[] = {0, 1, 2, 3, 4, 5, 6, 7, 8, 9, 10, 11, 12, 15, 16, 17, 255, 256, 257,
-                                 1u << 16, INT32_MAX, 1u << 31, UINT32_MAX};
+static const uint32_t tried[] = {0, 1, 2, 3, 4, 5, 6, 7, 8, 9, 10, 11, 12, 15, 16, 17, 255, 256,
+                                 257, 1u << 16, INT32_MAX, 1u << 31, UINT32_MAX};
 
 /* The codes of a number in each place. Whether each of them names something. */
 static int choose(const call *by, size_t number, uint32_t *codes) {
