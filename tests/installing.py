@@ -98,16 +98,17 @@ def unpacked(tarball, folder):
 
 
 def pythons():
-    """The Pythons that packages are tried with, by name: the first and the last of pyenv's from 3.8
-    on, where there are any, this one, and PyPy."""
+    """By version, the first and the last Python of pyenv's from 3.8 on, where there are any, and
+    this one."""
     programs = Path.home().glob(".pyenv/versions/3.*/bin/python3")
     found = sorted((numbers_of(it.parent.parent.name), str(it)) for it in programs)
     found = [it for it in found if it[0] >= (3, 8)]
     ends = [*found[:: max(1, len(found) - 1)], (sys.version_info[:3], sys.executable)]
-    return {**{".".join(map(str, it)): program for it, program in ends}, "pypy3": "pypy3"}
+    return {".".join(map(str, it)): program for it, program in ends}
 
 
-PYTHONS = pythons()
+CPYTHONS = pythons()
+PYTHONS = {**CPYTHONS, "pypy3": "pypy3"}
 
 
 def virtual_environment(program, folder):
