@@ -16,10 +16,15 @@
 #define LENGTH_OF(array) (sizeof(array) / sizeof(array)[0])
 #define STATUS(status) (1u << (status))
 
-enum { UNTOUCHED = 0xA5, PLACES = 4, MOST_THREADS = 8, TEXTS = 100000, MOST_TEXT = 300 };
+enum { UNTOUCHED = 0xA5, PLACES = 4, MOST_THREADS = 8, TEXTS = 100000, MOST_TEXT = 800 };
+
+/* A call is proved, or trusts its text to be UTF-8, or takes chars and is of the header. One of the
+ * last two answers a text as the call before it does. */
+typedef enum style { PROVED, TRUSTS, IN_CHARS } style;
 
 /* What a call is given. What it tells is written in front of told_end. */
 typedef struct question {
+    style style;
     const uint8_t *text;
     size_t text_length;
     const uint64_t *values;
@@ -39,118 +44,101 @@ static void *told(const question *it, size_t bytes) {
     return memset(it->told_end - bytes, UNTOUCHED, bytes);
 }
 
-typedef uint32_t read_call(const uint8_t *, size_t, uint32_t, uint32_t, cn_reading *);
-typedef uint32_t find_call(const uint8_t *, size_t, uint32_t, uint32_t, cn_span *);
+/* The calls in chars take NULL where the length is 0. */
+static const char *text_of(const question *it) {
+    return it->text_length == 0 ? NULL : (const char *)it->text;
+}
 
-static answer read_by(read_call *call, const question *it) {
+static char *room_of(const question *it) {
+    return it->room_length == 0 ? NULL : (char *)it->room;
+}
+
+static uint32_t read_by(const question *it, cn_reading *to) {
+    size_t length = it->text_length;
+    uint32_t kind = it->codes[0], way = it->codes[1];
+    switch (it->style) {
+    case TRUSTS: return chinese_number_read_utf8(it->text, length, kind, way, to);
+    case IN_CHARS: return cn_read(text_of(it), length, kind, way, to);
+    default: return chinese_number_read(it->text, length, kind, way, to);
+    }
+}
+
+static answer number_read(const question *it) {
     cn_reading *to = told(it, sizeof *to);
-    uint64_t status = call(it->text, it->text_length, it->codes[0], it->codes[1], to);
+    uint64_t status = read_by(it, to);
     return (answer){status, {to->number.low, to->number.high}, to->char_index, to->byte_index};
 }
 
-static answer find_by(find_call *call, const question *it) {
+/* Of these calls, the one in chars begins at a span of zeros. */
+static uint32_t find_by(const question *it, cn_span *to) {
+    size_t length = it->text_length;
+    uint32_t upper = it->codes[0], greatest = it->codes[1];
+    switch (it->style) {
+    case TRUSTS: return chinese_number_find_utf8(it->text, length, upper, greatest, to);
+    case IN_CHARS:
+        memset(to, 0, sizeof *to);
+        return cn_find_next(text_of(it), length, upper, greatest, to);
+    default: return chinese_number_find(it->text, length, upper, greatest, to);
+    }
+}
+
+static answer number_find(const question *it) {
     cn_span *to = told(it, sizeof *to);
-    uint64_t status = call(it->text, it->text_length, it->codes[0], it->codes[1], to);
+    uint64_t status = find_by(it, to);
     return (answer){status, {to->start, to->end, to->digits}, 0, 0};
 }
 
-static answer number_read(const question *it) { return read_by(chinese_number_read, it); }
-static answer number_read_utf8(const question *it) { return read_by(chinese_number_read_utf8, it); }
-static answer number_find(const question *it) { return find_by(chinese_number_find, it); }
-static answer number_find_utf8(const question *it) { return find_by(chinese_number_find_utf8, it); }
-
 static answer amount_read(const question *it) {
     cn_amount *to = told(it, sizeof *to);
-    uint64_t status = chinese_amount_read(it->text, it->text_length, to);
+    uint64_t status = it->style == IN_CHARS ? cn_read_amount(text_of(it), it->text_length, to)
+                                            : chinese_amount_read(it->text, it->text_length, to);
     return (answer){status, {to->fen}, to->char_index, to->byte_index};
 }
 
 static answer date_read(const question *it) {
     cn_date *to = told(it, sizeof *to);
-    uint64_t status = chinese_date_read(it->text, it->text_length, to);
+    uint64_t status = it->style == IN_CHARS ? cn_read_date(text_of(it), it->text_length, to)
+                                            : chinese_date_read(it->text, it->text_length, to);
     return (answer){status, {to->year, to->month, to->day}, to->char_index, to->byte_index};
+}
+
+/* In chars a zero byte, behind the text, tells its length. */
+static answer printed(const question *it, uint64_t status, size_t length) {
+    if (it->style == IN_CHARS)
+        length = status == CN_DONE ? strlen((char *)it->room) : 0;
+    return (answer){status, {length}, 0, 0};
 }
 
 static answer number_print(const question *it) {
-    size_t *to = told(it, sizeof *to);
+    size_t *to = told(it, sizeof *to), room = it->room_length;
     const uint32_t *codes = it->codes;
-    uint64_t status = chinese_number_print(it->values[0], it->values[1], codes[0], codes[1],
-                                           codes[2], codes[3], it->room, it->room_length, to);
-    return (answer){status, {*to}, 0, 0};
+    cn_number number = {it->values[0], it->values[1]};
+    uint64_t status =
+        it->style == IN_CHARS
+            ? cn_print(number, codes[0], codes[1], codes[2], codes[3], room_of(it), room)
+            : chinese_number_print(number.low, number.high, codes[0], codes[1], codes[2], codes[3],
+                                   it->room, room, to);
+    return printed(it, status, *to);
 }
 
 static answer amount_print(const question *it) {
-    size_t *to = told(it, sizeof *to);
-    uint64_t status = chinese_amount_print(it->values[0], it->codes[0], it->codes[1], it->room,
-                                           it->room_length, to);
-    return (answer){status, {*to}, 0, 0};
+    size_t *to = told(it, sizeof *to), room = it->room_length;
+    uint32_t script = it->codes[0], form = it->codes[1];
+    uint64_t fen = it->values[0];
+    uint64_t status = it->style == IN_CHARS
+        ? cn_print_amount(fen, script, form, room_of(it), room)
+        : chinese_amount_print(fen, script, form, it->room, room, to);
+    return printed(it, status, *to);
 }
 
 static answer date_print(const question *it) {
-    size_t *to = told(it, sizeof *to);
-    const uint64_t *date = it->values;
-    uint64_t status = chinese_date_print((uint32_t)date[0], (uint32_t)date[1], (uint32_t)date[2],
-                                         it->codes[0], it->room, it->room_length, to);
-    return (answer){status, {*to}, 0, 0};
-}
-
-/* The calls that the header defines take NULL where the length is 0. */
-static const char *in_chars(const question *it) {
-    return it->text_length == 0 ? NULL : (const char *)it->text;
-}
-
-static answer cn_of_number(const question *it) {
-    cn_reading *to = told(it, sizeof *to);
-    uint64_t status = cn_read(in_chars(it), it->text_length, it->codes[0], it->codes[1], to);
-    return (answer){status, {to->number.low, to->number.high}, to->char_index, to->byte_index};
-}
-
-static answer cn_of_amount(const question *it) {
-    cn_amount *to = told(it, sizeof *to);
-    uint64_t status = cn_read_amount(in_chars(it), it->text_length, to);
-    return (answer){status, {to->fen}, to->char_index, to->byte_index};
-}
-
-static answer cn_of_date(const question *it) {
-    cn_date *to = told(it, sizeof *to);
-    uint64_t status = cn_read_date(in_chars(it), it->text_length, to);
-    return (answer){status, {to->year, to->month, to->day}, to->char_index, to->byte_index};
-}
-
-static answer cn_next(const question *it) {
-    cn_span *to = memset(told(it, sizeof *to), 0, sizeof *to);
-    uint64_t status = cn_find_next(in_chars(it), it->text_length, it->codes[0], it->codes[1], to);
-    return (answer){status, {to->start, to->end, to->digits}, 0, 0};
-}
-
-static char *room_of_chars(const question *it) {
-    return it->room_length == 0 ? NULL : (char *)it->room;
-}
-
-/* Behind the text stands a zero byte. */
-static answer ended(const question *it, uint64_t status) {
-    return (answer){status, {status == CN_DONE ? strlen((char *)it->room) : 0}, 0, 0};
-}
-
-static answer cn_number_print(const question *it) {
-    const uint32_t *codes = it->codes;
-    cn_number number = {it->values[0], it->values[1]};
-    return ended(it,
-                 cn_print(number, codes[0], codes[1], codes[2], codes[3], room_of_chars(it),
-                          it->room_length));
-}
-
-static answer cn_amount_print(const question *it) {
-    return ended(it,
-                 cn_print_amount(it->values[0], it->codes[0], it->codes[1], room_of_chars(it),
-                                 it->room_length));
-}
-
-static answer cn_date_print(const question *it) {
-    const uint64_t *date = it->values;
-    return ended(it,
-                 cn_print_date((uint32_t)date[0], (uint32_t)date[1], (uint32_t)date[2],
-                               it->codes[0], room_of_chars(it), it->room_length));
+    size_t *to = told(it, sizeof *to), room = it->room_length;
+    uint32_t year = (uint32_t)it->values[0], month = (uint32_t)it->values[1];
+    uint32_t day = (uint32_t)it->values[2], script = it->codes[0];
+    uint64_t status = it->style == IN_CHARS
+        ? cn_print_date(year, month, day, script, room_of(it), room)
+        : chinese_date_print(year, month, day, script, it->room, room, to);
+    return printed(it, status, *to);
 }
 
 /* What is printed: first what each code serves, then others, among them what is refused and what
@@ -170,10 +158,6 @@ enum {
 enum { READ_CAPITALS = STATUS(CN_DONE) | STATUS(CN_UNFINISHED) | STATUS(CN_INCORRECT) };
 enum { FIND = STATUS(CN_DONE) | STATUS(CN_NONE) };
 
-/* A call is proved, or trusts its text to be UTF-8, or takes chars and is of the header. One of the
- * last two answers a text as the call before it does. */
-typedef enum style { PROVED, TRUSTS, IN_CHARS } style;
-
 /* Each call: how many codes name something in each place; and of one that takes a text its statuses
  * where that is UTF-8, of one that prints its values, and the most bytes of a text. */
 typedef struct call {
@@ -190,21 +174,21 @@ typedef struct call {
 
 static const call calls[] = {
     {"chinese_number_read", number_read, PROVED, {10, 6}, OF_TEXT(READ)},
-    {"chinese_number_read_utf8", number_read_utf8, TRUSTS, {10, 6}, OF_TEXT(READ)},
-    {"cn_read", cn_of_number, IN_CHARS, {10, 6}, OF_TEXT(READ)},
+    {"chinese_number_read_utf8", number_read, TRUSTS, {10, 6}, OF_TEXT(READ)},
+    {"cn_read", number_read, IN_CHARS, {10, 6}, OF_TEXT(READ)},
     {"chinese_number_find", number_find, PROVED, {2, 16}, OF_TEXT(FIND)},
-    {"chinese_number_find_utf8", number_find_utf8, TRUSTS, {2, 16}, OF_TEXT(FIND)},
-    {"cn_find_next", cn_next, IN_CHARS, {2, 16}, OF_TEXT(FIND)},
+    {"chinese_number_find_utf8", number_find, TRUSTS, {2, 16}, OF_TEXT(FIND)},
+    {"cn_find_next", number_find, IN_CHARS, {2, 16}, OF_TEXT(FIND)},
     {"chinese_amount_read", amount_read, PROVED, {0}, OF_TEXT(READ_CAPITALS)},
-    {"cn_read_amount", cn_of_amount, IN_CHARS, {0}, OF_TEXT(READ_CAPITALS)},
+    {"cn_read_amount", amount_read, IN_CHARS, {0}, OF_TEXT(READ_CAPITALS)},
     {"chinese_date_read", date_read, PROVED, {0}, OF_TEXT(READ_CAPITALS)},
-    {"cn_read_date", cn_of_date, IN_CHARS, {0}, OF_TEXT(READ_CAPITALS)},
+    {"cn_read_date", date_read, IN_CHARS, {0}, OF_TEXT(READ_CAPITALS)},
     {"chinese_number_print", number_print, PROVED, {10, 5, 2, 2}, PRINTS(numbers, CN_MOST_BYTES)},
-    {"cn_print", cn_number_print, IN_CHARS, {10, 5, 2, 2}, PRINTS(numbers, CN_MOST_BYTES)},
+    {"cn_print", number_print, IN_CHARS, {10, 5, 2, 2}, PRINTS(numbers, CN_MOST_BYTES)},
     {"chinese_amount_print", amount_print, PROVED, {2, 8}, PRINTS(amounts, CN_MOST_AMOUNT_BYTES)},
-    {"cn_print_amount", cn_amount_print, IN_CHARS, {2, 8}, PRINTS(amounts, CN_MOST_AMOUNT_BYTES)},
+    {"cn_print_amount", amount_print, IN_CHARS, {2, 8}, PRINTS(amounts, CN_MOST_AMOUNT_BYTES)},
     {"chinese_date_print", date_print, PROVED, {2}, PRINTS(dates, CN_MOST_DATE_BYTES)},
-    {"cn_print_date", cn_date_print, IN_CHARS, {2}, PRINTS(dates, CN_MOST_DATE_BYTES)},
+    {"cn_print_date", date_print, IN_CHARS, {2}, PRINTS(dates, CN_MOST_DATE_BYTES)},
 };
 
 /* Bytes between two pages that nobody may touch. */
@@ -305,8 +289,8 @@ static size_t choose_named(const call *by, size_t number, uint32_t *codes) {
 
 /* A question on a text or a value, with a room that is large enough. */
 static question ample(const task *mine, const call *by) {
-    question it = {mine->text.end, 0, by->values ? by->values[0] : NULL, {0}, NULL, by->most,
-                   mine->told.end};
+    question it = {by->style, mine->text.end, 0, by->values ? by->values[0] : NULL, {0}, NULL,
+                   by->most, mine->told.end};
     it.room_length += by->most != 0 && by->style == IN_CHARS;
     it.room = mine->room.end - it.room_length;
     return it;
@@ -373,11 +357,11 @@ static void try_printing(task *mine, const call *by) {
 
 /* ---- Texts ---- */
 
-/* What texts are made of: characters of numerals and capitals, and others; and in the second row
- * what no UTF-8 has. */
+/* What texts are made of: characters of numerals and capitals, others, an amount and a date; and in
+ * the second row what no UTF-8 has. */
 static const char *const parts[2][32] = {
     {"一", "二", "三", "十", "百", "千", "萬", "亿", "零", "〇", "壹", "贰", "佰", "元", "圆", "整",
-     "正", "角", "分", "年", "月", "日", "负", "兩", "個", "5", "-", " ", "人民币", "，", "é", "𠀀"},
+     "正", "角", "分", "年", "月", "日", "负", "兩", "個", "5", "-", " ", "é", "𠀀", "人民币壹佰元整", "贰零贰陆年零叁月零壹日"},
     {"\x80", "\xBF", "\xC0\x80", "\xC1\xBF", "\xC2", "\xE0\x9F\xBF", "\xE4", "\xE4\xB8",
      "\xED\xA0\x80", "\xED\xBF\xBF", "\xEF\xBF", "\xF0\x8F\xBF\xBF", "\xF0\xA0", "\xF0\xA0\x80",
      "\xF4\x90\x80\x80", "\xF5\x80\x80\x80", "\xF8\x88\x80\x80\x80", "\xFE", "\xFF", "\xE4\xB8\xE4",

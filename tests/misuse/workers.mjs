@@ -5,7 +5,7 @@ import {
   amountToChinese, chineseToAmount, chineseToDate, findNumbers, toBigInt, toChinese,
 } from '../../bindings/web/chinese-number.mjs';
 
-const TEXTS = 5000, WORKERS = 4;
+const TEXTS = 2000, WORKERS = 4;
 const PIECES = [...'一二三十百千萬亿零壹贰佰元圆整正角分年月日负兩個5- é𠀀\0', '\ud800', '\udc00'];
 
 /** What a call gives, or its refusal. */
@@ -29,7 +29,7 @@ function sumOfAnswers() {
     const text = Array.from({ length: below(20) }, () => PIECES[below(PIECES.length)]).join('');
     const number = BigInt(below(2 ** 23)) * BigInt(below(2 ** 23)) ** 3n;
     const answers = readers.map((call) => answered(call, text));
-    answers.push(answered(toChinese, number), answered(amountToChinese, number));
+    answers.push(answered(toChinese, number), answered(amountToChinese, number >> 33n));
     for (const character of answers.join('')) sum = Math.imul(sum, 31) + character.codePointAt(0) | 0;
   }
   return sum;
