@@ -85,13 +85,13 @@ def by_pip(packages, scratch, readme, program, which=0):
     before = set(site.iterdir())
     readme.follow(packages, scratch / "python", which, **own)
     compare_record(site)
-    example, program = write(scratch / "user/example.txt", readme.example), USERS / "user.py"
-    run("python", USERS / "doctests.py", example, cwd=scratch, wanted="0 True 0 True\n", **own)
-    run("python", program, cwd=scratch, wanted=user("user.py.txt"), **own)
     # It is run elsewhere, where no module of the repository stands beside it.
     answers = shutil.copy(TOP / "bindings/python/answers.py", scratch)
     wrong = wrong_answers(lambda asked: run("python", answers, cwd=scratch, stdin=asked, **own))
     assert wrong == []
+    example, program = write(scratch / "user/example.txt", readme.example), USERS / "user.py"
+    run("python", USERS / "doctests.py", example, cwd=scratch, wanted="0 True 0 True\n", **own)
+    run("python", program, cwd=scratch, wanted=user("user.py.txt"), **own)
     run("pip", "uninstall", "--yes", NAME, cwd=scratch, **own)
     if set(site.iterdir()) != before:
         fail(f"pip uninstall left {set(site.iterdir()) - before}")
