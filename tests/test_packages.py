@@ -70,6 +70,16 @@ def test_wheel(packages, tmp_path, program):
     by_pip(packages, tmp_path, Readme(wheel, "METADATA", "python"), program)
 
 
+def test_library_of_wheel_by_musl(packages, of_c, tmp_path):
+    """Debian has no Python over musl, so a program of musl's loads the library as Python does."""
+    needs("musl-gcc")
+    files = listed(package(packages, f"*_{NATIVE}.whl", NATIVE))
+    (tmp_path / "library.so").write_bytes(files["chinese_number/libchinese_number.so"])
+    words = (USERS / "load.c", f"-I{of_c.prefix}/include", "-o", "load")
+    run("musl-gcc", *words, cwd=tmp_path)
+    run("./load", "./library.so", cwd=tmp_path, wanted="壹拾伍元整")
+
+
 @pytest.mark.parametrize("program", [sys.executable, "pypy3"], ids=["python3", "pypy3"])
 def test_python_source(packages, tmp_path, program):
     needs("cc")
