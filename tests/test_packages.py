@@ -1,8 +1,9 @@
 """The packages of `bindings/packages.sh`, installed as their users do, with no `rt` on the path.
 
 In an empty folder the install line of each package's README is followed, and then its example,
-which answers as its comments say. The types are checked, what can be uninstalled is, and aarch64
-runs under qemu. Of the C source a wheel is made, a library, and the crate without its archives.
+which answers as its comments say. The types are checked, what can be uninstalled is, PyPy and musl
+are tried, and aarch64 runs under qemu. Of the C source a wheel is made, a library, and the crate
+without its archives.
 """
 import base64
 import csv
