@@ -9,7 +9,7 @@ import tarfile
 import zipfile
 from pathlib import Path
 
-from running import PATH, TOP, fail, leave_out, numbers_of, run, write
+from running import PATH, TOP, fail, leave_out, needs, numbers_of, run, write
 
 USERS = TOP / "tests/users"
 NATIVE = platform.machine()
@@ -98,17 +98,23 @@ def unpacked(tarball, folder):
 
 
 def pythons():
-    """This Python, and the first and the last of pyenv's from 3.8 on, where there are any."""
+    """By version, the first and the last Python of pyenv's from 3.8 on, where there are any, and
+    this one."""
     programs = Path.home().glob(".pyenv/versions/3.*/bin/python3")
-    found = {numbers_of(it.parent.parent.name): str(it) for it in programs}
-    found = {version: found[version] for version in sorted(found) if version >= (3, 8)}
-    ends = list(found)[:: max(1, len(found) - 1)]
-    return {**{it: found[it] for it in ends}, sys.version_info[:3]: sys.executable}
+    found = sorted((numbers_of(it.parent.parent.name), str(it)) for it in programs)
+    found = [it for it in found if it[0] >= (3, 8)]
+    ends = [*found[:: max(1, len(found) - 1)], (sys.version_info[:3], sys.executable)]
+    return {".".join(map(str, it)): program for it, program in ends}
+
+
+CPYTHONS = pythons()
+PYTHONS = {**CPYTHONS, "pypy3": "pypy3"}
 
 
 def virtual_environment(program, folder):
     """A new virtual environment of a Python, for which pip asks no index: the variables that choose
     it."""
+    needs(program)
     run(program, "-m", "venv", "--clear", folder, cwd=folder.parent)
     quiet = {"PIP_DISABLE_PIP_VERSION_CHECK": "1", "PIP_QUIET": "1", "PIP_NO_CACHE_DIR": "1"}
     quiet.update(PIP_NO_INDEX="1", PYTHONIOENCODING="utf-8")

@@ -13,7 +13,7 @@ from pathlib import Path
 
 import pytest
 
-from installing import Page, commands, of_rust, pythons, user, virtual_environment
+from installing import CPYTHONS, Page, commands, of_rust, user, virtual_environment
 from running import ENVIRONMENT, TOP, fail, needs, run, write
 
 PAGE = (TOP / "bindings/README.md").read_text(encoding="utf-8")
@@ -93,7 +93,7 @@ OF_PIP = {
 }
 
 
-@pytest.mark.parametrize("program", pythons().values(), ids=lambda it: it.split("/")[-3])
+@pytest.mark.parametrize("program", CPYTHONS.values(), ids=CPYTHONS)
 def test_pip(follow, program):
     needs("cc")
     follow(BY_PAGE, NUMBER, **virtual_environment(program, follow.folder / "environment"))

@@ -1,8 +1,9 @@
 """The packages of `bindings/packages.sh`, installed as their users do, with no `rt` on the path.
 
 In an empty folder the install line of each package's README is followed, and then its example,
-which answers as its comments say. The types are checked, what can be uninstalled is, and aarch64
-runs under qemu. Of the C source a wheel is made, a library, and the crate without its archives.
+which answers as its comments say. The types are checked, what can be uninstalled is, PyPy and musl
+are tried, and aarch64 runs under qemu. Of the C source a wheel is made, a library, and the crate
+without its archives.
 """
 import base64
 import csv
@@ -18,9 +19,10 @@ from pathlib import Path
 
 import pytest
 
-from installing import MANIFEST, NATIVE, USERS, Readme, commands, listed, npm, of_rust, package
-from installing import packages_in, pythons, unpacked, user, virtual_environment
-from running import ENVIRONMENT, fail, needs, run, write
+from installing import MANIFEST, NATIVE, PYTHONS, USERS, Readme, commands, listed, npm, of_rust
+from installing import package, packages_in, unpacked, user, virtual_environment
+from questions import wrong_answers
+from running import ENVIRONMENT, TOP, fail, needs, run, write
 
 NAME = "chinese-number-proved"
 
@@ -63,19 +65,30 @@ def of_builds(package_name, files, builds):
             fail(f"{whole} is none of the files that PROVENANCE.json names for {build}")
 
 
-@pytest.mark.parametrize("program", pythons().values(), ids=lambda it: it.split("/")[-3])
+@pytest.mark.parametrize("program", PYTHONS.values(), ids=PYTHONS)
 def test_wheel(packages, tmp_path, program):
     wheel = package(packages, f"*_{NATIVE}.whl", NATIVE)
     by_pip(packages, tmp_path, Readme(wheel, "METADATA", "python"), program)
 
 
-def test_python_source(packages, tmp_path):
+def test_library_of_wheel_by_musl(packages, of_c, tmp_path):
+    """Debian has no Python over musl, so a program of musl's loads the library as Python does."""
+    needs("musl-gcc")
+    files = listed(package(packages, f"*_{NATIVE}.whl", NATIVE))
+    (tmp_path / "library.so").write_bytes(files["chinese_number/libchinese_number.so"])
+    words = (USERS / "load.c", f"-I{of_c.prefix}/include", "-o", "load")
+    run("musl-gcc", *words, cwd=tmp_path)
+    run("./load", "./library.so", cwd=tmp_path, wanted="壹拾伍元整")
+
+
+@pytest.mark.parametrize("program", [sys.executable, "pypy3"], ids=["python3", "pypy3"])
+def test_python_source(packages, tmp_path, program):
     needs("cc")
     sdist = package(packages, "chinese_number_proved-*.tar.gz", "the C source")
-    by_pip(packages, tmp_path, Readme(sdist, "PKG-INFO", "python"), which=1)
+    by_pip(packages, tmp_path, Readme(sdist, "PKG-INFO", "python"), program, which=1)
 
 
-def by_pip(packages, scratch, readme, program=sys.executable, which=0):
+def by_pip(packages, scratch, readme, program, which=0):
     """Installs by one of the README's install lines, tries what is there, and uninstalls it."""
     own = virtual_environment(program, scratch / "venv")
     where = "import sysconfig; print(sysconfig.get_path('purelib'))"
@@ -83,6 +96,10 @@ def by_pip(packages, scratch, readme, program=sys.executable, which=0):
     before = set(site.iterdir())
     readme.follow(packages, scratch / "python", which, **own)
     compare_record(site)
+    # It is run elsewhere, where no module of the repository stands beside it.
+    answers = shutil.copy(TOP / "bindings/python/answers.py", scratch)
+    wrong = wrong_answers(lambda asked: run("python", answers, cwd=scratch, stdin=asked, **own))
+    assert wrong == []
     example, program = write(scratch / "user/example.txt", readme.example), USERS / "user.py"
     run("python", USERS / "doctests.py", example, cwd=scratch, wanted="0 True 0 True\n", **own)
     run("python", program, cwd=scratch, wanted=user("user.py.txt"), **own)
@@ -240,14 +257,15 @@ STRICT = (
     "-Wall -Wextra -Werror -pedantic -Wconversion -Wsign-conversion -Wshadow -Wundef -Wcast-qual"
 )
 NATIVE_C = f"chinese-number-*-{NATIVE}.tar.gz"
-COMPILERS = {
-    "cc": "-std=c99",
-    "gcc": "-std=c2x",
-    "clang": "-std=c11",
-    "musl-gcc": "-std=c99",
-    "g++": "-x c++ -std=c++11",
-    "clang++": "-x c++ -std=c++11",
-}
+COMPILERS = (
+    "cc -std=c99",
+    "gcc -std=c2x",
+    "clang -std=c11",
+    "musl-gcc -std=c99",
+    "musl-gcc -std=c99 -static",
+    "g++ -x c++ -std=c++11",
+    "clang++ -x c++ -std=c++11",
+)
 
 
 class OfC:
@@ -290,10 +308,11 @@ def test_c(packages, of_c, tmp_path):
     of_c.answers(next(tmp_path.glob("c/*/a.out")))
 
 
-@pytest.mark.parametrize("compiler", COMPILERS)
-def test_c_by_compiler(of_c, compiler):
+@pytest.mark.parametrize("call", COMPILERS)
+def test_c_by_compiler(of_c, call):
+    compiler, *words = call.split()
     needs(compiler)
-    of_c.compile(compiler, *COMPILERS[compiler].split())
+    of_c.compile(compiler, *words)
 
 
 def test_cpp(packages, of_c):

@@ -86,11 +86,7 @@ fn form(words: &str) -> AmountForm {
 }
 
 fn print_amount_as(script: &str, words: &str, fen: &str) -> String {
-    told(amount_to_chinese_as(
-        variant(script),
-        form(words),
-        number(fen),
-    ))
+    told(amount_to_chinese_as(variant(script), form(words), number(fen)))
 }
 
 fn read_date(text: &str) -> String {
@@ -100,11 +96,7 @@ fn read_date(text: &str) -> String {
 
 fn print_date(script: &str, date: &str) -> String {
     let parts: Vec<&str> = date.split('-').collect();
-    let date = BillDate {
-        year: number(parts[0]),
-        month: number(parts[1]),
-        day: number(parts[2]),
-    };
+    let date = BillDate { year: number(parts[0]), month: number(parts[1]), day: number(parts[2]) };
     told(date_to_chinese(variant(script), date))
 }
 

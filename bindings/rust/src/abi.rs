@@ -91,7 +91,8 @@ struct Date {
     day: u32,
 }
 
-// What is read of a text, of each kind that is read, and the place of the character at fault.
+// What is read of a text, of each kind that is read, and the place of the character at fault. In the
+// header the three numbers of a date stand in front of the place one by one, which is the same layout.
 #[derive(Default)]
 #[repr(C)]
 struct Reading<T> {
@@ -211,33 +212,27 @@ whole! { usize: U64; isize: I64; }
 #[cfg(target_pointer_width = "32")]
 whole! { usize: U32; isize: I32; }
 
-// What a call answers for a text, once it is done; else its status. The interface has no error for
-// a text that the C source refuses for its length.
+// What a call writes for a text, and its status. The interface has no error for a text that the C
+// source refuses for its length.
 #[inline]
-fn answered<A: Default>(call: impl FnOnce(*mut A) -> u32) -> (A, Result<(), u32>) {
+fn answered<A: Default>(call: impl FnOnce(*mut A) -> u32) -> (A, u32) {
     let mut answer = A::default();
     let status = call(&raw mut answer);
     assert!(
         status != status::TOO_LONG,
         "the text is too long: it has more than 4,293,918,720 bytes"
     );
-    (
-        answer,
-        if status == status::DONE {
-            Ok(())
-        } else {
-            Err(status)
-        },
-    )
+    (answer, status)
 }
 
 // What is read, or the status and the place.
 #[inline]
 fn read_by<T: Default>(call: impl FnOnce(*mut Reading<T>) -> u32) -> Result<T, (u32, usize)> {
     let (reading, status) = answered(call);
-    match status {
-        Ok(()) => Ok(reading.value),
-        Err(status) => Err((status, reading.char_index)),
+    if status == status::DONE {
+        Ok(reading.value)
+    } else {
+        Err((status, reading.char_index))
     }
 }
 
@@ -286,7 +281,11 @@ pub fn find(text: &str, upper: bool, greatest: Unit) -> Result<Span, u32> {
         let (upper, greatest) = (u32::from(upper), greatest as u32);
         chinese_number_find_utf8(text.as_ptr(), text.len(), upper, greatest, span)
     });
-    status.map(|()| span)
+    if status == status::DONE {
+        Ok(span)
+    } else {
+        Err(status)
+    }
 }
 
 // The text that a call prints into a room, or its status.

@@ -18,15 +18,9 @@ pub struct Wanted {
 
 impl Wanted {
     /// What sentences of today have: the lower case, and units up to 兆.
-    pub const EVERYDAY: Self = Self {
-        upper: false,
-        greatest: Unit::Zhao,
-    };
+    pub const EVERYDAY: Self = Self { upper: false, greatest: Unit::Zhao };
     /// All characters that the readers read.
-    pub const ALL: Self = Self {
-        upper: true,
-        greatest: Unit::Ji,
-    };
+    pub const ALL: Self = Self { upper: true, greatest: Unit::Ji };
 }
 
 /// A run of numeral characters in its text.
@@ -125,11 +119,7 @@ pub struct Numbers<'a> {
 /// ```
 #[inline]
 pub fn find_numbers(text: &str, wanted: Wanted) -> Numbers<'_> {
-    Numbers {
-        wanted,
-        whole: text,
-        next: 0,
-    }
+    Numbers { wanted, whole: text, next: 0 }
 }
 
 impl<'a> Iterator for Numbers<'a> {
@@ -144,12 +134,7 @@ impl<'a> Iterator for Numbers<'a> {
         let (before, rest) = self.whole.split_at(self.next + span.start);
         let (text, after) = rest.split_at(span.end - span.start);
         self.next += span.end;
-        Some(Found {
-            before,
-            text,
-            after,
-            is_plain: span.digits == 1,
-        })
+        Some(Found { before, text, after, is_plain: span.digits == 1 })
     }
 }
 

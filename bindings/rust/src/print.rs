@@ -28,6 +28,11 @@ impl Display for NumberToChineseError {
 
 impl core::error::Error for NumberToChineseError {}
 
+/// An integer type, one of the twelve.
+pub trait Integer: Whole {}
+
+impl<T: Whole> Integer for T {}
+
 /// A room for one text, which is printed without taking memory: the text lies in the room until the
 /// next one is printed there. It is large enough for each number, amount and date.
 ///
@@ -65,7 +70,7 @@ impl Room {
     ///
     /// `Low` refuses 10^16 and more, -10^16 and less.
     #[inline]
-    pub fn number<T: Whole>(
+    pub fn number<T: Integer>(
         &mut self,
         chinese_variant: ChineseVariant,
         chinese_case: ChineseCase,
@@ -77,28 +82,13 @@ impl Room {
 
     /// Prints a number as plain digits, as [`NumberToChinese::to_chinese_naive`] does.
     #[inline]
-    pub fn number_naive<T: Whole>(
+    pub fn number_naive<T: Integer>(
         &mut self,
         chinese_variant: ChineseVariant,
         chinese_case: ChineseCase,
         value: T,
     ) -> &str {
-        self.unrefused(chinese_variant, chinese_case, Way::Digits, value)
-    }
-
-    // Prints a number that this way never refuses.
-    #[inline]
-    fn unrefused<T: Whole>(
-        &mut self,
-        variant: ChineseVariant,
-        case: ChineseCase,
-        way: Way,
-        value: T,
-    ) -> &str {
-        match self.by_way(variant, case, way, value) {
-            Ok(text) => text,
-            Err(_) => unreachable!("`Low` alone refuses numbers, from 10^16 on"),
-        }
+        unrefused(self.by_way(chinese_variant, chinese_case, Way::Digits, value))
     }
 
     #[inline]
@@ -168,6 +158,12 @@ impl fmt::Debug for Room {
     }
 }
 
+// The text of a number that its way never refuses.
+#[inline]
+fn unrefused(text: Result<&str, NumberToChineseError>) -> &str {
+    text.unwrap_or_else(|_| unreachable!("`Low` alone refuses numbers, from 10^16 on"))
+}
+
 /// A number that is written in Chinese.
 ///
 /// ```rust
@@ -201,8 +197,8 @@ pub trait NumberToChinese {
 }
 
 macro_rules! printer {
-    ($t:ty, $name:ident, $way:ident) => {
-        #[doc = concat!("Writes a `", stringify!($t), "` by `", stringify!($way), "`.")]
+    ($t:ty, $name:ident, $way:ident, $how:expr) => {
+        #[doc = concat!("Writes a `", stringify!($t), "` ", $how, ".")]
         #[inline]
         #[must_use]
         pub fn $name(
@@ -210,13 +206,11 @@ macro_rules! printer {
             chinese_case: ChineseCase,
             value: $t,
         ) -> String {
-            Room::new()
-                .unrefused(chinese_variant, chinese_case, Way::$way, value)
-                .into()
+            unrefused(Room::new().by_way(chinese_variant, chinese_case, Way::$way, value)).into()
         }
     };
-    ($t:ty, $name:ident, $way:ident refuses) => {
-        #[doc = concat!("Writes a `", stringify!($t), "` by `", stringify!($way), "`.")]
+    ($t:ty, $name:ident, $way:ident, $how:expr, refuses) => {
+        #[doc = concat!("Writes a `", stringify!($t), "` ", $how, ".")]
         ///
         /// # Errors
         ///
@@ -255,8 +249,8 @@ macro_rules! printers {
             }
         }
 
-        printer!($t, $naive, Digits);
-        $(printer!($t, $name, $method $($refuses)?);)*
+        printer!($t, $naive, Digits, "as plain digits");
+        $(printer!($t, $name, $method, concat!("by `", stringify!($method), "`") $(, $refuses)?);)*
     };
 }
 
@@ -334,11 +328,7 @@ pub struct AmountForm {
 
 impl AmountForm {
     /// With 元 and 整, and nothing in front.
-    pub const PLAIN: Self = Self {
-        currency: false,
-        round_yuan: false,
-        upright_closing: false,
-    };
+    pub const PLAIN: Self = Self { currency: false, round_yuan: false, upright_closing: false };
 
     #[inline]
     fn code(self) -> u32 {
@@ -407,9 +397,7 @@ pub fn amount_to_chinese_as(
     form: AmountForm,
     fen: u64,
 ) -> Result<String, AmountToChineseError> {
-    Room::new()
-        .amount(chinese_variant, form, fen)
-        .map(String::from)
+    Room::new().amount(chinese_variant, form, fen).map(String::from)
 }
 
 /// Why a date is not written.

@@ -26,10 +26,7 @@ impl Display for ChineseToNumberError {
         match self {
             Self::ChineseNumberEmpty => f.write_str("a chinese number cannot be empty"),
             Self::ChineseNumberIncorrect { char_index } => {
-                write!(
-                    f,
-                    "the chinese number is incorrect (position: {char_index})"
-                )
+                write!(f, "the chinese number is incorrect (position: {char_index})")
             }
             Self::Overflow => f.write_str("number is too large"),
             Self::Underflow => f.write_str("number is too small"),
@@ -105,18 +102,10 @@ macro_rules! reader {
             read(chinese_number.as_ref(), Way::$way)
         }
     };
-    ($t:ty, $name:ident, $way:ident) => {
-        reader!(
-            $t,
-            $name,
-            $way,
-            concat!("a numeral, by `", stringify!($way), "`,")
-        );
-    };
 }
 
 macro_rules! readers {
-    ($t:ty: $any:ident, $naive:ident $(, $name:ident $method:ident)*) => {
+    ($t:ty: $naive:ident $(, $name:ident $method:ident)*) => {
         impl<S: AsRef<str>> ChineseToNumber<$t> for S {
             #[inline]
             fn to_number(&self, method: ChineseCountMethod) -> Result<$t, ChineseToNumberError> {
@@ -130,71 +119,70 @@ macro_rules! readers {
 
             #[inline]
             fn to_number_any(&self) -> Result<$t, ChineseToNumberError> {
-                $any(self)
+                read(self.as_ref(), Way::Any)
             }
         }
 
-        reader!($t, $any, Any, "a numeral that is written either way");
         reader!($t, $naive, Digits, "plain digits");
-        $(reader!($t, $name, $method);)*
+        $(reader!($t, $name, $method, concat!("a numeral by `", stringify!($method), "`"));)*
     };
 }
 
-readers! { u8: from_chinese_to_u8_any, from_chinese_to_u8_naive, from_chinese_to_u8 Low }
-readers! { u16: from_chinese_to_u16_any, from_chinese_to_u16_naive, from_chinese_to_u16 Low }
+readers! { u8: from_chinese_to_u8_naive, from_chinese_to_u8 Low }
+readers! { u16: from_chinese_to_u16_naive, from_chinese_to_u16 Low }
 readers! {
-    u32: from_chinese_to_u32_any, from_chinese_to_u32_naive,
+    u32: from_chinese_to_u32_naive,
     from_chinese_to_u32_low Low,
     from_chinese_to_u32_ten_thousand TenThousand,
     from_chinese_to_u32_middle Middle,
     from_chinese_to_u32_high High
 }
 readers! {
-    u64: from_chinese_to_u64_any, from_chinese_to_u64_naive,
+    u64: from_chinese_to_u64_naive,
     from_chinese_to_u64_low Low,
     from_chinese_to_u64_ten_thousand TenThousand,
     from_chinese_to_u64_middle Middle,
     from_chinese_to_u64_high High
 }
 readers! {
-    u128: from_chinese_to_u128_any, from_chinese_to_u128_naive,
+    u128: from_chinese_to_u128_naive,
     from_chinese_to_u128_low Low,
     from_chinese_to_u128_ten_thousand TenThousand,
     from_chinese_to_u128_middle Middle,
     from_chinese_to_u128_high High
 }
 readers! {
-    usize: from_chinese_to_usize_any, from_chinese_to_usize_naive,
+    usize: from_chinese_to_usize_naive,
     from_chinese_to_usize_low Low,
     from_chinese_to_usize_ten_thousand TenThousand,
     from_chinese_to_usize_middle Middle,
     from_chinese_to_usize_high High
 }
-readers! { i8: from_chinese_to_i8_any, from_chinese_to_i8_naive, from_chinese_to_i8 Low }
-readers! { i16: from_chinese_to_i16_any, from_chinese_to_i16_naive, from_chinese_to_i16 Low }
+readers! { i8: from_chinese_to_i8_naive, from_chinese_to_i8 Low }
+readers! { i16: from_chinese_to_i16_naive, from_chinese_to_i16 Low }
 readers! {
-    i32: from_chinese_to_i32_any, from_chinese_to_i32_naive,
+    i32: from_chinese_to_i32_naive,
     from_chinese_to_i32_low Low,
     from_chinese_to_i32_ten_thousand TenThousand,
     from_chinese_to_i32_middle Middle,
     from_chinese_to_i32_high High
 }
 readers! {
-    i64: from_chinese_to_i64_any, from_chinese_to_i64_naive,
+    i64: from_chinese_to_i64_naive,
     from_chinese_to_i64_low Low,
     from_chinese_to_i64_ten_thousand TenThousand,
     from_chinese_to_i64_middle Middle,
     from_chinese_to_i64_high High
 }
 readers! {
-    i128: from_chinese_to_i128_any, from_chinese_to_i128_naive,
+    i128: from_chinese_to_i128_naive,
     from_chinese_to_i128_low Low,
     from_chinese_to_i128_ten_thousand TenThousand,
     from_chinese_to_i128_middle Middle,
     from_chinese_to_i128_high High
 }
 readers! {
-    isize: from_chinese_to_isize_any, from_chinese_to_isize_naive,
+    isize: from_chinese_to_isize_naive,
     from_chinese_to_isize_low Low,
     from_chinese_to_isize_ten_thousand TenThousand,
     from_chinese_to_isize_middle Middle,

@@ -27,10 +27,7 @@ fn reads_back_each_date() {
 
 #[test]
 fn refuses_what_is_no_date() {
-    for row in include_str!("../../../tests/rows/no_dates.tsv")
-        .lines()
-        .skip(1)
-    {
+    for row in include_str!("../../../tests/rows/no_dates.tsv").lines().skip(1) {
         let parts: Vec<&str> = row.split('\t').collect();
         let (year, month, day) = (parts[0].parse(), parts[1].parse(), parts[2].parse());
         let date = date_of(year.unwrap(), month.unwrap(), day.unwrap());

@@ -42,10 +42,7 @@ fn finds_each_number_in_its_text() {
 #[test]
 fn answers_as_the_readers_do() {
     let found = find_numbers("共三百人", Wanted::EVERYDAY).next().unwrap();
-    assert_eq!(
-        found.number::<u8>(METHOD),
-        Err(ChineseToNumberError::Overflow)
-    );
+    assert_eq!(found.number::<u8>(METHOD), Err(ChineseToNumberError::Overflow));
     assert_eq!(found.number::<i16>(METHOD), Ok(300));
     let found = find_numbers("三億", Wanted::ALL).next().unwrap();
     assert_eq!(found.number::<i128>(ChineseCountMethod::Low), Ok(300_000));
@@ -77,13 +74,8 @@ fn looks_for_units_up_to_the_greatest() {
         Unit::Ji,
     ];
     for (rank, greatest) in greatest.into_iter().enumerate() {
-        let wanted = Wanted {
-            upper: false,
-            greatest,
-        };
-        let texts: String = find_numbers(units, wanted)
-            .map(|found| found.text)
-            .collect();
+        let wanted = Wanted { upper: false, greatest };
+        let texts: String = find_numbers(units, wanted).map(|found| found.text).collect();
         // 個 stands directly before no unit from 萬 up.
         let looked_for: String = units.chars().skip(1).take(rank).collect();
         assert_eq!(texts, looked_for);

@@ -5,6 +5,7 @@
 use std::error::Error;
 use std::fmt::{Debug, Display};
 use std::hash::Hash;
+use std::ops::Range;
 use std::thread;
 
 use chinese_number::*;
@@ -15,16 +16,9 @@ type Printed = Result<String, NumberToChineseError>;
 /// The way in the name of a call: none digit by digit, and `Low` where the name has none.
 fn way(name: &str) -> Option<ChineseCountMethod> {
     use ChineseCountMethod::*;
-    let named = [
-        ("_naive", None),
-        ("_ten_thousand", Some(TenThousand)),
-        ("_middle", Some(Middle)),
-    ];
+    let named = [("_naive", None), ("_ten_thousand", Some(TenThousand)), ("_middle", Some(Middle))];
     let found = named.iter().find(|(end, _)| name.ends_with(end));
-    found.map_or(
-        Some(if name.ends_with("_high") { High } else { Low }),
-        |(_, way)| *way,
-    )
+    found.map_or(Some(if name.ends_with("_high") { High } else { Low }), |(_, way)| *way)
 }
 
 /// Texts that tell the ways apart: the greatest unit whose scale fits, and the next one.
@@ -43,12 +37,7 @@ const TEXTS: [&str; 11] = [
 ];
 
 /// A number that fits the type, and is written otherwise by each way that can be told there.
-const NUMBERS: [u128; 4] = [
-    10,
-    100_000,
-    1_000_100_000_000,
-    1_000_000_000_000_000_000_000_000,
-];
+const NUMBERS: [u128; 4] = [10, 100_000, 1_000_100_000_000, 1_000_000_000_000_000_000_000_000];
 
 /// Each of these calls has this type, and answers as the trait does by the way of its name.
 macro_rules! readers {
@@ -150,12 +139,16 @@ fn printers_by_name() {
 
 #[test]
 fn signatures_of_amounts_of_dates_and_of_the_search() {
-    let _: fn(ChineseVariant, u64) -> Result<String, AmountToChineseError> = amount_to_chinese;
+    type Written = Result<String, AmountToChineseError>;
+    let _: fn(ChineseVariant, u64) -> Written = amount_to_chinese;
+    let _: fn(ChineseVariant, AmountForm, u64) -> Written = amount_to_chinese_as;
     let _: fn(&str) -> Result<u64, ChineseToAmountError> = chinese_to_amount;
     let _: fn(ChineseVariant, BillDate) -> Result<String, DateToChineseError> = date_to_chinese;
     let _: fn(&str) -> Result<BillDate, ChineseToDateError> = chinese_to_date;
     let _: fn(&'static str, Wanted) -> Numbers<'static> = find_numbers;
     let _: fn(Found<'static>, ChineseCountMethod) -> Answer<u8> = Found::number;
+    let _: fn(Found<'static>) -> Option<u8> = Found::value;
+    let _: fn(Found<'static>) -> Range<usize> = Found::range;
     let _: [Wanted; 2] = const { [Wanted::EVERYDAY, Wanted::ALL] };
 }
 
@@ -195,6 +188,7 @@ fn traits() {
     is_an_error::<AmountToChineseError>();
     is_an_error::<ChineseToAmountError>();
     is_a_value::<BillDate>();
+    is_a_value::<AmountForm>();
     is_an_error::<DateToChineseError>();
     is_an_error::<ChineseToDateError>();
     has_a_hash::<ChineseVariant>();
@@ -203,6 +197,7 @@ fn traits() {
     has_a_hash::<Unit>();
     has_a_hash::<Wanted>();
     has_a_hash::<BillDate>();
+    has_a_hash::<AmountForm>();
     assert!(Unit::Wan < Unit::Yi);
     assert!(ChineseVariant::Traditional < ChineseVariant::Simple);
 }
@@ -210,10 +205,7 @@ fn traits() {
 #[test]
 fn methods_in_their_order() {
     use ChineseCountMethod::*;
-    assert_eq!(
-        ChineseCountMethod::variants(),
-        [Low, TenThousand, Middle, High]
-    );
+    assert_eq!(ChineseCountMethod::variants(), [Low, TenThousand, Middle, High]);
 }
 
 #[test]
@@ -230,20 +222,14 @@ fn texts_of_errors() {
         (&NumberToChineseError::Overflow, "number is too large"),
         (&NumberToChineseError::Underflow, "number is too small"),
         (&AmountToChineseError::Overflow, "number is too large"),
-        (
-            &ChineseToAmountError::Unfinished,
-            "the amount is not finished",
-        ),
+        (&ChineseToAmountError::Unfinished, "the amount is not finished"),
         (
             &ChineseToAmountError::Incorrect { char_index: 3 },
             "the amount is incorrect (position: 3)",
         ),
         (&DateToChineseError::NotADate, "there is no such date"),
         (&ChineseToDateError::Unfinished, "the date is not finished"),
-        (
-            &ChineseToDateError::Incorrect { char_index: 10 },
-            "the date is incorrect (position: 10)",
-        ),
+        (&ChineseToDateError::Incorrect { char_index: 10 }, "the date is incorrect (position: 10)"),
     ];
     for (error, text) in rows {
         assert_eq!(error.to_string(), text);
@@ -278,12 +264,7 @@ fn reads_back(step: i64) {
 
 #[test]
 fn four_threads() {
-    let steps = [
-        1,
-        -1_000_003,
-        1_000_000_007_000_000_009,
-        -7_777_777_777_777_777_777,
-    ];
+    let steps = [1, -1_000_003, 1_000_000_007_000_000_009, -7_777_777_777_777_777_777];
     let threads = steps.map(|step| thread::spawn(move || reads_back(step)));
     for thread in threads {
         thread.join().unwrap();

@@ -11,43 +11,25 @@ const CASES: [ChineseCase; 2] = [ChineseCase::Upper, ChineseCase::Lower];
 fn numbers() {
     let mut room = Room::default();
     for number in [i128::MIN, -1, 0, 10_000_000_000_000_000, i128::MAX] {
-        for (script, case) in SCRIPTS
-            .into_iter()
-            .flat_map(|it| CASES.map(|case| (it, case)))
-        {
+        for (script, case) in SCRIPTS.into_iter().flat_map(|it| CASES.map(|case| (it, case))) {
             let text = number.to_chinese_naive(script, case);
             assert_eq!(room.number_naive(script, case, number), text);
             for method in ChineseCountMethod::variants() {
                 let text = number.to_chinese(script, case, method);
-                assert_eq!(
-                    room.number(script, case, method, number).map(String::from),
-                    text
-                );
+                assert_eq!(room.number(script, case, method, number).map(String::from), text);
             }
         }
     }
-    assert_eq!(
-        room.number_naive(ChineseVariant::Simple, ChineseCase::Lower, 12u8),
-        "一二"
-    );
+    assert_eq!(room.number_naive(ChineseVariant::Simple, ChineseCase::Lower, 12u8), "一二");
 }
 
 #[test]
 fn amounts() {
     let mut room = Room::new();
-    for fen in [
-        0,
-        140_950,
-        999_999_999_999_999_999,
-        1_000_000_000_000_000_000,
-    ] {
+    for fen in [0, 140_950, 999_999_999_999_999_999, 1_000_000_000_000_000_000] {
         for script in SCRIPTS {
             let text = amount_to_chinese(script, fen);
-            assert_eq!(
-                room.amount(script, AmountForm::PLAIN, fen)
-                    .map(String::from),
-                text
-            );
+            assert_eq!(room.amount(script, AmountForm::PLAIN, fen).map(String::from), text);
         }
     }
 }
@@ -56,32 +38,22 @@ fn amounts() {
 fn dates() {
     let mut room = Room::new();
     for day in [0, 15, 31] {
-        let date = BillDate {
-            year: 2026,
-            month: 11,
-            day,
-        };
+        let date = BillDate { year: 2026, month: 11, day };
         for script in SCRIPTS {
-            assert_eq!(
-                room.date(script, date).map(String::from),
-                date_to_chinese(script, date)
-            );
+            assert_eq!(room.date(script, date).map(String::from), date_to_chinese(script, date));
         }
     }
 }
 
+fn write_digits(to: &mut impl Write, number: impl Integer) -> std::fmt::Result {
+    to.write_str(Room::new().number_naive(ChineseVariant::Simple, ChineseCase::Lower, number))
+}
+
 #[test]
 fn into_a_writer() -> std::fmt::Result {
-    let (mut room, mut text) = (Room::new(), String::new());
-    text.write_str(
-        room.amount(ChineseVariant::Simple, AmountForm::PLAIN, 1_500)
-            .unwrap(),
-    )?;
-    write!(
-        text,
-        "，{}",
-        room.number_naive(ChineseVariant::Simple, ChineseCase::Lower, 12)
-    )?;
-    assert_eq!(text, "壹拾伍元整，一二");
+    let mut text = String::new();
+    write_digits(&mut text, 12u8)?;
+    write_digits(&mut text, -3i128)?;
+    assert_eq!(text, "一二负三");
     Ok(())
 }

@@ -1,0 +1,505 @@
+/* calls THREADS STEP: calls the library as nobody should, and holds each answer to what
+ * chinese_number.h says: codes that name nothing, rooms of each length, texts that are no UTF-8,
+ * and NULL at length 0. What a call is given stands beside a page that nobody may touch, and all
+ * bytes that it may not write are compared. Each thread makes the same tries, one of each STEP, and
+ * has to come to the same sum. Says how many tries there were, and how many went wrong. */
+#define _DEFAULT_SOURCE
+#include "chinese_number.h"
+
+#include <pthread.h>
+#include <stdio.h>
+#include <stdlib.h>
+#include <string.h>
+#include <sys/mman.h>
+#include <unistd.h>
+
+#define LENGTH_OF(array) (sizeof(array) / sizeof(array)[0])
+#define STATUS(status) (1u << (status))
+
+enum { UNTOUCHED = 0xA5, PLACES = 4, MOST_THREADS = 8, TEXTS = 100000, MOST_TEXT = 800 };
+
+/* A call is proved, or trusts its text to be UTF-8, or takes chars and is of the header. One of the
+ * last two answers a text as the call before it does. */
+typedef enum style { PROVED, TRUSTS, IN_CHARS } style;
+
+/* What a call is given. What it tells is written in front of told_end. */
+typedef struct question {
+    style style;
+    const uint8_t *text;
+    size_t text_length;
+    const uint64_t *values;
+    uint32_t codes[PLACES];
+    uint8_t *room;
+    size_t room_length;
+    uint8_t *told_end;
+} question;
+
+/* What it says: a printed text's length, or what was read or found. */
+typedef struct answer {
+    uint64_t status, values[3], char_index, byte_index;
+} answer;
+
+/* Room for what a call tells: each byte has to be written. */
+static void *told(const question *it, size_t bytes) {
+    return memset(it->told_end - bytes, UNTOUCHED, bytes);
+}
+
+/* The calls in chars take NULL where the length is 0. */
+static const char *text_of(const question *it) {
+    return it->text_length == 0 ? NULL : (const char *)it->text;
+}
+
+static char *room_of(const question *it) {
+    return it->room_length == 0 ? NULL : (char *)it->room;
+}
+
+static uint32_t read_by(const question *it, cn_reading *to) {
+    size_t length = it->text_length;
+    uint32_t kind = it->codes[0], way = it->codes[1];
+    switch (it->style) {
+    case TRUSTS: return chinese_number_read_utf8(it->text, length, kind, way, to);
+    case IN_CHARS: return cn_read(text_of(it), length, kind, way, to);
+    default: return chinese_number_read(it->text, length, kind, way, to);
+    }
+}
+
+static answer number_read(const question *it) {
+    cn_reading *to = told(it, sizeof *to);
+    uint64_t status = read_by(it, to);
+    return (answer){status, {to->number.low, to->number.high}, to->char_index, to->byte_index};
+}
+
+/* Of these calls, the one in chars begins at a span of zeros. */
+static uint32_t find_by(const question *it, cn_span *to) {
+    size_t length = it->text_length;
+    uint32_t upper = it->codes[0], greatest = it->codes[1];
+    switch (it->style) {
+    case TRUSTS: return chinese_number_find_utf8(it->text, length, upper, greatest, to);
+    case IN_CHARS:
+        memset(to, 0, sizeof *to);
+        return cn_find_next(text_of(it), length, upper, greatest, to);
+    default: return chinese_number_find(it->text, length, upper, greatest, to);
+    }
+}
+
+static answer number_find(const question *it) {
+    cn_span *to = told(it, sizeof *to);
+    uint64_t status = find_by(it, to);
+    return (answer){status, {to->start, to->end, to->digits}, 0, 0};
+}
+
+static answer amount_read(const question *it) {
+    cn_amount *to = told(it, sizeof *to);
+    uint64_t status = it->style == IN_CHARS ? cn_read_amount(text_of(it), it->text_length, to)
+                                            : chinese_amount_read(it->text, it->text_length, to);
+    return (answer){status, {to->fen}, to->char_index, to->byte_index};
+}
+
+static answer date_read(const question *it) {
+    cn_date *to = told(it, sizeof *to);
+    uint64_t status = it->style == IN_CHARS ? cn_read_date(text_of(it), it->text_length, to)
+                                            : chinese_date_read(it->text, it->text_length, to);
+    return (answer){status, {to->year, to->month, to->day}, to->char_index, to->byte_index};
+}
+
+/* In chars a zero byte, behind the text, tells its length. */
+static answer printed(const question *it, uint64_t status, size_t length) {
+    if (it->style == IN_CHARS)
+        length = status == CN_DONE ? strlen((char *)it->room) : 0;
+    return (answer){status, {length}, 0, 0};
+}
+
+static answer number_print(const question *it) {
+    size_t *to = told(it, sizeof *to), room = it->room_length;
+    const uint32_t *codes = it->codes;
+    cn_number number = {it->values[0], it->values[1]};
+    uint64_t status =
+        it->style == IN_CHARS
+            ? cn_print(number, codes[0], codes[1], codes[2], codes[3], room_of(it), room)
+            : chinese_number_print(number.low, number.high, codes[0], codes[1], codes[2], codes[3],
+                                   it->room, room, to);
+    return printed(it, status, *to);
+}
+
+static answer amount_print(const question *it) {
+    size_t *to = told(it, sizeof *to), room = it->room_length;
+    uint32_t script = it->codes[0], form = it->codes[1];
+    uint64_t fen = it->values[0];
+    uint64_t status = it->style == IN_CHARS
+        ? cn_print_amount(fen, script, form, room_of(it), room)
+        : chinese_amount_print(fen, script, form, it->room, room, to);
+    return printed(it, status, *to);
+}
+
+static answer date_print(const question *it) {
+    size_t *to = told(it, sizeof *to), room = it->room_length;
+    uint32_t year = (uint32_t)it->values[0], month = (uint32_t)it->values[1];
+    uint32_t day = (uint32_t)it->values[2], script = it->codes[0];
+    uint64_t status = it->style == IN_CHARS
+        ? cn_print_date(year, month, day, script, room_of(it), room)
+        : chinese_date_print(year, month, day, script, it->room, room, to);
+    return printed(it, status, *to);
+}
+
+/* What is printed: first what each code serves, then others, among them what is refused and what
+ * has the longest text: of the numbers the last one, -1 and 38 sixes. */
+static const uint64_t numbers[][3] = {
+    {5}, {0}, {105000}, {UINT64_MAX}, {UINT64_MAX, UINT64_MAX}, {0, UINT64_C(1) << 63},
+    {UINT64_C(0x9AC4719555555556), UINT64_C(0x829D2AE7691F6334)}};
+static const uint64_t amounts[][3] = {
+    {1500}, {0}, {1}, {140950}, {UINT64_MAX}, {UINT64_C(999999999999999999)}};
+static const uint64_t dates[][3] = {
+    {2026, 1, 15}, {2025, 12, 31}, {1, 1, 1}, {2026, 2, 29}, {2026, 257, 15}};
+
+enum {
+    READ = STATUS(CN_DONE) | STATUS(CN_EMPTY) | STATUS(CN_INCORRECT) | STATUS(CN_TOO_LARGE)
+        | STATUS(CN_TOO_SMALL)
+};
+enum { READ_CAPITALS = STATUS(CN_DONE) | STATUS(CN_UNFINISHED) | STATUS(CN_INCORRECT) };
+enum { FIND = STATUS(CN_DONE) | STATUS(CN_NONE) };
+
+/* Each call: how many codes name something in each place; and of one that takes a text its statuses
+ * where that is UTF-8, of one that prints its values, and the most bytes of a text. */
+typedef struct call {
+    const char *name;
+    answer (*ask)(const question *);
+    style style;
+    uint32_t named[PLACES], statuses;
+    const uint64_t (*values)[3];
+    size_t count, most;
+} call;
+
+#define OF_TEXT(statuses) statuses, NULL, 0, 0
+#define PRINTS(values, most) 0, values, LENGTH_OF(values), most
+
+static const call calls[] = {
+    {"chinese_number_read", number_read, PROVED, {10, 6}, OF_TEXT(READ)},
+    {"chinese_number_read_utf8", number_read, TRUSTS, {10, 6}, OF_TEXT(READ)},
+    {"cn_read", number_read, IN_CHARS, {10, 6}, OF_TEXT(READ)},
+    {"chinese_number_find", number_find, PROVED, {2, 16}, OF_TEXT(FIND)},
+    {"chinese_number_find_utf8", number_find, TRUSTS, {2, 16}, OF_TEXT(FIND)},
+    {"cn_find_next", number_find, IN_CHARS, {2, 16}, OF_TEXT(FIND)},
+    {"chinese_amount_read", amount_read, PROVED, {0}, OF_TEXT(READ_CAPITALS)},
+    {"cn_read_amount", amount_read, IN_CHARS, {0}, OF_TEXT(READ_CAPITALS)},
+    {"chinese_date_read", date_read, PROVED, {0}, OF_TEXT(READ_CAPITALS)},
+    {"cn_read_date", date_read, IN_CHARS, {0}, OF_TEXT(READ_CAPITALS)},
+    {"chinese_number_print", number_print, PROVED, {10, 5, 2, 2}, PRINTS(numbers, CN_MOST_BYTES)},
+    {"cn_print", number_print, IN_CHARS, {10, 5, 2, 2}, PRINTS(numbers, CN_MOST_BYTES)},
+    {"chinese_amount_print", amount_print, PROVED, {2, 8}, PRINTS(amounts, CN_MOST_AMOUNT_BYTES)},
+    {"cn_print_amount", amount_print, IN_CHARS, {2, 8}, PRINTS(amounts, CN_MOST_AMOUNT_BYTES)},
+    {"chinese_date_print", date_print, PROVED, {2}, PRINTS(dates, CN_MOST_DATE_BYTES)},
+    {"cn_print_date", date_print, IN_CHARS, {2}, PRINTS(dates, CN_MOST_DATE_BYTES)},
+};
+
+/* Bytes between two pages that nobody may touch. */
+typedef struct area {
+    uint8_t *first, *end;
+} area;
+
+/* What a thread has. */
+typedef struct task {
+    area text, room, told;
+    size_t step, tries, wrong;
+    uint64_t sum;
+} task;
+
+static area between_pages(void) {
+    size_t page = (size_t)sysconf(_SC_PAGESIZE);
+    uint8_t *first = mmap(NULL, 3 * page, PROT_NONE, MAP_PRIVATE | MAP_ANONYMOUS, -1, 0);
+    if (first == MAP_FAILED || mprotect(first + page, page, PROT_READ | PROT_WRITE) != 0)
+        exit(2);
+    memset(first + page, UNTOUCHED, page);
+    return (area){first + page, first + 2 * page};
+}
+
+static int is_untouched(const uint8_t *from, const uint8_t *to) {
+    return from == to
+        || (*from == UNTOUCHED && memcmp(from, from + 1, (size_t)(to - from) - 1) == 0);
+}
+
+static void add_to_sum(task *mine, const void *bytes, size_t length) {
+    for (size_t at = 0; at < length; at++)
+        mine->sum = (mine->sum ^ ((const uint8_t *)bytes)[at]) * UINT64_C(1099511628211);
+}
+
+static int is_same(answer one, answer other) { return memcmp(&one, &other, sizeof one) == 0; }
+
+static void judge(task *mine, int right, const call *by, const question *it) {
+    const uint32_t *codes = it->codes;
+    if (!right && mine->wrong++ < 9)
+        fprintf(stderr, "%s: codes %u %u %u %u, a text of %zu bytes, a room of %zu\n", by->name,
+                codes[0], codes[1], codes[2], codes[3], it->text_length, it->room_length);
+}
+
+/* How many bytes of the room are written: the text at CN_DONE; and in chars its end, too, or the
+ * end alone. */
+static size_t written(const call *by, const question *it, const answer *said) {
+    size_t text = said->status == CN_DONE ? (size_t)said->values[0] : 0;
+    if (by->most == 0)
+        return 0;
+    return text + (by->style == IN_CHARS && it->room_length != 0);
+}
+
+/* Asks, and sees that no byte is written but what is told and what may be written of the room,
+ * which it clears again. */
+static answer ask(task *mine, const call *by, const question *it, uint8_t *text) {
+    answer said = by->ask(it);
+    size_t length = written(by, it, &said);
+    uint8_t *room = by->most == 0 ? mine->room.end : it->room;
+    int right = length <= it->room_length && is_untouched(mine->room.first, room)
+        && is_untouched(room + length, mine->room.end)
+        && is_untouched(mine->told.first, mine->told.end - sizeof(cn_reading))
+        && (by->style != IN_CHARS || length == 0 || room[length - 1] == 0);
+    add_to_sum(mine, &said, sizeof said);
+    add_to_sum(mine, room, length);
+    if (text != NULL)
+        memcpy(text, room, length);
+    memset(room, UNTOUCHED, length);
+    mine->tries++;
+    judge(mine, right, by, it);
+    return said;
+}
+
+/* ---- Codes ---- */
+
+static const uint32_t tried[] = {0, 1, 2, 3, 4, 5, 6, 7, 8, 9, 10, 11, 12, 15, 16, 17, 255, 256,
+                                 257, 1u << 16, INT32_MAX, 1u << 31, UINT32_MAX};
+
+/* The codes of a number in each place. Whether each of them names something. */
+static int choose(const call *by, size_t number, uint32_t *codes) {
+    int all = 1;
+    for (size_t place = 0; place < PLACES && by->named[place] != 0; place++) {
+        codes[place] = tried[number % LENGTH_OF(tried)];
+        all &= codes[place] < by->named[place];
+        number /= LENGTH_OF(tried);
+    }
+    return all;
+}
+
+/* The same of codes that name something. How many such numbers there are. */
+static size_t choose_named(const call *by, size_t number, uint32_t *codes) {
+    size_t all = 1;
+    for (size_t place = 0; place < PLACES && by->named[place] != 0; place++) {
+        codes[place] = (uint32_t)(number % by->named[place]);
+        number /= by->named[place];
+        all *= by->named[place];
+    }
+    return all;
+}
+
+/* A question on a text or a value, with a room that is large enough. */
+static question ample(const task *mine, const call *by) {
+    question it = {by->style, mine->text.end, 0, by->values ? by->values[0] : NULL, {0}, NULL,
+                   by->most, mine->told.end};
+    it.room_length += by->most != 0 && by->style == IN_CHARS;
+    it.room = mine->room.end - it.room_length;
+    return it;
+}
+
+/* 五 is a number of each type by each way, and in each text. */
+static void try_codes(task *mine, const call *by) {
+    static const uint8_t five[] = {0xE4, 0xBA, 0x94};
+    question it = ample(mine, by);
+    size_t all = by->named[0] != 0;
+    it.text = five;
+    it.text_length = sizeof five;
+    for (size_t place = 0; place < PLACES && by->named[place] != 0; place++)
+        all *= LENGTH_OF(tried);
+    for (size_t number = 0; number < all; number += mine->step) {
+        int named = choose(by, number, it.codes);
+        answer said = ask(mine, by, &it, NULL);
+        judge(mine, named ? said.status == CN_DONE : is_same(said, (answer){CN_UNKNOWN, {0}, 0, 0}),
+              by, &it);
+    }
+}
+
+/* ---- Rooms ---- */
+
+/* What is to be said for a room, by what was said for one that is large enough. */
+static answer for_room(const call *by, const question *it, answer whole) {
+    int in_chars = by->style == IN_CHARS;
+    if (whole.status == CN_DONE && whole.values[0] + (uint64_t)in_chars > it->room_length) {
+        whole.status = CN_NO_ROOM;
+        whole.values[0] *= !in_chars;
+    }
+    return whole;
+}
+
+/* A room of each length, directly in front of the page that nobody may touch, and directly behind
+ * the other. Gives how long the text is. */
+static size_t try_rooms(task *mine, const call *by, question it) {
+    uint8_t text[CN_MOST_BYTES + 1], same[CN_MOST_BYTES + 1];
+    answer whole = ask(mine, by, &it, text), said;
+    for (size_t length = 0, most = it.room_length + 1; length <= most; length++)
+        for (int at_end = 0; at_end < 2; at_end++) {
+            it.room = at_end ? mine->room.end - length : mine->room.first;
+            it.room_length = length;
+            said = ask(mine, by, &it, same);
+            judge(mine, is_same(said, for_room(by, &it, whole)), by, &it);
+            judge(mine, said.status != CN_DONE || memcmp(text, same, (size_t)said.values[0]) == 0,
+                  by, &it);
+        }
+    return whole.status == CN_DONE ? (size_t)whole.values[0] : 0;
+}
+
+static void try_printing(task *mine, const call *by) {
+    question it = ample(mine, by);
+    size_t longest = 0, all = choose_named(by, 0, it.codes) * by->count;
+    for (size_t number = 0; number < all; number += mine->step) {
+        size_t length;
+        choose_named(by, number / by->count, it.codes);
+        it.values = by->values[number % by->count];
+        length = try_rooms(mine, by, it);
+        longest = length > longest ? length : longest;
+    }
+    judge(mine, mine->step > 1 || longest == by->most, by, &it);
+}
+
+/* ---- Texts ---- */
+
+/* What texts are made of: characters of numerals and capitals, others, an amount and a date; and in
+ * the second row what no UTF-8 has. */
+static const char *const parts[2][32] = {
+    {"一", "二", "三", "十", "百", "千", "萬", "亿", "零", "〇", "壹", "贰", "佰", "元", "圆", "整",
+     "正", "角", "分", "年", "月", "日", "负", "兩", "個", "5", "-", " ", "é", "𠀀", "人民币壹佰元整", "贰零贰陆年零叁月零壹日"},
+    {"\x80", "\xBF", "\xC0\x80", "\xC1\xBF", "\xC2", "\xE0\x9F\xBF", "\xE4", "\xE4\xB8",
+     "\xED\xA0\x80", "\xED\xBF\xBF", "\xEF\xBF", "\xF0\x8F\xBF\xBF", "\xF0\xA0", "\xF0\xA0\x80",
+     "\xF4\x90\x80\x80", "\xF5\x80\x80\x80", "\xF8\x88\x80\x80\x80", "\xFE", "\xFF", "\xE4\xB8\xE4",
+     "\xE4\x80\x7F", "\xC3\xC3", "\xDF", "\xF4", "\xF0", "\xEF", "\xED", "\xE0", "\xF3\xBF",
+     "\x81\x81", "\xA0", "\xC2\x7F"},
+};
+
+static uint64_t next_random(uint64_t *state) {
+    *state ^= *state << 13;
+    *state ^= *state >> 7;
+    *state ^= *state << 17;
+    return *state >> 8;
+}
+
+/* A text of up to 24 parts; of each second text some part is broken or some byte is another one, or
+ * its end is cut. */
+static size_t make_text(uint64_t *state, uint8_t *text) {
+    size_t length = 0, count = next_random(state) % 25, breaks = next_random(state) % 6;
+    for (size_t at = 0; at < count; at++) {
+        const char *part =
+            parts[breaks == 0 && next_random(state) % 8 == 0][next_random(state) % 32];
+        memcpy(text + length, part, strlen(part));
+        length += strlen(part);
+    }
+    if (breaks == 1 && length != 0)
+        text[next_random(state) % length] = (uint8_t)next_random(state);
+    return breaks == 2 && length != 0 ? length - 1 : length;
+}
+
+/* Whether bytes are UTF-8, by table 3-7 of the Unicode standard: how many follow the first one, and
+ * from where to where the second may go. */
+static int is_utf8(const uint8_t *text, size_t length) {
+    for (size_t at = 0; at < length;) {
+        uint8_t first = text[at++], least = 0x80, most = 0xBF;
+        size_t more = first < 0x80 ? 0 : first < 0xE0 ? 1 : first < 0xF0 ? 2 : 3;
+        if ((first >= 0x80 && first < 0xC2) || first > 0xF4 || more > length - at)
+            return 0;
+        least = first == 0xE0 ? 0xA0 : first == 0xF0 ? 0x90 : least;
+        most = first == 0xED ? 0x9F : first == 0xF4 ? 0x8F : most;
+        for (; more > 0; more--, least = 0x80, most = 0xBF)
+            if (text[at] < least || text[at++] > most)
+                return 0;
+    }
+    return 1;
+}
+
+/* Whether a character begins there, or the text ends. */
+static int is_boundary(const question *it, uint64_t at) {
+    return at == it->text_length || (at < it->text_length && (it->text[at] & 0xC0) != 0x80);
+}
+
+static int is_right_place(const question *it, answer said) {
+    uint64_t characters = 0;
+    for (uint64_t at = 0; at < said.byte_index && at < it->text_length; at++)
+        characters += is_boundary(it, at);
+    return said.byte_index < it->text_length && is_boundary(it, said.byte_index)
+        && characters == said.char_index;
+}
+
+/* Whether an answer to UTF-8 has what its status has, and nothing else. */
+static int is_whole(const call *by, const question *it, answer said) {
+    answer nothing = {said.status, {0}, 0, 0};
+    if (said.status >= 32 || (by->statuses & STATUS(said.status)) == 0)
+        return 0;
+    if (said.status == CN_INCORRECT) {
+        nothing.char_index = said.char_index;
+        nothing.byte_index = said.byte_index;
+        return is_same(said, nothing) && is_right_place(it, said);
+    }
+    if (said.status != CN_DONE)
+        return is_same(said, nothing);
+    if (by->statuses == FIND)
+        return said.values[0] < said.values[1] && is_boundary(it, said.values[0])
+            && is_boundary(it, said.values[1]) && said.values[2] <= 1;
+    return said.char_index == 0 && said.byte_index == 0;
+}
+
+static void try_text(task *mine, const uint8_t *text, size_t length, uint64_t choice) {
+    answer not_utf8 = {CN_NOT_UTF8, {0}, 0, 0}, before = not_utf8, said;
+    int good = is_utf8(text, length);
+    for (const call *by = calls; by < calls + LENGTH_OF(calls); by++) {
+        question it = ample(mine, by);
+        if (by->statuses == 0 || (by->style == TRUSTS && !good))
+            continue;
+        choose_named(by, (size_t)choice, it.codes);
+        it.text = text;
+        it.text_length = length;
+        said = ask(mine, by, &it, NULL);
+        judge(mine, good ? is_whole(by, &it, said) : is_same(said, not_utf8), by, &it);
+        judge(mine, by->style == PROVED || is_same(said, before), by, &it);
+        before = said;
+    }
+}
+
+/* Each text stands directly in front of the page that nobody may touch, or directly behind the
+ * other. */
+static void try_texts(task *mine) {
+    uint8_t text[MOST_TEXT];
+    for (uint64_t number = 0; number < TEXTS; number += mine->step) {
+        uint64_t state = (number + 1) * UINT64_C(0x9E3779B97F4A7C15);
+        size_t length = make_text(&state, text);
+        uint8_t *at = number % 2 != 0 ? mine->text.first : mine->text.end - length;
+        memcpy(at, text, length);
+        try_text(mine, at, length, next_random(&state));
+        mine->wrong += memcmp(at, text, length) != 0;
+    }
+}
+
+static void *try_all(void *argument) {
+    task *mine = argument;
+    mine->text = between_pages();
+    mine->room = between_pages();
+    mine->told = between_pages();
+    for (const call *by = calls; by < calls + LENGTH_OF(calls); by++) {
+        try_codes(mine, by);
+        if (by->most != 0)
+            try_printing(mine, by);
+    }
+    try_texts(mine);
+    return NULL;
+}
+
+int main(int argc, char **argv) {
+    pthread_t threads[MOST_THREADS];
+    task tasks[MOST_THREADS];
+    size_t count = argc == 3 ? (size_t)atoi(argv[1]) : 0, tries = 0, wrong = 0;
+    if (count == 0 || count > MOST_THREADS)
+        return 2;
+    for (size_t at = 0; at < count; at++) {
+        tasks[at] = (task){.step = (size_t)atoi(argv[2])};
+        if (pthread_create(&threads[at], NULL, try_all, &tasks[at]) != 0)
+            return 2;
+    }
+    for (size_t at = 0; at < count; at++) {
+        pthread_join(threads[at], NULL);
+        tries += tasks[at].tries;
+        wrong += tasks[at].wrong + (tasks[at].sum != tasks[0].sum);
+    }
+    printf("%zu tries, %zu wrong\n", tries, wrong);
+    return wrong != 0;
+}

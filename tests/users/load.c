@@ -1,0 +1,18 @@
+/* load LIBRARY: loads a shared object, as Python does, and prints an amount by it. */
+#include "chinese_number.h"
+
+#include <dlfcn.h>
+#include <stdio.h>
+
+typedef uint32_t print_call(uint64_t, uint32_t, uint32_t, uint8_t *, size_t, size_t *);
+
+int main(int argc, char **argv) {
+    uint8_t room[CN_MOST_AMOUNT_BYTES];
+    size_t length;
+    void *library = argc == 2 ? dlopen(argv[1], RTLD_NOW) : NULL;
+    print_call *print = library ? (print_call *)dlsym(library, "chinese_amount_print") : NULL;
+    if (print == NULL
+        || print(1500, CN_SIMPLIFIED, CN_PLAIN, room, sizeof room, &length) != CN_DONE)
+        return 1;
+    return fwrite(room, 1, length, stdout) != length;
+}
