@@ -1,1 +1,4 @@
-
+mod FiguresRead
+mod FiguresRun
+mod Fronts
+mod Yuan
