@@ -1,4 +1,5 @@
 mod FiguresRead
 mod FiguresRun
 mod Fronts
+mod Signed
 mod Yuan
