@@ -1,16 +1,20 @@
 -- Figures with a minus in front or not.
-use Rattle.std.proofs.Common.{◌≡◌, ℕ, ℤ, suc, ◌+◌, ◌<◌, nat_lt, Bool, true, false, ◌==◌, List, [], ◌∷◌, ◌++◌, length, map, take, Option, Some, None, Result, Ok, Err, refl, sym, ap, subst, ◌∙◌, option_map, if◌then◌else◌, add-one, arith}
+use Rattle.std.proofs.Common.{◌≡◌, ℕ, ℤ, suc, ◌+◌, ◌<◌, ◌≤◌, IsUtf8, chars, nat_lt, Bool, true, false, ◌==◌, List, [], ◌∷◌, ◌++◌, length, map, take, Option, Some, None, Result, Ok, Err, refl, sym, ap, subst, ◌∙◌, option_map, if◌then◌else◌, add-one, arith}
 use Rattle.std.specs.Prelude.{IsTrue}
+use Rattle.std.proofs.lemmas.Str.{encodes-chars, length-le-encodes}
 use Rattle.std.proofs.lemmas.Bool.Decides.{nat_tests}
 use Rattle.cn_amount.specs.Places.{amount_limit}
 use Rattle.cn_capitals.specs.declared.refusal.Refusal.{Refusal}
-use Rattle.cn_capitals.specs.declared.refusal.Refusal.TheVariants.{Unfinished, Incorrect}
+use Rattle.cn_capitals.specs.declared.refusal.Refusal.TheVariants.{Unfinished as unfinished, Incorrect as incorrect_at}
 use Rattle.cn_capitals.specs.Answers.{Begins, Answers}
 use Rattle.cn_capitals.proofs.OneAnswer.{IsOneValue, each-answer, one-answer, one-value}
 use Rattle.cn_core.specs.Whole.{signed_number}
+use Rattle.cn_figures.specs.declared.error.FiguresError.{FiguresError}
+use Rattle.cn_figures.specs.declared.error.FiguresError.TheVariants.{Unfinished, Incorrect, TooLarge}
 use Rattle.cn_figures.specs.declared.part.Part.{Part}
-use Rattle.cn_figures.specs.Figures.{below, IsFigures, IsSignedFigures, WriteAmount, WriteSignedAmount}
+use Rattle.cn_figures.specs.Figures.{below, IsFigures, IsSignedFigures, WriteAmount, WriteSignedAmount, answer_of}
 use Rattle.cn_figures.specs.Parts.{is_minus, part_of, parts_of}
+use Rattle.cn_figures.specs.Working.Minus.{IsBare, IsBehindMinus}
 use Rattle.cn_figures.specs.Working.Steps.{figures_machine}
 use Rattle.cn_figures.proofs.FiguresRead.{figures-read}
 
@@ -21,8 +25,8 @@ signed negative amount = option_map (signed_number negative) amount
 -- the answer to what stands behind a minus, as that to all
 abbrev pub answer_behind : Result (Option ℕ) Refusal → Result (Option ℤ) Refusal
 answer_behind (Ok amount) = Ok (signed true amount)
-answer_behind (Err Unfinished) = Err Unfinished
-answer_behind (Err (Incorrect place)) = Err (Incorrect (place + 1))
+answer_behind (Err unfinished) = Err unfinished
+answer_behind (Err (incorrect_at place)) = Err (incorrect_at (place + 1))
 
 -- with no minus in front
 abbrev pub answer_bare : Result (Option ℕ) Refusal → Result (Option ℤ) Refusal
@@ -77,22 +81,17 @@ pub minus-answers : (c : ℕ) (text : List ℕ) (answer : Result (Option ℕ) Re
     → is_minus c ≡ true → Answers WriteAmount text answer
     → Answers WriteSignedAmount (c ∷ text) (answer_behind answer)
 minus-answers c text (Ok amount) minus h = minus-written c text amount minus h
-minus-answers c text (Err Unfinished) minus h = (
+minus-answers c text (Err unfinished) minus h = (
   minus-begins c text minus h.0,
   λ amount k. let plain = minus-read c text amount minus k in h.1 plain.0 plain.1,
 )
-minus-answers c text (Err (Incorrect place)) minus h = (
+minus-answers c text (Err (incorrect_at place)) minus h = (
   let less = h.0 in omega (arith, less),
   subst (Begins WriteSignedAmount) (sym (take-more place c text))
       (minus-begins c (take place text) minus h.1),
   λ k. h.2 (minus-begun c (take (place + 1) text) minus
       (subst (Begins WriteSignedAmount) (take-more (place + 1) c text) k)),
 )
-
--- a text that does not begin with a minus
-abbrev pub IsBare : List ℕ → Type 0
-IsBare [] = Unit {0}
-IsBare (c ∷ text) = is_minus c ≡ false
 
 bare-written : (text : List ℕ) (amount : Option ℕ) → WriteAmount text amount
     → WriteSignedAmount text (signed false amount)
@@ -116,12 +115,12 @@ bare-begun c text bare (behind, amount, h) =
 pub bare-answers : (text : List ℕ) (answer : Result (Option ℕ) Refusal) → IsBare text
     → Answers WriteAmount text answer → Answers WriteSignedAmount text (answer_bare answer)
 bare-answers text (Ok amount) bare h = bare-written text amount h
-bare-answers text (Err Unfinished) bare h = (
+bare-answers text (Err unfinished) bare h = (
   bare-begins text h.0,
   λ amount k. let plain = bare-read text amount bare k in h.1 plain.0 plain.1,
 )
-bare-answers [] (Err (Incorrect place)) bare h = let less = h.0 in absurd (omega (arith, less))
-bare-answers (c ∷ text) (Err (Incorrect place)) bare h = (
+bare-answers [] (Err (incorrect_at place)) bare h = let less = h.0 in absurd (omega (arith, less))
+bare-answers (c ∷ text) (Err (incorrect_at place)) bare h = (
   h.0,
   bare-begins (take place (c ∷ text)) h.1,
   λ k. h.2 (subst (Begins WriteAmount) (sym (take-more place c text))
@@ -178,3 +177,23 @@ amount-low text fen (number, is, worth) = by (nat_lt number amount_limit) refl w
       → Some fen ≡ (if b then Some number else None) → fen < amount_limit
   by true less e = let same : fen ≡ number = cc in grind (arith, nat_tests, less, same)
   by false less e = absurd (cc)
+
+-- a text has no more characters than bytes
+pub few-chars : (bytes : List ℕ) → IsUtf8 bytes → length (chars bytes) ≤ length bytes
+few-chars bytes ok = let e = ap length (encodes-chars bytes ok) in let low =
+    length-le-encodes (chars bytes) in omega (arith, e, low)
+
+-- the answers to a text, by those to what is read of it
+pub behind-minus : (text rest : List ℕ) (answer : Result (Option ℕ) Refusal)
+    → IsBehindMinus text rest → Answers WriteAmount rest answer
+    → Answers WriteSignedAmount text (answer_behind answer)
+behind-minus text rest answer (c, minus, is) h =
+    subst (λ text. Answers WriteSignedAmount text (answer_behind answer)) (sym is)
+    (minus-answers c rest answer minus h)
+
+pub bare-refused : (text : List ℕ) (error : FiguresError) → IsBare text
+    → Answers WriteAmount text (answer_of {A = ℕ} (Err error))
+    → Answers WriteSignedAmount text (answer_of {A = ℤ} (Err error))
+bare-refused text TooLarge bare h = bare-answers text (Ok None) bare h
+bare-refused text Unfinished bare h = bare-answers text (Err unfinished) bare h
+bare-refused text (Incorrect place) bare h = bare-answers text (Err (incorrect_at place)) bare h

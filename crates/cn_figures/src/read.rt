@@ -1,4 +1,8 @@
+ghost use Rattle.std.specs.Prelude.{◌≡◌, ◌<◌, true, chars, MatchOption};
+ghost use Rattle.cn_amount.specs.Places.{amount_limit};
+ghost use Rattle.cn_core.specs.Whole.{signed_number};
 ghost use Rattle.cn_figures.specs.Figures.{ReadsFigures, ReadsSignedFigures};
+ghost use Rattle.cn_figures.specs.Working.Minus.{IsBare, IsBehindMinus};
 
 use crate::error::FiguresError;
 use crate::part::is_minus;
@@ -28,6 +32,25 @@ pub fn yuan_to_fen(figures: &str) -> Result<u64, FiguresError>
     }
 }
 
+// What stands behind a minus, if one stands in front.
+fn after_minus(figures: &str) -> Option<&str>
+    ensures { MatchOption result (IsBare (chars figures.now))
+        (λ rest. IsBehindMinus (chars figures.now) (chars rest.now)) }
+{
+    match split_first_char(figures) {
+        Some((first, rest)) if is_minus(first) => Some(rest),
+        _ => None,
+    }
+}
+
+// The amount below zero of so many fen.
+fn negated(fen: u64) -> i64
+    requires { fen < amount_limit }
+    ensures { result ≡ signed_number true fen }
+{
+    -(fen as i64)
+}
+
 /// The same of figures with one `-` or `−` in front, which makes the amount negative, or with none.
 ///
 /// ```text
@@ -38,14 +61,18 @@ pub fn yuan_to_fen(figures: &str) -> Result<u64, FiguresError>
 pub fn signed_yuan_to_fen(figures: &str) -> Result<i64, FiguresError>
     ensures { ReadsSignedFigures figures.now result }
 {
-    match split_first_char(figures) {
-        Some((first, rest)) if is_minus(first) => match yuan_to_fen(rest) {
-            Ok(fen) => Ok(-(fen as i64)),
+    match after_minus(figures) {
+        None => match yuan_to_fen(figures) {
+            Ok(fen) => Ok(fen as i64),
+            Err(error) => Err(error),
+        },
+        Some(rest) => match yuan_to_fen(rest) {
+            Ok(fen) => Ok(negated(fen)),
             Err(FiguresError::Incorrect { char_index }) => Err(FiguresError::Incorrect {
                 char_index: char_index + 1,
             }),
-            Err(error) => Err(error),
+            Err(FiguresError::Unfinished) => Err(FiguresError::Unfinished),
+            Err(FiguresError::TooLarge) => Err(FiguresError::TooLarge),
         },
-        _ => Ok(yuan_to_fen(figures)? as i64),
     }
 }
