@@ -9,7 +9,7 @@ use Rattle.cn_figures.specs.declared.part.Part.TheVariants.{Digit}
 use Rattle.cn_figures.specs.declared.progress.Progress.{Progress}
 use Rattle.cn_figures.specs.declared.state.State.{State}
 use Rattle.cn_figures.specs.declared.state.State.TheVariants.{Beginning, Marked, One, Two, Three, Many, AfterComma, GroupOne, GroupTwo, Grouped, AfterPoint, Jiao, Fen}
-use Rattle.cn_figures.specs.Figures.{below, IsFigures, WriteAmount}
+use Rattle.cn_figures.specs.Figures.{WriteAmount}
 use Rattle.cn_figures.specs.Parts.{part_of, parts_of}
 use Rattle.cn_figures.specs.Working.Steps.{fen_with, step, with_fen, advance, end, is_end, figures_machine}
 use Rattle.cn_figures.proofs.FiguresRun.{at, figures-run}

@@ -1,16 +1,15 @@
 -- Figures are read to their end, and what is read so far can be completed.
-use Rattle.std.proofs.Common.{◌≡◌, ℕ, zero, suc, ◌+◌, ◌*◌, ◌<◌, ◌≤◌, ◌==◌, ◌⊎◌, inl, inr, Bool, true, false, List, [], ◌∷◌, ◌++◌, length, map, drop, Option, Some, None, refl, sym, ap, subst, ◌∙◌, if◌then◌else◌, append_assoc, arith}
-use Rattle.std.proofs.lemmas.Bool.Decides.{nat_tests}
+use Rattle.std.proofs.Common.{◌≡◌, ℕ, ◌+◌, ◌*◌, ◌<◌, ◌≤◌, ◌==◌, ◌⊎◌, inl, inr, Bool, true, false, List, [], ◌∷◌, ◌++◌, length, map, drop, Option, Some, None, refl, sym, ap, ◌∙◌, if◌then◌else◌, append_assoc, arith}
 use Rattle.cn_capitals.specs.Machine.{run}
-use Rattle.cn_capitals.proofs.Runs.{ran, run-ran, run-behind}
+use Rattle.cn_capitals.proofs.Runs.{run-ran, run-behind}
 use Rattle.cn_core.proofs.Fronts.{and-left, and-right}
 use Rattle.cn_figures.specs.declared.part.Part.{Part}
-use Rattle.cn_figures.specs.declared.part.Part.TheVariants.{Currency, Digit, Comma, Point}
+use Rattle.cn_figures.specs.declared.part.Part.TheVariants.{Digit, Comma, Point}
 use Rattle.cn_figures.specs.declared.progress.Progress.{Progress}
 use Rattle.cn_figures.specs.declared.state.State.{State}
-use Rattle.cn_figures.specs.declared.state.State.TheVariants.{Beginning, Marked, One, Two, Three, Many, AfterComma, GroupOne, GroupTwo, Grouped, AfterPoint, Jiao, Fen}
+use Rattle.cn_figures.specs.declared.state.State.TheVariants.{Beginning, One, Two, Three, Many, AfterComma, GroupOne, GroupTwo, Grouped, AfterPoint, Jiao, Fen}
 use Rattle.cn_figures.specs.Figures.{value_after, value_of, Group, grouped, digits_of, marked, pointed, fen_of, below, AreFigures}
-use Rattle.cn_figures.specs.Working.Steps.{with_more, fen_with, step, with_fen, advance, end, is_end}
+use Rattle.cn_figures.specs.Working.Steps.{with_more, step, with_fen, advance, end, is_end}
 use Rattle.cn_figures.proofs.Fronts.{AreZeros}
 use Rattle.cn_figures.proofs.Yuan.{digit-more, below-more, value-behind}
 

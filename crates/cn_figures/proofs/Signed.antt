@@ -1,6 +1,5 @@
 -- Figures with a minus in front or not.
-use Rattle.std.proofs.Common.{◌≡◌, ℕ, ℤ, suc, ◌+◌, ◌<◌, ◌≤◌, IsUtf8, chars, nat_lt, Bool, true, false, ◌==◌, List, [], ◌∷◌, ◌++◌, length, map, take, Option, Some, None, Result, Ok, Err, refl, sym, ap, subst, ◌∙◌, option_map, if◌then◌else◌, add-one, arith}
-use Rattle.std.specs.Prelude.{IsTrue}
+use Rattle.std.proofs.Common.{◌≡◌, ℕ, ℤ, ◌+◌, ◌<◌, ◌≤◌, IsUtf8, chars, nat_lt, Bool, true, false, ◌==◌, List, [], ◌∷◌, ◌++◌, length, map, take, Option, Some, None, Result, Ok, Err, refl, sym, ap, subst, ◌∙◌, option_map, if◌then◌else◌, add-one, arith}
 use Rattle.std.proofs.lemmas.Str.{encodes-chars, length-le-encodes}
 use Rattle.std.proofs.lemmas.Bool.Decides.{nat_tests}
 use Rattle.cn_amount.specs.Places.{amount_limit}
@@ -12,7 +11,7 @@ use Rattle.cn_core.specs.Whole.{signed_number}
 use Rattle.cn_figures.specs.declared.error.FiguresError.{FiguresError}
 use Rattle.cn_figures.specs.declared.error.FiguresError.TheVariants.{Unfinished, Incorrect, TooLarge}
 use Rattle.cn_figures.specs.declared.part.Part.{Part}
-use Rattle.cn_figures.specs.Figures.{below, IsFigures, IsSignedFigures, WriteAmount, WriteSignedAmount, answer_of}
+use Rattle.cn_figures.specs.Figures.{below, WriteAmount, WriteSignedAmount, answer_of}
 use Rattle.cn_figures.specs.Parts.{is_minus, part_of, parts_of}
 use Rattle.cn_figures.specs.Working.Minus.{IsBare, IsBehindMinus}
 use Rattle.cn_figures.specs.Working.Steps.{figures_machine}

@@ -1,11 +1,11 @@
 -- The yuan of figures that are read: their digits, and the fen that these write.
-use Rattle.std.proofs.Common.{◌≡◌, ℕ, ◌+◌, ◌*◌, ◌<◌, ◌≤◌, nat_lt, Bool, true, false, List, [], ◌∷◌, ◌++◌, length, length-append, map, Option, Some, None, refl, sym, ap, ap₂, ◌∙◌, if◌then◌else◌, append-nil, append_assoc, arith}
+use Rattle.std.proofs.Common.{◌≡◌, ℕ, ◌+◌, ◌*◌, ◌<◌, ◌≤◌, nat_lt, Bool, true, false, List, [], ◌∷◌, ◌++◌, length, length-append, map, Option, Some, None, refl, sym, ap, ◌∙◌, if◌then◌else◌, append-nil, append_assoc, arith}
 use Rattle.std.proofs.lemmas.Bool.Decides.{nat_tests}
 use Rattle.std.proofs.lemmas.List.{map-append}
 use Rattle.std.proofs.lemmas.List.Sums.{fold-append}
 use Rattle.cn_amount.specs.Places.{amount_limit}
 use Rattle.cn_figures.specs.declared.part.Part.{Part}
-use Rattle.cn_figures.specs.declared.part.Part.TheVariants.{Currency, Digit, Comma}
+use Rattle.cn_figures.specs.declared.part.Part.TheVariants.{Digit, Comma}
 use Rattle.cn_figures.specs.Figures.{value_after, value_of, Group, grouped, digits_of, marked, below}
 use Rattle.cn_figures.specs.Working.Steps.{with_more}
 

@@ -1,5 +1,5 @@
 -- Figures, read from the left: the state and the fen after each part.
-use Rattle.std.specs.Prelude.{ℕ, ◌+◌, ◌*◌, ◌==◌, Bool, true, false, List, Option, Some, None, if◌then◌else◌}
+use Rattle.std.specs.Prelude.{ℕ, ◌+◌, ◌*◌, ◌==◌, Bool, true, false, Option, Some, None, if◌then◌else◌}
 use Rattle.cn_capitals.specs.Machine.{Machine, step_as}
 use Rattle.cn_figures.specs.declared.part.Part.{Part}
 use Rattle.cn_figures.specs.declared.part.Part.TheVariants.{Currency, Digit, Comma, Point}

@@ -1,10 +1,10 @@
-use Rattle.std.proofs.Common.{◌+◌, ◌<◌, Err, length, chars, ap, arith}
+use Rattle.std.proofs.Common.{◌<◌, Err, length, chars, ap, arith}
 use Rattle.cn_capitals.specs.declared.refusal.Refusal.TheVariants.{Unfinished, Incorrect}
 use Rattle.cn_figures.proofs.Signed.{amount-low, bare-refused, behind-minus, few-chars}
 use Rattle.cn_figures.proofs.read.signed_yuan_to_fen.Goals as goal
 
 pub negated-requires : goal.negated-requires
-negated-requires c = 
+negated-requires c =
     amount-low (chars c.in-Some.rest.now) c.in-Ok-yuan_to_fen.fen c.in-Ok-yuan_to_fen.ensures
 
 pub returns-in-Err : goal.returns-in-Err
