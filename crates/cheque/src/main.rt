@@ -20,7 +20,6 @@
 
 pub mod dates;
 mod digits;
-pub mod figures;
 pub mod laws;
 mod reply;
 mod request;

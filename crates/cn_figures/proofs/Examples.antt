@@ -38,7 +38,7 @@ made text currency front groups places some short zeros is = (
   },
 )
 
-yuan_alone : IsFigures (codes "0015") 1500
+pub yuan_alone : IsFigures (codes "0015") 1500
 unfolding part_of
 yuan_alone = made (codes "0015") false (0 ∷ 0 ∷ 1 ∷ 5 ∷ []) [] [] (omega arith) (inl refl) refl refl
 
@@ -93,7 +93,7 @@ unfinished text progress leads none =
 nothing : Answers WriteAmount [] (Err Unfinished)
 nothing = unfinished [] (at Beginning (Some 0)) refl refl
 
-behind_point : Answers WriteAmount (codes "15.") (Err Unfinished)
+pub behind_point : Answers WriteAmount (codes "15.") (Err Unfinished)
 unfolding part_of
 behind_point = unfinished (codes "15.") (at AfterPoint (Some 1500)) refl refl
 
