@@ -5,13 +5,17 @@ ghost use Rattle.cn_capitals.specs.declared.refusal.Refusal.{Refusal};
 ghost use Rattle.cn_capitals.specs.Answers.{Answers};
 ghost use Rattle.cn_figures.specs.Figures.{WriteAmount, WriteSignedAmount, ReadsFigures, figures_of};
 
-/// Figures have one answer and no more, and so have those with a sign.
+/// Figures have one answer and no more.
 pub fn figures_have_one_answer()
-    ensures plain { (figures : List ℕ) → (answer : Result (Option ℕ) Refusal)
+    ensures { (figures : List ℕ) → (answer : Result (Option ℕ) Refusal)
         × Answers WriteAmount figures answer
         × ((other : Result (Option ℕ) Refusal) → Answers WriteAmount figures other
         → other ≡ answer) }
-    ensures signed { (figures : List ℕ) → (answer : Result (Option ℤ) Refusal)
+{}
+
+/// So have those with a minus in front or not.
+pub fn signed_figures_have_one_answer()
+    ensures { (figures : List ℕ) → (answer : Result (Option ℤ) Refusal)
         × Answers WriteSignedAmount figures answer
         × ((other : Result (Option ℤ) Refusal) → Answers WriteSignedAmount figures other
         → other ≡ answer) }

@@ -2,11 +2,7 @@ use Rattle.cn_capitals.proofs.OneAnswer.{each-answer}
 use Rattle.cn_figures.specs.Figures.{WriteAmount}
 use Rattle.cn_figures.specs.Working.Steps.{figures_machine}
 use Rattle.cn_figures.proofs.FiguresRead.{figures-read}
-use Rattle.cn_figures.proofs.Signed.{signed-answer}
 use Rattle.cn_figures.proofs.laws.figures_have_one_answer.Goals as goal
 
-pub returns-clause-plain : goal.returns-clause-plain
-returns-clause-plain c = each-answer WriteAmount figures_machine figures-read
-
-pub returns-clause-signed : goal.returns-clause-signed
-returns-clause-signed c = signed-answer
+pub returns : goal.returns
+returns c = each-answer WriteAmount figures_machine figures-read
