@@ -16,8 +16,8 @@ pub enum Request<'a> {
     ReadDate { capitals: &'a str },
 }
 
-// Whether figures are meant where a character stands in front: whatever begins with ASCII is refused
-// as figures.
+// Whether figures are meant where this character stands in front: whatever begins with ASCII is
+// refused as figures.
 fn begins_figures(character: char) -> bool
     ensures { result ≡ begins_figures character }
 {

@@ -8,27 +8,27 @@ use Rattle.cn_capitals.specs.Machine.{Leads}
 use Rattle.cn_capitals.proofs.Reading.{unfinished-read, place-refused}
 use Rattle.cn_figures.specs.declared.part.Part.TheVariants.{Digit}
 use Rattle.cn_figures.specs.declared.progress.Progress.{Progress}
-use Rattle.cn_figures.specs.declared.state.State.TheVariants.{Beginning, Many, AfterComma, Grouped, AfterPoint, Fen}
-use Rattle.cn_figures.specs.Figures.{value_of, Group, grouped, digits_of, marked, pointed, fen_of, IsFigures, IsSignedFigures, WriteAmount}
+use Rattle.cn_figures.specs.declared.state.State.TheVariants.{Beginning, Many, AfterComma, CommaThree, AfterPoint, Fen}
+use Rattle.cn_figures.specs.Figures.{value_of, Triple, with_commas, digits_of, marked, pointed, fen_of, IsFigures, IsSignedFigures, WriteAmount}
 use Rattle.cn_figures.specs.Parts.{part_of, parts_of}
 use Rattle.cn_figures.specs.Working.Steps.{figures_machine}
 use Rattle.cn_figures.proofs.FiguresRead.{figures-read}
 use Rattle.cn_figures.proofs.FiguresRun.{at}
 
--- figures of ¥ or nothing, digits, groups and places
-made : (text : List ℕ) (currency : Bool) (front : List ℕ) (groups : List Group) (places : List ℕ)
-    → 0 < length front → (groups ≡ []) ⊎ (length front ≤ 3)
+-- figures of ¥ or nothing, digits, triples and places
+made : (text : List ℕ) (currency : Bool) (front : List ℕ) (triples : List Triple) (places : List ℕ)
+    → 0 < length front → (triples ≡ []) ⊎ (length front ≤ 3)
     → IsTrue (list_all (λ digit. digit == 0) (drop 2 places))
     → parts_of text
-    ≡ map Some (marked currency ++ (map Digit front ++ (grouped groups ++ pointed places)))
-    → IsFigures text (100 * value_of (front ++ digits_of groups) + fen_of places)
-made text currency front groups places some short zeros is = (
-  marked currency ++ (map Digit front ++ (grouped groups ++ pointed places)),
+    ≡ map Some (marked currency ++ (map Digit front ++ (with_commas triples ++ pointed places)))
+    → IsFigures text (100 * value_of (front ++ digits_of triples) + fen_of places)
+made text currency front triples places some short zeros is = (
+  marked currency ++ (map Digit front ++ (with_commas triples ++ pointed places)),
   is,
   record {
     currency = currency;
     front = front;
-    groups = groups;
+    triples = triples;
     places = places;
     some = some;
     short = short;
@@ -55,9 +55,9 @@ unfolding part_of
 zeros_behind =
     made (codes "15.0600") false (1 ∷ 5 ∷ []) [] (0 ∷ 6 ∷ 0 ∷ 0 ∷ []) (omega arith) (inl refl) refl refl
 
-with_commas : IsFigures (codes "12,345,678.90") 1234567890
+two_commas : IsFigures (codes "12,345,678.90") 1234567890
 unfolding part_of
-with_commas =
+two_commas =
     made (codes "12,345,678.90") false (1 ∷ 2 ∷ []) ((3, 4, 5) ∷ (6, 7, 8) ∷ []) (9 ∷ 0 ∷ []) (omega arith)
     (inr (omega arith)) refl refl
 
@@ -117,9 +117,9 @@ point_first : Answers WriteAmount (codes ".") (Err (Incorrect 0))
 unfolding part_of
 point_first = incorrect [] 46 0 (at Beginning (Some 0)) refl refl refl
 
-long_group : Answers WriteAmount (codes "1,2345") (Err (Incorrect 5))
+long_triple : Answers WriteAmount (codes "1,2345") (Err (Incorrect 5))
 unfolding part_of
-long_group = incorrect (codes "1,234") 53 5 (at Grouped (Some 123400)) refl refl refl
+long_triple = incorrect (codes "1,234") 53 5 (at CommaThree (Some 123400)) refl refl refl
 
 long_front : Answers WriteAmount (codes "1234,") (Err (Incorrect 4))
 unfolding part_of

@@ -8,7 +8,7 @@ use Rattle.cn_figures.specs.declared.part.Part.{Part}
 use Rattle.cn_figures.specs.declared.part.Part.TheVariants.{Digit}
 use Rattle.cn_figures.specs.declared.progress.Progress.{Progress}
 use Rattle.cn_figures.specs.declared.state.State.{State}
-use Rattle.cn_figures.specs.declared.state.State.TheVariants.{Beginning, Marked, One, Two, Three, Many, AfterComma, GroupOne, GroupTwo, Grouped, AfterPoint, Jiao, Fen}
+use Rattle.cn_figures.specs.declared.state.State.TheVariants.{Beginning, Marked, One, Two, Three, Many, AfterComma, CommaOne, CommaTwo, CommaThree, AfterPoint, Jiao, Fen}
 use Rattle.cn_figures.specs.Figures.{WriteAmount}
 use Rattle.cn_figures.specs.Parts.{part_of, parts_of}
 use Rattle.cn_figures.specs.Working.Steps.{fen_with, step, with_fen, advance, end, is_end, figures_machine}
@@ -124,7 +124,7 @@ completed AfterComma fen = record {
   runs = refl;
   ends = refl;
 }
-completed GroupOne fen = record {
+completed CommaOne fen = record {
   behind = codes "00";
   parts = Digit 0 ∷ Digit 0 ∷ [];
   is = refl;
@@ -132,7 +132,7 @@ completed GroupOne fen = record {
   runs = refl;
   ends = refl;
 }
-completed GroupTwo fen = completed-by GroupTwo Grouped fen refl refl
+completed CommaTwo fen = completed-by CommaTwo CommaThree fen refl refl
 completed Beginning fen = completed-by Beginning One fen refl refl
 completed Marked fen = completed-by Marked One fen refl refl
 completed AfterPoint fen = completed-by AfterPoint Jiao fen refl refl
@@ -140,7 +140,7 @@ completed One fen = completed-whole One fen refl
 completed Two fen = completed-whole Two fen refl
 completed Three fen = completed-whole Three fen refl
 completed Many fen = completed-whole Many fen refl
-completed Grouped fen = completed-whole Grouped fen refl
+completed CommaThree fen = completed-whole CommaThree fen refl
 completed Jiao fen = completed-whole Jiao fen refl
 completed Fen fen = completed-whole Fen fen refl
 

@@ -7,8 +7,8 @@ use Rattle.cn_figures.specs.declared.part.Part.{Part}
 use Rattle.cn_figures.specs.declared.part.Part.TheVariants.{Digit, Comma, Point}
 use Rattle.cn_figures.specs.declared.progress.Progress.{Progress}
 use Rattle.cn_figures.specs.declared.state.State.{State}
-use Rattle.cn_figures.specs.declared.state.State.TheVariants.{Beginning, One, Two, Three, Many, AfterComma, GroupOne, GroupTwo, Grouped, AfterPoint, Jiao, Fen}
-use Rattle.cn_figures.specs.Figures.{value_after, value_of, Group, grouped, digits_of, marked, pointed, fen_of, below, AreFigures}
+use Rattle.cn_figures.specs.declared.state.State.TheVariants.{Beginning, One, Two, Three, Many, AfterComma, CommaOne, CommaTwo, CommaThree, AfterPoint, Jiao, Fen}
+use Rattle.cn_figures.specs.Figures.{value_after, value_of, Triple, with_commas, digits_of, marked, pointed, fen_of, below, AreFigures}
 use Rattle.cn_figures.specs.Working.Steps.{with_more, step, with_fen, advance, end, is_end}
 use Rattle.cn_figures.proofs.Fronts.{AreZeros}
 use Rattle.cn_figures.proofs.Yuan.{digit-more, below-more, value-behind}
@@ -66,25 +66,25 @@ runs-begun true (a ∷ digits) some =
     ap (λ fen. run advance (at One (below fen)) (map Digit digits)) same
     ∙ runs-front (0 * 10 + a) digits
 
--- the state behind groups
-abbrev pub behind_groups : State → List Group → State
-behind_groups state [] = state
-behind_groups state (group ∷ groups) = Grouped
+-- the state behind triples
+abbrev pub behind_triples : State → List Triple → State
+behind_triples state [] = state
+behind_triples state (triple ∷ triples) = CommaThree
 
-grouped-behind : (groups : List Group) → behind_groups Grouped groups ≡ Grouped
-grouped-behind [] = refl
-grouped-behind (group ∷ groups) = refl
+triples-behind : (triples : List Triple) → behind_triples CommaThree triples ≡ CommaThree
+triples-behind [] = refl
+triples-behind (triple ∷ triples) = refl
 
-runs-group : (state : State) (yuan a b c : ℕ) (more : List Part) → step state Comma ≡ Some AfterComma
+runs-triple : (state : State) (yuan a b c : ℕ) (more : List Part) → step state Comma ≡ Some AfterComma
     → run advance (at state (below (100 * yuan))) (Comma ∷ Digit a ∷ Digit b ∷ Digit c ∷ more)
-    ≡ run advance (at Grouped (below (100 * (((yuan * 10 + a) * 10 + b) * 10 + c)))) more
-runs-group state yuan a b c more comma =
+    ≡ run advance (at CommaThree (below (100 * (((yuan * 10 + a) * 10 + b) * 10 + c)))) more
+runs-triple state yuan a b c more comma =
     let fen = below (100 * yuan) in
     run-ran advance (at state fen) Comma (Digit a ∷ Digit b ∷ Digit c ∷ more)
     (Some (at AfterComma fen)) (comma-step state fen comma)
-    ∙ ap (λ fen. run advance (at GroupOne fen) (Digit b ∷ Digit c ∷ more)) (digit-more yuan a)
-    ∙ ap (λ fen. run advance (at GroupTwo fen) (Digit c ∷ more)) (digit-more (yuan * 10 + a) b)
-    ∙ ap (λ fen. run advance (at Grouped fen) more) (digit-more ((yuan * 10 + a) * 10 + b) c)
+    ∙ ap (λ fen. run advance (at CommaOne fen) (Digit b ∷ Digit c ∷ more)) (digit-more yuan a)
+    ∙ ap (λ fen. run advance (at CommaTwo fen) (Digit c ∷ more)) (digit-more (yuan * 10 + a) b)
+    ∙ ap (λ fen. run advance (at CommaThree fen) more) (digit-more ((yuan * 10 + a) * 10 + b) c)
   where
     comma-step : (state : State) (fen : Option ℕ) → step state Comma ≡ Some AfterComma
         → advance (at state fen) Comma ≡ Some (at AfterComma fen)
@@ -96,39 +96,39 @@ runs-group state yuan a b c more comma =
       still AfterPoint fen = refl
       still state fen = refl
 
-runs-groups : (state : State) (yuan : ℕ) (groups : List Group)
-    → ((groups ≡ []) ⊎ (step state Comma ≡ Some AfterComma))
-    → Runs (at state (below (100 * yuan))) (grouped groups)
-    (at (behind_groups state groups) (below (100 * value_after yuan (digits_of groups))))
-runs-groups state yuan [] h = refl
-runs-groups state yuan ((a, b, c) ∷ groups) (inl none) = absurd (cc)
-runs-groups state yuan ((a, b, c) ∷ groups) (inr comma) =
+runs-triples : (state : State) (yuan : ℕ) (triples : List Triple)
+    → ((triples ≡ []) ⊎ (step state Comma ≡ Some AfterComma))
+    → Runs (at state (below (100 * yuan))) (with_commas triples)
+    (at (behind_triples state triples) (below (100 * value_after yuan (digits_of triples))))
+runs-triples state yuan [] h = refl
+runs-triples state yuan ((a, b, c) ∷ triples) (inl none) = absurd (cc)
+runs-triples state yuan ((a, b, c) ∷ triples) (inr comma) =
     let next = ((yuan * 10 + a) * 10 + b) * 10 + c in
-    runs-group state yuan a b c (grouped groups) comma
-    ∙ runs-groups Grouped next groups (inr refl)
-    ∙ ap (λ state. Some (at state (below (100 * value_after next (digits_of groups)))))
-    (grouped-behind groups)
+    runs-triple state yuan a b c (with_commas triples) comma
+    ∙ runs-triples CommaThree next triples (inr refl)
+    ∙ ap (λ state. Some (at state (below (100 * value_after next (digits_of triples)))))
+    (triples-behind triples)
 
 -- digits of at most three are in front of a comma
-comma-fits : (front : List ℕ) (groups : List Group) → 0 < length front
-    → (groups ≡ []) ⊎ (length front ≤ 3)
-    → (groups ≡ []) ⊎ (step (behind front) Comma ≡ Some AfterComma)
-comma-fits front groups some (inl none) = inl none
-comma-fits [] groups some (inr few) = absurd (omega (arith, some))
-comma-fits (a ∷ []) groups some (inr few) = inr refl
-comma-fits (a ∷ b ∷ []) groups some (inr few) = inr refl
-comma-fits (a ∷ b ∷ c ∷ []) groups some (inr few) = inr refl
-comma-fits (a ∷ b ∷ c ∷ d ∷ front) groups some (inr few) = absurd (omega (arith, few))
+comma-fits : (front : List ℕ) (triples : List Triple) → 0 < length front
+    → (triples ≡ []) ⊎ (length front ≤ 3)
+    → (triples ≡ []) ⊎ (step (behind front) Comma ≡ Some AfterComma)
+comma-fits front triples some (inl none) = inl none
+comma-fits [] triples some (inr few) = absurd (omega (arith, some))
+comma-fits (a ∷ []) triples some (inr few) = inr refl
+comma-fits (a ∷ b ∷ []) triples some (inr few) = inr refl
+comma-fits (a ∷ b ∷ c ∷ []) triples some (inr few) = inr refl
+comma-fits (a ∷ b ∷ c ∷ d ∷ front) triples some (inr few) = absurd (omega (arith, few))
 
 -- figures may end here, and a point may stand here
 record IsYuanEnd (state : State) : Type 0 where
   ends : is_end state ≡ true
   point : (fen : Option ℕ) → advance (at state fen) Point ≡ Some (at AfterPoint fen)
 
-yuan-end : (front : List ℕ) (groups : List Group) → 0 < length front
-    → IsYuanEnd (behind_groups (behind front) groups)
-yuan-end [] groups some = absurd (omega (arith, some))
-yuan-end (a ∷ front) (group ∷ groups) some = record { ends = refl; point = λ fen. refl }
+yuan-end : (front : List ℕ) (triples : List Triple) → 0 < length front
+    → IsYuanEnd (behind_triples (behind front) triples)
+yuan-end [] triples some = absurd (omega (arith, some))
+yuan-end (a ∷ front) (triple ∷ triples) some = record { ends = refl; point = λ fen. refl }
 yuan-end (a ∷ []) [] some = record { ends = refl; point = λ fen. refl }
 yuan-end (a ∷ b ∷ []) [] some = record { ends = refl; point = λ fen. refl }
 yuan-end (a ∷ b ∷ c ∷ []) [] some = record { ends = refl; point = λ fen. refl }
@@ -177,23 +177,23 @@ pub figures-run : (parts : List Part) (fen : ℕ) → AreFigures parts fen
     → (last : Progress) × Runs (at Beginning (Some 0)) parts last × (end last ≡ Some (below fen))
 figures-run parts fen h =
     let yuan = value_of h.front in
-    let all = value_of (h.front ++ digits_of h.groups) in
-    let state = behind_groups (behind h.front) h.groups in
-    let last = runs-places state all h.places (yuan-end h.front h.groups h.some) h.zeros in
+    let all = value_of (h.front ++ digits_of h.triples) in
+    let state = behind_triples (behind h.front) h.triples in
+    let last = runs-places state all h.places (yuan-end h.front h.triples h.some) h.zeros in
     let fronts : Runs (at Beginning (Some 0)) (marked h.currency ++ map Digit h.front)
     (at (behind h.front) (below (100 * yuan))) = runs-begun h.currency h.front h.some in
-    let groups : Runs (at (behind h.front) (below (100 * yuan))) (grouped h.groups)
+    let triples : Runs (at (behind h.front) (below (100 * yuan))) (with_commas h.triples)
     (at state (below (100 * all))) =
-    runs-groups (behind h.front) yuan h.groups (comma-fits h.front h.groups h.some h.short)
+    runs-triples (behind h.front) yuan h.triples (comma-fits h.front h.triples h.some h.short)
     ∙ ap (λ yuan. Some (at state (below (100 * yuan))))
-    (sym (value-behind h.front (digits_of h.groups))) in (
+    (sym (value-behind h.front (digits_of h.triples))) in (
       last.0,
       ap (run advance (at Beginning (Some 0)))
           (h.form ∙ sym (append_assoc (marked h.currency) (map Digit h.front)
-          (grouped h.groups ++ pointed h.places)))
+          (with_commas h.triples ++ pointed h.places)))
           ∙ run-behind advance (at Beginning (Some 0)) (marked h.currency ++ map Digit h.front)
-          (grouped h.groups ++ pointed h.places) (at (behind h.front) (below (100 * yuan))) fronts
-          ∙ run-behind advance (at (behind h.front) (below (100 * yuan))) (grouped h.groups)
-          (pointed h.places) (at state (below (100 * all))) groups ∙ last.1,
+          (with_commas h.triples ++ pointed h.places) (at (behind h.front) (below (100 * yuan))) fronts
+          ∙ run-behind advance (at (behind h.front) (below (100 * yuan))) (with_commas h.triples)
+          (pointed h.places) (at state (below (100 * all))) triples ∙ last.1,
       last.2 ∙ ap (λ fen. Some (below fen)) (sym h.value),
     )

@@ -9,20 +9,20 @@ use Rattle.cn_core.proofs.Fronts.{both}
 use Rattle.cn_figures.specs.declared.part.Part.{Part}
 use Rattle.cn_figures.specs.declared.part.Part.TheVariants.{Currency, Digit, Comma, Point}
 use Rattle.cn_figures.specs.declared.state.State.{State}
-use Rattle.cn_figures.specs.declared.state.State.TheVariants.{Beginning, Marked, One, Two, Three, Many, AfterComma, GroupOne, GroupTwo, Grouped, AfterPoint, Jiao, Fen}
-use Rattle.cn_figures.specs.Figures.{value_of, Group, grouped, digits_of, marked, pointed, fen_of, below, AreFigures}
+use Rattle.cn_figures.specs.declared.state.State.TheVariants.{Beginning, Marked, One, Two, Three, Many, AfterComma, CommaOne, CommaTwo, CommaThree, AfterPoint, Jiao, Fen}
+use Rattle.cn_figures.specs.Figures.{value_of, Triple, with_commas, digits_of, marked, pointed, fen_of, below, AreFigures}
 use Rattle.cn_figures.specs.Working.Steps.{with_more, fen_with, step, is_end}
-use Rattle.cn_figures.proofs.Yuan.{IsYuan, yuan-begun, yuan-digit, yuan-group, below-more}
+use Rattle.cn_figures.proofs.Yuan.{IsYuan, yuan-begun, yuan-digit, yuan-triple, below-more}
 
 -- the yuan in front of a comma, and those in front of a point
 abbrev pub IsShort : List Part → Option ℕ → Type 0
 IsShort parts fen =
-    (front : List ℕ) × (groups : List Group) × IsYuan front groups parts fen × (length front ≤ 3)
+    (front : List ℕ) × (triples : List Triple) × IsYuan front triples parts fen × (length front ≤ 3)
 
 abbrev pub AreYuan : List Part → Option ℕ → Type 0
 AreYuan parts fen =
-    (front : List ℕ) × (groups : List Group) × IsYuan front groups parts fen
-    × ((groups ≡ []) ⊎ (length front ≤ 3))
+    (front : List ℕ) × (triples : List Triple) × IsYuan front triples parts fen
+    × ((triples ≡ []) ⊎ (length front ≤ 3))
 
 -- zeros, of which any number may stand behind the fen
 abbrev pub AreZeros : List ℕ → Type 0
@@ -43,14 +43,14 @@ Front Three parts fen = HasDigits 3 parts fen
 Front Many parts fen = (front : List ℕ) × IsYuan front [] parts fen
 Front AfterComma parts fen =
     (start : List Part) × IsShort start fen × (parts ≡ start ++ Comma ∷ [])
-Front GroupOne parts fen =
+Front CommaOne parts fen =
     (start : List Part) × (was : Option ℕ) × (a : ℕ) × IsShort start was
     × (parts ≡ start ++ Comma ∷ Digit a ∷ []) × (fen ≡ with_more was 10 (100 * a))
-Front GroupTwo parts fen =
+Front CommaTwo parts fen =
     (start : List Part) × (was : Option ℕ) × (a b : ℕ) × IsShort start was
     × (parts ≡ start ++ Comma ∷ Digit a ∷ Digit b ∷ [])
     × (fen ≡ with_more (with_more was 10 (100 * a)) 10 (100 * b))
-Front Grouped parts fen = IsShort parts fen
+Front CommaThree parts fen = IsShort parts fen
 Front AfterPoint parts fen =
     (start : List Part) × AreYuan start fen × (parts ≡ start ++ Point ∷ [])
 Front Jiao parts fen =
@@ -103,9 +103,9 @@ front-digit Three next parts fen digit h e =
 front-digit Many next parts fen digit h e =
     to _ _ Many next e (h.0 ++ digit ∷ [], yuan-digit h.0 parts fen digit h.1)
 front-digit AfterComma next parts fen digit (start, short, is) e =
-    to _ _ GroupOne next e (start, fen, digit, short, behind-more parts start _ _ is, refl)
-front-digit GroupOne next parts fen digit (start, was, a, short, is, worth) e =
-    to _ _ GroupTwo next e (
+    to _ _ CommaOne next e (start, fen, digit, short, behind-more parts start _ _ is, refl)
+front-digit CommaOne next parts fen digit (start, was, a, short, is, worth) e =
+    to _ _ CommaTwo next e (
       start,
       was,
       a,
@@ -114,16 +114,16 @@ front-digit GroupOne next parts fen digit (start, was, a, short, is, worth) e =
       behind-more parts start _ _ is,
       ap (λ fen. with_more fen 10 (100 * digit)) worth,
     )
-front-digit GroupTwo next parts fen digit (start, was, a, b, (front, groups, yuan, few), is, worth) e =
-    let group = yuan-group front groups start was a b digit yuan in
-    to _ _ Grouped next e (
+front-digit CommaTwo next parts fen digit (start, was, a, b, (front, triples, yuan, few), is, worth) e =
+    let triple = yuan-triple front triples start was a b digit yuan in
+    to _ _ CommaThree next e (
       front,
-      groups ++ (a, b, digit) ∷ [],
+      triples ++ (a, b, digit) ∷ [],
       record {
-        currency = group.currency;
-        some = group.some;
-        form = behind-more parts start _ _ is ∙ group.form;
-        worth = ap (λ fen. with_more fen 10 (100 * digit)) worth ∙ group.worth;
+        currency = triple.currency;
+        some = triple.some;
+        form = behind-more parts start _ _ is ∙ triple.form;
+        worth = ap (λ fen. with_more fen 10 (100 * digit)) worth ∙ triple.worth;
       },
       few,
     )
@@ -159,7 +159,7 @@ front-digit Fen next parts fen digit (start, was, a, b, zeros, yuan, are, is, wo
         worth,
       )
       by false same e = absurd (cc)
-front-digit Grouped next parts fen digit h e = absurd (cc)
+front-digit CommaThree next parts fen digit h e = absurd (cc)
 
 -- a comma behind the yuan, and the point
 front-comma : (next : State) (parts : List Part) (fen : Option ℕ) → IsShort parts fen
@@ -179,7 +179,7 @@ plain-yuan : (count : ℕ) (parts : List Part) (fen : Option ℕ) → HasDigits 
 plain-yuan count parts fen (front, yuan, is) = (front, [], yuan, inl refl)
 
 short-yuan : (parts : List Part) (fen : Option ℕ) → IsShort parts fen → AreYuan parts fen
-short-yuan parts fen (front, groups, yuan, few) = (front, groups, yuan, inr few)
+short-yuan parts fen (front, triples, yuan, few) = (front, triples, yuan, inr few)
 
 pub front-more : (state next : State) (parts : List Part) (fen : Option ℕ) (part : Part)
     → Front state parts fen → step state part ≡ Some next
@@ -193,13 +193,13 @@ front-more Two next parts fen Comma h e =
     front-comma next parts fen (short-of 2 parts fen h (omega arith)) e
 front-more Three next parts fen Comma h e =
     front-comma next parts fen (short-of 3 parts fen h (omega arith)) e
-front-more Grouped next parts fen Comma h e = front-comma next parts fen h e
+front-more CommaThree next parts fen Comma h e = front-comma next parts fen h e
 front-more One next parts fen Point h e = front-point next parts fen (plain-yuan 1 parts fen h) e
 front-more Two next parts fen Point h e = front-point next parts fen (plain-yuan 2 parts fen h) e
 front-more Three next parts fen Point h e = front-point next parts fen (plain-yuan 3 parts fen h) e
 front-more Many next parts fen Point h e =
     front-point next parts fen (h.0, [], h.1, inl refl) e
-front-more Grouped next parts fen Point h e =
+front-more CommaThree next parts fen Point h e =
     front-point next parts fen (short-yuan parts fen h) e
 front-more state next parts fen part h e = absurd (cc)
 
@@ -212,23 +212,23 @@ with-places : (start parts : List Part) (was fen : Option ℕ) (places : List �
     → AreZeros (drop 2 places) → parts ≡ start ++ pointed places
     → ((yuan : ℕ) → was ≡ below (100 * yuan) → fen ≡ below (100 * yuan + fen_of places))
     → AreAmount parts fen
-with-places start parts was fen places (front, groups, yuan, short) zeros is worth = (
-  100 * value_of (front ++ digits_of groups) + fen_of places,
+with-places start parts was fen places (front, triples, yuan, short) zeros is worth = (
+  100 * value_of (front ++ digits_of triples) + fen_of places,
   record {
     currency = yuan.currency;
     front = front;
-    groups = groups;
+    triples = triples;
     places = places;
     some = yuan.some;
     short = short;
     zeros = zeros;
     form = is ∙ ap (λ front. front ++ pointed places) yuan.form
-        ∙ append_assoc (marked yuan.currency) (map Digit front ++ grouped groups) (pointed places)
+        ∙ append_assoc (marked yuan.currency) (map Digit front ++ with_commas triples) (pointed places)
         ∙ ap (λ more. marked yuan.currency ++ more)
-        (append_assoc (map Digit front) (grouped groups) (pointed places));
+        (append_assoc (map Digit front) (with_commas triples) (pointed places));
     value = refl;
   },
-  worth (value_of (front ++ digits_of groups)) yuan.worth,
+  worth (value_of (front ++ digits_of triples)) yuan.worth,
 )
 
 no-places : (parts : List Part) (fen : Option ℕ) → AreYuan parts fen → AreAmount parts fen
@@ -257,7 +257,7 @@ ended One parts fen h e = no-places parts fen (plain-yuan 1 parts fen h)
 ended Two parts fen h e = no-places parts fen (plain-yuan 2 parts fen h)
 ended Three parts fen h e = no-places parts fen (plain-yuan 3 parts fen h)
 ended Many parts fen h e = no-places parts fen (h.0, [], h.1, inl refl)
-ended Grouped parts fen h e = no-places parts fen (short-yuan parts fen h)
+ended CommaThree parts fen h e = no-places parts fen (short-yuan parts fen h)
 ended Jiao parts fen (start, was, a, yuan, is, worth) e =
     with-places start parts was fen (a ∷ []) yuan refl is
     (λ yuan same. worth ∙ jiao-worth was yuan a same)

@@ -82,7 +82,7 @@ shown fen few =
       record {
         currency = false;
         front = digits yuan;
-        groups = [];
+        triples = [];
         places = j ∷ f ∷ [];
         some = omega (arith, decimal_nonempty (fen / 100) short, length-map yuan (λ c. c - 48));
         short = inl refl;

@@ -6,7 +6,7 @@ use Rattle.std.proofs.lemmas.List.Sums.{fold-append}
 use Rattle.cn_amount.specs.Places.{amount_limit}
 use Rattle.cn_figures.specs.declared.part.Part.{Part}
 use Rattle.cn_figures.specs.declared.part.Part.TheVariants.{Digit, Comma}
-use Rattle.cn_figures.specs.Figures.{value_after, value_of, Group, grouped, digits_of, marked, below}
+use Rattle.cn_figures.specs.Figures.{value_after, value_of, Triple, with_commas, digits_of, marked, below}
 use Rattle.cn_figures.specs.Working.Steps.{with_more}
 
 -- an amount with more is none where it was none
@@ -31,25 +31,25 @@ pub value-behind : (digits more : List ℕ)
     → value_of (digits ++ more) ≡ value_after (value_of digits) more
 value-behind digits more = fold-append (λ number digit. number * 10 + digit) 0 digits more
 
--- one more group
-grouped-more : (groups : List Group) (a b c : ℕ)
-    → grouped (groups ++ (a, b, c) ∷ []) ≡ grouped groups ++ Comma ∷ Digit a ∷ Digit b ∷ Digit c ∷ []
-grouped-more [] a b c = refl
-grouped-more ((x, y, z) ∷ groups) a b c =
-    ap (λ more. Comma ∷ Digit x ∷ Digit y ∷ Digit z ∷ more) (grouped-more groups a b c)
+-- one more triple
+with_commas-more : (triples : List Triple) (a b c : ℕ)
+    → with_commas (triples ++ (a, b, c) ∷ []) ≡ with_commas triples ++ Comma ∷ Digit a ∷ Digit b ∷ Digit c ∷ []
+with_commas-more [] a b c = refl
+with_commas-more ((x, y, z) ∷ triples) a b c =
+    ap (λ more. Comma ∷ Digit x ∷ Digit y ∷ Digit z ∷ more) (with_commas-more triples a b c)
 
-digits-more : (groups : List Group) (a b c : ℕ)
-    → digits_of (groups ++ (a, b, c) ∷ []) ≡ digits_of groups ++ a ∷ b ∷ c ∷ []
+digits-more : (triples : List Triple) (a b c : ℕ)
+    → digits_of (triples ++ (a, b, c) ∷ []) ≡ digits_of triples ++ a ∷ b ∷ c ∷ []
 digits-more [] a b c = refl
-digits-more ((x, y, z) ∷ groups) a b c = ap (λ more. x ∷ y ∷ z ∷ more) (digits-more groups a b c)
+digits-more ((x, y, z) ∷ triples) a b c = ap (λ more. x ∷ y ∷ z ∷ more) (digits-more triples a b c)
 
 -- these parts are the yuan of figures, of these digits and so many fen
-pub record IsYuan (front : List ℕ) (groups : List Group) (parts : List Part) (fen : Option ℕ)
+pub record IsYuan (front : List ℕ) (triples : List Triple) (parts : List Part) (fen : Option ℕ)
     : Type 0 where
   pub currency : Bool
   pub some : 0 < length front
-  pub form : parts ≡ marked currency ++ (map Digit front ++ grouped groups)
-  pub worth : fen ≡ below (100 * value_of (front ++ digits_of groups))
+  pub form : parts ≡ marked currency ++ (map Digit front ++ with_commas triples)
+  pub worth : fen ≡ below (100 * value_of (front ++ digits_of triples))
 
 -- the first digit, behind ¥ or nothing
 pub yuan-begun : (currency : Bool) (parts : List Part) (fen : Option ℕ) (digit : ℕ)
@@ -82,32 +82,32 @@ yuan-digit front parts fen digit h = record {
       ∙ ap (λ digits. below (100 * value_of digits)) (sym (append-nil (front ++ digit ∷ [])));
 }
 
--- a group behind its comma
-pub yuan-group : (front : List ℕ) (groups : List Group) (parts : List Part) (fen : Option ℕ)
-    (a b c : ℕ) → IsYuan front groups parts fen
-    → IsYuan front (groups ++ (a, b, c) ∷ [])
+-- a triple behind its comma
+pub yuan-triple : (front : List ℕ) (triples : List Triple) (parts : List Part) (fen : Option ℕ)
+    (a b c : ℕ) → IsYuan front triples parts fen
+    → IsYuan front (triples ++ (a, b, c) ∷ [])
     (parts ++ Comma ∷ Digit a ∷ Digit b ∷ Digit c ∷ [])
     (with_more (with_more (with_more fen 10 (100 * a)) 10 (100 * b)) 10 (100 * c))
-yuan-group front groups parts fen a b c h =
-    let group = Comma ∷ Digit a ∷ Digit b ∷ Digit c ∷ [] in
-    let was = value_of (front ++ digits_of groups) in
-    let digits : front ++ digits_of (groups ++ (a, b, c) ∷ [])
-    ≡ (front ++ digits_of groups) ++ a ∷ b ∷ c ∷ [] =
-    ap (λ more. front ++ more) (digits-more groups a b c)
-    ∙ sym (append_assoc front (digits_of groups) (a ∷ b ∷ c ∷ [])) in
+yuan-triple front triples parts fen a b c h =
+    let triple = Comma ∷ Digit a ∷ Digit b ∷ Digit c ∷ [] in
+    let was = value_of (front ++ digits_of triples) in
+    let digits : front ++ digits_of (triples ++ (a, b, c) ∷ [])
+    ≡ (front ++ digits_of triples) ++ a ∷ b ∷ c ∷ [] =
+    ap (λ more. front ++ more) (digits-more triples a b c)
+    ∙ sym (append_assoc front (digits_of triples) (a ∷ b ∷ c ∷ [])) in
     record {
       currency = h.currency;
       some = h.some;
-      form = ap (λ front. front ++ group) h.form
-          ∙ append_assoc (marked h.currency) (map Digit front ++ grouped groups) group
+      form = ap (λ front. front ++ triple) h.form
+          ∙ append_assoc (marked h.currency) (map Digit front ++ with_commas triples) triple
           ∙ ap (λ more. marked h.currency ++ more)
-          (append_assoc (map Digit front) (grouped groups) group
-          ∙ ap (λ more. map Digit front ++ more) (sym (grouped-more groups a b c)));
+          (append_assoc (map Digit front) (with_commas triples) triple
+          ∙ ap (λ more. map Digit front ++ more) (sym (with_commas-more triples a b c)));
       worth = ap (λ fen. with_more (with_more (with_more fen 10 (100 * a)) 10 (100 * b)) 10 (100 * c))
           h.worth
           ∙ ap (λ fen. with_more (with_more fen 10 (100 * b)) 10 (100 * c)) (digit-more was a)
           ∙ ap (λ fen. with_more fen 10 (100 * c)) (digit-more (was * 10 + a) b)
           ∙ digit-more ((was * 10 + a) * 10 + b) c
           ∙ ap (λ yuan. below (100 * yuan))
-          (sym (ap value_of digits ∙ value-behind (front ++ digits_of groups) (a ∷ b ∷ c ∷ [])));
+          (sym (ap value_of digits ∙ value-behind (front ++ digits_of triples) (a ∷ b ∷ c ∷ [])));
     }

@@ -20,19 +20,19 @@ value_after number digits = fold (λ number digit. number * 10 + digit) number d
 abbrev pub value_of : List ℕ → ℕ
 value_of digits = value_after 0 digits
 
--- three digits behind a comma
-abbrev pub Group : Type 0
-Group = ℕ × ℕ × ℕ
+-- three digits
+abbrev pub Triple : Type 0
+Triple = ℕ × ℕ × ℕ
 
--- each group with its comma
-abbrev pub grouped : List Group → List Part
-grouped [] = []
-grouped ((a, b, c) ∷ groups) = Comma ∷ Digit a ∷ Digit b ∷ Digit c ∷ grouped groups
+-- three digits behind a comma, any number of times
+abbrev pub with_commas : List Triple → List Part
+with_commas [] = []
+with_commas ((a, b, c) ∷ triples) = Comma ∷ Digit a ∷ Digit b ∷ Digit c ∷ with_commas triples
 
--- the digits of all groups
-abbrev pub digits_of : List Group → List ℕ
+-- all their digits
+abbrev pub digits_of : List Triple → List ℕ
 digits_of [] = []
-digits_of ((a, b, c) ∷ groups) = a ∷ b ∷ c ∷ digits_of groups
+digits_of ((a, b, c) ∷ triples) = a ∷ b ∷ c ∷ digits_of triples
 
 -- ¥ in front, or nothing
 abbrev pub marked : Bool → List Part
@@ -50,18 +50,18 @@ fen_of [] = 0
 fen_of (jiao ∷ []) = 10 * jiao
 fen_of (jiao ∷ fen ∷ zeros) = 10 * jiao + fen
 
--- these parts write so many fen: ¥ or nothing; digits of the yuan, with commas behind three of them
--- at most; and places, of which those behind the second are 0
+-- these parts write so many fen: ¥ or nothing; digits of the yuan, at most three of them in front
+-- of a first comma; and places, of which those behind the second are 0
 pub record AreFigures (parts : List Part) (fen : ℕ) : Type 0 where
   pub currency : Bool
   pub front : List ℕ
-  pub groups : List Group
+  pub triples : List Triple
   pub places : List ℕ
   pub some : 0 < length front
-  pub short : (groups ≡ []) ⊎ (length front ≤ 3)
+  pub short : (triples ≡ []) ⊎ (length front ≤ 3)
   pub zeros : IsTrue (list_all (λ digit. digit == 0) (drop 2 places))
-  pub form : parts ≡ marked currency ++ (map Digit front ++ (grouped groups ++ pointed places))
-  pub value : fen ≡ 100 * value_of (front ++ digits_of groups) + fen_of places
+  pub form : parts ≡ marked currency ++ (map Digit front ++ (with_commas triples ++ pointed places))
+  pub value : fen ≡ 100 * value_of (front ++ digits_of triples) + fen_of places
 
 -- these figures write so many fen
 abbrev pub IsFigures : List ℕ → ℕ → Type 0

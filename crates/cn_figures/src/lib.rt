@@ -1,9 +1,9 @@
 //! Amounts of money in figures, as 1,409.50: read exactly, and shown.
 //!
-//! What figures are stands in `specs/Figures`. Reading goes from the left, by states that say what may
-//! follow. That it is right is shown in three parts: each state stands for what has been read of
-//! figures (`proofs/Fronts`), figures are read to their end (`proofs/FiguresRun`), and what is read of
-//! parts is so read of characters (`proofs/FiguresRead`).
+//! What figures are stands in `specs/Figures`. Reading goes from the left, by states that say what is
+//! read last. That it is right is shown in three steps: each state stands for what has been read of
+//! figures (`proofs/Fronts`), figures are read to their end (`proofs/FiguresRun`), and characters are
+//! read as the parts that they are (`proofs/FiguresRead`).
 #![tactic(auto)]
 
 mod error;

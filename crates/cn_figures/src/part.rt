@@ -8,7 +8,7 @@ pub enum Part {
     Currency,
     /// A digit.
     Digit(u8),
-    /// A comma, in front of a group of three digits.
+    /// A comma, in front of three digits.
     Comma,
     /// The point behind the yuan.
     Point,

@@ -23,11 +23,11 @@ pub enum State {
     /// A comma.
     AfterComma,
     /// The first digit behind it.
-    GroupOne,
+    CommaOne,
     /// Two digits behind it.
-    GroupTwo,
+    CommaTwo,
     /// All three digits behind it.
-    Grouped,
+    CommaThree,
     /// The point.
     AfterPoint,
     /// The digit of the jiao.
@@ -53,13 +53,13 @@ impl State {
             State::One => Some(State::Two),
             State::Two => Some(State::Three),
             State::Three | State::Many => Some(State::Many),
-            State::AfterComma => Some(State::GroupOne),
-            State::GroupOne => Some(State::GroupTwo),
-            State::GroupTwo => Some(State::Grouped),
+            State::AfterComma => Some(State::CommaOne),
+            State::CommaOne => Some(State::CommaTwo),
+            State::CommaTwo => Some(State::CommaThree),
             State::AfterPoint => Some(State::Jiao),
             State::Jiao => Some(State::Fen),
             State::Fen if digit == 0 => Some(State::Fen),
-            State::Fen | State::Grouped => None,
+            State::Fen | State::CommaThree => None,
         }
     }
 
@@ -67,7 +67,7 @@ impl State {
         ensures { result ≡ after_comma self }
     {
         match self {
-            State::One | State::Two | State::Three | State::Grouped => Some(State::AfterComma),
+            State::One | State::Two | State::Three | State::CommaThree => Some(State::AfterComma),
             _ => None,
         }
     }
@@ -76,7 +76,7 @@ impl State {
         ensures { result ≡ after_point self }
     {
         match self {
-            State::One | State::Two | State::Three | State::Many | State::Grouped => {
+            State::One | State::Two | State::Three | State::Many | State::CommaThree => {
                 Some(State::AfterPoint)
             }
             _ => None,
@@ -125,8 +125,8 @@ impl State {
             State::Beginning
             | State::Marked
             | State::AfterComma
-            | State::GroupOne
-            | State::GroupTwo
+            | State::CommaOne
+            | State::CommaTwo
             | State::AfterPoint => false,
             _ => true,
         }

@@ -5,7 +5,7 @@ use Rattle.cn_figures.specs.declared.part.Part.{Part}
 use Rattle.cn_figures.specs.declared.part.Part.TheVariants.{Currency, Digit, Comma, Point}
 use Rattle.cn_figures.specs.declared.progress.Progress.{Progress}
 use Rattle.cn_figures.specs.declared.state.State.{State}
-use Rattle.cn_figures.specs.declared.state.State.TheVariants.{Beginning, Marked, One, Two, Three, Many, AfterComma, GroupOne, GroupTwo, Grouped, AfterPoint, Jiao, Fen}
+use Rattle.cn_figures.specs.declared.state.State.TheVariants.{Beginning, Marked, One, Two, Three, Many, AfterComma, CommaOne, CommaTwo, CommaThree, AfterPoint, Jiao, Fen}
 use Rattle.cn_figures.specs.Figures.{below}
 use Rattle.cn_figures.specs.Parts.{part_of}
 
@@ -16,10 +16,10 @@ after_digit One digit = Some Two
 after_digit Two digit = Some Three
 after_digit Three digit = Some Many
 after_digit Many digit = Some Many
-after_digit AfterComma digit = Some GroupOne
-after_digit GroupOne digit = Some GroupTwo
-after_digit GroupTwo digit = Some Grouped
-after_digit Grouped digit = None
+after_digit AfterComma digit = Some CommaOne
+after_digit CommaOne digit = Some CommaTwo
+after_digit CommaTwo digit = Some CommaThree
+after_digit CommaThree digit = None
 after_digit AfterPoint digit = Some Jiao
 after_digit Jiao digit = Some Fen
 after_digit Fen digit = if digit == 0 then Some Fen else None
@@ -28,7 +28,7 @@ abbrev pub after_comma : State → Option State
 after_comma One = Some AfterComma
 after_comma Two = Some AfterComma
 after_comma Three = Some AfterComma
-after_comma Grouped = Some AfterComma
+after_comma CommaThree = Some AfterComma
 after_comma state = None
 
 abbrev pub after_point : State → Option State
@@ -36,7 +36,7 @@ after_point One = Some AfterPoint
 after_point Two = Some AfterPoint
 after_point Three = Some AfterPoint
 after_point Many = Some AfterPoint
-after_point Grouped = Some AfterPoint
+after_point CommaThree = Some AfterPoint
 after_point state = None
 
 abbrev pub after_currency : State → Option State
@@ -54,8 +54,8 @@ abbrev pub is_end : State → Bool
 is_end Beginning = false
 is_end Marked = false
 is_end AfterComma = false
-is_end GroupOne = false
-is_end GroupTwo = false
+is_end CommaOne = false
+is_end CommaTwo = false
 is_end AfterPoint = false
 is_end state = true
 
