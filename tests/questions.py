@@ -12,6 +12,8 @@ TOP = Path(__file__).resolve().parent.parent
 ROW = re.compile(r"^\| `([^`]*)` \| `([^`]*)` \|", re.MULTILINE)
 OF_NUMERAL = re.compile(r"(?:ok|err) .*|bad line")
 LINE = re.compile(r"(?:read|print) \w+ \w+ ")
+# The plain characters of figures; ¥ and commas stand for nothing.
+PLAIN = str.maketrans("０１２３４５６７８９．", "0123456789.", "¥￥,，")
 # How many words a line of `numeral` has; the last one may have spaces in it.
 WORDS = {"read": 4, "print": 6}
 NUMBERS = re.compile(r"^\| text \| numbers \| answers \|.*\n\|[-|]*\n((?:\|.*\n)+)", re.MULTILINE)
@@ -65,18 +67,25 @@ def of_numbers():
             yield text, numbers, answers
 
 
+def begins_figures(text):
+    """Whether `cheque` takes a text for figures, by its first character."""
+    return text[:1].isascii() or re.match("[¥￥０-９]", text) is not None
+
+
 def value(figures):
     """What a call takes and gives for figures: of an amount its fen; a date stays as it is."""
-    yuan, _, places = figures.partition(".")
-    return figures if "-" in figures else str(int(yuan + places.ljust(2, "0")))
+    yuan, _, places = figures.translate(PLAIN).partition(".")
+    return figures if "-" in figures else str(int(yuan + places[:2].ljust(2, "0")))
 
 
 def questions_on_capitals(word, answer):
-    """What is asked by a row of `cheque`: figures are written, and what is written is read back."""
+    """What is asked by a row of `cheque`: figures are written, and what is written is read back.
+    Figures that are refused are asked of no call."""
     what = "date" if re.search("-|年", word) else "amount"
-    if re.match("[0-9]", word):
-        yield [f"print_{what}", "simple", value(word)], f"ok {answer}"
-        yield [f"read_{what}", answer], f"ok {value(word)}"
+    if begins_figures(word):
+        if not begins_figures(answer):
+            yield [f"print_{what}", "simple", value(word)], f"ok {answer}"
+            yield [f"read_{what}", answer], f"ok {value(word)}"
     else:
         is_read = re.match("[0-9]", answer)
         yield [f"read_{what}", word], f"ok {value(answer)}" if is_read else f"err {answer}"

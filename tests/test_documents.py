@@ -95,7 +95,7 @@ def words_of_files():
             word = figures(word)
         elif call == "read_amount" and answer.startswith("ok "):
             value = figures(value)
-        if words[0] != "traditional" and not (is_read and word[:1].isascii()):
+        if words[0] != "traditional" and not (is_read and questions.begins_figures(word)):
             if is_amount or "年" in answer + word:
                 yield word, value
 

@@ -1,6 +1,5 @@
 mod DateFiguresRead
 mod DigitValues
 pub mod Examples
-mod FiguresRead
 mod Replies
 mod Shown

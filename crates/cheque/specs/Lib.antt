@@ -1,6 +1,5 @@
 pub mod DateFigures
 pub mod Digits
-pub mod Figures
 pub mod Reply
 pub mod Request
 pub mod Working

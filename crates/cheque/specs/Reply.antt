@@ -16,10 +16,11 @@ use Rattle.chinese_number.specs.declared.ChineseToAmountError.{ChineseToAmountEr
 use Rattle.chinese_number.specs.declared.ChineseToDateError.{ChineseToDateError}
 use Rattle.chinese_number.specs.declared.ChineseVariant.TheVariants.{Simple}
 use Rattle.chinese_number.specs.declared.DateToChineseError.TheVariants.{NotADate}
-use Rattle.cheque.specs.declared.figures.FiguresError.{FiguresError}
+use Rattle.cn_figures.specs.declared.error.FiguresError.{FiguresError}
+use Rattle.cn_figures.specs.ErrorText as FiguresErrorText
+use Rattle.cn_figures.specs.Figures as Figures
 use Rattle.cheque.specs.declared.reply.TheConstants.{USAGE}
 use Rattle.cheque.specs.DateFigures as DateFigures
-use Rattle.cheque.specs.Figures as Figures
 use Rattle.cheque.specs.Request.{Asked, help, write, read, write_date, read_date}
 
 -- what is written to the output and to the errors, and the status
@@ -64,7 +65,7 @@ form_of prefixed = record {
 abbrev pub IsCapitalsReply : Bool → Result ℕ FiguresError → Reply → Type 0
 IsCapitalsReply prefixed (Ok fen) reply =
     AnswersInMemory (encode_utf8_all (amount_text Simple (form_of prefixed) fen)) reply
-IsCapitalsReply prefixed (Err error) reply = reply ≡ refused (Figures.refusal_text error)
+IsCapitalsReply prefixed (Err error) reply = reply ≡ refused (FiguresErrorText.refusal_text error)
 
 abbrev pub RepliesCapitals : Bool → List ℕ → Reply → Type 0
 RepliesCapitals prefixed figures reply =

@@ -1,6 +1,6 @@
 -- What the words of a command line ask for. They are given by their bytes.
-use Rattle.std.specs.Prelude.{ℕ, ◌==◌, ◌&&◌, nat_lt, not, Bool, true, false, List, [], ◌∷◌, codes, bytes_eq, chars, position, slice_index, Option, Some, None, if◌then◌else◌}
-use Rattle.std.specs.Char.{is_ascii_digit}
+use Rattle.std.specs.Prelude.{ℕ, ◌==◌, ◌&&◌, ◌||◌, nat_lt, not, Bool, true, false, List, [], ◌∷◌, codes, bytes_eq, chars, position, slice_index, Option, Some, None, if◌then◌else◌}
+use Rattle.std.specs.Char.{is_ascii_digit, char_set_contains}
 use Rattle.std.specs.List.{list_any}
 use Rattle.chinese_number.specs.DateWrites.{char_of}
 use Rattle.cheque.specs.declared.request.Request.{Request}
@@ -23,10 +23,17 @@ asked_of (Read capitals) = read capitals.now
 asked_of (WriteDate figures) = write_date figures.now
 asked_of (ReadDate capitals) = read_date capitals.now
 
--- figures: an ASCII character stands in front
+-- a character that is read as the first one of figures: ASCII, ¥ or a full-width digit
+abbrev pub begins_figures : ℕ → Bool
+begins_figures c = nat_lt c 128 || char_set_contains (codes "¥￥０１２３４５６７８９") c
+
+-- such a character stands in front
+abbrev pub is_begun : List ℕ → Bool
+is_begun [] = false
+is_begun (c ∷ text) = begins_figures c
+
 abbrev pub are_figures : List ℕ → Bool
-are_figures [] = false
-are_figures (byte ∷ bytes) = nat_lt byte 128
+are_figures bytes = is_begun (chars bytes)
 
 -- a hyphen stands at this place, and something in front of it
 abbrev pub is_inner_hyphen : List ℕ → Option ℕ → Bool

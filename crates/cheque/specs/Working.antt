@@ -1,2 +1,1 @@
 pub mod DateSteps
-pub mod FiguresSteps

@@ -4,15 +4,16 @@
 //! cheque 1409.50                       壹仟肆佰零玖元伍角整
 //! cheque --prefix 15                   人民币壹拾伍元整
 //! cheque 壹仟肆佰零玖元伍角                1409.50
-//! cheque 1,409.50                      the amount is incorrect (position: 1)
+//! cheque ¥1,409.50                     壹仟肆佰零玖元伍角整
+//! cheque 1409.505                      the amount is incorrect (position: 7)
 //! cheque 2026-01-15                    贰零贰陆年零壹月壹拾伍日
 //! cheque 贰零贰陆年零壹月壹拾伍日              2026-01-15
 //! ```
 //!
-//! The figures of an amount are digits, and then nothing, or a point and one or two digits. Those of
-//! a date are four digits, two and two, with a hyphen between them. What begins with an ASCII
-//! character is read as figures: of a date where a hyphen stands behind the digits at the start. Any
-//! other is read as capitals: of a date where 年 is among them. Refusals go to standard error.
+//! The figures of an amount are those that `cn_figures` reads. Those of a date are four digits, two
+//! and two, with a hyphen between them. What begins with an ASCII character, ¥ or a full-width digit
+//! is read as figures: of a date where a hyphen stands behind the digits at the start. Any other is
+//! read as capitals: of a date where 年 is among them. Refusals go to standard error.
 //!
 //! The status is 0 where the amount or the date was written, 1 where it was refused or a write
 //! failed, and 2 where memory ran out or the words of the command line ask for nothing.
@@ -20,7 +21,6 @@
 
 pub mod dates;
 mod digits;
-pub mod figures;
 pub mod laws;
 mod reply;
 mod request;

@@ -5,12 +5,12 @@ ghost use Rattle.cheque.specs.Reply.{Gives, Replies, line, RepliesCapitals, Repl
 ghost use Rattle.cheque.specs.Request.{asked};
 
 use crate::dates::{DateFigures, date_of};
-use crate::figures::{Figures, yuan_to_fen};
 use crate::request::{Request, request_of};
 use chinese_number::{
     AmountForm, AmountToChineseError, ChineseVariant, DateToChineseError, amount_to_chinese_as,
     chinese_to_amount, chinese_to_date, date_to_chinese,
 };
+use cn_figures::{Figures, yuan_to_fen};
 use std::alloc::Global;
 use std::fmt::Display;
 use std::io::{self, Write};
@@ -18,7 +18,9 @@ use std::io::{self, Write};
 static USAGE: &str = "\
 usage: cheque [--prefix] FIGURES | cheque CAPITALS
 Writes an amount of yuan in capitals, as 壹仟肆佰零玖元伍角整 of 1409.50, or reads capitals and writes
-the amount in figures. Figures are digits, and then nothing, or a point and one or two digits.
+the amount in figures. Figures are digits, with a comma in front of each three or with none, and
+then nothing, or a point and digits, of which those behind the second are 0. ¥ may stand in front,
+and full-width characters are read as plain ones.
 --prefix writes 人民币 in front of the capitals of an amount.
 Writes a date in capitals, as 贰零贰陆年零壹月壹拾伍日 of 2026-01-15, or reads capitals with 年 and writes
 the date in figures: four digits of the year, two of the month and two of the day.";

@@ -1,6 +1,6 @@
 ghost use Rattle.std.specs.Prelude.{◌≡◌, map, not, option_map, position, string_bytes};
 ghost use Rattle.std.specs.Char.{is_ascii_digit};
-ghost use Rattle.cheque.specs.Request.{are_date_capitals, are_date_figures, are_figures, asked, asked_alone, asked_of, asked_with_option};
+ghost use Rattle.cheque.specs.Request.{are_date_capitals, are_date_figures, are_figures, begins_figures, asked, asked_alone, asked_of, asked_with_option};
 
 /// What the words of the command line ask for.
 #[derive(Debug, Copy, Clone)]
@@ -16,13 +16,21 @@ pub enum Request<'a> {
     ReadDate { capitals: &'a str },
 }
 
-// Whether figures are meant: whatever begins with ASCII is refused as figures.
+// Whether figures are meant where this character stands in front: whatever begins with ASCII is
+// refused as figures.
+fn begins_figures(character: char) -> bool
+    ensures { result ≡ begins_figures character }
+{
+    character.is_ascii() || matches!(character, '¥' | '￥' | '０'..='９')
+}
+
+// Whether figures are meant.
 fn are_figures(word: &str) -> bool
     ensures { result ≡ are_figures word.now }
 {
-    match word.as_bytes() {
-        [byte, ..] => byte.is_ascii(),
-        [] => false,
+    match word.chars().next() {
+        Some(character) => begins_figures(character),
+        None => false,
     }
 }
 

@@ -1,0 +1,130 @@
+-- Worked examples: what the definitions compute to.
+use Rattle.std.proofs.Common.{◌≡◌, ℕ, ◌+◌, ◌*◌, ◌<◌, ◌≤◌, ◌==◌, ◌⊎◌, inl, inr, Bool, true, false, List, [], ◌∷◌, ◌++◌, length, map, drop, Some, None, Err, codes, refl, arith}
+use Rattle.std.specs.Prelude.{IsTrue}
+use Rattle.std.specs.List.{list_all}
+use Rattle.cn_capitals.specs.declared.refusal.Refusal.TheVariants.{Unfinished, Incorrect}
+use Rattle.cn_capitals.specs.Answers.{Answers}
+use Rattle.cn_capitals.specs.Machine.{Leads}
+use Rattle.cn_capitals.proofs.Reading.{unfinished-read, place-refused}
+use Rattle.cn_figures.specs.declared.part.Part.TheVariants.{Digit}
+use Rattle.cn_figures.specs.declared.progress.Progress.{Progress}
+use Rattle.cn_figures.specs.declared.state.State.TheVariants.{Beginning, Many, AfterComma, CommaThree, AfterPoint, Fen}
+use Rattle.cn_figures.specs.Figures.{value_of, Triple, with_commas, digits_of, marked, pointed, fen_of, IsFigures, IsSignedFigures, WriteAmount}
+use Rattle.cn_figures.specs.Parts.{part_of, parts_of}
+use Rattle.cn_figures.specs.Working.Steps.{figures_machine}
+use Rattle.cn_figures.proofs.FiguresRead.{figures-read}
+use Rattle.cn_figures.proofs.FiguresRun.{at}
+
+-- figures of ¥ or nothing, digits, triples and places
+made : (text : List ℕ) (currency : Bool) (front : List ℕ) (triples : List Triple) (places : List ℕ)
+    → 0 < length front → (triples ≡ []) ⊎ (length front ≤ 3)
+    → IsTrue (list_all (λ digit. digit == 0) (drop 2 places))
+    → parts_of text
+    ≡ map Some (marked currency ++ (map Digit front ++ (with_commas triples ++ pointed places)))
+    → IsFigures text (100 * value_of (front ++ digits_of triples) + fen_of places)
+made text currency front triples places some short zeros is = (
+  marked currency ++ (map Digit front ++ (with_commas triples ++ pointed places)),
+  is,
+  record {
+    currency = currency;
+    front = front;
+    triples = triples;
+    places = places;
+    some = some;
+    short = short;
+    zeros = zeros;
+    form = refl;
+    value = refl;
+  },
+)
+
+pub yuan_alone : IsFigures (codes "0015") 1500
+unfolding part_of
+yuan_alone = made (codes "0015") false (0 ∷ 0 ∷ 1 ∷ 5 ∷ []) [] [] (omega arith) (inl refl) refl refl
+
+one_place : IsFigures (codes "1409.5") 140950
+unfolding part_of
+one_place = made (codes "1409.5") false (1 ∷ 4 ∷ 0 ∷ 9 ∷ []) [] (5 ∷ []) (omega arith) (inl refl) refl refl
+
+two_places : IsFigures (codes "1409.05") 140905
+unfolding part_of
+two_places = made (codes "1409.05") false (1 ∷ 4 ∷ 0 ∷ 9 ∷ []) [] (0 ∷ 5 ∷ []) (omega arith) (inl refl) refl refl
+
+zeros_behind : IsFigures (codes "15.0600") 1506
+unfolding part_of
+zeros_behind =
+    made (codes "15.0600") false (1 ∷ 5 ∷ []) [] (0 ∷ 6 ∷ 0 ∷ 0 ∷ []) (omega arith) (inl refl) refl refl
+
+two_commas : IsFigures (codes "12,345,678.90") 1234567890
+unfolding part_of
+two_commas =
+    made (codes "12,345,678.90") false (1 ∷ 2 ∷ []) ((3, 4, 5) ∷ (6, 7, 8) ∷ []) (9 ∷ 0 ∷ []) (omega arith)
+    (inr (omega arith)) refl refl
+
+with_currency : IsFigures (codes "¥15") 1500
+unfolding part_of
+with_currency = made (codes "¥15") true (1 ∷ 5 ∷ []) [] [] (omega arith) (inl refl) refl refl
+
+full_width : IsFigures (codes "￥１，４０９．５0") 140950
+unfolding part_of
+full_width =
+    made (codes "￥１，４０９．５0") true (1 ∷ []) ((4, 0, 9) ∷ []) (5 ∷ 0 ∷ []) (omega arith) (inr (omega arith)) refl refl
+
+with_minus : IsSignedFigures true (codes "-0015") 1500
+with_minus = (refl, yuan_alone)
+
+-- one yuan more than the greatest amount
+too_large : WriteAmount (codes "10000000000000000") None
+unfolding part_of
+too_large = (
+  1000000000000000000,
+  made (codes "10000000000000000") false
+      (1 ∷ 0 ∷ 0 ∷ 0 ∷ 0 ∷ 0 ∷ 0 ∷ 0 ∷ 0 ∷ 0 ∷ 0 ∷ 0 ∷ 0 ∷ 0 ∷ 0 ∷ 0 ∷ 0 ∷ []) [] []
+      (omega arith) (inl refl) refl refl,
+  refl,
+)
+
+-- what is missing
+unfinished : (text : List ℕ) (progress : Progress) → Leads figures_machine text progress
+    → figures_machine.end progress ≡ None → Answers WriteAmount text (Err Unfinished)
+unfinished text progress leads none =
+    unfinished-read WriteAmount figures_machine figures-read text progress leads none
+
+nothing : Answers WriteAmount [] (Err Unfinished)
+nothing = unfinished [] (at Beginning (Some 0)) refl refl
+
+pub behind_point : Answers WriteAmount (codes "15.") (Err Unfinished)
+unfolding part_of
+behind_point = unfinished (codes "15.") (at AfterPoint (Some 1500)) refl refl
+
+behind_comma : Answers WriteAmount (codes "15,") (Err Unfinished)
+unfolding part_of
+behind_comma = unfinished (codes "15,") (at AfterComma (Some 1500)) refl refl
+
+-- what is wrong, behind a front that leads so far
+incorrect : (front : List ℕ) (c place : ℕ) (progress : Progress) → place ≡ length front
+    → Leads figures_machine front progress → figures_machine.step progress c ≡ None
+    → Answers WriteAmount (front ++ c ∷ []) (Err (Incorrect place))
+incorrect front c place progress is leads none =
+    place-refused WriteAmount figures_machine figures-read (front ++ c ∷ []) front [] place progress c
+    refl is leads none
+
+comma_first : Answers WriteAmount (codes ",") (Err (Incorrect 0))
+unfolding part_of
+comma_first = incorrect [] 44 0 (at Beginning (Some 0)) refl refl refl
+
+point_first : Answers WriteAmount (codes ".") (Err (Incorrect 0))
+unfolding part_of
+point_first = incorrect [] 46 0 (at Beginning (Some 0)) refl refl refl
+
+long_triple : Answers WriteAmount (codes "1,2345") (Err (Incorrect 5))
+unfolding part_of
+long_triple = incorrect (codes "1,234") 53 5 (at CommaThree (Some 123400)) refl refl refl
+
+long_front : Answers WriteAmount (codes "1234,") (Err (Incorrect 4))
+unfolding part_of
+long_front = incorrect (codes "1234") 44 4 (at Many (Some 123400)) refl refl refl
+
+third_place : Answers WriteAmount (codes "15.005") (Err (Incorrect 5))
+unfolding part_of
+third_place = incorrect (codes "15.00") 53 5 (at Fen (Some 1500)) refl refl refl

@@ -1,0 +1,4 @@
+pub mod ErrorText
+pub mod Figures
+pub mod Parts
+pub mod Working

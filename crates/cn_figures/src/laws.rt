@@ -1,0 +1,27 @@
+//! What users can count on, each as the contract of a function that does nothing.
+ghost use Rattle.std.specs.Prelude.{◌≡◌, ℕ, ℤ, ◌<◌, List, Option, Result, Ok};
+ghost use Rattle.cn_amount.specs.Places.{amount_limit};
+ghost use Rattle.cn_capitals.specs.declared.refusal.Refusal.{Refusal};
+ghost use Rattle.cn_capitals.specs.Answers.{Answers};
+ghost use Rattle.cn_figures.specs.Figures.{WriteAmount, WriteSignedAmount, ReadsFigures, figures_of};
+
+/// Figures have one answer and no more.
+pub fn figures_have_one_answer()
+    ensures { (figures : List ℕ) → (answer : Result (Option ℕ) Refusal)
+        × Answers WriteAmount figures answer
+        × ((other : Result (Option ℕ) Refusal) → Answers WriteAmount figures other
+        → other ≡ answer) }
+{}
+
+/// So have those with a minus in front or not.
+pub fn signed_figures_have_one_answer()
+    ensures { (figures : List ℕ) → (answer : Result (Option ℤ) Refusal)
+        × Answers WriteSignedAmount figures answer
+        × ((other : Result (Option ℤ) Refusal) → Answers WriteSignedAmount figures other
+        → other ≡ answer) }
+{}
+
+/// The figures that are shown of an amount are read as that amount.
+pub fn shown_amounts_are_read()
+    ensures { (fen : ℕ) → fen < amount_limit → ReadsFigures (figures_of fen) (Ok fen) }
+{}
