@@ -24,27 +24,24 @@ fn writes_amounts_in_one_request(rt: HostRuntime) {
     }
 }
 
-const fn asking(currency: bool, round_yuan: bool, upright_closing: bool) -> AmountForm {
-    AmountForm {
-        currency,
-        round_yuan,
-        upright_closing,
-    }
-}
-
-// What is written for 15 yuan.
-static FORMS: [(ChineseVariant, AmountForm, &str); 5] = [
-    (Simple, AmountForm::PLAIN, "壹拾伍元整"),
-    (Simple, asking(true, false, false), "人民币壹拾伍元整"),
-    (Simple, asking(false, true, false), "壹拾伍圆整"),
-    (Simple, asking(false, false, true), "壹拾伍元正"),
-    (Traditional, asking(true, true, true), "人民幣壹拾伍圓正"),
+// What is written for 15 yuan where 人民币, 圆 and 正 are asked for or not.
+static FORMS: [(ChineseVariant, bool, bool, bool, &str); 5] = [
+    (Simple, false, false, false, "壹拾伍元整"),
+    (Simple, true, false, false, "人民币壹拾伍元整"),
+    (Simple, false, true, false, "壹拾伍圆整"),
+    (Simple, false, false, true, "壹拾伍元正"),
+    (Traditional, true, true, true, "人民幣壹拾伍圓正"),
 ];
 
 #[test]
 fn writes_amounts_as_asked_for(rt: HostRuntime) {
-    for (variant, form, text) in &FORMS {
-        match amount_to_chinese_as(rt.alloc(), *variant, *form, 1_500) {
+    for (variant, currency, round_yuan, upright_closing, text) in &FORMS {
+        let form = AmountForm {
+            currency: *currency,
+            round_yuan: *round_yuan,
+            upright_closing: *upright_closing,
+        };
+        match amount_to_chinese_as(rt.alloc(), *variant, form, 1_500) {
             Ok(written) => {
                 assert_eq!(rt; written.as_str(), *text);
                 assert_eq!(rt; written.capacity(), text.len(), "{text}");
