@@ -10,28 +10,32 @@ use crate::{
 const NOTHING: Reading = Reading {
     number: Number { low: 0, high: 0 },
     char_index: 0,
+    byte_index: 0,
 };
 
-// A text, and the codes of a type and a way; the status, the halves of the number, and the char_index.
-static READ: [(&str, u32, u32, u32, u64, u64, usize); 7] = [
-    ("一百二", 0, 2, 0, 120, 0, 0),
-    ("負一百二", 5, 3, 0, u64::MAX - 119, u64::MAX, 0),
-    ("零〇1兩", 4, 0, 0, 12, 0, 0),
-    ("　", 9, 4, 1, 0, 0, 0),
-    (" 二 十 十 ", 4, 2, 2, 0, 0, 3),
-    ("負一百二十九", 5, 1, 4, 0, 0, 0),
-    ("一", 10, 0, 8, 0, 0, 0),
+// A text, and the codes of a type and a way; the status, the halves of the number, the char_index and
+// the byte_index.
+static READ: [(&str, u32, u32, u32, u64, u64, usize, usize); 8] = [
+    ("一百二", 0, 2, 0, 120, 0, 0, 0),
+    ("負一百二", 5, 3, 0, u64::MAX - 119, u64::MAX, 0, 0),
+    ("零〇1兩", 4, 0, 0, 12, 0, 0, 0),
+    ("零〇1兩", 4, 5, 0, 12, 0, 0, 0),
+    ("　", 9, 4, 1, 0, 0, 0, 0),
+    (" 二 十 十 ", 4, 2, 2, 0, 0, 3, 5),
+    ("負一百二十九", 5, 1, 4, 0, 0, 0, 0),
+    ("一", 10, 0, 8, 0, 0, 0, 0),
 ];
 
 #[test]
 fn reads(rt: HostRuntime) {
-    for (text, kind, way, status, low, high, char_index) in &READ {
+    for (text, kind, way, status, low, high, char_index, byte_index) in &READ {
         let mut reading = NOTHING;
         let answer = chinese_number_read(text.as_bytes(), *kind, *way, &mut reading);
         assert_eq!(rt; answer, *status, "{text}");
         assert_eq!(rt; reading.number.low, *low, "{text}");
         assert_eq!(rt; reading.number.high, *high, "{text}");
         assert_eq!(rt; reading.char_index, *char_index, "{text}");
+        assert_eq!(rt; reading.byte_index, *byte_index, "{text}");
     }
 }
 

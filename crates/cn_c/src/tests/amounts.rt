@@ -33,13 +33,13 @@ fn prints_amounts(rt: HostRuntime) {
     }
 }
 
-// A text; the status, the amount in fen, and the char_index.
-static READ: [(&str, u32, u64, usize); 5] = [
-    ("壹仟肆佰零玖元伍角", 0, 140_950, 0),
-    ("人民幣壹拾伍圓正", 0, 1_500, 0),
-    ("壹佰元", 9, 0, 0),
-    ("", 9, 0, 0),
-    ("壹佰贰元整", 2, 0, 3),
+// A text; the status, the amount in fen, the char_index and the byte_index.
+static READ: [(&str, u32, u64, usize, usize); 5] = [
+    ("壹仟肆佰零玖元伍角", 0, 140_950, 0, 0),
+    ("人民幣壹拾伍圓正", 0, 1_500, 0, 0),
+    ("壹佰元", 9, 0, 0, 0),
+    ("", 9, 0, 0, 0),
+    ("壹佰贰元整", 2, 0, 3, 9),
 ];
 
 #[test]
@@ -47,12 +47,14 @@ fn reads_amounts_and_no_other_bytes(rt: HostRuntime) {
     let mut amount = Amount {
         fen: 7,
         char_index: 7,
+        byte_index: 7,
     };
-    for (text, status, fen, char_index) in &READ {
+    for (text, status, fen, char_index, byte_index) in &READ {
         let answer = chinese_amount_read(text.as_bytes(), &mut amount);
         assert_eq!(rt; answer, *status, "{text}");
         assert_eq!(rt; amount.fen, *fen, "{text}");
         assert_eq!(rt; amount.char_index, *char_index, "{text}");
+        assert_eq!(rt; amount.byte_index, *byte_index, "{text}");
     }
     assert_eq!(rt; chinese_amount_read(b"\xe4\xb8", &mut amount), 5);
     assert_eq!(rt; amount.char_index, 0);

@@ -29,13 +29,13 @@ fn prints_dates(rt: HostRuntime) {
     }
 }
 
-// A text; the status, the year, the month, the day, and the char_index.
-static READ: [(&str, u32, u32, u32, u32, usize); 5] = [
-    ("贰零贰陆年零壹月壹拾伍日", 0, 2026, 1, 15, 0),
-    ("伍年零叁月叁拾壹日", 0, 5, 3, 31, 0),
-    ("贰零贰陆年零壹月", 9, 0, 0, 0, 0),
-    ("", 9, 0, 0, 0, 0),
-    ("贰零贰伍年零贰月贰拾玖日", 2, 0, 0, 0, 10),
+// A text; the status, the year, the month, the day, the char_index and the byte_index.
+static READ: [(&str, u32, u32, u32, u32, usize, usize); 5] = [
+    ("贰零贰陆年零壹月壹拾伍日", 0, 2026, 1, 15, 0, 0),
+    ("伍年零叁月叁拾壹日", 0, 5, 3, 31, 0, 0),
+    ("贰零贰陆年零壹月", 9, 0, 0, 0, 0, 0),
+    ("", 9, 0, 0, 0, 0, 0),
+    ("贰零贰伍年零贰月贰拾玖日", 2, 0, 0, 0, 10, 30),
 ];
 
 #[test]
@@ -45,8 +45,9 @@ fn reads_dates_and_no_other_bytes(rt: HostRuntime) {
         month: 7,
         day: 7,
         char_index: 7,
+        byte_index: 7,
     };
-    for (text, status, year, month, day, char_index) in &READ {
+    for (text, status, year, month, day, char_index, byte_index) in &READ {
         assert_eq!(rt;
             chinese_date_read(text.as_bytes(), &mut date),
             *status,
@@ -56,6 +57,7 @@ fn reads_dates_and_no_other_bytes(rt: HostRuntime) {
         assert_eq!(rt; date.month, *month, "{text}");
         assert_eq!(rt; date.day, *day, "{text}");
         assert_eq!(rt; date.char_index, *char_index, "{text}");
+        assert_eq!(rt; date.byte_index, *byte_index, "{text}");
     }
     assert_eq!(rt; chinese_date_read(b"\xe4\xb8", &mut date), 5);
     assert_eq!(rt; date.char_index, 0);
