@@ -1,6 +1,6 @@
 -- Worked examples: what the definitions compute to.
 use Rattle.std.proofs.Common.{◌≡◌, ℕ, ◌+◌, ◌*◌, ◌<◌, ◌≤◌, ◌==◌, ◌⊎◌, inl, inr, Bool, true, false, List, [], ◌∷◌, ◌++◌, length, map, drop, Some, None, Err, codes, refl, arith}
-use Rattle.std.specs.Prelude.{IsTrue}
+use Rattle.std.specs.Prelude.{IsTrue, pos, neg_ℤ}
 use Rattle.std.specs.List.{list_all}
 use Rattle.cn_capitals.specs.declared.refusal.Refusal.TheVariants.{Unfinished, Incorrect}
 use Rattle.cn_capitals.specs.Answers.{Answers}
@@ -9,7 +9,7 @@ use Rattle.cn_capitals.proofs.Reading.{unfinished-read, place-refused}
 use Rattle.cn_figures.specs.declared.part.Part.TheVariants.{Digit}
 use Rattle.cn_figures.specs.declared.progress.Progress.{Progress}
 use Rattle.cn_figures.specs.declared.state.State.TheVariants.{Beginning, Many, AfterComma, CommaThree, AfterPoint, Fen}
-use Rattle.cn_figures.specs.Figures.{value_of, Triple, with_commas, digits_of, marked, pointed, fen_of, IsFigures, IsSignedFigures, WriteAmount}
+use Rattle.cn_figures.specs.Figures.{value_of, Triple, with_commas, digits_of, marked, pointed, fen_of, IsFigures, WriteAmount, WriteSignedAmount}
 use Rattle.cn_figures.specs.Parts.{part_of, parts_of}
 use Rattle.cn_figures.specs.Working.Steps.{figures_machine}
 use Rattle.cn_figures.proofs.FiguresRead.{figures-read}
@@ -70,8 +70,21 @@ unfolding part_of
 full_width =
     made (codes "￥１，４０９．５0") true (1 ∷ []) ((4, 0, 9) ∷ []) (5 ∷ 0 ∷ []) (omega arith) (inr (omega arith)) refl refl
 
-with_minus : IsSignedFigures true (codes "-0015") 1500
-with_minus = (refl, yuan_alone)
+with_minus : WriteSignedAmount (codes "-0015") (Some (neg_ℤ (pos 1500)))
+with_minus = (true, 1500, (refl, yuan_alone), refl)
+
+printed_minus : WriteSignedAmount (codes "−¥15") (Some (neg_ℤ (pos 1500)))
+printed_minus = (true, 1500, (refl, with_currency), refl)
+
+no_minus : WriteSignedAmount (codes "¥15") (Some (pos 1500))
+no_minus = (false, 1500, with_currency, refl)
+
+zero : IsFigures (codes "0.00") 0
+unfolding part_of
+zero = made (codes "0.00") false (0 ∷ []) [] (0 ∷ 0 ∷ []) (omega arith) (inl refl) refl refl
+
+minus_zero : WriteSignedAmount (codes "-0.00") (Some (pos 0))
+minus_zero = (true, 0, (refl, zero), refl)
 
 -- one yuan more than the greatest amount
 too_large : WriteAmount (codes "10000000000000000") None
