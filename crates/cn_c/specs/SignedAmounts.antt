@@ -1,0 +1,85 @@
+-- What the calls for amounts that may be below zero, for amounts as they are typed and for figures
+-- answer.
+use Rattle.std.specs.Prelude.{◌≡◌, ℕ, ℤ, pos, int_lt, nat_abs, nat_lt, List, encode_utf8_all, Option, Some, Result, Ok, Err, slice_get, if◌then◌else◌}
+use Rattle.std.specs.Bool.{MatchBool}
+use Rattle.std.specs.Str.{is_utf8}
+use Rattle.chinese_number.specs.declared.AmountForm.{AmountForm}
+use Rattle.chinese_number.specs.declared.ChineseVariant.{ChineseVariant}
+use Rattle.chinese_number.specs.AmountPlaces.{amount_limit}
+use Rattle.chinese_number.specs.AmountReading.{AmountRefusal, unfinished, incorrect_at}
+use Rattle.chinese_number.specs.AmountSigned.{ReadsSignedAmount, signed_amount_text}
+use Rattle.chinese_number.specs.AmountTyped.{ReadsTypedAmount}
+use Rattle.cn_figures.specs.declared.FiguresError.{FiguresError}
+use Rattle.cn_figures.specs.declared.FiguresError.TheVariants.{Unfinished, Incorrect, TooLarge}
+use Rattle.cn_figures.specs.Figures.{ReadsSignedFigures}
+use Rattle.cn_c.specs.declared.amount.Amount.{Amount}
+use Rattle.cn_c.specs.declared.signed_amount.SignedAmount.{SignedAmount}
+use Rattle.cn_c.specs.Amounts.{TellsAmount, no_amount}
+use Rattle.cn_c.specs.ByteIndex.{byte_index}
+use Rattle.cn_c.specs.Codes.{scripts, forms, CN_DONE, CN_INCORRECT, CN_TOO_LARGE, CN_TOO_SMALL, CN_NOT_UTF8, CN_UNKNOWN, CN_UNFINISHED}
+use Rattle.cn_c.specs.Prints.{PutsNothing, PutsIfItFits}
+
+-- what is put for an amount in a script and a form, if they are named: its text, where its magnitude
+-- is below the limit
+abbrev pub IsSignedPrintedAs : ℤ → Option ChineseVariant → Option AmountForm → List ℕ → ℕ
+    → List ℕ → ℕ → Type 0
+IsSignedPrintedAs fen (Some script) (Some form) old status new len =
+    MatchBool (nat_lt (nat_abs fen) amount_limit)
+    (PutsIfItFits (encode_utf8_all (signed_amount_text script form fen)) old status new len)
+    (PutsNothing (if int_lt fen (pos 0) then CN_TOO_SMALL else CN_TOO_LARGE) old status new len)
+IsSignedPrintedAs fen script form old status new len = PutsNothing CN_UNKNOWN old status new len
+
+-- what is put for an amount and the codes of a script and a form
+abbrev pub IsSignedPrinted : ℤ → ℕ → ℕ → List ℕ → ℕ → List ℕ → ℕ → Type 0
+IsSignedPrinted fen script form old status new len =
+    IsSignedPrintedAs fen (slice_get scripts script) (slice_get forms form) old status new len
+
+-- what is told of an amount, and where there is none
+abbrev pub signed_told : ℤ → SignedAmount
+signed_told fen = record { fen = fen; char_index = 0; byte_index = 0 }
+
+abbrev pub no_signed : ℕ → ℕ → SignedAmount
+no_signed char_index byte_index =
+    record { fen = pos 0; char_index = char_index; byte_index = byte_index }
+
+-- how an answer to a text is told: by the status and what is written
+abbrev pub TellsSigned : List ℕ → Result ℤ AmountRefusal → ℕ → SignedAmount → Type 0
+TellsSigned text (Ok fen) status amount = (status ≡ CN_DONE) × (amount ≡ signed_told fen)
+TellsSigned text (Err unfinished) status amount =
+    (status ≡ CN_UNFINISHED) × (amount ≡ no_signed 0 0)
+TellsSigned text (Err (incorrect_at char_index)) status amount =
+    (status ≡ CN_INCORRECT) × (amount ≡ no_signed char_index (byte_index text char_index))
+
+-- and an answer to figures
+abbrev pub TellsFigures : List ℕ → Result ℤ FiguresError → ℕ → SignedAmount → Type 0
+TellsFigures text (Ok fen) status amount = (status ≡ CN_DONE) × (amount ≡ signed_told fen)
+TellsFigures text (Err Unfinished) status amount =
+    (status ≡ CN_UNFINISHED) × (amount ≡ no_signed 0 0)
+TellsFigures text (Err TooLarge) status amount =
+    (status ≡ CN_TOO_LARGE) × (amount ≡ no_signed 0 0)
+TellsFigures text (Err (Incorrect char_index)) status amount =
+    (status ≡ CN_INCORRECT) × (amount ≡ no_signed char_index (byte_index text char_index))
+
+-- what is told of bytes
+abbrev pub IsSignedRead : List ℕ → ℕ → SignedAmount → Type 0
+IsSignedRead bytes status amount =
+    MatchBool (is_utf8 bytes)
+    ((answer : Result ℤ AmountRefusal) × ReadsSignedAmount bytes answer
+    × TellsSigned bytes answer status amount)
+    ((status ≡ CN_NOT_UTF8) × (amount ≡ no_signed 0 0))
+
+-- of bytes that are read as they are typed
+abbrev pub IsTypedRead : List ℕ → ℕ → Amount → Type 0
+IsTypedRead bytes status amount =
+    MatchBool (is_utf8 bytes)
+    ((answer : Result ℕ AmountRefusal) × ReadsTypedAmount bytes answer
+    × TellsAmount bytes answer status amount)
+    ((status ≡ CN_NOT_UTF8) × (amount ≡ no_amount 0 0))
+
+-- and of bytes that are read as figures
+abbrev pub IsFiguresRead : List ℕ → ℕ → SignedAmount → Type 0
+IsFiguresRead bytes status amount =
+    MatchBool (is_utf8 bytes)
+    ((answer : Result ℤ FiguresError) × ReadsSignedFigures bytes answer
+    × TellsFigures bytes answer status amount)
+    ((status ≡ CN_NOT_UTF8) × (amount ≡ no_signed 0 0))
