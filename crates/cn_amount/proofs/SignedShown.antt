@@ -127,14 +127,16 @@ few-behind variant true text h =
     omega (arith, sign-three variant, h, sum)
 few-behind variant false text h = omega (arith, h)
 
-form-behind : (variant : ChineseVariant) (form : AmountForm) (below : Bool) (capitals : List Capital)
+form-behind : (variant : ChineseVariant) (form : AmountForm) (below : Bool)
+    (capitals : List Capital)
     → map (capital_char variant form) ((if below then Fu ∷ [] else []) ++ capitals)
     ≡ behind_sign variant below (map (capital_char variant form) capitals)
 form-behind variant form true capitals = refl
 form-behind variant form false capitals = refl
 
 -- what has been put is the text
-pub signed-text-of : (variant : ChineseVariant) (form : AmountForm) (fen : ℤ) (text : CapitalText Hand)
+pub signed-text-of : (variant : ChineseVariant) (form : AmountForm) (fen : ℤ)
+    (text : CapitalText Hand)
     → HasPut (record { variant = variant; form = form }) text
     ((if int_lt fen (pos 0) then Fu ∷ [] else [])
     ++ amount_form (written_as form) (places_of (nat_abs fen)))
@@ -148,8 +150,8 @@ signed-text-of variant form fen text put =
     (few-bytes variant form (nat_abs fen)) in
     put.1 (omega (arith, few, ap length same)) ∙ same
 
-pub signed_is : {Z : Type 0} (variant : ChineseVariant) (form : AmountForm) (fen : ℤ) (text : String Z)
-    (bytes : List ℕ) → nat_abs fen < amount_limit → IsStringOf bytes text
+pub signed_is : {Z : Type 0} (variant : ChineseVariant) (form : AmountForm) (fen : ℤ)
+    (text : String Z) (bytes : List ℕ) → nat_abs fen < amount_limit → IsStringOf bytes text
     → bytes ≡ encode_utf8_all (signed_amount_text variant form fen)
     → IsSignedText variant form fen text
 signed_is variant form fen text bytes below is written =

@@ -93,14 +93,15 @@ circle-kept (a ∷ b ∷ c ∷ text) =
 
 nothing-kept : (text : List ℕ) → kept_from Nothing text ≡ without_colon (without_front circle text)
 nothing-kept [] = refl
-nothing-kept (c ∷ text) = by (char_set_contains circle c) (circle-kept text) (circle-kept (c ∷ text)) where
-  by : (b : Bool) → kept_from Circle text ≡ without_colon text
-      → kept_from Circle (c ∷ text) ≡ without_colon (c ∷ text)
-      → (if not b then c ∷ kept_from (if b then Circle else first_seen c) text
-      else kept_from (if b then Circle else first_seen c) text)
-      ≡ without_colon (if b then text else c ∷ text)
-  by true same plain = same
-  by false same plain = plain
+nothing-kept (c ∷ text) =
+    by (char_set_contains circle c) (circle-kept text) (circle-kept (c ∷ text)) where
+      by : (b : Bool) → kept_from Circle text ≡ without_colon text
+          → kept_from Circle (c ∷ text) ≡ without_colon (c ∷ text)
+          → (if not b then c ∷ kept_from (if b then Circle else first_seen c) text
+          else kept_from (if b then Circle else first_seen c) text)
+          ≡ without_colon (if b then text else c ∷ text)
+      by true same plain = same
+      by false same plain = plain
 
 kept-is : (text : List ℕ) → kept typed_sieve Nothing text ≡ regular text
 kept-is text = kept-visible Nothing text ∙ nothing-kept (filter is_not_whitespace text)
@@ -135,13 +136,15 @@ all-kept seen (c ∷ text) h =
 stands-behind : CanStandBehind typed_sieve Nothing IsAmount
 stands-behind text behind fen h =
     let front = kept typed_sieve Nothing text in
-    let all = amount-passes is_plain refl (front ++ behind) fen h in (
+    let all = sym (list_all-append is_plain front behind)
+    ∙ amount-passes is_plain refl (front ++ behind) fen h in (
       behind,
       all-kept (after typed_sieve Nothing text) behind
-          (and-right (list_all is_plain front) _ (sym (list_all-append is_plain front behind) ∙ all)),
+          (and-right (list_all is_plain front) _ all),
     )
 
-typed-sifted : IsSifted typed_sieve both (λ seen (fen : ℕ). fen) amount_machine typed_machine Nothing
+typed-sifted : IsSifted typed_sieve both (λ seen (fen : ℕ). fen) amount_machine typed_machine
+    Nothing
 typed-sifted = record {
   begin = refl;
   step = λ seen state c. refl;

@@ -53,8 +53,8 @@ pub fn chinese_to_amount(text: &str) -> Result<u64, ChineseToAmountError>
 /// chinese_to_signed_amount("负负壹元整") == Err(ChineseToAmountError::Incorrect { char_index: 1 })
 /// ```
 ///
-/// Each answer is as of `chinese_to_amount`, of these texts: the sign is unfinished, and a character
-/// at fault is counted from the front of the whole text. No rule of the banks has the sign.
+/// Each answer is as of `chinese_to_amount`, of these texts: the sign is unfinished, and the place
+/// of a character is counted from the front of the whole text. No rule of the banks has the sign.
 pub fn chinese_to_signed_amount(text: &str) -> Result<i64, ChineseToAmountError>
     ensures { ReadsSignedAmount text.now (answer_of result) }
 {

@@ -68,7 +68,8 @@ pub fn amount_to_chinese_as(
     Ok(amount_text(variant, form, fen).to_string(alloc)?)
 }
 
-/// The text of an amount that may be below zero, of a magnitude below the limit, in room of its own.
+/// The text of an amount that may be below zero, with a magnitude below the limit, in room of its
+/// own.
 pub fn signed_amount_text(variant: ChineseVariant, form: AmountForm, fen: i64) -> CapitalText<Hand>
     requires { nat_abs fen < amount_limit }
     ensures bytes { text_bytes result ≡ encode_utf8_all (signed_amount_text variant form fen) }

@@ -2,8 +2,8 @@
 //! whose states can be given, and the text that capitals are put to.
 //!
 //! What is answered of a text stands in `specs/Answers`, for any definition of a form; what a grammar
-//! has to show, once, in `specs/Machine`; how it reads what a sieve keeps of a text, in `specs/Sieve`;
-//! and what has been put to a text in `specs/Text`.
+//! has to show, once, in `specs/Machine`; how it reads what a sieve keeps of a text, in
+//! `specs/Sieve`; and what has been put to a text in `specs/Text`.
 #![tactic(auto)]
 
 mod grammar;

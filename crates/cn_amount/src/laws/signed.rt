@@ -6,7 +6,8 @@ ghost use Rattle.cn_amount.specs.Places.{amount_limit};
 ghost use Rattle.cn_amount.specs.Reading.{AmountRefusal, incorrect_at, IsAmount};
 ghost use Rattle.cn_amount.specs.Signed.{IsSignedAmount, SignedAnswers, ReadsSignedAmount, signed_amount_text};
 
-/// What is written for an amount, in each form, is read as that amount, by the definition of reading.
+/// What is written for an amount, in each form, is read as that amount, by the definition of
+/// reading.
 pub fn written_amounts_are_amounts()
     ensures { (variant : ChineseVariant) → (form : AmountForm) → (fen : ℤ)
         → nat_abs fen < amount_limit

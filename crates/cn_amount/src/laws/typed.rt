@@ -7,7 +7,8 @@ ghost use Rattle.cn_amount.specs.Reading.{AmountRefusal, incorrect_at, IsAmount}
 ghost use Rattle.cn_amount.specs.Typed.{IsTypedAmount, TypedAnswers, ReadsTypedAmount};
 ghost use Rattle.cn_amount.specs.Writes.{amount_text};
 
-/// What is written for an amount, in each form, is read as that amount, by the definition of reading.
+/// What is written for an amount, in each form, is read as that amount, by the definition of
+/// reading.
 pub fn written_amounts_are_amounts()
     ensures { (variant : ChineseVariant) → (form : AmountForm) → (amount : ℕ)
         → amount < amount_limit
