@@ -1,7 +1,6 @@
 -- What is printed for an amount is read back as the same amount.
 use Rattle.std.proofs.Common.{◌≡◌, ℕ, ◌<◌, nat_lt, Bool, true, false, MatchBool, List, take, chars, encode_utf8_all, Option, Some, None, Result, Ok, refl, sym, subst, arith}
 use Rattle.std.proofs.lemmas.Bool.{ltb-true}
-use Rattle.std.proofs.lemmas.Str.{is_utf8-from_IsUtf8}
 use Rattle.std.specs.Str.{IsUtf8}
 use Rattle.cn_core.specs.declared.script.ChineseVariant.{ChineseVariant}
 use Rattle.cn_amount.specs.declared.form.AmountForm.{AmountForm}
@@ -13,10 +12,11 @@ use Rattle.cn_amount.proofs.FormsShown.{written-read, written-utf8}
 use Rattle.cn_amount.proofs.ReadText.{amount-reads}
 use Rattle.cn_capitals.proofs.OneAnswer as every
 use Rattle.cn_c.specs.declared.amount.Amount.{Amount}
-use Rattle.cn_c.specs.Amounts.{TellsAmount, IsAmountRead, IsAmountPrintedAs}
+use Rattle.cn_c.specs.Amounts.{no_amount, TellsAmount, IsAmountRead, IsAmountPrintedAs}
 use Rattle.cn_c.specs.Codes.{CN_DONE}
 use Rattle.cn_c.specs.Prints.{PutsNothing, PutsIfItFits}
 use Rattle.cn_c.proofs.ReadBack.{put-text}
+use Rattle.cn_c.proofs.ToldBack.{told-back}
 
 -- the one answer to a text that is written for an amount is this amount
 one-answer : (script : ChineseVariant) (form : AmountForm) (fen : ℕ) (text : List ℕ)
@@ -39,11 +39,6 @@ amount-back fen (Some script) (Some form) old new len printed = by (nat_lt fen a
   bytes : List ℕ
   bytes = encode_utf8_all (amount_text script form fen)
 
-  told : (status : ℕ) (amount : Amount) (answer : Result ℕ AmountRefusal) → answer ≡ Ok fen
-      → TellsAmount (take len new) answer status amount
-      → (status ≡ CN_DONE) × (amount ≡ record { fen = fen; char_index = 0; byte_index = 0 })
-  told status amount answer e tells = rw e at tells
-
   by : (b : Bool) → nat_lt fen amount_limit ≡ b
       → MatchBool b (PutsIfItFits bytes old CN_DONE new len) (PutsNothing 3 old CN_DONE new len)
       → IsUtf8 (take len new)
@@ -53,9 +48,7 @@ amount-back fen (Some script) (Some form) old new len printed = by (nat_lt fen a
       let text = put-text bytes old new len h in
       let utf8 = written-utf8 script form fen (take len new) text in (
         utf8,
-        λ status amount is.
-            let read : (answer : Result ℕ AmountRefusal) × ReadsAmount (take len new) answer
-            × TellsAmount (take len new) answer status amount = rw (is_utf8-from_IsUtf8 (take len new) utf8) at is in
-            told status amount read.0 (one-answer script form fen (take len new) read.0 (ltb-true fen amount_limit e) text read.1) read.2,
+        told-back ReadsAmount TellsAmount (λ status amount. (status ≡ 5) × (amount ≡ no_amount 0 0)) (take len new) fen utf8
+            (λ answer. one-answer script form fen (take len new) answer (ltb-true fen amount_limit e) text),
       )
   by false e h = absurd (omega (arith, h.0))

@@ -1,6 +1,5 @@
 -- What is printed for a date is read back as the same date.
 use Rattle.std.proofs.Common.{◌≡◌, ℕ, inl, inr, List, take, chars, encode_utf8_all, Option, Some, None, Result, Ok, sym, subst, arith}
-use Rattle.std.proofs.lemmas.Str.{is_utf8-from_IsUtf8}
 use Rattle.std.specs.Str.{IsUtf8}
 use Rattle.cn_core.specs.declared.script.ChineseVariant.{ChineseVariant}
 use Rattle.cn_date.specs.declared.date.BillDate.{BillDate}
@@ -12,9 +11,10 @@ use Rattle.cn_date.proofs.ReadText.{date-reads}
 use Rattle.cn_capitals.proofs.OneAnswer as every
 use Rattle.cn_date.proofs.Written.{written-read, written-utf8}
 use Rattle.cn_c.specs.declared.date.Date.{Date}
-use Rattle.cn_c.specs.Dates.{date_told, TellsDate, IsDateRead, IsDatePrintedAs}
+use Rattle.cn_c.specs.Dates.{date_told, no_date, TellsDate, IsDateRead, IsDatePrintedAs}
 use Rattle.cn_c.specs.Codes.{CN_DONE}
 use Rattle.cn_c.proofs.ReadBack.{put-text}
+use Rattle.cn_c.proofs.ToldBack.{told-back}
 
 -- the one answer to a text that is written for a date is this date
 one-answer : (script : ChineseVariant) (date : BillDate) (text : List ℕ) (answer : Result BillDate DateRefusal)
@@ -36,11 +36,6 @@ date-back date (Some script) old new len (inl put) =
     let text = put-text (encode_utf8_all (date_text script date)) old new len put.1 in
     let utf8 = written-utf8 script date (take len new) put.0 text in (
       utf8,
-      λ status told is.
-          let read : (answer : Result BillDate DateRefusal) × ReadsDate (take len new) answer
-          × TellsDate (take len new) answer status told = rw (is_utf8-from_IsUtf8 (take len new) utf8) at is in
-          tells status told read.0 (one-answer script date (take len new) read.0 put.0 text read.1) read.2,
-    ) where
-      tells : (status : ℕ) (told : Date) (answer : Result BillDate DateRefusal) → answer ≡ Ok date
-          → TellsDate (take len new) answer status told → (status ≡ CN_DONE) × (told ≡ date_told date)
-      tells status told answer e is = rw e at is
+      told-back ReadsDate TellsDate (λ status told. (status ≡ 5) × (told ≡ no_date 0 0)) (take len new) date utf8
+          (λ answer. one-answer script date (take len new) answer put.0 text),
+    )

@@ -3,3 +3,5 @@ pub mod DateReadBack
 pub mod EitherBack
 pub mod Passing
 pub mod ReadBack
+pub mod SignedReadBack
+pub mod ToldBack

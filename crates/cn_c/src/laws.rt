@@ -1,14 +1,16 @@
 // What users can count on, as the contract of a function that does nothing.
-ghost use Rattle.std.specs.Prelude.{◌≡◌, ℕ, List, take};
+ghost use Rattle.std.specs.Prelude.{◌≡◌, ℕ, ℤ, List, take};
 ghost use Rattle.std.specs.Str.{IsUtf8};
 ghost use Rattle.cn_c.specs.Amounts.{IsAmountPrinted, IsAmountRead};
 ghost use Rattle.cn_c.specs.Codes.{CN_ANY, CN_DIGITS, CN_DONE, CN_TEN_THOUSAND};
 ghost use Rattle.cn_c.specs.Dates.{IsDatePrinted, IsDateRead};
 ghost use Rattle.cn_c.specs.Prints.{IsPrinted};
 ghost use Rattle.cn_c.specs.Reads.{ReadsBack};
+ghost use Rattle.cn_c.specs.SignedAmounts.{IsSignedPrinted, IsSignedRead, signed_told};
 ghost use Rattle.cn_c.specs.declared.amount.Amount.{Amount};
 ghost use Rattle.cn_c.specs.declared.date.Date.{Date};
 ghost use Rattle.cn_c.specs.declared.number.Number.{Number};
+ghost use Rattle.cn_c.specs.declared.signed_amount.SignedAmount.{SignedAmount};
 
 /// What `chinese_number_print` writes is UTF-8, and `chinese_number_read_utf8` reads it, as the
 /// same type and in the same way, as the same number.
@@ -40,6 +42,16 @@ pub fn printed_amounts_read_back()
         → IsUtf8 (take len new)
         × ((status : ℕ) (amount : Amount) → IsAmountRead (take len new) status amount
         → (status ≡ CN_DONE) × (amount ≡ record { fen = fen; char_index = 0; byte_index = 0 })) }
+{}
+
+/// What `chinese_signed_amount_print` writes, in each form, is UTF-8, and `chinese_signed_amount_read`
+/// reads it as the same amount.
+pub fn printed_signed_amounts_read_back()
+    ensures { (fen : ℤ) → (script form : ℕ) → (old new : List ℕ) → (len : ℕ)
+        → IsSignedPrinted fen script form old CN_DONE new len
+        → IsUtf8 (take len new)
+        × ((status : ℕ) (amount : SignedAmount) → IsSignedRead (take len new) status amount
+        → (status ≡ CN_DONE) × (amount ≡ signed_told fen)) }
 {}
 
 /// What `chinese_date_print` writes is UTF-8, and `chinese_date_read` reads it as the same date.

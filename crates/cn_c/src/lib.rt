@@ -21,9 +21,7 @@ mod status;
 mod tests;
 mod version;
 
-pub use amount::{
-    Amount, chinese_amount_print, chinese_amount_read, chinese_typed_amount_read,
-};
+pub use amount::{Amount, chinese_amount_print, chinese_amount_read, chinese_typed_amount_read};
 pub use date::{Date, chinese_date_print, chinese_date_read};
 pub use finding::{Span, chinese_number_find, chinese_number_find_utf8};
 pub use number::Number;

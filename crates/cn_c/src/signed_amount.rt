@@ -103,11 +103,7 @@ pub extern "C" fn chinese_signed_amount_read(text: &[u8], amount: &mut SignedAmo
 }
 
 // Tells an answer to figures to C.
-fn tell_figures(
-    text: &str,
-    answer: Result<i64, FiguresError>,
-    amount: &mut SignedAmount,
-) -> u32
+fn tell_figures(text: &str, answer: Result<i64, FiguresError>, amount: &mut SignedAmount) -> u32
     ensures { TellsFigures text.now answer result amount.new }
 {
     *amount = NOTHING;
