@@ -2,15 +2,12 @@
 ghost use Rattle.std.specs.Prelude.{◌≤◌};
 ghost use Rattle.chinese_number.specs.AmountAnswer.{answer_of};
 ghost use Rattle.cn_c.specs.Amounts.{TellsAmount, IsAmountPrinted, IsAmountRead};
-ghost use Rattle.cn_c.specs.SignedAmounts.{IsTypedRead};
 
 use crate::codes::{form_of, script_of};
 use crate::place::byte_index;
 use crate::room::put_text;
 use crate::status::{DONE, INCORRECT, NOT_UTF8, TOO_LARGE, UNFINISHED, UNKNOWN};
-use chinese_number::{
-    AMOUNT_LIMIT, ChineseToAmountError, chinese_to_amount, chinese_to_amount_as_typed,
-};
+use chinese_number::{AMOUNT_LIMIT, ChineseToAmountError, chinese_to_amount};
 use cn_amount::amount_text;
 use cn_faces::utf8_text;
 
@@ -24,7 +21,8 @@ pub struct Amount {
     pub byte_index: usize,
 }
 
-const NOTHING: Amount = Amount {
+/// Nothing was read.
+pub const NOTHING: Amount = Amount {
     fen: 0,
     char_index: 0,
     byte_index: 0,
@@ -57,8 +55,12 @@ pub extern "C" fn chinese_amount_print(
     put_text(amount_text(script, form, fen).as_bytes(), room, len)
 }
 
-// Tells an answer to a text to C.
-fn tell_amount(text: &str, answer: Result<u64, ChineseToAmountError>, amount: &mut Amount) -> u32
+/// Tells an answer to a text to C.
+pub fn tell_amount(
+    text: &str,
+    answer: Result<u64, ChineseToAmountError>,
+    amount: &mut Amount,
+) -> u32
     ensures { TellsAmount text.now (answer_of answer) result amount.new }
 {
     *amount = NOTHING;
@@ -87,22 +89,6 @@ pub extern "C" fn chinese_amount_read(text: &[u8], amount: &mut Amount) -> u32
     *amount = NOTHING;
     match utf8_text(text) {
         Some(text) => tell_amount(text, chinese_to_amount(text), amount),
-        None => NOT_UTF8,
-    }
-}
-
-/// Reads a text in capitals as it is typed, as `chinese_amount_read` does where white space, ⊗ in
-/// front and a colon behind 人民币 are left out. A character at fault is told by its place in the
-/// text that is given.
-///
-/// Writes `*amount` whole at each status, and nothing else.
-#[unsafe(no_mangle)]
-pub extern "C" fn chinese_typed_amount_read(text: &[u8], amount: &mut Amount) -> u32
-    ensures { IsTypedRead text.now result amount.new }
-{
-    *amount = NOTHING;
-    match utf8_text(text) {
-        Some(text) => tell_amount(text, chinese_to_amount_as_typed(text), amount),
         None => NOT_UTF8,
     }
 }

@@ -19,9 +19,10 @@ mod signed_amount;
 mod status;
 #[cfg(test)]
 mod tests;
+mod typed_amount;
 mod version;
 
-pub use amount::{Amount, chinese_amount_print, chinese_amount_read, chinese_typed_amount_read};
+pub use amount::{Amount, chinese_amount_print, chinese_amount_read};
 pub use date::{Date, chinese_date_print, chinese_date_read};
 pub use finding::{Span, chinese_number_find, chinese_number_find_utf8};
 pub use number::Number;
@@ -30,4 +31,5 @@ pub use reading::{Reading, chinese_number_read, chinese_number_read_utf8};
 pub use signed_amount::{
     SignedAmount, chinese_figures_read, chinese_signed_amount_print, chinese_signed_amount_read,
 };
+pub use typed_amount::chinese_typed_amount_read;
 pub use version::chinese_number_version;

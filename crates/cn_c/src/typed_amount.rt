@@ -1,0 +1,23 @@
+// Amounts of money as they are typed.
+ghost use Rattle.cn_c.specs.SignedAmounts.{IsTypedRead};
+
+use crate::amount::{Amount, NOTHING, tell_amount};
+use crate::status::NOT_UTF8;
+use chinese_number::chinese_to_amount_as_typed;
+use cn_faces::utf8_text;
+
+/// Reads a text in capitals as it is typed, as `chinese_amount_read` does where white space, ⊗ in
+/// front and a colon behind 人民币 are left out. A character at fault is told by its place in the
+/// text that is given.
+///
+/// Writes `*amount` whole at each status, and nothing else.
+#[unsafe(no_mangle)]
+pub extern "C" fn chinese_typed_amount_read(text: &[u8], amount: &mut Amount) -> u32
+    ensures { IsTypedRead text.now result amount.new }
+{
+    *amount = NOTHING;
+    match utf8_text(text) {
+        Some(text) => tell_amount(text, chinese_to_amount_as_typed(text), amount),
+        None => NOT_UTF8,
+    }
+}
