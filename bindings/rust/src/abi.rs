@@ -93,8 +93,9 @@ struct Date {
     day: u32,
 }
 
-// What is read of a text, of each kind that is read, and the place of the character at fault. In the
-// header the three numbers of a date stand in front of the place one by one, which is the same layout.
+// What is read of a text, of each kind that is read, and the place of the character at fault. In
+// the header the three numbers of a date stand in front of the place one by one, which is the same
+// layout.
 #[derive(Default)]
 #[repr(C)]
 struct Reading<T> {
@@ -366,8 +367,8 @@ pub fn print<T: Whole>(
 ) -> Result<&str, u32> {
     let Number { low, high } = value.number();
     let (kind, way, script, case) = (T::KIND as u32, way as u32, script as u32, case as u32);
-    // SAFETY: the declaration is that of the header. The library writes to the room, of this length,
-    // and does not read it; and no text of a number has more bytes.
+    // SAFETY: the declaration is that of the header. The library writes to the room, of this
+    // length, and does not read it; and no text of a number has more bytes.
     unsafe {
         printed(room, |room, length| {
             chinese_number_print(low, high, kind, way, script, case, room, MOST_BYTES, length)

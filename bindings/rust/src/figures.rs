@@ -33,8 +33,9 @@ impl Display for FiguresError {
 
 impl core::error::Error for FiguresError {}
 
-/// Reads an amount of money in figures, as `-1,409.50`, in fen, and rounds nothing. A sign and ¥ may
-/// stand in front, and commas between groups of three digits; each character may be full-width.
+/// Reads an amount of money in figures, as `-1,409.50`, in fen, and rounds nothing. One - or − may
+/// stand in front, and behind it ¥, and commas between groups of three digits. Digits, commas,
+/// points and ¥ may be full-width.
 ///
 /// # Errors
 ///

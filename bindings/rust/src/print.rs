@@ -424,8 +424,8 @@ pub fn amount_to_chinese_as(
     Room::new().amount(chinese_variant, form, fen).map(String::from)
 }
 
-/// Writes an amount of money, in fen, in capitals and in a form, behind 负 (負) where it is below zero,
-/// as on a red invoice. No cheque takes such an amount.
+/// Writes an amount of money, in fen, in capitals and in a form, behind 负 (負) where it is below
+/// zero, as on a red invoice. No cheque takes such an amount.
 ///
 /// # Errors
 ///

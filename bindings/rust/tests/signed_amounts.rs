@@ -1,7 +1,7 @@
-//! Amounts that may be below zero: many of them there and back, in capitals and in figures, and those
-//! that are refused.
+//! Amounts that may be below zero: many of them there and back, in capitals and in figures, and
+//! those that are refused.
 //!
-//! `CHINESE_NUMBER_FEN=10000000` tries all from that many fen below zero to as many above it, and as
+//! `CHINESE_NUMBER_FEN=10000000` tries all from so many fen below zero to as many above it, and as
 //! many others; without it they are 100,000.
 
 use std::env;
