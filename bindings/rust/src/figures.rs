@@ -35,7 +35,7 @@ impl core::error::Error for FiguresError {}
 
 /// Reads an amount of money in figures, as `-1,409.50`, in fen, and rounds nothing. One - or − may
 /// stand in front, and behind it ¥, and commas between groups of three digits. Digits, commas,
-/// points and ¥ may be full-width.
+/// points and ¥ may be full-width. No feature is needed for this call.
 ///
 /// # Errors
 ///

@@ -119,11 +119,7 @@ impl Room {
         form: AmountForm,
         fen: u64,
     ) -> Result<&str, AmountToChineseError> {
-        let text = abi::print_amount(&mut self.0, chinese_variant, form.code(), fen);
-        text.map_err(|status| match status {
-            status::TOO_LARGE => AmountToChineseError::Overflow,
-            _ => unreachable!("the codes are the library's"),
-        })
+        abi::print_amount(&mut self.0, chinese_variant, form.code(), fen).map_err(no_capitals)
     }
 
     /// Prints an amount of money that may be below zero, in fen, as [`signed_amount_to_chinese`]
@@ -140,11 +136,7 @@ impl Room {
         fen: i64,
     ) -> Result<&str, AmountToChineseError> {
         let text = abi::print_signed_amount(&mut self.0, chinese_variant, form.code(), fen);
-        text.map_err(|status| match status {
-            status::TOO_LARGE => AmountToChineseError::Overflow,
-            status::TOO_SMALL => AmountToChineseError::Underflow,
-            _ => unreachable!("the codes are the library's"),
-        })
+        text.map_err(no_capitals)
     }
 
     /// Prints a date, as [`date_to_chinese`] does.
@@ -379,6 +371,15 @@ impl Display for AmountToChineseError {
 }
 
 impl core::error::Error for AmountToChineseError {}
+
+#[inline]
+fn no_capitals(status: u32) -> AmountToChineseError {
+    match status {
+        status::TOO_LARGE => AmountToChineseError::Overflow,
+        status::TOO_SMALL => AmountToChineseError::Underflow,
+        _ => unreachable!("the codes are the library's"),
+    }
+}
 
 /// Writes an amount of money, in fen, in capitals as on a cheque, in the plain form.
 ///
