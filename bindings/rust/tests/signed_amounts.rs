@@ -9,7 +9,7 @@ use std::env;
 use chinese_number::*;
 
 const LIMIT: u64 = 1_000_000_000_000_000_000;
-const FORM: AmountForm = AmountForm::PLAIN;
+const FORM: AmountForm = AmountForm { currency: true, round_yuan: true, upright_closing: true };
 
 fn count() -> i64 {
     env::var("CHINESE_NUMBER_FEN").map_or(100_000, |count| count.parse().expect("a count of fen"))
@@ -40,12 +40,12 @@ fn figures(fen: i64) -> String {
 }
 
 // Below zero an amount is written as its magnitude is, behind the sign.
-fn reads_back(variant: ChineseVariant, sign: &str, fen: i64) {
+fn reads_back(variant: ChineseVariant, form: AmountForm, sign: &str, fen: i64) {
     let magnitude = fen.unsigned_abs();
-    let text = signed_amount_to_chinese(variant, FORM, fen).unwrap();
+    let text = signed_amount_to_chinese(variant, form, fen).unwrap();
     let unsigned = text.strip_prefix(sign).unwrap_or(&text);
     assert_eq!(text.len() > unsigned.len(), fen < 0, "{text}");
-    assert_eq!(amount_to_chinese(variant, magnitude).unwrap(), unsigned);
+    assert_eq!(amount_to_chinese_as(variant, form, magnitude).unwrap(), unsigned);
     assert_eq!(chinese_to_signed_amount(&text), Ok(fen), "{text}");
     assert_eq!(chinese_to_amount_as_typed(unsigned), Ok(magnitude), "{text}");
 }
@@ -54,8 +54,8 @@ fn reads_back(variant: ChineseVariant, sign: &str, fen: i64) {
 fn reads_back_each_of_many() {
     let count = count();
     for fen in (-count..=count).chain(others(count)) {
-        reads_back(ChineseVariant::Traditional, "負", fen);
-        reads_back(ChineseVariant::Simple, "负", fen);
+        reads_back(ChineseVariant::Traditional, FORM, "負", fen);
+        reads_back(ChineseVariant::Simple, AmountForm::PLAIN, "负", fen);
         assert_eq!(yuan_to_fen(&figures(fen)), Ok(fen), "{fen}");
     }
 }
