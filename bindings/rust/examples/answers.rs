@@ -5,9 +5,10 @@ use std::io;
 use std::str::FromStr;
 
 use chinese_number::{
-    amount_to_chinese, amount_to_chinese_as, chinese_to_amount, chinese_to_date, date_to_chinese,
-    find_numbers, AmountForm, BillDate, ChineseCase, ChineseCountMethod, ChineseToNumber,
-    ChineseVariant, NumberToChinese, Wanted,
+    amount_to_chinese, amount_to_chinese_as, chinese_to_amount, chinese_to_amount_as_typed,
+    chinese_to_date, chinese_to_signed_amount, date_to_chinese, find_numbers,
+    signed_amount_to_chinese, yuan_to_fen, AmountForm, BillDate, ChineseCase, ChineseCountMethod,
+    ChineseToNumber, ChineseVariant, NumberToChinese, Wanted,
 };
 
 fn told<T: Display, E: Display>(answer: Result<T, E>) -> String {
@@ -89,6 +90,10 @@ fn print_amount_as(script: &str, words: &str, fen: &str) -> String {
     told(amount_to_chinese_as(variant(script), form(words), number(fen)))
 }
 
+fn print_signed_amount(script: &str, fen: &str) -> String {
+    told(signed_amount_to_chinese(variant(script), AmountForm::PLAIN, number(fen)))
+}
+
 fn read_date(text: &str) -> String {
     let figures = |date: BillDate| format!("{:04}-{:02}-{:02}", date.year, date.month, date.day);
     told(chinese_to_date(text).map(figures))
@@ -138,6 +143,10 @@ fn answer(line: &str) -> String {
         ["read_amount", text] => told(chinese_to_amount(text)),
         ["print_amount", script, fen] => told(amount_to_chinese(variant(script), number(fen))),
         ["print_amount_as", script, form, fen] => print_amount_as(script, form, fen),
+        ["read_signed_amount", text] => told(chinese_to_signed_amount(text)),
+        ["print_signed_amount", script, fen] => print_signed_amount(script, fen),
+        ["read_typed_amount", text] => told(chinese_to_amount_as_typed(text)),
+        ["yuan_to_fen", figures] => told(yuan_to_fen(figures)),
         ["read_date", text] => read_date(text),
         ["print_date", script, date] => print_date(script, date),
         ["find", text] => find(text),

@@ -69,8 +69,10 @@ impl From<ChineseCountMethod> for Way {
 /// No printed text has more bytes: a number's has at most so many, and all others have fewer.
 pub const MOST_BYTES: usize = 234;
 const MOST_AMOUNT_BYTES: usize = 117;
+const MOST_SIGNED_AMOUNT_BYTES: usize = 120;
 const MOST_DATE_BYTES: usize = 39;
 const _: () = assert!(MOST_AMOUNT_BYTES < MOST_BYTES && MOST_DATE_BYTES < MOST_BYTES);
+const _: () = assert!(MOST_SIGNED_AMOUNT_BYTES < MOST_BYTES);
 
 /// The bytes of a room for one printed text.
 pub type Bytes = [MaybeUninit<u8>; MOST_BYTES];
@@ -91,8 +93,9 @@ struct Date {
     day: u32,
 }
 
-// What is read of a text, of each kind that is read, and the place of the character at fault. In the
-// header the three numbers of a date stand in front of the place one by one, which is the same layout.
+// What is read of a text, of each kind that is read, and the place of the character at fault. In
+// the header the three numbers of a date stand in front of the place one by one, which is the same
+// layout.
 #[derive(Default)]
 #[repr(C)]
 struct Reading<T> {
@@ -142,6 +145,30 @@ unsafe extern "C" {
         room_length: usize,
         length: *mut usize,
     ) -> u32;
+
+    fn chinese_signed_amount_read(
+        text: *const u8,
+        text_length: usize,
+        reading: *mut Reading<i64>,
+    ) -> u32;
+
+    fn chinese_signed_amount_print(
+        fen: i64,
+        script: u32,
+        form: u32,
+        room: *mut u8,
+        room_length: usize,
+        length: *mut usize,
+    ) -> u32;
+
+    fn chinese_typed_amount_read(
+        text: *const u8,
+        text_length: usize,
+        reading: *mut Reading<u64>,
+    ) -> u32;
+
+    fn chinese_figures_read(text: *const u8, text_length: usize, reading: *mut Reading<i64>)
+        -> u32;
 
     fn chinese_date_read(text: *const u8, text_length: usize, reading: *mut Reading<Date>) -> u32;
 
@@ -256,6 +283,27 @@ pub fn read_amount(text: &str) -> Result<u64, (u32, usize)> {
     read_by(|reading| unsafe { chinese_amount_read(text.as_ptr(), text.len(), reading) })
 }
 
+/// The amount of a text that may be below zero, or the status and the place.
+#[inline]
+pub fn read_signed_amount(text: &str) -> Result<i64, (u32, usize)> {
+    // SAFETY: as for a number.
+    read_by(|reading| unsafe { chinese_signed_amount_read(text.as_ptr(), text.len(), reading) })
+}
+
+/// The amount of a text as it is typed, or the status and the place.
+#[inline]
+pub fn read_typed_amount(text: &str) -> Result<u64, (u32, usize)> {
+    // SAFETY: as for a number.
+    read_by(|reading| unsafe { chinese_typed_amount_read(text.as_ptr(), text.len(), reading) })
+}
+
+/// The amount in figures, or the status and the place.
+#[inline]
+pub fn read_figures(text: &str) -> Result<i64, (u32, usize)> {
+    // SAFETY: as for a number.
+    read_by(|reading| unsafe { chinese_figures_read(text.as_ptr(), text.len(), reading) })
+}
+
 /// The date of a text, or the status and the place.
 #[inline]
 #[allow(
@@ -319,8 +367,8 @@ pub fn print<T: Whole>(
 ) -> Result<&str, u32> {
     let Number { low, high } = value.number();
     let (kind, way, script, case) = (T::KIND as u32, way as u32, script as u32, case as u32);
-    // SAFETY: the declaration is that of the header. The library writes to the room, of this length,
-    // and does not read it; and no text of a number has more bytes.
+    // SAFETY: the declaration is that of the header. The library writes to the room, of this
+    // length, and does not read it; and no text of a number has more bytes.
     unsafe {
         printed(room, |room, length| {
             chinese_number_print(low, high, kind, way, script, case, room, MOST_BYTES, length)
@@ -340,6 +388,22 @@ pub fn print_amount(
     unsafe {
         printed(room, |room, length| {
             chinese_amount_print(fen, script as u32, form, room, MOST_BYTES, length)
+        })
+    }
+}
+
+/// The text of an amount that may be below zero, or the status.
+#[inline]
+pub fn print_signed_amount(
+    room: &mut Bytes,
+    script: ChineseVariant,
+    form: u32,
+    fen: i64,
+) -> Result<&str, u32> {
+    // SAFETY: as for an amount.
+    unsafe {
+        printed(room, |room, length| {
+            chinese_signed_amount_print(fen, script as u32, form, room, MOST_BYTES, length)
         })
     }
 }

@@ -119,11 +119,24 @@ impl Room {
         form: AmountForm,
         fen: u64,
     ) -> Result<&str, AmountToChineseError> {
-        let text = abi::print_amount(&mut self.0, chinese_variant, form.code(), fen);
-        text.map_err(|status| match status {
-            status::TOO_LARGE => AmountToChineseError::Overflow,
-            _ => unreachable!("the codes are the library's"),
-        })
+        abi::print_amount(&mut self.0, chinese_variant, form.code(), fen).map_err(no_capitals)
+    }
+
+    /// Prints an amount of money that may be below zero, in fen, as [`signed_amount_to_chinese`]
+    /// does.
+    ///
+    /// # Errors
+    ///
+    /// Amounts of 10^18 fen and more, and of -10^18 fen and less, are refused.
+    #[inline]
+    pub fn signed_amount(
+        &mut self,
+        chinese_variant: ChineseVariant,
+        form: AmountForm,
+        fen: i64,
+    ) -> Result<&str, AmountToChineseError> {
+        let text = abi::print_signed_amount(&mut self.0, chinese_variant, form.code(), fen);
+        text.map_err(no_capitals)
     }
 
     /// Prints a date, as [`date_to_chinese`] does.
@@ -344,17 +357,29 @@ impl AmountForm {
 pub enum AmountToChineseError {
     /// The amount is 10^18 fen or more.
     Overflow,
+    /// The amount is -10^18 fen or less.
+    Underflow,
 }
 
 impl Display for AmountToChineseError {
     fn fmt(&self, f: &mut Formatter<'_>) -> fmt::Result {
         f.write_str(match self {
             Self::Overflow => "number is too large",
+            Self::Underflow => "number is too small",
         })
     }
 }
 
 impl core::error::Error for AmountToChineseError {}
+
+#[inline]
+fn no_capitals(status: u32) -> AmountToChineseError {
+    match status {
+        status::TOO_LARGE => AmountToChineseError::Overflow,
+        status::TOO_SMALL => AmountToChineseError::Underflow,
+        _ => unreachable!("the codes are the library's"),
+    }
+}
 
 /// Writes an amount of money, in fen, in capitals as on a cheque, in the plain form.
 ///
@@ -398,6 +423,32 @@ pub fn amount_to_chinese_as(
     fen: u64,
 ) -> Result<String, AmountToChineseError> {
     Room::new().amount(chinese_variant, form, fen).map(String::from)
+}
+
+/// Writes an amount of money, in fen, in capitals and in a form, behind 负 (負) where it is below
+/// zero, as on a red invoice. No cheque takes such an amount.
+///
+/// # Errors
+///
+/// Amounts of 10^18 fen and more, and of -10^18 fen and less, are refused.
+///
+/// ```rust
+/// use chinese_number::{
+///     signed_amount_to_chinese, AmountForm, AmountToChineseError, ChineseVariant,
+/// };
+///
+/// let text = signed_amount_to_chinese(ChineseVariant::Simple, AmountForm::PLAIN, -1_500);
+/// assert_eq!(text.unwrap(), "负壹拾伍元整");
+/// let text = signed_amount_to_chinese(ChineseVariant::Simple, AmountForm::PLAIN, i64::MIN);
+/// assert_eq!(text, Err(AmountToChineseError::Underflow));
+/// ```
+#[inline]
+pub fn signed_amount_to_chinese(
+    chinese_variant: ChineseVariant,
+    form: AmountForm,
+    fen: i64,
+) -> Result<String, AmountToChineseError> {
+    Room::new().signed_amount(chinese_variant, form, fen).map(String::from)
 }
 
 /// Why a date is not written.

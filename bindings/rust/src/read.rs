@@ -216,6 +216,15 @@ impl Display for ChineseToAmountError {
 
 impl core::error::Error for ChineseToAmountError {}
 
+#[inline]
+fn no_amount((status, char_index): (u32, usize)) -> ChineseToAmountError {
+    match status {
+        status::UNFINISHED => ChineseToAmountError::Unfinished,
+        status::INCORRECT => ChineseToAmountError::Incorrect { char_index },
+        _ => unreachable!("a `str` is UTF-8"),
+    }
+}
+
 /// Reads an amount of money in capitals, in fen.
 ///
 /// # Errors
@@ -232,11 +241,47 @@ impl core::error::Error for ChineseToAmountError {}
 /// ```
 #[inline]
 pub fn chinese_to_amount(text: &str) -> Result<u64, ChineseToAmountError> {
-    abi::read_amount(text).map_err(|(status, char_index)| match status {
-        status::UNFINISHED => ChineseToAmountError::Unfinished,
-        status::INCORRECT => ChineseToAmountError::Incorrect { char_index },
-        _ => unreachable!("a `str` is UTF-8"),
-    })
+    abi::read_amount(text).map_err(no_amount)
+}
+
+/// Reads an amount of money in capitals, behind one 负 (負) or not, in fen.
+///
+/// # Errors
+///
+/// [`ChineseToAmountError`] says for what a text is refused.
+///
+/// ```rust
+/// use chinese_number::{chinese_to_signed_amount, ChineseToAmountError};
+///
+/// assert_eq!(chinese_to_signed_amount("负壹拾伍元整"), Ok(-1_500));
+/// assert_eq!(chinese_to_signed_amount("壹拾伍元整"), Ok(1_500));
+/// let refused = Err(ChineseToAmountError::Incorrect { char_index: 1 });
+/// assert_eq!(chinese_to_signed_amount("负负壹元整"), refused);
+/// ```
+#[inline]
+pub fn chinese_to_signed_amount(text: &str) -> Result<i64, ChineseToAmountError> {
+    abi::read_signed_amount(text).map_err(no_amount)
+}
+
+/// Reads an amount of money in capitals as it is typed, in fen: without its white space, with ⊗ in
+/// front or not, and with a colon behind 人民币 in front or not.
+///
+/// # Errors
+///
+/// [`ChineseToAmountError`] says for what a text is refused; `char_index` is that of the text as it
+/// is typed.
+///
+/// ```rust
+/// use chinese_number::{chinese_to_amount_as_typed, ChineseToAmountError};
+///
+/// assert_eq!(chinese_to_amount_as_typed("⊗壹拾 伍元整"), Ok(1_500));
+/// assert_eq!(chinese_to_amount_as_typed("人民币：壹拾伍元整"), Ok(1_500));
+/// let refused = Err(ChineseToAmountError::Incorrect { char_index: 2 });
+/// assert_eq!(chinese_to_amount_as_typed("⊗ 拾伍元整"), refused);
+/// ```
+#[inline]
+pub fn chinese_to_amount_as_typed(text: &str) -> Result<u64, ChineseToAmountError> {
+    abi::read_typed_amount(text).map_err(no_amount)
 }
 
 /// Why a text is no date.

@@ -143,6 +143,10 @@ fn signatures_of_amounts_of_dates_and_of_the_search() {
     let _: fn(ChineseVariant, u64) -> Written = amount_to_chinese;
     let _: fn(ChineseVariant, AmountForm, u64) -> Written = amount_to_chinese_as;
     let _: fn(&str) -> Result<u64, ChineseToAmountError> = chinese_to_amount;
+    let _: fn(ChineseVariant, AmountForm, i64) -> Written = signed_amount_to_chinese;
+    let _: fn(&str) -> Result<i64, ChineseToAmountError> = chinese_to_signed_amount;
+    let _: fn(&str) -> Result<u64, ChineseToAmountError> = chinese_to_amount_as_typed;
+    let _: fn(&str) -> Result<i64, FiguresError> = yuan_to_fen;
     let _: fn(ChineseVariant, BillDate) -> Result<String, DateToChineseError> = date_to_chinese;
     let _: fn(&str) -> Result<BillDate, ChineseToDateError> = chinese_to_date;
     let _: fn(&'static str, Wanted) -> Numbers<'static> = find_numbers;
@@ -187,6 +191,7 @@ fn traits() {
     is_a_value::<Found<'static>>();
     is_an_error::<AmountToChineseError>();
     is_an_error::<ChineseToAmountError>();
+    is_an_error::<FiguresError>();
     is_a_value::<BillDate>();
     is_a_value::<AmountForm>();
     is_an_error::<DateToChineseError>();
@@ -211,7 +216,7 @@ fn methods_in_their_order() {
 #[test]
 fn texts_of_errors() {
     use ChineseToNumberError::*;
-    let rows: [(&dyn Display, &str); 12] = [
+    let rows: [(&dyn Display, &str); 16] = [
         (&ChineseNumberEmpty, "a chinese number cannot be empty"),
         (
             &ChineseNumberIncorrect { char_index: 12 },
@@ -222,11 +227,15 @@ fn texts_of_errors() {
         (&NumberToChineseError::Overflow, "number is too large"),
         (&NumberToChineseError::Underflow, "number is too small"),
         (&AmountToChineseError::Overflow, "number is too large"),
+        (&AmountToChineseError::Underflow, "number is too small"),
         (&ChineseToAmountError::Unfinished, "the amount is not finished"),
         (
             &ChineseToAmountError::Incorrect { char_index: 3 },
             "the amount is incorrect (position: 3)",
         ),
+        (&FiguresError::Unfinished, "the amount is not finished"),
+        (&FiguresError::Incorrect { char_index: 5 }, "the amount is incorrect (position: 5)"),
+        (&FiguresError::Overflow, "number is too large"),
         (&DateToChineseError::NotADate, "there is no such date"),
         (&ChineseToDateError::Unfinished, "the date is not finished"),
         (&ChineseToDateError::Incorrect { char_index: 10 }, "the date is incorrect (position: 10)"),

@@ -35,6 +35,18 @@ fn amounts() {
 }
 
 #[test]
+fn signed_amounts() {
+    let mut room = Room::new();
+    let form = AmountForm { currency: true, round_yuan: true, upright_closing: true };
+    for fen in [i64::MIN, -999_999_999_999_999_999, -1_500, 0, 1_500, i64::MAX] {
+        for script in SCRIPTS {
+            let text = signed_amount_to_chinese(script, form, fen);
+            assert_eq!(room.signed_amount(script, form, fen).map(String::from), text);
+        }
+    }
+}
+
+#[test]
 fn dates() {
     let mut room = Room::new();
     for day in [0, 15, 31] {

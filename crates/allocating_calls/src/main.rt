@@ -8,7 +8,9 @@
 use chinese_number::ChineseCase::Lower;
 use chinese_number::ChineseCountMethod::{High, Low, Middle, TenThousand};
 use chinese_number::ChineseVariant::{Simple, Traditional};
-use chinese_number::{AMOUNT_LIMIT, BillDate, ChineseCountMethod, ChineseVariant, NumberToChinese};
+use chinese_number::{
+    AMOUNT_LIMIT, AmountForm, BillDate, ChineseCountMethod, ChineseVariant, NumberToChinese,
+};
 use std::fmt::{Debug, Display};
 use std::io;
 
@@ -155,12 +157,27 @@ fn amount(rt: &(impl Print + AllocGlobal), variant: ChineseVariant, fen: u64) ->
     show(rt, "amount_to_chinese", outcome)
 }
 
-// The shortest amounts and the longest one, and one between them.
+// An amount of money in the longest form.
+fn amount_as(rt: &(impl Print + AllocGlobal), fen: u64) -> io::Result<()> {
+    let outcome = chinese_number::amount_to_chinese_as(rt.alloc(), Traditional, LONGEST, fen);
+    show(rt, "amount_to_chinese_as", outcome)
+}
+
+// The same of one that may be below zero.
+fn signed_amount(rt: &(impl Print + AllocGlobal), fen: i64) -> io::Result<()> {
+    let outcome = chinese_number::signed_amount_to_chinese(rt.alloc(), Traditional, LONGEST, fen);
+    show(rt, "signed_amount_to_chinese", outcome)
+}
+
+// The shortest amounts and the longest one, and one between them; and those that are longest in a
+// form, and below zero.
 fn amounts(rt: &(impl Print + AllocGlobal)) -> io::Result<()> {
     amount(rt, Simple, 0)?;
     amount(rt, Simple, 5)?;
     amount(rt, Traditional, 140_950)?;
-    amount(rt, Traditional, AMOUNT_LIMIT - 1)
+    amount(rt, Traditional, AMOUNT_LIMIT - 1)?;
+    amount_as(rt, AMOUNT_LIMIT - 1)?;
+    signed_amount(rt, -999_999_999_999_999_999)
 }
 
 // A date, of its year, month and day.
@@ -180,6 +197,12 @@ fn dates(rt: &(impl Print + AllocGlobal)) -> io::Result<()> {
     date(rt, Traditional, (9999, 12, 31))
 }
 
+// The form that is longest: 圓 has as many bytes as 元, and 正 as 整.
+const LONGEST: AmountForm = AmountForm {
+    currency: true,
+    ..AmountForm::PLAIN
+};
+
 // The greatest number that `Low` prints.
 const MOST_BY_LOW: u64 = 9_999_999_999_999_999;
 
@@ -189,6 +212,8 @@ fn refused(rt: &(impl Print + AllocGlobal)) -> io::Result<()> {
     show_each!(rt, -10_000_000_000_000_000; from_i64_to_chinese_low);
     by_units(rt, "u64", MOST_BY_LOW + 1, Low)?;
     amount(rt, Simple, AMOUNT_LIMIT)?;
+    amount_as(rt, AMOUNT_LIMIT)?;
+    signed_amount(rt, -1_000_000_000_000_000_000)?;
     date(rt, Simple, (2025, 2, 30))
 }
 

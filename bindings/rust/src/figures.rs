@@ -1,0 +1,60 @@
+//! Amounts of money in figures, which both those who print and those who read have.
+
+use core::fmt::{self, Display, Formatter};
+
+use crate::abi::{self, status};
+
+/// Why a text is no amount in figures.
+#[non_exhaustive]
+#[derive(Debug, Copy, Clone, Eq, PartialEq)]
+pub enum FiguresError {
+    /// A digit is missing at the end. The empty text is unfinished, too.
+    Unfinished,
+    /// No figures begin with the text up to and with this character.
+    Incorrect {
+        /// How many characters of the text stand in front of it.
+        char_index: usize,
+    },
+    /// The amount, or what it is below zero, is 10^18 fen or more.
+    Overflow,
+}
+
+impl Display for FiguresError {
+    fn fmt(&self, f: &mut Formatter<'_>) -> fmt::Result {
+        match self {
+            Self::Unfinished => f.write_str("the amount is not finished"),
+            Self::Incorrect { char_index } => {
+                write!(f, "the amount is incorrect (position: {char_index})")
+            }
+            Self::Overflow => f.write_str("number is too large"),
+        }
+    }
+}
+
+impl core::error::Error for FiguresError {}
+
+/// Reads an amount of money in figures, as `-1,409.50`, in fen, and rounds nothing. One - or − may
+/// stand in front, and behind it ¥, and commas between groups of three digits. Digits, commas,
+/// points and ¥ may be full-width. No feature is needed for this call.
+///
+/// # Errors
+///
+/// [`FiguresError`] says for what a text is refused.
+///
+/// ```rust
+/// use chinese_number::{yuan_to_fen, FiguresError};
+///
+/// assert_eq!(yuan_to_fen("¥1,409.50"), Ok(140_950));
+/// assert_eq!(yuan_to_fen("-15"), Ok(-1_500));
+/// assert_eq!(yuan_to_fen("15."), Err(FiguresError::Unfinished));
+/// assert_eq!(yuan_to_fen("15.005"), Err(FiguresError::Incorrect { char_index: 5 }));
+/// ```
+#[inline]
+pub fn yuan_to_fen(figures: &str) -> Result<i64, FiguresError> {
+    abi::read_figures(figures).map_err(|(status, char_index)| match status {
+        status::UNFINISHED => FiguresError::Unfinished,
+        status::INCORRECT => FiguresError::Incorrect { char_index },
+        status::TOO_LARGE => FiguresError::Overflow,
+        _ => unreachable!("a `str` is UTF-8"),
+    })
+}
