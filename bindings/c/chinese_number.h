@@ -250,8 +250,8 @@ uint32_t chinese_amount_print(uint64_t fen, uint32_t script, uint32_t form, uint
  * the first 40. */
 uint32_t chinese_amount_read(const uint8_t *text, size_t text_length, cn_amount *reading);
 
-/* Reads a text as chinese_amount_read does, but as it is typed: white space, one ⊗ in front, and one colon, : or ：, directly
- * behind 人民币 in front are left out. The character at fault is told by its place in the text that is given. */
+/* Reads a text as chinese_amount_read does, but as it is typed: white space, then one ⊗ in front, and then one colon, : or
+ * ：, directly behind 人民币 in front are left out. The character at fault is told by its place in the text as it is typed. */
 uint32_t chinese_typed_amount_read(const uint8_t *text, size_t text_length, cn_amount *reading);
 
 /* What was read as an amount that may be below zero, as one of a red invoice: as in cn_amount. */
@@ -276,11 +276,11 @@ uint32_t chinese_signed_amount_read(const uint8_t *text, size_t text_length, cn_
  * - ¥ or none;
  * - digits without commas, or one to three digits and then, once or more, a comma and three digits;
  * - nothing, or a point and one or more digits, of which those behind the second are 0.
- * Digits, commas, points and ¥ may be full-width, and white space is at fault where it stands. Writes *reading whole at each
- * status, and nothing else.
+ * Digits, commas, points and ¥ may be full-width, and white space is at fault where it stands. Writes *reading whole at
+ * each status, and nothing else.
  *
- * Returns CN_DONE, CN_UNFINISHED (also for the empty text), CN_INCORRECT at the first character with which no figures begin,
- * CN_TOO_LARGE (10^18 fen or more, or -10^18 or less) or CN_NOT_UTF8. The whole text is tested to be UTF-8. */
+ * Returns CN_DONE, CN_UNFINISHED (also for the empty text), CN_INCORRECT at the first character with which no figures
+ * begin, CN_TOO_LARGE (10^18 fen or more, or -10^18 or less) or CN_NOT_UTF8. The whole text is tested to be UTF-8. */
 uint32_t chinese_figures_read(const uint8_t *text, size_t text_length, cn_signed_amount *reading);
 
 /* What was read as a date: its year, month (1 is January) and day at CN_DONE, and at CN_INCORRECT how many characters and
