@@ -82,6 +82,10 @@ std::string print_amount(const std::string &script, const std::string &fen, Amou
     return told(amount_to_chinese(number_of<std::uint64_t>(fen), form, scripts.at(script)));
 }
 
+std::string print_signed_amount(const std::string &script, const std::string &fen) {
+    return told(signed_amount_to_chinese(number_of<std::int64_t>(fen), {}, scripts.at(script)));
+}
+
 /* The form of words with + between them; `plain` is none of them. */
 AmountForm form_of(const std::string &words) {
     const auto has = [&](const char *word) { return words.find(word) != std::string::npos; };
@@ -114,6 +118,14 @@ std::string answer(const Words &words) {
         return print_amount(words[1], words[2], {});
     if (call == "print_amount_as")
         return print_amount(words[1], words[3], form_of(words[2]));
+    if (call == "read_typed_amount")
+        return told(chinese_to_amount_as_typed(words[1]));
+    if (call == "read_signed_amount")
+        return told(chinese_to_signed_amount(words[1]));
+    if (call == "print_signed_amount")
+        return print_signed_amount(words[1], words[2]);
+    if (call == "yuan_to_fen")
+        return told(yuan_to_fen(words[1]));
     if (call == "read_date")
         return told(chinese_to_date(words[1]));
     return call == "print_date" ? print_date(words[1], words[2]) : find(words[1]);

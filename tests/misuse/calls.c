@@ -410,8 +410,8 @@ static void try_printing(task *mine, const call *by) {
 
 /* ---- Texts ---- */
 
-/* What texts are made of: characters of numerals, capitals and figures, others, an amount in capitals
- * and one in figures, and a date; and what no UTF-8 has. */
+/* What texts are made of: characters of numerals, capitals and figures, others, two amounts and a
+ * date; and what no UTF-8 has. */
 static const char *const parts[] = {
     "一", "二", "三", "十", "百", "千", "萬", "亿", "零", "〇", "壹", "贰", "佰", "元", "圆", "整",
     "正", "角", "分", "年", "月", "日", "负", "兩", "個", "5", "-", " ", "é", "𠀀", "¥", ",", "．",
@@ -419,9 +419,9 @@ static const char *const parts[] = {
 static const char *const broken[] = {
     "\x80", "\xBF", "\xC0\x80", "\xC1\xBF", "\xC2", "\xE0\x9F\xBF", "\xE4", "\xE4\xB8",
     "\xED\xA0\x80", "\xED\xBF\xBF", "\xEF\xBF", "\xF0\x8F\xBF\xBF", "\xF0\xA0",
-    "\xF0\xA0\x80", "\xF4\x90\x80\x80", "\xF5\x80\x80\x80", "\xF8\x88\x80\x80\x80", "\xFE", "\xFF", "\xE4\xB8\xE4",
-    "\xE4\x80\x7F", "\xC3\xC3", "\xDF", "\xF4", "\xF0", "\xEF", "\xED", "\xE0", "\xF3\xBF",
-    "\x81\x81", "\xA0", "\xC2\x7F"};
+    "\xF0\xA0\x80", "\xF4\x90\x80\x80", "\xF5\x80\x80\x80", "\xF8\x88\x80\x80\x80",
+    "\xFE", "\xFF", "\xE4\xB8\xE4", "\xE4\x80\x7F", "\xC3\xC3", "\xDF", "\xF4", "\xF0",
+    "\xEF", "\xED", "\xE0", "\xF3\xBF", "\x81\x81", "\xA0", "\xC2\x7F"};
 
 static uint64_t next_random(uint64_t *state) {
     *state ^= *state << 13;
