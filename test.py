@@ -5,7 +5,7 @@ Usage: python3 test.py
 
 It takes half a minute, and needs Python from 3.8 on and a C compiler; CC and CXX may name others.
 
-- The C source in dist/ is compiled. What it answers to 96,468 numbers, amounts, dates and texts has
+- The C source in dist/ is compiled. What it answers to 106,507 numbers, amounts, dates and texts has
   to have the sum that the answers of the proved archive have, by dist/PROVENANCE.json.
 - Each language that is here is asked the rows of tests/rows, and the worked rows in the tables of
   README.md and docs/. What is not here is left out, and named.
@@ -20,6 +20,10 @@ parted by tabs. An answer is `ok` and what the call gives, or `err` and the erro
     print_amount SCRIPT FEN             the text of an amount
     print_amount_as SCRIPT FORM FEN     the same in a form: `plain`, or with + between them some of
                                         `currency`, `round_yuan` and `upright_closing`
+    read_typed_amount TEXT              the fen of a text as it is typed
+    read_signed_amount TEXT             the fen of a text, which may be below zero
+    print_signed_amount SCRIPT FEN      the text of an amount that may be below zero
+    yuan_to_fen FIGURES                 the fen of figures, as -1,409.50
     read_date TEXT                      the date of a text, as 2026-01-15
     print_date SCRIPT DATE              the text of a date
     find TEXT                           the text, with the answer in the place of each number

@@ -8,11 +8,11 @@ the way behind them, and `status.rt` names the statuses. The header, the Rust cr
 file name each of them once, with the same number or in this order, and no other, as the JavaScript
 file lists them; but what a form is made of is named by the header alone. The header declares each
 call that the crate exports, and no language has any other. Alike, too, are the most bytes of a
-text of each kind, which a clause of `printing.rt`, `amount.rt` and `date.rt` bounds; the status of
-the C source alone for a text that is too long, and how long that is; the version of all, which is
-that of the first heading of CHANGELOG and of the packages that the pages of `bindings/` install; and
-the authors, who are those of LICENSE. The texts of refusals are those of `Refusal.antt`, and of amounts and dates
-those of each `ErrorText.antt`, wherever they are written again.
+text of each kind, which a clause of each file in BOUNDS bounds; the status of the C source alone for
+a text that is too long, and how long that is; the version of all, which is that of the first heading
+of CHANGELOG and of the packages that the pages of `bindings/` install; and the authors, who are those
+of LICENSE. The texts of refusals are those of `Refusal.antt`, and of amounts, figures and dates those
+of each `ErrorText.antt`, wherever they are written again.
 """
 import re
 import sys
@@ -71,13 +71,13 @@ TOO_LONG = {
 SOURCE = "source/chinese_number.c.in"
 OF_LENGTH = (HEADER, RUST, MORE[PYTHON], "source/README.md", MORE[RUST])
 EXPORTED = re.compile(r'^pub (?:unsafe )?extern "C" fn (\w+)', re.MULTILINE)
-CALLED = re.compile(
-    r"\b(chinese_(?:number|amount|date)_\w+)\(|\blibrary\.(chinese_(?:number|amount|date)_\w+)"
-)
+CALL = r"chinese_(?:number|(?:signed_|typed_)?amount|figures|date)_\w+"
+CALLED = re.compile(rf"\b({CALL})\(|\blibrary\.({CALL})")
 # The most bytes of a text: what each language names so, and the file whose clauses have it.
 BOUNDS = {
     "MOST_BYTES": "src/printing.rt",
     "MOST_AMOUNT_BYTES": "src/amount.rt",
+    "MOST_SIGNED_AMOUNT_BYTES": "src/signed_amount.rt",
     "MOST_DATE_BYTES": "src/date.rt",
 }
 VERSIONS = (
@@ -109,6 +109,7 @@ REFUSALS_OF_CAPITALS = (
     "crates/cn_amount/specs/ErrorText.antt",
     "crates/cn_date/specs/ErrorText.antt",
 )
+REFUSALS_OF_FIGURES = "crates/cn_figures/specs/ErrorText.antt"
 OF_READERS_OF_CAPITALS = (
     "bindings/rust/src/read.rs",
     "bindings/rust/tests/interface.rs",
@@ -264,6 +265,7 @@ def compare_refusals(top):
         for path in REFUSALS_OF_CAPITALS
         for text in texts_of(top / path, "reading_error_text", 2)
     ]
+    read += texts_of(top / REFUSALS_OF_FIGURES, "refusal_text", 3)
     # The other one is out of memory, which is no refusal.
     printed = [texts_of(top / path, "writing_error_text", 2)[0] for path in REFUSALS_OF_CAPITALS]
     for files, wanted in (

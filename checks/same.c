@@ -1,9 +1,9 @@
 /* same [COUNT [ROUNDS]]: shows one sum over what each call of chinese_number.h answers to COUNT
- * pseudo-random numbers of each type by each way, to ten times as many amounts in all forms, dates
- * and texts, and at the ends: what is printed, each room to its last byte, and what is read, either
- * way too, and found in texts as they were printed, changed and cut. Builds of one library have to
- * show one sum. With -DTHREADS four threads have to find it at once. With ROUNDS it shows what a
- * call takes, too, in the best of so many rounds. */
+ * pseudo-random numbers of each type by each way, to ten times as many amounts in all forms and in
+ * figures, dates and texts, and at the ends: what is printed, each room to its last byte, and what
+ * is read, either way too, and found in texts as they were printed, typed, changed and cut. Builds
+ * of one library have to show one sum. With -DTHREADS four threads have to find it at once. With
+ * ROUNDS it shows what a call takes, too, in the best of so many rounds. */
 #include "chinese_number.h"
 
 #include <stdio.h>
@@ -26,7 +26,8 @@ typedef struct text {
 static const char *const MARKS[] = {
     "零", "一", "二", "两", "十", "百", "千", "萬", "億", "兆", "極", "個", "負", "壹", "贰", "玖",
     "拾", "佰", "仟", "万", "亿", "元", "圆", "角", "分", "整", "正", "人民币", "年", "月", "日", "第",
-    "，", "5", "０", "-", "x", " ", "\t", "\xe4\xb8", "\xf0\x9f\x98\x80", "\xc3\xa9", "\xff",
+    "，", "5", "０", "-", "−", "¥", ".", ",", "⊗", "：", "x", " ", "\t",
+    "\xe4\xb8", "\xf0\x9f\x98\x80", "\xc3\xa9", "\xff",
 };
 enum { COUNT_OF_MARKS = sizeof MARKS / sizeof *MARKS };
 
@@ -124,13 +125,32 @@ static void try_find(run *r, const text *t, uint32_t upper, uint32_t greatest) {
     }
 }
 
+static void add_amount(run *r, uint32_t status, const cn_amount *amount) {
+    add_word(r, status);
+    add_word(r, amount->fen);
+    add_word(r, amount->char_index);
+    add_word(r, amount->byte_index);
+}
+
+static void add_signed(run *r, uint32_t status, const cn_signed_amount *amount) {
+    add_word(r, status);
+    add_word(r, (uint64_t)amount->fen);
+    add_word(r, amount->char_index);
+    add_word(r, amount->byte_index);
+}
+
+static void try_read_amounts(run *r, const text *t) {
+    cn_amount amount = {1, 2, 3}, typed = {4, 5, 6};
+    cn_signed_amount with_sign = {1, 2, 3}, figures = {4, 5, 6};
+    add_amount(r, chinese_amount_read(t->bytes, t->length, &amount), &amount);
+    add_amount(r, chinese_typed_amount_read(t->bytes, t->length, &typed), &typed);
+    add_signed(r, chinese_signed_amount_read(t->bytes, t->length, &with_sign), &with_sign);
+    add_signed(r, chinese_figures_read(t->bytes, t->length, &figures), &figures);
+}
+
 static void try_read_capitals(run *r, const text *t) {
-    cn_amount amount = {1, 2, 3};
     cn_date date = {1, 2, 3, 4, 5};
-    add_word(r, chinese_amount_read(t->bytes, t->length, &amount));
-    add_word(r, amount.fen);
-    add_word(r, amount.char_index);
-    add_word(r, amount.byte_index);
+    try_read_amounts(r, t);
     add_word(r, chinese_date_read(t->bytes, t->length, &date));
     add_word(r, date.year);
     add_word(r, date.month);
@@ -199,12 +219,52 @@ static void try_capitals(run *r, text *t) {
     }
 }
 
+/* A colon stands right where 人民币 is printed, and white space between any characters. */
+static void type(run *r, text *t) {
+    if (t->length > 9 && below(r, 2) == 0)
+        put(t, 9, "：");
+    put(t, 3 * below(r, (uint32_t)t->length / 3 + 1), " ");
+    if (below(r, 2) == 0)
+        put(t, 0, "⊗");
+}
+
 static void try_amount(run *r, uint64_t fen) {
     text t;
     size_t length = 1, room = begin(r, &t, CN_MOST_AMOUNT_BYTES);
     uint32_t script = code(r, 2), form = code(r, 8);
     uint32_t status = chinese_amount_print(fen, script, form, t.bytes, room, &length);
     add_printed(r, status, length, &t);
+    try_read_amounts(r, &t);
+    type(r, &t);
+    try_capitals(r, &t);
+}
+
+/* The figures of an amount, with commas or without. */
+static void write_figures(run *r, int64_t fen, text *t) {
+    uint64_t left = fen < 0 ? 0 - (uint64_t)fen : (uint64_t)fen;
+    uint32_t commas = below(r, 2);
+    char digit[2] = "";
+    t->length = 0;
+    for (int place = 0; place < 3 || left != 0; place++, left /= 10) {
+        if (place == 2 || (commas && place > 2 && place % 3 == 2))
+            put(t, 0, place == 2 ? "." : ",");
+        digit[0] = (char)('0' + left % 10);
+        put(t, 0, digit);
+    }
+    if (below(r, 4) == 0)
+        put(t, 0, "¥");
+    if (fen < 0)
+        put(t, 0, "-");
+}
+
+static void try_signed_amount(run *r, int64_t fen) {
+    text t;
+    size_t length = 1, room = begin(r, &t, CN_MOST_SIGNED_AMOUNT_BYTES);
+    uint32_t script = code(r, 2), form = code(r, 8);
+    uint32_t status = chinese_signed_amount_print(fen, script, form, t.bytes, room, &length);
+    add_printed(r, status, length, &t);
+    try_capitals(r, &t);
+    write_figures(r, fen, &t);
     try_capitals(r, &t);
 }
 
@@ -240,7 +300,10 @@ static void try_ends(run *r) {
     for (uint64_t fen = 1; fen < UINT64_C(10000000000000000000); fen *= 10) {
         try_amount(r, fen - 1);
         try_amount(r, fen);
+        try_signed_amount(r, 1 - (int64_t)fen);
+        try_signed_amount(r, -(int64_t)fen);
     }
+    try_signed_amount(r, INT64_MIN);
     for (uint32_t day = 0; day <= 32; day++)
         try_date(r, 1900 + 100 * (day % 2), 2, day);
     try_text(r, 0);
@@ -259,6 +322,7 @@ static void try_all(run *r) {
         uint64_t fen = some(r);
         uint32_t year = below(r, 10100), month = below(r, 14), day = below(r, 33);
         try_amount(r, fen >> below(r, 64));
+        try_signed_amount(r, (int64_t)fen >> below(r, 64));
         try_date(r, year, month, day);
         try_text(r, below(r, 24));
     }

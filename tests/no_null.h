@@ -10,6 +10,7 @@ extern "C" {
 struct cn_reading;
 struct cn_span;
 struct cn_amount;
+struct cn_signed_amount;
 struct cn_date;
 
 #define NO_NULL __attribute__((nonnull)) uint32_t
@@ -20,6 +21,10 @@ NO_NULL chinese_number_find(const uint8_t *, size_t, uint32_t, uint32_t, struct 
 NO_NULL chinese_number_find_utf8(const uint8_t *, size_t, uint32_t, uint32_t, struct cn_span *);
 NO_NULL chinese_amount_print(uint64_t, uint32_t, uint32_t, uint8_t *, size_t, size_t *);
 NO_NULL chinese_amount_read(const uint8_t *, size_t, struct cn_amount *);
+NO_NULL chinese_typed_amount_read(const uint8_t *, size_t, struct cn_amount *);
+NO_NULL chinese_signed_amount_print(int64_t, uint32_t, uint32_t, uint8_t *, size_t, size_t *);
+NO_NULL chinese_signed_amount_read(const uint8_t *, size_t, struct cn_signed_amount *);
+NO_NULL chinese_figures_read(const uint8_t *, size_t, struct cn_signed_amount *);
 NO_NULL chinese_date_print(uint32_t, uint32_t, uint32_t, uint32_t, uint8_t *, size_t, size_t *);
 NO_NULL chinese_date_read(const uint8_t *, size_t, struct cn_date *);
 

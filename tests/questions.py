@@ -80,10 +80,13 @@ def value(figures):
 
 def questions_on_capitals(word, answer):
     """What is asked by a row of `cheque`: figures are written, and what is written is read back.
-    Figures that are refused are asked of no call."""
+    Figures of an amount are read too, by the call that is alike but for a minus."""
     what = "date" if re.search("-|年", word) else "amount"
     if begins_figures(word):
-        if not begins_figures(answer):
+        is_refused = begins_figures(answer)
+        if what == "amount":
+            yield ["yuan_to_fen", word], f"err {answer}" if is_refused else f"ok {value(word)}"
+        if not is_refused:
             yield [f"print_{what}", "simple", value(word)], f"ok {answer}"
             yield [f"read_{what}", answer], f"ok {value(word)}"
     else:
@@ -104,7 +107,8 @@ def questions():
     """What the calls of the library are asked, as test.py says it: the words of a question, of
     which the first one names the call, and the answer."""
     yield from of_files()
-    yield from of_files(("any", "forms"))  # of the libraries alone: no program is asked these
+    # Of the libraries alone: no program is asked these.
+    yield from of_files(("any", "forms", "signed", "typed", "figures"))
     for _, line, answer in of_numeral():
         if answer != "bad line":
             yield line.split(" ", WORDS[line.split(" ")[0]] - 1), answer

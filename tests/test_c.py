@@ -2,9 +2,10 @@
 and those of the header for C++.
 
 `example.c` meets each status, `sixteen_bits.c` prints and reads back each number of 16 bits, and
-each from 0 on as an amount in each form, in four threads; `example.cpp` has what the rows of
-`tests/rows` do not ask. They run under valgrind too, and with the sanitizers for addresses and for
-undefined behaviour. No compiler warns of a header, and each warns of a wrong call.
+each from 0 on as an amount in each form, in four threads, and `each_fen.c` 210,001 amounts, also
+below zero, as they are typed and in figures; `example.cpp` has what the rows of `tests/rows` do not
+ask. They run under valgrind too, and with the sanitizers for addresses and for undefined behaviour.
+No compiler warns of a header, and each warns of a wrong call.
 """
 import pytest
 
@@ -18,6 +19,7 @@ FIRST_STEPS = """\
 50
 壹仟肆佰零玖元伍角整
 140950
+负壹拾伍元整
 贰零贰陆年零壹月壹拾伍日
 2026-01-15
 """
@@ -28,9 +30,15 @@ FIRST_STEPS_OF_CPP = """\
 the chinese number is incorrect (position: 1)
 人民币壹拾伍元整
 1500
+负壹拾伍元整
 贰零贰陆年零壹月壹拾伍日
 """
-EXAMPLES = {"example.c": FIRST_STEPS, "sixteen_bits.c": "", "example.cpp": FIRST_STEPS_OF_CPP}
+EXAMPLES = {
+    "example.c": FIRST_STEPS,
+    "sixteen_bits.c": "",
+    "each_fen.c": "",
+    "example.cpp": FIRST_STEPS_OF_CPP,
+}
 AS_C, AS_CPP = ("-x", "c", "-std=c99"), ("-x", "c++", "-std=c++17")
 COMPILERS = {"cc": AS_C, "gcc": AS_C, "clang": AS_C, "g++": AS_CPP, "clang++": AS_CPP}
 # Of each example its compilers: those of C++ take C too.

@@ -120,13 +120,35 @@ static void answer_print(char **words) {
                 cn_print(number, kind, way, script, letter_case, text, sizeof text), text);
 }
 
+static void put_fen(cn_status status, int64_t fen, size_t char_index) {
+    if (status == CN_DONE)
+        printf("ok %lld", (long long)fen);
+    else
+        put_refusal("amount", status, char_index);
+}
+
 static void answer_read_amount(char **words) {
     cn_amount amount;
     cn_status status = cn_read_amount(words[1], strlen(words[1]), &amount);
-    if (status == CN_DONE)
-        printf("ok %llu", (unsigned long long)amount.fen);
-    else
-        put_refusal("amount", status, amount.char_index);
+    put_fen(status, (int64_t)amount.fen, amount.char_index);
+}
+
+static void answer_read_typed_amount(char **words) {
+    cn_amount amount;
+    cn_status status = cn_read_typed_amount(words[1], strlen(words[1]), &amount);
+    put_fen(status, (int64_t)amount.fen, amount.char_index);
+}
+
+static void answer_read_signed_amount(char **words) {
+    cn_signed_amount amount;
+    cn_status status = cn_read_signed_amount(words[1], strlen(words[1]), &amount);
+    put_fen(status, amount.fen, amount.char_index);
+}
+
+static void answer_yuan_to_fen(char **words) {
+    cn_signed_amount amount;
+    cn_status status = cn_read_figures(words[1], strlen(words[1]), &amount);
+    put_fen(status, amount.fen, amount.char_index);
 }
 
 static void put_amount(const char *script, cn_form form, const char *figures) {
@@ -142,6 +164,13 @@ static void answer_print_amount(char **words) {
 
 static void answer_print_amount_as(char **words) {
     put_amount(words[1], form_of(words[2]), words[3]);
+}
+
+static void answer_print_signed_amount(char **words) {
+    char text[CN_MOST_SIGNED_AMOUNT_BYTES + 1];
+    int64_t fen = strtoll(words[2], NULL, 10);
+    cn_script script = (cn_script)code_of(SCRIPTS, words[1]);
+    put_printed("amount", cn_print_signed_amount(fen, script, CN_PLAIN, text, sizeof text), text);
 }
 
 static void answer_read_date(char **words) {
@@ -187,6 +216,10 @@ static const struct {
     {"read_amount", 2, answer_read_amount},
     {"print_amount", 3, answer_print_amount},
     {"print_amount_as", 4, answer_print_amount_as},
+    {"read_typed_amount", 2, answer_read_typed_amount},
+    {"read_signed_amount", 2, answer_read_signed_amount},
+    {"print_signed_amount", 3, answer_print_signed_amount},
+    {"yuan_to_fen", 2, answer_yuan_to_fen},
     {"read_date", 2, answer_read_date},
     {"print_date", 3, answer_print_date},
     {"find", 2, answer_find},

@@ -82,6 +82,10 @@ std::string print_amount(const std::string &script, const std::string &fen, Amou
     return told(amount_to_chinese(number_of<std::uint64_t>(fen), form, scripts.at(script)));
 }
 
+std::string print_signed_amount(const std::string &script, const std::string &fen) {
+    return told(signed_amount_to_chinese(number_of<std::int64_t>(fen), {}, scripts.at(script)));
+}
+
 /* The form of words with + between them; `plain` is none of them. */
 AmountForm form_of(const std::string &words) {
     const auto has = [&](const char *word) { return words.find(word) != std::string::npos; };
@@ -104,20 +108,28 @@ std::string find(const std::string &text) {
     return done + text.substr(at);
 }
 
-std::string answer(const Words &words) {
-    const std::string &call = words[0];
-    if (call == "read" || call == "print")
-        return kinds.at(words[1])(words);
-    if (call == "read_amount")
-        return told(chinese_to_amount(words[1]));
-    if (call == "print_amount")
-        return print_amount(words[1], words[2], {});
-    if (call == "print_amount_as")
-        return print_amount(words[1], words[3], form_of(words[2]));
-    if (call == "read_date")
-        return told(chinese_to_date(words[1]));
-    return call == "print_date" ? print_date(words[1], words[2]) : find(words[1]);
+std::string of_kind(const Words &words) {
+    return kinds.at(words[1])(words);
 }
+
+const std::map<std::string, std::string (*)(const Words &)> calls = {
+    {"read", of_kind},
+    {"print", of_kind},
+    {"read_amount", [](const Words &words) { return told(chinese_to_amount(words[1])); }},
+    {"print_amount", [](const Words &words) { return print_amount(words[1], words[2], {}); }},
+    {"print_amount_as",
+     [](const Words &words) { return print_amount(words[1], words[3], form_of(words[2])); }},
+    {"read_typed_amount",
+     [](const Words &words) { return told(chinese_to_amount_as_typed(words[1])); }},
+    {"read_signed_amount",
+     [](const Words &words) { return told(chinese_to_signed_amount(words[1])); }},
+    {"print_signed_amount",
+     [](const Words &words) { return print_signed_amount(words[1], words[2]); }},
+    {"yuan_to_fen", [](const Words &words) { return told(yuan_to_fen(words[1])); }},
+    {"read_date", [](const Words &words) { return told(chinese_to_date(words[1])); }},
+    {"print_date", [](const Words &words) { return print_date(words[1], words[2]); }},
+    {"find", [](const Words &words) { return find(words[1]); }},
+};
 
 } // namespace
 
@@ -129,6 +141,6 @@ int main() {
                 words.emplace_back();
             else
                 words.back() += byte;
-        std::cout << answer(words) << '\n';
+        std::cout << calls.at(words[0])(words) << '\n';
     }
 }

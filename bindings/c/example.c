@@ -29,12 +29,14 @@ static void first_steps(void) {
         if (cn_read_found(sentence, &span, CN_I64, CN_TEN_THOUSAND, &reading) == CN_DONE)
             printf("%lld\n", (long long)reading.number.low); /* 50 */
 
-    char capitals[CN_MOST_AMOUNT_BYTES + 1];
+    char capitals[CN_MOST_SIGNED_AMOUNT_BYTES + 1];
     cn_amount amount;
     if (cn_print_amount(140950, CN_SIMPLIFIED, CN_PLAIN, capitals, sizeof capitals) == CN_DONE)
         puts(capitals); /* 壹仟肆佰零玖元伍角整 */
     if (cn_read_amount(capitals, strlen(capitals), &amount) == CN_DONE)
         printf("%llu\n", (unsigned long long)amount.fen); /* 140950 */
+    if (cn_print_signed_amount(-1500, CN_SIMPLIFIED, CN_PLAIN, capitals, sizeof capitals) == CN_DONE)
+        puts(capitals); /* 负壹拾伍元整 */
 
     cn_date date;
     if (cn_print_date(2026, 1, 15, CN_SIMPLIFIED, capitals, sizeof capitals) == CN_DONE)

@@ -31,6 +31,7 @@ void first_steps() {
     form.currency = true;
     std::cout << amount_to_chinese(1500, form).value_or("") << '\n'; // 人民币壹拾伍元整
     std::cout << chinese_to_amount("壹拾伍圆正").value_or(0) << '\n'; // 1500
+    std::cout << signed_amount_to_chinese(-1500).value_or("") << '\n'; // 负壹拾伍元整
     std::cout << date_to_chinese({2026, 1, 15}).value_or("") << '\n'; // 贰零贰陆年零壹月壹拾伍日
 }
 

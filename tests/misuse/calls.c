@@ -88,11 +88,40 @@ static answer number_find(const question *it) {
     return (answer){status, {to->start, to->end, to->digits}, 0, 0};
 }
 
+static answer of_amount(uint64_t status, const cn_amount *told) {
+    return (answer){status, {told->fen}, told->char_index, told->byte_index};
+}
+
+static answer of_signed(uint64_t status, const cn_signed_amount *told) {
+    return (answer){status, {(uint64_t)told->fen}, told->char_index, told->byte_index};
+}
+
 static answer amount_read(const question *it) {
     cn_amount *to = told(it, sizeof *to);
-    uint64_t status = it->style == IN_CHARS ? cn_read_amount(text_of(it), it->text_length, to)
-                                            : chinese_amount_read(it->text, it->text_length, to);
-    return (answer){status, {to->fen}, to->char_index, to->byte_index};
+    size_t length = it->text_length;
+    return of_amount(it->style == IN_CHARS ? cn_read_amount(text_of(it), length, to)
+                                           : chinese_amount_read(it->text, length, to), to);
+}
+
+static answer typed_amount_read(const question *it) {
+    cn_amount *to = told(it, sizeof *to);
+    size_t length = it->text_length;
+    return of_amount(it->style == IN_CHARS ? cn_read_typed_amount(text_of(it), length, to)
+                                           : chinese_typed_amount_read(it->text, length, to), to);
+}
+
+static answer signed_amount_read(const question *it) {
+    cn_signed_amount *to = told(it, sizeof *to);
+    size_t length = it->text_length;
+    return of_signed(it->style == IN_CHARS ? cn_read_signed_amount(text_of(it), length, to)
+                                           : chinese_signed_amount_read(it->text, length, to), to);
+}
+
+static answer figures_read(const question *it) {
+    cn_signed_amount *to = told(it, sizeof *to);
+    size_t length = it->text_length;
+    return of_signed(it->style == IN_CHARS ? cn_read_figures(text_of(it), length, to)
+                                           : chinese_figures_read(it->text, length, to), to);
 }
 
 static answer date_read(const question *it) {
@@ -131,6 +160,16 @@ static answer amount_print(const question *it) {
     return printed(it, status, *to);
 }
 
+static answer signed_amount_print(const question *it) {
+    size_t *to = told(it, sizeof *to), room = it->room_length;
+    uint32_t script = it->codes[0], form = it->codes[1];
+    int64_t fen = (int64_t)it->values[0];
+    uint64_t status = it->style == IN_CHARS
+        ? cn_print_signed_amount(fen, script, form, room_of(it), room)
+        : chinese_signed_amount_print(fen, script, form, it->room, room, to);
+    return printed(it, status, *to);
+}
+
 static answer date_print(const question *it) {
     size_t *to = told(it, sizeof *to), room = it->room_length;
     uint32_t year = (uint32_t)it->values[0], month = (uint32_t)it->values[1];
@@ -148,6 +187,9 @@ static const uint64_t numbers[][3] = {
     {UINT64_C(0x9AC4719555555556), UINT64_C(0x829D2AE7691F6334)}};
 static const uint64_t amounts[][3] = {
     {1500}, {0}, {1}, {140950}, {UINT64_MAX}, {UINT64_C(999999999999999999)}};
+static const uint64_t signed_amounts[][3] = {
+    {(uint64_t)-1500}, {1500}, {0}, {(uint64_t)INT64_MIN}, {INT64_MAX},
+    {(uint64_t)-INT64_C(999999999999999999)}};
 static const uint64_t dates[][3] = {
     {2026, 1, 15}, {2025, 12, 31}, {1, 1, 1}, {2026, 2, 29}, {2026, 257, 15}};
 
@@ -156,6 +198,7 @@ enum {
         | STATUS(CN_TOO_SMALL)
 };
 enum { READ_CAPITALS = STATUS(CN_DONE) | STATUS(CN_UNFINISHED) | STATUS(CN_INCORRECT) };
+enum { READ_FIGURES = READ_CAPITALS | STATUS(CN_TOO_LARGE) };
 enum { FIND = STATUS(CN_DONE) | STATUS(CN_NONE) };
 
 /* Each call: how many codes name something in each place; and of one that takes a text its statuses
@@ -181,12 +224,22 @@ static const call calls[] = {
     {"cn_find_next", number_find, IN_CHARS, {2, 16}, OF_TEXT(FIND)},
     {"chinese_amount_read", amount_read, PROVED, {0}, OF_TEXT(READ_CAPITALS)},
     {"cn_read_amount", amount_read, IN_CHARS, {0}, OF_TEXT(READ_CAPITALS)},
+    {"chinese_typed_amount_read", typed_amount_read, PROVED, {0}, OF_TEXT(READ_CAPITALS)},
+    {"cn_read_typed_amount", typed_amount_read, IN_CHARS, {0}, OF_TEXT(READ_CAPITALS)},
+    {"chinese_signed_amount_read", signed_amount_read, PROVED, {0}, OF_TEXT(READ_CAPITALS)},
+    {"cn_read_signed_amount", signed_amount_read, IN_CHARS, {0}, OF_TEXT(READ_CAPITALS)},
+    {"chinese_figures_read", figures_read, PROVED, {0}, OF_TEXT(READ_FIGURES)},
+    {"cn_read_figures", figures_read, IN_CHARS, {0}, OF_TEXT(READ_FIGURES)},
     {"chinese_date_read", date_read, PROVED, {0}, OF_TEXT(READ_CAPITALS)},
     {"cn_read_date", date_read, IN_CHARS, {0}, OF_TEXT(READ_CAPITALS)},
     {"chinese_number_print", number_print, PROVED, {10, 5, 2, 2}, PRINTS(numbers, CN_MOST_BYTES)},
     {"cn_print", number_print, IN_CHARS, {10, 5, 2, 2}, PRINTS(numbers, CN_MOST_BYTES)},
     {"chinese_amount_print", amount_print, PROVED, {2, 8}, PRINTS(amounts, CN_MOST_AMOUNT_BYTES)},
     {"cn_print_amount", amount_print, IN_CHARS, {2, 8}, PRINTS(amounts, CN_MOST_AMOUNT_BYTES)},
+    {"chinese_signed_amount_print", signed_amount_print, PROVED, {2, 8},
+     PRINTS(signed_amounts, CN_MOST_SIGNED_AMOUNT_BYTES)},
+    {"cn_print_signed_amount", signed_amount_print, IN_CHARS, {2, 8},
+     PRINTS(signed_amounts, CN_MOST_SIGNED_AMOUNT_BYTES)},
     {"chinese_date_print", date_print, PROVED, {2}, PRINTS(dates, CN_MOST_DATE_BYTES)},
     {"cn_print_date", date_print, IN_CHARS, {2}, PRINTS(dates, CN_MOST_DATE_BYTES)},
 };
@@ -357,17 +410,18 @@ static void try_printing(task *mine, const call *by) {
 
 /* ---- Texts ---- */
 
-/* What texts are made of: characters of numerals and capitals, others, an amount and a date; and in
- * the second row what no UTF-8 has. */
-static const char *const parts[2][32] = {
-    {"一", "二", "三", "十", "百", "千", "萬", "亿", "零", "〇", "壹", "贰", "佰", "元", "圆", "整",
-     "正", "角", "分", "年", "月", "日", "负", "兩", "個", "5", "-", " ", "é", "𠀀", "人民币壹佰元整", "贰零贰陆年零叁月零壹日"},
-    {"\x80", "\xBF", "\xC0\x80", "\xC1\xBF", "\xC2", "\xE0\x9F\xBF", "\xE4", "\xE4\xB8",
-     "\xED\xA0\x80", "\xED\xBF\xBF", "\xEF\xBF", "\xF0\x8F\xBF\xBF", "\xF0\xA0", "\xF0\xA0\x80",
-     "\xF4\x90\x80\x80", "\xF5\x80\x80\x80", "\xF8\x88\x80\x80\x80", "\xFE", "\xFF", "\xE4\xB8\xE4",
-     "\xE4\x80\x7F", "\xC3\xC3", "\xDF", "\xF4", "\xF0", "\xEF", "\xED", "\xE0", "\xF3\xBF",
-     "\x81\x81", "\xA0", "\xC2\x7F"},
-};
+/* What texts are made of: characters of numerals, capitals and figures, others, two amounts and a
+ * date; and what no UTF-8 has. */
+static const char *const parts[] = {
+    "一", "二", "三", "十", "百", "千", "萬", "亿", "零", "〇", "壹", "贰", "佰", "元", "圆", "整",
+    "正", "角", "分", "年", "月", "日", "负", "兩", "個", "5", "-", " ", "é", "𠀀", "¥", ",", "．",
+    "−", "⊗", "：", "1,409.50", "人民币壹佰元整", "贰零贰陆年零叁月零壹日"};
+static const char *const broken[] = {
+    "\x80", "\xBF", "\xC0\x80", "\xC1\xBF", "\xC2", "\xE0\x9F\xBF", "\xE4", "\xE4\xB8",
+    "\xED\xA0\x80", "\xED\xBF\xBF", "\xEF\xBF", "\xF0\x8F\xBF\xBF", "\xF0\xA0",
+    "\xF0\xA0\x80", "\xF4\x90\x80\x80", "\xF5\x80\x80\x80", "\xF8\x88\x80\x80\x80",
+    "\xFE", "\xFF", "\xE4\xB8\xE4", "\xE4\x80\x7F", "\xC3\xC3", "\xDF", "\xF4", "\xF0",
+    "\xEF", "\xED", "\xE0", "\xF3\xBF", "\x81\x81", "\xA0", "\xC2\x7F"};
 
 static uint64_t next_random(uint64_t *state) {
     *state ^= *state << 13;
@@ -381,8 +435,10 @@ static uint64_t next_random(uint64_t *state) {
 static size_t make_text(uint64_t *state, uint8_t *text) {
     size_t length = 0, count = next_random(state) % 25, breaks = next_random(state) % 6;
     for (size_t at = 0; at < count; at++) {
+        int is_broken = breaks == 0 && next_random(state) % 8 == 0;
+        size_t drawn = (size_t)next_random(state);
         const char *part =
-            parts[breaks == 0 && next_random(state) % 8 == 0][next_random(state) % 32];
+            is_broken ? broken[drawn % LENGTH_OF(broken)] : parts[drawn % LENGTH_OF(parts)];
         memcpy(text + length, part, strlen(part));
         length += strlen(part);
     }
