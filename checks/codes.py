@@ -116,6 +116,11 @@ OF_READERS_OF_CAPITALS = (
     "bindings/python/chinese_number/__init__.py",
     "bindings/web/chinese-number.mjs",
 )
+OF_READERS_OF_FIGURES = (
+    "bindings/rust/src/figures.rs",
+    "bindings/python/chinese_number/__init__.py",
+    "bindings/web/chinese-number.mjs",
+)
 OF_PRINTERS_OF_CAPITALS = (
     "bindings/c/chinese_number.h",
     "bindings/rust/src/print.rs",
@@ -265,13 +270,14 @@ def compare_refusals(top):
         for path in REFUSALS_OF_CAPITALS
         for text in texts_of(top / path, "reading_error_text", 2)
     ]
-    read += texts_of(top / REFUSALS_OF_FIGURES, "refusal_text", 3)
+    figures = texts_of(top / REFUSALS_OF_FIGURES, "refusal_text", 3)
     # The other one is out of memory, which is no refusal.
     printed = [texts_of(top / path, "writing_error_text", 2)[0] for path in REFUSALS_OF_CAPITALS]
     for files, wanted in (
         (OF_READERS, texts),
         (OF_PRINTERS, texts[2:]),
         (OF_READERS_OF_CAPITALS, read),
+        (OF_READERS_OF_FIGURES, figures),
         (OF_PRINTERS_OF_CAPITALS, printed),
     ):
         for file in files:
