@@ -1,5 +1,6 @@
-/* Chinese numerals for whole numbers, printed, read and found in a text, and amounts of money and dates in capitals: the C
- * face of the proved library chinese_number. For C from C99 on; chinese_number.hpp has classes for C++17 over it.
+/* Chinese numerals for whole numbers, printed, read and found in a text, amounts of money and dates in capitals, and amounts
+ * in figures: the C face of the proved library chinese_number. For C from C99 on; chinese_number.hpp has classes for C++17
+ * over it.
  *
  * The calls chinese_.. are the proved ones: texts are bytes, and choices are codes. The calls cn_.., written here over
  * them, take texts in char and the enumerations below, so that a compiler can tell exchanged arguments apart.
