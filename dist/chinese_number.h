@@ -1,5 +1,8 @@
 /* Chinese numerals for whole numbers, printed, read and found in a text, and amounts of money and dates in capitals: the C
- * face of the proved library chinese_number.
+ * face of the proved library chinese_number. For C from C99 on; chinese_number.hpp has classes for C++17 over it.
+ *
+ * The calls chinese_.. are the proved ones: texts are bytes, and choices are codes. The calls cn_.., written here over
+ * them, take texts in char and the enumerations below, so that a compiler can tell exchanged arguments apart.
  *
  * On Linux on x86-64 and aarch64, with any C library, link libchinese_number.a or libchinese_number.so. They need at most
  * memcpy and memset of it, and __udivti3 of the compiler's. On other systems compile chinese_number.c, which is the proved
@@ -7,7 +10,7 @@
  * file, reads the locale or keeps anything between calls, so any number of threads may call at once.
  *
  * What the caller must see to, since nothing tests it:
- * - no pointer is NULL, not that of an empty text or room either;
+ * - no pointer is NULL, not that of an empty text or room either (cn_.. take NULL as a text or a room of length 0);
  * - a text and a room have as many bytes as the length says, at most PTRDIFF_MAX;
  * - what a call writes (the room, *length, *reading, *span) overlaps nothing else that the call is given;
  * - nothing else writes to what a call is given before it returns.
@@ -27,13 +30,47 @@
 #define CN_VERSION_MAJOR 0
 #define CN_VERSION_MINOR 1
 #define CN_VERSION_PATCH 0
+/* The version as one number, which chinese_number_version() gives of the library that is linked. */
+#define CN_VERSION_NUMBER (CN_VERSION_MAJOR * 1000000 + CN_VERSION_MINOR * 1000 + CN_VERSION_PATCH)
+
+/* In C++ a code has 32 bits of its own, so that any status can be held. */
+#ifdef __cplusplus
+#define CN_OF_CODE : uint32_t
+#else
+#define CN_OF_CODE
+#endif
+
+/* Of an enumeration of flags, which clang would else not let be added together. */
+#ifdef __clang__
+#define CN_FLAGS __attribute__((flag_enum))
+#else
+#define CN_FLAGS
+#endif
+
+/* In front of a call whose status is to be looked at: a compiler that can warns where it is not. */
+#if defined(__cplusplus) && __cplusplus >= 201703L
+#define CN_NODISCARD [[nodiscard]]
+#elif defined(__GNUC__)
+#define CN_NODISCARD __attribute__((warn_unused_result))
+#else
+#define CN_NODISCARD
+#endif
+
+/* A value as one of another type, in each language's own way. */
+#ifdef __cplusplus
+#define CN_AS(type, value) static_cast<type>(value)
+#define CN_POINTER(type, value) reinterpret_cast<type *>(value)
+#else
+#define CN_AS(type, value) ((type)(value))
+#define CN_POINTER(type, value) ((type *)(value))
+#endif
 
 #ifdef __cplusplus
 extern "C" {
 #endif
 
 /* The integer type of a number. */
-enum {
+typedef enum cn_kind CN_OF_CODE {
     CN_U8 = 0,
     CN_U16 = 1,
     CN_U32 = 2,
@@ -51,31 +88,40 @@ enum {
     CN_USIZE = CN_U32,
     CN_ISIZE = CN_I32
 #endif
-};
+} cn_kind;
 
 /* The way in which a number is written: as plain digits (一二三), or with units (一百二十三) by one of four methods. */
-enum {
+typedef enum cn_way CN_OF_CODE {
     CN_DIGITS = 0,
     CN_LOW = 1,          /* each unit is ten times the one before: 億 is 10^5 */
     CN_TEN_THOUSAND = 2, /* the one to use: after 萬 each is 10^4 times the one before. 10^12 is 兆, as in Taiwan; by the next two 萬億, as on the mainland */
     CN_MIDDLE = 3,       /* after 億 each is 10^8 times the one before: 兆 is 10^16, 京 is 10^24 */
-    CN_HIGH = 4          /* from 億 on each is the square of the one before: 兆 is 10^16, 京 is 10^32 */
-};
+    CN_HIGH = 4,         /* from 億 on each is the square of the one before: 兆 is 10^16, 京 is 10^32 */
+    CN_ANY = 5           /* for reading alone: digits as CN_DIGITS, with a sign or without, and any other text as CN_TEN_THOUSAND */
+} cn_way;
 
 /* The script of a printed text: 萬 or 万. Both are read. */
-enum {
+typedef enum cn_script CN_OF_CODE {
     CN_TRADITIONAL = 0,
-    CN_SIMPLE = 1
-};
+    CN_SIMPLIFIED = 1
+} cn_script;
 
 /* The case of a printed text: 壹拾 or 一十. Both are read. */
-enum {
+typedef enum cn_case CN_OF_CODE {
     CN_UPPER = 0,
     CN_LOWER = 1
-};
+} cn_case;
+
+/* The form of a printed amount: none or several of these, added together. All are read. */
+typedef enum cn_form CN_OF_CODE {
+    CN_PLAIN = 0,
+    CN_CURRENCY = 1,       /* 人民币 in front */
+    CN_ROUND_YUAN = 2,     /* 圆 for 元 */
+    CN_UPRIGHT_CLOSING = 4 /* 正 for 整 */
+} CN_FLAGS cn_form;
 
 /* The units, by rank: the greatest one that is looked for in a text. */
-enum {
+typedef enum cn_unit CN_OF_CODE {
     CN_GE = 0,
     CN_SHI = 1,
     CN_BAI = 2,
@@ -92,10 +138,10 @@ enum {
     CN_ZHENG = 13,
     CN_ZAI = 14,
     CN_JI = 15
-};
+} cn_unit;
 
 /* The status that a call returns. */
-enum {
+typedef enum cn_status CN_OF_CODE {
     CN_DONE = 0,      /* the text was read or printed, or a number was found in it */
     CN_EMPTY = 1,     /* read: nothing is left of the text without white space and, for signed types, one sign */
     CN_INCORRECT = 2, /* read: the character at char_index cannot stand there; no amount or date begins with what ends there */
@@ -104,17 +150,17 @@ enum {
     CN_NOT_UTF8 = 5,  /* read, find: the bytes are no UTF-8 */
     CN_NO_ROOM = 6,   /* print: the text has more bytes than the room; *length says how many */
     CN_NOT_HELD = 7,  /* print: the type does not hold the number */
-    CN_UNKNOWN = 8,   /* a code names no type, way, script, case or unit */
+    CN_UNKNOWN = 8,   /* a code names no type, way, script, case, form or unit; CN_ANY is no way to print */
     CN_UNFINISHED = 9, /* read an amount or a date: the text is none, but something behind it can make it one */
     CN_NONE = 10,      /* find: there is no number in the text */
     CN_NOT_A_DATE = 11 /* print a date: there is no such date */
-};
+} cn_status;
 
 /* No number is printed with more bytes. A zero byte at the end, which cn_print alone writes, is not among them. */
 #define CN_MOST_BYTES 234
 
 /* No amount is printed with more bytes, but for a zero byte that cn_print_amount writes. */
-#define CN_MOST_AMOUNT_BYTES 108
+#define CN_MOST_AMOUNT_BYTES 117
 
 /* No date is printed with more bytes, but for a zero byte that cn_print_date writes. */
 #define CN_MOST_DATE_BYTES 39
@@ -130,11 +176,12 @@ typedef struct cn_number {
     uint64_t high;
 } cn_number;
 
-/* What was read: the number at CN_DONE, and at CN_INCORRECT how many characters stand in front of the one at fault, white
- * space among them. All else is 0. */
+/* What was read: the number at CN_DONE, and at CN_INCORRECT how many characters and how many bytes stand in front of the
+ * character at fault, white space among them. All else is 0. */
 typedef struct cn_reading {
     cn_number number;
     size_t char_index;
+    size_t byte_index;
 } cn_reading;
 
 /* Where a number stands in a text, in bytes from its start, and whether each of its characters is a digit: 1, and then it
@@ -168,7 +215,7 @@ uint32_t chinese_number_print(uint64_t low, uint64_t high, uint32_t kind, uint32
  * stands behind span.end.
  *
  * Returns CN_DONE, CN_NONE, CN_NOT_UTF8 or CN_UNKNOWN. The whole text is tested, so a loop over all numbers of a text calls
- * this once, and from then on chinese_number_find_utf8 (example.c has such a loop). */
+ * this once, and from then on chinese_number_find_utf8, as cn_find_next does. */
 uint32_t chinese_number_find(const uint8_t *text, size_t text_length, uint32_t upper, uint32_t greatest, cn_span *span);
 
 /* The same for bytes that the caller knows to be UTF-8. Nothing tests that: with other bytes the behaviour is undefined. */
@@ -176,19 +223,21 @@ uint32_t chinese_number_find_utf8(const uint8_t *text, size_t text_length, uint3
                                   cn_span *span);
 
 /* What was read as an amount: how many fen, the hundredth part of a yuan, at CN_DONE, and at CN_INCORRECT how many
- * characters stand in front of the one at fault. All else is 0. */
+ * characters and how many bytes stand in front of the character at fault. All else is 0. */
 typedef struct cn_amount {
     uint64_t fen;
     size_t char_index;
+    size_t byte_index;
 } cn_amount;
 
-/* Prints an amount of fen in capitals, as it stands on a cheque, at the start of a room, in UTF-8. Writes *length at each
- * status: at CN_DONE and CN_NO_ROOM how many bytes the text has, else 0. Writes to the room at CN_DONE alone, and there no
- * more than the text.
+/* Prints an amount of fen in capitals, as it stands on a cheque, in a form, at the start of a room, in UTF-8. Writes
+ * *length at each status: at CN_DONE and CN_NO_ROOM how many bytes the text has, else 0. Writes to the room at CN_DONE
+ * alone, and there no more than the text.
  *
  * Returns CN_DONE, CN_NO_ROOM, CN_TOO_LARGE (from 10^18 fen on) or CN_UNKNOWN. A room of CN_MOST_AMOUNT_BYTES is never
  * too small. */
-uint32_t chinese_amount_print(uint64_t fen, uint32_t script, uint8_t *room, size_t room_length, size_t *length);
+uint32_t chinese_amount_print(uint64_t fen, uint32_t script, uint32_t form, uint8_t *room, size_t room_length,
+                              size_t *length);
 
 /* Reads a text in capitals, in UTF-8, as an amount. White space is at fault where it stands. Writes *reading whole at each
  * status, and nothing else.
@@ -198,13 +247,14 @@ uint32_t chinese_amount_print(uint64_t fen, uint32_t script, uint8_t *room, size
  * the first 40. */
 uint32_t chinese_amount_read(const uint8_t *text, size_t text_length, cn_amount *reading);
 
-/* What was read as a date: its year, month (1 is January) and day at CN_DONE, and at CN_INCORRECT how many characters stand
- * in front of the one at fault. All else is 0. */
+/* What was read as a date: its year, month (1 is January) and day at CN_DONE, and at CN_INCORRECT how many characters and
+ * how many bytes stand in front of the character at fault. All else is 0. */
 typedef struct cn_date {
     uint32_t year;
     uint32_t month;
     uint32_t day;
     size_t char_index;
+    size_t byte_index;
 } cn_date;
 
 /* Prints a date in capitals, as it stands on a cheque, at the start of a room, in UTF-8: one of the Gregorian calendar, from
@@ -223,6 +273,9 @@ uint32_t chinese_date_print(uint32_t year, uint32_t month, uint32_t day, uint32_
  * first 14. */
 uint32_t chinese_date_read(const uint8_t *text, size_t text_length, cn_date *reading);
 
+/* The version of the library that is linked: CN_VERSION_NUMBER of its header. */
+uint32_t chinese_number_version(void);
+
 /* The halves of a number of an unsigned type of up to 64 bits. */
 static inline cn_number cn_unsigned(uint64_t value) {
     cn_number number;
@@ -234,58 +287,101 @@ static inline cn_number cn_unsigned(uint64_t value) {
 /* The halves of a number of a signed type of up to 64 bits. */
 static inline cn_number cn_signed(int64_t value) {
     cn_number number;
-    number.low = (uint64_t)value;
+    number.low = CN_AS(uint64_t, value);
     number.high = value < 0 ? UINT64_MAX : 0;
     return number;
 }
 
+/* A text in char as the proved calls take it. */
+static inline const uint8_t *cn_bytes(const char *text, size_t text_length) {
+    return CN_POINTER(const uint8_t, text_length == 0 ? "" : text);
+}
+
 /* chinese_number_read for a text in char. It may have zero bytes, which are no numeral; strlen(text) tells the length of
  * one that ends with the first. */
-static inline uint32_t cn_read(const char *text, size_t text_length, uint32_t kind, uint32_t way, cn_reading *reading) {
-    return chinese_number_read((const uint8_t *)text, text_length, kind, way, reading);
-}
-
-/* chinese_number_print into a room of char, with a zero byte at the end of the text at CN_DONE. That byte needs room too: a
- * room of CN_MOST_BYTES + 1 is never too small. */
-static inline uint32_t cn_print(cn_number number, uint32_t kind, uint32_t way, uint32_t script, uint32_t letter_case,
-                                char *room, size_t room_length) {
-    size_t length, most = room_length == 0 ? 0 : room_length - 1;
-    uint32_t status = chinese_number_print(number.low, number.high, kind, way, script, letter_case, (uint8_t *)room,
-                                           most, &length);
-    if (status == CN_DONE)
-        room[length] = '\0';
-    return status;
-}
-
-/* chinese_amount_print into a room of char, with a zero byte at the end of the text at CN_DONE: a room of
- * CN_MOST_AMOUNT_BYTES + 1 is never too small. */
-static inline uint32_t cn_print_amount(uint64_t fen, uint32_t script, char *room, size_t room_length) {
-    size_t length, most = room_length == 0 ? 0 : room_length - 1;
-    uint32_t status = chinese_amount_print(fen, script, (uint8_t *)room, most, &length);
-    if (status == CN_DONE)
-        room[length] = '\0';
-    return status;
+CN_NODISCARD static inline cn_status cn_read(const char *text, size_t text_length, cn_kind kind, cn_way way,
+                                             cn_reading *reading) {
+    return CN_AS(cn_status, chinese_number_read(cn_bytes(text, text_length), text_length, kind, way, reading));
 }
 
 /* chinese_amount_read for a text in char. */
-static inline uint32_t cn_read_amount(const char *text, size_t text_length, cn_amount *reading) {
-    return chinese_amount_read((const uint8_t *)text, text_length, reading);
-}
-
-/* chinese_date_print into a room of char, with a zero byte at the end of the text at CN_DONE: a room of
- * CN_MOST_DATE_BYTES + 1 is never too small. */
-static inline uint32_t cn_print_date(uint32_t year, uint32_t month, uint32_t day, uint32_t script, char *room,
-                                     size_t room_length) {
-    size_t length, most = room_length == 0 ? 0 : room_length - 1;
-    uint32_t status = chinese_date_print(year, month, day, script, (uint8_t *)room, most, &length);
-    if (status == CN_DONE)
-        room[length] = '\0';
-    return status;
+CN_NODISCARD static inline cn_status cn_read_amount(const char *text, size_t text_length, cn_amount *reading) {
+    return CN_AS(cn_status, chinese_amount_read(cn_bytes(text, text_length), text_length, reading));
 }
 
 /* chinese_date_read for a text in char. */
-static inline uint32_t cn_read_date(const char *text, size_t text_length, cn_date *reading) {
-    return chinese_date_read((const uint8_t *)text, text_length, reading);
+CN_NODISCARD static inline cn_status cn_read_date(const char *text, size_t text_length, cn_date *reading) {
+    return CN_AS(cn_status, chinese_date_read(cn_bytes(text, text_length), text_length, reading));
+}
+
+/* Finds the number of a text in char that comes next behind span->end; a span of zeros begins at the start of the text.
+ * At CN_DONE the span says where in the whole text it stands, and else it is zeros. The text is tested at its start alone:
+ * for a span that an earlier call wrote, it has to be the same text. */
+CN_NODISCARD static inline cn_status cn_find_next(const char *text, size_t text_length, uint32_t upper,
+                                                  cn_unit greatest, cn_span *span) {
+    size_t from = span->end, length = text_length - from;
+    const uint8_t *rest = cn_bytes(text, text_length) + from;
+    uint32_t status = from == 0 ? chinese_number_find(rest, length, upper, greatest, span)
+                                : chinese_number_find_utf8(rest, length, upper, greatest, span);
+    if (status == CN_DONE) {
+        span->start += from;
+        span->end += from;
+    }
+    return CN_AS(cn_status, status);
+}
+
+/* Reads the number that stands at a span of a text: plain digits as such, and else by a method. */
+CN_NODISCARD static inline cn_status cn_read_found(const char *text, const cn_span *span, cn_kind kind, cn_way method,
+                                                   cn_reading *reading) {
+    const uint8_t *found = cn_bytes(text, span->end) + span->start;
+    cn_way way = span->digits ? CN_DIGITS : method;
+    return CN_AS(cn_status, chinese_number_read(found, span->end - span->start, kind, way, reading));
+}
+
+/* A room of char as the proved calls take it: in place of one without a byte, which may be NULL, another such one. */
+static inline uint8_t *cn_room(char *room, size_t room_length, uint8_t *none) {
+    return room_length == 0 ? none : CN_POINTER(uint8_t, room);
+}
+
+/* How many bytes a text can have in a room that has its end too. */
+static inline size_t cn_most_of_text(size_t room_length) {
+    return room_length == 0 ? 0 : room_length - 1;
+}
+
+/* Puts a zero byte behind the text at CN_DONE, and else at the start of the room, where it has a byte. */
+static inline cn_status cn_ended(uint32_t status, char *room, size_t room_length, size_t length) {
+    if (room_length != 0)
+        room[status == CN_DONE ? length : 0] = '\0';
+    return CN_AS(cn_status, status);
+}
+
+/* chinese_number_print into a room of char, with a zero byte at the end of the text: a room of CN_MOST_BYTES + 1 is never
+ * too small. Where there is no text, the room has the empty one. */
+CN_NODISCARD static inline cn_status cn_print(cn_number number, cn_kind kind, cn_way way, cn_script script,
+                                              cn_case letter_case, char *room, size_t room_length) {
+    uint8_t none;
+    size_t length, most = cn_most_of_text(room_length);
+    uint32_t status = chinese_number_print(number.low, number.high, kind, way, script, letter_case,
+                                           cn_room(room, room_length, &none), most, &length);
+    return cn_ended(status, room, room_length, length);
+}
+
+/* chinese_amount_print into a room of char, likewise: one of CN_MOST_AMOUNT_BYTES + 1 is never too small. */
+CN_NODISCARD static inline cn_status cn_print_amount(uint64_t fen, cn_script script, cn_form form, char *room,
+                                                     size_t room_length) {
+    uint8_t none;
+    size_t length, most = cn_most_of_text(room_length);
+    uint32_t status = chinese_amount_print(fen, script, form, cn_room(room, room_length, &none), most, &length);
+    return cn_ended(status, room, room_length, length);
+}
+
+/* chinese_date_print into a room of char, likewise: one of CN_MOST_DATE_BYTES + 1 is never too small. */
+CN_NODISCARD static inline cn_status cn_print_date(uint32_t year, uint32_t month, uint32_t day, cn_script script,
+                                                   char *room, size_t room_length) {
+    uint8_t none;
+    size_t length, most = cn_most_of_text(room_length);
+    uint32_t status = chinese_date_print(year, month, day, script, cn_room(room, room_length, &none), most, &length);
+    return cn_ended(status, room, room_length, length);
 }
 
 /* A status in words. */
@@ -299,7 +395,7 @@ static inline const char *cn_status_text(uint32_t status) {
     case CN_NOT_UTF8: return "the text is no UTF-8";
     case CN_NO_ROOM: return "the room is too small for the text";
     case CN_NOT_HELD: return "the type does not hold the number";
-    case CN_UNKNOWN: return "a code names no type, way, script, case or unit";
+    case CN_UNKNOWN: return "a code names no type, way, script, case, form or unit";
     case CN_UNFINISHED: return "the amount or date is not finished";
     case CN_NONE: return "there is no number in the text";
     case CN_NOT_A_DATE: return "there is no such date";
@@ -309,6 +405,11 @@ static inline const char *cn_status_text(uint32_t status) {
 }
 
 #ifdef __cplusplus
+}
+
+/* Flags of a form, added together; in C they are integers. */
+constexpr cn_form operator|(cn_form one, cn_form other) {
+    return CN_AS(cn_form, CN_AS(uint32_t, one) | CN_AS(uint32_t, other));
 }
 #endif
 

@@ -36,7 +36,7 @@ export type PrintWay = Exclude<Way, 'any'>;
 export type Script = (typeof SCRIPTS)[number];
 export type Case = (typeof CASES)[number];
 export type Unit = (typeof UNITS)[number];
-export type Yuan = '元' | '圆' | '圓';
+export type Yuan = '元' | '圆';
 export type Closing = '整' | '正';
 export type ReadOptions = { kind?: Kind; way?: Way };
 export type PrintOptions = { kind?: Kind; way?: PrintWay; script?: Script; case?: Case };
@@ -100,9 +100,9 @@ export function toChinese(number: bigint | number, options?: PrintOptions): stri
  *
  * The amount is given in fen, the hundredth part of a yuan, as a BigInt or a whole Number that is
  * exact, and is written in a script, else 'simplified'. With `currency` true 人民币 stands in front;
- * `yuan` is '元', or '圆' (or '圓', which is the same: the script decides), and `closing` is '整', or
- * '正'. Throws an AmountError where the amount is below zero or 10n ** 18n or more, and a TypeError
- * where it is no such number, or an option or what it names is unknown.
+ * `yuan` is '元', or '圆', and `closing` is '整', or '正'. Throws an AmountError where the amount is
+ * below zero or 10n ** 18n or more, and a TypeError where it is no such number, or an option or
+ * what it names is unknown.
  *
  * @param {bigint | number} fen
  * @param {AmountOptions} options

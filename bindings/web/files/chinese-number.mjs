@@ -1,15 +1,24 @@
 // Chinese numerals, read and printed by the proved library, which is a WebAssembly module.
 //
-//     toNumber('一百二', { kind: 'u64' })                       120n
-//     toChinese(120, { script: 'simple', case: 'upper' })    '壹佰贰拾'
-//     amountToChinese(yuanToFen('15'), { script: 'simple' })  '壹拾伍元整'
-//     chineseToAmount('壹拾伍元整')                             1500n
-//     chineseToDate('伍年零壹月壹拾伍日')                       { year: 5, month: 1, day: 15 }
-//     for (const found of findNumbers('第二十三回')) ..          found.number() is 23n
+//     toNumber('一百二')                                120
+//     toBigInt('一澗')                                  10n ** 36n
+//     toChinese(120, { case: 'upper' })               '壹佰贰拾'
+//     amountToChinese(yuanToFen('15'))                '壹拾伍元整'
+//     chineseToAmount('壹拾伍元整')                     1500
+//     chineseToDate('伍年零壹月壹拾伍日')               { year: 5, month: 1, day: 15 }
+//     for (const found of findNumbers('第二十三回')) ..  found.number() is 23
 //
-// The module takes no memory of its own: this file lends it what lies past its __heap_base.
+// What gives a Number gives only one that is exact, a safe integer, and has a second name for the
+// BigInt: there `BigInt` stands for `Number`, or at the end. The module takes no memory of its own:
+// this file lends it what lies past its __heap_base.
 
 import { compiled } from './compiled.mjs';
+
+/**
+ * The version of this file and of the module.
+ * @type {string}
+ */
+export const VERSION = '0.1.0';
 
 // Each list is in the order of the codes that the module has for these names.
 
@@ -17,21 +26,61 @@ import { compiled } from './compiled.mjs';
 export const KINDS = Object.freeze(/** @type {const} */ (
   ['u8', 'u16', 'u32', 'u64', 'u128', 'i8', 'i16', 'i32', 'i64', 'i128']));
 
-/** How a number is written: as plain digits (一二三), or with units (一百二十三) by one of four methods. */
-export const WAYS = Object.freeze(/** @type {const} */ (['digits', 'low', 'tenThousand', 'middle', 'high']));
+/**
+ * How a number is written: as plain digits (一二三), or with units (一百二十三) by one of four methods.
+ * 'any' is a way to read alone: as plain digits what is those, and else by 'tenThousand'.
+ */
+export const WAYS = Object.freeze(/** @type {const} */ (
+  ['digits', 'low', 'tenThousand', 'middle', 'high', 'any']));
 
 /** The scripts. */
-export const SCRIPTS = Object.freeze(/** @type {const} */ (['traditional', 'simple']));
+export const SCRIPTS = Object.freeze(/** @type {const} */ (['traditional', 'simplified']));
 
 /** The cases: 'upper' has the characters of cheques. */
 export const CASES = Object.freeze(/** @type {const} */ (['upper', 'lower']));
 
-/** The units, each greater than the one before: 個, 十, 百, 千, 萬, 億, 兆, 京, 垓, 秭, 穰, 溝, 澗, 正, 載 and 極. */
-export const UNITS = Object.freeze(/** @type {const} */ (['ge', 'shi', 'bai', 'qian', 'wan', 'yi', 'zhao', 'jing', 'gai', 'zi',
-  'rang', 'gou', 'jian', 'zheng', 'zai', 'ji']));
+/**
+ * The units, each greater than the one before: 個, 十, 百, 千, 萬, 億, 兆, 京, 垓, 秭, 穰, 溝, 澗, 正, 載
+ * and 極.
+ */
+export const UNITS = Object.freeze(/** @type {const} */ (
+  ['ge', 'shi', 'bai', 'qian', 'wan', 'yi', 'zhao', 'jing', 'gai', 'zi', 'rang', 'gou', 'jian',
+    'zheng', 'zai', 'ji']));
 
-const STATUSES = ['done', 'empty', 'incorrect', 'tooLarge', 'tooSmall', 'notUtf8', 'noRoom', 'notHeld', 'unknown', 'unfinished',
-  'none', 'notADate'];
+const STATUSES = ['done', 'empty', 'incorrect', 'tooLarge', 'tooSmall', 'notUtf8', 'noRoom',
+  'notHeld', 'unknown', 'unfinished', 'none', 'notADate'];
+
+const YUANS = ['元', '圆'];
+const CLOSINGS = ['整', '正'];
+const PRINT_WAYS = WAYS.filter((it) => it !== 'any');
+
+// The names of the options that calls have.
+const OF_READING = ['kind', 'way'];
+const OF_PRINTING = ['kind', 'way', 'script', 'case'];
+const OF_AMOUNTS = ['script', 'currency', 'yuan', 'closing'];
+const OF_DATES = ['script'];
+const OF_SEARCHES = ['upper', 'greatest'];
+
+/**
+ * @typedef {typeof KINDS[number]} Kind
+ * @typedef {typeof WAYS[number]} Way
+ * @typedef {Exclude<Way, 'any'>} PrintWay
+ * @typedef {typeof SCRIPTS[number]} Script
+ * @typedef {typeof CASES[number]} Case
+ * @typedef {typeof UNITS[number]} Unit
+ * @typedef {{ kind?: Kind, way?: Way }} ReadOptions
+ * @typedef {{ kind?: Kind, way?: PrintWay, script?: Script, case?: Case }} PrintOptions
+ * @typedef {{ script?: Script }} ScriptOptions
+ * @typedef {'元' | '圆'} Yuan
+ * @typedef {'整' | '正'} Closing
+ * @typedef {{ script?: Script, currency?: boolean, yuan?: Yuan, closing?: Closing }} AmountOptions
+ * @typedef {{ upper?: boolean, greatest?: Unit }} Wanted
+ * @typedef {{ year: number, month: number, day: number }} BillDate
+ * @typedef {{ charIndex: number, start: number, end: number }} Place
+ * @typedef {keyof typeof MESSAGES} NumeralCode
+ * @typedef {keyof typeof AMOUNT_MESSAGES} AmountCode
+ * @typedef {keyof typeof DATE_MESSAGES} DateCode
+ */
 
 const MESSAGES = {
   empty: 'a chinese number cannot be empty',
@@ -39,6 +88,7 @@ const MESSAGES = {
   tooLarge: 'number is too large',
   tooSmall: 'number is too small',
   notHeld: 'does not hold the number', // behind the name of the kind
+  unsafe: 'a Number does not hold the number exactly',
   outOfMemory: 'out of memory',
 };
 
@@ -47,6 +97,7 @@ const AMOUNT_MESSAGES = {
   incorrect: 'the amount is incorrect',
   tooLarge: 'number is too large',
   tooSmall: 'number is too small',
+  unsafe: 'a Number does not hold the amount exactly',
 };
 
 const DATE_MESSAGES = {
@@ -55,32 +106,20 @@ const DATE_MESSAGES = {
   notADate: 'there is no such date',
 };
 
-/**
- * @typedef {typeof KINDS[number]} Kind
- * @typedef {typeof WAYS[number]} Way
- * @typedef {typeof SCRIPTS[number]} Script
- * @typedef {typeof CASES[number]} Case
- * @typedef {typeof UNITS[number]} Unit
- * @typedef {{ kind?: Kind, way?: Way }} ReadOptions
- * @typedef {{ kind?: Kind, way?: Way, script?: Script, case?: Case }} PrintOptions
- * @typedef {{ script?: Script }} ScriptOptions
- * @typedef {{ upper?: boolean, greatest?: Unit }} Wanted
- * @typedef {{ year: number, month: number, day: number }} BillDate
- * @typedef {{ charIndex: number, start: number, end: number }} Place
- */
-
 /** A refusal, with the place of the character at fault where there is one. */
 class Refusal extends Error {
   /**
    * @param {string} message
    * @param {Place} [place]
-   * @param {ErrorOptions} [options]
    */
-  constructor(message, place, options) {
-    super(place ? `${message} (position: ${place.charIndex})` : message, options);
+  constructor(message, place) {
+    super(place ? `${message} (position: ${place.charIndex})` : message);
     /** At 'incorrect': how many characters stand in front of the one at fault. */
     this.charIndex = place?.charIndex;
-    /** At 'incorrect': where it starts in the string, in UTF-16 code units, as setSelectionRange and slice take it. */
+    /**
+     * At 'incorrect': where it starts in the string, in UTF-16 code units, as setSelectionRange and
+     * slice take it.
+     */
     this.start = place?.start;
     /** At 'incorrect': where it ends, likewise. */
     this.end = place?.end;
@@ -93,19 +132,20 @@ class Refusal extends Error {
  * `code` is
  * - 'empty': nothing is left of the text without its white space and, for a signed type, one sign;
  * - 'incorrect': a character cannot stand where it stands;
- * - 'tooLarge', 'tooSmall': the number read does not fit the type, or by 'low' the number has no text;
+ * - 'tooLarge', 'tooSmall': the number read does not fit the type, or by 'low' the number has no
+ *   text;
+ * - 'unsafe': the number read is no safe integer, so a Number does not hold it exactly;
  * - 'notHeld': the type does not hold the number that is to be printed;
  * - 'outOfMemory': the host has no memory for the text, which may be that of any call.
  */
 export class NumeralError extends Refusal {
   /**
-   * @param {keyof typeof MESSAGES} code
+   * @param {NumeralCode} code
    * @param {Kind} [kind]
    * @param {Place} [place]
-   * @param {ErrorOptions} [options]
    */
-  constructor(code, kind, place, options) {
-    super(code === 'notHeld' ? `${kind} ${MESSAGES[code]}` : MESSAGES[code], place, options);
+  constructor(code, kind, place) {
+    super(code === 'notHeld' ? `${kind} ${MESSAGES[code]}` : MESSAGES[code], place);
     this.name = 'NumeralError';
     this.code = code;
     /** The integer type that the number was to have; at 'outOfMemory' none is named. */
@@ -119,11 +159,12 @@ export class NumeralError extends Refusal {
  * `code` is
  * - 'unfinished': the text is no amount, and something behind it can make it one, as '壹佰元';
  * - 'incorrect': no amount begins with the text up to and with a character;
+ * - 'unsafe': the fen are no safe integer, so a Number does not hold them exactly;
  * - 'tooLarge', 'tooSmall': the amount to be written is 10n ** 18n fen or more, or below zero.
  */
 export class AmountError extends Refusal {
   /**
-   * @param {keyof typeof AMOUNT_MESSAGES} code
+   * @param {AmountCode} code
    * @param {Place} [place]
    */
   constructor(code, place) {
@@ -143,7 +184,7 @@ export class AmountError extends Refusal {
  */
 export class DateError extends Refusal {
   /**
-   * @param {keyof typeof DATE_MESSAGES} code
+   * @param {DateCode} code
    * @param {Place} [place]
    */
   constructor(code, place) {
@@ -153,18 +194,33 @@ export class DateError extends Refusal {
   }
 }
 
-/** @type {any} What the instance in use exports; null after a trap, since its memory may be half written then. */
-let library = new WebAssembly.Instance(compiled).exports;
+/** An instance of the module, where that is of the version of this file. */
+function instance() {
+  const library = new WebAssembly.Instance(compiled).exports;
+  const [major, minor, patch] = VERSION.split('.').map(Number);
+  const wanted = major * 1_000_000 + minor * 1000 + patch;
+  const found = /** @type {any} */ (library).chinese_number_version?.();
+  if (found !== wanted) throw new Error(`the module is of version ${found}, and not ${wanted}`);
+  return library;
+}
 
-// What is lent: a reading (24 bytes; an amount, a date and a span fit there too), a length (8), and the text.
+/**
+ * What the instance in use exports; null after a trap, since its memory may be half written then.
+ * @type {any}
+ */
+let library = instance();
+
+// What is lent: a reading (32 bytes; an amount, a date and a span fit there too), a length (8), and
+// the text. In both modules a size has 8 bytes.
 const READING = Math.ceil(Number(library.__heap_base.value) / 16) * 16;
-const LENGTH = READING + 24;
+const LENGTH = READING + 32;
 const TEXT = LENGTH + 8;
 const [READING_AT, LENGTH_AT, TEXT_AT] = [READING, LENGTH, TEXT].map(BigInt);
 const MOST_BYTES = 234;
-const MOST_AMOUNT_BYTES = 108;
+const MOST_AMOUNT_BYTES = 117;
 const MOST_DATE_BYTES = 39;
 const PAGE = 65536;
+const MOST_KEPT = 2 ** 24;
 const encoder = new TextEncoder();
 const decoder = new TextDecoder();
 /** @type {BigUint64Array} The reading (or amount, date or span) and the length. */
@@ -177,13 +233,15 @@ let text = new Uint8Array(0);
  * @param {number} bytes
  */
 function lend(bytes) {
-  library ??= new WebAssembly.Instance(compiled).exports;
+  // Memory is never taken from an instance: one with much of it is left by the next short text.
+  if (text.length > MOST_KEPT && bytes < MOST_KEPT) library = null;
+  library ??= instance();
   const { memory } = library;
   const missing = TEXT + bytes - memory.buffer.byteLength;
   if (missing > 0) grow(memory, Math.ceil(missing / PAGE));
   // A memory that has grown has another buffer, and so has that of a new instance.
   if (text.buffer !== memory.buffer) {
-    words = new BigUint64Array(memory.buffer, READING, 4);
+    words = new BigUint64Array(memory.buffer, READING, 5);
     text = new Uint8Array(memory.buffer, TEXT);
   }
 }
@@ -194,7 +252,8 @@ function lend(bytes) {
  */
 function grow(memory, pages) {
   try {
-    // A 64-bit memory counts its pages by a BigInt, though early hosts and 32-bit memories do so by a Number.
+    // A 64-bit memory counts its pages by a BigInt, though early hosts and 32-bit memories do so by
+    // a Number.
     try {
       memory.grow(BigInt(pages));
     } catch (error) {
@@ -202,12 +261,13 @@ function grow(memory, pages) {
       memory.grow(pages);
     }
   } catch (cause) {
-    throw new NumeralError('outOfMemory', undefined, undefined, { cause });
+    throw Object.assign(new NumeralError('outOfMemory'), { cause });
   }
 }
 
 /**
- * Calls the module. Where that traps, as on a full stack of the host, the next call has a new instance.
+ * Calls the module. Where that traps, as on a full stack of the host, the next call has a new
+ * instance.
  * @param {() => number} call
  */
 function statusOf(call) {
@@ -226,43 +286,68 @@ function statusOf(call) {
 function hand(string) {
   if (typeof string !== 'string') throw new TypeError('a text is a string');
   lend(3 * string.length);
-  // An encoder writes UTF-8 and nothing else (half a surrogate pair as U+FFFD), so the module need not test it.
+  // An encoder writes UTF-8 and nothing else (half a surrogate pair as U+FFFD), so the module need
+  // not test it.
   return Number(encoder.encodeInto(string, text).written);
 }
 
 /**
- * Has the module read a string, by a call that is given where it stands and how long it is there. Else throws the refusal,
- * with the place of the character at fault, of which a word tells how many stand in front.
+ * Has the module read a string, by a call that is given how long it is at TEXT_AT. Else throws the
+ * refusal, with the place of the character at fault, which a word and the next one tell.
  * @param {string} string
- * @param {(at: bigint, length: bigint) => number} call
+ * @param {(length: bigint) => number} call
  * @param {number} word
  * @param {(code: any, place?: Place) => Error} refusal
  */
 function read(string, call, word, refusal) {
   const length = BigInt(hand(string));
-  const code = STATUSES[statusOf(() => call(TEXT_AT, length))];
-  if (code !== 'done') throw refusal(code, code === 'incorrect' ? placeOf(string, Number(words[word])) : undefined);
+  const code = STATUSES[statusOf(() => call(length))];
+  if (code !== 'done') throw refusal(code, code === 'incorrect' ? placeAt(word) : undefined);
 }
 
 /**
- * Has the module print, by a call that is given a room of so many bytes and where the length goes. Gives the text, or throws
- * the refusal.
+ * Where the character at fault stands in the string, whose bytes are those of the text: a word
+ * tells how many characters stand in front of it, and the next one how many bytes.
+ * @param {number} word
+ */
+function placeAt(word) {
+  const [charIndex, byteIndex] = [words[word], words[word + 1]].map(Number);
+  const start = unitsBetween(0, byteIndex);
+  return { charIndex, start, end: start + unitsOf(text[byteIndex]) };
+}
+
+/**
+ * Has the module print, by a call that is given how long the room at TEXT_AT is. Gives the text, or
+ * throws the refusal.
  * @param {number} most
- * @param {(room: bigint, most: bigint, length: bigint) => number} call
+ * @param {(most: bigint) => number} call
  * @param {(code: any) => Error} refusal
  */
 function print(most, call, refusal) {
   lend(most);
-  const code = STATUSES[statusOf(() => call(TEXT_AT, BigInt(most), LENGTH_AT))];
+  const code = STATUSES[statusOf(() => call(BigInt(most)))];
   if (code !== 'done') throw refusal(code);
-  return decoder.decode(text.subarray(0, Number(words[3])));
+  return decoder.decode(text.subarray(0, Number(words[4])));
 }
 
 /** @param {bigint | number} number */
 function wholeOf(number) {
   if (typeof number === 'bigint') return number;
-  if (!Number.isSafeInteger(number)) throw new TypeError('a number is a BigInt, or a whole Number up to 2 ** 53 - 1');
+  if (!Number.isSafeInteger(number)) {
+    throw new TypeError('a number is a BigInt, or a whole Number up to 2 ** 53 - 1');
+  }
   return BigInt(number);
+}
+
+/**
+ * The same number as a Number, where that holds it exactly.
+ * @param {bigint} whole
+ * @param {() => Error} refusal
+ */
+function exactOf(whole, refusal) {
+  const number = Number(whole);
+  if (!Number.isSafeInteger(number)) throw refusal();
+  return number;
 }
 
 /**
@@ -277,27 +362,32 @@ function codeOf(names, name, what) {
 }
 
 /**
- * Refuses options with another name than these, so that none is passed over in silence.
+ * @param {boolean} it
+ * @param {string} name
+ */
+function flagOf(it, name) {
+  if (typeof it !== 'boolean') throw new TypeError(`${name} is true or false`);
+  return Number(it);
+}
+
+/**
+ * Refuses what is no object, and options with another name than these, so that none is passed over
+ * in silence.
  * @param {object} options
  * @param {readonly string[]} names
  */
 function refuseOthers(options, names) {
-  const other = typeof options === 'string' ? options : Object.keys(options).find((it) => !names.includes(it));
-  if (other !== undefined) throw new TypeError(`no option is named ${other}`);
+  if (typeof options !== 'object' || options === null || Array.isArray(options)) {
+    throw new TypeError('options are an object');
+  }
+  for (const it of Object.keys(options)) {
+    if (!names.includes(it)) throw new TypeError(`no option is named ${it}`);
+  }
 }
 
 /**
- * The code of the script, of options that have nothing else.
- * @param {ScriptOptions} options
- */
-function scriptOf(options) {
-  refuseOthers(options, ['script']);
-  const { script = 'traditional' } = options;
-  return codeOf(SCRIPTS, script, 'script');
-}
-
-/**
- * What stands in the lower half of a word, of which the module may have left the upper one as it was.
+ * What stands in the lower half of a word, of which the module may have left the upper one as it
+ * was.
  * @param {bigint} word
  */
 const lowHalf = (word) => Number(BigInt.asUintN(32, word));
@@ -306,94 +396,135 @@ const lowHalf = (word) => Number(BigInt.asUintN(32, word));
 const isSigned = (kind) => kind.startsWith('i');
 
 /**
- * Where the character with so many in front stands in a string.
+ * Reads a numeral, and gives a Number: `toNumber('一百二')` is 120.
+ *
+ * The number is one of a kind, 'i128' where none is named, and is read by a way, else 'any'. Throws
+ * a NumeralError where the text is no numeral, its number does not fit the kind, or it is past
+ * 2 ** 53 - 1 on either side, where a Number is not exact, with the code 'unsafe': that `toBigInt`
+ * reads. Throws a TypeError where the text is no string, or an option or what it names is unknown.
+ *
  * @param {string} string
- * @param {number} charIndex
+ * @param {ReadOptions} options
+ * @returns {number}
  */
-function placeOf(string, charIndex) {
-  /** @param {number} at */
-  const next = (at) => at + (Number(string.codePointAt(at)) > 0xffff ? 2 : 1);
-  let start = 0;
-  for (let left = charIndex; left > 0; left--) start = next(start);
-  return { charIndex, start, end: next(start) };
+export function toNumber(string, options = {}) {
+  return exactOf(toBigInt(string, options), () => new NumeralError('unsafe', kindOf(options)));
 }
 
 /**
- * Reads a numeral, and gives a BigInt: `toNumber('一百二')` is 120n. `Number(toNumber(..))` is a Number, exact up to 2 ** 53.
- *
- * The number is one of a kind, 'i128' where none is named, and is read by a way, else 'tenThousand'. Throws a NumeralError
- * where the text is no numeral or its number does not fit the kind, and a TypeError where the text is no string, or an option
- * or what it names is unknown.
+ * Reads a numeral, and gives a BigInt: `toBigInt('一百二')` is 120n. It is read as by `toNumber`, but
+ * that no number is 'unsafe'.
  *
  * @param {string} string
  * @param {ReadOptions} options
  * @returns {bigint}
  */
-export function toNumber(string, options = {}) {
-  refuseOthers(options, ['kind', 'way']);
-  const { kind = 'i128', way = 'tenThousand' } = options;
-  const codes = [codeOf(KINDS, kind, 'kind'), codeOf(WAYS, way, 'way')];
-  read(string, (at, length) => library.chinese_number_read_utf8(at, length, ...codes, READING_AT), 2,
-    (code, place) => new NumeralError(code, kind, place));
+export function toBigInt(string, options = {}) {
+  refuseOthers(options, OF_READING);
+  const { way = 'any' } = options, kind = kindOf(options);
+  const kindCode = codeOf(KINDS, kind, 'kind'), wayCode = codeOf(WAYS, way, 'way');
+  read(string,
+    (length) => library.chinese_number_read_utf8(TEXT_AT, length, kindCode, wayCode, READING_AT),
+    2, (code, place) => new NumeralError(code, kind, place));
   const bits = (words[1] << 64n) | words[0];
   return isSigned(kind) ? BigInt.asIntN(128, bits) : bits;
 }
 
 /**
- * The text of a number: `toChinese(120)` is '一百二十'. The number is a BigInt, or a whole Number that is exact.
+ * @param {{ kind?: Kind }} options
+ * @returns {Kind}
+ */
+const kindOf = ({ kind = 'i128' }) => kind;
+
+/**
+ * The text of a number: `toChinese(120)` is '一百二十'. The number is a BigInt, or a whole Number that
+ * is exact.
  *
- * It is one of a kind, 'i128' where none is named, and is written by a way, else 'tenThousand', in a script, else
- * 'traditional', and a case, else 'lower'. Throws a NumeralError where the kind does not hold the number or the way has no
- * text for it, and a TypeError where it is no such number, or an option or what it names is unknown.
+ * It is one of a kind, 'i128' where none is named, and is written by a way, else 'tenThousand', in
+ * a script, else 'simplified', and a case, else 'lower'. Throws a NumeralError where the kind does
+ * not hold the number or the way has no text for it, and a TypeError where it is no such number, or
+ * an option or what it names is unknown, as 'any', which is no way to write.
  *
  * @param {bigint | number} number
  * @param {PrintOptions} options
  * @returns {string}
  */
 export function toChinese(number, options = {}) {
-  refuseOthers(options, ['kind', 'way', 'script', 'case']);
-  const { kind = 'i128', way = 'tenThousand', script = 'traditional', case: letterCase = 'lower' } = options;
-  const codes = [codeOf(KINDS, kind, 'kind'), codeOf(WAYS, way, 'way'),
-    codeOf(SCRIPTS, script, 'script'), codeOf(CASES, letterCase, 'case')];
+  refuseOthers(options, OF_PRINTING);
+  const { way = 'tenThousand', case: letterCase = 'lower' } = options, kind = kindOf(options);
+  const kindCode = codeOf(KINDS, kind, 'kind'), wayCode = codeOf(PRINT_WAYS, way, 'way to write');
+  const scriptCode = scriptOf(options), caseCode = codeOf(CASES, letterCase, 'case');
   const whole = wholeOf(number);
-  // The module takes 64 bits of each half, so the number must be the one that these 128 bits stand for.
+  // The module takes 64 bits of each half, so the number must be the one that these 128 bits stand
+  // for.
   const bits = isSigned(kind) ? BigInt.asIntN(128, whole) : BigInt.asUintN(128, whole);
   if (bits !== whole) throw new NumeralError('notHeld', kind);
-  return print(MOST_BYTES, (...room) => library.chinese_number_print(bits, bits >> 64n, ...codes, ...room),
+  return print(MOST_BYTES,
+    (most) => library.chinese_number_print(
+      bits, bits >> 64n, kindCode, wayCode, scriptCode, caseCode, TEXT_AT, most, LENGTH_AT),
     (code) => new NumeralError(code, kind));
 }
 
 /**
- * An amount of money in capitals, as it stands on a cheque: `amountToChinese(1500n)` is '壹拾伍元整'.
+ * An amount of money in capitals, as it stands on a cheque: `amountToChinese(1500)` is '壹拾伍元整'.
  *
- * The amount is given in fen, the hundredth part of a yuan, as a BigInt, and is written in a script, else 'traditional'.
- * Throws an AmountError where it is below zero or 10n ** 18n or more, and a TypeError where it is no BigInt, or an option or
+ * The amount is given in fen, the hundredth part of a yuan, as a BigInt or a whole Number that is
+ * exact, and is written in a script, else 'simplified'. With `currency` true 人民币 stands in front;
+ * `yuan` is '元', or '圆', and `closing` is '整', or '正'. Throws an AmountError where the amount is
+ * below zero or 10n ** 18n or more, and a TypeError where it is no such number, or an option or
  * what it names is unknown.
  *
- * @param {bigint} fen
- * @param {ScriptOptions} options
+ * @param {bigint | number} fen
+ * @param {AmountOptions} options
  * @returns {string}
  */
 export function amountToChinese(fen, options = {}) {
-  const script = scriptOf(options);
-  if (typeof fen !== 'bigint') throw new TypeError('an amount is a BigInt, in fen');
+  refuseOthers(options, OF_AMOUNTS);
+  const script = scriptOf(options), form = formOf(options), whole = wholeOf(fen);
   // The module is handed 64 bits.
-  if (BigInt.asUintN(64, fen) !== fen) throw new AmountError(fen < 0n ? 'tooSmall' : 'tooLarge');
-  return print(MOST_AMOUNT_BYTES, (...room) => library.chinese_amount_print(fen, script, ...room),
+  if (whole < 0n) throw new AmountError('tooSmall');
+  if (BigInt.asUintN(64, whole) !== whole) throw new AmountError('tooLarge');
+  return print(MOST_AMOUNT_BYTES,
+    (most) => library.chinese_amount_print(whole, script, form, TEXT_AT, most, LENGTH_AT),
     (code) => new AmountError(code));
 }
 
+/** @param {ScriptOptions} options */
+const scriptOf = ({ script = 'simplified' }) => codeOf(SCRIPTS, script, 'script');
+
 /**
- * Reads an amount of money in capitals, and gives its fen as a BigInt: `chineseToAmount('壹拾伍元整')` is 1500n.
+ * The form of an amount: a bit for each of its options that is not as it is without them.
+ * @param {AmountOptions} options
+ */
+function formOf({ currency = false, yuan = '元', closing = '整' }) {
+  return flagOf(currency, 'currency') + 2 * codeOf(YUANS, yuan, 'yuan')
+    + 4 * codeOf(CLOSINGS, closing, 'closing');
+}
+
+/**
+ * Reads an amount of money in capitals, and gives its fen as a Number: `chineseToAmount('壹拾伍元整')`
+ * is 1500.
  *
- * Throws an AmountError where the text is none, and a TypeError where it is no string. White space is refused like any other
- * character.
+ * Throws an AmountError where the text is none, or its fen are past 2 ** 53 - 1, where a Number is
+ * not exact, with the code 'unsafe': that `chineseToAmountBigInt` reads. Throws a TypeError where
+ * the text is no string. White space is refused like any other character.
+ *
+ * @param {string} string
+ * @returns {number}
+ */
+export function chineseToAmount(string) {
+  return exactOf(chineseToAmountBigInt(string), () => new AmountError('unsafe'));
+}
+
+/**
+ * Reads an amount of money in capitals, as `chineseToAmount` does, and gives its fen as a BigInt:
+ * `chineseToAmountBigInt('壹拾伍元整')` is 1500n.
  *
  * @param {string} string
  * @returns {bigint}
  */
-export function chineseToAmount(string) {
-  read(string, (at, length) => library.chinese_amount_read(at, length, READING_AT), 1,
+export function chineseToAmountBigInt(string) {
+  read(string, (length) => library.chinese_amount_read(TEXT_AT, length, READING_AT), 1,
     (code, place) => new AmountError(code, place));
   return words[0];
 }
@@ -401,60 +532,80 @@ export function chineseToAmount(string) {
 const FIGURES = /^([0-9]+)(?:\.([0-9]{1,2}))?$/;
 
 /**
- * The fen of an amount in yuan that is written in figures, exactly: `yuanToFen('1409.5')` is 140950n.
+ * The fen of an amount in yuan that is written in figures, exactly, as a Number:
+ * `yuanToFen('1409.5')` is 140950.
  *
- * Figures are ASCII digits, with a point and one or two more or none. Throws a RangeError for any other text, as one with a
- * sign, a comma or a third place; an AmountError for 10n ** 16n yuan or more; and a TypeError for what is no string. Nothing
- * is rounded.
+ * Figures are ASCII digits, with a point and one or two more or none. Throws a RangeError for any
+ * other text, as one with a sign, a comma or a third place; an AmountError for 10n ** 16n yuan or
+ * more, or where the fen are past 2 ** 53 - 1, with the code 'unsafe': these `yuanToFenBigInt`
+ * gives; and a TypeError for what is no string. Nothing is rounded.
+ *
+ * @param {string} figures
+ * @returns {number}
+ */
+export function yuanToFen(figures) {
+  return exactOf(yuanToFenBigInt(figures), () => new AmountError('unsafe'));
+}
+
+/**
+ * The fen of an amount in figures, as by `yuanToFen`, as a BigInt: `yuanToFenBigInt('1409.5')` is
+ * 140950n.
  *
  * @param {string} figures
  * @returns {bigint}
  */
-export function yuanToFen(figures) {
+export function yuanToFenBigInt(figures) {
   if (typeof figures !== 'string') throw new TypeError('an amount in figures is a string');
   const [, yuan, places = ''] = FIGURES.exec(figures) ?? [];
-  if (yuan === undefined) throw new RangeError('figures are digits, and may have a point with one or two more behind it');
+  if (yuan === undefined) {
+    throw new RangeError('figures are digits, and may have a point with one or two more behind it');
+  }
   const fen = (yuan + places.padEnd(2, '0')).replace(/^0+/, '');
   if (fen.length > 18) throw new AmountError('tooLarge');
   return BigInt(fen);
 }
 
 /**
- * A date in capitals, as it stands on a cheque: `dateToChinese({ year: 2026, month: 1, day: 15 })` is
- * '貳零貳陸年零壹月壹拾伍日'.
+ * A date in capitals, as it stands on a cheque: `dateToChinese({ year: 2026, month: 1, day: 15 })`
+ * is '贰零贰陆年零壹月壹拾伍日'.
  *
- * The date is an object with three whole Numbers of its own, and is written in a script, else 'traditional'. A Date is not
- * taken: it is an instant, and no day of the calendar before a time zone is named. Throws a DateError where there is no such
- * day in the Gregorian calendar from year 1 to 9999, and a TypeError where it is no such object, or an option or what it names
- * is unknown.
+ * The date is an object with three whole Numbers of its own, and is written in a script, else
+ * 'simplified'. A Date is not taken: it is an instant, and no day of the calendar before a time
+ * zone is named. Throws a DateError where there is no such day in the Gregorian calendar from year
+ * 1 to 9999, and a TypeError where it is no such object, or an option or what it names is unknown.
  *
  * @param {BillDate} date
  * @param {ScriptOptions} options
  * @returns {string}
  */
 export function dateToChinese(date, options = {}) {
+  refuseOthers(options, OF_DATES);
   const script = scriptOf(options);
   // What is its own alone, since a class may count the years of another calendar.
   const { year, month, day } = { ...date };
   const parts = [year, month, day];
-  if (!parts.every(Number.isInteger)) throw new TypeError('a date is an object with a year, month and day, and no Date');
+  if (!parts.every(Number.isInteger)) {
+    throw new TypeError('a date is an object with a year, month and day, and no Date');
+  }
   // The module is handed 32 bits of each.
   if (parts.some((it) => it >>> 0 !== it)) throw new DateError('notADate');
-  return print(MOST_DATE_BYTES, (...room) => library.chinese_date_print(...parts, script, ...room),
+  return print(MOST_DATE_BYTES,
+    (most) => library.chinese_date_print(year, month, day, script, TEXT_AT, most, LENGTH_AT),
     (code) => new DateError(code));
 }
 
 /**
- * Reads a date in capitals: `chineseToDate('贰零贰陆年零壹月壹拾伍日')` is { year: 2026, month: 1, day: 15 }.
+ * Reads a date in capitals: `chineseToDate('贰零贰陆年零壹月壹拾伍日')` is
+ * { year: 2026, month: 1, day: 15 }.
  *
- * Throws a DateError where the text is none, and a TypeError where it is no string. White space is refused like any other
- * character.
+ * Throws a DateError where the text is none, and a TypeError where it is no string. White space is
+ * refused like any other character.
  *
  * @param {string} string
  * @returns {BillDate}
  */
 export function chineseToDate(string) {
-  read(string, (at, length) => library.chinese_date_read(at, length, READING_AT), 2,
+  read(string, (length) => library.chinese_date_read(TEXT_AT, length, READING_AT), 2,
     (code, place) => new DateError(code, place));
   const [yearAndMonth, day] = words;
   return { year: lowHalf(yearAndMonth), month: lowHalf(yearAndMonth >> 32n), day: lowHalf(day) };
@@ -468,7 +619,9 @@ export class Found {
    * @param {boolean} isPlain
    */
   constructor(start, text, isPlain) {
-    /** Where it starts in the string, in UTF-16 code units, as setSelectionRange and slice take it. */
+    /**
+     * Where it starts in the string, in UTF-16 code units, as setSelectionRange and slice take it.
+     */
     this.start = start;
     /** Where it ends, likewise. */
     this.end = start + text.length;
@@ -479,38 +632,66 @@ export class Found {
   }
 
   /**
-   * The number, as toNumber reads its text: as plain digits where it is those, else by the way that is named.
+   * The number, as toNumber reads its text: as plain digits where it is those, else by the way that
+   * is named.
    *
    * Throws what toNumber throws; a place counts within the number's own text.
    *
    * @param {ReadOptions} options
-   * @returns {bigint}
+   * @returns {number}
    */
   number(options = {}) {
-    refuseOthers(options, ['kind', 'way']);
-    const { kind, way } = options;
-    if (way !== undefined) codeOf(WAYS, way, 'way');
-    return toNumber(this.text, { kind, way: this.isPlain ? 'digits' : way });
+    return exactOf(this.bigInt(options), () => new NumeralError('unsafe', kindOf(options)));
+  }
+
+  /**
+   * The number as a BigInt, as toBigInt reads its text.
+   *
+   * @param {ReadOptions} options
+   * @returns {bigint}
+   */
+  bigInt(options = {}) {
+    refuseOthers(options, OF_READING);
+    const { way = 'any' } = options;
+    codeOf(WAYS, way, 'way');
+    return toBigInt(this.text, { ...options, way: this.isPlain ? 'digits' : way });
+  }
+
+  /**
+   * The number, or null where it has none that is a Number: where its text is refused, as 百 of
+   * 百分之五十, or the number is no safe integer. Else throws what `number` throws.
+   *
+   * @param {ReadOptions} options
+   * @returns {number | null}
+   */
+  value(options = {}) {
+    try {
+      return this.number(options);
+    } catch (error) {
+      if (!(error instanceof NumeralError) || error.code === 'outOfMemory') throw error;
+      return null;
+    }
   }
 }
 
 /**
- * Finds the numbers of a text, in order, and gives them one by one: of '第二十三回' that is 二十三, from 1 to 4.
+ * Finds the numbers of a text, in order, and gives them one by one: of '第二十三回' that is 二十三, from
+ * 1 to 4.
  *
- * A number is a longest stretch of characters that can stand in one; whether it can be read, its `number()` says. Looked for
- * are digits, and units up to the `greatest`, else 'zhao', which is 兆; and the characters of cheques where `upper` is true.
- * Sentences are not understood: 一起 has a 1 in it. Throws a TypeError where the text is no string, or an option or what it
- * names is unknown. The whole text is searched by the call.
+ * A number is a longest stretch of characters that can stand in one; whether it can be read, its
+ * `value()` says. Looked for are digits, and units up to the `greatest`, else 'zhao', which is 兆;
+ * and the characters of cheques where `upper` is true. Sentences are not understood: 一起 has a 1 in
+ * it. Throws a TypeError where the text is no string, or an option or what it names is unknown. The
+ * whole text is searched by the call.
  *
  * @param {string} string
  * @param {Wanted} options
  * @returns {Generator<Found, void, undefined>}
  */
 export function findNumbers(string, options = {}) {
-  refuseOthers(options, ['upper', 'greatest']);
+  refuseOthers(options, OF_SEARCHES);
   const { upper = false, greatest = 'zhao' } = options;
-  if (typeof upper !== 'boolean') throw new TypeError('upper is true or false');
-  return foundIn(string, spansOf(string, Number(upper), codeOf(UNITS, greatest, 'unit')));
+  return foundIn(string, spansOf(string, flagOf(upper, 'upper'), codeOf(UNITS, greatest, 'unit')));
 }
 
 /**
@@ -519,11 +700,14 @@ export function findNumbers(string, options = {}) {
  * @returns {Generator<Found, void, undefined>}
  */
 function* foundIn(string, spans) {
-  for (const { start, end, isPlain } of spans) yield new Found(start, string.slice(start, end), isPlain);
+  for (const { start, end, isPlain } of spans) {
+    yield new Found(start, string.slice(start, end), isPlain);
+  }
 }
 
 /**
- * Where the numbers of a string stand. They are looked for at once, since a call in between writes over the text that is lent.
+ * Where the numbers of a string stand. They are looked for at once, since a call in between writes
+ * over the text that is lent.
  * @param {string} string
  * @param {number} upper
  * @param {number} greatest
@@ -531,7 +715,8 @@ function* foundIn(string, spans) {
 function spansOf(string, upper, greatest) {
   const length = hand(string);
   /** @param {number} at */
-  const find = (at) => library.chinese_number_find_utf8(BigInt(TEXT + at), BigInt(length - at), upper, greatest, READING_AT);
+  const find = (at) => library.chinese_number_find_utf8(
+    BigInt(TEXT + at), BigInt(length - at), upper, greatest, READING_AT);
   const spans = [];
   let at = 0, position = 0;
   while (STATUSES[statusOf(() => find(at))] === 'done') {
@@ -551,10 +736,16 @@ function spansOf(string, upper, greatest) {
  */
 function unitsBetween(start, end) {
   let units = 0;
-  for (let at = start; at < end; at++) {
-    const byte = text[at];
-    // A byte inside a character adds none, and one that begins four bytes stands for a surrogate pair.
-    if ((byte & 0xc0) !== 0x80) units += byte < 0xf0 ? 1 : 2;
-  }
+  for (let at = start; at < end; at++) units += unitsOf(text[at]);
   return units;
+}
+
+/**
+ * How many UTF-16 code units the character has that a byte begins: four bytes stand for a surrogate
+ * pair. A byte inside a character adds none.
+ * @param {number} byte
+ */
+function unitsOf(byte) {
+  if ((byte & 0xc0) === 0x80) return 0;
+  return byte < 0xf0 ? 1 : 2;
 }

@@ -1,0 +1,321 @@
+/* Chinese numerals for C++ from 17 on: numbers, amounts of money and dates on bills as std::string, and read and found
+ * in a std::string_view. It is written over chinese_number.h, which says what stands behind each choice and each
+ * status, and what is to be linked. Texts are UTF-8. Nothing is thrown but by std::string where memory runs out.
+ *
+ *     auto number = chinese_number::to_number<int>("一百二");
+ *     if (number)
+ *         use(*number); // 120
+ *     else
+ *         tell(number.error().message());
+ */
+#ifndef CHINESE_NUMBER_HPP
+#define CHINESE_NUMBER_HPP
+
+#include "chinese_number.h"
+
+#include <cstddef>
+#include <cstdint>
+#include <iterator>
+#include <optional>
+#include <string>
+#include <string_view>
+#include <type_traits>
+#include <utility>
+#include <variant>
+
+namespace chinese_number {
+
+/* In which way a number is written; by `any` it is read alone. */
+enum class Way : std::uint32_t {
+    digits = CN_DIGITS, low = CN_LOW, ten_thousand = CN_TEN_THOUSAND, middle = CN_MIDDLE, high = CN_HIGH, any = CN_ANY
+};
+
+enum class Script : std::uint32_t { traditional = CN_TRADITIONAL, simplified = CN_SIMPLIFIED };
+
+enum class Case : std::uint32_t { upper = CN_UPPER, lower = CN_LOWER };
+
+enum class Unit : std::uint32_t {
+    ge = CN_GE, shi = CN_SHI, bai = CN_BAI, qian = CN_QIAN, wan = CN_WAN, yi = CN_YI, zhao = CN_ZHAO, jing = CN_JING,
+    gai = CN_GAI, zi = CN_ZI, rang = CN_RANG, gou = CN_GOU, jian = CN_JIAN, zheng = CN_ZHENG, zai = CN_ZAI, ji = CN_JI
+};
+
+enum class Status : std::uint32_t {
+    done = CN_DONE, empty = CN_EMPTY, incorrect = CN_INCORRECT, too_large = CN_TOO_LARGE, too_small = CN_TOO_SMALL,
+    not_utf8 = CN_NOT_UTF8, no_room = CN_NO_ROOM, not_held = CN_NOT_HELD, unknown = CN_UNKNOWN,
+    unfinished = CN_UNFINISHED, none = CN_NONE, not_a_date = CN_NOT_A_DATE, too_long = CN_TOO_LONG
+};
+
+/* How a number is printed. */
+struct Style {
+    Way way = Way::ten_thousand;
+    Script script = Script::simplified;
+    Case letter_case = Case::lower;
+};
+
+/* How an amount is printed: with 人民币 in front, with 圆 for 元, and with 正 for 整. */
+struct AmountForm {
+    bool currency = false;
+    bool round_yuan = false;
+    bool upright_closing = false;
+};
+
+/* A day of the Gregorian calendar; month 1 is January. */
+struct Date {
+    std::uint32_t year;
+    std::uint32_t month;
+    std::uint32_t day;
+};
+
+/* What is looked for in a text: units up to the greatest one, and with `upper` the characters of cheques too. */
+struct Wanted {
+    bool upper = false;
+    Unit greatest = Unit::zhao;
+};
+
+/* Why there is no number, amount, date or text; at Status::incorrect with the place of the character at fault. */
+struct Error {
+    Status status;
+    const char *subject; /* what was read or printed */
+    std::size_t char_index;
+    std::size_t byte_index;
+
+    std::string message() const {
+        const std::string the_subject = std::string("the ") + subject;
+        if (status == Status::incorrect)
+            return the_subject + " is incorrect (position: " + std::to_string(char_index) + ")";
+        if (status == Status::unfinished)
+            return the_subject + " is not finished";
+        return cn_status_text(static_cast<std::uint32_t>(status));
+    }
+};
+
+/* A value, or why there is none. Who takes the value of one that has none, or the error of one that has a value, gets
+ * undefined behaviour, as with std::optional. */
+template <typename Value>
+class [[nodiscard]] Result {
+public:
+    Result(Value value) : held(std::in_place_index<0>, std::move(value)) {}
+    Result(Error error) : held(std::in_place_index<1>, error) {}
+
+    bool has_value() const noexcept { return held.index() == 0; }
+    explicit operator bool() const noexcept { return has_value(); }
+    const Value &operator*() const noexcept { return *std::get_if<0>(&held); }
+    const Value *operator->() const noexcept { return std::get_if<0>(&held); }
+    Value value_or(Value other) const { return has_value() ? **this : std::move(other); }
+    std::optional<Value> optional() const { return has_value() ? std::optional<Value>(**this) : std::nullopt; }
+    const Error &error() const noexcept { return *std::get_if<1>(&held); }
+
+private:
+    std::variant<Value, Error> held;
+};
+
+namespace detail {
+
+#ifdef __SIZEOF_INT128__
+__extension__ typedef __int128 Signed128;
+__extension__ typedef unsigned __int128 Unsigned128;
+template <typename T>
+inline constexpr bool is_128_bits = std::is_same_v<T, Signed128> || std::is_same_v<T, Unsigned128>;
+#else
+template <typename T>
+inline constexpr bool is_128_bits = false;
+#endif
+
+template <typename T, typename... Others>
+inline constexpr bool is_one_of = (std::is_same_v<T, Others> || ...);
+
+/* The integers, without characters and truth values. */
+template <typename T>
+inline constexpr bool is_whole =
+    is_128_bits<T> || (std::is_integral_v<T> && !is_one_of<T, bool, char, wchar_t, char16_t, char32_t>);
+
+template <typename T>
+inline constexpr bool is_signed = static_cast<T>(-1) < static_cast<T>(1);
+
+/* The signed types stand behind the unsigned ones, and each has twice the bits of the one before it. */
+template <typename T>
+constexpr cn_kind kind_of() {
+    static_assert(is_whole<T>, "a number is an integer of 8 to 128 bits, and no character");
+    std::uint32_t code = is_signed<T> ? CN_I8 : CN_U8;
+    for (std::size_t bytes = 1; bytes < sizeof(T); bytes *= 2)
+        code++;
+    return static_cast<cn_kind>(code);
+}
+
+template <typename T>
+cn_number halves_of(T value) {
+    if constexpr (is_128_bits<T>)
+        return {static_cast<std::uint64_t>(value), static_cast<std::uint64_t>(value >> 64)};
+    else if constexpr (is_signed<T>)
+        return cn_signed(value);
+    else
+        return cn_unsigned(value);
+}
+
+template <typename T>
+T of_halves(cn_number number) {
+#ifdef __SIZEOF_INT128__
+    return static_cast<T>(static_cast<Unsigned128>(number.high) << 64 | number.low);
+#else
+    return static_cast<T>(number.low);
+#endif
+}
+
+template <typename Value>
+Result<Value> told(cn_status status, Value value, const char *subject, std::size_t char_index = 0,
+                   std::size_t byte_index = 0) {
+    if (status == CN_DONE)
+        return value;
+    return Error{static_cast<Status>(status), subject, char_index, byte_index};
+}
+
+} // namespace detail
+
+/* The number of a text as one of a type by its code, in halves: for 128 bits where the compiler has no such type. */
+inline Result<cn_number> to_number(std::string_view text, cn_kind kind, Way way = Way::any) {
+    cn_reading reading;
+    const cn_status status = cn_read(text.data(), text.size(), kind, static_cast<cn_way>(way), &reading);
+    return detail::told(status, reading.number, "chinese number", reading.char_index, reading.byte_index);
+}
+
+/* The number of a text: to_number<int>("一百二"). */
+template <typename T>
+Result<T> to_number(std::string_view text, Way way = Way::any) {
+    const Result<cn_number> read = to_number(text, detail::kind_of<T>(), way);
+    return read ? Result<T>(detail::of_halves<T>(*read)) : read.error();
+}
+
+/* The text of a number in halves. By Way::low there is none for 10^16 and more, and by Way::any none at all. */
+inline Result<std::string> to_chinese(cn_number number, cn_kind kind, Style style = {}) {
+    char room[CN_MOST_BYTES + 1];
+    const cn_status status =
+        cn_print(number, kind, static_cast<cn_way>(style.way), static_cast<cn_script>(style.script),
+                 static_cast<cn_case>(style.letter_case), room, sizeof room);
+    return detail::told(status, std::string(room), "chinese number");
+}
+
+/* The text of a number: to_chinese(120). */
+template <typename T>
+Result<std::string> to_chinese(T number, Style style = {}) {
+    return to_chinese(detail::halves_of(number), detail::kind_of<T>(), style);
+}
+
+/* The text in capitals of an amount of fen, the hundredth part of a yuan; there is none from 10^18 on. */
+inline Result<std::string> amount_to_chinese(std::uint64_t fen, AmountForm form = {},
+                                             Script script = Script::simplified) {
+    char room[CN_MOST_AMOUNT_BYTES + 1];
+    const cn_form flags = (form.currency ? CN_CURRENCY : CN_PLAIN) | (form.round_yuan ? CN_ROUND_YUAN : CN_PLAIN)
+                        | (form.upright_closing ? CN_UPRIGHT_CLOSING : CN_PLAIN);
+    const cn_status status = cn_print_amount(fen, static_cast<cn_script>(script), flags, room, sizeof room);
+    return detail::told(status, std::string(room), "amount");
+}
+
+/* The fen of a text in capitals. */
+inline Result<std::uint64_t> chinese_to_amount(std::string_view text) {
+    cn_amount read;
+    const cn_status status = cn_read_amount(text.data(), text.size(), &read);
+    return detail::told(status, read.fen, "amount", read.char_index, read.byte_index);
+}
+
+/* The text in capitals of a date, from year 1 to 9999. */
+inline Result<std::string> date_to_chinese(Date date, Script script = Script::simplified) {
+    char room[CN_MOST_DATE_BYTES + 1];
+    const cn_status status =
+        cn_print_date(date.year, date.month, date.day, static_cast<cn_script>(script), room, sizeof room);
+    return detail::told(status, std::string(room), "date");
+}
+
+/* The date of a text in capitals. */
+inline Result<Date> chinese_to_date(std::string_view text) {
+    cn_date read;
+    const cn_status status = cn_read_date(text.data(), text.size(), &read);
+    return detail::told(status, Date{read.year, read.month, read.day}, "date", read.char_index, read.byte_index);
+}
+
+/* A number that was found in a text, and where it stands there, in bytes. */
+struct Found {
+    std::string_view text;
+    std::size_t start;
+    std::size_t end;
+    bool is_plain; /* each character is a digit */
+
+    /* The number: plain digits as such, and else by a method. */
+    template <typename T>
+    Result<T> number(Way method = Way::ten_thousand) const {
+        return to_number<T>(text, is_plain ? Way::digits : method);
+    }
+
+    /* The number, or nothing where the run is none, as 百 by itself, or the type does not hold it. */
+    template <typename T>
+    std::optional<T> value(Way method = Way::ten_thousand) const {
+        return number<T>(method).optional();
+    }
+};
+
+/* The numbers of a text, in order. They look into the text, which has to outlive them. */
+class Numbers {
+public:
+    class iterator {
+    public:
+        using iterator_category = std::input_iterator_tag;
+        using value_type = Found;
+        using difference_type = std::ptrdiff_t;
+        using pointer = const Found *;
+        using reference = Found;
+
+        /* The end of each text. */
+        iterator() = default;
+        iterator(std::string_view searched, Wanted what) : text(searched), wanted(what) { search(); }
+
+        Found operator*() const {
+            return {text.substr(span.start, span.end - span.start), span.start, span.end, span.digits != 0};
+        }
+        iterator &operator++() {
+            search();
+            return *this;
+        }
+        iterator operator++(int) {
+            const iterator before = *this;
+            search();
+            return before;
+        }
+        bool operator==(const iterator &other) const { return span.end == other.span.end; }
+        bool operator!=(const iterator &other) const { return !(*this == other); }
+        Status status() const { return last; }
+
+    private:
+        /* The span is zeros where there is no further number, and no number ends at 0. */
+        void search() {
+            const cn_unit greatest = static_cast<cn_unit>(wanted.greatest);
+            last = static_cast<Status>(cn_find_next(text.data(), text.size(), wanted.upper, greatest, &span));
+        }
+
+        std::string_view text;
+        Wanted wanted;
+        cn_span span = {0, 0, 0};
+        Status last = Status::none;
+    };
+
+    Numbers(std::string_view searched, Wanted what) : first(searched, what) {}
+
+    iterator begin() const { return first; }
+    iterator end() const { return {}; }
+    /* Status::done where there is a number, and else Status::none, Status::not_utf8 or Status::too_long. */
+    Status status() const { return first.status(); }
+
+private:
+    iterator first;
+};
+
+/* The numbers of a text: for (auto found : find_numbers(text)). Of bytes that are no UTF-8 there are none. */
+inline Numbers find_numbers(std::string_view text, Wanted wanted = {}) {
+    return {text, wanted};
+}
+
+/* Not of a string that ends before its numbers are looked at. */
+template <typename String, std::enable_if_t<std::is_same_v<String, std::string>, int> = 0>
+Numbers find_numbers(String &&text, Wanted wanted = {}) = delete;
+
+} // namespace chinese_number
+
+#endif
