@@ -8,11 +8,11 @@ the way behind them, and `status.rt` names the statuses. The header, the Rust cr
 file name each of them once, with the same number or in this order, and no other, as the JavaScript
 file lists them; but what a form is made of is named by the header alone. The header declares each
 call that the crate exports, and no language has any other. Alike, too, are the most bytes of a
-text of each kind, which a clause of each file in BOUNDS bounds; the status of the C source alone for
-a text that is too long, and how long that is; the version of all, which is that of the first heading
-of CHANGELOG and of the packages that the pages of `bindings/` install; and the authors, who are those
-of LICENSE. The texts of refusals are those of `Refusal.antt`, and of amounts, figures and dates those
-of each `ErrorText.antt`, wherever they are written again.
+text of each kind, which a clause of each file in BOUNDS bounds; the status of the C source alone
+for a text that is too long, and how long that is; the version of all, which is that of the first
+heading of CHANGELOG and of the packages that the pages of `bindings/` install; and the authors, who
+are those of LICENSE. The texts of refusals are those of `Refusal.antt`, and of amounts, figures and
+dates those of each `ErrorText.antt`, wherever they are written again.
 """
 import re
 import sys

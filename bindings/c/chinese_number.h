@@ -251,8 +251,9 @@ uint32_t chinese_amount_print(uint64_t fen, uint32_t script, uint32_t form, uint
  * the first 40. */
 uint32_t chinese_amount_read(const uint8_t *text, size_t text_length, cn_amount *reading);
 
-/* Reads a text as chinese_amount_read does, but as it is typed: white space, then one ⊗ in front, and then one colon, : or
- * ：, directly behind 人民币 in front are left out. The character at fault is told by its place in the text as it is typed. */
+/* Reads a text as it is typed: as chinese_amount_read does, but white space, then one ⊗ in front, and then one colon, : or
+ * ：, directly behind 人民币 in front are left out. The character at fault is told by its place in the text as it is typed,
+ * and so may stand anywhere. */
 uint32_t chinese_typed_amount_read(const uint8_t *text, size_t text_length, cn_amount *reading);
 
 /* What was read as an amount that may be below zero, as one of a red invoice: as in cn_amount. */
@@ -269,7 +270,8 @@ typedef struct cn_signed_amount {
 uint32_t chinese_signed_amount_print(int64_t fen, uint32_t script, uint32_t form, uint8_t *room, size_t room_length,
                                      size_t *length);
 
-/* Reads a text as chinese_amount_read does, with one 负 or 負 in front or not; 负零元整 is 0. */
+/* Reads a text as chinese_amount_read does, with one 负 or 負 in front or not; 负零元整 is 0. The character at fault is among
+ * the first 41. */
 uint32_t chinese_signed_amount_read(const uint8_t *text, size_t text_length, cn_signed_amount *reading);
 
 /* Reads figures in yuan, in UTF-8, as an amount; nothing is rounded. These are figures, from the front:
