@@ -162,8 +162,8 @@ export class NumeralError extends Refusal {
  * - 'incorrect': no amount begins with the text up to and with a character;
  * - 'unsafe': the fen are no safe integer, so a Number does not hold them exactly;
  * - 'tooLarge': the amount is 10n ** 18n fen or more, and so is that of figures behind a minus;
- * - 'tooSmall': the amount to be written is -(10n ** 18n) fen or less, or below zero where none such
- *   is written.
+ * - 'tooSmall': the amount to be written is -(10n ** 18n) fen or less, or is below zero and written
+ *   by `amountToChinese`.
  */
 export class AmountError extends Refusal {
   /**
