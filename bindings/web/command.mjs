@@ -12,7 +12,7 @@ import {
   chineseToAmountBigInt, chineseToDate, chineseToSignedAmountBigInt, dateToChinese, findNumbers,
   signedAmountToChinese, toBigInt, toChinese, yuanToFenBigInt,
 } from './chinese-number.mjs';
-import { CellReader } from './table.mjs';
+import { Table, linesOfTable } from './table.mjs';
 
 // The words that ask for nothing.
 class Misuse extends Error {}
@@ -170,7 +170,9 @@ function answerAmounts({ signed, typed, column, header, delimiter, ...form }, wo
   const answerOf = (word) => (how.areFigures(word)
     ? signedAmountToChinese(how.readFigures(word), form) : figuresOf(how.readCapitals(word)));
   if (signed && typed) throw new Misuse();
-  if (column && words.length === 0) return answerTable(column, header, delimiter, answerOf);
+  if (column && words.length === 0) {
+    return answerTable(column, header ?? false, delimiter ?? ',', answerOf);
+  }
   if (column || header || delimiter) throw new Misuse();
   return answerEach(words, answerOf);
 }
@@ -213,10 +215,10 @@ async function* linesOf(stream) {
   if (rest.length) yield [rest];
 }
 
-function linesOfInput() {
+function input() {
   // Of a folder node reads nothing, and says nothing.
   if (fstatSync(0).isDirectory()) throw new Error('standard input is a folder');
-  return linesOf(process.stdin);
+  return process.stdin;
 }
 
 async function write(answers) {
@@ -243,81 +245,22 @@ class Progress {
   }
 }
 
-// The answers to a column of a table. Lines are strings of bytes (latin1), so that each byte of the
-// table is written as it was read.
-class Table {
-  rows = 0;
-  refused = 0;
-  told = '';
-  #line = 0;
-  #first = 1; // the line where the row begins
-
-  constructor(column, isHeaded, delimiter, answerOf) {
-    this.delimiter = Buffer.from(delimiter).toString('latin1');
-    this.reader = new CellReader(column, this.delimiter);
-    this.isHeaded = isHeaded;
-    this.answerOf = answerOf;
-    this.noCell = `there is no column ${column}`;
-  }
-
-  // What is written of a line.
-  answered(bytes) {
-    this.#line++;
-    const line = bytes.toString('latin1'), end = line.endsWith('\r') ? '\r\n' : '\n';
-    let body = end === '\n' ? line : line.slice(0, -1);
-    const cell = this.reader.read(this.#line === 1 ? body.replace(/^ï»¿/, '') : body, end);
-    if (cell !== undefined) {
-      body += this.delimiter + this.#nextCell(cell);
-      this.#first = this.#line + 1;
-    }
-    return body + end;
-  }
-
-  // The cell behind a row.
-  #nextCell(cell) {
-    if (this.isHeaded && this.#first === 1) return '';
-    this.rows++;
-    if (cell === null) return this.refuse(this.noCell);
-    try {
-      const answer = this.answerOf(Buffer.from(cell, 'latin1').toString());
-      const it = Buffer.from(answer).toString('latin1');
-      return it.includes(this.delimiter) ? `"${it}"` : it;
-    } catch (error) {
-      if (!isRefusal(error)) throw error;
-      return this.refuse(error.message, error.charIndex);
-    }
-  }
-
-  refuse(reason, charIndex) {
-    this.refused++;
-    this.told += `${this.#first}${charIndex === undefined ? '' : `:${charIndex + 1}`}: ${reason}\n`;
-    return '';
-  }
-
-  end() {
-    if (!this.reader.isQuoted) return;
-    this.rows++;
-    this.refuse('a quote is not closed');
-  }
-}
-
-async function answerTable(column, isHeaded = false, delimiter = ',', answerOf) {
-  const table = new Table(column, isHeaded, delimiter, answerOf), progress = new Progress();
-  const tell = () => {
-    if (table.told) progress.wipe();
-    process.stderr.write(table.told);
-    table.told = '';
+// Answers a column of the table in standard input, and gives the status.
+async function answerTable(column, isHeaded, delimiter, answerOf) {
+  const table = new Table({ column, isHeaded, delimiter }, answerOf), progress = new Progress();
+  const tell = (told) => {
+    if (told) progress.wipe();
+    process.stderr.write(told);
   };
-  for await (const lines of linesOfInput()) {
-    await write(Buffer.from(lines.map((it) => table.answered(it)).join(''), 'latin1'));
-    tell();
+  for await (const lines of linesOfTable(input())) {
+    await write(table.answered(lines));
+    tell(table.told());
     progress.show(table.rows);
   }
-  table.end();
+  await write(table.end());
   progress.wipe();
-  tell();
   const { rows, refused } = table;
-  process.stderr.write(`${rows} rows, ${rows - refused} written, ${refused} refused\n`);
+  tell(`${table.told()}${rows} rows, ${rows - refused} written, ${refused} refused\n`);
   return refused ? 1 : 0;
 }
 
@@ -347,7 +290,7 @@ async function findInInput({ all, ...options }, words) {
   if (words.length) throw new Misuse();
   const wanted = all ? { upper: true, greatest: 'ji' } : {};
   let count = 0;
-  for await (const lines of linesOfInput()) {
+  for await (const lines of linesOf(input())) {
     await write(lines.map((it) => answersTo(it, ++count, wanted, options)).join(''));
   }
   return 0;
