@@ -31,13 +31,14 @@ const DELIMITER = { has: (it) => /^[^"\r\n]$/u.test(it), get: String };
 const COMMANDS = {
   amount: {
     usage: 'amount [--traditional] [--currency] [--yuan 圆] [--closing 正]\n'
-      + '           [--signed | --typed] WORD.. | --column N [--header] [--delimiter ,]',
-    about: 'Writes amounts of yuan in capitals, 1,409.50 as 壹仟肆佰零玖元伍角整, and reads capitals.\n'
-      + 'With --signed -15 is 负壹拾伍元整; with --typed capitals may have white space in them, ⊗ in\n'
-      + 'front and a colon behind 人民币. With --column the words are the cells of a column, counted\n'
-      + 'from 1, of the table in CSV in standard input: its rows are written with the answer as one\n'
-      + 'more cell, and LINE:CHARACTER: and why of each cell that is refused to standard error.\n'
-      + 'With --header the first row is no amount.',
+      + '                             [--signed | --typed] WORD..\n'
+      + '       chinese-number amount .. --column N [--header] [--delimiter ,]',
+    about: 'Writes amounts of yuan in capitals, 1409.50 as 壹仟肆佰零玖元伍角整, and reads capitals;\n'
+      + 'with --signed also below zero, as 负壹拾伍元整, with --typed capitals as they are typed,\n'
+      + '⊗人民币：壹 元整. With --column the cells in column N, from 1 on, of a table of CSV in standard\n'
+      + 'input are answered, and the table is written with a column more; LINE:CHARACTER of each\n'
+      + 'refused cell, with why it is refused, and how many rows there are go to standard error.\n'
+      + 'With --header the first row is passed over.',
     options: {
       traditional: FLAG, currency: FLAG,
       yuan: wordsFor(['元', '圆']), closing: wordsFor(['整', '正']),

@@ -157,8 +157,9 @@ export class Table {
   }
 
   #refuse(reason, charIndex) {
+    const place = charIndex === undefined ? '' : `:${charIndex + 1}`;
     this.refused++;
-    this.#told += `${this.#first}${charIndex === undefined ? '' : `:${charIndex + 1}`}: ${reason}\n`;
+    this.#told += `${this.#first}${place}: ${reason}\n`;
     return undefined;
   }
 }
