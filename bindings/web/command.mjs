@@ -24,7 +24,7 @@ const snake = (name) => name.replace(/[A-Z]/g, (it) => `_${it.toLowerCase()}`);
 const wordsFor = (names) => new Map(names.map((it) => [snake(it), it]));
 const KIND = wordsFor(KINDS), WAY = wordsFor(WAYS);
 const PRINT_WAY = wordsFor(WAYS.filter((it) => it !== 'any'));
-const COLUMN = { has: (it) => /^[1-9][0-9]*$/.test(it), get: Number };
+const COLUMN = { has: (it) => /^[1-9][0-9]{0,8}$/.test(it), get: Number };
 const DELIMITER = { has: (it) => /^[^"\r\n]$/u.test(it), get: String };
 
 // Each command: its line of the usage, what it does, the options that it has, and what runs.
