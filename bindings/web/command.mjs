@@ -142,24 +142,26 @@ function wholeOf(word) {
 const areFigures = (word) => /^[\0-\x7f¥￥０-９]/.test(word);
 const padded = (number, digits) => String(number).padStart(digits, '0');
 
-const atTheFirst = () => new AmountError('incorrect', { charIndex: 0, start: 0, end: 1 });
-
 function figuresOf(fen) {
   const magnitude = fen < 0n ? -fen : fen;
   return `${fen < 0n ? '-' : ''}${magnitude / 100n}.${padded(magnitude % 100n, 2)}`;
 }
 
+// A cheque has no amount below zero.
+function unsignedFigures(word) {
+  if (word.startsWith('-')) {
+    throw new AmountError('incorrect', { charIndex: 0, start: 0, end: 1 });
+  }
+  return yuanToFenBigInt(word);
+}
+
 // How words are taken: whether they are figures, and what reads those and capitals.
 const PLAIN = {
-  areFigures, readCapitals: chineseToAmountBigInt,
-  readFigures: (word) => {
-    if (word.startsWith('-')) throw atTheFirst();
-    return yuanToFenBigInt(word);
-  },
+  areFigures, readFigures: unsignedFigures, readCapitals: chineseToAmountBigInt,
 };
 const SIGNED = {
   areFigures: (word) => areFigures(word) || word.startsWith('−'),
-  readCapitals: chineseToSignedAmountBigInt, readFigures: yuanToFenBigInt,
+  readFigures: yuanToFenBigInt, readCapitals: chineseToSignedAmountBigInt,
 };
 const TYPED = {
   ...PLAIN, areFigures: (word) => areFigures(word.trimStart()),
@@ -228,7 +230,7 @@ async function write(answers) {
   }
 }
 
-// How far a table is, told from its second second on, where only refusals go to a terminal.
+// How many rows are done, where that takes more than a second and only refusals go to a terminal.
 class Progress {
   #next = process.stderr.isTTY && !process.stdout.isTTY ? Date.now() + 1000 : Infinity;
   #shown = '';
