@@ -29,6 +29,7 @@ PACKED = {
     "files/chinese-number.mjs",
     "files/compiled.mjs",
     "package.json",
+    "table.mjs",
 }
 # Each program begins by taking all that the package offers.
 PROGRAMS = ("import.mjs", "files.mjs", "require.cjs")

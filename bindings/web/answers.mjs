@@ -2,8 +2,9 @@
 import { readFileSync } from 'node:fs';
 
 import {
-  amountToChinese, chineseToAmountBigInt, chineseToDate, dateToChinese, findNumbers, toBigInt,
-  toChinese,
+  amountToChinese, chineseToAmountAsTypedBigInt, chineseToAmountBigInt, chineseToDate,
+  chineseToSignedAmountBigInt, dateToChinese, findNumbers, signedAmountToChinese, toBigInt,
+  toChinese, yuanToFenBigInt,
 } from './chinese-number.mjs';
 
 // The words of a question that this face has others for.
@@ -56,6 +57,11 @@ const calls = {
   read_amount: chineseToAmountBigInt,
   print_amount: (script, fen) => printAmountAs(script, 'plain', fen),
   print_amount_as: printAmountAs,
+  print_signed_amount: (script, fen) =>
+    signedAmountToChinese(BigInt(fen), { script: named(script) }),
+  read_signed_amount: chineseToSignedAmountBigInt,
+  read_typed_amount: chineseToAmountAsTypedBigInt,
+  yuan_to_fen: yuanToFenBigInt,
   read_date: readDate,
   print_date: printDate,
   find,

@@ -8,31 +8,43 @@ import { isUtf8 } from 'node:buffer';
 import { fstatSync } from 'node:fs';
 
 import {
-  AmountError, DateError, KINDS, NumeralError, VERSION, WAYS, amountToChinese,
-  chineseToAmountBigInt, chineseToDate, dateToChinese, findNumbers, toBigInt, toChinese,
-  yuanToFenBigInt,
+  AmountError, DateError, KINDS, NumeralError, VERSION, WAYS, chineseToAmountAsTypedBigInt,
+  chineseToAmountBigInt, chineseToDate, chineseToSignedAmountBigInt, dateToChinese, findNumbers,
+  signedAmountToChinese, toBigInt, toChinese, yuanToFenBigInt,
 } from './chinese-number.mjs';
+import { Table, linesOfTable } from './table.mjs';
 
 // The words that ask for nothing.
 class Misuse extends Error {}
 
-// What an option may be set to: each word with what it stands for. A flag takes no word.
+// What an option may be set to: each word with what it stands for, or words of a pattern. A flag
+// takes no word.
 const FLAG = null;
 const snake = (name) => name.replace(/[A-Z]/g, (it) => `_${it.toLowerCase()}`);
 const wordsFor = (names) => new Map(names.map((it) => [snake(it), it]));
 const KIND = wordsFor(KINDS), WAY = wordsFor(WAYS);
 const PRINT_WAY = wordsFor(WAYS.filter((it) => it !== 'any'));
+const COLUMN = { has: (it) => /^[1-9][0-9]{0,8}$/.test(it), get: Number };
+const DELIMITER = { has: (it) => /^[^"\r\n]$/u.test(it), get: String };
 
 // Each command: its line of the usage, what it does, the options that it has, and what runs.
 const COMMANDS = {
   amount: {
-    usage: 'amount [--traditional] [--currency] [--yuan 圆] [--closing 正] WORD..',
-    about: 'Writes amounts of yuan in capitals, 1409.50 as 壹仟肆佰零玖元伍角整, and reads capitals.',
+    usage: 'amount [--traditional] [--currency] [--yuan 圆] [--closing 正]\n'
+      + '                             [--signed | --typed] WORD..\n'
+      + '       chinese-number amount .. --column N [--header] [--delimiter ,]',
+    about: 'Writes amounts of yuan in capitals, 1409.50 as 壹仟肆佰零玖元伍角整, and reads capitals;\n'
+      + 'with --signed also below zero, as 负壹拾伍元整, with --typed capitals as they are typed,\n'
+      + '⊗人民币：壹 元整. With --column the cells in column N, from 1 on, of a table of CSV in standard\n'
+      + 'input are answered, and the table is written with a column more; LINE:CHARACTER of each\n'
+      + 'refused cell, with why it is refused, and how many rows there are go to standard error.\n'
+      + 'With --header the first row is passed over.',
     options: {
       traditional: FLAG, currency: FLAG,
       yuan: wordsFor(['元', '圆']), closing: wordsFor(['整', '正']),
+      signed: FLAG, typed: FLAG, column: COLUMN, header: FLAG, delimiter: DELIMITER,
     },
-    run: (options, words) => answerEach(words, (word) => answerAmount(word, options)),
+    run: answerAmounts,
   },
   date: {
     usage: 'date [--traditional] WORD..',
@@ -126,37 +138,65 @@ function wholeOf(word) {
   return BigInt(word);
 }
 
-// What begins with an ASCII character is figures, and refused as such.
-const areFigures = (word) => /^[\0-\x7f]/.test(word);
+// Whether a word is figures, and refused as such.
+const areFigures = (word) => /^[\0-\x7f¥￥０-９]/.test(word);
 const padded = (number, digits) => String(number).padStart(digits, '0');
 
-// Refuses figures where a pattern takes a part of them alone, which is the front that can begin
-// some, or where they do not match what is whole.
-function refuseOtherFigures(word, front, whole, Refusal) {
-  const [{ length }] = front.exec(word);
-  if (length < word.length) {
-    throw new Refusal('incorrect', { charIndex: length, start: length, end: length + 1 });
-  }
-  if (!whole.test(word)) throw new Refusal('unfinished');
+function figuresOf(fen) {
+  const magnitude = fen < 0n ? -fen : fen;
+  return `${fen < 0n ? '-' : ''}${magnitude / 100n}.${padded(magnitude % 100n, 2)}`;
 }
 
-function answerAmount(word, options) {
-  if (!areFigures(word)) {
-    const fen = chineseToAmountBigInt(word);
-    return `${fen / 100n}.${padded(fen % 100n, 2)}`;
+// A cheque has no amount below zero.
+function unsignedFigures(word) {
+  if (word.startsWith('-')) {
+    throw new AmountError('incorrect', { charIndex: 0, start: 0, end: 1 });
   }
-  refuseOtherFigures(word, /^(?:[0-9]+(?:\.[0-9]{0,2})?)?/, /[0-9]$/, AmountError);
-  return amountToChinese(yuanToFenBigInt(word), options);
+  return yuanToFenBigInt(word);
+}
+
+// How words are taken: whether they are figures, and what reads those and capitals.
+const PLAIN = {
+  areFigures, readFigures: unsignedFigures, readCapitals: chineseToAmountBigInt,
+};
+const SIGNED = {
+  areFigures: (word) => areFigures(word) || word.startsWith('−'),
+  readFigures: yuanToFenBigInt, readCapitals: chineseToSignedAmountBigInt,
+};
+const TYPED = {
+  ...PLAIN, areFigures: (word) => areFigures(word.trimStart()),
+  readCapitals: chineseToAmountAsTypedBigInt,
+};
+
+function answerAmounts({ signed, typed, column, header, delimiter, ...form }, words) {
+  const how = signed ? SIGNED : typed ? TYPED : PLAIN;
+  const answerOf = (word) => (how.areFigures(word)
+    ? signedAmountToChinese(how.readFigures(word), form) : figuresOf(how.readCapitals(word)));
+  if (signed && typed) throw new Misuse();
+  if (column && words.length === 0) {
+    return answerTable(column, header ?? false, delimiter ?? ',', answerOf);
+  }
+  if (column || header || delimiter) throw new Misuse();
+  return answerEach(words, answerOf);
 }
 
 const FRONT_OF_DATE = /^(?:[0-9]{4}-[0-9]{2}-[0-9]{0,2}|[0-9]{4}-[0-9]{0,2}|[0-9]{0,4})/;
+
+// Refuses figures where only their front can begin a date, or where all of them only begin one.
+function refuseOtherFigures(word) {
+  const [{ length }] = FRONT_OF_DATE.exec(word);
+  if (length < word.length) {
+    throw new DateError('incorrect', { charIndex: length, start: length, end: length + 1 });
+  }
+  if (length < 10) throw new DateError('unfinished');
+}
 
 function answerDate(word, options) {
   if (!areFigures(word)) {
     const { year, month, day } = chineseToDate(word);
     return `${padded(year, 4)}-${padded(month, 2)}-${padded(day, 2)}`;
   }
-  refuseOtherFigures(word, FRONT_OF_DATE, /^.{10}$/, DateError);
+  refuseOtherFigures(word);
   const [year, month, day] = word.split('-').map(Number);
   return dateToChinese({ year, month, day }, options);
 }
@@ -176,6 +216,55 @@ async function* linesOf(stream) {
   }
   const rest = Buffer.concat(begun);
   if (rest.length) yield [rest];
+}
+
+function input() {
+  // Of a folder node reads nothing, and says nothing.
+  if (fstatSync(0).isDirectory()) throw new Error('standard input is a folder');
+  return process.stdin;
+}
+
+async function write(answers) {
+  if (answers.length && !process.stdout.write(answers)) {
+    await new Promise((done) => process.stdout.once('drain', done));
+  }
+}
+
+// How many rows are done, where that takes more than a second and only refusals go to a terminal.
+class Progress {
+  #next = process.stderr.isTTY && !process.stdout.isTTY ? Date.now() + 1000 : Infinity;
+  #shown = '';
+
+  show(rows) {
+    if (Date.now() < this.#next) return;
+    this.#next = Date.now() + 200;
+    this.#shown = `\r${rows} rows`;
+    process.stderr.write(this.#shown);
+  }
+
+  wipe() {
+    if (this.#shown) process.stderr.write(`\r${' '.repeat(this.#shown.length)}\r`);
+    this.#shown = '';
+  }
+}
+
+// Answers a column of the table in standard input, and gives the status.
+async function answerTable(column, isHeaded, delimiter, answerOf) {
+  const table = new Table({ column, isHeaded, delimiter }, answerOf), progress = new Progress();
+  const tell = (told) => {
+    if (told) progress.wipe();
+    process.stderr.write(told);
+  };
+  for await (const lines of linesOfTable(input())) {
+    await write(table.answered(lines));
+    tell(table.told());
+    progress.show(table.rows);
+  }
+  await write(table.end());
+  progress.wipe();
+  const { rows, refused } = table;
+  tell(`${table.told()}${rows} rows, ${rows - refused} written, ${refused} refused\n`);
+  return refused ? 1 : 0;
 }
 
 function answerFound(found, options) {
@@ -202,15 +291,10 @@ function answersTo(bytes, line, wanted, options) {
 
 async function findInInput({ all, ...options }, words) {
   if (words.length) throw new Misuse();
-  // Of a folder node reads nothing, and says nothing.
-  if (fstatSync(0).isDirectory()) throw new Error('standard input is a folder');
   const wanted = all ? { upper: true, greatest: 'ji' } : {};
   let count = 0;
-  for await (const lines of linesOf(process.stdin)) {
-    const answers = lines.map((it) => answersTo(it, ++count, wanted, options)).join('');
-    if (answers && !process.stdout.write(answers)) {
-      await new Promise((done) => process.stdout.once('drain', done));
-    }
+  for await (const lines of linesOf(input())) {
+    await write(lines.map((it) => answersTo(it, ++count, wanted, options)).join(''));
   }
   return 0;
 }

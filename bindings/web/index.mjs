@@ -115,17 +115,17 @@ function readAtEachKey(form, read, words) {
 
 // Has what stands in a form's field written at each key: the texts that `textsOf` gives are listed,
 // each with its script and the name of its row, or why it throws is said. Figures that match
-// `begun` are unfinished. Gives the function that writes.
-function writeAtEachKey(form, begun, textsOf, words) {
+// `begun`, or that are refused as unfinished, are no fault. Gives the function that writes.
+function writeAtEachKey(form, textsOf, words, begun) {
   const [field, list, output] = partsOf(form, 'input', 'dl', 'output');
 
   function write() {
     const typed = field.value.trim();
     let texts = [], reason = '';
     try {
-      if (!begun.test(typed)) texts = textsOf(typed);
+      if (!begun?.test(typed)) texts = textsOf(typed);
     } catch (error) {
-      reason = reasonOf(error, words());
+      if (error.code !== 'unfinished') reason = reasonOf(error, words());
     }
     list.replaceChildren(...texts.flatMap(row));
     say(field, output, reason, reason !== '');
@@ -183,28 +183,29 @@ const readNumeral = readAtEachKey(readingNumerals, numberOf, () => ({
   tooLarge: `The number is too large for ${kind.value}.`,
   tooSmall: `The number is too small for ${kind.value}.`,
 }));
-const writeNumber = writeAtEachKey(writingNumerals, /^-?$/, textsOfNumber, () => ({
+const writeNumber = writeAtEachKey(writingNumerals, textsOfNumber, () => ({
   figures: 'Write digits alone, with - in front of a number below zero.',
   notHeld: `${kind.value} does not hold this number.`,
   tooLarge: 'By this method the number has no text.',
   tooSmall: 'By this method the number has no text.',
-}));
+}), /^-?$/);
 const readAmount = readAtEachKey(readingAmounts, amountOf, (typed) => ({
   unfinished: typed === '' ? 'No amount yet.' : 'The amount is not finished yet.',
 }));
-const writeAmount = writeAtEachKey(writingAmounts, /^([0-9]+\.)?$/, textsOfAmount, () => ({
-  figures: 'Write digits, and for jiao and fen a point with one or two more.',
+const writeAmount = writeAtEachKey(writingAmounts, textsOfAmount, () => ({
+  incorrect: 'Write digits, and for jiao and fen a point with one or two more.',
   tooLarge: 'Of yuan there can be 16 digits.',
+  tooSmall: 'No cheque has an amount below zero.',
 }));
 const readDate = readAtEachKey(readingDates, dateOf, (typed) => ({
   unfinished: typed === '' ? 'No date yet.' : 'The date is not finished yet.',
 }));
 const BEGUN_DATE = /^[0-9]{0,4}$|^[0-9]{4}-([0-9]{0,2}|[0-9]{2}-[0-9]?)$/;
-const writeDate = writeAtEachKey(writingDates, BEGUN_DATE, textsOfDate, () => ({
+const writeDate = writeAtEachKey(writingDates, textsOfDate, () => ({
   figures:
     'Write four digits of the year, and two each of the month and the day, as in 2026-01-15.',
   notADate: 'There is no such date.',
-}));
+}), BEGUN_DATE);
 
 // What a number of the text is, or why it is refused, in few words; and whether it is refused.
 function valueOf(it) {

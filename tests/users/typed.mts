@@ -1,5 +1,8 @@
 import { NumeralError, toBigInt, toChinese, toNumber } from 'chinese-number-proved';
 import { amountToChinese, chineseToAmount, chineseToAmountBigInt } from 'chinese-number-proved';
+import { chineseToAmountAsTyped, chineseToAmountAsTypedBigInt } from 'chinese-number-proved';
+import { chineseToSignedAmount, chineseToSignedAmountBigInt } from 'chinese-number-proved';
+import { signedAmountToChinese, yuanToFen, yuanToFenBigInt } from 'chinese-number-proved';
 import { chineseToDate, dateToChinese, findNumbers } from 'chinese-number-proved';
 import type { BillDate, Kind, NumeralCode, PrintWay, Unit, Way } from 'chinese-number-proved';
 import { toNumber as other } from 'chinese-number-proved/files';
@@ -8,10 +11,15 @@ const value: number = toNumber('一', { kind: 'u64', way }), big: bigint = toBig
 const text: string = toChinese(value, { way: printWay, script: 'simplified', case: 'upper' });
 const amount: string = amountToChinese(big, { currency: true, yuan: '圆', closing: '正' });
 const fen: number = chineseToAmount(amount), bigFen: bigint = chineseToAmountBigInt(amount);
+const red: string = signedAmountToChinese(-fen, { closing: '正' });
+const fens: number[] = [chineseToSignedAmount(red), chineseToAmountAsTyped(amount), yuanToFen(15)];
+const bigFens: bigint[] = [chineseToSignedAmountBigInt(red), chineseToAmountAsTypedBigInt(amount),
+  yuanToFenBigInt('-1,409.50'), yuanToFenBigInt(15n)];
 const found = Array.from(findNumbers(amount, { upper: true, greatest }), (it) => it.value({ way }));
 const numbers: (number | null)[] = found;
 const date: BillDate = chineseToDate(dateToChinese({ year: 2026, month: 1, day: 15 }));
 console.log(toChinese(big), amountToChinese(1500), fen, bigFen, numbers, date.year);
+console.log(fens, bigFens);
 try {
   other(text);
 } catch (error) {
@@ -35,6 +43,8 @@ toNumber('一', { kind: 'u7' });
 amountToChinese(1n, { case: 'upper' });
 // @ts-expect-error: fen are a number
 amountToChinese('15');
+// @ts-expect-error: yuan are figures or a number
+yuanToFen(['15']);
 // @ts-expect-error: a Date is an instant
 dateToChinese(new Date());
 // @ts-expect-error: what is not for users has no name here

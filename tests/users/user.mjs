@@ -13,6 +13,9 @@ for (const { CASES, toBigInt, toChinese, toNumber, NumeralError, ...other } of [
   equal(amountToChinese(yuanToFen('12805.00')), '壹万贰仟捌佰零伍元整');
   equal(amountToChinese(1500, { currency: true, yuan: '圆', closing: '正' }), '人民币壹拾伍圆正');
   equal(chineseToAmount('壹佰元整'), 10000);
+  equal(other.signedAmountToChinese(yuanToFen('-1,409.50')), '负壹仟肆佰零玖元伍角整');
+  equal(other.chineseToSignedAmount('負壹佰圓整'), -10000);
+  equal(other.chineseToAmountAsTyped('⊗人民币：壹佰 元整'), 10000);
   throws(() => chineseToAmount('壹佰元'), (error) => error instanceof AmountError
     && error.code === 'unfinished' && error.start === undefined);
   const date = { year: 2026, month: 1, day: 15 };

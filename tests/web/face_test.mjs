@@ -10,6 +10,8 @@ import * as face from './files/chinese-number.mjs';
 const { CASES, KINDS, SCRIPTS, UNITS, WAYS, AmountError, DateError, Found, NumeralError } = face;
 const { findNumbers, toBigInt, toChinese, toNumber, chineseToDate, dateToChinese } = face;
 const { amountToChinese, chineseToAmount, chineseToAmountBigInt } = face;
+const { signedAmountToChinese, chineseToSignedAmount, chineseToSignedAmountBigInt } = face;
+const { chineseToAmountAsTyped, chineseToAmountAsTypedBigInt } = face;
 const { yuanToFen, yuanToFenBigInt } = face;
 
 const [program] = process.argv.slice(2);
@@ -266,14 +268,22 @@ function someAmount() {
 }
 
 // What a text of an amount is answered: fen, 'unfinished', or the place of the character at fault.
-function amountOf(text) {
+function amountOf(text, read = chineseToAmountBigInt) {
   try {
-    return chineseToAmountBigInt(text);
+    return read(text);
   } catch (error) {
     assert(error instanceof AmountError, String(error.stack));
     assert(['unfinished', 'incorrect'].includes(error.code), String(error.stack));
-    return error.code === 'incorrect' ? error.charIndex : error.code;
+    if (error.code === 'unfinished') return error.code;
+    lookAtTheFault(error, Array.from(text), text);
+    return error.charIndex;
   }
+}
+
+// The same amount as a Number, where it is safe.
+function readsAsANumber(text, fen, read) {
+  if (isSafe(fen)) assert.equal(read(text), Number(fen));
+  else assert.throws(() => read(text), { name: 'AmountError', code: 'unsafe' });
 }
 
 // No beginning is refused; and what is refused at a character was not refused in front of it.
@@ -294,8 +304,7 @@ function compareAnAmount() {
   for (const script of SCRIPTS) {
     const text = amountToChinese(fen, { script, ...form });
     assert.equal(chineseToAmountBigInt(text), fen);
-    if (isSafe(fen)) assert.equal(chineseToAmount(text), Number(fen));
-    else assert.throws(() => chineseToAmount(text), { name: 'AmountError', code: 'unsafe' });
+    readsAsANumber(text, fen, chineseToAmount);
   }
   refuseTheFirst(capitals);
 }
@@ -320,32 +329,113 @@ function tryAmounts() {
   for (const it of [-1, -1n, -(2n ** 64n)]) {
     assert.throws(() => amountToChinese(it), { code: 'tooSmall', message: 'number is too small' });
   }
-  refusesEach([0.5, 2 ** 53, '1', true, null, undefined], (it) => amountToChinese(it));
-  refusesEach([1n, null, undefined, ['壹元整']], (it) => chineseToAmount(it));
-  refusesEach([...NO_OPTIONS, { case: 'upper' }, { script: 'Simplified' }, { currency: 1 },
-    { yuan: '圆元' }, { closing: '' }], (it) => amountToChinese(1n, it));
+  for (const write of [amountToChinese, signedAmountToChinese]) {
+    refusesEach([0.5, 2 ** 53, '1', true, null, undefined], (it) => write(it));
+    refusesEach([...NO_OPTIONS, { case: 'upper' }, { script: 'Simplified' }, { currency: 1 },
+      { yuan: '圆元' }, { closing: '' }], (it) => write(1n, it));
+  }
+  for (const read of [chineseToAmount, chineseToSignedAmount, chineseToAmountAsTyped]) {
+    refusesEach([1n, null, undefined, ['壹元整']], (it) => read(it));
+  }
   console.log(`amounts: ${AMOUNTS} are written by their places and read back, and each refusal is `
     + 'of the first character at fault');
 }
 
+// Below zero stands a sign of the script in front. Either sign is read, and moves what is refused
+// by one character.
+function compareASignedAmount() {
+  const fen = someAmount(), form = { script: one(SCRIPTS), ...someForm() };
+  const capitals = amountToChinese(fen, form), sign = form.script === 'traditional' ? '負' : '负';
+  assert.equal(signedAmountToChinese(fen, form), capitals);
+  assert.equal(signedAmountToChinese(-fen, form), fen === 0n ? capitals : sign + capitals);
+  for (const [text, wanted] of [[capitals, fen], [`负${capitals}`, -fen], [`負${capitals}`, -fen]]) {
+    assert.equal(chineseToSignedAmountBigInt(text), wanted);
+    readsAsANumber(text, wanted, chineseToSignedAmount);
+  }
+  const text = changed(capitals), plain = amountOf(text);
+  const wanted = { bigint: (it) => -it, number: (it) => it + 1, string: (it) => it }[typeof plain];
+  assert.equal(amountOf(`负${text}`, chineseToSignedAmountBigInt), wanted(plain), text);
+}
+
+function trySignedAmounts() {
+  for (let i = 0; i < AMOUNTS; i++) compareASignedAmount();
+  assert.equal(signedAmountToChinese(-1500), '负壹拾伍元整');
+  for (const it of [1n - 10n ** 18n, 10n ** 18n - 1n]) {
+    assert.equal(chineseToSignedAmountBigInt(signedAmountToChinese(it)), it);
+  }
+  for (const it of [10n ** 18n, 2n ** 63n, 2n ** 64n + 1n]) {
+    assert.throws(() => signedAmountToChinese(it), { name: 'AmountError', code: 'tooLarge' });
+    assert.throws(() => signedAmountToChinese(-it), { name: 'AmountError', code: 'tooSmall' });
+  }
+  console.log(`amounts below zero: ${AMOUNTS} are those above it behind a sign, and read back`);
+}
+
+const NO_SPACES = LETTERS.filter((it) => !/\s/.test(it));
+
+// A text as it is typed: of each character whether it is one of the text, or left out.
+function typedOf(text) {
+  const spaces = () => Array.from({ length: below(3) }, () => [one(' \t\n\r　\u00a0\u2003'), false]);
+  const parts = Array.from(text).flatMap((it) => [[it, true], ...spaces()]);
+  if (/^人民[币幣]/.test(text) && below(2)) {
+    const behind = parts.findIndex((it, at) => it[1] && at > 0 && '币幣'.includes(it[0])) + 1;
+    parts.splice(behind, 0, [one(':：'), false]);
+  }
+  return [...spaces(), ...(below(2) ? [['⊗', false]] : []), ...spaces(), ...parts];
+}
+
+// It is answered as the text, and the place is that among all that is typed.
+function compareATypedAmount() {
+  const capitals = amountToChinese(someAmount(), { script: one(SCRIPTS), ...someForm() });
+  const text = below(2) ? capitals : changed(capitals, NO_SPACES), parts = typedOf(text);
+  const typed = parts.map(([it]) => it).join(''), plain = amountOf(text);
+  const places = parts.flatMap(([, isKept], at) => (isKept ? [at] : []));
+  const wanted = typeof plain === 'number' ? places[plain] : plain;
+  assert.equal(amountOf(typed, chineseToAmountAsTypedBigInt), wanted, typed);
+  if (typeof plain === 'bigint') readsAsANumber(typed, plain, chineseToAmountAsTyped);
+}
+
+function tryTypedAmounts() {
+  for (let i = 0; i < AMOUNTS; i++) compareATypedAmount();
+  assert.throws(() => chineseToAmountAsTyped('⊗ 壹😀'), { name: 'AmountError', code: 'incorrect',
+    charIndex: 3, start: 3, end: 5, message: 'the amount is incorrect (position: 3)' });
+  console.log(`typed amounts: ${AMOUNTS} are answered as their texts without what is left out`);
+}
+
+const WIDE = Object.fromEntries(Array.from('0123456789,.¥', (it, at) => [it, '０１２３４５６７８９，．￥'[at]]));
+
+// Figures of fen, in one of the forms that these have.
+function someFigures(fen) {
+  const digits = String(fen < 0n ? -fen : fen).padStart(3, '0'), places = digits.slice(-2);
+  const yuan = digits.slice(0, -2).replace(/(?!^)(?=(?:...)+$)/g, below(2) ? ',' : '');
+  const shorter = { '00': ['', '.0'] }[places] ?? (places[1] === '0' ? [`.${places[0]}`] : []);
+  const all = one(['', '¥']) + yuan + one([`.${places}`, `.${places}00`, ...shorter]);
+  return (fen < 0n ? one('-−') : '') + Array.from(all, (it) => (below(4) ? it : WIDE[it])).join('');
+}
+
 function tryFigures() {
-  for (const [figures, fen] of [['0', 0], ['15', 1500], ['1409.50', 140950], ['1409.5', 140950],
-    ['0.05', 5], ['0001.10', 110], ['0'.repeat(1000), 0], ['90071992547409.91', 2 ** 53 - 1]]) {
-    assert.equal(yuanToFen(figures), fen);
-    assert.equal(yuanToFenBigInt(figures), BigInt(fen));
+  for (let i = 0; i < AMOUNTS; i++) {
+    const fen = someAmount() * one([1n, -1n]), figures = someFigures(fen);
+    assert.equal(yuanToFenBigInt(figures), fen, figures);
+    readsAsANumber(figures, fen, yuanToFen);
   }
-  assert.equal(yuanToFenBigInt('9999999999999999.99'), 10n ** 18n - 1n);
-  assert.throws(() => yuanToFen('90071992547409.92'), { name: 'AmountError', code: 'unsafe' });
-  for (const it of ['', ' ', '1,409.50', '-1', '+1', '¥1', '１５', '1.', '.5', '1.005', '1.50 ',
-    ' 1', '1\n', '1e3', '0x1', '1..5', '1.5.5', '1_0', '1n', 'NaN', 'Infinity', '一',
-    '0'.repeat(1_000_000) + 'x']) {
-    assert.throws(() => yuanToFen(it), RangeError, it);
+  for (const [yuan, fen] of [[15, 1500], [-15n, -1500], [0, 0], [-0, 0], ['0'.repeat(1000), 0]]) {
+    assert.equal(yuanToFen(yuan), fen);
+    assert.equal(yuanToFenBigInt(yuan), BigInt(fen));
   }
-  for (const it of ['10000000000000000', '1'.repeat(1_000_000)]) {
-    assert.throws(() => yuanToFen(it), { name: 'AmountError', code: 'tooLarge' });
+  assert.equal(yuanToFenBigInt(2 ** 53 - 1), (2n ** 53n - 1n) * 100n);
+  assert.throws(() => yuanToFen('15.005'), { name: 'AmountError', code: 'incorrect', charIndex: 5,
+    start: 5, end: 6, message: 'the amount is incorrect (position: 5)' });
+  assert.throws(() => yuanToFen('¥1😀'), { code: 'incorrect', charIndex: 2, start: 2, end: 4 });
+  assert.throws(() => yuanToFen('15.'),
+    { code: 'unfinished', start: undefined, message: 'the amount is not finished' });
+  for (const it of [10n ** 16n, -(10n ** 30n), '1'.repeat(1_000_000)]) {
+    assert.throws(() => yuanToFen(it),
+      { name: 'AmountError', code: 'tooLarge', message: 'number is too large' });
   }
-  refusesEach([15, 15n, 1.5, null, undefined, ['15']], (it) => yuanToFen(it));
-  console.log('figures: as wanted');
+  assert.throws(() => yuanToFen(15.5), { name: 'TypeError', message: /give a string$/ });
+  refusesEach([0.1, 2 ** 53, NaN, Infinity, true, null, undefined, ['15'], {}, Object('15')],
+    (it) => yuanToFen(it));
+  console.log(`figures: ${AMOUNTS} are read as the fen that they are of`);
 }
 
 const CAPITALS = '零壹贰叁肆伍陆柒捌玖';
@@ -657,6 +747,7 @@ function tryTraps() {
 }
 
 for (const it of [lookAtTheModules, compareWithTheProgram, tryEdges, tryOptions, tryAmounts,
-  tryFigures, tryDates, tryRunningText, tryFound, tryLongTexts, tryTraps]) {
+  trySignedAmounts, tryTypedAmounts, tryFigures, tryDates, tryRunningText, tryFound, tryLongTexts,
+  tryTraps]) {
   it();
 }

@@ -273,8 +273,9 @@ async function readsCapitals() {
 // What stands in figures is written in capitals.
 async function writesCapitals() {
   for (const [id, list, output, right, texts, unfinished, refused] of [
-    ['figures', 'capitalTexts', 'figuresRefusal', '1400.06', ['壹仟肆佰元零陆分', '壹仟肆佰元零陸分'], ['', '15.'],
-      [[/^Write digits, and for jiao and fen a point/, '1,409.50', '-1', '1.005', '１５'], [/^Of yuan there can be 16 digits/, '10000000000000000']]],
+    ['figures', 'capitalTexts', 'figuresRefusal', '1,400.06', ['壹仟肆佰元零陆分', '壹仟肆佰元零陸分'], ['', '15.', '1,4'],
+      [[/^Write digits, and for jiao and fen a point/, '15元', '1.005'], [/^Of yuan there can be 16 digits/, '10000000000000000'],
+        [/^No cheque has an amount below zero/, '-1']]],
     ['dateFigures', 'dateTexts', 'dateRefusal', '2026-01-15', ['贰零贰陆年零壹月壹拾伍日', '貳零貳陸年零壹月壹拾伍日'], ['', '2026', '2026-', '2026-01-1'],
       [[/^Write four digits of the year/, '2026-1-15', '2026/01/15', '20260115', 'x'], [/^There is no such date/, '2025-02-29', '0000-01-01']]],
   ]) {

@@ -1,0 +1,165 @@
+// Tables in CSV, a column of which is answered. Their texts are strings of bytes (latin1), so that
+// each byte is written as it was read. No row is held, but for its cell in that column.
+
+import { AmountError } from './chinese-number.mjs';
+
+// A quoted cell of more characters than this is taken for one whose quote is never closed.
+const MOST_QUOTED = 2 ** 17;
+
+// The lines of a stream, each with its end: those that each piece of the stream ends.
+export async function* linesOfTable(stream) {
+  let begun = '', held = '';
+  for await (const piece of stream) {
+    let text = held + piece.toString('latin1');
+    // Its line feed may stand in the next piece.
+    held = text.endsWith('\r') ? '\r' : '';
+    if (held) text = text.slice(0, -1);
+    const lines = text.match(/[^\r\n]*(?:\r\n?|\n)/g) ?? [];
+    if (lines.length) [lines[0], begun] = [begun + lines[0], ''];
+    begun += text.slice(Math.max(text.lastIndexOf('\n'), text.lastIndexOf('\r')) + 1);
+    yield lines;
+  }
+  if (begun + held) yield [begun + held];
+}
+
+// Reads a cell of each row, line by line. By RFC 4180 a cell may begin with a quote: then it ends
+// with the next one that is not doubled, and may have delimiters and line ends in it. Elsewhere a
+// quote is a character like others.
+class CellReader {
+  cell = null; // of the row; null where it has none
+  isBroken = false; // whether the row is no CSV, as it is until a quote is closed
+  isEnd = true; // whether the row ends with the line
+  #column;
+  #delimiter;
+  #at = 1;
+  #quoted = 0;
+
+  constructor(column, delimiter) {
+    this.#column = column;
+    this.#delimiter = delimiter;
+  }
+
+  // Reads a line, whose end is told beside it.
+  read(line, end) {
+    if (this.isEnd) [this.cell, this.isBroken, this.#at] = [null, false, 1];
+    this.isEnd = true;
+    let at = 0;
+    while (at <= line.length) {
+      const isQuoted = this.isBroken || line[at] === '"';
+      at = isQuoted ? this.#readQuoted(line, at, end) : this.#readBare(line, at);
+    }
+  }
+
+  #add(text) {
+    if (this.#at === this.#column) this.cell = (this.cell ?? '') + text;
+  }
+
+  // These give where the next cell begins: past the line's length where the line has none.
+
+  #readBare(line, at) {
+    const found = line.indexOf(this.#delimiter, at), end = found < 0 ? line.length : found;
+    this.#add(line.slice(at, end));
+    return this.#readDelimiter(line, end);
+  }
+
+  #readDelimiter(line, at) {
+    if (at === line.length) return at + 1;
+    this.#at++;
+    return at + this.#delimiter.length;
+  }
+
+  #readQuoted(line, at, lineEnd) {
+    if (!this.isBroken) [this.isBroken, this.#quoted, at] = [true, 0, at + 1];
+    let end = line.indexOf('"', at);
+    while (end >= 0 && line[end + 1] === '"') end = line.indexOf('"', end + 2);
+    const inside = end < 0 ? line.slice(at) + lineEnd : line.slice(at, end);
+    this.#quoted += inside.length;
+    this.#add(inside.replaceAll('""', '"'));
+    this.isEnd = end >= 0 || this.#quoted > MOST_QUOTED;
+    this.isBroken = end < 0 || !this.#isBetweenCells(line, end + 1);
+    return this.isBroken ? line.length + 1 : this.#readDelimiter(line, end + 1);
+  }
+
+  #isBetweenCells(line, at) {
+    return at === line.length || line.startsWith(this.#delimiter, at);
+  }
+}
+
+// The answers to a column of a table.
+export class Table {
+  rows = 0;
+  refused = 0;
+  #told = '';
+  #line = 0;
+  #first = 1; // the line where the row begins
+  #end = ''; // of the line in front, where the row goes on
+  #isHeaded;
+  #delimiter;
+  #reader;
+  #answerOf;
+  #noCell;
+
+  constructor({ column, isHeaded, delimiter }, answerOf) {
+    this.#isHeaded = isHeaded;
+    this.#delimiter = Buffer.from(delimiter).toString('latin1');
+    this.#reader = new CellReader(column, this.#delimiter);
+    this.#answerOf = answerOf;
+    this.#noCell = `no column ${column}`;
+  }
+
+  // What is written of lines: each row with one more cell behind.
+  answered(lines) {
+    return Buffer.from(lines.map((it) => this.#answeredLine(it)).join(''), 'latin1');
+  }
+
+  // What is written behind the last line, of a row whose quote is not closed.
+  end() {
+    return this.#reader.isEnd ? '' : this.#nextCell() + this.#end;
+  }
+
+  // What is to be told of the rows since the last call.
+  told() {
+    const told = this.#told;
+    this.#told = '';
+    return told;
+  }
+
+  #answeredLine(line) {
+    const body = line.replace(/[\r\n]+$/, ''), end = line.slice(body.length), before = this.#end;
+    this.#line++;
+    // The mark of UTF-8 in front of a table is in no cell.
+    this.#reader.read(this.#line === 1 ? body.replace(/^ï»¿/, '') : body, end);
+    const { isEnd } = this.#reader;
+    this.#end = isEnd ? '' : end;
+    return before + body + (isEnd ? this.#nextCell() + end : '');
+  }
+
+  // The cell behind a row, with the delimiter in front of it.
+  #nextCell() {
+    const answer = Buffer.from(this.#answer() ?? '').toString('latin1');
+    const isQuoted = answer.includes(this.#delimiter);
+    this.#first = this.#line + 1;
+    return this.#delimiter + (isQuoted ? `"${answer}"` : answer);
+  }
+
+  #answer() {
+    const { cell, isBroken } = this.#reader;
+    if (this.#isHeaded && this.#first === 1 && !isBroken) return undefined;
+    this.rows++;
+    if (isBroken) return this.#refuse('the row is not CSV');
+    if (cell === null) return this.#refuse(this.#noCell);
+    try {
+      return this.#answerOf(Buffer.from(cell, 'latin1').toString());
+    } catch (error) {
+      if (!(error instanceof AmountError)) throw error;
+      return this.#refuse(error.message, error.charIndex);
+    }
+  }
+
+  #refuse(reason, charIndex) {
+    const place = charIndex === undefined ? '' : `:${charIndex + 1}`;
+    this.refused++;
+    this.#told += `${this.#first}${place}: ${reason}\n`;
+    return undefined;
+  }
+}
