@@ -6,7 +6,7 @@ from __future__ import annotations
 import csv
 import sys
 import time
-from itertools import chain, islice
+from itertools import chain
 from typing import Any, Callable, Iterable, Iterator, List, NamedTuple, Optional, TextIO, Tuple
 
 from . import AmountError
@@ -121,13 +121,12 @@ def _copy(
     refused."""
     messages, count, refused = _Messages(output), 0, 0
     rows = _rows(_without_mark(lines, output), table.delimiter)
-    for header in islice(rows, table.has_header):
-        output.write(header.with_cell("", table.delimiter))
     try:
-        for count, row in enumerate(rows, 1):
-            answered = _answered(row, table.column, answer, messages)
-            refused += answered is None
+        for row in rows:
+            is_header = table.has_header and row.line == 1 and row.cells is not None
+            answered = "" if is_header else _answered(row, table.column, answer, messages)
             output.write(row.with_cell(answered or "", table.delimiter))
+            count, refused = count + (not is_header), refused + (answered is None)
             messages.count(count)
     finally:
         messages.wipe()
