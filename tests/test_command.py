@@ -16,6 +16,7 @@ from running import TOP, Program, needs, write
 
 USAGE = b"usage: chinese-number "
 MANY = "二十三\n".encode() * 20000
+ESCAPES = {r"\n": "\n", r"\r": "\r", r"\xff": "\udcff"}
 
 
 @pytest.fixture(scope="module", params=["python", "javascript"])
@@ -36,7 +37,10 @@ def command(request, tmp_path_factory):
 
 
 def in_bytes(cell):
-    return cell.encode().replace(rb"\n", b"\n").replace(rb"\xff", b"\xff")
+    """The bytes that a cell stands for."""
+    for name, meant in ESCAPES.items():
+        cell = cell.replace(name, meant)
+    return cell.encode(errors="surrogateescape")
 
 
 def is_written(found, cell):
