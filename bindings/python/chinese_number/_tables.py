@@ -12,6 +12,7 @@ from typing import Any, Callable, Iterable, Iterator, List, NamedTuple, Optional
 from . import AmountError
 
 _MARK = "\ufeff"  # of UTF-8, which some programs put in front
+_MOST_OF_CELL = 2**17  # characters; a longer cell has a quote that is not closed
 
 
 class Table(NamedTuple):
@@ -95,7 +96,7 @@ def _rows(lines: Iterable[str], delimiter: str) -> Iterator[_Row]:
             cells = next(reader) or [""]
         except StopIteration:
             return
-        except csv.Error:  # as of a quote that is not closed, in which all the rest would stand
+        except csv.Error:
             pass
         yield _Row(line, "".join(taken), cells)
         line += len(taken)
@@ -141,6 +142,7 @@ def _opened(number: int, mode: str) -> Any:
 
 def write_table(table: Table, answer: Callable[[str], str]) -> int:
     """Writes the rows of standard input with the answer behind each, and gives the status."""
+    csv.field_size_limit(_MOST_OF_CELL)
     with _opened(0, "r") as lines, _opened(1, "w") as output:
         count, refused = _copy(lines, output, table, answer)
     print(f"{count} rows, {count - refused} written, {refused} refused", file=sys.stderr)
