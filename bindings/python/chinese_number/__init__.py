@@ -1,8 +1,10 @@
 """Chinese numerals for whole numbers: texts as numbers and numbers as texts, by a proved library.
 
 >>> from datetime import date
->>> from chinese_number import amount_to_chinese, chinese_to_amount, chinese_to_date
->>> from chinese_number import date_to_chinese, find_numbers, to_chinese, to_number, yuan_to_fen
+>>> from decimal import Decimal
+>>> from chinese_number import amount_to_chinese, chinese_to_amount, chinese_to_amount_as_typed
+>>> from chinese_number import chinese_to_date, date_to_chinese, find_numbers
+>>> from chinese_number import signed_amount_to_chinese, to_chinese, to_number, yuan_to_fen
 >>> [found.value() for found in find_numbers('百分之五十的人')]
 [None, 50]
 >>> to_number('一百二'), to_number('一二〇'), to_number('十万五')
@@ -18,6 +20,10 @@ chinese_number.NumeralError: number is too small
 '人民币壹拾伍元正'
 >>> chinese_to_amount('壹仟肆佰零玖元伍角')
 140950
+>>> signed_amount_to_chinese(yuan_to_fen(Decimal('-1409.50')))
+'负壹仟肆佰零玖元伍角整'
+>>> chinese_to_amount_as_typed('⊗ 人民币：壹拾 伍元整')
+1500
 >>> date_to_chinese(date(2026, 1, 15))
 '贰零贰陆年零壹月壹拾伍日'
 >>> chinese_to_date('贰零贰陆年零壹月壹拾伍日')
