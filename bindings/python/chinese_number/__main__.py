@@ -62,10 +62,10 @@ usage: chinese-number amount [--traditional] [--currency] [--yuan 圆] [--closin
        chinese-number --help | --version
 
 amount   writes yuan in capitals, 1409.50 as 壹仟肆佰零玖元伍角整, and reads capitals; with --signed
-         also below zero, as 负壹拾伍元整, with --typed capitals as they are typed, ⊗人民币：壹 元整
-         with --column answers the cells in column N, from 1 on, of a table of CSV in standard
-         input, and writes the table with a column more; LINE:CHARACTER of a refused cell, with
-         why it is refused, and how many rows there are go to standard error
+         also below zero, -15 as 负壹拾伍元整; with --typed it reads ⊗ 人民币：壹拾 伍元整 too;
+         with --column it answers the cells in column N, from 1 on, of a table in CSV: the rows of
+         standard input are written with one more cell, and to standard error LINE:CHARACTER: and
+         why of each cell that is refused, and how many there are
 date     writes dates in capitals, 2026-01-15 as 贰零贰陆年零壹月壹拾伍日, and reads capitals
 read     reads numerals, 一百二 as 120
 print    writes whole numbers as numerals, -120 as 负一百二十
