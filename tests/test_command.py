@@ -4,9 +4,12 @@ The rows are those of `tests/rows/command.tsv`. Each word of the tests of `chequ
 its refusal here too. Python's runs where the locale knows ASCII alone.
 """
 import os
+import pty
 import re
 import shlex
+import subprocess
 import sys
+import time
 
 import pytest
 
@@ -16,6 +19,10 @@ from running import TOP, Program, needs, write
 
 USAGE = b"usage: chinese-number "
 MANY = "二十三\n".encode() * 20000
+TABLE, ROWS = ["amount", "--column", "1"], b"15\n" * 60000
+# Words and an input to which something is written.
+WRITTEN = [(["read", "一"], b""), (["find"], MANY), (TABLE, b"15\n"), (TABLE, ROWS)]
+ESCAPES = {r"\n": "\n", r"\r": "\r", r"\xff": "\udcff"}
 
 
 @pytest.fixture(scope="module", params=["python", "javascript"])
@@ -36,7 +43,10 @@ def command(request, tmp_path_factory):
 
 
 def in_bytes(cell):
-    return cell.encode().replace(rb"\n", b"\n").replace(rb"\xff", b"\xff")
+    """The bytes that a cell stands for."""
+    for name, meant in ESCAPES.items():
+        cell = cell.replace(name, meant)
+    return cell.encode(errors="surrogateescape")
 
 
 def is_written(found, cell):
@@ -78,18 +88,19 @@ def test_long_numbers(command):
 
 
 def test_no_input(command):
-    assert command.of_no_file("find")[:2] == (1, b"")
+    for words in (["find"], TABLE):
+        assert command.of_no_file(*words)[:2] == (1, b"")
 
 
 def test_full_disk(command):
-    for words, data in ((["read", "一"], b""), (["find"], MANY), (["--help"], b"")):
+    for words, data in [*WRITTEN, (["--help"], b"")]:
         status, error = command.onto_a_full_disk(*words, data=data)
         assert status == 1 and re.fullmatch(b"chinese-number: .*no space left.*\n", error, re.I)
 
 
 def test_closed_pipe(command):
     """Nobody reads what is written: no word is lost on it."""
-    for words, data in ((["read", "一"], b""), (["find"], MANY)):
+    for words, data in WRITTEN:
         reader, writer = os.pipe()
         os.close(reader)
         try:
@@ -107,3 +118,41 @@ def test_dialogue(command):
     with command.dialogue("find") as dialogue:
         for line in range(1, 101):
             assert dialogue.ask("他三十歲") == f"{line}:2 三十 30"
+
+
+def test_many_rows(command):
+    """Of 20,000 rows each twentieth is wrong: it is told, and none is lost."""
+    rows = [(row, "15" if row % 20 else "15.005") for row in range(1, 20001)]
+    answers = {"15": "壹拾伍元整", "15.005": ""}
+    data = "".join(f"{row},{cell}\n" for row, cell in rows)
+    written = "".join(f"{row},{cell},{answers[cell]}\n" for row, cell in rows)
+    refusal = "the amount is incorrect (position: 5)"
+    told = "".join(f"{row}:6: {refusal}\n" for row in range(20, 20001, 20))
+    told += "20000 rows, 19000 written, 1000 refused\n"
+    found = command("amount", "--column", "2", data=data.encode())
+    assert found == (1, written.encode(), told.encode())
+
+
+def test_open_quote(command):
+    """A cell whose quote is not closed has 2^17 characters at most: rows go on behind that line."""
+    refused = 2**17 // 3 + 1
+    rows = [b'"15', *[b"15"] * (refused - 2), b"15,"]
+    rows += ["15,壹拾伍元整".encode()] * (60001 - refused)
+    told = f"1: the row is not CSV\n{60002 - refused} rows, {60001 - refused} written, 1 refused\n"
+    found = command(*TABLE, data=b'"' + b"15\n" + ROWS)
+    assert found == (1, b"".join(row + b"\n" for row in rows), told.encode())
+
+
+def test_progress(command):
+    """A terminal is told how many rows are done after more than a second, and no more at the end."""
+    terminal, errors = pty.openpty()
+    pipes = {"stdin": subprocess.PIPE, "stdout": subprocess.PIPE, "stderr": errors}
+    with subprocess.Popen([command.path, *TABLE], **pipes) as process:
+        process.stdin.write(b"15\n")
+        process.stdin.flush()
+        time.sleep(2)
+        assert process.communicate(b"16\n") == ("15,壹拾伍元整\n16,壹拾陆元整\n".encode(), None)
+    os.close(errors)
+    told = os.read(terminal, 4096)
+    os.close(terminal)
+    assert re.fullmatch(rb"\r2 rows\r +\r2 rows, 2 written, 0 refused\r\n", told)

@@ -2,8 +2,10 @@
 import sys
 from datetime import date
 
-from chinese_number import amount_to_chinese, chinese_to_amount, chinese_to_date, date_to_chinese
-from chinese_number import find_numbers, to_chinese, to_number
+from chinese_number import amount_to_chinese, chinese_to_amount, chinese_to_amount_as_typed
+from chinese_number import chinese_to_date, chinese_to_signed_amount, date_to_chinese
+from chinese_number import find_numbers, signed_amount_to_chinese, to_chinese, to_number
+from chinese_number import yuan_to_fen
 
 # The words of questions that this package has other ones for.
 OTHERS = {"naive": "digits", "simple": "simplified"}
@@ -42,6 +44,10 @@ def write_amount_as(script, form, fen):
     return amount_to_chinese(int(fen), **words)
 
 
+def write_signed_amount(script, fen):
+    return signed_amount_to_chinese(int(fen), script=OTHERS.get(script, script))
+
+
 def write_date(script, day):
     return date_to_chinese(date.fromisoformat(day), script=OTHERS.get(script, script))
 
@@ -60,6 +66,10 @@ CALLS = {
     "read_amount": chinese_to_amount,
     "print_amount": write_amount,
     "print_amount_as": write_amount_as,
+    "read_signed_amount": chinese_to_signed_amount,
+    "print_signed_amount": write_signed_amount,
+    "read_typed_amount": chinese_to_amount_as_typed,
+    "yuan_to_fen": yuan_to_fen,
     "read_date": chinese_to_date,
     "print_date": write_date,
     "find": find,

@@ -21,7 +21,8 @@ from pathlib import Path
 HERE = Path(__file__).resolve().parent
 NAME = "chinese-number-proved"
 MODULE = tuple(
-    f"chinese_number/{it}" for it in ("__init__.py", "__main__.py", "_library.py", "py.typed")
+    f"chinese_number/{it}"
+    for it in ("__init__.py", "__main__.py", "_library.py", "_tables.py", "py.typed")
 )
 # Version 2.1 and `License` are what older twine takes too.
 METADATA = """\

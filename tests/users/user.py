@@ -14,7 +14,9 @@ from chinese_number import (
     Way,
 )
 from chinese_number import __version__, amount_to_chinese, chinese_to_amount, find_numbers
-from chinese_number import chinese_to_date, date_to_chinese, to_chinese, to_number, yuan_to_fen
+from chinese_number import chinese_to_amount_as_typed, chinese_to_date, chinese_to_signed_amount
+from chinese_number import date_to_chinese, signed_amount_to_chinese, to_chinese, to_number
+from chinese_number import yuan_to_fen
 
 
 def chapter(text: str) -> Optional[int]:
@@ -52,6 +54,11 @@ def cheque(yuan: Decimal, day: date) -> List[str]:
     return [amount, date_to_chinese(day, script=Script.TRADITIONAL)]
 
 
+def invoice(yuan: Decimal, typed: str) -> List[int]:
+    text = signed_amount_to_chinese(yuan_to_fen(yuan), closing="正", script=Script.SIMPLIFIED)
+    return [chinese_to_signed_amount(text), yuan_to_fen(15), chinese_to_amount_as_typed(typed)]
+
+
 def years(text: str) -> List[str]:
     found: List[Found] = [it for it in find_numbers(text, greatest=Unit.YI) if it.is_plain]
     return [to_chinese(it.number(kind="u32"), way=Way.DIGITS) for it in found]
@@ -66,3 +73,4 @@ if __name__ == "__main__":
     print(percentages("百分之五十的人"))
     print(fen("壹佰元整"), fen("壹佰贰元整"), fen("壹佰元"), day("伍年叁月零壹日"), day("伍年拾月"))
     print(cheque(Decimal("12805.00"), date(2026, 1, 15)))
+    print(invoice(Decimal("-15.0000"), "⊗壹拾 伍元整"))

@@ -1,8 +1,10 @@
 """Chinese numerals for whole numbers: texts as numbers and numbers as texts, by a proved library.
 
 >>> from datetime import date
->>> from chinese_number import amount_to_chinese, chinese_to_amount, chinese_to_date
->>> from chinese_number import date_to_chinese, find_numbers, to_chinese, to_number, yuan_to_fen
+>>> from decimal import Decimal
+>>> from chinese_number import amount_to_chinese, chinese_to_amount, chinese_to_amount_as_typed
+>>> from chinese_number import chinese_to_date, date_to_chinese, find_numbers
+>>> from chinese_number import signed_amount_to_chinese, to_chinese, to_number, yuan_to_fen
 >>> [found.value() for found in find_numbers('百分之五十的人')]
 [None, 50]
 >>> to_number('一百二'), to_number('一二〇'), to_number('十万五')
@@ -18,6 +20,10 @@ chinese_number.NumeralError: number is too small
 '人民币壹拾伍元正'
 >>> chinese_to_amount('壹仟肆佰零玖元伍角')
 140950
+>>> signed_amount_to_chinese(yuan_to_fen(Decimal('-1409.50')))
+'负壹仟肆佰零玖元伍角整'
+>>> chinese_to_amount_as_typed('⊗ 人民币：壹拾 伍元整')
+1500
 >>> date_to_chinese(date(2026, 1, 15))
 '贰零贰陆年零壹月壹拾伍日'
 >>> chinese_to_date('贰零贰陆年零壹月壹拾伍日')
@@ -35,12 +41,12 @@ call lets other threads of Python run. Where it is made of C source, a text of m
 from __future__ import annotations
 
 import operator
-import re
 from datetime import date, datetime
 from decimal import Decimal
 from enum import Enum
 from itertools import starmap
-from typing import Any, Dict, Iterable, Iterator, NamedTuple, Optional, SupportsIndex, Tuple, Union
+from typing import Any, Callable, Dict, Iterable, Iterator, NamedTuple, Optional, SupportsIndex
+from typing import Tuple, Union
 
 from . import _library
 
@@ -57,9 +63,12 @@ __all__ = [
     "Way",
     "amount_to_chinese",
     "chinese_to_amount",
+    "chinese_to_amount_as_typed",
     "chinese_to_date",
+    "chinese_to_signed_amount",
     "date_to_chinese",
     "find_numbers",
+    "signed_amount_to_chinese",
     "to_chinese",
     "to_number",
     "yuan_to_fen",
@@ -256,8 +265,8 @@ _CURRENCY = 1
 _YUAN = {"元": 0, "圆": 2}
 _CLOSINGS = {"整": 0, "正": 4}
 _FIRST_NOT_WRITTEN = 10**18
+_TOO_MANY_PLACES = 16  # in front of the point: 10**16 yuan are 10**18 fen
 _FIRST_SIGNED = _KINDS["i8"]
-_FIGURES = re.compile(r"([0-9]+)(?:\.([0-9]{1,2}))?")
 _MOST_SHOWN = 100
 
 
@@ -362,6 +371,26 @@ def to_chinese(
     return text
 
 
+def _amount_text(
+    call: Callable[[int, int, int], Tuple[int, str]],
+    fen: SupportsIndex,
+    least: int,
+    choices: Tuple[Union[Script, str], bool, str, str],
+) -> str:
+    """The text of an amount from the least one on, in a script, with the currency or without, with
+    a word for yuan and a closing."""
+    script, currency, yuan, closing = choices
+    whole, script_code = _whole(fen, "a whole number, in fen,"), _code(_SCRIPTS, script, "script")
+    form = _code(_YUAN, yuan, "yuan") + _code(_CLOSINGS, closing, "closing")
+    form += _CURRENCY if _flag(currency) else 0
+    if not least <= whole < _FIRST_NOT_WRITTEN:
+        raise AmountError(Status.TOO_SMALL if whole < 0 else Status.TOO_LARGE)
+    status, text = call(whole, script_code, form)
+    if status:
+        raise AmountError(Status(status))
+    return text
+
+
 def amount_to_chinese(
     fen: SupportsIndex,
     *,
@@ -384,15 +413,37 @@ def amount_to_chinese(
     >>> amount_to_chinese(1500, currency=True, yuan='圆', closing='正')
     '人民币壹拾伍圆正'
     """
-    whole, script_code = _whole(fen, "a whole number, in fen,"), _code(_SCRIPTS, script, "script")
-    form = _code(_YUAN, yuan, "yuan") + _code(_CLOSINGS, closing, "closing")
-    form += _CURRENCY if _flag(currency) else 0
-    if not 0 <= whole < _FIRST_NOT_WRITTEN:
-        raise AmountError(Status.TOO_SMALL if whole < 0 else Status.TOO_LARGE)
-    status, text = _library.print_amount(whole, script_code, form)
-    if status:
-        raise AmountError(Status(status))
-    return text
+    choices = script, currency, yuan, closing
+    return _amount_text(_library.print_amount, fen, 0, choices)
+
+
+def signed_amount_to_chinese(
+    fen: SupportsIndex,
+    *,
+    script: Union[Script, str] = Script.SIMPLIFIED,
+    currency: bool = False,
+    yuan: str = "元",
+    closing: str = "整",
+) -> str:
+    """The same of an amount that may be below zero, as on a red invoice: 负 is then in front. An
+    AmountError says why there is no text: it is -(10**18) or less, or 10**18 or more.
+
+    >>> signed_amount_to_chinese(-1500), signed_amount_to_chinese(-1500, script='traditional')
+    ('负壹拾伍元整', '負壹拾伍元整')
+    >>> signed_amount_to_chinese(-1500, currency=True)
+    '负人民币壹拾伍元整'
+    """
+    choices = script, currency, yuan, closing
+    return _amount_text(_library.print_signed_amount, fen, 1 - _FIRST_NOT_WRITTEN, choices)
+
+
+def _fen(answer: Tuple[int, int, int]) -> int:
+    """The fen that a call of the library has read."""
+    code, fen, char_index = answer
+    if code:
+        status = Status(code)
+        raise AmountError(status, _place(status, char_index))
+    return fen
 
 
 def chinese_to_amount(text: str) -> int:
@@ -406,39 +457,72 @@ def chinese_to_amount(text: str) -> int:
 
     White space and half of a surrogate pair are refused at their place.
     """
-    code, fen, char_index = _library.read_amount(_text(text))
-    if code:
-        status = Status(code)
-        raise AmountError(status, _place(status, char_index))
-    return fen
+    return _fen(_library.read_amount(_text(text)))
 
 
-def yuan_to_fen(value: Union[Decimal, str]) -> int:
-    """The fen of an amount in yuan, exactly. It is given in figures: ASCII digits, with at most one
-    point, and one or two digits behind it. A Decimal has to be one whose str is of that form. All
-    else is a ValueError, so nothing is rounded.
+def chinese_to_signed_amount(text: str) -> int:
+    """The same of an amount that may be below zero: 负 or 負 is then in front.
 
-    >>> yuan_to_fen('1409.5')
-    140950
-    >>> yuan_to_fen(Decimal('15.00'))
-    1500
-    >>> yuan_to_fen('1,409.50')
-    Traceback (most recent call last):
-    ValueError: figures with at most two places are wanted, and not '1,409.50'
+    >>> chinese_to_signed_amount('负壹拾伍元整'), chinese_to_signed_amount('壹拾伍元整')
+    (-1500, 1500)
     """
+    return _fen(_library.read_signed_amount(_text(text)))
+
+
+def chinese_to_amount_as_typed(text: str) -> int:
+    """The same as chinese_to_amount of an amount as it is typed: white space is left out, and so is
+    one ⊗ in front, as an invoice has it, and then one colon directly behind 人民币.
+
+    >>> chinese_to_amount_as_typed('⊗ 人民币：壹拾 伍元整')
+    1500
+    """
+    return _fen(_library.read_typed_amount(_text(text)))
+
+
+def _figures_of(value: Decimal) -> str:
+    """Its figures. Of one that is far from 1, as Decimal('1E+999999999999'), they are others with
+    the same answer, since its own fill the memory."""
+    sign, digits, exponent = value.as_tuple()
+    if isinstance(exponent, int):  # else it is no number or infinite
+        if not any(digits):
+            return "0"
+        if value.adjusted() < -2:
+            raise AmountError(Status.INCORRECT, sign + 1 - value.adjusted())
+        value = Decimal((sign, digits, min(exponent, _TOO_MANY_PLACES)))
+    return Decimal.__format__(value, "f")
+
+
+def yuan_to_fen(value: Union[Decimal, str, SupportsIndex]) -> int:
+    """The fen of an amount in yuan, exactly: of figures in a str, a Decimal or a whole number. Where
+    they are no amount in fen an AmountError says why, so nothing is rounded.
+
+    >>> yuan_to_fen('1409.5'), yuan_to_fen('¥1,409.50'), yuan_to_fen('-15'), yuan_to_fen(15)
+    (140950, 140950, -1500, 1500)
+    >>> yuan_to_fen(Decimal('15.0000'))
+    1500
+    >>> yuan_to_fen('15.005')
+    Traceback (most recent call last):
+    chinese_number.AmountError: the amount is incorrect (position: 5)
+    >>> yuan_to_fen(15.5)
+    Traceback (most recent call last):
+    TypeError: a float holds no exact amount: give a str or a Decimal, and not 15.5
+
+    In front of the figures there may be - or −, and then ¥. A comma stands in front of each three
+    digits of the yuan, or none does, and of the digits behind the point those from the third on are
+    0. Full-width characters are read as plain ones. A Decimal is read as format(value, 'f') is.
+    """
+    if isinstance(value, float):
+        raise TypeError(
+            f"a float holds no exact amount: give a str or a Decimal, and not {_shown(value)}"
+        )
+    if isinstance(value, Decimal):
+        return _fen(_library.read_figures(_figures_of(value)))
     if isinstance(value, str):
-        figures = _FIGURES.fullmatch(str.__str__(value))
-    elif isinstance(value, Decimal):
-        figures = _FIGURES.fullmatch(Decimal.__str__(value))
-    else:
-        raise TypeError(f"a Decimal or a str is wanted, in yuan, and not {_shown(value)}")
-    if not figures:
-        raise ValueError(f"figures with at most two places are wanted, and not {_shown(value)}")
-    whole, places = figures.groups("")
-    digits = whole.lstrip("0") + places.ljust(2, "0")
-    if len(digits) > 18:
+        return _fen(_library.read_figures(value))
+    whole = _whole(value, "a str, a Decimal or a whole number, in yuan,")
+    if not abs(whole) < _FIRST_NOT_WRITTEN:  # whose figures Python may refuse to make
         raise AmountError(Status.TOO_LARGE)
-    return int(digits)
+    return _fen(_library.read_figures(str(whole)))
 
 
 def date_to_chinese(day: date, *, script: Union[Script, str] = Script.SIMPLIFIED) -> str:

@@ -1,5 +1,5 @@
-"""The command chinese-number: amounts, dates and numerals are written and read, and the numbers of
-a text are found.
+"""The command chinese-number: amounts, dates and numerals are written and read, the numbers of a
+text are found, and the amounts of a table answered.
 
 Answers go to standard output, and refusals to standard error. The status is 0 where all is
 answered, 1 where something is refused or cannot be read or written, and 2, with the usage, where
@@ -12,84 +12,109 @@ import os
 import re
 import sys
 from datetime import date
-from typing import Any, Callable, Dict, Iterator, List, Pattern, TextIO, Tuple, Type, Union
+from functools import partial
+from typing import Any, Callable, Container, Dict, Iterator, List, TextIO, Tuple
 
 from . import AmountError, DateError, Kind, NumeralError, Status, Way, __version__
-from . import amount_to_chinese, chinese_to_amount, chinese_to_date, date_to_chinese
-from . import find_numbers, to_chinese, to_number, yuan_to_fen
+from . import chinese_to_amount, chinese_to_amount_as_typed, chinese_to_date
+from . import chinese_to_signed_amount, date_to_chinese, find_numbers, signed_amount_to_chinese
+from . import to_chinese, to_number, yuan_to_fen
+from ._tables import Table, write_table
 
+
+class _Matching:
+    """The words that match a pattern."""
+
+    def __init__(self, pattern: str) -> None:
+        self._pattern = re.compile(pattern)
+
+    def __contains__(self, word: object) -> bool:
+        return isinstance(word, str) and self._pattern.fullmatch(word) is not None
+
+
+_Options = Dict[str, Container[Any]]
 _FLAG: List[Any] = [None]
-_TRADITIONAL = {"--traditional": _FLAG}
-_KIND = {"--kind": [it.value for it in Kind]}
-_WAY = {"--way": [it.value for it in Way]}
-_PRINT_WAY = {"--way": [it.value for it in Way if it is not Way.ANY]}
-_AMOUNT = {"--currency": _FLAG, "--yuan": ["元", "圆"], "--closing": ["整", "正"]}
-# What a flag means to a call. Any other option is a keyword itself.
+_TRADITIONAL: _Options = {"--traditional": _FLAG}
+_KIND: _Options = {"--kind": [it.value for it in Kind]}
+_WAY: _Options = {"--way": [it.value for it in Way]}
+_PRINT_WAY: _Options = {"--way": [it.value for it in Way if it is not Way.ANY]}
+_FORM: _Options = {"--currency": _FLAG, "--yuan": ["元", "圆"], "--closing": ["整", "正"]}
+_READER: _Options = {"--signed": _FLAG, "--typed": _FLAG}
+_TABLE: _Options = {
+    "--column": _Matching("[1-9][0-9]{0,8}"),
+    "--header": _FLAG,
+    "--delimiter": _Matching(r'[^"\r\n]'),
+}
+# What a flag means to a call that has no keyword of its name.
 _MEANINGS: Dict[str, Dict[str, Any]] = {
     "--traditional": {"script": "traditional"},
-    "--currency": {"currency": True},
     "--upper": {"case": "upper"},
     "--all": {"upper": True, "greatest": "ji"},
 }
 USAGE = f"""\
-usage: chinese-number amount [--traditional] [--currency] [--yuan 圆] [--closing 正] WORD..
+usage: chinese-number amount [--traditional] [--currency] [--yuan 圆] [--closing 正]
+                             [--signed | --typed] WORD..
+       chinese-number amount .. --column N [--header] [--delimiter ,]
        chinese-number date [--traditional] WORD..
        chinese-number read [--kind i128] [--way any] WORD..
        chinese-number print [--traditional] [--upper] [--kind i128] [--way ten_thousand] NUMBER..
        chinese-number find [--all] [--kind i128] [--way any]
        chinese-number --help | --version
 
-amount   writes yuan in capitals, 1409.50 as 壹仟肆佰零玖元伍角整, and reads capitals
+amount   writes yuan in capitals, 1409.50 as 壹仟肆佰零玖元伍角整, and reads capitals; with --signed
+         also below zero, -15 as 负壹拾伍元整; with --typed it reads ⊗ 人民币：壹拾 伍元整 too;
+         with --column it answers the cells in column N, from 1 on, of a table in CSV: the rows of
+         standard input are written with one more cell, and to standard error LINE:CHARACTER: and
+         why of each cell that is refused, and how many there are
 date     writes dates in capitals, 2026-01-15 as 贰零贰陆年零壹月壹拾伍日, and reads capitals
 read     reads numerals, 一百二 as 120
 print    writes whole numbers as numerals, -120 as 负一百二十
 find     writes LINE:COLUMN TEXT NUMBER of each number in standard input, or err and why it is
          refused; with --all also of the characters of cheques and of units above 兆
 
-A kind is {', '.join(_KIND["--kind"])}; a way to read
-is {', '.join(_WAY["--way"])}, and to write each but any."""
+A kind is {', '.join(Kind)}; a way to read
+is {', '.join(Way)}, and to write each but any."""
 
 
 class _Misuse(Exception):
     """The words of the command line ask for nothing."""
 
 
-# The beginnings of figures, with the whole of them, and which of these are whole.
-_FIGURES: Dict[Any, Tuple[Pattern[str], Pattern[str]]] = {
-    AmountError: (re.compile(r"([0-9]+(\.[0-9]{0,2})?)?"), re.compile(r".*[0-9]")),
-    DateError: (
-        re.compile(r"[0-9]{4}-[0-9]{2}-[0-9]{0,2}|[0-9]{4}-[0-9]{0,2}|[0-9]{0,4}"),
-        re.compile(r".{10}"),
-    ),
-}
+# In front of the figures of an amount, and the whole of the figures of a date or a front of them.
+_BEGINS_AMOUNT = re.compile(r"[\0-\x7f¥￥０-９−]")
+_FRONT_OF_DATE = re.compile(r"[0-9]{4}-[0-9]{2}-[0-9]{0,2}|[0-9]{4}-[0-9]{0,2}|[0-9]{0,4}")
 
 
-def _are_figures(word: str) -> bool:
-    return word != "" and word[0].isascii()
+def _figures(fen: int) -> str:
+    yuan, places = divmod(abs(fen), 100)
+    return f"{'-' if fen < 0 else ''}{yuan}.{places:02}"
 
 
-def _check(figures: str, error: Union[Type[AmountError], Type[DateError]]) -> None:
-    """Refuses by this error what is no figures."""
-    beginning, whole = _FIGURES[error]
-    rest = beginning.sub("", figures, count=1)
-    if rest:
-        raise error(Status.INCORRECT, len(figures) - len(rest))
-    if not whole.fullmatch(figures):
-        raise error(Status.UNFINISHED)
+def _amount(word: str, *, signed: bool = False, typed: bool = False, **options: Any) -> str:
+    """An amount in figures of one in capitals, or the other way round."""
+    if not _BEGINS_AMOUNT.match(word.lstrip() if typed else word):
+        read = chinese_to_signed_amount if signed else chinese_to_amount
+        return _figures((chinese_to_amount_as_typed if typed else read)(word))
+    if word[0] in "-−" and not signed:
+        raise AmountError(Status.INCORRECT, 0)
+    return signed_amount_to_chinese(yuan_to_fen(word), **options)
 
 
-def _amount(word: str, **options: Any) -> str:
-    if not _are_figures(word):
-        fen = chinese_to_amount(word)
-        return f"{fen // 100}.{fen % 100:02}"
-    _check(word, AmountError)
-    return amount_to_chinese(yuan_to_fen(word), **options)
+def _table(options: Dict[str, Any]) -> int:
+    """Answers the amounts in a column of standard input."""
+    column, delimiter = int(options.pop("column")), options.pop("delimiter", ",")
+    table = Table(column, options.pop("header", False), delimiter)
+    return write_table(table, partial(_amount, **options))
 
 
 def _date(word: str, **options: Any) -> str:
-    if not _are_figures(word):
+    if not word[:1].isascii() or not word:
         return chinese_to_date(word).isoformat()
-    _check(word, DateError)
+    rest = _FRONT_OF_DATE.sub("", word, count=1)
+    if rest:
+        raise DateError(Status.INCORRECT, len(word) - len(rest))
+    if len(word) < len("2026-01-15"):
+        raise DateError(Status.UNFINISHED)
     try:
         day = date(*map(int, word.split("-")))
     except ValueError:
@@ -131,8 +156,8 @@ def _find(options: Dict[str, Any]) -> int:
 
 
 # What gives the answer to a word, what it takes for the word, and which options it has.
-_COMMANDS: Dict[str, Tuple[Callable[..., Any], Callable[[str], Any], Dict[str, List[Any]]]] = {
-    "amount": (_amount, str, {**_TRADITIONAL, **_AMOUNT}),
+_COMMANDS: Dict[str, Tuple[Callable[..., Any], Callable[[str], Any], _Options]] = {
+    "amount": (_amount, str, {**_TRADITIONAL, **_FORM, **_READER, **_TABLE}),
     "date": (_date, str, _TRADITIONAL),
     "read": (to_number, str, {**_KIND, **_WAY}),
     "print": (to_chinese, _number, {**_TRADITIONAL, "--upper": _FLAG, **_KIND, **_PRINT_WAY}),
@@ -140,7 +165,7 @@ _COMMANDS: Dict[str, Tuple[Callable[..., Any], Callable[[str], Any], Dict[str, L
 }
 
 
-def _parted(words: List[str], known: Dict[str, List[Any]]) -> Tuple[List[str], Dict[str, Any]]:
+def _parted(words: List[str], known: _Options) -> Tuple[List[str], Dict[str, Any]]:
     """The words that are no options, and what the options mean."""
     others: List[str] = []
     options: Dict[str, Any] = {}
@@ -156,8 +181,14 @@ def _parted(words: List[str], known: Dict[str, List[Any]]) -> Tuple[List[str], D
             chosen = value if equals else None if allowed is _FLAG else next(left, "")
             if chosen not in allowed:
                 raise _Misuse
-            options.update(_MEANINGS.get(name, {name[2:]: chosen}))
+            options.update(_MEANINGS.get(name, {name[2:]: allowed is _FLAG or chosen}))
     return others, options
+
+
+def _fit(options: Dict[str, Any]) -> bool:
+    """Whether there is one way of reading at most, and a table for what is said of one."""
+    of_table = options.keys() & {"header", "delimiter"}
+    return not options.keys() >= {"signed", "typed"} and ("column" in options or not of_table)
 
 
 def _answered(call: Callable[..., object], arguments: List[Any], options: Dict[str, Any]) -> int:
@@ -184,9 +215,10 @@ def _run(words: List[str]) -> int:
     others, options = _parted(words[1:], {"--help": _FLAG, **known})
     if "help" in options:
         return _run(["--help"])
-    if (first == "find") == bool(others):
+    of_input = _find if first == "find" else _table if "column" in options else None
+    if bool(of_input) == bool(others) or not _fit(options):
         raise _Misuse
-    return _find(options) if first == "find" else _answered(call, [*map(of_word, others)], options)
+    return of_input(options) if of_input else _answered(call, [*map(of_word, others)], options)
 
 
 def _stream(number: int) -> TextIO:
