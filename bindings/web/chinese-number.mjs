@@ -220,7 +220,8 @@ const LENGTH = READING + 32;
 const TEXT = LENGTH + 8;
 const [READING_AT, LENGTH_AT, TEXT_AT] = [READING, LENGTH, TEXT].map(BigInt);
 const MOST_BYTES = 234;
-const MOST_AMOUNT_BYTES = 120;
+const MOST_AMOUNT_BYTES = 117;
+const MOST_SIGNED_AMOUNT_BYTES = 120;
 const MOST_DATE_BYTES = 39;
 const PAGE = 65536;
 const MOST_KEPT = 2 ** 24;
@@ -482,7 +483,7 @@ export function toChinese(number, options = {}) {
  * @returns {string}
  */
 export function amountToChinese(fen, options = {}) {
-  return capitalsOf(fen, options, BigInt.asUintN, 'chinese_amount_print');
+  return capitalsOf(fen, options, PLAIN);
 }
 
 /**
@@ -497,22 +498,27 @@ export function amountToChinese(fen, options = {}) {
  * @returns {string}
  */
 export function signedAmountToChinese(fen, options = {}) {
-  return capitalsOf(fen, options, BigInt.asIntN, 'chinese_signed_amount_print');
+  return capitalsOf(fen, options, SIGNED);
 }
 
+/** The calls that write fen: what 64 bits of them stand for, and the most bytes of a text. */
+const PLAIN = { held: BigInt.asUintN, most: MOST_AMOUNT_BYTES, name: 'chinese_amount_print' };
+const SIGNED = {
+  held: BigInt.asIntN, most: MOST_SIGNED_AMOUNT_BYTES, name: 'chinese_signed_amount_print',
+};
+
 /**
- * The capitals that a call of the module writes of fen, of which it is handed 64 bits.
+ * The capitals that a call of the module writes of fen.
  * @param {bigint | number} fen
  * @param {AmountOptions} options
- * @param {(bits: number, whole: bigint) => bigint} held what these bits stand for
- * @param {string} name
+ * @param {typeof PLAIN} call
  */
-function capitalsOf(fen, options, held, name) {
+function capitalsOf(fen, options, { held, most, name }) {
   refuseOthers(options, OF_AMOUNTS);
   const script = scriptOf(options), form = formOf(options), whole = wholeOf(fen);
   if (held(64, whole) !== whole) throw new AmountError(whole < 0n ? 'tooSmall' : 'tooLarge');
-  return print(MOST_AMOUNT_BYTES,
-    (most) => library[name](whole, script, form, TEXT_AT, most, LENGTH_AT),
+  return print(most,
+    (room) => library[name](whole, script, form, TEXT_AT, room, LENGTH_AT),
     (code) => new AmountError(code));
 }
 
