@@ -161,6 +161,11 @@ T of_halves(cn_number number) {
 #endif
 }
 
+constexpr cn_form flags_of(AmountForm form) {
+    return (form.currency ? CN_CURRENCY : CN_PLAIN) | (form.round_yuan ? CN_ROUND_YUAN : CN_PLAIN)
+         | (form.upright_closing ? CN_UPRIGHT_CLOSING : CN_PLAIN);
+}
+
 template <typename Value>
 Result<Value> told(cn_status status, Value value, const char *subject, std::size_t char_index = 0,
                    std::size_t byte_index = 0) {
@@ -204,9 +209,17 @@ Result<std::string> to_chinese(T number, Style style = {}) {
 inline Result<std::string> amount_to_chinese(std::uint64_t fen, AmountForm form = {},
                                              Script script = Script::simplified) {
     char room[CN_MOST_AMOUNT_BYTES + 1];
-    const cn_form flags = (form.currency ? CN_CURRENCY : CN_PLAIN) | (form.round_yuan ? CN_ROUND_YUAN : CN_PLAIN)
-                        | (form.upright_closing ? CN_UPRIGHT_CLOSING : CN_PLAIN);
-    const cn_status status = cn_print_amount(fen, static_cast<cn_script>(script), flags, room, sizeof room);
+    const cn_status status =
+        cn_print_amount(fen, static_cast<cn_script>(script), detail::flags_of(form), room, sizeof room);
+    return detail::told(status, std::string(room), "amount");
+}
+
+/* The same of an amount that may be below zero, as one of a red invoice: behind 负 then. There is none from -10^18 down. */
+inline Result<std::string> signed_amount_to_chinese(std::int64_t fen, AmountForm form = {},
+                                                    Script script = Script::simplified) {
+    char room[CN_MOST_SIGNED_AMOUNT_BYTES + 1];
+    const cn_status status =
+        cn_print_signed_amount(fen, static_cast<cn_script>(script), detail::flags_of(form), room, sizeof room);
     return detail::told(status, std::string(room), "amount");
 }
 
@@ -214,6 +227,27 @@ inline Result<std::string> amount_to_chinese(std::uint64_t fen, AmountForm form 
 inline Result<std::uint64_t> chinese_to_amount(std::string_view text) {
     cn_amount read;
     const cn_status status = cn_read_amount(text.data(), text.size(), &read);
+    return detail::told(status, read.fen, "amount", read.char_index, read.byte_index);
+}
+
+/* The fen of a text in capitals as it is typed: white space, ⊗ in front and a colon behind 人民币 are left out. */
+inline Result<std::uint64_t> chinese_to_amount_as_typed(std::string_view text) {
+    cn_amount read;
+    const cn_status status = cn_read_typed_amount(text.data(), text.size(), &read);
+    return detail::told(status, read.fen, "amount", read.char_index, read.byte_index);
+}
+
+/* The fen of a text in capitals, behind 负 or not. */
+inline Result<std::int64_t> chinese_to_signed_amount(std::string_view text) {
+    cn_signed_amount read;
+    const cn_status status = cn_read_signed_amount(text.data(), text.size(), &read);
+    return detail::told(status, read.fen, "amount", read.char_index, read.byte_index);
+}
+
+/* The fen of figures in yuan, exactly: yuan_to_fen("-1,409.50"). */
+inline Result<std::int64_t> yuan_to_fen(std::string_view figures) {
+    cn_signed_amount read;
+    const cn_status status = cn_read_figures(figures.data(), figures.size(), &read);
     return detail::told(status, read.fen, "amount", read.char_index, read.byte_index);
 }
 

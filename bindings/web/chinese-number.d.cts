@@ -111,6 +111,19 @@ export function toChinese(number: bigint | number, options?: PrintOptions): stri
 export function amountToChinese(fen: bigint | number, options?: AmountOptions): string;
 
 /**
+ * An amount in capitals that may be below zero, as on a red invoice: `signedAmountToChinese(-1500)`
+ * is '负壹拾伍元整', in the traditional script '負壹拾伍元整'.
+ *
+ * It is written as by `amountToChinese`, behind 负 where it is below zero. Throws an AmountError
+ * where it is 10n ** 18n or more, or -(10n ** 18n) or less.
+ *
+ * @param {bigint | number} fen
+ * @param {AmountOptions} options
+ * @returns {string}
+ */
+export function signedAmountToChinese(fen: bigint | number, options?: AmountOptions): string;
+
+/**
  * Reads an amount of money in capitals, and gives its fen as a Number: `chineseToAmount('壹拾伍元整')`
  * is 1500.
  *
@@ -133,27 +146,70 @@ export function chineseToAmount(string: string): number;
 export function chineseToAmountBigInt(string: string): bigint;
 
 /**
- * The fen of an amount in yuan that is written in figures, exactly, as a Number:
- * `yuanToFen('1409.5')` is 140950.
+ * Reads an amount in capitals that may be below zero: `chineseToSignedAmount('负壹拾伍元整')` is -1500.
  *
- * Figures are ASCII digits, with a point and one or two more or none. Throws a RangeError for any
- * other text, as one with a sign, a comma or a third place; an AmountError for 10n ** 16n yuan or
- * more, or where the fen are past 2 ** 53 - 1, with the code 'unsafe': these `yuanToFenBigInt`
- * gives; and a TypeError for what is no string. Nothing is rounded.
+ * It is read as by `chineseToAmount`, behind one 负 or 負 or none; 负零元整 is 0.
  *
- * @param {string} figures
+ * @param {string} string
  * @returns {number}
  */
-export function yuanToFen(figures: string): number;
+export function chineseToSignedAmount(string: string): number;
 
 /**
- * The fen of an amount in figures, as by `yuanToFen`, as a BigInt: `yuanToFenBigInt('1409.5')` is
- * 140950n.
+ * Reads an amount in capitals, as `chineseToSignedAmount` does, and gives its fen as a BigInt:
+ * `chineseToSignedAmountBigInt('负壹拾伍元整')` is -1500n.
  *
- * @param {string} figures
+ * @param {string} string
  * @returns {bigint}
  */
-export function yuanToFenBigInt(figures: string): bigint;
+export function chineseToSignedAmountBigInt(string: string): bigint;
+
+/**
+ * Reads an amount in capitals as people type it: `chineseToAmountAsTyped('人民币：壹拾 伍元整')` is 1500.
+ *
+ * It is read as by `chineseToAmount`, without all white space, one ⊗ in front, and one : or ：
+ * directly behind 人民币 in front. The place of an error is that in the string as it is typed.
+ *
+ * @param {string} string
+ * @returns {number}
+ */
+export function chineseToAmountAsTyped(string: string): number;
+
+/**
+ * Reads an amount in capitals, as `chineseToAmountAsTyped` does, and gives its fen as a BigInt:
+ * `chineseToAmountAsTypedBigInt('⊗壹拾伍元整')` is 1500n.
+ *
+ * @param {string} string
+ * @returns {bigint}
+ */
+export function chineseToAmountAsTypedBigInt(string: string): bigint;
+
+/**
+ * The fen of an amount in yuan, exactly, as a Number: `yuanToFen('1,409.50')` is 140950, and
+ * `yuanToFen(15)` is 1500.
+ *
+ * The amount is a string of figures, a BigInt or a whole Number. Figures are digits, with a comma
+ * in front of each three of them from the point or with none; ¥ may stand in front, and in front of
+ * all a minus, - or −. Behind a point stand digits, of which those behind the second are 0. All of
+ * these but the minus may be full-width. Nothing is rounded, and white space is refused.
+ *
+ * Throws an AmountError for any other text, for 10n ** 16n yuan or more on either side of zero, or
+ * where the fen are past 2 ** 53 - 1, with the code 'unsafe': these `yuanToFenBigInt` gives. Throws
+ * a TypeError for what is none of the three, as 15.5, which holds no exact amount.
+ *
+ * @param {string | bigint | number} yuan
+ * @returns {number}
+ */
+export function yuanToFen(yuan: string | bigint | number): number;
+
+/**
+ * The fen of an amount in yuan, as by `yuanToFen`, as a BigInt: `yuanToFenBigInt('1,409.50')` is
+ * 140950n.
+ *
+ * @param {string | bigint | number} yuan
+ * @returns {bigint}
+ */
+export function yuanToFenBigInt(yuan: string | bigint | number): bigint;
 
 /**
  * A date in capitals, as it stands on a cheque: `dateToChinese({ year: 2026, month: 1, day: 15 })`
@@ -247,7 +303,9 @@ export class NumeralError extends Refusal {
  * - 'unfinished': the text is no amount, and something behind it can make it one, as '壹佰元';
  * - 'incorrect': no amount begins with the text up to and with a character;
  * - 'unsafe': the fen are no safe integer, so a Number does not hold them exactly;
- * - 'tooLarge', 'tooSmall': the amount to be written is 10n ** 18n fen or more, or below zero.
+ * - 'tooLarge': the amount is 10n ** 18n fen or more, and so is that of figures behind a minus;
+ * - 'tooSmall': the amount to be written is -(10n ** 18n) fen or less, or is below zero and written
+ *   by `amountToChinese`.
  */
 export class AmountError extends Refusal {
   /**

@@ -1,5 +1,6 @@
-/* Chinese numerals for whole numbers, printed, read and found in a text, and amounts of money and dates in capitals: the C
- * face of the proved library chinese_number. For C from C99 on; chinese_number.hpp has classes for C++17 over it.
+/* Chinese numerals for whole numbers, printed, read and found in a text, amounts of money and dates in capitals, and amounts
+ * in figures: the C face of the proved library chinese_number. For C from C99 on; chinese_number.hpp has classes for C++17
+ * over it.
  *
  * The calls chinese_.. are the proved ones: texts are bytes, and choices are codes. The calls cn_.., written here over
  * them, take texts in char and the enumerations below, so that a compiler can tell exchanged arguments apart.
@@ -145,13 +146,13 @@ typedef enum cn_status CN_OF_CODE {
     CN_DONE = 0,      /* the text was read or printed, or a number was found in it */
     CN_EMPTY = 1,     /* read: nothing is left of the text without white space and, for signed types, one sign */
     CN_INCORRECT = 2, /* read: the character at char_index cannot stand there; no amount or date begins with what ends there */
-    CN_TOO_LARGE = 3, /* read: past the type's greatest, or no number of 128 bits; print by CN_LOW: 10^16 or more; print an amount: 10^18 fen or more */
-    CN_TOO_SMALL = 4, /* read: past the type's least; print by CN_LOW: -10^16 or less */
+    CN_TOO_LARGE = 3, /* read: past the type's greatest, or no number of 128 bits; print by CN_LOW: 10^16 or more; print an amount, read figures: 10^18 fen or more */
+    CN_TOO_SMALL = 4, /* read: past the type's least; print by CN_LOW: -10^16 or less; print an amount: -10^18 fen or less */
     CN_NOT_UTF8 = 5,  /* read, find: the bytes are no UTF-8 */
     CN_NO_ROOM = 6,   /* print: the text has more bytes than the room; *length says how many */
     CN_NOT_HELD = 7,  /* print: the type does not hold the number */
     CN_UNKNOWN = 8,   /* a code names no type, way, script, case, form or unit; CN_ANY is no way to print */
-    CN_UNFINISHED = 9, /* read an amount or a date: the text is none, but something behind it can make it one */
+    CN_UNFINISHED = 9, /* read an amount, figures or a date: the text is none, but something behind it can make it one */
     CN_NONE = 10,      /* find: there is no number in the text */
     CN_NOT_A_DATE = 11 /* print a date: there is no such date */
 } cn_status;
@@ -161,6 +162,9 @@ typedef enum cn_status CN_OF_CODE {
 
 /* No amount is printed with more bytes, but for a zero byte that cn_print_amount writes. */
 #define CN_MOST_AMOUNT_BYTES 117
+
+/* And none that may be below zero, but for a zero byte that cn_print_signed_amount writes. */
+#define CN_MOST_SIGNED_AMOUNT_BYTES 120
 
 /* No date is printed with more bytes, but for a zero byte that cn_print_date writes. */
 #define CN_MOST_DATE_BYTES 39
@@ -247,6 +251,41 @@ uint32_t chinese_amount_print(uint64_t fen, uint32_t script, uint32_t form, uint
  * the first 40. */
 uint32_t chinese_amount_read(const uint8_t *text, size_t text_length, cn_amount *reading);
 
+/* Reads a text as it is typed: as chinese_amount_read does, but white space, then one ⊗ in front, and then one colon, : or
+ * ：, directly behind 人民币 in front are left out. The character at fault is told by its place in the text as it is typed,
+ * and so may stand anywhere. */
+uint32_t chinese_typed_amount_read(const uint8_t *text, size_t text_length, cn_amount *reading);
+
+/* What was read as an amount that may be below zero, as one of a red invoice: as in cn_amount. */
+typedef struct cn_signed_amount {
+    int64_t fen;
+    size_t char_index;
+    size_t byte_index;
+} cn_signed_amount;
+
+/* Prints an amount as chinese_amount_print does, and one below zero behind 负 (負 in traditional script).
+ *
+ * Returns CN_DONE, CN_NO_ROOM, CN_TOO_LARGE (from 10^18 fen on), CN_TOO_SMALL (from -10^18 fen down) or CN_UNKNOWN. A room
+ * of CN_MOST_SIGNED_AMOUNT_BYTES is never too small. */
+uint32_t chinese_signed_amount_print(int64_t fen, uint32_t script, uint32_t form, uint8_t *room, size_t room_length,
+                                     size_t *length);
+
+/* Reads a text as chinese_amount_read does, with one 负 or 負 in front or not; 负零元整 is 0. The character at fault is among
+ * the first 41. */
+uint32_t chinese_signed_amount_read(const uint8_t *text, size_t text_length, cn_signed_amount *reading);
+
+/* Reads figures in yuan, in UTF-8, as an amount; nothing is rounded. These are figures, from the front:
+ * - one minus, - or − (U+2212), or none;
+ * - ¥ or none;
+ * - digits without commas, or one to three digits and then, once or more, a comma and three digits;
+ * - nothing, or a point and one or more digits, of which those behind the second are 0.
+ * Digits, commas, points and ¥ may be full-width, and white space is at fault where it stands. Writes *reading whole at
+ * each status, and nothing else.
+ *
+ * Returns CN_DONE, CN_UNFINISHED (also for the empty text), CN_INCORRECT at the first character with which no figures
+ * begin, CN_TOO_LARGE (10^18 fen or more, or -10^18 or less) or CN_NOT_UTF8. The whole text is tested to be UTF-8. */
+uint32_t chinese_figures_read(const uint8_t *text, size_t text_length, cn_signed_amount *reading);
+
 /* What was read as a date: its year, month (1 is January) and day at CN_DONE, and at CN_INCORRECT how many characters and
  * how many bytes stand in front of the character at fault. All else is 0. */
 typedef struct cn_date {
@@ -307,6 +346,22 @@ CN_NODISCARD static inline cn_status cn_read(const char *text, size_t text_lengt
 /* chinese_amount_read for a text in char. */
 CN_NODISCARD static inline cn_status cn_read_amount(const char *text, size_t text_length, cn_amount *reading) {
     return CN_AS(cn_status, chinese_amount_read(cn_bytes(text, text_length), text_length, reading));
+}
+
+/* chinese_typed_amount_read for a text in char. */
+CN_NODISCARD static inline cn_status cn_read_typed_amount(const char *text, size_t text_length, cn_amount *reading) {
+    return CN_AS(cn_status, chinese_typed_amount_read(cn_bytes(text, text_length), text_length, reading));
+}
+
+/* chinese_signed_amount_read for a text in char. */
+CN_NODISCARD static inline cn_status cn_read_signed_amount(const char *text, size_t text_length,
+                                                           cn_signed_amount *reading) {
+    return CN_AS(cn_status, chinese_signed_amount_read(cn_bytes(text, text_length), text_length, reading));
+}
+
+/* chinese_figures_read for a text in char. */
+CN_NODISCARD static inline cn_status cn_read_figures(const char *text, size_t text_length, cn_signed_amount *reading) {
+    return CN_AS(cn_status, chinese_figures_read(cn_bytes(text, text_length), text_length, reading));
 }
 
 /* chinese_date_read for a text in char. */
@@ -372,6 +427,15 @@ CN_NODISCARD static inline cn_status cn_print_amount(uint64_t fen, cn_script scr
     uint8_t none;
     size_t length, most = cn_most_of_text(room_length);
     uint32_t status = chinese_amount_print(fen, script, form, cn_room(room, room_length, &none), most, &length);
+    return cn_ended(status, room, room_length, length);
+}
+
+/* chinese_signed_amount_print into a room of char, likewise: one of CN_MOST_SIGNED_AMOUNT_BYTES + 1 is never too small. */
+CN_NODISCARD static inline cn_status cn_print_signed_amount(int64_t fen, cn_script script, cn_form form, char *room,
+                                                            size_t room_length) {
+    uint8_t none;
+    size_t length, most = cn_most_of_text(room_length);
+    uint32_t status = chinese_signed_amount_print(fen, script, form, cn_room(room, room_length, &none), most, &length);
     return cn_ended(status, room, room_length, length);
 }
 

@@ -5,6 +5,7 @@
 //     toChinese(120, { case: 'upper' })               '壹佰贰拾'
 //     amountToChinese(yuanToFen('15'))                '壹拾伍元整'
 //     chineseToAmount('壹拾伍元整')                     1500
+//     signedAmountToChinese(yuanToFen('-1,409.50'))   '负壹仟肆佰零玖元伍角整'
 //     chineseToDate('伍年零壹月壹拾伍日')               { year: 5, month: 1, day: 15 }
 //     for (const found of findNumbers('第二十三回')) ..  found.number() is 23
 //
@@ -160,7 +161,9 @@ export class NumeralError extends Refusal {
  * - 'unfinished': the text is no amount, and something behind it can make it one, as '壹佰元';
  * - 'incorrect': no amount begins with the text up to and with a character;
  * - 'unsafe': the fen are no safe integer, so a Number does not hold them exactly;
- * - 'tooLarge', 'tooSmall': the amount to be written is 10n ** 18n fen or more, or below zero.
+ * - 'tooLarge': the amount is 10n ** 18n fen or more, and so is that of figures behind a minus;
+ * - 'tooSmall': the amount to be written is -(10n ** 18n) fen or less, or is below zero and written
+ *   by `amountToChinese`.
  */
 export class AmountError extends Refusal {
   /**
@@ -218,6 +221,7 @@ const TEXT = LENGTH + 8;
 const [READING_AT, LENGTH_AT, TEXT_AT] = [READING, LENGTH, TEXT].map(BigInt);
 const MOST_BYTES = 234;
 const MOST_AMOUNT_BYTES = 117;
+const MOST_SIGNED_AMOUNT_BYTES = 120;
 const MOST_DATE_BYTES = 39;
 const PAGE = 65536;
 const MOST_KEPT = 2 ** 24;
@@ -479,13 +483,42 @@ export function toChinese(number, options = {}) {
  * @returns {string}
  */
 export function amountToChinese(fen, options = {}) {
+  return capitalsOf(fen, options, PLAIN);
+}
+
+/**
+ * An amount in capitals that may be below zero, as on a red invoice: `signedAmountToChinese(-1500)`
+ * is '负壹拾伍元整', in the traditional script '負壹拾伍元整'.
+ *
+ * It is written as by `amountToChinese`, behind 负 where it is below zero. Throws an AmountError
+ * where it is 10n ** 18n or more, or -(10n ** 18n) or less.
+ *
+ * @param {bigint | number} fen
+ * @param {AmountOptions} options
+ * @returns {string}
+ */
+export function signedAmountToChinese(fen, options = {}) {
+  return capitalsOf(fen, options, SIGNED);
+}
+
+/** The calls that write fen: what 64 bits of them stand for, and the most bytes of a text. */
+const PLAIN = { held: BigInt.asUintN, most: MOST_AMOUNT_BYTES, name: 'chinese_amount_print' };
+const SIGNED = {
+  held: BigInt.asIntN, most: MOST_SIGNED_AMOUNT_BYTES, name: 'chinese_signed_amount_print',
+};
+
+/**
+ * The capitals that a call of the module writes of fen.
+ * @param {bigint | number} fen
+ * @param {AmountOptions} options
+ * @param {typeof PLAIN} call
+ */
+function capitalsOf(fen, options, { held, most, name }) {
   refuseOthers(options, OF_AMOUNTS);
   const script = scriptOf(options), form = formOf(options), whole = wholeOf(fen);
-  // The module is handed 64 bits.
-  if (whole < 0n) throw new AmountError('tooSmall');
-  if (BigInt.asUintN(64, whole) !== whole) throw new AmountError('tooLarge');
-  return print(MOST_AMOUNT_BYTES,
-    (most) => library.chinese_amount_print(whole, script, form, TEXT_AT, most, LENGTH_AT),
+  if (held(64, whole) !== whole) throw new AmountError(whole < 0n ? 'tooSmall' : 'tooLarge');
+  return print(most,
+    (room) => library[name](whole, script, form, TEXT_AT, room, LENGTH_AT),
     (code) => new AmountError(code));
 }
 
@@ -513,7 +546,7 @@ function formOf({ currency = false, yuan = '元', closing = '整' }) {
  * @returns {number}
  */
 export function chineseToAmount(string) {
-  return exactOf(chineseToAmountBigInt(string), () => new AmountError('unsafe'));
+  return exactFen(chineseToAmountBigInt(string));
 }
 
 /**
@@ -524,46 +557,106 @@ export function chineseToAmount(string) {
  * @returns {bigint}
  */
 export function chineseToAmountBigInt(string) {
-  read(string, (length) => library.chinese_amount_read(TEXT_AT, length, READING_AT), 1,
-    (code, place) => new AmountError(code, place));
-  return words[0];
+  return fenOf(string, 'chinese_amount_read');
 }
 
-const FIGURES = /^([0-9]+)(?:\.([0-9]{1,2}))?$/;
-
 /**
- * The fen of an amount in yuan that is written in figures, exactly, as a Number:
- * `yuanToFen('1409.5')` is 140950.
+ * Reads an amount in capitals that may be below zero: `chineseToSignedAmount('负壹拾伍元整')` is -1500.
  *
- * Figures are ASCII digits, with a point and one or two more or none. Throws a RangeError for any
- * other text, as one with a sign, a comma or a third place; an AmountError for 10n ** 16n yuan or
- * more, or where the fen are past 2 ** 53 - 1, with the code 'unsafe': these `yuanToFenBigInt`
- * gives; and a TypeError for what is no string. Nothing is rounded.
+ * It is read as by `chineseToAmount`, behind one 负 or 負 or none; 负零元整 is 0.
  *
- * @param {string} figures
+ * @param {string} string
  * @returns {number}
  */
-export function yuanToFen(figures) {
-  return exactOf(yuanToFenBigInt(figures), () => new AmountError('unsafe'));
+export function chineseToSignedAmount(string) {
+  return exactFen(chineseToSignedAmountBigInt(string));
 }
 
 /**
- * The fen of an amount in figures, as by `yuanToFen`, as a BigInt: `yuanToFenBigInt('1409.5')` is
- * 140950n.
+ * Reads an amount in capitals, as `chineseToSignedAmount` does, and gives its fen as a BigInt:
+ * `chineseToSignedAmountBigInt('负壹拾伍元整')` is -1500n.
  *
- * @param {string} figures
+ * @param {string} string
  * @returns {bigint}
  */
-export function yuanToFenBigInt(figures) {
-  if (typeof figures !== 'string') throw new TypeError('an amount in figures is a string');
-  const [, yuan, places = ''] = FIGURES.exec(figures) ?? [];
-  if (yuan === undefined) {
-    throw new RangeError('figures are digits, and may have a point with one or two more behind it');
-  }
-  const fen = (yuan + places.padEnd(2, '0')).replace(/^0+/, '');
-  if (fen.length > 18) throw new AmountError('tooLarge');
-  return BigInt(fen);
+export function chineseToSignedAmountBigInt(string) {
+  return fenOf(string, 'chinese_signed_amount_read');
 }
+
+/**
+ * Reads an amount in capitals as people type it: `chineseToAmountAsTyped('人民币：壹拾 伍元整')` is 1500.
+ *
+ * It is read as by `chineseToAmount`, without all white space, one ⊗ in front, and one : or ：
+ * directly behind 人民币 in front. The place of an error is that in the string as it is typed.
+ *
+ * @param {string} string
+ * @returns {number}
+ */
+export function chineseToAmountAsTyped(string) {
+  return exactFen(chineseToAmountAsTypedBigInt(string));
+}
+
+/**
+ * Reads an amount in capitals, as `chineseToAmountAsTyped` does, and gives its fen as a BigInt:
+ * `chineseToAmountAsTypedBigInt('⊗壹拾伍元整')` is 1500n.
+ *
+ * @param {string} string
+ * @returns {bigint}
+ */
+export function chineseToAmountAsTypedBigInt(string) {
+  return fenOf(string, 'chinese_typed_amount_read');
+}
+
+/**
+ * The fen of an amount in yuan, exactly, as a Number: `yuanToFen('1,409.50')` is 140950, and
+ * `yuanToFen(15)` is 1500.
+ *
+ * The amount is a string of figures, a BigInt or a whole Number. Figures are digits, with a comma
+ * in front of each three of them from the point or with none; ¥ may stand in front, and in front of
+ * all a minus, - or −. Behind a point stand digits, of which those behind the second are 0. All of
+ * these but the minus may be full-width. Nothing is rounded, and white space is refused.
+ *
+ * Throws an AmountError for any other text, for 10n ** 16n yuan or more on either side of zero, or
+ * where the fen are past 2 ** 53 - 1, with the code 'unsafe': these `yuanToFenBigInt` gives. Throws
+ * a TypeError for what is none of the three, as 15.5, which holds no exact amount.
+ *
+ * @param {string | bigint | number} yuan
+ * @returns {number}
+ */
+export function yuanToFen(yuan) {
+  return exactFen(yuanToFenBigInt(yuan));
+}
+
+/**
+ * The fen of an amount in yuan, as by `yuanToFen`, as a BigInt: `yuanToFenBigInt('1,409.50')` is
+ * 140950n.
+ *
+ * @param {string | bigint | number} yuan
+ * @returns {bigint}
+ */
+export function yuanToFenBigInt(yuan) {
+  if (typeof yuan === 'number' && !Number.isSafeInteger(yuan)) {
+    throw new TypeError('a Number of yuan is whole, and at most 2 ** 53 - 1: give a string');
+  }
+  if (!['string', 'bigint', 'number'].includes(typeof yuan)) {
+    throw new TypeError('an amount is a string of figures, a BigInt or a whole Number');
+  }
+  return fenOf(String(yuan), 'chinese_figures_read');
+}
+
+/**
+ * The fen that a call of the module reads of a string.
+ * @param {string} string
+ * @param {string} name
+ */
+function fenOf(string, name) {
+  read(string, (length) => library[name](TEXT_AT, length, READING_AT), 1,
+    (code, place) => new AmountError(code, place));
+  return BigInt.asIntN(64, words[0]);
+}
+
+/** @param {bigint} fen */
+const exactFen = (fen) => exactOf(fen, () => new AmountError('unsafe'));
 
 /**
  * A date in capitals, as it stands on a cheque: `dateToChinese({ year: 2026, month: 1, day: 15 })`
