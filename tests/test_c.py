@@ -165,3 +165,15 @@ def test_wrong_calls(compiler, tmp_path):
         source = write(tmp_path / "call.c", text)
         words = (*COMPILERS[compiler], "-Wextra", "-Werror", "-I", C, "-c", source)
         assert told in run(compiler, *words, cwd=tmp_path, fails=bool(told))
+
+
+@pytest.mark.parametrize("compiler", [it for it, words in COMPILERS.items() if words is AS_CPP])
+def test_no_part_of_a_fen(compiler, tmp_path):
+    """In C++ an amount is a whole number: a double, which C would cut, is refused."""
+    needs(compiler)
+    call = "chinese_number::amount_to_chinese({}).value_or({{}})"
+    text = f'#include "chinese_number.hpp"\nauto text = {call};\n'
+    for fen, told in (("1409", ""), ("14.09", "a whole number of fen")):
+        source = write(tmp_path / "call.cpp", text.format(fen))
+        words = (*COMPILERS[compiler], "-I", C, "-c", source)
+        assert told in run(compiler, *words, cwd=tmp_path, fails=bool(told))

@@ -380,7 +380,9 @@ def _amount_text(
     """The text of an amount from the least one on, in a script, with the currency or without, with
     a word for yuan and a closing."""
     script, currency, yuan, closing = choices
-    whole, script_code = _whole(fen, "a whole number, in fen,"), _code(_SCRIPTS, script, "script")
+    whole, script_code = _whole(
+        fen, "a whole number of fen, which yuan_to_fen makes of yuan,"
+    ), _code(_SCRIPTS, script, "script")
     form = _code(_YUAN, yuan, "yuan") + _code(_CLOSINGS, closing, "closing")
     form += _CURRENCY if _flag(currency) else 0
     if not least <= whole < _FIRST_NOT_WRITTEN:
@@ -406,7 +408,7 @@ def amount_to_chinese(
     '壹拾萬零柒仟元伍角參分'
     >>> amount_to_chinese(15.0)
     Traceback (most recent call last):
-    TypeError: a whole number, in fen, is wanted, and not 15.0
+    TypeError: a whole number of fen, which yuan_to_fen makes of yuan, is wanted, and not 15.0
 
     The currency is 人民币, in front; yuan is '元' or '圆', and closing '整' or '正'.
 
@@ -507,9 +509,9 @@ def yuan_to_fen(value: Union[Decimal, str, SupportsIndex]) -> int:
     Traceback (most recent call last):
     TypeError: a float holds no exact amount: give a str or a Decimal, and not 15.5
 
-    In front of the figures there may be - or −, and then ¥. A comma stands in front of each three
-    digits of the yuan, or none does, and of the digits behind the point those from the third on are
-    0. Full-width characters are read as plain ones. A Decimal is read as format(value, 'f') is.
+    In front of the figures there may be - or −, and then ¥. The yuan are digits, or one to three of
+    them and then groups of a comma and three digits; of the digits behind the point those from the
+    third on are 0. All but the minus may be full-width. A Decimal is read as format(value, 'f') is.
     """
     if isinstance(value, float):
         raise TypeError(
