@@ -174,6 +174,24 @@ Result<Value> told(cn_status status, Value value, const char *subject, std::size
     return Error{static_cast<Status>(status), subject, char_index, byte_index};
 }
 
+template <typename T>
+constexpr bool is_below_zero(T value) {
+    if constexpr (is_signed<T>)
+        return value < 0;
+    else
+        return false;
+}
+
+/* An amount of fen in the type that a call takes. */
+template <typename Held, typename T>
+Result<Held> held_as(T fen) {
+    static_assert(is_whole<T>, "an amount is a whole number of fen");
+    const Held held = static_cast<Held>(fen);
+    if (is_below_zero(held) != is_below_zero(fen) || static_cast<T>(held) != fen)
+        return Error{is_below_zero(fen) ? Status::too_small : Status::too_large, "amount", 0, 0};
+    return held;
+}
+
 } // namespace detail
 
 /* The number of a text as one of a type by its code, in halves: for 128 bits where the compiler has no such type. */
@@ -205,21 +223,28 @@ Result<std::string> to_chinese(T number, Style style = {}) {
     return to_chinese(detail::halves_of(number), detail::kind_of<T>(), style);
 }
 
-/* The text in capitals of an amount of fen, the hundredth part of a yuan; there is none from 10^18 on. */
-inline Result<std::string> amount_to_chinese(std::uint64_t fen, AmountForm form = {},
-                                             Script script = Script::simplified) {
+/* The text in capitals of an amount of fen, the hundredth part of a yuan, as amount_to_chinese(1500); there is none below
+ * zero and from 10^18 on. */
+template <typename T>
+Result<std::string> amount_to_chinese(T fen, AmountForm form = {}, Script script = Script::simplified) {
+    const Result<std::uint64_t> held = detail::held_as<std::uint64_t>(fen);
+    if (!held)
+        return held.error();
     char room[CN_MOST_AMOUNT_BYTES + 1];
     const cn_status status =
-        cn_print_amount(fen, static_cast<cn_script>(script), detail::flags_of(form), room, sizeof room);
+        cn_print_amount(*held, static_cast<cn_script>(script), detail::flags_of(form), room, sizeof room);
     return detail::told(status, std::string(room), "amount");
 }
 
 /* The same of an amount that may be below zero, as one of a red invoice: behind 负 then. There is none from -10^18 down. */
-inline Result<std::string> signed_amount_to_chinese(std::int64_t fen, AmountForm form = {},
-                                                    Script script = Script::simplified) {
+template <typename T>
+Result<std::string> signed_amount_to_chinese(T fen, AmountForm form = {}, Script script = Script::simplified) {
+    const Result<std::int64_t> held = detail::held_as<std::int64_t>(fen);
+    if (!held)
+        return held.error();
     char room[CN_MOST_SIGNED_AMOUNT_BYTES + 1];
     const cn_status status =
-        cn_print_signed_amount(fen, static_cast<cn_script>(script), detail::flags_of(form), room, sizeof room);
+        cn_print_signed_amount(*held, static_cast<cn_script>(script), detail::flags_of(form), room, sizeof room);
     return detail::told(status, std::string(room), "amount");
 }
 

@@ -338,7 +338,7 @@ function print(most, call, refusal) {
 function wholeOf(number) {
   if (typeof number === 'bigint') return number;
   if (!Number.isSafeInteger(number)) {
-    throw new TypeError('a number is a BigInt, or a whole Number up to 2 ** 53 - 1');
+    throw new TypeError('a number, or the fen of an amount, is a BigInt or a safe whole Number');
   }
   return BigInt(number);
 }
@@ -361,7 +361,9 @@ function exactOf(whole, refusal) {
  */
 function codeOf(names, name, what) {
   const code = names.indexOf(name);
-  if (code < 0) throw new TypeError(`no ${what} is named ${String(name)}`);
+  if (code < 0) {
+    throw new TypeError(`${what} is one of ${names.join(', ')}, and not ${String(name)}`);
+  }
   return code;
 }
 
