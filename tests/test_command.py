@@ -127,8 +127,8 @@ def test_many_rows(command):
     data = "".join(f"{row},{cell}\n" for row, cell in rows)
     written = "".join(f"{row},{cell},{answers[cell]}\n" for row, cell in rows)
     refusal = "the amount is incorrect (position: 5)"
-    told = "".join(f"{row}:6: {refusal}\n" for row in range(20, 20001, 20))
-    told += "20000 rows, 19000 written, 1000 refused\n"
+    told = "".join(f"{row}: {refusal}\n" for row in range(20, 20001, 20))
+    told += "20000 rows: 19000 answered, 1000 refused\n"
     found = command("amount", "--column", "2", data=data.encode())
     assert found == (1, written.encode(), told.encode())
 
@@ -138,7 +138,7 @@ def test_open_quote(command):
     refused = 2**17 // 3 + 1
     rows = [b'"15', *[b"15"] * (refused - 2), b"15,"]
     rows += ["15,壹拾伍元整".encode()] * (60001 - refused)
-    told = f"1: the row is not CSV\n{60002 - refused} rows, {60001 - refused} written, 1 refused\n"
+    told = f"1: the row is not CSV\n{60002 - refused} rows: {60001 - refused} answered, 1 refused\n"
     found = command(*TABLE, data=b'"' + b"15\n" + ROWS)
     assert found == (1, b"".join(row + b"\n" for row in rows), told.encode())
 
@@ -155,4 +155,4 @@ def test_progress(command):
     os.close(errors)
     told = os.read(terminal, 4096)
     os.close(terminal)
-    assert re.fullmatch(rb"\r2 rows\r +\r2 rows, 2 written, 0 refused\r\n", told)
+    assert re.fullmatch(rb"\r2 rows\r +\r2 rows: 2 answered, 0 refused\r\n", told)

@@ -263,7 +263,7 @@ async function answerTable(column, isHeaded, delimiter, answerOf) {
   await write(table.end());
   progress.wipe();
   const { rows, refused } = table;
-  tell(`${table.told()}${rows} rows, ${rows - refused} written, ${refused} refused\n`);
+  tell(`${table.told()}${rows} rows: ${rows - refused} answered, ${refused} refused\n`);
   return refused ? 1 : 0;
 }
 
