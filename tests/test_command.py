@@ -143,6 +143,15 @@ def test_open_quote(command):
     assert found == (1, b"".join(row + b"\n" for row in rows), told.encode())
 
 
+def test_long_cell(command):
+    """A cell without a quote, or whose quote is closed, may be of any length."""
+    long = b"x" * 200000
+    data = b'%s,15\n"%s",16\n' % (long, long)
+    written = '%s,15,壹拾伍元整\n"%s",16,壹拾陆元整\n'.encode().replace(b"%s", long)
+    told = b"2 rows: 2 answered, 0 refused\n"
+    assert command("amount", "--column", "2", data=data) == (0, written, told)
+
+
 def test_progress(command):
     """A terminal is told how many rows are done after more than a second, and no more at the end."""
     terminal, errors = pty.openpty()

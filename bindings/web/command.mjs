@@ -92,13 +92,13 @@ function usageOf(name) {
 }
 
 // Parts the words behind a command: its options, each with what it is set to, and the other words.
-// A hyphen and a digit or a point begin a number, and behind -- there are no options.
+// A hyphen in front of figures begins a word, and behind -- there are no options.
 function parted(words, known) {
   const options = {}, left = [...words], others = [];
   while (left.length) {
     const word = left.shift();
     if (word === '--') return { options, others: [...others, ...left] };
-    if (/^-[^0-9.]/.test(word)) Object.assign(options, optionOf(word, left, known));
+    if (/^-[^0-9.¥￥０-９]/.test(word)) Object.assign(options, optionOf(word, left, known));
     else others.push(word);
   }
   return { options, others };
@@ -289,9 +289,9 @@ function answersTo(bytes, line, wanted, options) {
   return answers;
 }
 
-async function findInInput({ all, ...options }, words) {
+async function findInInput({ all, ...form }, words) {
   if (words.length) throw new Misuse();
-  const wanted = all ? { upper: true, greatest: 'ji' } : {};
+  const wanted = all ? { upper: true, greatest: 'ji' } : {}, options = { kind: 'u128', ...form };
   let count = 0;
   for await (const lines of linesOf(input())) {
     await write(lines.map((it) => answersTo(it, ++count, wanted, options)).join(''));

@@ -16,9 +16,10 @@ export async function* linesOfTable(stream) {
     // Its line feed may stand in the next piece.
     held = text.endsWith('\r') ? '\r' : '';
     if (held) text = text.slice(0, -1);
-    const lines = text.match(/[^\r\n]*(?:\r\n?|\n)/g) ?? [];
+    const lines = text.split(/(?<=\n|\r(?!\n))/);
+    const rest = /[\r\n]$/.test(text) ? '' : lines.pop();
     if (lines.length) [lines[0], begun] = [begun + lines[0], ''];
-    begun += text.slice(Math.max(text.lastIndexOf('\n'), text.lastIndexOf('\r')) + 1);
+    begun += rest;
     yield lines;
   }
   if (begun + held) yield [begun + held];

@@ -81,7 +81,7 @@ class _Misuse(Exception):
 
 
 # In front of the figures of an amount, and the whole of the figures of a date or a front of them.
-_BEGINS_AMOUNT = re.compile(r"[\0-\x7f¥￥０-９−]")
+_BEGINS_FIGURES = re.compile(r"[\0-\x7f¥￥０-９]")
 _FRONT_OF_DATE = re.compile(r"[0-9]{4}-[0-9]{2}-[0-9]{0,2}|[0-9]{4}-[0-9]{0,2}|[0-9]{0,4}")
 
 
@@ -92,10 +92,11 @@ def _figures(fen: int) -> str:
 
 def _amount(word: str, *, signed: bool = False, typed: bool = False, **options: Any) -> str:
     """An amount in figures of one in capitals, or the other way round."""
-    if not _BEGINS_AMOUNT.match(word.lstrip() if typed else word):
+    front = word.lstrip() if typed else word
+    if not _BEGINS_FIGURES.match(front) and not (signed and word.startswith("−")):
         read = chinese_to_signed_amount if signed else chinese_to_amount
         return _figures((chinese_to_amount_as_typed if typed else read)(word))
-    if word[0] in "-−" and not signed:
+    if word.startswith("-") and not signed:
         raise AmountError(Status.INCORRECT, 0)
     return signed_amount_to_chinese(yuan_to_fen(word), **options)
 
@@ -148,6 +149,7 @@ def _numbers(line: bytes, wanted: Dict[str, Any], options: Dict[str, Any]) -> It
 
 def _find(options: Dict[str, Any]) -> int:
     wanted = {it: options.pop(it) for it in ("upper", "greatest") if it in options}
+    options.setdefault("kind", "u128")
     with open(0, "rb", closefd=False) as lines:
         for count, line in enumerate(lines, 1):
             for answer in _numbers(line, wanted, options):
@@ -173,7 +175,7 @@ def _parted(words: List[str], known: _Options) -> Tuple[List[str], Dict[str, Any
     for word in left:
         if word == "--":
             others += left
-        elif not re.match("-[^0-9.]", word):
+        elif not re.match("-[^0-9.¥￥０-９]", word):
             others.append(word)
         else:
             name, equals, value = word.partition("=")
