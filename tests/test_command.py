@@ -65,6 +65,14 @@ def test_rows(command):
     assert wrong == []
 
 
+def test_help(command):
+    """Both programs have one text, which stands in Python's."""
+    source = (TOP / "bindings/python/chinese_number/__main__.py").read_text(encoding="utf-8")
+    text = re.search(r'USAGE = """\\\n(.*?)"""', source, re.S)[1].replace(r"\\", "\\")
+    for words in (["--help"], ["amount", "--help"]):
+        assert command(*words) == (0, f"{text}\n".encode(), b"")
+
+
 @pytest.mark.parametrize("what", ["amount", "date"])
 def test_words_of_cheque(command, what):
     """They are told apart by the command's name, so a refusal tells which one it is."""

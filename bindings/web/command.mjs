@@ -27,18 +27,36 @@ const PRINT_WAY = wordsFor(WAYS.filter((it) => it !== 'any'));
 const COLUMN = { has: (it) => /^[1-9][0-9]{0,8}$/.test(it), get: Number };
 const DELIMITER = { has: (it) => /^[^"\r\n]$/u.test(it), get: String };
 
-// Each command: its line of the usage, what it does, the options that it has, and what runs.
+const USAGE = `\
+usage: chinese-number amount [--traditional] [--currency] [--yuan 圆] [--closing 正]
+                             [--signed | --typed] WORD..
+       chinese-number amount .. --column N [--header] [--delimiter ,]
+       chinese-number date [--traditional] WORD..
+       chinese-number read [--kind i128] [--way any] WORD..
+       chinese-number print [--traditional] [--upper] [--kind i128] [--way ten_thousand] NUMBER..
+       chinese-number find [--all] [--kind u128] [--way any]
+       chinese-number --help | --version
+
+amount   writes yuan in capitals, 1409.50 as 壹仟肆佰零玖元伍角整, and reads capitals; with --signed
+         also below zero, -15 as 负壹拾伍元整; with --typed it reads ⊗ 人民币：壹拾 伍元整 too;
+         with --column N, reads a table in CSV, in UTF-8, from standard input and writes each row
+         with one more cell: the answer to its Nth cell, or nothing where that is refused;
+         --header leaves the first row unanswered; --delimiter $'\\t' is for tabs. Why cells are
+         refused, and how many, goes to standard error
+date     writes dates in capitals, 2026-01-15 as 贰零贰陆年零壹月壹拾伍日, and reads capitals
+read     reads numerals, 一百二 as 120
+print    writes whole numbers as numerals, -120 as 负一百二十
+find     writes LINE:CHARACTER TEXT NUMBER of each number in standard input, or err and why it is
+         refused; with --all also of the characters of cheques and of units above 兆
+
+A kind is u8, u16, u32, u64, u128, i8, i16, i32, i64, i128; a way to read
+is digits, low, ten_thousand, middle, high, any, and to write each but any.
+Words behind -- are no options.
+`;
+
+// Each command: the options that it has, and what runs.
 const COMMANDS = {
   amount: {
-    usage: 'amount [--traditional] [--currency] [--yuan 圆] [--closing 正]\n'
-      + '                             [--signed | --typed] WORD..\n'
-      + '       chinese-number amount .. --column N [--header] [--delimiter ,]',
-    about: 'Writes amounts of yuan in capitals, 1409.50 as 壹仟肆佰零玖元伍角整, and reads capitals;\n'
-      + 'with --signed also below zero, as 负壹拾伍元整, with --typed capitals as they are typed,\n'
-      + '⊗人民币：壹 元整. With --column the cells in column N, from 1 on, of a table of CSV in standard\n'
-      + 'input are answered, and the table is written with a column more; LINE:CHARACTER of each\n'
-      + 'refused cell, with why it is refused, and how many rows there are go to standard error.\n'
-      + 'With --header the first row is passed over.',
     options: {
       traditional: FLAG, currency: FLAG,
       yuan: wordsFor(['元', '圆']), closing: wordsFor(['整', '正']),
@@ -47,20 +65,14 @@ const COMMANDS = {
     run: answerAmounts,
   },
   date: {
-    usage: 'date [--traditional] WORD..',
-    about: 'Writes dates in capitals, 2026-01-15 as 贰零贰陆年零壹月壹拾伍日, and reads capitals.',
     options: { traditional: FLAG },
     run: (options, words) => answerEach(words, (word) => answerDate(word, options)),
   },
   read: {
-    usage: 'read [--kind i128] [--way any] TEXT..',
-    about: 'Reads numerals, 一百二 as 120.',
     options: { kind: KIND, way: WAY },
     run: (options, words) => answerEach(words, (word) => toBigInt(word, options)),
   },
   print: {
-    usage: 'print [--traditional] [--upper] [--kind i128] [--way ten_thousand] NUMBER..',
-    about: 'Writes whole numbers as numerals, -120 as 负一百二十.',
     options: { traditional: FLAG, upper: FLAG, kind: KIND, way: PRINT_WAY },
     run: ({ upper, ...options }, words) => {
       const all = { ...options, case: upper ? 'upper' : 'lower' };
@@ -68,28 +80,10 @@ const COMMANDS = {
     },
   },
   find: {
-    usage: 'find [--all] [--way any] [--kind i128]',
-    about: 'Finds the numbers in standard input, and writes LINE:COLUMN TEXT NUMBER of each, or\n'
-      + 'err and why it is refused. With --all the characters of cheques and the units above 兆\n'
-      + 'are looked for, too.',
-    options: { all: FLAG, way: WAY, kind: KIND },
+    options: { all: FLAG, kind: KIND, way: WAY },
     run: findInInput,
   },
 };
-
-const NAMES = `\
-A kind is ${KINDS.join(', ')}; a way to read
-is ${[...WAY.keys()].join(', ')}, and to write each but any.`;
-
-// The usage of one command, or of all.
-function usageOf(name) {
-  const names = name ? [name] : Object.keys(COMMANDS);
-  const lines = names.map((it) => `chinese-number ${COMMANDS[it].usage}`);
-  if (!name) lines.push('chinese-number --help | --version', 'chinese-number COMMAND --help');
-  const about = names.map((it) => COMMANDS[it].about);
-  if (names.some((it) => COMMANDS[it].options.kind)) about.push(NAMES);
-  return `usage: ${lines.join('\n       ')}\n\n${about.join('\n')}\n`;
-}
 
 // Parts the words behind a command: its options, each with what it is set to, and the other words.
 // A hyphen in front of figures begins a word, and behind -- there are no options.
@@ -306,7 +300,7 @@ async function run(name, words) {
   const { options, others } = parted(words, { ...command.options, help: FLAG });
   const { help, traditional, ...rest } = options;
   if (!help) return command.run(traditional ? { ...rest, script: 'traditional' } : rest, others);
-  process.stdout.write(usageOf(name));
+  process.stdout.write(USAGE);
   return 0;
 }
 
@@ -320,11 +314,11 @@ async function main([name = '', ...words]) {
   for (const it of [process.stdout, process.stderr]) it.on('error', endOf);
   try {
     if (name === '--version') process.stdout.write(`chinese-number ${VERSION}\n`);
-    else if (name === '--help') process.stdout.write(usageOf());
+    else if (name === '--help') process.stdout.write(USAGE);
     else process.exitCode = await run(name, words);
   } catch (error) {
     if (!(error instanceof Misuse)) endOf(error);
-    process.stderr.write(usageOf(Object.hasOwn(COMMANDS, name) ? name : undefined));
+    process.stderr.write(USAGE);
     process.exitCode = 2;
   }
 }

@@ -51,29 +51,31 @@ _MEANINGS: Dict[str, Dict[str, Any]] = {
     "--upper": {"case": "upper"},
     "--all": {"upper": True, "greatest": "ji"},
 }
-USAGE = f"""\
+USAGE = """\
 usage: chinese-number amount [--traditional] [--currency] [--yuan 圆] [--closing 正]
                              [--signed | --typed] WORD..
        chinese-number amount .. --column N [--header] [--delimiter ,]
        chinese-number date [--traditional] WORD..
        chinese-number read [--kind i128] [--way any] WORD..
        chinese-number print [--traditional] [--upper] [--kind i128] [--way ten_thousand] NUMBER..
-       chinese-number find [--all] [--kind i128] [--way any]
+       chinese-number find [--all] [--kind u128] [--way any]
        chinese-number --help | --version
 
 amount   writes yuan in capitals, 1409.50 as 壹仟肆佰零玖元伍角整, and reads capitals; with --signed
          also below zero, -15 as 负壹拾伍元整; with --typed it reads ⊗ 人民币：壹拾 伍元整 too;
-         with --column it answers the cells in column N, from 1 on, of a table in CSV: the rows of
-         standard input are written with one more cell, and to standard error LINE:CHARACTER: and
-         why of each cell that is refused, and how many there are
+         with --column N, reads a table in CSV, in UTF-8, from standard input and writes each row
+         with one more cell: the answer to its Nth cell, or nothing where that is refused;
+         --header leaves the first row unanswered; --delimiter $'\\t' is for tabs. Why cells are
+         refused, and how many, goes to standard error
 date     writes dates in capitals, 2026-01-15 as 贰零贰陆年零壹月壹拾伍日, and reads capitals
 read     reads numerals, 一百二 as 120
 print    writes whole numbers as numerals, -120 as 负一百二十
-find     writes LINE:COLUMN TEXT NUMBER of each number in standard input, or err and why it is
+find     writes LINE:CHARACTER TEXT NUMBER of each number in standard input, or err and why it is
          refused; with --all also of the characters of cheques and of units above 兆
 
-A kind is {', '.join(Kind)}; a way to read
-is {', '.join(Way)}, and to write each but any."""
+A kind is u8, u16, u32, u64, u128, i8, i16, i32, i64, i128; a way to read
+is digits, low, ten_thousand, middle, high, any, and to write each but any.
+Words behind -- are no options."""
 
 
 class _Misuse(Exception):
