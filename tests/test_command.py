@@ -18,6 +18,7 @@ from questions import table
 from running import TOP, Program, needs, write
 
 USAGE = b"usage: chinese-number "
+MISUSE = re.compile(rb"chinese-number: .+ \(--help says more\)\n")
 MANY = "二十三\n".encode() * 20000
 TABLE, ROWS = ["amount", "--column", "1"], b"15\n" * 60000
 # Words and an input to which something is written.
@@ -52,6 +53,8 @@ def in_bytes(cell):
 def is_written(found, cell):
     if cell == "usage":
         return found.startswith(USAGE)
+    if cell == "misuse":
+        return MISUSE.fullmatch(found) is not None
     return found == in_bytes(cell) + (b"\n" if cell else b"")
 
 

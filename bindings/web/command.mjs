@@ -1,7 +1,7 @@
 #!/usr/bin/env node
 // The command chinese-number: amounts, dates and numerals are written and read, and the numbers of
-// a text are found. Answers go to standard output, refusals and the usage of what asks for nothing
-// to standard error. The status is 0 where all is answered, 1 where something is refused or cannot
+// a text are found. Answers go to standard output, refusals to
+// standard error. The status is 0 where all is answered, 1 where something is refused or cannot
 // be read or written, and 2 where the words of the command line ask for nothing.
 
 import { isUtf8 } from 'node:buffer';
@@ -17,6 +17,11 @@ import { Table, linesOfTable } from './table.mjs';
 // The words that ask for nothing.
 class Misuse extends Error {}
 
+function notOneOf(name, choices, given) {
+  const wanted = [...choices].join(', ').replace(/, ([^,]*)$/, ' or $1');
+  return new Misuse(`${name} is ${wanted}${given ? `, and not ${given}` : ''}`);
+}
+
 // What an option may be set to: each word with what it stands for, or words of a pattern. A flag
 // takes no word.
 const FLAG = null;
@@ -24,8 +29,14 @@ const snake = (name) => name.replace(/[A-Z]/g, (it) => `_${it.toLowerCase()}`);
 const wordsFor = (names) => new Map(names.map((it) => [snake(it), it]));
 const KIND = wordsFor(KINDS), WAY = wordsFor(WAYS);
 const PRINT_WAY = wordsFor(WAYS.filter((it) => it !== 'any'));
-const COLUMN = { has: (it) => /^[1-9][0-9]{0,8}$/.test(it), get: Number };
-const DELIMITER = { has: (it) => /^[^"\r\n]$/u.test(it), get: String };
+const COLUMN = {
+  has: (it) => /^[1-9][0-9]{0,8}$/.test(it), get: Number,
+  keys: () => ['a number from 1 to 999999999'],
+};
+const DELIMITER = {
+  has: (it) => /^[^"\r\n]$/u.test(it), get: String,
+  keys: () => ['a character that is no quote and no line end'],
+};
 
 const USAGE = `\
 usage: chinese-number amount [--traditional] [--currency] [--yuan 圆] [--closing 正]
@@ -100,11 +111,16 @@ function parted(words, known) {
 
 // What a word sets, with the one behind it where it needs a value.
 function optionOf(word, left, known) {
-  const [, name, value] = /^--([a-z]+)(?:=(.*))?$/s.exec(word) ?? [];
-  if (!name || !Object.hasOwn(known, name)) throw new Misuse();
-  if (known[name] === FLAG && value === undefined) return { [name]: true };
-  const chosen = value ?? left.shift();
-  if (!known[name]?.has(chosen)) throw new Misuse();
+  const [, option, value] = /^([^=]*)(?:=(.*))?$/s.exec(word), name = option.slice(2);
+  if (!option.startsWith('--') || !Object.hasOwn(known, name)) {
+    throw new Misuse(`there is no option ${option} here`);
+  }
+  if (known[name] === FLAG) {
+    if (value !== undefined) throw new Misuse(`${option} takes no value`);
+    return { [name]: true };
+  }
+  const chosen = value ?? left.shift() ?? '';
+  if (!known[name].has(chosen)) throw notOneOf(option, known[name].keys(), chosen);
   return { [name]: known[name].get(chosen) };
 }
 
@@ -113,7 +129,7 @@ const isRefusal = (error) => error.code !== 'outOfMemory'
 
 // Answers words, each on a line of its own, and gives the status.
 function answerEach(words, answerOf) {
-  if (words.length === 0) throw new Misuse();
+  if (words.length === 0) throw new Misuse('there is no word');
   let status = 0;
   for (const word of words) {
     try {
@@ -127,8 +143,14 @@ function answerEach(words, answerOf) {
   return status;
 }
 
+function refuseWords(words) {
+  if (words.length) throw new Misuse('standard input is answered, and no words');
+}
+
 function wholeOf(word) {
-  if (!/^-?[0-9]+$/.test(word)) throw new Misuse();
+  if (!/^-?[0-9]+$/.test(word)) {
+    throw notOneOf('a number', ['digits with or without - in front'], word);
+  }
   return BigInt(word);
 }
 
@@ -166,11 +188,11 @@ function answerAmounts({ signed, typed, column, header, delimiter, ...form }, wo
   const how = signed ? SIGNED : typed ? TYPED : PLAIN;
   const answerOf = (word) => (how.areFigures(word)
     ? signedAmountToChinese(how.readFigures(word), form) : figuresOf(how.readCapitals(word)));
-  if (signed && typed) throw new Misuse();
-  if (column && words.length === 0) {
-    return answerTable(column, header ?? false, delimiter ?? ',', answerOf);
-  }
-  if (column || header || delimiter) throw new Misuse();
+  if (column) refuseWords(words);
+  else if (words.length === 0) throw new Misuse('there is no word');
+  if (signed && typed) throw new Misuse('--signed and --typed exclude each other');
+  if (column) return answerTable(column, header ?? false, delimiter ?? ',', answerOf);
+  if (header || delimiter) throw new Misuse('--header and --delimiter need --column');
   return answerEach(words, answerOf);
 }
 
@@ -284,7 +306,7 @@ function answersTo(bytes, line, wanted, options) {
 }
 
 async function findInInput({ all, ...form }, words) {
-  if (words.length) throw new Misuse();
+  refuseWords(words);
   const wanted = all ? { upper: true, greatest: 'ji' } : {}, options = { kind: 'u128', ...form };
   let count = 0;
   for await (const lines of linesOf(input())) {
@@ -295,7 +317,7 @@ async function findInInput({ all, ...form }, words) {
 
 // Runs a command, and gives the status.
 async function run(name, words) {
-  if (!Object.hasOwn(COMMANDS, name)) throw new Misuse();
+  if (!Object.hasOwn(COMMANDS, name)) throw notOneOf('the command', Object.keys(COMMANDS), name);
   const command = COMMANDS[name];
   const { options, others } = parted(words, { ...command.options, help: FLAG });
   const { help, traditional, ...rest } = options;
@@ -318,7 +340,7 @@ async function main([name = '', ...words]) {
     else process.exitCode = await run(name, words);
   } catch (error) {
     if (!(error instanceof Misuse)) endOf(error);
-    process.stderr.write(USAGE);
+    process.stderr.write(`chinese-number: ${error.message} (--help says more)\n`);
     process.exitCode = 2;
   }
 }

@@ -2,7 +2,7 @@
 text are found, and the amounts of a table answered.
 
 Answers go to standard output, and refusals to standard error. The status is 0 where all is
-answered, 1 where something is refused or cannot be read or written, and 2, with the usage, where
+answered, 1 where something is refused or cannot be read or written, and 2 where
 the words of the command line ask for nothing. Texts are UTF-8, whatever the locale says.
 """
 
@@ -13,7 +13,7 @@ import re
 import sys
 from datetime import date
 from functools import partial
-from typing import Any, Callable, Container, Dict, Iterator, List, TextIO, Tuple
+from typing import Any, Callable, Dict, Iterable, Iterator, List, TextIO, Tuple
 
 from . import AmountError, DateError, Kind, NumeralError, Status, Way, __version__
 from . import chinese_to_amount, chinese_to_amount_as_typed, chinese_to_date
@@ -23,16 +23,19 @@ from ._tables import Table, write_table
 
 
 class _Matching:
-    """The words that match a pattern."""
+    """The words that match a pattern, and what they are."""
 
-    def __init__(self, pattern: str) -> None:
-        self._pattern = re.compile(pattern)
+    def __init__(self, pattern: str, meaning: str) -> None:
+        self._pattern, self._meaning = re.compile(pattern), meaning
+
+    def __iter__(self) -> Iterator[str]:
+        return iter([self._meaning])
 
     def __contains__(self, word: object) -> bool:
         return isinstance(word, str) and self._pattern.fullmatch(word) is not None
 
 
-_Options = Dict[str, Container[Any]]
+_Options = Dict[str, Any]
 _FLAG: List[Any] = [None]
 _TRADITIONAL: _Options = {"--traditional": _FLAG}
 _KIND: _Options = {"--kind": [it.value for it in Kind]}
@@ -41,9 +44,9 @@ _PRINT_WAY: _Options = {"--way": [it.value for it in Way if it is not Way.ANY]}
 _FORM: _Options = {"--currency": _FLAG, "--yuan": ["元", "圆"], "--closing": ["整", "正"]}
 _READER: _Options = {"--signed": _FLAG, "--typed": _FLAG}
 _TABLE: _Options = {
-    "--column": _Matching("[1-9][0-9]{0,8}"),
+    "--column": _Matching("[1-9][0-9]{0,8}", "a number from 1 to 999999999"),
     "--header": _FLAG,
-    "--delimiter": _Matching(r'[^"\r\n]'),
+    "--delimiter": _Matching(r'[^"\r\n]', "a character that is no quote and no line end"),
 }
 # What a flag means to a call that has no keyword of its name.
 _MEANINGS: Dict[str, Dict[str, Any]] = {
@@ -79,7 +82,12 @@ Words behind -- are no options."""
 
 
 class _Misuse(Exception):
-    """The words of the command line ask for nothing."""
+    """Why the words of the command line ask for nothing."""
+
+
+def _not_one_of(name: str, choices: Iterable[str], given: str) -> _Misuse:
+    wanted = re.sub(", ([^,]*)$", r" or \1", ", ".join(choices))
+    return _Misuse(f"{name} is {wanted}" + (f", and not {given}" if given else ""))
 
 
 # In front of the figures of an amount, and the whole of the figures of a date or a front of them.
@@ -127,7 +135,7 @@ def _date(word: str, **options: Any) -> str:
 
 def _number(word: str) -> int:
     if not re.fullmatch("-?[0-9]+", word):
-        raise _Misuse
+        raise _not_one_of("a number", ["digits with or without - in front"], word)
     digits = word.lstrip("-").lstrip("0")
     # No kind has numbers of 40 digits, and Python makes none of more than 4,300.
     magnitude = int(digits[:40] or "0")
@@ -181,18 +189,24 @@ def _parted(words: List[str], known: _Options) -> Tuple[List[str], Dict[str, Any
             others.append(word)
         else:
             name, equals, value = word.partition("=")
-            allowed = known.get(name, [])
+            if name not in known:
+                raise _Misuse(f"there is no option {name} here")
+            allowed = known[name]
             chosen = value if equals else None if allowed is _FLAG else next(left, "")
+            if allowed is _FLAG and equals:
+                raise _Misuse(f"{name} takes no value")
             if chosen not in allowed:
-                raise _Misuse
+                raise _not_one_of(name, allowed, chosen or "")
             options.update(_MEANINGS.get(name, {name[2:]: allowed is _FLAG or chosen}))
     return others, options
 
 
-def _fit(options: Dict[str, Any]) -> bool:
-    """Whether there is one way of reading at most, and a table for what is said of one."""
-    of_table = options.keys() & {"header", "delimiter"}
-    return not options.keys() >= {"signed", "typed"} and ("column" in options or not of_table)
+def _refuse_misfits(options: Dict[str, Any]) -> None:
+    """Refuses two ways of reading, and what is said of a table where there is none."""
+    if options.keys() >= {"signed", "typed"}:
+        raise _Misuse("--signed and --typed exclude each other")
+    if "column" not in options and options.keys() & {"header", "delimiter"}:
+        raise _Misuse("--header and --delimiter need --column")
 
 
 def _answered(call: Callable[..., object], arguments: List[Any], options: Dict[str, Any]) -> int:
@@ -214,19 +228,22 @@ def _run(words: List[str]) -> int:
         print(USAGE if first == "--help" else f"chinese-number {__version__}")
         return 0
     if first not in _COMMANDS:
-        raise _Misuse
+        raise _not_one_of("the command", _COMMANDS, first)
     call, of_word, known = _COMMANDS[first]
     others, options = _parted(words[1:], {"--help": _FLAG, **known})
     if "help" in options:
         return _run(["--help"])
     of_input = _find if first == "find" else _table if "column" in options else None
-    if bool(of_input) == bool(others) or not _fit(options):
-        raise _Misuse
+    if bool(of_input) == bool(others):
+        raise _Misuse("standard input is answered, and no words" if others else "there is no word")
+    _refuse_misfits(options)
     return of_input(options) if of_input else _answered(call, [*map(of_word, others)], options)
 
 
 def _stream(number: int) -> TextIO:
-    return open(number, "w", buffering=1, encoding="utf-8", newline="\n", closefd=False)
+    return open(
+        number, "w", buffering=1, encoding="utf-8", errors="replace", newline="\n", closefd=False
+    )
 
 
 def main() -> int:
@@ -234,8 +251,8 @@ def main() -> int:
     try:
         sys.stderr, sys.stdout = _stream(2), _stream(1)
         return _run([os.fsencode(it).decode("utf-8", "surrogateescape") for it in sys.argv[1:]])
-    except _Misuse:
-        print(USAGE, file=sys.stderr)
+    except _Misuse as error:
+        print(f"chinese-number: {error} (--help says more)", file=sys.stderr)
         return 2
     except KeyboardInterrupt:
         return 130
