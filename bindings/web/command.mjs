@@ -1,8 +1,8 @@
 #!/usr/bin/env node
 // The command chinese-number: amounts, dates and numerals are written and read, and the numbers of
-// a text are found. Answers go to standard output, refusals to
-// standard error. The status is 0 where all is answered, 1 where something is refused or cannot
-// be read or written, and 2 where the words of the command line ask for nothing.
+// a text are found. Answers go to standard output, refusals to standard error. The status is 0
+// where all is answered, 1 where something is refused or cannot be read or written, and 2 where the
+// words of the command line ask for nothing.
 
 import { isUtf8 } from 'node:buffer';
 import { fstatSync } from 'node:fs';

@@ -2,8 +2,8 @@
 text are found, and the amounts of a table answered.
 
 Answers go to standard output, and refusals to standard error. The status is 0 where all is
-answered, 1 where something is refused or cannot be read or written, and 2 where
-the words of the command line ask for nothing. Texts are UTF-8, whatever the locale says.
+answered, 1 where something is refused or cannot be read or written, and 2 where the words of the
+command line ask for nothing. Texts are UTF-8, whatever the locale says.
 """
 
 from __future__ import annotations
