@@ -18,6 +18,7 @@ from questions import table
 from running import TOP, Program, needs, write
 
 USAGE = b"usage: chinese-number "
+MISUSE = re.compile(rb"chinese-number: .+ \(--help says more\)\n")
 MANY = "二十三\n".encode() * 20000
 TABLE, ROWS = ["amount", "--column", "1"], b"15\n" * 60000
 # Words and an input to which something is written.
@@ -52,6 +53,8 @@ def in_bytes(cell):
 def is_written(found, cell):
     if cell == "usage":
         return found.startswith(USAGE)
+    if cell == "misuse":
+        return MISUSE.fullmatch(found) is not None
     return found == in_bytes(cell) + (b"\n" if cell else b"")
 
 
@@ -63,6 +66,14 @@ def test_rows(command):
         if str(found) != status or not all(map(is_written, texts, written)):
             wrong.append((line, found, *(text.decode("utf-8", "replace") for text in texts)))
     assert wrong == []
+
+
+def test_help(command):
+    """Both programs have one text, which stands in Python's."""
+    source = (TOP / "bindings/python/chinese_number/__main__.py").read_text(encoding="utf-8")
+    text = re.search(r'USAGE = """\\\n(.*?)"""', source, re.S)[1].replace(r"\\", "\\")
+    for words in (["--help"], ["amount", "--help"]):
+        assert command(*words) == (0, f"{text}\n".encode(), b"")
 
 
 @pytest.mark.parametrize("what", ["amount", "date"])
@@ -127,8 +138,8 @@ def test_many_rows(command):
     data = "".join(f"{row},{cell}\n" for row, cell in rows)
     written = "".join(f"{row},{cell},{answers[cell]}\n" for row, cell in rows)
     refusal = "the amount is incorrect (position: 5)"
-    told = "".join(f"{row}:6: {refusal}\n" for row in range(20, 20001, 20))
-    told += "20000 rows, 19000 written, 1000 refused\n"
+    told = "".join(f"{row}: {refusal}\n" for row in range(20, 20001, 20))
+    told += "20000 rows: 19000 answered, 1000 refused\n"
     found = command("amount", "--column", "2", data=data.encode())
     assert found == (1, written.encode(), told.encode())
 
@@ -138,9 +149,18 @@ def test_open_quote(command):
     refused = 2**17 // 3 + 1
     rows = [b'"15', *[b"15"] * (refused - 2), b"15,"]
     rows += ["15,壹拾伍元整".encode()] * (60001 - refused)
-    told = f"1: the row is not CSV\n{60002 - refused} rows, {60001 - refused} written, 1 refused\n"
+    told = f"1: the row is not CSV\n{60002 - refused} rows: {60001 - refused} answered, 1 refused\n"
     found = command(*TABLE, data=b'"' + b"15\n" + ROWS)
     assert found == (1, b"".join(row + b"\n" for row in rows), told.encode())
+
+
+def test_long_cell(command):
+    """A cell without a quote, or whose quote is closed, may be of any length."""
+    long = b"x" * 200000
+    data = b'%s,15\n"%s",16\n' % (long, long)
+    written = '%s,15,壹拾伍元整\n"%s",16,壹拾陆元整\n'.encode().replace(b"%s", long)
+    told = b"2 rows: 2 answered, 0 refused\n"
+    assert command("amount", "--column", "2", data=data) == (0, written, told)
 
 
 def test_progress(command):
@@ -155,4 +175,4 @@ def test_progress(command):
     os.close(errors)
     told = os.read(terminal, 4096)
     os.close(terminal)
-    assert re.fullmatch(rb"\r2 rows\r +\r2 rows, 2 written, 0 refused\r\n", told)
+    assert re.fullmatch(rb"\r2 rows\r +\r2 rows: 2 answered, 0 refused\r\n", told)

@@ -1,8 +1,8 @@
 #!/usr/bin/env node
 // The command chinese-number: amounts, dates and numerals are written and read, and the numbers of
-// a text are found. Answers go to standard output, refusals and the usage of what asks for nothing
-// to standard error. The status is 0 where all is answered, 1 where something is refused or cannot
-// be read or written, and 2 where the words of the command line ask for nothing.
+// a text are found. Answers go to standard output, refusals to standard error. The status is 0
+// where all is answered, 1 where something is refused or cannot be read or written, and 2 where the
+// words of the command line ask for nothing.
 
 import { isUtf8 } from 'node:buffer';
 import { fstatSync } from 'node:fs';
@@ -17,6 +17,11 @@ import { Table, linesOfTable } from './table.mjs';
 // The words that ask for nothing.
 class Misuse extends Error {}
 
+function notOneOf(name, choices, given) {
+  const wanted = [...choices].join(', ').replace(/, ([^,]*)$/, ' or $1');
+  return new Misuse(`${name} is ${wanted}${given ? `, and not ${given}` : ''}`);
+}
+
 // What an option may be set to: each word with what it stands for, or words of a pattern. A flag
 // takes no word.
 const FLAG = null;
@@ -24,21 +29,45 @@ const snake = (name) => name.replace(/[A-Z]/g, (it) => `_${it.toLowerCase()}`);
 const wordsFor = (names) => new Map(names.map((it) => [snake(it), it]));
 const KIND = wordsFor(KINDS), WAY = wordsFor(WAYS);
 const PRINT_WAY = wordsFor(WAYS.filter((it) => it !== 'any'));
-const COLUMN = { has: (it) => /^[1-9][0-9]{0,8}$/.test(it), get: Number };
-const DELIMITER = { has: (it) => /^[^"\r\n]$/u.test(it), get: String };
+const COLUMN = {
+  has: (it) => /^[1-9][0-9]{0,8}$/.test(it), get: Number,
+  keys: () => ['a number from 1 to 999999999'],
+};
+const DELIMITER = {
+  has: (it) => /^[^"\r\n]$/u.test(it), get: String,
+  keys: () => ['a character that is no quote and no line end'],
+};
 
-// Each command: its line of the usage, what it does, the options that it has, and what runs.
+const USAGE = `\
+usage: chinese-number amount [--traditional] [--currency] [--yuan 圆] [--closing 正]
+                             [--signed | --typed] WORD..
+       chinese-number amount .. --column N [--header] [--delimiter ,]
+       chinese-number date [--traditional] WORD..
+       chinese-number read [--kind i128] [--way any] WORD..
+       chinese-number print [--traditional] [--upper] [--kind i128] [--way ten_thousand] NUMBER..
+       chinese-number find [--all] [--kind u128] [--way any]
+       chinese-number --help | --version
+
+amount   writes yuan in capitals, 1409.50 as 壹仟肆佰零玖元伍角整, and reads capitals; with --signed
+         also below zero, -15 as 负壹拾伍元整; with --typed it reads ⊗ 人民币：壹拾 伍元整 too;
+         with --column N, reads a table in CSV, in UTF-8, from standard input and writes each row
+         with one more cell: the answer to its Nth cell, or nothing where that is refused;
+         --header leaves the first row unanswered; --delimiter $'\\t' is for tabs. Why cells are
+         refused, and how many, goes to standard error
+date     writes dates in capitals, 2026-01-15 as 贰零贰陆年零壹月壹拾伍日, and reads capitals
+read     reads numerals, 一百二 as 120
+print    writes whole numbers as numerals, -120 as 负一百二十
+find     writes LINE:CHARACTER TEXT NUMBER of each number in standard input, or err and why it is
+         refused; with --all also of the characters of cheques and of units above 兆
+
+A kind is u8, u16, u32, u64, u128, i8, i16, i32, i64, i128; a way to read
+is digits, low, ten_thousand, middle, high, any, and to write each but any.
+Words behind -- are no options.
+`;
+
+// Each command: the options that it has, and what runs.
 const COMMANDS = {
   amount: {
-    usage: 'amount [--traditional] [--currency] [--yuan 圆] [--closing 正]\n'
-      + '                             [--signed | --typed] WORD..\n'
-      + '       chinese-number amount .. --column N [--header] [--delimiter ,]',
-    about: 'Writes amounts of yuan in capitals, 1409.50 as 壹仟肆佰零玖元伍角整, and reads capitals;\n'
-      + 'with --signed also below zero, as 负壹拾伍元整, with --typed capitals as they are typed,\n'
-      + '⊗人民币：壹 元整. With --column the cells in column N, from 1 on, of a table of CSV in standard\n'
-      + 'input are answered, and the table is written with a column more; LINE:CHARACTER of each\n'
-      + 'refused cell, with why it is refused, and how many rows there are go to standard error.\n'
-      + 'With --header the first row is passed over.',
     options: {
       traditional: FLAG, currency: FLAG,
       yuan: wordsFor(['元', '圆']), closing: wordsFor(['整', '正']),
@@ -47,20 +76,14 @@ const COMMANDS = {
     run: answerAmounts,
   },
   date: {
-    usage: 'date [--traditional] WORD..',
-    about: 'Writes dates in capitals, 2026-01-15 as 贰零贰陆年零壹月壹拾伍日, and reads capitals.',
     options: { traditional: FLAG },
     run: (options, words) => answerEach(words, (word) => answerDate(word, options)),
   },
   read: {
-    usage: 'read [--kind i128] [--way any] TEXT..',
-    about: 'Reads numerals, 一百二 as 120.',
     options: { kind: KIND, way: WAY },
     run: (options, words) => answerEach(words, (word) => toBigInt(word, options)),
   },
   print: {
-    usage: 'print [--traditional] [--upper] [--kind i128] [--way ten_thousand] NUMBER..',
-    about: 'Writes whole numbers as numerals, -120 as 负一百二十.',
     options: { traditional: FLAG, upper: FLAG, kind: KIND, way: PRINT_WAY },
     run: ({ upper, ...options }, words) => {
       const all = { ...options, case: upper ? 'upper' : 'lower' };
@@ -68,37 +91,19 @@ const COMMANDS = {
     },
   },
   find: {
-    usage: 'find [--all] [--way any] [--kind i128]',
-    about: 'Finds the numbers in standard input, and writes LINE:COLUMN TEXT NUMBER of each, or\n'
-      + 'err and why it is refused. With --all the characters of cheques and the units above 兆\n'
-      + 'are looked for, too.',
-    options: { all: FLAG, way: WAY, kind: KIND },
+    options: { all: FLAG, kind: KIND, way: WAY },
     run: findInInput,
   },
 };
 
-const NAMES = `\
-A kind is ${KINDS.join(', ')}; a way to read
-is ${[...WAY.keys()].join(', ')}, and to write each but any.`;
-
-// The usage of one command, or of all.
-function usageOf(name) {
-  const names = name ? [name] : Object.keys(COMMANDS);
-  const lines = names.map((it) => `chinese-number ${COMMANDS[it].usage}`);
-  if (!name) lines.push('chinese-number --help | --version', 'chinese-number COMMAND --help');
-  const about = names.map((it) => COMMANDS[it].about);
-  if (names.some((it) => COMMANDS[it].options.kind)) about.push(NAMES);
-  return `usage: ${lines.join('\n       ')}\n\n${about.join('\n')}\n`;
-}
-
 // Parts the words behind a command: its options, each with what it is set to, and the other words.
-// A hyphen and a digit or a point begin a number, and behind -- there are no options.
+// A hyphen in front of figures begins a word, and behind -- there are no options.
 function parted(words, known) {
   const options = {}, left = [...words], others = [];
   while (left.length) {
     const word = left.shift();
     if (word === '--') return { options, others: [...others, ...left] };
-    if (/^-[^0-9.]/.test(word)) Object.assign(options, optionOf(word, left, known));
+    if (/^-[^0-9.¥￥０-９]/.test(word)) Object.assign(options, optionOf(word, left, known));
     else others.push(word);
   }
   return { options, others };
@@ -106,11 +111,16 @@ function parted(words, known) {
 
 // What a word sets, with the one behind it where it needs a value.
 function optionOf(word, left, known) {
-  const [, name, value] = /^--([a-z]+)(?:=(.*))?$/s.exec(word) ?? [];
-  if (!name || !Object.hasOwn(known, name)) throw new Misuse();
-  if (known[name] === FLAG && value === undefined) return { [name]: true };
-  const chosen = value ?? left.shift();
-  if (!known[name]?.has(chosen)) throw new Misuse();
+  const [, option, value] = /^([^=]*)(?:=(.*))?$/s.exec(word), name = option.slice(2);
+  if (!option.startsWith('--') || !Object.hasOwn(known, name)) {
+    throw new Misuse(`there is no option ${option} here`);
+  }
+  if (known[name] === FLAG) {
+    if (value !== undefined) throw new Misuse(`${option} takes no value`);
+    return { [name]: true };
+  }
+  const chosen = value ?? left.shift() ?? '';
+  if (!known[name].has(chosen)) throw notOneOf(option, known[name].keys(), chosen);
   return { [name]: known[name].get(chosen) };
 }
 
@@ -119,7 +129,7 @@ const isRefusal = (error) => error.code !== 'outOfMemory'
 
 // Answers words, each on a line of its own, and gives the status.
 function answerEach(words, answerOf) {
-  if (words.length === 0) throw new Misuse();
+  if (words.length === 0) throw new Misuse('there is no word');
   let status = 0;
   for (const word of words) {
     try {
@@ -133,8 +143,14 @@ function answerEach(words, answerOf) {
   return status;
 }
 
+function refuseWords(words) {
+  if (words.length) throw new Misuse('standard input is answered, and no words');
+}
+
 function wholeOf(word) {
-  if (!/^-?[0-9]+$/.test(word)) throw new Misuse();
+  if (!/^-?[0-9]+$/.test(word)) {
+    throw notOneOf('a number', ['digits with or without - in front'], word);
+  }
   return BigInt(word);
 }
 
@@ -172,11 +188,11 @@ function answerAmounts({ signed, typed, column, header, delimiter, ...form }, wo
   const how = signed ? SIGNED : typed ? TYPED : PLAIN;
   const answerOf = (word) => (how.areFigures(word)
     ? signedAmountToChinese(how.readFigures(word), form) : figuresOf(how.readCapitals(word)));
-  if (signed && typed) throw new Misuse();
-  if (column && words.length === 0) {
-    return answerTable(column, header ?? false, delimiter ?? ',', answerOf);
-  }
-  if (column || header || delimiter) throw new Misuse();
+  if (column) refuseWords(words);
+  else if (words.length === 0) throw new Misuse('there is no word');
+  if (signed && typed) throw new Misuse('--signed and --typed exclude each other');
+  if (column) return answerTable(column, header ?? false, delimiter ?? ',', answerOf);
+  if (header || delimiter) throw new Misuse('--header and --delimiter need --column');
   return answerEach(words, answerOf);
 }
 
@@ -263,7 +279,7 @@ async function answerTable(column, isHeaded, delimiter, answerOf) {
   await write(table.end());
   progress.wipe();
   const { rows, refused } = table;
-  tell(`${table.told()}${rows} rows, ${rows - refused} written, ${refused} refused\n`);
+  tell(`${table.told()}${rows} rows: ${rows - refused} answered, ${refused} refused\n`);
   return refused ? 1 : 0;
 }
 
@@ -289,9 +305,9 @@ function answersTo(bytes, line, wanted, options) {
   return answers;
 }
 
-async function findInInput({ all, ...options }, words) {
-  if (words.length) throw new Misuse();
-  const wanted = all ? { upper: true, greatest: 'ji' } : {};
+async function findInInput({ all, ...form }, words) {
+  refuseWords(words);
+  const wanted = all ? { upper: true, greatest: 'ji' } : {}, options = { kind: 'u128', ...form };
   let count = 0;
   for await (const lines of linesOf(input())) {
     await write(lines.map((it) => answersTo(it, ++count, wanted, options)).join(''));
@@ -301,12 +317,12 @@ async function findInInput({ all, ...options }, words) {
 
 // Runs a command, and gives the status.
 async function run(name, words) {
-  if (!Object.hasOwn(COMMANDS, name)) throw new Misuse();
+  if (!Object.hasOwn(COMMANDS, name)) throw notOneOf('the command', Object.keys(COMMANDS), name);
   const command = COMMANDS[name];
   const { options, others } = parted(words, { ...command.options, help: FLAG });
   const { help, traditional, ...rest } = options;
   if (!help) return command.run(traditional ? { ...rest, script: 'traditional' } : rest, others);
-  process.stdout.write(usageOf(name));
+  process.stdout.write(USAGE);
   return 0;
 }
 
@@ -320,11 +336,11 @@ async function main([name = '', ...words]) {
   for (const it of [process.stdout, process.stderr]) it.on('error', endOf);
   try {
     if (name === '--version') process.stdout.write(`chinese-number ${VERSION}\n`);
-    else if (name === '--help') process.stdout.write(usageOf());
+    else if (name === '--help') process.stdout.write(USAGE);
     else process.exitCode = await run(name, words);
   } catch (error) {
     if (!(error instanceof Misuse)) endOf(error);
-    process.stderr.write(usageOf(Object.hasOwn(COMMANDS, name) ? name : undefined));
+    process.stderr.write(`chinese-number: ${error.message} (--help says more)\n`);
     process.exitCode = 2;
   }
 }

@@ -1,10 +1,12 @@
 // Tables in CSV, a column of which is answered. Their texts are strings of bytes (latin1), so that
 // each byte is written as it was read. No row is held, but for its cell in that column.
 
+import { isUtf8 } from 'node:buffer';
+
 import { AmountError } from './chinese-number.mjs';
 
-// A quoted cell of more characters than this is taken for one whose quote is never closed.
-const MOST_QUOTED = 2 ** 17;
+// A row that goes on behind so many bytes has a quote that is not closed.
+const MOST_OF_ROW = 2 ** 17;
 
 // The lines of a stream, each with its end: those that each piece of the stream ends.
 export async function* linesOfTable(stream) {
@@ -14,9 +16,10 @@ export async function* linesOfTable(stream) {
     // Its line feed may stand in the next piece.
     held = text.endsWith('\r') ? '\r' : '';
     if (held) text = text.slice(0, -1);
-    const lines = text.match(/[^\r\n]*(?:\r\n?|\n)/g) ?? [];
+    const lines = text.split(/(?<=\n|\r(?!\n))/);
+    const rest = /[\r\n]$/.test(text) ? '' : lines.pop();
     if (lines.length) [lines[0], begun] = [begun + lines[0], ''];
-    begun += text.slice(Math.max(text.lastIndexOf('\n'), text.lastIndexOf('\r')) + 1);
+    begun += rest;
     yield lines;
   }
   if (begun + held) yield [begun + held];
@@ -28,11 +31,12 @@ export async function* linesOfTable(stream) {
 class CellReader {
   cell = null; // of the row; null where it has none
   isBroken = false; // whether the row is no CSV, as it is until a quote is closed
+  isUtf8 = true; // whether the row is UTF-8
   isEnd = true; // whether the row ends with the line
+  width = 1; // how many cells are begun
   #column;
   #delimiter;
-  #at = 1;
-  #quoted = 0;
+  #size = 0;
 
   constructor(column, delimiter) {
     this.#column = column;
@@ -41,8 +45,13 @@ class CellReader {
 
   // Reads a line, whose end is told beside it.
   read(line, end) {
-    if (this.isEnd) [this.cell, this.isBroken, this.#at] = [null, false, 1];
+    if (this.isEnd) {
+      Object.assign(this, { cell: null, isBroken: false, isUtf8: true, width: 1 });
+      this.#size = 0;
+    }
     this.isEnd = true;
+    this.isUtf8 &&= isUtf8(Buffer.from(line, 'latin1'));
+    this.#size += line.length + end.length;
     let at = 0;
     while (at <= line.length) {
       const isQuoted = this.isBroken || line[at] === '"';
@@ -51,7 +60,7 @@ class CellReader {
   }
 
   #add(text) {
-    if (this.#at === this.#column) this.cell = (this.cell ?? '') + text;
+    if (this.width === this.#column) this.cell = (this.cell ?? '') + text;
   }
 
   // These give where the next cell begins: past the line's length where the line has none.
@@ -64,18 +73,17 @@ class CellReader {
 
   #readDelimiter(line, at) {
     if (at === line.length) return at + 1;
-    this.#at++;
+    this.width++;
     return at + this.#delimiter.length;
   }
 
   #readQuoted(line, at, lineEnd) {
-    if (!this.isBroken) [this.isBroken, this.#quoted, at] = [true, 0, at + 1];
+    if (!this.isBroken) [this.isBroken, at] = [true, at + 1];
     let end = line.indexOf('"', at);
     while (end >= 0 && line[end + 1] === '"') end = line.indexOf('"', end + 2);
     const inside = end < 0 ? line.slice(at) + lineEnd : line.slice(at, end);
-    this.#quoted += inside.length;
     this.#add(inside.replaceAll('""', '"'));
-    this.isEnd = end >= 0 || this.#quoted > MOST_QUOTED;
+    this.isEnd = end >= 0 || this.#size > MOST_OF_ROW;
     this.isBroken = end < 0 || !this.#isBetweenCells(line, end + 1);
     return this.isBroken ? line.length + 1 : this.#readDelimiter(line, end + 1);
   }
@@ -97,17 +105,18 @@ export class Table {
   #delimiter;
   #reader;
   #answerOf;
-  #noCell;
+  #column;
+  #width = 0; // of the first row that is read
 
   constructor({ column, isHeaded, delimiter }, answerOf) {
     this.#isHeaded = isHeaded;
     this.#delimiter = Buffer.from(delimiter).toString('latin1');
     this.#reader = new CellReader(column, this.#delimiter);
     this.#answerOf = answerOf;
-    this.#noCell = `no column ${column}`;
+    this.#column = column;
   }
 
-  // What is written of lines: each row with one more cell behind.
+  // What is written of lines: each row with one more cell behind. Blank lines are no rows.
   answered(lines) {
     return Buffer.from(lines.map((it) => this.#answeredLine(it)).join(''), 'latin1');
   }
@@ -128,7 +137,12 @@ export class Table {
     const body = line.replace(/[\r\n]+$/, ''), end = line.slice(body.length), before = this.#end;
     this.#line++;
     // The mark of UTF-8 in front of a table is in no cell.
-    this.#reader.read(this.#line === 1 ? body.replace(/^ï»¿/, '') : body, end);
+    const text = this.#line === 1 ? body.replace(/^ï»¿/, '') : body;
+    if (this.#reader.isEnd && text === '') {
+      this.#first = this.#line + 1;
+      return line;
+    }
+    this.#reader.read(text, end);
     const { isEnd } = this.#reader;
     this.#end = isEnd ? '' : end;
     return before + body + (isEnd ? this.#nextCell() + end : '');
@@ -143,23 +157,29 @@ export class Table {
   }
 
   #answer() {
-    const { cell, isBroken } = this.#reader;
-    if (this.#isHeaded && this.#first === 1 && !isBroken) return undefined;
+    const { cell, isBroken, width } = this.#reader, isHeader = this.#isHeaded;
+    const isRead = !isBroken && this.#reader.isUtf8;
+    this.#isHeaded = false;
+    if (isRead) this.#width ||= width;
+    if (isHeader && isRead) return undefined;
     this.rows++;
     if (isBroken) return this.#refuse('the row is not CSV');
-    if (cell === null) return this.#refuse(this.#noCell);
+    if (!isRead) return this.#refuse('the row is no UTF-8');
+    if (width !== this.#width) {
+      return this.#refuse(`the row has ${width} cells, and the first has ${this.#width}`);
+    }
+    if (cell === null) return this.#refuse(`no column ${this.#column}`);
     try {
       return this.#answerOf(Buffer.from(cell, 'latin1').toString());
     } catch (error) {
       if (!(error instanceof AmountError)) throw error;
-      return this.#refuse(error.message, error.charIndex);
+      return this.#refuse(error.message);
     }
   }
 
-  #refuse(reason, charIndex) {
-    const place = charIndex === undefined ? '' : `:${charIndex + 1}`;
+  #refuse(reason) {
     this.refused++;
-    this.#told += `${this.#first}${place}: ${reason}\n`;
+    this.#told += `${this.#first}: ${reason}\n`;
     return undefined;
   }
 }

@@ -2,8 +2,8 @@
 text are found, and the amounts of a table answered.
 
 Answers go to standard output, and refusals to standard error. The status is 0 where all is
-answered, 1 where something is refused or cannot be read or written, and 2, with the usage, where
-the words of the command line ask for nothing. Texts are UTF-8, whatever the locale says.
+answered, 1 where something is refused or cannot be read or written, and 2 where the words of the
+command line ask for nothing. Texts are UTF-8, whatever the locale says.
 """
 
 from __future__ import annotations
@@ -13,7 +13,7 @@ import re
 import sys
 from datetime import date
 from functools import partial
-from typing import Any, Callable, Container, Dict, Iterator, List, TextIO, Tuple
+from typing import Any, Callable, Dict, Iterable, Iterator, List, TextIO, Tuple
 
 from . import AmountError, DateError, Kind, NumeralError, Status, Way, __version__
 from . import chinese_to_amount, chinese_to_amount_as_typed, chinese_to_date
@@ -23,16 +23,19 @@ from ._tables import Table, write_table
 
 
 class _Matching:
-    """The words that match a pattern."""
+    """The words that match a pattern, and what they are."""
 
-    def __init__(self, pattern: str) -> None:
-        self._pattern = re.compile(pattern)
+    def __init__(self, pattern: str, meaning: str) -> None:
+        self._pattern, self._meaning = re.compile(pattern), meaning
+
+    def __iter__(self) -> Iterator[str]:
+        return iter([self._meaning])
 
     def __contains__(self, word: object) -> bool:
         return isinstance(word, str) and self._pattern.fullmatch(word) is not None
 
 
-_Options = Dict[str, Container[Any]]
+_Options = Dict[str, Any]
 _FLAG: List[Any] = [None]
 _TRADITIONAL: _Options = {"--traditional": _FLAG}
 _KIND: _Options = {"--kind": [it.value for it in Kind]}
@@ -41,9 +44,9 @@ _PRINT_WAY: _Options = {"--way": [it.value for it in Way if it is not Way.ANY]}
 _FORM: _Options = {"--currency": _FLAG, "--yuan": ["元", "圆"], "--closing": ["整", "正"]}
 _READER: _Options = {"--signed": _FLAG, "--typed": _FLAG}
 _TABLE: _Options = {
-    "--column": _Matching("[1-9][0-9]{0,8}"),
+    "--column": _Matching("[1-9][0-9]{0,8}", "a number from 1 to 999999999"),
     "--header": _FLAG,
-    "--delimiter": _Matching(r'[^"\r\n]'),
+    "--delimiter": _Matching(r'[^"\r\n]', "a character that is no quote and no line end"),
 }
 # What a flag means to a call that has no keyword of its name.
 _MEANINGS: Dict[str, Dict[str, Any]] = {
@@ -51,37 +54,44 @@ _MEANINGS: Dict[str, Dict[str, Any]] = {
     "--upper": {"case": "upper"},
     "--all": {"upper": True, "greatest": "ji"},
 }
-USAGE = f"""\
+USAGE = """\
 usage: chinese-number amount [--traditional] [--currency] [--yuan 圆] [--closing 正]
                              [--signed | --typed] WORD..
        chinese-number amount .. --column N [--header] [--delimiter ,]
        chinese-number date [--traditional] WORD..
        chinese-number read [--kind i128] [--way any] WORD..
        chinese-number print [--traditional] [--upper] [--kind i128] [--way ten_thousand] NUMBER..
-       chinese-number find [--all] [--kind i128] [--way any]
+       chinese-number find [--all] [--kind u128] [--way any]
        chinese-number --help | --version
 
 amount   writes yuan in capitals, 1409.50 as 壹仟肆佰零玖元伍角整, and reads capitals; with --signed
          also below zero, -15 as 负壹拾伍元整; with --typed it reads ⊗ 人民币：壹拾 伍元整 too;
-         with --column it answers the cells in column N, from 1 on, of a table in CSV: the rows of
-         standard input are written with one more cell, and to standard error LINE:CHARACTER: and
-         why of each cell that is refused, and how many there are
+         with --column N, reads a table in CSV, in UTF-8, from standard input and writes each row
+         with one more cell: the answer to its Nth cell, or nothing where that is refused;
+         --header leaves the first row unanswered; --delimiter $'\\t' is for tabs. Why cells are
+         refused, and how many, goes to standard error
 date     writes dates in capitals, 2026-01-15 as 贰零贰陆年零壹月壹拾伍日, and reads capitals
 read     reads numerals, 一百二 as 120
 print    writes whole numbers as numerals, -120 as 负一百二十
-find     writes LINE:COLUMN TEXT NUMBER of each number in standard input, or err and why it is
+find     writes LINE:CHARACTER TEXT NUMBER of each number in standard input, or err and why it is
          refused; with --all also of the characters of cheques and of units above 兆
 
-A kind is {', '.join(Kind)}; a way to read
-is {', '.join(Way)}, and to write each but any."""
+A kind is u8, u16, u32, u64, u128, i8, i16, i32, i64, i128; a way to read
+is digits, low, ten_thousand, middle, high, any, and to write each but any.
+Words behind -- are no options."""
 
 
 class _Misuse(Exception):
-    """The words of the command line ask for nothing."""
+    """Why the words of the command line ask for nothing."""
+
+
+def _not_one_of(name: str, choices: Iterable[str], given: str) -> _Misuse:
+    wanted = re.sub(", ([^,]*)$", r" or \1", ", ".join(choices))
+    return _Misuse(f"{name} is {wanted}" + (f", and not {given}" if given else ""))
 
 
 # In front of the figures of an amount, and the whole of the figures of a date or a front of them.
-_BEGINS_AMOUNT = re.compile(r"[\0-\x7f¥￥０-９−]")
+_BEGINS_FIGURES = re.compile(r"[\0-\x7f¥￥０-９]")
 _FRONT_OF_DATE = re.compile(r"[0-9]{4}-[0-9]{2}-[0-9]{0,2}|[0-9]{4}-[0-9]{0,2}|[0-9]{0,4}")
 
 
@@ -92,10 +102,11 @@ def _figures(fen: int) -> str:
 
 def _amount(word: str, *, signed: bool = False, typed: bool = False, **options: Any) -> str:
     """An amount in figures of one in capitals, or the other way round."""
-    if not _BEGINS_AMOUNT.match(word.lstrip() if typed else word):
+    front = word.lstrip() if typed else word
+    if not _BEGINS_FIGURES.match(front) and not (signed and word.startswith("−")):
         read = chinese_to_signed_amount if signed else chinese_to_amount
         return _figures((chinese_to_amount_as_typed if typed else read)(word))
-    if word[0] in "-−" and not signed:
+    if word.startswith("-") and not signed:
         raise AmountError(Status.INCORRECT, 0)
     return signed_amount_to_chinese(yuan_to_fen(word), **options)
 
@@ -124,7 +135,7 @@ def _date(word: str, **options: Any) -> str:
 
 def _number(word: str) -> int:
     if not re.fullmatch("-?[0-9]+", word):
-        raise _Misuse
+        raise _not_one_of("a number", ["digits with or without - in front"], word)
     digits = word.lstrip("-").lstrip("0")
     # No kind has numbers of 40 digits, and Python makes none of more than 4,300.
     magnitude = int(digits[:40] or "0")
@@ -148,6 +159,7 @@ def _numbers(line: bytes, wanted: Dict[str, Any], options: Dict[str, Any]) -> It
 
 def _find(options: Dict[str, Any]) -> int:
     wanted = {it: options.pop(it) for it in ("upper", "greatest") if it in options}
+    options.setdefault("kind", "u128")
     with open(0, "rb", closefd=False) as lines:
         for count, line in enumerate(lines, 1):
             for answer in _numbers(line, wanted, options):
@@ -173,22 +185,28 @@ def _parted(words: List[str], known: _Options) -> Tuple[List[str], Dict[str, Any
     for word in left:
         if word == "--":
             others += left
-        elif not re.match("-[^0-9.]", word):
+        elif not re.match("-[^0-9.¥￥０-９]", word):
             others.append(word)
         else:
             name, equals, value = word.partition("=")
-            allowed = known.get(name, [])
+            if name not in known:
+                raise _Misuse(f"there is no option {name} here")
+            allowed = known[name]
             chosen = value if equals else None if allowed is _FLAG else next(left, "")
+            if allowed is _FLAG and equals:
+                raise _Misuse(f"{name} takes no value")
             if chosen not in allowed:
-                raise _Misuse
+                raise _not_one_of(name, allowed, chosen or "")
             options.update(_MEANINGS.get(name, {name[2:]: allowed is _FLAG or chosen}))
     return others, options
 
 
-def _fit(options: Dict[str, Any]) -> bool:
-    """Whether there is one way of reading at most, and a table for what is said of one."""
-    of_table = options.keys() & {"header", "delimiter"}
-    return not options.keys() >= {"signed", "typed"} and ("column" in options or not of_table)
+def _refuse_misfits(options: Dict[str, Any]) -> None:
+    """Refuses two ways of reading, and what is said of a table where there is none."""
+    if options.keys() >= {"signed", "typed"}:
+        raise _Misuse("--signed and --typed exclude each other")
+    if "column" not in options and options.keys() & {"header", "delimiter"}:
+        raise _Misuse("--header and --delimiter need --column")
 
 
 def _answered(call: Callable[..., object], arguments: List[Any], options: Dict[str, Any]) -> int:
@@ -210,19 +228,22 @@ def _run(words: List[str]) -> int:
         print(USAGE if first == "--help" else f"chinese-number {__version__}")
         return 0
     if first not in _COMMANDS:
-        raise _Misuse
+        raise _not_one_of("the command", _COMMANDS, first)
     call, of_word, known = _COMMANDS[first]
     others, options = _parted(words[1:], {"--help": _FLAG, **known})
     if "help" in options:
         return _run(["--help"])
     of_input = _find if first == "find" else _table if "column" in options else None
-    if bool(of_input) == bool(others) or not _fit(options):
-        raise _Misuse
+    if bool(of_input) == bool(others):
+        raise _Misuse("standard input is answered, and no words" if others else "there is no word")
+    _refuse_misfits(options)
     return of_input(options) if of_input else _answered(call, [*map(of_word, others)], options)
 
 
 def _stream(number: int) -> TextIO:
-    return open(number, "w", buffering=1, encoding="utf-8", newline="\n", closefd=False)
+    return open(
+        number, "w", buffering=1, encoding="utf-8", errors="replace", newline="\n", closefd=False
+    )
 
 
 def main() -> int:
@@ -230,8 +251,8 @@ def main() -> int:
     try:
         sys.stderr, sys.stdout = _stream(2), _stream(1)
         return _run([os.fsencode(it).decode("utf-8", "surrogateescape") for it in sys.argv[1:]])
-    except _Misuse:
-        print(USAGE, file=sys.stderr)
+    except _Misuse as error:
+        print(f"chinese-number: {error} (--help says more)", file=sys.stderr)
         return 2
     except KeyboardInterrupt:
         return 130

@@ -4,15 +4,17 @@ memory that it takes does not grow with them."""
 from __future__ import annotations
 
 import csv
+import re
 import sys
 import time
 from itertools import chain
-from typing import Any, Callable, Iterable, Iterator, List, NamedTuple, Optional, TextIO, Tuple
+from typing import Any, Callable, Iterator, List, NamedTuple, TextIO, Tuple
 
 from . import AmountError
 
 _MARK = "\ufeff"  # of UTF-8, which some programs put in front
-_MOST_OF_CELL = 2**17  # characters; a longer cell has a quote that is not closed
+_NO_UTF8 = re.compile("[\udc80-\udcff]")  # what stands for bytes that are no UTF-8
+_MOST_OF_ROW = 2**17  # bytes; a row that goes on behind them has a quote that is not closed
 
 
 class Table(NamedTuple):
@@ -26,20 +28,23 @@ class Table(NamedTuple):
 class _NoCell(ValueError):
     """Why a row has no cell to answer."""
 
-    char_index = None
-
 
 class _Row(NamedTuple):
-    """The line of the table where a row begins, its text, and its cells, or None if it is no CSV."""
+    """The line of the table where a row begins, its text, its cells, and why they are not read."""
 
     line: int
     text: str
-    cells: Optional[List[str]]
+    cells: List[str]
+    fault: str
 
-    def cell(self, column: int) -> str:
-        if self.cells is None:
-            raise _NoCell("the row is not CSV")
-        if column > len(self.cells):
+    def cell(self, column: int, width: int) -> str:
+        """The cell in a column, of as many as the first row has."""
+        count = len(self.cells)
+        if self.fault:
+            raise _NoCell(self.fault)
+        if count != width:
+            raise _NoCell(f"the row has {count} cells, and the first has {width}")
+        if column > count:
             raise _NoCell(f"no column {column}")
         return self.cells[column - 1]
 
@@ -81,56 +86,60 @@ def _without_mark(lines: Iterator[str], output: TextIO) -> Iterator[str]:
     return chain([first] if first else [], lines)
 
 
-def _rows(lines: Iterable[str], delimiter: str) -> Iterator[_Row]:
+def _rows(lines: Iterator[str], delimiter: str) -> Iterator[_Row]:
     taken: List[str] = []
 
-    def noted() -> Iterator[str]:
-        for text in lines:
+    def of_row() -> Iterator[str]:
+        size = 0
+        while size <= _MOST_OF_ROW:
+            text = next(lines, "")
+            if not text:
+                return
+            size += len(text.encode("utf-8", "surrogateescape"))
             taken.append(text)
             yield text
 
-    reader, line = csv.reader(noted(), delimiter=delimiter, strict=True), 1
+    line = 1
     while True:
-        cells: Optional[List[str]] = None
+        cells, fault = [], ""
         try:
-            cells = next(reader) or [""]
-        except StopIteration:
-            return
+            cells = next(csv.reader(of_row(), delimiter=delimiter, strict=True), [])
         except csv.Error:
-            pass
-        yield _Row(line, "".join(taken), cells)
+            fault = "the row is not CSV"
+        text = "".join(taken)
+        if not text:
+            return
+        if _NO_UTF8.search(text):
+            fault = fault or "the row is no UTF-8"
+        yield _Row(line, text, cells, fault)
         line += len(taken)
         taken.clear()
-
-
-def _answered(
-    row: _Row, column: int, answer: Callable[[str], str], messages: _Messages
-) -> Optional[str]:
-    """The answer to the cell of a row, or None where it is refused, which is told."""
-    try:
-        return answer(row.cell(column))
-    except (AmountError, _NoCell) as error:
-        place = "" if error.char_index is None else f":{error.char_index + 1}"
-        messages.tell(f"{row.line}{place}: {error}")
-        return None
 
 
 def _copy(
     lines: Iterator[str], output: TextIO, table: Table, answer: Callable[[str], str]
 ) -> Tuple[int, int]:
     """Writes the rows of these lines with their answers, and gives how many there are, and of them
-    refused."""
+    refused. Blank lines are no rows."""
     messages, count, refused = _Messages(output), 0, 0
-    rows = _rows(_without_mark(lines, output), table.delimiter)
-    try:
-        for row in rows:
-            is_header = table.has_header and row.line == 1 and row.cells is not None
-            answered = "" if is_header else _answered(row, table.column, answer, messages)
-            output.write(row.with_cell(answered or "", table.delimiter))
-            count, refused = count + (not is_header), refused + (answered is None)
-            messages.count(count)
-    finally:
-        messages.wipe()
+    width, is_header = 0, table.has_header
+    for row in _rows(_without_mark(lines, output), table.delimiter):
+        if not row.text.strip("\r\n"):
+            output.write(row.text)
+            continue
+        width = width or (0 if row.fault else len(row.cells))
+        cell = ""
+        if row.fault or not is_header:
+            count += 1
+            try:
+                cell = answer(row.cell(table.column, width))
+            except (AmountError, _NoCell) as error:
+                messages.tell(f"{row.line}: {error}")
+                refused += 1
+        is_header = False
+        output.write(row.with_cell(cell, table.delimiter))
+        messages.count(count)
+    messages.wipe()
     return count, refused
 
 
@@ -142,8 +151,8 @@ def _opened(number: int, mode: str) -> Any:
 
 def write_table(table: Table, answer: Callable[[str], str]) -> int:
     """Writes the rows of standard input with the answer behind each, and gives the status."""
-    csv.field_size_limit(_MOST_OF_CELL)
+    csv.field_size_limit(2**31 - 1)
     with _opened(0, "r") as lines, _opened(1, "w") as output:
         count, refused = _copy(lines, output, table, answer)
-    print(f"{count} rows, {count - refused} written, {refused} refused", file=sys.stderr)
+    print(f"{count} rows: {count - refused} answered, {refused} refused", file=sys.stderr)
     return int(refused > 0)
