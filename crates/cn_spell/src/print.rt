@@ -1,16 +1,15 @@
 // Printing by units.
-ghost use Rattle.std.specs.Prelude.{◌≡◌, pos, IfOk, IsTrue};
+ghost use Rattle.std.specs.Prelude.{◌≡◌, pos, IfOk, IsTrue, MatchResult};
 ghost use Rattle.cn_core.specs.Spelling.{spelling};
 ghost use Rattle.cn_core.specs.Printing.{signed_text, spelled_text, is_printable};
-ghost use Rattle.cn_spell.specs.Prints.{Prints, most_bytes};
-ghost use Rattle.cn_spell.specs.Puts.{PutsText};
+ghost use Rattle.cn_spell.specs.Prints.{Prints, PutsSpelled, IsUnwritten, most_bytes};
 ghost use Rattle.cn_spell.specs.Writes.{Writes};
 
 use crate::NumberToChineseError;
 use crate::characters::Characters;
 use crate::sections::MOST;
 use crate::spelled::{ByHigh, ByLow, ByMiddle, ByTenThousand, KnownMethod, Spelled};
-use crate::text::{LentRoom, NewString, Target};
+use crate::text::{LentRoom, MOST_BYTES, NewString, Target};
 use cn_core::{ChineseCase, ChineseCountMethod, ChineseVariant, Whole};
 use std::alloc::{AllocError, Global};
 
@@ -30,7 +29,7 @@ pub fn is_printable<T: Whole>(method: ChineseCountMethod, value: T) -> bool
 
 // The text of a sign and a magnitude, by a method that the compiler knows.
 fn spell_known<M: KnownMethod, P: Target>(
-    target: &mut P,
+    target: P,
     characters: Characters,
     negative: bool,
     magnitude: u128,
@@ -38,7 +37,7 @@ fn spell_known<M: KnownMethod, P: Target>(
     requires { IsTrue (is_printable M.stands_for (pos magnitude)) }
     ensures { P.took
         (signed_text characters.variant characters.case negative (spelling M.stands_for magnitude))
-        (most_bytes M.stands_for) target.old target.new result }
+        (most_bytes M.stands_for) result }
 {
     let mut taken = [0; MOST];
     target.take(&Spelled::<M>::of(&mut taken, characters, negative, magnitude))
@@ -46,7 +45,7 @@ fn spell_known<M: KnownMethod, P: Target>(
 
 // The text of a sign and a magnitude, by a method that is given.
 fn spell_magnitude<P: Target>(
-    target: &mut P,
+    target: P,
     characters: Characters,
     method: ChineseCountMethod,
     negative: bool,
@@ -55,7 +54,7 @@ fn spell_magnitude<P: Target>(
     requires { IsTrue (is_printable method (pos magnitude)) }
     ensures { P.took
         (signed_text characters.variant characters.case negative (spelling method magnitude))
-        (most_bytes method) target.old target.new result }
+        (most_bytes method) result }
 {
     match method {
         ChineseCountMethod::Low => {
@@ -76,7 +75,7 @@ fn spell_magnitude<P: Target>(
 // The text of a number, by a method that is given.
 #[inline(always)]
 fn spell_number<P: Target, T: Whole>(
-    target: &mut P,
+    target: P,
     characters: Characters,
     method: ChineseCountMethod,
     value: T,
@@ -84,7 +83,7 @@ fn spell_number<P: Target, T: Whole>(
     requires { IsTrue (is_printable method (T.number value)) }
     ensures { P.took
         (spelled_text characters.variant characters.case method (T.number value))
-        (most_bytes method) target.old target.new result }
+        (most_bytes method) result }
 {
     spell_magnitude(
         target,
@@ -107,25 +106,26 @@ pub fn print_by_units<T: Whole>(
     ensures { IfOk result (Writes
         (spelled_text variant case method (T.number value)) (most_bytes method)) }
 {
-    let mut string = NewString { alloc };
-    spell_number(&mut string, Characters::new(variant, case), method, value)
+    let string = NewString { alloc };
+    spell_number(string, Characters::new(variant, case), method, value)
 }
 
-/// The spelling of a number that the method writes at the beginning of a room, where it fits; the
-/// result is how many bytes it has.
-pub fn put_by_units<T: Whole>(
-    room: &mut [u8],
-    variant: ChineseVariant,
-    case: ChineseCase,
+// Why the method does not write a number, if it does not.
+#[inline(always)]
+fn test_printable<T: Whole>(
     method: ChineseCountMethod,
     value: T,
-) -> usize
-    requires { IsTrue (is_printable method (T.number value)) }
-    ensures { PutsText (spelled_text variant case method (T.number value)) (most_bytes method)
-        room.old room.new result }
+) -> Result<(), NumberToChineseError>
+    ensures { MatchResult result (λ _. IsTrue (is_printable method (T.number value)))
+        (IsUnwritten method (T.number value)) }
 {
-    let mut lent = LentRoom { bytes: room };
-    spell_number(&mut lent, Characters::new(variant, case), method, value)
+    if is_printable(method, value) {
+        Ok(())
+    } else if value.is_negative() {
+        Err(NumberToChineseError::Underflow)
+    } else {
+        Err(NumberToChineseError::Overflow)
+    }
 }
 
 /// The spelling of any number: what the method does not write is refused before memory is asked
@@ -139,12 +139,33 @@ pub fn print_or_refuse<T: Whole>(
 ) -> Result<String, NumberToChineseError>
     ensures { Prints variant case method (T.number value) result }
 {
-    if !is_printable(method, value) {
-        return Err(if value.is_negative() {
-            NumberToChineseError::Underflow
-        } else {
-            NumberToChineseError::Overflow
-        });
-    }
+    test_printable(method, value)?;
     Ok(print_by_units(alloc, variant, case, method, value)?)
+}
+
+/// Puts a number by the units of a method into a room, and hands out its text, which is the end of
+/// the room.
+///
+/// ```text
+/// let mut room = [0; MOST_BYTES];
+/// put_chinese(&mut room, ChineseVariant::Simple, ChineseCase::Lower, ChineseCountMethod::Low, 105)
+/// // 一百零五
+/// ```
+///
+/// It asks for no memory. `Low` refuses a number from 10^16 up with `Overflow` and one from -10^16
+/// down with `Underflow`; no other error comes.
+pub fn put_chinese<'a, T: Whole>(
+    room: &'a mut [u8; MOST_BYTES],
+    variant: ChineseVariant,
+    case: ChineseCase,
+    method: ChineseCountMethod,
+    value: T,
+) -> Result<&'a str, NumberToChineseError>
+    ensures { MatchResult result
+        (λ text. PutsSpelled variant case method (T.number value) text.now)
+        (IsUnwritten method (T.number value)) }
+{
+    test_printable(method, value)?;
+    let lent = LentRoom { bytes: room };
+    Ok(spell_number(lent, Characters::new(variant, case), method, value))
 }

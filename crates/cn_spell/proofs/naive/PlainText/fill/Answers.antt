@@ -4,7 +4,6 @@ use Rattle.cn_core.specs.Printing.{signed_text}
 use Rattle.cn_spell.specs.Working.Room.{Shows}
 use Rattle.cn_spell.specs.Working.Sections.{lowest_marks}
 use Rattle.cn_spell.proofs.NaiveTexts.{lowest-section, decimal-sections, length-plain}
-use Rattle.cn_spell.proofs.Rooms.{Shows-full, Shows-utf8}
 use Rattle.cn_spell.proofs.naive.PlainText.fill.Goals as goal
 
 pub put_digits-requires : goal.put_digits-requires
@@ -84,7 +83,4 @@ returns c =
     (signed_text used.variant used.case self.negative (decimal_digits sections.number)))
     (ap (λ s. s.1) put.setting ∙ l.invariant.characters)
     (c.put_sign.ensures.shows _ (rw digits at (put.marks _ l.invariant.shows))) in
-    record {
-      bytes = search (rules, lender, shows, Shows-full);
-      utf8 = search (rules, lender, shows, Shows-utf8);
-    }
+    search (rules, lender, shows)
