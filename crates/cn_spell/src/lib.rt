@@ -19,5 +19,5 @@ mod units;
 
 pub use error::NumberToChineseError;
 pub use naive::{print_naive, put_chinese_naive};
-pub use print::{is_printable, print_by_units, print_or_refuse, put_chinese};
+pub use print::{print_by_units, print_or_refuse, put_chinese};
 pub use text::MOST_BYTES;

@@ -16,9 +16,9 @@ use std::alloc::{AllocError, Global};
 // `Low` writes magnitudes of at most sixteen digits.
 const LOW_LIMIT: u128 = 10_000_000_000_000_000;
 
-/// Whether the method writes a number.
+// Whether the method writes a number.
 #[inline(always)]
-pub fn is_printable<T: Whole>(method: ChineseCountMethod, value: T) -> bool
+fn is_printable<T: Whole>(method: ChineseCountMethod, value: T) -> bool
     ensures { result ≡ is_printable method (T.number value) }
 {
     match method {
