@@ -104,12 +104,16 @@ pub extern "C" fn chinese_number_print(
     ensures bound { len.new ≤ 234 }
 {
     *len = 0;
-    let (Some(kind), Some(way), Some(script), Some(case)) = (
-        kind_of(kind),
-        way_of(way),
-        script_of(script),
-        case_of(case),
-    ) else {
+    let Some(kind) = kind_of(kind) else {
+        return UNKNOWN;
+    };
+    let Some(way) = way_of(way) else {
+        return UNKNOWN;
+    };
+    let Some(script) = script_of(script) else {
+        return UNKNOWN;
+    };
+    let Some(case) = case_of(case) else {
         return UNKNOWN;
     };
     let number = Number { low, high };

@@ -46,6 +46,7 @@ pub fn read_by<T: Whole>(way: Way, text: &str) -> Result<T, ChineseToNumberError
 
 /// Puts a number in a way into a room, and hands out its text, which is the end of the room. No
 /// memory is asked for, so it never runs out.
+#[inline(always)]
 pub fn put_by<'a, T: Whole>(
     room: &'a mut [u8; MOST_BYTES],
     way: Way,

@@ -23,6 +23,17 @@ length-lowest : (count number : ℕ) → length (lowest_marks count number) ≡ 
 length-lowest zero number = refl
 length-lowest (suc count) number = ap suc (length-lowest count number)
 
+-- the four digits of a section, by two of two each
+pub lowest-four : (section : ℕ) → section < 10 ^ 4
+    → digit (section / 100 / 10) ∷ digit (section / 100 % 10) ∷ digit (section % 100 / 10)
+    ∷ digit (section % 100 % 10) ∷ [] ≡ lowest_marks 4 section
+lowest-four section small =
+    let a : section / 100 / 10 ≡ section / 10 ^ 3 % 10 = omega (arith, small) in
+    let b : section / 100 % 10 ≡ section / 10 ^ 2 % 10 = omega arith in
+    let d : section % 100 / 10 ≡ section / 10 ^ 1 % 10 = omega arith in
+    let e : section % 100 % 10 ≡ section / 10 ^ 0 % 10 = omega arith in
+    λ k. digit (a k) ∷ digit (b k) ∷ digit (d k) ∷ digit (e k) ∷ []
+
 -- so many digits above so many others
 lowest-over : (count lower number : ℕ)
     → lowest_marks count (number / 10 ^ lower) ++ lowest_marks lower number

@@ -3,15 +3,17 @@ ghost use Rattle.std.specs.Prelude.{◌≡◌, ◌+◌, ◌*◌, ◌^◌, ◌<�
 ghost use Rattle.cn_core.specs.Mark.{Mark};
 ghost use Rattle.cn_core.specs.Naive.{decimal_digits};
 ghost use Rattle.cn_core.specs.Printing.{signed_text, naive_text};
+ghost use Rattle.cn_spell.specs.Working.Room.{Shows};
 ghost use Rattle.cn_spell.specs.Working.Sections.{lowest_marks};
 ghost use Rattle.cn_spell.specs.Writes.{Puts, Writes, most_plain_bytes};
 
 use crate::characters::Characters;
 use crate::pen::{Pen, Room};
 use crate::sections::{MOST, Sections, digits_of};
-use crate::text::{LentRoom, MOST_BYTES, NewString, Target, Text};
+use crate::text::{MOST_BYTES, NewString, Target, Text};
 use cn_core::{ChineseCase, ChineseCountMethod, ChineseVariant, Whole};
 use std::alloc::{AllocError, Global};
+use std::str;
 
 // A sign, and the sections of a magnitude.
 #[derive(Drop)]
@@ -60,6 +62,24 @@ fn put_digits<P: Pen>(pen: &mut P, number: u16, count: usize)
     }
 }
 
+// Puts the four digits of a section.
+#[inline(always)]
+fn put_section<P: Pen>(pen: &mut P, section: u16)
+    requires section { section < 10 ^ 4 }
+    requires room { 12 ≤ P.left pen.old }
+    ensures setting { P.setting pen.new ≡ P.setting pen.old }
+    ensures room { P.left pen.new + 12 ≡ P.left pen.old }
+    ensures marks { (marks : List Mark) → P.has_put pen.old marks
+        → P.has_put pen.new (lowest_marks 4 section ++ marks) }
+{
+    let low = section % 100;
+    let high = section / 100;
+    pen.put_digit_if(true, (low % 10) as u8);
+    pen.put_digit_if(true, (low / 10) as u8);
+    pen.put_digit_if(true, (high % 10) as u8);
+    pen.put_digit_if(true, (high / 10) as u8);
+}
+
 impl Text for Plain<'_> {
     ghost says = { λ plain.
         signed_text plain.characters.variant plain.characters.case plain.negative
@@ -80,7 +100,7 @@ impl Text for Plain<'_> {
         let size = digits_of(above);
         let mut room = Room::new(bytes, &self.characters);
         for index in 0..sections.count {
-            put_digits(&mut room, sections.sections[index], 4);
+            put_section(&mut room, sections.sections[index]);
         }
         put_digits(&mut room, above, size);
         room.put_sign(self.negative);
@@ -107,19 +127,20 @@ pub fn print_naive<T: Whole>(
     NewString { alloc }.take(&text)
 }
 
-// The text of a sign and a magnitude at the end of a room: one body for all types.
-fn put_plain<'a>(
-    room: &'a mut [u8; MOST_BYTES],
+// The text of a sign and a magnitude at the end of a room, and where it begins: one body for all
+// types.
+fn put_plain(
+    room: &mut [u8; MOST_BYTES],
     characters: Characters,
     negative: bool,
     magnitude: u128,
-) -> &'a str
-    ensures { Puts (signed_text characters.variant characters.case negative (decimal_digits magnitude))
-        result.now }
+) -> usize
+    ensures { Shows result room.new
+        (signed_text characters.variant characters.case negative (decimal_digits magnitude)) }
 {
     let mut taken = [0; MOST];
     let text = Plain::of(&mut taken, characters, negative, magnitude);
-    LentRoom { bytes: room }.take(&text)
+    text.fill(room)
 }
 
 /// Puts a number as plain decimal digits into a room, and hands out its text, which is the end of
@@ -131,6 +152,7 @@ fn put_plain<'a>(
 /// ```
 ///
 /// It asks for no memory, and there is no error.
+#[inline(always)]
 pub fn put_chinese_naive<'a, T: Whole>(
     room: &'a mut [u8; MOST_BYTES],
     variant: ChineseVariant,
@@ -140,5 +162,6 @@ pub fn put_chinese_naive<'a, T: Whole>(
     ensures { Puts (naive_text variant case (T.number value)) result.now }
 {
     let characters = Characters::new(variant, case);
-    put_plain(room, characters, value.is_negative(), value.magnitude())
+    let start = put_plain(room, characters, value.is_negative(), value.magnitude());
+    unsafe { str::from_utf8_unchecked(&room[start..]) }
 }

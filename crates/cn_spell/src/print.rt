@@ -3,6 +3,7 @@ ghost use Rattle.std.specs.Prelude.{◌≡◌, pos, IfOk, IsTrue, MatchResult};
 ghost use Rattle.cn_core.specs.Spelling.{spelling};
 ghost use Rattle.cn_core.specs.Printing.{signed_text, spelled_text, is_printable};
 ghost use Rattle.cn_spell.specs.Prints.{Prints, PutsSpelled, IsUnwritten, most_bytes};
+ghost use Rattle.cn_spell.specs.Working.Room.{Shows};
 ghost use Rattle.cn_spell.specs.Writes.{Writes};
 
 use crate::NumberToChineseError;
@@ -12,6 +13,7 @@ use crate::spelled::{ByHigh, ByLow, ByMiddle, ByTenThousand, KnownMethod, Spelle
 use crate::text::{LentRoom, MOST_BYTES, NewString, Target};
 use cn_core::{ChineseCase, ChineseCountMethod, ChineseVariant, Whole};
 use std::alloc::{AllocError, Global};
+use std::str;
 
 // `Low` writes magnitudes of at most sixteen digits.
 const LOW_LIMIT: u128 = 10_000_000_000_000_000;
@@ -29,7 +31,7 @@ fn is_printable<T: Whole>(method: ChineseCountMethod, value: T) -> bool
 
 // The text of a sign and a magnitude, by a method that the compiler knows.
 fn spell_known<M: KnownMethod, P: Target>(
-    target: P,
+    target: &mut P,
     characters: Characters,
     negative: bool,
     magnitude: u128,
@@ -37,7 +39,7 @@ fn spell_known<M: KnownMethod, P: Target>(
     requires { IsTrue (is_printable M.stands_for (pos magnitude)) }
     ensures { P.took
         (signed_text characters.variant characters.case negative (spelling M.stands_for magnitude))
-        (most_bytes M.stands_for) result }
+        (most_bytes M.stands_for) target.old target.new result }
 {
     let mut taken = [0; MOST];
     target.take(&Spelled::<M>::of(&mut taken, characters, negative, magnitude))
@@ -45,7 +47,7 @@ fn spell_known<M: KnownMethod, P: Target>(
 
 // The text of a sign and a magnitude, by a method that is given.
 fn spell_magnitude<P: Target>(
-    target: P,
+    target: &mut P,
     characters: Characters,
     method: ChineseCountMethod,
     negative: bool,
@@ -54,7 +56,7 @@ fn spell_magnitude<P: Target>(
     requires { IsTrue (is_printable method (pos magnitude)) }
     ensures { P.took
         (signed_text characters.variant characters.case negative (spelling method magnitude))
-        (most_bytes method) result }
+        (most_bytes method) target.old target.new result }
 {
     match method {
         ChineseCountMethod::Low => {
@@ -75,7 +77,7 @@ fn spell_magnitude<P: Target>(
 // The text of a number, by a method that is given.
 #[inline(always)]
 fn spell_number<P: Target, T: Whole>(
-    target: P,
+    target: &mut P,
     characters: Characters,
     method: ChineseCountMethod,
     value: T,
@@ -83,7 +85,7 @@ fn spell_number<P: Target, T: Whole>(
     requires { IsTrue (is_printable method (T.number value)) }
     ensures { P.took
         (spelled_text characters.variant characters.case method (T.number value))
-        (most_bytes method) result }
+        (most_bytes method) target.old target.new result }
 {
     spell_magnitude(
         target,
@@ -106,8 +108,8 @@ pub fn print_by_units<T: Whole>(
     ensures { IfOk result (Writes
         (spelled_text variant case method (T.number value)) (most_bytes method)) }
 {
-    let string = NewString { alloc };
-    spell_number(string, Characters::new(variant, case), method, value)
+    let mut string = NewString { alloc };
+    spell_number(&mut string, Characters::new(variant, case), method, value)
 }
 
 // Why the method does not write a number, if it does not.
@@ -143,6 +145,22 @@ pub fn print_or_refuse<T: Whole>(
     Ok(print_by_units(alloc, variant, case, method, value)?)
 }
 
+// The text of a number at the end of a room, and where it begins.
+#[inline(always)]
+fn put_at_end<T: Whole>(
+    room: &mut [u8; MOST_BYTES],
+    characters: Characters,
+    method: ChineseCountMethod,
+    value: T,
+) -> usize
+    requires { IsTrue (is_printable method (T.number value)) }
+    ensures { Shows result room.new
+        (spelled_text characters.variant characters.case method (T.number value)) }
+{
+    let mut lent = LentRoom { bytes: room };
+    spell_number(&mut lent, characters, method, value)
+}
+
 /// Puts a number by the units of a method into a room, and hands out its text, which is the end of
 /// the room.
 ///
@@ -154,6 +172,7 @@ pub fn print_or_refuse<T: Whole>(
 ///
 /// It asks for no memory. `Low` refuses a number from 10^16 up with `Overflow` and one from -10^16
 /// down with `Underflow`; no other error comes.
+#[inline(always)]
 pub fn put_chinese<'a, T: Whole>(
     room: &'a mut [u8; MOST_BYTES],
     variant: ChineseVariant,
@@ -166,6 +185,6 @@ pub fn put_chinese<'a, T: Whole>(
         (IsUnwritten method (T.number value)) }
 {
     test_printable(method, value)?;
-    let lent = LentRoom { bytes: room };
-    Ok(spell_number(lent, Characters::new(variant, case), method, value))
+    let start = put_at_end(room, Characters::new(variant, case), method, value);
+    Ok(unsafe { str::from_utf8_unchecked(&room[start..]) })
 }

@@ -1,10 +1,9 @@
 // A text that says how many characters it has, and fills the end of a room.
 ghost use Rattle.std.specs.Prelude.{◌≡◌, ℕ, ◌*◌, ◌≤◌, List, length, encode_utf8_all, vec_len, vec_capacity, IfOk};
 ghost use Rattle.cn_spell.specs.Working.Room.{Shows};
-ghost use Rattle.cn_spell.specs.Writes.{Puts, Writes};
+ghost use Rattle.cn_spell.specs.Writes.{Writes};
 
 use std::alloc::{AllocError, Global};
-use std::str;
 
 /// The most bytes that the text of a number has: three for each of a sign, 39 digits and 38 units.
 pub const MOST_BYTES: usize = 234;
@@ -45,13 +44,13 @@ fn zeros(alloc: Global, len: usize) -> Result<Vec<u8>, AllocError>
 pub trait Target {
     type Answer;
 
-    // It took these characters, of at most so many bytes.
-    ghost took: { List ℕ → ℕ → Self.Answer → Type 0 };
+    // It took these characters, of at most so many bytes: what it was, what it is, and its answer.
+    ghost took: { List ℕ → ℕ → Self → Self → Self.Answer → Type 0 };
 
-    fn take<X: Text>(self, text: &X) -> Self::Answer
+    fn take<X: Text>(&mut self, text: &X) -> Self::Answer
         requires most { 3 * length (X.says text.now) ≤ X.most text.now }
         requires bound { X.most text.now ≤ 234 }
-        ensures { took (X.says text.now) (X.most text.now) result };
+        ensures { took (X.says text.now) (X.most text.now) self.old self.new result };
 }
 
 /// A new string, in one request for memory.
@@ -63,31 +62,31 @@ pub struct NewString {
 impl Target for NewString {
     type Answer = Result<String, AllocError>;
 
-    ghost took = { λ characters most result. IfOk result (Writes characters most) };
+    ghost took = { λ characters most old new result. IfOk result (Writes characters most) };
 
     #[inline(always)]
-    fn take<X: Text>(self, text: &X) -> Result<String, AllocError> {
+    fn take<X: Text>(&mut self, text: &X) -> Result<String, AllocError> {
         let mut bytes = zeros(self.alloc, 3 * text.count())?;
         text.fill(&mut bytes);
         Ok(unsafe { String::from_utf8_unchecked(bytes) })
     }
 }
 
-/// A room that is lent, which has a place for any text: it is put at the end.
+/// A room that is lent, which has a place for any text: it is put at the end, and where it begins is
+/// told.
 #[derive(Drop)]
 pub struct LentRoom<'a> {
     pub bytes: &'a mut [u8; MOST_BYTES],
 }
 
-impl<'a> Target for LentRoom<'a> {
-    type Answer = &'a str;
+impl Target for LentRoom<'_> {
+    type Answer = usize;
 
-    ghost took = { λ characters most text. Puts characters text.now };
+    ghost took = { λ characters most old new start.
+        (new.bytes.ghost_name ≡ old.bytes.ghost_name) × Shows start new.bytes.now characters };
 
     #[inline(always)]
-    fn take<X: Text>(self, text: &X) -> &'a str {
-        let room = self.bytes;
-        let start = text.fill(room);
-        unsafe { str::from_utf8_unchecked(&room[start..]) }
+    fn take<X: Text>(&mut self, text: &X) -> usize {
+        text.fill(self.bytes)
     }
 }

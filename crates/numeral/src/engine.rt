@@ -57,11 +57,7 @@ fn push_line_feed(answer: &mut String) -> Result<(), AllocError>
 }
 
 // Answers a line. The answer is whole before any of it is written.
-fn answer_line<W: Sink>(
-    writer: &mut W,
-    text: &mut String,
-    line: &[u8],
-) -> Result<(), RunError>
+fn answer_line<W: Sink>(writer: &mut W, text: &mut String, line: &[u8]) -> Result<(), RunError>
     requires { (W.state writer.old).failed ≡ false }
     ensures { Replies (W.state writer.old) (W.state writer.new) (line.now ∷ []) result }
 {
@@ -72,11 +68,7 @@ fn answer_line<W: Sink>(
 }
 
 // Answers the line that is kept and goes on with this piece, and keeps nothing.
-fn answer_kept<W: Sink>(
-    writer: &mut W,
-    buffers: &mut Buffers,
-    piece: &[u8],
-) -> Result<(), RunError>
+fn answer_kept<W: Sink>(writer: &mut W, buffers: &mut Buffers, piece: &[u8]) -> Result<(), RunError>
     requires { (W.state writer.old).failed ≡ false }
     ensures replies { Replies (W.state writer.old) (W.state writer.new)
         ((buffers.old.line.items ++ piece.now) ∷ []) result }
@@ -114,10 +106,7 @@ fn answer_ended<W: Sink>(
 }
 
 // Answers what is kept at the end of the input, if it is a line.
-fn answer_last<W: Sink>(
-    writer: &mut W,
-    buffers: &mut Buffers,
-) -> Result<(), RunError>
+fn answer_last<W: Sink>(writer: &mut W, buffers: &mut Buffers) -> Result<(), RunError>
     requires { (W.state writer.old).failed ≡ false }
     ensures replies { Replies (W.state writer.old) (W.state writer.new)
         (last_line buffers.old.line.items) result }
