@@ -81,6 +81,6 @@ def test_memory(numeral):
 
 def test_memory_that_is_used_again(numeral):
     """The room for output and the room for an answer are each taken once; a further line that is
-    read takes nothing, and one that is printed its text."""
+    read or printed takes nothing."""
     assert [growths(numeral, it) for it in (b"", READING, READING * COUNT)] == [1, 2, 2]
-    assert growths(numeral, PRINTING * 9) == growths(numeral, PRINTING) + 8
+    assert growths(numeral, PRINTING * COUNT) == growths(numeral, PRINTING)

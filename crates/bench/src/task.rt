@@ -1,6 +1,6 @@
 // What is repeated, and how often.
 use chinese_number::{ChineseCase, ChineseVariant, NumberToChinese, NumberToChineseError};
-use cn_faces::{Way, print_by, read_by, way_named};
+use cn_faces::{Way, read_by, way_named};
 use std::alloc::{AllocError, Global};
 
 /// Which way a number goes.
@@ -74,7 +74,10 @@ fn printed_text<T: NumberToChinese>(
     number: T,
 ) -> Result<String, AllocError> {
     let (variant, case) = (ChineseVariant::Traditional, ChineseCase::Lower);
-    match print_by(alloc, way, variant, case, number) {
+    let Way::Units(method) = way else {
+        return number.to_chinese_naive(alloc, variant, case);
+    };
+    match number.to_chinese(alloc, variant, case, method) {
         Ok(text) => Ok(text),
         Err(NumberToChineseError::OutOfMemory) => Err(AllocError),
         Err(_) => 0u8.to_chinese_naive(alloc, variant, case),

@@ -7,10 +7,10 @@ ghost use Rattle.cn_faces.specs.Ways.{stands_for, written_by};
 
 use crate::codes::{Kind, case_of, kind_of, script_of, way_of};
 use crate::number::{Number, signed_magnitude};
-use crate::status::{DONE, NO_ROOM, NOT_HELD, TOO_LARGE, TOO_SMALL, UNKNOWN};
-use chinese_number::{ChineseCase, ChineseVariant, Whole};
-use cn_faces::{SignedMagnitude, Way};
-use cn_spell::{is_printable, put_by_units, put_naive};
+use crate::room::put_text;
+use crate::status::{NOT_HELD, TOO_LARGE, TOO_SMALL, UNKNOWN};
+use chinese_number::{ChineseCase, ChineseVariant, MOST_BYTES, NumberToChineseError, Whole};
+use cn_faces::{SignedMagnitude, Way, put_by};
 
 /// How a number is to be written.
 #[derive(Clone, Copy)]
@@ -28,15 +28,12 @@ fn put_value<T: Whole>(value: T, style: Style, room: &mut [u8], len: &mut usize)
     ensures bound { len.new ≤ 234 }
 {
     let Style { way, script, case } = style;
-    *len = match way {
-        Way::Digits => put_naive(room, script, case, value),
-        Way::Units(method) if is_printable(method, value) => {
-            put_by_units(room, script, case, method, value)
-        }
-        Way::Units(_) if value.is_negative() => return TOO_SMALL,
-        Way::Units(_) => return TOO_LARGE,
-    };
-    if *len > room.len() { NO_ROOM } else { DONE }
+    let mut scratch = [0; MOST_BYTES];
+    match put_by(&mut scratch, way, script, case, value) {
+        Ok(text) => put_text(text.as_bytes(), room, len),
+        Err(NumberToChineseError::Underflow) => TOO_SMALL,
+        Err(_) => TOO_LARGE,
+    }
 }
 
 // Prints a number, if the type holds it.
@@ -107,12 +104,16 @@ pub extern "C" fn chinese_number_print(
     ensures bound { len.new ≤ 234 }
 {
     *len = 0;
-    let (Some(kind), Some(way), Some(script), Some(case)) = (
-        kind_of(kind),
-        way_of(way),
-        script_of(script),
-        case_of(case),
-    ) else {
+    let Some(kind) = kind_of(kind) else {
+        return UNKNOWN;
+    };
+    let Some(way) = way_of(way) else {
+        return UNKNOWN;
+    };
+    let Some(script) = script_of(script) else {
+        return UNKNOWN;
+    };
+    let Some(case) = case_of(case) else {
         return UNKNOWN;
     };
     let number = Number { low, high };

@@ -1,10 +1,12 @@
 -- Characters of three bytes.
-use Rattle.std.proofs.Common.{◌≡◌, ◌<◌, ◌≤◌, ◌+◌, ◌-◌, ◌*◌, ◌/◌, ℕ, suc, false, true, ltb, List, [], ◌∷◌, length, take, drop, get_or, drop-cons, refl, ap, ◌∙◌, subst, arith, rules}
-use Rattle.std.proofs.Math.Seq.{take-add}
+use Rattle.std.proofs.Common.{◌≡◌, ◌<◌, ◌≤◌, ◌+◌, ◌-◌, ◌*◌, ◌/◌, ℕ, suc, false, true, ltb, List, [], ◌∷◌, length, take, drop, get_or, drop-cons, refl, ap, ◌∙◌, ◌%◌, ◌++◌, zero, sym, subst, arith, rules, length-drop}
+use Rattle.std.proofs.Math.Seq.{take-length}
 use Rattle.std.proofs.lemmas.Bool.Decides.{nat_tests}
 use Rattle.std.proofs.lemmas.Str.{IsUtf8-append, IsUtf8-encode}
+use Rattle.std.proofs.lemmas.List.{append_assoc, take-append-drop}
 use Rattle.std.specs.Prelude.{IsUtf8}
 use Rattle.std.specs.Int.{IsInRange}
+use Rattle.cn_judge.proofs.ThreeBytes.{HasBytes}
 use lib.Utf8.{encode, next, low_scalar}
 
 three_bytes : (c : ℕ) → 2048 ≤ c → c < 55296
@@ -43,13 +45,41 @@ next_three bytes len within =
     drop-cons bytes (len + 2) 0 within in
     rw (first, second, third) refl
 
--- one more character of three bytes
-pub one_more_character : (bytes : List ℕ) (len : ℕ) → IsUtf8 (take len bytes)
-    → len + 2 < length bytes → IsInRange 0xE1 0xEC (get_or bytes len 0)
-    → IsInRange 0x80 0xBF (get_or bytes (len + 1) 0)
-    → IsInRange 0x80 0xBF (get_or bytes (len + 2) 0) → IsUtf8 (take (len + 3) bytes)
-one_more_character bytes len before within first second third =
-    rw (take-add len 3 bytes, next_three bytes len within)
-    (IsUtf8-append (take len bytes) (get_or bytes len 0 ∷ get_or bytes (len + 1) 0
-    ∷ get_or bytes (len + 2) 0 ∷ []) before
-    (IsUtf8-three _ _ _ first second third))
+-- what stands behind the first of these bytes is UTF-8
+abbrev pub IsUtf8After : List ℕ → List ℕ → Type 0
+IsUtf8After bytes rest = (after : List ℕ) × (bytes ≡ rest ++ after) × IsUtf8 after
+
+-- one more character of three bytes in front of it
+pub one_more_character : (bytes rest : List ℕ) (start key : ℕ) → IsUtf8After bytes rest
+    → length rest ≡ start + 3
+    → HasBytes key (get_or rest start 0) (get_or rest (start + 1) 0) (get_or rest (start + 2) 0)
+    → IsInRange 0xE1 0xEC (key % 256) → IsInRange 0x80 0xBF (key / 256 % 256)
+    → IsInRange 0x80 0xBF (key / 65536) → IsUtf8After bytes (take start rest)
+one_more_character bytes rest start key behind long has first second third =
+    let size : length (drop start rest) ≡ 3 = omega (arith, length-drop start rest, long) in
+    let last = sym (ap (λ n. take n (drop start rest)) (sym size) ∙ take-length (drop start rest))
+    ∙ next_three rest start (omega (arith, long)) in
+    let three = IsUtf8-three _ _ _ (rw has.one at first) (rw has.two at second)
+    (rw has.three at third) in (
+      drop start rest ++ behind.0,
+      behind.1 ∙ ap (λ l. l ++ behind.0) (sym (take-append-drop start rest))
+          ∙ append_assoc (take start rest) (drop start rest) behind.0,
+      IsUtf8-append (drop start rest) behind.0 (subst IsUtf8 (sym last) three) behind.2,
+    )
+
+-- nothing stands in front of it
+pub all-behind : (bytes rest : List ℕ) → IsUtf8After bytes rest → length rest ≡ 0 → IsUtf8 bytes
+all-behind bytes [] behind none = subst IsUtf8 (sym behind.1) behind.2
+all-behind bytes (x ∷ rest) behind none = absurd (omega (arith, none))
+
+front-fits : (rest after : List ℕ) → ((i : ℕ) → get_or (rest ++ after) i 0 < 256)
+    → (i : ℕ) → get_or rest i 0 < 256
+front-fits [] after fits i = omega arith
+front-fits (x ∷ rest) after fits zero = fits zero
+front-fits (x ∷ rest) after fits (suc i) = front-fits rest after (λ j. fits (suc j)) i
+
+-- what stands in front of it are bytes
+pub fits-behind : (bytes rest : List ℕ) → IsUtf8After bytes rest
+    → ((i : ℕ) → get_or bytes i 0 < 256) → (i : ℕ) → get_or rest i 0 < 256
+fits-behind bytes rest behind fits =
+    front-fits rest behind.0 (λ i. subst (λ l. get_or l i 0 < 256) behind.1 (fits i))

@@ -1,6 +1,5 @@
 -- What a way is called, and what is read and written in it.
-use Rattle.std.specs.Prelude.{◌≡◌, ℕ, ℤ, pos, int_lt, List, [], ◌∷◌, codes, bytes_eq, encode_utf8_all, string_bytes, Option, Some, None, Result, Ok, Err, MatchResult, if◌then◌else◌}
-use Rattle.std.specs.declared.string.String.{String}
+use Rattle.std.specs.Prelude.{◌≡◌, ℕ, ℤ, pos, int_lt, List, [], ◌∷◌, codes, bytes_eq, encode_utf8_all, Option, Some, None, Result, Ok, Err, if◌then◌else◌}
 use Rattle.chinese_number.specs.declared.ChineseCase.{ChineseCase}
 use Rattle.chinese_number.specs.declared.ChineseCountMethod.TheVariants.{Low, TenThousand, Middle, High}
 use Rattle.chinese_number.specs.declared.ChineseVariant.{ChineseVariant}
@@ -42,20 +41,16 @@ written_by (Units method) script case number =
     if is_printable method number then Ok (spelled_text script case method number)
     else Err (unprintable number)
 
--- which error comes: that of the refusal; where there are characters, out of memory alone
+-- which error comes: that of the refusal, and no other
 abbrev pub Explains : NumberToChineseError → Result (List ℕ) Refusal → Type 0
 Explains Overflow written = written ≡ Err too_large
 Explains Underflow written = written ≡ Err too_small
-Explains OutOfMemory written = (characters : List ℕ) × (written ≡ Ok characters)
+Explains OutOfMemory written = ⊥
 
--- what comes of a number that is written in a way: the text of its characters, or an error
-abbrev pub PrintsBy : {Z : Type 0} → Way → ChineseVariant → ChineseCase → ℤ
-    → Result (String Z) NumberToChineseError → Type 0
-PrintsBy way script case number result =
-    MatchResult result
-    (λ text. (characters : List ℕ) × (written_by way script case number ≡ Ok characters)
-    × (string_bytes text ≡ encode_utf8_all characters))
-    (λ error. Explains error (written_by way script case number))
+-- these bytes are those of the characters
+abbrev pub IsText : List ℕ → Result (List ℕ) Refusal → Type 0
+IsText bytes written =
+    (characters : List ℕ) × (written ≡ Ok characters) × (bytes ≡ encode_utf8_all characters)
 
 -- the number with this sign and magnitude
 abbrev pub stands_for : SignedMagnitude → ℤ

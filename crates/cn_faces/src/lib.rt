@@ -10,4 +10,4 @@ mod way;
 
 pub use either::read_either;
 pub use utf8::utf8_text;
-pub use way::{SignedMagnitude, Way, print_by, read_by, way_named};
+pub use way::{SignedMagnitude, Way, put_by, read_by, way_named};

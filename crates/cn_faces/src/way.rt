@@ -1,13 +1,12 @@
 // The ways in which a number is read or written, and numbers of whatever type.
-ghost use Rattle.std.specs.Prelude.{◌≡◌, ◌↔◌, ◌<ℤ◌, pos, IsTrue};
+ghost use Rattle.std.specs.Prelude.{◌≡◌, ◌↔◌, ◌≤◌, ◌<ℤ◌, pos, length, IsTrue, IfOk, MatchResult};
 ghost use Rattle.chinese_number.specs.Answer.{answer_of};
-ghost use Rattle.cn_faces.specs.Ways.{PrintsBy, ReadsBy, stands_for, way_named};
+ghost use Rattle.cn_faces.specs.Ways.{Explains, IsText, ReadsBy, stands_for, way_named, written_by};
 
 use chinese_number::{
     ChineseCase, ChineseCountMethod, ChineseToNumber, ChineseToNumberError, ChineseVariant,
-    NumberToChinese, NumberToChineseError, Whole,
+    MOST_BYTES, NumberToChineseError, Whole, put_chinese, put_chinese_naive,
 };
-use std::alloc::Global;
 
 /// How a number is written: as its plain digits, or with units by a method.
 #[derive(Clone, Copy)]
@@ -45,19 +44,24 @@ pub fn read_by<T: Whole>(way: Way, text: &str) -> Result<T, ChineseToNumberError
     }
 }
 
-/// Writes a number in a way.
-pub fn print_by<T: NumberToChinese>(
-    alloc: Global,
+/// Puts a number in a way into a room, and hands out its text, which is the end of the room. No
+/// memory is asked for, so it never runs out.
+#[inline(always)]
+pub fn put_by<'a, T: Whole>(
+    room: &'a mut [u8; MOST_BYTES],
     way: Way,
     script: ChineseVariant,
     case: ChineseCase,
     value: T,
-) -> Result<String, NumberToChineseError>
-    ensures { PrintsBy way script case (T.number value) result }
+) -> Result<&'a str, NumberToChineseError>
+    ensures text { MatchResult result
+        (λ text. IsText text.now (written_by way script case (T.number value)))
+        (λ error. Explains error (written_by way script case (T.number value))) }
+    ensures bound { IfOk result (λ text. length text.now ≤ 234) }
 {
     match way {
-        Way::Digits => Ok(value.to_chinese_naive(alloc, script, case)?),
-        Way::Units(method) => value.to_chinese(alloc, script, case, method),
+        Way::Digits => Ok(put_chinese_naive(room, script, case, value)),
+        Way::Units(method) => put_chinese(room, script, case, method, value),
     }
 }
 

@@ -6,9 +6,9 @@ ghost use Rattle.cn_lines.specs.Answer.{Answers, AnswersAny, AnswersRead, Answer
 ghost use Rattle.cn_faces.specs.Ways.{ReadsBy, stands_for};
 
 use crate::question::{Printing, Reading, asked_printing, asked_reading, cut};
-use chinese_number::{ChineseToNumberError, NumberToChinese, NumberToChineseError, Whole};
-use cn_faces::{SignedMagnitude, Way, print_by, read_by};
-use std::alloc::{AllocError, Global};
+use chinese_number::{ChineseToNumberError, MOST_BYTES, Whole};
+use cn_faces::{SignedMagnitude, Way, put_by, read_by};
+use std::alloc::AllocError;
 
 // Puts the answer to a line that asks nothing.
 fn put_bad_line(answer: &mut String) -> Result<(), AllocError>
@@ -83,11 +83,7 @@ fn put_text(answer: &mut String, text: &str) -> Result<(), AllocError>
 }
 
 // Puts the text of a number as one of a type, or why there is none.
-fn put_printed_as<T: NumberToChinese>(
-    alloc: Global,
-    answer: &mut String,
-    asked: Printing,
-) -> Result<(), AllocError>
+fn put_printed_as<T: Whole>(answer: &mut String, asked: Printing) -> Result<(), AllocError>
     requires { string_bytes answer.old ≡ [] }
     ensures { OnOk result (AnswersPrinting T.kind asked.way asked.variant asked.case
         (stands_for asked.number) (string_bytes answer.new)) }
@@ -99,15 +95,15 @@ fn put_printed_as<T: NumberToChinese>(
     let Some(value) = T::from_magnitude(negative, magnitude) else {
         return put_bad_line(answer);
     };
-    match print_by(alloc, asked.way, asked.variant, asked.case, value) {
-        Ok(text) => put_text(answer, text.as_str()),
-        Err(NumberToChineseError::OutOfMemory) => Err(AllocError),
+    let mut room = [0; MOST_BYTES];
+    match put_by(&mut room, asked.way, asked.variant, asked.case, value) {
+        Ok(text) => put_text(answer, text),
         Err(error) => write!(answer, "err {error}"),
     }
 }
 
 // Puts the text of a number, if its type holds it, as one of 128 bits; or why there is none.
-fn put_printed(alloc: Global, answer: &mut String, asked: Printing) -> Result<(), AllocError>
+fn put_printed(answer: &mut String, asked: Printing) -> Result<(), AllocError>
     requires { string_bytes answer.old ≡ [] }
     ensures { OnOk result (AnswersPrinting asked.integer asked.way asked.variant
         asked.case (stands_for asked.number) (string_bytes answer.new)) }
@@ -115,32 +111,32 @@ fn put_printed(alloc: Global, answer: &mut String, asked: Printing) -> Result<()
     if !asked.integer.holds(asked.number) {
         put_bad_line(answer)
     } else if asked.number.negative {
-        put_printed_as::<i128>(alloc, answer, asked)
+        put_printed_as::<i128>(answer, asked)
     } else {
-        put_printed_as::<u128>(alloc, answer, asked)
+        put_printed_as::<u128>(answer, asked)
     }
 }
 
 // Answers what stands after `print `.
-fn answer_print(alloc: Global, answer: &mut String, fields: &[u8]) -> Result<(), AllocError>
+fn answer_print(answer: &mut String, fields: &[u8]) -> Result<(), AllocError>
     requires { string_bytes answer.old ≡ [] }
     ensures { OnOk result (AnswersAny (print_question fields.now) (string_bytes answer.new)) }
 {
     match asked_printing(fields) {
-        Some(asked) => put_printed(alloc, answer, asked),
+        Some(asked) => put_printed(answer, asked),
         None => put_bad_line(answer),
     }
 }
 
 /// Puts the answer to a line into the empty text.
 #[tactic(auto, unfolding(crate::specs::Answer::Answers, crate::specs::Question::question_of))]
-pub fn answer(alloc: Global, answer: &mut String, line: &[u8]) -> Result<(), AllocError>
+pub fn answer(answer: &mut String, line: &[u8]) -> Result<(), AllocError>
     requires { string_bytes answer.old ≡ [] }
     ensures { OnOk result (Answers line.now (string_bytes answer.new)) }
 {
     match cut(line) {
         Some((b"read", fields)) => answer_read(answer, fields),
-        Some((b"print", fields)) => answer_print(alloc, answer, fields),
+        Some((b"print", fields)) => answer_print(answer, fields),
         _ => put_bad_line(answer),
     }
 }

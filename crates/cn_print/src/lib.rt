@@ -1,5 +1,6 @@
 //! The printers of Chinese numerals by name, one for each integer type and method, and the trait
-//! `NumberToChinese`. Each is one line above `cn_spell`.
+//! `NumberToChinese`. Each is one line above `cn_spell`, whose calls that put a text into a room are
+//! handed on.
 #![tactic(auto)]
 
 mod free_high;
@@ -9,7 +10,7 @@ mod free_naive;
 mod free_ten_thousand;
 mod number_to_chinese;
 
-pub use cn_spell::NumberToChineseError;
+pub use cn_spell::{MOST_BYTES, NumberToChineseError, put_chinese, put_chinese_naive};
 pub use free_high::{
     from_i32_to_chinese_high, from_i64_to_chinese_high, from_i128_to_chinese_high,
     from_isize_to_chinese_high, from_u32_to_chinese_high, from_u64_to_chinese_high,

@@ -1,13 +1,16 @@
 -- How long the texts of the numbers that a method writes are.
-use Rattle.std.proofs.Common.{◌≡◌, ◌+◌, ◌*◌, ◌^◌, ◌<◌, ◌≤◌, ℕ, ℤ, pos, nat_abs, true, length, refl, arith}
+use Rattle.std.proofs.Common.{◌≡◌, ◌+◌, ◌*◌, ◌^◌, ◌<◌, ◌≤◌, ℕ, ℤ, pos, nat_abs, Bool, true, length, refl, arith}
 use Rattle.std.proofs.lemmas.Bool.Decides.{nat_tests}
+use Rattle.cn_core.specs.declared.script.ChineseVariant.{ChineseVariant}
+use Rattle.cn_core.specs.declared.case.ChineseCase.{ChineseCase}
 use Rattle.cn_core.specs.declared.method.ChineseCountMethod.{ChineseCountMethod}
 use Rattle.cn_core.specs.declared.method.ChineseCountMethod.TheVariants.{Low, TenThousand, Middle, High}
 use Rattle.cn_core.specs.Spelling.{spelling}
-use Rattle.cn_core.specs.Printing.{is_printable}
+use Rattle.cn_core.specs.Printing.{is_printable, signed_text}
 use Rattle.cn_core.proofs.Lengths.{length-spelling}
 use Rattle.cn_spell.specs.Prints.{most_bytes}
 use Rattle.cn_spell.specs.Working.Units.{powers_within}
+use Rattle.cn_spell.proofs.Signs.{length-signed, sign-one}
 use Rattle.cn_spell.proofs.Walks.{powers-fit, few-of}
 
 -- its digits are few enough for the method's units
@@ -53,3 +56,17 @@ printable Low number magnitude same h = rw same h
 printable TenThousand number magnitude same h = refl
 printable Middle number magnitude same h = refl
 printable High number magnitude same h = refl
+
+-- the marks and the sign of a magnitude that the method writes
+pub spelled-fits : (method : ChineseCountMethod) (variant : ChineseVariant) (case : ChineseCase)
+    (negative : Bool) (magnitude : ℕ) → is_printable method (pos magnitude) ≡ true
+    → magnitude < 2 ^ 128
+    → 3 * length (signed_text variant case negative (spelling method magnitude))
+    ≤ most_bytes method
+spelled-fits method variant case negative magnitude printable small =
+    omega (
+      arith,
+      length-signed variant case negative (spelling method magnitude),
+      sign-one negative,
+      marks-fit method (pos magnitude) printable small,
+    )

@@ -1,4 +1,5 @@
 pub mod Bounds
+pub mod Ends
 pub mod NaiveTexts
 pub mod Pens
 pub mod Rooms

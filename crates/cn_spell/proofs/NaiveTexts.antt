@@ -4,22 +4,35 @@ use Rattle.std.specs.Prelude.{decimal}
 use Rattle.std.specs.List.{list_all}
 use Rattle.std.proofs.Math.Nat.{div-div-eq-div-mul, one-le-pow, mul-le-mul_right, mod-lt}
 use Rattle.std.proofs.lemmas.Nat.{pow-add, div-add-mod'}
-use Rattle.std.proofs.lemmas.Fmt.{decimal_by_steps_wide, decimal_step_wide, decimal_digit}
+use Rattle.std.proofs.lemmas.Fmt.{decimal_by_steps_wide, decimal_step_wide, decimal_digit, length-decimal-le_wide}
 use Rattle.std.proofs.lemmas.List.{length-map, map-append}
 use Rattle.std.proofs.lemmas.List.Folds.{list_all-append, list_all-map}
 use Rattle.cn_core.specs.declared.script.ChineseVariant.{ChineseVariant}
 use Rattle.cn_core.specs.declared.case.ChineseCase.{ChineseCase}
 use Rattle.cn_core.specs.Characters.{digit_char}
-use Rattle.cn_core.specs.Mark.{Mark, digit}
+use Rattle.cn_core.specs.Mark.{digit}
 use Rattle.cn_core.specs.Naive.{decimal_digits}
 use Rattle.cn_core.specs.Printing.{mark_char, signed_text}
 use Rattle.cn_spell.specs.Working.Sections.{HoldsSections, lowest_marks}
 use Rattle.cn_core.proofs.Characters.{takes_three, three-digit}
+use Rattle.cn_spell.specs.Writes.{most_plain_bytes}
+use Rattle.cn_spell.proofs.Signs.{length-signed, sign-one}
 use Rattle.cn_spell.proofs.ThreeBytes.{three-minus}
 
 length-lowest : (count number : ℕ) → length (lowest_marks count number) ≡ count
 length-lowest zero number = refl
 length-lowest (suc count) number = ap suc (length-lowest count number)
+
+-- the four digits of a section, by two of two each
+pub lowest-four : (section : ℕ) → section < 10 ^ 4
+    → digit (section / 100 / 10) ∷ digit (section / 100 % 10) ∷ digit (section % 100 / 10)
+    ∷ digit (section % 100 % 10) ∷ [] ≡ lowest_marks 4 section
+lowest-four section small =
+    let a : section / 100 / 10 ≡ section / 10 ^ 3 % 10 = omega (arith, small) in
+    let b : section / 100 % 10 ≡ section / 10 ^ 2 % 10 = omega arith in
+    let d : section % 100 / 10 ≡ section / 10 ^ 1 % 10 = omega arith in
+    let e : section % 100 % 10 ≡ section / 10 ^ 0 % 10 = omega arith in
+    λ k. digit (a k) ∷ digit (b k) ∷ digit (d k) ∷ digit (e k) ∷ []
 
 -- so many digits above so many others
 lowest-over : (count lower number : ℕ)
@@ -128,12 +141,6 @@ decimal-sections number count above (suc top) small held some less reach =
     ∙ sym (ap (λ n. lowest_marks (suc top) n ++ lowest_marks (4 * count) number) held.split
     ∙ lowest-over (suc top) (4 * count) number ∙ ap (λ n. lowest_marks n number) sum)
 
-length-signed : (variant : ChineseVariant) (case : ChineseCase) (negative : Bool)
-    (marks : List Mark)
-    → length (signed_text variant case negative marks) ≡ (if negative then 1 else 0) + length marks
-length-signed variant case true marks = omega (arith, length-map marks (mark_char variant case))
-length-signed variant case false marks = omega (arith, length-map marks (mark_char variant case))
-
 -- how many characters the text has, its sign among them
 pub length-plain : (variant : ChineseVariant) (case : ChineseCase) (negative : Bool)
     (number count above size : ℕ) {sections : List ℕ} → number < 10 ^ 39
@@ -173,3 +180,16 @@ three-naive variant case negative number small = by negative where
   by : (negative : Bool) → list_all takes_three (signed_text variant case negative (decimal_digits number)) ≡ true
   by true = rw (three-minus variant, digits) refl
   by false = digits
+
+-- the text of a number of 128 bits has a sign and 39 digits at most
+pub plain-fits : (variant : ChineseVariant) (case : ChineseCase) (negative : Bool) (number : ℕ)
+    → number < 2 ^ 128
+    → 3 * length (signed_text variant case negative (decimal_digits number)) ≤ most_plain_bytes
+plain-fits variant case negative number small =
+    omega (
+      arith,
+      length-signed variant case negative (decimal_digits number),
+      sign-one negative,
+      length-map (decimal number) (λ byte. digit (byte - 48)),
+      length-decimal-le_wide 39 number (omega arith) (omega (arith, small)) (omega (arith, small)),
+    )

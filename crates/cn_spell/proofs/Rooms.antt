@@ -1,7 +1,6 @@
 -- What a room shows after a character is put.
-use Rattle.std.proofs.Common.{◌≡◌, ℕ, zero, suc, ◌+◌, ◌-◌, ◌*◌, ◌≤◌, Bool, true, false, List, [], ◌∷◌, ◌++◌, length, map, drop, set, encode_utf8_all, slice_index, if◌then◌else◌, refl, ap, ap₂, ◌∙◌, arith}
+use Rattle.std.proofs.Common.{◌≡◌, ℕ, zero, suc, ◌+◌, ◌-◌, ◌≤◌, Bool, true, false, List, [], ◌∷◌, ◌++◌, length, map, drop, set, slice_index, if◌then◌else◌, refl, ap, ap₂, ◌∙◌, arith}
 use Rattle.std.specs.Char.{encode_utf8}
-use Rattle.std.specs.Str.{IsUtf8}
 use Rattle.std.proofs.lemmas.Str.{IsUtf8-append}
 use Rattle.cn_core.specs.declared.script.ChineseVariant.{ChineseVariant}
 use Rattle.cn_core.specs.declared.case.ChineseCase.{ChineseCase}
@@ -94,16 +93,6 @@ Shows-if true c three e t l same takes h = record {
 }
 Shows-if false c three e t l same takes h =
     record { text = t ∙ h.text; utf8 = rw t h.utf8; size = omega (arith, e, l, h.size) }
-
--- a full room shows all of its bytes
-pub Shows-full : (free : ℕ) (bytes cs : List ℕ) → Shows free bytes cs
-    → length bytes ≡ 3 * length cs → bytes ≡ encode_utf8_all cs
-Shows-full free bytes cs h l = let none : free ≡ 0 = omega (arith, h.size, l) in rw none at h.text
-
--- which are UTF-8
-pub Shows-utf8 : (free : ℕ) (bytes cs : List ℕ) → Shows free bytes cs
-    → length bytes ≡ 3 * length cs → IsUtf8 bytes
-Shows-utf8 free bytes cs h l = let none : free ≡ 0 = omega (arith, h.size, l) in rw none at h.utf8
 
 -- the same for a count
 pub Counts-if : (is_kept : Bool) (c : ℕ) {count next : ℕ} {cs : List ℕ}

@@ -1,5 +1,4 @@
 pub mod ErrorText
 pub mod Prints
-pub mod Puts
 pub mod Working
 pub mod Writes

@@ -13,3 +13,8 @@ pub record Writes {Z : Type 0} (characters : List ℕ) (most : ℕ) (text : Stri
   pub len : string_len text ≡ 3 * length characters
   pub bound : string_len text ≤ most
   pub capacity : string_capacity text ≡ string_len text
+
+-- the bytes are those of these characters, and a room of 234 has a place for them
+pub record Puts (characters bytes : List ℕ) : Type 0 where
+  pub text : bytes ≡ encode_utf8_all characters
+  pub bound : length bytes ≤ 234

@@ -1,8 +1,9 @@
 //! The printer of any integer type, by units or as plain digits. It serves the crates above it
 //! alone: users take the calls of `chinese_number`.
 //!
-//! It counts its characters, asks once for three bytes for each or takes the beginning of a room
-//! that the caller lends, and fills them from the last to the first.
+//! It fills a room from the last character to the first: one that the caller lends, whose end the
+//! text is then, or memory, which is asked for once, for three bytes for each character that it
+//! counted before.
 #![tactic(auto)]
 
 mod characters;
@@ -17,5 +18,6 @@ mod text;
 mod units;
 
 pub use error::NumberToChineseError;
-pub use naive::{print_naive, put_naive};
-pub use print::{is_printable, print_by_units, print_or_refuse, put_by_units};
+pub use naive::{print_naive, put_chinese_naive};
+pub use print::{print_by_units, print_or_refuse, put_chinese};
+pub use text::MOST_BYTES;

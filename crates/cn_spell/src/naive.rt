@@ -1,18 +1,19 @@
 // Printing by plain decimal digits.
-ghost use Rattle.std.specs.Prelude.{◌≡◌, ◌+◌, ◌*◌, ◌^◌, ◌<◌, ◌≤◌, List, ◌++◌, IfOk};
+ghost use Rattle.std.specs.Prelude.{◌≡◌, ◌+◌, ◌*◌, ◌^◌, ◌<◌, ◌≤◌, List, ◌++◌, length, IfOk};
 ghost use Rattle.cn_core.specs.Mark.{Mark};
 ghost use Rattle.cn_core.specs.Naive.{decimal_digits};
 ghost use Rattle.cn_core.specs.Printing.{signed_text, naive_text};
-ghost use Rattle.cn_spell.specs.Puts.{PutsText};
+ghost use Rattle.cn_spell.specs.Working.Room.{Shows};
 ghost use Rattle.cn_spell.specs.Working.Sections.{lowest_marks};
-ghost use Rattle.cn_spell.specs.Writes.{Writes, most_plain_bytes};
+ghost use Rattle.cn_spell.specs.Writes.{Puts, Writes, most_plain_bytes};
 
 use crate::characters::Characters;
 use crate::pen::{Pen, Room};
 use crate::sections::{MOST, Sections, digits_of};
-use crate::text::{LentRoom, NewString, Target, Text};
+use crate::text::{MOST_BYTES, NewString, Target, Text};
 use cn_core::{ChineseCase, ChineseCountMethod, ChineseVariant, Whole};
 use std::alloc::{AllocError, Global};
+use std::str;
 
 // A sign, and the sections of a magnitude.
 #[derive(Drop)]
@@ -33,8 +34,9 @@ impl<'a> Plain<'a> {
         negative: bool,
         magnitude: u128,
     ) -> Self
-        ensures { ⟦<Plain<'a> as Text>⟧.says result
+        ensures says { ⟦<Plain<'a> as Text>⟧.says result
             ≡ signed_text characters.variant characters.case negative (decimal_digits magnitude) }
+        ensures most { 3 * length (⟦<Plain<'a> as Text>⟧.says result) ≤ most_plain_bytes }
     {
         Plain {
             characters,
@@ -60,6 +62,24 @@ fn put_digits<P: Pen>(pen: &mut P, number: u16, count: usize)
     }
 }
 
+// Puts the four digits of a section.
+#[inline(always)]
+fn put_section<P: Pen>(pen: &mut P, section: u16)
+    requires section { section < 10 ^ 4 }
+    requires room { 12 ≤ P.left pen.old }
+    ensures setting { P.setting pen.new ≡ P.setting pen.old }
+    ensures room { P.left pen.new + 12 ≡ P.left pen.old }
+    ensures marks { (marks : List Mark) → P.has_put pen.old marks
+        → P.has_put pen.new (lowest_marks 4 section ++ marks) }
+{
+    let low = section % 100;
+    let high = section / 100;
+    pen.put_digit_if(true, (low % 10) as u8);
+    pen.put_digit_if(true, (low / 10) as u8);
+    pen.put_digit_if(true, (high % 10) as u8);
+    pen.put_digit_if(true, (high / 10) as u8);
+}
+
 impl Text for Plain<'_> {
     ghost says = { λ plain.
         signed_text plain.characters.variant plain.characters.case plain.negative
@@ -74,16 +94,17 @@ impl Text for Plain<'_> {
     }
 
     #[inline(always)]
-    fn fill(&self, bytes: &mut [u8]) {
+    fn fill(&self, bytes: &mut [u8]) -> usize {
         let sections = self.sections;
         let above = sections.above as u16;
         let size = digits_of(above);
         let mut room = Room::new(bytes, &self.characters);
         for index in 0..sections.count {
-            put_digits(&mut room, sections.sections[index], 4);
+            put_section(&mut room, sections.sections[index]);
         }
         put_digits(&mut room, above, size);
         room.put_sign(self.negative);
+        room.free
     }
 }
 
@@ -106,28 +127,41 @@ pub fn print_naive<T: Whole>(
     NewString { alloc }.take(&text)
 }
 
-// The text of a sign and a magnitude in a room that is lent: one body for all types.
-fn put_plain(room: &mut [u8], characters: Characters, negative: bool, magnitude: u128) -> usize
-    ensures { PutsText
-        (signed_text characters.variant characters.case negative (decimal_digits magnitude))
-        most_plain_bytes room.old room.new result }
+// The text of a sign and a magnitude at the end of a room, and where it begins: one body for all
+// types.
+fn put_plain(
+    room: &mut [u8; MOST_BYTES],
+    characters: Characters,
+    negative: bool,
+    magnitude: u128,
+) -> usize
+    ensures { Shows result room.new
+        (signed_text characters.variant characters.case negative (decimal_digits magnitude)) }
 {
     let mut taken = [0; MOST];
     let text = Plain::of(&mut taken, characters, negative, magnitude);
-    LentRoom { bytes: room }.take(&text)
+    text.fill(room)
 }
 
-/// A number as plain digits at the beginning of a room, where it fits; the result is how many bytes
-/// it has.
-pub fn put_naive<T: Whole>(
-    room: &mut [u8],
+/// Puts a number as plain decimal digits into a room, and hands out its text, which is the end of
+/// the room.
+///
+/// ```text
+/// let mut room = [0; MOST_BYTES];
+/// put_chinese_naive(&mut room, ChineseVariant::Simple, ChineseCase::Lower, 2025)   // 二零二五
+/// ```
+///
+/// It asks for no memory, and there is no error.
+#[inline(always)]
+pub fn put_chinese_naive<'a, T: Whole>(
+    room: &'a mut [u8; MOST_BYTES],
     variant: ChineseVariant,
     case: ChineseCase,
     value: T,
-) -> usize
-    ensures { PutsText (naive_text variant case (T.number value)) most_plain_bytes
-        room.old room.new result }
+) -> &'a str
+    ensures { Puts (naive_text variant case (T.number value)) result.now }
 {
     let characters = Characters::new(variant, case);
-    put_plain(room, characters, value.is_negative(), value.magnitude())
+    let start = put_plain(room, characters, value.is_negative(), value.magnitude());
+    unsafe { str::from_utf8_unchecked(&room[start..]) }
 }

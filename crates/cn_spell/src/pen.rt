@@ -78,7 +78,7 @@ impl Pen for Count {
 #[derive(Drop)]
 pub struct Room<'a> {
     bytes: &'a mut [u8],
-    free: usize,
+    pub free: usize,
     pub characters: &'a Characters,
     ghost within: { free ≤ length bytes.now },
 }

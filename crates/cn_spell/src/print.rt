@@ -1,25 +1,26 @@
 // Printing by units.
-ghost use Rattle.std.specs.Prelude.{◌≡◌, pos, IfOk, IsTrue};
+ghost use Rattle.std.specs.Prelude.{◌≡◌, pos, IfOk, IsTrue, MatchResult};
 ghost use Rattle.cn_core.specs.Spelling.{spelling};
 ghost use Rattle.cn_core.specs.Printing.{signed_text, spelled_text, is_printable};
-ghost use Rattle.cn_spell.specs.Prints.{Prints, most_bytes};
-ghost use Rattle.cn_spell.specs.Puts.{PutsText};
+ghost use Rattle.cn_spell.specs.Prints.{Prints, PutsSpelled, IsUnwritten, most_bytes};
+ghost use Rattle.cn_spell.specs.Working.Room.{Shows};
 ghost use Rattle.cn_spell.specs.Writes.{Writes};
 
 use crate::NumberToChineseError;
 use crate::characters::Characters;
 use crate::sections::MOST;
 use crate::spelled::{ByHigh, ByLow, ByMiddle, ByTenThousand, KnownMethod, Spelled};
-use crate::text::{LentRoom, NewString, Target};
+use crate::text::{LentRoom, MOST_BYTES, NewString, Target};
 use cn_core::{ChineseCase, ChineseCountMethod, ChineseVariant, Whole};
 use std::alloc::{AllocError, Global};
+use std::str;
 
 // `Low` writes magnitudes of at most sixteen digits.
 const LOW_LIMIT: u128 = 10_000_000_000_000_000;
 
-/// Whether the method writes a number.
+// Whether the method writes a number.
 #[inline(always)]
-pub fn is_printable<T: Whole>(method: ChineseCountMethod, value: T) -> bool
+fn is_printable<T: Whole>(method: ChineseCountMethod, value: T) -> bool
     ensures { result ≡ is_printable method (T.number value) }
 {
     match method {
@@ -111,21 +112,22 @@ pub fn print_by_units<T: Whole>(
     spell_number(&mut string, Characters::new(variant, case), method, value)
 }
 
-/// The spelling of a number that the method writes at the beginning of a room, where it fits; the
-/// result is how many bytes it has.
-pub fn put_by_units<T: Whole>(
-    room: &mut [u8],
-    variant: ChineseVariant,
-    case: ChineseCase,
+// Why the method does not write a number, if it does not.
+#[inline(always)]
+fn test_printable<T: Whole>(
     method: ChineseCountMethod,
     value: T,
-) -> usize
-    requires { IsTrue (is_printable method (T.number value)) }
-    ensures { PutsText (spelled_text variant case method (T.number value)) (most_bytes method)
-        room.old room.new result }
+) -> Result<(), NumberToChineseError>
+    ensures { MatchResult result (λ _. IsTrue (is_printable method (T.number value)))
+        (IsUnwritten method (T.number value)) }
 {
-    let mut lent = LentRoom { bytes: room };
-    spell_number(&mut lent, Characters::new(variant, case), method, value)
+    if is_printable(method, value) {
+        Ok(())
+    } else if value.is_negative() {
+        Err(NumberToChineseError::Underflow)
+    } else {
+        Err(NumberToChineseError::Overflow)
+    }
 }
 
 /// The spelling of any number: what the method does not write is refused before memory is asked
@@ -139,12 +141,50 @@ pub fn print_or_refuse<T: Whole>(
 ) -> Result<String, NumberToChineseError>
     ensures { Prints variant case method (T.number value) result }
 {
-    if !is_printable(method, value) {
-        return Err(if value.is_negative() {
-            NumberToChineseError::Underflow
-        } else {
-            NumberToChineseError::Overflow
-        });
-    }
+    test_printable(method, value)?;
     Ok(print_by_units(alloc, variant, case, method, value)?)
+}
+
+// The text of a number at the end of a room, and where it begins.
+#[inline(always)]
+fn put_at_end<T: Whole>(
+    room: &mut [u8; MOST_BYTES],
+    characters: Characters,
+    method: ChineseCountMethod,
+    value: T,
+) -> usize
+    requires { IsTrue (is_printable method (T.number value)) }
+    ensures { Shows result room.new
+        (spelled_text characters.variant characters.case method (T.number value)) }
+{
+    let mut lent = LentRoom { bytes: room };
+    spell_number(&mut lent, characters, method, value)
+}
+
+/// Puts a number by the units of a method into a room, and hands out its text, which is the end of
+/// the room.
+///
+/// ```text
+/// let mut room = [0; MOST_BYTES];
+/// put_chinese(&mut room, ChineseVariant::Simple, ChineseCase::Lower, ChineseCountMethod::Low, 105)
+/// // 一百零五
+/// ```
+///
+/// It asks for no memory. `Low` refuses a number from 10^16 up with `Overflow` and one from -10^16
+/// down with `Underflow`; no other error comes.
+#[inline(always)]
+pub fn put_chinese<'a, T: Whole>(
+    room: &'a mut [u8; MOST_BYTES],
+    variant: ChineseVariant,
+    case: ChineseCase,
+    method: ChineseCountMethod,
+    value: T,
+) -> Result<&'a str, NumberToChineseError>
+    ensures { MatchResult result
+        (λ text. PutsSpelled variant case method (T.number value) text.now)
+        (IsUnwritten method (T.number value)) }
+{
+    test_printable(method, value)?;
+    let start = put_at_end(room, Characters::new(variant, case), method, value);
+    Ok(unsafe { str::from_utf8_unchecked(&room[start..]) })
 }

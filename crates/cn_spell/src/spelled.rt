@@ -1,5 +1,5 @@
 // The text of a number by units.
-ghost use Rattle.std.specs.Prelude.{◌≡◌, ◌^◌, ◌≤◌, ◌<◌, pos, IsTrue};
+ghost use Rattle.std.specs.Prelude.{◌≡◌, ◌*◌, ◌^◌, ◌≤◌, ◌<◌, length, pos, IsTrue};
 ghost use Rattle.cn_core.specs.declared.method.ChineseCountMethod.{ChineseCountMethod};
 ghost use Rattle.cn_core.specs.declared.method.ChineseCountMethod.TheVariants as method;
 ghost use Rattle.cn_core.specs.Spelling.{spelling};
@@ -94,6 +94,8 @@ impl<'a, M: KnownMethod> Spelled<'a, M> {
             ≡ signed_text characters.variant characters.case negative
             (spelling M.stands_for magnitude) }
         ensures most { ⟦<Spelled<'a, M> as Text>⟧.most result ≡ most_bytes M.stands_for }
+        ensures fits { 3 * length (⟦<Spelled<'a, M> as Text>⟧.says result)
+            ≤ most_bytes M.stands_for }
     {
         Spelled {
             characters,
@@ -120,10 +122,11 @@ impl<M: KnownMethod> Text for Spelled<'_, M> {
     }
 
     #[inline(always)]
-    fn fill(&self, bytes: &mut [u8]) {
+    fn fill(&self, bytes: &mut [u8]) -> usize {
         let sections = self.sections;
         let mut room = Room::new(bytes, &self.characters);
         put_spelling(&mut room, M::method(), &sections);
         room.put_sign(self.negative);
+        room.free
     }
 }

@@ -1,10 +1,12 @@
-// A text that says how many characters it has, and fills a room of its size.
+// A text that says how many characters it has, and fills the end of a room.
 ghost use Rattle.std.specs.Prelude.{◌≡◌, ℕ, ◌*◌, ◌≤◌, List, length, encode_utf8_all, vec_len, vec_capacity, IfOk};
-ghost use Rattle.std.specs.Str.{IsUtf8};
-ghost use Rattle.cn_spell.specs.Puts.{PutsText};
+ghost use Rattle.cn_spell.specs.Working.Room.{Shows};
 ghost use Rattle.cn_spell.specs.Writes.{Writes};
 
 use std::alloc::{AllocError, Global};
+
+/// The most bytes that the text of a number has: three for each of a sign, 39 digits and 38 units.
+pub const MOST_BYTES: usize = 234;
 
 /// A text of characters that take three bytes each.
 pub trait Text {
@@ -17,15 +19,12 @@ pub trait Text {
     // How many they are.
     fn count(&self) -> usize
         ensures count { result ≡ length (says self.now) }
-        ensures bytes { length (encode_utf8_all (says self.now)) ≡ 3 * length (says self.now) }
-        ensures most { 3 * result ≤ most self.now }
-        ensures bound { result ≤ 78 };
+        ensures bytes { length (encode_utf8_all (says self.now)) ≡ 3 * length (says self.now) };
 
-    // Writes them, from the last to the first.
-    fn fill(&self, bytes: &mut [u8])
-        requires { length bytes.old ≡ 3 * length (says self.now) }
-        ensures bytes { bytes.new ≡ encode_utf8_all (says self.now) }
-        ensures utf8 { IsUtf8 bytes.new };
+    // Writes them at the end of a room, from the last to the first; the result is where they begin.
+    fn fill(&self, bytes: &mut [u8]) -> usize
+        requires { 3 * length (says self.now) ≤ length bytes.old }
+        ensures { Shows result bytes.new (says self.now) };
 }
 
 // So many bytes, in a room that has no more.
@@ -49,6 +48,8 @@ pub trait Target {
     ghost took: { List ℕ → ℕ → Self → Self → Self.Answer → Type 0 };
 
     fn take<X: Text>(&mut self, text: &X) -> Self::Answer
+        requires most { 3 * length (X.says text.now) ≤ X.most text.now }
+        requires bound { X.most text.now ≤ 234 }
         ensures { took (X.says text.now) (X.most text.now) self.old self.new result };
 }
 
@@ -71,35 +72,21 @@ impl Target for NewString {
     }
 }
 
-// The text at the beginning of a room, where it fits. The result is how many bytes it has, in
-// either case.
-#[inline(always)]
-fn put_text<X: Text>(room: &mut [u8], text: &X) -> usize
-    ensures { PutsText (X.says text.now) (X.most text.now) room.old room.new result }
-{
-    let len = 3 * text.count();
-    if len <= room.len() {
-        let (taken, _) = room.split_at_mut(len);
-        text.fill(taken);
-    }
-    len
-}
-
-/// A room that is lent: the text is put at its beginning, where it fits, and its bytes are counted.
+/// A room that is lent, which has a place for any text: it is put at the end, and where it begins is
+/// told.
 #[derive(Drop)]
 pub struct LentRoom<'a> {
-    pub bytes: &'a mut [u8],
+    pub bytes: &'a mut [u8; MOST_BYTES],
 }
 
 impl Target for LentRoom<'_> {
     type Answer = usize;
 
-    ghost took = { λ characters most old new told.
-        (new.bytes.ghost_name ≡ old.bytes.ghost_name)
-        × PutsText characters most old.bytes.now new.bytes.now told };
+    ghost took = { λ characters most old new start.
+        (new.bytes.ghost_name ≡ old.bytes.ghost_name) × Shows start new.bytes.now characters };
 
     #[inline(always)]
     fn take<X: Text>(&mut self, text: &X) -> usize {
-        put_text(self.bytes, text)
+        text.fill(self.bytes)
     }
 }

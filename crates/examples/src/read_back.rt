@@ -3,7 +3,7 @@ ghost use Rattle.std.specs.Prelude.{◌≡◌, Ok, IfOk};
 use chinese_number::laws::spellings_read_back;
 use chinese_number::{
     ChineseCase, ChineseCountMethod, ChineseToNumber, ChineseToNumberError, ChineseVariant,
-    NumberToChinese, NumberToChineseError,
+    MOST_BYTES, NumberToChinese, NumberToChineseError, Whole, put_chinese,
 };
 use std::alloc::Global;
 
@@ -21,4 +21,21 @@ pub fn print_and_read<T: NumberToChinese>(
     spellings_read_back::<T>();
     let text = number.to_chinese(alloc, variant, case, method)?;
     Ok(text.as_str().to_number(method))
+}
+
+/// Puts a number into the caller's room, and reads what was put: the same number, wherever there is
+/// a text at all.
+pub fn put_and_read<T: Whole>(
+    room: &mut [u8; MOST_BYTES],
+    variant: ChineseVariant,
+    case: ChineseCase,
+    method: ChineseCountMethod,
+    number: T,
+) -> Result<Result<T, ChineseToNumberError>, NumberToChineseError>
+    ensures { IfOk result (λ answer. answer ≡ Ok number) }
+{
+    let _magnitude = number.magnitude();
+    spellings_read_back::<T>();
+    let text = put_chinese(room, variant, case, method, number)?;
+    Ok(text.to_number(method))
 }

@@ -57,45 +57,34 @@ fn push_line_feed(answer: &mut String) -> Result<(), AllocError>
 }
 
 // Answers a line. The answer is whole before any of it is written.
-fn answer_line<W: Sink>(
-    alloc: Global,
-    writer: &mut W,
-    text: &mut String,
-    line: &[u8],
-) -> Result<(), RunError>
+fn answer_line<W: Sink>(writer: &mut W, text: &mut String, line: &[u8]) -> Result<(), RunError>
     requires { (W.state writer.old).failed ≡ false }
     ensures { Replies (W.state writer.old) (W.state writer.new) (line.now ∷ []) result }
 {
     text.clear();
-    answer(alloc, text, line)?;
+    answer(text, line)?;
     push_line_feed(text)?;
     write_all(writer, text.as_bytes())
 }
 
 // Answers the line that is kept and goes on with this piece, and keeps nothing.
-fn answer_kept<W: Sink>(
-    alloc: Global,
-    writer: &mut W,
-    buffers: &mut Buffers,
-    piece: &[u8],
-) -> Result<(), RunError>
+fn answer_kept<W: Sink>(writer: &mut W, buffers: &mut Buffers, piece: &[u8]) -> Result<(), RunError>
     requires { (W.state writer.old).failed ≡ false }
     ensures replies { Replies (W.state writer.old) (W.state writer.new)
         ((buffers.old.line.items ++ piece.now) ∷ []) result }
     ensures kept { OnOk result (buffers.new.line.items ≡ []) }
 {
     if buffers.line.is_empty() {
-        return answer_line(alloc, writer, &mut buffers.answer, piece);
+        return answer_line(writer, &mut buffers.answer, piece);
     }
     buffers.line.extend_from_slice(piece)?;
-    answer_line(alloc, writer, &mut buffers.answer, buffers.line.as_slice())?;
+    answer_line(writer, &mut buffers.answer, buffers.line.as_slice())?;
     buffers.line.clear();
     Ok(())
 }
 
 // Takes the next bytes: answers each line that ends in them, and keeps the rest.
 fn answer_ended<W: Sink>(
-    alloc: Global,
     writer: &mut W,
     buffers: &mut Buffers,
     block: &[u8],
@@ -107,7 +96,7 @@ fn answer_ended<W: Sink>(
 {
     let mut rest = block;
     'lines: while let Some((line, after)) = split_line(rest) {
-        answer_kept(alloc, writer, buffers, line)?;
+        answer_kept(writer, buffers, line)?;
         rest = after;
     }
     if !rest.is_empty() {
@@ -117,11 +106,7 @@ fn answer_ended<W: Sink>(
 }
 
 // Answers what is kept at the end of the input, if it is a line.
-fn answer_last<W: Sink>(
-    alloc: Global,
-    writer: &mut W,
-    buffers: &mut Buffers,
-) -> Result<(), RunError>
+fn answer_last<W: Sink>(writer: &mut W, buffers: &mut Buffers) -> Result<(), RunError>
     requires { (W.state writer.old).failed ≡ false }
     ensures replies { Replies (W.state writer.old) (W.state writer.new)
         (last_line buffers.old.line.items) result }
@@ -129,7 +114,7 @@ fn answer_last<W: Sink>(
 {
     match buffers.line.as_slice() {
         [] => Ok(()),
-        line => answer_line(alloc, writer, &mut buffers.answer, line),
+        line => answer_line(writer, &mut buffers.answer, line),
     }
 }
 
@@ -191,9 +176,9 @@ fn run_by<R: Source, W: Sink>(
         if count == 0 {
             break;
         }
-        answer_ended(alloc, writer, &mut buffers, first_bytes(block, count))?;
+        answer_ended(writer, &mut buffers, first_bytes(block, count))?;
     }
-    answer_last(alloc, writer, &mut buffers)
+    answer_last(writer, &mut buffers)
 }
 
 /// Reads the input to its end, and writes the answers to its lines, each followed by a line feed.

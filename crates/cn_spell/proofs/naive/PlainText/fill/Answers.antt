@@ -4,11 +4,10 @@ use Rattle.cn_core.specs.Printing.{signed_text}
 use Rattle.cn_spell.specs.Working.Room.{Shows}
 use Rattle.cn_spell.specs.Working.Sections.{lowest_marks}
 use Rattle.cn_spell.proofs.NaiveTexts.{lowest-section, decimal-sections, length-plain}
-use Rattle.cn_spell.proofs.Rooms.{Shows-full, Shows-utf8}
 use Rattle.cn_spell.proofs.naive.PlainText.fill.Goals as goal
 
-pub put_digits-requires : goal.put_digits-requires
-put_digits-requires c =
+pub put_section-requires : goal.put_section-requires
+put_section-requires c =
     let l = c.loop-index in
     let self = c.args.self.now in
     let sections = self.sections in
@@ -16,14 +15,18 @@ put_digits-requires c =
     let total = length-plain self.characters.variant self.characters.case self.negative
     sections.number sections.count sections.above c.digits_of-size.result self.small sections.holds
     size.some size.below size.reach in
-    record { room = omega (arith, total, l.invariant.free, c.requires, c.loop-index-test.true) }
+    let value = sections.holds.each l.index c.loop-index-test.true in
+    record {
+      section = omega (arith, value);
+      room = omega (arith, total, l.invariant.free, c.requires, c.loop-index-test.true);
+    }
 
 pub loop-index-preserved : goal.loop-index-preserved
 loop-index-preserved c =
     let l = c.loop-index in
     let sections = c.args.self.now.sections in
     let value = sections.holds.each l.index c.loop-index-test.true in
-    let put = c.put_digits.ensures in
+    let put = c.put_section.ensures in
     record {
       shows = rw (← lowest-section sections.number l.index _ value) (put.marks _ l.invariant.shows);
       free = omega (arith, put.room, l.invariant.free);
@@ -31,8 +34,8 @@ loop-index-preserved c =
       lender = ap (λ s. s.0) put.setting ∙ l.invariant.lender;
     }
 
-pub put_digits-requires-2 : goal.put_digits-requires-2
-put_digits-requires-2 c =
+pub put_digits-requires : goal.put_digits-requires
+put_digits-requires c =
     let l = c.loop-index in
     let self = c.args.self.now in
     let sections = self.sections in
@@ -58,7 +61,7 @@ put_sign-requires c = λ negative.
       total,
       one,
       l.invariant.free,
-      c.put_digits-2.ensures.room,
+      c.put_digits.ensures.room,
       c.requires,
       l.auto.index-end,
     )
@@ -69,7 +72,7 @@ returns c =
     let self = c.args.self.now in
     let sections = self.sections in
     let size = c.digits_of-size.ensures in
-    let put = c.put_digits-2.ensures in
+    let put = c.put_digits.ensures in
     let room = c.put_sign.new.self in
     let end : l.index ≡ sections.count = omega (arith, l.auto.index-end, c.loop-index-test.false) in
     let whole = decimal-sections sections.number sections.count sections.above
@@ -84,7 +87,4 @@ returns c =
     (signed_text used.variant used.case self.negative (decimal_digits sections.number)))
     (ap (λ s. s.1) put.setting ∙ l.invariant.characters)
     (c.put_sign.ensures.shows _ (rw digits at (put.marks _ l.invariant.shows))) in
-    record {
-      bytes = search (rules, lender, shows, Shows-full);
-      utf8 = search (rules, lender, shows, Shows-utf8);
-    }
+    search (rules, lender, shows)

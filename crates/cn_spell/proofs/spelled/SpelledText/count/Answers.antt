@@ -1,9 +1,8 @@
-use Rattle.std.proofs.Common.{rules, if◌then◌else◌, ◌+◌, ◌*◌, ◌≤◌, length, map, pos, refl, ap, arith}
+use Rattle.std.proofs.Common.{rules, if◌then◌else◌, ◌+◌, ◌≤◌, length, map, pos, refl, ap, arith}
 use Rattle.std.proofs.lemmas.List.{length-map}
 use Rattle.cn_core.specs.Characters.{minus_char}
 use Rattle.cn_core.specs.Spelling.{spelling}
 use Rattle.cn_core.specs.Printing.{mark_char, signed_text}
-use Rattle.cn_spell.specs.Prints.{most_bytes}
 use Rattle.cn_spell.specs.Working.Room.{Counts}
 use Rattle.cn_spell.proofs.Bounds.{marks-fit, most_bytes-le}
 use Rattle.cn_spell.proofs.Rooms.{Counts-if}
@@ -42,12 +41,4 @@ returns g c =
     let signed : Counts (if self.negative then count + 1 else count) (signed_text variant case self.negative (spelling method self.sections.number)) =
     Counts-if self.negative (minus_char variant)
     (λ e. rw e refl) (λ e. rw e refl) (three-minus variant) shown in
-    let few : 3 * (count + 1) ≤ most_bytes method =
-    omega (arith, marks-fit method (pos self.sections.number) self.printable self.small, shown.size, length-map (spelling method self.sections.number) (mark_char variant case)) in
-    record {
-      count = search (rules, signed.size);
-      bytes = signed.bytes;
-      most =
-          search (rules, few);
-      bound = search (rules, few, most_bytes-le method);
-    }
+    record { count = search (rules, signed.size); bytes = signed.bytes }

@@ -2,7 +2,6 @@ use Rattle.std.proofs.Common.{rules, ◌≡◌, ◌∙◌, ap, subst}
 use Rattle.cn_core.specs.Spelling.{spelling}
 use Rattle.cn_core.specs.Printing.{signed_text}
 use Rattle.cn_spell.specs.Working.Room.{Shows}
-use Rattle.cn_spell.proofs.Rooms.{Shows-full, Shows-utf8}
 use Rattle.cn_spell.proofs.spelled.SpelledText.fill.Goals as goal
 
 pub returns : goal.returns
@@ -16,8 +15,4 @@ returns g c =
     let shows : Shows room.free room.bytes.now (signed_text self.characters.variant self.characters.case self.negative marks) =
     subst (λ used. Shows room.free room.bytes.now (signed_text used.variant used.case self.negative marks)) characters
     (c.put_sign.ensures.shows _ (rw c.method.ensures at c.put_spelling.ensures.marks)) in
-    record {
-      bytes = search (rules, lender, shows, Shows-full);
-      utf8 =
-          search (rules, lender, shows, Shows-utf8);
-    }
+    search (rules, lender, shows)
