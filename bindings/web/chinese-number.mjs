@@ -238,12 +238,14 @@ let library = instance();
 /** Whether a call has not ended but trapped, as on a full stack: its memory may be half written. */
 let isInside = false;
 
-// What is lent: a reading (32 bytes; an amount, a date and a span fit there too), a length (8), and
-// the text. In both modules a size has 8 bytes.
+// What is lent: a reading (32 bytes; an amount and a date fit there too), a length (8), spans (24
+// each) and the text. In both modules a size has 8 bytes.
 const READING = Math.ceil(Number(library.__heap_base.value) / 16) * 16;
 const LENGTH = READING + 32;
-const TEXT = LENGTH + 8;
-const [READING_AT, LENGTH_AT, TEXT_AT] = [READING, LENGTH, TEXT].map(BigInt);
+const SPANS = LENGTH + 8;
+const MOST_SPANS = 64;
+const TEXT = SPANS + 24 * MOST_SPANS;
+const [READING_AT, LENGTH_AT, SPANS_AT, TEXT_AT] = [READING, LENGTH, SPANS, TEXT].map(BigInt);
 const MOST_BYTES = 234n;
 const MOST_AMOUNT_BYTES = 117n;
 const MOST_SIGNED_AMOUNT_BYTES = 120n;
@@ -252,12 +254,12 @@ const PAGE = 65536;
 const MOST_KEPT = 2 ** 24;
 const encoder = new TextEncoder();
 // How many code units are written sooner one by one than by the encoder.
-const FEW = 20;
+const FEW = 40;
 // For each number of code units that a printed text may have, a list that is filled with them.
 const UNITS_OF = Array.from({ length: Number(MOST_BYTES) / 3 + 1 }, (_, it) => Array(it).fill(0));
-/** @type {BigInt64Array} The reading (or amount, date or span) and the length. */
+/** @type {BigInt64Array} The reading (or amount or date) and the length. */
 let words;
-/** @type {Int32Array} The halves of these, each lower one first. */
+/** @type {Int32Array} The halves of these and of the spans, each lower one first. */
 let halves;
 /** @type {Uint8Array} */
 let text;
@@ -267,7 +269,7 @@ look();
 function look() {
   const { buffer } = library.memory;
   words = new BigInt64Array(buffer, READING, 5);
-  halves = new Int32Array(buffer, READING, 10);
+  halves = new Int32Array(buffer, READING, (TEXT - READING) / 4);
   text = new Uint8Array(buffer, TEXT);
 }
 
@@ -363,7 +365,7 @@ function placeOf(status, word) {
   if (STATUSES[status] !== 'incorrect') return undefined;
   const charIndex = Number(words[word]), byteIndex = Number(words[word + 1]);
   const start = unitsBetween(0, byteIndex);
-  return { charIndex, start, end: start + unitsOf(text[byteIndex]) };
+  return { charIndex, start, end: start + (text[byteIndex] < 0xf0 ? 1 : 2) };
 }
 
 /** The text that was printed: each of its characters has three bytes. */
@@ -893,38 +895,36 @@ function* foundIn(string, spans) {
  */
 function spansOf(string, upper, greatest) {
   hand(string);
-  const length = halves[8] >>> 0, spans = [];
-  /** @param {number} at */
-  const find = (at) => ended(library.chinese_number_find_utf8(
-    BigInt(TEXT + at), BigInt(length - at), upper, greatest, READING_AT));
-  let at = 0, position = 0;
-  while (find(at) === DONE) {
-    const start = at + Number(words[0]), end = at + Number(words[1]);
-    const before = position + unitsBetween(at, start);
-    position = before + unitsBetween(start, end);
-    spans.push({ start: before, end: position, isPlain: halves[4] === 1 });
-    at = end;
+  const length = words[4], spans = [];
+  let count = MOST_SPANS, from = 0, position = 0;
+  while (count === MOST_SPANS) {
+    isInside = true;
+    ended(library.chinese_number_find_utf8(TEXT_AT, length, BigInt(from), upper, greatest,
+      SPANS_AT, BigInt(MOST_SPANS), LENGTH_AT));
+    count = halves[8];
+    for (let half = 10; half < 10 + 6 * count; half += 6) {
+      const first = halves[half] >>> 0, start = position + unitsBetween(from, first);
+      from = halves[half + 2] >>> 0;
+      position = start + unitsBetween(first, from);
+      spans.push({ start, end: position, isPlain: halves[half + 4] === 1 });
+    }
   }
   return spans;
 }
 
 /**
- * How many UTF-16 code units the characters between two bytes of the text have.
+ * How many UTF-16 code units the characters between two bytes of the text have: one of four bytes
+ * is a surrogate pair.
  * @param {number} start
  * @param {number} end
  */
 function unitsBetween(start, end) {
+  const bytes = text;
   let units = 0;
-  for (let at = start; at < end; at++) units += unitsOf(text[at]);
+  for (let at = start; at < end; units++) {
+    const first = bytes[at];
+    at += first < 0x80 ? 1 : first < 0xe0 ? 2 : first < 0xf0 ? 3 : 4;
+    if (first >= 0xf0) units++;
+  }
   return units;
-}
-
-/**
- * How many UTF-16 code units the character has that a byte begins: four bytes stand for a surrogate
- * pair. A byte inside a character adds none.
- * @param {number} byte
- */
-function unitsOf(byte) {
-  if ((byte & 0xc0) === 0x80) return 0;
-  return byte < 0xf0 ? 1 : 2;
 }
