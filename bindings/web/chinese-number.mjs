@@ -235,7 +235,8 @@ function instance() {
 }
 
 let library = instance();
-/** Whether a call has not ended but trapped, as on a full stack: its memory may be half written. */
+// Whether a call has begun and not ended. It trapped, as on a full stack of the host, and its memory
+// may be half written, or it had none; so the next one has a new instance.
 let isInside = false;
 
 // What is lent: a reading (32 bytes; an amount and a date fit there too), a length (8), spans (24
@@ -250,35 +251,27 @@ const MOST_BYTES = 234n;
 const MOST_AMOUNT_BYTES = 117n;
 const MOST_SIGNED_AMOUNT_BYTES = 120n;
 const MOST_DATE_BYTES = 39n;
+const MOST_PRINTED = Number(MOST_BYTES);
 const PAGE = 65536;
 const MOST_KEPT = 2 ** 24;
 const encoder = new TextEncoder();
 // How many code units are written sooner one by one than by the encoder.
 const FEW = 40;
 // For each number of code units that a printed text may have, a list that is filled with them.
-const UNITS_OF = Array.from({ length: Number(MOST_BYTES) / 3 + 1 }, (_, it) => Array(it).fill(0));
+const UNITS_OF = Array.from({ length: MOST_PRINTED / 3 + 1 }, (_, it) => Array(it).fill(0));
 /** @type {BigInt64Array} The reading (or amount or date) and the length. */
 let words;
 /** @type {Int32Array} The halves of these and of the spans, each lower one first. */
 let halves;
 /** @type {Uint8Array} */
-let text;
-look();
-
-// A memory that has grown has another buffer, and so has that of a new instance.
-function look() {
-  const { buffer } = library.memory;
-  words = new BigInt64Array(buffer, READING, 5);
-  halves = new Int32Array(buffer, READING, (TEXT - READING) / 4);
-  text = new Uint8Array(buffer, TEXT);
-}
+let text = new Uint8Array(0);
 
 /**
  * Lends room for so many bytes of text to a call, which goes through `ended`.
  * @param {number} bytes
  */
 function lend(bytes) {
-  if (isInside || bytes > text.length || text.length > MOST_KEPT) makeRoom(bytes);
+  if (isInside || bytes >= text.length || text.length > MOST_KEPT) makeRoom(bytes);
   isInside = true;
 }
 
@@ -286,14 +279,15 @@ function lend(bytes) {
 function makeRoom(bytes) {
   // Memory is never taken from an instance: one with much of it is left by the next short text.
   if (isInside || (text.length > MOST_KEPT && bytes < MOST_KEPT)) {
+    isInside = true;
     library = instance();
-    isInside = false;
-    look();
   }
-  if (bytes > text.length) {
-    grow(library.memory, Math.ceil((bytes - text.length) / PAGE));
-    look();
-  }
+  const { memory } = library, missing = TEXT + bytes - memory.buffer.byteLength;
+  if (missing > 0) grow(memory, Math.ceil(missing / PAGE));
+  // A memory that has grown has another buffer, and so has that of a new instance.
+  words = new BigInt64Array(memory.buffer, READING, 5);
+  halves = new Int32Array(memory.buffer, READING, (TEXT - READING) / 4);
+  text = new Uint8Array(memory.buffer, TEXT);
 }
 
 /** @param {number} status */
@@ -536,7 +530,7 @@ export function toChinese(number, options = NO_OPTIONS) {
   const way = codeOf(PRINT_WAY, options.way);
   const script = scriptOf(options), letterCase = codeOf(CASE, options.case);
   const whole = wholeOf(number), high = highOf(number, kind);
-  lend(PAGE);
+  lend(MOST_PRINTED);
   const status = ended(library.chinese_number_print(
     whole, high, kind, way, script, letterCase, TEXT_AT, MOST_BYTES, LENGTH_AT));
   if (status !== DONE) throw new NumeralError(STATUSES[status], KINDS[kind]);
@@ -590,7 +584,7 @@ function capitalsOf(fen, options, name, most) {
   if ((isBelow && name === 'chinese_amount_print') || BigInt.asIntN(64, whole) !== whole) {
     throw new AmountError(isBelow ? 'tooSmall' : 'tooLarge');
   }
-  lend(PAGE);
+  lend(MOST_PRINTED);
   const status = ended(library[name](whole, script, form, TEXT_AT, most, LENGTH_AT));
   if (status !== DONE) throw new AmountError(STATUSES[status]);
   return printed();
@@ -771,7 +765,7 @@ export function dateToChinese(date, options = NO_OPTIONS) {
   if (year >>> 0 !== year || month >>> 0 !== month || day >>> 0 !== day) {
     throw new DateError('notADate');
   }
-  lend(PAGE);
+  lend(MOST_PRINTED);
   const status = ended(library.chinese_date_print(
     year, month, day, script, TEXT_AT, MOST_DATE_BYTES, LENGTH_AT));
   if (status !== DONE) throw new DateError(STATUSES[status]);
