@@ -55,13 +55,9 @@ const STATUSES = /** @type {Array<any>} */ (
 const DONE = STATUSES.indexOf('done'), DIGITS = WAYS.indexOf('digits');
 const FIRST_SIGNED = KINDS.indexOf('i8');
 
-/**
- * An option, which has one of these names, else the usual one. The last one that a call named is
- * kept with its code, since most name it again.
- * @param {string} what
- * @param {readonly string[]} names
- * @param {string} usual
- */
+// An option, which has one of these names, else the usual one. The last one that a call named is
+// kept with its code, since most name it again.
+/** @param {string} what @param {readonly string[]} names @param {string} usual */
 function option(what, names, usual) {
   const code = names.indexOf(usual);
   return { what, names, usual: code, last: usual, code };
@@ -221,10 +217,7 @@ export class DateError extends Refusal {
   }
 }
 
-/**
- * What an instance of the module exports, where that is of the version of this file.
- * @returns {any}
- */
+/** @returns {any} What an instance of the module exports, where that has this file's version. */
 function instance() {
   const { exports } = new WebAssembly.Instance(compiled);
   const [major, minor, patch] = VERSION.split('.').map(Number);
@@ -235,8 +228,8 @@ function instance() {
 }
 
 let library = instance();
-// Whether a call has begun and not ended. It trapped, as on a full stack of the host, and its memory
-// may be half written, or it had none; so the next one has a new instance.
+// Whether a call has begun and not ended: it trapped, as on a full stack of the host, or there was
+// no memory. The next one has a new instance then, since this one's may be half written.
 let isInside = false;
 
 // What is lent: a reading (32 bytes; an amount and a date fit there too), a length (8), spans (24
@@ -266,10 +259,7 @@ let halves;
 /** @type {Uint8Array} */
 let text = new Uint8Array(0);
 
-/**
- * Lends room for so many bytes of text to a call, which goes through `ended`.
- * @param {number} bytes
- */
+/** @param {number} bytes So many of text are lent to a call, which goes through `ended`. */
 function lend(bytes) {
   if (isInside || bytes >= text.length || text.length > MOST_KEPT) makeRoom(bytes);
   isInside = true;
@@ -296,10 +286,7 @@ function ended(status) {
   return status;
 }
 
-/**
- * @param {any} memory
- * @param {number} pages
- */
+/** @param {any} memory @param {number} pages */
 function grow(memory, pages) {
   try {
     // A 64-bit memory counts its pages by a BigInt, though early hosts and 32-bit memories do so by
@@ -315,11 +302,9 @@ function grow(memory, pages) {
   }
 }
 
-/**
- * Writes a string where the module reads it, and as the length how many bytes it has there. It is
- * UTF-8, with half a surrogate pair as U+FFFD, so the module need not test it.
- * @param {string} string
- */
+// Writes a string where the module reads it, and as the length how many bytes it has there. It is
+// UTF-8, with half a surrogate pair as U+FFFD, so the module need not test it.
+/** @param {string} string */
 function hand(string) {
   if (typeof string !== 'string') throw new TypeError('a text is a string');
   lend(3 * string.length);
@@ -349,12 +334,9 @@ function written(string) {
   return at;
 }
 
-/**
- * Where the character at fault stands in the string, whose bytes are those of the text, if one is:
- * a word tells how many characters stand in front of it, and the next one how many bytes.
- * @param {number} status
- * @param {number} word
- */
+// Where a character is at fault in the string, whose bytes are those of the text: a word tells how
+// many characters stand in front of it, and the next one how many bytes.
+/** @param {number} status @param {number} word */
 function placeOf(status, word) {
   if (STATUSES[status] !== 'incorrect') return undefined;
   const charIndex = Number(words[word]), byteIndex = Number(words[word + 1]);
@@ -386,11 +368,8 @@ function wholeOf(number) {
   return whole[0];
 }
 
-/**
- * The bits of a number above the lowest 64, where a kind of 128 bits holds it.
- * @param {bigint | number} number
- * @param {number} kind
- */
+// The bits of a number above the lowest 64, where a kind of 128 bits holds it.
+/** @param {bigint | number} number @param {number} kind */
 function highOf(number, kind) {
   const isSigned = kind >= FIRST_SIGNED;
   if (typeof number === 'number' && (number >= 0 || isSigned)) return number < 0 ? -1n : 0n;
@@ -403,19 +382,13 @@ function highOf(number, kind) {
 /** The first word of the reading as a Number, which is exact where it is a safe integer. */
 const firstWord = () => halves[1] * 2 ** 32 + (halves[0] >>> 0);
 
-/**
- * @param {ReturnType<typeof option>} option
- * @param {string | undefined} name
- */
+/** @param {ReturnType<typeof option>} option @param {string | undefined} name */
 function codeOf(option, name) {
   if (name === undefined) return option.usual;
   return name === option.last ? option.code : codeAmong(option, name);
 }
 
-/**
- * @param {ReturnType<typeof option>} option
- * @param {string} name
- */
+/** @param {ReturnType<typeof option>} option @param {string} name */
 function codeAmong(option, name) {
   const { what, names } = option, code = names.indexOf(name);
   if (code < 0) {
@@ -425,29 +398,23 @@ function codeAmong(option, name) {
   return code;
 }
 
-/**
- * @param {boolean | undefined} it
- * @param {string} name
- */
+/** @param {boolean | undefined} it @param {string} name */
 function flagOf(it, name) {
   if (it === undefined) return 0;
   if (typeof it !== 'boolean') throw new TypeError(`${name} is true or false`);
   return Number(it);
 }
 
-/**
- * Refuses what is no object, and options that a call has not, so that none is passed over in
- * silence.
- * @param {object} options
- * @param {(name: string) => boolean} has
- */
+// Options that a call has not are refused, so that none is passed over in silence.
+/** @param {object} options @param {(name: string) => boolean} has */
 function refuseOthers(options, has) {
   if (options === NO_OPTIONS) return;
   if (typeof options !== 'object' || options === null || Array.isArray(options)) {
     throw new TypeError('options are an object');
   }
-  for (const it of Object.keys(options)) {
-    if (!has(it)) throw new TypeError(`no option is named ${it}`);
+  for (const it in options) {
+    if (has(it) || !Object.keys(options).includes(it)) continue;
+    throw new TypeError(`no option is named ${it}`);
   }
 }
 
@@ -479,12 +446,8 @@ export function toBigInt(string, options = NO_OPTIONS) {
   return wholeNumber(readNumeral(string, options, false));
 }
 
-/**
- * Has the module read a numeral, by its digits where it is plain, and gives the code of its kind.
- * @param {string} string
- * @param {ReadOptions} options
- * @param {boolean} isPlain
- */
+// Has the module read a numeral, by its digits where it is plain, and gives the code of its kind.
+/** @param {string} string @param {ReadOptions} options @param {boolean} isPlain */
 function readNumeral(string, options, isPlain) {
   refuseOthers(options, HAS.reading);
   const kind = codeOf(KIND, options.kind), way = codeOf(WAY, options.way);
@@ -593,10 +556,8 @@ function capitalsOf(fen, options, name, most) {
 /** @param {ScriptOptions} options */
 const scriptOf = (options) => codeOf(SCRIPT, options.script);
 
-/**
- * The form of an amount: a bit for each of its options that is not as it is without them.
- * @param {AmountOptions} options
- */
+// The form of an amount: a bit for each of its options that is not as it is without them.
+/** @param {AmountOptions} options */
 function formOf(options) {
   return flagOf(options.currency, 'currency') + 2 * codeOf(YUAN, options.yuan)
     + 4 * codeOf(CLOSING, options.closing);
@@ -717,11 +678,8 @@ function figuresOf(yuan) {
   return String(yuan);
 }
 
-/**
- * The fen that a call of the module reads of a string.
- * @param {string} string
- * @param {string} name
- */
+// The fen that a call of the module reads of a string.
+/** @param {string} string @param {string} name */
 function fenOf(string, name) {
   hand(string);
   const status = ended(library[name](TEXT_AT, words[4], READING_AT));
@@ -729,10 +687,7 @@ function fenOf(string, name) {
   return words[0];
 }
 
-/**
- * @param {string} string
- * @param {string} name
- */
+/** @param {string} string @param {string} name */
 function safeFenOf(string, name) {
   fenOf(string, name);
   const fen = firstWord();
@@ -880,13 +835,8 @@ function* foundIn(string, spans) {
   }
 }
 
-/**
- * Where the numbers of a string stand. They are looked for at once, since a call in between writes
- * over the text that is lent.
- * @param {string} string
- * @param {number} upper
- * @param {number} greatest
- */
+// The numbers are looked for at once, since a call in between writes over the text that is lent.
+/** @param {string} string @param {number} upper @param {number} greatest */
 function spansOf(string, upper, greatest) {
   hand(string);
   const length = words[4], spans = [];
@@ -906,12 +856,9 @@ function spansOf(string, upper, greatest) {
   return spans;
 }
 
-/**
- * How many UTF-16 code units the characters between two bytes of the text have: one of four bytes
- * is a surrogate pair.
- * @param {number} start
- * @param {number} end
- */
+// How many UTF-16 code units the characters between two bytes of the text have: one of four bytes
+// is a surrogate pair.
+/** @param {number} start @param {number} end */
 function unitsBetween(start, end) {
   const bytes = text;
   let units = 0;

@@ -55,13 +55,9 @@ const STATUSES = /** @type {Array<any>} */ (
 const DONE = STATUSES.indexOf('done'), DIGITS = WAYS.indexOf('digits');
 const FIRST_SIGNED = KINDS.indexOf('i8');
 
-/**
- * An option, which has one of these names, else the usual one. The last one that a call named is
- * kept with its code, since most name it again.
- * @param {string} what
- * @param {readonly string[]} names
- * @param {string} usual
- */
+// An option, which has one of these names, else the usual one. The last one that a call named is
+// kept with its code, since most name it again.
+/** @param {string} what @param {readonly string[]} names @param {string} usual */
 function option(what, names, usual) {
   const code = names.indexOf(usual);
   return { what, names, usual: code, last: usual, code };
@@ -221,10 +217,7 @@ export class DateError extends Refusal {
   }
 }
 
-/**
- * What an instance of the module exports, where that is of the version of this file.
- * @returns {any}
- */
+/** @returns {any} What an instance of the module exports, where that has this file's version. */
 function instance() {
   const { exports } = new WebAssembly.Instance(compiled);
   const [major, minor, patch] = VERSION.split('.').map(Number);
@@ -235,48 +228,40 @@ function instance() {
 }
 
 let library = instance();
-/** Whether a call has not ended but trapped, as on a full stack: its memory may be half written. */
+// Whether a call has begun and not ended: it trapped, as on a full stack of the host, or there was
+// no memory. The next one has a new instance then, since this one's may be half written.
 let isInside = false;
 
-// What is lent: a reading (32 bytes; an amount, a date and a span fit there too), a length (8), and
-// the text. In both modules a size has 8 bytes.
+// What is lent: a reading (32 bytes; an amount and a date fit there too), a length (8), spans (24
+// each) and the text. In both modules a size has 8 bytes.
 const READING = Math.ceil(Number(library.__heap_base.value) / 16) * 16;
 const LENGTH = READING + 32;
-const TEXT = LENGTH + 8;
-const [READING_AT, LENGTH_AT, TEXT_AT] = [READING, LENGTH, TEXT].map(BigInt);
+const SPANS = LENGTH + 8;
+const MOST_SPANS = 64;
+const TEXT = SPANS + 24 * MOST_SPANS;
+const [READING_AT, LENGTH_AT, SPANS_AT, TEXT_AT] = [READING, LENGTH, SPANS, TEXT].map(BigInt);
 const MOST_BYTES = 234n;
 const MOST_AMOUNT_BYTES = 117n;
 const MOST_SIGNED_AMOUNT_BYTES = 120n;
 const MOST_DATE_BYTES = 39n;
+const MOST_PRINTED = Number(MOST_BYTES);
 const PAGE = 65536;
 const MOST_KEPT = 2 ** 24;
 const encoder = new TextEncoder();
 // How many code units are written sooner one by one than by the encoder.
-const FEW = 20;
+const FEW = 40;
 // For each number of code units that a printed text may have, a list that is filled with them.
-const UNITS_OF = Array.from({ length: Number(MOST_BYTES) / 3 + 1 }, (_, it) => Array(it).fill(0));
-/** @type {BigInt64Array} The reading (or amount, date or span) and the length. */
+const UNITS_OF = Array.from({ length: MOST_PRINTED / 3 + 1 }, (_, it) => Array(it).fill(0));
+/** @type {BigInt64Array} The reading (or amount or date) and the length. */
 let words;
-/** @type {Int32Array} The halves of these, each lower one first. */
+/** @type {Int32Array} The halves of these and of the spans, each lower one first. */
 let halves;
 /** @type {Uint8Array} */
-let text;
-look();
+let text = new Uint8Array(0);
 
-// A memory that has grown has another buffer, and so has that of a new instance.
-function look() {
-  const { buffer } = library.memory;
-  words = new BigInt64Array(buffer, READING, 5);
-  halves = new Int32Array(buffer, READING, 10);
-  text = new Uint8Array(buffer, TEXT);
-}
-
-/**
- * Lends room for so many bytes of text to a call, which goes through `ended`.
- * @param {number} bytes
- */
+/** @param {number} bytes So many of text are lent to a call, which goes through `ended`. */
 function lend(bytes) {
-  if (isInside || bytes > text.length || text.length > MOST_KEPT) makeRoom(bytes);
+  if (isInside || bytes >= text.length || text.length > MOST_KEPT) makeRoom(bytes);
   isInside = true;
 }
 
@@ -284,14 +269,15 @@ function lend(bytes) {
 function makeRoom(bytes) {
   // Memory is never taken from an instance: one with much of it is left by the next short text.
   if (isInside || (text.length > MOST_KEPT && bytes < MOST_KEPT)) {
+    isInside = true;
     library = instance();
-    isInside = false;
-    look();
   }
-  if (bytes > text.length) {
-    grow(library.memory, Math.ceil((bytes - text.length) / PAGE));
-    look();
-  }
+  const { memory } = library, missing = TEXT + bytes - memory.buffer.byteLength;
+  if (missing > 0) grow(memory, Math.ceil(missing / PAGE));
+  // A memory that has grown has another buffer, and so has that of a new instance.
+  words = new BigInt64Array(memory.buffer, READING, 5);
+  halves = new Int32Array(memory.buffer, READING, (TEXT - READING) / 4);
+  text = new Uint8Array(memory.buffer, TEXT);
 }
 
 /** @param {number} status */
@@ -300,10 +286,7 @@ function ended(status) {
   return status;
 }
 
-/**
- * @param {any} memory
- * @param {number} pages
- */
+/** @param {any} memory @param {number} pages */
 function grow(memory, pages) {
   try {
     // A 64-bit memory counts its pages by a BigInt, though early hosts and 32-bit memories do so by
@@ -319,11 +302,9 @@ function grow(memory, pages) {
   }
 }
 
-/**
- * Writes a string where the module reads it, and as the length how many bytes it has there. It is
- * UTF-8, with half a surrogate pair as U+FFFD, so the module need not test it.
- * @param {string} string
- */
+// Writes a string where the module reads it, and as the length how many bytes it has there. It is
+// UTF-8, with half a surrogate pair as U+FFFD, so the module need not test it.
+/** @param {string} string */
 function hand(string) {
   if (typeof string !== 'string') throw new TypeError('a text is a string');
   lend(3 * string.length);
@@ -353,17 +334,14 @@ function written(string) {
   return at;
 }
 
-/**
- * Where the character at fault stands in the string, whose bytes are those of the text, if one is:
- * a word tells how many characters stand in front of it, and the next one how many bytes.
- * @param {number} status
- * @param {number} word
- */
+// Where a character is at fault in the string, whose bytes are those of the text: a word tells how
+// many characters stand in front of it, and the next one how many bytes.
+/** @param {number} status @param {number} word */
 function placeOf(status, word) {
   if (STATUSES[status] !== 'incorrect') return undefined;
   const charIndex = Number(words[word]), byteIndex = Number(words[word + 1]);
   const start = unitsBetween(0, byteIndex);
-  return { charIndex, start, end: start + unitsOf(text[byteIndex]) };
+  return { charIndex, start, end: start + (text[byteIndex] < 0xf0 ? 1 : 2) };
 }
 
 /** The text that was printed: each of its characters has three bytes. */
@@ -390,11 +368,8 @@ function wholeOf(number) {
   return whole[0];
 }
 
-/**
- * The bits of a number above the lowest 64, where a kind of 128 bits holds it.
- * @param {bigint | number} number
- * @param {number} kind
- */
+// The bits of a number above the lowest 64, where a kind of 128 bits holds it.
+/** @param {bigint | number} number @param {number} kind */
 function highOf(number, kind) {
   const isSigned = kind >= FIRST_SIGNED;
   if (typeof number === 'number' && (number >= 0 || isSigned)) return number < 0 ? -1n : 0n;
@@ -407,19 +382,13 @@ function highOf(number, kind) {
 /** The first word of the reading as a Number, which is exact where it is a safe integer. */
 const firstWord = () => halves[1] * 2 ** 32 + (halves[0] >>> 0);
 
-/**
- * @param {ReturnType<typeof option>} option
- * @param {string | undefined} name
- */
+/** @param {ReturnType<typeof option>} option @param {string | undefined} name */
 function codeOf(option, name) {
   if (name === undefined) return option.usual;
   return name === option.last ? option.code : codeAmong(option, name);
 }
 
-/**
- * @param {ReturnType<typeof option>} option
- * @param {string} name
- */
+/** @param {ReturnType<typeof option>} option @param {string} name */
 function codeAmong(option, name) {
   const { what, names } = option, code = names.indexOf(name);
   if (code < 0) {
@@ -429,29 +398,23 @@ function codeAmong(option, name) {
   return code;
 }
 
-/**
- * @param {boolean | undefined} it
- * @param {string} name
- */
+/** @param {boolean | undefined} it @param {string} name */
 function flagOf(it, name) {
   if (it === undefined) return 0;
   if (typeof it !== 'boolean') throw new TypeError(`${name} is true or false`);
   return Number(it);
 }
 
-/**
- * Refuses what is no object, and options that a call has not, so that none is passed over in
- * silence.
- * @param {object} options
- * @param {(name: string) => boolean} has
- */
+// Options that a call has not are refused, so that none is passed over in silence.
+/** @param {object} options @param {(name: string) => boolean} has */
 function refuseOthers(options, has) {
   if (options === NO_OPTIONS) return;
   if (typeof options !== 'object' || options === null || Array.isArray(options)) {
     throw new TypeError('options are an object');
   }
-  for (const it of Object.keys(options)) {
-    if (!has(it)) throw new TypeError(`no option is named ${it}`);
+  for (const it in options) {
+    if (has(it) || !Object.keys(options).includes(it)) continue;
+    throw new TypeError(`no option is named ${it}`);
   }
 }
 
@@ -483,12 +446,8 @@ export function toBigInt(string, options = NO_OPTIONS) {
   return wholeNumber(readNumeral(string, options, false));
 }
 
-/**
- * Has the module read a numeral, by its digits where it is plain, and gives the code of its kind.
- * @param {string} string
- * @param {ReadOptions} options
- * @param {boolean} isPlain
- */
+// Has the module read a numeral, by its digits where it is plain, and gives the code of its kind.
+/** @param {string} string @param {ReadOptions} options @param {boolean} isPlain */
 function readNumeral(string, options, isPlain) {
   refuseOthers(options, HAS.reading);
   const kind = codeOf(KIND, options.kind), way = codeOf(WAY, options.way);
@@ -534,7 +493,7 @@ export function toChinese(number, options = NO_OPTIONS) {
   const way = codeOf(PRINT_WAY, options.way);
   const script = scriptOf(options), letterCase = codeOf(CASE, options.case);
   const whole = wholeOf(number), high = highOf(number, kind);
-  lend(PAGE);
+  lend(MOST_PRINTED);
   const status = ended(library.chinese_number_print(
     whole, high, kind, way, script, letterCase, TEXT_AT, MOST_BYTES, LENGTH_AT));
   if (status !== DONE) throw new NumeralError(STATUSES[status], KINDS[kind]);
@@ -588,7 +547,7 @@ function capitalsOf(fen, options, name, most) {
   if ((isBelow && name === 'chinese_amount_print') || BigInt.asIntN(64, whole) !== whole) {
     throw new AmountError(isBelow ? 'tooSmall' : 'tooLarge');
   }
-  lend(PAGE);
+  lend(MOST_PRINTED);
   const status = ended(library[name](whole, script, form, TEXT_AT, most, LENGTH_AT));
   if (status !== DONE) throw new AmountError(STATUSES[status]);
   return printed();
@@ -597,10 +556,8 @@ function capitalsOf(fen, options, name, most) {
 /** @param {ScriptOptions} options */
 const scriptOf = (options) => codeOf(SCRIPT, options.script);
 
-/**
- * The form of an amount: a bit for each of its options that is not as it is without them.
- * @param {AmountOptions} options
- */
+// The form of an amount: a bit for each of its options that is not as it is without them.
+/** @param {AmountOptions} options */
 function formOf(options) {
   return flagOf(options.currency, 'currency') + 2 * codeOf(YUAN, options.yuan)
     + 4 * codeOf(CLOSING, options.closing);
@@ -721,11 +678,8 @@ function figuresOf(yuan) {
   return String(yuan);
 }
 
-/**
- * The fen that a call of the module reads of a string.
- * @param {string} string
- * @param {string} name
- */
+// The fen that a call of the module reads of a string.
+/** @param {string} string @param {string} name */
 function fenOf(string, name) {
   hand(string);
   const status = ended(library[name](TEXT_AT, words[4], READING_AT));
@@ -733,10 +687,7 @@ function fenOf(string, name) {
   return words[0];
 }
 
-/**
- * @param {string} string
- * @param {string} name
- */
+/** @param {string} string @param {string} name */
 function safeFenOf(string, name) {
   fenOf(string, name);
   const fen = firstWord();
@@ -769,7 +720,7 @@ export function dateToChinese(date, options = NO_OPTIONS) {
   if (year >>> 0 !== year || month >>> 0 !== month || day >>> 0 !== day) {
     throw new DateError('notADate');
   }
-  lend(PAGE);
+  lend(MOST_PRINTED);
   const status = ended(library.chinese_date_print(
     year, month, day, script, TEXT_AT, MOST_DATE_BYTES, LENGTH_AT));
   if (status !== DONE) throw new DateError(STATUSES[status]);
@@ -884,47 +835,37 @@ function* foundIn(string, spans) {
   }
 }
 
-/**
- * Where the numbers of a string stand. They are looked for at once, since a call in between writes
- * over the text that is lent.
- * @param {string} string
- * @param {number} upper
- * @param {number} greatest
- */
+// The numbers are looked for at once, since a call in between writes over the text that is lent.
+/** @param {string} string @param {number} upper @param {number} greatest */
 function spansOf(string, upper, greatest) {
   hand(string);
-  const length = halves[8] >>> 0, spans = [];
-  /** @param {number} at */
-  const find = (at) => ended(library.chinese_number_find_utf8(
-    BigInt(TEXT + at), BigInt(length - at), upper, greatest, READING_AT));
-  let at = 0, position = 0;
-  while (find(at) === DONE) {
-    const start = at + Number(words[0]), end = at + Number(words[1]);
-    const before = position + unitsBetween(at, start);
-    position = before + unitsBetween(start, end);
-    spans.push({ start: before, end: position, isPlain: halves[4] === 1 });
-    at = end;
+  const length = words[4], spans = [];
+  let count = MOST_SPANS, from = 0, position = 0;
+  while (count === MOST_SPANS) {
+    isInside = true;
+    ended(library.chinese_number_find_utf8(TEXT_AT, length, BigInt(from), upper, greatest,
+      SPANS_AT, BigInt(MOST_SPANS), LENGTH_AT));
+    count = halves[8];
+    for (let half = 10; half < 10 + 6 * count; half += 6) {
+      const first = halves[half] >>> 0, start = position + unitsBetween(from, first);
+      from = halves[half + 2] >>> 0;
+      position = start + unitsBetween(first, from);
+      spans.push({ start, end: position, isPlain: halves[half + 4] === 1 });
+    }
   }
   return spans;
 }
 
-/**
- * How many UTF-16 code units the characters between two bytes of the text have.
- * @param {number} start
- * @param {number} end
- */
+// How many UTF-16 code units the characters between two bytes of the text have: one of four bytes
+// is a surrogate pair.
+/** @param {number} start @param {number} end */
 function unitsBetween(start, end) {
+  const bytes = text;
   let units = 0;
-  for (let at = start; at < end; at++) units += unitsOf(text[at]);
+  for (let at = start; at < end; units++) {
+    const first = bytes[at];
+    at += first < 0x80 ? 1 : first < 0xe0 ? 2 : first < 0xf0 ? 3 : 4;
+    if (first >= 0xf0) units++;
+  }
   return units;
-}
-
-/**
- * How many UTF-16 code units the character has that a byte begins: four bytes stand for a surrogate
- * pair. A byte inside a character adds none.
- * @param {number} byte
- */
-function unitsOf(byte) {
-  if ((byte & 0xc0) === 0x80) return 0;
-  return byte < 0xf0 ? 1 : 2;
 }
