@@ -21,7 +21,8 @@ pub use answers::{
 };
 pub use cn_find::laws::{
     numbers_are_the_runs, numbers_come_in_order, one_number_either_way,
-    runs_begin_with_no_other_sign, searches_go_on_behind_a_number, types_answer_alike_without_sign,
+    runs_begin_with_no_other_sign, searches_go_on_behind_a_number,
+    searches_go_on_in_the_whole_text, types_answer_alike_without_sign,
     unwanted_characters_part_texts, wanted_constants_are,
 };
 pub use enums::{

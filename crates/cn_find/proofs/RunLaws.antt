@@ -40,7 +40,7 @@ cons-other : (first : Span) (others : List Span) (span : Span) → Contains othe
 cons-other first others span (k, low, e) = (suc k, omega arith, e)
 
 -- the characters of a run and what follows it
-whole : (wanted : Wanted) (cs : List ℕ) → cs ≡ run_of wanted cs ++ after_run wanted cs
+pub whole : (wanted : Wanted) (cs : List ℕ) → cs ≡ run_of wanted cs ++ after_run wanted cs
 whole wanted [] = refl
 whole wanted (c ∷ after) = by (is_joined wanted c after) refl (whole wanted after) where
   by : (b : Bool) → is_joined wanted c after ≡ b
@@ -343,7 +343,7 @@ few-left wanted whole rest ended =
       ap length (encodes-chars rest ended),
     )
 
-scalars-end : (front end : List ℕ) → scalars (front ++ end) ≡ true → scalars end ≡ true
+pub scalars-end : (front end : List ℕ) → scalars (front ++ end) ≡ true → scalars end ≡ true
 scalars-end [] end h = h
 scalars-end (c ∷ front) end h = scalars-end front end (and-right (scalar c) _ h)
 
