@@ -48,19 +48,39 @@ export const UNITS = Object.freeze(/** @type {const} */ (
   ['ge', 'shi', 'bai', 'qian', 'wan', 'yi', 'zhao', 'jing', 'gai', 'zi', 'rang', 'gou', 'jian',
     'zheng', 'zai', 'ji']));
 
-const STATUSES = ['done', 'empty', 'incorrect', 'tooLarge', 'tooSmall', 'notUtf8', 'noRoom',
-  'notHeld', 'unknown', 'unfinished', 'none', 'notADate'];
+const STATUSES = /** @type {Array<any>} */ (
+  ['done', 'empty', 'incorrect', 'tooLarge', 'tooSmall', 'notUtf8', 'noRoom', 'notHeld', 'unknown',
+    'unfinished', 'none', 'notADate']);
 
-const YUANS = ['元', '圆'];
-const CLOSINGS = ['整', '正'];
-const PRINT_WAYS = WAYS.filter((it) => it !== 'any');
+const DONE = STATUSES.indexOf('done'), DIGITS = WAYS.indexOf('digits');
+const FIRST_SIGNED = KINDS.indexOf('i8');
 
-// The names of the options that calls have.
-const OF_READING = ['kind', 'way'];
-const OF_PRINTING = ['kind', 'way', 'script', 'case'];
-const OF_AMOUNTS = ['script', 'currency', 'yuan', 'closing'];
-const OF_DATES = ['script'];
-const OF_SEARCHES = ['upper', 'greatest'];
+// An option, which has one of these names, else the usual one. The last one that a call named is
+// kept with its code, since most name it again.
+/** @param {string} what @param {readonly string[]} names @param {string} usual */
+function option(what, names, usual) {
+  const code = names.indexOf(usual);
+  return { what, names, usual: code, last: usual, code };
+}
+
+const KIND = option('kind', KINDS, 'i128');
+const WAY = option('way', WAYS, 'any');
+const PRINT_WAY = option('way to write', WAYS.filter((it) => it !== 'any'), 'tenThousand');
+const SCRIPT = option('script', SCRIPTS, 'simplified');
+const CASE = option('case', CASES, 'lower');
+const YUAN = option('yuan', ['元', '圆'], '元');
+const CLOSING = option('closing', ['整', '正'], '整');
+const UNIT = option('unit', UNITS, 'zhao');
+const NO_OPTIONS = {};
+
+/** @type {Record<string, (name: string) => boolean>} Whether a call has an option of a name. */
+const HAS = {
+  reading: (it) => it === 'kind' || it === 'way',
+  printing: (it) => it === 'kind' || it === 'way' || it === 'script' || it === 'case',
+  amounts: (it) => it === 'script' || it === 'currency' || it === 'yuan' || it === 'closing',
+  dates: (it) => it === 'script',
+  searches: (it) => it === 'upper' || it === 'greatest',
+};
 
 /**
  * @typedef {typeof KINDS[number]} Kind
@@ -197,63 +217,76 @@ export class DateError extends Refusal {
   }
 }
 
-/** An instance of the module, where that is of the version of this file. */
+/** @returns {any} What an instance of the module exports, where that has this file's version. */
 function instance() {
-  const library = new WebAssembly.Instance(compiled).exports;
+  const { exports } = new WebAssembly.Instance(compiled);
   const [major, minor, patch] = VERSION.split('.').map(Number);
   const wanted = major * 1_000_000 + minor * 1000 + patch;
-  const found = /** @type {any} */ (library).chinese_number_version?.();
+  const found = /** @type {any} */ (exports).chinese_number_version?.();
   if (found !== wanted) throw new Error(`the module is of version ${found}, and not ${wanted}`);
-  return library;
+  return { ...exports }; // found sooner in an object of one's own
 }
 
-/**
- * What the instance in use exports; null after a trap, since its memory may be half written then.
- * @type {any}
- */
 let library = instance();
+// Whether a call has begun and not ended: it trapped, as on a full stack of the host, or there was
+// no memory. The next one has a new instance then, since this one's may be half written.
+let isInside = false;
 
-// What is lent: a reading (32 bytes; an amount, a date and a span fit there too), a length (8), and
-// the text. In both modules a size has 8 bytes.
+// What is lent: a reading (32 bytes; an amount and a date fit there too), a length (8), spans (24
+// each) and the text. In both modules a size has 8 bytes.
 const READING = Math.ceil(Number(library.__heap_base.value) / 16) * 16;
 const LENGTH = READING + 32;
-const TEXT = LENGTH + 8;
-const [READING_AT, LENGTH_AT, TEXT_AT] = [READING, LENGTH, TEXT].map(BigInt);
-const MOST_BYTES = 234;
-const MOST_AMOUNT_BYTES = 117;
-const MOST_SIGNED_AMOUNT_BYTES = 120;
-const MOST_DATE_BYTES = 39;
+const SPANS = LENGTH + 8;
+const MOST_SPANS = 64;
+const TEXT = SPANS + 24 * MOST_SPANS;
+const [READING_AT, LENGTH_AT, SPANS_AT, TEXT_AT] = [READING, LENGTH, SPANS, TEXT].map(BigInt);
+const MOST_BYTES = 234n;
+const MOST_AMOUNT_BYTES = 117n;
+const MOST_SIGNED_AMOUNT_BYTES = 120n;
+const MOST_DATE_BYTES = 39n;
+const MOST_PRINTED = Number(MOST_BYTES);
 const PAGE = 65536;
 const MOST_KEPT = 2 ** 24;
 const encoder = new TextEncoder();
-const decoder = new TextDecoder();
-/** @type {BigUint64Array} The reading (or amount, date or span) and the length. */
+// How many code units are written sooner one by one than by the encoder.
+const FEW = 40;
+// For each number of code units that a printed text may have, a list that is filled with them.
+const UNITS_OF = Array.from({ length: MOST_PRINTED / 3 + 1 }, (_, it) => Array(it).fill(0));
+/** @type {BigInt64Array} The reading (or amount or date) and the length. */
 let words;
+/** @type {Int32Array} The halves of these and of the spans, each lower one first. */
+let halves;
 /** @type {Uint8Array} */
 let text = new Uint8Array(0);
 
-/**
- * Lends room for so many bytes of text.
- * @param {number} bytes
- */
+/** @param {number} bytes So many of text are lent to a call, which goes through `ended`. */
 function lend(bytes) {
-  // Memory is never taken from an instance: one with much of it is left by the next short text.
-  if (text.length > MOST_KEPT && bytes < MOST_KEPT) library = null;
-  library ??= instance();
-  const { memory } = library;
-  const missing = TEXT + bytes - memory.buffer.byteLength;
-  if (missing > 0) grow(memory, Math.ceil(missing / PAGE));
-  // A memory that has grown has another buffer, and so has that of a new instance.
-  if (text.buffer !== memory.buffer) {
-    words = new BigUint64Array(memory.buffer, READING, 5);
-    text = new Uint8Array(memory.buffer, TEXT);
-  }
+  if (isInside || bytes >= text.length || text.length > MOST_KEPT) makeRoom(bytes);
+  isInside = true;
 }
 
-/**
- * @param {any} memory
- * @param {number} pages
- */
+/** @param {number} bytes */
+function makeRoom(bytes) {
+  // Memory is never taken from an instance: one with much of it is left by the next short text.
+  if (isInside || (text.length > MOST_KEPT && bytes < MOST_KEPT)) {
+    isInside = true;
+    library = instance();
+  }
+  const { memory } = library, missing = TEXT + bytes - memory.buffer.byteLength;
+  if (missing > 0) grow(memory, Math.ceil(missing / PAGE));
+  // A memory that has grown has another buffer, and so has that of a new instance.
+  words = new BigInt64Array(memory.buffer, READING, 5);
+  halves = new Int32Array(memory.buffer, READING, (TEXT - READING) / 4);
+  text = new Uint8Array(memory.buffer, TEXT);
+}
+
+/** @param {number} status */
+function ended(status) {
+  isInside = false;
+  return status;
+}
+
+/** @param {any} memory @param {number} pages */
 function grow(memory, pages) {
   try {
     // A 64-bit memory counts its pages by a BigInt, though early hosts and 32-bit memories do so by
@@ -269,70 +302,60 @@ function grow(memory, pages) {
   }
 }
 
-/**
- * Calls the module. Where that traps, as on a full stack of the host, the next call has a new
- * instance.
- * @param {() => number} call
- */
-function statusOf(call) {
-  try {
-    return call();
-  } catch (error) {
-    library = null;
-    throw error;
-  }
-}
-
-/**
- * Writes a string where the module reads it, and gives how many bytes it has there.
- * @param {string} string
- */
+// Writes a string where the module reads it, and as the length how many bytes it has there. It is
+// UTF-8, with half a surrogate pair as U+FFFD, so the module need not test it.
+/** @param {string} string */
 function hand(string) {
   if (typeof string !== 'string') throw new TypeError('a text is a string');
   lend(3 * string.length);
-  // An encoder writes UTF-8 and nothing else (half a surrogate pair as U+FFFD), so the module need
-  // not test it.
-  return Number(encoder.encodeInto(string, text).written);
+  halves[8] = string.length > FEW ? encoded(string) : written(string);
 }
 
-/**
- * Has the module read a string, by a call that is given how long it is at TEXT_AT. Else throws the
- * refusal, with the place of the character at fault, which a word and the next one tell.
- * @param {string} string
- * @param {(length: bigint) => number} call
- * @param {number} word
- * @param {(code: any, place?: Place) => Error} refusal
- */
-function read(string, call, word, refusal) {
-  const length = BigInt(hand(string));
-  const code = STATUSES[statusOf(() => call(length))];
-  if (code !== 'done') throw refusal(code, code === 'incorrect' ? placeAt(word) : undefined);
+/** @param {string} string */
+const encoded = (string) => Number(encoder.encodeInto(string, text).written);
+
+// Numerals have characters of one and of three bytes.
+/** @param {string} string */
+function written(string) {
+  const bytes = text;
+  let at = 0;
+  for (let index = 0; index < string.length; index++) {
+    const unit = string.charCodeAt(index);
+    if (unit < 0x80) {
+      bytes[at++] = unit;
+    } else if (unit < 0x800 || (unit & 0xf800) === 0xd800) {
+      return encoded(string);
+    } else {
+      bytes[at++] = 0xe0 | unit >> 12;
+      bytes[at++] = 0x80 | unit >> 6 & 0x3f;
+      bytes[at++] = 0x80 | unit & 0x3f;
+    }
+  }
+  return at;
 }
 
-/**
- * Where the character at fault stands in the string, whose bytes are those of the text: a word
- * tells how many characters stand in front of it, and the next one how many bytes.
- * @param {number} word
- */
-function placeAt(word) {
-  const [charIndex, byteIndex] = [words[word], words[word + 1]].map(Number);
+// Where a character is at fault in the string, whose bytes are those of the text: a word tells how
+// many characters stand in front of it, and the next one how many bytes.
+/** @param {number} status @param {number} word */
+function placeOf(status, word) {
+  if (STATUSES[status] !== 'incorrect') return undefined;
+  const charIndex = Number(words[word]), byteIndex = Number(words[word + 1]);
   const start = unitsBetween(0, byteIndex);
-  return { charIndex, start, end: start + unitsOf(text[byteIndex]) };
+  return { charIndex, start, end: start + (text[byteIndex] < 0xf0 ? 1 : 2) };
 }
 
-/**
- * Has the module print, by a call that is given how long the room at TEXT_AT is. Gives the text, or
- * throws the refusal.
- * @param {number} most
- * @param {(most: bigint) => number} call
- * @param {(code: any) => Error} refusal
- */
-function print(most, call, refusal) {
-  lend(most);
-  const code = STATUSES[statusOf(() => call(BigInt(most)))];
-  if (code !== 'done') throw refusal(code);
-  return decoder.decode(text.subarray(0, Number(words[4])));
+/** The text that was printed: each of its characters has three bytes. */
+function printed() {
+  const bytes = text, units = UNITS_OF[halves[8] / 3];
+  for (let index = 0; index < units.length; index++) {
+    const at = 3 * index;
+    units[index] = (bytes[at] & 0xf) << 12 | (bytes[at + 1] & 0x3f) << 6 | bytes[at + 2] & 0x3f;
+  }
+  return String.fromCharCode.apply(null, units);
 }
+
+// A Number becomes a BigInt sooner by its halves.
+const whole = new BigInt64Array(1), halvesOfWhole = new Int32Array(whole.buffer);
 
 /** @param {bigint | number} number */
 function wholeOf(number) {
@@ -340,66 +363,60 @@ function wholeOf(number) {
   if (!Number.isSafeInteger(number)) {
     throw new TypeError('a number, or the fen of an amount, is a BigInt or a safe whole Number');
   }
-  return BigInt(number);
+  halvesOfWhole[0] = number;
+  halvesOfWhole[1] = Math.floor(number / 2 ** 32);
+  return whole[0];
 }
 
-/**
- * The same number as a Number, where that holds it exactly.
- * @param {bigint} whole
- * @param {() => Error} refusal
- */
-function exactOf(whole, refusal) {
-  const number = Number(whole);
-  if (!Number.isSafeInteger(number)) throw refusal();
-  return number;
+// The bits of a number above the lowest 64, where a kind of 128 bits holds it.
+/** @param {bigint | number} number @param {number} kind */
+function highOf(number, kind) {
+  const isSigned = kind >= FIRST_SIGNED;
+  if (typeof number === 'number' && (number >= 0 || isSigned)) return number < 0 ? -1n : 0n;
+  const high = BigInt(number) >> 64n;
+  const held = isSigned ? BigInt.asIntN(64, high) : BigInt.asUintN(64, high);
+  if (held !== high) throw new NumeralError('notHeld', KINDS[kind]);
+  return high;
 }
 
-/**
- * @param {readonly string[]} names
- * @param {string} name
- * @param {string} what
- */
-function codeOf(names, name, what) {
-  const code = names.indexOf(name);
+/** The first word of the reading as a Number, which is exact where it is a safe integer. */
+const firstWord = () => halves[1] * 2 ** 32 + (halves[0] >>> 0);
+
+/** @param {ReturnType<typeof option>} option @param {string | undefined} name */
+function codeOf(option, name) {
+  if (name === undefined) return option.usual;
+  return name === option.last ? option.code : codeAmong(option, name);
+}
+
+/** @param {ReturnType<typeof option>} option @param {string} name */
+function codeAmong(option, name) {
+  const { what, names } = option, code = names.indexOf(name);
   if (code < 0) {
     throw new TypeError(`${what} is one of ${names.join(', ')}, and not ${String(name)}`);
   }
+  Object.assign(option, { last: name, code });
   return code;
 }
 
-/**
- * @param {boolean} it
- * @param {string} name
- */
+/** @param {boolean | undefined} it @param {string} name */
 function flagOf(it, name) {
+  if (it === undefined) return 0;
   if (typeof it !== 'boolean') throw new TypeError(`${name} is true or false`);
   return Number(it);
 }
 
-/**
- * Refuses what is no object, and options with another name than these, so that none is passed over
- * in silence.
- * @param {object} options
- * @param {readonly string[]} names
- */
-function refuseOthers(options, names) {
+// Options that a call has not are refused, so that none is passed over in silence.
+/** @param {object} options @param {(name: string) => boolean} has */
+function refuseOthers(options, has) {
+  if (options === NO_OPTIONS) return;
   if (typeof options !== 'object' || options === null || Array.isArray(options)) {
     throw new TypeError('options are an object');
   }
-  for (const it of Object.keys(options)) {
-    if (!names.includes(it)) throw new TypeError(`no option is named ${it}`);
+  for (const it in options) {
+    if (has(it) || !Object.keys(options).includes(it)) continue;
+    throw new TypeError(`no option is named ${it}`);
   }
 }
-
-/**
- * What stands in the lower half of a word, of which the module may have left the upper one as it
- * was.
- * @param {bigint} word
- */
-const lowHalf = (word) => Number(BigInt.asUintN(32, word));
-
-/** @param {Kind} kind */
-const isSigned = (kind) => kind.startsWith('i');
 
 /**
  * Reads a numeral, and gives a Number: `toNumber('一百二')` is 120.
@@ -413,8 +430,8 @@ const isSigned = (kind) => kind.startsWith('i');
  * @param {ReadOptions} options
  * @returns {number}
  */
-export function toNumber(string, options = {}) {
-  return exactOf(toBigInt(string, options), () => new NumeralError('unsafe', kindOf(options)));
+export function toNumber(string, options = NO_OPTIONS) {
+  return safeNumber(readNumeral(string, options, false));
 }
 
 /**
@@ -425,22 +442,37 @@ export function toNumber(string, options = {}) {
  * @param {ReadOptions} options
  * @returns {bigint}
  */
-export function toBigInt(string, options = {}) {
-  refuseOthers(options, OF_READING);
-  const { way = 'any' } = options, kind = kindOf(options);
-  const kindCode = codeOf(KINDS, kind, 'kind'), wayCode = codeOf(WAYS, way, 'way');
-  read(string,
-    (length) => library.chinese_number_read_utf8(TEXT_AT, length, kindCode, wayCode, READING_AT),
-    2, (code, place) => new NumeralError(code, kind, place));
-  const bits = (words[1] << 64n) | words[0];
-  return isSigned(kind) ? BigInt.asIntN(128, bits) : bits;
+export function toBigInt(string, options = NO_OPTIONS) {
+  return wholeNumber(readNumeral(string, options, false));
 }
 
-/**
- * @param {{ kind?: Kind }} options
- * @returns {Kind}
- */
-const kindOf = ({ kind = 'i128' }) => kind;
+// Has the module read a numeral, by its digits where it is plain, and gives the code of its kind.
+/** @param {string} string @param {ReadOptions} options @param {boolean} isPlain */
+function readNumeral(string, options, isPlain) {
+  refuseOthers(options, HAS.reading);
+  const kind = codeOf(KIND, options.kind), way = codeOf(WAY, options.way);
+  hand(string);
+  const status = ended(library.chinese_number_read_utf8(
+    TEXT_AT, words[4], kind, isPlain ? DIGITS : way, READING_AT));
+  if (status !== DONE) throw new NumeralError(STATUSES[status], KINDS[kind], placeOf(status, 2));
+  return kind;
+}
+
+/** @param {number} kind That of the number that was read. */
+function safeNumber(kind) {
+  const number = firstWord(), sign = number < 0 ? -1 : 0;
+  const isHeld = halves[2] === sign && halves[3] === sign && (sign === 0 || kind >= FIRST_SIGNED);
+  if (!isHeld || !Number.isSafeInteger(number)) throw new NumeralError('unsafe', KINDS[kind]);
+  return number;
+}
+
+/** @param {number} kind That of the number that was read. */
+function wholeNumber(kind) {
+  const low = BigInt.asUintN(64, words[0]);
+  if (halves[2] === 0 && halves[3] === 0) return low;
+  const number = (words[1] << 64n) | low;
+  return kind >= FIRST_SIGNED ? number : BigInt.asUintN(128, number);
+}
 
 /**
  * The text of a number: `toChinese(120)` is '一百二十'. The number is a BigInt, or a whole Number that
@@ -455,20 +487,17 @@ const kindOf = ({ kind = 'i128' }) => kind;
  * @param {PrintOptions} options
  * @returns {string}
  */
-export function toChinese(number, options = {}) {
-  refuseOthers(options, OF_PRINTING);
-  const { way = 'tenThousand', case: letterCase = 'lower' } = options, kind = kindOf(options);
-  const kindCode = codeOf(KINDS, kind, 'kind'), wayCode = codeOf(PRINT_WAYS, way, 'way to write');
-  const scriptCode = scriptOf(options), caseCode = codeOf(CASES, letterCase, 'case');
-  const whole = wholeOf(number);
-  // The module takes 64 bits of each half, so the number must be the one that these 128 bits stand
-  // for.
-  const bits = isSigned(kind) ? BigInt.asIntN(128, whole) : BigInt.asUintN(128, whole);
-  if (bits !== whole) throw new NumeralError('notHeld', kind);
-  return print(MOST_BYTES,
-    (most) => library.chinese_number_print(
-      bits, bits >> 64n, kindCode, wayCode, scriptCode, caseCode, TEXT_AT, most, LENGTH_AT),
-    (code) => new NumeralError(code, kind));
+export function toChinese(number, options = NO_OPTIONS) {
+  refuseOthers(options, HAS.printing);
+  const kind = codeOf(KIND, options.kind);
+  const way = codeOf(PRINT_WAY, options.way);
+  const script = scriptOf(options), letterCase = codeOf(CASE, options.case);
+  const whole = wholeOf(number), high = highOf(number, kind);
+  lend(MOST_PRINTED);
+  const status = ended(library.chinese_number_print(
+    whole, high, kind, way, script, letterCase, TEXT_AT, MOST_BYTES, LENGTH_AT));
+  if (status !== DONE) throw new NumeralError(STATUSES[status], KINDS[kind]);
+  return printed();
 }
 
 /**
@@ -484,8 +513,8 @@ export function toChinese(number, options = {}) {
  * @param {AmountOptions} options
  * @returns {string}
  */
-export function amountToChinese(fen, options = {}) {
-  return capitalsOf(fen, options, PLAIN);
+export function amountToChinese(fen, options = NO_OPTIONS) {
+  return capitalsOf(fen, options, 'chinese_amount_print', MOST_AMOUNT_BYTES);
 }
 
 /**
@@ -499,41 +528,39 @@ export function amountToChinese(fen, options = {}) {
  * @param {AmountOptions} options
  * @returns {string}
  */
-export function signedAmountToChinese(fen, options = {}) {
-  return capitalsOf(fen, options, SIGNED);
+export function signedAmountToChinese(fen, options = NO_OPTIONS) {
+  return capitalsOf(fen, options, 'chinese_signed_amount_print', MOST_SIGNED_AMOUNT_BYTES);
 }
-
-/** The calls that write fen: what 64 bits of them stand for, and the most bytes of a text. */
-const PLAIN = { held: BigInt.asUintN, most: MOST_AMOUNT_BYTES, name: 'chinese_amount_print' };
-const SIGNED = {
-  held: BigInt.asIntN, most: MOST_SIGNED_AMOUNT_BYTES, name: 'chinese_signed_amount_print',
-};
 
 /**
  * The capitals that a call of the module writes of fen.
  * @param {bigint | number} fen
  * @param {AmountOptions} options
- * @param {typeof PLAIN} call
+ * @param {string} name
+ * @param {bigint} most
  */
-function capitalsOf(fen, options, { held, most, name }) {
-  refuseOthers(options, OF_AMOUNTS);
+function capitalsOf(fen, options, name, most) {
+  refuseOthers(options, HAS.amounts);
   const script = scriptOf(options), form = formOf(options), whole = wholeOf(fen);
-  if (held(64, whole) !== whole) throw new AmountError(whole < 0n ? 'tooSmall' : 'tooLarge');
-  return print(most,
-    (room) => library[name](whole, script, form, TEXT_AT, room, LENGTH_AT),
-    (code) => new AmountError(code));
+  const isBelow = fen < 0;
+  // The module is handed 64 bits, which have to hold the fen.
+  if ((isBelow && name === 'chinese_amount_print') || BigInt.asIntN(64, whole) !== whole) {
+    throw new AmountError(isBelow ? 'tooSmall' : 'tooLarge');
+  }
+  lend(MOST_PRINTED);
+  const status = ended(library[name](whole, script, form, TEXT_AT, most, LENGTH_AT));
+  if (status !== DONE) throw new AmountError(STATUSES[status]);
+  return printed();
 }
 
 /** @param {ScriptOptions} options */
-const scriptOf = ({ script = 'simplified' }) => codeOf(SCRIPTS, script, 'script');
+const scriptOf = (options) => codeOf(SCRIPT, options.script);
 
-/**
- * The form of an amount: a bit for each of its options that is not as it is without them.
- * @param {AmountOptions} options
- */
-function formOf({ currency = false, yuan = '元', closing = '整' }) {
-  return flagOf(currency, 'currency') + 2 * codeOf(YUANS, yuan, 'yuan')
-    + 4 * codeOf(CLOSINGS, closing, 'closing');
+// The form of an amount: a bit for each of its options that is not as it is without them.
+/** @param {AmountOptions} options */
+function formOf(options) {
+  return flagOf(options.currency, 'currency') + 2 * codeOf(YUAN, options.yuan)
+    + 4 * codeOf(CLOSING, options.closing);
 }
 
 /**
@@ -548,7 +575,7 @@ function formOf({ currency = false, yuan = '元', closing = '整' }) {
  * @returns {number}
  */
 export function chineseToAmount(string) {
-  return exactFen(chineseToAmountBigInt(string));
+  return safeFenOf(string, 'chinese_amount_read');
 }
 
 /**
@@ -571,7 +598,7 @@ export function chineseToAmountBigInt(string) {
  * @returns {number}
  */
 export function chineseToSignedAmount(string) {
-  return exactFen(chineseToSignedAmountBigInt(string));
+  return safeFenOf(string, 'chinese_signed_amount_read');
 }
 
 /**
@@ -595,7 +622,7 @@ export function chineseToSignedAmountBigInt(string) {
  * @returns {number}
  */
 export function chineseToAmountAsTyped(string) {
-  return exactFen(chineseToAmountAsTypedBigInt(string));
+  return safeFenOf(string, 'chinese_typed_amount_read');
 }
 
 /**
@@ -626,7 +653,7 @@ export function chineseToAmountAsTypedBigInt(string) {
  * @returns {number}
  */
 export function yuanToFen(yuan) {
-  return exactFen(yuanToFenBigInt(yuan));
+  return safeFenOf(figuresOf(yuan), 'chinese_figures_read');
 }
 
 /**
@@ -637,28 +664,36 @@ export function yuanToFen(yuan) {
  * @returns {bigint}
  */
 export function yuanToFenBigInt(yuan) {
+  return fenOf(figuresOf(yuan), 'chinese_figures_read');
+}
+
+/** @param {string | bigint | number} yuan */
+function figuresOf(yuan) {
   if (typeof yuan === 'number' && !Number.isSafeInteger(yuan)) {
     throw new TypeError('a Number of yuan is whole, and at most 2 ** 53 - 1: give a string');
   }
   if (!['string', 'bigint', 'number'].includes(typeof yuan)) {
     throw new TypeError('an amount is a string of figures, a BigInt or a whole Number');
   }
-  return fenOf(String(yuan), 'chinese_figures_read');
+  return String(yuan);
 }
 
-/**
- * The fen that a call of the module reads of a string.
- * @param {string} string
- * @param {string} name
- */
+// The fen that a call of the module reads of a string.
+/** @param {string} string @param {string} name */
 function fenOf(string, name) {
-  read(string, (length) => library[name](TEXT_AT, length, READING_AT), 1,
-    (code, place) => new AmountError(code, place));
-  return BigInt.asIntN(64, words[0]);
+  hand(string);
+  const status = ended(library[name](TEXT_AT, words[4], READING_AT));
+  if (status !== DONE) throw new AmountError(STATUSES[status], placeOf(status, 1));
+  return words[0];
 }
 
-/** @param {bigint} fen */
-const exactFen = (fen) => exactOf(fen, () => new AmountError('unsafe'));
+/** @param {string} string @param {string} name */
+function safeFenOf(string, name) {
+  fenOf(string, name);
+  const fen = firstWord();
+  if (!Number.isSafeInteger(fen)) throw new AmountError('unsafe');
+  return fen;
+}
 
 /**
  * A date in capitals, as it stands on a cheque: `dateToChinese({ year: 2026, month: 1, day: 15 })`
@@ -673,20 +708,23 @@ const exactFen = (fen) => exactOf(fen, () => new AmountError('unsafe'));
  * @param {ScriptOptions} options
  * @returns {string}
  */
-export function dateToChinese(date, options = {}) {
-  refuseOthers(options, OF_DATES);
+export function dateToChinese(date, options = NO_OPTIONS) {
+  refuseOthers(options, HAS.dates);
   const script = scriptOf(options);
   // What is its own alone, since a class may count the years of another calendar.
   const { year, month, day } = { ...date };
-  const parts = [year, month, day];
-  if (!parts.every(Number.isInteger)) {
+  if (!Number.isInteger(year) || !Number.isInteger(month) || !Number.isInteger(day)) {
     throw new TypeError('a date is an object with a year, month and day, and no Date');
   }
   // The module is handed 32 bits of each.
-  if (parts.some((it) => it >>> 0 !== it)) throw new DateError('notADate');
-  return print(MOST_DATE_BYTES,
-    (most) => library.chinese_date_print(year, month, day, script, TEXT_AT, most, LENGTH_AT),
-    (code) => new DateError(code));
+  if (year >>> 0 !== year || month >>> 0 !== month || day >>> 0 !== day) {
+    throw new DateError('notADate');
+  }
+  lend(MOST_PRINTED);
+  const status = ended(library.chinese_date_print(
+    year, month, day, script, TEXT_AT, MOST_DATE_BYTES, LENGTH_AT));
+  if (status !== DONE) throw new DateError(STATUSES[status]);
+  return printed();
 }
 
 /**
@@ -700,10 +738,10 @@ export function dateToChinese(date, options = {}) {
  * @returns {BillDate}
  */
 export function chineseToDate(string) {
-  read(string, (length) => library.chinese_date_read(TEXT_AT, length, READING_AT), 2,
-    (code, place) => new DateError(code, place));
-  const [yearAndMonth, day] = words;
-  return { year: lowHalf(yearAndMonth), month: lowHalf(yearAndMonth >> 32n), day: lowHalf(day) };
+  hand(string);
+  const status = ended(library.chinese_date_read(TEXT_AT, words[4], READING_AT));
+  if (status !== DONE) throw new DateError(STATUSES[status], placeOf(status, 2));
+  return { year: halves[0], month: halves[1], day: halves[2] };
 }
 
 /** A number in its text, as findNumbers gives it. */
@@ -735,8 +773,8 @@ export class Found {
    * @param {ReadOptions} options
    * @returns {number}
    */
-  number(options = {}) {
-    return exactOf(this.bigInt(options), () => new NumeralError('unsafe', kindOf(options)));
+  number(options = NO_OPTIONS) {
+    return safeNumber(readNumeral(this.text, options, this.isPlain));
   }
 
   /**
@@ -745,11 +783,8 @@ export class Found {
    * @param {ReadOptions} options
    * @returns {bigint}
    */
-  bigInt(options = {}) {
-    refuseOthers(options, OF_READING);
-    const { way = 'any' } = options;
-    codeOf(WAYS, way, 'way');
-    return toBigInt(this.text, { ...options, way: this.isPlain ? 'digits' : way });
+  bigInt(options = NO_OPTIONS) {
+    return wholeNumber(readNumeral(this.text, options, this.isPlain));
   }
 
   /**
@@ -759,7 +794,7 @@ export class Found {
    * @param {ReadOptions} options
    * @returns {number | null}
    */
-  value(options = {}) {
+  value(options = NO_OPTIONS) {
     try {
       return this.number(options);
     } catch (error) {
@@ -783,10 +818,10 @@ export class Found {
  * @param {Wanted} options
  * @returns {Generator<Found, void, undefined>}
  */
-export function findNumbers(string, options = {}) {
-  refuseOthers(options, OF_SEARCHES);
-  const { upper = false, greatest = 'zhao' } = options;
-  return foundIn(string, spansOf(string, flagOf(upper, 'upper'), codeOf(UNITS, greatest, 'unit')));
+export function findNumbers(string, options = NO_OPTIONS) {
+  refuseOthers(options, HAS.searches);
+  const upper = flagOf(options.upper, 'upper');
+  return foundIn(string, spansOf(string, upper, codeOf(UNIT, options.greatest)));
 }
 
 /**
@@ -800,47 +835,37 @@ function* foundIn(string, spans) {
   }
 }
 
-/**
- * Where the numbers of a string stand. They are looked for at once, since a call in between writes
- * over the text that is lent.
- * @param {string} string
- * @param {number} upper
- * @param {number} greatest
- */
+// The numbers are looked for at once, since a call in between writes over the text that is lent.
+/** @param {string} string @param {number} upper @param {number} greatest */
 function spansOf(string, upper, greatest) {
-  const length = hand(string);
-  /** @param {number} at */
-  const find = (at) => library.chinese_number_find_utf8(
-    BigInt(TEXT + at), BigInt(length - at), upper, greatest, READING_AT);
-  const spans = [];
-  let at = 0, position = 0;
-  while (STATUSES[statusOf(() => find(at))] === 'done') {
-    const start = at + Number(words[0]), end = at + Number(words[1]);
-    const before = position + unitsBetween(at, start);
-    position = before + unitsBetween(start, end);
-    spans.push({ start: before, end: position, isPlain: lowHalf(words[2]) === 1 });
-    at = end;
+  hand(string);
+  const length = words[4], spans = [];
+  let count = MOST_SPANS, from = 0, position = 0;
+  while (count === MOST_SPANS) {
+    isInside = true;
+    ended(library.chinese_number_find_utf8(TEXT_AT, length, BigInt(from), upper, greatest,
+      SPANS_AT, BigInt(MOST_SPANS), LENGTH_AT));
+    count = halves[8];
+    for (let half = 10; half < 10 + 6 * count; half += 6) {
+      const first = halves[half] >>> 0, start = position + unitsBetween(from, first);
+      from = halves[half + 2] >>> 0;
+      position = start + unitsBetween(first, from);
+      spans.push({ start, end: position, isPlain: halves[half + 4] === 1 });
+    }
   }
   return spans;
 }
 
-/**
- * How many UTF-16 code units the characters between two bytes of the text have.
- * @param {number} start
- * @param {number} end
- */
+// How many UTF-16 code units the characters between two bytes of the text have: one of four bytes
+// is a surrogate pair.
+/** @param {number} start @param {number} end */
 function unitsBetween(start, end) {
+  const bytes = text;
   let units = 0;
-  for (let at = start; at < end; at++) units += unitsOf(text[at]);
+  for (let at = start; at < end; units++) {
+    const first = bytes[at];
+    at += first < 0x80 ? 1 : first < 0xe0 ? 2 : first < 0xf0 ? 3 : 4;
+    if (first >= 0xf0) units++;
+  }
   return units;
-}
-
-/**
- * How many UTF-16 code units the character has that a byte begins: four bytes stand for a surrogate
- * pair. A byte inside a character adds none.
- * @param {number} byte
- */
-function unitsOf(byte) {
-  if ((byte & 0xc0) === 0x80) return 0;
-  return byte < 0xf0 ? 1 : 2;
 }

@@ -639,8 +639,8 @@ function tryRunningText() {
   }
   assert(numbers > TEXTS);
   searchSideBySide();
-  const many = Array.from(findNumbers('十a'.repeat(300_000)));
-  assert.deepEqual([many.length, many.at(-1).end], [300_000, 599_999]);
+  const many = Array.from(findNumbers('十é😀'.repeat(300_000)));
+  assert(many.length === 300_000 && many.every((it, at) => it.start === 4 * at));
   console.log(`running text: ${numbers} numbers in ${TEXTS} texts stand where RULES says, and are `
     + 'answered as by toNumber');
 }
@@ -670,15 +670,21 @@ function tryFound() {
 function tryWithoutMemory() {
   const { grow } = WebAssembly.Memory.prototype;
   const cause = new RangeError('no more memory'), longer = '零'.repeat(6_000_000);
-  WebAssembly.Memory.prototype.grow = () => {
+  const withoutGrowth = () => {
     throw cause;
   };
+  WebAssembly.Memory.prototype.grow = withoutGrowth;
   const refusal = { name: 'NumeralError', code: 'outOfMemory', message: 'out of memory', cause };
   assert.throws(() => toNumber(longer), { ...refusal, start: undefined });
   assert.throws(() => new Found(0, longer, true).value(), refusal);
   assert.equal(toNumber('一百二'), 120);
   WebAssembly.Memory.prototype.grow = grow;
   assert.equal(toNumber(longer), 0);
+  // A new instance is there, and none of the memory that it asks for.
+  WebAssembly.Memory.prototype.grow = withoutGrowth;
+  assert.throws(() => toNumber('零'.repeat(1_000_000)), refusal);
+  assert.deepEqual([toNumber('七'), toChinese(120)], [7, '一百二十']);
+  WebAssembly.Memory.prototype.grow = grow;
 }
 
 // How many instances of the module a call makes.
