@@ -1,0 +1,481 @@
+/* The calls of the library for CPython from 3.10 on, by its stable interface: the functions of `_library.py` under the same
+ * names, which does the same by ctypes. Texts are str, choices are the codes of chinese_number.h, and places count
+ * characters. Half of a surrogate pair goes as a question mark, which is no numeral either. */
+#define PY_SSIZE_T_CLEAN
+#define Py_LIMITED_API 0x030A0000
+#include <Python.h>
+#include <string.h>
+#include "chinese_number.h"
+
+enum {
+    SHORT = 256,    /* characters; a text of no more is read from the stack, and takes no memory */
+    LONG = 1 << 16, /* bytes; see let_go */
+    AT_ONCE = 64,   /* numbers of a text that are found before the first of them is handed out */
+    CHOICES = 4,
+    MOST_WORDS = 20 /* of one choice: the members of its enum, and the str that each equals */
+};
+
+/* The keywords of the quick functions, of which to_number takes the first two. */
+static const char *const KEYWORDS[CHOICES] = {"kind", "way", "script", "case"};
+
+/* A keyword and its words. `held` is a tuple of the members by their code, and then of their str; `words` are its own. */
+typedef struct choice {
+    PyObject *keyword, *held, *words[MOST_WORDS];
+    Py_ssize_t count;
+} choice;
+
+/* A quick function, and the Python function behind it, which takes what is unusual, with the codes of its defaults. */
+typedef struct quick {
+    PyMethodDef method;
+    PyObject *function, *text;
+    int defaults[CHOICES];
+} quick;
+
+typedef struct state {
+    choice choices[CHOICES];
+    quick to_number, to_chinese;
+} state;
+
+/* The code of a word, or -1 of one that is not known as this very object. */
+static int code_of(const choice *of, PyObject *word) {
+    Py_ssize_t members = of->count / 2;
+    for (Py_ssize_t i = 0; i < of->count; i++)
+        if (of->words[i] == word)
+            return (int)(i < members ? i : i - members);
+    return -1;
+}
+
+/* Takes a tuple for each choice; see `choice`. */
+static PyObject *know_words(PyObject *module, PyObject *given) {
+    state *own = PyModule_GetState(module);
+    for (int i = 0; i < CHOICES; i++) {
+        PyObject *words = PyTuple_GetItem(given, i);
+        Py_ssize_t count = words ? PyTuple_Size(words) : -1;
+        choice *of = &own->choices[i];
+        if (count < 0 || count > MOST_WORDS)
+            return count < 0 ? NULL : PyErr_Format(PyExc_ValueError, "there are %zd words", count);
+        for (Py_ssize_t word = 0; word < count; word++)
+            of->words[word] = PyTuple_GetItem(words, word);
+        of->count = count;
+        Py_INCREF(words);
+        Py_XDECREF(of->held);
+        of->held = words;
+        if (!of->keyword && !(of->keyword = PyUnicode_InternFromString(KEYWORDS[i])))
+            return NULL;
+    }
+    Py_RETURN_NONE;
+}
+
+/* The codes of what a call names, and else of its defaults; 0 where one is not known. */
+static int codes_of(const state *own, const quick *of, PyObject *const *values, PyObject *names, int *codes) {
+    Py_ssize_t count = names ? PyTuple_Size(names) : 0;
+    memcpy(codes, of->defaults, sizeof of->defaults);
+    for (Py_ssize_t i = 0; i < count; i++) {
+        PyObject *name = PyTuple_GetItem(names, i);
+        int at = 0;
+        while (at < CHOICES && own->choices[at].keyword != name)
+            at++;
+        if (at == CHOICES || of->defaults[at] < 0 || (codes[at] = code_of(&own->choices[at], values[i])) < 0)
+            return 0;
+    }
+    return 1;
+}
+
+/* What the Python function behind a quick one makes of a call. */
+static PyObject *unusual(const quick *of, PyObject *const *values, Py_ssize_t count, PyObject *names) {
+    PyObject *words = names ? PyDict_New() : NULL, *places = PyTuple_New(count), *answer = NULL;
+    int failed = !places || (names && !words) || !of->function;
+    for (Py_ssize_t i = 0; !failed && i < count; i++) {
+        Py_INCREF(values[i]);
+        failed = PyTuple_SetItem(places, i, values[i]);
+    }
+    for (Py_ssize_t i = 0; !failed && names && i < PyTuple_Size(names); i++)
+        failed = PyDict_SetItem(words, PyTuple_GetItem(names, i), values[count + i]);
+    if (!failed)
+        answer = PyObject_Call(of->function, places, words);
+    else if (!PyErr_Occurred())
+        PyErr_SetString(PyExc_RuntimeError, "the interpreter is at its end");
+    Py_XDECREF(places);
+    Py_XDECREF(words);
+    return answer;
+}
+
+/* The end of a character in UTF-8, written at its start. */
+static uint8_t *put(uint8_t *to, Py_UCS4 character) {
+    if (character < 0x80) {
+        *to++ = (uint8_t)character;
+        return to;
+    }
+    if (character < 0x800) {
+        *to++ = (uint8_t)(0xC0 | character >> 6);
+    } else {
+        if (character < 0x10000) {
+            *to++ = (uint8_t)(0xE0 | character >> 12);
+        } else {
+            *to++ = (uint8_t)(0xF0 | character >> 18);
+            *to++ = (uint8_t)(0x80 | (character >> 12 & 63));
+        }
+        *to++ = (uint8_t)(0x80 | (character >> 6 & 63));
+    }
+    *to++ = (uint8_t)(0x80 | (character & 63));
+    return to;
+}
+
+/* The bytes of a text of at most SHORT characters. Unlike PyUnicode_AsUTF8 it leaves no copy in the str. */
+static size_t put_short(PyObject *text, Py_ssize_t length, uint8_t *room) {
+    Py_UCS4 characters[SHORT];
+    uint8_t *end = room;
+    PyUnicode_AsUCS4(text, characters, SHORT, 0);
+    for (Py_ssize_t i = 0; i < length; i++)
+        end = put(end, (characters[i] & ~0x7FFu) == 0xD800 ? '?' : characters[i]);
+    return (size_t)(end - room);
+}
+
+/* A str in UTF-8: in the room, or in the bytes that are held. */
+typedef struct text {
+    const uint8_t *bytes;
+    size_t length;
+    PyObject *held;
+    uint8_t room[4 * SHORT];
+} text;
+
+static int take(PyObject *given, text *it) {
+    Py_ssize_t length = PyUnicode_GetLength(given);
+    char *bytes;
+    it->held = NULL;
+    if (length < 0)
+        return 0;
+    if (length <= SHORT) {
+        it->length = put_short(given, length, it->room);
+        it->bytes = it->room;
+        return 1;
+    }
+    it->held = PyUnicode_AsEncodedString(given, "utf-8", "replace");
+    if (!it->held || PyBytes_AsStringAndSize(it->held, &bytes, &length))
+        return 0;
+    it->length = (size_t)length;
+    it->bytes = (const uint8_t *)bytes;
+    return 1;
+}
+
+/* Lets other threads of Python run while a long text is read. A shorter one takes less than a tenth of the 5 ms that Python
+ * lets a thread run anyway, and to let go for it could cost as many to wait. */
+static PyThreadState *let_go(size_t length) {
+    return length > LONG ? PyEval_SaveThread() : NULL;
+}
+
+static void take_back(PyThreadState *thread) {
+    if (thread)
+        PyEval_RestoreThread(thread);
+}
+
+/* A function that reads a text by a call, and gives the status, what the format and the words behind it make of `it`, and
+ * how many characters stand before one at fault. */
+#define READER(name, call, answer, format, ...)                          \
+    static PyObject *name(PyObject *module, PyObject *given) {           \
+        text from;                                                       \
+        answer it;                                                       \
+        (void)module;                                                    \
+        if (!take(given, &from))                                         \
+            return NULL;                                                 \
+        PyThreadState *thread = let_go(from.length);                     \
+        uint32_t status = call(from.bytes, from.length, &it);            \
+        take_back(thread);                                               \
+        Py_XDECREF(from.held);                                           \
+        return Py_BuildValue("I" format "n", status, __VA_ARGS__, (Py_ssize_t)it.char_index); \
+    }
+
+READER(read_amount, chinese_amount_read, cn_amount, "K", (unsigned long long)it.fen)
+READER(read_typed_amount, chinese_typed_amount_read, cn_amount, "K", (unsigned long long)it.fen)
+READER(read_signed_amount, chinese_signed_amount_read, cn_signed_amount, "L", (long long)it.fen)
+READER(read_figures, chinese_figures_read, cn_signed_amount, "L", (long long)it.fen)
+READER(read_date, chinese_date_read, cn_date, "(III)", it.year, it.month, it.day)
+
+static PyObject *read_number(PyObject *module, PyObject *given) {
+    text from;
+    PyObject *string;
+    unsigned kind, way;
+    cn_reading it;
+    (void)module;
+    if (!PyArg_ParseTuple(given, "OII", &string, &kind, &way) || !take(string, &from))
+        return NULL;
+    PyThreadState *thread = let_go(from.length);
+    uint32_t status = chinese_number_read_utf8(from.bytes, from.length, kind, way, &it);
+    take_back(thread);
+    Py_XDECREF(from.held);
+    return Py_BuildValue("IKKn", status, (unsigned long long)it.number.low, (unsigned long long)it.number.high,
+                         (Py_ssize_t)it.char_index);
+}
+
+/* to_number of a short text, by known words, where the number has 64 bits. */
+static PyObject *to_number(PyObject *module, PyObject *const *values, Py_ssize_t count, PyObject *names) {
+    const state *own = PyModule_GetState(module);
+    const quick *of = &own->to_number;
+    uint8_t room[4 * SHORT];
+    int codes[CHOICES];
+    cn_reading it;
+    Py_ssize_t length = count == 1 && PyUnicode_Check(values[0]) ? PyUnicode_GetLength(values[0]) : -1;
+    if (length >= 0 && length <= SHORT && codes_of(own, of, values + 1, names, codes)) {
+        size_t bytes = put_short(values[0], length, room);
+        uint32_t kind = (uint32_t)codes[0], way = (uint32_t)codes[1];
+        if (chinese_number_read_utf8(room, bytes, kind, way, &it) == CN_DONE) {
+            uint64_t above = kind >= CN_I8 && it.number.low > INT64_MAX ? UINT64_MAX : 0;
+            if (it.number.high == above)
+                return above || it.number.low <= INT64_MAX ? PyLong_FromLongLong((long long)it.number.low)
+                                                           : PyLong_FromUnsignedLongLong(it.number.low);
+        }
+    }
+    return unusual(of, values, count, names);
+}
+
+/* The str of a text that is printed: each of its characters takes three bytes. By PyUnicode_FromStringAndSize it takes twice
+ * as long. */
+static PyObject *string_of(const uint8_t *text, size_t length) {
+    wchar_t characters[CN_MOST_BYTES / 3];
+    Py_ssize_t count = 0;
+    for (const uint8_t *at = text; at < text + length; at += 3)
+        characters[count++] = (wchar_t)((at[0] & 15) << 12 | (at[1] & 63) << 6 | (at[2] & 63));
+    return PyUnicode_FromWideChar(characters, count);
+}
+
+static PyObject *print_number(PyObject *module, PyObject *given) {
+    unsigned long long low, high;
+    unsigned kind, way, script, letter_case;
+    uint8_t room[CN_MOST_BYTES];
+    size_t length;
+    (void)module;
+    if (!PyArg_ParseTuple(given, "KKIIII", &low, &high, &kind, &way, &script, &letter_case))
+        return NULL;
+    uint32_t status = chinese_number_print(low, high, kind, way, script, letter_case, room, sizeof room, &length);
+    return Py_BuildValue("IN", status, string_of(room, length));
+}
+
+static PyObject *print_amount(PyObject *module, PyObject *given) {
+    unsigned long long fen;
+    unsigned script, form;
+    uint8_t room[CN_MOST_AMOUNT_BYTES];
+    size_t length;
+    (void)module;
+    if (!PyArg_ParseTuple(given, "KII", &fen, &script, &form))
+        return NULL;
+    uint32_t status = chinese_amount_print(fen, script, form, room, sizeof room, &length);
+    return Py_BuildValue("IN", status, string_of(room, length));
+}
+
+static PyObject *print_signed_amount(PyObject *module, PyObject *given) {
+    long long fen;
+    unsigned script, form;
+    uint8_t room[CN_MOST_SIGNED_AMOUNT_BYTES];
+    size_t length;
+    (void)module;
+    if (!PyArg_ParseTuple(given, "LII", &fen, &script, &form))
+        return NULL;
+    uint32_t status = chinese_signed_amount_print(fen, script, form, room, sizeof room, &length);
+    return Py_BuildValue("IN", status, string_of(room, length));
+}
+
+static PyObject *print_date(PyObject *module, PyObject *given) {
+    unsigned year, month, day, script;
+    uint8_t room[CN_MOST_DATE_BYTES];
+    size_t length;
+    (void)module;
+    if (!PyArg_ParseTuple(given, "IIII", &year, &month, &day, &script))
+        return NULL;
+    uint32_t status = chinese_date_print(year, month, day, script, room, sizeof room, &length);
+    return Py_BuildValue("IN", status, string_of(room, length));
+}
+
+/* to_chinese of an int that 64 bits hold with its sign, by known words. */
+static PyObject *to_chinese(PyObject *module, PyObject *const *values, Py_ssize_t count, PyObject *names) {
+    const state *own = PyModule_GetState(module);
+    const quick *of = &own->to_chinese;
+    uint8_t room[CN_MOST_BYTES];
+    int codes[CHOICES], overflow;
+    size_t length;
+    if (count == 1 && PyLong_CheckExact(values[0]) && codes_of(own, of, values + 1, names, codes)) {
+        long long value = PyLong_AsLongLongAndOverflow(values[0], &overflow);
+        cn_number number = cn_signed(value);
+        uint32_t kind = (uint32_t)codes[0], way = (uint32_t)codes[1];
+        if (!overflow && (value >= 0 || kind >= CN_I8) &&
+            chinese_number_print(number.low, number.high, kind, way, (uint32_t)codes[2], (uint32_t)codes[3], room,
+                                 sizeof room, &length) == CN_DONE)
+            return string_of(room, length);
+    }
+    return unusual(of, values, count, names);
+}
+
+/* A quick function in front of a Python function that takes the first keywords, with a text that begins with its signature,
+ * as inspect reads it. */
+static PyObject *in_front(PyObject *module, PyObject *given, quick *of, PyCFunction call, const char *name, int keywords) {
+    state *own = PyModule_GetState(module);
+    PyObject *function, *defaults, *text, *where;
+    if (!PyArg_ParseTuple(given, "OO!UO", &function, &PyDict_Type, &defaults, &text, &where))
+        return NULL;
+    for (int i = 0; i < CHOICES; i++) {
+        PyObject *value = i < keywords ? PyDict_GetItemString(defaults, KEYWORDS[i]) : NULL;
+        of->defaults[i] = value ? code_of(&own->choices[i], value) : -1;
+    }
+    const char *signature = PyUnicode_AsUTF8AndSize(text, NULL);
+    if (!signature)
+        return NULL;
+    of->method = (PyMethodDef){name, call, METH_FASTCALL | METH_KEYWORDS, signature};
+    Py_INCREF(function);
+    Py_XDECREF(of->function);
+    of->function = function;
+    Py_INCREF(text);
+    Py_XDECREF(of->text);
+    of->text = text;
+    return PyCFunction_NewEx(&of->method, module, where);
+}
+
+static PyObject *quick_to_number(PyObject *module, PyObject *given) {
+    quick *of = &((state *)PyModule_GetState(module))->to_number;
+    return in_front(module, given, of, (PyCFunction)(void (*)(void))to_number, "to_number", 2);
+}
+
+static PyObject *quick_to_chinese(PyObject *module, PyObject *given) {
+    quick *of = &((state *)PyModule_GetState(module))->to_chinese;
+    return in_front(module, given, of, (PyCFunction)(void (*)(void))to_chinese, "to_chinese", CHOICES);
+}
+
+/* How many characters bytes of UTF-8 have: those that do not go on with one, eight at a time. */
+static Py_ssize_t characters(const uint8_t *from, const uint8_t *to) {
+    const uint64_t ones = UINT64_MAX / 255;
+    uint64_t count = 0, eight;
+    for (; to - from >= 8; from += 8) {
+        memcpy(&eight, from, 8);
+        count += ((~eight >> 7 | eight >> 6) & ones) * ones >> 56;
+    }
+    for (; from < to; from++)
+        count += (*from & 0xC0) != 0x80;
+    return (Py_ssize_t)count;
+}
+
+/* A found number of a class of tuples, of its place, its text and whether it is plain digits. */
+static PyObject *found_at(PyObject *of, PyObject *string, Py_ssize_t start, Py_ssize_t end, uint32_t digits) {
+    void *slot = PyType_GetSlot(&PyTuple_Type, Py_tp_new);
+    newfunc make;
+    memcpy(&make, &slot, sizeof make);
+    PyObject *text = PyUnicode_Substring(string, start, end);
+    PyObject *fields = text ? Py_BuildValue("((nnNO))", start, end, text, digits ? Py_True : Py_False) : NULL;
+    PyObject *found = fields ? make((PyTypeObject *)of, fields, NULL) : NULL;
+    Py_XDECREF(fields);
+    return found;
+}
+
+/* Until `find` has the call that fills an array. */
+static uint32_t find(const uint8_t *text, size_t length, size_t from, uint32_t upper, uint32_t greatest, cn_span *spans,
+                     size_t most, size_t *count) {
+    uint32_t status = CN_DONE;
+    for (*count = 0; *count < most; ++*count) {
+        cn_span *it = spans + *count;
+        status = chinese_number_find_utf8(text + from, length - from, upper, greatest, it);
+        if (status != CN_DONE)
+            break;
+        it->start += from;
+        from = it->end += from;
+    }
+    return status == CN_NONE ? CN_DONE : status;
+}
+
+/* The next numbers of a text behind its first bytes, which have so many characters: the status, a list of the numbers, and
+ * up to where they were looked for, in bytes and in characters. The bytes are the text in UTF-8. */
+static PyObject *find_numbers(PyObject *module, PyObject *given) {
+    PyObject *string, *of, *made;
+    const uint8_t *bytes;
+    Py_ssize_t length, searched, index;
+    unsigned upper, greatest;
+    cn_span spans[AT_ONCE];
+    size_t count;
+    (void)module;
+    if (!PyArg_ParseTuple(given, "Uy#nnIIO!", &string, &bytes, &length, &searched, &index, &upper, &greatest,
+                          &PyType_Type, &of))
+        return NULL;
+    if (searched < 0 || searched > length || !PyType_IsSubtype((PyTypeObject *)of, &PyTuple_Type)) {
+        PyErr_SetString(PyExc_ValueError, "a place in the bytes and a class of tuples are wanted");
+        return NULL;
+    }
+    if (!(made = PyList_New(0)))
+        return NULL;
+    PyThreadState *thread = let_go((size_t)(length - searched));
+    uint32_t status = find(bytes, (size_t)length, (size_t)searched, upper, greatest, spans, AT_ONCE, &count);
+    take_back(thread);
+    for (size_t i = 0; i < count; i++) {
+        const uint8_t *start = bytes + spans[i].start, *end = bytes + spans[i].end;
+        Py_ssize_t first = index + characters(bytes + searched, start);
+        index = first + characters(start, end);
+        searched = end - bytes;
+        PyObject *found = found_at(of, string, first, index, spans[i].digits);
+        if (!found || PyList_Append(made, found)) {
+            Py_XDECREF(found);
+            Py_DECREF(made);
+            return NULL;
+        }
+        Py_DECREF(found);
+    }
+    return Py_BuildValue("INnn", status, made, count < AT_ONCE ? length : searched, index);
+}
+
+static PyObject *version(PyObject *module, PyObject *none) {
+    (void)module, (void)none;
+    return PyLong_FromUnsignedLong(chinese_number_version());
+}
+
+#define CALL(name, words) {#name, name, words, NULL}
+static PyMethodDef METHODS[] = {
+    CALL(version, METH_NOARGS),
+    CALL(know_words, METH_VARARGS),
+    CALL(quick_to_number, METH_VARARGS),
+    CALL(quick_to_chinese, METH_VARARGS),
+    CALL(read_number, METH_VARARGS),
+    CALL(read_amount, METH_O),
+    CALL(read_typed_amount, METH_O),
+    CALL(read_signed_amount, METH_O),
+    CALL(read_figures, METH_O),
+    CALL(read_date, METH_O),
+    CALL(print_number, METH_VARARGS),
+    CALL(print_amount, METH_VARARGS),
+    CALL(print_signed_amount, METH_VARARGS),
+    CALL(print_date, METH_VARARGS),
+    CALL(find_numbers, METH_VARARGS),
+    {NULL, NULL, 0, NULL},
+};
+
+static int traverse(PyObject *module, visitproc visit, void *arg) {
+    state *own = PyModule_GetState(module);
+    for (int i = 0; i < CHOICES; i++)
+        Py_VISIT(own->choices[i].held);
+    Py_VISIT(own->to_number.function);
+    Py_VISIT(own->to_chinese.function);
+    return 0;
+}
+
+static int clear(PyObject *module) {
+    state *own = PyModule_GetState(module);
+    for (int i = 0; i < CHOICES; i++) {
+        own->choices[i].count = 0;
+        Py_CLEAR(own->choices[i].held);
+    }
+    Py_CLEAR(own->to_number.function);
+    Py_CLEAR(own->to_chinese.function);
+    return 0;
+}
+
+/* The quick functions are gone, whose documentation the texts are. */
+static void discard(void *module) {
+    state *own = PyModule_GetState(module);
+    clear(module);
+    for (int i = 0; i < CHOICES; i++)
+        Py_CLEAR(own->choices[i].keyword);
+    Py_CLEAR(own->to_number.text);
+    Py_CLEAR(own->to_chinese.text);
+}
+
+static PyModuleDef_Slot SLOTS[] = {{0, NULL}};
+static struct PyModuleDef MODULE = {
+    PyModuleDef_HEAD_INIT, "chinese_number._native", NULL, sizeof(state), METHODS, SLOTS, traverse, clear, discard,
+};
+
+PyMODINIT_FUNC PyInit__native(void) {
+    return PyModuleDef_Init(&MODULE);
+}
