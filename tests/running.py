@@ -11,6 +11,7 @@ from pathlib import Path
 import pytest
 
 TOP = Path(__file__).resolve().parent.parent
+PYTHON = TOP / "bindings/python"
 SECONDS = 10  # for an answer in a dialogue
 
 

@@ -381,16 +381,17 @@ static uint32_t find(const uint8_t *text, size_t length, size_t from, uint32_t u
 /* The next numbers of a text behind its first bytes, which have so many characters: the status, a list of the numbers, and
  * up to where they were looked for, in bytes and in characters. The bytes are the text in UTF-8. */
 static PyObject *find_numbers(PyObject *module, PyObject *given) {
-    PyObject *string, *of, *made;
-    const uint8_t *bytes;
+    PyObject *string, *data, *of, *made;
+    char *first;
     Py_ssize_t length, searched, index;
     unsigned upper, greatest;
     cn_span spans[AT_ONCE];
     size_t count;
     (void)module;
-    if (!PyArg_ParseTuple(given, "Uy#nnIIO!", &string, &bytes, &length, &searched, &index, &upper, &greatest,
-                          &PyType_Type, &of))
+    if (!PyArg_ParseTuple(given, "USnnIIO!", &string, &data, &searched, &index, &upper, &greatest, &PyType_Type, &of) ||
+        PyBytes_AsStringAndSize(data, &first, &length))
         return NULL;
+    const uint8_t *bytes = (const uint8_t *)first;
     if (searched < 0 || searched > length || !PyType_IsSubtype((PyTypeObject *)of, &PyTuple_Type)) {
         PyErr_SetString(PyExc_ValueError, "a place in the bytes and a class of tuples are wanted");
         return NULL;

@@ -237,7 +237,13 @@ def print_date(year: int, month: int, day: int, script: int) -> Tuple[int, str]:
 
 
 def find_numbers(
-    text: str, data: bytes, searched: int, index: int, upper: bool, greatest: int, of: Callable[..., _Found]
+    text: str,
+    data: bytes,
+    searched: int,
+    index: int,
+    upper: bool,
+    greatest: int,
+    of: Callable[..., _Found],
 ) -> Tuple[int, List[_Found], int, int]:
     """The next numbers of a text behind its first bytes, which have so many characters: of a class
     of tuples, where each begins and ends, its text, and whether it is plain digits. Behind them, up
