@@ -108,7 +108,7 @@ def pythons(least):
 def ends(found):
     """The first, the one before the last and the last of them."""
     names = [*found]
-    return {name: found[name] for name in {*names[:1], *names[-2:]}}
+    return {name: found[name] for name in dict.fromkeys(names[:1] + names[-2:])}
 
 
 CPYTHONS = ends(pythons((3, 8)))

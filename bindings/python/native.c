@@ -1,6 +1,7 @@
-/* The calls of the library for CPython from 3.10 on, by its stable interface: the functions of `_library.py` under the same
- * names, which does the same by ctypes. Texts are str, choices are the codes of chinese_number.h, and places count
- * characters. Half of a surrogate pair goes as a question mark, which is no numeral either. */
+/* The calls of the library for CPython from 3.10 on, by its stable interface: the functions of
+ * `_library.py`, which goes by ctypes, under the same names, and quick ones in front of two public
+ * functions. Texts are str, choices are the codes of chinese_number.h, and places count characters.
+ * Half of a surrogate pair goes as a question mark, which is no numeral either. */
 #define PY_SSIZE_T_CLEAN
 #define Py_LIMITED_API 0x030A0000
 #include <Python.h>
@@ -18,13 +19,15 @@ enum {
 /* The keywords of the quick functions, of which to_number takes the first two. */
 static const char *const KEYWORDS[CHOICES] = {"kind", "way", "script", "case"};
 
-/* A keyword and its words. `held` is a tuple of the members by their code, and then of their str; `words` are its own. */
+/* A keyword and its words. `held` is a tuple of the members by their code, and then of their str;
+ * `words` are its own. */
 typedef struct choice {
     PyObject *keyword, *held, *words[MOST_WORDS];
     Py_ssize_t count;
 } choice;
 
-/* A quick function, and the Python function behind it, which takes what is unusual, with the codes of its defaults. */
+/* A quick function, and the Python function behind it, which takes what is unusual, with the codes
+ * of its defaults, or -1. */
 typedef struct quick {
     PyMethodDef method;
     PyObject *function, *text;
@@ -67,7 +70,8 @@ static PyObject *know_words(PyObject *module, PyObject *given) {
 }
 
 /* The codes of what a call names, and else of its defaults; 0 where one is not known. */
-static int codes_of(const state *own, const quick *of, PyObject *const *values, PyObject *names, int *codes) {
+static int codes_of(const state *own, const quick *of, PyObject *const *values, PyObject *names,
+                    int *codes) {
     Py_ssize_t count = names ? PyTuple_Size(names) : 0;
     memcpy(codes, of->defaults, sizeof of->defaults);
     for (Py_ssize_t i = 0; i < count; i++) {
@@ -75,14 +79,18 @@ static int codes_of(const state *own, const quick *of, PyObject *const *values, 
         int at = 0;
         while (at < CHOICES && own->choices[at].keyword != name)
             at++;
-        if (at == CHOICES || of->defaults[at] < 0 || (codes[at] = code_of(&own->choices[at], values[i])) < 0)
+        if (at == CHOICES || of->defaults[at] < 0)
+            return 0;
+        codes[at] = code_of(&own->choices[at], values[i]);
+        if (codes[at] < 0)
             return 0;
     }
     return 1;
 }
 
 /* What the Python function behind a quick one makes of a call. */
-static PyObject *unusual(const quick *of, PyObject *const *values, Py_ssize_t count, PyObject *names) {
+static PyObject *unusual(const quick *of, PyObject *const *values, Py_ssize_t count,
+                         PyObject *names) {
     PyObject *words = names ? PyDict_New() : NULL, *places = PyTuple_New(count), *answer = NULL;
     int failed = !places || (names && !words) || !of->function;
     for (Py_ssize_t i = 0; !failed && i < count; i++) {
@@ -102,26 +110,16 @@ static PyObject *unusual(const quick *of, PyObject *const *values, Py_ssize_t co
 
 /* The end of a character in UTF-8, written at its start. */
 static uint8_t *put(uint8_t *to, Py_UCS4 character) {
-    if (character < 0x80) {
-        *to++ = (uint8_t)character;
-        return to;
-    }
-    if (character < 0x800) {
-        *to++ = (uint8_t)(0xC0 | character >> 6);
-    } else {
-        if (character < 0x10000) {
-            *to++ = (uint8_t)(0xE0 | character >> 12);
-        } else {
-            *to++ = (uint8_t)(0xF0 | character >> 18);
-            *to++ = (uint8_t)(0x80 | (character >> 12 & 63));
-        }
-        *to++ = (uint8_t)(0x80 | (character >> 6 & 63));
-    }
-    *to++ = (uint8_t)(0x80 | (character & 63));
+    static const uint8_t first[] = {0, 0xC0, 0xE0, 0xF0};
+    int more = character < 0x80 ? 0 : character < 0x800 ? 1 : character < 0x10000 ? 2 : 3;
+    *to++ = (uint8_t)(first[more] | character >> 6 * more);
+    while (more-- > 0)
+        *to++ = (uint8_t)(0x80 | (character >> 6 * more & 63));
     return to;
 }
 
-/* The bytes of a text of at most SHORT characters. Unlike PyUnicode_AsUTF8 it leaves no copy in the str. */
+/* The bytes of a text of at most SHORT characters. Unlike PyUnicode_AsUTF8AndSize it leaves no copy
+ * in the str. */
 static size_t put_short(PyObject *text, Py_ssize_t length, uint8_t *room) {
     Py_UCS4 characters[SHORT];
     uint8_t *end = room;
@@ -158,8 +156,9 @@ static int take(PyObject *given, text *it) {
     return 1;
 }
 
-/* Lets other threads of Python run while a long text is read. A shorter one takes less than a tenth of the 5 ms that Python
- * lets a thread run anyway, and to let go for it could cost as many to wait. */
+/* Lets other threads of Python run while a long text is read. A shorter one takes less than a tenth
+ * of the 5 ms that Python lets a thread run anyway, and to let go for it could cost as many to
+ * wait. */
 static PyThreadState *let_go(size_t length) {
     return length > LONG ? PyEval_SaveThread() : NULL;
 }
@@ -169,19 +168,19 @@ static void take_back(PyThreadState *thread) {
         PyEval_RestoreThread(thread);
 }
 
-/* A function that reads a text by a call, and gives the status, what the format and the words behind it make of `it`, and
- * how many characters stand before one at fault. */
-#define READER(name, call, answer, format, ...)                          \
-    static PyObject *name(PyObject *module, PyObject *given) {           \
-        text from;                                                       \
-        answer it;                                                       \
-        (void)module;                                                    \
-        if (!take(given, &from))                                         \
-            return NULL;                                                 \
-        PyThreadState *thread = let_go(from.length);                     \
-        uint32_t status = call(from.bytes, from.length, &it);            \
-        take_back(thread);                                               \
-        Py_XDECREF(from.held);                                           \
+/* A function that reads a text by a call, and gives the status, what the format and the words
+ * behind it make of `it`, and how many characters stand before one at fault. */
+#define READER(name, call, answer, format, ...)                                               \
+    static PyObject *name(PyObject *module, PyObject *given) {                                \
+        text from;                                                                            \
+        answer it;                                                                            \
+        (void)module;                                                                         \
+        if (!take(given, &from))                                                              \
+            return NULL;                                                                      \
+        PyThreadState *thread = let_go(from.length);                                          \
+        uint32_t status = call(from.bytes, from.length, &it);                                 \
+        take_back(thread);                                                                    \
+        Py_XDECREF(from.held);                                                                \
         return Py_BuildValue("I" format "n", status, __VA_ARGS__, (Py_ssize_t)it.char_index); \
     }
 
@@ -203,33 +202,39 @@ static PyObject *read_number(PyObject *module, PyObject *given) {
     uint32_t status = chinese_number_read_utf8(from.bytes, from.length, kind, way, &it);
     take_back(thread);
     Py_XDECREF(from.held);
-    return Py_BuildValue("IKKn", status, (unsigned long long)it.number.low, (unsigned long long)it.number.high,
-                         (Py_ssize_t)it.char_index);
+    return Py_BuildValue("IKKn", status, (unsigned long long)it.number.low,
+                         (unsigned long long)it.number.high, (Py_ssize_t)it.char_index);
 }
 
-/* to_number of a short text, by known words, where the number has 64 bits. */
-static PyObject *to_number(PyObject *module, PyObject *const *values, Py_ssize_t count, PyObject *names) {
+/* Whether 64 bits hold a number of a kind with its sign. */
+static int is_short(cn_number number, uint32_t kind) {
+    cn_number same = cn_signed((int64_t)number.low);
+    return number.high == same.high && (number.high == 0 || kind >= CN_I8);
+}
+
+/* to_number of a short text, by known words, where 64 bits hold the number. */
+static PyObject *to_number(PyObject *module, PyObject *const *values, Py_ssize_t count,
+                           PyObject *names) {
     const state *own = PyModule_GetState(module);
     const quick *of = &own->to_number;
     uint8_t room[4 * SHORT];
     int codes[CHOICES];
     cn_reading it;
-    Py_ssize_t length = count == 1 && PyUnicode_Check(values[0]) ? PyUnicode_GetLength(values[0]) : -1;
+    Py_ssize_t length = -1;
+    if (count == 1 && PyUnicode_Check(values[0]))
+        length = PyUnicode_GetLength(values[0]);
     if (length >= 0 && length <= SHORT && codes_of(own, of, values + 1, names, codes)) {
         size_t bytes = put_short(values[0], length, room);
         uint32_t kind = (uint32_t)codes[0], way = (uint32_t)codes[1];
-        if (chinese_number_read_utf8(room, bytes, kind, way, &it) == CN_DONE) {
-            uint64_t above = kind >= CN_I8 && it.number.low > INT64_MAX ? UINT64_MAX : 0;
-            if (it.number.high == above)
-                return above || it.number.low <= INT64_MAX ? PyLong_FromLongLong((long long)it.number.low)
-                                                           : PyLong_FromUnsignedLongLong(it.number.low);
-        }
+        uint32_t status = chinese_number_read_utf8(room, bytes, kind, way, &it);
+        if (status == CN_DONE && is_short(it.number, kind))
+            return PyLong_FromLongLong((long long)it.number.low);
     }
     return unusual(of, values, count, names);
 }
 
-/* The str of a text that is printed: each of its characters takes three bytes. By PyUnicode_FromStringAndSize it takes twice
- * as long. */
+/* The str of a text that is printed: each of its characters takes three bytes. Python's own decoder
+ * takes twice as long. */
 static PyObject *string_of(const uint8_t *text, size_t length) {
     wchar_t characters[CN_MOST_BYTES / 3];
     Py_ssize_t count = 0;
@@ -246,33 +251,27 @@ static PyObject *print_number(PyObject *module, PyObject *given) {
     (void)module;
     if (!PyArg_ParseTuple(given, "KKIIII", &low, &high, &kind, &way, &script, &letter_case))
         return NULL;
-    uint32_t status = chinese_number_print(low, high, kind, way, script, letter_case, room, sizeof room, &length);
+    uint32_t status =
+        chinese_number_print(low, high, kind, way, script, letter_case, room, sizeof room, &length);
     return Py_BuildValue("IN", status, string_of(room, length));
 }
 
-static PyObject *print_amount(PyObject *module, PyObject *given) {
-    unsigned long long fen;
-    unsigned script, form;
-    uint8_t room[CN_MOST_AMOUNT_BYTES];
-    size_t length;
-    (void)module;
-    if (!PyArg_ParseTuple(given, "KII", &fen, &script, &form))
-        return NULL;
-    uint32_t status = chinese_amount_print(fen, script, form, room, sizeof room, &length);
-    return Py_BuildValue("IN", status, string_of(room, length));
-}
+#define AMOUNT_PRINTER(name, call, amount, format, most)                \
+    static PyObject *name(PyObject *module, PyObject *given) {          \
+        amount fen;                                                     \
+        unsigned script, form;                                          \
+        uint8_t room[most];                                             \
+        size_t length;                                                  \
+        (void)module;                                                   \
+        if (!PyArg_ParseTuple(given, format, &fen, &script, &form))     \
+            return NULL;                                                \
+        uint32_t status = call(fen, script, form, room, most, &length); \
+        return Py_BuildValue("IN", status, string_of(room, length));    \
+    }
 
-static PyObject *print_signed_amount(PyObject *module, PyObject *given) {
-    long long fen;
-    unsigned script, form;
-    uint8_t room[CN_MOST_SIGNED_AMOUNT_BYTES];
-    size_t length;
-    (void)module;
-    if (!PyArg_ParseTuple(given, "LII", &fen, &script, &form))
-        return NULL;
-    uint32_t status = chinese_signed_amount_print(fen, script, form, room, sizeof room, &length);
-    return Py_BuildValue("IN", status, string_of(room, length));
-}
+AMOUNT_PRINTER(print_amount, chinese_amount_print, unsigned long long, "KII", CN_MOST_AMOUNT_BYTES)
+AMOUNT_PRINTER(print_signed_amount, chinese_signed_amount_print, long long, "LII",
+               CN_MOST_SIGNED_AMOUNT_BYTES)
 
 static PyObject *print_date(PyObject *module, PyObject *given) {
     unsigned year, month, day, script;
@@ -286,39 +285,42 @@ static PyObject *print_date(PyObject *module, PyObject *given) {
 }
 
 /* to_chinese of an int that 64 bits hold with its sign, by known words. */
-static PyObject *to_chinese(PyObject *module, PyObject *const *values, Py_ssize_t count, PyObject *names) {
+static PyObject *to_chinese(PyObject *module, PyObject *const *values, Py_ssize_t count,
+                            PyObject *names) {
     const state *own = PyModule_GetState(module);
     const quick *of = &own->to_chinese;
     uint8_t room[CN_MOST_BYTES];
     int codes[CHOICES], overflow;
     size_t length;
     if (count == 1 && PyLong_CheckExact(values[0]) && codes_of(own, of, values + 1, names, codes)) {
-        long long value = PyLong_AsLongLongAndOverflow(values[0], &overflow);
-        cn_number number = cn_signed(value);
         uint32_t kind = (uint32_t)codes[0], way = (uint32_t)codes[1];
+        uint32_t script = (uint32_t)codes[2], letter_case = (uint32_t)codes[3];
+        long long value = PyLong_AsLongLongAndOverflow(values[0], &overflow);
+        cn_number it = cn_signed(value);
         if (!overflow && (value >= 0 || kind >= CN_I8) &&
-            chinese_number_print(number.low, number.high, kind, way, (uint32_t)codes[2], (uint32_t)codes[3], room,
-                                 sizeof room, &length) == CN_DONE)
+            chinese_number_print(it.low, it.high, kind, way, script, letter_case, room, sizeof room,
+                                 &length) == CN_DONE)
             return string_of(room, length);
     }
     return unusual(of, values, count, names);
 }
 
-/* A quick function in front of a Python function that takes the first keywords, with a text that begins with its signature,
- * as inspect reads it. */
-static PyObject *in_front(PyObject *module, PyObject *given, quick *of, PyCFunction call, const char *name, int keywords) {
+/* A quick function in front of a Python function, of which the defaults, a text that begins with
+ * its signature, as inspect reads it, and its module are given. */
+static PyObject *in_front(PyObject *module, PyObject *given, quick *of, void (*call)(void),
+                          const char *name) {
     state *own = PyModule_GetState(module);
     PyObject *function, *defaults, *text, *where;
     if (!PyArg_ParseTuple(given, "OO!UO", &function, &PyDict_Type, &defaults, &text, &where))
         return NULL;
     for (int i = 0; i < CHOICES; i++) {
-        PyObject *value = i < keywords ? PyDict_GetItemString(defaults, KEYWORDS[i]) : NULL;
+        PyObject *value = PyDict_GetItemString(defaults, KEYWORDS[i]);
         of->defaults[i] = value ? code_of(&own->choices[i], value) : -1;
     }
     const char *signature = PyUnicode_AsUTF8AndSize(text, NULL);
     if (!signature)
         return NULL;
-    of->method = (PyMethodDef){name, call, METH_FASTCALL | METH_KEYWORDS, signature};
+    of->method = (PyMethodDef){name, (PyCFunction)call, METH_FASTCALL | METH_KEYWORDS, signature};
     Py_INCREF(function);
     Py_XDECREF(of->function);
     of->function = function;
@@ -330,12 +332,12 @@ static PyObject *in_front(PyObject *module, PyObject *given, quick *of, PyCFunct
 
 static PyObject *quick_to_number(PyObject *module, PyObject *given) {
     quick *of = &((state *)PyModule_GetState(module))->to_number;
-    return in_front(module, given, of, (PyCFunction)(void (*)(void))to_number, "to_number", 2);
+    return in_front(module, given, of, (void (*)(void))to_number, "to_number");
 }
 
 static PyObject *quick_to_chinese(PyObject *module, PyObject *given) {
     quick *of = &((state *)PyModule_GetState(module))->to_chinese;
-    return in_front(module, given, of, (PyCFunction)(void (*)(void))to_chinese, "to_chinese", CHOICES);
+    return in_front(module, given, of, (void (*)(void))to_chinese, "to_chinese");
 }
 
 /* How many characters bytes of UTF-8 have: those that do not go on with one, eight at a time. */
@@ -352,20 +354,22 @@ static Py_ssize_t characters(const uint8_t *from, const uint8_t *to) {
 }
 
 /* A found number of a class of tuples, of its place, its text and whether it is plain digits. */
-static PyObject *found_at(PyObject *of, PyObject *string, Py_ssize_t start, Py_ssize_t end, uint32_t digits) {
+static PyObject *found_at(PyObject *of, PyObject *string, Py_ssize_t start, Py_ssize_t end,
+                          uint32_t digits) {
     void *slot = PyType_GetSlot(&PyTuple_Type, Py_tp_new);
     newfunc make;
     memcpy(&make, &slot, sizeof make);
     PyObject *text = PyUnicode_Substring(string, start, end);
-    PyObject *fields = text ? Py_BuildValue("((nnNO))", start, end, text, digits ? Py_True : Py_False) : NULL;
+    PyObject *is_plain = digits ? Py_True : Py_False;
+    PyObject *fields = text ? Py_BuildValue("((nnNO))", start, end, text, is_plain) : NULL;
     PyObject *found = fields ? make((PyTypeObject *)of, fields, NULL) : NULL;
     Py_XDECREF(fields);
     return found;
 }
 
 /* Until `find` has the call that fills an array. */
-static uint32_t find(const uint8_t *text, size_t length, size_t from, uint32_t upper, uint32_t greatest, cn_span *spans,
-                     size_t most, size_t *count) {
+static uint32_t find(const uint8_t *text, size_t length, size_t from, uint32_t upper,
+                     uint32_t greatest, cn_span *spans, size_t most, size_t *count) {
     uint32_t status = CN_DONE;
     for (*count = 0; *count < most; ++*count) {
         cn_span *it = spans + *count;
@@ -378,8 +382,9 @@ static uint32_t find(const uint8_t *text, size_t length, size_t from, uint32_t u
     return status == CN_NONE ? CN_DONE : status;
 }
 
-/* The next numbers of a text behind its first bytes, which have so many characters: the status, a list of the numbers, and
- * up to where they were looked for, in bytes and in characters. The bytes are the text in UTF-8. */
+/* The next numbers of a text behind its first bytes, which have so many characters: the status, a
+ * list of the numbers, and up to where they were looked for, in bytes and in characters. The data
+ * are the text in UTF-8. */
 static PyObject *find_numbers(PyObject *module, PyObject *given) {
     PyObject *string, *data, *of, *made;
     char *first;
@@ -388,7 +393,8 @@ static PyObject *find_numbers(PyObject *module, PyObject *given) {
     cn_span spans[AT_ONCE];
     size_t count;
     (void)module;
-    if (!PyArg_ParseTuple(given, "USnnIIO!", &string, &data, &searched, &index, &upper, &greatest, &PyType_Type, &of) ||
+    if (!PyArg_ParseTuple(given, "USnnIIO!", &string, &data, &searched, &index, &upper, &greatest,
+                          &PyType_Type, &of) ||
         PyBytes_AsStringAndSize(data, &first, &length))
         return NULL;
     const uint8_t *bytes = (const uint8_t *)first;
@@ -399,7 +405,8 @@ static PyObject *find_numbers(PyObject *module, PyObject *given) {
     if (!(made = PyList_New(0)))
         return NULL;
     PyThreadState *thread = let_go((size_t)(length - searched));
-    uint32_t status = find(bytes, (size_t)length, (size_t)searched, upper, greatest, spans, AT_ONCE, &count);
+    uint32_t status =
+        find(bytes, (size_t)length, (size_t)searched, upper, greatest, spans, AT_ONCE, &count);
     take_back(thread);
     for (size_t i = 0; i < count; i++) {
         const uint8_t *start = bytes + spans[i].start, *end = bytes + spans[i].end;
@@ -424,22 +431,12 @@ static PyObject *version(PyObject *module, PyObject *none) {
 
 #define CALL(name, words) {#name, name, words, NULL}
 static PyMethodDef METHODS[] = {
-    CALL(version, METH_NOARGS),
-    CALL(know_words, METH_VARARGS),
-    CALL(quick_to_number, METH_VARARGS),
-    CALL(quick_to_chinese, METH_VARARGS),
-    CALL(read_number, METH_VARARGS),
-    CALL(read_amount, METH_O),
-    CALL(read_typed_amount, METH_O),
-    CALL(read_signed_amount, METH_O),
-    CALL(read_figures, METH_O),
-    CALL(read_date, METH_O),
-    CALL(print_number, METH_VARARGS),
-    CALL(print_amount, METH_VARARGS),
-    CALL(print_signed_amount, METH_VARARGS),
-    CALL(print_date, METH_VARARGS),
-    CALL(find_numbers, METH_VARARGS),
-    {NULL, NULL, 0, NULL},
+    CALL(version, METH_NOARGS), CALL(know_words, METH_VARARGS), CALL(quick_to_number, METH_VARARGS),
+    CALL(quick_to_chinese, METH_VARARGS), CALL(read_number, METH_VARARGS),
+    CALL(read_amount, METH_O), CALL(read_typed_amount, METH_O), CALL(read_signed_amount, METH_O),
+    CALL(read_figures, METH_O), CALL(read_date, METH_O), CALL(print_number, METH_VARARGS),
+    CALL(print_amount, METH_VARARGS), CALL(print_signed_amount, METH_VARARGS),
+    CALL(print_date, METH_VARARGS), CALL(find_numbers, METH_VARARGS), {NULL, NULL, 0, NULL},
 };
 
 static int traverse(PyObject *module, visitproc visit, void *arg) {
@@ -474,7 +471,15 @@ static void discard(void *module) {
 
 static PyModuleDef_Slot SLOTS[] = {{0, NULL}};
 static struct PyModuleDef MODULE = {
-    PyModuleDef_HEAD_INIT, "chinese_number._native", NULL, sizeof(state), METHODS, SLOTS, traverse, clear, discard,
+    PyModuleDef_HEAD_INIT,
+    "chinese_number._native",
+    NULL,
+    sizeof(state),
+    METHODS,
+    SLOTS,
+    traverse,
+    clear,
+    discard,
 };
 
 PyMODINIT_FUNC PyInit__native(void) {

@@ -257,9 +257,14 @@ def _codes(of: Iterable[str]) -> Dict[str, int]:
     return {it: code for code, it in enumerate(of)}
 
 
+def _words(of: Iterable[Any]) -> Tuple[str, ...]:
+    members = tuple(of)
+    return members + tuple(intern(it.value) for it in members)
+
+
+_library.know_words(_words(Kind), _words(Way), _words(Script), _words(Case))
 _KINDS, _WAYS, _UNITS = _codes(Kind), _codes(Way), _codes(Unit)
 _SCRIPTS, _CASES = _codes(Script), _codes(Case)
-_library.know_words(*((*of, *(intern(it.value) for it in of)) for of in (Kind, Way, Script, Case)))
 _PRINT_WAYS = {way: code for way, code in _WAYS.items() if way is not Way.ANY}
 # What each word adds to the form in which an amount is written, and the currency in front.
 _CURRENCY = 1

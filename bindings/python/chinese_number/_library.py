@@ -248,8 +248,9 @@ def find_numbers(
     """The next numbers of a text behind its first bytes, which have so many characters: of a class
     of tuples, where each begins and ends, its text, and whether it is plain digits. Behind them, up
     to where they were looked for, in bytes and in characters. The data are the text in UTF-8."""
-    first, span, made = ctypes.cast(data, ctypes.c_void_p).value or 0, _Span(), []
-    status = 0
+    first = ctypes.cast(ctypes.c_char_p(data), ctypes.c_void_p).value or 0
+    span, status = _Span(), 0
+    made: List[_Found] = []
     while not status and len(made) < _AT_ONCE:
         rest = first + searched, len(data) - searched
         status = library.chinese_number_find_utf8(*rest, upper, greatest, byref(span))
