@@ -353,18 +353,23 @@ static Py_ssize_t characters(const uint8_t *from, const uint8_t *to) {
     return (Py_ssize_t)count;
 }
 
-/* A found number of a class of tuples, of its place, its text and whether it is plain digits. */
-static PyObject *found_at(PyObject *of, PyObject *string, Py_ssize_t start, Py_ssize_t end,
-                          uint32_t digits) {
+/* A tuple of four objects, which become its own, of a class of tuples; `one` is a tuple for it. */
+static PyObject *tuple_of(PyObject *class, PyObject *one, PyObject *fields[4]) {
     void *slot = PyType_GetSlot(&PyTuple_Type, Py_tp_new);
     newfunc make;
+    PyObject *plain = PyTuple_New(4);
+    int failed = !plain;
     memcpy(&make, &slot, sizeof make);
-    PyObject *text = PyUnicode_Substring(string, start, end);
-    PyObject *is_plain = digits ? Py_True : Py_False;
-    PyObject *fields = text ? Py_BuildValue("((nnNO))", start, end, text, is_plain) : NULL;
-    PyObject *found = fields ? make((PyTypeObject *)of, fields, NULL) : NULL;
-    Py_XDECREF(fields);
-    return found;
+    for (Py_ssize_t i = 0; i < 4; i++) {
+        failed |= !fields[i];
+        if (plain)
+            PyTuple_SetItem(plain, i, fields[i]);
+        else
+            Py_XDECREF(fields[i]);
+    }
+    if (PyTuple_SetItem(one, 0, plain) || failed)
+        return NULL;
+    return make((PyTypeObject *)class, one, NULL);
 }
 
 /* Until `find` has the call that fills an array. */
@@ -386,7 +391,7 @@ static uint32_t find(const uint8_t *text, size_t length, size_t from, uint32_t u
  * list of the numbers, and up to where they were looked for, in bytes and in characters. The data
  * are the text in UTF-8. */
 static PyObject *find_numbers(PyObject *module, PyObject *given) {
-    PyObject *string, *data, *of, *made;
+    PyObject *string, *data, *class;
     char *first;
     Py_ssize_t length, searched, index;
     unsigned upper, greatest;
@@ -394,32 +399,35 @@ static PyObject *find_numbers(PyObject *module, PyObject *given) {
     size_t count;
     (void)module;
     if (!PyArg_ParseTuple(given, "USnnIIO!", &string, &data, &searched, &index, &upper, &greatest,
-                          &PyType_Type, &of) ||
+                          &PyType_Type, &class) ||
         PyBytes_AsStringAndSize(data, &first, &length))
         return NULL;
     const uint8_t *bytes = (const uint8_t *)first;
-    if (searched < 0 || searched > length || !PyType_IsSubtype((PyTypeObject *)of, &PyTuple_Type)) {
+    if (searched < 0 || searched > length || !PyType_IsSubtype((PyTypeObject *)class, &PyTuple_Type)) {
         PyErr_SetString(PyExc_ValueError, "a place in the bytes and a class of tuples are wanted");
         return NULL;
     }
-    if (!(made = PyList_New(0)))
-        return NULL;
     PyThreadState *thread = let_go((size_t)(length - searched));
     uint32_t status =
         find(bytes, (size_t)length, (size_t)searched, upper, greatest, spans, AT_ONCE, &count);
     take_back(thread);
-    for (size_t i = 0; i < count; i++) {
+    PyObject *made = PyList_New((Py_ssize_t)count), *one = PyTuple_New(1);
+    int failed = !made || !one;
+    for (size_t i = 0; !failed && i < count; i++) {
         const uint8_t *start = bytes + spans[i].start, *end = bytes + spans[i].end;
         Py_ssize_t first = index + characters(bytes + searched, start);
         index = first + characters(start, end);
         searched = end - bytes;
-        PyObject *found = found_at(of, string, first, index, spans[i].digits);
-        if (!found || PyList_Append(made, found)) {
-            Py_XDECREF(found);
-            Py_DECREF(made);
-            return NULL;
-        }
-        Py_DECREF(found);
+        PyObject *fields[] = {PyLong_FromSsize_t(first), PyLong_FromSsize_t(index),
+                              PyUnicode_Substring(string, first, index),
+                              PyBool_FromLong(spans[i].digits != 0)};
+        PyObject *found = tuple_of(class, one, fields);
+        failed = !found || PyList_SetItem(made, (Py_ssize_t)i, found);
+    }
+    Py_XDECREF(one);
+    if (failed) {
+        Py_XDECREF(made);
+        return NULL;
     }
     return Py_BuildValue("INnn", status, made, count < AT_ONCE ? length : searched, index);
 }
