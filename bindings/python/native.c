@@ -30,8 +30,8 @@ typedef struct choice {
  * of its defaults, or -1. */
 typedef struct quick {
     PyMethodDef method;
-    PyObject *function, *text;
-    int defaults[CHOICES];
+    PyObject *function, *text, *names; /* `names`, and `places` of them: see know_names */
+    int defaults[CHOICES], places[CHOICES];
 } quick;
 
 typedef struct state {
@@ -69,21 +69,35 @@ static PyObject *know_words(PyObject *module, PyObject *given) {
     Py_RETURN_NONE;
 }
 
-/* The codes of what a call names, and else of its defaults; 0 where one is not known. */
-static int codes_of(const state *own, const quick *of, PyObject *const *values, PyObject *names,
-                    int *codes) {
-    Py_ssize_t count = names ? PyTuple_Size(names) : 0;
-    memcpy(codes, of->defaults, sizeof of->defaults);
+/* Learns which choice each keyword of a call is; 0 where one is none. A call has the same tuple of
+ * names each time that it is made, so the last one is kept. */
+static int know_names(const state *own, quick *of, PyObject *names, Py_ssize_t count) {
+    Py_CLEAR(of->names);
     for (Py_ssize_t i = 0; i < count; i++) {
-        PyObject *name = PyTuple_GetItem(names, i);
         int at = 0;
-        while (at < CHOICES && own->choices[at].keyword != name)
+        while (at < CHOICES && own->choices[at].keyword != PyTuple_GetItem(names, i))
             at++;
-        if (at == CHOICES || of->defaults[at] < 0)
+        if (i == CHOICES || at == CHOICES || of->defaults[at] < 0)
             return 0;
-        codes[at] = code_of(&own->choices[at], values[i]);
-        if (codes[at] < 0)
+        of->places[i] = at;
+    }
+    Py_INCREF(names);
+    of->names = names;
+    return 1;
+}
+
+/* The codes of what a call names, and else of its defaults; 0 where one is not known. */
+static int codes_of(const state *own, quick *of, PyObject *const *values, PyObject *names,
+                    int *codes) {
+    memcpy(codes, of->defaults, sizeof of->defaults);
+    Py_ssize_t count = names ? PyTuple_Size(names) : 0;
+    if (count > 0 && names != of->names && !know_names(own, of, names, count))
+        return 0;
+    for (Py_ssize_t i = 0; i < count; i++) {
+        int at = of->places[i], code = code_of(&own->choices[at], values[i]);
+        if (code < 0)
             return 0;
+        codes[at] = code;
     }
     return 1;
 }
@@ -215,8 +229,8 @@ static int is_short(cn_number number, uint32_t kind) {
 /* to_number of a short text, by known words, where 64 bits hold the number. */
 static PyObject *to_number(PyObject *module, PyObject *const *values, Py_ssize_t count,
                            PyObject *names) {
-    const state *own = PyModule_GetState(module);
-    const quick *of = &own->to_number;
+    state *own = PyModule_GetState(module);
+    quick *of = &own->to_number;
     uint8_t room[4 * SHORT];
     int codes[CHOICES];
     cn_reading it;
@@ -287,8 +301,8 @@ static PyObject *print_date(PyObject *module, PyObject *given) {
 /* to_chinese of an int that 64 bits hold with its sign, by known words. */
 static PyObject *to_chinese(PyObject *module, PyObject *const *values, Py_ssize_t count,
                             PyObject *names) {
-    const state *own = PyModule_GetState(module);
-    const quick *of = &own->to_chinese;
+    state *own = PyModule_GetState(module);
+    quick *of = &own->to_chinese;
     uint8_t room[CN_MOST_BYTES];
     int codes[CHOICES], overflow;
     size_t length;
@@ -327,6 +341,7 @@ static PyObject *in_front(PyObject *module, PyObject *given, quick *of, void (*c
     Py_INCREF(text);
     Py_XDECREF(of->text);
     of->text = text;
+    Py_CLEAR(of->names);
     return PyCFunction_NewEx(&of->method, module, where);
 }
 
@@ -403,7 +418,8 @@ static PyObject *find_numbers(PyObject *module, PyObject *given) {
         PyBytes_AsStringAndSize(data, &first, &length))
         return NULL;
     const uint8_t *bytes = (const uint8_t *)first;
-    if (searched < 0 || searched > length || !PyType_IsSubtype((PyTypeObject *)class, &PyTuple_Type)) {
+    if (searched < 0 || searched > length ||
+        !PyType_IsSubtype((PyTypeObject *)class, &PyTuple_Type)) {
         PyErr_SetString(PyExc_ValueError, "a place in the bytes and a class of tuples are wanted");
         return NULL;
     }
@@ -474,7 +490,9 @@ static void discard(void *module) {
     for (int i = 0; i < CHOICES; i++)
         Py_CLEAR(own->choices[i].keyword);
     Py_CLEAR(own->to_number.text);
+    Py_CLEAR(own->to_number.names);
     Py_CLEAR(own->to_chinese.text);
+    Py_CLEAR(own->to_chinese.names);
 }
 
 static PyModuleDef_Slot SLOTS[] = {{0, NULL}};
