@@ -387,21 +387,6 @@ static PyObject *tuple_of(PyObject *class, PyObject *one, PyObject *fields[4]) {
     return make((PyTypeObject *)class, one, NULL);
 }
 
-/* Until `find` has the call that fills an array. */
-static uint32_t find(const uint8_t *text, size_t length, size_t from, uint32_t upper,
-                     uint32_t greatest, cn_span *spans, size_t most, size_t *count) {
-    uint32_t status = CN_DONE;
-    for (*count = 0; *count < most; ++*count) {
-        cn_span *it = spans + *count;
-        status = chinese_number_find_utf8(text + from, length - from, upper, greatest, it);
-        if (status != CN_DONE)
-            break;
-        it->start += from;
-        from = it->end += from;
-    }
-    return status == CN_NONE ? CN_DONE : status;
-}
-
 /* The next numbers of a text behind its first bytes, which have so many characters: the status, a
  * list of the numbers, and up to where they were looked for, in bytes and in characters. The data
  * are the text in UTF-8. */
@@ -424,8 +409,8 @@ static PyObject *find_numbers(PyObject *module, PyObject *given) {
         return NULL;
     }
     PyThreadState *thread = let_go((size_t)(length - searched));
-    uint32_t status =
-        find(bytes, (size_t)length, (size_t)searched, upper, greatest, spans, AT_ONCE, &count);
+    uint32_t status = chinese_number_find_utf8(bytes, (size_t)length, (size_t)searched, upper,
+                                               greatest, spans, AT_ONCE, &count);
     take_back(thread);
     PyObject *made = PyList_New((Py_ssize_t)count), *one = PyTuple_New(1);
     int failed = !made || !one;

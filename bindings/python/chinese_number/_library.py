@@ -23,7 +23,6 @@ _MOST_AMOUNT_BYTES = 117
 _MOST_SIGNED_AMOUNT_BYTES = 120
 _MOST_DATE_BYTES = 39
 _AT_ONCE = 64
-_NONE = 10
 _MODULE = "_native.abi3.so"
 _CODE, _WORD, _SIZE = ctypes.c_uint32, ctypes.c_uint64, ctypes.c_size_t
 _SIGNED_WORD = ctypes.c_int64
@@ -55,7 +54,7 @@ _ROOM = ctypes.c_char_p, _SIZE, _at(_SIZE)
 _ARGUMENTS: Dict[str, Tuple[Any, ...]] = {
     "chinese_number_read": (*_TEXT, _CODE, _CODE, _at(_Reading)),
     "chinese_number_print": (_WORD, _WORD, _CODE, _CODE, _CODE, _CODE, *_ROOM),
-    "chinese_number_find_utf8": (ctypes.c_void_p, _SIZE, _CODE, _CODE, _at(_Span)),
+    "chinese_number_find_utf8": (*_TEXT, _SIZE, _CODE, _CODE, _at(_Span), _SIZE, _at(_SIZE)),
     "chinese_amount_read": (*_TEXT, _at(_Amount)),
     "chinese_amount_print": (_WORD, _CODE, _CODE, *_ROOM),
     "chinese_signed_amount_read": (*_TEXT, _at(_SignedAmount)),
@@ -248,18 +247,11 @@ def find_numbers(
     """The next numbers of a text behind its first bytes, which have so many characters: of a class
     of tuples, where each begins and ends, its text, and whether it is plain digits. Behind them, up
     to where they were looked for, in bytes and in characters. The data are the text in UTF-8."""
-    first = ctypes.cast(ctypes.c_char_p(data), ctypes.c_void_p).value or 0
-    span, status = _Span(), 0
-    made: List[_Found] = []
-    while not status and len(made) < _AT_ONCE:
-        rest = first + searched, len(data) - searched
-        status = library.chinese_number_find_utf8(*rest, upper, greatest, byref(span))
-        if status:
-            break
-        begin, end = searched + span.start, searched + span.end
-        start = index + len(data[searched:begin].decode())
-        index = start + len(data[begin:end].decode())
+    spans, count, made = (_Span * _AT_ONCE)(), _SIZE(), []
+    codes = upper, greatest, spans, _AT_ONCE, byref(count)
+    status: int = library.chinese_number_find_utf8(data, len(data), searched, *codes)
+    for span in spans[: count.value]:
+        start = index + len(data[searched : span.start].decode())
+        searched, index = span.end, start + len(data[span.start : span.end].decode())
         made.append(of(start, index, text[start:index], bool(span.digits)))
-        searched = end
-    none_is_left = status == _NONE
-    return (0 if none_is_left else status), made, len(data) if none_is_left else searched, index
+    return status, made, searched if len(made) == _AT_ONCE else len(data), index
