@@ -19,10 +19,9 @@ enum {
 /* The keywords of the quick functions, of which to_number takes the first two. */
 static const char *const KEYWORDS[CHOICES] = {"kind", "way", "script", "case"};
 
-/* A keyword and its words. `held` is a tuple of the members by their code, and then of their str;
- * `words` are its own. */
+/* A keyword and its words: the members of its enum by their code, and then their str. */
 typedef struct choice {
-    PyObject *keyword, *held, *words[MOST_WORDS];
+    PyObject *keyword, *words[MOST_WORDS];
     Py_ssize_t count;
 } choice;
 
@@ -30,11 +29,13 @@ typedef struct choice {
  * of its defaults, or -1. */
 typedef struct quick {
     PyMethodDef method;
-    PyObject *function, *text, *names; /* `names`, and `places` of them: see know_names */
+    PyObject *function, *names; /* `names`, and `places` of them: see know_names */
     int defaults[CHOICES], places[CHOICES];
 } quick;
 
+/* `held` is a dict, which owns all objects that are named here. */
 typedef struct state {
+    PyObject *held;
     choice choices[CHOICES];
     quick to_number, to_chinese;
 } state;
@@ -48,7 +49,7 @@ static int code_of(const choice *of, PyObject *word) {
     return -1;
 }
 
-/* Takes a tuple for each choice; see `choice`. */
+/* Takes a tuple of words for each choice. */
 static PyObject *know_words(PyObject *module, PyObject *given) {
     state *own = PyModule_GetState(module);
     for (int i = 0; i < CHOICES; i++) {
@@ -57,22 +58,23 @@ static PyObject *know_words(PyObject *module, PyObject *given) {
         choice *of = &own->choices[i];
         if (count < 0 || count > MOST_WORDS)
             return count < 0 ? NULL : PyErr_Format(PyExc_ValueError, "there are %zd words", count);
+        PyObject *keyword = PyUnicode_InternFromString(KEYWORDS[i]);
+        int failed = !keyword || PyDict_SetItem(own->held, keyword, words);
+        Py_XDECREF(keyword);
+        if (failed)
+            return NULL;
+        of->keyword = keyword;
         for (Py_ssize_t word = 0; word < count; word++)
             of->words[word] = PyTuple_GetItem(words, word);
         of->count = count;
-        Py_INCREF(words);
-        Py_XDECREF(of->held);
-        of->held = words;
-        if (!of->keyword && !(of->keyword = PyUnicode_InternFromString(KEYWORDS[i])))
-            return NULL;
     }
     Py_RETURN_NONE;
 }
 
 /* Learns which choice each keyword of a call is; 0 where one is none. A call has the same tuple of
  * names each time that it is made, so the last one is kept. */
-static int know_names(const state *own, quick *of, PyObject *names, Py_ssize_t count) {
-    Py_CLEAR(of->names);
+static int know_names(state *own, quick *of, PyObject *names, Py_ssize_t count) {
+    of->names = NULL;
     for (Py_ssize_t i = 0; i < count; i++) {
         int at = 0;
         while (at < CHOICES && own->choices[at].keyword != PyTuple_GetItem(names, i))
@@ -81,14 +83,16 @@ static int know_names(const state *own, quick *of, PyObject *names, Py_ssize_t c
             return 0;
         of->places[i] = at;
     }
-    Py_INCREF(names);
+    if (PyDict_SetItemString(own->held, of == &own->to_number ? "to read" : "to print", names)) {
+        PyErr_Clear();
+        return 0;
+    }
     of->names = names;
     return 1;
 }
 
 /* The codes of what a call names, and else of its defaults; 0 where one is not known. */
-static int codes_of(const state *own, quick *of, PyObject *const *values, PyObject *names,
-                    int *codes) {
+static int codes_of(state *own, quick *of, PyObject *const *values, PyObject *names, int *codes) {
     memcpy(codes, of->defaults, sizeof of->defaults);
     Py_ssize_t count = names ? PyTuple_Size(names) : 0;
     if (count > 0 && names != of->names && !know_names(own, of, names, count))
@@ -106,7 +110,9 @@ static int codes_of(const state *own, quick *of, PyObject *const *values, PyObje
 static PyObject *unusual(const quick *of, PyObject *const *values, Py_ssize_t count,
                          PyObject *names) {
     PyObject *words = names ? PyDict_New() : NULL, *places = PyTuple_New(count), *answer = NULL;
-    int failed = !places || (names && !words) || !of->function;
+    PyObject *function = of->function;
+    int failed = !places || (names && !words) || !function;
+    Py_XINCREF(function);
     for (Py_ssize_t i = 0; !failed && i < count; i++) {
         Py_INCREF(values[i]);
         failed = PyTuple_SetItem(places, i, values[i]);
@@ -114,9 +120,10 @@ static PyObject *unusual(const quick *of, PyObject *const *values, Py_ssize_t co
     for (Py_ssize_t i = 0; !failed && names && i < PyTuple_Size(names); i++)
         failed = PyDict_SetItem(words, PyTuple_GetItem(names, i), values[count + i]);
     if (!failed)
-        answer = PyObject_Call(of->function, places, words);
+        answer = PyObject_Call(function, places, words);
     else if (!PyErr_Occurred())
         PyErr_SetString(PyExc_RuntimeError, "the interpreter is at its end");
+    Py_XDECREF(function);
     Py_XDECREF(places);
     Py_XDECREF(words);
     return answer;
@@ -188,8 +195,7 @@ static void take_back(PyThreadState *thread) {
     static PyObject *name(PyObject *module, PyObject *given) {                                \
         text from;                                                                            \
         answer it;                                                                            \
-        (void)module;                                                                         \
-        if (!take(given, &from))                                                              \
+        if (!take(given, &from))                                                                  \
             return NULL;                                                                      \
         PyThreadState *thread = let_go(from.length);                                          \
         uint32_t status = call(from.bytes, from.length, &it);                                 \
@@ -209,7 +215,6 @@ static PyObject *read_number(PyObject *module, PyObject *given) {
     PyObject *string;
     unsigned kind, way;
     cn_reading it;
-    (void)module;
     if (!PyArg_ParseTuple(given, "OII", &string, &kind, &way) || !take(string, &from))
         return NULL;
     PyThreadState *thread = let_go(from.length);
@@ -262,7 +267,6 @@ static PyObject *print_number(PyObject *module, PyObject *given) {
     unsigned kind, way, script, letter_case;
     uint8_t room[CN_MOST_BYTES];
     size_t length;
-    (void)module;
     if (!PyArg_ParseTuple(given, "KKIIII", &low, &high, &kind, &way, &script, &letter_case))
         return NULL;
     uint32_t status =
@@ -276,8 +280,7 @@ static PyObject *print_number(PyObject *module, PyObject *given) {
         unsigned script, form;                                          \
         uint8_t room[most];                                             \
         size_t length;                                                  \
-        (void)module;                                                   \
-        if (!PyArg_ParseTuple(given, format, &fen, &script, &form))     \
+        if (!PyArg_ParseTuple(given, format, &fen, &script, &form))         \
             return NULL;                                                \
         uint32_t status = call(fen, script, form, room, most, &length); \
         return Py_BuildValue("IN", status, string_of(room, length));    \
@@ -291,7 +294,6 @@ static PyObject *print_date(PyObject *module, PyObject *given) {
     unsigned year, month, day, script;
     uint8_t room[CN_MOST_DATE_BYTES];
     size_t length;
-    (void)module;
     if (!PyArg_ParseTuple(given, "IIII", &year, &month, &day, &script))
         return NULL;
     uint32_t status = chinese_date_print(year, month, day, script, room, sizeof room, &length);
@@ -325,23 +327,17 @@ static PyObject *in_front(PyObject *module, PyObject *given, quick *of, void (*c
                           const char *name) {
     state *own = PyModule_GetState(module);
     PyObject *function, *defaults, *text, *where;
-    if (!PyArg_ParseTuple(given, "OO!UO", &function, &PyDict_Type, &defaults, &text, &where))
+    if (!PyArg_ParseTuple(given, "OO!UO", &function, &PyDict_Type, &defaults, &text, &where) ||
+        PyDict_SetItemString(own->held, name, given))
         return NULL;
     for (int i = 0; i < CHOICES; i++) {
         PyObject *value = PyDict_GetItemString(defaults, KEYWORDS[i]);
         of->defaults[i] = value ? code_of(&own->choices[i], value) : -1;
     }
-    const char *signature = PyUnicode_AsUTF8AndSize(text, NULL);
-    if (!signature)
-        return NULL;
-    of->method = (PyMethodDef){name, (PyCFunction)call, METH_FASTCALL | METH_KEYWORDS, signature};
-    Py_INCREF(function);
-    Py_XDECREF(of->function);
+    of->method = (PyMethodDef){name, (PyCFunction)call, METH_FASTCALL | METH_KEYWORDS,
+                               PyUnicode_AsUTF8AndSize(text, NULL)};
     of->function = function;
-    Py_INCREF(text);
-    Py_XDECREF(of->text);
-    of->text = text;
-    Py_CLEAR(of->names);
+    of->names = NULL;
     return PyCFunction_NewEx(&of->method, module, where);
 }
 
@@ -397,7 +393,6 @@ static PyObject *find_numbers(PyObject *module, PyObject *given) {
     unsigned upper, greatest;
     cn_span spans[AT_ONCE];
     size_t count;
-    (void)module;
     if (!PyArg_ParseTuple(given, "USnnIIO!", &string, &data, &searched, &index, &upper, &greatest,
                           &PyType_Type, &class) ||
         PyBytes_AsStringAndSize(data, &first, &length))
@@ -434,7 +429,6 @@ static PyObject *find_numbers(PyObject *module, PyObject *given) {
 }
 
 static PyObject *version(PyObject *module, PyObject *none) {
-    (void)module, (void)none;
     return PyLong_FromUnsignedLong(chinese_number_version());
 }
 
@@ -449,38 +443,35 @@ static PyMethodDef METHODS[] = {
 };
 
 static int traverse(PyObject *module, visitproc visit, void *arg) {
-    state *own = PyModule_GetState(module);
-    for (int i = 0; i < CHOICES; i++)
-        Py_VISIT(own->choices[i].held);
-    Py_VISIT(own->to_number.function);
-    Py_VISIT(own->to_chinese.function);
+    Py_VISIT(((state *)PyModule_GetState(module))->held);
     return 0;
 }
 
+/* A quick function may be there still: it knows no word, and tells nothing of itself. */
 static int clear(PyObject *module) {
     state *own = PyModule_GetState(module);
     for (int i = 0; i < CHOICES; i++) {
+        own->choices[i].keyword = NULL;
         own->choices[i].count = 0;
-        Py_CLEAR(own->choices[i].held);
     }
-    Py_CLEAR(own->to_number.function);
-    Py_CLEAR(own->to_chinese.function);
+    own->to_number.function = own->to_chinese.function = NULL;
+    own->to_number.names = own->to_chinese.names = NULL;
+    own->to_number.method.ml_doc = own->to_chinese.method.ml_doc = NULL;
+    Py_CLEAR(own->held);
     return 0;
 }
 
-/* The quick functions are gone, whose documentation the texts are. */
 static void discard(void *module) {
-    state *own = PyModule_GetState(module);
     clear(module);
-    for (int i = 0; i < CHOICES; i++)
-        Py_CLEAR(own->choices[i].keyword);
-    Py_CLEAR(own->to_number.text);
-    Py_CLEAR(own->to_number.names);
-    Py_CLEAR(own->to_chinese.text);
-    Py_CLEAR(own->to_chinese.names);
 }
 
-static PyModuleDef_Slot SLOTS[] = {{0, NULL}};
+static int begin(PyObject *module) {
+    state *own = PyModule_GetState(module);
+    own->held = PyDict_New();
+    return own->held ? 0 : -1;
+}
+
+static PyModuleDef_Slot SLOTS[] = {{Py_mod_exec, (void *)begin}, {0, NULL}};
 static struct PyModuleDef MODULE = {
     PyModuleDef_HEAD_INIT,
     "chinese_number._native",

@@ -15,7 +15,7 @@ scratch=$(mktemp -d)
 trap 'rm -rf "$scratch"' EXIT
 echo '{ global: PyInit__native; chinese_*; local: *; };' > "$scratch/names"
 # The C library is not named, as in archive.sh.
-"${CC:-cc}" -std=c11 -O2 -Wall -Wextra -Werror -fPIC -fvisibility=hidden -I"${header%/*}" -I../c -shared \
+"${CC:-cc}" -std=c11 -O2 -Wall -Wextra -Wno-unused-parameter -Werror -fPIC -fvisibility=hidden -I"${header%/*}" -I../c -shared \
     -nostdlib native.c -Wl,--whole-archive "${native%/*}/libchinese_number.a" -Wl,--no-whole-archive -lgcc \
     -Wl,--version-script="$scratch/names" -Wl,-z,relro,-z,now,-z,noexecstack -o "$native"
 unknown=$(nm -D -u "$native" | awk '{print $NF}' | { grep -vxE "$known" || true; })
