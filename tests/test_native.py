@@ -26,14 +26,14 @@ SINCE.update(PyUnicode_GetLength=7, PyUnicode_Substring=7, PyCMethod_New=9)
 SINCE.update(PyUnicode_AsUTF8AndSize=10)
 OF_3_2 = """
 PyArg_ParseTuple PyBool_FromLong PyBytes_AsStringAndSize PyDict_GetItemString PyDict_New
-PyDict_SetItem PyDict_Type PyErr_Format PyErr_Occurred PyErr_SetString PyEval_RestoreThread
-PyEval_SaveThread PyExc_RuntimeError PyExc_ValueError PyList_New PyList_SetItem
-PyLong_AsLongLongAndOverflow PyLong_FromLongLong PyLong_FromSsize_t PyLong_FromUnsignedLong
-PyLong_FromUnsignedLongLong PyLong_Type PyModule_GetState PyObject_Call PyTuple_GetItem
-PyTuple_New PyTuple_SetItem PyTuple_Size PyTuple_Type PyType_GetFlags PyType_IsSubtype PyType_Type
-PyUnicode_AsEncodedString PyUnicode_FromWideChar PyUnicode_InternFromString Py_BuildValue
-_PyArg_ParseTuple_SizeT _Py_BuildValue_SizeT _Py_Dealloc _Py_FalseStruct _Py_NoneStruct
-_Py_TrueStruct""".split()
+PyDict_SetItem PyDict_SetItemString PyDict_Type PyErr_Clear PyErr_Format PyErr_Occurred
+PyErr_SetString PyEval_RestoreThread PyEval_SaveThread PyExc_RuntimeError PyExc_ValueError
+PyList_New PyList_SetItem PyLong_AsLongLongAndOverflow PyLong_FromLongLong PyLong_FromSsize_t
+PyLong_FromUnsignedLong PyLong_FromUnsignedLongLong PyLong_Type PyModule_GetState PyObject_Call
+PyTuple_GetItem PyTuple_New PyTuple_SetItem PyTuple_Size PyTuple_Type PyType_GetFlags
+PyType_IsSubtype PyType_Type PyUnicode_AsEncodedString PyUnicode_FromWideChar
+PyUnicode_InternFromString Py_BuildValue _PyArg_ParseTuple_SizeT _Py_BuildValue_SizeT _Py_Dealloc
+_Py_FalseStruct _Py_NoneStruct _Py_TrueStruct""".split()
 NEWEST = list(BY_NATIVE.values())[-2:][0]
 
 
