@@ -2,12 +2,11 @@
 import shutil
 import subprocess
 import sys
-import sysconfig
 from pathlib import Path
 
 import pytest
 
-from running import PYTHON, TOP, Program, leave_out, needs, needs_rt, run
+from running import HEADER, PYTHON, TOP, Program, leave_out, needs, needs_rt, run
 
 
 def pytest_addoption(parser):
@@ -60,7 +59,7 @@ def library(request):
 def native(library, tmp_path_factory):
     """A folder with the Python package, whose extension module is over the library."""
     needs("cc")
-    if not Path(sysconfig.get_path("include"), "Python.h").is_file():
+    if not HEADER.is_file():
         leave_out("there is no Python.h")
     folder = tmp_path_factory.mktemp("native")
     package, files = folder / "chinese_number", shutil.ignore_patterns("*.so", "__pycache__")
