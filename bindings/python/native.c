@@ -22,7 +22,7 @@ static const char *const KEYWORDS[CHOICES] = {"kind", "way", "script", "case"};
 /* A keyword and its words: the members of its enum by their code, and then their str. */
 typedef struct choice {
     PyObject *keyword, *words[MOST_WORDS];
-    Py_ssize_t count;
+    int count, last; /* `last` is the place of the word that was last asked for */
 } choice;
 
 /* A quick function, and the Python function behind it, which takes what is unusual, with the codes
@@ -41,12 +41,16 @@ typedef struct state {
 } state;
 
 /* The code of a word, or -1 of one that is not known as this very object. */
-static int code_of(const choice *of, PyObject *word) {
-    Py_ssize_t members = of->count / 2;
-    for (Py_ssize_t i = 0; i < of->count; i++)
-        if (of->words[i] == word)
-            return (int)(i < members ? i : i - members);
-    return -1;
+static int code_of(choice *of, PyObject *word) {
+    int members = of->count / 2, at = of->last;
+    if (of->words[at] != word) {
+        for (at = 0; at < of->count && of->words[at] != word; at++)
+            ;
+        if (at == of->count)
+            return -1;
+        of->last = at;
+    }
+    return at < members ? at : at - members;
 }
 
 /* Takes a tuple of words for each choice. */
@@ -66,7 +70,8 @@ static PyObject *know_words(PyObject *module, PyObject *given) {
         of->keyword = keyword;
         for (Py_ssize_t word = 0; word < count; word++)
             of->words[word] = PyTuple_GetItem(words, word);
-        of->count = count;
+        of->count = (int)count;
+        of->last = 0;
     }
     Py_RETURN_NONE;
 }
@@ -450,10 +455,7 @@ static int traverse(PyObject *module, visitproc visit, void *arg) {
 /* A quick function may be there still: it knows no word, and tells nothing of itself. */
 static int clear(PyObject *module) {
     state *own = PyModule_GetState(module);
-    for (int i = 0; i < CHOICES; i++) {
-        own->choices[i].keyword = NULL;
-        own->choices[i].count = 0;
-    }
+    memset(own->choices, 0, sizeof own->choices);
     own->to_number.function = own->to_chinese.function = NULL;
     own->to_number.names = own->to_chinese.names = NULL;
     own->to_number.method.ml_doc = own->to_chinese.method.ml_doc = NULL;
