@@ -69,7 +69,7 @@ TOO_LONG = {
 }
 # The C source's text begins at an address of 32 bits, and so has a most length, which these files name.
 SOURCE = "source/chinese_number.c.in"
-OF_LENGTH = (HEADER, RUST, MORE[PYTHON], "source/README.md", MORE[RUST])
+OF_LENGTH = (HEADER, RUST, PYTHON, "source/README.md", MORE[RUST])
 EXPORTED = re.compile(r'^pub (?:unsafe )?extern "C" fn (\w+)', re.MULTILINE)
 CALL = r"chinese_(?:number|(?:signed_|typed_)?amount|figures|date)_\w+"
 CALLED = re.compile(rf"\b({CALL})\(|\blibrary\.({CALL})")

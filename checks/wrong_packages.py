@@ -49,7 +49,8 @@ def other_byte_inside(data):
     return re.sub(rb"(?m)^const base64 = '.*';$", f"const base64 = '{changed}';".encode(), data)
 
 
-WHEEL, OF_C = f"*_{installing.NATIVE}.whl", f"chinese-number-*-{installing.NATIVE}.tar.gz"
+WHEEL, BY_CTYPES = (f"*-{it}-*_{installing.NATIVE}.whl" for it in ("cp310-abi3", "py3-none"))
+OF_C = f"chinese-number-*-{installing.NATIVE}.tar.gz"
 NPM, SDIST, SOURCE = "*.tgz", "chinese_number_proved-*.tar.gz", "*-source.tar.gz"
 NO_FILE = "is none of the files"
 TYPE = "export function toNumber(string: string, options?: ReadOptions): {};"
@@ -67,7 +68,7 @@ def other_soname(data):
 # test that fails, and how what it says begins.
 WRONG = (
     ("a byte of the wheel's library", WHEEL, ".so", a_byte, "sums", NO_FILE),
-    ("another library in the wheel", WHEEL, ".so", lambda _: b"\x7fELF", "sums", NO_FILE),
+    ("another library in the other one", BY_CTYPES, ".so", lambda _: b"\x7fELF", "sums", NO_FILE),
     ("no py.typed", WHEEL, "py.typed", None, "types_of_wheel", "mypy"),
     ("another answer in a README", WHEEL, "METADATA", OTHER_ANSWER, "test_wheel", "doctest"),
     ("types that say bigint", NPM, ".d.mts", OTHER_TYPE, "types_of_npm", "typed.mts"),

@@ -1,10 +1,12 @@
 """What tests are given: the programs that the gate has built, and the library and its packages."""
+import shutil
 import subprocess
+import sys
 from pathlib import Path
 
 import pytest
 
-from running import TOP, Program, leave_out, needs, needs_rt, run
+from running import HEADER, PYTHON, TOP, Program, leave_out, needs, needs_rt, run
 
 
 def pytest_addoption(parser):
@@ -51,6 +53,29 @@ def of_c_source(tmp_path_factory):
 def library(request):
     """Both: the tests of a language are run over each."""
     return request.getfixturevalue(request.param)
+
+
+@pytest.fixture(scope="session")
+def native(library, tmp_path_factory):
+    """A folder with the Python package, whose extension module is over the library."""
+    needs("cc")
+    if not HEADER.is_file():
+        leave_out("there is no Python.h")
+    folder = tmp_path_factory.mktemp("native")
+    package, files = folder / "chinese_number", shutil.ignore_patterns("*.so", "__pycache__")
+    shutil.copytree(PYTHON / "chinese_number", package, ignore=files)
+    shutil.copy(PYTHON / "answers.py", folder)
+    shutil.copy(library / "libchinese_number.a", package)
+    run("bash", PYTHON / "native.sh", package, cwd=TOP, PYTHON=sys.executable)
+    return folder
+
+
+@pytest.fixture(scope="session", params=["by ctypes", "by native"])
+def of_python(request, library):
+    """The variables by which a Python takes the package, and calls the library in either way."""
+    if request.param == "by ctypes":
+        return {"PYTHONPATH": str(PYTHON), "CHINESE_NUMBER_LIB": str(library)}
+    return {"PYTHONPATH": str(request.getfixturevalue("native")), "CHINESE_NUMBER_LIB": ""}
 
 
 @pytest.fixture(scope="session")

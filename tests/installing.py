@@ -97,17 +97,22 @@ def unpacked(tarball, folder):
     return next((folder / "first").iterdir()).rename(folder / "a folder")
 
 
-def pythons():
-    """By version, the first and the last Python of pyenv's from 3.8 on, where there are any, and
-    this one."""
+def pythons(least):
+    """The Pythons of pyenv's from a version on, where there are any, and this one."""
     programs = Path.home().glob(".pyenv/versions/3.*/bin/python3")
     found = sorted((numbers_of(it.parent.parent.name), str(it)) for it in programs)
-    found = [it for it in found if it[0] >= (3, 8)]
-    ends = [*found[:: max(1, len(found) - 1)], (sys.version_info[:3], sys.executable)]
-    return {".".join(map(str, it)): program for it, program in ends}
+    found = [it for it in found if it[0] >= least] + [(sys.version_info[:3], sys.executable)]
+    return {".".join(map(str, it)): program for it, program in found}
 
 
-CPYTHONS = pythons()
+def ends(found):
+    """The first, the one before the last and the last of them."""
+    names = [*found]
+    return {name: found[name] for name in dict.fromkeys(names[:1] + names[-2:])}
+
+
+CPYTHONS = ends(pythons((3, 8)))
+BY_NATIVE = pythons((3, 10))  # those that take the extension module
 PYTHONS = {**CPYTHONS, "pypy3": "pypy3"}
 
 

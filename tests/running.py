@@ -6,11 +6,14 @@ import resource
 import select
 import shutil
 import subprocess
+import sysconfig
 from pathlib import Path
 
 import pytest
 
 TOP = Path(__file__).resolve().parent.parent
+PYTHON = TOP / "bindings/python"
+HEADER = Path(sysconfig.get_path("include"), "Python.h")
 SECONDS = 10  # for an answer in a dialogue
 
 

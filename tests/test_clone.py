@@ -14,7 +14,7 @@ from pathlib import Path
 import pytest
 
 from installing import CPYTHONS, Page, commands, of_rust, user, virtual_environment
-from running import ENVIRONMENT, TOP, fail, needs, run, write
+from running import ENVIRONMENT, HEADER, TOP, fail, needs, run, write
 
 PAGE = (TOP / "bindings/README.md").read_text(encoding="utf-8")
 OF_C_PAGE = (TOP / "bindings/c/README.md").read_text(encoding="utf-8")
@@ -79,7 +79,8 @@ USE = 'python -c "from chinese_number import to_chinese; print(to_chinese(105_00
 BY_PAGE = f'cd "$CLONE"\n{by_page("Python")}'
 EDITABLE = f'pip install -e "$CLONE/bindings/python"\n{USE}'
 BY_GIT = f'pip install "git+{URL}#subdirectory=bindings/python"\n{USE}'
-BESIDE_MODULE = "bindings/python/chinese_number/libchinese_number.so"
+LIBRARY = "_native.abi3.so" if HEADER.is_file() else "libchinese_number.so"
+BESIDE_MODULE = f"bindings/python/chinese_number/{LIBRARY}"
 WITHOUT_COMPILER = """\
 if CC=/nowhere pip install "$CLONE/bindings/python" > said 2>&1; then exit 1; fi
 if grep Traceback said; then exit 1; fi

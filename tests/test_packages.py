@@ -65,16 +65,30 @@ def of_builds(package_name, files, builds):
             fail(f"{whole} is none of the files that PROVENANCE.json names for {build}")
 
 
+BY_CTYPES, BY_MODULE = f"*-py3-none-*_{NATIVE}.whl", f"*-cp310-abi3-*_{NATIVE}.whl"
+
+
 @pytest.mark.parametrize("program", PYTHONS.values(), ids=PYTHONS)
 def test_wheel(packages, tmp_path, program):
-    wheel = package(packages, f"*_{NATIVE}.whl", NATIVE)
+    """pip takes the one that fits."""
+    package(packages, BY_CTYPES, NATIVE)
+    wheel = package(packages, BY_MODULE, "the extension module")
     by_pip(packages, tmp_path, Readme(wheel, "METADATA", "python"), program)
+
+
+def test_wheel_by_ctypes(packages, tmp_path):
+    """It serves where the other one would do, too."""
+    wheel = package(packages, BY_CTYPES, NATIVE)
+    own = virtual_environment(sys.executable, tmp_path / "venv")
+    run("pip", "install", wheel, cwd=tmp_path, **own)
+    print_number = "from chinese_number import *; print(to_chinese(120), type(to_chinese).__name__)"
+    run("python", "-Ic", print_number, cwd=tmp_path, wanted="一百二十 function\n", **own)
 
 
 def test_library_of_wheel_by_musl(packages, of_c, tmp_path):
     """Debian has no Python over musl, so a program of musl's loads the library as Python does."""
     needs("musl-gcc")
-    files = listed(package(packages, f"*_{NATIVE}.whl", NATIVE))
+    files = listed(package(packages, BY_CTYPES, NATIVE))
     (tmp_path / "library.so").write_bytes(files["chinese_number/libchinese_number.so"])
     words = (USERS / "load.c", f"-I{of_c.prefix}/include", "-o", "load")
     run("musl-gcc", *words, cwd=tmp_path)
@@ -86,6 +100,14 @@ def test_python_source(packages, tmp_path, program):
     needs("cc")
     sdist = package(packages, "chinese_number_proved-*.tar.gz", "the C source")
     by_pip(packages, tmp_path, Readme(sdist, "PKG-INFO", "python"), program, which=1)
+
+
+# Whether the extension module is there where this Python takes it, and else is not.
+IS_RIGHT_FACE = """\
+import sys, chinese_number
+takes = sys.implementation.name == "cpython" and sys.version_info >= (3, 10)
+print(takes == (type(chinese_number.to_number).__name__ != "function"))
+"""
 
 
 def by_pip(packages, scratch, readme, program, which=0):
@@ -101,6 +123,7 @@ def by_pip(packages, scratch, readme, program, which=0):
     wrong = wrong_answers(lambda asked: run("python", answers, cwd=scratch, stdin=asked, **own))
     assert wrong == []
     example, program = write(scratch / "user/example.txt", readme.example), USERS / "user.py"
+    run("python", "-Ic", IS_RIGHT_FACE, cwd=scratch, wanted="True\n", **own)
     run("python", USERS / "doctests.py", example, cwd=scratch, wanted="0 True 0 True\n", **own)
     run("python", program, cwd=scratch, wanted=user("user.py.txt"), **own)
     run("chinese-number", "read", "一百二", cwd=scratch, wanted="120\n", **own)
@@ -122,7 +145,7 @@ def compare_record(site):
 def test_types_of_wheel(packages, tmp_path):
     needs("mypy")
     own = virtual_environment(sys.executable, tmp_path / "venv")
-    wheel = package(packages, f"*_{NATIVE}.whl", NATIVE)
+    wheel = package(packages, BY_MODULE, "the extension module")
     Readme(wheel, "METADATA", "python").follow(packages, tmp_path / "python", **own)
     strict = ("mypy", "--strict", "--python-executable", tmp_path / "venv/bin/python")
     for words in ([USERS / "user.py"], ["-p", "chinese_number"]):

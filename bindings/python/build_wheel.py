@@ -2,7 +2,8 @@
 library alone.
 
 It is the build backend, so pip calls `build_wheel`, and for `pip install -e` `build_editable`. The
-compiler is the one that CC names, else Python's own, else the first that is there.
+compiler is the one that CC names, else Python's own, else the first that is there. For CPython from
+3.10 on, where its header is, the wheel has the extension module, and else a library for ctypes.
 bindings/packages.py packs by this file too, which alone has the metadata.
 """
 import base64
@@ -51,6 +52,7 @@ ENTRY_POINTS = b"""\
 [console_scripts]
 chinese-number = chinese_number.__main__:main
 """
+NATIVE, BY_NATIVE, BY_CTYPES = "_native.abi3.so", "cp310-abi3", "py3-none"
 COMPILERS = ("cc", "gcc", "clang", "cl")
 
 
@@ -111,14 +113,14 @@ def write_wheel(path, info, files):
             packed.writestr(entry, data)
 
 
-def pack(folder, platforms, files, about):
+def pack(folder, pythons, platforms, files, about):
     """Writes a wheel of files and of those about it, and gives its file name."""
     info = f"{package()}.dist-info"
-    tags = "".join(f"Tag: py3-none-{platform}\n" for platform in platforms)
+    tags = "".join(f"Tag: {pythons}-{platform}\n" for platform in platforms)
     files = {**files, **{f"{info}/{it}": data for it, data in about.items()}}
     files[f"{info}/WHEEL"] = (WHEEL + tags).encode()
     files[f"{info}/entry_points.txt"] = ENTRY_POINTS
-    wheel = f"{package()}-py3-none-{'.'.join(platforms)}.whl"
+    wheel = f"{package()}-{pythons}-{'.'.join(platforms)}.whl"
     write_wheel(Path(folder) / wheel, info, files)
     return wheel
 
@@ -142,46 +144,62 @@ def compiler():
     return stop(f"install a C compiler (on Debian: apt install gcc), or name one by CC{missing}")
 
 
+def takes_native():
+    """Whether this Python takes the extension module, and has the header to compile it."""
+    is_fit = sys.implementation.name == "cpython" and sys.version_info >= (3, 10)
+    is_fit = is_fit and os.name == "posix" and not sysconfig.get_config_var("Py_GIL_DISABLED")
+    return is_fit and Path(sysconfig.get_path("include"), "Python.h").is_file()
+
+
 def call(source, library):
-    """The call that makes a shared library of the C source."""
-    words = compiler()
+    """The call that makes a shared library of the C source, or the extension module."""
+    words, native = compiler(), library.name == NATIVE
     if Path(words[0]).stem.lower() == "cl":
         header = source.with_suffix(".h").read_text(encoding="utf-8")
         calls = re.findall(r"^uint32_t (chinese_\w+)\(", header, re.M)
         exports = [f"/EXPORT:{name}" for name in calls]
         return [*words, "/nologo", "/O2", "/LD", str(source), f"/Fe:{library}", "/link", *exports]
     flags = ["-shared"] if library.suffix == ".dll" else ["-shared", "-fPIC"]
-    if library.suffix == ".dylib":  # a Python for two processors wants a library for both
+    if (
+        sysconfig.get_platform()[:3] == "mac"
+    ):  # a Python for two processors wants a library for both
         of_python = sysconfig.get_config_var("CFLAGS") or ""
         flags = ["-dynamiclib", *re.findall(r"-arch|(?<=-arch )\w+", of_python)]
+        flags += ["-undefined", "dynamic_lookup"] * native
+    if native:
+        headers = source.parent, sysconfig.get_path("include")
+        flags += [*(f"-I{it}" for it in headers), str(HERE / "native.c")]
     return [*words, "-O2", "-fvisibility=hidden", *flags, str(source), "-o", str(library)]
 
 
 def shared_library():
-    """The library, by the path that it has in a wheel."""
+    """The library, by the path that it has in a wheel, and the Pythons that take it."""
     suffix = {"win": ".dll", "mac": ".dylib"}.get(sysconfig.get_platform()[:3], ".so")
+    native = takes_native()
     with tempfile.TemporaryDirectory() as folder:
-        library = Path(folder) / f"libchinese_number{suffix}"
+        library = Path(folder) / (NATIVE if native else f"libchinese_number{suffix}")
         words = call(HERE / "source/chinese_number.c", library)
         if subprocess.run(words, cwd=folder).returncode:
             stop(f"the C compiler failed, or is incomplete: {' '.join(words)}")
-        return {f"chinese_number/{library.name}": library.read_bytes()}
+        path = f"chinese_number/{library.name}"
+        return {path: library.read_bytes()}, BY_NATIVE if native else BY_CTYPES
 
 
 def build_wheel(wheel_directory, config_settings=None, metadata_directory=None):
-    files = {**module(), **shared_library()}
-    return pack(wheel_directory, [this_platform()], files, about())
+    library, pythons = shared_library()
+    return pack(wheel_directory, pythons, [this_platform()], {**module(), **library}, about())
 
 
 def build_editable(wheel_directory, config_settings=None, metadata_directory=None):
     """The library goes beside the module, which stays here, and the wheel says where that is."""
-    for path, data in shared_library().items():
+    library, pythons = shared_library()
+    for path, data in library.items():
         try:
             (HERE / path).write_bytes(data)
         except OSError as error:
             stop(f"{error}. An editable install writes there; install without it")
     files = {f"{NAME}.pth": os.fsencode(f"{HERE}\n")}
-    return pack(wheel_directory, [this_platform()], files, about())
+    return pack(wheel_directory, pythons, [this_platform()], files, about())
 
 
 def build_sdist(sdist_directory, config_settings=None):

@@ -44,7 +44,7 @@ import operator
 from datetime import date, datetime
 from decimal import Decimal
 from enum import Enum
-from itertools import starmap
+from sys import intern
 from typing import Any, Callable, Dict, Iterable, Iterator, NamedTuple, Optional, SupportsIndex
 from typing import Tuple, Union
 
@@ -257,6 +257,12 @@ def _codes(of: Iterable[str]) -> Dict[str, int]:
     return {it: code for code, it in enumerate(of)}
 
 
+def _words(of: Iterable[Any]) -> Tuple[str, ...]:
+    members = tuple(of)
+    return members + tuple(intern(it.value) for it in members)
+
+
+_library.know_words(_words(Kind), _words(Way), _words(Script), _words(Case))
 _KINDS, _WAYS, _UNITS = _codes(Kind), _codes(Way), _codes(Unit)
 _SCRIPTS, _CASES = _codes(Script), _codes(Case)
 _PRINT_WAYS = {way: code for way, code in _WAYS.items() if way is not Way.ANY}
@@ -267,6 +273,7 @@ _CLOSINGS = {"整": 0, "正": 4}
 _FIRST_NOT_WRITTEN = 10**18
 _TOO_MANY_PLACES = 16  # in front of the point: 10**16 yuan are 10**18 fen
 _FIRST_SIGNED = _KINDS["i8"]
+_TOO_LONG = 2**32 - 1
 _MOST_SHOWN = 100
 
 
@@ -313,10 +320,17 @@ def _text(value: str) -> str:
     return value
 
 
+def _status(code: int) -> Status:
+    if code == _TOO_LONG:
+        raise OverflowError("the text is too long: it has more than 4,293,918,720 bytes")
+    return Status(code)
+
+
 def _place(status: Status, char_index: int) -> Optional[int]:
     return char_index if status is Status.INCORRECT else None
 
 
+@_library.quick
 def to_number(
     text: str, *, kind: Union[Kind, str] = Kind.I128, way: Union[Way, str] = Way.ANY
 ) -> int:
@@ -333,13 +347,16 @@ def to_number(
     Half of a surrogate pair is one character, and at fault.
     """
     kind_code, way_code = _code(_KINDS, kind, "kind"), _code(_WAYS, way, "way")
-    code, number, char_index = _library.read_number(_text(text), kind_code, way_code)
+    code, low, high, char_index = _library.read_number(_text(text), kind_code, way_code)
     if code:
-        status = Status(code)
+        status = _status(code)
         raise NumeralError(status, Kind(kind), _place(status, char_index))
-    return number
+    if kind_code >= _FIRST_SIGNED and high >> 63:
+        high -= 1 << 64
+    return high << 64 | low
 
 
+@_library.quick
 def to_chinese(
     number: SupportsIndex,
     *,
@@ -365,7 +382,8 @@ def to_chinese(
     least = -(1 << 127) if kind_code >= _FIRST_SIGNED else 0
     if not least <= whole < least + (1 << 128):
         raise NumeralError(Status.NOT_HELD, Kind(kind))
-    status, text = _library.print_number(whole, kind_code, way_code, script_code, case_code)
+    codes = kind_code, way_code, script_code, case_code
+    status, text = _library.print_number(whole, whole >> 64, *codes)
     if status:
         raise NumeralError(Status(status), Kind(kind))
     return text
@@ -443,7 +461,7 @@ def _fen(answer: Tuple[int, int, int]) -> int:
     """The fen that a call of the library has read."""
     code, fen, char_index = answer
     if code:
-        status = Status(code)
+        status = _status(code)
         raise AmountError(status, _place(status, char_index))
     return fen
 
@@ -560,7 +578,7 @@ def chinese_to_date(text: str) -> date:
     """
     code, fields, char_index = _library.read_date(_text(text))
     if code:
-        status = Status(code)
+        status = _status(code)
         raise DateError(status, _place(status, char_index))
     return date(*fields)
 
@@ -616,5 +634,18 @@ def find_numbers(
     It does not understand sentences: 一起 has a 1 in it, 两三个 is 23, and 3.5万 is two numbers.
     Half of a surrogate pair is one character, and parts a text.
     """
-    wanted = _flag(upper), _code(_UNITS, greatest, "greatest")
-    return starmap(Found, _library.find_numbers(_text(text), *wanted))
+    return _found(_text(text), _flag(upper), _code(_UNITS, greatest, "greatest"))
+
+
+def _found(text: str, upper: bool, greatest: int) -> Iterator[Found]:
+    """The numbers of a text, of which some are found at a time."""
+    data = str.encode(text, "utf-8", "replace")
+    searched = index = 0
+    while searched < len(data):
+        place = searched, index
+        code, found, searched, index = _library.find_numbers(
+            text, data, *place, upper, greatest, Found
+        )
+        if code:
+            _status(code)
+        yield from found

@@ -1,7 +1,8 @@
-"""The calls of the shared library libchinese_number, by ctypes, and nothing of what they mean.
+"""The calls of the library, and nothing of what they mean: by ctypes, or by `_native`, a module of C.
 
 Texts are str, choices are the codes of chinese_number.h, and places count characters. Each call
-gives the status first. Whatever calls the library in another way has these functions, and no other.
+gives the status first. `load` puts the functions of `_native` in the place of those that have the
+same names here, where it is there and this Python takes it.
 
 Half of a surrogate pair has no bytes in UTF-8. It goes as a question mark, which is no numeral
 either.
@@ -10,18 +11,19 @@ either.
 from __future__ import annotations
 
 import ctypes
+import importlib
 import os
 import sys
 from ctypes import POINTER as _at, byref
 from pathlib import Path
-from typing import Any, Dict, Iterator, Tuple, Union
+from typing import Any, Callable, Dict, List, Tuple, TypeVar, Union
 
 _MOST_BYTES = 234
 _MOST_AMOUNT_BYTES = 117
 _MOST_SIGNED_AMOUNT_BYTES = 120
 _MOST_DATE_BYTES = 39
-_TOO_LONG = 2**32 - 1
-_FIRST_SIGNED = 5
+_AT_ONCE = 64
+_MODULE = "_native.abi3.so"
 _CODE, _WORD, _SIZE = ctypes.c_uint32, ctypes.c_uint64, ctypes.c_size_t
 _SIGNED_WORD = ctypes.c_int64
 _PLACE = [("char_index", _SIZE), ("byte_index", _SIZE)]
@@ -52,7 +54,7 @@ _ROOM = ctypes.c_char_p, _SIZE, _at(_SIZE)
 _ARGUMENTS: Dict[str, Tuple[Any, ...]] = {
     "chinese_number_read": (*_TEXT, _CODE, _CODE, _at(_Reading)),
     "chinese_number_print": (_WORD, _WORD, _CODE, _CODE, _CODE, _CODE, *_ROOM),
-    "chinese_number_find_utf8": (ctypes.c_void_p, _SIZE, _CODE, _CODE, _at(_Span)),
+    "chinese_number_find_utf8": (*_TEXT, _SIZE, _CODE, _CODE, _at(_Span), _SIZE, _at(_SIZE)),
     "chinese_amount_read": (*_TEXT, _at(_Amount)),
     "chinese_amount_print": (_WORD, _CODE, _CODE, *_ROOM),
     "chinese_signed_amount_read": (*_TEXT, _at(_SignedAmount)),
@@ -63,13 +65,43 @@ _ARGUMENTS: Dict[str, Tuple[Any, ...]] = {
     "chinese_date_print": (_CODE, _CODE, _CODE, _CODE, *_ROOM),
 }
 _SUFFIXES = {"darwin": "dylib", "win32": "dll"}
+_HERE = Path(__file__).resolve().parent
+# What `_native` has of this module.
+_CALLS = (
+    "know_words read_number read_amount read_signed_amount read_typed_amount read_figures "
+    "read_date print_number print_amount print_signed_amount print_date find_numbers"
+).split()
+_Found = TypeVar("_Found")
+_Function = TypeVar("_Function", bound=Any)
 library: Any = None
+_native: Any = None
 
 
-def _opened(name: str) -> ctypes.CDLL:
-    folder = Path(os.environ.get("CHINESE_NUMBER_LIB") or Path(__file__).parent).resolve()
+def _module() -> Any:
+    """The module of C, where it is there and this Python takes it, else None.
+
+    Free-threaded Python has no stable interface, and an interpreter with a lock of its own takes no
+    module that does not ask for it.
+    """
+    free_threaded = "t" in getattr(sys, "abiflags", "")
+    if sys.implementation.name != "cpython" or sys.version_info < (3, 10) or free_threaded:
+        return None
     try:
-        return ctypes.CDLL(str(folder / name))
+        return importlib.import_module("._native", __package__)
+    except ImportError:
+        return None
+
+
+def _opened() -> ctypes.CDLL:
+    """The shared object: of the folder that is named, else beside this file, where `_native` has the
+    library's calls too."""
+    folder = os.environ.get("CHINESE_NUMBER_LIB")
+    name = f"libchinese_number.{_SUFFIXES.get(sys.platform, 'so')}"
+    path = Path(folder).resolve() / name if folder else _HERE / name
+    if not folder and not path.exists() and (_HERE / _MODULE).exists():
+        path = _HERE / _MODULE
+    try:
+        return ctypes.CDLL(str(path))
     except OSError as error:
         raise ImportError(
             f"{error}\nRun `pip install ./bindings/python` at the top of a clone, or set "
@@ -78,39 +110,58 @@ def _opened(name: str) -> ctypes.CDLL:
         ) from None
 
 
-def _check_version(opened: ctypes.CDLL, version: str) -> None:
-    """The last number of a version changes no call. What tells none is older than this call."""
-    tell: Any = getattr(opened, "chinese_number_version", lambda: 0)
-    found, wanted = tell() // 1000, version.rpartition(".")[0]
+def _check_version(found: int, name: str, wanted: str) -> None:
+    """The last number of a version changes no call."""
+    found, wanted = found // 1000, wanted.rpartition(".")[0]
     if f"{found // 1000}.{found % 1000}" != wanted:
         raise ImportError(
-            f"{opened._name} is not of version {wanted}. Install chinese_number anew, or set "
+            f"{name} is not of version {wanted}. Install chinese_number anew, or set "
             "CHINESE_NUMBER_LIB to another folder."
         )
 
 
 def load(version: str) -> None:
     """Loads the library, or says by an ImportError why it is not there in this version."""
-    global library
-    opened = _opened(f"libchinese_number.{_SUFFIXES.get(sys.platform, 'so')}")
-    _check_version(opened, version)
+    global library, _native
+    _native = None if os.environ.get("CHINESE_NUMBER_LIB") else _module()
+    if _native:
+        _check_version(_native.version(), _native.__file__, version)
+        globals().update({name: getattr(_native, name) for name in _CALLS})
+        return
+    opened = _opened()
+    # What tells none is older than this call.
+    tell: Any = getattr(opened, "chinese_number_version", lambda: 0)
+    _check_version(tell(), opened._name, version)
     for name, arguments in _ARGUMENTS.items():
         call = getattr(opened, name)
         call.restype, call.argtypes = _CODE, arguments
     library = opened
 
 
-def _refused(status: int) -> int:
-    if status == _TOO_LONG:
-        raise OverflowError("the text is too long: it has more than 4,293,918,720 bytes")
-    return status
+def know_words(*choices: Tuple[str, ...]) -> None:
+    """What quick functions know by itself: of each keyword, in the order that to_chinese has them,
+    the members of its enum by their code, and then the str that each equals."""
+
+
+def quick(function: _Function) -> _Function:
+    """The quick function of `_native` in front of the one of that name, where there is one. It
+    answers the usual case, and hands on all else, so it differs in nothing but time, and in that
+    Python sees no annotations of it."""
+    make = getattr(_native, f"quick_{function.__name__}", None)
+    if not make:
+        return function
+    words = ", ".join(f"{name}={value!s}" for name, value in function.__kwdefaults__.items())
+    signature = f"{function.__name__}({function.__code__.co_varnames[0]}, *, {words})"
+    text = f"{signature}\n--\n\n{function.__doc__}"
+    quickly: _Function = make(function, function.__kwdefaults__, text, function.__module__)
+    return quickly
 
 
 def _read(call: Any, text: str, answer: Any, *codes: int) -> int:
     """The status with which a call reads a text into its answer."""
     data = str.encode(text, "utf-8", "replace")
     status: int = call(data, len(data), *codes, byref(answer))
-    return status and _refused(status)
+    return status
 
 
 def _printed(call: Any, most: int, *codes: int) -> Tuple[int, str]:
@@ -120,14 +171,12 @@ def _printed(call: Any, most: int, *codes: int) -> Tuple[int, str]:
     return status, room.raw[: length.value].decode()
 
 
-def read_number(text: str, kind: int, way: int) -> Tuple[int, int, int]:
-    """The number, and how many characters stand before one at fault."""
+def read_number(text: str, kind: int, way: int) -> Tuple[int, int, int, int]:
+    """The low and the high 64 bits of the number, and how many characters stand before one at
+    fault."""
     it = _Reading()
     status = _read(library.chinese_number_read, text, it, kind, way)
-    high = it.high
-    if high >> 63 and kind >= _FIRST_SIGNED:
-        high -= 1 << 64
-    return status, high << 64 | it.low, it.char_index
+    return status, it.low, it.high, it.char_index
 
 
 def _read_fen(call: Any, text: str, it: Union[_Amount, _SignedAmount]) -> Tuple[int, int, int]:
@@ -162,9 +211,11 @@ def read_date(text: str) -> Tuple[int, Tuple[int, int, int], int]:
     return status, (it.year, it.month, it.day), it.char_index
 
 
-def print_number(number: int, kind: int, way: int, script: int, case: int) -> Tuple[int, str]:
-    """The text of a number of at most 128 bits. Of what goes as a word the low 64 bits are taken."""
-    codes = number, number >> 64, kind, way, script, case
+def print_number(
+    low: int, high: int, kind: int, way: int, script: int, case: int
+) -> Tuple[int, str]:
+    """The text of a number, of two words. Of what goes as a word the low 64 bits are taken."""
+    codes = low, high, kind, way, script, case
     return _printed(library.chinese_number_print, _MOST_BYTES, *codes)
 
 
@@ -184,20 +235,23 @@ def print_date(year: int, month: int, day: int, script: int) -> Tuple[int, str]:
     return _printed(library.chinese_date_print, _MOST_DATE_BYTES, year, month, day, script)
 
 
-def find_numbers(text: str, upper: bool, greatest: int) -> Iterator[Tuple[int, int, str, bool]]:
-    """Where each number begins and ends, its text, and whether it is plain digits."""
-    # The bytes stay where they are, so each call begins behind the run before it, and none is
-    # tested or copied twice.
-    data, span = str.encode(text, "utf-8", "replace"), _Span()
-    find = library.chinese_number_find_utf8
-    first = ctypes.cast(ctypes.c_char_p(data), ctypes.c_void_p).value or 0
-    searched = index = 0
-    while not (
-        status := find(first + searched, len(data) - searched, upper, greatest, byref(span))
-    ):
-        begin, end = searched + span.start, searched + span.end
-        number = data[begin:end].decode()
-        start = index + len(data[searched:begin].decode())
-        searched, index = end, start + len(number)
-        yield start, index, number, bool(span.digits)
-    _refused(status)
+def find_numbers(
+    text: str,
+    data: bytes,
+    searched: int,
+    index: int,
+    upper: bool,
+    greatest: int,
+    of: Callable[..., _Found],
+) -> Tuple[int, List[_Found], int, int]:
+    """The next numbers of a text behind its first bytes, which have so many characters: of a class
+    of tuples, where each begins and ends, its text, and whether it is plain digits. Behind them, up
+    to where they were looked for, in bytes and in characters. The data are the text in UTF-8."""
+    spans, count, made = (_Span * _AT_ONCE)(), _SIZE(), []
+    codes = upper, greatest, spans, _AT_ONCE, byref(count)
+    status: int = library.chinese_number_find_utf8(data, len(data), searched, *codes)
+    for span in spans[: count.value]:
+        start = index + len(data[searched : span.start].decode())
+        searched, index = span.end, start + len(data[span.start : span.end].decode())
+        made.append(of(start, index, text[start:index], bool(span.digits)))
+    return status, made, searched if len(made) == _AT_ONCE else len(data), index

@@ -101,7 +101,8 @@ def _rows(lines: Iterator[str], delimiter: str) -> Iterator[_Row]:
 
     line = 1
     while True:
-        cells, fault = [], ""
+        cells: List[str] = []
+        fault = ""
         try:
             cells = next(csv.reader(of_row(), delimiter=delimiter, strict=True), [])
         except csv.Error:

@@ -1,0 +1,491 @@
+/* The calls of the library for CPython from 3.10 on, by its stable interface: the functions of
+ * `_library.py`, which goes by ctypes, under the same names, and quick ones in front of two public
+ * functions. Texts are str, choices are the codes of chinese_number.h, and places count characters.
+ * Half of a surrogate pair goes as a question mark, which is no numeral either. */
+#define PY_SSIZE_T_CLEAN
+#define Py_LIMITED_API 0x030A0000
+#include <Python.h>
+#include <string.h>
+#include "chinese_number.h"
+
+enum {
+    SHORT = 256,    /* characters; a text of no more is read from the stack, and takes no memory */
+    LONG = 1 << 16, /* bytes; see let_go */
+    AT_ONCE = 64,   /* numbers of a text that are found before the first of them is handed out */
+    CHOICES = 4,
+    MOST_WORDS = 20 /* of one choice: the members of its enum, and the str that each equals */
+};
+
+/* The keywords of the quick functions, of which to_number takes the first two. */
+static const char *const KEYWORDS[CHOICES] = {"kind", "way", "script", "case"};
+
+/* A keyword and its words: the members of its enum by their code, and then their str. */
+typedef struct choice {
+    PyObject *keyword, *words[MOST_WORDS];
+    int count, last; /* `last` is the place of the word that was last asked for */
+} choice;
+
+/* A quick function, and the Python function behind it, which takes what is unusual, with the codes
+ * of its defaults, or -1. */
+typedef struct quick {
+    PyMethodDef method;
+    PyObject *function, *names; /* `names`, and `places` of them: see know_names */
+    int defaults[CHOICES], places[CHOICES];
+} quick;
+
+/* `held` is a dict, which owns all objects that are named here. */
+typedef struct state {
+    PyObject *held;
+    choice choices[CHOICES];
+    quick to_number, to_chinese;
+} state;
+
+/* The code of a word, or -1 of one that is not known as this very object. */
+static int code_of(choice *of, PyObject *word) {
+    int members = of->count / 2, at = of->last;
+    if (of->words[at] != word) {
+        for (at = 0; at < of->count && of->words[at] != word; at++)
+            ;
+        if (at == of->count)
+            return -1;
+        of->last = at;
+    }
+    return at < members ? at : at - members;
+}
+
+/* Takes a tuple of words for each choice. */
+static PyObject *know_words(PyObject *module, PyObject *given) {
+    state *own = PyModule_GetState(module);
+    for (int i = 0; i < CHOICES; i++) {
+        PyObject *words = PyTuple_GetItem(given, i);
+        Py_ssize_t count = words ? PyTuple_Size(words) : -1;
+        choice *of = &own->choices[i];
+        if (count < 0 || count > MOST_WORDS)
+            return count < 0 ? NULL : PyErr_Format(PyExc_ValueError, "there are %zd words", count);
+        PyObject *keyword = PyUnicode_InternFromString(KEYWORDS[i]);
+        int failed = !keyword || PyDict_SetItem(own->held, keyword, words);
+        Py_XDECREF(keyword);
+        if (failed)
+            return NULL;
+        of->keyword = keyword;
+        for (Py_ssize_t word = 0; word < count; word++)
+            of->words[word] = PyTuple_GetItem(words, word);
+        of->count = (int)count;
+        of->last = 0;
+    }
+    Py_RETURN_NONE;
+}
+
+/* Learns which choice each keyword of a call is; 0 where one is none. A call has the same tuple of
+ * names each time that it is made, so the last one is kept. */
+static int know_names(state *own, quick *of, PyObject *names, Py_ssize_t count) {
+    of->names = NULL;
+    for (Py_ssize_t i = 0; i < count; i++) {
+        int at = 0;
+        while (at < CHOICES && own->choices[at].keyword != PyTuple_GetItem(names, i))
+            at++;
+        if (i == CHOICES || at == CHOICES || of->defaults[at] < 0)
+            return 0;
+        of->places[i] = at;
+    }
+    if (PyDict_SetItemString(own->held, of == &own->to_number ? "to read" : "to print", names)) {
+        PyErr_Clear();
+        return 0;
+    }
+    of->names = names;
+    return 1;
+}
+
+/* The codes of what a call names, and else of its defaults; 0 where one is not known. */
+static int codes_of(state *own, quick *of, PyObject *const *values, PyObject *names, int *codes) {
+    memcpy(codes, of->defaults, sizeof of->defaults);
+    Py_ssize_t count = names ? PyTuple_Size(names) : 0;
+    if (count > 0 && names != of->names && !know_names(own, of, names, count))
+        return 0;
+    for (Py_ssize_t i = 0; i < count; i++) {
+        int at = of->places[i], code = code_of(&own->choices[at], values[i]);
+        if (code < 0)
+            return 0;
+        codes[at] = code;
+    }
+    return 1;
+}
+
+/* What the Python function behind a quick one makes of a call. */
+static PyObject *unusual(const quick *of, PyObject *const *values, Py_ssize_t count,
+                         PyObject *names) {
+    PyObject *words = names ? PyDict_New() : NULL, *places = PyTuple_New(count), *answer = NULL;
+    PyObject *function = of->function;
+    int failed = !places || (names && !words) || !function;
+    Py_XINCREF(function);
+    for (Py_ssize_t i = 0; !failed && i < count; i++) {
+        Py_INCREF(values[i]);
+        failed = PyTuple_SetItem(places, i, values[i]);
+    }
+    for (Py_ssize_t i = 0; !failed && names && i < PyTuple_Size(names); i++)
+        failed = PyDict_SetItem(words, PyTuple_GetItem(names, i), values[count + i]);
+    if (!failed)
+        answer = PyObject_Call(function, places, words);
+    else if (!PyErr_Occurred())
+        PyErr_SetString(PyExc_RuntimeError, "the interpreter is at its end");
+    Py_XDECREF(function);
+    Py_XDECREF(places);
+    Py_XDECREF(words);
+    return answer;
+}
+
+/* The end of a character in UTF-8, written at its start. */
+static uint8_t *put(uint8_t *to, Py_UCS4 character) {
+    static const uint8_t first[] = {0, 0xC0, 0xE0, 0xF0};
+    int more = character < 0x80 ? 0 : character < 0x800 ? 1 : character < 0x10000 ? 2 : 3;
+    *to++ = (uint8_t)(first[more] | character >> 6 * more);
+    while (more-- > 0)
+        *to++ = (uint8_t)(0x80 | (character >> 6 * more & 63));
+    return to;
+}
+
+/* The bytes of a text of at most SHORT characters. Unlike PyUnicode_AsUTF8AndSize it leaves no copy
+ * in the str. */
+static size_t put_short(PyObject *text, Py_ssize_t length, uint8_t *room) {
+    Py_UCS4 characters[SHORT];
+    uint8_t *end = room;
+    PyUnicode_AsUCS4(text, characters, SHORT, 0);
+    for (Py_ssize_t i = 0; i < length; i++)
+        end = put(end, (characters[i] & ~0x7FFu) == 0xD800 ? '?' : characters[i]);
+    return (size_t)(end - room);
+}
+
+/* A str in UTF-8: in the room, or in the bytes that are held. */
+typedef struct text {
+    const uint8_t *bytes;
+    size_t length;
+    PyObject *held;
+    uint8_t room[4 * SHORT];
+} text;
+
+static int take(PyObject *given, text *it) {
+    Py_ssize_t length = PyUnicode_GetLength(given);
+    char *bytes;
+    it->held = NULL;
+    if (length < 0)
+        return 0;
+    if (length <= SHORT) {
+        it->length = put_short(given, length, it->room);
+        it->bytes = it->room;
+        return 1;
+    }
+    it->held = PyUnicode_AsEncodedString(given, "utf-8", "replace");
+    if (!it->held || PyBytes_AsStringAndSize(it->held, &bytes, &length))
+        return 0;
+    it->length = (size_t)length;
+    it->bytes = (const uint8_t *)bytes;
+    return 1;
+}
+
+/* Lets other threads of Python run while a long text is read. A shorter one takes less than a tenth
+ * of the 5 ms that Python lets a thread run anyway, and to let go for it could cost as many to
+ * wait. */
+static PyThreadState *let_go(size_t length) {
+    return length > LONG ? PyEval_SaveThread() : NULL;
+}
+
+static void take_back(PyThreadState *thread) {
+    if (thread)
+        PyEval_RestoreThread(thread);
+}
+
+/* A function that reads a text by a call, and gives the status, what the format and the words
+ * behind it make of `it`, and how many characters stand before one at fault. */
+#define READER(name, call, answer, format, ...)                                               \
+    static PyObject *name(PyObject *module, PyObject *given) {                                \
+        text from;                                                                            \
+        answer it;                                                                            \
+        if (!take(given, &from))                                                                  \
+            return NULL;                                                                      \
+        PyThreadState *thread = let_go(from.length);                                          \
+        uint32_t status = call(from.bytes, from.length, &it);                                 \
+        take_back(thread);                                                                    \
+        Py_XDECREF(from.held);                                                                \
+        return Py_BuildValue("I" format "n", status, __VA_ARGS__, (Py_ssize_t)it.char_index); \
+    }
+
+READER(read_amount, chinese_amount_read, cn_amount, "K", (unsigned long long)it.fen)
+READER(read_typed_amount, chinese_typed_amount_read, cn_amount, "K", (unsigned long long)it.fen)
+READER(read_signed_amount, chinese_signed_amount_read, cn_signed_amount, "L", (long long)it.fen)
+READER(read_figures, chinese_figures_read, cn_signed_amount, "L", (long long)it.fen)
+READER(read_date, chinese_date_read, cn_date, "(III)", it.year, it.month, it.day)
+
+static PyObject *read_number(PyObject *module, PyObject *given) {
+    text from;
+    PyObject *string;
+    unsigned kind, way;
+    cn_reading it;
+    if (!PyArg_ParseTuple(given, "OII", &string, &kind, &way) || !take(string, &from))
+        return NULL;
+    PyThreadState *thread = let_go(from.length);
+    uint32_t status = chinese_number_read_utf8(from.bytes, from.length, kind, way, &it);
+    take_back(thread);
+    Py_XDECREF(from.held);
+    return Py_BuildValue("IKKn", status, (unsigned long long)it.number.low,
+                         (unsigned long long)it.number.high, (Py_ssize_t)it.char_index);
+}
+
+/* Whether 64 bits hold a number of a kind with its sign. */
+static int is_short(cn_number number, uint32_t kind) {
+    cn_number same = cn_signed((int64_t)number.low);
+    return number.high == same.high && (number.high == 0 || kind >= CN_I8);
+}
+
+/* to_number of a short text, by known words, where 64 bits hold the number. */
+static PyObject *to_number(PyObject *module, PyObject *const *values, Py_ssize_t count,
+                           PyObject *names) {
+    state *own = PyModule_GetState(module);
+    quick *of = &own->to_number;
+    uint8_t room[4 * SHORT];
+    int codes[CHOICES];
+    cn_reading it;
+    Py_ssize_t length = -1;
+    if (count == 1 && PyUnicode_Check(values[0]))
+        length = PyUnicode_GetLength(values[0]);
+    if (length >= 0 && length <= SHORT && codes_of(own, of, values + 1, names, codes)) {
+        size_t bytes = put_short(values[0], length, room);
+        uint32_t kind = (uint32_t)codes[0], way = (uint32_t)codes[1];
+        uint32_t status = chinese_number_read_utf8(room, bytes, kind, way, &it);
+        if (status == CN_DONE && is_short(it.number, kind))
+            return PyLong_FromLongLong((long long)it.number.low);
+    }
+    return unusual(of, values, count, names);
+}
+
+/* The str of a text that is printed: each of its characters takes three bytes. Python's own decoder
+ * takes twice as long. */
+static PyObject *string_of(const uint8_t *text, size_t length) {
+    wchar_t characters[CN_MOST_BYTES / 3];
+    Py_ssize_t count = 0;
+    for (const uint8_t *at = text; at < text + length; at += 3)
+        characters[count++] = (wchar_t)((at[0] & 15) << 12 | (at[1] & 63) << 6 | (at[2] & 63));
+    return PyUnicode_FromWideChar(characters, count);
+}
+
+static PyObject *print_number(PyObject *module, PyObject *given) {
+    unsigned long long low, high;
+    unsigned kind, way, script, letter_case;
+    uint8_t room[CN_MOST_BYTES];
+    size_t length;
+    if (!PyArg_ParseTuple(given, "KKIIII", &low, &high, &kind, &way, &script, &letter_case))
+        return NULL;
+    uint32_t status =
+        chinese_number_print(low, high, kind, way, script, letter_case, room, sizeof room, &length);
+    return Py_BuildValue("IN", status, string_of(room, length));
+}
+
+#define AMOUNT_PRINTER(name, call, amount, format, most)                \
+    static PyObject *name(PyObject *module, PyObject *given) {          \
+        amount fen;                                                     \
+        unsigned script, form;                                          \
+        uint8_t room[most];                                             \
+        size_t length;                                                  \
+        if (!PyArg_ParseTuple(given, format, &fen, &script, &form))         \
+            return NULL;                                                \
+        uint32_t status = call(fen, script, form, room, most, &length); \
+        return Py_BuildValue("IN", status, string_of(room, length));    \
+    }
+
+AMOUNT_PRINTER(print_amount, chinese_amount_print, unsigned long long, "KII", CN_MOST_AMOUNT_BYTES)
+AMOUNT_PRINTER(print_signed_amount, chinese_signed_amount_print, long long, "LII",
+               CN_MOST_SIGNED_AMOUNT_BYTES)
+
+static PyObject *print_date(PyObject *module, PyObject *given) {
+    unsigned year, month, day, script;
+    uint8_t room[CN_MOST_DATE_BYTES];
+    size_t length;
+    if (!PyArg_ParseTuple(given, "IIII", &year, &month, &day, &script))
+        return NULL;
+    uint32_t status = chinese_date_print(year, month, day, script, room, sizeof room, &length);
+    return Py_BuildValue("IN", status, string_of(room, length));
+}
+
+/* to_chinese of an int that 64 bits hold with its sign, by known words. */
+static PyObject *to_chinese(PyObject *module, PyObject *const *values, Py_ssize_t count,
+                            PyObject *names) {
+    state *own = PyModule_GetState(module);
+    quick *of = &own->to_chinese;
+    uint8_t room[CN_MOST_BYTES];
+    int codes[CHOICES], overflow;
+    size_t length;
+    if (count == 1 && PyLong_CheckExact(values[0]) && codes_of(own, of, values + 1, names, codes)) {
+        uint32_t kind = (uint32_t)codes[0], way = (uint32_t)codes[1];
+        uint32_t script = (uint32_t)codes[2], letter_case = (uint32_t)codes[3];
+        long long value = PyLong_AsLongLongAndOverflow(values[0], &overflow);
+        cn_number it = cn_signed(value);
+        if (!overflow && (value >= 0 || kind >= CN_I8) &&
+            chinese_number_print(it.low, it.high, kind, way, script, letter_case, room, sizeof room,
+                                 &length) == CN_DONE)
+            return string_of(room, length);
+    }
+    return unusual(of, values, count, names);
+}
+
+/* A quick function in front of a Python function, of which the defaults, a text that begins with
+ * its signature, as inspect reads it, and its module are given. */
+static PyObject *in_front(PyObject *module, PyObject *given, quick *of, void (*call)(void),
+                          const char *name) {
+    state *own = PyModule_GetState(module);
+    PyObject *function, *defaults, *text, *where;
+    if (!PyArg_ParseTuple(given, "OO!UO", &function, &PyDict_Type, &defaults, &text, &where) ||
+        PyDict_SetItemString(own->held, name, given))
+        return NULL;
+    for (int i = 0; i < CHOICES; i++) {
+        PyObject *value = PyDict_GetItemString(defaults, KEYWORDS[i]);
+        of->defaults[i] = value ? code_of(&own->choices[i], value) : -1;
+    }
+    of->method = (PyMethodDef){name, (PyCFunction)call, METH_FASTCALL | METH_KEYWORDS,
+                               PyUnicode_AsUTF8AndSize(text, NULL)};
+    of->function = function;
+    of->names = NULL;
+    return PyCFunction_NewEx(&of->method, module, where);
+}
+
+static PyObject *quick_to_number(PyObject *module, PyObject *given) {
+    quick *of = &((state *)PyModule_GetState(module))->to_number;
+    return in_front(module, given, of, (void (*)(void))to_number, "to_number");
+}
+
+static PyObject *quick_to_chinese(PyObject *module, PyObject *given) {
+    quick *of = &((state *)PyModule_GetState(module))->to_chinese;
+    return in_front(module, given, of, (void (*)(void))to_chinese, "to_chinese");
+}
+
+/* How many characters bytes of UTF-8 have: those that do not go on with one, eight at a time. */
+static Py_ssize_t characters(const uint8_t *from, const uint8_t *to) {
+    const uint64_t ones = UINT64_MAX / 255;
+    uint64_t count = 0, eight;
+    for (; to - from >= 8; from += 8) {
+        memcpy(&eight, from, 8);
+        count += ((~eight >> 7 | eight >> 6) & ones) * ones >> 56;
+    }
+    for (; from < to; from++)
+        count += (*from & 0xC0) != 0x80;
+    return (Py_ssize_t)count;
+}
+
+/* A tuple of four objects, which become its own, of a class of tuples; `one` is a tuple for it. */
+static PyObject *tuple_of(PyObject *class, PyObject *one, PyObject *fields[4]) {
+    void *slot = PyType_GetSlot(&PyTuple_Type, Py_tp_new);
+    newfunc make;
+    PyObject *plain = PyTuple_New(4);
+    int failed = !plain;
+    memcpy(&make, &slot, sizeof make);
+    for (Py_ssize_t i = 0; i < 4; i++) {
+        failed |= !fields[i];
+        if (plain)
+            PyTuple_SetItem(plain, i, fields[i]);
+        else
+            Py_XDECREF(fields[i]);
+    }
+    if (PyTuple_SetItem(one, 0, plain) || failed)
+        return NULL;
+    return make((PyTypeObject *)class, one, NULL);
+}
+
+/* The next numbers of a text behind its first bytes, which have so many characters: the status, a
+ * list of the numbers, and up to where they were looked for, in bytes and in characters. The data
+ * are the text in UTF-8. */
+static PyObject *find_numbers(PyObject *module, PyObject *given) {
+    PyObject *string, *data, *class;
+    char *first;
+    Py_ssize_t length, searched, index;
+    unsigned upper, greatest;
+    cn_span spans[AT_ONCE];
+    size_t count;
+    if (!PyArg_ParseTuple(given, "USnnIIO!", &string, &data, &searched, &index, &upper, &greatest,
+                          &PyType_Type, &class) ||
+        PyBytes_AsStringAndSize(data, &first, &length))
+        return NULL;
+    const uint8_t *bytes = (const uint8_t *)first;
+    if (searched < 0 || searched > length ||
+        !PyType_IsSubtype((PyTypeObject *)class, &PyTuple_Type)) {
+        PyErr_SetString(PyExc_ValueError, "a place in the bytes and a class of tuples are wanted");
+        return NULL;
+    }
+    PyThreadState *thread = let_go((size_t)(length - searched));
+    uint32_t status = chinese_number_find_utf8(bytes, (size_t)length, (size_t)searched, upper,
+                                               greatest, spans, AT_ONCE, &count);
+    take_back(thread);
+    PyObject *made = PyList_New((Py_ssize_t)count), *one = PyTuple_New(1);
+    int failed = !made || !one;
+    for (size_t i = 0; !failed && i < count; i++) {
+        const uint8_t *start = bytes + spans[i].start, *end = bytes + spans[i].end;
+        Py_ssize_t first = index + characters(bytes + searched, start);
+        index = first + characters(start, end);
+        searched = end - bytes;
+        PyObject *fields[] = {PyLong_FromSsize_t(first), PyLong_FromSsize_t(index),
+                              PyUnicode_Substring(string, first, index),
+                              PyBool_FromLong(spans[i].digits != 0)};
+        PyObject *found = tuple_of(class, one, fields);
+        failed = !found || PyList_SetItem(made, (Py_ssize_t)i, found);
+    }
+    Py_XDECREF(one);
+    if (failed) {
+        Py_XDECREF(made);
+        return NULL;
+    }
+    return Py_BuildValue("INnn", status, made, count < AT_ONCE ? length : searched, index);
+}
+
+static PyObject *version(PyObject *module, PyObject *none) {
+    return PyLong_FromUnsignedLong(chinese_number_version());
+}
+
+#define CALL(name, words) {#name, name, words, NULL}
+static PyMethodDef METHODS[] = {
+    CALL(version, METH_NOARGS), CALL(know_words, METH_VARARGS), CALL(quick_to_number, METH_VARARGS),
+    CALL(quick_to_chinese, METH_VARARGS), CALL(read_number, METH_VARARGS),
+    CALL(read_amount, METH_O), CALL(read_typed_amount, METH_O), CALL(read_signed_amount, METH_O),
+    CALL(read_figures, METH_O), CALL(read_date, METH_O), CALL(print_number, METH_VARARGS),
+    CALL(print_amount, METH_VARARGS), CALL(print_signed_amount, METH_VARARGS),
+    CALL(print_date, METH_VARARGS), CALL(find_numbers, METH_VARARGS), {NULL, NULL, 0, NULL},
+};
+
+static int traverse(PyObject *module, visitproc visit, void *arg) {
+    Py_VISIT(((state *)PyModule_GetState(module))->held);
+    return 0;
+}
+
+/* A quick function may be there still: it knows no word, and tells nothing of itself. */
+static int clear(PyObject *module) {
+    state *own = PyModule_GetState(module);
+    memset(own->choices, 0, sizeof own->choices);
+    own->to_number.function = own->to_chinese.function = NULL;
+    own->to_number.names = own->to_chinese.names = NULL;
+    own->to_number.method.ml_doc = own->to_chinese.method.ml_doc = NULL;
+    Py_CLEAR(own->held);
+    return 0;
+}
+
+static void discard(void *module) {
+    clear(module);
+}
+
+static int begin(PyObject *module) {
+    state *own = PyModule_GetState(module);
+    own->held = PyDict_New();
+    return own->held ? 0 : -1;
+}
+
+static PyModuleDef_Slot SLOTS[] = {{Py_mod_exec, (void *)begin}, {0, NULL}};
+static struct PyModuleDef MODULE = {
+    PyModuleDef_HEAD_INIT,
+    "chinese_number._native",
+    NULL,
+    sizeof(state),
+    METHODS,
+    SLOTS,
+    traverse,
+    clear,
+    discard,
+};
+
+PyMODINIT_FUNC PyInit__native(void) {
+    return PyModuleDef_Init(&MODULE);
+}

@@ -1,0 +1,203 @@
+"""The extension module of Python beside ctypes: what `test_python.py` cannot ask of both.
+
+It asks for nothing that is newer than its tag says, whatever header it was compiled by, and answers
+in each CPython from 3.10 on. A Python that does not take it goes by ctypes, over the same file. The
+functions in front of others look like them, and hand on what is unusual. Nothing is kept of a call.
+"""
+import pickle
+import pydoc
+import re
+import shutil
+import sys
+from functools import partial
+from inspect import Parameter, Signature, signature
+
+import pytest
+
+from installing import BY_NATIVE
+from questions import wrong_answers
+from running import PYTHON, TOP, run
+from test_python import module_over
+
+# The names of Python that the module asks for by one header or another, by the version of the
+# stable interface that has them first. Those of 3.2 are the rest.
+SINCE = {"PyType_GetSlot": 4, "PyModuleDef_Init": 5, "PyUnicode_AsUCS4": 7}
+SINCE.update(PyUnicode_GetLength=7, PyUnicode_Substring=7, PyCMethod_New=9)
+SINCE.update(PyUnicode_AsUTF8AndSize=10)
+OF_3_2 = """
+PyArg_ParseTuple PyBool_FromLong PyBytes_AsStringAndSize PyDict_GetItemString PyDict_New
+PyDict_SetItem PyDict_SetItemString PyDict_Type PyErr_Clear PyErr_Format PyErr_Occurred
+PyErr_SetString PyEval_RestoreThread PyEval_SaveThread PyExc_RuntimeError PyExc_ValueError
+PyList_New PyList_SetItem PyLong_AsLongLongAndOverflow PyLong_FromLongLong PyLong_FromSsize_t
+PyLong_FromUnsignedLong PyLong_FromUnsignedLongLong PyLong_Type PyModule_GetState PyObject_Call
+PyTuple_GetItem PyTuple_New PyTuple_SetItem PyTuple_Size PyTuple_Type PyType_GetFlags
+PyType_IsSubtype PyType_Type PyUnicode_AsEncodedString PyUnicode_FromWideChar
+PyUnicode_InternFromString Py_BuildValue _PyArg_ParseTuple_SizeT _Py_BuildValue_SizeT _Py_Dealloc
+_Py_FalseStruct _Py_NoneStruct _Py_TrueStruct""".split()
+NEWEST = list(BY_NATIVE.values())[-2:][0]
+
+
+@pytest.fixture(scope="module")
+def numerals(native):
+    with module_over("", native) as module:
+        yield module
+
+
+@pytest.fixture(params=[sys.executable, NEWEST], ids=["this", "newest"])
+def by_header(request, native, tmp_path):
+    """The package with the module compiled by the header of a Python."""
+    folder = shutil.copytree(native, tmp_path / "by header")
+    native_sh = ("bash", PYTHON / "native.sh", folder / "chinese_number")
+    run(*native_sh, cwd=TOP, PYTHON=request.param)
+    return folder
+
+
+def test_names(by_header):
+    """No name of Python's is newer than the tag, and none of the C library has a version."""
+    module = by_header / "chinese_number/_native.abi3.so"
+    asked = re.findall(r" [Uw] (.*)", run("nm", "-D", module, cwd=TOP))
+    of_python = {it for it in asked if "Py" in it}
+    assert of_python - {*OF_3_2, *SINCE} == set() and max(SINCE.values()) <= 10
+    assert {*asked} - of_python <= {"memcpy", "memmove", "memset", "abort"}
+    assert "NEEDED" not in run("objdump", "-p", module, cwd=TOP)
+
+
+def test_pythons(by_header):
+    """Each answers all rows, by the module."""
+    for program in BY_NATIVE.values():
+        own = {"PYTHONPATH": str(by_header), "PYTHONUTF8": "1"}
+        asking = partial(run, program, "-B", by_header / "answers.py", cwd=TOP, **own)
+        assert wrong_answers(lambda asked: asking(stdin=asked)) == []
+        said = "import chinese_number as it; print(it.to_number)"
+        run(program, "-Bc", said, cwd=TOP, wanted="<built-in function to_number>\n", **own)
+
+
+OWN_LOCK = """\
+import os, _interpreters
+told, end = os.pipe()
+_interpreters.run_string(_interpreters.create(), f'import os; from chinese_number import {name}; '
+    f'os.write({{end}}, repr({name}).encode())')
+print(os.read(told, 99).decode())"""
+BY_CTYPES = {
+    "free-threaded": "import sys; sys.abiflags = 't'\nfrom chinese_number import {name}\nprint({name})",
+    "older": "import sys; sys.version_info = (3, 9)\nfrom chinese_number import {name}\nprint({name})",
+    "with a lock of its own": OWN_LOCK,
+}
+
+
+@pytest.mark.parametrize("which", BY_CTYPES)
+def test_by_ctypes(native, which):
+    """Without the module the same file is called by ctypes."""
+    said = BY_CTYPES[which].format(name="to_chinese")
+    program = NEWEST if which == "with a lock of its own" else sys.executable
+    found = run(program, "-Bc", said, cwd=TOP, PYTHONPATH=str(native))
+    assert re.fullmatch(r"<function to_chinese at \w+>\n", found)
+
+
+FRONTS = {
+    "to_number": "(text, *, kind=<Kind.I128: 'i128'>, way=<Way.ANY: 'any'>)",
+    "to_chinese": "(number, *, kind=<Kind.I128: 'i128'>, way=<Way.TEN_THOUSAND: 'ten_thousand'>, "
+    "script=<Script.SIMPLIFIED: 'simplified'>, case=<Case.LOWER: 'lower'>)",
+}
+
+
+@pytest.mark.parametrize("name", FRONTS)
+def test_fronts(numerals, library, name):
+    it = getattr(numerals, name)
+    shown = str(signature(it)), it.__name__, it.__qualname__, it.__module__, it.__doc__
+    assert shown[0] == FRONTS[name] and pickle.loads(pickle.dumps(it)) is it
+    assert FRONTS[name] in pydoc.render_doc(it) and name in pydoc.render_doc(numerals)
+    with module_over(library) as by_ctypes:
+        other = getattr(by_ctypes, name)
+        bare = [
+            its.replace(annotation=Parameter.empty) for its in signature(other).parameters.values()
+        ]
+        arguments = str(Signature(bare))
+        assert (arguments, name, other.__qualname__, other.__module__, other.__doc__) == shown
+
+
+def test_unusual(numerals, library):
+    """What is handed on is answered as by ctypes: types, words and keywords of another making."""
+    word, keyword = "".join(["u", "8"]), "".join(["ki", "nd"])
+    calls = [
+        ("to_number", ("一",), {"kind": word}),
+        ("to_number", ("一",), {keyword: "u8"}),
+        ("to_number", ("負一",), {"kind": "u8"}),
+        ("to_number", ("18446744073709551615",), {"kind": "u64"}),
+        ("to_number", ("18446744073709551616",), {}),
+        ("to_number", ("-9223372036854775808",), {}),
+        ("to_number", ("-9223372036854775809",), {}),
+        ("to_number", (), {}),
+        ("to_number", ("一", "u8"), {}),
+        ("to_number", (), {"text": "一"}),
+        ("to_number", ("一",), {"script": "simplified"}),
+        ("to_number", ("一",), {"case": "lower", "kind": "u8"}),
+        ("to_chinese", (True,), {}),
+        ("to_chinese", (1 << 63,), {}),
+        ("to_chinese", (-1,), {"kind": "u64"}),
+        ("to_chinese", (1,), {"way": "any"}),
+        ("to_chinese", (), {"number": 1, "case": "upper"}),
+        ("to_chinese", (1, 2, 3), {"case": "upper"}),
+        ("to_chinese", (1,), {"other": 1}),
+    ]
+    with module_over(library) as by_ctypes:
+        for name, places, words in calls:
+            found = [told(getattr(it, name), places, words) for it in (numerals, by_ctypes)]
+            assert found[0] == found[1], (name, places, words)
+
+
+def told(call, places, words):
+    try:
+        return repr(call(*places, **words))
+    except (TypeError, ValueError) as error:
+        return type(error).__name__, str(error)
+
+
+def ignored(call, argument):
+    try:
+        call(argument)
+    except (ValueError, TypeError):
+        pass
+
+
+def test_nothing_is_kept(numerals):
+    """A million calls, half of them refused, leave no block of memory and no count of what all share."""
+    it, day = numerals, numerals.chinese_to_date("贰零贰陆年零壹月壹拾伍日")
+    asked = [
+        (it.to_number, ("一亿二", "一" * 300, "一京" * 2, "十十", "", None, "\ud800")),
+        (it.to_chinese, (123456789, 1 << 100, 1 << 128, None, True)),
+        (partial(it.to_chinese, kind="u8", script="traditional"), (1, 256, -1)),
+        (partial(it.to_number, kind="u8", other=1), ("一",)),
+        (it.chinese_to_amount, ("壹佰元整", "壹佰", "x" * 300)),
+        (it.chinese_to_signed_amount, ("负壹佰元整", "x")),
+        (it.chinese_to_amount_as_typed, ("⊗壹佰 元整", "x")),
+        (it.amount_to_chinese, (1500, -1)),
+        (it.signed_amount_to_chinese, (-1500, 10**18)),
+        (it.yuan_to_fen, ("-15.00", "15.005")),
+        (it.date_to_chinese, (day, None)),
+        (it.chinese_to_date, ("贰零贰陆年零壹月壹拾伍日", "贰")),
+        (lambda text: list(it.find_numbers(text)), ("一，二十，", None)),
+        (lambda text: next(it.find_numbers(text)), ("三" + "，一" * 100,)),
+    ]
+    some = [(call, argument) for call, arguments in asked for argument in arguments]
+    shared = [
+        None,
+        True,
+        False,
+        it.Found,
+        it.Kind.I128,
+        it.Way.ANY,
+        *(argument for _, argument in some),
+    ]
+
+    def counts():
+        return [sys.getrefcount(its) for its in shared]
+
+    for rounds in (100, 1_000_000 // len(some)):
+        before, blocks = counts(), sys.getallocatedblocks()
+        for _ in range(rounds):
+            for call, argument in some:
+                ignored(call, argument)
+        grown = sys.getallocatedblocks() - blocks
+    changed = [after - first for first, after in zip(before, counts())]
+    assert abs(grown) < 100 and max(map(abs, changed)) < 100, (grown, changed)
