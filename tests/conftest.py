@@ -88,6 +88,10 @@ def refuse_growth(tmp_path_factory):
     return made
 
 
+# The fixtures of what `rt` builds.
+BUILT = {"archive", "library", "numeral", "cheque", "numbers", "allocating_calls", "bench"}
+
+
 def program(name):
     """A fixture: the program of a crate."""
 
@@ -102,7 +106,7 @@ def program(name):
 
 
 numeral, cheque, numbers = map(program, ("numeral", "cheque", "numbers"))
-allocating_calls = program("allocating_calls")
+allocating_calls, bench = program("allocating_calls"), program("bench")
 
 
 def pytest_collection_modifyitems(items):
@@ -111,5 +115,5 @@ def pytest_collection_modifyitems(items):
         names = set(item.fixturenames)
         if "packages" in names:
             item.add_marker("packages")
-        elif names & {"archive", "library", "numeral", "cheque", "numbers", "allocating_calls"}:
+        elif names & BUILT:
             item.add_marker("built")
