@@ -16,7 +16,7 @@ ghost use Rattle.cn_core.specs.Value.{numeral_value};
 ghost use Rattle.cn_core.specs.Whole.{Kind, holds};
 ghost use Rattle.cn_find.specs.Belongs.{is_wanted};
 ghost use Rattle.cn_find.specs.Number.{IsAnswer};
-ghost use Rattle.cn_find.specs.Parting.{with_text_after, with_text_before};
+ghost use Rattle.cn_find.specs.Parting.{is_of_measure, with_text_after, with_text_before};
 ghost use Rattle.cn_find.specs.Plain.{is_decimal};
 ghost use Rattle.cn_find.specs.Spans.{Span, spans};
 ghost use Rattle.cn_find.specs.Runs.{IsRun, is_rising};
@@ -35,11 +35,12 @@ pub fn numbers_come_in_order(wanted: Wanted)
     ensures { (bytes : List ℕ) → IsTrue (is_rising 0 (spans wanted bytes)) }
 {}
 
-/// A character that is not wanted parts a text: what is found is what is found in front of it, and
-/// then what is found behind it. So lines, and parts of a file, can be searched by themselves.
+/// A character that is not wanted, and by which no word is known that is counted in 兆 as mega, parts a
+/// text: what is found is what is found in front of it, and then what is found behind it. So lines, and
+/// parts of a file, can be searched by themselves.
 pub fn unwanted_characters_part_texts(wanted: Wanted)
     ensures { (left right : List ℕ) (c : ℕ) → IsUtf8 left → IsUtf8 (encode_utf8 c ++ right)
-        → is_wanted wanted c ≡ false
+        → is_wanted wanted c ≡ false → is_of_measure c ≡ false
         → spans wanted (left ++ (encode_utf8 c ++ right))
         ≡ map (with_text_after (encode_utf8 c ++ right)) (spans wanted left)
         ++ map (with_text_before (left ++ encode_utf8 c)) (spans wanted right) }
