@@ -19,19 +19,26 @@ pub record Parts (wanted : Wanted) (c : ℕ) : Type 0 where
   pub unwanted : is_wanted wanted c ≡ false
   pub unmeasured : is_of_measure c ≡ false
 
--- what each character of a set passes, one that fails it is not in the set
+-- what each character of a set passes
+pub inside : (test : ℕ → Bool) (set : List ℕ) (c : ℕ) → list_all test set ≡ true
+    → char_set_contains set c ≡ true → test c ≡ true
+inside test [] c within has = cc
+inside test (d ∷ set) c within has =
+    by (d == c) refl has (inside test set c (and-right (test d) _ within)) where
+      by : (b : Bool) → (d == c) ≡ b → (b || char_set_contains set c) ≡ true
+          → (char_set_contains set c ≡ true → test c ≡ true) → test c ≡ true
+      by true e has others =
+          let same : d ≡ c = grind (arith, nat_tests, e) in
+          ap test (sym same) ∙ and-left (test d) _ within
+      by false e has others = others has
+
+-- one that fails it is not in the set
 outside : (test : ℕ → Bool) (set : List ℕ) (c : ℕ) → list_all test set ≡ true → test c ≡ false
     → char_set_contains set c ≡ false
-outside test [] c within none = refl
-outside test (d ∷ set) c within none =
-    by (d == c) refl (outside test set c (and-right (test d) _ within) none) where
-      by : (b : Bool) → (d == c) ≡ b → char_set_contains set c ≡ false
-          → (b || char_set_contains set c) ≡ false
-      by true e others =
-          let same : d ≡ c = grind (arith, nat_tests, e) in
-          let has : test c ≡ true = ap test (sym same) ∙ and-left (test d) _ within in
-          let no : true ≡ false = sym has ∙ none in cc
-      by false e others = others
+outside test set c within none = by (char_set_contains set c) refl where
+  by : (b : Bool) → char_set_contains set c ≡ b → char_set_contains set c ≡ false
+  by true e = let no : true ≡ false = sym (inside test set c within e) ∙ none in cc
+  by false e = e
 
 no-measure : (wanted : Wanted) (c : ℕ) (right : List ℕ) → Parts wanted c
     → begins_measure (c ∷ right) ≡ false

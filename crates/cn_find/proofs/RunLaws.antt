@@ -343,7 +343,7 @@ few-left wanted whole rest ended =
       ap length (encodes-chars rest ended),
     )
 
-scalars-end : (front end : List ℕ) → scalars (front ++ end) ≡ true → scalars end ≡ true
+pub scalars-end : (front end : List ℕ) → scalars (front ++ end) ≡ true → scalars end ≡ true
 scalars-end [] end h = h
 scalars-end (c ∷ front) end h = scalars-end front end (and-right (scalar c) _ h)
 

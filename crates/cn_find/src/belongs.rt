@@ -149,8 +149,8 @@ fn known_belongs(wanted: Wanted, c: char, mark: Mark, after: &str) -> bool
     !is_ge(mark) || counts_next(wanted, after)
 }
 
-// Whether a character is a digit, and no ASCII one.
-fn is_chinese_digit(c: char) -> bool
+/// Whether a character is a digit, and no ASCII one.
+pub fn is_chinese_digit(c: char) -> bool
     ensures { result ≡ is_chinese_digit c }
 {
     digit_of(c).is_some() && !c.is_ascii_digit()
