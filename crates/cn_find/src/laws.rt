@@ -11,10 +11,11 @@ ghost use Rattle.cn_core.specs.Naive.{decimal_value};
 ghost use Rattle.cn_core.specs.Numeral.{IsNumeral};
 ghost use Rattle.cn_core.specs.Reading.{leading_sign};
 ghost use Rattle.cn_core.specs.Refusal.{incorrect_at};
-ghost use Rattle.cn_core.specs.Text.{text_of};
+ghost use Rattle.cn_core.specs.Text.{marks_of, text_of};
 ghost use Rattle.cn_core.specs.Value.{numeral_value};
 ghost use Rattle.cn_core.specs.Whole.{Kind, holds};
 ghost use Rattle.cn_find.specs.Belongs.{is_mega, is_wanted};
+ghost use Rattle.cn_find.specs.Flags.{is_one_estimate, pairs};
 ghost use Rattle.cn_find.specs.Number.{IsAnswer};
 ghost use Rattle.cn_find.specs.Parting.{Meet, is_alone, is_of_measure, with_text_after, with_text_before};
 ghost use Rattle.cn_find.specs.Plain.{is_decimal};
@@ -67,6 +68,12 @@ pub fn no_number_ends_with_mega(wanted: Wanted)
     ensures { (bytes : List ℕ) (span : Span) (front : List ℕ) (c : ℕ) → IsUtf8 bytes
         → Contains (spans wanted bytes) span → chars span.text ≡ front ++ c ∷ []
         → is_mega c (chars span.after) ≡ false }
+{}
+
+/// No two digits of a numeral are said for about so many: a number by units is about so much only by
+/// what stands around it.
+pub fn numerals_have_no_estimate()
+    ensures { (text : List ℕ) → IsNumeral (marks_of text) → is_one_estimate (pairs text) ≡ false }
 {}
 
 /// A run begins with a sign only where it begins with 正, the one plus sign.
