@@ -5,7 +5,8 @@ ghost use Rattle.cn_find.specs.Number.{IsAnswer, is_plain};
 
 use crate::flags::{is_about, is_one_character, stands_alone};
 use cn_core::{ChineseCountMethod, Whole, digit_of};
-use cn_judge::{ChineseToNumberError, read, read_naive};
+use cn_judge::{ChineseToNumberError, read_naive};
+use cn_quick::read;
 
 /// A run of numeral characters in its text.
 #[derive(Debug, Copy, Clone)]
