@@ -78,6 +78,7 @@ fn begins_measure(text: &str) -> bool
     let Some((first, after)) = split_first_char(text) else {
         return false;
     };
+    // NUL, which no word has, where none follows.
     let next = split_first_char(after).map_or('\0', |(next, _)| next);
     match first {
         '瓦' | '赫' | '帕' | '焦' | '伏' | '乏' => true,
@@ -94,7 +95,7 @@ fn begins_measure(text: &str) -> bool
 
 // Whether a character is 兆 that is mega.
 #[inline(always)]
-fn is_mega(mark: Mark, c: char, after: &str) -> bool
+fn is_mega(c: char, mark: Mark, after: &str) -> bool
     requires { marked mark ≡ mark_of c }
     ensures { result ≡ is_mega c (chars after.now) }
 {
@@ -109,7 +110,7 @@ fn counts_next(wanted: Wanted, text: &str) -> bool
     let Some((c, mark, after)) = split_first_mark(text) else {
         return false;
     };
-    is_great(mark) && is_wanted(wanted, c, mark) && !is_mega(mark, c, after)
+    is_great(mark) && is_wanted(wanted, c, mark) && !is_mega(c, mark, after)
 }
 
 /// Whether a character with its mark is one of a number, by what follows it.
@@ -140,7 +141,7 @@ fn known_belongs(wanted: Wanted, c: char, mark: Mark, after: &str) -> bool
     match mark {
         Mark::Digit(_) => true,
         Mark::Unit(Unit::Ge) => counts_next(wanted, after),
-        _ => !is_mega(mark, c, after),
+        _ => !is_mega(c, mark, after),
     }
 }
 
