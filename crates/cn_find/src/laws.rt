@@ -1,5 +1,5 @@
 //! What users may count on, as contracts of functions that do nothing.
-ghost use Rattle.std.specs.Prelude.{◌≡◌, ◌≢◌, ◌↔◌, [], ◌∷◌, ◌++◌, ℕ, ℤ, List, map, chars, encode_utf8, true, false, None, Some, Ok, Err, IsTrue};
+ghost use Rattle.std.specs.Prelude.{◌≡◌, ◌≢◌, ◌↔◌, [], ◌∷◌, ◌++◌, ℕ, ℤ, pos, ◌≤ℤ◌, List, map, chars, encode_utf8, true, false, None, Some, Ok, Err, IsTrue};
 ghost use Rattle.std.specs.List.{Contains, list_all};
 ghost use Rattle.std.specs.Str.{IsUtf8};
 ghost use Rattle.cn_core.specs.declared.method.ChineseCountMethod.{ChineseCountMethod};
@@ -15,7 +15,7 @@ ghost use Rattle.cn_core.specs.Text.{marks_of, text_of};
 ghost use Rattle.cn_core.specs.Value.{numeral_value};
 ghost use Rattle.cn_core.specs.Whole.{Kind, holds};
 ghost use Rattle.cn_find.specs.Belongs.{is_mega, is_wanted};
-ghost use Rattle.cn_find.specs.Flags.{is_one_estimate, pairs};
+ghost use Rattle.cn_find.specs.Flags.{is_one_character, is_one_estimate, pairs};
 ghost use Rattle.cn_find.specs.Number.{IsAnswer};
 ghost use Rattle.cn_find.specs.Parting.{Meet, is_alone, is_of_measure, with_text_after, with_text_before};
 ghost use Rattle.cn_find.specs.Plain.{is_decimal};
@@ -68,6 +68,13 @@ pub fn no_number_ends_with_mega(wanted: Wanted)
     ensures { (bytes : List ℕ) (span : Span) (front : List ℕ) (c : ℕ) → IsUtf8 bytes
         → Contains (spans wanted bytes) span → chars span.text ≡ front ++ c ∷ []
         → is_mega c (chars span.after) ≡ false }
+{}
+
+/// What is one Chinese character counts at most ten, by each method, or is refused.
+pub fn one_character_is_at_most_ten()
+    ensures { (kind : Kind) (method : ChineseCountMethod) (bytes : List ℕ) (number : ℤ)
+        → is_one_character (chars bytes) ≡ true → IsAnswer kind method bytes (Ok number)
+        → number ≤ℤ pos 10 }
 {}
 
 /// No two digits of a numeral are said for about so many: a number by units is about so much only by
