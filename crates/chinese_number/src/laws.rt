@@ -23,7 +23,8 @@ pub use cn_find::laws::{
     no_number_ends_with_mega, numbers_are_the_runs, numbers_come_in_order,
     numbers_that_meet_do_not_stand_alone, numerals_have_no_estimate, one_character_is_at_most_ten,
     one_number_either_way, runs_begin_with_no_other_sign, searches_go_on_behind_a_number,
-    types_answer_alike_without_sign, unwanted_characters_part_texts, wanted_constants_are,
+    searches_go_on_in_the_whole_text, types_answer_alike_without_sign,
+    unwanted_characters_part_texts, wanted_constants_are,
 };
 pub use enums::{
     equal_dates_are_the_same_day, equal_values_are_the_same_variant, units_compare_by_rank,

@@ -40,7 +40,7 @@ cons-other : (first : Span) (others : List Span) (span : Span) → Contains othe
 cons-other first others span (k, low, e) = (suc k, omega arith, e)
 
 -- the characters of a run and what follows it
-whole : (wanted : Wanted) (cs : List ℕ) → cs ≡ run_of wanted cs ++ after_run wanted cs
+pub whole : (wanted : Wanted) (cs : List ℕ) → cs ≡ run_of wanted cs ++ after_run wanted cs
 whole wanted [] = refl
 whole wanted (c ∷ after) = by (is_joined wanted c after) refl (whole wanted after) where
   by : (b : Bool) → is_joined wanted c after ≡ b

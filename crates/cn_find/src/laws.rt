@@ -1,5 +1,5 @@
 //! What users may count on, as contracts of functions that do nothing.
-ghost use Rattle.std.specs.Prelude.{◌≡◌, ◌≢◌, ◌↔◌, [], ◌∷◌, ◌++◌, ℕ, ℤ, pos, ◌≤ℤ◌, List, map, chars, encode_utf8, true, false, None, Some, Ok, Err, IsTrue};
+ghost use Rattle.std.specs.Prelude.{◌≡◌, ◌≢◌, ◌↔◌, [], ◌∷◌, ◌++◌, ◌+◌, ℕ, ℤ, pos, ◌≤ℤ◌, List, map, drop, length, chars, IsCharBoundary, encode_utf8, true, false, None, Some, Ok, Err, IsTrue};
 ghost use Rattle.std.specs.List.{Contains, list_all};
 ghost use Rattle.std.specs.Str.{IsUtf8};
 ghost use Rattle.cn_core.specs.declared.method.ChineseCountMethod.{ChineseCountMethod};
@@ -19,7 +19,7 @@ ghost use Rattle.cn_find.specs.Flags.{is_one_character, is_one_estimate, pairs};
 ghost use Rattle.cn_find.specs.Number.{IsAnswer};
 ghost use Rattle.cn_find.specs.Parting.{Meet, is_alone, is_of_measure, with_text_after, with_text_before};
 ghost use Rattle.cn_find.specs.Plain.{is_decimal};
-ghost use Rattle.cn_find.specs.Spans.{Span, spans};
+ghost use Rattle.cn_find.specs.Spans.{Span, spans, spans_left};
 ghost use Rattle.cn_find.specs.Runs.{IsRun, is_rising};
 
 use crate::Wanted;
@@ -53,6 +53,16 @@ pub fn searches_go_on_behind_a_number(wanted: Wanted)
     ensures { (bytes : List ℕ) (first : Span) (rest : List Span)
         → spans wanted bytes ≡ first ∷ rest → IsUtf8 bytes
         → rest ≡ map (with_text_before (first.before ++ first.text)) (spans wanted first.after) }
+{}
+
+/// It goes on in sight of the whole text, too, from where the number ends: there a search can begin,
+/// and finds what was found behind the number. So who takes some numbers at a time takes all.
+pub fn searches_go_on_in_the_whole_text(wanted: Wanted)
+    ensures { (bytes : List ℕ) (from : ℕ) (first : Span) (rest : List Span)
+        → IsUtf8 bytes → IsCharBoundary bytes from
+        → spans_left wanted bytes (drop from bytes) ≡ first ∷ rest
+        → (rest ≡ spans_left wanted bytes (drop (length first.before + length first.text) bytes))
+        × IsCharBoundary bytes (length first.before + length first.text) }
 {}
 
 /// What is cut in two does not stand alone: where a number begins at the end of another one, or behind
