@@ -1,5 +1,5 @@
 -- What one character counts.
-use Rattle.std.proofs.Common.{◌≡◌, ◌⊎◌, inl, inr, ℕ, ◌<◌, ◌≤◌, ℤ, pos, ◌≤ℤ◌, Bool, true, false, not, ◌&&◌, List, [], ◌∷◌, chars, drop, filter, ◌+◌, ◌^◌, ◌==◌, nat_le, if◌then◌else◌, Option, Some, None, Result, Ok, Err, MatchBool, refl, sym, ap, subst, ◌∙◌, arith}
+use Rattle.std.proofs.Common.{◌≡◌, ◌⊎◌, inl, inr, ℕ, ◌<◌, ◌≤◌, ℤ, pos, ◌≤ℤ◌, Bool, true, false, List, [], ◌∷◌, chars, drop, filter, ◌+◌, ◌^◌, ◌==◌, nat_le, if◌then◌else◌, Option, Some, None, Result, Ok, Err, MatchBool, refl, sym, ap, subst, arith}
 use Rattle.std.specs.Char.{is_not_whitespace}
 use Rattle.std.specs.Option.{option_or}
 use Rattle.std.proofs.lemmas.Bool.Decides.{nat_tests}
@@ -8,11 +8,11 @@ use Rattle.cn_core.specs.declared.method.ChineseCountMethod.{ChineseCountMethod}
 use Rattle.cn_core.specs.declared.sign.Sign.{Sign}
 use Rattle.cn_core.specs.Characters.{digit_of, rank_of}
 use Rattle.cn_core.specs.Judge.{Judges, RefusesBody, last_mark_answer, numeral_answer}
-use Rattle.cn_core.specs.Mark.{Mark, digit, unit, other, mark_from, mark_of}
+use Rattle.cn_core.specs.Mark.{Mark, unit, other, mark_from, mark_of}
 use Rattle.cn_core.specs.Naive.{naive_answer, refused_or}
 use Rattle.cn_core.specs.Numeral.{is_numeral}
 use Rattle.cn_core.specs.Place.{body}
-use Rattle.cn_core.specs.Reading.{Reads, is_minus, leading_sign, naive_reading, sign_len, typed_answer, typed_number}
+use Rattle.cn_core.specs.Reading.{Reads, is_minus, leading_sign, naive_reading, sign_len, typed_answer}
 use Rattle.cn_core.specs.Refusal.{Refusal, empty, incorrect_at, too_large, too_small}
 use Rattle.cn_core.specs.Text.{text_of, marks_of}
 use Rattle.cn_core.specs.Whole.{Kind, signed_number}
