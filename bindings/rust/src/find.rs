@@ -122,8 +122,8 @@ impl Numbers<'_> {
 }
 
 /// The numbers of a text, from the first to the last: its longest runs of characters that are looked
-/// for. A run ends between an ASCII digit and a digit that is none, and 個 is of a run directly before
-/// 萬 or a greater unit alone.
+/// for. A run ends between an ASCII digit and a digit that is none, 個 is of a run directly before 萬 or
+/// a greater unit alone, and 兆 of none in front of a measure, as in 8兆字节.
 ///
 /// It does not understand sentences: 一起 has a 1 in it, 兩三個 is 23, and 3.5萬 is two numbers.
 ///

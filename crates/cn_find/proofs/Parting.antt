@@ -1,32 +1,105 @@
 -- A character that is not wanted parts a text.
-use Rattle.std.proofs.Common.{◌≡◌, ℕ, Bool, true, false, not, ◌&&◌, ◌||◌, List, [], ◌∷◌, ◌++◌, map, chars, encode_utf8, encode_utf8_all, IsUtf8, refl, sym, ap, subst, ◌∙◌, append-nil, append_assoc, if◌then◌else◌}
+use Rattle.std.proofs.Common.{◌≡◌, ℕ, Bool, true, false, not, ◌&&◌, ◌||◌, ◌==◌, List, [], ◌∷◌, ◌++◌, map, chars, codes, arith, encode_utf8, encode_utf8_all, IsUtf8, refl, sym, ap, subst, ◌∙◌, append-nil, append_assoc, if◌then◌else◌}
+use Rattle.std.specs.Char.{char_set_contains}
+use Rattle.std.specs.List.{list_all}
+use Rattle.std.proofs.lemmas.Bool.Decides.{nat_tests}
 use Rattle.std.proofs.lemmas.List.{map-append}
 use Rattle.std.proofs.lemmas.Str.{chars-append, chars_past_char, IsUtf8-past_char, encodes-append, encodes-chars, encodes_same}
 use Rattle.std.proofs.Math.Bool.{and-false}
 use Rattle.cn_core.specs.Mark.{mark_of}
 use Rattle.cn_find.specs.declared.wanted.Wanted.{Wanted}
-use Rattle.cn_find.specs.Belongs.{belongs, counts_next, is_ge, is_great, is_joined, is_parted, is_wanted}
-use Rattle.cn_find.specs.Parting.{with_text_before, with_text_after}
+use Rattle.cn_core.proofs.Fronts.{and-left, and-right}
+use Rattle.cn_find.specs.Belongs.{begins_measure, belongs, counts_next, is_ge, is_great, is_joined, is_mega, is_numeral, is_parted, is_wanted, is_zhao}
+use Rattle.cn_find.specs.Parting.{is_of_measure, with_text_before, with_text_after}
 use Rattle.cn_find.specs.Spans.{Span, run_of, after_run, span_at, begun_at, spans_after, spans}
 use Rattle.cn_find.proofs.Runs.{first-span, next-character, not-joined}
 
+-- the character is not wanted, and no word of a measure has it
+pub record Parts (wanted : Wanted) (c : ℕ) : Type 0 where
+  pub unwanted : is_wanted wanted c ≡ false
+  pub unmeasured : is_of_measure c ≡ false
+
+-- what each character of a set passes
+pub inside : (test : ℕ → Bool) (set : List ℕ) (c : ℕ) → list_all test set ≡ true
+    → char_set_contains set c ≡ true → test c ≡ true
+inside test [] c within has = cc
+inside test (d ∷ set) c within has =
+    by (d == c) refl has (inside test set c (and-right (test d) _ within)) where
+      by : (b : Bool) → (d == c) ≡ b → (b || char_set_contains set c) ≡ true
+          → (char_set_contains set c ≡ true → test c ≡ true) → test c ≡ true
+      by true e has others =
+          let same : d ≡ c = grind (arith, nat_tests, e) in
+          ap test (sym same) ∙ and-left (test d) _ within
+      by false e has others = others has
+
+-- one that fails it is not in the set
+outside : (test : ℕ → Bool) (set : List ℕ) (c : ℕ) → list_all test set ≡ true → test c ≡ false
+    → char_set_contains set c ≡ false
+outside test set c within none = by (char_set_contains set c) refl where
+  by : (b : Bool) → char_set_contains set c ≡ b → char_set_contains set c ≡ false
+  by true e = let no : true ≡ false = sym (inside test set c within e) ∙ none in cc
+  by false e = e
+
+no-measure : (wanted : Wanted) (c : ℕ) (right : List ℕ) → Parts wanted c
+    → begins_measure (c ∷ right) ≡ false
+unfolding begins_measure is_of_measure
+no-measure wanted c right parts = rw (
+  outside is_of_measure (codes "瓦赫帕焦伏乏") c refl parts.unmeasured,
+  outside is_of_measure (codes "字") c refl parts.unmeasured,
+  outside is_of_measure (codes "比") c refl parts.unmeasured,
+  outside is_of_measure (codes "电電") c refl parts.unmeasured,
+  outside is_of_measure (codes "宽寬") c refl parts.unmeasured,
+  outside is_of_measure (codes "带帶頻") c refl parts.unmeasured,
+  outside is_of_measure (codes "位") c refl parts.unmeasured,
+  outside is_of_measure (codes "欧歐") c refl parts.unmeasured,
+)
+
+measure-same : (wanted : Wanted) (c : ℕ) (right xs : List ℕ) → Parts wanted c
+    → begins_measure (xs ++ c ∷ right) ≡ begins_measure xs
+unfolding begins_measure is_of_measure
+measure-same wanted c right [] parts = no-measure wanted c right parts
+measure-same wanted c right (x ∷ []) parts = rw (
+  outside is_of_measure (codes "节節") c refl parts.unmeasured,
+  outside is_of_measure (codes "特") c refl parts.unmeasured,
+  outside is_of_measure (codes "子") c refl parts.unmeasured,
+  outside is_of_measure (codes "带帶頻") c refl parts.unmeasured,
+  outside is_of_measure (codes "宽寬") c refl parts.unmeasured,
+  outside is_of_measure (codes "数數") c refl parts.unmeasured,
+  outside is_of_measure (codes "元") c refl parts.unmeasured,
+)
+measure-same wanted c right (x ∷ y ∷ xs) parts = refl
+
 -- a character that is not wanted belongs to no number
-unwanted : (wanted : Wanted) (c : ℕ) (after : List ℕ) → is_wanted wanted c ≡ false
+unwanted : (wanted : Wanted) (c : ℕ) (after : List ℕ) → Parts wanted c
     → belongs wanted c after ≡ false
 unfolding belongs
-unwanted wanted c after e = rw e
+unwanted wanted c after parts = rw parts.unwanted
 
--- and no character in front of it is joined to what stands behind it
-belongs-same : (wanted : Wanted) (d c : ℕ) (right xs : List ℕ) → is_wanted wanted c ≡ false
+-- and no character in front of it is another one for what stands behind it
+numeral-same : (wanted : Wanted) (d c : ℕ) (right xs : List ℕ) → Parts wanted c
+    → is_numeral wanted d (xs ++ c ∷ right) ≡ is_numeral wanted d xs
+numeral-same wanted d c right xs parts =
+    ap (λ b. is_wanted wanted d && not (is_zhao (mark_of d) && b))
+    (measure-same wanted c right xs parts)
+
+counts-same : (wanted : Wanted) (c : ℕ) (right xs : List ℕ) → Parts wanted c
+    → counts_next wanted (xs ++ c ∷ right) ≡ counts_next wanted xs
+counts-same wanted c right [] parts =
+    ap (λ b. is_great (mark_of c) && (b && not (is_mega c right))) parts.unwanted
+    ∙ and-false (is_great (mark_of c))
+counts-same wanted c right (x ∷ xs) parts =
+    ap (λ b. is_great (mark_of x) && b) (numeral-same wanted x c right xs parts)
+
+belongs-same : (wanted : Wanted) (d c : ℕ) (right xs : List ℕ) → Parts wanted c
     → belongs wanted d (xs ++ c ∷ right) ≡ belongs wanted d xs
 unfolding belongs
-belongs-same wanted d c right [] e =
-    let none : counts_next wanted (c ∷ right) ≡ false =
-    ap (λ b. is_great (mark_of c) && b) e ∙ and-false (is_great (mark_of c)) in
-    ap (λ b. is_wanted wanted d && (not (is_ge (mark_of d)) || b)) none
-belongs-same wanted d c right (x ∷ xs) e = refl
+belongs-same wanted d c right xs parts =
+    ap (λ b. b && (not (is_ge (mark_of d)) || counts_next wanted (xs ++ c ∷ right)))
+    (numeral-same wanted d c right xs parts)
+    ∙ ap (λ b. is_numeral wanted d xs && (not (is_ge (mark_of d)) || b))
+    (counts-same wanted c right xs parts)
 
-joined-same : (wanted : Wanted) (d c : ℕ) (right xs : List ℕ) → is_wanted wanted c ≡ false
+joined-same : (wanted : Wanted) (d c : ℕ) (right xs : List ℕ) → Parts wanted c
     → is_joined wanted d (xs ++ c ∷ right) ≡ is_joined wanted d xs
 joined-same wanted d c right [] e =
     ap (λ b. belongs wanted d (c ∷ right) && (b && not (is_parted d c))) (unwanted wanted c right e)
@@ -37,7 +110,7 @@ joined-same wanted d c right (x ∷ xs) e =
     ∙ ap (λ b. belongs wanted d (x ∷ xs) && (b && not (is_parted d x)))
     (belongs-same wanted x c right xs e)
 
-run-same : (wanted : Wanted) (d c : ℕ) (right xs : List ℕ) → is_wanted wanted c ≡ false
+run-same : (wanted : Wanted) (d c : ℕ) (right xs : List ℕ) → Parts wanted c
     → run_of wanted (d ∷ xs ++ c ∷ right) ≡ run_of wanted (d ∷ xs)
 run-same wanted d c right [] e =
     ap (λ b. d ∷ (if b then run_of wanted (c ∷ right) else [])) (joined-same wanted d c right [] e)
@@ -46,7 +119,7 @@ run-same wanted d c right (x ∷ xs) e =
     (joined-same wanted d c right (x ∷ xs) e)
     ∙ ap (λ l. d ∷ (if is_joined wanted d (x ∷ xs) then l else [])) (run-same wanted x c right xs e)
 
-after-same : (wanted : Wanted) (d c : ℕ) (right xs : List ℕ) → is_wanted wanted c ≡ false
+after-same : (wanted : Wanted) (d c : ℕ) (right xs : List ℕ) → Parts wanted c
     → after_run wanted (d ∷ xs ++ c ∷ right) ≡ after_run wanted (d ∷ xs) ++ c ∷ right
 after-same wanted d c right [] e =
     ap (λ b. if b then after_run wanted (c ∷ right) else c ∷ right)
@@ -64,7 +137,7 @@ after-same wanted d c right (x ∷ xs) e =
 
 -- the run that begins at a character in front of it has more text behind it
 span-same : (wanted : Wanted) (at : List ℕ) (d c : ℕ) (right xs : List ℕ)
-    → is_wanted wanted c ≡ false
+    → Parts wanted c
     → span_at wanted at (d ∷ xs ++ c ∷ right)
     ≡ with_text_after (encode_utf8_all (c ∷ right)) (span_at wanted at (d ∷ xs))
 span-same wanted at d c right xs e =
@@ -88,7 +161,7 @@ abbrev begun_if : Bool → Span → List Span
 begun_if b span = if b then span ∷ [] else []
 
 begun-same : (wanted : Wanted) (joined : Bool) (at : List ℕ) (d c : ℕ) (right xs : List ℕ)
-    → is_wanted wanted c ≡ false
+    → Parts wanted c
     → begun_at wanted joined at d (xs ++ c ∷ right)
     ≡ map (with_text_after (encode_utf8_all (c ∷ right))) (begun_at wanted joined at d xs)
 begun-same wanted joined at d c right xs e =
@@ -105,13 +178,13 @@ begun-same wanted joined at d c right xs e =
       by false = refl
 
 none-begun : (wanted : Wanted) (joined : Bool) (at : List ℕ) (c : ℕ) (right : List ℕ)
-    → is_wanted wanted c ≡ false → begun_at wanted joined at c right ≡ []
+    → Parts wanted c → begun_at wanted joined at c right ≡ []
 none-begun wanted joined at c right e =
     ap (λ b. begun_if (not joined && b) (span_at wanted at (c ∷ right))) (unwanted wanted c right e)
     ∙ ap (λ b. begun_if b (span_at wanted at (c ∷ right))) (and-false (not joined))
 
 parted : (wanted : Wanted) (joined : Bool) (at : List ℕ) (c : ℕ) (right xs : List ℕ)
-    → is_wanted wanted c ≡ false
+    → Parts wanted c
     → spans_after wanted joined at (xs ++ c ∷ right)
     ≡ map (with_text_after (encode_utf8_all (c ∷ right))) (spans_after wanted joined at xs)
     ++ spans_after wanted false (at ++ encode_utf8_all (xs ++ c ∷ [])) right
@@ -171,10 +244,12 @@ shifted wanted joined front at (c ∷ ahead) =
 -- the runs of a text are those in front of the character and those behind it
 pub parts-text : (wanted : Wanted) (left : List ℕ) (c : ℕ) (right : List ℕ)
     → IsUtf8 left → IsUtf8 (encode_utf8 c ++ right) → is_wanted wanted c ≡ false
+    → is_of_measure c ≡ false
     → spans wanted (left ++ (encode_utf8 c ++ right))
     ≡ map (with_text_after (encode_utf8 c ++ right)) (spans wanted left)
     ++ map (with_text_before (left ++ encode_utf8 c)) (spans wanted right)
-parts-text wanted left c right first second e =
+parts-text wanted left c right first second not_wanted unmeasured =
+    let e : Parts wanted c = record { unwanted = not_wanted; unmeasured = unmeasured } in
     let behind : chars (encode_utf8 c ++ right) ≡ c ∷ chars right =
     chars_past_char (encode_utf8 c ++ right) right c second refl in
     let ended : encode_utf8_all (chars right) ≡ right =
