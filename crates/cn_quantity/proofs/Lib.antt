@@ -1,0 +1,8 @@
+pub mod Bars
+pub mod Ends
+pub mod Growing
+pub mod Numbers
+pub mod Points
+pub mod Ratios
+pub mod Signed
+pub mod Told
