@@ -6,3 +6,4 @@ pub mod Points
 pub mod Ratios
 pub mod Signed
 pub mod Told
+pub mod WholeQuantities

@@ -6,10 +6,12 @@ use Rattle.cn_core.specs.declared.method.ChineseCountMethod.{ChineseCountMethod}
 use Rattle.cn_core.specs.Judging.{judge}
 use Rattle.cn_core.specs.Mark.{mark_of}
 use Rattle.cn_core.specs.Naive.{naive_answer}
-use Rattle.cn_core.specs.Refusal.{Refusal, incorrect_at, too_large}
+use Rattle.cn_core.specs.Refusal.{Refusal, empty, incorrect_at, too_large}
 use Rattle.cn_core.specs.Text.{text_of, marks_of}
 use Rattle.cn_core.proofs.Within.{judge-within, naive-within}
-use Rattle.cn_judge.specs.Piece.{answer_at}
+use Rattle.std.specs.Char.{is_whitespace}
+use Rattle.cn_judge.specs.Piece.{StandsAt, answer_at}
+use Rattle.cn_judge.proofs.Pieces.{char_index-at}
 use Rattle.cn_quantity.specs.declared.characters.DigitKind.TheVariants.{Chinese, Figure}
 use Rattle.cn_quantity.specs.declared.number.Decimal.{Decimal}
 use Rattle.cn_quantity.specs.Answer.{and_then}
@@ -17,7 +19,7 @@ use Rattle.cn_quantity.specs.Characters.{is_point}
 use Rattle.cn_quantity.specs.Decimal.{after_point, before_point, decimals_behind_point, is_chinese_decimal}
 use Rattle.cn_quantity.specs.Digits.{read_with_units}
 use Rattle.cn_quantity.specs.Figures.{decimals_in_figures, is_in_figures}
-use Rattle.cn_quantity.specs.Number.{chinese_decimal_answer, decimal_of, divisor_answer, is_plain, number_answer, part_answer, short_tens, whole_answer, whole_number_answer}
+use Rattle.cn_quantity.specs.Number.{chinese_decimal_answer, decimal_of, divisor_answer, is_divisor, is_plain, number_answer, part_answer, short_tens, whole_answer, whole_number_answer}
 use Rattle.cn_quantity.specs.Private.{SplitsAtPoint}
 use Rattle.cn_quantity.specs.Units.{are_rising_units, times_units}
 use Rattle.cn_quantity.proofs.Told.{told-front, told-stops, told-goes_on}
@@ -224,10 +226,9 @@ divisor-low method c rest place h = by (part_answer method (c ∷ rest)) refl h 
   which false number e = let zero_is : 0 ≡ place = cc in omega (arith, zero_is)
 
   by : (part : Result Decimal Refusal) → part_answer method (c ∷ rest) ≡ part
-      → and_then part (λ divisor. if nat_lt 0 divisor.number && divisor.decimals == 0
-      then Ok divisor.number else Err (incorrect_at 0)) ≡ Err (incorrect_at place)
-      → place < suc (length rest)
-  by (Ok divisor) is e = which (nat_lt 0 divisor.number && divisor.decimals == 0) divisor.number e
+      → and_then part (λ decimal. if is_divisor decimal then Ok decimal.number
+      else Err (incorrect_at 0)) ≡ Err (incorrect_at place) → place < suc (length rest)
+  by (Ok decimal) is e = which (is_divisor decimal) decimal.number e
   by (Err refusal) is e =
       let same : refusal ≡ incorrect_at place = cc in
       part-low method (c ∷ rest) place (is ∙ ap Err same)
@@ -236,3 +237,39 @@ pub divisor-within : (method : ChineseCountMethod) (text : List ℕ) (place : �
     → divisor_answer method text ≡ Err (incorrect_at place) → place < length text
 divisor-within method [] place some h = absurd (omega (arith, some))
 divisor-within method (c ∷ rest) place some h = divisor-low method c rest place h
+
+-- the answer to a divisor, from that to a part
+pub divisor-empty : (method : ChineseCountMethod) (skipped : ℕ) (bytes : List ℕ)
+    → text_of bytes ≡ []
+    → Err empty ≡ answer_at skipped bytes (divisor_answer method (text_of bytes))
+divisor-empty method skipped bytes none = rw none
+
+divisor-by : (method : ChineseCountMethod) (skipped : ℕ) (bytes : List ℕ) (decimal : Decimal)
+    → Ok decimal ≡ answer_at skipped bytes (part_answer method (text_of bytes))
+    → divisor_answer method (text_of bytes)
+    ≡ (if is_divisor decimal then Ok decimal.number else Err (incorrect_at 0))
+divisor-by method skipped bytes decimal h =
+    told-goes_on skipped bytes (part_answer method (text_of bytes))
+    (λ decimal. if is_divisor decimal then Ok decimal.number else Err (incorrect_at 0)) decimal h
+
+pub divisor-goes_on : (method : ChineseCountMethod) (skipped : ℕ) (bytes : List ℕ)
+    (decimal : Decimal)
+    → Ok decimal ≡ answer_at skipped bytes (part_answer method (text_of bytes))
+    → is_divisor decimal ≡ true
+    → Ok decimal.number ≡ answer_at skipped bytes (divisor_answer method (text_of bytes))
+divisor-goes_on method skipped bytes decimal h above =
+    ap (answer_at skipped bytes)
+    (ap (λ b. if b then Ok decimal.number else Err (incorrect_at 0)) (sym above))
+    ∙ ap (answer_at skipped bytes) (sym (divisor-by method skipped bytes decimal h))
+
+pub divisor-none : (method : ChineseCountMethod) (skipped index c : ℕ) (bytes rest : List ℕ)
+    (decimal : Decimal) → StandsAt bytes (c ∷ rest) index 0 → is_whitespace c ≡ false
+    → Ok decimal ≡ answer_at skipped bytes (part_answer method (text_of bytes))
+    → is_divisor decimal ≡ false
+    → Err (incorrect_at (skipped + index))
+    ≡ answer_at skipped bytes (divisor_answer method (text_of bytes))
+divisor-none method skipped index c bytes rest decimal at dark h none =
+    ap (λ n. Err (incorrect_at (skipped + n))) (sym (char_index-at bytes rest c index 0 at dark))
+    ∙ ap (answer_at skipped bytes)
+    (ap (λ b. if b then Ok decimal.number else Err (incorrect_at 0)) (sym none))
+    ∙ ap (answer_at skipped bytes) (sym (divisor-by method skipped bytes decimal h))

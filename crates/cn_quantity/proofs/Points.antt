@@ -74,17 +74,12 @@ colloquial-last (x ∷ y ∷ rest) c d = by rest ∙ colloquial-last (y ∷ rest
   by (z ∷ rest) = refl
 
 -- the same, of a text that is cut twice
-pub colloquial-cut : (text before front : List ℕ) (c d : ℕ) → text ≡ before ++ d ∷ []
-    → before ≡ front ++ c ∷ []
-    → ends_colloquially text
-    ≡ (is_great_unit c && is_some (digit_of d))
-colloquial-cut text before front c d last second =
-    ap ends_colloquially (last ∙ ap (λ l. l ++ d ∷ []) second
-    ∙ append_assoc front (c ∷ []) (d ∷ [])) ∙ colloquial-last front c d
-
-pub colloquial-single : (text before : List ℕ) (d : ℕ) → text ≡ before ++ d ∷ [] → before ≡ []
-    → ends_colloquially text ≡ false
-colloquial-single text before d last none = rw (last, none)
+pub colloquial-cut : (text before front : List ℕ) (c d : ℕ) (great digit : Bool)
+    → text ≡ before ++ d ∷ [] → before ≡ front ++ c ∷ [] → great ≡ is_great_unit c
+    → digit ≡ is_some (digit_of d) → (great && digit) ≡ ends_colloquially text
+colloquial-cut text before front c d great digit last second great_is digit_is =
+    rw (great_is, digit_is) (sym (ap ends_colloquially (last ∙ ap (λ l. l ++ d ∷ []) second
+    ∙ append_assoc front (c ∷ []) (d ∷ [])) ∙ colloquial-last front c d))
 
 -- what stands behind the point is no decimals
 pub no-decimals : (text behind : List ℕ) → behind ≡ after_point text

@@ -67,9 +67,12 @@ part_answer method text =
     if nat_lt 0 (length text) && are_rising_units text then decimal_of 0 (times_units method 1 text)
     else number_answer method text
 
--- a divisor is a whole number above 0, else its first character is at fault
+-- a whole number above 0
+abbrev pub is_divisor : Decimal → Bool
+is_divisor decimal = nat_lt 0 decimal.number && decimal.decimals == 0
+
+-- a divisor is such a number, else its first character is at fault
 abbrev pub divisor_answer : ChineseCountMethod → List ℕ → Result ℕ Refusal
 divisor_answer method text =
     and_then (part_answer method text)
-    (λ divisor. if nat_lt 0 divisor.number && divisor.decimals == 0 then Ok divisor.number
-    else Err (incorrect_at 0))
+    (λ decimal. if is_divisor decimal then Ok decimal.number else Err (incorrect_at 0))

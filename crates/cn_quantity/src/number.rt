@@ -1,9 +1,9 @@
 // What a text is worth that has no sign, no percent sign and no 分之.
-ghost use Rattle.std.specs.Prelude.{◌≡◌, ◌+◌, ◌^◌, ◌<◌, length};
+ghost use Rattle.std.specs.Prelude.{◌≡◌, ◌+◌, ◌^◌, ◌<◌, length, IfOk};
 ghost use Rattle.cn_core.specs.Text.{text_of};
 ghost use Rattle.cn_judge.specs.Answer.{answer_of};
 ghost use Rattle.cn_judge.specs.Piece.{answer_at};
-ghost use Rattle.cn_quantity.specs.Number.{decimal_of, divisor_answer, is_plain, number_answer, part_answer, short_tens, whole_answer};
+ghost use Rattle.cn_quantity.specs.Number.{decimal_of, divisor_answer, is_divisor, is_plain, number_answer, part_answer, short_tens, whole_answer};
 
 use crate::characters::{DigitKind, digit_by, tens_of};
 use crate::decimal::split_decimal;
@@ -127,6 +127,13 @@ pub fn judge_part(
     }
 }
 
+// Whether the number may stand below a line: it is a whole one above 0.
+fn is_divisor(decimal: Decimal) -> bool
+    ensures { result ≡ is_divisor decimal }
+{
+    decimal.number > 0 && decimal.decimals == 0
+}
+
 /// The whole number above 0 that a divisor is; its first character is at fault where it is none.
 pub fn judge_divisor(
     method: ChineseCountMethod,
@@ -134,18 +141,18 @@ pub fn judge_divisor(
     text: &str,
 ) -> Result<u128, ChineseToNumberError>
     requires { skipped + length text.now < 2 ^ 64 }
-    ensures { answer_of (λ n. n) result
+    ensures answer { answer_of (λ n. n) result
         ≡ answer_at skipped text.now (divisor_answer method (text_of text.now)) }
+    ensures above { IfOk result (λ n. 0 < n) }
 {
-    let divisor = judge_part(method, skipped, text)?;
-    if divisor.number > 0 && divisor.decimals == 0 {
-        return Ok(divisor.number);
-    }
-    let before = match cn_judge::split_first(text) {
-        Some(first) => first.skipped,
-        None => 0,
+    let Some(first) = cn_judge::split_first(text) else {
+        return Err(ChineseToNumberError::ChineseNumberEmpty);
     };
-    Err(ChineseToNumberError::ChineseNumberIncorrect {
-        char_index: skipped + before,
-    })
+    let divisor = judge_part(method, skipped, text)?;
+    if is_divisor(divisor) {
+        Ok(divisor.number)
+    } else {
+        let char_index = skipped + first.skipped;
+        Err(ChineseToNumberError::ChineseNumberIncorrect { char_index })
+    }
 }

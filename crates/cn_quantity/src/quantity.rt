@@ -50,8 +50,11 @@ impl Quantity {
             ((n : ℤ) → IsTimes self n → ¬ IsTrue (holds T.kind n))
             (λ value. IsTimes self (T.number value)) }
     {
+        if self.denominator == 0 {
+            return None;
+        }
         let magnitude = self.numerator.magnitude();
-        if self.denominator == 0 || magnitude % self.denominator > 0 {
+        if magnitude % self.denominator > 0 {
             return None;
         }
         T::from_magnitude(self.numerator < 0, magnitude / self.denominator)

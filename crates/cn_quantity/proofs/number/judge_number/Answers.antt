@@ -37,4 +37,4 @@ pub returns : goal.returns
 returns c =
     whole-goes_on c.args.method c.args.skipped _ c.args.text.now _
     (not-true _ c.in_default.ensures) c.in_default-split_decimal.ensures.decimal
-    (sym c.in_default-short_tens.ensures) c.in_ok-whole-2.ensures c.decimal_of.ensures
+    (sym c.in_default-short_tens.ensures) c.in_ok-whole-2.ensures c.decimal_of-2.ensures
