@@ -47,13 +47,13 @@ impl Quantity {
     /// ```
     pub fn to_whole<T: Whole>(self) -> Option<T>
         ensures { MatchOption result
-            ((n : ℤ) → IsTimes self n → ¬ IsTrue (holds T.kind n))
-            (λ value. IsTimes self (T.number value)) }
+            ((n : ℤ) → IsTimes self.numerator self.denominator n → ¬ IsTrue (holds T.kind n))
+            (λ value. IsTimes self.numerator self.denominator (T.number value)) }
     {
         if self.denominator == 0 {
             return None;
         }
-        let magnitude = self.numerator.magnitude();
+        let magnitude = self.numerator.unsigned_abs();
         if magnitude % self.denominator > 0 {
             return None;
         }
