@@ -1,0 +1,1 @@
+//! What users may count on, as contracts of functions that do nothing.
