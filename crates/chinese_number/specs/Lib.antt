@@ -37,6 +37,7 @@ pub use Rattle.cn_find.specs.Belongs
 pub use Rattle.cn_find.specs.Number
 pub use Rattle.cn_find.specs.Parting
 pub use Rattle.cn_find.specs.Plain
+pub use Rattle.cn_find.specs.Rule
 pub use Rattle.cn_find.specs.Runs
 pub use Rattle.cn_find.specs.Spans
 pub use Rattle.cn_print.specs.ErrorText as PrintErrorText

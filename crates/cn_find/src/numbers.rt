@@ -2,43 +2,44 @@ ghost use Rattle.std.specs.Prelude.{◌≡◌, ◌≤◌, length};
 ghost use Rattle.std.specs.Iterator.{YieldsFirstBy, item_count};
 ghost use Rattle.cn_find.specs.Spans.{spans, span_of};
 
+use crate::rule::{NumberRule, SearchRule};
 use crate::run::next_run;
 use crate::{Found, Wanted};
 use std::marker::Model;
 
-/// The numbers of a text, seen as the list of those that are left.
+/// The runs of a text by a rule, seen as the list of those that are left.
 #[derive(Drop)]
-pub struct Numbers<'a> {
-    wanted: Wanted,
+pub struct Numbers<'a, R: SearchRule> {
+    rule: R,
     whole: &'a str,
     // The end that is not yet searched.
     rest: &'a str,
 }
 
-impl<'a> Model for Numbers<'a> {
+impl<'a, R: SearchRule> Model for Numbers<'a, R> {
     ghost use Rattle.std.specs.Prelude.{◌≡◌, ◌++◌, List};
-    ghost use Rattle.cn_find.specs.Spans.{Span, text_before, spans_left};
+    ghost use Rattle.cn_find.specs.Spans.{Span, text_before, left_by};
 
     ghost Value = { List Span };
 
-    ghost view = { λ n. spans_left n.wanted n.whole.now n.rest.now };
+    ghost view = { λ n. left_by (R.rule n.rule) n.whole.now n.rest.now };
 
     ghost invariant = { λ n. text_before n.whole.now n.rest.now ++ n.rest.now ≡ n.whole.now };
 }
 
 /// The numbers of a text, from the first to the last.
-pub fn find_numbers(text: &str, wanted: Wanted) -> Numbers<'_>
+pub fn find_numbers(text: &str, wanted: Wanted) -> Numbers<'_, NumberRule>
     ensures numbers { result ≡ spans wanted text.now }
     ensures few { length result ≤ length text.now }
 {
     Numbers {
-        wanted,
+        rule: NumberRule { wanted },
         whole: text,
         rest: text,
     }
 }
 
-impl<'a> Iterator for Numbers<'a> {
+impl<'a, R: SearchRule> Iterator for Numbers<'a, R> {
     type Item = Found<'a>;
 
     ghost next_gives = { YieldsFirstBy span_of (λ left. left) };
@@ -47,7 +48,7 @@ impl<'a> Iterator for Numbers<'a> {
 
     #[tactic(auto, using(crate::proofs::Runs::none_left))]
     fn next(&mut self) -> Option<Found<'a>> {
-        match next_run(self.wanted, self.whole, self.rest) {
+        match next_run(self.rule, self.whole, self.rest) {
             Some(found) => {
                 self.rest = found.after;
                 Some(found)
