@@ -40,6 +40,7 @@ pub use cn_find::Numbers;
 pub use cn_find::SearchRule;
 pub use cn_find::Wanted;
 pub use cn_find::find_numbers;
+pub use cn_find::find_numbers_from;
 pub use cn_print::NumberToChinese;
 pub use cn_print::NumberToChineseError;
 pub use cn_print::from_i8_to_chinese;

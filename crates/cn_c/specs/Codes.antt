@@ -71,7 +71,7 @@ units =
 abbrev pub uppers : List Bool
 uppers = false ∷ true ∷ []
 
--- the text was read or written, or a number was found in it
+-- the text was read or written, or searched for numbers
 abbrev pub CN_DONE : ℕ
 CN_DONE = 0
 
@@ -110,10 +110,6 @@ CN_UNKNOWN = 8
 -- the text is no amount, or no date, and something behind it can make it one
 abbrev pub CN_UNFINISHED : ℕ
 CN_UNFINISHED = 9
-
--- there is no number in the text
-abbrev pub CN_NONE : ℕ
-CN_NONE = 10
 
 -- there is no such date
 abbrev pub CN_NOT_A_DATE : ℕ

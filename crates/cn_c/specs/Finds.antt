@@ -1,17 +1,13 @@
 -- What a call that finds answers.
-use Rattle.std.specs.Prelude.{◌≡◌, ℕ, ◌+◌, Bool, List, [], ◌∷◌, length, chars, Option, Some, slice_get, if◌then◌else◌}
+use Rattle.std.specs.Prelude.{◌≡◌, ℕ, ◌+◌, Bool, List, ◌++◌, length, take, drop, map, chars, Option, Some, IsCharBoundary, slice_get, if◌then◌else◌}
 use Rattle.std.specs.Bool.{MatchBool}
 use Rattle.std.specs.Str.{is_utf8}
 use Rattle.chinese_number.specs.declared.Unit.{Unit as NumeralUnit}
 use Rattle.chinese_number.specs.declared.Wanted.{Wanted}
 use Rattle.chinese_number.specs.Number.{is_plain}
-use Rattle.chinese_number.specs.Spans.{Span as SpanOfText, spans}
+use Rattle.chinese_number.specs.Spans.{Span as SpanOfText, spans_left}
 use Rattle.cn_c.specs.declared.finding.Span.{Span}
-use Rattle.cn_c.specs.Codes.{uppers, units, CN_DONE, CN_NOT_UTF8, CN_UNKNOWN, CN_NONE}
-
--- what is told where there is no number
-abbrev pub nowhere : Span
-nowhere = record { start = 0; end = 0; digits = 0 }
+use Rattle.cn_c.specs.Codes.{uppers, units, CN_DONE, CN_NOT_UTF8, CN_UNKNOWN}
 
 -- where a number stands, and whether it is plain digits
 abbrev pub span_told : SpanOfText → Span
@@ -21,24 +17,34 @@ span_told span = record {
   digits = if is_plain (chars span.text) then 1 else 0;
 }
 
--- the first of these numbers is told, if there is one
-abbrev pub TellsFirstOf : List SpanOfText → ℕ → Span → Type 0
-TellsFirstOf [] status span = (status ≡ CN_NONE) × (span ≡ nowhere)
-TellsFirstOf (first ∷ rest) status span = (status ≡ CN_DONE) × (span ≡ span_told first)
+-- what is told of a text from a byte on: the numbers there, as many as there is room for
+abbrev pub spans_told : Wanted → List ℕ → ℕ → ℕ → List Span
+spans_told wanted text from most =
+    map span_told (take most (spans_left wanted text (drop from text)))
 
--- the first number of a text
-abbrev pub TellsFirst : Wanted → List ℕ → ℕ → Span → Type 0
-TellsFirst wanted text status span = TellsFirstOf (spans wanted text) status span
+-- these spans stand at the start of the array, and all behind them stay
+abbrev pub Fills : List Span → List Span → List Span → ℕ → Type 0
+Fills told old new count = (new ≡ told ++ drop (length told) old) × (count ≡ length told)
+
+-- the numbers of a text from a byte on, if a character begins there or the text ends
+pub record FindsFrom (wanted : Wanted) (text : List ℕ) (from : ℕ) (old : List Span) (status : ℕ)
+    (new : List Span) (count : ℕ) : Type 0 where
+  pub found : IsCharBoundary text from
+      → (status ≡ CN_DONE) × Fills (spans_told wanted text from (length old)) old new count
+  pub none : ¬ IsCharBoundary text from
+      → (status ≡ CN_NOT_UTF8) × (new ≡ old) × (count ≡ 0)
 
 -- what is told of bytes, by the case and the unit that two codes name
-abbrev pub IsFoundAs : Option Bool → Option NumeralUnit → List ℕ → ℕ → Span → Type 0
-IsFoundAs (Some upper) (Some greatest) bytes status span =
+abbrev pub IsFoundAs : Option Bool → Option NumeralUnit → List ℕ → ℕ → List Span → ℕ → List Span
+    → ℕ → Type 0
+IsFoundAs (Some upper) (Some greatest) bytes from old status new count =
     MatchBool (is_utf8 bytes)
-    (TellsFirst (record { upper = upper; greatest = greatest }) bytes status span)
-    ((status ≡ CN_NOT_UTF8) × (span ≡ nowhere))
-IsFoundAs upper greatest bytes status span = (status ≡ CN_UNKNOWN) × (span ≡ nowhere)
+    (FindsFrom (record { upper = upper; greatest = greatest }) bytes from old status new count)
+    ((status ≡ CN_NOT_UTF8) × (new ≡ old) × (count ≡ 0))
+IsFoundAs upper greatest bytes from old status new count =
+    (status ≡ CN_UNKNOWN) × (new ≡ old) × (count ≡ 0)
 
 -- what is told of bytes, by whether the upper case is wanted and the code of the greatest unit
-abbrev pub IsFound : List ℕ → ℕ → ℕ → ℕ → Span → Type 0
-IsFound bytes upper greatest status span =
-    IsFoundAs (slice_get uppers upper) (slice_get units greatest) bytes status span
+abbrev pub IsFound : List ℕ → ℕ → ℕ → ℕ → List Span → ℕ → List Span → ℕ → Type 0
+IsFound bytes from upper greatest old status new count =
+    IsFoundAs (slice_get uppers upper) (slice_get units greatest) bytes from old status new count

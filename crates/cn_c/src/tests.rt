@@ -77,46 +77,80 @@ fn prints(rt: HostRuntime) {
     }
 }
 
-// A text, whether the upper case is looked for, and the code of the greatest unit; the status, and
-// of the first number its start and end in bytes and whether it is plain digits.
-static FOUND: [(&str, u32, u32, u32, usize, usize, u32); 8] = [
-    ("第二十三回", 0, 6, 0, 3, 12, 0),
-    ("二零二五年十一月", 0, 6, 0, 0, 12, 1),
-    ("買2兩", 0, 6, 0, 3, 4, 1),
-    ("參加", 0, 6, 10, 0, 0, 0),
-    ("參加", 1, 6, 0, 0, 3, 1),
-    ("北京二环", 0, 7, 0, 3, 9, 0),
-    ("", 0, 15, 10, 0, 0, 0),
-    ("一", 2, 6, 8, 0, 0, 0),
+// What stands in the array before a call.
+const UNTOLD: Span = Span {
+    start: 7,
+    end: 7,
+    digits: 7,
+};
+
+// A text, whether the upper case is looked for, and the code of the greatest unit; the status, how
+// many numbers are told where there is room for one, and of the first number its start and end in
+// bytes and whether it is plain digits.
+static FOUND: [(&str, u32, u32, u32, usize, usize, usize, u32); 8] = [
+    ("第二十三回", 0, 6, 0, 1, 3, 12, 0),
+    ("二零二五年十一月", 0, 6, 0, 1, 0, 12, 1),
+    ("買2兩", 0, 6, 0, 1, 3, 4, 1),
+    ("參加", 0, 6, 0, 0, 7, 7, 7),
+    ("參加", 1, 6, 0, 1, 0, 3, 1),
+    ("北京二环", 0, 7, 0, 1, 3, 9, 0),
+    ("", 0, 15, 0, 0, 7, 7, 7),
+    ("一", 2, 6, 8, 0, 7, 7, 7),
 ];
 
 #[test]
 fn finds(rt: HostRuntime) {
-    for (text, upper, greatest, status, start, end, digits) in &FOUND {
-        let mut span = Span {
-            start: 7,
-            end: 7,
-            digits: 7,
-        };
-        let answer = chinese_number_find(text.as_bytes(), *upper, *greatest, &mut span);
+    for (text, upper, greatest, status, count, start, end, digits) in &FOUND {
+        let (mut spans, mut found) = ([UNTOLD], 7);
+        let text_bytes = text.as_bytes();
+        let answer = chinese_number_find(text_bytes, 0, *upper, *greatest, &mut spans, &mut found);
         assert_eq!(rt; answer, *status, "{text}");
-        assert_eq!(rt; span.start, *start, "{text}");
-        assert_eq!(rt; span.end, *end, "{text}");
-        assert_eq!(rt; span.digits, *digits, "{text}");
+        assert_eq!(rt; found, *count, "{text}");
+        assert_eq!(rt; spans[0].start, *start, "{text}");
+        assert_eq!(rt; spans[0].end, *end, "{text}");
+        assert_eq!(rt; spans[0].digits, *digits, "{text}");
     }
 }
 
 #[test]
-fn finds_in_utf8_and_in_no_other_bytes(rt: HostRuntime) {
-    let mut span = Span {
-        start: 7,
-        end: 7,
-        digits: 7,
-    };
-    let status = unsafe { chinese_number_find_utf8("三百元".as_bytes(), 0, 6, &mut span) };
+fn finds_from_a_place_as_many_as_there_is_room_for(rt: HostRuntime) {
+    let text = "三百元，五，十".as_bytes();
+    let (mut spans, mut count) = ([UNTOLD; 2], 7);
+    assert_eq!(rt;
+        chinese_number_find(text, 0, 0, 6, &mut spans, &mut count),
+        0
+    );
+    assert_eq!(rt; count, 2);
+    assert_eq!(rt; spans[0].end, 6);
+    assert_eq!(rt; spans[1].start, 12);
+    let status = unsafe { chinese_number_find_utf8(text, 15, 0, 6, &mut spans, &mut count) };
     assert_eq!(rt; status, 0);
-    assert_eq!(rt; span.end, 6);
-    assert_eq!(rt; chinese_number_find("三百".as_bytes(), 0, 16, &mut span), 8);
-    assert_eq!(rt; chinese_number_find(b"\xe4\xb8", 0, 6, &mut span), 5);
-    assert_eq!(rt; span.end, 0);
+    assert_eq!(rt; count, 1);
+    assert_eq!(rt; spans[0].start, 18);
+    assert_eq!(rt; spans[1].start, 12);
+}
+
+#[test]
+fn finds_in_utf8_from_a_character_on_alone(rt: HostRuntime) {
+    let (mut spans, mut count) = ([UNTOLD], 7);
+    assert_eq!(rt;
+        chinese_number_find(b"\xe4\xb8", 0, 0, 6, &mut spans, &mut count),
+        5
+    );
+    assert_eq!(rt; count, 0);
+    let text = "三百".as_bytes();
+    assert_eq!(rt;
+        chinese_number_find(text, 1, 0, 6, &mut spans, &mut count),
+        5
+    );
+    assert_eq!(rt;
+        chinese_number_find(text, 7, 0, 6, &mut spans, &mut count),
+        5
+    );
+    assert_eq!(rt;
+        chinese_number_find(text, 0, 0, 16, &mut spans, &mut count),
+        8
+    );
+    assert_eq!(rt; count, 0);
+    assert_eq!(rt; spans[0].start, 7);
 }

@@ -3,7 +3,8 @@ ghost use Rattle.cn_judge.specs.Answer.{answer_of};
 ghost use Rattle.cn_find.specs.Number.{IsAnswer, is_plain};
 
 use cn_core::{ChineseCountMethod, Whole, digit_of};
-use cn_judge::{ChineseToNumberError, read, read_naive};
+use cn_judge::{ChineseToNumberError, read_naive};
+use cn_quick::read;
 
 /// A run of numeral characters in its text.
 #[derive(Debug, Copy, Clone)]

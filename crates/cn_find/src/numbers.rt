@@ -1,6 +1,6 @@
-ghost use Rattle.std.specs.Prelude.{◌≡◌, ◌≤◌, length};
+ghost use Rattle.std.specs.Prelude.{◌≡◌, ◌≤◌, ◌↔◌, length, drop, IsSome, IfSome, IsCharBoundary};
 ghost use Rattle.std.specs.Iterator.{YieldsFirstBy, item_count};
-ghost use Rattle.cn_find.specs.Spans.{spans, span_of};
+ghost use Rattle.cn_find.specs.Spans.{spans, spans_left, span_of};
 
 use crate::rule::{NumberRule, SearchRule};
 use crate::run::next_run;
@@ -37,6 +37,23 @@ pub fn find_numbers(text: &str, wanted: Wanted) -> Numbers<'_, NumberRule>
         whole: text,
         rest: text,
     }
+}
+
+/// The numbers of a text from a byte on, which stand behind the whole text in front of it.
+///
+/// `find_numbers_from("一，二", 3, Wanted::EVERYDAY)` gives 二, behind `一，`. It is `None` where no
+/// character of the text begins at that byte, nor does the text end there.
+pub fn find_numbers_from(text: &str, from: usize, wanted: Wanted) -> Option<Numbers<'_, NumberRule>>
+    ensures variant { IsSome result ↔ IsCharBoundary text.now from }
+    ensures numbers { IfSome result
+        (λ numbers. numbers ≡ spans_left wanted text.now (drop from text.now)) }
+{
+    let (_, rest) = text.split_at_checked(from)?;
+    Some(Numbers {
+        rule: NumberRule { wanted },
+        whole: text,
+        rest,
+    })
 }
 
 impl<'a, R: SearchRule> Iterator for Numbers<'a, R> {

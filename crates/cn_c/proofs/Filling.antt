@@ -1,0 +1,53 @@
+-- Steps of a loop that fills an array of what it takes from a list.
+use Rattle.std.proofs.Common.{◌≡◌, ℕ, ◌+◌, ◌<◌, ◌≤◌, List, [], ◌∷◌, ◌++◌, length, map, take, drop, set, refl, sym, ap, arith, add-one, zero, suc}
+
+-- where one is left, it is put behind those that were
+filled-suc : {A B : Type 0} (f : A → B) (n : ℕ) (all rest : List A) (old : List B) (x : A)
+    → drop n all ≡ x ∷ rest → n < length old
+    → set (map f (take n all) ++ drop n old) n (f x)
+    ≡ map f (take (suc n) all) ++ drop (suc n) old
+filled-suc f zero [] rest old x e l = cc
+filled-suc f zero (a ∷ all) rest [] x e l = absurd (omega (arith, l))
+filled-suc f zero (a ∷ all) rest (b ∷ old) x e l =
+    let same : a ≡ x = cc in ap (λ y. f y ∷ old) (sym same)
+filled-suc f (suc n) [] rest old x e l = cc
+filled-suc f (suc n) (a ∷ all) rest [] x e l = absurd (omega (arith, l))
+filled-suc f (suc n) (a ∷ all) rest (b ∷ old) x e l =
+    ap (λ ys. f a ∷ ys) (filled-suc f n all rest old x e (omega (arith, l)))
+
+pub filled : {A B : Type 0} (f : A → B) (n : ℕ) (all rest : List A) (old : List B) (x : A)
+    → drop n all ≡ x ∷ rest → n < length old
+    → set (map f (take n all) ++ drop n old) n (f x)
+    ≡ map f (take (n + 1) all) ++ drop (n + 1) old
+filled f n all rest old x e l = rw add-one (filled-suc f n all rest old x e l)
+
+left-suc : {A : Type 0} (n : ℕ) (all rest : List A) (x : A) → drop n all ≡ x ∷ rest
+    → drop (suc n) all ≡ rest
+left-suc zero [] rest x e = cc
+left-suc zero (a ∷ all) rest x e = cc
+left-suc (suc n) [] rest x e = cc
+left-suc (suc n) (a ∷ all) rest x e = left-suc n all rest x e
+
+pub left : {A : Type 0} (n : ℕ) (all rest : List A) (x : A) → drop n all ≡ x ∷ rest
+    → drop (n + 1) all ≡ rest
+left n all rest x e = rw add-one (left-suc n all rest x e)
+
+-- one that is left is one of them
+pub within : {A : Type 0} (n : ℕ) (all rest : List A) (x : A) → drop n all ≡ x ∷ rest
+    → n + 1 ≤ length all
+within zero [] rest x e = cc
+within zero (a ∷ all) rest x e = omega arith
+within (suc n) [] rest x e = cc
+within (suc n) (a ∷ all) rest x e = omega (arith, within n all rest x e)
+
+-- where none is left, as many as there may be are all
+pub taken : {A : Type 0} (n most : ℕ) (all : List A) → drop n all ≡ [] → n ≤ most
+    → take most all ≡ take n all
+taken zero zero [] e l = refl
+taken zero (suc most) [] e l = refl
+taken (suc n) zero [] e l = refl
+taken (suc n) (suc most) [] e l = refl
+taken zero most (a ∷ all) e l = cc
+taken (suc n) zero (a ∷ all) e l = absurd (omega (arith, l))
+taken (suc n) (suc most) (a ∷ all) e l =
+    ap (λ xs. a ∷ xs) (taken n most all e (omega (arith, l)))

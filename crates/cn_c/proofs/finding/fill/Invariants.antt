@@ -1,0 +1,11 @@
+use Rattle.std.proofs.Common.{◌≡◌, ◌≤◌, ◌++◌, map, take, drop, length}
+use Rattle.cn_c.specs.Finds.{span_told}
+use Rattle.cn_c.proofs.finding.fill.Given as goal
+
+abbrev pub invariant-filling : goal.invariant-filling
+invariant-filling l = record {
+  within : l.count ≤ length l.fn.numbers;
+  room : l.count ≤ length l.fn.spans;
+  left : l.numbers ≡ drop l.count l.fn.numbers;
+  told : l.spans ≡ map span_told (take l.count l.fn.numbers) ++ drop l.count l.fn.spans;
+}
