@@ -20,7 +20,8 @@ pub use answers::{
     numerals_alone_are_read,
 };
 pub use cn_find::laws::{
-    numbers_are_the_runs, numbers_come_in_order, one_number_either_way,
+    no_number_ends_with_mega, numbers_are_the_runs, numbers_come_in_order,
+    numbers_that_meet_do_not_stand_alone, numerals_have_no_estimate, one_number_either_way,
     runs_begin_with_no_other_sign, searches_go_on_behind_a_number, types_answer_alike_without_sign,
     unwanted_characters_part_texts, wanted_constants_are,
 };

@@ -1,14 +1,12 @@
 -- A character that is as the end of a text parts it; and a search goes on behind a run.
-use Rattle.std.proofs.Common.{◌≡◌, ℕ, Bool, true, false, not, ◌&&◌, ◌||◌, List, [], ◌∷◌, ◌++◌, map, reverse, chars, encode_utf8, encode_utf8_all, IsUtf8, refl, sym, ap, subst, ◌∙◌, append-nil, append_assoc, if◌then◌else◌}
+use Rattle.std.proofs.Common.{◌≡◌, ℕ, Bool, true, false, not, ◌&&◌, List, [], ◌∷◌, ◌++◌, map, reverse, chars, encode_utf8, encode_utf8_all, IsUtf8, refl, sym, ap, subst, ◌∙◌, append-nil, append_assoc, if◌then◌else◌}
 use mathlib.Core.List.{reverse_aux}
 use Rattle.std.proofs.lemmas.Grind.{reverse_onto}
 use Rattle.std.proofs.lemmas.List.{map-append, reverse-append, reverse-reverse}
 use Rattle.std.proofs.lemmas.Str.{chars-append, chars-encodes, chars_from_encodes, chars_past_char, IsUtf8-past_char, encodes-append, encodes-chars, scalars-chars}
 use Rattle.std.proofs.Math.Bool.{and-false}
 use Rattle.std.proofs.Math.Utf8.{scalars}
-use Rattle.cn_core.specs.Mark.{mark_of}
 use Rattle.cn_find.specs.declared.wanted.Wanted.{Wanted}
-use Rattle.cn_find.specs.Belongs.{belongs, counts_next, is_ge, is_great, is_wanted}
 use Rattle.cn_find.specs.Parting.{with_text_before, with_text_after}
 use Rattle.cn_find.specs.Rule.{Rule, number_rule, is_joined}
 use Rattle.cn_find.specs.Spans.{Span, run_of, after_run, span_at, begun_at, spans_after, spans_by, spans, text_before, in_front, left_by}
@@ -350,26 +348,3 @@ searches-go_on wanted bytes first rest e ended =
 
       r : Rest (number_rule wanted) [] (chars bytes) first rest
       r = rest-behind (number_rule wanted) bytes first rest e
-
--- a character that is not wanted parts a text into numbers
-unwanted : (wanted : Wanted) (c : ℕ) (after : List ℕ) → is_wanted wanted c ≡ false
-    → belongs wanted c after ≡ false
-unfolding belongs
-unwanted wanted c after e = rw e
-
-belongs-same : (wanted : Wanted) (d c : ℕ) (right xs : List ℕ) → is_wanted wanted c ≡ false
-    → belongs wanted d (xs ++ c ∷ right) ≡ belongs wanted d xs
-unfolding belongs
-belongs-same wanted d c right [] e =
-    let none : counts_next wanted (c ∷ right) ≡ false =
-    ap (λ b. is_great (mark_of c) && b) e ∙ and-false (is_great (mark_of c)) in
-    ap (λ b. is_wanted wanted d && (not (is_ge (mark_of d)) || b)) none
-belongs-same wanted d c right (x ∷ xs) e = refl
-
-pub unwanted-parts : (wanted : Wanted) (c : ℕ) → is_wanted wanted c ≡ false
-    → Parts (number_rule wanted) c
-unwanted-parts wanted c e = record {
-  outside = λ front after. unwanted wanted c after e;
-  ends = λ front d xs right. belongs-same wanted d c right xs e;
-  begins = λ front left d after. refl;
-}

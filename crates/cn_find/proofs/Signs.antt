@@ -12,7 +12,7 @@ use Rattle.cn_core.specs.Text.{text_of}
 use Rattle.cn_core.proofs.Fronts.{and-left, and-right}
 use Rattle.cn_judge.proofs.Walking.{outside-mark}
 use Rattle.cn_find.specs.declared.wanted.Wanted.{Wanted}
-use Rattle.cn_find.specs.Belongs.{belongs, is_wanted, is_wanted_mark}
+use Rattle.cn_find.specs.Belongs.{belongs, is_numeral, is_wanted, is_wanted_mark}
 use Rattle.cn_find.specs.Rule.{number_rule}
 use Rattle.cn_find.specs.Runs.{each_belongs}
 use Rattle.cn_find.specs.Spans.{Span, spans}
@@ -34,7 +34,8 @@ all_units = refl
 belongs-wanted : (wanted : Wanted) (c : ℕ) (after : List ℕ) → belongs wanted c after ≡ true
     → is_wanted wanted c ≡ true
 unfolding belongs
-belongs-wanted wanted c after h = and-left (is_wanted wanted c) _ h
+belongs-wanted wanted c after h =
+    and-left (is_wanted wanted c) _ (and-left (is_numeral wanted c after) _ h)
 
 belongs-dark : (wanted : Wanted) (c : ℕ) (after : List ℕ) → belongs wanted c after ≡ true
     → is_dark c ≡ true

@@ -1,4 +1,5 @@
 pub mod Belongs
+pub mod Flags
 pub mod Number
 pub mod Parting
 pub mod Plain

@@ -3,10 +3,10 @@ ghost use Rattle.std.specs.Prelude.{◌≡◌, ◌&&◌, nat_le, chars};
 ghost use Rattle.cn_core.specs.Characters.{rank};
 ghost use Rattle.cn_core.specs.Mark.{mark_of};
 ghost use Rattle.cn_judge.specs.Marked.{marked};
-ghost use Rattle.cn_find.specs.Belongs.{belongs, counts_next, is_ge, is_great, is_chinese_digit, is_parted, is_upper, is_wanted, is_wanted_mark};
+ghost use Rattle.cn_find.specs.Belongs.{begins_measure, belongs, counts_next, is_chinese_digit, is_ge, is_great, is_mega, is_numeral, is_parted, is_upper, is_wanted, is_wanted_mark};
 
 use crate::Wanted;
-use cn_core::{Unit, digit_of};
+use cn_core::{Unit, digit_of, split_first_char};
 use cn_judge::{Mark, split_first_mark};
 
 // The forms that stand in the upper case alone.
@@ -74,14 +74,53 @@ fn is_wanted(wanted: Wanted, c: char, mark: Mark) -> bool
     is_wanted_mark(wanted.greatest, mark) && (wanted.upper || !is_upper(c))
 }
 
+// Whether the text begins with a word that is counted in 兆 as mega: most by their first character,
+// the others by the first two.
+#[tactic(auto, unfolding(crate::specs::Belongs::begins_measure))]
+fn begins_measure(text: &str) -> bool
+    ensures { result ≡ begins_measure (chars text.now) }
+{
+    let Some((first, after)) = split_first_char(text) else {
+        return false;
+    };
+    let next = split_first_char(after).map_or('\0', |(next, _)| next);
+    match first {
+        '瓦' | '赫' | '帕' | '焦' | '伏' | '乏' => true,
+        '字' => matches!(next, '节' | '節'),
+        '比' => next == '特',
+        '电' | '電' => next == '子',
+        '宽' | '寬' => matches!(next, '带' | '帶' | '頻'),
+        '带' | '帶' | '頻' => matches!(next, '宽' | '寬'),
+        '位' => !matches!(next, '数' | '數'),
+        '欧' | '歐' => next != '元',
+        _ => false,
+    }
+}
+
+// Whether a character is 兆 that is mega.
+fn is_mega(mark: Mark, c: char, after: &str) -> bool
+    requires { marked mark ≡ mark_of c }
+    ensures { result ≡ is_mega c (chars after.now) }
+{
+    matches!(mark, Mark::Unit(Unit::Zhao)) && begins_measure(after)
+}
+
+// Whether a character is looked for, and is no 兆 that is mega.
+fn is_numeral(wanted: Wanted, c: char, mark: Mark, after: &str) -> bool
+    requires { marked mark ≡ mark_of c }
+    ensures { result ≡ is_numeral wanted c (chars after.now) }
+{
+    is_wanted(wanted, c, mark) && !is_mega(mark, c, after)
+}
+
 // Whether the text begins with a unit that 個 in front of it counts.
 fn counts_next(wanted: Wanted, text: &str) -> bool
     ensures { result ≡ counts_next wanted (chars text.now) }
 {
-    let Some((c, mark, _)) = split_first_mark(text) else {
+    let Some((c, mark, after)) = split_first_mark(text) else {
         return false;
     };
-    is_great(mark) && is_wanted(wanted, c, mark)
+    is_great(mark) && is_numeral(wanted, c, mark, after)
 }
 
 /// Whether a character with its mark is one of a number, by what follows it.
@@ -104,14 +143,14 @@ fn known_belongs(wanted: Wanted, c: char, mark: Mark, after: &str) -> bool
     requires { marked mark ≡ mark_of c }
     ensures { result ≡ belongs wanted c (chars after.now) }
 {
-    if !is_wanted(wanted, c, mark) {
+    if !is_numeral(wanted, c, mark, after) {
         return false;
     }
     !is_ge(mark) || counts_next(wanted, after)
 }
 
-// Whether a character is a digit, and no ASCII one.
-fn is_chinese_digit(c: char) -> bool
+/// Whether a character is a digit, and no ASCII one.
+pub fn is_chinese_digit(c: char) -> bool
     ensures { result ≡ is_chinese_digit c }
 {
     digit_of(c).is_some() && !c.is_ascii_digit()

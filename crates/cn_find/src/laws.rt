@@ -1,5 +1,5 @@
 //! What users may count on, as contracts of functions that do nothing.
-ghost use Rattle.std.specs.Prelude.{◌≡◌, ◌≢◌, ◌↔◌, ◌∷◌, ◌++◌, ℕ, ℤ, List, map, chars, encode_utf8, true, false, None, Some, Ok, Err, IsTrue};
+ghost use Rattle.std.specs.Prelude.{◌≡◌, ◌≢◌, ◌↔◌, [], ◌∷◌, ◌++◌, ℕ, ℤ, List, map, chars, encode_utf8, true, false, None, Some, Ok, Err, IsTrue};
 ghost use Rattle.std.specs.List.{Contains, list_all};
 ghost use Rattle.std.specs.Str.{IsUtf8};
 ghost use Rattle.cn_core.specs.declared.method.ChineseCountMethod.{ChineseCountMethod};
@@ -11,12 +11,13 @@ ghost use Rattle.cn_core.specs.Naive.{decimal_value};
 ghost use Rattle.cn_core.specs.Numeral.{IsNumeral};
 ghost use Rattle.cn_core.specs.Reading.{leading_sign};
 ghost use Rattle.cn_core.specs.Refusal.{incorrect_at};
-ghost use Rattle.cn_core.specs.Text.{text_of};
+ghost use Rattle.cn_core.specs.Text.{marks_of, text_of};
 ghost use Rattle.cn_core.specs.Value.{numeral_value};
 ghost use Rattle.cn_core.specs.Whole.{Kind, holds};
-ghost use Rattle.cn_find.specs.Belongs.{is_wanted};
+ghost use Rattle.cn_find.specs.Belongs.{is_mega, is_wanted};
+ghost use Rattle.cn_find.specs.Flags.{is_one_estimate, pairs};
 ghost use Rattle.cn_find.specs.Number.{IsAnswer};
-ghost use Rattle.cn_find.specs.Parting.{with_text_after, with_text_before};
+ghost use Rattle.cn_find.specs.Parting.{Meet, is_alone, is_of_measure, with_text_after, with_text_before};
 ghost use Rattle.cn_find.specs.Plain.{is_decimal};
 ghost use Rattle.cn_find.specs.Spans.{Span, spans};
 ghost use Rattle.cn_find.specs.Runs.{IsRun, is_rising};
@@ -35,11 +36,12 @@ pub fn numbers_come_in_order(wanted: Wanted)
     ensures { (bytes : List ℕ) → IsTrue (is_rising 0 (spans wanted bytes)) }
 {}
 
-/// A character that is not wanted parts a text: what is found is what is found in front of it, and
-/// then what is found behind it. So lines, and parts of a file, can be searched by themselves.
+/// A character that is not wanted, and by which no word is known that is counted in 兆 as mega, parts a
+/// text: what is found is what is found in front of it, and then what is found behind it. So lines, and
+/// parts of a file, can be searched by themselves.
 pub fn unwanted_characters_part_texts(wanted: Wanted)
     ensures { (left right : List ℕ) (c : ℕ) → IsUtf8 left → IsUtf8 (encode_utf8 c ++ right)
-        → is_wanted wanted c ≡ false
+        → is_wanted wanted c ≡ false → is_of_measure c ≡ false
         → spans wanted (left ++ (encode_utf8 c ++ right))
         ≡ map (with_text_after (encode_utf8 c ++ right)) (spans wanted left)
         ++ map (with_text_before (left ++ encode_utf8 c)) (spans wanted right) }
@@ -51,6 +53,27 @@ pub fn searches_go_on_behind_a_number(wanted: Wanted)
     ensures { (bytes : List ℕ) (first : Span) (rest : List Span)
         → spans wanted bytes ≡ first ∷ rest → IsUtf8 bytes
         → rest ≡ map (with_text_before (first.before ++ first.text)) (spans wanted first.after) }
+{}
+
+/// What is cut in two does not stand alone: where a number begins at the end of another one, or behind
+/// a link there, neither of them does.
+pub fn numbers_that_meet_do_not_stand_alone(wanted: Wanted)
+    ensures { (bytes : List ℕ) (first second : Span) → IsUtf8 bytes
+        → Contains (spans wanted bytes) first → Contains (spans wanted bytes) second
+        → Meet first second → (is_alone first ≡ false) × (is_alone second ≡ false) }
+{}
+
+/// No number ends with a 兆 that is mega: behind one stands no word that is counted so.
+pub fn no_number_ends_with_mega(wanted: Wanted)
+    ensures { (bytes : List ℕ) (span : Span) (front : List ℕ) (c : ℕ) → IsUtf8 bytes
+        → Contains (spans wanted bytes) span → chars span.text ≡ front ++ c ∷ []
+        → is_mega c (chars span.after) ≡ false }
+{}
+
+/// No two digits of a numeral are said for about so many: a number by units is about so much only by
+/// what stands around it.
+pub fn numerals_have_no_estimate()
+    ensures { (text : List ℕ) → IsNumeral (marks_of text) → is_one_estimate (pairs text) ≡ false }
 {}
 
 /// A run begins with a sign only where it begins with 正, the one plus sign.

@@ -18,5 +18,5 @@ pub use error::ChineseToNumberError;
 pub use judge::{AfterSign, first_digit, judge_text, read, signed_answer, split_sign};
 pub use mark::Mark;
 pub use naive::read_naive;
-pub use text::{split_first_known, split_first_mark, split_last_known};
+pub use text::{split_first_known, split_first_mark, split_last_char, split_last_known};
 pub use walk::separates_digits;
