@@ -1,4 +1,5 @@
 pub mod Belongs
+pub mod Expressions
 pub mod Flags
 pub mod Number
 pub mod Parting

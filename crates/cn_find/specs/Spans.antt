@@ -1,7 +1,9 @@
--- The runs of a text: its longest stretches of characters that belong to one number.
+-- The runs of a text: its longest stretches of characters that belong to one number, or to one
+-- expression.
 use Rattle.std.specs.Prelude.{ℕ, ◌-◌, Bool, false, not, ◌&&◌, List, [], ◌∷◌, ◌++◌, length, take, reverse, chars, encode_utf8_all, if◌then◌else◌}
 use Rattle.cn_find.specs.declared.found.Found.{Found}
 use Rattle.cn_find.specs.declared.wanted.Wanted.{Wanted}
+use Rattle.cn_find.specs.Expressions.{expression_rule}
 use Rattle.cn_find.specs.Rule.{Rule, number_rule, is_joined}
 
 -- a run in its text, by their bytes: what stands before it, the run, and what stands after it
@@ -52,6 +54,10 @@ spans_by rule bytes = spans_after rule false [] (chars bytes)
 abbrev pub spans : Wanted → List ℕ → List Span
 spans wanted bytes = spans_by (number_rule wanted) bytes
 
+-- the expressions of a text
+abbrev pub expressions : Wanted → List ℕ → List Span
+expressions wanted bytes = spans_by (expression_rule wanted) bytes
+
 -- a run as the code has it
 abbrev pub span_of : Found → Span
 span_of found = record { before = found.before.now; text = found.text.now; after = found.after.now }
@@ -72,3 +78,7 @@ left_by rule whole rest =
 -- the numbers that are left
 abbrev pub spans_left : Wanted → List ℕ → List ℕ → List Span
 spans_left wanted whole rest = left_by (number_rule wanted) whole rest
+
+-- the expressions that are left
+abbrev pub expressions_left : Wanted → List ℕ → List ℕ → List Span
+expressions_left wanted whole rest = left_by (expression_rule wanted) whole rest

@@ -36,7 +36,8 @@ fn is_upper(c: char) -> bool
     )
 }
 
-fn is_up_to(greatest: Unit, unit: Unit) -> bool
+/// Whether a unit is no greater than the greatest one.
+pub fn is_up_to(greatest: Unit, unit: Unit) -> bool
     ensures { result ≡ nat_le (rank unit) (rank greatest) }
 {
     greatest >= unit
@@ -67,7 +68,8 @@ fn is_great(mark: Mark) -> bool
     }
 }
 
-fn is_wanted(wanted: Wanted, c: char, mark: Mark) -> bool
+/// Whether a character with its mark is looked for.
+pub fn is_wanted(wanted: Wanted, c: char, mark: Mark) -> bool
     requires { marked mark ≡ mark_of c }
     ensures { result ≡ is_wanted wanted c }
 {

@@ -1,8 +1,8 @@
 ghost use Rattle.std.specs.Prelude.{◌≡◌, ◌≤◌, ◌↔◌, length, drop, IsSome, IfSome, IsCharBoundary};
 ghost use Rattle.std.specs.Iterator.{YieldsFirstBy, item_count};
-ghost use Rattle.cn_find.specs.Spans.{spans, spans_left, span_of};
+ghost use Rattle.cn_find.specs.Spans.{expressions, expressions_left, spans, spans_left, span_of};
 
-use crate::rule::{NumberRule, SearchRule};
+use crate::rule::{NumberRule, QuantityRule, SearchRule};
 use crate::run::next_run;
 use crate::{Found, Wanted};
 use std::marker::Model;
@@ -51,6 +51,42 @@ pub fn find_numbers_from(text: &str, from: usize, wanted: Wanted) -> Option<Numb
     let (_, rest) = text.split_at_checked(from)?;
     Some(Numbers {
         rule: NumberRule { wanted },
+        whole: text,
+        rest,
+    })
+}
+
+/// The expressions of a text, from the first to the last: numbers with their sign, their figures, their
+/// point and their units, percentages and fractions.
+///
+/// `find_quantities("占12.5%，共3.5万", Wanted::EVERYDAY)` gives `12.5%` and `3.5万`.
+pub fn find_quantities(text: &str, wanted: Wanted) -> Numbers<'_, QuantityRule>
+    ensures expressions { result ≡ expressions wanted text.now }
+    ensures few { length result ≤ length text.now }
+{
+    Numbers {
+        rule: QuantityRule { wanted },
+        whole: text,
+        rest: text,
+    }
+}
+
+/// The expressions of a text from a byte on, which stand behind the whole text in front of it.
+///
+/// `find_quantities_from("-3，-5", 5, Wanted::EVERYDAY)` gives `-5`, behind `-3，`. It is `None` where no
+/// character of the text begins at that byte, nor does the text end there.
+pub fn find_quantities_from(
+    text: &str,
+    from: usize,
+    wanted: Wanted,
+) -> Option<Numbers<'_, QuantityRule>>
+    ensures variant { IsSome result ↔ IsCharBoundary text.now from }
+    ensures expressions { IfSome result
+        (λ found. found ≡ expressions_left wanted text.now (drop from text.now)) }
+{
+    let (_, rest) = text.split_at_checked(from)?;
+    Some(Numbers {
+        rule: QuantityRule { wanted },
         whole: text,
         rest,
     })

@@ -1,11 +1,13 @@
 ghost use Rattle.std.specs.Prelude.{◌≡◌, ℕ, Bool, List, chars};
 ghost use Rattle.cn_core.specs.Mark.{mark_of};
 ghost use Rattle.cn_judge.specs.Marked.{marked};
+ghost use Rattle.cn_find.specs.Expressions.{expression_rule};
 ghost use Rattle.cn_find.specs.Rule.{Rule, number_rule};
 ghost use Rattle.cn_find.specs.Spans.{in_front};
 
 use crate::Wanted;
 use crate::belongs::{belongs, is_parted};
+use crate::expressions::{is_of_expression, parts_expressions};
 use cn_judge::Mark;
 
 /// What a search goes by: which characters of a text belong to what is looked for.
@@ -40,5 +42,25 @@ impl SearchRule for NumberRule {
     #[inline(always)]
     fn is_parted(self, c: char, next: char) -> bool {
         is_parted(c, next)
+    }
+}
+
+/// The rule of expressions.
+#[derive(Copy, Clone)]
+pub struct QuantityRule {
+    pub wanted: Wanted,
+}
+
+impl SearchRule for QuantityRule {
+    ghost rule = { λ r. expression_rule r.wanted };
+
+    #[inline(always)]
+    fn belongs(self, before: &str, c: char, mark: Mark, after: &str) -> bool {
+        is_of_expression(self.wanted, before, c, mark, after)
+    }
+
+    #[inline(always)]
+    fn is_parted(self, c: char, next: char) -> bool {
+        parts_expressions(c, next)
     }
 }
