@@ -50,11 +50,20 @@ abbrev pub begins_minutes : List ℕ → Bool
 begins_minutes [] = false
 begins_minutes (c ∷ after) = (is_some (digit_of c) || is_wide_digit c) && begins_time after
 
+-- the character makes a word with 一 in front of it, as 起 does
+unfoldable pub follows_one : ℕ → Bool
+follows_one c = char_set_contains (codes "定直起样樣些下切滴线線") c
+
+-- the characters begin with one that does
+abbrev pub ends_word : List ℕ → Bool
+ends_word [] = false
+ends_word (c ∷ after) = follows_one c
+
 -- the digit behind 点 begins a time, as 零 of 三点零五分, or a word, as 一 of 三点一起走
 unfoldable pub begins_word : ℕ → List ℕ → Bool
 begins_word c after =
     begins_time after || (char_set_contains (codes "零〇") c && begins_minutes after)
-    || (char_set_contains (codes "一") c && begins_with (codes "定直起样樣些下切滴线線") after)
+    || (char_set_contains (codes "一") c && ends_word after)
 
 -- the characters begin with a digit that is no figure, and that begins neither time nor word
 abbrev pub begins_decimals : Wanted → List ℕ → Bool
@@ -120,6 +129,15 @@ abbrev pub ends_spaced : List ℕ → Bool
 ends_spaced [] = false
 ends_spaced (c ∷ front) = char_set_contains (codes " ") c && begins_figure front
 
+-- the character makes a word with 负 behind it, as 抱 does
+unfoldable pub precedes_minus : ℕ → Bool
+precedes_minus c = char_set_contains (codes "正非背揹肩担擔抱胜勝辜欺自不") c
+
+-- the nearest character is one that does
+abbrev pub ends_verb : List ℕ → Bool
+ends_verb [] = false
+ends_verb (c ∷ front) = precedes_minus c
+
 -- behind this character `-` is no sign: a letter, a percent sign, a bracket, a point, a bar
 unfoldable pub binds_minus : ℕ → Bool
 binds_minus c =
@@ -147,7 +165,7 @@ joins wanted front c after =
     && (ends_numeral wanted front || ends_spaced front))
     || (char_set_contains (codes "负負") c
     && (begins_numeral wanted after && (not (ends_numeral wanted front)
-    && not (begins_with (codes "正非背揹肩担擔抱胜勝辜欺自不") front))))
+    && not (ends_verb front))))
     || (char_set_contains (codes "-−－") c
     && (begins_figure after && (not (ends_numeral wanted front)
     && not (ends_bound front))))

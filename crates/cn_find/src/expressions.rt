@@ -3,7 +3,7 @@ ghost use Rattle.std.specs.Prelude.{◌≡◌, ◌||◌, ◌∷◌, [], codes, c
 ghost use Rattle.cn_core.specs.Mark.{mark_of, other};
 ghost use Rattle.cn_judge.specs.Marked.{marked};
 ghost use Rattle.cn_find.specs.Belongs.{begins_with};
-ghost use Rattle.cn_find.specs.Expressions.{begins_decimals, begins_figure, begins_group, begins_minutes, begins_multiplier, begins_number, begins_numeral, begins_numerator, begins_time, begins_word, binds_minus, ends_bound, ends_denominator, ends_group, ends_head, ends_numeral, ends_spaced, ends_words, is_figure, is_multiplier, is_numeric, is_tens, is_word_digit, joins, parts_expressions, parts_groups};
+ghost use Rattle.cn_find.specs.Expressions.{begins_decimals, begins_figure, begins_group, begins_minutes, begins_multiplier, begins_number, begins_numeral, begins_numerator, begins_time, begins_word, binds_minus, ends_bound, ends_denominator, ends_group, ends_head, ends_numeral, ends_spaced, ends_verb, ends_word, ends_words, follows_one, is_figure, is_multiplier, is_numeric, is_tens, is_word_digit, joins, parts_expressions, parts_groups, precedes_minus};
 ghost use Rattle.cn_find.specs.Spans.{in_front};
 
 use crate::Wanted;
@@ -52,11 +52,18 @@ fn begins_numeral(wanted: Wanted, after: &str) -> bool
     }
 }
 
+// Whether a character is a numeral character at the end of a text.
+fn is_numeric_alone(wanted: Wanted, c: char) -> bool
+    ensures { result ≡ is_numeric wanted c [] }
+{
+    is_numeric(wanted, c, mark_of(c), "")
+}
+
 fn ends_numeral(wanted: Wanted, before: &str) -> bool
     ensures { result ≡ ends_numeral wanted (in_front before.now) }
 {
     match split_nearest(before) {
-        Some((c, _)) => is_numeric(wanted, c, mark_of(c), ""),
+        Some((c, _)) => is_numeric_alone(wanted, c),
         None => false,
     }
 }
@@ -65,7 +72,7 @@ fn ends_words(wanted: Wanted, before: &str) -> bool
     ensures { result ≡ ends_words wanted (in_front before.now) }
 {
     match split_nearest(before) {
-        Some((c, _)) => !is_figure(c) && is_numeric(wanted, c, mark_of(c), ""),
+        Some((c, _)) => !is_figure(c) && is_numeric_alone(wanted, c),
         None => false,
     }
 }
@@ -108,15 +115,19 @@ fn begins_minutes(after: &str) -> bool
     }
 }
 
-// Whether the rest of a word with 一 in front comes first.
+// Whether a character makes a word with 一 in front of it.
+#[tactic(auto, unfolding(crate::specs::Expressions::follows_one))]
+fn follows_one(c: char) -> bool
+    ensures { result ≡ follows_one c }
+{
+    matches!(c, '定' | '直' | '起' | '样' | '樣' | '些' | '下' | '切' | '滴' | '线' | '線')
+}
+
 fn ends_word(after: &str) -> bool
-    ensures { result ≡ begins_with (codes "定直起样樣些下切滴线線") (chars after.now) }
+    ensures { result ≡ ends_word (chars after.now) }
 {
     match split_first_char(after) {
-        Some((c, _)) => matches!(
-            c,
-            '定' | '直' | '起' | '样' | '樣' | '些' | '下' | '切' | '滴' | '线' | '線'
-        ),
+        Some((c, _)) => follows_one(c),
         None => false,
     }
 }
@@ -205,30 +216,25 @@ fn begins_number(c: char, before: &str) -> bool
     !matches!(c, '0' | '０') && !ends_figure(before) && !ends_mark(before)
 }
 
-// Whether one to three figures stand nearest, of which the first begins a number.
-fn ends_head(before: &str) -> bool
-    ensures { result ≡ ends_head 3 (in_front before.now) }
+// Whether so many figures or fewer stand nearest, of which the first begins a number.
+fn ends_head(most: usize, before: &str) -> bool
+    ensures { result ≡ ends_head most (in_front before.now) }
 {
-    let mut rest = before;
-    'looking: for _ in 0..3 {
-        let Some((c, front)) = split_nearest(rest) else {
-            return false;
-        };
-        if !is_figure(c) {
-            return false;
-        }
-        if begins_number(c, front) {
-            return true;
-        }
-        rest = front;
+    if most == 0 {
+        return false;
     }
-    false
+    match split_nearest(before) {
+        Some((c, front)) => {
+            is_figure(c) && (begins_number(c, front) || ends_head(most - 1, front))
+        }
+        None => false,
+    }
 }
 
 fn parts_groups(before: &str, after: &str) -> bool
     ensures { result ≡ parts_groups (in_front before.now) (chars after.now) }
 {
-    (ends_head(before) || ends_group(before)) && begins_group(after)
+    (ends_head(3, before) || ends_group(before)) && begins_group(after)
 }
 
 fn is_multiplier(mark: Mark) -> bool
@@ -278,17 +284,22 @@ fn ends_spaced(before: &str) -> bool
     }
 }
 
-// Whether 负 behind this text belongs to a word.
+// Whether a character makes a word with 负 behind it.
+#[tactic(auto, unfolding(crate::specs::Expressions::precedes_minus))]
+fn precedes_minus(c: char) -> bool
+    ensures { result ≡ precedes_minus c }
+{
+    matches!(
+        c,
+        '正' | '非' | '背' | '揹' | '肩' | '担' | '擔' | '抱' | '胜' | '勝' | '辜' | '欺' | '自' | '不'
+    )
+}
+
 fn ends_verb(before: &str) -> bool
-    ensures { result
-        ≡ begins_with (codes "正非背揹肩担擔抱胜勝辜欺自不") (in_front before.now) }
+    ensures { result ≡ ends_verb (in_front before.now) }
 {
     match split_nearest(before) {
-        Some((c, _)) => matches!(
-            c,
-            '正' | '非' | '背' | '揹' | '肩' | '担' | '擔' | '抱' | '胜' | '勝' | '辜' | '欺' | '自'
-                | '不'
-        ),
+        Some((c, _)) => precedes_minus(c),
         None => false,
     }
 }
