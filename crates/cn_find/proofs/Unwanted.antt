@@ -31,7 +31,7 @@ inside test (d ∷ set) c within has =
       by false e has others = others has
 
 -- one that fails it is not in the set
-outside : (test : ℕ → Bool) (set : List ℕ) (c : ℕ) → list_all test set ≡ true → test c ≡ false
+pub outside : (test : ℕ → Bool) (set : List ℕ) (c : ℕ) → list_all test set ≡ true → test c ≡ false
     → char_set_contains set c ≡ false
 outside test set c within none = by (char_set_contains set c) refl where
   by : (b : Bool) → char_set_contains set c ≡ b → char_set_contains set c ≡ false

@@ -1,6 +1,6 @@
 -- Which characters of a text belong to an expression: a number with its sign, its figures, its point
 -- and its units, a percent sign, or a fraction. Of the characters in front the nearest is the first.
-use Rattle.std.specs.Prelude.{ℕ, zero, suc, nat_le, Bool, true, false, not, ◌&&◌, ◌||◌, List, [], ◌∷◌, codes, is_some}
+use Rattle.std.specs.Prelude.{ℕ, zero, suc, nat_le, Bool, false, not, ◌&&◌, ◌||◌, List, [], ◌∷◌, codes, is_some}
 use Rattle.std.specs.Char.{char_set_contains, is_ascii_alphabetic, is_ascii_digit}
 use Rattle.cn_core.specs.Characters.{digit_of}
 use Rattle.cn_core.specs.Mark.{Mark, unit, mark_of}
@@ -169,6 +169,11 @@ joins wanted front c after =
     || (char_set_contains (codes "-−－") c
     && (begins_figure after && (not (ends_numeral wanted front)
     && not (ends_bound front))))
+
+-- a character that can belong to an expression, and to no number
+unfoldable pub is_extra : ℕ → Bool
+is_extra c =
+    is_tens c || is_wide_digit c || char_set_contains (codes "点點.．, 分之%％负負-−－") c
 
 -- a digit that is no figure, or 廿 or 卅
 abbrev pub is_word_digit : ℕ → Bool

@@ -1,9 +1,10 @@
 // Whether a character of a text is one of an expression.
 ghost use Rattle.std.specs.Prelude.{◌≡◌, ◌||◌, ◌∷◌, [], codes, chars, MatchOption};
-ghost use Rattle.cn_core.specs.Mark.{mark_of, other};
+ghost use Rattle.cn_core.specs.Mark.{mark_of};
 ghost use Rattle.cn_judge.specs.Marked.{marked};
 ghost use Rattle.cn_find.specs.Belongs.{begins_with};
-ghost use Rattle.cn_find.specs.Expressions.{begins_decimals, begins_figure, begins_group, begins_minutes, begins_multiplier, begins_number, begins_numeral, begins_numerator, begins_time, begins_word, binds_minus, ends_bound, ends_denominator, ends_group, ends_head, ends_numeral, ends_spaced, ends_verb, ends_word, ends_words, follows_one, is_figure, is_multiplier, is_numeric, is_tens, is_word_digit, joins, parts_expressions, parts_groups, precedes_minus};
+ghost use Rattle.cn_find.specs.Expressions.{begins_decimals, begins_figure, begins_group, begins_minutes, begins_multiplier, begins_number, begins_numeral, begins_numerator, begins_time, begins_word, binds_minus, ends_bound, ends_denominator, ends_group, ends_head, ends_numeral, ends_spaced, ends_verb, ends_word, ends_words, follows_one, is_extra, is_figure, is_multiplier, is_numeric, is_tens, is_word_digit, joins, parts_expressions, parts_groups, precedes_minus};
+ghost use Rattle.cn_find.specs.Flags.{is_wide_digit};
 ghost use Rattle.cn_find.specs.Spans.{in_front};
 
 use crate::Wanted;
@@ -34,13 +35,20 @@ fn is_figure(c: char) -> bool
     c.is_ascii_digit() || is_wide_digit(c)
 }
 
+// Whether a character is 廿, 卅 or a full-width figure.
+fn is_extra_numeral(c: char) -> bool
+    ensures { result ≡ (is_tens c || is_wide_digit c) }
+{
+    is_tens(c) || is_wide_digit(c)
+}
+
 // Whether a character with its mark is a numeral character, by what follows it.
 #[tactic(auto, unfolding(crate::specs::Expressions::is_numeric))]
 fn is_numeric(wanted: Wanted, c: char, mark: Mark, after: &str) -> bool
     requires { marked mark ≡ mark_of c }
     ensures { result ≡ is_numeric wanted c (chars after.now) }
 {
-    belongs(wanted, c, mark, after) || is_tens(c) || is_wide_digit(c)
+    belongs(wanted, c, mark, after) || is_extra_numeral(c)
 }
 
 fn begins_numeral(wanted: Wanted, after: &str) -> bool
@@ -108,9 +116,7 @@ fn begins_minutes(after: &str) -> bool
     ensures { result ≡ begins_minutes (chars after.now) }
 {
     match split_first_char(after) {
-        Some((c, others)) => {
-            (digit_of(c).is_some() || is_wide_digit(c)) && begins_time(others)
-        }
+        Some((c, others)) => { (digit_of(c).is_some() || is_wide_digit(c)) && begins_time(others) }
         None => false,
     }
 }
@@ -120,7 +126,10 @@ fn begins_minutes(after: &str) -> bool
 fn follows_one(c: char) -> bool
     ensures { result ≡ follows_one c }
 {
-    matches!(c, '定' | '直' | '起' | '样' | '樣' | '些' | '下' | '切' | '滴' | '线' | '線')
+    matches!(
+        c,
+        '定' | '直' | '起' | '样' | '樣' | '些' | '下' | '切' | '滴' | '线' | '線'
+    )
 }
 
 fn ends_word(after: &str) -> bool
@@ -347,6 +356,20 @@ fn joins(wanted: Wanted, before: &str, c: char, after: &str) -> bool
     }
 }
 
+// Whether a character can belong to an expression, and to no number.
+#[inline(always)]
+#[tactic(auto, unfolding(crate::specs::Expressions::is_extra))]
+fn is_extra(c: char) -> bool
+    ensures { result ≡ is_extra c }
+{
+    is_tens(c)
+        || is_wide_digit(c)
+        || matches!(
+            c,
+            '点' | '點' | '.' | '．' | ',' | ' ' | '分' | '之' | '%' | '％' | '负' | '負' | '-' | '−' | '－'
+        )
+}
+
 /// Whether a character with its mark is one of an expression.
 #[inline(always)]
 pub fn is_of_expression(wanted: Wanted, before: &str, c: char, mark: Mark, after: &str) -> bool
@@ -354,25 +377,10 @@ pub fn is_of_expression(wanted: Wanted, before: &str, c: char, mark: Mark, after
     ensures { result ≡ (is_numeric wanted c (chars after.now)
         || joins wanted (in_front before.now) c (chars after.now)) }
 {
-    // Most characters of a text are none of these, so they are told apart first.
-    match mark {
-        Mark::Other => other_belongs(wanted, before, c, after),
-        _ => belongs(wanted, c, mark, after),
-    }
-}
-
-// Whether a character that is neither digit nor unit is one of an expression.
-#[inline(always)]
-fn other_belongs(wanted: Wanted, before: &str, c: char, after: &str) -> bool
-    requires { mark_of c ≡ other }
-    ensures { result ≡ (is_numeric wanted c (chars after.now)
-        || joins wanted (in_front before.now) c (chars after.now)) }
-{
-    match c {
-        '廿' | '卅' | '０'..='９' => true,
-        '点' | '點' | '.' | '．' | ',' | ' ' | '分' | '之' | '%' | '％' | '负' | '負' | '-' | '−'
-        | '－' => joins(wanted, before, c, after),
-        _ => false,
+    if is_extra(c) {
+        is_extra_numeral(c) || joins(wanted, before, c, after)
+    } else {
+        belongs(wanted, c, mark, after)
     }
 }
 
