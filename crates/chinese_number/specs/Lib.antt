@@ -38,6 +38,7 @@ pub use Rattle.cn_find.specs.Flags
 pub use Rattle.cn_find.specs.Number
 pub use Rattle.cn_find.specs.Parting
 pub use Rattle.cn_find.specs.Plain
+pub use Rattle.cn_find.specs.Rule
 pub use Rattle.cn_find.specs.Runs
 pub use Rattle.cn_find.specs.Spans
 pub use Rattle.cn_print.specs.ErrorText as PrintErrorText

@@ -11,14 +11,15 @@ use Rattle.cn_core.specs.Characters.{digit_of, rank, rank_of}
 use Rattle.cn_core.specs.Mark.{mark_from}
 use Rattle.cn_core.proofs.Fronts.{and-left, and-right}
 use Rattle.cn_find.specs.declared.wanted.Wanted.{Wanted}
-use Rattle.cn_find.specs.Belongs.{belongs, is_chinese_digit, is_joined, is_mega, is_numeral, is_parted, is_wanted, is_wanted_mark}
+use Rattle.cn_find.specs.Belongs.{belongs, is_chinese_digit, is_mega, is_numeral, is_parted, is_wanted, is_wanted_mark}
 use Rattle.cn_find.specs.Flags.{clings, goes_on, is_link, is_wide_digit, stands_alone}
 use Rattle.cn_find.specs.Parting.{Meet, is_alone}
+use Rattle.cn_find.specs.Rule.{number_rule, is_joined}
 use Rattle.cn_find.specs.Runs.{IsRun, each_belongs, last_joined}
 use Rattle.cn_find.specs.Spans.{Span, spans}
 use Rattle.cn_find.proofs.Nearest.{reverse_last}
-use Rattle.cn_find.proofs.Parting.{inside}
-use Rattle.cn_find.proofs.RunLaws.{scalars-end, span-is_run}
+use Rattle.cn_find.proofs.RunLaws.{scalars-end, scalars-start, span-is_run}
+use Rattle.cn_find.proofs.Unwanted.{inside}
 
 -- what belongs to a number, belongs there by itself
 belongs-numeral : (wanted : Wanted) (c : ℕ) (after : List ℕ) → belongs wanted c after ≡ true
@@ -60,34 +61,38 @@ pub record Ends (wanted : Wanted) (run right : List ℕ) : Type 0 where
   pub last : ℕ
   pub parts : run ≡ front ++ last ∷ []
   pub numeral : belongs wanted last right ≡ true
-  pub apart : is_joined wanted last right ≡ false
+  pub at : List ℕ
+  pub apart : is_joined (number_rule wanted) at last right ≡ false
 
-ends : (wanted : Wanted) (none : Bool) (c : ℕ) (run right : List ℕ)
-    → each_belongs wanted (c ∷ run) right ≡ true → last_joined wanted none (c ∷ run) right ≡ false
+ends : (wanted : Wanted) (none : Bool) (at : List ℕ) (c : ℕ) (run right : List ℕ)
+    → each_belongs (number_rule wanted) at (c ∷ run) right ≡ true
+    → last_joined (number_rule wanted) none at (c ∷ run) right ≡ false
     → Ends wanted (c ∷ run) right
-ends wanted none c [] right each apart = record {
+ends wanted none at c [] right each apart = record {
   front = [];
   last = c;
   parts = refl;
   numeral = and-left (belongs wanted c right) _ each;
+  at = at;
   apart = apart;
 }
-ends wanted none c (d ∷ run) right each apart =
-    let e = ends wanted (is_joined wanted c (d ∷ run ++ right)) d run right
-    (and-right (belongs wanted c (d ∷ run ++ right)) _ each) apart in
+ends wanted none at c (d ∷ run) right each apart =
+    let e = ends wanted (is_joined (number_rule wanted) at c (d ∷ run ++ right)) (c ∷ at) d run
+    right (and-right (belongs wanted c (d ∷ run ++ right)) _ each) apart in
     record {
       front = c ∷ e.front;
       last = e.last;
       parts = ap (λ l. c ∷ l) e.parts;
       numeral = e.numeral;
+      at = e.at;
       apart = e.apart;
     }
 
 -- where two runs touch, both characters there cling
-touched : (wanted : Wanted) (c next : ℕ) (after : List ℕ) → belongs wanted c (next ∷ after) ≡ true
-    → belongs wanted next after ≡ true → is_joined wanted c (next ∷ after) ≡ false
-    → is_parted c next ≡ true
-touched wanted c next after first second apart = by (is_parted c next) refl where
+touched : (wanted : Wanted) (at : List ℕ) (c next : ℕ) (after : List ℕ)
+    → belongs wanted c (next ∷ after) ≡ true → belongs wanted next after ≡ true
+    → is_joined (number_rule wanted) at c (next ∷ after) ≡ false → is_parted c next ≡ true
+touched wanted at c next after first second apart = by (is_parted c next) refl where
   none : (true && (true && not (is_parted c next))) ≡ false
   none =
       ap (λ b. b && (true && not (is_parted c next))) (sym first)
@@ -135,12 +140,6 @@ from-last : (before front : List ℕ) (c : ℕ) → before ≡ front ++ c ∷ []
 from-last before front c e on = ap (λ l. goes_on (reverse l)) e
     ∙ ap goes_on (reverse_last front c) ∙ on
 
-scalars-front : (front end : List ℕ) → scalars (front ++ end) ≡ true → scalars front ≡ true
-scalars-front [] end h = refl
-scalars-front (c ∷ front) end h =
-    ap (λ b. b && scalars front) (and-left (scalar c) _ h)
-    ∙ scalars-front front end (and-right (scalar c) _ h)
-
 -- a run of a text by its characters
 pub record Placed (wanted : Wanted) (text : List ℕ) (span : Span) : Type 0 where
   pub left : List ℕ
@@ -148,7 +147,7 @@ pub record Placed (wanted : Wanted) (text : List ℕ) (span : Span) : Type 0 whe
   pub others : List ℕ
   pub right : List ℕ
   pub parts : text ≡ left ++ ((first ∷ others) ++ right)
-  pub each : each_belongs wanted (first ∷ others) right ≡ true
+  pub each : each_belongs (number_rule wanted) (reverse left) (first ∷ others) right ≡ true
   pub begins : belongs wanted first (others ++ right) ≡ true
   pub ends : Ends wanted (first ∷ others) right
   pub left_chars : scalars left ≡ true
@@ -166,8 +165,9 @@ placed wanted bytes span whole found =
       r : IsRun wanted (chars bytes) span
       r = span-is_run wanted bytes span found
 
-      by : (run : List ℕ) → run ≢ [] → each_belongs wanted run r.right ≡ true
-          → last_joined wanted false run r.right ≡ false
+      by : (run : List ℕ) → run ≢ []
+          → each_belongs (number_rule wanted) (reverse r.left) run r.right ≡ true
+          → last_joined (number_rule wanted) false (reverse r.left) run r.right ≡ false
           → chars bytes ≡ r.left ++ (run ++ r.right) → span.text ≡ encode_utf8_all run
           → Placed wanted (chars bytes) span
       by [] some each apart parts text_is = absurd (some refl)
@@ -184,10 +184,10 @@ placed wanted bytes span whole found =
             parts = parts;
             each = each;
             begins = and-left (belongs wanted c (run ++ r.right)) _ each;
-            ends = ends wanted false c run r.right each apart;
-            left_chars = scalars-front r.left (c ∷ run ++ r.right) all;
+            ends = ends wanted false (reverse r.left) c run r.right each apart;
+            left_chars = scalars-start r.left (c ∷ run ++ r.right) all;
             run_chars =
-                scalars-front (r.left ++ c ∷ run) r.right
+                scalars-start (r.left ++ c ∷ run) r.right
                 (ap scalars (append_assoc r.left (c ∷ run) r.right) ∙ all);
             before = r.before_is;
             front =
@@ -195,7 +195,7 @@ placed wanted bytes span whole found =
                 ∙ ap (λ l. encode_utf8_all r.left ++ l) text_is
                 ∙ sym (encodes-append r.left (c ∷ run));
             run_is = ap chars text_is ∙ chars-encodes (c ∷ run)
-                (scalars-front (c ∷ run) r.right (scalars-end r.left (c ∷ run ++ r.right) all));
+                (scalars-start (c ∷ run) r.right (scalars-end r.left (c ∷ run ++ r.right) all));
             after = ap chars r.after_is ∙ chars-encodes r.right ended;
           }
 
@@ -261,9 +261,9 @@ touching wanted text first second p q e = (
 
   both : (clings p.ends.last ≡ true) × (clings q.first ≡ true)
   both = parted-cling p.ends.last q.first
-      (touched wanted p.ends.last q.first (q.others ++ q.right)
+      (touched wanted p.ends.at p.ends.last q.first (q.others ++ q.right)
       (ap (belongs wanted p.ends.last) (sym right) ∙ p.ends.numeral) q.begins
-      (ap (is_joined wanted p.ends.last) (sym right) ∙ p.ends.apart))
+      (ap (is_joined (number_rule wanted) p.ends.at p.ends.last) (sym right) ∙ p.ends.apart))
 
 link-scalar : (c : ℕ) → is_link c ≡ true → scalar c ≡ true
 unfolding is_link
@@ -308,11 +308,12 @@ meeting wanted bytes first second whole here there meet = elim meet [
 ]
 
 -- the last character of a run is no 兆 that is mega
-last-numeral : (wanted : Wanted) (front : List ℕ) (c : ℕ) (right : List ℕ)
-    → each_belongs wanted (front ++ c ∷ []) right ≡ true → belongs wanted c right ≡ true
-last-numeral wanted [] c right each = and-left (belongs wanted c right) _ each
-last-numeral wanted (d ∷ front) c right each =
-    last-numeral wanted front c right
+last-numeral : (wanted : Wanted) (at front : List ℕ) (c : ℕ) (right : List ℕ)
+    → each_belongs (number_rule wanted) at (front ++ c ∷ []) right ≡ true
+    → belongs wanted c right ≡ true
+last-numeral wanted at [] c right each = and-left (belongs wanted c right) _ each
+last-numeral wanted at (d ∷ front) c right each =
+    last-numeral wanted (d ∷ at) front c right
     (and-right (belongs wanted d (front ++ c ∷ [] ++ right)) _ each)
 
 pub no-mega : (wanted : Wanted) (bytes : List ℕ) (span : Span) (front : List ℕ) (c : ℕ)
@@ -325,5 +326,5 @@ no-mega wanted bytes span front c whole found e =
       r = placed wanted bytes span whole found
 
       numeral : belongs wanted c r.right ≡ true
-      numeral = last-numeral wanted front c r.right
-          (ap (λ l. each_belongs wanted l r.right) (sym e ∙ r.run_is) ∙ r.each)
+      numeral = last-numeral wanted (reverse r.left) front c r.right
+          (ap (λ l. each_belongs (number_rule wanted) (reverse r.left) l r.right) (sym e ∙ r.run_is) ∙ r.each)

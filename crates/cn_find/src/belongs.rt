@@ -3,7 +3,7 @@ ghost use Rattle.std.specs.Prelude.{◌≡◌, ◌&&◌, nat_le, chars};
 ghost use Rattle.cn_core.specs.Characters.{rank};
 ghost use Rattle.cn_core.specs.Mark.{mark_of};
 ghost use Rattle.cn_judge.specs.Marked.{marked};
-ghost use Rattle.cn_find.specs.Belongs.{begins_measure, belongs, counts_next, is_chinese_digit, is_great, is_joined, is_mega, is_parted, is_upper, is_wanted, is_wanted_mark};
+ghost use Rattle.cn_find.specs.Belongs.{begins_measure, belongs, counts_next, is_chinese_digit, is_ge, is_great, is_mega, is_numeral, is_parted, is_upper, is_wanted, is_wanted_mark};
 
 use crate::Wanted;
 use cn_core::{Unit, digit_of, split_first_char};
@@ -36,7 +36,8 @@ fn is_upper(c: char) -> bool
     )
 }
 
-fn is_up_to(greatest: Unit, unit: Unit) -> bool
+/// Whether a unit is no greater than the greatest one.
+pub fn is_up_to(greatest: Unit, unit: Unit) -> bool
     ensures { result ≡ nat_le (rank unit) (rank greatest) }
 {
     greatest >= unit
@@ -61,7 +62,8 @@ fn is_great(mark: Mark) -> bool
     }
 }
 
-fn is_wanted(wanted: Wanted, c: char, mark: Mark) -> bool
+/// Whether a character with its mark is looked for.
+pub fn is_wanted(wanted: Wanted, c: char, mark: Mark) -> bool
     requires { marked mark ≡ mark_of c }
     ensures { result ≡ is_wanted wanted c }
 {
@@ -152,22 +154,10 @@ pub fn is_chinese_digit(c: char) -> bool
     digit_of(c).is_some() && !c.is_ascii_digit()
 }
 
-// Whether the one is an ASCII digit, and the other a digit that is none.
-fn is_parted(c: char, next: char) -> bool
+/// Whether the one is an ASCII digit, and the other a digit that is none.
+#[inline(always)]
+pub fn is_parted(c: char, next: char) -> bool
     ensures { result ≡ is_parted c next }
 {
     (c.is_ascii_digit() && is_chinese_digit(next)) || (is_chinese_digit(c) && next.is_ascii_digit())
-}
-
-/// Whether a character with its mark is of one number with the next one.
-pub fn is_joined(wanted: Wanted, c: char, mark: Mark, after: &str) -> bool
-    requires { marked mark ≡ mark_of c }
-    ensures { result ≡ is_joined wanted c (chars after.now) }
-{
-    let Some((next, next_mark, behind)) = split_first_mark(after) else {
-        return false;
-    };
-    belongs(wanted, c, mark, after)
-        && belongs(wanted, next, next_mark, behind)
-        && !is_parted(c, next)
 }

@@ -9,7 +9,8 @@ use crate::belongs::is_chinese_digit;
 use cn_core::{digit_of, split_first_char, unit_of};
 use cn_judge::split_last_char;
 
-fn is_wide_digit(c: char) -> bool
+/// Whether a character is a full-width digit.
+pub fn is_wide_digit(c: char) -> bool
     ensures { result ≡ is_wide_digit c }
 {
     matches!(c, '０'..='９')

@@ -16,7 +16,7 @@ mod walk;
 
 pub use error::ChineseToNumberError;
 pub use judge::{AfterSign, first_digit, judge_text, read, signed_answer, split_sign};
-pub use mark::Mark;
+pub use mark::{Mark, mark_of};
 pub use naive::{judge_naive, read_naive};
 pub use text::{
     First, count_chars, split_first, split_first_known, split_first_mark, split_last,
