@@ -119,7 +119,7 @@ static void try_find(run *r, const text *t, uint32_t upper, uint32_t greatest) {
         for (size_t i = 0; i < MOST_SPANS; i++) {
             add_word(r, spans[i].start);
             add_word(r, spans[i].end);
-            add_word(r, spans[i].digits);
+            add_word(r, spans[i].flags);
         }
         if (count == 0 || count < most)
             return;

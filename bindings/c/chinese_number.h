@@ -122,6 +122,14 @@ typedef enum cn_form CN_OF_CODE {
     CN_UPRIGHT_CLOSING = 4 /* 正 for 整 */
 } CN_FLAGS cn_form;
 
+/* The flags that are told of a number in a text: none or several of these, added together. */
+typedef enum cn_flag CN_OF_CODE {
+    CN_PLAIN_DIGITS = 1,  /* each of its characters is a digit: it is read by CN_DIGITS, and else by a method */
+    CN_STANDS_ALONE = 2,  /* no letter or digit touches it, and none is linked to it: so neither part of 3.5萬 or 1,280 does */
+    CN_ABOUT = 4,         /* it is about so much, as the 十 of 十几 and 几十, and 五六 are */
+    CN_ONE_CHARACTER = 8  /* it is one Chinese character, as the 一 of 一般 is */
+} CN_FLAGS cn_flag;
+
 /* The units, by rank: the greatest one that is looked for in a text. */
 typedef enum cn_unit CN_OF_CODE {
     CN_GE = 0,
@@ -189,12 +197,11 @@ typedef struct cn_reading {
     size_t byte_index;
 } cn_reading;
 
-/* Where a number stands in a text, in bytes from its start, and whether each of its characters is a digit: 1, and then it
- * is read by CN_DIGITS, or 0, and then by a method. */
+/* Where a number stands in a text, in bytes from its start, and what is told of it: flags of cn_flag, added together. */
 typedef struct cn_span {
     size_t start;
     size_t end;
-    uint32_t digits;
+    uint32_t flags;
 } cn_span;
 
 /* Reads a text, in UTF-8, as a number of a type. Writes *reading whole at each status, and nothing else.
@@ -385,7 +392,7 @@ CN_NODISCARD static inline cn_status cn_find_next(const char *text, size_t text_
     if (count != 0)
         return CN_DONE;
     span->start = span->end = 0;
-    span->digits = 0;
+    span->flags = 0;
     return status == CN_DONE ? CN_NONE : CN_AS(cn_status, status);
 }
 
@@ -394,7 +401,7 @@ CN_NODISCARD static inline cn_status cn_find_next(const char *text, size_t text_
 CN_NODISCARD static inline cn_status cn_read_found(const char *text, const cn_span *span, cn_kind kind, cn_way method,
                                                    cn_reading *reading) {
     const uint8_t *found = cn_bytes(text, span->end) + span->start;
-    cn_way way = span->digits ? CN_DIGITS : method;
+    cn_way way = (span->flags & CN_PLAIN_DIGITS) != 0 ? CN_DIGITS : method;
     return CN_AS(cn_status, chinese_number_read_utf8(found, span->end - span->start, kind, way, reading));
 }
 

@@ -291,12 +291,15 @@ inline Result<Date> chinese_to_date(std::string_view text) {
     return detail::told(status, Date{read.year, read.month, read.day}, "date", read.char_index, read.byte_index);
 }
 
-/* A number that was found in a text, and where it stands there, in bytes. */
+/* A number that was found in a text, where it stands there, in bytes, and what cn_flag tells of it. */
 struct Found {
     std::string_view text;
     std::size_t start;
     std::size_t end;
     bool is_plain; /* each character is a digit */
+    bool stands_alone;
+    bool is_about;
+    bool is_one_character;
 
     /* The number: plain digits as such, and else by a method. */
     template <typename T>
@@ -327,7 +330,8 @@ public:
         iterator(std::string_view searched, Wanted what) : text(searched), wanted(what) { search(); }
 
         Found operator*() const {
-            return {text.substr(span.start, span.end - span.start), span.start, span.end, span.digits != 0};
+            return {text.substr(span.start, span.end - span.start), span.start, span.end,
+                    tells(CN_PLAIN_DIGITS), tells(CN_STANDS_ALONE), tells(CN_ABOUT), tells(CN_ONE_CHARACTER)};
         }
         iterator &operator++() {
             search();
@@ -343,6 +347,8 @@ public:
         Status status() const { return last; }
 
     private:
+        bool tells(cn_flag flag) const { return (span.flags & flag) != 0; }
+
         /* The span is zeros where there is no further number, and no number ends at 0. */
         void search() {
             const cn_unit greatest = static_cast<cn_unit>(wanted.greatest);

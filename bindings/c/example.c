@@ -60,22 +60,23 @@ static void numbers_of_a_text(void) {
 
 /* Finds at most two numbers of a text from a byte on, with this status and where the last one stands. */
 static void finds(const char *text, size_t from, uint32_t upper, uint32_t greatest, uint32_t status, size_t count,
-                  size_t start, size_t end, uint32_t digits) {
+                  size_t start, size_t end, uint32_t flags) {
     cn_span spans[3] = {{0, 0, 0}, {0, 0, 0}, {0, 0, 0}};
     const cn_span *last = count == 0 ? spans : spans + count - 1;
     size_t found = 7;
     expect(text, chinese_number_find((const uint8_t *)text, strlen(text), from, upper, greatest, spans, 2, &found) == status
-                     && found == count && last->start == start && last->end == end && last->digits == digits
+                     && found == count && last->start == start && last->end == end && last->flags == flags
                      && spans[count].end == 0);
 }
 
 static void each_status_of_finding(void) {
-    finds("他五六十歲", 0, 0, CN_ZHAO, CN_DONE, 1, 3, 12, 0);
-    finds("買2兩", 0, 0, CN_ZHAO, CN_DONE, 2, 4, 7, 1);
-    finds("一，二，三", 0, 0, CN_ZHAO, CN_DONE, 2, 6, 9, 1);
-    finds("一，二，三", 9, 0, CN_ZHAO, CN_DONE, 1, 12, 15, 1);
+    const uint32_t one = CN_PLAIN_DIGITS | CN_STANDS_ALONE | CN_ONE_CHARACTER;
+    finds("他五六十歲", 0, 0, CN_ZHAO, CN_DONE, 1, 3, 12, CN_STANDS_ALONE | CN_ABOUT);
+    finds("買2兩", 0, 0, CN_ZHAO, CN_DONE, 2, 4, 7, CN_PLAIN_DIGITS | CN_ONE_CHARACTER);
+    finds("一，二，三", 0, 0, CN_ZHAO, CN_DONE, 2, 6, 9, one);
+    finds("一，二，三", 9, 0, CN_ZHAO, CN_DONE, 1, 12, 15, one);
     finds("一，二，三", 15, 0, CN_ZHAO, CN_DONE, 0, 0, 0, 0);
-    finds("大陸", 0, 1, CN_ZHAO, CN_DONE, 1, 3, 6, 1);
+    finds("大陸", 0, 1, CN_ZHAO, CN_DONE, 1, 3, 6, one);
     finds("大陸", 0, 0, CN_ZHAO, CN_DONE, 0, 0, 0, 0);
     finds("", 0, 1, CN_JI, CN_DONE, 0, 0, 0, 0);
     finds("\xff", 0, 0, CN_GE, CN_NOT_UTF8, 0, 0, 0, 0);

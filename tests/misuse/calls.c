@@ -101,7 +101,7 @@ static uint32_t find_by(const question *it, found *to) {
 static answer number_find(const question *it) {
     found *to = told(it, sizeof *to);
     uint64_t status = find_by(it, to);
-    return (answer){status, {to->first.start, to->first.end, to->first.digits}, 0, 0};
+    return (answer){status, {to->first.start, to->first.end, to->first.flags}, 0, 0};
 }
 
 static answer of_amount(uint64_t status, const cn_amount *told) {

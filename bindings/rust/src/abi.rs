@@ -104,14 +104,21 @@ struct Reading<T> {
     _byte_index: usize,
 }
 
-/// A run in a text: where it begins and ends, in bytes, and 1 where each of its characters is a
-/// digit, else 0.
+/// What is told of a run in a text.
+pub mod flag {
+    pub const PLAIN_DIGITS: u32 = 1;
+    pub const STANDS_ALONE: u32 = 2;
+    pub const ABOUT: u32 = 4;
+    pub const ONE_CHARACTER: u32 = 8;
+}
+
+/// A run in a text: where it begins and ends, in bytes, and its flags, added together.
 #[derive(Debug, Copy, Clone, Default)]
 #[repr(C)]
 pub struct Span {
     pub start: usize,
     pub end: usize,
-    pub digits: u32,
+    pub flags: u32,
 }
 
 unsafe extern "C" {

@@ -3,7 +3,7 @@
 use core::iter::FusedIterator;
 use core::ops::Range;
 
-use crate::abi;
+use crate::abi::{self, flag};
 use crate::{ChineseCountMethod, ChineseToNumber, ChineseToNumberError, Unit};
 
 /// Which characters are looked for: the digits and the units up to the greatest one, with or without
@@ -32,7 +32,7 @@ pub struct Found<'a> {
     pub text: &'a str,
     /// What stands after it.
     pub after: &'a str,
-    is_plain: bool,
+    flags: u32,
 }
 
 impl<'a> Found<'a> {
@@ -61,7 +61,31 @@ impl<'a> Found<'a> {
     #[inline]
     #[must_use]
     pub fn is_plain(self) -> bool {
-        self.is_plain
+        self.flags & flag::PLAIN_DIGITS != 0
+    }
+
+    /// Whether nothing around it goes on with it: no ASCII letter, digit of any kind, `_`, 廿, 卅, 卌
+    /// or 幺 touches it, and no `.`, `,`, `-`, 点 or 點 links it to one of them or to a unit. So
+    /// neither part of 3.5萬 or 1,280 does, nor the 三 of 廿三.
+    #[inline]
+    #[must_use]
+    pub fn stands_alone(self) -> bool {
+        self.flags & flag::STANDS_ALONE != 0
+    }
+
+    /// Whether it is about so much: the 十 of 几十, 十几 and 十多 is, 五六, 三五 and 兩三百 are, and
+    /// 二零二五 is not.
+    #[inline]
+    #[must_use]
+    pub fn is_about(self) -> bool {
+        self.flags & flag::ABOUT != 0
+    }
+
+    /// Whether it is one Chinese character, as the 一 of 一般 and the 十 of 十分 are.
+    #[inline]
+    #[must_use]
+    pub fn is_one_character(self) -> bool {
+        self.flags & flag::ONE_CHARACTER != 0
     }
 
     /// Its number as plain digits where it is those, else by units.
@@ -75,7 +99,7 @@ impl<'a> Found<'a> {
     where
         &'a str: ChineseToNumber<T>,
     {
-        if self.is_plain {
+        if self.is_plain() {
             self.text.to_number_naive()
         } else {
             self.text.to_number(method)
@@ -152,7 +176,7 @@ impl<'a> Iterator for Numbers<'a> {
         self.given += 1;
         let (before, rest) = self.whole.split_at(span.start);
         let (text, after) = rest.split_at(span.end - span.start);
-        Some(Found { before, text, after, is_plain: span.digits == 1 })
+        Some(Found { before, text, after, flags: span.flags })
     }
 }
 

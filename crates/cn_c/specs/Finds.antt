@@ -6,15 +6,28 @@ use Rattle.chinese_number.specs.declared.Unit.{Unit as NumeralUnit}
 use Rattle.chinese_number.specs.declared.Wanted.{Wanted}
 use Rattle.chinese_number.specs.Number.{is_plain}
 use Rattle.chinese_number.specs.Spans.{Span as SpanOfText, spans_left}
+use Rattle.cn_find.specs.Flags.{is_about, is_one_character, stands_alone}
 use Rattle.cn_c.specs.declared.finding.Span.{Span}
-use Rattle.cn_c.specs.Codes.{uppers, units, CN_DONE, CN_NOT_UTF8, CN_UNKNOWN}
+use Rattle.cn_c.specs.Codes.{uppers, units, CN_PLAIN_DIGITS, CN_STANDS_ALONE, CN_ABOUT, CN_ONE_CHARACTER, CN_DONE, CN_NOT_UTF8, CN_UNKNOWN}
 
--- where a number stands, and whether it is plain digits
+-- a flag, where it is told
+abbrev pub flag_if : Bool → ℕ → ℕ
+flag_if told flag = if told then flag else 0
+
+-- the flags that are told of a number, added together
+abbrev pub flags_told : SpanOfText → ℕ
+flags_told span =
+    flag_if (is_plain (chars span.text)) CN_PLAIN_DIGITS
+    + flag_if (stands_alone (chars span.before) (chars span.after)) CN_STANDS_ALONE
+    + flag_if (is_about (chars span.before) (chars span.text) (chars span.after)) CN_ABOUT
+    + flag_if (is_one_character (chars span.text)) CN_ONE_CHARACTER
+
+-- where a number stands, and what is told of it
 abbrev pub span_told : SpanOfText → Span
 span_told span = record {
   start = length span.before;
   end = length span.before + length span.text;
-  digits = if is_plain (chars span.text) then 1 else 0;
+  flags = flags_told span;
 }
 
 -- what is told of a text from a byte on: the numbers there, as many as there is room for

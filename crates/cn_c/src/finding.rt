@@ -4,18 +4,19 @@ ghost use Rattle.chinese_number.specs.Spans.{span_of};
 ghost use Rattle.cn_c.specs.Finds.{Fills, FindsFrom, IsFound, span_told};
 
 use crate::codes::{unit_of, upper_of};
+use crate::flags::flags_of;
 use crate::status::{DONE, NOT_UTF8, UNKNOWN};
-use chinese_number::{Found, Numbers, Wanted, find_numbers_from};
+use chinese_number::{Found, Numbers, SearchRule, Wanted, find_numbers_from};
 use cn_faces::utf8_text;
 use std::str;
 
-/// Where a number stands in its text, in bytes, and whether it is plain digits, as 1, or not, as 0.
+/// Where a number stands in its text, in bytes, and what is told of it: flags, added together.
 #[repr(C)]
 #[derive(Clone, Copy)]
 pub struct Span {
     pub start: usize,
     pub end: usize,
-    pub digits: u32,
+    pub flags: u32,
 }
 
 fn span_of_found(found: Found<'_>) -> Span
@@ -24,12 +25,12 @@ fn span_of_found(found: Found<'_>) -> Span
     Span {
         start: found.start(),
         end: found.end(),
-        digits: if found.is_plain() { 1 } else { 0 },
+        flags: flags_of(found),
     }
 }
 
 // Tells the numbers until none is left or the spans are full, and how many these are.
-fn fill(mut numbers: Numbers<'_>, spans: &mut [Span]) -> usize
+fn fill<R: SearchRule>(mut numbers: Numbers<'_, R>, spans: &mut [Span]) -> usize
     ensures { Fills (map span_told (take (length spans.old) numbers.entry)) spans.old spans.new result }
 {
     let mut count = 0;

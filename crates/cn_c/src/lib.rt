@@ -9,6 +9,7 @@ mod amount;
 mod codes;
 mod date;
 mod finding;
+mod flags;
 pub mod laws;
 mod number;
 mod place;

@@ -1,75 +1,68 @@
--- A search goes on behind a number, in sight of the whole text.
-use Rattle.std.proofs.Common.{◌≡◌, ℕ, ◌+◌, Bool, true, false, List, [], ◌∷◌, ◌++◌, length, drop, chars, encode_utf8, encode_utf8_all, IsUtf8, IsCharBoundary, refl, sym, ap, subst, ◌∙◌, append_assoc, length-append}
-use Rattle.std.proofs.lemmas.Str.{chars-encodes, encodes-append, encodes-chars, scalars-chars, IsCharBoundary-at_seam}
+-- A search goes on behind a run, in sight of the whole text, from wherever it began.
+use Rattle.std.proofs.Common.{◌≡◌, ℕ, ◌+◌, true, false, List, ◌∷◌, ◌++◌, length, drop, reverse, chars, encode_utf8_all, IsUtf8, IsCharBoundary, refl, sym, ap, subst, ◌∙◌, append_assoc, length-append}
+use mathlib.Core.List.{reverse_aux}
+use Rattle.std.proofs.lemmas.List.{reverse-append, reverse-reverse}
+use Rattle.std.proofs.lemmas.Str.{chars-append, chars-encodes, encodes-append, encodes-chars, scalars-chars, IsCharBoundary-at_seam}
 use Rattle.std.proofs.Math.Seq.{drop-append_seam}
-use Rattle.std.proofs.Math.Utf8.{scalar, scalars}
-use Rattle.cn_core.proofs.Fronts.{and-right}
-use Rattle.cn_find.specs.declared.wanted.Wanted.{Wanted}
-use Rattle.cn_find.specs.Belongs.{belongs}
-use Rattle.cn_find.specs.Spans.{Span, run_of, after_run, spans_after, spans_left}
-use Rattle.cn_find.proofs.Runs.{first-span, next-character, seam-front}
-use Rattle.cn_find.proofs.RunLaws.{whole, scalars-end}
-
--- behind the first of these numbers of a text are left those that stand behind it, and a search can
--- begin there
-abbrev IsGoneOn : Wanted → List ℕ → List Span → Type 0
-IsGoneOn wanted text [] = Unit {0}
-IsGoneOn wanted text (first ∷ rest) =
-    (rest ≡ spans_left wanted text (drop (length first.before + length first.text) text))
-    × IsCharBoundary text (length first.before + length first.text)
+use Rattle.std.proofs.Math.Utf8.{scalars}
+use Rattle.cn_find.specs.Rule.{Rule}
+use Rattle.cn_find.specs.Spans.{Span, spans_after, text_before, in_front, left_by}
+use Rattle.cn_find.proofs.Parting.{Rest, RestOf, rest-of}
+use Rattle.cn_find.proofs.Runs.{front-onto, seam-front}
+use Rattle.cn_find.proofs.RunLaws.{scalars-end, scalars-start}
 
 -- what is left of a text behind its front
-left-behind : (wanted : Wanted) (text front cs : List ℕ) → text ≡ front ++ encode_utf8_all cs
-    → scalars cs ≡ true
-    → spans_after wanted false front cs ≡ spans_left wanted text (drop (length front) text)
-left-behind wanted text front cs parts ok =
-    let behind : drop (length front) text ≡ encode_utf8_all cs =
-    ap (drop (length front)) parts ∙ drop-append_seam front (encode_utf8_all cs) in
-    rw behind (rw (seam-front text front (encode_utf8_all cs) parts) (rw (chars-encodes cs ok) refl))
+left-behind : (rule : Rule) (text front behind : List ℕ) → text ≡ front ++ encode_utf8_all behind
+    → scalars behind ≡ true
+    → spans_after rule false (in_front front) behind ≡ left_by rule text (drop (length front) text)
+left-behind rule text front behind parts ok =
+    let dropped : drop (length front) text ≡ encode_utf8_all behind =
+    ap (drop (length front)) parts ∙ drop-append_seam front (encode_utf8_all behind) in
+    rw dropped (rw (seam-front text front (encode_utf8_all behind) parts)
+    (rw (chars-encodes behind ok) refl))
 
-gone-on : (wanted : Wanted) (text before cs : List ℕ) → text ≡ before ++ encode_utf8_all cs
-    → scalars cs ≡ true → IsGoneOn wanted text (spans_after wanted false before cs)
-gone-on wanted text before [] parts ok = tt
-gone-on wanted text before (c ∷ ahead) parts ok =
-    by (belongs wanted c ahead) refl
-    (gone-on wanted text (before ++ encode_utf8 c) ahead
-    (parts ∙ sym (append_assoc before (encode_utf8 c) (encode_utf8_all ahead)))
-    (and-right (scalar c) _ ok)) where
-      run : List ℕ
-      run = encode_utf8_all (run_of wanted (c ∷ ahead))
-
-      behind : List ℕ
-      behind = after_run wanted (c ∷ ahead)
-
-      at_end : text ≡ before ++ run ++ encode_utf8_all behind
-      at_end = parts
-          ∙ ap (λ l. before ++ l) (ap encode_utf8_all (whole wanted (c ∷ ahead))
-          ∙ encodes-append (run_of wanted (c ∷ ahead)) behind)
-          ∙ sym (append_assoc before run (encode_utf8_all behind))
-
-      fine : scalars behind ≡ true
-      fine = scalars-end (run_of wanted (c ∷ ahead)) behind
-          (ap scalars (sym (whole wanted (c ∷ ahead))) ∙ ok)
-
-      by : (b : Bool) → belongs wanted c ahead ≡ b
-          → IsGoneOn wanted text (spans_after wanted false (before ++ encode_utf8 c) ahead)
-          → IsGoneOn wanted text (spans_after wanted false before (c ∷ ahead))
-      by true e ih = subst (IsGoneOn wanted text) (sym (first-span wanted before (c ∷ ahead) e)) (
-        rw (sym (length-append before run)) (left-behind wanted text (before ++ run) behind at_end fine),
-        rw (sym (length-append before run))
-            (IsCharBoundary-at_seam text (before ++ run) (encode_utf8_all behind) at_end
-            (behind, (fine, refl))),
-      )
-      by false e ih =
-          subst (IsGoneOn wanted text) (sym (next-character wanted c before ahead e)) ih
-
-pub searches-go_on_in : (wanted : Wanted) (text rest : List ℕ) (first : Span) (others : List Span)
-    (front : List ℕ) → text ≡ front ++ rest → IsUtf8 rest
-    → spans_left wanted text rest ≡ first ∷ others
-    → (others ≡ spans_left wanted text (drop (length first.before + length first.text) text))
+pub search-goes_on_in : (rule : Rule) (text before rest : List ℕ) (first : Span) (others : List Span)
+    → text ≡ before ++ rest → IsUtf8 text → IsUtf8 before → IsUtf8 rest
+    → left_by rule text rest ≡ first ∷ others
+    → (others ≡ left_by rule text (drop (length first.before + length first.text) text))
     × IsCharBoundary text (length first.before + length first.text)
-searches-go_on_in wanted text rest first others front parts ended e =
-    subst (IsGoneOn wanted text)
-    (ap (λ l. spans_after wanted false l (chars rest)) (sym (seam-front text front rest parts)) ∙ e)
-    (gone-on wanted text front (chars rest)
-    (parts ∙ ap (λ l. front ++ l) (sym (encodes-chars rest ended))) (scalars-chars rest ended))
+search-goes_on_in rule text before rest first others parts utf8 front ended e =
+    rw (sym (length-append first.before first.text)) (
+      r.rest_is ∙ ap (λ l. spans_after rule false l r.behind) (sym at)
+      ∙ left-behind rule text (first.before ++ first.text) r.behind cut (scalars-end passed r.behind all),
+      IsCharBoundary-at_seam text (first.before ++ first.text) (encode_utf8_all r.behind) cut
+          (r.behind, (scalars-end passed r.behind all, refl)),
+    ) where
+      r : Rest rule (reverse (chars before)) (chars rest) first others
+      r = subst (RestOf rule (reverse (chars before)) (chars rest))
+          (ap (λ l. spans_after rule false (in_front l) (chars rest))
+          (sym (seam-front text before rest parts)) ∙ e)
+          (rest-of rule (reverse (chars before)) (chars rest))
+
+      -- the characters in front of what is left
+      passed : List ℕ
+      passed = chars before ++ r.passed
+
+      turned : reverse passed ≡ reverse_aux r.passed (reverse (chars before))
+      turned = reverse-append (chars before) r.passed
+          ∙ sym (front-onto (reverse (chars before)) r.passed)
+
+      bytes : encode_utf8_all passed ≡ first.before ++ first.text
+      bytes = ap encode_utf8_all (sym (reverse-reverse passed) ∙ ap reverse turned) ∙ r.before_is
+
+      characters : chars text ≡ passed ++ r.behind
+      characters = ap chars parts ∙ chars-append before rest front
+          ∙ ap (λ l. chars before ++ l) r.parts
+          ∙ sym (append_assoc (chars before) r.passed r.behind)
+
+      all : scalars (passed ++ r.behind) ≡ true
+      all = ap scalars (sym characters) ∙ scalars-chars text utf8
+
+      cut : text ≡ first.before ++ first.text ++ encode_utf8_all r.behind
+      cut = sym (encodes-chars text utf8) ∙ ap encode_utf8_all characters
+          ∙ encodes-append passed r.behind
+          ∙ ap (λ l. l ++ encode_utf8_all r.behind) bytes
+
+      at : in_front (first.before ++ first.text) ≡ reverse_aux r.passed (reverse (chars before))
+      at = ap in_front (sym bytes)
+          ∙ ap reverse (chars-encodes passed (scalars-start passed r.behind all)) ∙ turned

@@ -252,15 +252,15 @@ parts-text rule c p left right first second =
           ∙ ap (λ l. l ++ encode_utf8 c) (encodes-chars left first)
 
 -- the first of these runs ends behind `passed`, and the others are those that are left there
-record Rest (rule : Rule) (front cs : List ℕ) (first : Span) (rest : List Span) : Type 0 where
-  passed : List ℕ
-  behind : List ℕ
-  parts : cs ≡ passed ++ behind
-  before_is : encode_utf8_all (reverse (reverse_aux passed front)) ≡ first.before ++ first.text
-  after_is : first.after ≡ encode_utf8_all behind
-  rest_is : rest ≡ spans_after rule false (reverse_aux passed front) behind
+pub record Rest (rule : Rule) (front cs : List ℕ) (first : Span) (rest : List Span) : Type 0 where
+  pub passed : List ℕ
+  pub behind : List ℕ
+  pub parts : cs ≡ passed ++ behind
+  pub before_is : encode_utf8_all (reverse (reverse_aux passed front)) ≡ first.before ++ first.text
+  pub after_is : first.after ≡ encode_utf8_all behind
+  pub rest_is : rest ≡ spans_after rule false (reverse_aux passed front) behind
 
-abbrev RestOf : Rule → List ℕ → List ℕ → List Span → Type 0
+abbrev pub RestOf : Rule → List ℕ → List ℕ → List Span → Type 0
 RestOf rule front cs [] = Unit {0}
 RestOf rule front cs (first ∷ rest) = Rest rule front cs first rest
 
@@ -292,7 +292,7 @@ rest-further rule front c cs (first ∷ rest) r = record {
   rest_is = r.rest_is;
 }
 
-rest-of : (rule : Rule) (front cs : List ℕ)
+pub rest-of : (rule : Rule) (front cs : List ℕ)
     → RestOf rule front cs (spans_after rule false front cs)
 rest-of rule front [] = tt
 rest-of rule front (c ∷ ahead) =
