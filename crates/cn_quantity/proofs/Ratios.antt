@@ -1,8 +1,7 @@
 -- The answer to a text without sign, from the answers to its parts.
-use Rattle.std.proofs.Common.{◌≡◌, ℕ, suc, ◌+◌, ◌-◌, ◌*◌, ◌^◌, ◌<◌, ◌≤◌, Bool, true, false, nat_lt, ◌&&◌, ◌==◌, List, [], ◌∷◌, ◌++◌, length, take, chars, Result, Ok, Err, refl, sym, ap, ◌∙◌, arith, if◌then◌else◌}
+use Rattle.std.proofs.Common.{◌≡◌, ℕ, ◌+◌, ◌-◌, ◌*◌, ◌^◌, ◌<◌, Bool, true, false, nat_lt, ◌&&◌, List, [], ◌∷◌, length, take, Result, Ok, Err, refl, sym, ap, ◌∙◌, arith, if◌then◌else◌}
 use Rattle.cn_core.specs.declared.method.ChineseCountMethod.{ChineseCountMethod}
-use Rattle.cn_core.specs.CharIndex.{char_index_of}
-use Rattle.cn_core.specs.Refusal.{Refusal, incorrect_at, too_large}
+use Rattle.cn_core.specs.Refusal.{Refusal, too_large}
 use Rattle.cn_core.specs.Text.{text_of}
 use Rattle.cn_judge.specs.Piece.{answer_at}
 use Rattle.cn_quantity.specs.declared.number.Decimal.{Decimal}
@@ -13,7 +12,7 @@ use Rattle.cn_quantity.specs.Answer.{and_then, further_by}
 use Rattle.cn_quantity.specs.Number.{divisor_answer, number_answer, part_answer}
 use Rattle.cn_quantity.specs.Private.{IsFront, SplitsAtBar}
 use Rattle.cn_quantity.specs.Ratio.{after_bar, before_bar, form_of, fraction_answer, is_fraction, is_percentage, ratio_answer, ratio_of}
-use Rattle.cn_quantity.proofs.Numbers.{divisor-within, number-low, part-low}
+use Rattle.cn_quantity.proofs.Numbers.{divisor-within, number-low}
 use Rattle.cn_quantity.proofs.Told.{told-end, told-front, told-goes_on, told-stops}
 
 -- a number over a divisor names no place
@@ -23,11 +22,17 @@ ratio-told : (skipped : ℕ) (bytes : List ℕ) (divisor : ℕ) (form : Quantity
 ratio-told skipped bytes divisor form decimal =
     by (nat_lt (divisor * 10 ^ decimal.decimals) (2 ^ 128)) where
       by : (b : Bool) → ◌≡◌ {A = Result Ratio Refusal} (if b
-          then Ok (record { numerator = decimal.number;
-          denominator = divisor * 10 ^ decimal.decimals; form = form }) else Err too_large)
+          then Ok (record {
+            numerator = decimal.number;
+            denominator = divisor * 10 ^ decimal.decimals;
+            form = form;
+          }) else Err too_large)
           (answer_at skipped bytes (if b
-          then Ok (record { numerator = decimal.number;
-          denominator = divisor * 10 ^ decimal.decimals; form = form }) else Err too_large))
+          then Ok (record {
+            numerator = decimal.number;
+            denominator = divisor * 10 ^ decimal.decimals;
+            form = form;
+          }) else Err too_large))
       by true = refl
       by false = refl
 

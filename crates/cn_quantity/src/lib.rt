@@ -7,7 +7,6 @@ mod characters;
 mod decimal;
 mod digits;
 mod figures;
-pub mod laws;
 mod number;
 mod pieces;
 mod quantity;

@@ -1,1 +1,0 @@
-//! What users may count on, as contracts of functions that do nothing.
