@@ -7,6 +7,7 @@ mod characters;
 mod decimal;
 mod digits;
 mod figures;
+pub mod laws;
 mod number;
 mod pieces;
 mod quantity;
