@@ -44,5 +44,15 @@ pub use Rattle.cn_find.specs.Spans
 pub use Rattle.cn_print.specs.ErrorText as PrintErrorText
 pub use Rattle.cn_print.specs.Prints
 pub use Rattle.cn_print.specs.Writes
+pub use Rattle.cn_quantity.specs.Answer as QuantityAnswer
+pub use Rattle.cn_quantity.specs.Characters as QuantityCharacters
+pub use Rattle.cn_quantity.specs.Decimal as QuantityDecimal
+pub use Rattle.cn_quantity.specs.Digits as QuantityDigits
+pub use Rattle.cn_quantity.specs.Figures as QuantityFigures
+pub use Rattle.cn_quantity.specs.Number as QuantityNumber
+pub use Rattle.cn_quantity.specs.Ratio as QuantityRatio
+pub use Rattle.cn_quantity.specs.Reading as QuantityReading
+pub use Rattle.cn_quantity.specs.Units as QuantityUnits
+pub use Rattle.cn_quantity.specs.Whole as QuantityWhole
 pub use Rattle.cn_read.specs.Answer
 pub use Rattle.cn_read.specs.ErrorText as ReadErrorText

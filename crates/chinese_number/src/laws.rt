@@ -7,6 +7,7 @@ mod enums;
 mod methods;
 mod places;
 mod plain_digits;
+pub mod quantities;
 mod read_back;
 mod refusals;
 mod scripts;

@@ -1,12 +1,12 @@
 -- A text, cut at its first 分之, and before a percent sign at its end.
-use Rattle.std.proofs.Common.{◌≡◌, ℕ, suc, ◌+◌, ◌-◌, ◌<◌, Bool, true, false, ◌&&◌, nat_lt, List, [], ◌∷◌, ◌++◌, length, take, chars, refl, sym, ap, ◌∙◌, arith, append_assoc, append-nil, length-append}
+use Rattle.std.proofs.Common.{◌≡◌, ℕ, ◌+◌, ◌-◌, ◌<◌, true, false, ◌&&◌, nat_lt, List, [], ◌∷◌, ◌++◌, length, take, chars, refl, sym, ap, ◌∙◌, arith, append_assoc, append-nil, length-append}
 use Rattle.std.proofs.lemmas.Bool.Decides.{nat_tests}
 use Rattle.std.proofs.Math.Seq.{take-append_seam}
 use Rattle.std.proofs.lemmas.List.{append_cancel_right}
 use Rattle.cn_core.specs.Text.{text_of}
 use Rattle.cn_quantity.specs.Characters.{is_fen, is_zhi, is_percent}
 use Rattle.cn_quantity.specs.Ratio.{after_bar, before_bar, begins_with_zhi, ends_with_percent, is_percentage}
-use Rattle.cn_quantity.specs.Private.{BeginsWith, FinishesWith, IsEnd, SplitsAtBar}
+use Rattle.cn_quantity.specs.Private.{BeginsWith, IsEnd, SplitsAtBar}
 use Rattle.cn_quantity.proofs.Ends.{IsEnd-all, IsEnd-end, text-parts}
 
 -- no 分之 begins in front of this end
@@ -64,34 +64,34 @@ pub SplitsAtBar-at : (bytes rest after divisor front behind : List ℕ) (index c
     → SplitsAtBar bytes divisor index behind
 SplitsAtBar-at bytes rest after divisor front behind index c zhi s b fen_is zhi_is d parts whole
     count = record {
-  divisor_is = divisor_is;
-  behind_is = sym (s.after ∙ ap after_bar ahead ∙ bar-cut c zhi (text_of behind) fen_is zhi_is);
-  front = record { more = chars rest; parts = parts };
-  stands = record {
-    front = chars front;
-    parts = whole;
-    index_is = sym count;
-    place_is =
-        ap length front_is ∙ length-append (text_of divisor) (c ∷ zhi ∷ [])
-        ∙ ap (λ l. length l + 2) divisor_is;
-  };
-} where
-  ahead : text_of rest ≡ c ∷ zhi ∷ text_of behind
-  ahead = b.text ∙ ap (λ l. c ∷ l) d.text
+      divisor_is = divisor_is;
+      behind_is = sym (s.after ∙ ap after_bar ahead ∙ bar-cut c zhi (text_of behind) fen_is zhi_is);
+      front = record { more = chars rest; parts = parts };
+      stands = record {
+        front = chars front;
+        parts = whole;
+        index_is = sym count;
+        place_is =
+            ap length front_is ∙ length-append (text_of divisor) (c ∷ zhi ∷ [])
+            ∙ ap (λ l. length l + 2) divisor_is;
+      };
+    } where
+      ahead : text_of rest ≡ c ∷ zhi ∷ text_of behind
+      ahead = b.text ∙ ap (λ l. c ∷ l) d.text
 
-  same : text_of divisor ≡ s.seen
-  same = append_cancel_right (text_of divisor) s.seen (text_of rest)
-      (sym (text-parts bytes divisor rest parts) ∙ s.text)
+      same : text_of divisor ≡ s.seen
+      same = append_cancel_right (text_of divisor) s.seen (text_of rest)
+          (sym (text-parts bytes divisor rest parts) ∙ s.text)
 
-  divisor_is : text_of divisor ≡ before_bar (text_of bytes)
-  divisor_is = same ∙ sym (s.before ∙ ap (λ l. s.seen ++ before_bar l) ahead
-      ∙ ap (λ l. s.seen ++ l) (bar-stops c zhi (text_of behind) fen_is zhi_is) ∙ append-nil s.seen)
+      divisor_is : text_of divisor ≡ before_bar (text_of bytes)
+      divisor_is = same ∙ sym (s.before ∙ ap (λ l. s.seen ++ before_bar l) ahead
+          ∙ ap (λ l. s.seen ++ l) (bar-stops c zhi (text_of behind) fen_is zhi_is) ∙ append-nil s.seen)
 
-  front_is : text_of front ≡ text_of divisor ++ (c ∷ zhi ∷ [])
-  front_is = append_cancel_right (text_of front) (text_of divisor ++ (c ∷ zhi ∷ []))
-      (text_of behind) (sym (text-parts bytes front behind whole) ∙ s.text
-      ∙ ap (λ l. l ++ text_of rest) (sym same) ∙ ap (λ l. text_of divisor ++ l) ahead
-      ∙ sym (append_assoc (text_of divisor) (c ∷ zhi ∷ []) (text_of behind)))
+      front_is : text_of front ≡ text_of divisor ++ (c ∷ zhi ∷ [])
+      front_is = append_cancel_right (text_of front) (text_of divisor ++ (c ∷ zhi ∷ []))
+          (text_of behind) (sym (text-parts bytes front behind whole) ∙ s.text
+          ∙ ap (λ l. l ++ text_of rest) (sym same) ∙ ap (λ l. text_of divisor ++ l) ahead
+          ∙ sym (append_assoc (text_of divisor) (c ∷ zhi ∷ []) (text_of behind)))
 
 pub none-barred : (bytes rest : List ℕ) → IsBarSought bytes rest → text_of rest ≡ []
     → after_bar (text_of bytes) ≡ []

@@ -1,5 +1,6 @@
 pub mod Bars
 pub mod Ends
+mod Examples
 pub mod Growing
 pub mod Numbers
 pub mod Points

@@ -1,12 +1,12 @@
 -- A whole number and a number, from what their parts are answered.
-use Rattle.std.proofs.Common.{◌≡◌, ℕ, suc, ◌+◌, ◌<◌, ◌≤◌, Bool, true, false, nat_lt, ◌&&◌, ◌==◌, List, [], ◌∷◌, ◌++◌, length, Option, Some, None, Result, Ok, Err, refl, sym, ap, ◌∙◌, arith, if◌then◌else◌}
+use Rattle.std.proofs.Common.{◌≡◌, ℕ, suc, ◌+◌, ◌<◌, ◌≤◌, Bool, true, false, nat_lt, ◌&&◌, List, [], ◌∷◌, length, Option, Some, None, Result, Ok, Err, refl, sym, ap, ◌∙◌, arith, if◌then◌else◌}
 use Rattle.std.proofs.lemmas.List.{length-map}
 use Rattle.std.specs.Option.{option_map_or}
 use Rattle.cn_core.specs.declared.method.ChineseCountMethod.{ChineseCountMethod}
 use Rattle.cn_core.specs.Judging.{judge}
 use Rattle.cn_core.specs.Mark.{mark_of}
 use Rattle.cn_core.specs.Naive.{naive_answer}
-use Rattle.cn_core.specs.Refusal.{Refusal, empty, incorrect_at, too_large}
+use Rattle.cn_core.specs.Refusal.{Refusal, empty, incorrect_at}
 use Rattle.cn_core.specs.Text.{text_of, marks_of}
 use Rattle.cn_core.proofs.Within.{judge-within, naive-within}
 use Rattle.std.specs.Char.{is_whitespace}

@@ -1,8 +1,7 @@
 -- The answer to a text without sign, from the answers to its parts.
-use Rattle.std.proofs.Common.{◌≡◌, ℕ, suc, ◌+◌, ◌-◌, ◌*◌, ◌^◌, ◌<◌, ◌≤◌, Bool, true, false, nat_lt, ◌&&◌, ◌==◌, List, [], ◌∷◌, ◌++◌, length, take, chars, Result, Ok, Err, refl, sym, ap, ◌∙◌, arith, if◌then◌else◌}
+use Rattle.std.proofs.Common.{◌≡◌, ℕ, suc, ◌+◌, ◌-◌, ◌*◌, ◌^◌, ◌<◌, Bool, true, false, nat_lt, ◌&&◌, List, [], ◌∷◌, length, take, Result, Ok, Err, refl, sym, ap, ◌∙◌, arith, length-take, if◌then◌else◌}
 use Rattle.cn_core.specs.declared.method.ChineseCountMethod.{ChineseCountMethod}
-use Rattle.cn_core.specs.CharIndex.{char_index_of}
-use Rattle.cn_core.specs.Refusal.{Refusal, incorrect_at, too_large}
+use Rattle.cn_core.specs.Refusal.{Refusal, empty, incorrect_at, too_large, too_small}
 use Rattle.cn_core.specs.Text.{text_of}
 use Rattle.cn_judge.specs.Piece.{answer_at}
 use Rattle.cn_quantity.specs.declared.number.Decimal.{Decimal}
@@ -10,6 +9,7 @@ use Rattle.cn_quantity.specs.declared.quantity.QuantityForm.{QuantityForm}
 use Rattle.cn_quantity.specs.declared.quantity.QuantityForm.TheVariants.{Fraction, Percent}
 use Rattle.cn_quantity.specs.declared.ratio.Ratio.{Ratio}
 use Rattle.cn_quantity.specs.Answer.{and_then, further_by}
+use Rattle.cn_quantity.specs.Characters.{is_fen, is_zhi}
 use Rattle.cn_quantity.specs.Number.{divisor_answer, number_answer, part_answer}
 use Rattle.cn_quantity.specs.Private.{IsFront, SplitsAtBar}
 use Rattle.cn_quantity.specs.Ratio.{after_bar, before_bar, form_of, fraction_answer, is_fraction, is_percentage, ratio_answer, ratio_of}
@@ -23,11 +23,17 @@ ratio-told : (skipped : ℕ) (bytes : List ℕ) (divisor : ℕ) (form : Quantity
 ratio-told skipped bytes divisor form decimal =
     by (nat_lt (divisor * 10 ^ decimal.decimals) (2 ^ 128)) where
       by : (b : Bool) → ◌≡◌ {A = Result Ratio Refusal} (if b
-          then Ok (record { numerator = decimal.number;
-          denominator = divisor * 10 ^ decimal.decimals; form = form }) else Err too_large)
+          then Ok (record {
+            numerator = decimal.number;
+            denominator = divisor * 10 ^ decimal.decimals;
+            form = form;
+          }) else Err too_large)
           (answer_at skipped bytes (if b
-          then Ok (record { numerator = decimal.number;
-          denominator = divisor * 10 ^ decimal.decimals; form = form }) else Err too_large))
+          then Ok (record {
+            numerator = decimal.number;
+            denominator = divisor * 10 ^ decimal.decimals;
+            form = form;
+          }) else Err too_large))
       by true = refl
       by false = refl
 
@@ -200,3 +206,109 @@ number-goes_on method skipped bytes decimal answer e p h is =
     ∙ ap (answer_at skipped bytes) (sym (a-number method (text_of bytes) e p
     ∙ told-goes_on skipped bytes (number_answer method (text_of bytes))
     (λ decimal. ratio_of 1 (form_of decimal.decimals) decimal) decimal h))
+
+-- what stands in front of 分之, its two characters, and what stands behind it
+bar-lengths : (text : List ℕ) → 0 < length (after_bar text)
+    → length (before_bar text) + 2 + length (after_bar text) ≡ length text
+bar-lengths [] some = absurd (omega (arith, some))
+bar-lengths (c ∷ []) some = absurd (omega (arith, some))
+bar-lengths (c ∷ next ∷ rest) some =
+    by (is_fen c) (is_zhi next) some (bar-lengths (next ∷ rest)) where
+      by : (a b : Bool) → 0 < length (if a && b then rest else after_bar (next ∷ rest))
+          → (0 < length (after_bar (next ∷ rest))
+          → length (before_bar (next ∷ rest)) + 2 + length (after_bar (next ∷ rest))
+          ≡ length (next ∷ rest))
+          → length (if a && b then [] else c ∷ before_bar (next ∷ rest)) + 2
+          + length (if a && b then rest else after_bar (next ∷ rest)) ≡ suc (suc (length rest))
+      by true true some ih = omega arith
+      by true false some ih = let h = ih some in omega (arith, h)
+      by false b some ih = let h = ih some in omega (arith, h)
+
+ratio-placeless : (divisor : ℕ) (form : QuantityForm) (decimal : Decimal) (place : ℕ)
+    → ratio_of divisor form decimal ≡ Err (incorrect_at place) → ⊥
+ratio-placeless divisor form decimal place h =
+    by (nat_lt (divisor * 10 ^ decimal.decimals) (2 ^ 128)) h where
+      by : (b : Bool) → ◌≡◌ {A = Result Ratio Refusal} (if b
+          then Ok (record {
+            numerator = decimal.number;
+            denominator = divisor * 10 ^ decimal.decimals;
+            form = form;
+          }) else Err too_large)
+          (Err (incorrect_at place)) → ⊥
+      by true e = cc
+      by false e = cc
+
+-- the first answer is refused, since the next one names no place
+over-refused : (first : Result Decimal Refusal) (divisor : ℕ) (form : Decimal → QuantityForm)
+    (place : ℕ)
+    → and_then first (λ decimal. ratio_of divisor (form decimal) decimal)
+    ≡ Err (incorrect_at place) → first ≡ Err (incorrect_at place)
+over-refused (Ok decimal) divisor form place h =
+    absurd (ratio-placeless divisor (form decimal) decimal place h)
+over-refused (Err refusal) divisor form place h = cc
+
+further-low : {T : Type 0} (answer : Result T Refusal) (count place bound : ℕ)
+    → ((p : ℕ) → answer ≡ Err (incorrect_at p) → p < bound)
+    → further_by count answer ≡ Err (incorrect_at place) → place < bound + count
+further-low (Ok value) count place bound low h = cc
+further-low (Err empty) count place bound low h = cc
+further-low (Err too_large) count place bound low h = cc
+further-low (Err too_small) count place bound low h = cc
+further-low (Err (incorrect_at p)) count place bound low h =
+    let same : p + count ≡ place = cc in let l = low p refl in omega (arith, l, same)
+
+fraction-low : (method : ChineseCountMethod) (text : List ℕ) (place : ℕ)
+    → is_fraction text ≡ true
+    → fraction_answer method (before_bar text) (after_bar text) ≡ Err (incorrect_at place)
+    → place < length text
+fraction-low method text place fraction h =
+    by (divisor_answer method (before_bar text)) refl h where
+      some : 0 < length (after_bar text)
+      some = behind (nat_lt 0 (length (before_bar text))) (after_bar text) fraction where
+        behind : (b : Bool) (after : List ℕ) → (b && nat_lt 0 (length after)) ≡ true
+            → 0 < length after
+        behind true [] e = cc
+        behind false [] e = cc
+        behind b (c ∷ rest) e = omega arith
+
+      all : length (before_bar text) + 2 + length (after_bar text) ≡ length text
+      all = bar-lengths text some
+
+      by : (divisor : Result ℕ Refusal) → divisor_answer method (before_bar text) ≡ divisor
+          → and_then divisor (λ divisor.
+          and_then (further_by (length (before_bar text) + 2) (part_answer method (after_bar text)))
+          (λ decimal. ratio_of divisor Fraction decimal)) ≡ Err (incorrect_at place)
+          → place < length text
+      by (Ok divisor) is e =
+          let first = over-refused
+          (further_by (length (before_bar text) + 2) (part_answer method (after_bar text)))
+          divisor (λ decimal. Fraction) place e in
+          let low = further-low (part_answer method (after_bar text)) (length (before_bar text) + 2)
+          place (length (after_bar text)) (part-low method (after_bar text)) first in
+          omega (arith, low, all)
+      by (Err refusal) is e =
+          let same : refusal ≡ incorrect_at place = cc in
+          let low = divisor-within method (before_bar text) place (some-divisor text fraction)
+          (is ∙ ap Err same) in
+          omega (arith, low, all)
+
+-- a refusal of a text without sign points into it
+pub ratio-low : (method : ChineseCountMethod) (text : List ℕ) (place : ℕ)
+    → ratio_answer method text ≡ Err (incorrect_at place) → place < length text
+ratio-low method text place h = by (is_fraction text) (is_percentage text) refl h where
+  by : (a b : Bool) → is_fraction text ≡ a
+      → (if a then fraction_answer method (before_bar text) (after_bar text)
+      else (if b then and_then (number_answer method (take (length text - 1) text))
+      (λ decimal. ratio_of 100 Percent decimal)
+      else and_then (number_answer method text)
+      (λ decimal. ratio_of 1 (form_of decimal.decimals) decimal))) ≡ Err (incorrect_at place)
+      → place < length text
+  by true b e h = fraction-low method text place e h
+  by false true e h =
+      let first = over-refused (number_answer method (take (length text - 1) text)) 100
+      (λ decimal. Percent) place h in
+      let low = number-low method (take (length text - 1) text) place first in
+      omega (arith, low, length-take (length text - 1) text)
+  by false false e h =
+      number-low method text place
+      (over-refused (number_answer method text) 1 (λ decimal. form_of decimal.decimals) place h)

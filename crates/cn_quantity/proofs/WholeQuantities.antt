@@ -1,10 +1,10 @@
 -- The whole number that a numerator over a denominator is.
-use Rattle.std.proofs.Common.{◌≡◌, ◌↔◌, ℕ, zero, suc, ◌+◌, ◌*◌, ◌/◌, ◌%◌, ◌<◌, ◌≤◌, ℤ, pos, negsuc, ◌*ℤ◌, neg_ℤ, nat_abs, int_lt, Bool, true, false, Option, Some, None, IfSome, IsSome, IsTrue, MatchOption, refl, sym, ap, subst, ◌∙◌, arith}
+use Rattle.std.proofs.Common.{◌≡◌, ◌↔◌, ℕ, zero, suc, ◌*◌, ◌/◌, ◌%◌, ◌<◌, ◌≤◌, ℤ, pos, negsuc, ◌*ℤ◌, neg_ℤ, nat_abs, int_lt, true, false, Option, Some, None, IfSome, IsSome, IsTrue, MatchOption, refl, sym, ap, subst, ◌∙◌, arith}
 use Rattle.std.proofs.lemmas.Bool.Decides.{nat_tests}
 use Rattle.std.proofs.lemmas.Int.{ints}
 use Rattle.std.proofs.Math.Nat.{mul-mod_left, mul-div_cancel, div-add-mod'}
 use Rattle.cn_core.specs.Whole.{Kind, holds, signed_number}
-use Rattle.cn_quantity.specs.WholeQuantity.{IsTimes}
+use Rattle.cn_quantity.specs.Whole.{IsTimes}
 
 not-below : (m : ℕ) → int_lt (pos m) (pos 0) ≡ false
 not-below m = grind (arith, ints, nat_tests)

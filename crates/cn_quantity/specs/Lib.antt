@@ -8,4 +8,4 @@ pub mod Private
 pub mod Ratio
 pub mod Reading
 pub mod Units
-pub mod WholeQuantity
+pub mod Whole

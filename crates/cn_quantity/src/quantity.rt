@@ -6,7 +6,7 @@ ghost use Rattle.cn_judge.specs.Answer.{answer_of, refusal_of};
 ghost use Rattle.cn_judge.specs.Piece.{StandsAt};
 ghost use Rattle.cn_quantity.specs.Reading.{leading_sign, quantity_answer, signed_ratio};
 ghost use Rattle.cn_quantity.specs.Private.{signed_refusal};
-ghost use Rattle.cn_quantity.specs.WholeQuantity.{IsTimes};
+ghost use Rattle.cn_quantity.specs.Whole.{IsTimes};
 
 use crate::characters::sign_of;
 use crate::ratio::{Ratio, judge_ratio};

@@ -1,4 +1,4 @@
-use Rattle.std.proofs.Common.{rules, sym}
+use Rattle.std.proofs.Common.{rules}
 use Rattle.cn_core.specs.Text.{text_of}
 use Rattle.cn_quantity.proofs.Growing.{read_on-past}
 use Rattle.cn_quantity.proofs.digits.read_on.Goals as goal

@@ -12,5 +12,8 @@ pub returns-clause-parts : goal.returns-clause-parts
 returns-clause-parts c = front-chars _ _ _ c.requires c.utf8.text c.utf8.end (search rules) (search rules)
 
 pub returns-clause-sizes : goal.returns-clause-sizes
-returns-clause-sizes c = omega (arith, c.split_at.ensures.front_len,
-    end-shorter _ _ c.requires c.utf8.text c.utf8.end)
+returns-clause-sizes c = omega (
+  arith,
+  c.split_at.ensures.front_len,
+  end-shorter _ _ c.requires c.utf8.text c.utf8.end,
+)

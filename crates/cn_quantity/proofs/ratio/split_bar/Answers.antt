@@ -1,5 +1,4 @@
-use Rattle.std.proofs.Common.{rules, sym, subst}
-use Rattle.cn_quantity.specs.Private.{SplitsAtBar}
+use Rattle.std.proofs.Common.{rules}
 use Rattle.cn_quantity.proofs.Bars.{IsBarSought-none, IsBarSought-more, SplitsAtBar-at, end-behind}
 use Rattle.cn_quantity.proofs.ratio.split_bar.Goals as goal
 

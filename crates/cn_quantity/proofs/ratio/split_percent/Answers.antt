@@ -1,4 +1,4 @@
-use Rattle.std.proofs.Common.{rules, sym, ◌∙◌}
+use Rattle.std.proofs.Common.{sym, ◌∙◌}
 use Rattle.cn_quantity.proofs.Bars.{percent-some}
 use Rattle.cn_quantity.proofs.ratio.split_percent.Goals as goal
 
