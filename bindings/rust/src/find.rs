@@ -1,10 +1,12 @@
-//! The numbers in running text.
+//! The numbers and the expressions in running text.
 
 use core::iter::FusedIterator;
 use core::ops::Range;
 
-use crate::abi::{self, flag};
-use crate::{ChineseCountMethod, ChineseToNumber, ChineseToNumberError, Unit};
+use crate::abi::{self, flag, Sought};
+use crate::{
+    chinese_to_quantity, ChineseCountMethod, ChineseToNumber, ChineseToNumberError, Quantity, Unit,
+};
 
 /// Which characters are looked for: the digits and the units up to the greatest one, with or without
 /// the forms that only cheques have, as 參 and 陸, which mean other things in a sentence.
@@ -115,15 +117,26 @@ impl<'a> Found<'a> {
     {
         self.text.to_number_any().ok()
     }
+
+    /// The exact quantity that its text is, as [`find_quantities`] finds them.
+    ///
+    /// # Errors
+    ///
+    /// [`ChineseToNumberError`] says for what a text is refused; a `char_index` counts within the run.
+    #[inline]
+    pub fn quantity(self, method: ChineseCountMethod) -> Result<Quantity, ChineseToNumberError> {
+        chinese_to_quantity(self.text, method)
+    }
 }
 
 // How many runs are searched for at once, behind the first one: many callers want no other.
 const AT_ONCE: usize = 8;
 
-/// The numbers of a text, as [`find_numbers`] gives them.
+/// The runs of a text, as [`find_numbers`] and [`find_quantities`] give them.
 #[derive(Debug, Clone)]
 #[must_use = "the text is searched as numbers are asked for, and not much further"]
 pub struct Numbers<'a> {
+    sought: Sought,
     wanted: Wanted,
     whole: &'a str,
     // Where the end begins that is not yet searched.
@@ -134,12 +147,18 @@ pub struct Numbers<'a> {
     given: usize,
 }
 
-impl Numbers<'_> {
+impl<'a> Numbers<'a> {
+    #[inline]
+    fn of(whole: &'a str, sought: Sought, wanted: Wanted) -> Self {
+        let spans = [abi::Span::default(); AT_ONCE];
+        Self { sought, wanted, whole, next: 0, spans, found: 0, given: 0 }
+    }
+
     fn search(&mut self) {
         let spans = if self.next == 0 { &mut self.spans[..1] } else { &mut self.spans[..] };
         self.given = 0;
         let Wanted { upper, greatest } = self.wanted;
-        self.found = abi::find(self.whole, self.next, upper, greatest, spans);
+        self.found = abi::find(self.sought, self.whole, self.next, (upper, greatest), spans);
         let is_filled = self.found == spans.len();
         self.next = if is_filled { spans[self.found - 1].end } else { self.whole.len() };
     }
@@ -161,8 +180,24 @@ impl Numbers<'_> {
 /// ```
 #[inline]
 pub fn find_numbers(text: &str, wanted: Wanted) -> Numbers<'_> {
-    let spans = [abi::Span::default(); AT_ONCE];
-    Numbers { wanted, whole: text, next: 0, spans, found: 0, given: 0 }
+    Numbers::of(text, Sought::Numbers, wanted)
+}
+
+/// The expressions of a text, from the first to the last: numbers with their sign, their figures,
+/// their point and their units, percentages and fractions.
+///
+/// ```rust
+/// use chinese_number::{find_quantities, ChineseCountMethod, Wanted};
+///
+/// let whole: Vec<Option<u32>> = find_quantities("增长12.5%，共3.5万人", Wanted::EVERYDAY)
+///     .filter_map(|found| found.quantity(ChineseCountMethod::TenThousand).ok())
+///     .map(|quantity| quantity.to_whole())
+///     .collect();
+/// assert_eq!(whole, [None, Some(35_000)]);
+/// ```
+#[inline]
+pub fn find_quantities(text: &str, wanted: Wanted) -> Numbers<'_> {
+    Numbers::of(text, Sought::Quantities, wanted)
 }
 
 impl<'a> Iterator for Numbers<'a> {
