@@ -1,21 +1,17 @@
 -- The char_index_of of a refusal is that of a character.
-use Rattle.std.proofs.Common.{◌≡◌, ◌⊎◌, inl, inr, ℕ, zero, suc, ◌+◌, ◌-◌, ◌^◌, ◌<◌, ◌≤◌, ℤ, int_lt, Bool, true, false, not, ◌&&◌, nat_lt, nat_le, if◌then◌else◌, List, [], ◌∷◌, length, filter, reverse, take, drop, slice_get, chars, Option, Some, None, Result, Ok, Err, is_ok, refl, sym, ap, subst, ◌∙◌, arith, length-drop}
-use Rattle.std.proofs.lemmas.List.{length-reverse, length-take-le, length-map}
+use Rattle.std.proofs.Common.{◌≡◌, ℕ, zero, suc, ◌+◌, ◌<◌, ℤ, int_lt, Bool, true, false, not, if◌then◌else◌, List, [], ◌∷◌, length, filter, take, drop, slice_get, chars, Option, Some, None, Result, Ok, Err, refl, sym, ap, subst, arith, length-drop}
+use Rattle.std.proofs.lemmas.List.{length-map}
 use Rattle.std.specs.Char.{is_whitespace, is_not_whitespace}
-use Rattle.std.specs.Option.{option_or}
 use Rattle.cn_core.specs.declared.method.ChineseCountMethod.{ChineseCountMethod}
 use Rattle.cn_core.specs.declared.sign.Sign.{Sign}
 use Rattle.cn_core.specs.declared.sign.Sign.TheVariants.{Plus, Minus}
-use Rattle.cn_core.specs.Judge.{Judges, RefusesBody, numeral_answer, last_mark_answer}
-use Rattle.cn_core.specs.Mark.{Mark, digit, unit, other, mark_of}
-use Rattle.cn_core.specs.Naive.{naive_answer, first_fault, refused_or, decimal_value}
-use Rattle.cn_core.specs.Numeral.{is_numeral, Completable}
-use Rattle.cn_core.specs.Place.{body, ends_apart, is_early, some_unfit}
+use Rattle.cn_core.specs.Judge.{Judges}
+use Rattle.cn_core.specs.Mark.{mark_of}
+use Rattle.cn_core.specs.Naive.{naive_answer}
 use Rattle.cn_core.specs.Refusal.{Refusal, empty, incorrect_at, too_large, too_small}
 use Rattle.cn_core.specs.CharIndex.{char_index_of, char_index_among}
 use Rattle.cn_core.specs.Text.{text_of, marks_of}
 use Rattle.cn_core.specs.Reading.{Reads, leading_sign, sign_len, is_minus, typed_number, typed_answer, naive_reading}
-use Rattle.cn_core.specs.Value.{numeral_value}
 use Rattle.cn_core.specs.Whole.{signed_number, Kind}
 use Rattle.chinese_number.specs.Places.{PointsAt}
 use Rattle.cn_core.proofs.Within.{Judges-within, naive-within}

@@ -43,7 +43,7 @@ impl Quantity {
     /// The whole number that it is, if it is one and the type holds it.
     ///
     /// ```text
-    /// 35000 of 3.5万, which is 35000/10 before 万 and 350000/10 with it; None of 3.5
+    /// 3.5万, which is 350000/10, is Some(35000); 3.5 is None
     /// ```
     pub fn to_whole<T: Whole>(self) -> Option<T>
         ensures { MatchOption result
@@ -54,7 +54,8 @@ impl Quantity {
             return None;
         }
         let magnitude = self.numerator.unsigned_abs();
-        if magnitude % self.denominator > 0 {
+        let rest = magnitude % self.denominator;
+        if rest > 0 {
             return None;
         }
         T::from_magnitude(self.numerator < 0, magnitude / self.denominator)

@@ -5,8 +5,8 @@ use Rattle.std.proofs.lemmas.Int.{to_z-of_z}
 use Rattle.cn_quantity.proofs.WholeQuantities.{whole-answer, whole-none}
 use Rattle.cn_quantity.proofs.quantity.Quantity.to_whole.Goals as goal
 
-pub returns-then-magnitude-self-gt0 : goal.returns-then-magnitude-self-gt0
-returns-then-magnitude-self-gt0 g c = λ n times _.
+pub returns-then-rest-gt0 : goal.returns-then-rest-gt0
+returns-then-rest-gt0 g c = λ n times _.
     let fits : SFits w128 c.args.self.numerator = search rules in
     let same = to_z-of_z w128 c.args.self.numerator fits in
     let size : c.unsigned_abs-magnitude.result ≡ nat_abs c.args.self.numerator =
@@ -23,4 +23,4 @@ returns g c =
     c.unsigned_abs-magnitude.ensures.value ∙ ap nat_abs same in
     let found = simp same at c.from_magnitude.ensures in
     whole-answer g.T.Whole.kind g.T.Whole.number c.args.self.numerator c.args.self.denominator _ _
-    (omega arith) size c.if-magnitude-self-gt0.false found.value found.held
+    (omega arith) size c.if-rest-gt0.false found.value found.held
