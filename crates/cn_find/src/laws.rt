@@ -1,5 +1,5 @@
 //! What users may count on, as contracts of functions that do nothing.
-ghost use Rattle.std.specs.Prelude.{◌≡◌, ◌≢◌, ◌↔◌, [], ◌∷◌, ◌++◌, ℕ, ℤ, List, map, chars, encode_utf8, true, false, None, Some, Ok, Err, IsTrue};
+ghost use Rattle.std.specs.Prelude.{◌≡◌, ◌≢◌, ◌↔◌, [], ◌∷◌, ◌++◌, ℕ, ℤ, List, map, chars, encode_utf8, true, false, not, None, Some, Ok, Err, IsTrue};
 ghost use Rattle.std.specs.List.{Contains, list_all};
 ghost use Rattle.std.specs.Str.{IsUtf8};
 ghost use Rattle.cn_core.specs.declared.method.ChineseCountMethod.{ChineseCountMethod};
@@ -15,12 +15,13 @@ ghost use Rattle.cn_core.specs.Text.{marks_of, text_of};
 ghost use Rattle.cn_core.specs.Value.{numeral_value};
 ghost use Rattle.cn_core.specs.Whole.{Kind, holds};
 ghost use Rattle.cn_find.specs.Belongs.{is_mega, is_wanted};
+ghost use Rattle.cn_find.specs.Expressions.{is_extra};
 ghost use Rattle.cn_find.specs.Flags.{is_one_estimate, pairs};
 ghost use Rattle.cn_find.specs.Number.{IsAnswer};
-ghost use Rattle.cn_find.specs.Parting.{Meet, is_alone, is_of_measure, with_text_after, with_text_before};
+ghost use Rattle.cn_find.specs.Parting.{Meet, is_alone, is_named, is_of_measure, with_text_after, with_text_before};
 ghost use Rattle.cn_find.specs.Plain.{is_decimal};
-ghost use Rattle.cn_find.specs.Spans.{Span, spans};
-ghost use Rattle.cn_find.specs.Runs.{IsRun, is_rising};
+ghost use Rattle.cn_find.specs.Spans.{Span, expressions, expressions_left, spans};
+ghost use Rattle.cn_find.specs.Runs.{IsExpression, IsRun, is_rising};
 
 use crate::Wanted;
 
@@ -53,6 +54,42 @@ pub fn searches_go_on_behind_a_number(wanted: Wanted)
     ensures { (bytes : List ℕ) (first : Span) (rest : List Span)
         → spans wanted bytes ≡ first ∷ rest → IsUtf8 bytes
         → rest ≡ map (with_text_before (first.before ++ first.text)) (spans wanted first.after) }
+{}
+
+/// The expressions of a text are exactly its runs by their rule.
+pub fn expressions_are_the_runs(wanted: Wanted)
+    ensures { (bytes : List ℕ) (span : Span)
+        → Contains (expressions wanted bytes) span ↔ IsExpression wanted (chars bytes) span }
+{}
+
+/// They come in order, and no two overlap.
+pub fn expressions_come_in_order(wanted: Wanted)
+    ensures { (bytes : List ℕ) → IsTrue (is_rising 0 (expressions wanted bytes)) }
+{}
+
+/// A character that is not wanted, and that the rule of expressions does not name, as a line feed, parts
+/// a text: what is found is what is found in front of it, and then what is found behind it.
+pub fn unnamed_characters_part_texts(wanted: Wanted)
+    ensures { (left right : List ℕ) (c : ℕ) → IsUtf8 left → IsUtf8 (encode_utf8 c ++ right)
+        → is_wanted wanted c ≡ false → is_named c ≡ false
+        → expressions wanted (left ++ (encode_utf8 c ++ right))
+        ≡ map (with_text_after (encode_utf8 c ++ right)) (expressions wanted left)
+        ++ map (with_text_before (left ++ encode_utf8 c)) (expressions wanted right) }
+{}
+
+/// A search goes on behind an expression, with the whole text in sight: what is found behind the first
+/// one is what is left from its end on. What stands behind it by itself can have others: in `1-2` the
+/// second is 2, and in `-2` it is -2.
+pub fn searches_go_on_behind_an_expression(wanted: Wanted)
+    ensures { (bytes : List ℕ) (first : Span) (rest : List Span)
+        → expressions wanted bytes ≡ first ∷ rest → IsUtf8 bytes
+        → rest ≡ expressions_left wanted bytes first.after }
+{}
+
+/// Where a text has no character that belongs to expressions alone, its expressions are its numbers.
+pub fn expressions_of_numerals_are_numbers(wanted: Wanted)
+    ensures { (bytes : List ℕ) → IsTrue (list_all (λ c. not (is_extra c)) (chars bytes))
+        → expressions wanted bytes ≡ spans wanted bytes }
 {}
 
 /// What is cut in two does not stand alone: where a number begins at the end of another one, or behind
