@@ -7,9 +7,9 @@ use crate::run::next_run;
 use crate::{Found, Wanted};
 use std::marker::Model;
 
-/// The runs of a text by a rule, seen as the list of those that are left.
+/// The numbers of a text, or what another rule finds in it, seen as the list of those that are left.
 #[derive(Drop)]
-pub struct Numbers<'a, R: SearchRule> {
+pub struct Numbers<'a, R: SearchRule = NumberRule> {
     rule: R,
     whole: &'a str,
     // The end that is not yet searched.
@@ -28,7 +28,7 @@ impl<'a, R: SearchRule> Model for Numbers<'a, R> {
 }
 
 /// The numbers of a text, from the first to the last.
-pub fn find_numbers(text: &str, wanted: Wanted) -> Numbers<'_, NumberRule>
+pub fn find_numbers(text: &str, wanted: Wanted) -> Numbers<'_>
     ensures numbers { result ≡ spans wanted text.now }
     ensures few { length result ≤ length text.now }
 {
@@ -43,7 +43,7 @@ pub fn find_numbers(text: &str, wanted: Wanted) -> Numbers<'_, NumberRule>
 ///
 /// `find_numbers_from("一，二", 3, Wanted::EVERYDAY)` gives 二, behind `一，`. It is `None` where no
 /// character of the text begins at that byte, nor does the text end there.
-pub fn find_numbers_from(text: &str, from: usize, wanted: Wanted) -> Option<Numbers<'_, NumberRule>>
+pub fn find_numbers_from(text: &str, from: usize, wanted: Wanted) -> Option<Numbers<'_>>
     ensures variant { IsSome result ↔ IsCharBoundary text.now from }
     ensures numbers { IfSome result
         (λ numbers. numbers ≡ spans_left wanted text.now (drop from text.now)) }
