@@ -11,7 +11,7 @@
 #include <string.h>
 #include <time.h>
 
-enum { MOST = 512, SAMPLES = 10000 };
+enum { MOST = 512, MOST_SPANS = 20, SAMPLES = 10000 };
 
 typedef struct run {
     uint64_t state, sum;
@@ -109,19 +109,22 @@ static void try_read(run *r, const text *t, uint32_t kind, uint32_t way) {
 }
 
 static void try_find(run *r, const text *t, uint32_t upper, uint32_t greatest) {
-    cn_span span = {1, 2, 3};
-    size_t searched = 0;
-    uint32_t status = chinese_number_find(t->bytes, t->length, upper, greatest, &span);
+    cn_span spans[MOST_SPANS] = {{1, 2, 3}};
+    size_t most = below(r, MOST_SPANS + 1), from = below(r, 4), count = 9;
+    uint32_t status =
+        chinese_number_find(t->bytes, t->length, from, upper, greatest, spans, most, &count);
     for (;;) {
         add_word(r, status);
-        add_word(r, span.start);
-        add_word(r, span.end);
-        add_word(r, span.digits);
-        if (!is_utf8(status) || status == CN_NONE)
+        add_word(r, count);
+        for (size_t i = 0; i < MOST_SPANS; i++) {
+            add_word(r, spans[i].start);
+            add_word(r, spans[i].end);
+            add_word(r, spans[i].digits);
+        }
+        if (count == 0 || count < most)
             return;
-        searched += span.end;
-        status = chinese_number_find_utf8(t->bytes + searched, t->length - searched, upper,
-                                          greatest, &span);
+        status = chinese_number_find_utf8(t->bytes, t->length, spans[count - 1].end, upper,
+                                          greatest, spans, most, &count);
     }
 }
 

@@ -11,9 +11,10 @@
  * file, reads the locale or keeps anything between calls, so any number of threads may call at once.
  *
  * What the caller must see to, since nothing tests it:
- * - no pointer is NULL, not that of an empty text or room either (cn_.. take NULL as a text or a room of length 0);
- * - a text and a room have as many bytes as the length says, at most PTRDIFF_MAX;
- * - what a call writes (the room, *length, *reading, *span) overlaps nothing else that the call is given;
+ * - no pointer is NULL, not that of an empty text, room or array either (cn_.. take NULL as a text or a room of length 0);
+ * - a text and a room have as many bytes as the length says, and an array as many spans as `most` says: at most PTRDIFF_MAX
+ *   bytes;
+ * - what a call writes (the room, *length, *reading, the spans, *count) overlaps nothing else that the call is given;
  * - nothing else writes to what a call is given before it returns.
  *
  * All names begin with chinese_, cn_ or CN_. */
@@ -143,17 +144,17 @@ typedef enum cn_unit CN_OF_CODE {
 
 /* The status that a call returns. */
 typedef enum cn_status CN_OF_CODE {
-    CN_DONE = 0,      /* the text was read or printed, or a number was found in it */
+    CN_DONE = 0,      /* the text was read, printed or searched */
     CN_EMPTY = 1,     /* read: nothing is left of the text without white space and, for signed types, one sign */
     CN_INCORRECT = 2, /* read: the character at char_index cannot stand there; no amount or date begins with what ends there */
     CN_TOO_LARGE = 3, /* read: past the type's greatest, or no number of 128 bits; print by CN_LOW: 10^16 or more; print an amount, read figures: 10^18 fen or more */
     CN_TOO_SMALL = 4, /* read: past the type's least; print by CN_LOW: -10^16 or less; print an amount: -10^18 fen or less */
-    CN_NOT_UTF8 = 5,  /* read, find: the bytes are no UTF-8 */
+    CN_NOT_UTF8 = 5,  /* read, find: the bytes are no UTF-8; find: no character begins at `from`, nor does the text end there */
     CN_NO_ROOM = 6,   /* print: the text has more bytes than the room; *length says how many */
     CN_NOT_HELD = 7,  /* print: the type does not hold the number */
     CN_UNKNOWN = 8,   /* a code names no type, way, script, case, form or unit; CN_ANY is no way to print */
     CN_UNFINISHED = 9, /* read an amount, figures or a date: the text is none, but something behind it can make it one */
-    CN_NONE = 10,      /* find: there is no number in the text */
+    CN_NONE = 10,      /* cn_find_next: there is no further number in the text */
     CN_NOT_A_DATE = 11 /* print a date: there is no such date */
 } cn_status;
 
@@ -214,17 +215,20 @@ uint32_t chinese_number_read_utf8(const uint8_t *text, size_t text_length, uint3
 uint32_t chinese_number_print(uint64_t low, uint64_t high, uint32_t kind, uint32_t way, uint32_t script,
                               uint32_t letter_case, uint8_t *room, size_t room_length, size_t *length);
 
-/* Finds the first number of a text in UTF-8: the first run of digits and of units up to the greatest one, of the lower case
- * (upper 0) or of both (1). Writes *span whole at each status, and nothing else. The next number is the first of what
- * stands behind span.end.
+/* Finds the numbers of a text in UTF-8, from byte `from` on and in order, until none is left or `most` are found: the runs of
+ * digits and of units up to the greatest one, of the lower case (upper 0) or of both (1). `from` is 0, or any byte where a
+ * character begins or the text ends. Writes *count at each status, and so many spans, and nothing else: at CN_DONE how many are
+ * found, which may be 0, and else 0. Where *count is less than `most`, no further number is there; else the next ones are found
+ * from the last span's end on.
  *
- * Returns CN_DONE, CN_NONE, CN_NOT_UTF8 or CN_UNKNOWN. The whole text is tested, so a loop over all numbers of a text calls
- * this once, and from then on chinese_number_find_utf8, as cn_find_next does. */
-uint32_t chinese_number_find(const uint8_t *text, size_t text_length, uint32_t upper, uint32_t greatest, cn_span *span);
+ * Returns CN_DONE, CN_NOT_UTF8 or CN_UNKNOWN. The whole text is tested, whatever `from` is, so a loop over all numbers of a text
+ * calls this once, and from then on chinese_number_find_utf8, as cn_find_next does. */
+uint32_t chinese_number_find(const uint8_t *text, size_t text_length, size_t from, uint32_t upper, uint32_t greatest,
+                             cn_span *spans, size_t most, size_t *count);
 
 /* The same for bytes that the caller knows to be UTF-8. Nothing tests that: with other bytes the behaviour is undefined. */
-uint32_t chinese_number_find_utf8(const uint8_t *text, size_t text_length, uint32_t upper, uint32_t greatest,
-                                  cn_span *span);
+uint32_t chinese_number_find_utf8(const uint8_t *text, size_t text_length, size_t from, uint32_t upper, uint32_t greatest,
+                                  cn_span *spans, size_t most, size_t *count);
 
 /* What was read as an amount: how many fen, the hundredth part of a yuan, at CN_DONE, and at CN_INCORRECT how many
  * characters and how many bytes stand in front of the character at fault. All else is 0. */
@@ -374,23 +378,24 @@ CN_NODISCARD static inline cn_status cn_read_date(const char *text, size_t text_
  * for a span that an earlier call wrote, it has to be the same text. */
 CN_NODISCARD static inline cn_status cn_find_next(const char *text, size_t text_length, uint32_t upper,
                                                   cn_unit greatest, cn_span *span) {
-    size_t from = span->end, length = text_length - from;
-    const uint8_t *rest = cn_bytes(text, text_length) + from;
-    uint32_t status = from == 0 ? chinese_number_find(rest, length, upper, greatest, span)
-                                : chinese_number_find_utf8(rest, length, upper, greatest, span);
-    if (status == CN_DONE) {
-        span->start += from;
-        span->end += from;
-    }
-    return CN_AS(cn_status, status);
+    const uint8_t *bytes = cn_bytes(text, text_length);
+    size_t from = span->end, count = 0;
+    uint32_t status = from == 0 ? chinese_number_find(bytes, text_length, 0, upper, greatest, span, 1, &count)
+                                : chinese_number_find_utf8(bytes, text_length, from, upper, greatest, span, 1, &count);
+    if (count != 0)
+        return CN_DONE;
+    span->start = span->end = 0;
+    span->digits = 0;
+    return status == CN_DONE ? CN_NONE : CN_AS(cn_status, status);
 }
 
-/* Reads the number that stands at a span of a text: plain digits as such, and else by a method. */
+/* Reads the number that stands at a span of a text: plain digits as such, and else by a method. The span is one that a call
+ * that finds has written for this text, whose bytes are not tested again. */
 CN_NODISCARD static inline cn_status cn_read_found(const char *text, const cn_span *span, cn_kind kind, cn_way method,
                                                    cn_reading *reading) {
     const uint8_t *found = cn_bytes(text, span->end) + span->start;
     cn_way way = span->digits ? CN_DIGITS : method;
-    return CN_AS(cn_status, chinese_number_read(found, span->end - span->start, kind, way, reading));
+    return CN_AS(cn_status, chinese_number_read_utf8(found, span->end - span->start, kind, way, reading));
 }
 
 /* A room of char as the proved calls take it: in place of one without a byte, which may be NULL, another such one. */

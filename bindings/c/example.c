@@ -58,23 +58,31 @@ static void numbers_of_a_text(void) {
     expect("all numbers are found", count == 2 && numbers[0] == 23 && numbers[1] == 2025 && span.end == 0);
 }
 
-/* Finds the first number of a text, with this status and where it stands. */
-static void finds(const char *text, uint32_t upper, uint32_t greatest, uint32_t status, size_t start, size_t end,
-                  uint32_t digits) {
-    cn_span span;
-    expect(text, chinese_number_find((const uint8_t *)text, strlen(text), upper, greatest, &span) == status
-                     && span.start == start && span.end == end && span.digits == digits);
+/* Finds at most two numbers of a text from a byte on, with this status and where the last one stands. */
+static void finds(const char *text, size_t from, uint32_t upper, uint32_t greatest, uint32_t status, size_t count,
+                  size_t start, size_t end, uint32_t digits) {
+    cn_span spans[3] = {{0, 0, 0}, {0, 0, 0}, {0, 0, 0}};
+    const cn_span *last = count == 0 ? spans : spans + count - 1;
+    size_t found = 7;
+    expect(text, chinese_number_find((const uint8_t *)text, strlen(text), from, upper, greatest, spans, 2, &found) == status
+                     && found == count && last->start == start && last->end == end && last->digits == digits
+                     && spans[count].end == 0);
 }
 
 static void each_status_of_finding(void) {
-    finds("他五六十歲", 0, CN_ZHAO, CN_DONE, 3, 12, 0);
-    finds("買2兩", 0, CN_ZHAO, CN_DONE, 3, 4, 1);
-    finds("大陸", 1, CN_ZHAO, CN_DONE, 3, 6, 1);
-    finds("大陸", 0, CN_ZHAO, CN_NONE, 0, 0, 0);
-    finds("", 1, CN_JI, CN_NONE, 0, 0, 0);
-    finds("\xff", 0, CN_GE, CN_NOT_UTF8, 0, 0, 0);
-    finds("一", 2, CN_ZHAO, CN_UNKNOWN, 0, 0, 0);
-    finds("一", 0, CN_JI + 1, CN_UNKNOWN, 0, 0, 0);
+    finds("他五六十歲", 0, 0, CN_ZHAO, CN_DONE, 1, 3, 12, 0);
+    finds("買2兩", 0, 0, CN_ZHAO, CN_DONE, 2, 4, 7, 1);
+    finds("一，二，三", 0, 0, CN_ZHAO, CN_DONE, 2, 6, 9, 1);
+    finds("一，二，三", 9, 0, CN_ZHAO, CN_DONE, 1, 12, 15, 1);
+    finds("一，二，三", 15, 0, CN_ZHAO, CN_DONE, 0, 0, 0, 0);
+    finds("大陸", 0, 1, CN_ZHAO, CN_DONE, 1, 3, 6, 1);
+    finds("大陸", 0, 0, CN_ZHAO, CN_DONE, 0, 0, 0, 0);
+    finds("", 0, 1, CN_JI, CN_DONE, 0, 0, 0, 0);
+    finds("\xff", 0, 0, CN_GE, CN_NOT_UTF8, 0, 0, 0, 0);
+    finds("一", 1, 0, CN_ZHAO, CN_NOT_UTF8, 0, 0, 0, 0);
+    finds("一", 4, 0, CN_ZHAO, CN_NOT_UTF8, 0, 0, 0, 0);
+    finds("一", 0, 2, CN_ZHAO, CN_UNKNOWN, 0, 0, 0, 0);
+    finds("一", 0, 0, CN_JI + 1, CN_UNKNOWN, 0, 0, 0, 0);
 }
 
 /* Reads a text, which has this status, number and place. */

@@ -69,23 +69,39 @@ static answer number_read(const question *it) {
     return (answer){status, {to->number.low, to->number.high}, to->char_index, to->byte_index};
 }
 
-/* Of these calls, the one in chars begins at a span of zeros. */
-static uint32_t find_by(const question *it, cn_span *to) {
-    size_t length = it->text_length;
-    uint32_t upper = it->codes[0], greatest = it->codes[1];
-    switch (it->style) {
-    case TRUSTS: return chinese_number_find_utf8(it->text, length, upper, greatest, to);
-    case IN_CHARS:
-        memset(to, 0, sizeof *to);
-        return cn_find_next(text_of(it), length, upper, greatest, to);
-    default: return chinese_number_find(it->text, length, upper, greatest, to);
+static int is_untouched(const uint8_t *from, const uint8_t *to) {
+    return from == to
+        || (*from == UNTOUCHED && memcmp(from, from + 1, (size_t)(to - from) - 1) == 0);
+}
+
+/* What is found: the first number, and whether there is one. */
+typedef struct found {
+    cn_span first;
+    size_t count;
+} found;
+
+/* Of these calls, the one in chars begins at a span of zeros, and says by CN_NONE and zeros where
+ * there is no number, as is said here of the others, which leave the span. */
+static uint32_t find_by(const question *it, found *to) {
+    size_t length = it->text_length, *count = &to->count;
+    uint32_t upper = it->codes[0], greatest = it->codes[1], status;
+    cn_span *first = &to->first;
+    if (it->style == IN_CHARS) {
+        memset(first, 0, sizeof *first);
+        return cn_find_next(text_of(it), length, upper, greatest, first);
     }
+    status = it->style == TRUSTS
+        ? chinese_number_find_utf8(it->text, length, 0, upper, greatest, first, 1, count)
+        : chinese_number_find(it->text, length, 0, upper, greatest, first, 1, count);
+    if (*count == 0 && is_untouched((uint8_t *)first, (uint8_t *)(first + 1)))
+        memset(first, 0, sizeof *first);
+    return *count == 0 && status == CN_DONE ? CN_NONE : *count > 1 ? UINT32_MAX : status;
 }
 
 static answer number_find(const question *it) {
-    cn_span *to = told(it, sizeof *to);
+    found *to = told(it, sizeof *to);
     uint64_t status = find_by(it, to);
-    return (answer){status, {to->start, to->end, to->digits}, 0, 0};
+    return (answer){status, {to->first.start, to->first.end, to->first.digits}, 0, 0};
 }
 
 static answer of_amount(uint64_t status, const cn_amount *told) {
@@ -263,11 +279,6 @@ static area between_pages(void) {
         exit(2);
     memset(first + page, UNTOUCHED, page);
     return (area){first + page, first + 2 * page};
-}
-
-static int is_untouched(const uint8_t *from, const uint8_t *to) {
-    return from == to
-        || (*from == UNTOUCHED && memcmp(from, from + 1, (size_t)(to - from) - 1) == 0);
 }
 
 static void add_to_sum(task *mine, const void *bytes, size_t length) {

@@ -106,7 +106,7 @@ struct Reading<T> {
 
 /// A run in a text: where it begins and ends, in bytes, and 1 where each of its characters is a
 /// digit, else 0.
-#[derive(Default)]
+#[derive(Debug, Copy, Clone, Default)]
 #[repr(C)]
 pub struct Span {
     pub start: usize,
@@ -185,9 +185,12 @@ unsafe extern "C" {
     fn chinese_number_find_utf8(
         text: *const u8,
         text_length: usize,
+        from: usize,
         upper: u32,
         greatest: u32,
-        span: *mut Span,
+        spans: *mut Span,
+        most: usize,
+        count: *mut usize,
     ) -> u32;
 }
 
@@ -321,19 +324,26 @@ pub fn read_date(text: &str) -> Result<BillDate, (u32, usize)> {
     })
 }
 
-/// The first run of a text, or the status.
+/// Writes the runs of a text from a byte on, as many as there are spans, and gives how many; none
+/// where no character begins at that byte.
 #[inline]
-pub fn find(text: &str, upper: bool, greatest: Unit) -> Result<Span, u32> {
-    // SAFETY: as for a number; the span is a place of its own.
-    let (span, status) = answered(|span| unsafe {
+pub fn find(text: &str, from: usize, upper: bool, greatest: Unit, spans: &mut [Span]) -> usize {
+    // SAFETY: as for a number; the spans are those of one slice, and the count is a place of its own.
+    let (count, _) = answered(|count| unsafe {
         let (upper, greatest) = (u32::from(upper), greatest as u32);
-        chinese_number_find_utf8(text.as_ptr(), text.len(), upper, greatest, span)
+        let (spans, most) = (spans.as_mut_ptr(), spans.len());
+        chinese_number_find_utf8(
+            text.as_ptr(),
+            text.len(),
+            from,
+            upper,
+            greatest,
+            spans,
+            most,
+            count,
+        )
     });
-    if status == status::DONE {
-        Ok(span)
-    } else {
-        Err(status)
-    }
+    count
 }
 
 // The text that a call prints into a room, or its status.

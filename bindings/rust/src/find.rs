@@ -93,19 +93,37 @@ impl<'a> Found<'a> {
     }
 }
 
+// How many runs are searched for at once, behind the first one: many callers want no other.
+const AT_ONCE: usize = 8;
+
 /// The numbers of a text, as [`find_numbers`] gives them.
 #[derive(Debug, Clone)]
-#[must_use = "the text is searched as far as numbers are asked for"]
+#[must_use = "the text is searched as numbers are asked for, and not much further"]
 pub struct Numbers<'a> {
     wanted: Wanted,
     whole: &'a str,
     // Where the end begins that is not yet searched.
     next: usize,
+    // The runs that were found last, and how many of them were given.
+    spans: [abi::Span; AT_ONCE],
+    found: usize,
+    given: usize,
+}
+
+impl Numbers<'_> {
+    fn search(&mut self) {
+        let spans = if self.next == 0 { &mut self.spans[..1] } else { &mut self.spans[..] };
+        self.given = 0;
+        let Wanted { upper, greatest } = self.wanted;
+        self.found = abi::find(self.whole, self.next, upper, greatest, spans);
+        let is_filled = self.found == spans.len();
+        self.next = if is_filled { spans[self.found - 1].end } else { self.whole.len() };
+    }
 }
 
 /// The numbers of a text, from the first to the last: its longest runs of characters that are looked
-/// for. A run ends between an ASCII digit and a digit that is none, and 個 is of a run directly before
-/// 萬 or a greater unit alone.
+/// for. A run ends between an ASCII digit and a digit that is none, 個 is of a run directly before 萬 or
+/// a greater unit alone, and 兆 of none in front of a measure, as in 8兆字节.
 ///
 /// It does not understand sentences: 一起 has a 1 in it, 兩三個 is 23, and 3.5萬 is two numbers.
 ///
@@ -119,21 +137,21 @@ pub struct Numbers<'a> {
 /// ```
 #[inline]
 pub fn find_numbers(text: &str, wanted: Wanted) -> Numbers<'_> {
-    Numbers { wanted, whole: text, next: 0 }
+    let spans = [abi::Span::default(); AT_ONCE];
+    Numbers { wanted, whole: text, next: 0, spans, found: 0, given: 0 }
 }
 
 impl<'a> Iterator for Numbers<'a> {
     type Item = Found<'a>;
 
     fn next(&mut self) -> Option<Found<'a>> {
-        let Wanted { upper, greatest } = self.wanted;
-        let Ok(span) = abi::find(&self.whole[self.next..], upper, greatest) else {
-            self.next = self.whole.len();
-            return None;
-        };
-        let (before, rest) = self.whole.split_at(self.next + span.start);
+        if self.given == self.found {
+            self.search();
+        }
+        let span = self.spans[..self.found].get(self.given)?;
+        self.given += 1;
+        let (before, rest) = self.whole.split_at(span.start);
         let (text, after) = rest.split_at(span.end - span.start);
-        self.next += span.end;
         Some(Found { before, text, after, is_plain: span.digits == 1 })
     }
 }

@@ -21,8 +21,9 @@ pub use answers::{
 };
 pub use cn_find::laws::{
     no_number_ends_with_mega, numbers_are_the_runs, numbers_come_in_order,
-    numbers_that_meet_do_not_stand_alone, numerals_have_no_estimate, one_number_either_way,
-    runs_begin_with_no_other_sign, searches_go_on_behind_a_number, types_answer_alike_without_sign,
+    numbers_that_meet_do_not_stand_alone, numerals_have_no_estimate, one_character_is_at_most_ten,
+    one_number_either_way, runs_begin_with_no_other_sign, searches_go_on_behind_a_number,
+    searches_go_on_in_the_whole_text, types_answer_alike_without_sign,
     unwanted_characters_part_texts, wanted_constants_are,
 };
 pub use enums::{

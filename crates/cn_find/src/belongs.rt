@@ -3,7 +3,7 @@ ghost use Rattle.std.specs.Prelude.{◌≡◌, ◌&&◌, nat_le, chars};
 ghost use Rattle.cn_core.specs.Characters.{rank};
 ghost use Rattle.cn_core.specs.Mark.{mark_of};
 ghost use Rattle.cn_judge.specs.Marked.{marked};
-ghost use Rattle.cn_find.specs.Belongs.{begins_measure, belongs, counts_next, is_chinese_digit, is_ge, is_great, is_mega, is_numeral, is_parted, is_upper, is_wanted, is_wanted_mark};
+ghost use Rattle.cn_find.specs.Belongs.{begins_measure, belongs, counts_next, is_chinese_digit, is_great, is_mega, is_parted, is_upper, is_wanted, is_wanted_mark};
 
 use crate::Wanted;
 use cn_core::{Unit, digit_of, split_first_char};
@@ -53,12 +53,6 @@ fn is_wanted_mark(greatest: Unit, mark: Mark) -> bool
     }
 }
 
-fn is_ge(mark: Mark) -> bool
-    ensures { result ≡ is_ge (marked mark) }
-{
-    matches!(mark, Mark::Unit(Unit::Ge))
-}
-
 fn is_great(mark: Mark) -> bool
     ensures { result ≡ is_great (marked mark) }
 {
@@ -78,6 +72,7 @@ pub fn is_wanted(wanted: Wanted, c: char, mark: Mark) -> bool
 
 // Whether the text begins with a word that is counted in 兆 as mega: most by their first character,
 // the others by the first two.
+#[inline(never)]
 #[tactic(auto, unfolding(crate::specs::Belongs::begins_measure))]
 fn begins_measure(text: &str) -> bool
     ensures { result ≡ begins_measure (chars text.now) }
@@ -85,6 +80,7 @@ fn begins_measure(text: &str) -> bool
     let Some((first, after)) = split_first_char(text) else {
         return false;
     };
+    // NUL, which no word has, where none follows.
     let next = split_first_char(after).map_or('\0', |(next, _)| next);
     match first {
         '瓦' | '赫' | '帕' | '焦' | '伏' | '乏' => true,
@@ -100,29 +96,23 @@ fn begins_measure(text: &str) -> bool
 }
 
 // Whether a character is 兆 that is mega.
-fn is_mega(mark: Mark, c: char, after: &str) -> bool
+#[inline(always)]
+fn is_mega(c: char, mark: Mark, after: &str) -> bool
     requires { marked mark ≡ mark_of c }
     ensures { result ≡ is_mega c (chars after.now) }
 {
     matches!(mark, Mark::Unit(Unit::Zhao)) && begins_measure(after)
 }
 
-// Whether a character is looked for, and is no 兆 that is mega.
-fn is_numeral(wanted: Wanted, c: char, mark: Mark, after: &str) -> bool
-    requires { marked mark ≡ mark_of c }
-    ensures { result ≡ is_numeral wanted c (chars after.now) }
-{
-    is_wanted(wanted, c, mark) && !is_mega(mark, c, after)
-}
-
 // Whether the text begins with a unit that 個 in front of it counts.
+#[inline(never)]
 fn counts_next(wanted: Wanted, text: &str) -> bool
     ensures { result ≡ counts_next wanted (chars text.now) }
 {
     let Some((c, mark, after)) = split_first_mark(text) else {
         return false;
     };
-    is_great(mark) && is_numeral(wanted, c, mark, after)
+    is_great(mark) && is_wanted(wanted, c, mark) && !is_mega(c, mark, after)
 }
 
 /// Whether a character with its mark is one of a number, by what follows it.
@@ -139,16 +129,22 @@ pub fn belongs(wanted: Wanted, c: char, mark: Mark, after: &str) -> bool
     }
 }
 
-// Whether a digit or a unit is one of a number, by what follows it.
+// Whether a digit or a unit is one of a number, by what follows it. It stands by itself, and what is
+// asked of 個 and 兆 too, so that the walk over other characters is short.
+#[inline(never)]
 #[tactic(auto, unfolding(crate::specs::Belongs::belongs))]
 fn known_belongs(wanted: Wanted, c: char, mark: Mark, after: &str) -> bool
     requires { marked mark ≡ mark_of c }
     ensures { result ≡ belongs wanted c (chars after.now) }
 {
-    if !is_numeral(wanted, c, mark, after) {
+    if !is_wanted(wanted, c, mark) {
         return false;
     }
-    !is_ge(mark) || counts_next(wanted, after)
+    match mark {
+        Mark::Digit(_) => true,
+        Mark::Unit(Unit::Ge) => counts_next(wanted, after),
+        _ => !is_mega(c, mark, after),
+    }
 }
 
 /// Whether a character is a digit, and no ASCII one.

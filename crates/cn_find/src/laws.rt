@@ -1,5 +1,5 @@
 //! What users may count on, as contracts of functions that do nothing.
-ghost use Rattle.std.specs.Prelude.{◌≡◌, ◌≢◌, ◌↔◌, [], ◌∷◌, ◌++◌, ℕ, ℤ, List, map, chars, encode_utf8, true, false, not, None, Some, Ok, Err, IsTrue};
+ghost use Rattle.std.specs.Prelude.{◌≡◌, ◌≢◌, ◌↔◌, [], ◌∷◌, ◌++◌, ◌+◌, ℕ, ℤ, pos, ◌≤ℤ◌, List, map, drop, length, chars, IsCharBoundary, encode_utf8, true, false, not, None, Some, Ok, Err, IsTrue};
 ghost use Rattle.std.specs.List.{Contains, list_all};
 ghost use Rattle.std.specs.Str.{IsUtf8};
 ghost use Rattle.cn_core.specs.declared.method.ChineseCountMethod.{ChineseCountMethod};
@@ -16,11 +16,11 @@ ghost use Rattle.cn_core.specs.Value.{numeral_value};
 ghost use Rattle.cn_core.specs.Whole.{Kind, holds};
 ghost use Rattle.cn_find.specs.Belongs.{is_mega, is_wanted};
 ghost use Rattle.cn_find.specs.Expressions.{is_extra};
-ghost use Rattle.cn_find.specs.Flags.{is_one_estimate, pairs};
+ghost use Rattle.cn_find.specs.Flags.{is_one_character, is_one_estimate, pairs};
 ghost use Rattle.cn_find.specs.Number.{IsAnswer};
 ghost use Rattle.cn_find.specs.Parting.{Meet, is_alone, is_named, is_of_measure, with_text_after, with_text_before};
 ghost use Rattle.cn_find.specs.Plain.{is_decimal};
-ghost use Rattle.cn_find.specs.Spans.{Span, expressions, expressions_left, spans};
+ghost use Rattle.cn_find.specs.Spans.{Span, expressions, expressions_left, spans, spans_left};
 ghost use Rattle.cn_find.specs.Runs.{IsExpression, IsRun, is_rising};
 
 use crate::Wanted;
@@ -56,6 +56,16 @@ pub fn searches_go_on_behind_a_number(wanted: Wanted)
         → rest ≡ map (with_text_before (first.before ++ first.text)) (spans wanted first.after) }
 {}
 
+/// It goes on in sight of the whole text, too, from where the number ends: there a search can begin,
+/// and finds what was found behind the number. So who takes some numbers at a time takes all.
+pub fn searches_go_on_in_the_whole_text(wanted: Wanted)
+    ensures { (bytes : List ℕ) (from : ℕ) (first : Span) (rest : List Span)
+        → IsUtf8 bytes → IsCharBoundary bytes from
+        → spans_left wanted bytes (drop from bytes) ≡ first ∷ rest
+        → (rest ≡ spans_left wanted bytes (drop (length first.before + length first.text) bytes))
+        × IsCharBoundary bytes (length first.before + length first.text) }
+{}
+
 /// The expressions of a text are exactly its runs by their rule.
 pub fn expressions_are_the_runs(wanted: Wanted)
     ensures { (bytes : List ℕ) (span : Span)
@@ -77,13 +87,15 @@ pub fn unnamed_characters_part_texts(wanted: Wanted)
         ++ map (with_text_before (left ++ encode_utf8 c)) (expressions wanted right) }
 {}
 
-/// A search goes on behind an expression, with the whole text in sight: what is found behind the first
-/// one is what is left from its end on. What stands behind it by itself can have others: in `1-2` the
-/// second is 2, and in `-2` it is -2.
-pub fn searches_go_on_behind_an_expression(wanted: Wanted)
-    ensures { (bytes : List ℕ) (first : Span) (rest : List Span)
-        → expressions wanted bytes ≡ first ∷ rest → IsUtf8 bytes
-        → rest ≡ expressions_left wanted bytes first.after }
+/// A search for them goes on in sight of the whole text, from where an expression ends. What stands
+/// behind it can have others by itself: in `1-2` the second is 2, and in `-2` it is -2.
+pub fn searches_for_expressions_go_on_in_the_whole_text(wanted: Wanted)
+    ensures { (bytes : List ℕ) (from : ℕ) (first : Span) (rest : List Span)
+        → IsUtf8 bytes → IsCharBoundary bytes from
+        → expressions_left wanted bytes (drop from bytes) ≡ first ∷ rest
+        → (rest
+        ≡ expressions_left wanted bytes (drop (length first.before + length first.text) bytes))
+        × IsCharBoundary bytes (length first.before + length first.text) }
 {}
 
 /// Where a text has no character that belongs to expressions alone, its expressions are its numbers.
@@ -105,6 +117,13 @@ pub fn no_number_ends_with_mega(wanted: Wanted)
     ensures { (bytes : List ℕ) (span : Span) (front : List ℕ) (c : ℕ) → IsUtf8 bytes
         → Contains (spans wanted bytes) span → chars span.text ≡ front ++ c ∷ []
         → is_mega c (chars span.after) ≡ false }
+{}
+
+/// What is one Chinese character counts at most ten, by each method, or is refused.
+pub fn one_character_is_at_most_ten()
+    ensures { (kind : Kind) (method : ChineseCountMethod) (bytes : List ℕ) (number : ℤ)
+        → is_one_character (chars bytes) ≡ true → IsAnswer kind method bytes (Ok number)
+        → number ≤ℤ pos 10 }
 {}
 
 /// No two digits of a numeral are said for about so many: a number by units is about so much only by
