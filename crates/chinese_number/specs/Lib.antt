@@ -34,6 +34,7 @@ pub use Rattle.cn_date.specs.Form as DateForm
 pub use Rattle.cn_date.specs.Reading as DateReading
 pub use Rattle.cn_date.specs.Writes as DateWrites
 pub use Rattle.cn_find.specs.Belongs
+pub use Rattle.cn_find.specs.Expressions
 pub use Rattle.cn_find.specs.Flags
 pub use Rattle.cn_find.specs.Number
 pub use Rattle.cn_find.specs.Parting

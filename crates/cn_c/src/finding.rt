@@ -7,9 +7,10 @@ ghost use Rattle.cn_c.specs.Codes.{units, uppers};
 use crate::codes::{unit_of, upper_of};
 use crate::flags::flags_of;
 use crate::status::{DONE, NOT_UTF8, UNKNOWN};
-use chinese_number::{Found, Numbers, SearchRule, Wanted, find_numbers_from};
+use chinese_number::{
+    Found, Numbers, SearchRule, Wanted, find_numbers_from, find_quantities_from,
+};
 use cn_faces::utf8_text;
-use cn_find::find_quantities_from;
 use std::str;
 
 /// Where a run stands in its text, in bytes, and what is told of it: flags, added together.

@@ -9,9 +9,8 @@ use crate::number::{Number, halves};
 use crate::quantity_form::form_code;
 use crate::reading::{refused, status_of};
 use crate::status::{DONE, NOT_UTF8, UNKNOWN};
-use chinese_number::{ChineseCountMethod, ChineseToNumberError};
+use chinese_number::{ChineseCountMethod, ChineseToNumberError, chinese_to_quantity};
 use cn_faces::{Way, utf8_text};
-use cn_quantity::chinese_to_quantity;
 
 /// What was read: the numbers above and below the line and the code of the form, or of the character
 /// at fault how many characters and how many bytes of the text stand in front of it.
@@ -46,7 +45,7 @@ fn method_of(code: u32) -> Option<ChineseCountMethod>
 // Tells an answer to a text to C.
 fn tell_quantity(
     text: &str,
-    answer: Result<cn_quantity::Quantity, ChineseToNumberError>,
+    answer: Result<chinese_number::Quantity, ChineseToNumberError>,
     quantity: &mut Quantity,
 ) -> u32
     ensures { TellsQuantity text.now (answer_of (λ q. q) answer) result quantity.new }

@@ -2,7 +2,7 @@
 ghost use Rattle.std.specs.Prelude.{◌≡◌};
 ghost use Rattle.cn_c.specs.Quantities.{form_code};
 
-use cn_quantity::QuantityForm;
+use chinese_number::QuantityForm;
 
 /// 35, 三十五, 3万
 pub const WHOLE: u32 = 0;

@@ -18,7 +18,7 @@ use Rattle.cn_find.specs.Rule.{number_rule, is_joined}
 use Rattle.cn_find.specs.Runs.{IsRun, each_belongs, last_joined}
 use Rattle.cn_find.specs.Spans.{Span, spans}
 use Rattle.cn_find.proofs.Nearest.{reverse_last}
-use Rattle.cn_find.proofs.RunLaws.{scalars-end, scalars-start, span-is_run}
+use Rattle.cn_find.proofs.RunLaws.{scalars-both, scalars-end, scalars-start, span-is_run}
 use Rattle.cn_find.proofs.Unwanted.{inside}
 
 -- what belongs to a number, belongs there by itself
@@ -198,13 +198,6 @@ placed wanted bytes span whole found =
                 (scalars-start (c ∷ run) r.right (scalars-end r.left (c ∷ run ++ r.right) all));
             after = ap chars r.after_is ∙ chars-encodes r.right ended;
           }
-
-scalars-both : (front end : List ℕ) → scalars front ≡ true → scalars end ≡ true
-    → scalars (front ++ end) ≡ true
-scalars-both [] end h more = more
-scalars-both (c ∷ front) end h more =
-    ap (λ b. b && scalars (front ++ end)) (and-left (scalar c) _ h)
-    ∙ scalars-both front end (and-right (scalar c) _ h) more
 
 -- where the characters of the second of two runs stand, if these stand between them
 between-left : (wanted : Wanted) (text : List ℕ) (first second : Span) (link : List ℕ)

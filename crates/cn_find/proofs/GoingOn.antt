@@ -1,68 +1,87 @@
--- A search goes on behind a run, in sight of the whole text, from wherever it began.
-use Rattle.std.proofs.Common.{◌≡◌, ℕ, ◌+◌, true, false, List, ◌∷◌, ◌++◌, length, drop, reverse, chars, encode_utf8_all, IsUtf8, IsCharBoundary, refl, sym, ap, subst, ◌∙◌, append_assoc, length-append}
+-- A search goes on behind a run, in sight of the whole text.
+use Rattle.std.proofs.Common.{◌≡◌, ℕ, ◌+◌, true, false, List, ◌∷◌, ◌++◌, length, take, drop, reverse, chars, encode_utf8_all, IsUtf8, IsCharBoundary, refl, sym, ap, subst, ◌∙◌, append_assoc, length-append}
 use mathlib.Core.List.{reverse_aux}
-use Rattle.std.proofs.lemmas.List.{reverse-append, reverse-reverse}
-use Rattle.std.proofs.lemmas.Str.{chars-append, chars-encodes, encodes-append, encodes-chars, scalars-chars, IsCharBoundary-at_seam}
+use Rattle.std.proofs.lemmas.List.{reverse-append, reverse-reverse, take-append-drop}
+use Rattle.std.proofs.lemmas.Str.{chars-encodes, encodes-append, encodes-chars, scalars-chars, IsCharBoundary-at_seam, IsUtf8-drop, IsUtf8-take}
 use Rattle.std.proofs.Math.Seq.{drop-append_seam}
 use Rattle.std.proofs.Math.Utf8.{scalars}
 use Rattle.cn_find.specs.Rule.{Rule}
 use Rattle.cn_find.specs.Spans.{Span, spans_after, text_before, in_front, left_by}
 use Rattle.cn_find.proofs.Parting.{Rest, RestOf, rest-of}
 use Rattle.cn_find.proofs.Runs.{front-onto, seam-front}
-use Rattle.cn_find.proofs.RunLaws.{scalars-end, scalars-start}
+use Rattle.cn_find.proofs.RunLaws.{scalars-both, scalars-end, scalars-start}
 
--- what is left of a text behind its front
-left-behind : (rule : Rule) (text front behind : List ℕ) → text ≡ front ++ encode_utf8_all behind
-    → scalars behind ≡ true
-    → spans_after rule false (in_front front) behind ≡ left_by rule text (drop (length front) text)
-left-behind rule text front behind parts ok =
-    let dropped : drop (length front) text ≡ encode_utf8_all behind =
-    ap (drop (length front)) parts ∙ drop-append_seam front (encode_utf8_all behind) in
-    rw dropped (rw (seam-front text front (encode_utf8_all behind) parts)
-    (rw (chars-encodes behind ok) refl))
+-- what is left of a text behind these characters, the nearest first
+left-behind : (rule : Rule) (text front cs : List ℕ)
+    → text ≡ encode_utf8_all (reverse front) ++ encode_utf8_all cs
+    → scalars (reverse front) ≡ true → scalars cs ≡ true
+    → spans_after rule false front cs
+    ≡ left_by rule text (drop (length (encode_utf8_all (reverse front))) text)
+left-behind rule text front cs parts before ok =
+    ap (λ l. spans_after rule false l cs) (sym (reverse-reverse front)
+    ∙ ap reverse (sym (chars-encodes (reverse front) before))
+    ∙ ap in_front (sym (seam-front text (encode_utf8_all (reverse front)) (encode_utf8_all cs) parts)))
+    ∙ ap (spans_after rule false (in_front (text_before text (encode_utf8_all cs))))
+    (sym (chars-encodes cs ok))
+    ∙ ap (left_by rule text) (sym behind) where
+      behind : drop (length (encode_utf8_all (reverse front))) text ≡ encode_utf8_all cs
+      behind = ap (drop (length (encode_utf8_all (reverse front)))) parts
+          ∙ drop-append_seam (encode_utf8_all (reverse front)) (encode_utf8_all cs)
 
-pub search-goes_on_in : (rule : Rule) (text before rest : List ℕ) (first : Span) (others : List Span)
-    → text ≡ before ++ rest → IsUtf8 text → IsUtf8 before → IsUtf8 rest
+-- the others are left where the first one ends, and a search can begin there
+gone-on : (rule : Rule) (text before rest : List ℕ) (first : Span) (others : List Span)
+    → text ≡ before ++ rest → IsUtf8 before → IsUtf8 rest
     → left_by rule text rest ≡ first ∷ others
     → (others ≡ left_by rule text (drop (length first.before + length first.text) text))
     × IsCharBoundary text (length first.before + length first.text)
-search-goes_on_in rule text before rest first others parts utf8 front ended e =
-    rw (sym (length-append first.before first.text)) (
-      r.rest_is ∙ ap (λ l. spans_after rule false l r.behind) (sym at)
-      ∙ left-behind rule text (first.before ++ first.text) r.behind cut (scalars-end passed r.behind all),
-      IsCharBoundary-at_seam text (first.before ++ first.text) (encode_utf8_all r.behind) cut
-          (r.behind, (scalars-end passed r.behind all, refl)),
-    ) where
-      r : Rest rule (reverse (chars before)) (chars rest) first others
-      r = subst (RestOf rule (reverse (chars before)) (chars rest))
-          (ap (λ l. spans_after rule false (in_front l) (chars rest))
-          (sym (seam-front text before rest parts)) ∙ e)
-          (rest-of rule (reverse (chars before)) (chars rest))
+gone-on rule text before rest first others cut front_utf8 rest_utf8 e = (
+  r.rest_is ∙ left-behind rule text done r.behind parts (ap scalars turned ∙ passed_all) behind_all
+      ∙ ap (λ n. left_by rule text (drop n text)) lengths,
+  subst (IsCharBoundary text) lengths (IsCharBoundary-at_seam text (encode_utf8_all (reverse done))
+      (encode_utf8_all r.behind) parts (r.behind, (behind_all, refl))),
+) where
+  r : Rest rule (in_front before) (chars rest) first others
+  r = subst (RestOf rule (in_front before) (chars rest))
+      (ap (λ l. spans_after rule false (in_front l) (chars rest)) (sym (seam-front text before rest cut))
+      ∙ e) (rest-of rule (in_front before) (chars rest))
 
-      -- the characters in front of what is left
-      passed : List ℕ
-      passed = chars before ++ r.passed
+  done : List ℕ
+  done = reverse_aux r.passed (in_front before)
 
-      turned : reverse passed ≡ reverse_aux r.passed (reverse (chars before))
-      turned = reverse-append (chars before) r.passed
-          ∙ sym (front-onto (reverse (chars before)) r.passed)
+  turned : reverse done ≡ chars before ++ r.passed
+  turned = ap reverse (front-onto (in_front before) r.passed)
+      ∙ reverse-append (reverse r.passed) (in_front before)
+      ∙ ap (λ l. l ++ reverse (reverse r.passed)) (reverse-reverse (chars before))
+      ∙ ap (λ l. chars before ++ l) (reverse-reverse r.passed)
 
-      bytes : encode_utf8_all passed ≡ first.before ++ first.text
-      bytes = ap encode_utf8_all (sym (reverse-reverse passed) ∙ ap reverse turned) ∙ r.before_is
+  all : scalars (r.passed ++ r.behind) ≡ true
+  all = ap scalars (sym r.parts) ∙ scalars-chars rest rest_utf8
 
-      characters : chars text ≡ passed ++ r.behind
-      characters = ap chars parts ∙ chars-append before rest front
-          ∙ ap (λ l. chars before ++ l) r.parts
-          ∙ sym (append_assoc (chars before) r.passed r.behind)
+  behind_all : scalars r.behind ≡ true
+  behind_all = scalars-end r.passed r.behind all
 
-      all : scalars (passed ++ r.behind) ≡ true
-      all = ap scalars (sym characters) ∙ scalars-chars text utf8
+  passed_all : scalars (chars before ++ r.passed) ≡ true
+  passed_all = scalars-both (chars before) r.passed (scalars-chars before front_utf8)
+      (scalars-start r.passed r.behind all)
 
-      cut : text ≡ first.before ++ first.text ++ encode_utf8_all r.behind
-      cut = sym (encodes-chars text utf8) ∙ ap encode_utf8_all characters
-          ∙ encodes-append passed r.behind
-          ∙ ap (λ l. l ++ encode_utf8_all r.behind) bytes
+  parts : text ≡ encode_utf8_all (reverse done) ++ encode_utf8_all r.behind
+  parts =
+      cut ∙ ap (λ l. before ++ l) (sym (encodes-chars rest rest_utf8) ∙ ap encode_utf8_all r.parts
+      ∙ encodes-append r.passed r.behind)
+      ∙ sym (append_assoc before (encode_utf8_all r.passed) (encode_utf8_all r.behind))
+      ∙ ap (λ l. l ++ encode_utf8_all r.passed ++ encode_utf8_all r.behind)
+      (sym (encodes-chars before front_utf8))
+      ∙ ap (λ l. l ++ encode_utf8_all r.behind) (sym (encodes-append (chars before) r.passed)
+      ∙ ap encode_utf8_all (sym turned))
 
-      at : in_front (first.before ++ first.text) ≡ reverse_aux r.passed (reverse (chars before))
-      at = ap in_front (sym bytes)
-          ∙ ap reverse (chars-encodes passed (scalars-start passed r.behind all)) ∙ turned
+  lengths : length (encode_utf8_all (reverse done)) ≡ length first.before + length first.text
+  lengths = ap length r.before_is ∙ length-append first.before first.text
+
+pub search-goes_on : (rule : Rule) (text : List ℕ) (from : ℕ) (first : Span) (others : List Span)
+    → IsUtf8 text → IsCharBoundary text from → left_by rule text (drop from text) ≡ first ∷ others
+    → (others ≡ left_by rule text (drop (length first.before + length first.text) text))
+    × IsCharBoundary text (length first.before + length first.text)
+search-goes_on rule text from first others whole begins e =
+    gone-on rule text (take from text) (drop from text) first others
+    (sym (take-append-drop from text)) (IsUtf8-take text from whole begins)
+    (IsUtf8-drop text from whole begins) e

@@ -3,15 +3,14 @@ use Rattle.std.proofs.Common.{◌≡◌, ℕ, Bool, true, false, not, ◌&&◌, 
 use mathlib.Core.List.{reverse_aux}
 use Rattle.std.proofs.lemmas.Grind.{reverse_onto}
 use Rattle.std.proofs.lemmas.List.{map-append, reverse-append, reverse-reverse}
-use Rattle.std.proofs.lemmas.Str.{chars-append, chars-encodes, chars_from_encodes, chars_past_char, IsUtf8-past_char, encodes-append, encodes-chars, scalars-chars}
+use Rattle.std.proofs.lemmas.Str.{chars-append, chars_from_encodes, chars_past_char, IsUtf8-past_char, encodes-append, encodes-chars}
 use Rattle.std.proofs.Math.Bool.{and-false}
-use Rattle.std.proofs.Math.Utf8.{scalars}
 use Rattle.cn_find.specs.declared.wanted.Wanted.{Wanted}
 use Rattle.cn_find.specs.Parting.{with_text_before, with_text_after}
 use Rattle.cn_find.specs.Rule.{Rule, number_rule, is_joined}
-use Rattle.cn_find.specs.Spans.{Span, run_of, after_run, span_at, begun_at, spans_after, spans_by, spans, text_before, in_front, left_by}
-use Rattle.cn_find.proofs.RunLaws.{scalars-end, scalars-start, whole}
-use Rattle.cn_find.proofs.Runs.{first-span, front-onto, next-character, not-joined, seam-front}
+use Rattle.cn_find.specs.Spans.{Span, run_of, after_run, span_at, begun_at, spans_after, spans_by, spans}
+use Rattle.cn_find.proofs.RunLaws.{whole}
+use Rattle.cn_find.proofs.Runs.{first-span, front-onto, next-character, not-joined}
 
 -- by the rule the character belongs to nothing, and its neighbours see it as the end of the text
 pub record Parts (rule : Rule) (c : ℕ) : Type 0 where
@@ -310,31 +309,7 @@ rest-behind : (rule : Rule) (bytes : List ℕ) (first : Span) (rest : List Span)
 rest-behind rule bytes first rest e =
     subst (RestOf rule [] (chars bytes)) e (rest-of rule [] (chars bytes))
 
--- behind the first run of a text stand those that are left there, with the whole text in sight
-pub search-goes_on : (rule : Rule) (bytes : List ℕ) (first : Span) (rest : List Span)
-    → spans_by rule bytes ≡ first ∷ rest → IsUtf8 bytes → rest ≡ left_by rule bytes first.after
-search-goes_on rule bytes first rest e utf8 =
-    r.rest_is ∙ ap (λ l. spans_after rule false l r.behind) (sym at)
-    ∙ ap (spans_after rule false (in_front (text_before bytes first.after))) (sym ahead) where
-      r : Rest rule [] (chars bytes) first rest
-      r = rest-behind rule bytes first rest e
-
-      all : scalars (r.passed ++ r.behind) ≡ true
-      all = ap scalars (sym r.parts) ∙ scalars-chars bytes utf8
-
-      cut : bytes ≡ encode_utf8_all r.passed ++ first.after
-      cut = sym (encodes-chars bytes utf8) ∙ ap encode_utf8_all r.parts
-          ∙ encodes-append r.passed r.behind
-          ∙ ap (λ l. encode_utf8_all r.passed ++ l) (sym r.after_is)
-
-      at : in_front (text_before bytes first.after) ≡ reverse r.passed
-      at = ap in_front (seam-front bytes (encode_utf8_all r.passed) first.after cut)
-          ∙ ap reverse (chars-encodes r.passed (scalars-start r.passed r.behind all))
-
-      ahead : chars first.after ≡ r.behind
-      ahead = ap chars r.after_is ∙ chars-encodes r.behind (scalars-end r.passed r.behind all)
-
--- and for numbers those of what stands behind it
+-- behind the first number of a text stand those of what stands behind it
 pub searches-go_on : (wanted : Wanted) (bytes : List ℕ) (first : Span) (rest : List Span)
     → spans wanted bytes ≡ first ∷ rest → IsUtf8 first.after
     → rest ≡ map (with_text_before (first.before ++ first.text)) (spans wanted first.after)

@@ -400,6 +400,13 @@ scalars-start [] end h = refl
 scalars-start (c ∷ front) end h =
     both _ _ (and-left (scalar c) _ h) (scalars-start front end (and-right (scalar c) _ h))
 
+pub scalars-both : (front end : List ℕ) → scalars front ≡ true → scalars end ≡ true
+    → scalars (front ++ end) ≡ true
+scalars-both [] end h more = more
+scalars-both (c ∷ front) end h more =
+    ap (λ b. b && scalars (front ++ end)) (and-left (scalar c) _ h)
+    ∙ scalars-both front end (and-right (scalar c) _ h) more
+
 -- what stands behind the first run of a text is UTF-8, as the text is
 pub utf8-behind : (rule : Rule) (bytes : List ℕ) (first : Span) (rest : List Span)
     → spans_by rule bytes ≡ first ∷ rest → IsUtf8 bytes → IsUtf8 first.after

@@ -13,9 +13,9 @@ use Rattle.cn_find.specs.Rule.{number_rule}
 use Rattle.cn_find.proofs.Parting.{Parts}
 
 -- the character is not wanted, and no word of a measure has it
-record IsUnseen (wanted : Wanted) (c : ℕ) : Type 0 where
-  unwanted : is_wanted wanted c ≡ false
-  unmeasured : is_of_measure c ≡ false
+pub record IsUnseen (wanted : Wanted) (c : ℕ) : Type 0 where
+  pub unwanted : is_wanted wanted c ≡ false
+  pub unmeasured : is_of_measure c ≡ false
 
 -- what each character of a set passes
 pub inside : (test : ℕ → Bool) (set : List ℕ) (c : ℕ) → list_all test set ≡ true
@@ -68,7 +68,7 @@ measure-same wanted c right (x ∷ []) e = rw (
 measure-same wanted c right (x ∷ y ∷ xs) e = refl
 
 -- a character that is not wanted belongs to no number
-unwanted : (wanted : Wanted) (c : ℕ) (after : List ℕ) → IsUnseen wanted c
+pub unwanted : (wanted : Wanted) (c : ℕ) (after : List ℕ) → IsUnseen wanted c
     → belongs wanted c after ≡ false
 unfolding belongs
 unwanted wanted c after e = rw e.unwanted
@@ -88,7 +88,7 @@ counts-same wanted c right [] e =
 counts-same wanted c right (x ∷ xs) e =
     ap (λ b. is_great (mark_of x) && b) (numeral-same wanted x c right xs e)
 
-belongs-same : (wanted : Wanted) (d c : ℕ) (right xs : List ℕ) → IsUnseen wanted c
+pub belongs-same : (wanted : Wanted) (d c : ℕ) (right xs : List ℕ) → IsUnseen wanted c
     → belongs wanted d (xs ++ c ∷ right) ≡ belongs wanted d xs
 unfolding belongs
 belongs-same wanted d c right xs e =

@@ -71,17 +71,19 @@ begins_decimals wanted [] = false
 begins_decimals wanted (c ∷ after) =
     (is_chinese_digit c && is_wanted wanted c) && not (begins_word c after)
 
+-- the characters begin with three figures, and what follows them passes this test
+abbrev pub three_figures : (List ℕ → Bool) → List ℕ → Bool
+three_figures passes (c ∷ d ∷ e ∷ others) =
+    (is_figure c && is_figure d) && (is_figure e && passes others)
+three_figures passes others = false
+
 -- the characters begin with three figures and no fourth
 abbrev pub begins_group : List ℕ → Bool
-begins_group (c ∷ d ∷ e ∷ others) =
-    (is_figure c && is_figure d) && (is_figure e && not (begins_figure others))
-begins_group others = false
+begins_group after = three_figures (λ others. not (begins_figure others)) after
 
 -- the nearest characters are three figures, and a comma in front of them
 abbrev pub ends_group : List ℕ → Bool
-ends_group (c ∷ d ∷ e ∷ others) =
-    (is_figure c && is_figure d) && (is_figure e && begins_with (codes ",") others)
-ends_group others = false
+ends_group front = three_figures (λ others. begins_with (codes ",") others) front
 
 -- a figure with these characters in front begins a number: it is no 0, and stands behind no figure,
 -- comma or point

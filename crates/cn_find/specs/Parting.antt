@@ -1,6 +1,8 @@
 -- A run in a text that stands inside another one.
-use Rattle.std.specs.Prelude.{◌≡◌, ◌⊎◌, ℕ, Bool, List, ◌++◌, chars, codes, IsTrue}
+use Rattle.std.specs.Prelude.{◌≡◌, ◌⊎◌, ◌||◌, ℕ, Bool, List, ◌++◌, chars, codes, is_some, IsTrue}
 use Rattle.std.specs.Char.{char_set_contains, encode_utf8}
+use Rattle.cn_core.specs.Characters.{digit_of}
+use Rattle.cn_find.specs.Expressions.{binds_minus, follows_one, is_extra, is_figure, precedes_minus}
 use Rattle.cn_find.specs.Flags.{is_link, stands_alone}
 use Rattle.cn_find.specs.Spans.{Span}
 
@@ -18,6 +20,13 @@ with_text_after more span =
 unfoldable pub is_of_measure : ℕ → Bool
 is_of_measure c =
     char_set_contains (codes "瓦赫帕焦伏乏字节節比特电電子宽寬带帶頻位数數欧歐元") c
+
+-- the character is one that the rule of expressions names: a digit, one that belongs to expressions
+-- alone, one of a time, or a neighbour of 兆, 点, 负 or -
+unfoldable pub is_named : ℕ → Bool
+is_named c =
+    is_figure c || is_some (digit_of c) || is_extra c || char_set_contains (codes "刻十") c
+    || is_of_measure c || follows_one c || precedes_minus c || binds_minus c
 
 -- the second run begins where the first one ends, or behind a link there
 abbrev pub Meet : Span → Span → Type 0

@@ -3,7 +3,7 @@ ghost use Rattle.std.specs.Prelude.{◌≡◌, ◌&&◌, nat_le, chars};
 ghost use Rattle.cn_core.specs.Characters.{rank};
 ghost use Rattle.cn_core.specs.Mark.{mark_of};
 ghost use Rattle.cn_judge.specs.Marked.{marked};
-ghost use Rattle.cn_find.specs.Belongs.{begins_measure, belongs, counts_next, is_chinese_digit, is_ge, is_great, is_mega, is_numeral, is_parted, is_upper, is_wanted, is_wanted_mark};
+ghost use Rattle.cn_find.specs.Belongs.{begins_measure, belongs, counts_next, is_chinese_digit, is_great, is_mega, is_parted, is_upper, is_wanted, is_wanted_mark};
 
 use crate::Wanted;
 use cn_core::{Unit, digit_of, split_first_char};
