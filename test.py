@@ -27,6 +27,13 @@ parted by tabs. An answer is `ok` and what the call gives, or `err` and the erro
     read_date TEXT                      the date of a text, as 2026-01-15
     print_date SCRIPT DATE              the text of a date
     find TEXT                           the text, with the answer in the place of each number
+
+C, C++ and Rust answer these, too, which this file does not ask:
+
+    flags TEXT                          the text, with the flags of each number in its place, of
+                                        `plain`, `alone`, `about` and `one`
+    read_quantity WAY TEXT              the quantity of a text, as 350000/10 decimal
+    find_quantities TEXT                the text, with the answer in the place of each expression
 """
 import json
 import os

@@ -4,9 +4,11 @@
 Usage: codes.py CN_C BINDINGS
 
 The tables of `codes.rt` give a type, way, script, case, form or unit its place as its code, `ANY` is
-the way behind them, and `status.rt` names the statuses. The header, the Rust crate and the Python
-file name each of them once, with the same number or in this order, and no other, as the JavaScript
-file lists them; but what a form is made of is named by the header alone. The header declares each
+the way behind them; `status.rt`, `flags.rt` and `quantity_form.rt` name the statuses, the flags of
+what is found, and the forms of a quantity. The header, the Rust crate and the Python file name each
+of them once, with the same number or in this order, and no other, as the JavaScript file lists
+them; but what a form is made of is named by the header alone, and flags and the forms of a quantity
+by the header and the Rust crate. The header declares each
 call that the crate exports, and no language has any other. Alike, too, are the most bytes of a
 text of each kind, which a clause of each file in BOUNDS bounds; the status of the C source alone
 for a text that is too long, and how long that is; the version of all, which is that of the first
@@ -19,6 +21,12 @@ import sys
 from pathlib import Path
 
 TABLES = ("KINDS", "WAYS", "SCRIPTS", "CASES", "FORMS", "UNITS")
+# The files of the others, which give each name its number.
+NUMBERED = {
+    "QUANTITY_FORMS": "src/quantity_form.rt",
+    "FLAGS": "src/flags.rt",
+    "STATUSES": "src/status.rt",
+}
 ANY = re.compile(r"^pub const ANY: u32 = (\d+);", re.MULTILINE)
 TABLE = re.compile(r"^pub static (\w+): \[.*?\] = \[(.*?)\];", re.MULTILINE | re.DOTALL)
 NAMED = re.compile(
@@ -40,6 +48,8 @@ BEGINNINGS = {
         "CASES": "/* The case",
         "FORMS": "/* The form",
         "UNITS": "/* The units",
+        "QUANTITY_FORMS": "/* How a quantity",
+        "FLAGS": "/* The flags",
         "STATUSES": "/* The status",
     },
     RUST: {
@@ -48,6 +58,8 @@ BEGINNINGS = {
         "SCRIPTS": "pub enum ChineseVariant ",
         "CASES": "pub enum ChineseCase ",
         "UNITS": "pub enum Unit ",
+        "QUANTITY_FORMS": "pub enum QuantityForm ",
+        "FLAGS": "pub mod flag ",
         "STATUSES": "pub mod status ",
     },
     PYTHON: {
@@ -71,7 +83,7 @@ TOO_LONG = {
 SOURCE = "source/chinese_number.c.in"
 OF_LENGTH = (HEADER, RUST, PYTHON, "source/README.md", MORE[RUST])
 EXPORTED = re.compile(r'^pub (?:unsafe )?extern "C" fn (\w+)', re.MULTILINE)
-CALL = r"chinese_(?:number|(?:signed_|typed_)?amount|figures|date)_\w+"
+CALL = r"chinese_(?:number|quantity|(?:signed_|typed_)?amount|figures|date)_\w+"
 CALLED = re.compile(rf"\b({CALL})\(|\blibrary\.({CALL})")
 # The most bytes of a text: what each language names so, and the file whose clauses have it.
 BOUNDS = {
@@ -173,7 +185,8 @@ def of_sources(crate):
         found[name] = numbered(map(inherited, names))
     found["WAYS"]["any"] = int(ANY.search(text)[1])
     found["FORMS"] = forms_of(tables["FORMS"])
-    found["STATUSES"] = of_table(text_of(crate / "src/status.rt"))
+    for name, file in NUMBERED.items():
+        found[name] = of_table(text_of(crate / file))
     return found
 
 

@@ -26,7 +26,7 @@ typedef struct text {
 static const char *const MARKS[] = {
     "零", "一", "二", "两", "十", "百", "千", "萬", "億", "兆", "極", "個", "負", "壹", "贰", "玖",
     "拾", "佰", "仟", "万", "亿", "元", "圆", "角", "分", "整", "正", "人民币", "年", "月", "日", "第",
-    "，", "5", "０", "-", "−", "¥", ".", ",", "⊗", "：", "x", " ", "\t",
+    "，", "5", "０", "-", "−", "¥", ".", ",", "%", "点", "之", "廿", "⊗", "：", "x", " ", "\t",
     "\xe4\xb8", "\xf0\x9f\x98\x80", "\xc3\xa9", "\xff",
 };
 enum { COUNT_OF_MARKS = sizeof MARKS / sizeof *MARKS };
@@ -108,23 +108,37 @@ static void try_read(run *r, const text *t, uint32_t kind, uint32_t way) {
     }
 }
 
-static void try_find(run *r, const text *t, uint32_t upper, uint32_t greatest) {
+static void try_read_quantity(run *r, const text *t, uint32_t method) {
+    cn_quantity quantity = {{1, 2}, {3, 4}, 5, 6, 7};
+    uint32_t status = chinese_quantity_read(t->bytes, t->length, method, &quantity);
+    cn_reading numerator = {quantity.numerator, quantity.char_index, quantity.byte_index};
+    add_reading(r, status, &numerator);
+    add_word(r, quantity.denominator.low);
+    add_word(r, quantity.denominator.high);
+    add_word(r, quantity.form);
+}
+
+typedef uint32_t finding(const uint8_t *, size_t, size_t, uint32_t, uint32_t, cn_span *, size_t,
+                         size_t *);
+
+static void try_find(run *r, const text *t, finding *find, finding *find_utf8) {
     cn_span spans[MOST_SPANS] = {{1, 2, 3}};
+    uint32_t upper = code(r, 2);
+    uint32_t greatest = code(r, CN_JI + 1);
     size_t most = below(r, MOST_SPANS + 1), from = below(r, 4), count = 9;
-    uint32_t status =
-        chinese_number_find(t->bytes, t->length, from, upper, greatest, spans, most, &count);
+    uint32_t status = find(t->bytes, t->length, from, upper, greatest, spans, most, &count);
     for (;;) {
         add_word(r, status);
         add_word(r, count);
         for (size_t i = 0; i < MOST_SPANS; i++) {
             add_word(r, spans[i].start);
             add_word(r, spans[i].end);
-            add_word(r, spans[i].digits);
+            add_word(r, spans[i].flags);
         }
         if (count == 0 || count < most)
             return;
-        status = chinese_number_find_utf8(t->bytes, t->length, spans[count - 1].end, upper,
-                                          greatest, spans, most, &count);
+        status = find_utf8(t->bytes, t->length, spans[count - 1].end, upper, greatest, spans,
+                           most, &count);
     }
 }
 
@@ -166,10 +180,10 @@ static void try_read_capitals(run *r, const text *t) {
 static void try_read_and_find(run *r, const text *t) {
     uint32_t kind = code(r, CN_I128 + 1);
     uint32_t way = code(r, CN_ANY + 1);
-    uint32_t upper = code(r, 2);
-    uint32_t greatest = code(r, CN_JI + 1);
     try_read(r, t, kind, way);
-    try_find(r, t, upper, greatest);
+    try_read_quantity(r, t, way);
+    try_find(r, t, chinese_number_find, chinese_number_find_utf8);
+    try_find(r, t, chinese_quantity_find, chinese_quantity_find_utf8);
 }
 
 /* What was printed, with all of the room, and as a text to be read. */

@@ -9,6 +9,7 @@ extern "C" {
 
 struct cn_reading;
 struct cn_span;
+struct cn_quantity;
 struct cn_amount;
 struct cn_signed_amount;
 struct cn_date;
@@ -19,6 +20,9 @@ NO_NULL chinese_number_read_utf8(const uint8_t *, size_t, uint32_t, uint32_t, st
 NO_NULL chinese_number_print(uint64_t, uint64_t, uint32_t, uint32_t, uint32_t, uint32_t, uint8_t *, size_t, size_t *);
 NO_NULL chinese_number_find(const uint8_t *, size_t, size_t, uint32_t, uint32_t, struct cn_span *, size_t, size_t *);
 NO_NULL chinese_number_find_utf8(const uint8_t *, size_t, size_t, uint32_t, uint32_t, struct cn_span *, size_t, size_t *);
+NO_NULL chinese_quantity_read(const uint8_t *, size_t, uint32_t, struct cn_quantity *);
+NO_NULL chinese_quantity_find(const uint8_t *, size_t, size_t, uint32_t, uint32_t, struct cn_span *, size_t, size_t *);
+NO_NULL chinese_quantity_find_utf8(const uint8_t *, size_t, size_t, uint32_t, uint32_t, struct cn_span *, size_t, size_t *);
 NO_NULL chinese_amount_print(uint64_t, uint32_t, uint32_t, uint8_t *, size_t, size_t *);
 NO_NULL chinese_amount_read(const uint8_t *, size_t, struct cn_amount *);
 NO_NULL chinese_typed_amount_read(const uint8_t *, size_t, struct cn_amount *);

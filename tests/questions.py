@@ -14,6 +14,8 @@ OF_NUMERAL = re.compile(r"(?:ok|err) .*|bad line")
 LINE = re.compile(r"(?:read|print) \w+ \w+ ")
 # The plain characters of figures; ¥ and commas stand for nothing.
 PLAIN = str.maketrans("０１２３４５６７８９．", "0123456789.", "¥￥,，")
+# The files of `tests/rows` that C, C++ and Rust alone are asked.
+MORE = ("flags", "quantities")
 # How many words a line of `numeral` has; the last one may have spaces in it.
 WORDS = {"read": 4, "print": 6}
 NUMBERS = re.compile(r"^\| text \| numbers \| answers \|.*\n\|[-|]*\n((?:\|.*\n)+)", re.MULTILINE)
@@ -118,10 +120,11 @@ def questions():
         yield ["find", text], f"ok {in_place(text, numbers, answers)}"
 
 
-def wrong_answers(ask):
+def wrong_answers(ask, more=()):
     """The questions that are answered otherwise, each with its answer and the one that is wanted.
-    `ask` gives what is said to questions, a line each."""
-    rows = list(questions())
+    `ask` gives what is said to questions, a line each. `more` names files of `tests/rows` that not
+    all languages are asked."""
+    rows = [*questions(), *of_files(more)]
     said = ask("".join("\t".join(question) + "\n" for question, _ in rows)).splitlines()
     said += ["nothing"] * (len(rows) - len(said))
     return [

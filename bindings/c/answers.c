@@ -14,7 +14,9 @@ static const char *const KINDS[] = {
 static const char *const WAYS[] = {"naive", "low", "ten_thousand", "middle", "high", "any", NULL};
 static const char *const SCRIPTS[] = {"traditional", "simple", NULL};
 static const char *const CASES[] = {"upper", "lower", NULL};
-/* Those of the forms are added together. */
+static const char *const QUANTITY_FORMS[] = {"whole", "decimal", "percent", "fraction"};
+/* Those of the flags and of the forms of an amount are added together. */
+static const char *const FLAGS[] = {"plain", "alone", "about", "one", NULL};
 static const char *const FORMS[] = {"currency", "round_yuan", "upright_closing", NULL};
 
 /* The code of a name. That of an unknown one is the first that the library refuses. */
@@ -190,20 +192,71 @@ static void answer_print_date(char **words) {
     put_printed("date", cn_print_date(year, month, day, script, text, sizeof text), text);
 }
 
-static void answer_find(char **words) {
-    const char *text = words[1];
+static void put_quantity(const char *text, size_t length, cn_way method) {
+    cn_quantity quantity;
+    cn_status status = cn_read_quantity(text, length, method, &quantity);
+    if (status != CN_DONE) {
+        put_refusal("chinese number", status, quantity.char_index);
+        return;
+    }
+    fputs("ok ", stdout);
+    put_number(quantity.numerator, CN_I128);
+    putchar('/');
+    put_number(quantity.denominator, CN_U128);
+    printf(" %s", QUANTITY_FORMS[quantity.form]);
+}
+
+static void answer_read_quantity(char **words) {
+    put_quantity(words[2], strlen(words[2]), (cn_way)code_of(WAYS, words[1]));
+}
+
+/* What is put of a run that was found in a text. */
+static void put_found_number(const char *text, const cn_span *span) {
+    cn_reading reading;
+    cn_status status = cn_read_found(text, span, CN_I128, CN_TEN_THOUSAND, &reading);
+    put_reading(status, &reading, CN_I128);
+}
+
+static void put_found_quantity(const char *text, const cn_span *span) {
+    put_quantity(text + span->start, span->end - span->start, CN_TEN_THOUSAND);
+}
+
+static void put_flags(const char *text, const cn_span *span) {
+    const char *between = "";
+    (void)text;
+    for (size_t i = 0; FLAGS[i] != NULL; i++)
+        if (span->flags >> i & 1) {
+            printf("%s%s", between, FLAGS[i]);
+            between = " ";
+        }
+}
+
+typedef cn_status search(const char *, size_t, uint32_t, cn_unit, cn_span *);
+
+/* Puts a text with what is put of each of its runs in its place, in brackets. */
+static void answer_found(const char *text, search *next, void (*put)(const char *, const cn_span *)) {
     size_t length = strlen(text), at = 0;
     cn_span span = {0, 0, 0};
-    cn_reading reading;
     fputs("ok ", stdout);
-    while (cn_find_next(text, length, 0, CN_ZHAO, &span) == CN_DONE) {
+    while (next(text, length, 0, CN_ZHAO, &span) == CN_DONE) {
         printf("%.*s[", (int)(span.start - at), text + at);
-        put_reading(cn_read_found(text, &span, CN_I128, CN_TEN_THOUSAND, &reading), &reading,
-                    CN_I128);
+        put(text, &span);
         putchar(']');
         at = span.end;
     }
     fputs(text + at, stdout);
+}
+
+static void answer_find(char **words) {
+    answer_found(words[1], cn_find_next, put_found_number);
+}
+
+static void answer_flags(char **words) {
+    answer_found(words[1], cn_find_next, put_flags);
+}
+
+static void answer_find_quantities(char **words) {
+    answer_found(words[1], cn_find_next_quantity, put_found_quantity);
 }
 
 static const struct {
@@ -223,6 +276,9 @@ static const struct {
     {"read_date", 2, answer_read_date},
     {"print_date", 3, answer_print_date},
     {"find", 2, answer_find},
+    {"flags", 2, answer_flags},
+    {"read_quantity", 3, answer_read_quantity},
+    {"find_quantities", 2, answer_find_quantities},
 };
 
 /* Parts a line into its words, and says how many they are. */

@@ -49,11 +49,20 @@ std::string shown(Date date) {
     return text;
 }
 
+std::string shown(const Quantity &quantity);
+
 template <typename T>
 std::string shown(T number) {
     const auto wide = static_cast<Unsigned>(number);
     const bool is_negative = number != 0 && number < T{1};
     return is_negative ? '-' + figures(-wide) : figures(wide);
+}
+
+std::string shown(const Quantity &quantity) {
+    static const char *const forms[] = {"whole", "decimal", "percent", "fraction"};
+    return shown(detail::of_halves<Signed>(quantity.numerator)) + '/'
+         + shown(detail::of_halves<Unsigned>(quantity.denominator)) + ' '
+         + forms[static_cast<std::size_t>(quantity.form)];
 }
 
 template <typename Value>
@@ -98,11 +107,31 @@ std::string print_date(const std::string &script, const std::string &figures_of_
     return told(date_to_chinese(date, scripts.at(script)));
 }
 
-std::string find(const std::string &text) {
+std::string number_told(const Found &found) {
+    return told(found.number<Signed>());
+}
+
+std::string quantity_told(const Found &found) {
+    return told(found.quantity());
+}
+
+std::string flags_of(const Found &found) {
+    const std::pair<bool, const char *> flags[] = {{found.is_plain, " plain"},
+                                                   {found.stands_alone, " alone"},
+                                                   {found.is_about, " about"},
+                                                   {found.is_one_character, " one"}};
+    std::string done;
+    for (const auto &[is_told, name] : flags)
+        done += is_told ? name : "";
+    return done.substr(done.empty() ? 0 : 1);
+}
+
+/* The text with what is shown of each of its runs in its place, in brackets. */
+std::string in_place(const std::string &text, Numbers runs, std::string (*shown_of)(const Found &)) {
     std::string done = "ok ";
     std::size_t at = 0;
-    for (const Found &found : find_numbers(text)) {
-        done += text.substr(at, found.start - at) + '[' + told(found.number<Signed>()) + ']';
+    for (const Found &found : runs) {
+        done += text.substr(at, found.start - at) + '[' + shown_of(found) + ']';
         at = found.end;
     }
     return done + text.substr(at);
@@ -128,7 +157,12 @@ const std::map<std::string, std::string (*)(const Words &)> calls = {
     {"yuan_to_fen", [](const Words &words) { return told(yuan_to_fen(words[1])); }},
     {"read_date", [](const Words &words) { return told(chinese_to_date(words[1])); }},
     {"print_date", [](const Words &words) { return print_date(words[1], words[2]); }},
-    {"find", [](const Words &words) { return find(words[1]); }},
+    {"find", [](const Words &words) { return in_place(words[1], find_numbers(words[1]), number_told); }},
+    {"flags", [](const Words &words) { return in_place(words[1], find_numbers(words[1]), flags_of); }},
+    {"read_quantity",
+     [](const Words &words) { return told(chinese_to_quantity(words[2], ways.at(words[1]))); }},
+    {"find_quantities",
+     [](const Words &words) { return in_place(words[1], find_quantities(words[1]), quantity_told); }},
 };
 
 } // namespace

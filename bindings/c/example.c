@@ -60,22 +60,23 @@ static void numbers_of_a_text(void) {
 
 /* Finds at most two numbers of a text from a byte on, with this status and where the last one stands. */
 static void finds(const char *text, size_t from, uint32_t upper, uint32_t greatest, uint32_t status, size_t count,
-                  size_t start, size_t end, uint32_t digits) {
+                  size_t start, size_t end, uint32_t flags) {
     cn_span spans[3] = {{0, 0, 0}, {0, 0, 0}, {0, 0, 0}};
     const cn_span *last = count == 0 ? spans : spans + count - 1;
     size_t found = 7;
     expect(text, chinese_number_find((const uint8_t *)text, strlen(text), from, upper, greatest, spans, 2, &found) == status
-                     && found == count && last->start == start && last->end == end && last->digits == digits
+                     && found == count && last->start == start && last->end == end && last->flags == flags
                      && spans[count].end == 0);
 }
 
 static void each_status_of_finding(void) {
-    finds("他五六十歲", 0, 0, CN_ZHAO, CN_DONE, 1, 3, 12, 0);
-    finds("買2兩", 0, 0, CN_ZHAO, CN_DONE, 2, 4, 7, 1);
-    finds("一，二，三", 0, 0, CN_ZHAO, CN_DONE, 2, 6, 9, 1);
-    finds("一，二，三", 9, 0, CN_ZHAO, CN_DONE, 1, 12, 15, 1);
+    const uint32_t one = CN_PLAIN_DIGITS | CN_STANDS_ALONE | CN_ONE_CHARACTER;
+    finds("他五六十歲", 0, 0, CN_ZHAO, CN_DONE, 1, 3, 12, CN_STANDS_ALONE | CN_ABOUT);
+    finds("買2兩", 0, 0, CN_ZHAO, CN_DONE, 2, 4, 7, CN_PLAIN_DIGITS | CN_ONE_CHARACTER);
+    finds("一，二，三", 0, 0, CN_ZHAO, CN_DONE, 2, 6, 9, one);
+    finds("一，二，三", 9, 0, CN_ZHAO, CN_DONE, 1, 12, 15, one);
     finds("一，二，三", 15, 0, CN_ZHAO, CN_DONE, 0, 0, 0, 0);
-    finds("大陸", 0, 1, CN_ZHAO, CN_DONE, 1, 3, 6, 1);
+    finds("大陸", 0, 1, CN_ZHAO, CN_DONE, 1, 3, 6, one);
     finds("大陸", 0, 0, CN_ZHAO, CN_DONE, 0, 0, 0, 0);
     finds("", 0, 1, CN_JI, CN_DONE, 0, 0, 0, 0);
     finds("\xff", 0, 0, CN_GE, CN_NOT_UTF8, 0, 0, 0, 0);
@@ -83,6 +84,45 @@ static void each_status_of_finding(void) {
     finds("一", 4, 0, CN_ZHAO, CN_NOT_UTF8, 0, 0, 0, 0);
     finds("一", 0, 2, CN_ZHAO, CN_UNKNOWN, 0, 0, 0, 0);
     finds("一", 0, 0, CN_JI + 1, CN_UNKNOWN, 0, 0, 0, 0);
+}
+
+/* Reads a text as a quantity, which has this status, numbers, form and place. */
+static void is_quantity(const char *text, uint32_t method, uint32_t status, int64_t numerator, uint64_t denominator,
+                        uint32_t form, size_t char_index, size_t byte_index) {
+    const cn_number above = cn_signed(numerator);
+    cn_quantity quantity;
+    expect(text, chinese_quantity_read((const uint8_t *)text, strlen(text), method, &quantity) == status
+                     && quantity.numerator.low == above.low && quantity.numerator.high == above.high
+                     && quantity.denominator.low == denominator && quantity.denominator.high == 0
+                     && quantity.form == form && quantity.char_index == char_index && quantity.byte_index == byte_index);
+}
+
+static void each_status_of_quantities(void) {
+    is_quantity("3.5万", CN_TEN_THOUSAND, CN_DONE, 350000, 10, CN_DECIMAL, 0, 0);
+    is_quantity("2.5亿", CN_LOW, CN_DONE, 2500000, 10, CN_DECIMAL, 0, 0);
+    is_quantity("负12.5%", CN_HIGH, CN_DONE, -125, 1000, CN_PERCENT, 0, 0);
+    is_quantity("三分之一", CN_TEN_THOUSAND, CN_DONE, 1, 3, CN_FRACTION, 0, 0);
+    is_quantity("廿三", CN_TEN_THOUSAND, CN_DONE, 23, 1, CN_WHOLE, 0, 0);
+    is_quantity("", CN_TEN_THOUSAND, CN_EMPTY, 0, 0, 0, 0, 0);
+    is_quantity("三分之负一", CN_TEN_THOUSAND, CN_INCORRECT, 0, 0, 0, 3, 9);
+    is_quantity("0极", CN_TEN_THOUSAND, CN_TOO_LARGE, 0, 0, 0, 0, 0);
+    is_quantity("-0极", CN_TEN_THOUSAND, CN_TOO_SMALL, 0, 0, 0, 0, 0);
+    is_quantity("\xff", CN_TEN_THOUSAND, CN_NOT_UTF8, 0, 0, 0, 0, 0);
+    is_quantity("一", CN_DIGITS, CN_UNKNOWN, 0, 0, 0, 0, 0);
+    is_quantity("一", CN_ANY, CN_UNKNOWN, 0, 0, 0, 0, 0);
+}
+
+/* Finds each expression of a text. */
+static void quantities_of_a_text(void) {
+    const char text[] = "增长12.5%，共3.5万人";
+    size_t count = 0;
+    cn_span span = {0, 0, 0};
+    cn_quantity found[2] = {{{0, 0}, {0, 0}, 0, 0, 0}, {{0, 0}, {0, 0}, 0, 0, 0}};
+    while (cn_find_next_quantity(text, strlen(text), 0, CN_ZHAO, &span) == CN_DONE && count < 2)
+        if (cn_read_quantity(text + span.start, span.end - span.start, CN_TEN_THOUSAND, found + count) == CN_DONE)
+            count++;
+    expect("all expressions are found", count == 2 && found[0].form == CN_PERCENT && found[0].numerator.low == 125
+                                            && found[1].numerator.low == 350000 && found[1].denominator.low == 10);
 }
 
 /* Reads a text, which has this status, number and place. */
@@ -303,6 +343,7 @@ static void null_of_char(void) {
 int main(void) {
     first_steps();
     numbers_of_a_text();
+    quantities_of_a_text();
     texts_of_char();
     amounts_of_char();
     dates_of_char();
@@ -311,6 +352,7 @@ int main(void) {
     each_status_of_reading();
     each_status_of_printing();
     each_status_of_finding();
+    each_status_of_quantities();
     each_status_of_printing_amounts();
     each_status_of_reading_amounts();
     each_status_of_printing_dates();

@@ -421,7 +421,7 @@ static PyObject *find_numbers(PyObject *module, PyObject *given) {
         searched = end - bytes;
         PyObject *fields[] = {PyLong_FromSsize_t(first), PyLong_FromSsize_t(index),
                               PyUnicode_Substring(string, first, index),
-                              PyBool_FromLong(spans[i].digits != 0)};
+                              PyBool_FromLong((spans[i].flags & CN_PLAIN_DIGITS) != 0)};
         PyObject *found = tuple_of(class, one, fields);
         failed = !found || PyList_SetItem(made, (Py_ssize_t)i, found);
     }

@@ -36,12 +36,13 @@ typedef struct question {
 
 /* What it says: a printed text's length, or what was read or found. */
 typedef struct answer {
-    uint64_t status, values[3], char_index, byte_index;
+    uint64_t status, values[5], char_index, byte_index;
 } answer;
 
-/* Room for what a call tells: each byte has to be written. */
+/* Room for what a call tells: each byte has to be written. A quantity has the most of them. */
 static void *told(const question *it, size_t bytes) {
-    return memset(it->told_end - bytes, UNTOUCHED, bytes);
+    memset(it->told_end - sizeof(cn_quantity), UNTOUCHED, sizeof(cn_quantity));
+    return it->told_end - bytes;
 }
 
 /* The calls in chars take NULL where the length is 0. */
@@ -69,6 +70,20 @@ static answer number_read(const question *it) {
     return (answer){status, {to->number.low, to->number.high}, to->char_index, to->byte_index};
 }
 
+/* The methods are the ways from the second one on. */
+static answer quantity_read(const question *it) {
+    cn_quantity *to = told(it, sizeof *to);
+    size_t length = it->text_length;
+    uint32_t method = it->codes[0] + CN_LOW;
+    uint64_t status = it->style == IN_CHARS
+        ? (uint32_t)cn_read_quantity(text_of(it), length, method, to)
+        : chinese_quantity_read(it->text, length, method, to);
+    return (answer){status,
+                    {to->numerator.low, to->numerator.high, to->denominator.low,
+                     to->denominator.high, to->form},
+                    to->char_index, to->byte_index};
+}
+
 static int is_untouched(const uint8_t *from, const uint8_t *to) {
     return from == to
         || (*from == UNTOUCHED && memcmp(from, from + 1, (size_t)(to - from) - 1) == 0);
@@ -80,19 +95,21 @@ typedef struct found {
     size_t count;
 } found;
 
+typedef uint32_t finding(const uint8_t *, size_t, size_t, uint32_t, uint32_t, cn_span *, size_t,
+                         size_t *);
+typedef cn_status finding_next(const char *, size_t, uint32_t, cn_unit, cn_span *);
+
 /* Of these calls, the one in chars begins at a span of zeros, and says by CN_NONE and zeros where
  * there is no number, as is said here of the others, which leave the span. */
-static uint32_t find_by(const question *it, found *to) {
+static uint32_t find_by(const question *it, found *to, finding *find, finding_next *next) {
     size_t length = it->text_length, *count = &to->count;
     uint32_t upper = it->codes[0], greatest = it->codes[1], status;
     cn_span *first = &to->first;
     if (it->style == IN_CHARS) {
         memset(first, 0, sizeof *first);
-        return cn_find_next(text_of(it), length, upper, greatest, first);
+        return next(text_of(it), length, upper, greatest, first);
     }
-    status = it->style == TRUSTS
-        ? chinese_number_find_utf8(it->text, length, 0, upper, greatest, first, 1, count)
-        : chinese_number_find(it->text, length, 0, upper, greatest, first, 1, count);
+    status = find(it->text, length, 0, upper, greatest, first, 1, count);
     if (*count == 0 && is_untouched((uint8_t *)first, (uint8_t *)(first + 1)))
         memset(first, 0, sizeof *first);
     return *count == 0 && status == CN_DONE ? CN_NONE : *count > 1 ? UINT32_MAX : status;
@@ -100,8 +117,16 @@ static uint32_t find_by(const question *it, found *to) {
 
 static answer number_find(const question *it) {
     found *to = told(it, sizeof *to);
-    uint64_t status = find_by(it, to);
-    return (answer){status, {to->first.start, to->first.end, to->first.digits}, 0, 0};
+    finding *find = it->style == TRUSTS ? chinese_number_find_utf8 : chinese_number_find;
+    uint64_t status = find_by(it, to, find, cn_find_next);
+    return (answer){status, {to->first.start, to->first.end, to->first.flags}, 0, 0};
+}
+
+static answer quantity_find(const question *it) {
+    found *to = told(it, sizeof *to);
+    finding *find = it->style == TRUSTS ? chinese_quantity_find_utf8 : chinese_quantity_find;
+    uint64_t status = find_by(it, to, find, cn_find_next_quantity);
+    return (answer){status, {to->first.start, to->first.end, to->first.flags}, 0, 0};
 }
 
 static answer of_amount(uint64_t status, const cn_amount *told) {
@@ -238,6 +263,11 @@ static const call calls[] = {
     {"chinese_number_find", number_find, PROVED, {2, 16}, OF_TEXT(FIND)},
     {"chinese_number_find_utf8", number_find, TRUSTS, {2, 16}, OF_TEXT(FIND)},
     {"cn_find_next", number_find, IN_CHARS, {2, 16}, OF_TEXT(FIND)},
+    {"chinese_quantity_read", quantity_read, PROVED, {4}, OF_TEXT(READ)},
+    {"cn_read_quantity", quantity_read, IN_CHARS, {4}, OF_TEXT(READ)},
+    {"chinese_quantity_find", quantity_find, PROVED, {2, 16}, OF_TEXT(FIND)},
+    {"chinese_quantity_find_utf8", quantity_find, TRUSTS, {2, 16}, OF_TEXT(FIND)},
+    {"cn_find_next_quantity", quantity_find, IN_CHARS, {2, 16}, OF_TEXT(FIND)},
     {"chinese_amount_read", amount_read, PROVED, {0}, OF_TEXT(READ_CAPITALS)},
     {"cn_read_amount", amount_read, IN_CHARS, {0}, OF_TEXT(READ_CAPITALS)},
     {"chinese_typed_amount_read", typed_amount_read, PROVED, {0}, OF_TEXT(READ_CAPITALS)},
@@ -309,10 +339,11 @@ static size_t written(const call *by, const question *it, const answer *said) {
 static answer ask(task *mine, const call *by, const question *it, uint8_t *text) {
     answer said = by->ask(it);
     size_t length = written(by, it, &said);
+    size_t told = by->ask == quantity_read ? sizeof(cn_quantity) : sizeof(cn_reading);
     uint8_t *room = by->most == 0 ? mine->room.end : it->room;
     int right = length <= it->room_length && is_untouched(mine->room.first, room)
         && is_untouched(room + length, mine->room.end)
-        && is_untouched(mine->told.first, mine->told.end - sizeof(cn_reading))
+        && is_untouched(mine->told.first, mine->told.end - told)
         && (by->style != IN_CHARS || length == 0 || room[length - 1] == 0);
     add_to_sum(mine, &said, sizeof said);
     add_to_sum(mine, room, length);
@@ -426,7 +457,7 @@ static void try_printing(task *mine, const call *by) {
 static const char *const parts[] = {
     "一", "二", "三", "十", "百", "千", "萬", "亿", "零", "〇", "壹", "贰", "佰", "元", "圆", "整",
     "正", "角", "分", "年", "月", "日", "负", "兩", "個", "5", "-", " ", "é", "𠀀", "¥", ",", "．",
-    "−", "⊗", "：", "1,409.50", "人民币壹佰元整", "贰零贰陆年零叁月零壹日"};
+    "−", "⊗", "：", "%", "点", "分之", "廿", "1,409.50", "人民币壹佰元整", "贰零贰陆年零叁月零壹日"};
 static const char *const broken[] = {
     "\x80", "\xBF", "\xC0\x80", "\xC1\xBF", "\xC2", "\xE0\x9F\xBF", "\xE4", "\xE4\xB8",
     "\xED\xA0\x80", "\xED\xBF\xBF", "\xEF\xBF", "\xF0\x8F\xBF\xBF", "\xF0\xA0",
@@ -502,7 +533,7 @@ static int is_whole(const call *by, const question *it, answer said) {
         return is_same(said, nothing);
     if (by->statuses == FIND)
         return said.values[0] < said.values[1] && is_boundary(it, said.values[0])
-            && is_boundary(it, said.values[1]) && said.values[2] <= 1;
+            && is_boundary(it, said.values[1]) && said.values[2] < 16;
     return said.char_index == 0 && said.byte_index == 0;
 }
 

@@ -23,6 +23,7 @@ _MOST_AMOUNT_BYTES = 117
 _MOST_SIGNED_AMOUNT_BYTES = 120
 _MOST_DATE_BYTES = 39
 _AT_ONCE = 64
+_PLAIN_DIGITS = 1
 _MODULE = "_native.abi3.so"
 _CODE, _WORD, _SIZE = ctypes.c_uint32, ctypes.c_uint64, ctypes.c_size_t
 _SIGNED_WORD = ctypes.c_int64
@@ -46,7 +47,7 @@ class _Date(ctypes.Structure):
 
 
 class _Span(ctypes.Structure):
-    _fields_ = [("start", _SIZE), ("end", _SIZE), ("digits", _CODE)]
+    _fields_ = [("start", _SIZE), ("end", _SIZE), ("flags", _CODE)]
 
 
 _TEXT = ctypes.c_char_p, _SIZE
@@ -253,5 +254,5 @@ def find_numbers(
     for span in spans[: count.value]:
         start = index + len(data[searched : span.start].decode())
         searched, index = span.end, start + len(data[span.start : span.end].decode())
-        made.append(of(start, index, text[start:index], bool(span.digits)))
+        made.append(of(start, index, text[start:index], bool(span.flags & _PLAIN_DIGITS)))
     return status, made, searched if len(made) == _AT_ONCE else len(data), index

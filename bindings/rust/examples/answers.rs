@@ -6,9 +6,10 @@ use std::str::FromStr;
 
 use chinese_number::{
     amount_to_chinese, amount_to_chinese_as, chinese_to_amount, chinese_to_amount_as_typed,
-    chinese_to_date, chinese_to_signed_amount, date_to_chinese, find_numbers,
-    signed_amount_to_chinese, yuan_to_fen, AmountForm, BillDate, ChineseCase, ChineseCountMethod,
-    ChineseToNumber, ChineseVariant, NumberToChinese, Wanted,
+    chinese_to_date, chinese_to_quantity, chinese_to_signed_amount, date_to_chinese, find_numbers,
+    find_quantities, signed_amount_to_chinese, yuan_to_fen, AmountForm, BillDate, ChineseCase,
+    ChineseCountMethod, ChineseToNumber, ChineseToNumberError, ChineseVariant, Found,
+    NumberToChinese, Numbers, Quantity, QuantityForm, Wanted,
 };
 
 fn told<T: Display, E: Display>(answer: Result<T, E>) -> String {
@@ -105,14 +106,49 @@ fn print_date(script: &str, date: &str) -> String {
     told(date_to_chinese(variant(script), date))
 }
 
-fn find(text: &str) -> String {
+fn told_quantity(answer: Result<Quantity, ChineseToNumberError>) -> String {
+    told(answer.map(|Quantity { numerator, denominator, form }| {
+        let form = match form {
+            QuantityForm::Whole => "whole",
+            QuantityForm::Decimal => "decimal",
+            QuantityForm::Percent => "percent",
+            QuantityForm::Fraction => "fraction",
+        };
+        format!("{numerator}/{denominator} {form}")
+    }))
+}
+
+fn flags(found: Found<'_>) -> String {
+    let flags = [
+        (found.is_plain(), "plain"),
+        (found.stands_alone(), "alone"),
+        (found.is_about(), "about"),
+        (found.is_one_character(), "one"),
+    ];
+    let told: Vec<&str> = flags.iter().filter(|(is_told, _)| *is_told).map(|it| it.1).collect();
+    told.join(" ")
+}
+
+// The text with what is shown of each of its runs in its place, in brackets.
+fn in_place(text: &str, runs: Numbers<'_>, shown: impl Fn(Found<'_>) -> String) -> String {
     let (mut done, mut at) = (String::from("ok "), 0);
-    for found in find_numbers(text, Wanted::EVERYDAY) {
-        let answer = told(found.number::<i128>(ChineseCountMethod::TenThousand));
-        done.extend([&text[at..found.start()], "[", &answer, "]"]);
+    for found in runs {
+        done.extend([&text[at..found.start()], "[", &shown(found), "]"]);
         at = found.end();
     }
     done + &text[at..]
+}
+
+fn find(text: &str) -> String {
+    in_place(text, find_numbers(text, Wanted::EVERYDAY), |found| {
+        told(found.number::<i128>(ChineseCountMethod::TenThousand))
+    })
+}
+
+fn find_expressions(text: &str) -> String {
+    in_place(text, find_quantities(text, Wanted::EVERYDAY), |found| {
+        told_quantity(found.quantity(ChineseCountMethod::TenThousand))
+    })
 }
 
 macro_rules! by_kind {
@@ -150,6 +186,9 @@ fn answer(line: &str) -> String {
         ["read_date", text] => read_date(text),
         ["print_date", script, date] => print_date(script, date),
         ["find", text] => find(text),
+        ["flags", text] => in_place(text, find_numbers(text, Wanted::EVERYDAY), flags),
+        ["read_quantity", way, text] => told_quantity(chinese_to_quantity(text, method(way))),
+        ["find_quantities", text] => find_expressions(text),
         _ => panic!("no question: {line}"),
     }
 }

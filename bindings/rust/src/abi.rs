@@ -7,7 +7,9 @@
 
 use core::mem::MaybeUninit;
 
-use crate::{BillDate, ChineseCase, ChineseCountMethod, ChineseVariant, Unit};
+use crate::{
+    BillDate, ChineseCase, ChineseCountMethod, ChineseVariant, Quantity, QuantityForm, Unit,
+};
 
 /// The statuses.
 #[allow(dead_code, reason = "some tell what this crate never asks for")]
@@ -104,14 +106,39 @@ struct Reading<T> {
     _byte_index: usize,
 }
 
-/// A run in a text: where it begins and ends, in bytes, and 1 where each of its characters is a
-/// digit, else 0.
+// What is read of a text as a quantity.
+#[derive(Default)]
+#[repr(C)]
+struct QuantityReading {
+    numerator: Number,
+    denominator: Number,
+    form: u32,
+    char_index: usize,
+    _byte_index: usize,
+}
+
+/// What a text is searched for.
+#[derive(Debug, Copy, Clone)]
+pub enum Sought {
+    Numbers,
+    Quantities,
+}
+
+/// What is told of a run in a text.
+pub mod flag {
+    pub const PLAIN_DIGITS: u32 = 1;
+    pub const STANDS_ALONE: u32 = 2;
+    pub const ABOUT: u32 = 4;
+    pub const ONE_CHARACTER: u32 = 8;
+}
+
+/// A run in a text: where it begins and ends, in bytes, and its flags, added together.
 #[derive(Debug, Copy, Clone, Default)]
 #[repr(C)]
 pub struct Span {
     pub start: usize,
     pub end: usize,
-    pub digits: u32,
+    pub flags: u32,
 }
 
 unsafe extern "C" {
@@ -191,6 +218,24 @@ unsafe extern "C" {
         spans: *mut Span,
         most: usize,
         count: *mut usize,
+    ) -> u32;
+
+    fn chinese_quantity_find_utf8(
+        text: *const u8,
+        text_length: usize,
+        from: usize,
+        upper: u32,
+        greatest: u32,
+        spans: *mut Span,
+        most: usize,
+        count: *mut usize,
+    ) -> u32;
+
+    fn chinese_quantity_read(
+        text: *const u8,
+        text_length: usize,
+        method: u32,
+        quantity: *mut QuantityReading,
     ) -> u32;
 }
 
@@ -279,6 +324,28 @@ pub fn read<T: Whole>(text: &str, way: Way) -> Result<T, (u32, usize)> {
     number.map(T::of_number)
 }
 
+/// The quantity of a text, or the status and the place.
+#[inline]
+pub fn read_quantity(text: &str, method: Way) -> Result<Quantity, (u32, usize)> {
+    // SAFETY: as for a number.
+    let (read, status) = answered(|quantity| unsafe {
+        chinese_quantity_read(text.as_ptr(), text.len(), method as u32, quantity)
+    });
+    if status != status::DONE {
+        return Err((status, read.char_index));
+    }
+    Ok(Quantity {
+        numerator: i128::of_number(read.numerator),
+        denominator: u128::of_number(read.denominator),
+        form: match read.form {
+            0 => QuantityForm::Whole,
+            1 => QuantityForm::Decimal,
+            2 => QuantityForm::Percent,
+            _ => QuantityForm::Fraction,
+        },
+    })
+}
+
 /// The amount of a text, or the status and the place.
 #[inline]
 pub fn read_amount(text: &str) -> Result<u64, (u32, usize)> {
@@ -327,21 +394,22 @@ pub fn read_date(text: &str) -> Result<BillDate, (u32, usize)> {
 /// Writes the runs of a text from a byte on, as many as there are spans, and gives how many; none
 /// where no character begins at that byte.
 #[inline]
-pub fn find(text: &str, from: usize, upper: bool, greatest: Unit, spans: &mut [Span]) -> usize {
+pub fn find(
+    sought: Sought,
+    text: &str,
+    from: usize,
+    (upper, greatest): (bool, Unit),
+    spans: &mut [Span],
+) -> usize {
+    let search = match sought {
+        Sought::Numbers => chinese_number_find_utf8,
+        Sought::Quantities => chinese_quantity_find_utf8,
+    };
     // SAFETY: as for a number; the spans are those of one slice, and the count is a place of its own.
     let (count, _) = answered(|count| unsafe {
         let (upper, greatest) = (u32::from(upper), greatest as u32);
         let (spans, most) = (spans.as_mut_ptr(), spans.len());
-        chinese_number_find_utf8(
-            text.as_ptr(),
-            text.len(),
-            from,
-            upper,
-            greatest,
-            spans,
-            most,
-            count,
-        )
+        search(text.as_ptr(), text.len(), from, upper, greatest, spans, most, count)
     });
     count
 }

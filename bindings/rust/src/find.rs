@@ -1,10 +1,12 @@
-//! The numbers in running text.
+//! The numbers and the expressions in running text.
 
 use core::iter::FusedIterator;
 use core::ops::Range;
 
-use crate::abi;
-use crate::{ChineseCountMethod, ChineseToNumber, ChineseToNumberError, Unit};
+use crate::abi::{self, flag, Sought};
+use crate::{
+    chinese_to_quantity, ChineseCountMethod, ChineseToNumber, ChineseToNumberError, Quantity, Unit,
+};
 
 /// Which characters are looked for: the digits and the units up to the greatest one, with or without
 /// the forms that only cheques have, as 參 and 陸, which mean other things in a sentence.
@@ -32,7 +34,7 @@ pub struct Found<'a> {
     pub text: &'a str,
     /// What stands after it.
     pub after: &'a str,
-    is_plain: bool,
+    flags: u32,
 }
 
 impl<'a> Found<'a> {
@@ -61,7 +63,31 @@ impl<'a> Found<'a> {
     #[inline]
     #[must_use]
     pub fn is_plain(self) -> bool {
-        self.is_plain
+        self.flags & flag::PLAIN_DIGITS != 0
+    }
+
+    /// Whether nothing around it goes on with it: no ASCII letter, digit of any kind, `_`, 廿, 卅, 卌
+    /// or 幺 touches it, and no `.`, `,`, `-`, 点 or 點 links it to one of them or to a unit. So
+    /// neither part of 3.5萬 or 1,280 does, nor the 三 of 廿三.
+    #[inline]
+    #[must_use]
+    pub fn stands_alone(self) -> bool {
+        self.flags & flag::STANDS_ALONE != 0
+    }
+
+    /// Whether it is about so much: the 十 of 几十, 十几 and 十多 is, 五六, 三五 and 兩三百 are, and
+    /// 二零二五 is not.
+    #[inline]
+    #[must_use]
+    pub fn is_about(self) -> bool {
+        self.flags & flag::ABOUT != 0
+    }
+
+    /// Whether it is one Chinese character, as the 一 of 一般 and the 十 of 十分 are.
+    #[inline]
+    #[must_use]
+    pub fn is_one_character(self) -> bool {
+        self.flags & flag::ONE_CHARACTER != 0
     }
 
     /// Its number as plain digits where it is those, else by units.
@@ -75,7 +101,7 @@ impl<'a> Found<'a> {
     where
         &'a str: ChineseToNumber<T>,
     {
-        if self.is_plain {
+        if self.is_plain() {
             self.text.to_number_naive()
         } else {
             self.text.to_number(method)
@@ -91,15 +117,26 @@ impl<'a> Found<'a> {
     {
         self.text.to_number_any().ok()
     }
+
+    /// The exact quantity that its text is, as [`find_quantities`] finds them.
+    ///
+    /// # Errors
+    ///
+    /// [`ChineseToNumberError`] says for what a text is refused; a `char_index` counts within the run.
+    #[inline]
+    pub fn quantity(self, method: ChineseCountMethod) -> Result<Quantity, ChineseToNumberError> {
+        chinese_to_quantity(self.text, method)
+    }
 }
 
 // How many runs are searched for at once, behind the first one: many callers want no other.
 const AT_ONCE: usize = 8;
 
-/// The numbers of a text, as [`find_numbers`] gives them.
+/// The runs of a text, as [`find_numbers`] and [`find_quantities`] give them.
 #[derive(Debug, Clone)]
 #[must_use = "the text is searched as numbers are asked for, and not much further"]
 pub struct Numbers<'a> {
+    sought: Sought,
     wanted: Wanted,
     whole: &'a str,
     // Where the end begins that is not yet searched.
@@ -110,20 +147,26 @@ pub struct Numbers<'a> {
     given: usize,
 }
 
-impl Numbers<'_> {
+impl<'a> Numbers<'a> {
+    #[inline]
+    fn of(whole: &'a str, sought: Sought, wanted: Wanted) -> Self {
+        let spans = [abi::Span::default(); AT_ONCE];
+        Self { sought, wanted, whole, next: 0, spans, found: 0, given: 0 }
+    }
+
     fn search(&mut self) {
         let spans = if self.next == 0 { &mut self.spans[..1] } else { &mut self.spans[..] };
         self.given = 0;
         let Wanted { upper, greatest } = self.wanted;
-        self.found = abi::find(self.whole, self.next, upper, greatest, spans);
+        self.found = abi::find(self.sought, self.whole, self.next, (upper, greatest), spans);
         let is_filled = self.found == spans.len();
         self.next = if is_filled { spans[self.found - 1].end } else { self.whole.len() };
     }
 }
 
 /// The numbers of a text, from the first to the last: its longest runs of characters that are looked
-/// for. A run ends between an ASCII digit and a digit that is none, and 個 is of a run directly before
-/// 萬 or a greater unit alone.
+/// for. A run ends between an ASCII digit and a digit that is none, 個 is of a run directly before 萬 or
+/// a greater unit alone, and 兆 of none in front of a measure, as in 8兆字节.
 ///
 /// It does not understand sentences: 一起 has a 1 in it, 兩三個 is 23, and 3.5萬 is two numbers.
 ///
@@ -137,8 +180,24 @@ impl Numbers<'_> {
 /// ```
 #[inline]
 pub fn find_numbers(text: &str, wanted: Wanted) -> Numbers<'_> {
-    let spans = [abi::Span::default(); AT_ONCE];
-    Numbers { wanted, whole: text, next: 0, spans, found: 0, given: 0 }
+    Numbers::of(text, Sought::Numbers, wanted)
+}
+
+/// The expressions of a text, from the first to the last: numbers with their sign, their figures,
+/// their point and their units, percentages and fractions.
+///
+/// ```rust
+/// use chinese_number::{find_quantities, ChineseCountMethod, Wanted};
+///
+/// let whole: Vec<Option<u32>> = find_quantities("增长12.5%，共3.5万人", Wanted::EVERYDAY)
+///     .filter_map(|found| found.quantity(ChineseCountMethod::TenThousand).ok())
+///     .map(|quantity| quantity.to_whole())
+///     .collect();
+/// assert_eq!(whole, [None, Some(35_000)]);
+/// ```
+#[inline]
+pub fn find_quantities(text: &str, wanted: Wanted) -> Numbers<'_> {
+    Numbers::of(text, Sought::Quantities, wanted)
 }
 
 impl<'a> Iterator for Numbers<'a> {
@@ -152,7 +211,7 @@ impl<'a> Iterator for Numbers<'a> {
         self.given += 1;
         let (before, rest) = self.whole.split_at(span.start);
         let (text, after) = rest.split_at(span.end - span.start);
-        Some(Found { before, text, after, is_plain: span.digits == 1 })
+        Some(Found { before, text, after, flags: span.flags })
     }
 }
 

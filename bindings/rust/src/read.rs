@@ -1,9 +1,9 @@
-//! The readers: texts as numbers, as amounts of money and as dates.
+//! The readers: texts as numbers, as exact quantities, as amounts of money and as dates.
 
 use core::fmt::{self, Display, Formatter};
 
 use crate::abi::{self, status, Way, Whole};
-use crate::{BillDate, ChineseCountMethod};
+use crate::{BillDate, ChineseCountMethod, Quantity};
 
 /// Why a text is no number of a type.
 #[derive(Debug, Copy, Clone, Eq, PartialEq)]
@@ -36,15 +36,42 @@ impl Display for ChineseToNumberError {
 
 impl core::error::Error for ChineseToNumberError {}
 
-#[inline]
-fn read<T: Whole>(text: &str, way: Way) -> Result<T, ChineseToNumberError> {
-    abi::read(text, way).map_err(|(status, char_index)| match status {
+fn refusal((status, char_index): (u32, usize)) -> ChineseToNumberError {
+    match status {
         status::EMPTY => ChineseToNumberError::ChineseNumberEmpty,
         status::INCORRECT => ChineseToNumberError::ChineseNumberIncorrect { char_index },
         status::TOO_LARGE => ChineseToNumberError::Overflow,
         status::TOO_SMALL => ChineseToNumberError::Underflow,
         _ => unreachable!("the codes are the library's"),
-    })
+    }
+}
+
+#[inline]
+fn read<T: Whole>(text: &str, way: Way) -> Result<T, ChineseToNumberError> {
+    abi::read(text, way).map_err(refusal)
+}
+
+/// Reads a text as an exact quantity: a whole number, a decimal, a percentage or a fraction, in
+/// figures, in numerals or in both, with one sign in front or none.
+///
+/// ```rust
+/// use chinese_number::{chinese_to_quantity, ChineseCountMethod, Quantity, QuantityForm};
+///
+/// let quantity = chinese_to_quantity("-12.5%", ChineseCountMethod::TenThousand);
+/// let form = QuantityForm::Percent;
+/// assert_eq!(quantity, Ok(Quantity { numerator: -125, denominator: 1_000, form }));
+/// ```
+///
+/// # Errors
+///
+/// [`ChineseToNumberError`] says for what a text is refused; `Overflow` and `Underflow` where a
+/// number does not fit 128 bits.
+#[inline]
+pub fn chinese_to_quantity<S: AsRef<str>>(
+    text: S,
+    method: ChineseCountMethod,
+) -> Result<Quantity, ChineseToNumberError> {
+    abi::read_quantity(text.as_ref(), method.into()).map_err(refusal)
 }
 
 /// A text that is read as a number of the integer type `T`.

@@ -34,13 +34,26 @@ pub use Rattle.cn_date.specs.Form as DateForm
 pub use Rattle.cn_date.specs.Reading as DateReading
 pub use Rattle.cn_date.specs.Writes as DateWrites
 pub use Rattle.cn_find.specs.Belongs
+pub use Rattle.cn_find.specs.Expressions
+pub use Rattle.cn_find.specs.Flags
 pub use Rattle.cn_find.specs.Number
 pub use Rattle.cn_find.specs.Parting
 pub use Rattle.cn_find.specs.Plain
+pub use Rattle.cn_find.specs.Rule
 pub use Rattle.cn_find.specs.Runs
 pub use Rattle.cn_find.specs.Spans
 pub use Rattle.cn_print.specs.ErrorText as PrintErrorText
 pub use Rattle.cn_print.specs.Prints
 pub use Rattle.cn_print.specs.Writes
+pub use Rattle.cn_quantity.specs.Answer as QuantityAnswer
+pub use Rattle.cn_quantity.specs.Characters as QuantityCharacters
+pub use Rattle.cn_quantity.specs.Decimal as QuantityDecimal
+pub use Rattle.cn_quantity.specs.Digits as QuantityDigits
+pub use Rattle.cn_quantity.specs.Figures as QuantityFigures
+pub use Rattle.cn_quantity.specs.Number as QuantityNumber
+pub use Rattle.cn_quantity.specs.Ratio as QuantityRatio
+pub use Rattle.cn_quantity.specs.Reading as QuantityReading
+pub use Rattle.cn_quantity.specs.Units as QuantityUnits
+pub use Rattle.cn_quantity.specs.Whole as QuantityWhole
 pub use Rattle.cn_read.specs.Answer
 pub use Rattle.cn_read.specs.ErrorText as ReadErrorText

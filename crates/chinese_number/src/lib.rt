@@ -1,5 +1,5 @@
-//! Chinese numerals, read and written, for the twelve integer types; amounts of money and dates in
-//! capitals; and the numbers of a running text.
+//! Chinese numerals, read and written, for the twelve integer types; quantities, as 3.5万 and
+//! 百分之五十, read exactly; amounts of money and dates in capitals; and the numbers of a running text.
 //!
 //! All that callers need has its name here; `laws` says what they can count on.
 #![tactic(auto)]
@@ -35,10 +35,15 @@ pub use cn_date::DateToChineseError;
 pub use cn_date::chinese_to_date;
 pub use cn_date::date_to_chinese;
 pub use cn_find::Found;
+pub use cn_find::NumberRule;
 pub use cn_find::Numbers;
+pub use cn_find::QuantityRule;
+pub use cn_find::SearchRule;
 pub use cn_find::Wanted;
 pub use cn_find::find_numbers;
 pub use cn_find::find_numbers_from;
+pub use cn_find::find_quantities;
+pub use cn_find::find_quantities_from;
 pub use cn_print::MOST_BYTES;
 pub use cn_print::NumberToChinese;
 pub use cn_print::NumberToChineseError;
@@ -92,6 +97,9 @@ pub use cn_print::from_usize_to_chinese_naive;
 pub use cn_print::from_usize_to_chinese_ten_thousand;
 pub use cn_print::put_chinese;
 pub use cn_print::put_chinese_naive;
+pub use cn_quantity::Quantity;
+pub use cn_quantity::QuantityForm;
+pub use cn_quantity::chinese_to_quantity;
 pub use cn_read::ChineseToNumber;
 pub use cn_read::ChineseToNumberError;
 pub use cn_read::from_chinese_to_i8;

@@ -67,6 +67,19 @@ units =
     Ge ∷ Shi ∷ Bai ∷ Qian ∷ Wan ∷ Yi ∷ Zhao ∷ Jing ∷ Gai ∷ Zi ∷ Rang ∷ Gou ∷ Jian ∷ Zheng ∷ Zai
     ∷ Ji ∷ []
 
+-- the flags that are told of a number in a text
+abbrev pub CN_PLAIN_DIGITS : ℕ
+CN_PLAIN_DIGITS = 1
+
+abbrev pub CN_STANDS_ALONE : ℕ
+CN_STANDS_ALONE = 2
+
+abbrev pub CN_ABOUT : ℕ
+CN_ABOUT = 4
+
+abbrev pub CN_ONE_CHARACTER : ℕ
+CN_ONE_CHARACTER = 8
+
 -- whether the forms of the upper case are looked for
 abbrev pub uppers : List Bool
 uppers = false ∷ true ∷ []

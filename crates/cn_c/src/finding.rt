@@ -1,21 +1,32 @@
-// The numbers of a text.
-ghost use Rattle.std.specs.Prelude.{◌≡◌, map, take, IsUtf8, length};
+// The numbers of a text, and its expressions.
+ghost use Rattle.std.specs.Prelude.{◌≡◌, map, take, IsUtf8, length, slice_get};
 ghost use Rattle.chinese_number.specs.Spans.{span_of};
-ghost use Rattle.cn_c.specs.Finds.{Fills, FindsFrom, IsFound, span_told};
+ghost use Rattle.cn_c.specs.Finds.{Fills, FindsFrom, IsFound, IsFoundAs, IsQuantityFound, rule_of, span_told};
+ghost use Rattle.cn_c.specs.Codes.{units, uppers};
 
 use crate::codes::{unit_of, upper_of};
+use crate::flags::flags_of;
 use crate::status::{DONE, NOT_UTF8, UNKNOWN};
-use chinese_number::{Found, Numbers, Wanted, find_numbers_from};
+use chinese_number::{
+    Found, Numbers, SearchRule, Wanted, find_numbers_from, find_quantities_from,
+};
 use cn_faces::utf8_text;
 use std::str;
 
-/// Where a number stands in its text, in bytes, and whether it is plain digits, as 1, or not, as 0.
+/// Where a run stands in its text, in bytes, and what is told of it: flags, added together.
 #[repr(C)]
 #[derive(Clone, Copy)]
 pub struct Span {
     pub start: usize,
     pub end: usize,
-    pub digits: u32,
+    pub flags: u32,
+}
+
+// What a text is searched for.
+#[derive(Clone, Copy)]
+enum Sought {
+    Numbers,
+    Quantities,
 }
 
 fn span_of_found(found: Found<'_>) -> Span
@@ -24,17 +35,17 @@ fn span_of_found(found: Found<'_>) -> Span
     Span {
         start: found.start(),
         end: found.end(),
-        digits: if found.is_plain() { 1 } else { 0 },
+        flags: flags_of(found),
     }
 }
 
-// Tells the numbers until none is left or the spans are full, and how many these are.
-fn fill(mut numbers: Numbers<'_>, spans: &mut [Span]) -> usize
-    ensures { Fills (map span_told (take (length spans.old) numbers.entry)) spans.old spans.new result }
+// Tells the runs until none is left or the spans are full, and how many these are.
+fn fill<R: SearchRule>(mut runs: Numbers<'_, R>, spans: &mut [Span]) -> usize
+    ensures { Fills (map span_told (take (length spans.old) runs.entry)) spans.old spans.new result }
 {
     let mut count = 0;
     'filling: while count < spans.len() {
-        let Some(found) = numbers.next() else {
+        let Some(found) = runs.next() else {
             break;
         };
         spans[count] = span_of_found(found);
@@ -43,16 +54,79 @@ fn fill(mut numbers: Numbers<'_>, spans: &mut [Span]) -> usize
     count
 }
 
-// Tells the numbers of a text from a byte on.
-fn find_from(text: &str, from: usize, wanted: Wanted, spans: &mut [Span], count: &mut usize) -> u32
+// Tells the runs of a text from a byte on.
+fn find_from(
+    sought: Sought,
+    text: &str,
+    from: usize,
+    wanted: Wanted,
+    spans: &mut [Span],
+    count: &mut usize,
+) -> u32
     requires { count.old ≡ 0 }
-    ensures { FindsFrom wanted text.now from spans.old result spans.new count.new }
+    ensures { FindsFrom (rule_of sought wanted) text.now from spans.old result spans.new count.new }
 {
-    let Some(numbers) = find_numbers_from(text, from, wanted) else {
+    if !text.is_char_boundary(from) {
         return NOT_UTF8;
-    };
-    *count = fill(numbers, spans);
+    }
+    match sought {
+        Sought::Numbers => {
+            if let Some(numbers) = find_numbers_from(text, from, wanted) {
+                *count = fill(numbers, spans);
+            }
+        }
+        Sought::Quantities => {
+            if let Some(quantities) = find_quantities_from(text, from, wanted) {
+                *count = fill(quantities, spans);
+            }
+        }
+    }
     DONE
+}
+
+// Tells the runs of bytes from one on, by the codes of what is wanted.
+fn find(
+    sought: Sought,
+    text: &[u8],
+    from: usize,
+    upper: u32,
+    greatest: u32,
+    spans: &mut [Span],
+    count: &mut usize,
+) -> u32
+    ensures { IsFoundAs (rule_of sought) (slice_get uppers upper) (slice_get units greatest) text.now
+        from spans.old result spans.new count.new }
+{
+    *count = 0;
+    let (Some(upper), Some(greatest)) = (upper_of(upper), unit_of(greatest)) else {
+        return UNKNOWN;
+    };
+    match utf8_text(text) {
+        Some(text) => find_from(sought, text, from, Wanted { upper, greatest }, spans, count),
+        None => NOT_UTF8,
+    }
+}
+
+// The same, of bytes that are known to be UTF-8.
+unsafe fn find_utf8(
+    sought: Sought,
+    text: &[u8],
+    from: usize,
+    upper: u32,
+    greatest: u32,
+    spans: &mut [Span],
+    count: &mut usize,
+) -> u32
+    requires { IsUtf8 text.now }
+    ensures { IsFoundAs (rule_of sought) (slice_get uppers upper) (slice_get units greatest) text.now
+        from spans.old result spans.new count.new }
+{
+    *count = 0;
+    let (Some(upper), Some(greatest)) = (upper_of(upper), unit_of(greatest)) else {
+        return UNKNOWN;
+    };
+    let text = unsafe { str::from_utf8_unchecked(text) };
+    find_from(sought, text, from, Wanted { upper, greatest }, spans, count)
 }
 
 /// Finds the numbers of a text from a byte on, in order, until none is left or the spans are full.
@@ -70,14 +144,7 @@ pub extern "C" fn chinese_number_find(
 ) -> u32
     ensures { IsFound text.now from upper greatest spans.old result spans.new count.new }
 {
-    *count = 0;
-    let (Some(upper), Some(greatest)) = (upper_of(upper), unit_of(greatest)) else {
-        return UNKNOWN;
-    };
-    match utf8_text(text) {
-        Some(text) => find_from(text, from, Wanted { upper, greatest }, spans, count),
-        None => NOT_UTF8,
-    }
+    find(Sought::Numbers, text, from, upper, greatest, spans, count)
 }
 
 /// Finds as `chinese_number_find` does, where the caller knows that the bytes are UTF-8: so a text is
@@ -94,10 +161,55 @@ pub unsafe extern "C" fn chinese_number_find_utf8(
     requires { IsUtf8 text.now }
     ensures { IsFound text.now from upper greatest spans.old result spans.new count.new }
 {
-    *count = 0;
-    let (Some(upper), Some(greatest)) = (upper_of(upper), unit_of(greatest)) else {
-        return UNKNOWN;
-    };
-    let text = unsafe { str::from_utf8_unchecked(text) };
-    find_from(text, from, Wanted { upper, greatest }, spans, count)
+    unsafe { find_utf8(Sought::Numbers, text, from, upper, greatest, spans, count) }
+}
+
+/// Finds the expressions of a text, which `chinese_quantity_read` reads, as `chinese_number_find` finds
+/// its numbers: 12.5% and 三分之一 are one each.
+#[unsafe(no_mangle)]
+pub extern "C" fn chinese_quantity_find(
+    text: &[u8],
+    from: usize,
+    upper: u32,
+    greatest: u32,
+    spans: &mut [Span],
+    count: &mut usize,
+) -> u32
+    ensures { IsQuantityFound text.now from upper greatest spans.old result spans.new count.new }
+{
+    find(
+        Sought::Quantities,
+        text,
+        from,
+        upper,
+        greatest,
+        spans,
+        count,
+    )
+}
+
+/// Finds as `chinese_quantity_find` does, where the caller knows that the bytes are UTF-8.
+#[unsafe(no_mangle)]
+pub unsafe extern "C" fn chinese_quantity_find_utf8(
+    text: &[u8],
+    from: usize,
+    upper: u32,
+    greatest: u32,
+    spans: &mut [Span],
+    count: &mut usize,
+) -> u32
+    requires { IsUtf8 text.now }
+    ensures { IsQuantityFound text.now from upper greatest spans.old result spans.new count.new }
+{
+    unsafe {
+        find_utf8(
+            Sought::Quantities,
+            text,
+            from,
+            upper,
+            greatest,
+            spans,
+            count,
+        )
+    }
 }

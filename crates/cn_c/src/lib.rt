@@ -1,6 +1,6 @@
 //! Chinese numerals for C, and for languages that call C: calls that print and read whole numbers
-//! of each type by each method, find the numbers of a text, and print and read amounts of money and
-//! dates.
+//! of each type by each method, find the numbers and the expressions of a text, read these as exact
+//! quantities, and print and read amounts of money and dates.
 //!
 //! `bindings/c/chinese_number.h` declares them.
 #![tactic(auto)]
@@ -9,10 +9,13 @@ mod amount;
 mod codes;
 mod date;
 mod finding;
+mod flags;
 pub mod laws;
 mod number;
 mod place;
 mod printing;
+mod quantity;
+mod quantity_form;
 mod reading;
 mod room;
 mod signed_amount;
@@ -24,9 +27,13 @@ mod version;
 
 pub use amount::{Amount, chinese_amount_print, chinese_amount_read};
 pub use date::{Date, chinese_date_print, chinese_date_read};
-pub use finding::{Span, chinese_number_find, chinese_number_find_utf8};
+pub use finding::{
+    Span, chinese_number_find, chinese_number_find_utf8, chinese_quantity_find,
+    chinese_quantity_find_utf8,
+};
 pub use number::Number;
 pub use printing::chinese_number_print;
+pub use quantity::{Quantity, chinese_quantity_read};
 pub use reading::{Reading, chinese_number_read, chinese_number_read_utf8};
 pub use signed_amount::{
     SignedAmount, chinese_figures_read, chinese_signed_amount_print, chinese_signed_amount_read,

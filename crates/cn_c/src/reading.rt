@@ -1,9 +1,10 @@
 // Reading.
-ghost use Rattle.std.specs.Prelude.{IsUtf8};
-ghost use Rattle.chinese_number.specs.Answer.{answer_of};
+ghost use Rattle.std.specs.Prelude.{◌≡◌, IsUtf8};
+ghost use Rattle.chinese_number.specs.Answer.{answer_of, refusal_of};
+ghost use Rattle.cn_c.specs.Codes.{refusal_status};
 ghost use Rattle.cn_c.specs.Halves.{FitsHalves};
 ghost use Rattle.cn_c.specs.Kinds.{the_kind};
-ghost use Rattle.cn_c.specs.Reads.{Answers, ReadsInto, Tells, IsRead};
+ghost use Rattle.cn_c.specs.Reads.{Answers, ReadsInto, Tells, IsRead, refusal_told};
 
 use crate::codes::{Kind, ReadingWay, kind_of, reading_way_of};
 use crate::number::{Number, halves};
@@ -29,6 +30,32 @@ const NOTHING: Reading = Reading {
     byte_index: 0,
 };
 
+/// The status that tells a refusal.
+pub fn status_of(error: ChineseToNumberError) -> u32
+    ensures { result ≡ refusal_status (refusal_of error) }
+{
+    match error {
+        ChineseToNumberError::ChineseNumberEmpty => EMPTY,
+        ChineseToNumberError::ChineseNumberIncorrect { .. } => INCORRECT,
+        ChineseToNumberError::Overflow => TOO_LARGE,
+        ChineseToNumberError::Underflow => TOO_SMALL,
+    }
+}
+
+/// What is told of a text that is refused.
+pub fn refused(text: &str, error: ChineseToNumberError) -> Reading
+    ensures { result ≡ refusal_told text.now (refusal_of error) }
+{
+    match error {
+        ChineseToNumberError::ChineseNumberIncorrect { char_index } => Reading {
+            number: NOTHING.number,
+            char_index,
+            byte_index: byte_index(text, char_index),
+        },
+        _ => NOTHING,
+    }
+}
+
 // Tells an answer to a text to C.
 fn tell<T: Whole>(text: &str, answer: Result<T, ChineseToNumberError>, reading: &mut Reading) -> u32
     requires { FitsHalves T.kind }
@@ -40,14 +67,10 @@ fn tell<T: Whole>(text: &str, answer: Result<T, ChineseToNumberError>, reading: 
             reading.number = halves(value);
             DONE
         }
-        Err(ChineseToNumberError::ChineseNumberEmpty) => EMPTY,
-        Err(ChineseToNumberError::ChineseNumberIncorrect { char_index }) => {
-            reading.char_index = char_index;
-            reading.byte_index = byte_index(text, char_index);
-            INCORRECT
+        Err(error) => {
+            *reading = refused(text, error);
+            status_of(error)
         }
-        Err(ChineseToNumberError::Overflow) => TOO_LARGE,
-        Err(ChineseToNumberError::Underflow) => TOO_SMALL,
     }
 }
 

@@ -81,26 +81,27 @@ fn prints(rt: HostRuntime) {
 const UNTOLD: Span = Span {
     start: 7,
     end: 7,
-    digits: 7,
+    flags: 7,
 };
 
 // A text, whether the upper case is looked for, and the code of the greatest unit; the status, how
 // many numbers are told where there is room for one, and of the first number its start and end in
-// bytes and whether it is plain digits.
-static FOUND: [(&str, u32, u32, u32, usize, usize, usize, u32); 8] = [
-    ("第二十三回", 0, 6, 0, 1, 3, 12, 0),
-    ("二零二五年十一月", 0, 6, 0, 1, 0, 12, 1),
+// bytes and its flags.
+static FOUND: [(&str, u32, u32, u32, usize, usize, usize, u32); 9] = [
+    ("第二十三回", 0, 6, 0, 1, 3, 12, 2),
+    ("二零二五年十一月", 0, 6, 0, 1, 0, 12, 3),
     ("買2兩", 0, 6, 0, 1, 3, 4, 1),
     ("參加", 0, 6, 0, 0, 7, 7, 7),
-    ("參加", 1, 6, 0, 1, 0, 3, 1),
-    ("北京二环", 0, 7, 0, 1, 3, 9, 0),
+    ("參加", 1, 6, 0, 1, 0, 3, 11),
+    ("北京二环", 0, 7, 0, 1, 3, 9, 2),
+    ("几千人", 0, 6, 0, 1, 3, 6, 14),
     ("", 0, 15, 0, 0, 7, 7, 7),
     ("一", 2, 6, 8, 0, 7, 7, 7),
 ];
 
 #[test]
 fn finds(rt: HostRuntime) {
-    for (text, upper, greatest, status, count, start, end, digits) in &FOUND {
+    for (text, upper, greatest, status, count, start, end, flags) in &FOUND {
         let (mut spans, mut found) = ([UNTOLD], 7);
         let text_bytes = text.as_bytes();
         let answer = chinese_number_find(text_bytes, 0, *upper, *greatest, &mut spans, &mut found);
@@ -108,7 +109,7 @@ fn finds(rt: HostRuntime) {
         assert_eq!(rt; found, *count, "{text}");
         assert_eq!(rt; spans[0].start, *start, "{text}");
         assert_eq!(rt; spans[0].end, *end, "{text}");
-        assert_eq!(rt; spans[0].digits, *digits, "{text}");
+        assert_eq!(rt; spans[0].flags, *flags, "{text}");
     }
 }
 

@@ -18,3 +18,4 @@ pub mod ScaleLaws
 pub mod SpellingExamples
 pub mod Spellings
 pub mod Sums
+pub mod Within

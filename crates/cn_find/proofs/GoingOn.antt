@@ -1,75 +1,87 @@
--- A search goes on behind a number, in sight of the whole text.
-use Rattle.std.proofs.Common.{◌≡◌, ℕ, ◌+◌, Bool, true, false, List, [], ◌∷◌, ◌++◌, length, drop, chars, encode_utf8, encode_utf8_all, IsUtf8, IsCharBoundary, refl, sym, ap, subst, ◌∙◌, append_assoc, length-append}
-use Rattle.std.proofs.lemmas.Str.{chars-encodes, encodes-append, encodes-chars, scalars-chars, IsCharBoundary-at_seam}
+-- A search goes on behind a run, in sight of the whole text.
+use Rattle.std.proofs.Common.{◌≡◌, ℕ, ◌+◌, true, false, List, ◌∷◌, ◌++◌, length, take, drop, reverse, chars, encode_utf8_all, IsUtf8, IsCharBoundary, refl, sym, ap, subst, ◌∙◌, append_assoc, length-append}
+use mathlib.Core.List.{reverse_aux}
+use Rattle.std.proofs.lemmas.List.{reverse-append, reverse-reverse, take-append-drop}
+use Rattle.std.proofs.lemmas.Str.{chars-encodes, encodes-append, encodes-chars, scalars-chars, IsCharBoundary-at_seam, IsUtf8-drop, IsUtf8-take}
 use Rattle.std.proofs.Math.Seq.{drop-append_seam}
-use Rattle.std.proofs.Math.Utf8.{scalar, scalars}
-use Rattle.cn_core.proofs.Fronts.{and-right}
-use Rattle.cn_find.specs.declared.wanted.Wanted.{Wanted}
-use Rattle.cn_find.specs.Belongs.{belongs}
-use Rattle.cn_find.specs.Spans.{Span, run_of, after_run, spans_after, spans_left}
-use Rattle.cn_find.proofs.Runs.{first-span, next-character, seam-front}
-use Rattle.cn_find.proofs.RunLaws.{whole, scalars-end}
+use Rattle.std.proofs.Math.Utf8.{scalars}
+use Rattle.cn_find.specs.Rule.{Rule}
+use Rattle.cn_find.specs.Spans.{Span, spans_after, text_before, in_front, left_by}
+use Rattle.cn_find.proofs.Parting.{Rest, RestOf, rest-of}
+use Rattle.cn_find.proofs.Runs.{front-onto, seam-front}
+use Rattle.cn_find.proofs.RunLaws.{scalars-both, scalars-end, scalars-start}
 
--- behind the first of these numbers of a text are left those that stand behind it, and a search can
--- begin there
-abbrev IsGoneOn : Wanted → List ℕ → List Span → Type 0
-IsGoneOn wanted text [] = Unit {0}
-IsGoneOn wanted text (first ∷ rest) =
-    (rest ≡ spans_left wanted text (drop (length first.before + length first.text) text))
+-- what is left of a text behind these characters, the nearest first
+left-behind : (rule : Rule) (text front cs : List ℕ)
+    → text ≡ encode_utf8_all (reverse front) ++ encode_utf8_all cs
+    → scalars (reverse front) ≡ true → scalars cs ≡ true
+    → spans_after rule false front cs
+    ≡ left_by rule text (drop (length (encode_utf8_all (reverse front))) text)
+left-behind rule text front cs parts before ok =
+    ap (λ l. spans_after rule false l cs) (sym (reverse-reverse front)
+    ∙ ap reverse (sym (chars-encodes (reverse front) before))
+    ∙ ap in_front (sym (seam-front text (encode_utf8_all (reverse front)) (encode_utf8_all cs) parts)))
+    ∙ ap (spans_after rule false (in_front (text_before text (encode_utf8_all cs))))
+    (sym (chars-encodes cs ok))
+    ∙ ap (left_by rule text) (sym behind) where
+      behind : drop (length (encode_utf8_all (reverse front))) text ≡ encode_utf8_all cs
+      behind = ap (drop (length (encode_utf8_all (reverse front)))) parts
+          ∙ drop-append_seam (encode_utf8_all (reverse front)) (encode_utf8_all cs)
+
+-- the others are left where the first one ends, and a search can begin there
+gone-on : (rule : Rule) (text before rest : List ℕ) (first : Span) (others : List Span)
+    → text ≡ before ++ rest → IsUtf8 before → IsUtf8 rest
+    → left_by rule text rest ≡ first ∷ others
+    → (others ≡ left_by rule text (drop (length first.before + length first.text) text))
     × IsCharBoundary text (length first.before + length first.text)
+gone-on rule text before rest first others cut front_utf8 rest_utf8 e = (
+  r.rest_is ∙ left-behind rule text done r.behind parts (ap scalars turned ∙ passed_all) behind_all
+      ∙ ap (λ n. left_by rule text (drop n text)) lengths,
+  subst (IsCharBoundary text) lengths (IsCharBoundary-at_seam text (encode_utf8_all (reverse done))
+      (encode_utf8_all r.behind) parts (r.behind, (behind_all, refl))),
+) where
+  r : Rest rule (in_front before) (chars rest) first others
+  r = subst (RestOf rule (in_front before) (chars rest))
+      (ap (λ l. spans_after rule false (in_front l) (chars rest)) (sym (seam-front text before rest cut))
+      ∙ e) (rest-of rule (in_front before) (chars rest))
 
--- what is left of a text behind its front
-left-behind : (wanted : Wanted) (text front cs : List ℕ) → text ≡ front ++ encode_utf8_all cs
-    → scalars cs ≡ true
-    → spans_after wanted false front cs ≡ spans_left wanted text (drop (length front) text)
-left-behind wanted text front cs parts ok =
-    let behind : drop (length front) text ≡ encode_utf8_all cs =
-    ap (drop (length front)) parts ∙ drop-append_seam front (encode_utf8_all cs) in
-    rw behind (rw (seam-front text front (encode_utf8_all cs) parts) (rw (chars-encodes cs ok) refl))
+  done : List ℕ
+  done = reverse_aux r.passed (in_front before)
 
-gone-on : (wanted : Wanted) (text before cs : List ℕ) → text ≡ before ++ encode_utf8_all cs
-    → scalars cs ≡ true → IsGoneOn wanted text (spans_after wanted false before cs)
-gone-on wanted text before [] parts ok = tt
-gone-on wanted text before (c ∷ ahead) parts ok =
-    by (belongs wanted c ahead) refl
-    (gone-on wanted text (before ++ encode_utf8 c) ahead
-    (parts ∙ sym (append_assoc before (encode_utf8 c) (encode_utf8_all ahead)))
-    (and-right (scalar c) _ ok)) where
-      run : List ℕ
-      run = encode_utf8_all (run_of wanted (c ∷ ahead))
+  turned : reverse done ≡ chars before ++ r.passed
+  turned = ap reverse (front-onto (in_front before) r.passed)
+      ∙ reverse-append (reverse r.passed) (in_front before)
+      ∙ ap (λ l. l ++ reverse (reverse r.passed)) (reverse-reverse (chars before))
+      ∙ ap (λ l. chars before ++ l) (reverse-reverse r.passed)
 
-      behind : List ℕ
-      behind = after_run wanted (c ∷ ahead)
+  all : scalars (r.passed ++ r.behind) ≡ true
+  all = ap scalars (sym r.parts) ∙ scalars-chars rest rest_utf8
 
-      at_end : text ≡ before ++ run ++ encode_utf8_all behind
-      at_end = parts
-          ∙ ap (λ l. before ++ l) (ap encode_utf8_all (whole wanted (c ∷ ahead))
-          ∙ encodes-append (run_of wanted (c ∷ ahead)) behind)
-          ∙ sym (append_assoc before run (encode_utf8_all behind))
+  behind_all : scalars r.behind ≡ true
+  behind_all = scalars-end r.passed r.behind all
 
-      fine : scalars behind ≡ true
-      fine = scalars-end (run_of wanted (c ∷ ahead)) behind
-          (ap scalars (sym (whole wanted (c ∷ ahead))) ∙ ok)
+  passed_all : scalars (chars before ++ r.passed) ≡ true
+  passed_all = scalars-both (chars before) r.passed (scalars-chars before front_utf8)
+      (scalars-start r.passed r.behind all)
 
-      by : (b : Bool) → belongs wanted c ahead ≡ b
-          → IsGoneOn wanted text (spans_after wanted false (before ++ encode_utf8 c) ahead)
-          → IsGoneOn wanted text (spans_after wanted false before (c ∷ ahead))
-      by true e ih = subst (IsGoneOn wanted text) (sym (first-span wanted before (c ∷ ahead) e)) (
-        rw (sym (length-append before run)) (left-behind wanted text (before ++ run) behind at_end fine),
-        rw (sym (length-append before run))
-            (IsCharBoundary-at_seam text (before ++ run) (encode_utf8_all behind) at_end
-            (behind, (fine, refl))),
-      )
-      by false e ih =
-          subst (IsGoneOn wanted text) (sym (next-character wanted c before ahead e)) ih
+  parts : text ≡ encode_utf8_all (reverse done) ++ encode_utf8_all r.behind
+  parts =
+      cut ∙ ap (λ l. before ++ l) (sym (encodes-chars rest rest_utf8) ∙ ap encode_utf8_all r.parts
+      ∙ encodes-append r.passed r.behind)
+      ∙ sym (append_assoc before (encode_utf8_all r.passed) (encode_utf8_all r.behind))
+      ∙ ap (λ l. l ++ encode_utf8_all r.passed ++ encode_utf8_all r.behind)
+      (sym (encodes-chars before front_utf8))
+      ∙ ap (λ l. l ++ encode_utf8_all r.behind) (sym (encodes-append (chars before) r.passed)
+      ∙ ap encode_utf8_all (sym turned))
 
-pub searches-go_on_in : (wanted : Wanted) (text rest : List ℕ) (first : Span) (others : List Span)
-    (front : List ℕ) → text ≡ front ++ rest → IsUtf8 rest
-    → spans_left wanted text rest ≡ first ∷ others
-    → (others ≡ spans_left wanted text (drop (length first.before + length first.text) text))
+  lengths : length (encode_utf8_all (reverse done)) ≡ length first.before + length first.text
+  lengths = ap length r.before_is ∙ length-append first.before first.text
+
+pub search-goes_on : (rule : Rule) (text : List ℕ) (from : ℕ) (first : Span) (others : List Span)
+    → IsUtf8 text → IsCharBoundary text from → left_by rule text (drop from text) ≡ first ∷ others
+    → (others ≡ left_by rule text (drop (length first.before + length first.text) text))
     × IsCharBoundary text (length first.before + length first.text)
-searches-go_on_in wanted text rest first others front parts ended e =
-    subst (IsGoneOn wanted text)
-    (ap (λ l. spans_after wanted false l (chars rest)) (sym (seam-front text front rest parts)) ∙ e)
-    (gone-on wanted text front (chars rest)
-    (parts ∙ ap (λ l. front ++ l) (sym (encodes-chars rest ended))) (scalars-chars rest ended))
+search-goes_on rule text from first others whole begins e =
+    gone-on rule text (take from text) (drop from text) first others
+    (sym (take-append-drop from text)) (IsUtf8-take text from whole begins)
+    (IsUtf8-drop text from whole begins) e

@@ -1,131 +1,58 @@
--- Steps over the characters of a run, and over a whole run.
-use Rattle.std.proofs.Common.{◌≡◌, inl, inr, ℕ, ◌-◌, ◌<◌, Bool, true, false, List, [], ◌∷◌, ◌++◌, length, take, drop, chars, encode_utf8, encode_utf8_all, IsUtf8, refl, sym, ap, ◌∙◌, arith, append_assoc, append-nil, length-append}
+-- Steps over the characters of a text and of a run, and over a whole run.
+use Rattle.std.proofs.Common.{◌≡◌, ◌⊎◌, inl, inr, ℕ, ◌-◌, ◌<◌, Bool, true, false, not, ◌&&◌, if◌then◌else◌, List, [], ◌∷◌, ◌++◌, length, take, drop, reverse, chars, encode_utf8, encode_utf8_all, IsUtf8, refl, sym, ap, ◌∙◌, arith, append_assoc, append-nil, length-append}
+use mathlib.Core.List.{reverse_aux}
+use Rattle.std.proofs.Math.Bool.{and-false}
 use Rattle.std.proofs.Math.Seq.{take-append_seam, drop-append_seam}
-use Rattle.std.proofs.lemmas.Str.{chars-nil, encodes-append, encodes-chars, IsCharBoundary-at_seam}
+use Rattle.std.proofs.lemmas.Grind.{reverse_onto}
+use Rattle.std.proofs.lemmas.List.{reverse-append, reverse-reverse}
+use Rattle.std.proofs.Math.Utf8.{scalar, scalars}
+use Rattle.std.proofs.lemmas.Str.{chars-nil, chars-append, chars-encodes, scalars-chars, chars_from_encodes, encodes-append, encodes-chars, IsCharBoundary-at_seam}
 use Rattle.std.specs.Str.{IsCharBoundary}
-use Rattle.cn_find.specs.declared.wanted.Wanted.{Wanted}
-use Rattle.cn_find.specs.Belongs.{belongs, is_joined}
-use Rattle.cn_find.specs.Private.{Skipped}
+use Rattle.cn_core.proofs.Fronts.{and-left, both}
+use Rattle.cn_find.specs.Private.{EndsRun, Skipped}
+use Rattle.cn_find.specs.Rule.{Rule, is_joined}
 use Rattle.cn_find.specs.Runs.{first_belongs}
-use Rattle.cn_find.specs.Spans.{run_of, after_run, span_at, spans_after, text_before, spans_left}
+use Rattle.cn_find.specs.Spans.{Span, run_of, after_run, span_at, spans_after, spans_by, text_before, in_front, left_by}
 
 -- from the second character of a run on, what is found is what is found after it
-past-run : (wanted : Wanted) (before cs : List ℕ)
-    → spans_after wanted true before cs
-    ≡ spans_after wanted false (before ++ encode_utf8_all (run_of wanted cs)) (after_run wanted cs)
-past-run wanted before [] = refl
-past-run wanted before (c ∷ ahead) =
-    by (is_joined wanted c ahead) refl (past-run wanted (before ++ encode_utf8 c) ahead) where
-      by : (b : Bool) → is_joined wanted c ahead ≡ b
-          → spans_after wanted true (before ++ encode_utf8 c) ahead
-          ≡ spans_after wanted false
-          (before ++ encode_utf8 c ++ encode_utf8_all (run_of wanted ahead))
-          (after_run wanted ahead)
-          → spans_after wanted true before (c ∷ ahead)
-          ≡ spans_after wanted false (before ++ encode_utf8_all (run_of wanted (c ∷ ahead)))
-          (after_run wanted (c ∷ ahead))
-      by true e ih =
-          rw e (ih ∙ ap (λ l. spans_after wanted false l (after_run wanted ahead))
-          (append_assoc before (encode_utf8 c) (encode_utf8_all (run_of wanted ahead))))
-      by false e ih =
-          rw e (ap (λ l. spans_after wanted false (before ++ l) ahead)
-          (sym (append-nil (encode_utf8 c))))
+past-run : (rule : Rule) (front cs : List ℕ)
+    → spans_after rule true front cs
+    ≡ spans_after rule false (reverse_aux (run_of rule front cs) front) (after_run rule front cs)
+past-run rule front [] = refl
+past-run rule front (c ∷ ahead) =
+    by (is_joined rule front c ahead) refl (past-run rule (c ∷ front) ahead) where
+      by : (b : Bool) → is_joined rule front c ahead ≡ b
+          → spans_after rule true (c ∷ front) ahead
+          ≡ spans_after rule false (reverse_aux (run_of rule (c ∷ front) ahead) (c ∷ front))
+          (after_run rule (c ∷ front) ahead)
+          → spans_after rule true front (c ∷ ahead)
+          ≡ spans_after rule false (reverse_aux (run_of rule front (c ∷ ahead)) front)
+          (after_run rule front (c ∷ ahead))
+      by true e ih = rw e ih
+      by false e ih = rw e refl
 
 -- a run that begins here is found first, and then what stands after it
-pub first-span : (wanted : Wanted) (before cs : List ℕ) → first_belongs wanted cs ≡ true
-    → spans_after wanted false before cs
-    ≡ span_at wanted before cs
-    ∷ spans_after wanted false (before ++ encode_utf8_all (run_of wanted cs)) (after_run wanted cs)
-first-span wanted before [] e = cc
-first-span wanted before (c ∷ ahead) e =
-    rw e (ap (λ l. span_at wanted before (c ∷ ahead) ∷ l) (past-run wanted before (c ∷ ahead)))
+pub first-span : (rule : Rule) (front cs : List ℕ) → first_belongs rule front cs ≡ true
+    → spans_after rule false front cs
+    ≡ span_at rule front cs
+    ∷ spans_after rule false (reverse_aux (run_of rule front cs) front) (after_run rule front cs)
+first-span rule front [] e = cc
+first-span rule front (c ∷ ahead) e =
+    rw e (ap (λ l. span_at rule front (c ∷ ahead) ∷ l) (past-run rule front (c ∷ ahead)))
 
--- a character that belongs to no number is joined to none
-pub not-joined : (wanted : Wanted) (c : ℕ) (ahead : List ℕ) → belongs wanted c ahead ≡ false
-    → is_joined wanted c ahead ≡ false
-not-joined wanted c [] e = refl
-not-joined wanted c (next ∷ after) e = rw e
+-- a character that does not belong is joined to none
+pub not-joined : (rule : Rule) (front : List ℕ) (c : ℕ) (ahead : List ℕ)
+    → rule.belongs front c ahead ≡ false → is_joined rule front c ahead ≡ false
+not-joined rule front c [] e = refl
+not-joined rule front c (next ∷ after) e = rw e
 
 -- and it is passed
-pub next-character : (wanted : Wanted) (c : ℕ) (before ahead : List ℕ)
-    → belongs wanted c ahead ≡ false
-    → spans_after wanted false before (c ∷ ahead)
-    ≡ spans_after wanted false (before ++ encode_utf8 c) ahead
-next-character wanted c before ahead e = rw e (rw (not-joined wanted c ahead e))
+pub next-character : (rule : Rule) (front : List ℕ) (c : ℕ) (ahead : List ℕ)
+    → rule.belongs front c ahead ≡ false
+    → spans_after rule false front (c ∷ ahead) ≡ spans_after rule false (c ∷ front) ahead
+next-character rule front c ahead e = rw e (rw (not-joined rule front c ahead e))
 
--- the bytes of a text, by its first character
-first-bytes : (bytes after : List ℕ) (c : ℕ) → IsUtf8 bytes → IsUtf8 after
-    → chars bytes ≡ c ∷ chars after → bytes ≡ encode_utf8 c ++ after
-first-bytes bytes after c whole ended parts =
-    sym (encodes-chars bytes whole) ∙ ap encode_utf8_all parts
-    ∙ ap (λ l. encode_utf8 c ++ l) (encodes-chars after ended)
-
--- some characters of a run were passed, and these are ahead
-pub record Gathered (wanted : Wanted) (text rest : List ℕ) : Type 0 where
-  pub front : List ℕ
-  pub parts : chars text ≡ front ++ chars rest
-  pub run : run_of wanted (chars text) ≡ front ++ run_of wanted (chars rest)
-  pub ahead : after_run wanted (chars text) ≡ after_run wanted (chars rest)
-
-pub Gathered-none : (wanted : Wanted) (text : List ℕ) → Gathered wanted text text
-Gathered-none wanted text = record { front = []; parts = refl; run = refl; ahead = refl }
-
-pub Gathered-more : (wanted : Wanted) (text rest after : List ℕ) (c : ℕ)
-    → Gathered wanted text rest → chars rest ≡ c ∷ chars after
-    → is_joined wanted c (chars after) ≡ true → Gathered wanted text after
-Gathered-more wanted text rest after c g parts e = record {
-  front = g.front ++ c ∷ [];
-  parts =
-      g.parts ∙ ap (λ l. g.front ++ l) parts ∙ sym (append_assoc g.front (c ∷ []) (chars after));
-  run =
-      g.run ∙ ap (λ l. g.front ++ l) (ap (run_of wanted) parts ∙ runs)
-      ∙ sym (append_assoc g.front (c ∷ []) (run_of wanted (chars after)));
-  ahead = g.ahead ∙ ap (after_run wanted) parts ∙ aheads;
-} where
-  runs : run_of wanted (c ∷ chars after) ≡ c ∷ run_of wanted (chars after)
-  runs = rw e
-
-  aheads : after_run wanted (c ∷ chars after) ≡ after_run wanted (chars after)
-  aheads = rw e
-
--- the run ends here
-pub record IsEnded (wanted : Wanted) (text rest : List ℕ) : Type 0 where
-  pub bytes : text ≡ encode_utf8_all (run_of wanted (chars text)) ++ rest
-  pub ahead : after_run wanted (chars text) ≡ chars rest
-
-ended-by : (wanted : Wanted) (text rest front : List ℕ) → chars text ≡ front ++ chars rest
-    → run_of wanted (chars text) ≡ front → after_run wanted (chars text) ≡ chars rest
-    → IsUtf8 text → IsUtf8 rest → IsEnded wanted text rest
-ended-by wanted text rest front parts run after whole ended = record {
-  bytes =
-      sym (encodes-chars text whole) ∙ ap encode_utf8_all parts ∙ encodes-append front (chars rest)
-      ∙ ap (λ l. encode_utf8_all front ++ l) (encodes-chars rest ended)
-      ∙ ap (λ l. encode_utf8_all l ++ rest) (sym run);
-  ahead = after;
-}
-
-pub IsEnded-at : (wanted : Wanted) (text rest after : List ℕ) (c : ℕ) → Gathered wanted text rest
-    → chars rest ≡ c ∷ chars after → is_joined wanted c (chars after) ≡ false
-    → IsUtf8 text → IsUtf8 after → IsEnded wanted text after
-IsEnded-at wanted text rest after c g parts e whole ended =
-    ended-by wanted text after (g.front ++ c ∷ [])
-    (g.parts ∙ ap (λ l. g.front ++ l) parts ∙ sym (append_assoc g.front (c ∷ []) (chars after)))
-    (g.run ∙ ap (λ l. g.front ++ l) (ap (run_of wanted) parts ∙ runs))
-    (g.ahead ∙ ap (after_run wanted) parts ∙ aheads) whole ended where
-      runs : run_of wanted (c ∷ chars after) ≡ c ∷ []
-      runs = rw e
-
-      aheads : after_run wanted (c ∷ chars after) ≡ chars after
-      aheads = rw e
-
-pub IsEnded-none : (wanted : Wanted) (text rest : List ℕ) → Gathered wanted text rest
-    → chars rest ≡ [] → IsUtf8 text → IsUtf8 rest → IsEnded wanted text rest
-IsEnded-none wanted text rest g none whole ended =
-    ended-by wanted text rest g.front g.parts
-    (g.run ∙ ap (λ l. g.front ++ run_of wanted l) none ∙ append-nil g.front)
-    (g.ahead ∙ ap (after_run wanted) none ∙ sym none) whole ended
-
--- where the text is cut
+-- where a text is cut
 seam-length : (whole front rest : List ℕ) → whole ≡ front ++ rest
     → length whole - length rest ≡ length front
 seam-length whole front rest e = let all =
@@ -146,128 +73,305 @@ pub seam-boundary : (whole front rest : List ℕ) → whole ≡ front ++ rest �
 seam-boundary whole front rest e ended =
     rw (seam-length whole front rest e) (IsCharBoundary-at_seam whole front rest e ended)
 
--- characters that belong to no number were passed, and these are ahead
-pub record Skipping (wanted : Wanted) (text ahead : List ℕ) : Type 0 where
+-- this is an end of the text
+abbrev pub IsEnd : List ℕ → List ℕ → Type 0
+IsEnd whole rest = text_before whole rest ++ rest ≡ whole
+
+pub IsEnd-at : (whole front rest : List ℕ) → whole ≡ front ++ rest → IsEnd whole rest
+IsEnd-at whole front rest e = ap (λ l. l ++ rest) (seam-front whole front rest e) ∙ sym e
+
+pub end-boundary : (whole rest : List ℕ) → IsEnd whole rest → IsUtf8 rest
+    → IsCharBoundary whole (length whole - length rest)
+end-boundary whole rest is_end ended =
+    seam-boundary whole (text_before whole rest) rest (sym is_end) ended
+
+-- the bytes of a text, by its first character
+first-bytes : (bytes after : List ℕ) (c : ℕ) → IsUtf8 bytes → IsUtf8 after
+    → chars bytes ≡ c ∷ chars after → bytes ≡ encode_utf8 c ++ after
+first-bytes bytes after c whole ended parts =
+    sym (encodes-chars bytes whole) ∙ ap encode_utf8_all parts
+    ∙ ap (λ l. encode_utf8 c ++ l) (encodes-chars after ended)
+
+-- the first character of a text, by itself
+one-char : (bytes after : List ℕ) (c : ℕ) → IsUtf8 bytes → chars bytes ≡ c ∷ chars after
+    → chars (encode_utf8 c) ≡ c ∷ []
+one-char bytes after c whole parts =
+    let all : scalars (c ∷ chars after) ≡ true = ap scalars (sym parts) ∙ scalars-chars bytes whole in
+    ap chars (sym (append-nil (encode_utf8 c)))
+    ∙ chars-encodes (c ∷ []) (both _ _ (and-left (scalar c) _ all) refl)
+
+-- a character of the text was passed, with `before` in front of it
+pub record Passed (whole before after : List ℕ) (c : ℕ) : Type 0 where
+  pub ends : IsEnd whole after
+  pub front : in_front (text_before whole after) ≡ c ∷ in_front before
+
+pub Passed-of : (whole before ahead after : List ℕ) (c : ℕ) → whole ≡ before ++ ahead
+    → IsUtf8 before → IsUtf8 ahead → IsUtf8 after → chars ahead ≡ c ∷ chars after
+    → Passed whole before after c
+Passed-of whole before ahead after c cut front whole_ahead ended parts = record {
+  ends = IsEnd-at whole (before ++ encode_utf8 c) after at;
+  front =
+      ap in_front (seam-front whole (before ++ encode_utf8 c) after at)
+      ∙ ap reverse (chars-append before (encode_utf8 c) front
+      ∙ ap (λ l. chars before ++ l) (one-char ahead after c whole_ahead parts))
+      ∙ reverse-append (chars before) (c ∷ []);
+} where
+  at : whole ≡ before ++ encode_utf8 c ++ after
+  at = cut ∙ ap (λ l. before ++ l) (first-bytes ahead after c whole_ahead ended parts)
+      ∙ sym (append_assoc before (encode_utf8 c) after)
+
+-- characters that do not belong were passed, and these are ahead
+pub record Skipping (rule : Rule) (whole rest ahead : List ℕ) : Type 0 where
+  pub ends : IsEnd whole ahead
+  pub same : left_by rule whole rest ≡ left_by rule whole ahead
+
+pub Skipping-none : (rule : Rule) (whole rest : List ℕ) → IsEnd whole rest
+    → Skipping rule whole rest rest
+Skipping-none rule whole rest is_end = record { ends = is_end; same = refl }
+
+pub Skipping-more : (rule : Rule) (whole rest ahead after : List ℕ) (c : ℕ)
+    → Skipping rule whole rest ahead → IsUtf8 (text_before whole ahead) → IsUtf8 ahead
+    → IsUtf8 after → chars ahead ≡ c ∷ chars after
+    → rule.belongs (in_front (text_before whole ahead)) c (chars after) ≡ false
+    → Skipping rule whole rest after
+Skipping-more rule whole rest ahead after c s front here ended parts e = record {
+  ends = passed.ends;
+  same =
+      s.same ∙ ap (spans_after rule false (in_front (text_before whole ahead))) parts
+      ∙ next-character rule (in_front (text_before whole ahead)) c (chars after) e
+      ∙ ap (λ l. spans_after rule false l (chars after)) (sym passed.front);
+} where
+  passed : Passed whole (text_before whole ahead) after c
+  passed = Passed-of whole (text_before whole ahead) ahead after c (sym s.ends) front here ended
+      parts
+
+pub Skipped-at : (rule : Rule) (whole rest ahead after : List ℕ) (c : ℕ)
+    → Skipping rule whole rest ahead → chars ahead ≡ c ∷ chars after
+    → rule.belongs (in_front (text_before whole ahead)) c (chars after) ≡ true
+    → Skipped rule whole rest ahead
+Skipped-at rule whole rest ahead after c s parts e = record {
+  parts = s.ends;
+  same = s.same;
+  stops = inr (ap (first_belongs rule (in_front (text_before whole ahead))) parts ∙ e);
+}
+
+pub Skipped-end : (rule : Rule) (whole rest ahead : List ℕ) → Skipping rule whole rest ahead
+    → chars ahead ≡ [] → IsUtf8 ahead → Skipped rule whole rest ahead
+Skipped-end rule whole rest ahead s none here = record {
+  parts = s.ends;
+  same = s.same;
+  stops = inl (sym (encodes-chars ahead here) ∙ ap encode_utf8_all none);
+}
+
+-- the first characters of a run were passed, `last` the last of them, and these are behind it
+pub record Gathered (rule : Rule) (whole before ahead rest : List ℕ) (last : ℕ) : Type 0 where
+  pub passed : List ℕ
   pub front : List ℕ
-  pub parts : text ≡ front ++ ahead
-  pub same : (before : List ℕ) → spans_after wanted false before (chars text)
-      ≡ spans_after wanted false (before ++ front) (chars ahead)
+  pub parts : chars ahead ≡ passed ++ last ∷ chars rest
+  pub run : run_of rule (in_front before) (chars ahead)
+      ≡ passed ++ run_of rule front (last ∷ chars rest)
+  pub after : after_run rule (in_front before) (chars ahead)
+      ≡ after_run rule front (last ∷ chars rest)
+  pub belongs : rule.belongs front last (chars rest) ≡ true
+  pub at : in_front (text_before whole rest) ≡ last ∷ front
+  pub ends : IsEnd whole rest
 
-pub Skipping-none : (wanted : Wanted) (text : List ℕ) → Skipping wanted text text
-Skipping-none wanted text = record {
-  front = [];
-  parts = refl;
-  same = λ before. ap (λ l. spans_after wanted false l (chars text)) (sym (append-nil before));
-}
+pub Gathered-first : (rule : Rule) (whole before ahead rest : List ℕ) (first : ℕ)
+    → whole ≡ before ++ ahead → IsUtf8 before → IsUtf8 ahead → IsUtf8 rest
+    → chars ahead ≡ first ∷ chars rest
+    → first_belongs rule (in_front before) (chars ahead) ≡ true
+    → Gathered rule whole before ahead rest first
+Gathered-first rule whole before ahead rest first cut front here ended parts begins = record {
+  passed = [];
+  front = in_front before;
+  parts = parts;
+  run = ap (run_of rule (in_front before)) parts;
+  after = ap (after_run rule (in_front before)) parts;
+  belongs = ap (first_belongs rule (in_front before)) (sym parts) ∙ begins;
+  at = step.front;
+  ends = step.ends;
+} where
+  step : Passed whole before rest first
+  step = Passed-of whole before ahead rest first cut front here ended parts
 
-pub Skipping-more : (wanted : Wanted) (text ahead after : List ℕ) (c : ℕ)
-    → Skipping wanted text ahead → chars ahead ≡ c ∷ chars after → belongs wanted c (chars after)
-    ≡ false → IsUtf8 ahead → IsUtf8 after → Skipping wanted text after
-Skipping-more wanted text ahead after c s parts e whole ended = record {
-  front = s.front ++ encode_utf8 c;
-  parts = s.parts ∙ ap (λ l. s.front ++ l) (first-bytes ahead after c whole ended parts)
-      ∙ sym (append_assoc s.front (encode_utf8 c) after);
-  same = λ before.
-      s.same before ∙ ap (spans_after wanted false (before ++ s.front)) parts
-      ∙ next-character wanted c (before ++ s.front) (chars after) e
-      ∙ ap (λ l. spans_after wanted false l (chars after))
-      (append_assoc before s.front (encode_utf8 c));
-}
+-- whether the last character and the next one are joined
+joined-is : (rule : Rule) (front : List ℕ) (last next : ℕ) (behind : List ℕ) (b p : Bool)
+    → rule.belongs front last (next ∷ behind) ≡ true
+    → rule.belongs (last ∷ front) next behind ≡ b → rule.is_parted last next ≡ p
+    → is_joined rule front last (next ∷ behind) ≡ (b && not p)
+joined-is rule front last next behind b p one two three = rw (one, two, three)
 
-pub Skipped-at : (wanted : Wanted) (text ahead after : List ℕ) (c : ℕ) → Skipping wanted text ahead
-    → chars ahead ≡ c ∷ chars after → belongs wanted c (chars after) ≡ true
-    → Skipped wanted text ahead
-Skipped-at wanted text ahead after c s parts e = record {
-  front = s.front;
-  parts = s.parts;
-  same = s.same;
-  stops = inr (ap (first_belongs wanted) parts ∙ e);
-}
-
-pub Skipped-end : (wanted : Wanted) (text ahead : List ℕ) → Skipping wanted text ahead
-    → chars ahead ≡ [] → IsUtf8 ahead → Skipped wanted text ahead
-Skipped-end wanted text ahead s none whole = record {
-  front = s.front;
-  parts = s.parts;
-  same = s.same;
-  stops = inl (sym (encodes-chars ahead whole) ∙ ap encode_utf8_all none);
-}
-
--- a run is found, and what stands after it
-first-found : (wanted : Wanted) (before ahead text after : List ℕ)
-    → first_belongs wanted (chars ahead) ≡ true
-    → text ≡ encode_utf8_all (run_of wanted (chars ahead))
-    → chars after ≡ after_run wanted (chars ahead) → IsUtf8 after
-    → spans_after wanted false before (chars ahead)
-    ≡ record { before = before; text = text; after = after }
-    ∷ spans_after wanted false (before ++ text) (chars after)
-first-found wanted before ahead text after begins run behind ended =
-    first-span wanted before (chars ahead) begins
-    ∙ ap (λ t. record {
-      before = before;
-      text = t;
+pub Gathered-more : (rule : Rule) (whole before ahead rest behind : List ℕ) (last next : ℕ)
+    → Gathered rule whole before ahead rest last → IsUtf8 (text_before whole rest) → IsUtf8 rest
+    → IsUtf8 behind → chars rest ≡ next ∷ chars behind
+    → rule.belongs (in_front (text_before whole rest)) next (chars behind) ≡ true
+    → rule.is_parted last next ≡ false → Gathered rule whole before ahead behind next
+Gathered-more rule whole before ahead rest behind last next g front here ended parts e apart =
+    record {
+      passed = g.passed ++ last ∷ [];
+      front = last ∷ g.front;
+      parts =
+          g.parts ∙ ap (λ l. g.passed ++ last ∷ l) parts
+          ∙ sym (append_assoc g.passed (last ∷ []) (next ∷ chars behind));
+      run =
+          g.run ∙ ap (λ l. g.passed ++ run_of rule g.front (last ∷ l)) parts
+          ∙ ap (λ b. g.passed ++ last ∷ (if b then run_of rule (last ∷ g.front)
+          (next ∷ chars behind) else [])) joined
+          ∙ sym (append_assoc g.passed (last ∷ [])
+          (run_of rule (last ∷ g.front) (next ∷ chars behind)));
       after =
-          encode_utf8_all (after_run wanted (chars ahead));
-    }
-    ∷ spans_after wanted false (before ++ t) (after_run wanted (chars ahead))) (sym run)
-    ∙ ap (λ l. record { before = before; text = text; after = encode_utf8_all l }
-    ∷ spans_after wanted false (before ++ text) l) (sym behind)
-    ∙ ap (λ l. record { before = before; text = text; after = l }
-    ∷ spans_after wanted false (before ++ text) (chars after)) (encodes-chars after ended)
+          g.after ∙ ap (λ l. after_run rule g.front (last ∷ l)) parts
+          ∙ ap (λ b. if b then after_run rule (last ∷ g.front) (next ∷ chars behind)
+          else next ∷ chars behind) joined;
+      belongs = next_belongs;
+      at = step.front ∙ ap (λ l. next ∷ l) g.at;
+      ends = step.ends;
+    } where
+      step : Passed whole (text_before whole rest) behind next
+      step = Passed-of whole (text_before whole rest) rest behind next (sym g.ends) front here ended
+          parts
+
+      next_belongs : rule.belongs (last ∷ g.front) next (chars behind) ≡ true
+      next_belongs = ap (λ l. rule.belongs l next (chars behind)) (sym g.at) ∙ e
+
+      joined : is_joined rule g.front last (next ∷ chars behind) ≡ true
+      joined = joined-is rule g.front last next (chars behind) true false
+          (ap (rule.belongs g.front last) (sym parts) ∙ g.belongs) next_belongs apart
+
+-- the run ends here
+ended-by : (rule : Rule) (whole before ahead rest : List ℕ) (last : ℕ)
+    (g : Gathered rule whole before ahead rest last)
+    → is_joined rule g.front last (chars rest) ≡ false → IsUtf8 ahead → IsUtf8 rest
+    → EndsRun rule before ahead rest
+ended-by rule whole before ahead rest last g apart here behind = record {
+  bytes =
+      sym (encodes-chars ahead here) ∙ ap encode_utf8_all (g.parts
+      ∙ sym (append_assoc g.passed (last ∷ []) (chars rest)))
+      ∙ encodes-append (g.passed ++ last ∷ []) (chars rest)
+      ∙ ap (λ l. encode_utf8_all (g.passed ++ last ∷ []) ++ l) (encodes-chars rest behind)
+      ∙ ap (λ l. encode_utf8_all l ++ rest) (sym run);
+  after =
+      g.after ∙ ap (λ b. if b then after_run rule (last ∷ g.front) (chars rest)
+      else chars rest) apart;
+} where
+  run : run_of rule (in_front before) (chars ahead) ≡ g.passed ++ last ∷ []
+  run = g.run ∙ ap (λ b. g.passed ++ last ∷ (if b then run_of rule (last ∷ g.front) (chars rest)
+      else [])) apart
+
+pub EndsRun-at : (rule : Rule) (whole before ahead rest behind : List ℕ) (last next : ℕ)
+    → Gathered rule whole before ahead rest last → chars rest ≡ next ∷ chars behind
+    → (rule.belongs (in_front (text_before whole rest)) next (chars behind) ≡ false)
+    ⊎ (rule.is_parted last next ≡ true) → IsUtf8 ahead → IsUtf8 rest
+    → EndsRun rule before ahead rest
+EndsRun-at rule whole before ahead rest behind last next g parts why here ended_here =
+    ended-by rule whole before ahead rest last g
+    (ap (is_joined rule g.front last) parts ∙ elim why [
+      | inl none ↦ joined-is rule g.front last next (chars behind) false
+          (rule.is_parted last next) belongs
+          (ap (λ l. rule.belongs l next (chars behind)) (sym g.at) ∙ none) refl
+      | inr apart ↦ joined-is rule g.front last next (chars behind)
+          (rule.belongs (last ∷ g.front) next (chars behind)) true belongs refl apart
+          ∙ and-false _
+    ]) here ended_here where
+      belongs : rule.belongs g.front last (next ∷ chars behind) ≡ true
+      belongs = ap (rule.belongs g.front last) (sym parts) ∙ g.belongs
+
+pub EndsRun-none : (rule : Rule) (whole before ahead rest : List ℕ) (last : ℕ)
+    → Gathered rule whole before ahead rest last → chars rest ≡ [] → IsUtf8 ahead → IsUtf8 rest
+    → EndsRun rule before ahead rest
+EndsRun-none rule whole before ahead rest last g none here ended_here =
+    ended-by rule whole before ahead rest last g (ap (is_joined rule g.front last) none) here
+    ended_here
 
 -- where the next run stands in the whole text
-pub record IsNext (wanted : Wanted) (whole rest ahead text after : List ℕ) : Type 0 where
-  pub parts : spans_left wanted whole rest
-      ≡ record { before = text_before whole ahead; text = text; after = after }
-      ∷ spans_left wanted whole after
-  pub ends : text_before whole after ++ after ≡ whole
+pub record IsNext (rule : Rule) (whole rest before text after : List ℕ) : Type 0 where
+  pub parts : left_by rule whole rest
+      ≡ record { before = before; text = text; after = after } ∷ left_by rule whole after
+  pub ends : IsEnd whole after
 
-pub IsNext-found : (wanted : Wanted) (whole rest ahead text after : List ℕ)
-    → text_before whole rest ++ rest ≡ whole → Skipped wanted rest ahead → 0 < length ahead
-    → text ≡ encode_utf8_all (run_of wanted (chars ahead))
-    → chars after ≡ after_run wanted (chars ahead) → ahead ≡ text ++ after → IsUtf8 after
-    → IsNext wanted whole rest ahead text after
-IsNext-found wanted whole rest ahead text after is_end s some run behind cut ended = record {
+-- the text up to the end of a run has the characters of the run nearest
+pub front-onto : (front run : List ℕ) → reverse_aux run front ≡ reverse run ++ front
+front-onto front [] = refl
+front-onto front (c ∷ run) =
+    reverse_onto run c front ∙ sym (append_assoc (reverse run) (c ∷ []) front)
+    ∙ ap (λ l. l ++ front) (sym (reverse_onto run c []))
+
+pub IsNext-found : (rule : Rule) (whole rest before ahead text after : List ℕ)
+    → Skipped rule whole rest ahead → 0 < length ahead → before ≡ text_before whole ahead
+    → IsUtf8 before → EndsRun rule before ahead after → text ≡ text_before ahead after
+    → IsUtf8 text → IsUtf8 after → IsNext rule whole rest before text after
+IsNext-found rule whole rest before ahead text after s some at utf8 e cut whole_text ended = record {
   parts =
-      s.same (text_before whole rest) ∙ first-found wanted (text_before whole rest ++ s.front)
-      ahead text after begins run behind ended
-      ∙ ap (λ l. record { before = l; text = text; after = after }
-      ∷ spans_after wanted false (text_before whole rest ++ s.front ++ text)
-      (chars after)) (sym (seam-front whole _ ahead at_ahead))
-      ∙ ap (λ l. record { before = text_before whole ahead; text = text; after = after }
-      ∷ spans_after wanted false l (chars after)) (sym (seam-front whole _ after at_after));
-  ends = ap (λ l. l ++ after) (seam-front whole _ after at_after) ∙ sym at_after;
+      s.same ∙ ap (λ l. spans_after rule false (in_front l) (chars ahead)) (sym at)
+      ∙ first-span rule front (chars ahead) begins
+      ∙ ap (λ l. record {
+        before = l;
+        text = encode_utf8_all (run_of rule front (chars ahead));
+        after = encode_utf8_all (after_run rule front (chars ahead));
+      } ∷ others) same_before
+      ∙ ap (λ l. record {
+        before = before;
+        text = l;
+        after = encode_utf8_all (after_run rule front (chars ahead));
+      } ∷ others) (sym run)
+      ∙ ap (λ l. record { before = before; text = text; after = encode_utf8_all l }
+      ∷ spans_after rule false (reverse_aux (run_of rule front (chars ahead)) front) l)
+      e.after
+      ∙ ap (λ l. record { before = before; text = text; after = l }
+      ∷ spans_after rule false (reverse_aux (run_of rule front (chars ahead)) front) (chars after))
+      (encodes-chars after ended)
+      ∙ ap (λ l. record { before = before; text = text; after = after }
+      ∷ spans_after rule false l (chars after)) at_end;
+  ends = IsEnd-at whole (before ++ text) after at_after;
 } where
-  begins : first_belongs wanted (chars ahead) ≡ true
+  front : List ℕ
+  front = in_front before
+
+  run : text ≡ encode_utf8_all (run_of rule front (chars ahead))
+  run = cut ∙ seam-front ahead (encode_utf8_all (run_of rule front (chars ahead))) after e.bytes
+
+  others : List Span
+  others = spans_after rule false (reverse_aux (run_of rule front (chars ahead)) front)
+      (after_run rule front (chars ahead))
+
+  same_before : encode_utf8_all (reverse front) ≡ before
+  same_before = ap encode_utf8_all (reverse-reverse (chars before))
+      ∙ encodes-chars before utf8
+
+  at_after : whole ≡ before ++ text ++ after
+  at_after = sym s.parts ∙ ap (λ l. l ++ ahead) (sym at) ∙ ap (λ l. before ++ l) (e.bytes
+      ∙ ap (λ l. l ++ after) (sym run))
+      ∙ sym (append_assoc before text after)
+
+  at_end : reverse_aux (run_of rule front (chars ahead)) front
+      ≡ in_front (text_before whole after)
+  at_end =
+      ap (λ l. reverse_aux l front)
+      (chars_from_encodes (run_of rule front (chars ahead)) text whole_text (sym run))
+      ∙ front-onto front (chars text)
+      ∙ sym (reverse-append (chars before) (chars text))
+      ∙ ap reverse (sym (chars-append before text utf8))
+      ∙ ap in_front (sym (seam-front whole (before ++ text) after at_after))
+
+  begins : first_belongs rule front (chars ahead) ≡ true
   begins = elim s.stops [
     | inl none ↦ absurd (let n = ap length none in omega (arith, n, some))
-    | inr here ↦ here
+    | inr here ↦ ap (λ l. first_belongs rule (in_front l) (chars ahead)) at ∙ here
   ]
 
-  at_ahead : whole ≡ text_before whole rest ++ s.front ++ ahead
-  at_ahead = sym is_end ∙ ap (λ l. text_before whole rest ++ l) s.parts
-      ∙ sym (append_assoc (text_before whole rest) s.front ahead)
-
-  at_after : whole ≡ text_before whole rest ++ s.front ++ text ++ after
-  at_after = at_ahead ∙ ap (λ l. text_before whole rest ++ s.front ++ l) cut
-      ∙ sym (append_assoc (text_before whole rest ++ s.front) text after)
-
-pub next-boundary : (wanted : Wanted) (whole rest ahead : List ℕ)
-    → text_before whole rest ++ rest ≡ whole → Skipped wanted rest ahead → IsUtf8 ahead
-    → IsCharBoundary whole (length whole - length ahead)
-next-boundary wanted whole rest ahead is_end s ended =
-    seam-boundary whole (text_before whole rest ++ s.front) ahead
-    (sym is_end ∙ ap (λ l. text_before whole rest ++ l) s.parts
-    ∙ sym (append_assoc (text_before whole rest) s.front ahead)) ended
-
-pub none-next : (wanted : Wanted) (whole rest ahead : List ℕ) → Skipped wanted rest ahead
-    → length ahead ≡ 0 → spans_left wanted whole rest ≡ []
-none-next wanted whole rest ahead s none = s.same (text_before whole rest) ∙ by ahead none where
-  by : (ahead : List ℕ) → length ahead ≡ 0
-      → spans_after wanted false (text_before whole rest ++ s.front) (chars ahead) ≡ []
-  by [] none = ap (spans_after wanted false (text_before whole rest ++ s.front)) chars-nil
+pub none-next : (rule : Rule) (whole rest ahead : List ℕ) → Skipped rule whole rest ahead
+    → length ahead ≡ 0 → left_by rule whole rest ≡ []
+none-next rule whole rest ahead s none = s.same ∙ by ahead none where
+  by : (ahead : List ℕ) → length ahead ≡ 0 → left_by rule whole ahead ≡ []
+  by [] none = ap (spans_after rule false (in_front (text_before whole []))) chars-nil
   by (b ∷ ahead) none = absurd (omega (arith, none))
 
 -- nothing is left at the end
-pub none_left : (wanted : Wanted) (whole : List ℕ) → spans_left wanted whole [] ≡ []
-none_left wanted whole = ap (spans_after wanted false (text_before whole [])) chars-nil
+pub none_left : (rule : Rule) (whole : List ℕ) → left_by rule whole [] ≡ []
+none_left rule whole = ap (spans_after rule false (in_front (text_before whole []))) chars-nil
+
+-- and all is left at the start
+pub all-left : (rule : Rule) (whole : List ℕ) → left_by rule whole whole ≡ spans_by rule whole
+all-left rule whole =
+    ap (λ l. spans_after rule false l (chars whole))
+    (ap in_front (seam-front whole [] whole refl) ∙ ap reverse chars-nil)

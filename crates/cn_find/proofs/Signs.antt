@@ -1,5 +1,5 @@
 -- Of the characters of a run 正 alone is a sign, and none is white space.
-use Rattle.std.proofs.Common.{◌≡◌, ◌≢◌, ℕ, Bool, true, false, not, ◌&&◌, List, ◌∷◌, ◌++◌, filter, chars, Option, Some, None, IsUtf8, refl, sym, ap, ◌∙◌}
+use Rattle.std.proofs.Common.{◌≡◌, ◌≢◌, ℕ, Bool, true, false, not, ◌&&◌, List, ◌∷◌, ◌++◌, filter, reverse, chars, Option, Some, None, IsUtf8, refl, sym, ap, ◌∙◌}
 use Rattle.std.specs.Char.{is_whitespace, is_not_whitespace}
 use Rattle.std.specs.List.{Contains, list_all}
 use Rattle.std.proofs.lemmas.Str.{chars_from_encodes}
@@ -12,7 +12,8 @@ use Rattle.cn_core.specs.Text.{text_of}
 use Rattle.cn_core.proofs.Fronts.{and-left, and-right}
 use Rattle.cn_judge.proofs.Walking.{outside-mark}
 use Rattle.cn_find.specs.declared.wanted.Wanted.{Wanted}
-use Rattle.cn_find.specs.Belongs.{belongs, is_wanted, is_wanted_mark}
+use Rattle.cn_find.specs.Belongs.{belongs, is_numeral, is_wanted, is_wanted_mark}
+use Rattle.cn_find.specs.Rule.{number_rule}
 use Rattle.cn_find.specs.Runs.{each_belongs}
 use Rattle.cn_find.specs.Spans.{Span, spans}
 use Rattle.cn_find.proofs.RunLaws.{span-is_run}
@@ -33,7 +34,8 @@ all_units = refl
 belongs-wanted : (wanted : Wanted) (c : ℕ) (after : List ℕ) → belongs wanted c after ≡ true
     → is_wanted wanted c ≡ true
 unfolding belongs
-belongs-wanted wanted c after h = and-left (is_wanted wanted c) _ h
+belongs-wanted wanted c after h =
+    and-left (is_wanted wanted c) _ (and-left (is_numeral wanted c after) _ h)
 
 belongs-dark : (wanted : Wanted) (c : ℕ) (after : List ℕ) → belongs wanted c after ≡ true
     → is_dark c ≡ true
@@ -67,8 +69,8 @@ pub no-other_sign : (wanted : Wanted) (bytes : List ℕ) (span : Span) (c : ℕ)
 no-other_sign wanted bytes span c rest found ended first not_plus =
     let r = span-is_run wanted bytes span found in
     let run : r.run ≡ c ∷ rest = chars_from_encodes r.run span.text ended (sym r.text_is) ∙ first in
-    let each : each_belongs wanted (c ∷ rest) r.right ≡ true =
-    ap (λ l. each_belongs wanted l r.right) (sym run) ∙ r.each in
+    let each : each_belongs (number_rule wanted) (reverse r.left) (c ∷ rest) r.right ≡ true =
+    ap (λ l. each_belongs (number_rule wanted) (reverse r.left) l r.right) (sym run) ∙ r.each in
     ap (λ l. leading_sign true (filter is_not_whitespace l)) first
     ∙ dark-first c rest (belongs-dark wanted c (rest ++ r.right)
     (and-left (belongs wanted c (rest ++ r.right)) _ each)) not_plus

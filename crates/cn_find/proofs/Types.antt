@@ -16,7 +16,7 @@ no-sign : (signed : Bool) (text : List ℕ) → leading_sign true text ≡ None
 no-sign true text h = h
 no-sign false text h = refl
 
-number-is : (kind : Kind) (number answer : ℤ) → Ok answer ≡ typed_number kind number
+pub number-is : (kind : Kind) (number answer : ℤ) → Ok answer ≡ typed_number kind number
     → number ≡ answer
 number-is kind number answer h = grind (arith, ints, h)
 

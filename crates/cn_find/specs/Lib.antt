@@ -1,7 +1,10 @@
 pub mod Belongs
+pub mod Expressions
+pub mod Flags
 pub mod Number
 pub mod Parting
 pub mod Plain
 pub mod Private
+pub mod Rule
 pub mod Runs
 pub mod Spans

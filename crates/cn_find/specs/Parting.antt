@@ -1,5 +1,9 @@
 -- A run in a text that stands inside another one.
-use Rattle.std.specs.Prelude.{ℕ, List, ◌++◌}
+use Rattle.std.specs.Prelude.{◌≡◌, ◌⊎◌, ◌||◌, ℕ, Bool, List, ◌++◌, chars, codes, is_some, IsTrue}
+use Rattle.std.specs.Char.{char_set_contains, encode_utf8}
+use Rattle.cn_core.specs.Characters.{digit_of}
+use Rattle.cn_find.specs.Expressions.{binds_minus, follows_one, is_extra, is_figure, precedes_minus}
+use Rattle.cn_find.specs.Flags.{is_link, stands_alone}
 use Rattle.cn_find.specs.Spans.{Span}
 
 -- the same run, with this text in front of its text
@@ -11,3 +15,26 @@ with_text_before more span =
 abbrev pub with_text_after : List ℕ → Span → Span
 with_text_after more span =
     record { before = span.before; text = span.text; after = span.after ++ more }
+
+-- the character is one of those by which a word is known that is counted in 兆 as mega
+unfoldable pub is_of_measure : ℕ → Bool
+is_of_measure c =
+    char_set_contains (codes "瓦赫帕焦伏乏字节節比特电電子宽寬带帶頻位数數欧歐元") c
+
+-- the character is one that the rule of expressions names: a digit, one that belongs to expressions
+-- alone, one of a time, or a neighbour of 兆, 点, 负 or -
+unfoldable pub is_named : ℕ → Bool
+is_named c =
+    is_figure c || is_some (digit_of c) || is_extra c || char_set_contains (codes "刻十") c
+    || is_of_measure c || follows_one c || precedes_minus c || binds_minus c
+
+-- the second run begins where the first one ends, or behind a link there
+abbrev pub Meet : Span → Span → Type 0
+Meet first second =
+    (second.before ≡ first.before ++ first.text)
+    ⊎ ((c : ℕ) × IsTrue (is_link c)
+    × (second.before ≡ first.before ++ first.text ++ encode_utf8 c))
+
+-- the run stands alone in its text
+abbrev pub is_alone : Span → Bool
+is_alone span = stands_alone (chars span.before) (chars span.after)

@@ -1,9 +1,10 @@
--- The runs of a text: its longest stretches of characters that belong to one number.
-use Rattle.std.specs.Prelude.{ℕ, ◌-◌, Bool, false, not, ◌&&◌, List, [], ◌∷◌, ◌++◌, length, take, chars, encode_utf8_all, if◌then◌else◌}
-use Rattle.std.specs.Char.{encode_utf8}
+-- The runs of a text: its longest stretches of characters that belong to one number, or to one
+-- expression.
+use Rattle.std.specs.Prelude.{ℕ, ◌-◌, Bool, false, not, ◌&&◌, List, [], ◌∷◌, ◌++◌, length, take, reverse, chars, encode_utf8_all, if◌then◌else◌}
 use Rattle.cn_find.specs.declared.found.Found.{Found}
 use Rattle.cn_find.specs.declared.wanted.Wanted.{Wanted}
-use Rattle.cn_find.specs.Belongs.{belongs, is_joined}
+use Rattle.cn_find.specs.Expressions.{expression_rule}
+use Rattle.cn_find.specs.Rule.{Rule, number_rule, is_joined}
 
 -- a run in its text, by their bytes: what stands before it, the run, and what stands after it
 pub record Span : Type 0 where
@@ -11,41 +12,51 @@ pub record Span : Type 0 where
   pub text : List ℕ
   pub after : List ℕ
 
--- the first character, and those that are joined to the one before them
-abbrev pub run_of : Wanted → List ℕ → List ℕ
-run_of wanted [] = []
-run_of wanted (c ∷ ahead) = c ∷ (if is_joined wanted c ahead then run_of wanted ahead else [])
+-- the first character, and those that are joined to the one before them; in front of them stand
+-- those, the nearest first
+abbrev pub run_of : Rule → List ℕ → List ℕ → List ℕ
+run_of rule front [] = []
+run_of rule front (c ∷ ahead) =
+    c ∷ (if is_joined rule front c ahead then run_of rule (c ∷ front) ahead else [])
 
 -- what follows them
-abbrev pub after_run : Wanted → List ℕ → List ℕ
-after_run wanted [] = []
-after_run wanted (c ∷ ahead) = if is_joined wanted c ahead then after_run wanted ahead else ahead
+abbrev pub after_run : Rule → List ℕ → List ℕ → List ℕ
+after_run rule front [] = []
+after_run rule front (c ∷ ahead) =
+    if is_joined rule front c ahead then after_run rule (c ∷ front) ahead else ahead
 
--- the run that begins with these characters, which have these bytes before them
-abbrev pub span_at : Wanted → List ℕ → List ℕ → Span
-span_at wanted before ahead = record {
-  before = before;
-  text = encode_utf8_all (run_of wanted ahead);
-  after = encode_utf8_all (after_run wanted ahead);
+-- the run that begins with these characters
+abbrev pub span_at : Rule → List ℕ → List ℕ → Span
+span_at rule front ahead = record {
+  before = encode_utf8_all (reverse front);
+  text = encode_utf8_all (run_of rule front ahead);
+  after = encode_utf8_all (after_run rule front ahead);
 }
 
--- the run that begins at a character, if one does: the character belongs to a number, and is not
--- joined to the one before it
-abbrev pub begun_at : Wanted → Bool → List ℕ → ℕ → List ℕ → List Span
-begun_at wanted joined before c ahead =
-    if not joined && belongs wanted c ahead then span_at wanted before (c ∷ ahead) ∷ [] else []
+-- the run that begins at a character, if one does: the character belongs, and is not joined to the
+-- one before it
+abbrev pub begun_at : Rule → Bool → List ℕ → ℕ → List ℕ → List Span
+begun_at rule joined front c ahead =
+    if not joined && rule.belongs front c ahead then span_at rule front (c ∷ ahead) ∷ [] else []
 
--- the runs that begin among the characters, which have these bytes before them, and of which the
--- first is joined to the character before it or not
-abbrev pub spans_after : Wanted → Bool → List ℕ → List ℕ → List Span
-spans_after wanted joined before [] = []
-spans_after wanted joined before (c ∷ ahead) =
-    begun_at wanted joined before c ahead
-    ++ spans_after wanted (is_joined wanted c ahead) (before ++ encode_utf8 c) ahead
+-- the runs that begin among the characters, of which the first is joined to the one before it or not
+abbrev pub spans_after : Rule → Bool → List ℕ → List ℕ → List Span
+spans_after rule joined front [] = []
+spans_after rule joined front (c ∷ ahead) =
+    begun_at rule joined front c ahead
+    ++ spans_after rule (is_joined rule front c ahead) (c ∷ front) ahead
 
--- the runs of a text, given by its bytes
+-- the runs of a text by a rule, given by its bytes
+abbrev pub spans_by : Rule → List ℕ → List Span
+spans_by rule bytes = spans_after rule false [] (chars bytes)
+
+-- the numbers of a text
 abbrev pub spans : Wanted → List ℕ → List Span
-spans wanted bytes = spans_after wanted false [] (chars bytes)
+spans wanted bytes = spans_by (number_rule wanted) bytes
+
+-- the expressions of a text
+abbrev pub expressions : Wanted → List ℕ → List Span
+expressions wanted bytes = spans_by (expression_rule wanted) bytes
 
 -- a run as the code has it
 abbrev pub span_of : Found → Span
@@ -55,6 +66,19 @@ span_of found = record { before = found.before.now; text = found.text.now; after
 abbrev pub text_before : List ℕ → List ℕ → List ℕ
 text_before whole rest = take (length whole - length rest) whole
 
+-- the characters in front of something, given by their bytes: the nearest first
+abbrev pub in_front : List ℕ → List ℕ
+in_front before = reverse (chars before)
+
 -- the runs that are left, where this end of the text is not yet searched
+abbrev pub left_by : Rule → List ℕ → List ℕ → List Span
+left_by rule whole rest =
+    spans_after rule false (in_front (text_before whole rest)) (chars rest)
+
+-- the numbers that are left
 abbrev pub spans_left : Wanted → List ℕ → List ℕ → List Span
-spans_left wanted whole rest = spans_after wanted false (text_before whole rest) (chars rest)
+spans_left wanted whole rest = left_by (number_rule wanted) whole rest
+
+-- the expressions that are left
+abbrev pub expressions_left : Wanted → List ℕ → List ℕ → List Span
+expressions_left wanted whole rest = left_by (expression_rule wanted) whole rest

@@ -3,10 +3,10 @@ ghost use Rattle.std.specs.Prelude.{◌≡◌, ◌&&◌, nat_le, chars};
 ghost use Rattle.cn_core.specs.Characters.{rank};
 ghost use Rattle.cn_core.specs.Mark.{mark_of};
 ghost use Rattle.cn_judge.specs.Marked.{marked};
-ghost use Rattle.cn_find.specs.Belongs.{belongs, counts_next, is_ge, is_great, is_chinese_digit, is_joined, is_parted, is_upper, is_wanted, is_wanted_mark};
+ghost use Rattle.cn_find.specs.Belongs.{begins_measure, belongs, counts_next, is_chinese_digit, is_great, is_mega, is_parted, is_upper, is_wanted, is_wanted_mark};
 
 use crate::Wanted;
-use cn_core::{Unit, digit_of};
+use cn_core::{Unit, digit_of, split_first_char};
 use cn_judge::{Mark, split_first_mark};
 
 // The forms that stand in the upper case alone.
@@ -36,7 +36,8 @@ fn is_upper(c: char) -> bool
     )
 }
 
-fn is_up_to(greatest: Unit, unit: Unit) -> bool
+/// Whether a unit is no greater than the greatest one.
+pub fn is_up_to(greatest: Unit, unit: Unit) -> bool
     ensures { result ≡ nat_le (rank unit) (rank greatest) }
 {
     greatest >= unit
@@ -52,12 +53,6 @@ fn is_wanted_mark(greatest: Unit, mark: Mark) -> bool
     }
 }
 
-fn is_ge(mark: Mark) -> bool
-    ensures { result ≡ is_ge (marked mark) }
-{
-    matches!(mark, Mark::Unit(Unit::Ge))
-}
-
 fn is_great(mark: Mark) -> bool
     ensures { result ≡ is_great (marked mark) }
 {
@@ -67,21 +62,57 @@ fn is_great(mark: Mark) -> bool
     }
 }
 
-fn is_wanted(wanted: Wanted, c: char, mark: Mark) -> bool
+/// Whether a character with its mark is looked for.
+pub fn is_wanted(wanted: Wanted, c: char, mark: Mark) -> bool
     requires { marked mark ≡ mark_of c }
     ensures { result ≡ is_wanted wanted c }
 {
     is_wanted_mark(wanted.greatest, mark) && (wanted.upper || !is_upper(c))
 }
 
+// Whether the text begins with a word that is counted in 兆 as mega: most by their first character,
+// the others by the first two.
+#[inline(never)]
+#[tactic(auto, unfolding(crate::specs::Belongs::begins_measure))]
+fn begins_measure(text: &str) -> bool
+    ensures { result ≡ begins_measure (chars text.now) }
+{
+    let Some((first, after)) = split_first_char(text) else {
+        return false;
+    };
+    // NUL, which no word has, where none follows.
+    let next = split_first_char(after).map_or('\0', |(next, _)| next);
+    match first {
+        '瓦' | '赫' | '帕' | '焦' | '伏' | '乏' => true,
+        '字' => matches!(next, '节' | '節'),
+        '比' => next == '特',
+        '电' | '電' => next == '子',
+        '宽' | '寬' => matches!(next, '带' | '帶' | '頻'),
+        '带' | '帶' | '頻' => matches!(next, '宽' | '寬'),
+        '位' => !matches!(next, '数' | '數'),
+        '欧' | '歐' => next != '元',
+        _ => false,
+    }
+}
+
+// Whether a character is 兆 that is mega.
+#[inline(always)]
+fn is_mega(c: char, mark: Mark, after: &str) -> bool
+    requires { marked mark ≡ mark_of c }
+    ensures { result ≡ is_mega c (chars after.now) }
+{
+    matches!(mark, Mark::Unit(Unit::Zhao)) && begins_measure(after)
+}
+
 // Whether the text begins with a unit that 個 in front of it counts.
+#[inline(never)]
 fn counts_next(wanted: Wanted, text: &str) -> bool
     ensures { result ≡ counts_next wanted (chars text.now) }
 {
-    let Some((c, mark, _)) = split_first_mark(text) else {
+    let Some((c, mark, after)) = split_first_mark(text) else {
         return false;
     };
-    is_great(mark) && is_wanted(wanted, c, mark)
+    is_great(mark) && is_wanted(wanted, c, mark) && !is_mega(c, mark, after)
 }
 
 /// Whether a character with its mark is one of a number, by what follows it.
@@ -98,7 +129,9 @@ pub fn belongs(wanted: Wanted, c: char, mark: Mark, after: &str) -> bool
     }
 }
 
-// Whether a digit or a unit is one of a number, by what follows it.
+// Whether a digit or a unit is one of a number, by what follows it. It stands by itself, and what is
+// asked of 個 and 兆 too, so that the walk over other characters is short.
+#[inline(never)]
 #[tactic(auto, unfolding(crate::specs::Belongs::belongs))]
 fn known_belongs(wanted: Wanted, c: char, mark: Mark, after: &str) -> bool
     requires { marked mark ≡ mark_of c }
@@ -107,32 +140,24 @@ fn known_belongs(wanted: Wanted, c: char, mark: Mark, after: &str) -> bool
     if !is_wanted(wanted, c, mark) {
         return false;
     }
-    !is_ge(mark) || counts_next(wanted, after)
+    match mark {
+        Mark::Digit(_) => true,
+        Mark::Unit(Unit::Ge) => counts_next(wanted, after),
+        _ => !is_mega(c, mark, after),
+    }
 }
 
-// Whether a character is a digit, and no ASCII one.
-fn is_chinese_digit(c: char) -> bool
+/// Whether a character is a digit, and no ASCII one.
+pub fn is_chinese_digit(c: char) -> bool
     ensures { result ≡ is_chinese_digit c }
 {
     digit_of(c).is_some() && !c.is_ascii_digit()
 }
 
-// Whether the one is an ASCII digit, and the other a digit that is none.
-fn is_parted(c: char, next: char) -> bool
+/// Whether the one is an ASCII digit, and the other a digit that is none.
+#[inline(always)]
+pub fn is_parted(c: char, next: char) -> bool
     ensures { result ≡ is_parted c next }
 {
     (c.is_ascii_digit() && is_chinese_digit(next)) || (is_chinese_digit(c) && next.is_ascii_digit())
-}
-
-/// Whether a character with its mark is of one number with the next one.
-pub fn is_joined(wanted: Wanted, c: char, mark: Mark, after: &str) -> bool
-    requires { marked mark ≡ mark_of c }
-    ensures { result ≡ is_joined wanted c (chars after.now) }
-{
-    let Some((next, next_mark, behind)) = split_first_mark(after) else {
-        return false;
-    };
-    belongs(wanted, c, mark, after)
-        && belongs(wanted, next, next_mark, behind)
-        && !is_parted(c, next)
 }

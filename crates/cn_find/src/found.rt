@@ -1,7 +1,9 @@
 ghost use Rattle.std.specs.Prelude.{◌≡◌, ◌+◌, ◌<◌, ◌^◌, length, chars};
 ghost use Rattle.cn_judge.specs.Answer.{answer_of};
+ghost use Rattle.cn_find.specs.Flags.{is_about, is_one_character, stands_alone};
 ghost use Rattle.cn_find.specs.Number.{IsAnswer, is_plain};
 
+use crate::flags::{is_about, is_one_character, stands_alone};
 use cn_core::{ChineseCountMethod, Whole, digit_of};
 use cn_judge::{ChineseToNumberError, read_naive};
 use cn_quick::read;
@@ -46,6 +48,31 @@ impl Found<'_> {
         ensures { result ≡ is_plain (chars self.entry.text.now) }
     {
         is_plain(self.text)
+    }
+
+    /// Whether nothing around it goes on with it: no ASCII letter, digit of any kind, `_`, 廿, 卅, 卌 or 幺
+    /// touches it, and no `.`, `,`, `-`, 点 or 點 links it to one of them or to a unit. So neither part of
+    /// 3.5萬 or 1,280 does, nor the 三 of 廿三.
+    pub fn stands_alone(self) -> bool
+        ensures { result
+            ≡ stands_alone (chars self.entry.before.now) (chars self.entry.after.now) }
+    {
+        stands_alone(self.before, self.after)
+    }
+
+    /// Whether it is about so much: the 十 of 几十, 十几 and 十多 is, 五六, 三五 and 兩三百 are, and 二零二五 is not.
+    pub fn is_about(self) -> bool
+        ensures { result ≡ is_about (chars self.entry.before.now) (chars self.entry.text.now)
+            (chars self.entry.after.now) }
+    {
+        is_about(self.before, self.text, self.after)
+    }
+
+    /// Whether it is one Chinese character, as the 一 of 一般 and the 十 of 十分 are.
+    pub fn is_one_character(self) -> bool
+        ensures { result ≡ is_one_character (chars self.entry.text.now) }
+    {
+        is_one_character(self.text)
     }
 
     /// Its number as plain digits where it is those, else by units.

@@ -1,5 +1,5 @@
 //! What users may count on, as contracts of functions that do nothing.
-ghost use Rattle.std.specs.Prelude.{◌≡◌, ◌≢◌, ◌↔◌, ◌∷◌, ◌++◌, ◌+◌, ℕ, ℤ, List, map, drop, length, chars, IsCharBoundary, encode_utf8, true, false, None, Some, Ok, Err, IsTrue};
+ghost use Rattle.std.specs.Prelude.{◌≡◌, ◌≢◌, ◌↔◌, [], ◌∷◌, ◌++◌, ◌+◌, ℕ, ℤ, pos, ◌≤ℤ◌, List, map, drop, length, chars, IsCharBoundary, encode_utf8, true, false, not, None, Some, Ok, Err, IsTrue};
 ghost use Rattle.std.specs.List.{Contains, list_all};
 ghost use Rattle.std.specs.Str.{IsUtf8};
 ghost use Rattle.cn_core.specs.declared.method.ChineseCountMethod.{ChineseCountMethod};
@@ -11,15 +11,17 @@ ghost use Rattle.cn_core.specs.Naive.{decimal_value};
 ghost use Rattle.cn_core.specs.Numeral.{IsNumeral};
 ghost use Rattle.cn_core.specs.Reading.{leading_sign};
 ghost use Rattle.cn_core.specs.Refusal.{incorrect_at};
-ghost use Rattle.cn_core.specs.Text.{text_of};
+ghost use Rattle.cn_core.specs.Text.{marks_of, text_of};
 ghost use Rattle.cn_core.specs.Value.{numeral_value};
 ghost use Rattle.cn_core.specs.Whole.{Kind, holds};
-ghost use Rattle.cn_find.specs.Belongs.{is_wanted};
+ghost use Rattle.cn_find.specs.Belongs.{is_mega, is_wanted};
+ghost use Rattle.cn_find.specs.Expressions.{is_extra};
+ghost use Rattle.cn_find.specs.Flags.{is_one_character, is_one_estimate, pairs};
 ghost use Rattle.cn_find.specs.Number.{IsAnswer};
-ghost use Rattle.cn_find.specs.Parting.{with_text_after, with_text_before};
+ghost use Rattle.cn_find.specs.Parting.{Meet, is_alone, is_named, is_of_measure, with_text_after, with_text_before};
 ghost use Rattle.cn_find.specs.Plain.{is_decimal};
-ghost use Rattle.cn_find.specs.Spans.{Span, spans, spans_left};
-ghost use Rattle.cn_find.specs.Runs.{IsRun, is_rising};
+ghost use Rattle.cn_find.specs.Spans.{Span, expressions, expressions_left, spans, spans_left};
+ghost use Rattle.cn_find.specs.Runs.{IsExpression, IsRun, is_rising};
 
 use crate::Wanted;
 
@@ -35,11 +37,12 @@ pub fn numbers_come_in_order(wanted: Wanted)
     ensures { (bytes : List ℕ) → IsTrue (is_rising 0 (spans wanted bytes)) }
 {}
 
-/// A character that is not wanted parts a text: what is found is what is found in front of it, and
-/// then what is found behind it. So lines, and parts of a file, can be searched by themselves.
+/// A character that is not wanted, and by which no word is known that is counted in 兆 as mega, parts a
+/// text: what is found is what is found in front of it, and then what is found behind it. So lines, and
+/// parts of a file, can be searched by themselves.
 pub fn unwanted_characters_part_texts(wanted: Wanted)
     ensures { (left right : List ℕ) (c : ℕ) → IsUtf8 left → IsUtf8 (encode_utf8 c ++ right)
-        → is_wanted wanted c ≡ false
+        → is_wanted wanted c ≡ false → is_of_measure c ≡ false
         → spans wanted (left ++ (encode_utf8 c ++ right))
         ≡ map (with_text_after (encode_utf8 c ++ right)) (spans wanted left)
         ++ map (with_text_before (left ++ encode_utf8 c)) (spans wanted right) }
@@ -61,6 +64,72 @@ pub fn searches_go_on_in_the_whole_text(wanted: Wanted)
         → spans_left wanted bytes (drop from bytes) ≡ first ∷ rest
         → (rest ≡ spans_left wanted bytes (drop (length first.before + length first.text) bytes))
         × IsCharBoundary bytes (length first.before + length first.text) }
+{}
+
+/// The expressions of a text are exactly its runs by their rule.
+pub fn expressions_are_the_runs(wanted: Wanted)
+    ensures { (bytes : List ℕ) (span : Span)
+        → Contains (expressions wanted bytes) span ↔ IsExpression wanted (chars bytes) span }
+{}
+
+/// They come in order, and no two overlap.
+pub fn expressions_come_in_order(wanted: Wanted)
+    ensures { (bytes : List ℕ) → IsTrue (is_rising 0 (expressions wanted bytes)) }
+{}
+
+/// A character that is not wanted, and that the rule of expressions does not name, as a line feed, parts
+/// a text: what is found is what is found in front of it, and then what is found behind it.
+pub fn unnamed_characters_part_texts(wanted: Wanted)
+    ensures { (left right : List ℕ) (c : ℕ) → IsUtf8 left → IsUtf8 (encode_utf8 c ++ right)
+        → is_wanted wanted c ≡ false → is_named c ≡ false
+        → expressions wanted (left ++ (encode_utf8 c ++ right))
+        ≡ map (with_text_after (encode_utf8 c ++ right)) (expressions wanted left)
+        ++ map (with_text_before (left ++ encode_utf8 c)) (expressions wanted right) }
+{}
+
+/// A search for them goes on in sight of the whole text, from where an expression ends. What stands
+/// behind it can have others by itself: in `1-2` the second is 2, and in `-2` it is -2.
+pub fn searches_for_expressions_go_on_in_the_whole_text(wanted: Wanted)
+    ensures { (bytes : List ℕ) (from : ℕ) (first : Span) (rest : List Span)
+        → IsUtf8 bytes → IsCharBoundary bytes from
+        → expressions_left wanted bytes (drop from bytes) ≡ first ∷ rest
+        → (rest
+        ≡ expressions_left wanted bytes (drop (length first.before + length first.text) bytes))
+        × IsCharBoundary bytes (length first.before + length first.text) }
+{}
+
+/// Where a text has no character that belongs to expressions alone, its expressions are its numbers.
+pub fn expressions_of_numerals_are_numbers(wanted: Wanted)
+    ensures { (bytes : List ℕ) → IsTrue (list_all (λ c. not (is_extra c)) (chars bytes))
+        → expressions wanted bytes ≡ spans wanted bytes }
+{}
+
+/// What is cut in two does not stand alone: where a number begins at the end of another one, or behind
+/// a link there, neither of them does.
+pub fn numbers_that_meet_do_not_stand_alone(wanted: Wanted)
+    ensures { (bytes : List ℕ) (first second : Span) → IsUtf8 bytes
+        → Contains (spans wanted bytes) first → Contains (spans wanted bytes) second
+        → Meet first second → (is_alone first ≡ false) × (is_alone second ≡ false) }
+{}
+
+/// No number ends with a 兆 that is mega: behind one stands no word that is counted so.
+pub fn no_number_ends_with_mega(wanted: Wanted)
+    ensures { (bytes : List ℕ) (span : Span) (front : List ℕ) (c : ℕ) → IsUtf8 bytes
+        → Contains (spans wanted bytes) span → chars span.text ≡ front ++ c ∷ []
+        → is_mega c (chars span.after) ≡ false }
+{}
+
+/// What is one Chinese character counts at most ten, by each method, or is refused.
+pub fn one_character_is_at_most_ten()
+    ensures { (kind : Kind) (method : ChineseCountMethod) (bytes : List ℕ) (number : ℤ)
+        → is_one_character (chars bytes) ≡ true → IsAnswer kind method bytes (Ok number)
+        → number ≤ℤ pos 10 }
+{}
+
+/// No two digits of a numeral are said for about so many: a number by units is about so much only by
+/// what stands around it.
+pub fn numerals_have_no_estimate()
+    ensures { (text : List ℕ) → IsNumeral (marks_of text) → is_one_estimate (pairs text) ≡ false }
 {}
 
 /// A run begins with a sign only where it begins with 正, the one plus sign.

@@ -1,35 +1,55 @@
 // The next run of a text.
-ghost use Rattle.std.specs.Prelude.{◌≡◌, ◌++◌, ◌+◌, ◌≤◌, ◌∷◌, [], length, chars, encode_utf8_all, MatchOption, IfSome};
-ghost use Rattle.cn_find.specs.Private.{Skipped};
-ghost use Rattle.cn_find.specs.Spans.{after_run, text_before, run_of, span_of, spans_left};
+ghost use Rattle.std.specs.Prelude.{◌≡◌, ◌++◌, ◌+◌, ◌≤◌, ◌∷◌, [], true, length, chars, MatchOption, IfSome};
+ghost use Rattle.cn_find.specs.Private.{EndsRun, Skipped};
+ghost use Rattle.cn_find.specs.Runs.{first_belongs};
+ghost use Rattle.cn_find.specs.Spans.{in_front, left_by, span_of, text_before};
 
-use crate::belongs::{belongs, is_joined};
-use crate::{Found, Wanted};
+use crate::Found;
+use crate::rule::SearchRule;
+use cn_core::split_first_char;
 use cn_judge::split_first_mark;
 
-// The first character and those that are joined to the one before them, and what follows them.
-fn split_run(wanted: Wanted, text: &str) -> (&str, &str)
-    ensures run { result.0.now ≡ encode_utf8_all (run_of wanted (chars text.now)) }
-    ensures rest { chars result.1.now ≡ after_run wanted (chars text.now) }
-    ensures bytes { text.now ≡ result.0.now ++ result.1.now }
+// What stands before the end of a text.
+#[inline(always)]
+fn text_before<'a>(whole: &'a str, rest: &'a str) -> &'a str
+    requires { text_before whole.now rest.now ++ rest.now ≡ whole.now }
+    ensures { result.now ≡ text_before whole.now rest.now }
 {
-    let mut rest = text;
-    'gathering: while let Some((c, mark, after)) = split_first_mark(rest) {
-        rest = after;
-        if !is_joined(wanted, c, mark, after) {
-            break;
-        }
-    }
-    text.split_at(text.len() - rest.len())
+    let (before, _) = whole.split_at(whole.len() - rest.len());
+    before
 }
 
-// What follows the characters at the start that belong to no number.
-fn skip_outside(wanted: Wanted, text: &str) -> &str
-    ensures { Skipped wanted text.now result.now }
+// What follows the run that begins here.
+fn skip_run<'a, R: SearchRule>(rule: R, whole: &'a str, before: &'a str, ahead: &'a str) -> &'a str
+    requires parts { whole.now ≡ before.now ++ ahead.now }
+    requires begins { first_belongs (R.rule rule) (in_front before.now) (chars ahead.now) ≡ true }
+    ensures { EndsRun (R.rule rule) before.now ahead.now result.now }
 {
-    let mut ahead = text;
+    let Some((first, after)) = split_first_char(ahead) else {
+        return ahead;
+    };
+    let mut last = first;
+    let mut rest = after;
+    'gathering: while let Some((next, mark, behind)) = split_first_mark(rest) {
+        if !rule.belongs(text_before(whole, rest), next, mark, behind)
+            || rule.is_parted(last, next)
+        {
+            return rest;
+        }
+        last = next;
+        rest = behind;
+    }
+    rest
+}
+
+// What follows the characters at the start that do not belong.
+fn skip_outside<'a, R: SearchRule>(rule: R, whole: &'a str, rest: &'a str) -> &'a str
+    requires { text_before whole.now rest.now ++ rest.now ≡ whole.now }
+    ensures { Skipped (R.rule rule) whole.now rest.now result.now }
+{
+    let mut ahead = rest;
     'skipping: while let Some((c, mark, after)) = split_first_mark(ahead) {
-        if belongs(wanted, c, mark, after) {
+        if rule.belongs(text_before(whole, ahead), c, mark, after) {
             return ahead;
         }
         ahead = after;
@@ -38,23 +58,23 @@ fn skip_outside(wanted: Wanted, text: &str) -> &str
 }
 
 /// The first run of this end of a text.
-pub fn next_run<'a>(wanted: Wanted, whole: &'a str, rest: &'a str) -> Option<Found<'a>>
+pub fn next_run<'a, R: SearchRule>(rule: R, whole: &'a str, rest: &'a str) -> Option<Found<'a>>
     requires { text_before whole.now rest.now ++ rest.now ≡ whole.now }
-    ensures parts { MatchOption result (spans_left wanted whole.now rest.now ≡ [])
-        (λ found. spans_left wanted whole.now rest.now
-        ≡ span_of found ∷ spans_left wanted whole.now found.after.now) }
+    ensures parts { MatchOption result (left_by (R.rule rule) whole.now rest.now ≡ [])
+        (λ found. left_by (R.rule rule) whole.now rest.now
+        ≡ span_of found ∷ left_by (R.rule rule) whole.now found.after.now) }
     ensures ends { IfSome result
         (λ found. text_before whole.now found.after.now ++ found.after.now ≡ whole.now) }
 {
-    let ahead = skip_outside(wanted, rest);
+    let ahead = skip_outside(rule, whole, rest);
     if ahead.is_empty() {
         return None;
     }
-    let (text, after) = split_run(wanted, ahead);
-    let (before, _) = whole.split_at(whole.len() - ahead.len());
+    let before = text_before(whole, ahead);
+    let after = skip_run(rule, whole, before, ahead);
     Some(Found {
         before,
-        text,
+        text: text_before(ahead, after),
         after,
     })
 }

@@ -80,7 +80,7 @@ faults-low method (mark ∷ rest) place h =
           low q refl in omega (arith, l, same)
 
 -- what stands after a place's character does not move it
-char_index-prefix : (xs ys : List ℕ) (place : ℕ) → place < length (filter is_not_whitespace xs)
+pub char_index-prefix : (xs ys : List ℕ) (place : ℕ) → place < length (filter is_not_whitespace xs)
     → char_index_among (xs ++ ys) place ≡ char_index_among xs place
 char_index-prefix [] ys place low = absurd (omega (arith, low))
 char_index-prefix (c ∷ xs) ys zero low = by (is_whitespace c) refl (char_index-prefix xs ys 0) where

@@ -226,7 +226,7 @@ kept-dark c more after dark kept = rw dark (ap (λ l. c ∷ l) kept)
 abbrev pub StopsAt : ChineseCountMethod → ℕ → List ℕ → Refusal → Type 0
 StopsAt method skipped bytes refusal =
     (fault : Refusal) × (faults method (marks_of (text_of bytes)) ≡ Some fault)
-    × (Err refusal ≡ answer_at skipped bytes (Err fault))
+    × (Err refusal ≡ answer_at {T = ℕ} skipped bytes (Err fault))
 
 text-parts : (bytes before after : List ℕ) (c : ℕ) → EndsAt bytes before after c
     → is_whitespace c ≡ false

@@ -20,7 +20,7 @@ pub record EndsWith (bytes : List ℕ) (c : ℕ) (before : List ℕ) : Type 0 wh
 
 -- the answer to a piece of a string, whose place is told by its char_index, when so many characters
 -- of the string stand before the piece
-abbrev pub answer_at : ℕ → List ℕ → Result ℕ Refusal → Result ℕ Refusal
+abbrev pub answer_at : {T : Type 0} → ℕ → List ℕ → Result T Refusal → Result T Refusal
 answer_at skipped bytes (Err (incorrect_at place)) =
     Err (incorrect_at (skipped + char_index_of bytes place))
 answer_at skipped bytes answer = answer

@@ -2,8 +2,8 @@
 //! definitions of `cn_core` judge it. No reader takes memory.
 //!
 //! What stands here serves the crates above it alone: `cn_read` gives the readers their public
-//! names, and hands on the error; `cn_quick` shares marks, signs and the rules on the first digit, and
-//! `cn_find` marks.
+//! names, and hands on the error; `cn_quick` shares marks, signs and the rules on the first digit,
+//! `cn_find` marks, and `cn_quantity` the judgements of a text without sign.
 #![tactic(auto)]
 
 mod error;
@@ -16,7 +16,10 @@ mod walk;
 
 pub use error::ChineseToNumberError;
 pub use judge::{AfterSign, first_digit, judge_text, read, signed_answer, split_sign};
-pub use mark::Mark;
-pub use naive::read_naive;
-pub use text::{split_first_known, split_first_mark, split_last_known};
+pub use mark::{Mark, mark_of};
+pub use naive::{judge_naive, read_naive};
+pub use text::{
+    First, count_chars, split_first, split_first_known, split_first_mark, split_last,
+    split_last_char, split_last_known,
+};
 pub use walk::separates_digits;

@@ -94,9 +94,9 @@ fn split_first_piece(text: &str) -> Option<(Piece, &str)>
     Some((piece_of(c), after))
 }
 
-// The answer to plain digits without sign, which stand after so many characters of the caller's
-// string.
-fn judge_naive(skipped: usize, text: &str) -> Result<u128, ChineseToNumberError>
+/// The answer to plain digits without sign, which stand after so many characters of the caller's
+/// string.
+pub fn judge_naive(skipped: usize, text: &str) -> Result<u128, ChineseToNumberError>
     requires { skipped + length text.now < 2 ^ 64 }
     ensures { answer_of (λ n. n) result
         ≡ answer_at skipped text.now (naive_answer (marks_of (text_of text.now))) }

@@ -180,7 +180,7 @@ pub fn walk(
     ensures { MatchResult result
         (λ state. IsWalked method (text_of text.now) state.sum units.new state.next)
         (λ error. (fault : Refusal) × (faults method (marks_of (text_of text.now)) ≡ Some fault)
-        × (Err (refusal_of error) ≡ answer_at skipped text.now (Err fault))) }
+        × (Err (refusal_of error) ≡ answer_at {T = ℕ} skipped text.now (Err fault))) }
 {
     let mut state = WalkState { sum: 0, next: None };
     let mut ahead = text;

@@ -6,23 +6,23 @@ use Rattle.cn_c.proofs.Filling.{filled, left, within, taken}
 use Rattle.cn_c.proofs.finding.fill.Goals as goal
 
 pub filling-preserved : goal.filling-preserved
-filling-preserved c =
-    let next : drop c.filling.count c.args.numbers ≡ span_of c.in-Some.found ∷ c.next.new.self =
+filling-preserved g c =
+    let next : drop c.filling.count c.args.runs ≡ span_of c.in-Some.found ∷ c.next.new.self =
     sym c.filling.invariant.left ∙ c.in-Some.ensures.steps in
     let room : c.filling.count < length c.args.spans.now = omega arith in
     record {
-      within = within c.filling.count c.args.numbers _ _ next;
+      within = within c.filling.count c.args.runs _ _ next;
       room = omega arith;
-      left = sym (left c.filling.count c.args.numbers _ _ next);
-      told = rw c.span_of_found.ensures (rw c.filling.invariant.told (filled span_told c.filling.count c.args.numbers _ _ _ next room));
+      left = sym (left c.filling.count c.args.runs _ _ next);
+      told = rw c.span_of_found.ensures (rw c.filling.invariant.told (filled span_told c.filling.count c.args.runs _ _ _ next room));
     }
 
 pub returns-in_default : goal.returns-in_default
-returns-in_default c =
-    let none : drop c.filling.count c.args.numbers ≡ [] =
+returns-in_default g c =
+    let none : drop c.filling.count c.args.runs ≡ [] =
     sym c.filling.invariant.left ∙ c.in_default.ensures.steps.0 in
-    let all : take (length c.args.spans.now) c.args.numbers ≡ take c.filling.count c.args.numbers =
-    taken c.filling.count _ c.args.numbers none c.filling.invariant.room in
-    let count : length (map span_told (take c.filling.count c.args.numbers)) ≡ c.filling.count =
-    length-map _ _ ∙ length-take-le c.filling.count c.args.numbers c.filling.invariant.within in
+    let all : take (length c.args.spans.now) c.args.runs ≡ take c.filling.count c.args.runs =
+    taken c.filling.count _ c.args.runs none c.filling.invariant.room in
+    let count : length (map span_told (take c.filling.count c.args.runs)) ≡ c.filling.count =
+    length-map _ _ ∙ length-take-le c.filling.count c.args.runs c.filling.invariant.within in
     simp (all, count) (c.filling.invariant.told, refl)

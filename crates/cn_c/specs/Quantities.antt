@@ -1,0 +1,66 @@
+-- What a call that reads quantities answers.
+use Rattle.std.specs.Prelude.{◌≡◌, ℕ, pos, Bool, true, false, List, Option, Some, None, Result, Ok, Err, slice_get}
+use Rattle.std.specs.Bool.{MatchBool}
+use Rattle.std.specs.Str.{is_utf8}
+use Rattle.chinese_number.specs.declared.ChineseCountMethod.{ChineseCountMethod}
+use Rattle.chinese_number.specs.Refusal.{Refusal}
+use Rattle.cn_faces.specs.declared.Way.{Way}
+use Rattle.cn_faces.specs.declared.Way.TheVariants.{Digits, Units}
+use Rattle.cn_quantity.specs.declared.quantity.Quantity.{Quantity as ExactQuantity}
+use Rattle.cn_quantity.specs.declared.quantity.QuantityForm.{QuantityForm}
+use Rattle.cn_quantity.specs.declared.quantity.QuantityForm.TheVariants.{Whole, Decimal, Percent, Fraction}
+use Rattle.cn_quantity.specs.Reading.{quantity_answer}
+use Rattle.cn_c.specs.declared.quantity.Quantity.{Quantity}
+use Rattle.cn_c.specs.Codes.{ways, refusal_status, CN_DONE, CN_NOT_UTF8, CN_UNKNOWN}
+use Rattle.cn_c.specs.Halves.{number_of}
+use Rattle.cn_c.specs.Reads.{refusal_told}
+
+-- the method that a way with units has
+abbrev pub method_of : Option Way → Option ChineseCountMethod
+method_of (Some (Units method)) = Some method
+method_of way = None
+
+-- the codes of the forms
+abbrev pub form_code : QuantityForm → ℕ
+form_code Whole = 0
+form_code Decimal = 1
+form_code Percent = 2
+form_code Fraction = 3
+
+-- what is told where there is no quantity
+abbrev pub no_quantity : ℕ → ℕ → Quantity
+no_quantity char_index byte_index = record {
+  numerator = record { low = 0; high = 0 };
+  denominator = record { low = 0; high = 0 };
+  form = 0;
+  char_index = char_index;
+  byte_index = byte_index;
+}
+
+-- these halves and this code are of the quantity, and no place is told
+pub record IsTold (quantity : ExactQuantity) (told : Quantity) : Type 0 where
+  pub numerator : number_of true told.numerator ≡ quantity.numerator
+  pub denominator : number_of false told.denominator ≡ pos quantity.denominator
+  pub form : told.form ≡ form_code quantity.form
+  pub char_index : told.char_index ≡ 0
+  pub byte_index : told.byte_index ≡ 0
+
+-- how an answer to a text is told: by the status and what is written
+abbrev pub TellsQuantity : List ℕ → Result ExactQuantity Refusal → ℕ → Quantity → Type 0
+TellsQuantity text (Ok quantity) status told = (status ≡ CN_DONE) × IsTold quantity told
+TellsQuantity text (Err refusal) status told =
+    (status ≡ refusal_status refusal)
+    × (told ≡ no_quantity (refusal_told text refusal).char_index
+    (refusal_told text refusal).byte_index)
+
+-- what is told of bytes, by the method that a code names
+abbrev pub IsQuantityReadAs : Option ChineseCountMethod → List ℕ → ℕ → Quantity → Type 0
+IsQuantityReadAs (Some method) bytes status told =
+    MatchBool (is_utf8 bytes) (TellsQuantity bytes (quantity_answer method bytes) status told)
+    ((status ≡ CN_NOT_UTF8) × (told ≡ no_quantity 0 0))
+IsQuantityReadAs None bytes status told = (status ≡ CN_UNKNOWN) × (told ≡ no_quantity 0 0)
+
+-- what is told of bytes and the code of a method
+abbrev pub IsQuantityRead : List ℕ → ℕ → ℕ → Quantity → Type 0
+IsQuantityRead bytes method status told =
+    IsQuantityReadAs (method_of (slice_get ways method)) bytes status told

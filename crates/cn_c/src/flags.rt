@@ -1,0 +1,35 @@
+// What is told of a number in a text: flags, added together.
+ghost use Rattle.std.specs.Prelude.{◌≡◌};
+ghost use Rattle.chinese_number.specs.Spans.{span_of};
+ghost use Rattle.cn_c.specs.Finds.{flag_if, flags_told};
+
+use chinese_number::Found;
+
+/// Each of its characters is a digit.
+pub const PLAIN_DIGITS: u32 = 1;
+
+/// Nothing around it goes on with it.
+pub const STANDS_ALONE: u32 = 2;
+
+/// It is about so much.
+pub const ABOUT: u32 = 4;
+
+/// It is one Chinese character.
+pub const ONE_CHARACTER: u32 = 8;
+
+// A flag, where it is told.
+fn flag_if(told: bool, flag: u32) -> u32
+    ensures { result ≡ flag_if told flag }
+{
+    if told { flag } else { 0 }
+}
+
+/// What is told of a number.
+pub fn flags_of(found: Found<'_>) -> u32
+    ensures { result ≡ flags_told (span_of found.entry) }
+{
+    flag_if(found.is_plain(), PLAIN_DIGITS)
+        + flag_if(found.stands_alone(), STANDS_ALONE)
+        + flag_if(found.is_about(), ABOUT)
+        + flag_if(found.is_one_character(), ONE_CHARACTER)
+}

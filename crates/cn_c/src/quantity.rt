@@ -1,0 +1,85 @@
+// Exact quantities.
+ghost use Rattle.std.specs.Prelude.{◌≡◌, slice_get};
+ghost use Rattle.chinese_number.specs.Answer.{answer_of};
+ghost use Rattle.cn_c.specs.Codes.{ways};
+ghost use Rattle.cn_c.specs.Quantities.{TellsQuantity, IsQuantityRead, method_of};
+
+use crate::codes::way_of;
+use crate::number::{Number, halves};
+use crate::quantity_form::form_code;
+use crate::reading::{refused, status_of};
+use crate::status::{DONE, NOT_UTF8, UNKNOWN};
+use chinese_number::{ChineseCountMethod, ChineseToNumberError, chinese_to_quantity};
+use cn_faces::{Way, utf8_text};
+
+/// What was read: the numbers above and below the line and the code of the form, or of the character
+/// at fault how many characters and how many bytes of the text stand in front of it.
+#[repr(C)]
+#[derive(Clone, Copy)]
+pub struct Quantity {
+    pub numerator: Number,
+    pub denominator: Number,
+    pub form: u32,
+    pub char_index: usize,
+    pub byte_index: usize,
+}
+
+const NOTHING: Quantity = Quantity {
+    numerator: Number { low: 0, high: 0 },
+    denominator: Number { low: 0, high: 0 },
+    form: 0,
+    char_index: 0,
+    byte_index: 0,
+};
+
+// The method of a code.
+fn method_of(code: u32) -> Option<ChineseCountMethod>
+    ensures { result ≡ method_of (slice_get ways code) }
+{
+    match way_of(code) {
+        Some(Way::Units(method)) => Some(method),
+        _ => None,
+    }
+}
+
+// Tells an answer to a text to C.
+fn tell_quantity(
+    text: &str,
+    answer: Result<chinese_number::Quantity, ChineseToNumberError>,
+    quantity: &mut Quantity,
+) -> u32
+    ensures { TellsQuantity text.now (answer_of (λ q. q) answer) result quantity.new }
+{
+    *quantity = NOTHING;
+    match answer {
+        Ok(exact) => {
+            quantity.numerator = halves(exact.numerator);
+            quantity.denominator = halves(exact.denominator);
+            quantity.form = form_code(exact.form);
+            DONE
+        }
+        Err(error) => {
+            let nothing = refused(text, error);
+            quantity.char_index = nothing.char_index;
+            quantity.byte_index = nothing.byte_index;
+            status_of(error)
+        }
+    }
+}
+
+/// Reads a text as an exact quantity by a method.
+///
+/// Writes `*quantity` whole at each status, and nothing else.
+#[unsafe(no_mangle)]
+pub extern "C" fn chinese_quantity_read(text: &[u8], method: u32, quantity: &mut Quantity) -> u32
+    ensures { IsQuantityRead text.now method result quantity.new }
+{
+    *quantity = NOTHING;
+    let Some(method) = method_of(method) else {
+        return UNKNOWN;
+    };
+    match utf8_text(text) {
+        Some(text) => tell_quantity(text, chinese_to_quantity(text, method), quantity),
+        None => NOT_UTF8,
+    }
+}

@@ -1,0 +1,29 @@
+// The codes of how a quantity is written.
+ghost use Rattle.std.specs.Prelude.{◌≡◌};
+ghost use Rattle.cn_c.specs.Quantities.{form_code};
+
+use chinese_number::QuantityForm;
+
+/// 35, 三十五, 3万
+pub const WHOLE: u32 = 0;
+
+/// 3.5, 三點五, 3.5万
+pub const DECIMAL: u32 = 1;
+
+/// 12.5%
+pub const PERCENT: u32 = 2;
+
+/// 三分之一, 百分之五十
+pub const FRACTION: u32 = 3;
+
+/// The code of a form.
+pub fn form_code(form: QuantityForm) -> u32
+    ensures { result ≡ form_code form }
+{
+    match form {
+        QuantityForm::Whole => WHOLE,
+        QuantityForm::Decimal => DECIMAL,
+        QuantityForm::Percent => PERCENT,
+        QuantityForm::Fraction => FRACTION,
+    }
+}

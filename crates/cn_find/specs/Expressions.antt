@@ -1,0 +1,196 @@
+-- Which characters of a text belong to an expression: a number with its sign, its figures, its point
+-- and its units, a percent sign, or a fraction. Of the characters in front the nearest is the first.
+use Rattle.std.specs.Prelude.{ℕ, zero, suc, nat_le, Bool, false, not, ◌&&◌, ◌||◌, List, [], ◌∷◌, codes, is_some}
+use Rattle.std.specs.Char.{char_set_contains, is_ascii_alphabetic, is_ascii_digit}
+use Rattle.cn_core.specs.Characters.{digit_of}
+use Rattle.cn_core.specs.Mark.{Mark, unit, mark_of}
+use Rattle.cn_find.specs.declared.wanted.Wanted.{Wanted}
+use Rattle.cn_find.specs.Belongs.{begins_with, belongs, is_chinese_digit, is_wanted}
+use Rattle.cn_find.specs.Flags.{is_wide_digit}
+use Rattle.cn_find.specs.Rule.{Rule}
+
+-- 廿 or 卅
+unfoldable pub is_tens : ℕ → Bool
+is_tens c = char_set_contains (codes "廿卅") c
+
+-- a figure: an ASCII digit or its full-width form
+abbrev pub is_figure : ℕ → Bool
+is_figure c = is_ascii_digit c || is_wide_digit c
+
+-- a numeral character: it belongs to a number, or is 廿, 卅 or a full-width figure
+unfoldable pub is_numeric : Wanted → ℕ → List ℕ → Bool
+is_numeric wanted c after = belongs wanted c after || (is_tens c || is_wide_digit c)
+
+-- the characters begin with a numeral character
+abbrev pub begins_numeral : Wanted → List ℕ → Bool
+begins_numeral wanted [] = false
+begins_numeral wanted (c ∷ after) = is_numeric wanted c after
+
+-- the nearest character in front is one, as at the end of a text
+abbrev pub ends_numeral : Wanted → List ℕ → Bool
+ends_numeral wanted [] = false
+ends_numeral wanted (c ∷ front) = is_numeric wanted c []
+
+-- the nearest character in front is one that is no figure
+abbrev pub ends_words : Wanted → List ℕ → Bool
+ends_words wanted [] = false
+ends_words wanted (c ∷ front) = not (is_figure c) && is_numeric wanted c []
+
+-- the characters begin with a figure, or the nearest one is a figure
+abbrev pub begins_figure : List ℕ → Bool
+begins_figure [] = false
+begins_figure (c ∷ others) = is_figure c
+
+-- what follows the digit behind 点 makes it a time, as 分 of 九点五分
+abbrev pub begins_time : List ℕ → Bool
+begins_time after = begins_with (codes "分刻十点點") after
+
+-- the characters begin with a digit of any kind, and a time follows it
+abbrev pub begins_minutes : List ℕ → Bool
+begins_minutes [] = false
+begins_minutes (c ∷ after) = (is_some (digit_of c) || is_wide_digit c) && begins_time after
+
+-- the character makes a word with 一 in front of it, as 起 does
+unfoldable pub follows_one : ℕ → Bool
+follows_one c = char_set_contains (codes "定直起样樣些下切滴线線") c
+
+-- the characters begin with one that does
+abbrev pub ends_word : List ℕ → Bool
+ends_word [] = false
+ends_word (c ∷ after) = follows_one c
+
+-- the digit behind 点 begins a time, as 零 of 三点零五分, or a word, as 一 of 三点一起走
+unfoldable pub begins_word : ℕ → List ℕ → Bool
+begins_word c after =
+    begins_time after || (char_set_contains (codes "零〇") c && begins_minutes after)
+    || (char_set_contains (codes "一") c && ends_word after)
+
+-- the characters begin with a digit that is no figure, and that begins neither time nor word
+abbrev pub begins_decimals : Wanted → List ℕ → Bool
+begins_decimals wanted [] = false
+begins_decimals wanted (c ∷ after) =
+    (is_chinese_digit c && is_wanted wanted c) && not (begins_word c after)
+
+-- the characters begin with three figures, and what follows them passes this test
+abbrev pub three_figures : (List ℕ → Bool) → List ℕ → Bool
+three_figures passes (c ∷ d ∷ e ∷ others) =
+    (is_figure c && is_figure d) && (is_figure e && passes others)
+three_figures passes others = false
+
+-- the characters begin with three figures and no fourth
+abbrev pub begins_group : List ℕ → Bool
+begins_group after = three_figures (λ others. not (begins_figure others)) after
+
+-- the nearest characters are three figures, and a comma in front of them
+abbrev pub ends_group : List ℕ → Bool
+ends_group front = three_figures (λ others. begins_with (codes ",") others) front
+
+-- a figure with these characters in front begins a number: it is no 0, and stands behind no figure,
+-- comma or point
+unfoldable pub begins_number : ℕ → List ℕ → Bool
+begins_number c front =
+    not (char_set_contains (codes "0０") c)
+    && (not (begins_figure front) && not (begins_with (codes ",.．") front))
+
+-- the nearest characters are figures, at most so many, of which the first begins a number
+abbrev pub ends_head : ℕ → List ℕ → Bool
+ends_head zero front = false
+ends_head (suc most) [] = false
+ends_head (suc most) (c ∷ front) =
+    is_figure c && (begins_number c front || ends_head most front)
+
+-- a comma between these parts groups of figures
+abbrev pub parts_groups : List ℕ → List ℕ → Bool
+parts_groups front after = (ends_head 3 front || ends_group front) && begins_group after
+
+-- the mark is a unit from 百 up
+abbrev pub is_multiplier : Mark → Bool
+is_multiplier (unit rank) = nat_le 2 rank
+is_multiplier mark = false
+
+-- the characters begin with such a unit that belongs to a number, or with a percent sign
+abbrev pub begins_multiplier : Wanted → List ℕ → Bool
+begins_multiplier wanted [] = false
+begins_multiplier wanted (c ∷ after) =
+    (is_multiplier (mark_of c) && belongs wanted c after) || char_set_contains (codes "%％") c
+
+-- the characters begin with 之 and a numeral character
+abbrev pub begins_numerator : Wanted → List ℕ → Bool
+begins_numerator wanted [] = false
+begins_numerator wanted (c ∷ after) =
+    char_set_contains (codes "之") c && begins_numeral wanted after
+
+-- the nearest characters are 分 and a numeral character in front of it
+abbrev pub ends_denominator : Wanted → List ℕ → Bool
+ends_denominator wanted [] = false
+ends_denominator wanted (c ∷ front) =
+    char_set_contains (codes "分") c && ends_numeral wanted front
+
+-- the nearest characters are a blank and a figure in front of it
+abbrev pub ends_spaced : List ℕ → Bool
+ends_spaced [] = false
+ends_spaced (c ∷ front) = char_set_contains (codes " ") c && begins_figure front
+
+-- the character makes a word with 负 behind it, as 抱 does
+unfoldable pub precedes_minus : ℕ → Bool
+precedes_minus c = char_set_contains (codes "正非背揹肩担擔抱胜勝辜欺自不") c
+
+-- the nearest character is one that does
+abbrev pub ends_verb : List ℕ → Bool
+ends_verb [] = false
+ends_verb (c ∷ front) = precedes_minus c
+
+-- behind this character `-` is no sign: a letter, a percent sign, a bracket, a point, a bar
+unfoldable pub binds_minus : ℕ → Bool
+binds_minus c =
+    is_ascii_alphabetic c || char_set_contains (codes "%％‰)]}_.．/\\-−－") c
+
+-- the nearest character is one of those
+abbrev pub ends_bound : List ℕ → Bool
+ends_bound [] = false
+ends_bound (c ∷ front) = binds_minus c
+
+-- the character belongs to an expression by what stands around it
+unfoldable pub joins : Wanted → List ℕ → ℕ → List ℕ → Bool
+joins wanted front c after =
+    (char_set_contains (codes "点點") c
+    && (ends_words wanted front && begins_decimals wanted after))
+    || (char_set_contains (codes ".．") c && (begins_figure front && begins_figure after))
+    || (char_set_contains (codes ",") c && parts_groups front after)
+    || (char_set_contains (codes " ") c
+    && (begins_figure front && begins_multiplier wanted after))
+    || (char_set_contains (codes "分") c
+    && (ends_numeral wanted front && begins_numerator wanted after))
+    || (char_set_contains (codes "之") c
+    && (ends_denominator wanted front && begins_numeral wanted after))
+    || (char_set_contains (codes "%％") c
+    && (ends_numeral wanted front || ends_spaced front))
+    || (char_set_contains (codes "负負") c
+    && (begins_numeral wanted after && (not (ends_numeral wanted front)
+    && not (ends_verb front))))
+    || (char_set_contains (codes "-−－") c
+    && (begins_figure after && (not (ends_numeral wanted front)
+    && not (ends_bound front))))
+
+-- a character that can belong to an expression, and to no number
+unfoldable pub is_extra : ℕ → Bool
+is_extra c =
+    is_tens c || is_wide_digit c || char_set_contains (codes "点點.．, 分之%％负負-−－") c
+
+-- a digit that is no figure, or 廿 or 卅
+abbrev pub is_word_digit : ℕ → Bool
+is_word_digit c = is_chinese_digit c || is_tens c
+
+-- two neighbours are of two expressions: the one is a figure and the other such a digit, or the first
+-- is a percent sign
+unfoldable pub parts_expressions : ℕ → ℕ → Bool
+parts_expressions c next =
+    (is_figure c && is_word_digit next) || (is_word_digit c && is_figure next)
+    || char_set_contains (codes "%％") c
+
+-- the rule of expressions
+abbrev pub expression_rule : Wanted → Rule
+expression_rule wanted = record {
+  belongs = λ front c after. is_numeric wanted c after || joins wanted front c after;
+  is_parted = parts_expressions;
+}

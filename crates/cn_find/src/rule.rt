@@ -1,0 +1,66 @@
+ghost use Rattle.std.specs.Prelude.{◌≡◌, ℕ, Bool, List, chars};
+ghost use Rattle.cn_core.specs.Mark.{mark_of};
+ghost use Rattle.cn_judge.specs.Marked.{marked};
+ghost use Rattle.cn_find.specs.Expressions.{expression_rule};
+ghost use Rattle.cn_find.specs.Rule.{Rule, number_rule};
+ghost use Rattle.cn_find.specs.Spans.{in_front};
+
+use crate::Wanted;
+use crate::belongs::{belongs, is_parted};
+use crate::expressions::{is_of_expression, parts_expressions};
+use cn_judge::Mark;
+
+/// What a search goes by: which characters of a text belong to what is looked for.
+pub trait SearchRule: Copy {
+    // The rule, as definitions speak of it.
+    ghost rule: { Self → Rule };
+
+    /// Whether a character with its mark belongs, by what stands before and after it.
+    fn belongs(self, before: &str, c: char, mark: Mark, after: &str) -> bool
+        requires { marked mark ≡ mark_of c }
+        ensures { result ≡ (rule self).belongs (in_front before.now) c (chars after.now) };
+
+    /// Whether two neighbours are parted though both belong.
+    fn is_parted(self, c: char, next: char) -> bool
+        ensures { result ≡ (rule self).is_parted c next };
+}
+
+/// The rule of numbers.
+#[derive(Copy, Clone)]
+pub struct NumberRule {
+    pub wanted: Wanted,
+}
+
+impl SearchRule for NumberRule {
+    ghost rule = { λ r. number_rule r.wanted };
+
+    #[inline(always)]
+    fn belongs(self, before: &str, c: char, mark: Mark, after: &str) -> bool {
+        belongs(self.wanted, c, mark, after)
+    }
+
+    #[inline(always)]
+    fn is_parted(self, c: char, next: char) -> bool {
+        is_parted(c, next)
+    }
+}
+
+/// The rule of expressions.
+#[derive(Copy, Clone)]
+pub struct QuantityRule {
+    pub wanted: Wanted,
+}
+
+impl SearchRule for QuantityRule {
+    ghost rule = { λ r. expression_rule r.wanted };
+
+    #[inline(always)]
+    fn belongs(self, before: &str, c: char, mark: Mark, after: &str) -> bool {
+        is_of_expression(self.wanted, before, c, mark, after)
+    }
+
+    #[inline(always)]
+    fn is_parted(self, c: char, next: char) -> bool {
+        parts_expressions(c, next)
+    }
+}

@@ -1,0 +1,10 @@
+pub mod Bars
+pub mod Ends
+mod Examples
+pub mod Growing
+pub mod Numbers
+pub mod Points
+pub mod Ratios
+pub mod Signed
+pub mod Told
+pub mod WholeQuantities

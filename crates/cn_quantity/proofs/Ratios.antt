@@ -1,0 +1,314 @@
+-- The answer to a text without sign, from the answers to its parts.
+use Rattle.std.proofs.Common.{◌≡◌, ℕ, suc, ◌+◌, ◌-◌, ◌*◌, ◌^◌, ◌<◌, Bool, true, false, nat_lt, ◌&&◌, List, [], ◌∷◌, length, take, Result, Ok, Err, refl, sym, ap, ◌∙◌, arith, length-take, if◌then◌else◌}
+use Rattle.cn_core.specs.declared.method.ChineseCountMethod.{ChineseCountMethod}
+use Rattle.cn_core.specs.Refusal.{Refusal, empty, incorrect_at, too_large, too_small}
+use Rattle.cn_core.specs.Text.{text_of}
+use Rattle.cn_judge.specs.Piece.{answer_at}
+use Rattle.cn_quantity.specs.declared.number.Decimal.{Decimal}
+use Rattle.cn_quantity.specs.declared.quantity.QuantityForm.{QuantityForm}
+use Rattle.cn_quantity.specs.declared.quantity.QuantityForm.TheVariants.{Fraction, Percent}
+use Rattle.cn_quantity.specs.declared.ratio.Ratio.{Ratio}
+use Rattle.cn_quantity.specs.Answer.{and_then, further_by}
+use Rattle.cn_quantity.specs.Characters.{is_fen, is_zhi}
+use Rattle.cn_quantity.specs.Number.{divisor_answer, number_answer, part_answer}
+use Rattle.cn_quantity.specs.Private.{IsFront, SplitsAtBar}
+use Rattle.cn_quantity.specs.Ratio.{after_bar, before_bar, form_of, fraction_answer, is_fraction, is_percentage, ratio_answer, ratio_of}
+use Rattle.cn_quantity.proofs.Numbers.{divisor-within, number-low, part-low}
+use Rattle.cn_quantity.proofs.Told.{told-end, told-front, told-goes_on, told-stops}
+
+-- a number over a divisor names no place
+ratio-told : (skipped : ℕ) (bytes : List ℕ) (divisor : ℕ) (form : QuantityForm)
+    (decimal : Decimal)
+    → ratio_of divisor form decimal ≡ answer_at skipped bytes (ratio_of divisor form decimal)
+ratio-told skipped bytes divisor form decimal =
+    by (nat_lt (divisor * 10 ^ decimal.decimals) (2 ^ 128)) where
+      by : (b : Bool) → ◌≡◌ {A = Result Ratio Refusal} (if b
+          then Ok (record {
+            numerator = decimal.number;
+            denominator = divisor * 10 ^ decimal.decimals;
+            form = form;
+          }) else Err too_large)
+          (answer_at skipped bytes (if b
+          then Ok (record {
+            numerator = decimal.number;
+            denominator = divisor * 10 ^ decimal.decimals;
+            form = form;
+          }) else Err too_large))
+      by true = refl
+      by false = refl
+
+-- which text is a fraction, a percentage, or neither
+a-fraction : (method : ChineseCountMethod) (text : List ℕ) → is_fraction text ≡ true
+    → ratio_answer method text ≡ fraction_answer method (before_bar text) (after_bar text)
+a-fraction method text e = rw e
+
+a-percentage : (method : ChineseCountMethod) (text : List ℕ) → is_fraction text ≡ false
+    → is_percentage text ≡ true
+    → ratio_answer method text ≡ and_then (number_answer method (take (length text - 1) text))
+    (λ decimal. ratio_of 100 Percent decimal)
+a-percentage method text e f = rw (e, f)
+
+a-number : (method : ChineseCountMethod) (text : List ℕ) → is_fraction text ≡ false
+    → is_percentage text ≡ false
+    → ratio_answer method text ≡ and_then (number_answer method text)
+    (λ decimal. ratio_of 1 (form_of decimal.decimals) decimal)
+a-number method text e f = rw (e, f)
+
+-- something stands in front of 分之
+some-divisor : (text : List ℕ) → is_fraction text ≡ true → 0 < length (before_bar text)
+some-divisor text h = by (before_bar text) h where
+  by : (before : List ℕ)
+      → (nat_lt 0 (length before) && nat_lt 0 (length (after_bar text))) ≡ true
+      → 0 < length before
+  by [] e = cc
+  by (c ∷ rest) e = omega arith
+
+-- the divisor's answer, told in the whole text
+divisor-told : (method : ChineseCountMethod) (skipped index : ℕ) (bytes divisor behind : List ℕ)
+    → is_fraction (text_of bytes) ≡ true → SplitsAtBar bytes divisor index behind
+    → answer_at skipped divisor (divisor_answer method (text_of divisor))
+    ≡ answer_at skipped bytes (divisor_answer method (before_bar (text_of bytes)))
+divisor-told method skipped index bytes divisor behind e s =
+    let some : 0 < length (text_of divisor) =
+    (let h = some-divisor (text_of bytes) e in rw s.divisor_is h) in
+    told-front skipped bytes divisor (divisor_answer method (text_of divisor)) s.front
+    (λ place h. divisor-within method (text_of divisor) place some h)
+    ∙ ap (λ l. answer_at skipped bytes (divisor_answer method l)) s.divisor_is
+
+-- the answer behind 分之, told in the whole text
+behind-told : (method : ChineseCountMethod) (skipped index : ℕ) (bytes divisor behind : List ℕ)
+    → SplitsAtBar bytes divisor index behind
+    → answer_at (skipped + index) behind (part_answer method (text_of behind))
+    ≡ answer_at skipped bytes (further_by (length (before_bar (text_of bytes)) + 2)
+    (part_answer method (after_bar (text_of bytes))))
+behind-told method skipped index bytes divisor behind s =
+    told-end skipped bytes behind index (length (before_bar (text_of bytes)) + 2)
+    (part_answer method (text_of behind)) s.stands
+    ∙ ap (λ l. answer_at skipped bytes (further_by (length (before_bar (text_of bytes)) + 2)
+    (part_answer method l))) s.behind_is
+
+-- the divisor is refused
+pub fraction-stops : (method : ChineseCountMethod) (skipped index : ℕ)
+    (bytes divisor behind : List ℕ) (refusal : Refusal)
+    → is_fraction (text_of bytes) ≡ true → SplitsAtBar bytes divisor index behind
+    → Err refusal ≡ answer_at skipped divisor (divisor_answer method (text_of divisor))
+    → Err refusal ≡ answer_at skipped bytes (ratio_answer method (text_of bytes))
+fraction-stops method skipped index bytes divisor behind refusal e s h =
+    told-stops skipped bytes (divisor_answer method (before_bar (text_of bytes))) _ refusal
+    (h ∙ divisor-told method skipped index bytes divisor behind e s)
+    ∙ ap (answer_at skipped bytes) (sym (a-fraction method (text_of bytes) e))
+
+-- the divisor is a number
+fraction-by : (method : ChineseCountMethod) (skipped index number : ℕ)
+    (bytes divisor behind : List ℕ) → is_fraction (text_of bytes) ≡ true
+    → SplitsAtBar bytes divisor index behind
+    → Ok number ≡ answer_at skipped divisor (divisor_answer method (text_of divisor))
+    → ratio_answer method (text_of bytes)
+    ≡ and_then (further_by (length (before_bar (text_of bytes)) + 2)
+    (part_answer method (after_bar (text_of bytes))))
+    (λ decimal. ratio_of number Fraction decimal)
+fraction-by method skipped index number bytes divisor behind e s h =
+    a-fraction method (text_of bytes) e
+    ∙ told-goes_on skipped bytes (divisor_answer method (before_bar (text_of bytes))) _ number
+    (h ∙ divisor-told method skipped index bytes divisor behind e s)
+
+-- what stands behind 分之 is refused
+pub fraction-stops_behind : (method : ChineseCountMethod) (skipped index number : ℕ)
+    (bytes divisor behind : List ℕ) (refusal : Refusal) → is_fraction (text_of bytes) ≡ true
+    → SplitsAtBar bytes divisor index behind
+    → Ok number ≡ answer_at skipped divisor (divisor_answer method (text_of divisor))
+    → Err refusal ≡ answer_at (skipped + index) behind (part_answer method (text_of behind))
+    → Err refusal ≡ answer_at skipped bytes (ratio_answer method (text_of bytes))
+fraction-stops_behind method skipped index number bytes divisor behind refusal e s h g =
+    told-stops skipped bytes (further_by (length (before_bar (text_of bytes)) + 2)
+    (part_answer method (after_bar (text_of bytes))))
+    (λ decimal. ratio_of number Fraction decimal) refusal
+    (g ∙ behind-told method skipped index bytes divisor behind s)
+    ∙ ap (answer_at skipped bytes)
+    (sym (fraction-by method skipped index number bytes divisor behind e s h))
+
+-- both are numbers
+pub fraction-goes_on : (method : ChineseCountMethod) (skipped index number : ℕ)
+    (bytes divisor behind : List ℕ) (decimal : Decimal) (answer : Result Ratio Refusal)
+    → is_fraction (text_of bytes) ≡ true → SplitsAtBar bytes divisor index behind
+    → Ok number ≡ answer_at skipped divisor (divisor_answer method (text_of divisor))
+    → Ok decimal ≡ answer_at (skipped + index) behind (part_answer method (text_of behind))
+    → answer ≡ ratio_of number Fraction decimal
+    → answer ≡ answer_at skipped bytes (ratio_answer method (text_of bytes))
+fraction-goes_on method skipped index number bytes divisor behind decimal answer e s h g is =
+    is ∙ ratio-told skipped bytes number Fraction decimal
+    ∙ ap (answer_at skipped bytes)
+    (sym (fraction-by method skipped index number bytes divisor behind e s h
+    ∙ told-goes_on skipped bytes (further_by (length (before_bar (text_of bytes)) + 2)
+    (part_answer method (after_bar (text_of bytes))))
+    (λ decimal. ratio_of number Fraction decimal) decimal
+    (g ∙ behind-told method skipped index bytes divisor behind s)))
+
+-- the answer in front of a percent sign, told in the whole text
+percent-told : (method : ChineseCountMethod) (skipped : ℕ) (bytes before : List ℕ)
+    → IsFront bytes before
+    → text_of before ≡ take (length (text_of bytes) - 1) (text_of bytes)
+    → answer_at skipped before (number_answer method (text_of before))
+    ≡ answer_at skipped bytes
+    (number_answer method (take (length (text_of bytes) - 1) (text_of bytes)))
+percent-told method skipped bytes before f is =
+    told-front skipped bytes before (number_answer method (text_of before)) f
+    (number-low method (text_of before))
+    ∙ ap (λ l. answer_at skipped bytes (number_answer method l)) is
+
+pub percent-stops : (method : ChineseCountMethod) (skipped : ℕ) (bytes before : List ℕ)
+    (refusal : Refusal) → is_fraction (text_of bytes) ≡ false
+    → is_percentage (text_of bytes) ≡ true → IsFront bytes before
+    → text_of before ≡ take (length (text_of bytes) - 1) (text_of bytes)
+    → Err refusal ≡ answer_at skipped before (number_answer method (text_of before))
+    → Err refusal ≡ answer_at skipped bytes (ratio_answer method (text_of bytes))
+percent-stops method skipped bytes before refusal e p f is h =
+    told-stops skipped bytes
+    (number_answer method (take (length (text_of bytes) - 1) (text_of bytes)))
+    (λ decimal. ratio_of 100 Percent decimal) refusal
+    (h ∙ percent-told method skipped bytes before f is)
+    ∙ ap (answer_at skipped bytes) (sym (a-percentage method (text_of bytes) e p))
+
+pub percent-goes_on : (method : ChineseCountMethod) (skipped : ℕ) (bytes before : List ℕ)
+    (decimal : Decimal) (answer : Result Ratio Refusal) → is_fraction (text_of bytes) ≡ false
+    → is_percentage (text_of bytes) ≡ true → IsFront bytes before
+    → text_of before ≡ take (length (text_of bytes) - 1) (text_of bytes)
+    → Ok decimal ≡ answer_at skipped before (number_answer method (text_of before))
+    → answer ≡ ratio_of 100 Percent decimal
+    → answer ≡ answer_at skipped bytes (ratio_answer method (text_of bytes))
+percent-goes_on method skipped bytes before decimal answer e p f front h is =
+    is ∙ ratio-told skipped bytes 100 Percent decimal
+    ∙ ap (answer_at skipped bytes) (sym (a-percentage method (text_of bytes) e p
+    ∙ told-goes_on skipped bytes
+    (number_answer method (take (length (text_of bytes) - 1) (text_of bytes)))
+    (λ decimal. ratio_of 100 Percent decimal) decimal
+    (h ∙ percent-told method skipped bytes before f front)))
+
+-- a number by itself
+pub number-stops : (method : ChineseCountMethod) (skipped : ℕ) (bytes : List ℕ)
+    (refusal : Refusal) → is_fraction (text_of bytes) ≡ false
+    → is_percentage (text_of bytes) ≡ false
+    → Err refusal ≡ answer_at skipped bytes (number_answer method (text_of bytes))
+    → Err refusal ≡ answer_at skipped bytes (ratio_answer method (text_of bytes))
+number-stops method skipped bytes refusal e p h =
+    told-stops skipped bytes (number_answer method (text_of bytes))
+    (λ decimal. ratio_of 1 (form_of decimal.decimals) decimal) refusal h
+    ∙ ap (answer_at skipped bytes) (sym (a-number method (text_of bytes) e p))
+
+pub number-goes_on : (method : ChineseCountMethod) (skipped : ℕ) (bytes : List ℕ)
+    (decimal : Decimal) (answer : Result Ratio Refusal) → is_fraction (text_of bytes) ≡ false
+    → is_percentage (text_of bytes) ≡ false
+    → Ok decimal ≡ answer_at skipped bytes (number_answer method (text_of bytes))
+    → answer ≡ ratio_of 1 (form_of decimal.decimals) decimal
+    → answer ≡ answer_at skipped bytes (ratio_answer method (text_of bytes))
+number-goes_on method skipped bytes decimal answer e p h is =
+    is ∙ ratio-told skipped bytes 1 (form_of decimal.decimals) decimal
+    ∙ ap (answer_at skipped bytes) (sym (a-number method (text_of bytes) e p
+    ∙ told-goes_on skipped bytes (number_answer method (text_of bytes))
+    (λ decimal. ratio_of 1 (form_of decimal.decimals) decimal) decimal h))
+
+-- what stands in front of 分之, its two characters, and what stands behind it
+bar-lengths : (text : List ℕ) → 0 < length (after_bar text)
+    → length (before_bar text) + 2 + length (after_bar text) ≡ length text
+bar-lengths [] some = absurd (omega (arith, some))
+bar-lengths (c ∷ []) some = absurd (omega (arith, some))
+bar-lengths (c ∷ next ∷ rest) some =
+    by (is_fen c) (is_zhi next) some (bar-lengths (next ∷ rest)) where
+      by : (a b : Bool) → 0 < length (if a && b then rest else after_bar (next ∷ rest))
+          → (0 < length (after_bar (next ∷ rest))
+          → length (before_bar (next ∷ rest)) + 2 + length (after_bar (next ∷ rest))
+          ≡ length (next ∷ rest))
+          → length (if a && b then [] else c ∷ before_bar (next ∷ rest)) + 2
+          + length (if a && b then rest else after_bar (next ∷ rest)) ≡ suc (suc (length rest))
+      by true true some ih = omega arith
+      by true false some ih = let h = ih some in omega (arith, h)
+      by false b some ih = let h = ih some in omega (arith, h)
+
+ratio-placeless : (divisor : ℕ) (form : QuantityForm) (decimal : Decimal) (place : ℕ)
+    → ratio_of divisor form decimal ≡ Err (incorrect_at place) → ⊥
+ratio-placeless divisor form decimal place h =
+    by (nat_lt (divisor * 10 ^ decimal.decimals) (2 ^ 128)) h where
+      by : (b : Bool) → ◌≡◌ {A = Result Ratio Refusal} (if b
+          then Ok (record {
+            numerator = decimal.number;
+            denominator = divisor * 10 ^ decimal.decimals;
+            form = form;
+          }) else Err too_large)
+          (Err (incorrect_at place)) → ⊥
+      by true e = cc
+      by false e = cc
+
+-- the first answer is refused, since the next one names no place
+over-refused : (first : Result Decimal Refusal) (divisor : ℕ) (form : Decimal → QuantityForm)
+    (place : ℕ)
+    → and_then first (λ decimal. ratio_of divisor (form decimal) decimal)
+    ≡ Err (incorrect_at place) → first ≡ Err (incorrect_at place)
+over-refused (Ok decimal) divisor form place h =
+    absurd (ratio-placeless divisor (form decimal) decimal place h)
+over-refused (Err refusal) divisor form place h = cc
+
+further-low : {T : Type 0} (answer : Result T Refusal) (count place bound : ℕ)
+    → ((p : ℕ) → answer ≡ Err (incorrect_at p) → p < bound)
+    → further_by count answer ≡ Err (incorrect_at place) → place < bound + count
+further-low (Ok value) count place bound low h = cc
+further-low (Err empty) count place bound low h = cc
+further-low (Err too_large) count place bound low h = cc
+further-low (Err too_small) count place bound low h = cc
+further-low (Err (incorrect_at p)) count place bound low h =
+    let same : p + count ≡ place = cc in let l = low p refl in omega (arith, l, same)
+
+fraction-low : (method : ChineseCountMethod) (text : List ℕ) (place : ℕ)
+    → is_fraction text ≡ true
+    → fraction_answer method (before_bar text) (after_bar text) ≡ Err (incorrect_at place)
+    → place < length text
+fraction-low method text place fraction h =
+    by (divisor_answer method (before_bar text)) refl h where
+      some : 0 < length (after_bar text)
+      some = behind (nat_lt 0 (length (before_bar text))) (after_bar text) fraction where
+        behind : (b : Bool) (after : List ℕ) → (b && nat_lt 0 (length after)) ≡ true
+            → 0 < length after
+        behind true [] e = cc
+        behind false [] e = cc
+        behind b (c ∷ rest) e = omega arith
+
+      all : length (before_bar text) + 2 + length (after_bar text) ≡ length text
+      all = bar-lengths text some
+
+      by : (divisor : Result ℕ Refusal) → divisor_answer method (before_bar text) ≡ divisor
+          → and_then divisor (λ divisor.
+          and_then (further_by (length (before_bar text) + 2) (part_answer method (after_bar text)))
+          (λ decimal. ratio_of divisor Fraction decimal)) ≡ Err (incorrect_at place)
+          → place < length text
+      by (Ok divisor) is e =
+          let first = over-refused
+          (further_by (length (before_bar text) + 2) (part_answer method (after_bar text)))
+          divisor (λ decimal. Fraction) place e in
+          let low = further-low (part_answer method (after_bar text)) (length (before_bar text) + 2)
+          place (length (after_bar text)) (part-low method (after_bar text)) first in
+          omega (arith, low, all)
+      by (Err refusal) is e =
+          let same : refusal ≡ incorrect_at place = cc in
+          let low = divisor-within method (before_bar text) place (some-divisor text fraction)
+          (is ∙ ap Err same) in
+          omega (arith, low, all)
+
+-- a refusal of a text without sign points into it
+pub ratio-low : (method : ChineseCountMethod) (text : List ℕ) (place : ℕ)
+    → ratio_answer method text ≡ Err (incorrect_at place) → place < length text
+ratio-low method text place h = by (is_fraction text) (is_percentage text) refl h where
+  by : (a b : Bool) → is_fraction text ≡ a
+      → (if a then fraction_answer method (before_bar text) (after_bar text)
+      else (if b then and_then (number_answer method (take (length text - 1) text))
+      (λ decimal. ratio_of 100 Percent decimal)
+      else and_then (number_answer method text)
+      (λ decimal. ratio_of 1 (form_of decimal.decimals) decimal))) ≡ Err (incorrect_at place)
+      → place < length text
+  by true b e h = fraction-low method text place e h
+  by false true e h =
+      let first = over-refused (number_answer method (take (length text - 1) text)) 100
+      (λ decimal. Percent) place h in
+      let low = number-low method (take (length text - 1) text) place first in
+      omega (arith, low, length-take (length text - 1) text)
+  by false false e h =
+      number-low method text place
+      (over-refused (number_answer method text) 1 (λ decimal. form_of decimal.decimals) place h)

@@ -1,0 +1,52 @@
+-- A number in figures: figures, with a comma in front of each three or with none, then a point and
+-- figures or none, then rising units or none, as 1,280.5万.
+use Rattle.std.specs.Prelude.{ℕ, Bool, true, false, ◌&&◌, nat_lt, nat_le, List, [], ◌∷◌, if◌then◌else◌}
+use Rattle.std.specs.Option.{option_map_or}
+use Rattle.cn_quantity.specs.declared.characters.DigitKind.{DigitKind}
+use Rattle.cn_quantity.specs.declared.characters.DigitKind.TheVariants.{Figure}
+use Rattle.cn_quantity.specs.Characters.{is_comma, is_point, figure_of}
+use Rattle.cn_quantity.specs.Digits.{is_digit, leading_digits, after_digits}
+use Rattle.cn_quantity.specs.Units.{are_rising_units}
+
+-- one to three figures that do not begin with 0: groups may follow them
+abbrev pub may_lead_groups : List ℕ → Bool
+may_lead_groups [] = false
+may_lead_groups (c ∷ rest) =
+    option_map_or (λ digit. nat_lt 0 digit) (figure_of c) false
+    && nat_le (leading_digits Figure (c ∷ rest)) 3
+
+-- what follows the groups of a comma and three figures that a text begins with
+abbrev pub after_groups : List ℕ → List ℕ
+after_groups (c ∷ x ∷ y ∷ z ∷ rest) =
+    if is_comma c && is_digit Figure x && is_digit Figure y && is_digit Figure z
+    then after_groups rest else c ∷ x ∷ y ∷ z ∷ rest
+after_groups text = text
+
+-- what follows the figures and groups that a text begins with
+abbrev pub after_figures : List ℕ → List ℕ
+after_figures text =
+    if may_lead_groups text then after_groups (after_digits Figure text)
+    else after_digits Figure text
+
+-- digits, and then rising units or none: what stands behind a point
+abbrev pub are_decimals : DigitKind → List ℕ → Bool
+are_decimals kind text =
+    nat_lt 0 (leading_digits kind text) && are_rising_units (after_digits kind text)
+
+-- a point and decimals, or rising units, or nothing: what stands behind the figures
+abbrev pub ends_in_figures : List ℕ → Bool
+ends_in_figures [] = true
+ends_in_figures (c ∷ rest) =
+    if is_point Figure c then are_decimals Figure rest else are_rising_units (c ∷ rest)
+
+abbrev pub is_in_figures : List ℕ → Bool
+is_in_figures text =
+    nat_lt 0 (leading_digits Figure text) && ends_in_figures (after_figures text)
+
+-- how many figures stand behind the point
+abbrev pub decimals_of : List ℕ → ℕ
+decimals_of [] = 0
+decimals_of (c ∷ rest) = if is_point Figure c then leading_digits Figure rest else 0
+
+abbrev pub decimals_in_figures : List ℕ → ℕ
+decimals_in_figures text = decimals_of (after_figures text)

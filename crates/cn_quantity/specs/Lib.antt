@@ -1,0 +1,11 @@
+pub mod Answer
+pub mod Characters
+pub mod Decimal
+pub mod Digits
+pub mod Figures
+pub mod Number
+pub mod Private
+pub mod Ratio
+pub mod Reading
+pub mod Units
+pub mod Whole

@@ -1,0 +1,78 @@
+-- What a text is worth that has no sign, no percent sign and no 分之.
+use Rattle.std.specs.Prelude.{ℕ, ◌+◌, Bool, ◌&&◌, ◌==◌, nat_lt, List, [], ◌∷◌, length, Option, Some, None, is_some, Result, Ok, Err, if◌then◌else◌, option_map}
+use Rattle.std.specs.Option.{option_map_or}
+use Rattle.std.specs.List.{list_all}
+use Rattle.cn_core.specs.declared.method.ChineseCountMethod.{ChineseCountMethod}
+use Rattle.cn_core.specs.Characters.{digit_of}
+use Rattle.cn_core.specs.Judging.{judge}
+use Rattle.cn_core.specs.Naive.{naive_answer}
+use Rattle.cn_core.specs.Refusal.{Refusal, incorrect_at, too_large}
+use Rattle.cn_core.specs.Text.{marks_of}
+use Rattle.cn_quantity.specs.declared.characters.DigitKind.TheVariants.{Figure, Chinese}
+use Rattle.cn_quantity.specs.declared.number.Decimal.{Decimal}
+use Rattle.cn_quantity.specs.Answer.{and_then}
+use Rattle.cn_quantity.specs.Characters.{chinese_digit_of, tens_of}
+use Rattle.cn_quantity.specs.Decimal.{after_point, before_point, decimals_behind_point, is_chinese_decimal}
+use Rattle.cn_quantity.specs.Digits.{read_with_units}
+use Rattle.cn_quantity.specs.Figures.{decimals_in_figures, is_in_figures}
+use Rattle.cn_quantity.specs.Units.{are_rising_units, times_units}
+
+-- each character is a digit of numerals
+abbrev pub is_plain : List ℕ → Bool
+is_plain text = list_all (λ c. is_some (digit_of c)) text
+
+-- a whole number as the readers of numerals read it: plain digits, and any other text by units
+abbrev pub whole_answer : ChineseCountMethod → List ℕ → Result ℕ Refusal
+whole_answer method text =
+    if is_plain text then naive_answer (marks_of text) else judge method (marks_of text)
+
+-- 廿 or 卅, and one Chinese digit or none: 23 of 廿三
+abbrev pub short_tens : List ℕ → Option ℕ
+short_tens [] = None
+short_tens (c ∷ []) = tens_of c
+short_tens (c ∷ d ∷ []) =
+    option_map_or (λ tens. option_map (λ digit. tens + digit) (chinese_digit_of d)) (tens_of c) None
+short_tens text = None
+
+-- a number with so many decimals, if it fits 128 bits without its point
+abbrev pub decimal_of : ℕ → Option ℕ → Result Decimal Refusal
+decimal_of decimals (Some number) = Ok (record { number = number; decimals = decimals })
+decimal_of decimals None = Err too_large
+
+-- a Chinese decimal: what stands in front of the point is a whole number, behind whose digits those
+-- behind the point are read on
+abbrev pub chinese_decimal_answer : ChineseCountMethod → List ℕ → Result Decimal Refusal
+chinese_decimal_answer method text =
+    and_then (whole_answer method (before_point text))
+    (λ whole. decimal_of (decimals_behind_point text)
+    (read_with_units method Chinese whole (after_point text)))
+
+-- 廿 or 卅 by themselves, or a whole number
+abbrev pub whole_number_answer : ChineseCountMethod → List ℕ → Result Decimal Refusal
+whole_number_answer method text =
+    option_map_or (λ number. decimal_of 0 (Some number)) (short_tens text)
+    (and_then (whole_answer method text) (λ whole. decimal_of 0 (Some whole)))
+
+-- a number in figures, or a Chinese decimal, or a whole number
+abbrev pub number_answer : ChineseCountMethod → List ℕ → Result Decimal Refusal
+number_answer method text =
+    if is_in_figures text
+    then decimal_of (decimals_in_figures text) (read_with_units method Figure 0 text)
+    else (if is_chinese_decimal text then chinese_decimal_answer method text
+    else whole_number_answer method text)
+
+-- of a part of a fraction the same, but rising units alone count as with 一 in front, as in 百分之百
+abbrev pub part_answer : ChineseCountMethod → List ℕ → Result Decimal Refusal
+part_answer method text =
+    if nat_lt 0 (length text) && are_rising_units text then decimal_of 0 (times_units method 1 text)
+    else number_answer method text
+
+-- a whole number above 0
+abbrev pub is_divisor : Decimal → Bool
+is_divisor decimal = nat_lt 0 decimal.number && decimal.decimals == 0
+
+-- a divisor is such a number, else its first character is at fault
+abbrev pub divisor_answer : ChineseCountMethod → List ℕ → Result ℕ Refusal
+divisor_answer method text =
+    and_then (part_answer method text)
+    (λ decimal. if is_divisor decimal then Ok decimal.number else Err (incorrect_at 0))

@@ -1,0 +1,48 @@
+-- What contracts of private functions cite: ends of a string, and answers to pieces of it.
+use Rattle.std.specs.Prelude.{◌≡◌, ℕ, ◌+◌, List, [], ◌∷◌, ◌++◌, length, chars, Option}
+use Rattle.cn_core.specs.declared.sign.Sign.{Sign}
+use Rattle.cn_core.specs.Reading.{too_far}
+use Rattle.cn_core.specs.Refusal.{Refusal, too_large}
+use Rattle.cn_core.specs.Text.{text_of}
+use Rattle.cn_judge.specs.Piece.{StandsAt}
+use Rattle.cn_quantity.specs.Decimal.{after_point, before_point}
+use Rattle.cn_quantity.specs.Ratio.{after_bar, before_bar}
+
+-- the string ends with this one
+pub record IsEnd (bytes rest : List ℕ) : Type 0 where
+  pub front : List ℕ
+  pub parts : chars bytes ≡ front ++ chars rest
+
+-- its first character that is no white space, and what stands behind it
+pub record BeginsWith (bytes : List ℕ) (c : ℕ) (rest : List ℕ) : Type 0 where
+  pub text : text_of bytes ≡ c ∷ text_of rest
+  pub end : IsEnd bytes rest
+
+-- the string begins with this one
+pub record IsFront (bytes front : List ℕ) : Type 0 where
+  pub more : List ℕ
+  pub parts : chars bytes ≡ chars front ++ more
+
+-- its last character that is no white space, and what stands in front of it
+pub record FinishesWith (bytes : List ℕ) (c : ℕ) (before : List ℕ) : Type 0 where
+  pub text : text_of bytes ≡ text_of before ++ c ∷ []
+  pub front : IsFront bytes before
+
+-- what stands in front of the first point of a string, and what behind it
+pub record SplitsAtPoint (bytes before behind : List ℕ) : Type 0 where
+  pub before_is : text_of before ≡ before_point (text_of bytes)
+  pub behind_is : text_of behind ≡ after_point (text_of bytes)
+  pub front : IsFront bytes before
+
+-- what stands in front of the first 分之 of a string, how many characters before what stands behind
+-- it, and that
+pub record SplitsAtBar (bytes divisor : List ℕ) (index : ℕ) (behind : List ℕ) : Type 0 where
+  pub divisor_is : text_of divisor ≡ before_bar (text_of bytes)
+  pub behind_is : text_of behind ≡ after_bar (text_of bytes)
+  pub front : IsFront bytes divisor
+  pub stands : StandsAt bytes (chars behind) index (length (before_bar (text_of bytes)) + 2)
+
+-- a refusal of what stands behind a sign
+abbrev pub signed_refusal : Option Sign → Refusal → Refusal
+signed_refusal sign too_large = too_far sign
+signed_refusal sign refusal = refusal

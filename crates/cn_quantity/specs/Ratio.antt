@@ -1,0 +1,71 @@
+-- What a text without sign is worth: a fraction, a percentage, or a number by itself.
+use Rattle.std.specs.Prelude.{ℕ, zero, suc, ◌+◌, ◌-◌, ◌*◌, ◌^◌, Bool, false, ◌&&◌, nat_lt, List, [], ◌∷◌, length, take, Result, Ok, Err, if◌then◌else◌}
+use Rattle.cn_core.specs.declared.method.ChineseCountMethod.{ChineseCountMethod}
+use Rattle.cn_core.specs.Refusal.{Refusal, too_large}
+use Rattle.cn_quantity.specs.declared.number.Decimal.{Decimal as DecimalNumber}
+use Rattle.cn_quantity.specs.declared.quantity.QuantityForm.{QuantityForm}
+use Rattle.cn_quantity.specs.declared.quantity.QuantityForm.TheVariants.{Whole, Decimal, Percent, Fraction}
+use Rattle.cn_quantity.specs.declared.ratio.Ratio.{Ratio}
+use Rattle.cn_quantity.specs.Answer.{and_then, further_by}
+use Rattle.cn_quantity.specs.Characters.{is_fen, is_zhi, is_percent}
+use Rattle.cn_quantity.specs.Number.{divisor_answer, number_answer, part_answer}
+
+-- a number over a divisor, as written, if what is below the line fits 128 bits: over 100, 12.5 is
+-- 125/1000
+abbrev pub ratio_of : ℕ → QuantityForm → DecimalNumber → Result Ratio Refusal
+ratio_of divisor form decimal =
+    let denominator = divisor * 10 ^ decimal.decimals in
+    if nat_lt denominator (2 ^ 128)
+    then Ok (record { numerator = decimal.number; denominator = denominator; form = form })
+    else Err too_large
+
+-- the form of a number by itself
+abbrev pub form_of : ℕ → QuantityForm
+form_of zero = Whole
+form_of (suc more) = Decimal
+
+-- the text begins with 之
+abbrev pub begins_with_zhi : List ℕ → Bool
+begins_with_zhi [] = false
+begins_with_zhi (c ∷ rest) = is_zhi c
+
+-- what stands in front of the first 分之, and what behind it
+abbrev pub before_bar : List ℕ → List ℕ
+before_bar [] = []
+before_bar (c ∷ rest) = if is_fen c && begins_with_zhi rest then [] else c ∷ before_bar rest
+
+abbrev pub after_bar : List ℕ → List ℕ
+after_bar [] = []
+after_bar (c ∷ []) = []
+after_bar (c ∷ next ∷ rest) = if is_fen c && is_zhi next then rest else after_bar (next ∷ rest)
+
+-- something stands on both sides of 分之
+abbrev pub is_fraction : List ℕ → Bool
+is_fraction text = nat_lt 0 (length (before_bar text)) && nat_lt 0 (length (after_bar text))
+
+-- a fraction by its divisor and what stands behind 分之
+abbrev pub fraction_answer : ChineseCountMethod → List ℕ → List ℕ → Result Ratio Refusal
+fraction_answer method before behind =
+    and_then (divisor_answer method before) (λ divisor.
+    and_then (further_by (length before + 2) (part_answer method behind))
+    (λ decimal. ratio_of divisor Fraction decimal))
+
+-- the last character is a percent sign
+abbrev pub ends_with_percent : List ℕ → Bool
+ends_with_percent [] = false
+ends_with_percent (c ∷ []) = is_percent c
+ends_with_percent (c ∷ next ∷ rest) = ends_with_percent (next ∷ rest)
+
+-- a percent sign at the end, and something in front of it
+abbrev pub is_percentage : List ℕ → Bool
+is_percentage text = nat_lt 1 (length text) && ends_with_percent text
+
+-- the answer to a text without sign
+abbrev pub ratio_answer : ChineseCountMethod → List ℕ → Result Ratio Refusal
+ratio_answer method text =
+    if is_fraction text then fraction_answer method (before_bar text) (after_bar text)
+    else (if is_percentage text
+    then and_then (number_answer method (take (length text - 1) text))
+    (λ decimal. ratio_of 100 Percent decimal)
+    else and_then (number_answer method text)
+    (λ decimal. ratio_of 1 (form_of decimal.decimals) decimal))

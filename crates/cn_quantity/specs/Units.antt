@@ -1,0 +1,36 @@
+-- Units that multiply what stands in front of them, as 百万 in 2.5百万.
+use Rattle.std.specs.Prelude.{ℕ, ◌*◌, ◌^◌, Bool, true, false, ◌&&◌, nat_lt, List, [], ◌∷◌, Option, Some, None, if◌then◌else◌}
+use Rattle.std.specs.Option.{option_map_or}
+use Rattle.std.specs.List.{list_all}
+use Rattle.cn_core.specs.declared.method.ChineseCountMethod.{ChineseCountMethod}
+use Rattle.cn_core.specs.Characters.{rank_of}
+use Rattle.cn_core.specs.Scale.{scale, scale_fits}
+
+-- each character is a unit, greater than this rank and than the one before it
+abbrev pub are_rising : ℕ → List ℕ → Bool
+are_rising least [] = true
+are_rising least (c ∷ rest) =
+    option_map_or (λ rank. nat_lt least rank && are_rising rank rest) (rank_of c) false
+
+-- rising units: from 百 up, each greater than the one before it, or none
+abbrev pub are_rising_units : List ℕ → Bool
+are_rising_units text = are_rising 1 text
+
+-- a number, times each unit of a text, if each of their scales and the product fit 128 bits
+abbrev pub times_units : ChineseCountMethod → ℕ → List ℕ → Option ℕ
+times_units method number [] = if nat_lt number (2 ^ 128) then Some number else None
+times_units method number (c ∷ rest) =
+    option_map_or (λ rank. if scale_fits method rank
+    then times_units method (number * scale method rank) rest else None)
+    (rank_of c) (times_units method number rest)
+
+-- each unit of the text is smaller than this one
+abbrev pub are_below : Option ℕ → List ℕ → Bool
+are_below None text = true
+are_below (Some greatest) text =
+    list_all (λ c. option_map_or (λ rank. nat_lt rank greatest) (rank_of c) true) text
+
+-- the rank of the first character
+abbrev pub first_rank : List ℕ → Option ℕ
+first_rank [] = None
+first_rank (c ∷ rest) = rank_of c

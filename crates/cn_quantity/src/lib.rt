@@ -1,0 +1,17 @@
+//! Reads a text as an exact quantity: a whole number, a decimal, a percentage or a fraction, in
+//! figures, in numerals or in both, exactly as the definitions in `specs/` say. Nothing here takes
+//! memory.
+#![tactic(auto)]
+
+mod characters;
+mod decimal;
+mod digits;
+mod figures;
+pub mod laws;
+mod number;
+mod pieces;
+mod quantity;
+mod ratio;
+mod units;
+
+pub use quantity::{Quantity, QuantityForm, chinese_to_quantity};

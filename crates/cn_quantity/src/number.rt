@@ -1,0 +1,158 @@
+// What a text is worth that has no sign, no percent sign and no 分之.
+ghost use Rattle.std.specs.Prelude.{◌≡◌, ◌+◌, ◌^◌, ◌<◌, length, IfOk};
+ghost use Rattle.cn_core.specs.Text.{text_of};
+ghost use Rattle.cn_judge.specs.Answer.{answer_of};
+ghost use Rattle.cn_judge.specs.Piece.{answer_at};
+ghost use Rattle.cn_quantity.specs.Number.{decimal_of, divisor_answer, is_divisor, is_plain, number_answer, part_answer, short_tens, whole_answer};
+
+use crate::characters::{DigitKind, digit_by, tens_of};
+use crate::decimal::split_decimal;
+use crate::digits::read_with_units;
+use crate::figures::decimals_in_figures;
+use crate::pieces::split_first;
+use crate::units::{are_rising_units, times_units};
+use cn_core::{ChineseCountMethod, digit_of};
+use cn_judge::{ChineseToNumberError, judge_naive, judge_text};
+
+/// A number without its point, and how many decimals it has: 314 and 2 for 3.14.
+#[derive(Copy, Clone)]
+pub struct Decimal {
+    pub number: u128,
+    pub decimals: usize,
+}
+
+// Whether each character is a digit of numerals.
+fn is_plain(text: &str) -> bool
+    ensures { result ≡ is_plain (text_of text.now) }
+{
+    let mut rest = text;
+    'looking: while let Some((c, after)) = split_first(rest) {
+        if digit_of(c).is_none() {
+            return false;
+        }
+        rest = after;
+    }
+    true
+}
+
+// The whole number of a text as the readers of numerals read it, behind so many characters of the
+// caller's string.
+fn judge_whole(
+    method: ChineseCountMethod,
+    skipped: usize,
+    text: &str,
+) -> Result<u128, ChineseToNumberError>
+    requires { skipped + length text.now < 2 ^ 64 }
+    ensures { answer_of (λ n. n) result
+        ≡ answer_at skipped text.now (whole_answer method (text_of text.now)) }
+{
+    if is_plain(text) {
+        judge_naive(skipped, text)
+    } else {
+        judge_text(method, skipped, text)
+    }
+}
+
+// The number of 廿 or 卅 with one digit behind it or none.
+fn short_tens(text: &str) -> Option<u128>
+    ensures { result ≡ short_tens (text_of text.now) }
+{
+    let (first, rest) = split_first(text)?;
+    let tens = tens_of(first)?;
+    let Some((second, behind)) = split_first(rest) else {
+        return Some(tens as u128);
+    };
+    if split_first(behind).is_some() {
+        return None;
+    }
+    let digit = digit_by(DigitKind::Chinese, second)?;
+    Some(tens as u128 + digit as u128)
+}
+
+// A number with so many decimals, if it fits.
+fn decimal_of(decimals: usize, number: Option<u128>) -> Result<Decimal, ChineseToNumberError>
+    ensures { answer_of (λ d. d) result ≡ decimal_of decimals number }
+{
+    match number {
+        Some(number) => Ok(Decimal { number, decimals }),
+        None => Err(ChineseToNumberError::Overflow),
+    }
+}
+
+/// The answer to a text that has no sign, no percent sign and no 分之, behind so many characters of
+/// the caller's string.
+pub fn judge_number(
+    method: ChineseCountMethod,
+    skipped: usize,
+    text: &str,
+) -> Result<Decimal, ChineseToNumberError>
+    requires { skipped + length text.now < 2 ^ 64 }
+    ensures { answer_of (λ d. d) result
+        ≡ answer_at skipped text.now (number_answer method (text_of text.now)) }
+{
+    if let Some(decimals) = decimals_in_figures(text) {
+        return decimal_of(
+            decimals,
+            read_with_units(method, DigitKind::Figure, 0, text),
+        );
+    }
+    if let Some(parts) = split_decimal(text) {
+        let whole = judge_whole(method, skipped, parts.whole)?;
+        return decimal_of(
+            parts.decimals,
+            read_with_units(method, DigitKind::Chinese, whole, parts.behind),
+        );
+    }
+    if let Some(number) = short_tens(text) {
+        return decimal_of(0, Some(number));
+    }
+    let whole = judge_whole(method, skipped, text)?;
+    decimal_of(0, Some(whole))
+}
+
+/// The same of a part of a fraction, where units alone count as with 一 in front.
+pub fn judge_part(
+    method: ChineseCountMethod,
+    skipped: usize,
+    text: &str,
+) -> Result<Decimal, ChineseToNumberError>
+    requires { skipped + length text.now < 2 ^ 64 }
+    ensures { answer_of (λ d. d) result
+        ≡ answer_at skipped text.now (part_answer method (text_of text.now)) }
+{
+    if split_first(text).is_some() && are_rising_units(text) {
+        decimal_of(0, times_units(method, 1, text))
+    } else {
+        judge_number(method, skipped, text)
+    }
+}
+
+// Whether the number may stand below a line: it is a whole one above 0.
+fn is_divisor(decimal: Decimal) -> bool
+    ensures { result ≡ is_divisor decimal }
+{
+    decimal.number > 0 && decimal.decimals == 0
+}
+
+/// The whole number above 0 that a divisor is; its first character is at fault where it is none.
+pub fn judge_divisor(
+    method: ChineseCountMethod,
+    skipped: usize,
+    text: &str,
+) -> Result<u128, ChineseToNumberError>
+    requires { skipped + length text.now < 2 ^ 64 }
+    ensures answer { answer_of (λ n. n) result
+        ≡ answer_at skipped text.now (divisor_answer method (text_of text.now)) }
+    ensures above { IfOk result (λ n. 0 < n) }
+{
+    let Some(first) = cn_judge::split_first(text) else {
+        return Err(ChineseToNumberError::ChineseNumberEmpty);
+    };
+    let divisor = judge_part(method, skipped, text)?;
+    if is_divisor(divisor) {
+        Ok(divisor.number)
+    } else {
+        let char_index = skipped + first.skipped;
+        Err(ChineseToNumberError::ChineseNumberIncorrect { char_index })
+    }
+}

@@ -1,0 +1,35 @@
+// A text, taken apart: its first and last character that are no white space, and what stands before
+// one of its ends.
+ghost use Rattle.std.specs.Prelude.{◌≡◌, ◌+◌, ◌++◌, ◌<◌, [], ◌∷◌, length, chars, IfSome, MatchOption};
+ghost use Rattle.cn_core.specs.Text.{text_of};
+ghost use Rattle.cn_quantity.specs.Private.{BeginsWith, FinishesWith, IsEnd};
+
+/// The first character that is no white space, and what stands behind it.
+pub fn split_first(text: &str) -> Option<(char, &str)>
+    ensures parts { MatchOption result (text_of text.now ≡ [])
+        (λ r. BeginsWith text.now r.0 r.1.now) }
+    ensures shorter { IfSome result (λ r. length r.1.now < length text.now) }
+{
+    let first = cn_judge::split_first(text)?;
+    Some((first.character, first.rest))
+}
+
+/// The last character that is no white space, and what stands in front of it.
+pub fn split_last(text: &str) -> Option<(char, &str)>
+    ensures parts { MatchOption result (text_of text.now ≡ [])
+        (λ r. FinishesWith text.now r.0 r.1.now) }
+    ensures shorter { IfSome result (λ r. length r.1.now < length text.now) }
+{
+    let (c, before) = cn_judge::split_last(text)?;
+    Some((c, before))
+}
+
+/// What stands before an end of the text.
+pub fn before_end<'a>(text: &'a str, end: &str) -> &'a str
+    requires { IsEnd text.now end.now }
+    ensures parts { chars text.now ≡ chars result.now ++ chars end.now }
+    ensures sizes { length result.now + length end.now ≡ length text.now }
+{
+    let (before, _) = text.split_at(text.len() - end.len());
+    before
+}

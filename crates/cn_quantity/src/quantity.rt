@@ -1,0 +1,130 @@
+ghost use Rattle.std.specs.Prelude.{◌≡◌, ◌+◌, ◌≤◌, ℤ, length, chars, IsTrue, MatchOption};
+ghost use Rattle.cn_core.specs.Reading.{sign_len};
+ghost use Rattle.cn_core.specs.Text.{text_of};
+ghost use Rattle.cn_core.specs.Whole.{holds};
+ghost use Rattle.cn_judge.specs.Answer.{answer_of, refusal_of};
+ghost use Rattle.cn_judge.specs.Piece.{StandsAt};
+ghost use Rattle.cn_quantity.specs.Reading.{leading_sign, quantity_answer, signed_ratio};
+ghost use Rattle.cn_quantity.specs.Private.{signed_refusal};
+ghost use Rattle.cn_quantity.specs.Whole.{IsTimes};
+
+use crate::characters::sign_of;
+use crate::ratio::{Ratio, judge_ratio};
+use cn_core::{ChineseCountMethod, Sign, Whole};
+use cn_judge::{AfterSign, ChineseToNumberError, signed_answer};
+
+/// How a quantity is written.
+#[derive(Debug, Copy, Clone, Eq, PartialEq)]
+pub enum QuantityForm {
+    /// 35, 三十五, 3万
+    Whole,
+    /// 3.5, 三點五, 3.5万
+    Decimal,
+    /// 12.5%
+    Percent,
+    /// 三分之一, 百分之五十
+    Fraction,
+}
+
+/// An exact quantity, as written and not reduced: 12.5% is 125/1000.
+///
+/// Two are equal where numerators, denominators and forms are: 50% and 百分之五十 are two.
+#[derive(Debug, Copy, Clone, Eq, PartialEq)]
+pub struct Quantity {
+    /// The number above the line, with the sign.
+    pub numerator: i128,
+    /// The number below the line, above 0.
+    pub denominator: u128,
+    /// How the quantity is written.
+    pub form: QuantityForm,
+}
+
+impl Quantity {
+    /// The whole number that it is, if it is one and the type holds it.
+    ///
+    /// ```text
+    /// 3.5万, which is 350000/10, is Some(35000); 3.5 is None
+    /// ```
+    pub fn to_whole<T: Whole>(self) -> Option<T>
+        ensures { MatchOption result
+            ((n : ℤ) → IsTimes self.numerator self.denominator n → ¬ IsTrue (holds T.kind n))
+            (λ value. IsTimes self.numerator self.denominator (T.number value)) }
+    {
+        if self.denominator == 0 {
+            return None;
+        }
+        let magnitude = self.numerator.unsigned_abs();
+        let rest = magnitude % self.denominator;
+        if rest > 0 {
+            return None;
+        }
+        T::from_magnitude(self.numerator < 0, magnitude / self.denominator)
+    }
+}
+
+// The sign at the start of a text, and what follows it.
+fn split_sign(text: &str) -> AfterSign<'_>
+    ensures sign { result.sign ≡ leading_sign (text_of text.now) }
+    ensures rest { StandsAt text.now (chars result.rest.now) result.skipped (sign_len result.sign) }
+    ensures within { result.skipped + length result.rest.now ≤ length text.now }
+{
+    if let Some(first) = cn_judge::split_first(text) {
+        if let Some(sign) = sign_of(first.character) {
+            return AfterSign {
+                sign: Some(sign),
+                skipped: first.skipped + 1,
+                rest: first.rest,
+            };
+        }
+    }
+    AfterSign {
+        sign: None,
+        skipped: 0,
+        rest: text,
+    }
+}
+
+// The ratio with its sign, if its numerator fits.
+fn signed_ratio(sign: Option<Sign>, ratio: Ratio) -> Result<Quantity, ChineseToNumberError>
+    ensures { answer_of (λ q. q) result ≡ signed_ratio sign ratio }
+{
+    let numerator = signed_answer::<i128>(sign, Ok(ratio.numerator))?;
+    Ok(Quantity {
+        numerator,
+        denominator: ratio.denominator,
+        form: ratio.form,
+    })
+}
+
+// The refusal of what stands behind a sign.
+fn signed_error(sign: Option<Sign>, error: ChineseToNumberError) -> ChineseToNumberError
+    ensures { refusal_of result ≡ signed_refusal sign (refusal_of error) }
+{
+    match (sign, error) {
+        (Some(Sign::Minus), ChineseToNumberError::Overflow) => ChineseToNumberError::Underflow,
+        _ => error,
+    }
+}
+
+/// The quantity that a text is: a whole number, a decimal, a percentage or a fraction, in figures or
+/// numerals, with a sign in front or none. It is exact, and as written.
+///
+/// ```text
+/// "三點五" is 35/10, "1,280.5萬" 128050000/10, "-12.5%" -125/1000, "三分之一" 1/3, "廿三" 23/1
+/// ```
+///
+/// `ChineseNumberEmpty` where nothing is left without white space and sign; `Overflow` where a
+/// number does not fit 128 bits, or a unit's scale, `Underflow` behind a minus;
+/// `ChineseNumberIncorrect` for any other text, with the char_index of the character at fault.
+pub fn chinese_to_quantity(
+    text: &str,
+    method: ChineseCountMethod,
+) -> Result<Quantity, ChineseToNumberError>
+    ensures { answer_of (λ q. q) result ≡ quantity_answer method text.now }
+{
+    let after = split_sign(text);
+    match judge_ratio(method, after.skipped, after.rest) {
+        Ok(ratio) => signed_ratio(after.sign, ratio),
+        Err(error) => Err(signed_error(after.sign, error)),
+    }
+}

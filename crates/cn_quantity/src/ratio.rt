@@ -1,0 +1,157 @@
+// What a text without sign is worth: a fraction, a percentage, or a number by itself.
+ghost use Rattle.std.specs.Prelude.{◌≡◌, ℕ, ◌+◌, ◌-◌, ◌*◌, ◌^◌, ◌<◌, ◌≤◌, ◌&&◌, true, false, [], length, take, IfSome, MatchOption, SomeIff};
+ghost use Rattle.cn_core.specs.Text.{text_of};
+ghost use Rattle.cn_judge.specs.Answer.{answer_of};
+ghost use Rattle.cn_judge.specs.Piece.{answer_at};
+ghost use Rattle.cn_quantity.specs.Characters.{is_fen, is_zhi};
+ghost use Rattle.cn_quantity.specs.Private.{BeginsWith, IsFront, SplitsAtBar};
+ghost use Rattle.cn_quantity.specs.Ratio.{after_bar, begins_with_zhi, form_of, is_fraction, is_percentage, ratio_answer, ratio_of};
+
+use crate::QuantityForm;
+use crate::characters::{is_fen, is_percent, is_zhi};
+use crate::number::{Decimal, judge_divisor, judge_number, judge_part};
+use crate::pieces::{before_end, split_first, split_last};
+use cn_core::{ChineseCountMethod, power_of_ten};
+use cn_judge::{ChineseToNumberError, count_chars};
+
+/// A quantity without its sign.
+#[derive(Copy, Clone)]
+pub struct Ratio {
+    pub numerator: u128,
+    pub denominator: u128,
+    pub form: QuantityForm,
+}
+
+// The divisor times ten for each decimal, if it fits.
+fn denominator(divisor: u128, decimals: usize) -> Option<u128>
+    requires { 0 < divisor }
+    ensures { SomeIff result (divisor * 10 ^ decimals < 2 ^ 128) (divisor * 10 ^ decimals) }
+{
+    divisor.checked_mul(power_of_ten(decimals)?)
+}
+
+// A decimal over a divisor, as written.
+fn ratio_of(
+    divisor: u128,
+    form: QuantityForm,
+    decimal: Decimal,
+) -> Result<Ratio, ChineseToNumberError>
+    requires { 0 < divisor }
+    ensures { answer_of (λ r. r) result ≡ ratio_of divisor form decimal }
+{
+    match denominator(divisor, decimal.decimals) {
+        Some(denominator) => Ok(Ratio {
+            numerator: decimal.number,
+            denominator,
+            form,
+        }),
+        None => Err(ChineseToNumberError::Overflow),
+    }
+}
+
+// The form of a number by itself.
+fn form_of(decimals: usize) -> QuantityForm
+    ensures { result ≡ form_of decimals }
+{
+    if decimals == 0 {
+        QuantityForm::Whole
+    } else {
+        QuantityForm::Decimal
+    }
+}
+
+// What stands behind 分之, where this character and the text behind it begin with that.
+fn after_bar<'a>(c: char, text: &'a str) -> Option<&'a str>
+    ensures parts { MatchOption result ((is_fen c && begins_with_zhi (text_of text.now)) ≡ false)
+        (λ r. (zhi : ℕ) × (is_fen c ≡ true) × (is_zhi zhi ≡ true) × BeginsWith text.now zhi r.now) }
+    ensures shorter { IfSome result (λ r. length r.now < length text.now) }
+{
+    if !is_fen(c) {
+        return None;
+    }
+    let (next, behind) = split_first(text)?;
+    if is_zhi(next) { Some(behind) } else { None }
+}
+
+// What stands in front of 分之, what behind it, and how many characters before that.
+#[derive(Copy, Clone)]
+struct Bar<'a> {
+    divisor: &'a str,
+    skipped: usize,
+    behind: &'a str,
+}
+
+// A text at its first 分之.
+fn split_bar(text: &str) -> Option<Bar<'_>>
+    ensures parts { MatchOption result (after_bar (text_of text.now) ≡ [])
+        (λ bar. SplitsAtBar text.now bar.divisor.now bar.skipped bar.behind.now) }
+    ensures divisor { IfSome result (λ bar. length bar.divisor.now ≤ length text.now) }
+    ensures behind { IfSome result
+        (λ bar. bar.skipped + length bar.behind.now ≤ length text.now) }
+{
+    let mut rest = text;
+    'seeking: while let Some((c, after)) = split_first(rest) {
+        if let Some(behind) = after_bar(c, after) {
+            return Some(Bar {
+                divisor: before_end(text, rest),
+                skipped: count_chars(before_end(text, behind)),
+                behind,
+            });
+        }
+        rest = after;
+    }
+    None
+}
+
+// The parts of the text, if it is a fraction.
+fn split_fraction(text: &str) -> Option<Bar<'_>>
+    ensures fraction { MatchOption result (is_fraction (text_of text.now) ≡ false)
+        (λ _. is_fraction (text_of text.now) ≡ true) }
+    ensures parts { IfSome result
+        (λ bar. SplitsAtBar text.now bar.divisor.now bar.skipped bar.behind.now) }
+    ensures divisor { IfSome result (λ bar. length bar.divisor.now ≤ length text.now) }
+    ensures behind { IfSome result
+        (λ bar. bar.skipped + length bar.behind.now ≤ length text.now) }
+{
+    let bar = split_bar(text)?;
+    split_first(bar.divisor)?;
+    split_first(bar.behind)?;
+    Some(bar)
+}
+
+// What stands in front of the percent sign, if the text is a percentage.
+fn split_percent(text: &str) -> Option<&str>
+    ensures percentage { MatchOption result (is_percentage (text_of text.now) ≡ false)
+        (λ _. is_percentage (text_of text.now) ≡ true) }
+    ensures parts { IfSome result (λ r. text_of r.now
+        ≡ take (length (text_of text.now) - 1) (text_of text.now)) }
+    ensures front { IfSome result (λ r. IsFront text.now r.now) }
+    ensures shorter { IfSome result (λ r. length r.now < length text.now) }
+{
+    let (c, before) = split_last(text)?;
+    split_first(before)?;
+    if is_percent(c) { Some(before) } else { None }
+}
+
+/// The answer to a text without sign, behind so many characters of the caller's string.
+pub fn judge_ratio(
+    method: ChineseCountMethod,
+    skipped: usize,
+    text: &str,
+) -> Result<Ratio, ChineseToNumberError>
+    requires { skipped + length text.now < 2 ^ 64 }
+    ensures { answer_of (λ r. r) result
+        ≡ answer_at skipped text.now (ratio_answer method (text_of text.now)) }
+{
+    if let Some(bar) = split_fraction(text) {
+        let divisor = judge_divisor(method, skipped, bar.divisor)?;
+        let decimal = judge_part(method, skipped + bar.skipped, bar.behind)?;
+        return ratio_of(divisor, QuantityForm::Fraction, decimal);
+    }
+    if let Some(before) = split_percent(text) {
+        let decimal = judge_number(method, skipped, before)?;
+        return ratio_of(100, QuantityForm::Percent, decimal);
+    }
+    let decimal = judge_number(method, skipped, text)?;
+    ratio_of(1, form_of(decimal.decimals), decimal)
+}
