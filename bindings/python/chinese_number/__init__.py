@@ -623,8 +623,8 @@ def find_numbers(
 ) -> Iterator[Found]:
     """The numbers of a text, from the first to the last: its longest runs of digits and of units up
     to the greatest one, with or without the forms that only cheques have. A run ends between an
-    ASCII digit and a digit that is none, and 個 is of a run directly before 萬 or a greater unit
-    alone.
+    ASCII digit and a digit that is none, 個 is of a run directly before 萬 or a greater unit alone,
+    and 兆 of none in front of a measure, as in 8兆字节.
 
     >>> [(found.start, found.end, found.text) for found in find_numbers('买2两，三个亿')]
     [(1, 2, '2'), (2, 3, '两'), (4, 7, '三个亿')]
