@@ -7,6 +7,7 @@ pub mod Numerals
 pub mod Places
 pub mod PlainDigits
 pub mod Printed
+pub mod Quantities
 pub mod Reading
 pub mod Refusals
 pub mod Signs

@@ -85,7 +85,8 @@ SplitsAtBar-at bytes rest after divisor front behind index c zhi s b fen_is zhi_
 
       divisor_is : text_of divisor ≡ before_bar (text_of bytes)
       divisor_is = same ∙ sym (s.before ∙ ap (λ l. s.seen ++ before_bar l) ahead
-          ∙ ap (λ l. s.seen ++ l) (bar-stops c zhi (text_of behind) fen_is zhi_is) ∙ append-nil s.seen)
+          ∙ ap (λ l. s.seen ++ l) (bar-stops c zhi (text_of behind) fen_is zhi_is)
+          ∙ append-nil s.seen)
 
       front_is : text_of front ≡ text_of divisor ++ (c ∷ zhi ∷ [])
       front_is = append_cancel_right (text_of front) (text_of divisor ++ (c ∷ zhi ∷ []))

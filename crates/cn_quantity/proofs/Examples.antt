@@ -4,7 +4,7 @@ use Rattle.std.specs.Char.{encode_utf8}
 use Rattle.std.specs.Str.{chars}
 use Rattle.cn_core.specs.declared.method.ChineseCountMethod.TheVariants.{TenThousand}
 use Rattle.cn_core.specs.Characters.{digit_of, rank_of}
-use Rattle.cn_core.specs.Refusal.{Refusal, empty, incorrect_at, too_large, too_small}
+use Rattle.cn_core.specs.Refusal.{Refusal, empty, incorrect_at, too_large}
 use Rattle.cn_quantity.specs.declared.quantity.Quantity.{Quantity}
 use Rattle.cn_quantity.specs.declared.quantity.QuantityForm.{QuantityForm}
 use Rattle.cn_quantity.specs.declared.quantity.QuantityForm.TheVariants.{Whole, Decimal, Percent, Fraction}
@@ -23,58 +23,67 @@ chinese_decimals : answers (codes "三點一四" ∷ codes "三点一零" ∷ co
     ∷ codes "一千二百三十四点五亿" ∷ codes "二零二五点三万" ∷ [])
     ≡ is (pos 314) 100 Decimal ∷ is (pos 310) 100 Decimal ∷ is (pos 350000) 10 Decimal
     ∷ is (pos 1234500000000) 10 Decimal ∷ is (pos 202530000) 10 Decimal ∷ []
-unfolding chars encode_utf8 digit_of rank_of figure_of chinese_digit_of tens_of sign_of is_point is_comma is_percent is_fen is_zhi
+unfolding chars encode_utf8 digit_of rank_of figure_of chinese_digit_of tens_of sign_of is_point is_comma
+    is_percent is_fen is_zhi
 chinese_decimals = refl
 
 no_decimals : answers (codes "一百二点五" ∷ codes "一百二点五万" ∷ codes "一亿两千点五万"
     ∷ codes "三点五十" ∷ codes "点五" ∷ codes "三点" ∷ codes "3点5" ∷ [])
     ≡ Err (incorrect_at 3) ∷ Err (incorrect_at 3) ∷ Err (incorrect_at 4)
     ∷ Err (incorrect_at 1) ∷ Err (incorrect_at 0) ∷ Err (incorrect_at 1) ∷ Err (incorrect_at 1) ∷ []
-unfolding chars encode_utf8 digit_of rank_of figure_of chinese_digit_of tens_of sign_of is_point is_comma is_percent is_fen is_zhi
+unfolding chars encode_utf8 digit_of rank_of figure_of chinese_digit_of tens_of sign_of is_point is_comma
+    is_percent is_fen is_zhi
 no_decimals = refl
 
 figures : answers (codes "3.5万" ∷ codes "128万" ∷ codes "1.2万亿" ∷ codes "1,280.50"
     ∷ codes "１２．５" ∷ [])
     ≡ is (pos 350000) 10 Decimal ∷ is (pos 1280000) 1 Whole ∷ is (pos 12000000000000) 10 Decimal
     ∷ is (pos 128050) 100 Decimal ∷ is (pos 125) 10 Decimal ∷ []
-unfolding chars encode_utf8 digit_of rank_of figure_of chinese_digit_of tens_of sign_of is_point is_comma is_percent is_fen is_zhi
+unfolding chars encode_utf8 digit_of rank_of figure_of chinese_digit_of tens_of sign_of is_point is_comma
+    is_percent is_fen is_zhi
 figures = refl
 
 no_figures : answers (codes "12,34" ∷ codes "0,100" ∷ codes ".5" ∷ codes "1.2.3"
     ∷ codes "1亿2000万" ∷ codes "0极" ∷ codes "1/3" ∷ [])
     ≡ Err (incorrect_at 3) ∷ Err (incorrect_at 2) ∷ Err (incorrect_at 0) ∷ Err (incorrect_at 3)
     ∷ Err (incorrect_at 2) ∷ Err too_large ∷ Err (incorrect_at 1) ∷ []
-unfolding chars encode_utf8 digit_of rank_of figure_of chinese_digit_of tens_of sign_of is_point is_comma is_percent is_fen is_zhi
+unfolding chars encode_utf8 digit_of rank_of figure_of chinese_digit_of tens_of sign_of is_point is_comma
+    is_percent is_fen is_zhi
 no_figures = refl
 
 whole_numbers : answers (codes "一百二" ∷ codes "二零二五" ∷ codes "廿" ∷ codes "廿三"
     ∷ codes "卅" ∷ codes "一百廿" ∷ codes "百" ∷ codes "正" ∷ [])
     ≡ is (pos 120) 1 Whole ∷ is (pos 2025) 1 Whole ∷ is (pos 20) 1 Whole ∷ is (pos 23) 1 Whole
     ∷ is (pos 30) 1 Whole ∷ Err (incorrect_at 2) ∷ Err (incorrect_at 0) ∷ Err empty ∷ []
-unfolding chars encode_utf8 digit_of rank_of figure_of chinese_digit_of tens_of sign_of is_point is_comma is_percent is_fen is_zhi
+unfolding chars encode_utf8 digit_of rank_of figure_of chinese_digit_of tens_of sign_of is_point is_comma
+    is_percent is_fen is_zhi
 whole_numbers = refl
 
 percentages : answers (codes "12.5%" ∷ codes "五十％" ∷ codes "百%" ∷ codes "50%%" ∷ [])
     ≡ is (pos 125) 1000 Percent ∷ is (pos 50) 100 Percent ∷ Err (incorrect_at 0)
     ∷ Err (incorrect_at 2) ∷ []
-unfolding chars encode_utf8 digit_of rank_of figure_of chinese_digit_of tens_of sign_of is_point is_comma is_percent is_fen is_zhi
+unfolding chars encode_utf8 digit_of rank_of figure_of chinese_digit_of tens_of sign_of is_point is_comma
+    is_percent is_fen is_zhi
 percentages = refl
 
 fractions : answers (codes "三分之一" ∷ codes "百分之五十" ∷ codes "百分之百"
     ∷ codes "百分之12.5" ∷ codes "百万分之三" ∷ [])
     ≡ is (pos 1) 3 Fraction ∷ is (pos 50) 100 Fraction ∷ is (pos 100) 100 Fraction
     ∷ is (pos 125) 1000 Fraction ∷ is (pos 3) 1000000 Fraction ∷ []
-unfolding chars encode_utf8 digit_of rank_of figure_of chinese_digit_of tens_of sign_of is_point is_comma is_percent is_fen is_zhi
+unfolding chars encode_utf8 digit_of rank_of figure_of chinese_digit_of tens_of sign_of is_point is_comma
+    is_percent is_fen is_zhi
 fractions = refl
 
 no_fractions : answers (codes "零分之一" ∷ codes "三分之" ∷ codes "三分之负一"
     ∷ codes "二又三分之一" ∷ codes "百分之五十%" ∷ [])
     ≡ Err (incorrect_at 0) ∷ Err (incorrect_at 2) ∷ Err (incorrect_at 3) ∷ Err (incorrect_at 1)
     ∷ Err (incorrect_at 5) ∷ []
-unfolding chars encode_utf8 digit_of rank_of figure_of chinese_digit_of tens_of sign_of is_point is_comma is_percent is_fen is_zhi
+unfolding chars encode_utf8 digit_of rank_of figure_of chinese_digit_of tens_of sign_of is_point is_comma
+    is_percent is_fen is_zhi
 no_fractions = refl
 
 signs : answers (codes " 负 三点五" ∷ codes "−5" ∷ codes "--5" ∷ [])
     ≡ is (negsuc 34) 10 Decimal ∷ is (negsuc 4) 1 Whole ∷ Err (incorrect_at 1) ∷ []
-unfolding chars encode_utf8 digit_of rank_of figure_of chinese_digit_of tens_of sign_of is_point is_comma is_percent is_fen is_zhi
+unfolding chars encode_utf8 digit_of rank_of figure_of chinese_digit_of tens_of sign_of is_point is_comma
+    is_percent is_fen is_zhi
 signs = refl

@@ -106,5 +106,6 @@ power-over divisor decimals some many = λ h.
     let power : 10 ^ 39 ≤ 10 ^ decimals = pow-le-pow_right ten far in
     let one : 1 ≤ divisor = omega (arith, some) in
     let le : 10 ^ decimals * 1 ≤ 10 ^ decimals * divisor = mul-le-mul_left (10 ^ decimals) one in
-    let turned : divisor * 10 ^ decimals ≡ 10 ^ decimals * divisor = mul_comm divisor (10 ^ decimals) in
+    let turned : divisor * 10 ^ decimals ≡ 10 ^ decimals * divisor =
+    mul_comm divisor (10 ^ decimals) in
     omega (arith, power, le, turned, h)

@@ -6,5 +6,6 @@ pub mod Numbers
 pub mod Points
 pub mod Ratios
 pub mod Signed
+pub mod Today
 pub mod Told
 pub mod WholeQuantities

@@ -151,7 +151,7 @@ tens-told method skipped number bytes answer e f tens is =
     (sym tens)))
 
 -- a whole number
-whole-alone : (method : ChineseCountMethod) (text : List ℕ)
+pub whole-alone : (method : ChineseCountMethod) (text : List ℕ)
     → is_in_figures text ≡ false → is_chinese_decimal text ≡ false → short_tens text ≡ None
     → number_answer method text
     ≡ and_then (whole_answer method text) (λ whole. decimal_of 0 (Some whole))
@@ -200,7 +200,8 @@ number-low method text place h = by (is_in_figures text) (is_chinese_decimal tex
   by : (a b : Bool) → is_in_figures text ≡ a → is_chinese_decimal text ≡ b → place < length text
   by true b e f = absurd (decimal-placeless _ _ place (sym (in-figures method text e) ∙ h))
   by false true e f =
-      let first = first-refused (whole_answer method (before_point text)) (decimals_behind_point text)
+      let first = first-refused (whole_answer method (before_point text))
+      (decimals_behind_point text)
       (λ whole. read_with_units method Chinese whole (after_point text)) place
       (sym (a-decimal method text e f) ∙ h) in
       let low = whole-low method (before_point text) place first in

@@ -48,7 +48,7 @@ a-percentage : (method : ChineseCountMethod) (text : List ℕ) → is_fraction t
     (λ decimal. ratio_of 100 Percent decimal)
 a-percentage method text e f = rw (e, f)
 
-a-number : (method : ChineseCountMethod) (text : List ℕ) → is_fraction text ≡ false
+pub a-number : (method : ChineseCountMethod) (text : List ℕ) → is_fraction text ≡ false
     → is_percentage text ≡ false
     → ratio_answer method text ≡ and_then (number_answer method text)
     (λ decimal. ratio_of 1 (form_of decimal.decimals) decimal)

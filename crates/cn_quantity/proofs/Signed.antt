@@ -43,7 +43,8 @@ quantity-signed method bytes rest skipped sign leads at =
     signed-rest bytes rest skipped sign (ratio_answer method (text_of rest)) at
     ∙ ap (λ l. signed_answer bytes sign (ratio_answer method l))
     (sym (text_of-rest bytes rest skipped (sign_len sign) at))
-    ∙ ap (λ s. signed_answer bytes s (ratio_answer method (drop (sign_len s) (text_of bytes)))) leads
+    ∙ ap (λ s. signed_answer bytes s (ratio_answer method (drop (sign_len s) (text_of bytes))))
+    leads
 
 pub quantity-goes_on : (method : ChineseCountMethod) (bytes rest : List ℕ) (skipped : ℕ)
     (sign : Option Sign) (ratio : Ratio) (answer : Result Quantity Refusal)

@@ -51,7 +51,8 @@ pub told-judged : (method : ChineseCountMethod) (skipped : ℕ) (bytes : List �
     → answer ≡ answer_at skipped bytes (judge method (marks_of (text_of bytes)))
 told-judged method skipped bytes answer (judged, judges, is) =
     is ∙ ap (answer_at skipped bytes) (Judges-same method (marks_of (text_of bytes)) judged
-    (judge method (marks_of (text_of bytes))) judges (Judges-judge method (marks_of (text_of bytes))))
+    (judge method (marks_of (text_of bytes))) judges
+    (Judges-judge method (marks_of (text_of bytes))))
 
 -- one answer after another
 pub told-stops : {T N : Type 0} (skipped : ℕ) (bytes : List ℕ) (first : Result T Refusal)
@@ -59,8 +60,10 @@ pub told-stops : {T N : Type 0} (skipped : ℕ) (bytes : List ℕ) (first : Resu
     → Err refusal ≡ answer_at skipped bytes (and_then first next)
 told-stops skipped bytes (Ok value) next refusal h = cc
 told-stops skipped bytes (Err empty) next refusal h = let r : refusal ≡ empty = cc in ap Err r
-told-stops skipped bytes (Err too_large) next refusal h = let r : refusal ≡ too_large = cc in ap Err r
-told-stops skipped bytes (Err too_small) next refusal h = let r : refusal ≡ too_small = cc in ap Err r
+told-stops skipped bytes (Err too_large) next refusal h =
+    let r : refusal ≡ too_large = cc in ap Err r
+told-stops skipped bytes (Err too_small) next refusal h =
+    let r : refusal ≡ too_small = cc in ap Err r
 told-stops skipped bytes (Err (incorrect_at place)) next refusal h =
     let r : refusal ≡ incorrect_at (skipped + char_index_of bytes place) = cc in ap Err r
 

@@ -1,2 +1,25 @@
-//! What holds of quantities: each string has one answer, and a refusal points at a character.
+//! What holds of quantities: each string has one answer, a refusal points at a character, and a
+//! number stays that number.
+ghost use Rattle.std.specs.Prelude.{◌≡◌, ℕ, ℤ, List, Ok};
+ghost use Rattle.cn_core.specs.declared.method.ChineseCountMethod.{ChineseCountMethod};
+ghost use Rattle.cn_core.specs.Reading.{Reads, naive_reading};
+ghost use Rattle.cn_core.specs.Whole.{signed_kind};
+ghost use Rattle.cn_quantity.specs.declared.quantity.QuantityForm.TheVariants.{Whole};
+ghost use Rattle.cn_quantity.specs.Reading.{quantity_answer};
+
 pub use cn_quantity::laws::{each_string_has_one_answer, refusals_point_at_characters};
+
+/// A number stays that number: what is read as an `i128`, by the method or as plain digits, is as a
+/// quantity that whole number over 1.
+///
+/// For callers who read quantities where they read numbers before.
+pub fn numbers_stay_numbers()
+    ensures units { (method : ChineseCountMethod) (bytes : List ℕ) (number : ℤ)
+        → Reads (signed_kind 128) method bytes (Ok number)
+        → quantity_answer method bytes
+        ≡ Ok (record { numerator = number; denominator = 1; form = Whole }) }
+    ensures digits { (method : ChineseCountMethod) (bytes : List ℕ) (number : ℤ)
+        → naive_reading (signed_kind 128) bytes ≡ Ok number
+        → quantity_answer method bytes
+        ≡ Ok (record { numerator = number; denominator = 1; form = Whole }) }
+{}
