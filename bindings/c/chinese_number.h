@@ -130,7 +130,7 @@ typedef enum cn_quantity_form CN_OF_CODE {
     CN_FRACTION = 3 /* 三分之一, 百分之五十 */
 } cn_quantity_form;
 
-/* The flags that are told of a number in a text: none or several of these, added together. */
+/* The flags that are told of a number or an expression in a text: none or several of these, added together. */
 typedef enum cn_flag CN_OF_CODE {
     CN_PLAIN_DIGITS = 1,  /* each of its characters is a digit: it is read by CN_DIGITS, and else by a method */
     CN_STANDS_ALONE = 2,  /* no letter or digit touches it, and none is linked to it: so neither part of 3.5萬 or 1,280 does */
@@ -168,7 +168,7 @@ typedef enum cn_status CN_OF_CODE {
     CN_NOT_UTF8 = 5,  /* read, find: the bytes are no UTF-8; find: no character begins at `from`, nor does the text end there */
     CN_NO_ROOM = 6,   /* print: the text has more bytes than the room; *length says how many */
     CN_NOT_HELD = 7,  /* print: the type does not hold the number */
-    CN_UNKNOWN = 8,   /* a code names no type, way, script, case, form or unit; CN_ANY is no way to print */
+    CN_UNKNOWN = 8,   /* a code names no type, way, script, case, form or unit; CN_ANY is no way to print, and CN_DIGITS and CN_ANY are no method */
     CN_UNFINISHED = 9, /* read an amount, figures or a date: the text is none, but something behind it can make it one */
     CN_NONE = 10,      /* cn_find_next, cn_find_next_quantity: there is no further one in the text */
     CN_NOT_A_DATE = 11 /* print a date: there is no such date */
@@ -217,7 +217,8 @@ typedef struct cn_quantity {
     size_t byte_index;
 } cn_quantity;
 
-/* Where a number stands in a text, in bytes from its start, and what is told of it: flags of cn_flag, added together. */
+/* Where a number or an expression stands in a text, in bytes from its start, and what is told of it: flags of cn_flag, added
+ * together. */
 typedef struct cn_span {
     size_t start;
     size_t end;

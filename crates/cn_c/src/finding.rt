@@ -7,9 +7,7 @@ ghost use Rattle.cn_c.specs.Codes.{units, uppers};
 use crate::codes::{unit_of, upper_of};
 use crate::flags::flags_of;
 use crate::status::{DONE, NOT_UTF8, UNKNOWN};
-use chinese_number::{
-    Found, Numbers, SearchRule, Wanted, find_numbers_from, find_quantities_from,
-};
+use chinese_number::{Found, Numbers, SearchRule, Wanted, find_numbers_from, find_quantities_from};
 use cn_faces::utf8_text;
 use std::str;
 

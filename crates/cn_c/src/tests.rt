@@ -1,6 +1,7 @@
 // Each call on its happy path, and codes and statuses by their numbers, as C has them.
 mod amounts;
 mod dates;
+mod quantities;
 
 use crate::{
     Number, Reading, Span, chinese_number_find, chinese_number_find_utf8, chinese_number_print,
