@@ -10,7 +10,7 @@ use Rattle.cn_find.specs.Expressions.{expression_rule}
 use Rattle.cn_find.specs.Flags.{is_about, is_one_character, stands_alone}
 use Rattle.cn_find.specs.Rule.{Rule, number_rule}
 use Rattle.cn_c.specs.declared.finding.Sought.{Sought}
-use Rattle.cn_c.specs.declared.finding.Sought.TheVariants.{Numbers, Quantities}
+use Rattle.cn_c.specs.declared.finding.Sought.TheVariants.{Number, Quantity}
 use Rattle.cn_c.specs.declared.finding.Span.{Span}
 use Rattle.cn_c.specs.Codes.{uppers, units, CN_PLAIN_DIGITS, CN_STANDS_ALONE, CN_ABOUT, CN_ONE_CHARACTER, CN_DONE, CN_NOT_UTF8, CN_UNKNOWN}
 
@@ -63,8 +63,8 @@ IsFoundAs rule upper greatest bytes from old status new count =
 
 -- the rule of what is sought
 abbrev pub rule_of : Sought → Wanted → Rule
-rule_of Numbers = number_rule
-rule_of Quantities = expression_rule
+rule_of Number = number_rule
+rule_of Quantity = expression_rule
 
 -- what is told of the numbers of bytes, by whether the upper case is wanted and the code of the
 -- greatest unit

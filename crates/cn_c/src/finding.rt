@@ -23,8 +23,8 @@ pub struct Span {
 // What a text is searched for.
 #[derive(Clone, Copy)]
 enum Sought {
-    Numbers,
-    Quantities,
+    Number,
+    Quantity,
 }
 
 fn span_of_found(found: Found<'_>) -> Span
@@ -68,12 +68,12 @@ fn find_from(
         return NOT_UTF8;
     }
     match sought {
-        Sought::Numbers => {
+        Sought::Number => {
             if let Some(numbers) = find_numbers_from(text, from, wanted) {
                 *count = fill(numbers, spans);
             }
         }
-        Sought::Quantities => {
+        Sought::Quantity => {
             if let Some(quantities) = find_quantities_from(text, from, wanted) {
                 *count = fill(quantities, spans);
             }
@@ -142,7 +142,7 @@ pub extern "C" fn chinese_number_find(
 ) -> u32
     ensures { IsFound text.now from upper greatest spans.old result spans.new count.new }
 {
-    find(Sought::Numbers, text, from, upper, greatest, spans, count)
+    find(Sought::Number, text, from, upper, greatest, spans, count)
 }
 
 /// Finds as `chinese_number_find` does, where the caller knows that the bytes are UTF-8: so a text is
@@ -159,7 +159,7 @@ pub unsafe extern "C" fn chinese_number_find_utf8(
     requires { IsUtf8 text.now }
     ensures { IsFound text.now from upper greatest spans.old result spans.new count.new }
 {
-    unsafe { find_utf8(Sought::Numbers, text, from, upper, greatest, spans, count) }
+    unsafe { find_utf8(Sought::Number, text, from, upper, greatest, spans, count) }
 }
 
 /// Finds the expressions of a text, which `chinese_quantity_read` reads, as `chinese_number_find` finds
@@ -175,15 +175,7 @@ pub extern "C" fn chinese_quantity_find(
 ) -> u32
     ensures { IsQuantityFound text.now from upper greatest spans.old result spans.new count.new }
 {
-    find(
-        Sought::Quantities,
-        text,
-        from,
-        upper,
-        greatest,
-        spans,
-        count,
-    )
+    find(Sought::Quantity, text, from, upper, greatest, spans, count)
 }
 
 /// Finds as `chinese_quantity_find` does, where the caller knows that the bytes are UTF-8.
@@ -199,15 +191,5 @@ pub unsafe extern "C" fn chinese_quantity_find_utf8(
     requires { IsUtf8 text.now }
     ensures { IsQuantityFound text.now from upper greatest spans.old result spans.new count.new }
 {
-    unsafe {
-        find_utf8(
-            Sought::Quantities,
-            text,
-            from,
-            upper,
-            greatest,
-            spans,
-            count,
-        )
-    }
+    unsafe { find_utf8(Sought::Quantity, text, from, upper, greatest, spans, count) }
 }
