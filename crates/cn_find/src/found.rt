@@ -2,10 +2,12 @@ ghost use Rattle.std.specs.Prelude.{◌≡◌, ◌+◌, ◌<◌, ◌^◌, length
 ghost use Rattle.cn_judge.specs.Answer.{answer_of};
 ghost use Rattle.cn_find.specs.Flags.{is_about, is_one_character, stands_alone};
 ghost use Rattle.cn_find.specs.Number.{IsAnswer, is_plain};
+ghost use Rattle.cn_quantity.specs.Reading.{quantity_answer};
 
 use crate::flags::{is_about, is_one_character, stands_alone};
 use cn_core::{ChineseCountMethod, Whole, digit_of};
 use cn_judge::{ChineseToNumberError, read_naive};
+use cn_quantity::{Quantity, chinese_to_quantity};
 use cn_quick::read;
 
 /// A run of numeral characters in its text.
@@ -84,5 +86,12 @@ impl Found<'_> {
         } else {
             read(method, self.text)
         }
+    }
+
+    /// The quantity that it is by itself, with its sign, decimals and divisor.
+    pub fn quantity(self, method: ChineseCountMethod) -> Result<Quantity, ChineseToNumberError>
+        ensures { answer_of (λ q. q) result ≡ quantity_answer method self.entry.text.now }
+    {
+        chinese_to_quantity(self.text, method)
     }
 }
