@@ -20,7 +20,15 @@ pub use answers::{
     each_string_has_one_answer, each_text_has_one_judgement, judgements_can_be_computed,
     numerals_alone_are_read,
 };
-pub use cn_find::laws::{expressions_are_the_runs, expressions_come_in_order, expressions_of_numerals_are_numbers, no_number_ends_with_mega, numbers_are_the_runs, numbers_come_in_order, numbers_that_meet_do_not_stand_alone, numerals_have_no_estimate, one_character_is_at_most_ten, one_number_either_way, runs_begin_with_no_other_sign, searches_for_expressions_go_on_in_the_whole_text, searches_go_on_behind_a_number, searches_go_on_in_the_whole_text, types_answer_alike_without_sign, unnamed_characters_part_texts, unwanted_characters_part_texts, wanted_constants_are};
+pub use cn_find::laws::{
+    expressions_are_the_runs, expressions_come_in_order, expressions_of_numerals_are_numbers,
+    no_number_ends_with_mega, numbers_are_the_runs, numbers_come_in_order,
+    numbers_that_meet_do_not_stand_alone, numerals_have_no_estimate, one_character_is_at_most_ten,
+    one_number_either_way, runs_begin_with_no_other_sign,
+    searches_for_expressions_go_on_in_the_whole_text, searches_go_on_behind_a_number,
+    searches_go_on_in_the_whole_text, types_answer_alike_without_sign,
+    unnamed_characters_part_texts, unwanted_characters_part_texts, wanted_constants_are,
+};
 pub use enums::{
     equal_dates_are_the_same_day, equal_values_are_the_same_variant, units_compare_by_rank,
 };
