@@ -1,5 +1,5 @@
-/* Chinese numerals for C++ from 17 on: numbers, amounts of money and dates on bills as std::string, and read and found
- * in a std::string_view. It is written over chinese_number.h, which says what stands behind each choice and each
+/* Chinese numerals for C++ from 17 on: numbers, amounts of money and dates on bills as std::string, and these and exact
+ * quantities read and found in a std::string_view. It is written over chinese_number.h, which says what stands behind each choice and each
  * status, and what is to be linked. Texts are UTF-8. Nothing is thrown but by std::string where memory runs out.
  *
  *     auto number = chinese_number::to_number<int>("一百二");
@@ -39,10 +39,22 @@ enum class Unit : std::uint32_t {
     gai = CN_GAI, zi = CN_ZI, rang = CN_RANG, gou = CN_GOU, jian = CN_JIAN, zheng = CN_ZHENG, zai = CN_ZAI, ji = CN_JI
 };
 
+enum class QuantityForm : std::uint32_t {
+    whole = CN_WHOLE, decimal = CN_DECIMAL, percent = CN_PERCENT, fraction = CN_FRACTION
+};
+
 enum class Status : std::uint32_t {
     done = CN_DONE, empty = CN_EMPTY, incorrect = CN_INCORRECT, too_large = CN_TOO_LARGE, too_small = CN_TOO_SMALL,
     not_utf8 = CN_NOT_UTF8, no_room = CN_NO_ROOM, not_held = CN_NOT_HELD, unknown = CN_UNKNOWN,
     unfinished = CN_UNFINISHED, none = CN_NONE, not_a_date = CN_NOT_A_DATE, too_long = CN_TOO_LONG
+};
+
+/* An exact quantity, as written and not reduced: 12.5% is 125/1000. Its numbers are in halves, the numerator in two's
+ * complement as of CN_I128, and the denominator, above 0, as of CN_U128. */
+struct Quantity {
+    cn_number numerator;
+    cn_number denominator;
+    QuantityForm form;
 };
 
 /* How a number is printed. */
@@ -208,6 +220,14 @@ Result<T> to_number(std::string_view text, Way way = Way::any) {
     return read ? Result<T>(detail::of_halves<T>(*read)) : read.error();
 }
 
+/* The exact quantity of a text, by a method: a whole number, a decimal, a percentage or a fraction, as 3.5万 and 三分之一. */
+inline Result<Quantity> chinese_to_quantity(std::string_view text, Way method = Way::ten_thousand) {
+    cn_quantity read;
+    const cn_status status = cn_read_quantity(text.data(), text.size(), static_cast<cn_way>(method), &read);
+    const Quantity quantity = {read.numerator, read.denominator, static_cast<QuantityForm>(read.form)};
+    return detail::told(status, quantity, "chinese number", read.char_index, read.byte_index);
+}
+
 /* The text of a number in halves. By Way::low there is none for 10^16 and more, and by Way::any none at all. */
 inline Result<std::string> to_chinese(cn_number number, cn_kind kind, Style style = {}) {
     char room[CN_MOST_BYTES + 1];
@@ -291,12 +311,15 @@ inline Result<Date> chinese_to_date(std::string_view text) {
     return detail::told(status, Date{read.year, read.month, read.day}, "date", read.char_index, read.byte_index);
 }
 
-/* A number that was found in a text, and where it stands there, in bytes. */
+/* A number that was found in a text, where it stands there, in bytes, and what cn_flag tells of it. */
 struct Found {
     std::string_view text;
     std::size_t start;
     std::size_t end;
     bool is_plain; /* each character is a digit */
+    bool stands_alone;
+    bool is_about;
+    bool is_one_character;
 
     /* The number: plain digits as such, and else by a method. */
     template <typename T>
@@ -309,10 +332,15 @@ struct Found {
     std::optional<T> value(Way method = Way::ten_thousand) const {
         return number<T>(method).optional();
     }
+
+    /* The exact quantity of its text, as find_quantities finds them. */
+    Result<Quantity> quantity(Way method = Way::ten_thousand) const { return chinese_to_quantity(text, method); }
 };
 
-/* The numbers of a text, in order. They look into the text, which has to outlive them. */
+/* The numbers or the expressions of a text, in order. They look into the text, which has to outlive them. */
 class Numbers {
+    using Search = cn_status (*)(const char *, std::size_t, std::uint32_t, cn_unit, cn_span *);
+
 public:
     class iterator {
     public:
@@ -324,10 +352,13 @@ public:
 
         /* The end of each text. */
         iterator() = default;
-        iterator(std::string_view searched, Wanted what) : text(searched), wanted(what) { search(); }
+        iterator(std::string_view searched, Wanted what, Search next) : text(searched), wanted(what), find(next) {
+            search();
+        }
 
         Found operator*() const {
-            return {text.substr(span.start, span.end - span.start), span.start, span.end, span.digits != 0};
+            return {text.substr(span.start, span.end - span.start), span.start, span.end,
+                    tells(CN_PLAIN_DIGITS), tells(CN_STANDS_ALONE), tells(CN_ABOUT), tells(CN_ONE_CHARACTER)};
         }
         iterator &operator++() {
             search();
@@ -343,19 +374,22 @@ public:
         Status status() const { return last; }
 
     private:
+        bool tells(cn_flag flag) const { return (span.flags & flag) != 0; }
+
         /* The span is zeros where there is no further number, and no number ends at 0. */
         void search() {
             const cn_unit greatest = static_cast<cn_unit>(wanted.greatest);
-            last = static_cast<Status>(cn_find_next(text.data(), text.size(), wanted.upper, greatest, &span));
+            last = static_cast<Status>(find(text.data(), text.size(), wanted.upper, greatest, &span));
         }
 
         std::string_view text;
         Wanted wanted;
+        Search find = cn_find_next;
         cn_span span = {0, 0, 0};
         Status last = Status::none;
     };
 
-    Numbers(std::string_view searched, Wanted what) : first(searched, what) {}
+    Numbers(std::string_view searched, Wanted what, Search next = cn_find_next) : first(searched, what, next) {}
 
     iterator begin() const { return first; }
     iterator end() const { return {}; }
@@ -371,9 +405,17 @@ inline Numbers find_numbers(std::string_view text, Wanted wanted = {}) {
     return {text, wanted};
 }
 
+/* The expressions of a text: numbers with their sign, figures, point and units, percentages and fractions, each to be
+ * asked for its quantity. */
+inline Numbers find_quantities(std::string_view text, Wanted wanted = {}) {
+    return {text, wanted, cn_find_next_quantity};
+}
+
 /* Not of a string that ends before its numbers are looked at. */
 template <typename String, std::enable_if_t<std::is_same_v<String, std::string>, int> = 0>
 Numbers find_numbers(String &&text, Wanted wanted = {}) = delete;
+template <typename String, std::enable_if_t<std::is_same_v<String, std::string>, int> = 0>
+Numbers find_quantities(String &&text, Wanted wanted = {}) = delete;
 
 } // namespace chinese_number
 

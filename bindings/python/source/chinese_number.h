@@ -1,5 +1,5 @@
-/* Chinese numerals for whole numbers, printed, read and found in a text, amounts of money and dates in capitals, and amounts
- * in figures: the C face of the proved library chinese_number. For C from C99 on; chinese_number.hpp has classes for C++17
+/* Chinese numerals for whole numbers, printed, read and found in a text, exact quantities, amounts of money and dates in
+ * capitals, and amounts in figures: the C face of the proved library chinese_number. For C from C99 on; chinese_number.hpp has classes for C++17
  * over it.
  *
  * The calls chinese_.. are the proved ones: texts are bytes, and choices are codes. The calls cn_.., written here over
@@ -14,7 +14,7 @@
  * - no pointer is NULL, not that of an empty text, room or array either (cn_.. take NULL as a text or a room of length 0);
  * - a text and a room have as many bytes as the length says, and an array as many spans as `most` says: at most PTRDIFF_MAX
  *   bytes;
- * - what a call writes (the room, *length, *reading, the spans, *count) overlaps nothing else that the call is given;
+ * - what a call writes (the room, *length, *reading, *quantity, the spans, *count) overlaps nothing else that the call is given;
  * - nothing else writes to what a call is given before it returns.
  *
  * All names begin with chinese_, cn_ or CN_. */
@@ -122,6 +122,22 @@ typedef enum cn_form CN_OF_CODE {
     CN_UPRIGHT_CLOSING = 4 /* 正 for 整 */
 } CN_FLAGS cn_form;
 
+/* How a quantity is written. */
+typedef enum cn_quantity_form CN_OF_CODE {
+    CN_WHOLE = 0,   /* 35, 三十五, 3万 */
+    CN_DECIMAL = 1, /* 3.5, 三點五, 3.5万 */
+    CN_PERCENT = 2, /* 12.5% */
+    CN_FRACTION = 3 /* 三分之一, 百分之五十 */
+} cn_quantity_form;
+
+/* The flags that are told of a number or an expression in a text: none or several of these, added together. */
+typedef enum cn_flag CN_OF_CODE {
+    CN_PLAIN_DIGITS = 1,  /* each of its characters is a digit: it is read by CN_DIGITS, and else by a method */
+    CN_STANDS_ALONE = 2,  /* no letter or digit touches it, and none is linked to it: so neither part of 3.5萬 or 1,280 does */
+    CN_ABOUT = 4,         /* it is about so much, as the 十 of 十几 and 几十, and 五六 are */
+    CN_ONE_CHARACTER = 8  /* it is one Chinese character, as the 一 of 一般 is */
+} CN_FLAGS cn_flag;
+
 /* The units, by rank: the greatest one that is looked for in a text. */
 typedef enum cn_unit CN_OF_CODE {
     CN_GE = 0,
@@ -152,9 +168,9 @@ typedef enum cn_status CN_OF_CODE {
     CN_NOT_UTF8 = 5,  /* read, find: the bytes are no UTF-8; find: no character begins at `from`, nor does the text end there */
     CN_NO_ROOM = 6,   /* print: the text has more bytes than the room; *length says how many */
     CN_NOT_HELD = 7,  /* print: the type does not hold the number */
-    CN_UNKNOWN = 8,   /* a code names no type, way, script, case, form or unit; CN_ANY is no way to print */
+    CN_UNKNOWN = 8,   /* a code names no type, way, script, case, form or unit; CN_ANY is no way to print, and CN_DIGITS and CN_ANY are no method */
     CN_UNFINISHED = 9, /* read an amount, figures or a date: the text is none, but something behind it can make it one */
-    CN_NONE = 10,      /* cn_find_next: there is no further number in the text */
+    CN_NONE = 10,      /* cn_find_next, cn_find_next_quantity: there is no further one in the text */
     CN_NOT_A_DATE = 11 /* print a date: there is no such date */
 } cn_status;
 
@@ -189,12 +205,24 @@ typedef struct cn_reading {
     size_t byte_index;
 } cn_reading;
 
-/* Where a number stands in a text, in bytes from its start, and whether each of its characters is a digit: 1, and then it
- * is read by CN_DIGITS, or 0, and then by a method. */
+/* What was read as a quantity, exactly and as written: at CN_DONE the numbers above and below the line, that above it with
+ * the sign, in two's complement as of CN_I128, and that below it, of CN_U128, above 0; and its form, of cn_quantity_form. So
+ * 12.5% is 125/1000. At CN_INCORRECT how many characters and how many bytes stand in front of the character at fault. All
+ * else is 0. */
+typedef struct cn_quantity {
+    cn_number numerator;
+    cn_number denominator;
+    uint32_t form;
+    size_t char_index;
+    size_t byte_index;
+} cn_quantity;
+
+/* Where a number or an expression stands in a text, in bytes from its start, and what is told of it: flags of cn_flag, added
+ * together. */
 typedef struct cn_span {
     size_t start;
     size_t end;
-    uint32_t digits;
+    uint32_t flags;
 } cn_span;
 
 /* Reads a text, in UTF-8, as a number of a type. Writes *reading whole at each status, and nothing else.
@@ -229,6 +257,22 @@ uint32_t chinese_number_find(const uint8_t *text, size_t text_length, size_t fro
 /* The same for bytes that the caller knows to be UTF-8. Nothing tests that: with other bytes the behaviour is undefined. */
 uint32_t chinese_number_find_utf8(const uint8_t *text, size_t text_length, size_t from, uint32_t upper, uint32_t greatest,
                                   cn_span *spans, size_t most, size_t *count);
+
+/* Reads a text, in UTF-8, as a quantity by a method, CN_LOW to CN_HIGH: a whole number, a decimal, a percentage or a
+ * fraction, in figures, in numerals or in both, with one sign in front or none. Writes *quantity whole at each status, and
+ * nothing else.
+ *
+ * Returns CN_DONE, CN_EMPTY, CN_INCORRECT, CN_TOO_LARGE, CN_TOO_SMALL, CN_NOT_UTF8 or CN_UNKNOWN. */
+uint32_t chinese_quantity_read(const uint8_t *text, size_t text_length, uint32_t method, cn_quantity *quantity);
+
+/* Finds the expressions of a text, as chinese_number_find finds its numbers: numbers with their sign, figures, point and
+ * units, percentages and fractions, each to be read by chinese_quantity_read. */
+uint32_t chinese_quantity_find(const uint8_t *text, size_t text_length, size_t from, uint32_t upper, uint32_t greatest,
+                               cn_span *spans, size_t most, size_t *count);
+
+/* The same for bytes that the caller knows to be UTF-8. Nothing tests that: with other bytes the behaviour is undefined. */
+uint32_t chinese_quantity_find_utf8(const uint8_t *text, size_t text_length, size_t from, uint32_t upper, uint32_t greatest,
+                                    cn_span *spans, size_t most, size_t *count);
 
 /* What was read as an amount: how many fen, the hundredth part of a yuan, at CN_DONE, and at CN_INCORRECT how many
  * characters and how many bytes stand in front of the character at fault. All else is 0. */
@@ -347,6 +391,12 @@ CN_NODISCARD static inline cn_status cn_read(const char *text, size_t text_lengt
     return CN_AS(cn_status, chinese_number_read(cn_bytes(text, text_length), text_length, kind, way, reading));
 }
 
+/* chinese_quantity_read for a text in char. */
+CN_NODISCARD static inline cn_status cn_read_quantity(const char *text, size_t text_length, cn_way method,
+                                                      cn_quantity *quantity) {
+    return CN_AS(cn_status, chinese_quantity_read(cn_bytes(text, text_length), text_length, method, quantity));
+}
+
 /* chinese_amount_read for a text in char. */
 CN_NODISCARD static inline cn_status cn_read_amount(const char *text, size_t text_length, cn_amount *reading) {
     return CN_AS(cn_status, chinese_amount_read(cn_bytes(text, text_length), text_length, reading));
@@ -373,6 +423,15 @@ CN_NODISCARD static inline cn_status cn_read_date(const char *text, size_t text_
     return CN_AS(cn_status, chinese_date_read(cn_bytes(text, text_length), text_length, reading));
 }
 
+/* What is told of a search for one span, which is zeros where none is found. */
+static inline cn_status cn_next(uint32_t status, size_t count, cn_span *span) {
+    if (count != 0)
+        return CN_DONE;
+    span->start = span->end = 0;
+    span->flags = 0;
+    return status == CN_DONE ? CN_NONE : CN_AS(cn_status, status);
+}
+
 /* Finds the number of a text in char that comes next behind span->end; a span of zeros begins at the start of the text.
  * At CN_DONE the span says where in the whole text it stands, and else it is zeros. The text is tested at its start alone:
  * for a span that an earlier call wrote, it has to be the same text. */
@@ -382,11 +441,18 @@ CN_NODISCARD static inline cn_status cn_find_next(const char *text, size_t text_
     size_t from = span->end, count = 0;
     uint32_t status = from == 0 ? chinese_number_find(bytes, text_length, 0, upper, greatest, span, 1, &count)
                                 : chinese_number_find_utf8(bytes, text_length, from, upper, greatest, span, 1, &count);
-    if (count != 0)
-        return CN_DONE;
-    span->start = span->end = 0;
-    span->digits = 0;
-    return status == CN_DONE ? CN_NONE : CN_AS(cn_status, status);
+    return cn_next(status, count, span);
+}
+
+/* Finds the expression that comes next behind span->end, likewise. */
+CN_NODISCARD static inline cn_status cn_find_next_quantity(const char *text, size_t text_length, uint32_t upper,
+                                                           cn_unit greatest, cn_span *span) {
+    const uint8_t *bytes = cn_bytes(text, text_length);
+    size_t from = span->end, count = 0;
+    uint32_t status = from == 0
+        ? chinese_quantity_find(bytes, text_length, 0, upper, greatest, span, 1, &count)
+        : chinese_quantity_find_utf8(bytes, text_length, from, upper, greatest, span, 1, &count);
+    return cn_next(status, count, span);
 }
 
 /* Reads the number that stands at a span of a text: plain digits as such, and else by a method. The span is one that a call
@@ -394,7 +460,7 @@ CN_NODISCARD static inline cn_status cn_find_next(const char *text, size_t text_
 CN_NODISCARD static inline cn_status cn_read_found(const char *text, const cn_span *span, cn_kind kind, cn_way method,
                                                    cn_reading *reading) {
     const uint8_t *found = cn_bytes(text, span->end) + span->start;
-    cn_way way = span->digits ? CN_DIGITS : method;
+    cn_way way = (span->flags & CN_PLAIN_DIGITS) != 0 ? CN_DIGITS : method;
     return CN_AS(cn_status, chinese_number_read_utf8(found, span->end - span->start, kind, way, reading));
 }
 

@@ -850,7 +850,7 @@ function spansOf(string, upper, greatest) {
       const first = halves[half] >>> 0, start = position + unitsBetween(from, first);
       from = halves[half + 2] >>> 0;
       position = start + unitsBetween(first, from);
-      spans.push({ start, end: position, isPlain: halves[half + 4] === 1 });
+      spans.push({ start, end: position, isPlain: (halves[half + 4] & 1) === 1 });
     }
   }
   return spans;
