@@ -38,6 +38,22 @@ ANSWERED = [
     (["high"], "三兆", "1:1 三兆 30000000000000000\n"),
     (["low", "--all", "high"], "三兆貳", "1:1 三兆貳 32000000000000000\n"),
     (["--all", "low"], "三兆", "1:1 三兆 3000000\n"),
+    (["--exact"], "占12.5%，共3.5万", "1:2 12.5% 125/1000\n1:9 3.5万 350000/10\n"),
+    (["--exact"], "-5\n廿三", "1:1 -5 -5\n2:1 廿三 23\n"),
+    (["--exact"], "气温-5，3-5万，A-1", "1:3 -5 -5\n1:6 3 3\n1:8 5万 50000\n1:13 1 1\n"),
+    (["--exact"], "1,280.50元", "1:1 1,280.50 128050/100\n"),
+    (["--exact"], "百分之百，负三点五", "1:1 百分之百 100/100\n1:6 负三点五 -35/10\n"),
+    (["--exact"], "１２．５", "1:1 １２．５ 125/10\n"),
+    (["--exact"], "x 0极", "1:3 0 0\n"),
+    (["--exact", "--all"], "x 0极", "1:3 0极 err number is too large\n"),
+    (
+        ["--exact"],
+        "有一百二点五",
+        "1:2 一百二点五 err the chinese number is incorrect (position: 3)\n",
+    ),
+    (["low", "--exact"], "1.5兆", "1:1 1.5兆 15000000/10\n"),
+    (["--exact", "--all", "--exact"], "叁点五", "1:1 叁点五 35/10\n"),
+    ([], "占12.5%", "1:2 12 12\n1:5 5 5\n"),
 ]
 # What stands in a line that is no UTF-8: a byte that begins nothing, a character cut off, a
 # surrogate, and a character in more bytes than it has.
@@ -51,6 +67,7 @@ UNKNOWN = [
     ["Low"],
     ["--all", "all"],
     ["--help", "me"],
+    ["--exact", "exact"],
     ["low", "二十三"],
 ]
 SAMPLE = "第二十三回，他五六十歲\n買2兩\n".encode() + b"\xff\n" + "初三".encode()
@@ -105,7 +122,10 @@ def first_answers(answers):
     return list(itertools.accumulate((b"".join(line) for _, line in of_lines), initial=b""))
 
 
-@pytest.mark.parametrize("words, data", [([], b""), (["--all", "high"], SAMPLE), (["--help"], b"")])
+@pytest.mark.parametrize(
+    "words, data",
+    [([], b""), (["--all", "high"], SAMPLE), (["--exact"], SAMPLE), (["--help"], b"")],
+)
 def test_memory(numbers, words, data):
     allowed = first_answers(numbers(*words, data=data)[1])
     written = numbers.each_growth_refused(*words, data=data)

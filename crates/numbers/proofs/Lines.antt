@@ -6,16 +6,15 @@ use Rattle.std.specs.Io.BufRead.{drop_through, strip_last}
 use Rattle.std.specs.Io.KnownBytes.{Appends, Keeps}
 use Rattle.std.specs.Prelude.{IfSome, IfErr}
 use Rattle.std.specs.Str.{is_utf8}
-use Rattle.chinese_number.specs.Spans.{spans}
 use Rattle.numbers.specs.declared.fault.RunError.{RunError}
 use Rattle.numbers.specs.declared.fault.RunError.TheVariants.{Read, Write, Memory}
 use Rattle.numbers.specs.declared.options.Search.{Search}
-use Rattle.numbers.specs.Answers.{AnswersFirst, AnswersLine, AnswersLines, AreFirstLines, AreFound}
+use Rattle.numbers.specs.Answers.{AnswersFirst, AnswersLine, AnswersLines, AreFirstLines, AreFound, found_spans}
 use Rattle.numbers.specs.Leaves.{Leaves, ReadWithinLine, Wrote, WroteBeginning}
 use Rattle.numbers.specs.Private.{TakesLine, Replies}
 
 pub AnswersLine-text : (search : Search) (line : ℕ) (bytes written : List ℕ) → IsUtf8 bytes
-    → AreFound search line 1 (spans search.wanted bytes) written
+    → AreFound search line (found_spans search bytes) written
     → AnswersLine search line bytes written
 AnswersLine-text search line bytes written ok found = rw (is_utf8-from_IsUtf8 bytes ok) found
 

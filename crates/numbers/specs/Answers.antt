@@ -1,43 +1,63 @@
 -- What is written for the lines of an input.
-use Rattle.std.specs.Prelude.{◌≡◌, ℕ, ◌+◌, ◌<◌, ℤ, List, [], ◌∷◌, ◌++◌, length, codes, chars, decimal, Result, Ok, Err}
+use Rattle.std.specs.Prelude.{◌≡◌, ℕ, ◌+◌, ◌<◌, ◌==◌, ℤ, List, [], ◌∷◌, ◌++◌, length, codes, chars, decimal, Result, Ok, Err, if◌then◌else◌}
 use Rattle.std.specs.Bool.{MatchBool}
 use Rattle.std.specs.Fmt.{signed_decimal}
 use Rattle.std.specs.Io.BufRead.{drop_through, first_piece}
 use Rattle.std.specs.Str.{is_utf8}
 use Rattle.chinese_number.specs.Number.{IsAnswer}
+use Rattle.chinese_number.specs.QuantityReading.{quantity_answer}
 use Rattle.chinese_number.specs.Refusal.{Refusal, refusal_text}
-use Rattle.chinese_number.specs.Spans.{Span, spans}
+use Rattle.chinese_number.specs.Spans.{Span, expressions, spans}
 use Rattle.chinese_number.specs.Whole.{unsigned_kind}
+use Rattle.chinese_number.specs.declared.Quantity.{Quantity}
 use Rattle.numbers.specs.declared.options.Search.{Search}
 
--- a number, or why it is refused
-abbrev pub answer_text : Result ℤ Refusal → List ℕ
-answer_text (Ok number) = signed_decimal number
-answer_text (Err refusal) = codes "err " ++ refusal_text refusal
+-- what is looked for in a text: its expressions where quantities are asked for, else its numbers
+abbrev pub found_spans : Search → List ℕ → List Span
+found_spans search text =
+    if search.exact then expressions search.wanted text else spans search.wanted text
+
+-- a quantity: its numerator, and behind `/` its denominator where that is not 1
+abbrev pub quantity_text : Quantity → List ℕ
+quantity_text quantity =
+    signed_decimal quantity.numerator
+    ++ (if quantity.denominator == 1 then [] else 47 ∷ decimal quantity.denominator)
+
+-- what is read, or why it is refused
+abbrev pub answer_text : {T : Type 0} → (T → List ℕ) → Result T Refusal → List ℕ
+answer_text value_text (Ok value) = value_text value
+answer_text value_text (Err refusal) = codes "err " ++ refusal_text refusal
+
+-- the answer to what was found: as its reader answers it
+abbrev pub IsAnswered : Search → List ℕ → List ℕ → Type 0
+IsAnswered search text written =
+    MatchBool search.exact
+    (written ≡ answer_text quantity_text (quantity_answer search.method text))
+    ((answer : Result ℤ Refusal) × IsAnswer (unsigned_kind 128) search.method text answer
+    × (written ≡ answer_text signed_decimal answer))
 
 -- where it stands
 abbrev pub place_text : ℕ → ℕ → List ℕ
 place_text line column = decimal line ++ 58 ∷ decimal column
 
--- the line of a number found: LINE:COLUMN TEXT NUMBER
-abbrev pub found_text : ℕ → ℕ → List ℕ → Result ℤ Refusal → List ℕ
+-- the line of what was found: LINE:COLUMN TEXT ANSWER
+abbrev pub found_text : ℕ → ℕ → List ℕ → List ℕ → List ℕ
 found_text line column text answer =
-    place_text line column ++ 32 ∷ (text ++ 32 ∷ (answer_text answer ++ 10 ∷ []))
+    place_text line column ++ 32 ∷ (text ++ 32 ∷ (answer ++ 10 ∷ []))
 
--- a line for each of these numbers, in order, in a text whose first character stands at this column:
--- each answered as its reader does, and at the column behind the characters in front of it
-abbrev pub AreFound : Search → ℕ → ℕ → List Span → List ℕ → Type 0
-AreFound search line column [] written = written ≡ []
-AreFound search line column (span ∷ spans) written =
-    (answer : Result ℤ Refusal) × (rest : List ℕ)
-    × IsAnswer (unsigned_kind 128) search.method span.text answer
-    × AreFound search line column spans rest
-    × (written ≡ found_text line (column + length (chars span.before)) span.text answer ++ rest)
+-- a line for each of these, in order: each answered as its reader does, and at the column behind the
+-- characters in front of it
+abbrev pub AreFound : Search → ℕ → List Span → List ℕ → Type 0
+AreFound search line [] written = written ≡ []
+AreFound search line (span ∷ spans) written =
+    (answer : List ℕ) × (rest : List ℕ) × IsAnswered search span.text answer
+    × AreFound search line spans rest
+    × (written ≡ found_text line (1 + length (chars span.before)) span.text answer ++ rest)
 
 -- what is written for a line, given by its bytes
 abbrev pub AnswersLine : Search → ℕ → List ℕ → List ℕ → Type 0
 AnswersLine search line bytes written =
-    MatchBool (is_utf8 bytes) (AreFound search line 1 (spans search.wanted bytes) written)
+    MatchBool (is_utf8 bytes) (AreFound search line (found_spans search bytes) written)
     (written ≡ decimal line ++ codes ":1 bad line\n")
 
 -- these lines stand at the front of an input, and this is left behind them: each line goes up to a

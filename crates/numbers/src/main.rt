@@ -1,4 +1,4 @@
-//! Finds the Chinese numbers in its input, a line at a time.
+//! Finds the Chinese numbers in its input, or the expressions, a line at a time.
 //!
 //! ```text
 //! 第二十三回，他五六十歲       1:2 二十三 23
@@ -8,6 +8,9 @@
 //! Each number has a line of its own: where it stands, as LINE:COLUMN, both counted from 1 and
 //! columns in characters; its text; and the number, or `err` and the error's text, whose position
 //! counts within the number's text. A line that is no UTF-8 is answered LINE:1 `bad line`.
+//!
+//! By `--exact` expressions have the lines in place of numbers, with their quantities, as
+//! `1:2 12.5% 125/1000`: the numerator, and `/` and the denominator where that is not 1.
 //!
 //! The status is 0 where all was read and answered, 1 where a read or a write failed, and 2 where
 //! memory ran out or a word of the command line is unknown. Where it is not 0, the answers to the
@@ -26,9 +29,11 @@ use std::io::{self, BufReader, BufWriter};
 use std::process::ExitCode;
 
 static USAGE: &str = "\
-usage: numbers [--all] [low | ten_thousand | middle | high]
+usage: numbers [--exact] [--all] [low | ten_thousand | middle | high]
 Finds the Chinese numbers in its input. For each it writes a line LINE:COLUMN TEXT NUMBER, or
 LINE:COLUMN TEXT err and why it is refused. The method is ten_thousand unless one is named.
+--exact finds expressions, as 3.5万 and -12.5%, in place of numbers. NUMBER is then the numerator,
+and / and the denominator where that is not 1.
 --all looks for every character that is read, those of cheques and the units above 兆 too.";
 
 fn request(rt: &HostRuntime) -> io::Result<Option<Request>> {

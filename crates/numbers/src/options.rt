@@ -4,6 +4,8 @@ use cn_faces::{Way, way_named};
 /// What is looked for, and how it is read.
 #[derive(Debug, Copy, Clone)]
 pub struct Search {
+    /// Whether expressions are, which are read as quantities; else numbers.
+    pub exact: bool,
     pub wanted: Wanted,
     pub method: ChineseCountMethod,
 }
@@ -18,6 +20,7 @@ pub enum Request {
 /// The request of these words; `None` where one of them is unknown.
 pub fn request_of(words: &[String]) -> Option<Request> {
     let mut search = Search {
+        exact: false,
         wanted: Wanted::EVERYDAY,
         method: ChineseCountMethod::TenThousand,
     };
@@ -25,6 +28,7 @@ pub fn request_of(words: &[String]) -> Option<Request> {
     for word in words {
         match word.as_str() {
             "--help" => asks_help = true,
+            "--exact" => search.exact = true,
             "--all" => search.wanted = Wanted::ALL,
             name => match way_named(name.as_bytes()) {
                 Some(Way::Units(method)) => search.method = method,

@@ -1,22 +1,52 @@
-ghost use Rattle.std.specs.Prelude.{◌≡◌, ◌≢◌, ◌++◌, ◌∷◌, [], ℕ, ℤ, List, length, chars, Result, IfErr, IfOk, OnOk, IfSome};
+ghost use Rattle.std.specs.Prelude.{◌≡◌, ◌≢◌, ◌++◌, ◌∷◌, [], ℕ, List, length, chars, Result, IfErr, IfOk, OnOk, IfSome};
 ghost use Rattle.std.specs.Io.Buffered.{reader_remaining, writer_buffer, writer_contents};
 ghost use Rattle.std.specs.Io.KnownBytes.{Appends, Keeps};
 ghost use Rattle.std.specs.Io.BufRead.{strip_last};
-ghost use Rattle.chinese_number.specs.Number.{IsAnswer};
-ghost use Rattle.chinese_number.specs.Refusal.{Refusal};
-ghost use Rattle.chinese_number.specs.Spans.{spans};
-ghost use Rattle.chinese_number.specs.Whole.{unsigned_kind};
-ghost use Rattle.numbers.specs.Answers.{AnswersLine, AreFound, found_text};
+ghost use Rattle.chinese_number.specs.Rule.{Rule};
+ghost use Rattle.chinese_number.specs.Spans.{spans_by};
+ghost use Rattle.numbers.specs.Answers.{AnswersLine, AreFound, IsAnswered, found_spans, found_text, quantity_text};
 ghost use Rattle.numbers.specs.Leaves.{Leaves, ReadWithinLine};
 ghost use Rattle.numbers.specs.Private.{TakesLine, Puts, Replies};
 
 use crate::fault::RunError;
 use crate::options::Search;
-use chinese_number::{Found, find_numbers};
+use chinese_number::{Found, Numbers, Quantity, SearchRule, find_numbers, find_quantities};
 use std::alloc::Global;
 use std::io::{self, BufRead, BufReader, BufWriter, Read, Write};
 
-// Writes the line of a number found.
+// Writes a quantity.
+fn write_quantity<W: Write>(writer: &mut W, quantity: Quantity) -> io::Result<()>
+    ensures { OnOk result (Appends (W.contents writer.old) (W.contents writer.new)
+        (quantity_text quantity)) }
+{
+    let numerator = quantity.numerator;
+    let denominator = quantity.denominator;
+    if denominator == 1 {
+        write!(writer, "{numerator}")
+    } else {
+        write!(writer, "{numerator}/{denominator}")
+    }
+}
+
+// Writes what was found as its reader answers it.
+fn write_answer<W: Write>(writer: &mut W, found: Found<'_>, search: Search) -> io::Result<()>
+    ensures { OnOk result ((answer : List ℕ) × IsAnswered search found.entry.text.now answer
+        × Appends (W.contents writer.old) (W.contents writer.new) answer) }
+{
+    if search.exact {
+        match found.quantity(search.method) {
+            Ok(quantity) => write_quantity(writer, quantity),
+            Err(error) => write!(writer, "err {error}"),
+        }
+    } else {
+        match found.number::<u128>(search.method) {
+            Ok(number) => write!(writer, "{number}"),
+            Err(error) => write!(writer, "err {error}"),
+        }
+    }
+}
+
+// Writes the line of what was found.
 fn write_found<W: Write>(
     writer: &mut W,
     line: u64,
@@ -24,16 +54,14 @@ fn write_found<W: Write>(
     found: Found<'_>,
     search: Search,
 ) -> io::Result<()>
-    ensures { OnOk result ((answer : Result ℤ Refusal)
-        × IsAnswer (unsigned_kind 128) search.method found.entry.text.now answer
+    ensures { OnOk result ((answer : List ℕ) × IsAnswered search found.entry.text.now answer
         × Appends (W.contents writer.old) (W.contents writer.new)
         (found_text line column found.entry.text.now answer)) }
 {
     let text = found.text;
-    match found.number::<u128>(search.method) {
-        Ok(number) => writeln!(writer, "{line}:{column} {text} {number}"),
-        Err(error) => writeln!(writer, "{line}:{column} {text} err {error}"),
-    }
+    write!(writer, "{line}:{column} {text} ")?;
+    write_answer(writer, found, search)?;
+    writeln!(writer)
 }
 
 // How many characters a text has.
@@ -43,21 +71,43 @@ fn char_count(text: &str) -> usize
     text.chars().count()
 }
 
-// Writes a line for each number of a line's text.
-fn write_numbers<W: Write>(writer: &mut W, line: u64, text: &str, search: Search) -> io::Result<()>
-    ensures { OnOk result ((written : List ℕ)
-        × AreFound search line 1 (spans search.wanted text.now) written
+// Writes a line for each of the runs of a line's text.
+fn write_runs<W: Write, R: SearchRule>(
+    writer: &mut W,
+    line: u64,
+    text: &str,
+    mut runs: Numbers<'_, R>,
+    search: Search,
+) -> io::Result<()>
+    requires { (rule : Rule) × (runs ≡ spans_by rule text.now) }
+    ensures { OnOk result ((written : List ℕ) × AreFound search line runs.entry written
         × Appends (W.contents writer.old) (W.contents writer.new) written) }
 {
     let mut rest = text;
+    // The column of the rest.
     let mut column = 1usize;
-    'searching: while let Some(found) = find_numbers(rest, search.wanted).next() {
-        column += char_count(found.before);
-        write_found(writer, line, column, found, search)?;
-        column += char_count(found.text);
-        rest = found.after;
+    'searching: while let Some(found) = runs.next() {
+        let (passed, after) = rest.split_at(rest.len() - found.after.len());
+        column += char_count(passed);
+        write_found(writer, line, column - char_count(found.text), found, search)?;
+        rest = after;
     }
     Ok(())
+}
+
+// Writes a line for each that is found in a line's text.
+fn write_numbers<W: Write>(writer: &mut W, line: u64, text: &str, search: Search) -> io::Result<()>
+    ensures { OnOk result ((written : List ℕ)
+        × AreFound search line (found_spans search text.now) written
+        × Appends (W.contents writer.old) (W.contents writer.new) written) }
+{
+    if search.exact {
+        let quantities = find_quantities(text, search.wanted);
+        write_runs(writer, line, text, quantities, search)
+    } else {
+        let numbers = find_numbers(text, search.wanted);
+        write_runs(writer, line, text, numbers, search)
+    }
 }
 
 // The same of a line's bytes.
@@ -146,8 +196,8 @@ fn flush_before_read<R: Read + Drop, W: Write + Drop>(
     }
 }
 
-/// Searches the lines of the reader to its end, and writes a line for each number. What was written
-/// is flushed before a read that may wait, and at the end.
+/// Searches the lines of the reader to its end, and writes a line for each that is found. What was
+/// written is flushed before a read that may wait, and at the end.
 ///
 /// At `Write` a beginning of the answers to the lines read was written. At `Read` and `Memory` the
 /// answers to the lines before the one in hand were written, whole, and nothing else.
