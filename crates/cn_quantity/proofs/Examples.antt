@@ -68,8 +68,8 @@ percentages = refl
 
 fractions : answers (codes "三分之一" ∷ codes "百分之五十" ∷ codes "百分之百"
     ∷ codes "百分之12.5" ∷ codes "百万分之三" ∷ [])
-    ≡ is (pos 1) 3 Fraction ∷ is (pos 50) 100 Fraction ∷ is (pos 100) 100 Fraction
-    ∷ is (pos 125) 1000 Fraction ∷ is (pos 3) 1000000 Fraction ∷ []
+    ≡ is (pos 1) 3 Fraction ∷ is (pos 50) 100 Percent ∷ is (pos 100) 100 Percent
+    ∷ is (pos 125) 1000 Percent ∷ is (pos 3) 1000000 Fraction ∷ []
 unfolding chars encode_utf8 digit_of rank_of figure_of chinese_digit_of tens_of sign_of is_point is_comma
     is_percent is_fen is_zhi
 fractions = refl

@@ -12,7 +12,7 @@ use Rattle.cn_quantity.specs.Answer.{and_then, further_by}
 use Rattle.cn_quantity.specs.Characters.{is_fen, is_zhi}
 use Rattle.cn_quantity.specs.Number.{divisor_answer, number_answer, part_answer}
 use Rattle.cn_quantity.specs.Private.{IsFront, SplitsAtBar}
-use Rattle.cn_quantity.specs.Ratio.{after_bar, before_bar, form_of, fraction_answer, is_fraction, is_percentage, ratio_answer, ratio_of}
+use Rattle.cn_quantity.specs.Ratio.{after_bar, before_bar, form_of, form_over, fraction_answer, is_fraction, is_percentage, ratio_answer, ratio_of}
 use Rattle.cn_quantity.proofs.Numbers.{divisor-within, number-low, part-low}
 use Rattle.cn_quantity.proofs.Told.{told-end, told-front, told-goes_on, told-stops}
 
@@ -106,7 +106,7 @@ fraction-by : (method : ChineseCountMethod) (skipped index number : ℕ)
     → ratio_answer method (text_of bytes)
     ≡ and_then (further_by (length (before_bar (text_of bytes)) + 2)
     (part_answer method (after_bar (text_of bytes))))
-    (λ decimal. ratio_of number Fraction decimal)
+    (λ decimal. ratio_of number (form_over number) decimal)
 fraction-by method skipped index number bytes divisor behind e s h =
     a-fraction method (text_of bytes) e
     ∙ told-goes_on skipped bytes (divisor_answer method (before_bar (text_of bytes))) _ number
@@ -122,7 +122,7 @@ pub fraction-stops_behind : (method : ChineseCountMethod) (skipped index number 
 fraction-stops_behind method skipped index number bytes divisor behind refusal e s h g =
     told-stops skipped bytes (further_by (length (before_bar (text_of bytes)) + 2)
     (part_answer method (after_bar (text_of bytes))))
-    (λ decimal. ratio_of number Fraction decimal) refusal
+    (λ decimal. ratio_of number (form_over number) decimal) refusal
     (g ∙ behind-told method skipped index bytes divisor behind s)
     ∙ ap (answer_at skipped bytes)
     (sym (fraction-by method skipped index number bytes divisor behind e s h))
@@ -133,15 +133,15 @@ pub fraction-goes_on : (method : ChineseCountMethod) (skipped index number : ℕ
     → is_fraction (text_of bytes) ≡ true → SplitsAtBar bytes divisor index behind
     → Ok number ≡ answer_at skipped divisor (divisor_answer method (text_of divisor))
     → Ok decimal ≡ answer_at (skipped + index) behind (part_answer method (text_of behind))
-    → answer ≡ ratio_of number Fraction decimal
+    → answer ≡ ratio_of number (form_over number) decimal
     → answer ≡ answer_at skipped bytes (ratio_answer method (text_of bytes))
 fraction-goes_on method skipped index number bytes divisor behind decimal answer e s h g is =
-    is ∙ ratio-told skipped bytes number Fraction decimal
+    is ∙ ratio-told skipped bytes number (form_over number) decimal
     ∙ ap (answer_at skipped bytes)
     (sym (fraction-by method skipped index number bytes divisor behind e s h
     ∙ told-goes_on skipped bytes (further_by (length (before_bar (text_of bytes)) + 2)
     (part_answer method (after_bar (text_of bytes))))
-    (λ decimal. ratio_of number Fraction decimal) decimal
+    (λ decimal. ratio_of number (form_over number) decimal) decimal
     (g ∙ behind-told method skipped index bytes divisor behind s)))
 
 -- the answer in front of a percent sign, told in the whole text
@@ -277,12 +277,12 @@ fraction-low method text place fraction h =
       by : (divisor : Result ℕ Refusal) → divisor_answer method (before_bar text) ≡ divisor
           → and_then divisor (λ divisor.
           and_then (further_by (length (before_bar text) + 2) (part_answer method (after_bar text)))
-          (λ decimal. ratio_of divisor Fraction decimal)) ≡ Err (incorrect_at place)
+          (λ decimal. ratio_of divisor (form_over divisor) decimal)) ≡ Err (incorrect_at place)
           → place < length text
       by (Ok divisor) is e =
           let first = over-refused
           (further_by (length (before_bar text) + 2) (part_answer method (after_bar text)))
-          divisor (λ decimal. Fraction) place e in
+          divisor (λ decimal. form_over divisor) place e in
           let low = further-low (part_answer method (after_bar text)) (length (before_bar text) + 2)
           place (length (after_bar text)) (part-low method (after_bar text)) first in
           omega (arith, low, all)

@@ -1,5 +1,5 @@
 -- What a text without sign is worth: a fraction, a percentage, or a number by itself.
-use Rattle.std.specs.Prelude.{ℕ, zero, suc, ◌+◌, ◌-◌, ◌*◌, ◌^◌, Bool, false, ◌&&◌, nat_lt, List, [], ◌∷◌, length, take, Result, Ok, Err, if◌then◌else◌}
+use Rattle.std.specs.Prelude.{ℕ, zero, suc, ◌+◌, ◌-◌, ◌*◌, ◌^◌, Bool, false, ◌&&◌, ◌==◌, nat_lt, List, [], ◌∷◌, length, take, Result, Ok, Err, if◌then◌else◌}
 use Rattle.cn_core.specs.declared.method.ChineseCountMethod.{ChineseCountMethod}
 use Rattle.cn_core.specs.Refusal.{Refusal, too_large}
 use Rattle.cn_quantity.specs.declared.number.Decimal.{Decimal as DecimalNumber}
@@ -43,12 +43,16 @@ after_bar (c ∷ next ∷ rest) = if is_fen c && is_zhi next then rest else afte
 abbrev pub is_fraction : List ℕ → Bool
 is_fraction text = nat_lt 0 (length (before_bar text)) && nat_lt 0 (length (after_bar text))
 
+-- the form of what is over a divisor: over 100 it is a percentage
+abbrev pub form_over : ℕ → QuantityForm
+form_over divisor = if divisor == 100 then Percent else Fraction
+
 -- a fraction by its divisor and what stands behind 分之
 abbrev pub fraction_answer : ChineseCountMethod → List ℕ → List ℕ → Result Ratio Refusal
 fraction_answer method before behind =
     and_then (divisor_answer method before) (λ divisor.
     and_then (further_by (length before + 2) (part_answer method behind))
-    (λ decimal. ratio_of divisor Fraction decimal))
+    (λ decimal. ratio_of divisor (form_over divisor) decimal))
 
 -- the last character is a percent sign
 abbrev pub ends_with_percent : List ℕ → Bool

@@ -20,15 +20,15 @@ pub enum QuantityForm {
     Whole,
     /// 3.5, 三點五, 3.5万
     Decimal,
-    /// 12.5%
+    /// 12.5%, 百分之五十
     Percent,
-    /// 三分之一, 百分之五十
+    /// 三分之一, 千分之五
     Fraction,
 }
 
 /// An exact quantity, as written and not reduced: 12.5% is 125/1000.
 ///
-/// Two are equal where numerators, denominators and forms are: 50% and 百分之五十 are two.
+/// Two are equal where numerators, denominators and forms are: 3.10 and 3.1 are two.
 #[derive(Debug, Copy, Clone, Eq, PartialEq)]
 pub struct Quantity {
     /// The number above the line, with the sign.

@@ -5,7 +5,7 @@ ghost use Rattle.cn_judge.specs.Answer.{answer_of};
 ghost use Rattle.cn_judge.specs.Piece.{answer_at};
 ghost use Rattle.cn_quantity.specs.Characters.{is_fen, is_zhi};
 ghost use Rattle.cn_quantity.specs.Private.{BeginsWith, IsFront, SplitsAtBar};
-ghost use Rattle.cn_quantity.specs.Ratio.{after_bar, begins_with_zhi, form_of, is_fraction, is_percentage, ratio_answer, ratio_of};
+ghost use Rattle.cn_quantity.specs.Ratio.{after_bar, begins_with_zhi, form_of, form_over, is_fraction, is_percentage, ratio_answer, ratio_of};
 
 use crate::QuantityForm;
 use crate::characters::{is_fen, is_percent, is_zhi};
@@ -133,6 +133,17 @@ fn split_percent(text: &str) -> Option<&str>
     if is_percent(c) { Some(before) } else { None }
 }
 
+// The form of what is over a divisor.
+fn form_over(divisor: u128) -> QuantityForm
+    ensures { result ≡ form_over divisor }
+{
+    if divisor == 100 {
+        QuantityForm::Percent
+    } else {
+        QuantityForm::Fraction
+    }
+}
+
 /// The answer to a text without sign, behind so many characters of the caller's string.
 pub fn judge_ratio(
     method: ChineseCountMethod,
@@ -146,7 +157,7 @@ pub fn judge_ratio(
     if let Some(bar) = split_fraction(text) {
         let divisor = judge_divisor(method, skipped, bar.divisor)?;
         let decimal = judge_part(method, skipped + bar.skipped, bar.behind)?;
-        return ratio_of(divisor, QuantityForm::Fraction, decimal);
+        return ratio_of(divisor, form_over(divisor), decimal);
     }
     if let Some(before) = split_percent(text) {
         let decimal = judge_number(method, skipped, before)?;

@@ -24,7 +24,9 @@ pub returns-in-Some : goal.returns-in-Some
 returns-in-Some c =
     fraction-goes_on c.args.method c.args.skipped _ _ c.args.text.now _ _ _ _
     c.in-Some.ensures.fraction c.in-Some.ensures.parts c.in_ok-divisor.ensures.answer
-    c.in_ok-decimal.ensures c.ratio_of.ensures
+    c.in_ok-decimal.ensures
+    (c.ratio_of.ensures
+    ∙ ap (λ f. ratio_of c.in_ok-divisor.divisor f c.in_ok-decimal.decimal) c.form_over.ensures)
 
 pub returns-in_err-decimal-2 : goal.returns-in_err-decimal-2
 returns-in_err-decimal-2 c =
