@@ -1,0 +1,14 @@
+// A room that is filled from its end.
+ghost use Rattle.std.specs.Prelude.{◌≤◌, drop, length, IsUtf8};
+
+mod methods;
+
+/// A text that is put into a room from its last character to its first: some free bytes, and behind
+/// them the text.
+#[derive(Drop)]
+pub struct Room<'a> {
+    bytes: &'a mut [u8],
+    pub free: usize,
+    ghost within: { free ≤ length bytes.now },
+    ghost utf8: { ∥ IsUtf8 (drop free bytes.now) ∥₁ },
+}
