@@ -21,8 +21,8 @@ use Rattle.cn_core.specs.Judging.{judge}
 use Rattle.cn_core.proofs.Fronts.{and-left}
 use Rattle.cn_core.proofs.Judging.{Judges-judge, Judges-same}
 use Rattle.cn_core.proofs.ReadBack.{spelling-is_numeral}
-use Rattle.chinese_number.proofs.Printed.{is_printed, IsReadBack-marks, text_of-signed_text, minus_is_sign, no_sign}
-use Rattle.chinese_number.proofs.SpelledMarks.{below_square, spelling-printed, Judges-spelling}
+use Rattle.cn_spell.proofs.Printed.{is_printed, IsReadBack-marks, text_of-signed_text, minus_is_sign, no_sign}
+use Rattle.cn_spell.proofs.SpelledMarks.{below_square, spelling-printed, Judges-spelling}
 
 -- a number that the type holds
 pub typed_number-held : (kind : Kind) (number : ℤ) → holds kind number ≡ true

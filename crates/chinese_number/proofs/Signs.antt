@@ -12,7 +12,7 @@ use Rattle.cn_core.specs.Reading.{Reads, is_minus}
 use Rattle.cn_core.specs.Value.{numeral_value}
 use Rattle.cn_core.specs.Whole.{signed_number, Kind, holds}
 use Rattle.chinese_number.proofs.Reading.{IsWhole, HasParts, Reads-parts, typed_number-held, size_of}
-use Rattle.chinese_number.proofs.SpelledMarks.{Judges-numeral}
+use Rattle.cn_spell.proofs.SpelledMarks.{Judges-numeral}
 
 HasParts-sign : (kind : Kind) (bytes rest : List ℕ) (character : ℕ) (sign : Sign)
     → kind.signed ≡ true → text_of bytes ≡ character ∷ rest → sign_of character ≡ Some sign
