@@ -1,0 +1,6 @@
+pub mod Cuts
+pub mod DecimalTexts
+pub mod DigitTexts
+pub mod LastMarks
+pub mod SpelledNumbers
+pub mod WrittenTexts
