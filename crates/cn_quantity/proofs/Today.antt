@@ -187,7 +187,7 @@ no-decimal text h =
     (are_decimals Chinese (after_point text)) _
     (ap (are_decimals Chinese) (point-nowhere text h))
 
-and-none : (b : Bool) → (b && false) ≡ false
+pub and-none : (b : Bool) → (b && false) ≡ false
 and-none true = refl
 and-none false = refl
 
@@ -390,7 +390,7 @@ figure-and_more method c rest is_digit g sum more = record {
 }
 
 -- without a digit in front
-rest-fit : (method : ChineseCountMethod) (c v : ℕ) (rest : List ℕ) → digit_of c ≡ Some v
+pub rest-fit : (method : ChineseCountMethod) (c v : ℕ) (rest : List ℕ) → digit_of c ≡ Some v
     → some_unfit method (marks_of (c ∷ rest)) ≡ false → some_unfit method (marks_of rest) ≡ false
 rest-fit method c v rest is_digit fit =
     sym (ap (λ m. is_unfit method m || some_unfit method (marks_of rest)) (digit-mark c v is_digit))
