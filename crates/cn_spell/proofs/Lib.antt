@@ -6,6 +6,7 @@ pub mod Printed
 pub mod Rooms
 pub mod SectionCuts
 pub mod SectionWalks
+pub mod SignedNumbers
 pub mod Signs
 pub mod Single
 pub mod SingleTops
