@@ -2,6 +2,9 @@ pub mod Cuts
 pub mod DecimalTexts
 pub mod DigitTexts
 pub mod FractionTexts
+pub mod KnownDecimals
 pub mod LastMarks
+pub mod Ratios
+pub mod SignedTexts
 pub mod SpelledNumbers
 pub mod WrittenTexts

@@ -1,3 +1,4 @@
 pub mod Digits
 pub mod Figures
 pub mod Numerals
+pub mod ReadBack
