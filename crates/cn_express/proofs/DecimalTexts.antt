@@ -111,6 +111,13 @@ whole-read method number text s =
           let zero_is : leading_digits Figure text ≡ 0 =
           rw append-nil at (not-figures text [] s.begins) in omega (arith, some, zero_is)
 
+-- of a fraction too
+pub part-whole : (method : ChineseCountMethod) (number : ℕ) (text : List ℕ)
+    → IsSpelled method number text
+    → part_answer method text ≡ Ok (record { number = number; decimals = 0 })
+part-whole method number text s =
+    rw append-nil at (part-number method text [] s.begins) ∙ whole-read method number text s
+
 -- the digits behind a point
 digits_written : (variant : ChineseVariant) (case : ChineseCase)
     → each_below (λ value. option_map_or (λ read. read == value)

@@ -20,7 +20,7 @@ use Rattle.cn_core.specs.Value.{colloquial_value, numeral_value, weight}
 use Rattle.cn_core.proofs.Fronts.{and-left, and-right, both}
 use Rattle.cn_core.proofs.ReadBack.{spelling-is_numeral}
 use Rattle.cn_express.specs.Numerals.{divisor_text, magnitude_text, stand_alone, without_front}
-use Rattle.cn_express.proofs.DecimalTexts.{IsSpelled, IsSpelled-magnitude, part-number, printed-marks, whole-read}
+use Rattle.cn_express.proofs.DecimalTexts.{IsSpelled, IsSpelled-magnitude, part-whole, printed-marks}
 use Rattle.cn_express.proofs.SpelledNumbers.{mark_read}
 use Rattle.cn_express.proofs.WrittenTexts.{IsText, IsText-back}
 use Rattle.cn_quantity.specs.declared.number.Decimal.{Decimal}
@@ -50,14 +50,10 @@ IsDivisorText-spelled method divisor text s = record {
   marks = s.marks;
   some = filled;
   no_sign = λ more. ap (λ l. leading_sign (l ++ more)) s.begins.parts ∙ s.begins.no_sign;
-  read = whole;
+  read = part-whole method divisor text s;
 } where
   filled : 0 < length text
   filled = let size = ap length s.begins.parts in omega (arith, size)
-
-  whole : part_answer method text ≡ Ok (record { number = divisor; decimals = 0 })
-  whole = rw append-nil at (part-number method text [] s.begins)
-      ∙ whole-read method divisor text s
 
 -- the scales of rising units behind 一 are the number
 units-number : (method : ChineseCountMethod) (divisor : ℕ) (text : List ℕ)
@@ -183,7 +179,7 @@ IsDivisorText-written variant case method divisor small printable =
     (IsSpelled-magnitude variant case method divisor small printable)
 
 -- a divisor above 0 is answered
-divisor-answered : (method : ChineseCountMethod) (divisor : ℕ) (text : List ℕ) → 0 < divisor
+pub divisor-answered : (method : ChineseCountMethod) (divisor : ℕ) (text : List ℕ) → 0 < divisor
     → part_answer method text ≡ Ok (record { number = divisor; decimals = 0 })
     → divisor_answer method text ≡ Ok divisor
 divisor-answered method divisor text some read =

@@ -1,7 +1,28 @@
 //! What users may count on, as contracts of functions that do nothing.
-ghost use Rattle.std.specs.Prelude.{◌≡◌, ℕ};
+ghost use Rattle.std.specs.Prelude.{◌≡◌, ◌<◌, ◌^◌, Ok, IsTrue, encode_utf8_all};
+ghost use Rattle.cn_core.specs.declared.case.ChineseCase.{ChineseCase};
+ghost use Rattle.cn_core.specs.declared.method.ChineseCountMethod.{ChineseCountMethod};
+ghost use Rattle.cn_core.specs.declared.script.ChineseVariant.{ChineseVariant};
+ghost use Rattle.cn_core.specs.Whole.{holds, signed_kind};
+ghost use Rattle.cn_express.specs.Numerals.{is_written_by, quantity_text};
+ghost use Rattle.cn_express.specs.ReadBack.{form_read_back};
+ghost use Rattle.cn_quantity.specs.declared.quantity.Quantity.{Quantity};
+ghost use Rattle.cn_quantity.specs.Reading.{quantity_answer};
 
-/// Each number is itself.
-pub fn each_number_is_itself()
-    ensures { (number : ℕ) → number ≡ number }
+/// What is written in numerals is read back, by the same method: as the same numerator over the
+/// same denominator. A percentage is read as a fraction, and so is what is written as one since its
+/// denominator is not one of its form.
+///
+/// For whoever shows quantities in numerals: 314/100 is 三點一四 as a decimal, which is read as
+/// 314/100, and as nothing else.
+pub fn what_is_written_is_read_back()
+    ensures { (variant : ChineseVariant) (case : ChineseCase) (method : ChineseCountMethod)
+        (q : Quantity) → IsTrue (holds (signed_kind 128) q.numerator) → 0 < q.denominator
+        → q.denominator < 2 ^ 128 → IsTrue (is_written_by method q)
+        → quantity_answer method (encode_utf8_all (quantity_text variant case method q))
+        ≡ Ok (record {
+            numerator = q.numerator;
+            denominator = q.denominator;
+            form = form_read_back q;
+        }) }
 {}
