@@ -4,6 +4,7 @@ pub mod DigitTexts
 pub mod FractionTexts
 pub mod KnownDecimals
 pub mod LastMarks
+pub mod NumberTexts
 pub mod NumeralsRead
 pub mod Ratios
 pub mod SignedTexts

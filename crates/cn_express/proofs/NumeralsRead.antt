@@ -25,8 +25,9 @@ use Rattle.cn_express.proofs.DecimalTexts.{IsSpelled, IsSpelled-magnitude, IsTex
 use Rattle.cn_express.proofs.DigitTexts.{last-digits}
 use Rattle.cn_express.proofs.FractionTexts.{IsDivisorText, IsDivisorText-written, divisor-answered}
 use Rattle.cn_express.proofs.KnownDecimals.{decimal-is, over-is, whole-is}
+use Rattle.cn_express.proofs.NumberTexts.{IsNumberText, IsUnsigned-decimal, IsUnsigned-whole}
 use Rattle.cn_express.proofs.Ratios.{fraction-ratio, number-ratio, ratio-fits}
-use Rattle.cn_express.proofs.SignedTexts.{IsUnsigned, signed-read}
+use Rattle.cn_express.proofs.SignedTexts.{IsUnsigned, magnitude-fits, signed-read}
 use Rattle.cn_express.proofs.WrittenTexts.{IsText, IsText-append, IsText-back, IsText-nil}
 use Rattle.cn_quantity.specs.declared.characters.DigitKind.TheVariants.{Chinese}
 use Rattle.cn_quantity.specs.declared.number.Decimal.{Decimal as DecimalNumber}
@@ -40,17 +41,6 @@ use Rattle.cn_quantity.specs.Reading.{leading_sign, quantity_answer}
 use Rattle.cn_quantity.specs.Trimmed.{decimals_in, decimals_of}
 use Rattle.cn_quantity.proofs.Today.{are_marks, no-fen, no-percent}
 use Rattle.cn_spell.proofs.Printed.{IsReadBack-marks}
-
--- what a written number with decimals is like
-record IsNumberText (method : ChineseCountMethod) (decimal : DecimalNumber)
-    (text : List ℕ) : Type 0 where
-  written : IsText text
-  no_fen : lacks is_fen text ≡ true
-  no_percent : lacks is_percent text ≡ true
-  no_sign : leading_sign text ≡ None
-  some : 0 < length text
-  read : number_answer method text ≡ Ok decimal
-  part : part_answer method text ≡ Ok decimal
 
 -- what stands behind the whole part
 record IsBehind (text : List ℕ) : Type 0 where
@@ -104,9 +94,7 @@ IsNumberText-decimal variant case method count number small printable = record {
   no_percent = lacks-append is_percent front behind
       (marks-lack is_percent no-percent front s.marks) b.no_percent;
   no_sign = ap (λ l. leading_sign (l ++ behind)) s.begins.parts ∙ s.begins.no_sign;
-  some = filled;
-  read = read;
-  part = part-number method front behind s.begins ∙ read;
+  read = decimal-read method variant case count number small printable;
 } where
   front : List ℕ
   front = magnitude_text variant case method (number / 10 ^ count)
@@ -122,39 +110,28 @@ IsNumberText-decimal variant case method count number small printable = record {
   b : IsBehind (behind_point (point_char variant) (digit_char variant case) count number)
   b = IsBehind-written variant case count number
 
-  filled : 0 < length (decimal_text variant case method count number)
-  filled =
-      let first = ap length s.begins.parts in
-      omega (arith, first, length-append front behind)
+-- of a fraction too
+decimal-part : (variant : ChineseVariant) (case : ChineseCase) (method : ChineseCountMethod)
+    (count number : ℕ) → number < 2 ^ 128
+    → is_printable method (pos (number / 10 ^ count)) ≡ true
+    → (0 < length (decimal_text variant case method count number))
+    × (part_answer method (decimal_text variant case method count number)
+    ≡ Ok (record { number = number; decimals = count }))
+decimal-part variant case method count number small printable =
+    let front = magnitude_text variant case method (number / 10 ^ count) in
+    let behind = behind_point (point_char variant) (digit_char variant case) count number in
+    let s = IsSpelled-magnitude variant case method (number / 10 ^ count)
+    (omega (arith, small, div-le_self number (10 ^ count))) printable in
+    let first = ap length s.begins.parts in (
+      omega (arith, first, length-append front behind),
+      part-number method front behind s.begins
+          ∙ decimal-read method variant case count number small printable,
+    )
 
-  read : number_answer method (decimal_text variant case method count number)
-      ≡ Ok (record { number = number; decimals = count })
-  read = decimal-read method variant case count number small printable
-
--- a number by itself
-IsUnsigned-number : (method : ChineseCountMethod) (number decimals denominator : ℕ)
-    (form : QuantityForm) (text : List ℕ)
-    → IsNumberText method (record { number = number; decimals = decimals }) text
-    → form_of decimals ≡ form → 10 ^ decimals ≡ denominator → denominator < 2 ^ 128
-    → IsUnsigned method
-    (record { numerator = number; denominator = denominator; form = form }) text
-IsUnsigned-number method number decimals denominator form text n form_is is small = record {
-  written = n.written;
-  no_sign = n.no_sign;
-  read = number-ratio method (record { number = number; decimals = decimals }) text n.no_fen
-      n.no_percent n.read
-      ∙ ratio-fits 1 number decimals denominator (form_of decimals) (omega (arith, is)) small
-      ∙ ap (λ form. Ok (record {
-        numerator = number;
-        denominator = denominator;
-        form = form;
-      })) form_is;
-}
-
+-- a number over a divisor
 IsText-bar : IsText bar
 IsText-bar = record { scalars = refl; kept = refl }
 
--- a number over a divisor
 IsUnsigned-fraction : (method : ChineseCountMethod)
     (divisor number decimals denominator : ℕ) (before after : List ℕ)
     → IsDivisorText method divisor before
@@ -220,10 +197,6 @@ IsText-minus Traditional = record { scalars = refl; kept = refl }
 IsText-minus Simple = record { scalars = refl; kept = refl }
 
 -- without its sign
-form-some : (decimals : ℕ) → 0 < decimals → form_of decimals ≡ Decimal
-form-some zero some = absurd (omega (arith, some))
-form-some (suc decimals) some = refl
-
 numerals-by : (variant : ChineseVariant) (case : ChineseCase) (method : ChineseCountMethod)
     (form : QuantityForm) (number denominator : ℕ) (decimals : Option ℕ)
     → decimals_in form denominator ≡ decimals → number < 2 ^ 128 → 0 < denominator
@@ -254,10 +227,12 @@ numerals-by variant case method form number denominator None is small above fits
     above (omega arith) fits
 numerals-by variant case method form number denominator (Some decimals) is small above fits written =
     by form is where
+      printable : is_printable method (pos (number / 10 ^ decimals)) ≡ true
+      printable = and-left (is_printable method (pos (number / 10 ^ decimals))) true written
+
       n : IsNumberText method (record { number = number; decimals = decimals })
           (decimal_text variant case method decimals number)
-      n = IsNumberText-decimal variant case method decimals number small
-          (and-left (is_printable method (pos (number / 10 ^ decimals))) true written)
+      n = IsNumberText-decimal variant case method decimals number small printable
 
       by : (form : QuantityForm) → decimals_in form denominator ≡ Some decimals
           → IsUnsigned method
@@ -268,25 +243,18 @@ numerals-by variant case method form number denominator (Some decimals) is small
           })
           (hundredths variant case form ++ decimal_text variant case method decimals number)
       by Whole is =
-          let known = whole-is denominator decimals is in
-          IsUnsigned-number method number decimals denominator Whole
-          (decimal_text variant case method decimals number) n (ap form_of known.0)
-          (ap (λ n. 10 ^ n) known.0 ∙ sym known.1) fits
+          IsUnsigned-whole method number decimals denominator
+          (decimal_text variant case method decimals number) n is fits
       by Decimal is =
-          let known = decimal-is denominator decimals is in
-          IsUnsigned-number method number decimals denominator Decimal
-          (decimal_text variant case method decimals number) n (form-some decimals known.0)
-          known.1 fits
+          IsUnsigned-decimal method number decimals denominator
+          (decimal_text variant case method decimals number) n is fits
       by Percent is =
+          let part = decimal-part variant case method decimals number small printable in
           IsUnsigned-fraction method 100 number decimals denominator
           (unit_char variant case 2 ∷ []) (decimal_text variant case method decimals number)
-          (IsDivisorText-hundred variant case method) n.written n.some n.part (omega arith)
+          (IsDivisorText-hundred variant case method) n.written part.0 part.1 (omega arith)
           (over-is 100 denominator decimals is) fits
       by Fraction is = cc
-
-magnitude-fits : (number : ℤ) → holds (signed_kind 128) number ≡ true → nat_abs number < 2 ^ 128
-magnitude-fits (pos n) held = grind (arith, ints, held)
-magnitude-fits (negsuc n) held = grind (arith, ints, held)
 
 -- with it
 pub numerals-read : (variant : ChineseVariant) (case : ChineseCase) (method : ChineseCountMethod)

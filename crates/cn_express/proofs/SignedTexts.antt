@@ -1,5 +1,6 @@
 -- A quantity is read from its sign and from what is read without it.
-use Rattle.std.proofs.Common.{◌≡◌, ℕ, ℤ, pos, int_lt, nat_abs, Bool, true, false, List, [], ◌∷◌, ◌++◌, drop, encode_utf8_all, Option, Some, None, Ok, refl, ap, ◌∙◌, if◌then◌else◌}
+use Rattle.std.proofs.Common.{◌≡◌, ℕ, ◌^◌, ◌<◌, ℤ, pos, negsuc, int_lt, nat_abs, Bool, true, false, List, [], ◌∷◌, ◌++◌, drop, encode_utf8_all, Option, Some, None, Ok, refl, ap, ◌∙◌, arith, if◌then◌else◌}
+use Rattle.std.proofs.lemmas.Int.{ints}
 use Rattle.cn_core.specs.declared.method.ChineseCountMethod.{ChineseCountMethod}
 use Rattle.cn_core.specs.declared.sign.Sign.{Sign}
 use Rattle.cn_core.specs.declared.sign.Sign.TheVariants.{Minus}
@@ -40,6 +41,11 @@ sign-rest : (negative : Bool) (minus : ℕ) (text : List ℕ)
     → drop (sign_len (written_sign negative)) (sign_text negative minus ++ text) ≡ text
 sign-rest true minus text = refl
 sign-rest false minus text = refl
+
+-- the magnitude of a number of 128 bits
+pub magnitude-fits : (number : ℤ) → holds (signed_kind 128) number ≡ true → nat_abs number < 2 ^ 128
+magnitude-fits (pos n) held = grind (arith, ints, held)
+magnitude-fits (negsuc n) held = grind (arith, ints, held)
 
 pub signed-read : (method : ChineseCountMethod) (number : ℤ) (denominator : ℕ)
     (form : QuantityForm) (minus : ℕ) (text : List ℕ) → holds (signed_kind 128) number ≡ true

@@ -1,10 +1,10 @@
 //! What users may count on, as contracts of functions that do nothing.
-ghost use Rattle.std.specs.Prelude.{◌≡◌, ◌<◌, ◌^◌, Ok, IsTrue, encode_utf8_all};
+ghost use Rattle.std.specs.Prelude.{◌≡◌, ◌<◌, ◌^◌, Ok, IsTrue};
 ghost use Rattle.cn_core.specs.declared.case.ChineseCase.{ChineseCase};
 ghost use Rattle.cn_core.specs.declared.method.ChineseCountMethod.{ChineseCountMethod};
 ghost use Rattle.cn_core.specs.declared.script.ChineseVariant.{ChineseVariant};
 ghost use Rattle.cn_core.specs.Whole.{holds, signed_kind};
-ghost use Rattle.cn_express.specs.Numerals.{is_written_by, quantity_text};
+ghost use Rattle.cn_express.specs.Writes.{IsWritten, numeral_bytes};
 ghost use Rattle.cn_express.specs.ReadBack.{form_read_back};
 ghost use Rattle.cn_quantity.specs.declared.quantity.Quantity.{Quantity};
 ghost use Rattle.cn_quantity.specs.Reading.{quantity_answer};
@@ -17,9 +17,9 @@ ghost use Rattle.cn_quantity.specs.Reading.{quantity_answer};
 /// 314/100, and as nothing else.
 pub fn what_is_written_is_read_back()
     ensures { (variant : ChineseVariant) (case : ChineseCase) (method : ChineseCountMethod)
-        (q : Quantity) → IsTrue (holds (signed_kind 128) q.numerator) → 0 < q.denominator
-        → q.denominator < 2 ^ 128 → IsTrue (is_written_by method q)
-        → quantity_answer method (encode_utf8_all (quantity_text variant case method q))
+        (q : Quantity) → IsTrue (holds (signed_kind 128) q.numerator)
+        → q.denominator < 2 ^ 128 → IsWritten method q
+        → quantity_answer method (numeral_bytes variant case method q)
         ≡ Ok (record {
             numerator = q.numerator;
             denominator = q.denominator;
