@@ -23,7 +23,7 @@ use Rattle.cn_core.proofs.ReadBack.{spelling-is_numeral}
 use Rattle.cn_express.specs.Digits.{behind_point, last_digits}
 use Rattle.cn_express.specs.Numerals.{decimal_text, magnitude_text, point_char}
 use Rattle.cn_express.proofs.Cuts.{lacks, lacks-append, marks-lack, point-at}
-use Rattle.cn_express.proofs.DigitTexts.{WritesDigits, are_digits, digits-alone, digits-all, last-count, last-digits, last-read, no-factors}
+use Rattle.cn_express.proofs.DigitTexts.{WritesDigits, WritesDigits-each, are_digits, digits-alone, digits-all, last-count, last-digits, last-read, no-factors}
 use Rattle.cn_express.proofs.LastMarks.{spelled-ended}
 use Rattle.cn_express.proofs.SpelledNumbers.{BeginsNumber, BeginsNumber-marks, mark_read, printed-known, spelled-whole}
 use Rattle.cn_express.proofs.WrittenTexts.{IsText, IsText-append, IsText-back, IsText-nil}
@@ -38,7 +38,7 @@ use Rattle.cn_quantity.specs.Number.{chinese_decimal_answer, decimal_of, number_
 use Rattle.cn_quantity.specs.Units.{are_below, are_rising_units, first_rank, times_units}
 use Rattle.cn_quantity.proofs.Numbers.{a-decimal}
 use Rattle.cn_quantity.proofs.Today.{and-none, are_marks, digit-mark, digit-no_unit, no-fen, no-percent, no-point, number-whole}
-use Rattle.cn_spell.proofs.Printed.{IsReadBack-marks, each_below, each_below-at, is_printed}
+use Rattle.cn_spell.proofs.Printed.{IsReadBack-marks, each_below, is_printed}
 use Rattle.cn_spell.proofs.SpelledMarks.{below_square, spelling-printed}
 
 -- what a written spelling is like
@@ -130,15 +130,8 @@ digits_written Simple Lower = refl
 
 pub WritesDigits-chinese : (variant : ChineseVariant) (case : ChineseCase)
     → WritesDigits Chinese (digit_char variant case)
-WritesDigits-chinese variant case value low =
-    by (chinese_digit_of (digit_char variant case value))
-    (each_below-at (λ value. option_map_or (λ read. read == value)
-    (chinese_digit_of (digit_char variant case value)) false) 10 value
-    (digits_written variant case) low) where
-      by : (d : Option ℕ) → option_map_or (λ read. read == value) d false ≡ true
-          → d ≡ Some value
-      by None h = cc
-      by (Some read) h = let same : read ≡ value = grind (arith, nat_tests, h) in ap Some same
+WritesDigits-chinese variant case =
+    WritesDigits-each Chinese (digit_char variant case) (digits_written variant case)
 
 -- the point of each script
 pub point_is : (variant : ChineseVariant) → is_point Chinese (point_char variant) ≡ true

@@ -1,5 +1,5 @@
 -- Digits that are written side by side, as behind a point, and what is read of them.
-use Rattle.std.proofs.Common.{◌≡◌, ℕ, zero, suc, ◌+◌, ◌*◌, ◌/◌, ◌%◌, ◌^◌, ◌<◌, Bool, true, false, ◌&&◌, nat_lt, is_none, is_some, List, [], ◌∷◌, ◌++◌, length, map, Option, Some, None, refl, sym, ap, ◌∙◌, arith, if◌then◌else◌, append-nil}
+use Rattle.std.proofs.Common.{◌≡◌, ℕ, zero, suc, ◌+◌, ◌*◌, ◌/◌, ◌%◌, ◌^◌, ◌<◌, Bool, true, false, ◌&&◌, ◌==◌, nat_lt, is_none, is_some, List, [], ◌∷◌, ◌++◌, length, map, Option, Some, None, refl, sym, ap, ◌∙◌, arith, if◌then◌else◌, append-nil}
 use Rattle.std.specs.List.{list_all}
 use Rattle.std.specs.Option.{option_map_or}
 use Rattle.std.proofs.lemmas.Bool.Decides.{nat_tests}
@@ -14,6 +14,7 @@ use Rattle.cn_quantity.specs.Characters.{digit_by}
 use Rattle.cn_quantity.specs.Digits.{after_digits, begins_with_digit, is_digit, leading_digits, read_on}
 use Rattle.cn_quantity.specs.Units.{times_units}
 use Rattle.cn_quantity.proofs.Today.{times-digit}
+use Rattle.cn_spell.proofs.Printed.{each_below, each_below-at}
 
 -- digits of this kind alone
 abbrev pub are_digits : DigitKind → List ℕ → Bool
@@ -67,6 +68,19 @@ read_on-append kind number (c ∷ front) rest =
 abbrev pub WritesDigits : DigitKind → (ℕ → ℕ) → Type 0
 WritesDigits kind character =
     (value : ℕ) → value < 10 → digit_by kind (character value) ≡ Some value
+
+-- as a table of the digits shows
+pub WritesDigits-each : (kind : DigitKind) (character : ℕ → ℕ)
+    → each_below (λ value. option_map_or (λ read. read == value)
+    (digit_by kind (character value)) false) 10 ≡ true → WritesDigits kind character
+WritesDigits-each kind character all value low =
+    by (digit_by kind (character value))
+    (each_below-at (λ value. option_map_or (λ read. read == value)
+    (digit_by kind (character value)) false) 10 value all low) where
+      by : (d : Option ℕ) → option_map_or (λ read. read == value) d false ≡ true
+          → d ≡ Some value
+      by None h = cc
+      by (Some read) h = let same : read ≡ value = grind (arith, nat_tests, h) in ap Some same
 
 pub read-digit : (kind : DigitKind) (character : ℕ → ℕ) (number value : ℕ) (rest : List ℕ)
     → WritesDigits kind character → value < 10

