@@ -21,8 +21,8 @@ use Rattle.chinese_number.specs.Digits.{is_digit}
 use Rattle.chinese_number.specs.Parts.{sign_length}
 use Rattle.chinese_number.proofs.PlainDigits.{decimal_is, starts, front-le, naive_answer-digits}
 use Rattle.cn_spell.proofs.Printed.{is_printed}
-use Rattle.chinese_number.proofs.Reading.{IsWhole, HasParts, HasParts-signed_text, held-smaller, Reads-parts, naive_reading-parts, minus_is_signed}
-use Rattle.cn_spell.proofs.SignedNumbers.{typed_number-held, written_sign}
+use Rattle.chinese_number.proofs.Reading.{IsWhole, HasParts, HasParts-signed_text, Reads-parts, naive_reading-parts, minus_is_signed}
+use Rattle.cn_spell.proofs.SignedNumbers.{held-smaller, typed_number-held, written_sign}
 use Rattle.cn_spell.proofs.SpelledMarks.{below_square, spelling-printed, Judges-beginning}
 
 -- it is written from a beginning of the marks

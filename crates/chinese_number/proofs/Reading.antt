@@ -22,7 +22,7 @@ use Rattle.cn_core.proofs.Fronts.{and-left}
 use Rattle.cn_core.proofs.Judging.{Judges-judge, Judges-same}
 use Rattle.cn_core.proofs.ReadBack.{spelling-is_numeral}
 use Rattle.cn_spell.proofs.Printed.{is_printed, IsReadBack-marks, text_of-signed_text, minus_is_sign, no_sign}
-use Rattle.cn_spell.proofs.SignedNumbers.{typed_number-held, written_sign, not_below_zero, signed_number-signed_text}
+use Rattle.cn_spell.proofs.SignedNumbers.{typed_number-held, written_sign, signed_number-signed_text}
 use Rattle.cn_spell.proofs.SpelledMarks.{below_square, spelling-printed, Judges-spelling}
 
 -- what is answered is a number that the type holds
@@ -68,15 +68,6 @@ unsigned_start : (variant : ChineseVariant) (case : ChineseCase) (signed : Bool)
 unsigned_start variant case false marks h s = refl
 unsigned_start variant case true [] h s = refl
 unsigned_start variant case true (mark ∷ rest) h s = no_sign variant case mark rest (and-left (is_printed mark) _ h) s
-
--- with its sign a type that holds the number, and 0, holds each smaller magnitude too
-pub held-smaller : (kind : Kind) (number : ℤ) (magnitude : ℕ) → holds kind (pos 0) ≡ true
-    → holds kind number ≡ true → magnitude ≤ nat_abs number
-    → holds kind (signed_number (is_minus (written_sign (int_lt number (pos 0)))) magnitude) ≡ true
-held-smaller kind (pos n) magnitude none held low =
-    rw (not_below_zero n) (grind (arith, ints, none, held, low))
-held-smaller kind (negsuc n) zero none held low = none
-held-smaller kind (negsuc n) (suc magnitude) none held low = grind (arith, ints, none, held, low)
 
 -- a sign leaves the magnitude as it was
 pub size_of : (sign : Option Sign) (magnitude : ℕ)

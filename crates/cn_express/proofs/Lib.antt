@@ -10,4 +10,5 @@ pub mod NumeralsRead
 pub mod Ratios
 pub mod SignedTexts
 pub mod SpelledNumbers
+pub mod TrimmedDecimals
 pub mod WrittenTexts

@@ -1,5 +1,5 @@
 -- A number that a type holds, from the sign that it is written with and its magnitude.
-use Rattle.std.proofs.Common.{◌≡◌, ℕ, ℤ, pos, negsuc, nat_abs, int_lt, Bool, true, false, Option, Some, None, Ok, refl, arith}
+use Rattle.std.proofs.Common.{◌≡◌, ℕ, zero, suc, ◌≤◌, ℤ, pos, negsuc, nat_abs, int_lt, Bool, true, false, Option, Some, None, Ok, refl, arith}
 use Rattle.std.proofs.lemmas.Int.{ints}
 use Rattle.cn_core.specs.declared.sign.Sign.{Sign}
 use Rattle.cn_core.specs.declared.sign.Sign.TheVariants.{Minus}
@@ -16,10 +16,19 @@ abbrev pub written_sign : Bool → Option Sign
 written_sign true = Some Minus
 written_sign false = None
 
-pub not_below_zero : (n : ℕ) → int_lt (pos n) (pos 0) ≡ false
+not_below_zero : (n : ℕ) → int_lt (pos n) (pos 0) ≡ false
 not_below_zero n = grind (arith, ints)
 
 pub signed_number-signed_text : (number : ℤ)
     → signed_number (is_minus (written_sign (int_lt number (pos 0)))) (nat_abs number) ≡ number
 signed_number-signed_text (pos n) = rw (not_below_zero n)
 signed_number-signed_text (negsuc n) = refl
+
+-- with this sign a type that holds the number, and 0, holds each smaller magnitude too
+pub held-smaller : (kind : Kind) (number : ℤ) (magnitude : ℕ) → holds kind (pos 0) ≡ true
+    → holds kind number ≡ true → magnitude ≤ nat_abs number
+    → holds kind (signed_number (is_minus (written_sign (int_lt number (pos 0)))) magnitude) ≡ true
+held-smaller kind (pos n) magnitude none held low =
+    rw (not_below_zero n) (grind (arith, ints, none, held, low))
+held-smaller kind (negsuc n) zero none held low = none
+held-smaller kind (negsuc n) (suc magnitude) none held low = grind (arith, ints, none, held, low)
