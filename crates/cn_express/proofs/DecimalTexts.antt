@@ -1,5 +1,5 @@
 -- A written number, with decimals or without, is read as that number.
-use Rattle.std.proofs.Common.{◌≡◌, ℕ, zero, suc, ◌+◌, ◌*◌, ◌/◌, ◌^◌, ◌<◌, ◌≤◌, ℤ, pos, Bool, true, false, not, ◌&&◌, ◌==◌, nat_lt, is_none, is_some, List, [], ◌∷◌, ◌++◌, length, map, codes, slice_index, Option, Some, None, Result, Ok, refl, sym, ap, ap₂, subst, ◌∙◌, arith, if◌then◌else◌, append-nil}
+use Rattle.std.proofs.Common.{◌≡◌, ℕ, zero, suc, ◌*◌, ◌/◌, ◌^◌, ◌<◌, pos, Bool, true, false, ◌&&◌, ◌==◌, nat_lt, is_none, is_some, List, [], ◌∷◌, ◌++◌, length, map, Some, None, Ok, refl, ap, ap₂, ◌∙◌, arith, if◌then◌else◌, append-nil}
 use Rattle.std.specs.Char.{is_ascii_digit}
 use Rattle.std.specs.List.{list_all}
 use Rattle.std.specs.Option.{option_map_or}
@@ -11,10 +11,9 @@ use Rattle.cn_core.specs.declared.method.ChineseCountMethod.{ChineseCountMethod}
 use Rattle.cn_core.specs.declared.script.ChineseVariant.{ChineseVariant}
 use Rattle.cn_core.specs.declared.script.ChineseVariant.TheVariants.{Traditional, Simple}
 use Rattle.cn_core.specs.Characters.{digit_of, rank_of, digit_char}
-use Rattle.cn_core.specs.Mark.{Mark, digit, mark_of}
+use Rattle.cn_core.specs.Mark.{Mark, mark_of}
 use Rattle.cn_core.specs.Numeral.{is_digit_or_unit, starts_with_digit, with_first_digit}
 use Rattle.cn_core.specs.Printing.{is_printable, mark_char}
-use Rattle.cn_core.specs.Refusal.{Refusal}
 use Rattle.cn_core.specs.Scale.{scale}
 use Rattle.cn_core.specs.Spelling.{spelling}
 use Rattle.cn_core.specs.Text.{marks_of}
@@ -22,22 +21,21 @@ use Rattle.cn_core.proofs.Fronts.{and-left, and-right, both}
 use Rattle.cn_core.proofs.ReadBack.{spelling-is_numeral}
 use Rattle.cn_express.specs.Digits.{behind_point, last_digits}
 use Rattle.cn_express.specs.Numerals.{decimal_text, magnitude_text, point_char}
-use Rattle.cn_express.proofs.Cuts.{lacks, lacks-append, marks-lack, point-at}
+use Rattle.cn_express.proofs.Cuts.{lacks, marks-lack, point-at}
 use Rattle.cn_express.proofs.DigitTexts.{WritesDigits, WritesDigits-each, are_digits, digits-alone, digits-all, last-count, last-digits, last-read, no-factors}
 use Rattle.cn_express.proofs.LastMarks.{spelled-ended}
 use Rattle.cn_express.proofs.SpelledNumbers.{BeginsNumber, BeginsNumber-marks, mark_read, printed-known, spelled-whole}
-use Rattle.cn_express.proofs.WrittenTexts.{IsText, IsText-append, IsText-back, IsText-nil}
+use Rattle.cn_express.proofs.WrittenTexts.{IsText, IsText-back}
 use Rattle.cn_quantity.specs.declared.characters.DigitKind.TheVariants.{Chinese, Figure}
-use Rattle.cn_quantity.specs.declared.number.Decimal.{Decimal}
 use Rattle.cn_quantity.specs.Answer.{and_then}
-use Rattle.cn_quantity.specs.Characters.{chinese_digit_of, figure_of, is_fen, is_percent, is_point}
+use Rattle.cn_quantity.specs.Characters.{chinese_digit_of, is_fen, is_percent, is_point}
 use Rattle.cn_quantity.specs.Decimal.{after_point, before_point, ends_colloquially, is_chinese_decimal}
-use Rattle.cn_quantity.specs.Digits.{after_digits, leading_digits, read_on, read_with_units}
-use Rattle.cn_quantity.specs.Figures.{are_decimals, is_in_figures}
-use Rattle.cn_quantity.specs.Number.{chinese_decimal_answer, decimal_of, number_answer, part_answer, whole_answer}
-use Rattle.cn_quantity.specs.Units.{are_below, are_rising_units, first_rank, times_units}
+use Rattle.cn_quantity.specs.Digits.{after_digits, leading_digits, read_with_units}
+use Rattle.cn_quantity.specs.Figures.{is_in_figures}
+use Rattle.cn_quantity.specs.Number.{decimal_of, number_answer, part_answer, whole_answer}
+use Rattle.cn_quantity.specs.Units.{are_rising_units, times_units}
 use Rattle.cn_quantity.proofs.Numbers.{a-decimal}
-use Rattle.cn_quantity.proofs.Today.{and-none, are_marks, digit-mark, digit-no_unit, no-fen, no-percent, no-point, number-whole}
+use Rattle.cn_quantity.proofs.Today.{and-none, are_marks, digit-mark, digit-no_unit, no-point, number-whole}
 use Rattle.cn_spell.proofs.Printed.{IsReadBack-marks, each_below, is_printed}
 use Rattle.cn_spell.proofs.SpelledMarks.{below_square, spelling-printed}
 

@@ -1,5 +1,5 @@
 -- A written fraction is read as that fraction.
-use Rattle.std.proofs.Common.{◌≡◌, ℕ, zero, suc, ◌+◌, ◌*◌, ◌^◌, ◌<◌, ◌≤◌, ℤ, pos, Bool, true, false, ◌&&◌, ◌||◌, ◌==◌, nat_le, nat_lt, is_none, List, [], ◌∷◌, ◌++◌, length, map, codes, Option, Some, None, Result, Ok, Err, refl, sym, ap, ap₂, subst, ◌∙◌, arith, if◌then◌else◌, append-nil}
+use Rattle.std.proofs.Common.{◌≡◌, ℕ, ◌*◌, ◌^◌, ◌<◌, ◌≤◌, pos, Bool, true, false, ◌&&◌, ◌||◌, ◌==◌, nat_le, nat_lt, is_none, List, [], ◌∷◌, ◌++◌, length, map, Option, Some, None, Ok, Err, refl, sym, ap, ◌∙◌, arith, if◌then◌else◌}
 use Rattle.std.specs.List.{list_all}
 use Rattle.std.specs.Option.{option_map_or}
 use Rattle.std.proofs.lemmas.Bool.Decides.{nat_tests}
@@ -7,28 +7,27 @@ use Rattle.cn_core.specs.declared.case.ChineseCase.{ChineseCase}
 use Rattle.cn_core.specs.declared.method.ChineseCountMethod.{ChineseCountMethod}
 use Rattle.cn_core.specs.declared.script.ChineseVariant.{ChineseVariant}
 use Rattle.cn_core.specs.declared.sign.Sign.{Sign}
-use Rattle.cn_core.specs.Characters.{digit_of, rank_of, digit_char}
-use Rattle.cn_core.specs.Mark.{Mark, digit, unit, mark_of}
+use Rattle.cn_core.specs.Characters.{rank_of, digit_char}
+use Rattle.cn_core.specs.Mark.{Mark, digit, mark_of}
 use Rattle.cn_core.specs.Numeral.{is_digit_or_unit}
 use Rattle.cn_core.specs.Place.{some_unfit}
 use Rattle.cn_core.specs.Printing.{is_printable, mark_char}
-use Rattle.cn_core.specs.Refusal.{Refusal, incorrect_at}
+use Rattle.cn_core.specs.Refusal.{incorrect_at}
 use Rattle.cn_core.specs.Scale.{scale}
 use Rattle.cn_core.specs.Spelling.{spelling}
 use Rattle.cn_core.specs.Text.{marks_of}
-use Rattle.cn_core.specs.Value.{colloquial_value, numeral_value, weight}
+use Rattle.cn_core.specs.Value.{numeral_value, weight}
 use Rattle.cn_core.proofs.Fronts.{and-left, and-right, both}
 use Rattle.cn_core.proofs.ReadBack.{spelling-is_numeral}
-use Rattle.cn_express.specs.Numerals.{divisor_text, magnitude_text, stand_alone, without_front}
+use Rattle.cn_express.specs.Numerals.{divisor_text, stand_alone, without_front}
 use Rattle.cn_express.proofs.DecimalTexts.{IsSpelled, IsSpelled-magnitude, part-whole, printed-marks}
 use Rattle.cn_express.proofs.SpelledNumbers.{mark_read}
 use Rattle.cn_express.proofs.WrittenTexts.{IsText, IsText-back}
-use Rattle.cn_quantity.specs.declared.number.Decimal.{Decimal}
 use Rattle.cn_quantity.specs.Answer.{and_then}
 use Rattle.cn_quantity.specs.Characters.{sign_of}
 use Rattle.cn_quantity.specs.Number.{decimal_of, divisor_answer, is_divisor, number_answer, part_answer}
 use Rattle.cn_quantity.specs.Reading.{leading_sign}
-use Rattle.cn_quantity.specs.Units.{are_rising_units, first_rank, times_units}
+use Rattle.cn_quantity.specs.Units.{are_rising_units, times_units}
 use Rattle.cn_quantity.proofs.Today.{are_marks, first-mark, own, units-no_value, units-product}
 use Rattle.cn_spell.proofs.Printed.{IsReadBack, IsReadBack-marks, is_printed}
 use Rattle.cn_spell.proofs.SpelledMarks.{below_square, spelling-fits, spelling-printed}

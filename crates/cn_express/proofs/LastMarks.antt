@@ -4,7 +4,7 @@ use Rattle.std.specs.Option.{option_map_or}
 use Rattle.std.proofs.lemmas.Bool.Decides.{nat_tests}
 use Rattle.cn_core.specs.declared.method.ChineseCountMethod.{ChineseCountMethod}
 use Rattle.cn_core.specs.Characters.{digit_of, rank_of}
-use Rattle.cn_core.specs.Mark.{Mark, digit, unit, other, mark_from, mark_of}
+use Rattle.cn_core.specs.Mark.{Mark, digit, unit, mark_from, mark_of}
 use Rattle.cn_core.specs.Scale.{scale}
 use Rattle.cn_core.specs.Spelling.{after_unit, spelling, spelling_within}
 use Rattle.cn_core.specs.Text.{marks_of}
@@ -18,7 +18,7 @@ abbrev is_great : Mark → Bool
 is_great (unit rank) = nat_le 2 rank
 is_great mark = false
 
-abbrev is_digit : Mark → Bool
+abbrev pub is_digit : Mark → Bool
 is_digit (digit value) = true
 is_digit mark = false
 
@@ -37,7 +37,7 @@ great-mark c = by (digit_of c) (rank_of c) refl refl where
   by (Some value) None e f = refl
   by (Some value) (Some rank) e f = let none = digit-no_unit c value e in cc
 
-digit-as_mark : (c : ℕ) → is_some (digit_of c) ≡ is_digit (mark_of c)
+pub digit-as_mark : (c : ℕ) → is_some (digit_of c) ≡ is_digit (mark_of c)
 digit-as_mark c = by (digit_of c) (rank_of c) where
   by : (d r : Option ℕ) → is_some d ≡ is_digit (mark_from d r)
   by None None = refl

@@ -1,5 +1,5 @@
 -- A text that is a number by itself is read as a whole number or a decimal.
-use Rattle.std.proofs.Common.{◌≡◌, ℕ, zero, suc, ◌*◌, ◌^◌, ◌<◌, true, List, None, Some, Ok, refl, sym, ap, ◌∙◌, arith}
+use Rattle.std.proofs.Common.{◌≡◌, ℕ, zero, suc, ◌^◌, ◌<◌, true, List, None, Some, Ok, refl, sym, ap, ◌∙◌, arith}
 use Rattle.cn_core.specs.declared.method.ChineseCountMethod.{ChineseCountMethod}
 use Rattle.cn_express.proofs.Cuts.{lacks}
 use Rattle.cn_express.proofs.KnownDecimals.{decimal-is, whole-is}

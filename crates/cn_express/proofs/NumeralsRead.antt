@@ -1,9 +1,8 @@
 -- A quantity in numerals is read as that quantity.
-use Rattle.std.proofs.Common.{◌≡◌, ℕ, zero, suc, ◌+◌, ◌*◌, ◌/◌, ◌%◌, ◌^◌, ◌<◌, ℤ, pos, negsuc, int_lt, nat_abs, Bool, true, false, ◌&&◌, List, [], ◌∷◌, ◌++◌, length, map, codes, encode_utf8_all, slice_index, Option, Some, None, Ok, refl, sym, ap, subst, ◌∙◌, arith, if◌then◌else◌, length-append}
+use Rattle.std.proofs.Common.{◌≡◌, ℕ, zero, suc, ◌*◌, ◌/◌, ◌%◌, ◌^◌, ◌<◌, pos, nat_abs, true, List, [], ◌∷◌, ◌++◌, length, map, encode_utf8_all, Option, Some, None, Ok, refl, ap, subst, ◌∙◌, arith, length-append}
 use Rattle.std.specs.List.{list_all}
 use Rattle.std.specs.Option.{option_map_or}
 use Rattle.std.proofs.lemmas.Bool.Decides.{nat_tests}
-use Rattle.std.proofs.lemmas.Int.{ints}
 use Rattle.std.proofs.Math.Nat.{div-le_self}
 use Rattle.cn_core.specs.declared.case.ChineseCase.{ChineseCase}
 use Rattle.cn_core.specs.declared.case.ChineseCase.TheVariants.{Upper, Lower}
@@ -16,7 +15,7 @@ use Rattle.cn_core.specs.Characters.{digit_char, minus_char, rank_of, unit_char}
 use Rattle.cn_core.specs.Mark.{digit}
 use Rattle.cn_core.specs.Printing.{is_printable}
 use Rattle.cn_core.specs.Whole.{holds, signed_kind}
-use Rattle.cn_core.proofs.Fronts.{and-left, and-right, both}
+use Rattle.cn_core.proofs.Fronts.{and-left, and-right}
 use Rattle.cn_express.specs.Digits.{behind_point, last_digits}
 use Rattle.cn_express.specs.Numerals.{bar, decimal_text, divisor_text, fraction_text, hundredths, is_written_by, magnitude_text, point_char, quantity_text, unsigned_text}
 use Rattle.cn_express.specs.ReadBack.{form_read_back, form_with_decimals}
@@ -24,19 +23,17 @@ use Rattle.cn_express.proofs.Cuts.{lacks, lacks-append, marks-lack}
 use Rattle.cn_express.proofs.DecimalTexts.{IsSpelled, IsSpelled-magnitude, IsText-point, WritesDigits-chinese, chinese-marks, decimal-read, part-number, part-whole, point-no_fen, point-no_percent}
 use Rattle.cn_express.proofs.DigitTexts.{last-digits}
 use Rattle.cn_express.proofs.FractionTexts.{IsDivisorText, IsDivisorText-written, divisor-answered}
-use Rattle.cn_express.proofs.KnownDecimals.{decimal-is, over-is, whole-is}
+use Rattle.cn_express.proofs.KnownDecimals.{over-is}
 use Rattle.cn_express.proofs.NumberTexts.{IsNumberText, IsUnsigned-decimal, IsUnsigned-whole}
-use Rattle.cn_express.proofs.Ratios.{fraction-ratio, number-ratio, ratio-fits}
+use Rattle.cn_express.proofs.Ratios.{fraction-ratio, ratio-fits}
 use Rattle.cn_express.proofs.SignedTexts.{IsUnsigned, magnitude-fits, signed-read}
 use Rattle.cn_express.proofs.WrittenTexts.{IsText, IsText-append, IsText-back, IsText-nil}
 use Rattle.cn_quantity.specs.declared.characters.DigitKind.TheVariants.{Chinese}
-use Rattle.cn_quantity.specs.declared.number.Decimal.{Decimal as DecimalNumber}
 use Rattle.cn_quantity.specs.declared.quantity.Quantity.{Quantity}
 use Rattle.cn_quantity.specs.declared.quantity.QuantityForm.{QuantityForm}
 use Rattle.cn_quantity.specs.declared.quantity.QuantityForm.TheVariants.{Whole, Decimal, Percent, Fraction}
 use Rattle.cn_quantity.specs.Characters.{is_fen, is_percent, sign_of}
-use Rattle.cn_quantity.specs.Number.{number_answer, part_answer}
-use Rattle.cn_quantity.specs.Ratio.{form_of}
+use Rattle.cn_quantity.specs.Number.{part_answer}
 use Rattle.cn_quantity.specs.Reading.{leading_sign, quantity_answer}
 use Rattle.cn_quantity.specs.Trimmed.{decimals_in, decimals_of}
 use Rattle.cn_quantity.proofs.Today.{are_marks, no-fen, no-percent}

@@ -1,12 +1,10 @@
 -- A quantity is read from its sign and from what is read without it.
-use Rattle.std.proofs.Common.{◌≡◌, ℕ, ◌^◌, ◌<◌, ℤ, pos, negsuc, int_lt, nat_abs, Bool, true, false, List, [], ◌∷◌, ◌++◌, drop, encode_utf8_all, Option, Some, None, Ok, refl, ap, ◌∙◌, arith, if◌then◌else◌}
+use Rattle.std.proofs.Common.{◌≡◌, ℕ, ◌^◌, ◌<◌, ℤ, pos, negsuc, int_lt, nat_abs, Bool, true, false, List, [], ◌∷◌, ◌++◌, drop, encode_utf8_all, Some, None, Ok, refl, ap, ◌∙◌, arith, if◌then◌else◌}
 use Rattle.std.proofs.lemmas.Int.{ints}
 use Rattle.cn_core.specs.declared.method.ChineseCountMethod.{ChineseCountMethod}
-use Rattle.cn_core.specs.declared.sign.Sign.{Sign}
 use Rattle.cn_core.specs.declared.sign.Sign.TheVariants.{Minus}
-use Rattle.cn_core.specs.Reading.{is_minus, sign_len, typed_number}
-use Rattle.cn_core.specs.Text.{text_of}
-use Rattle.cn_core.specs.Whole.{holds, signed_kind, signed_number}
+use Rattle.cn_core.specs.Reading.{sign_len, typed_number}
+use Rattle.cn_core.specs.Whole.{holds, signed_kind}
 use Rattle.cn_express.proofs.WrittenTexts.{IsText, IsText-append, text_of-written}
 use Rattle.cn_quantity.specs.declared.quantity.QuantityForm.{QuantityForm}
 use Rattle.cn_quantity.specs.declared.ratio.Ratio.{Ratio}

@@ -1,9 +1,8 @@
 -- A written spelling is a number by itself.
-use Rattle.std.proofs.Common.{◌≡◌, ℕ, suc, ◌+◌, ◌*◌, ◌/◌, ◌%◌, ◌^◌, ◌<◌, ◌≤◌, Bool, true, false, ◌&&◌, ◌==◌, nat_le, nat_lt, is_none, is_some, List, [], ◌∷◌, ◌++◌, length, map, Option, Some, None, Result, Ok, Err, refl, sym, ap, ◌∙◌, arith, if◌then◌else◌}
+use Rattle.std.proofs.Common.{◌≡◌, ℕ, ◌+◌, ◌*◌, ◌%◌, ◌^◌, ◌<◌, ◌≤◌, Bool, true, false, ◌&&◌, ◌==◌, nat_le, nat_lt, is_none, List, [], ◌∷◌, ◌++◌, map, Option, Some, None, Ok, refl, ap, ap₂, ◌∙◌, arith, if◌then◌else◌}
 use Rattle.std.specs.List.{list_all}
 use Rattle.std.specs.Option.{option_map_or}
 use Rattle.std.proofs.lemmas.Bool.Decides.{nat_tests}
-use Rattle.std.proofs.lemmas.List.Folds.{list_all-append}
 use Rattle.std.proofs.Math.Decide.{dec_lt}
 use Rattle.cn_core.specs.declared.case.ChineseCase.{ChineseCase}
 use Rattle.cn_core.specs.declared.case.ChineseCase.TheVariants.{Upper, Lower}
@@ -13,39 +12,28 @@ use Rattle.cn_core.specs.declared.script.ChineseVariant.TheVariants.{Traditional
 use Rattle.cn_core.specs.Characters.{digit_of, rank_of, digit_char, unit_char}
 use Rattle.cn_core.specs.Judging.{judge}
 use Rattle.cn_core.specs.Mark.{Mark, digit, unit, other, mark_from, mark_of}
-use Rattle.cn_core.specs.Naive.{naive_answer, refused_or}
+use Rattle.cn_core.specs.Naive.{naive_answer}
 use Rattle.cn_core.specs.Numeral.{is_digit_or_unit, starts_with_digit, with_first_digit}
 use Rattle.cn_core.specs.Printing.{mark_char}
-use Rattle.cn_core.specs.Refusal.{Refusal, too_large}
 use Rattle.cn_core.specs.Scale.{scale}
 use Rattle.cn_core.specs.Spelling.{after_unit, short_spelling, spelling, spelling_within}
 use Rattle.cn_core.specs.Text.{marks_of}
-use Rattle.cn_core.proofs.Fronts.{and-left, and-right, both}
+use Rattle.cn_core.proofs.Fronts.{and-left, both}
 use Rattle.cn_core.proofs.Judging.{Judges-judge, Judges-same}
-use Rattle.cn_core.proofs.ReadBack.{spelling-is_numeral}
-use Rattle.cn_core.proofs.Spellings.{IsCut, short_spelling-by, spelled-by}
+use Rattle.cn_core.proofs.Spellings.{short_spelling-by, spelled-by}
 use Rattle.cn_core.proofs.Sums.{spelled-digit}
+use Rattle.cn_express.proofs.LastMarks.{digit-as_mark, is_digit}
 use Rattle.cn_quantity.specs.Characters.{figure_of, sign_of}
-use Rattle.cn_quantity.specs.Number.{is_plain, number_answer, whole_answer}
+use Rattle.cn_quantity.specs.Number.{is_plain, whole_answer}
 use Rattle.cn_quantity.specs.Units.{are_rising}
-use Rattle.cn_quantity.proofs.Today.{are_marks, digit-no_unit, mark-sign}
+use Rattle.cn_quantity.proofs.Today.{digit-no_unit, mark-sign}
 use Rattle.cn_spell.proofs.Printed.{IsReadBack-marks, each_below, each_below-at, is_printed, no_sign, none_from_is_none}
-use Rattle.cn_spell.proofs.SpelledMarks.{Judges-spelling, spelling-printed}
+use Rattle.cn_spell.proofs.SpelledMarks.{Judges-spelling}
 
--- a digit
-abbrev is_digit : Mark → Bool
-is_digit (digit value) = true
-is_digit mark = false
-
+-- plain digits are digits as marks
 plain-marks : (text : List ℕ) → is_plain text ≡ list_all is_digit (marks_of text)
 plain-marks [] = refl
-plain-marks (c ∷ rest) = by (digit_of c) (rank_of c) (plain-marks rest) where
-  by : (d r : Option ℕ) → is_plain rest ≡ list_all is_digit (marks_of rest)
-      → (is_some d && is_plain rest)
-      ≡ (is_digit (mark_from d r) && list_all is_digit (marks_of rest))
-  by None None ih = refl
-  by None (Some rank) ih = refl
-  by (Some value) r ih = ih
+plain-marks (c ∷ rest) = ap₂ (λ a b. a && b) (digit-as_mark c) (plain-marks rest)
 
 -- from ten on a spelling has a unit in it
 has-unit : (front back : List Mark) (rank : ℕ)

@@ -1,5 +1,5 @@
 -- A quantity without the zeros at the end of its decimals has the others.
-use Rattle.std.proofs.Common.{◌≡◌, ℕ, zero, suc, ◌+◌, ◌-◌, ◌*◌, ◌/◌, ◌%◌, ◌^◌, ◌<◌, ◌≤◌, ◌==◌, ℤ, pos, int_lt, nat_abs, Bool, true, false, Option, Some, None, option_map, refl, sym, ap, subst, ◌∙◌, arith, if◌then◌else◌}
+use Rattle.std.proofs.Common.{◌≡◌, ℕ, zero, suc, ◌+◌, ◌-◌, ◌*◌, ◌/◌, ◌%◌, ◌^◌, ◌<◌, ◌≤◌, ◌==◌, pos, int_lt, nat_abs, Bool, true, false, Some, option_map, refl, sym, ap, ◌∙◌, arith, if◌then◌else◌}
 use Rattle.std.proofs.Math.Decide.{dec_lt}
 use Rattle.std.proofs.Math.Nat.{div-le_self, mul-div_cancel, mul-lt-mul_of_pos_left, mul_assoc, pow-suc}
 use Rattle.std.proofs.lemmas.Nat.{pow-add}

@@ -1,5 +1,5 @@
 -- The text of what is written is what is written.
-use Rattle.std.proofs.Common.{◌≡◌, ℕ, true, List, [], ◌∷◌, ◌++◌, filter, encode_utf8_all, refl, sym, ap, ap₂, ◌∙◌}
+use Rattle.std.proofs.Common.{◌≡◌, ℕ, true, List, [], ◌∷◌, ◌++◌, filter, encode_utf8_all, refl, ap, ap₂, ◌∙◌}
 use Rattle.std.specs.Char.{is_not_whitespace}
 use Rattle.std.specs.Str.{all_scalars}
 use Rattle.std.proofs.lemmas.List.Elements.{filter-append}

@@ -23,9 +23,9 @@ pub fn what_is_written_is_read_back()
         → q.denominator < 2 ^ 128 → IsWritten method q
         → quantity_answer method (numeral_bytes variant case method q)
         ≡ Ok (record {
-            numerator = q.numerator;
-            denominator = q.denominator;
-            form = form_read_back q;
+          numerator = q.numerator;
+          denominator = q.denominator;
+          form = form_read_back q;
         }) }
 {}
 

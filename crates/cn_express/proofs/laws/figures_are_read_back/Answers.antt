@@ -1,7 +1,7 @@
-use Rattle.std.proofs.Common.{◌≡◌, ℕ, nat_abs, ◌-◌, ◌^◌, ◌<◌, true, Option, Some, None, IsSome, Ok, refl, ap, ◌∙◌}
+use Rattle.std.proofs.Common.{◌≡◌, ℕ, nat_abs, ◌-◌, ◌^◌, ◌<◌, true, Option, Some, None, IsSome, Ok, refl}
 use Rattle.cn_core.specs.declared.method.ChineseCountMethod.{ChineseCountMethod}
 use Rattle.cn_core.specs.Whole.{holds, signed_kind}
-use Rattle.cn_express.specs.Figures.{figures_of, figures_text}
+use Rattle.cn_express.specs.Figures.{figures_text}
 use Rattle.cn_express.proofs.FiguresRead.{figures-read}
 use Rattle.cn_express.proofs.TrimmedDecimals.{IsTrimmed-left}
 use Rattle.cn_express.proofs.laws.figures_are_read_back.Goals as goal
