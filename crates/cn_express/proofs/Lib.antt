@@ -1,3 +1,17 @@
 pub mod Bytes
+pub mod Cuts
+pub mod DecimalTexts
+pub mod DigitTexts
+pub mod FiguresRead
+pub mod FractionTexts
+pub mod KnownDecimals
+pub mod LastMarks
+pub mod NumberTexts
+pub mod NumeralsRead
 pub mod Points
+pub mod Ratios
 pub mod Rooms
+pub mod SignedTexts
+pub mod SpelledNumbers
+pub mod TrimmedDecimals
+pub mod WrittenTexts
