@@ -37,7 +37,7 @@ fn replaces_in_brackets(rt: HostRuntime) -> Result<(), Fail> {
 // A text, and the same in figures: without those that are about so much or one character, and with
 // them.
 static IN_FIGURES: [(&str, &str, &str); 10] = [
-    ("共3.5万元，占百分之十二点五", "共35000元，占12.5%", "共35000元，占12.5%"),
+    ("共3.5万元，占12.50%", "共35000元，占12.5%", "共35000元，占12.5%"),
     ("一般十分", "一般十分", "1般10分"),
     ("十几人", "十几人", "10几人"),
     ("三百多人", "三百多人", "300多人"),
@@ -49,36 +49,27 @@ static IN_FIGURES: [(&str, &str, &str); 10] = [
     ("没有", "没有", "没有"),
 ];
 
+// How many bytes the text has in figures, and whether the room begins with what is expected.
+fn put<const N: usize>(text: &str, included: Included, expected: &str) -> (usize, bool) {
+    let mut room = [7; N];
+    let method = ChineseCountMethod::TenThousand;
+    let count = put_quantities_in_figures(&mut room, text, Wanted::EVERYDAY, method, included);
+    (count, room.starts_with(expected.as_bytes()))
+}
+
 #[test]
 fn puts_in_figures(rt: HostRuntime) -> Result<(), Fail> {
     let all = Included {
         about: true,
         one_character: true,
     };
+    let method = ChineseCountMethod::TenThousand;
     for (text, some, every) in &IN_FIGURES {
-        for (included, expected) in [(Included::NONE, some), (all, every)] {
-            let method = ChineseCountMethod::TenThousand;
+        for (included, expected) in [(Included::NONE, *some), (all, *every)] {
             let new = quantities_to_figures(rt.alloc(), text, Wanted::EVERYDAY, method, included)?;
-            assert_eq!(rt; new.as_str(), *expected);
-            let mut room = [7; 40];
-            let count = put_quantities_in_figures(
-                &mut room,
-                text,
-                Wanted::EVERYDAY,
-                method,
-                included,
-            );
-            assert_eq!(rt; count, expected.len());
-            assert!(rt; room.starts_with(expected.as_bytes()));
-            let mut little = [7; 4];
-            let count = put_quantities_in_figures(
-                &mut little,
-                text,
-                Wanted::EVERYDAY,
-                method,
-                included,
-            );
-            assert_eq!(rt; count, expected.len());
+            assert_eq!(rt; new.as_str(), expected);
+            assert!(rt; put::<24>(text, included, expected) == (expected.len(), true));
+            assert!(rt; put::<1>(text, included, expected).0 == expected.len());
         }
     }
     Ok(())
