@@ -9,7 +9,7 @@ No compiler warns of a header, and each warns of a wrong call.
 """
 import pytest
 
-from questions import MORE, wrong_answers
+from questions import wrong_answers
 from running import TOP, needs, needs_compiler, run, write
 
 C = TOP / "bindings/c"
@@ -114,7 +114,7 @@ def test_sanitized(compiled, name, compiler, tmp_path):
 @pytest.mark.parametrize("name, compiler", ANSWERS)
 def test_answers(compiled, name, compiler):
     program = compiled(name, compiler)
-    assert wrong_answers(lambda asked: run(program, cwd=TOP, stdin=asked), MORE) == []
+    assert wrong_answers(lambda asked: run(program, cwd=TOP, stdin=asked)) == []
 
 
 FLAGS = """\
