@@ -120,10 +120,16 @@ def test_answers(compiled, name, compiler):
 FLAGS = """\
 #include "chinese_number.h"
 
-cn_status flags(char *room, size_t length);
+cn_status amount(char *room, size_t length);
+cn_status replaced(const char *text, char *room, size_t *length);
 
-cn_status flags(char *room, size_t length) {
+cn_status amount(char *room, size_t length) {
     return cn_print_amount(1, CN_SIMPLIFIED, CN_CURRENCY | CN_ROUND_YUAN, room, length);
+}
+
+cn_status replaced(const char *text, char *room, size_t *length) {
+    return cn_quantities_to_figures(text, 3, 0, CN_ZHAO, CN_TEN_THOUSAND, CN_ABOUT | CN_ONE_CHARACTER,
+                                    room, 3, length);
 }
 """
 
