@@ -5,8 +5,8 @@ Usage: python3 test.py
 
 It takes half a minute, and needs Python from 3.8 on and a C compiler; CC and CXX may name others.
 
-- The C source in dist/ is compiled. What it answers to 106,507 numbers, amounts, dates and texts
-  has to have the sum that the answers of the proved archive have, by dist/PROVENANCE.json.
+- The C source in dist/ is compiled. What it answers to 126,507 numbers, quantities, amounts, dates
+  and texts has to have the sum that the answers of the proved archive have, by dist/PROVENANCE.json.
 - Each language that is here is asked the rows of tests/rows, and the worked rows in the tables of
   README.md and docs/. What is not here is left out, and named.
 
