@@ -7,5 +7,6 @@ pub mod Number
 pub mod Private
 pub mod Ratio
 pub mod Reading
+pub mod Trimmed
 pub mod Units
 pub mod Whole

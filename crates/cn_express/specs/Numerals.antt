@@ -1,0 +1,86 @@
+-- A quantity in numerals.
+use Rattle.std.specs.Prelude.{ℕ, ◌/◌, ◌^◌, ◌==◌, pos, int_lt, nat_abs, nat_le, Bool, ◌&&◌, false, List, [], ◌∷◌, ◌++◌, map, codes, slice_index, if◌then◌else◌}
+use Rattle.std.specs.Option.{option_map_or}
+use Rattle.std.specs.List.{list_all}
+use Rattle.cn_core.specs.declared.case.ChineseCase.{ChineseCase}
+use Rattle.cn_core.specs.declared.method.ChineseCountMethod.{ChineseCountMethod}
+use Rattle.cn_core.specs.declared.script.ChineseVariant.{ChineseVariant}
+use Rattle.cn_core.specs.declared.script.ChineseVariant.TheVariants.{Traditional, Simple}
+use Rattle.cn_core.specs.Characters.{digit_char, minus_char, unit_char}
+use Rattle.cn_core.specs.Printing.{is_printable, mark_char}
+use Rattle.cn_core.specs.Spelling.{spelling}
+use Rattle.cn_quantity.specs.declared.quantity.Quantity.{Quantity}
+use Rattle.cn_quantity.specs.declared.quantity.QuantityForm.{QuantityForm}
+use Rattle.cn_quantity.specs.declared.quantity.QuantityForm.TheVariants.{Percent}
+use Rattle.cn_quantity.specs.Trimmed.{decimals_of}
+use Rattle.cn_quantity.specs.Units.{are_rising_units, first_rank}
+use Rattle.cn_express.specs.Digits.{behind_point}
+
+-- the point: 點, or 点 in the simple script
+abbrev pub point_char : ChineseVariant → ℕ
+point_char Traditional = slice_index (codes "點") 0
+point_char Simple = slice_index (codes "点") 0
+
+-- what stands between the divisor and what is divided
+abbrev pub bar : List ℕ
+bar = codes "分之"
+
+-- a magnitude by its spelling
+abbrev pub magnitude_text : ChineseVariant → ChineseCase → ChineseCountMethod → ℕ → List ℕ
+magnitude_text variant case method number = map (mark_char variant case) (spelling method number)
+
+-- a number with so many decimals: 三點一四 of 314 with two
+abbrev pub decimal_text : ChineseVariant → ChineseCase → ChineseCountMethod → ℕ → ℕ → List ℕ
+decimal_text variant case method decimals number =
+    magnitude_text variant case method (number / 10 ^ decimals)
+    ++ behind_point (point_char variant) (digit_char variant case) decimals number
+
+-- rising units, of which the first is 百, 千, 萬 or 億: in front of these a divisor has no 一. In
+-- front of greater ones it keeps it, since 正 would be read as a sign
+abbrev pub stand_alone : List ℕ → Bool
+stand_alone text =
+    are_rising_units text && option_map_or (λ rank. nat_le rank 5) (first_rank text) false
+
+-- a text without its first character, where that is this one and such units follow
+abbrev pub without_front : ℕ → List ℕ → List ℕ
+without_front front [] = []
+without_front front (c ∷ rest) = if c == front && stand_alone rest then rest else c ∷ rest
+
+-- a divisor: 三, 百, 百萬, 一兆
+abbrev pub divisor_text : ChineseVariant → ChineseCase → ChineseCountMethod → ℕ → List ℕ
+divisor_text variant case method divisor =
+    without_front (digit_char variant case 1) (magnitude_text variant case method divisor)
+
+-- a fraction: 三分之一
+abbrev pub fraction_text : ChineseVariant → ChineseCase → ChineseCountMethod → ℕ → ℕ → List ℕ
+fraction_text variant case method divisor number =
+    divisor_text variant case method divisor ++ (bar ++ magnitude_text variant case method number)
+
+-- what stands in front of a percentage
+abbrev pub hundredths : ChineseVariant → ChineseCase → QuantityForm → List ℕ
+hundredths variant case Percent = unit_char variant case 2 ∷ bar
+hundredths variant case form = []
+
+-- a quantity without its sign: a number or a percentage where its denominator is one of its form,
+-- else a fraction
+abbrev pub unsigned_text : ChineseVariant → ChineseCase → ChineseCountMethod → Quantity → List ℕ
+unsigned_text variant case method q =
+    option_map_or (λ decimals. hundredths variant case q.form
+    ++ decimal_text variant case method decimals (nat_abs q.numerator))
+    (decimals_of q) (fraction_text variant case method q.denominator (nat_abs q.numerator))
+
+-- a quantity: 三點一四, 百分之十二點五, 負三分之一
+abbrev pub quantity_text : ChineseVariant → ChineseCase → ChineseCountMethod → Quantity → List ℕ
+quantity_text variant case method q =
+    (if int_lt q.numerator (pos 0) then minus_char variant ∷ [] else [])
+    ++ unsigned_text variant case method q
+
+-- the numbers that are spelled in it
+abbrev pub spelled_numbers : Quantity → List ℕ
+spelled_numbers q =
+    option_map_or (λ decimals. nat_abs q.numerator / 10 ^ decimals ∷ []) (decimals_of q)
+    (q.denominator ∷ nat_abs q.numerator ∷ [])
+
+-- the method writes each of them: by `Low` each is below 10^16
+abbrev pub is_written_by : ChineseCountMethod → Quantity → Bool
+is_written_by method q = list_all (λ number. is_printable method (pos number)) (spelled_numbers q)

@@ -1,0 +1,62 @@
+ghost use Rattle.std.specs.Prelude.{◌≡◌, IfOk, OnOk, string_bytes};
+ghost use Rattle.cn_replace.specs.Replaced.{replaced, text_for};
+ghost use Rattle.cn_find.specs.Spans.{span_of};
+
+use crate::{Replacement, Sink};
+use cn_find::{Found, Wanted, find_quantities};
+use std::alloc::{AllocError, Global};
+
+// Puts what stands in place of an expression.
+fn put_in_place<S: Sink, R: Replacement>(
+    sink: &mut S,
+    found: Found<'_>,
+    replacement: R,
+) -> Result<(), S::Error>
+    ensures { OnOk result
+        (S.took sink.old sink.new (text_for (R.new replacement) (span_of found.entry))) }
+{
+    if replacement.put_new(found, sink)? {
+        Ok(())
+    } else {
+        sink.put(found.text)
+    }
+}
+
+// Puts a text with its expressions replaced.
+fn put_replaced<S: Sink, R: Replacement>(
+    sink: &mut S,
+    text: &str,
+    wanted: Wanted,
+    replacement: R,
+) -> Result<(), S::Error>
+    ensures { OnOk result
+        (S.took sink.old sink.new (replaced (R.new replacement) wanted text.now)) }
+{
+    let mut from = 0usize;
+    let mut left = find_quantities(text, wanted);
+    'replacing: while let Some(found) = left.next() {
+        let (_, between) = found.before.split_at(from);
+        sink.put(between)?;
+        put_in_place(sink, found, replacement)?;
+        from = found.end();
+    }
+    let (_, rest) = text.split_at(from);
+    sink.put(rest)
+}
+
+/// A text with its expressions replaced: each by its new text where it has one, and all else as it
+/// stood.
+///
+/// The error is running out of memory, which is asked for as the text grows.
+pub fn replace_quantities<R: Replacement>(
+    alloc: Global,
+    text: &str,
+    wanted: Wanted,
+    replacement: R,
+) -> Result<String, AllocError>
+    ensures { IfOk result (λ new. string_bytes new ≡ replaced (R.new replacement) wanted text.now) }
+{
+    let mut new = String::with_capacity(alloc, text.len())?;
+    put_replaced(&mut new, text, wanted, replacement)?;
+    Ok(new)
+}

@@ -1,0 +1,40 @@
+// What a text is put to, piece by piece.
+ghost use Rattle.std.specs.Prelude.{◌≡◌, ◌++◌, [], List, ℕ, OnOk, string_bytes};
+
+use std::alloc::AllocError;
+
+/// What a text is put to, piece by piece: a string that grows, or a room.
+pub trait Sink {
+    /// Why a piece cannot be put.
+    type Error: Drop;
+
+    // These bytes were put to it: what it was, and what it is.
+    ghost took: { Self → Self → List ℕ → Type 0 };
+
+    /// Puts a piece behind those that were put.
+    fn put(&mut self, piece: &str) -> Result<(), Self::Error>
+        ensures { OnOk result (took self.old self.new piece.now) };
+
+    // Nothing was put.
+    ghost took_none: { (sink : Self) → took sink sink [] };
+
+    // Two pieces that were put are one.
+    ghost took_both: { (old mid new : Self) (first second : List ℕ) → took old mid first
+        → took mid new second → took old new (first ++ second) };
+}
+
+impl Sink for String {
+    type Error = AllocError;
+
+    ghost took = { λ old new bytes. string_bytes new ≡ string_bytes old ++ bytes };
+
+    ghost use Rattle.cn_replace.proofs.Sinks.{appends-none, appends-both};
+
+    ghost took_none = { λ sink. appends-none (string_bytes sink) };
+
+    ghost took_both = { λ old mid new first second. appends-both _ _ _ first second };
+
+    fn put(&mut self, piece: &str) -> Result<(), AllocError> {
+        self.push_str(piece)
+    }
+}
