@@ -1,3 +1,6 @@
 pub mod Digits
+pub mod ErrorText
 pub mod Figures
 pub mod Numerals
+pub mod Working
+pub mod Writes

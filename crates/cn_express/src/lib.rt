@@ -1,6 +1,17 @@
 //! Writes a quantity in numerals or in figures, exactly as the definitions in `specs/` say.
+//!
+//! A room is filled from its last character to its first, and the text is its end.
 #![tactic(auto)]
 
+mod digits;
 mod error;
+mod figures;
+mod memory;
+mod numerals;
+mod room;
+#[cfg(test)]
+mod tests;
 
 pub use error::QuantityToChineseError;
+pub use figures::{MOST_FIGURES_BYTES, put_figures, quantity_to_figures};
+pub use numerals::{MOST_QUANTITY_BYTES, put_quantity, quantity_to_chinese};

@@ -1,6 +1,6 @@
 //! Reads a text as an exact quantity: a whole number, a decimal, a percentage or a fraction, in
 //! figures, in numerals or in both, exactly as the definitions in `specs/` say. Nothing here takes
-//! memory.
+//! memory. How many decimals a quantity has, and what rising units are, `cn_express` asks too.
 #![tactic(auto)]
 
 mod characters;
@@ -12,6 +12,9 @@ mod number;
 mod pieces;
 mod quantity;
 mod ratio;
+mod trimmed;
 mod units;
 
 pub use quantity::{Quantity, QuantityForm, chinese_to_quantity};
+pub use trimmed::decimals_of;
+pub use units::{are_rising_units, first_unit};

@@ -1,4 +1,4 @@
-ghost use Rattle.std.specs.Prelude.{◌≡◌, ◌+◌, ◌≤◌, ℤ, length, chars, IsTrue, MatchOption};
+ghost use Rattle.std.specs.Prelude.{◌≡◌, ◌+◌, ◌*◌, ◌^◌, ◌<◌, ◌≤◌, ℤ, length, chars, IsTrue, MatchOption, SomeIff};
 ghost use Rattle.cn_core.specs.Reading.{sign_len};
 ghost use Rattle.cn_core.specs.Text.{text_of};
 ghost use Rattle.cn_core.specs.Whole.{holds};
@@ -6,11 +6,15 @@ ghost use Rattle.cn_judge.specs.Answer.{answer_of, refusal_of};
 ghost use Rattle.cn_judge.specs.Piece.{StandsAt};
 ghost use Rattle.cn_quantity.specs.Reading.{leading_sign, quantity_answer, signed_ratio};
 ghost use Rattle.cn_quantity.specs.Private.{signed_refusal};
+ghost use Rattle.cn_quantity.specs.Ratio.{form_of};
+ghost use Rattle.cn_quantity.specs.Trimmed.{trimmed};
 ghost use Rattle.cn_quantity.specs.Whole.{IsTimes};
+ghost use Rattle.cn_quantity.specs.declared.quantity.QuantityForm.TheVariants.{Percent, Fraction};
 
 use crate::characters::sign_of;
-use crate::ratio::{Ratio, judge_ratio};
-use cn_core::{ChineseCountMethod, Sign, Whole};
+use crate::ratio::{Ratio, form_of, judge_ratio};
+use crate::trimmed::trimmed;
+use cn_core::{ChineseCountMethod, Sign, Whole, power_of_ten};
 use cn_judge::{AfterSign, ChineseToNumberError, signed_answer};
 
 /// How a quantity is written.
@@ -59,6 +63,83 @@ impl Quantity {
             return None;
         }
         T::from_magnitude(self.numerator < 0, magnitude / self.denominator)
+    }
+
+    /// The quantity without the zeros at the end of its decimals; a decimal with none left is a
+    /// whole number. A fraction stays as it is, and so does what has a denominator that is not one
+    /// of its form.
+    ///
+    /// ```text
+    /// 350000/10 is 35000/1, and 12.50%, which is 1250/10000, is 125/1000
+    /// ```
+    pub fn trimmed(self) -> Quantity
+        ensures { result ≡ trimmed self }
+    {
+        trimmed(self)
+    }
+
+    /// The number with so many decimals, a whole number where they are none; `None` from 39 decimals
+    /// on, whose denominator does not fit.
+    ///
+    /// ```text
+    /// Quantity::decimal(314, 2) is 314/100
+    /// ```
+    pub fn decimal(numerator: i128, decimals: u32) -> Option<Quantity>
+        ensures { SomeIff result (decimals ≤ 38) (record {
+          numerator = numerator;
+          denominator = 10 ^ decimals;
+          form = form_of decimals;
+        }) }
+    {
+        let denominator = power_of_ten(decimals as usize)?;
+        Some(Quantity {
+            numerator,
+            denominator,
+            form: form_of(decimals as usize),
+        })
+    }
+
+    /// The percentage of a number with so many decimals; `None` from 37 decimals on, whose
+    /// denominator does not fit.
+    ///
+    /// ```text
+    /// Quantity::percent(125, 1) is 125/1000, which is 12.5%
+    /// ```
+    pub fn percent(numerator: i128, decimals: u32) -> Option<Quantity>
+        ensures { SomeIff result (decimals ≤ 36) (record {
+          numerator = numerator;
+          denominator = 100 * 10 ^ decimals;
+          form = Percent;
+        }) }
+    {
+        let denominator = power_of_ten(decimals as usize + 2)?;
+        Some(Quantity {
+            numerator,
+            denominator,
+            form: QuantityForm::Percent,
+        })
+    }
+
+    /// The fraction of these two numbers, as they are; `None` where the denominator is 0.
+    ///
+    /// ```text
+    /// Quantity::fraction(2, 6) is 2/6
+    /// ```
+    pub fn fraction(numerator: i128, denominator: u128) -> Option<Quantity>
+        ensures { SomeIff result (0 < denominator) (record {
+          numerator = numerator;
+          denominator = denominator;
+          form = Fraction;
+        }) }
+    {
+        if denominator == 0 {
+            return None;
+        }
+        Some(Quantity {
+            numerator,
+            denominator,
+            form: QuantityForm::Fraction,
+        })
     }
 }
 

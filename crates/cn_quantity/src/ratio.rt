@@ -49,8 +49,8 @@ fn ratio_of(
     }
 }
 
-// The form of a number by itself.
-fn form_of(decimals: usize) -> QuantityForm
+/// The form of a number by itself.
+pub fn form_of(decimals: usize) -> QuantityForm
     ensures { result ≡ form_of decimals }
 {
     if decimals == 0 {

@@ -1,1 +1,1 @@
-pub mod Sinks
+pub mod Replacing

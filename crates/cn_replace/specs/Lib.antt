@@ -1,1 +1,3 @@
 pub mod Replaced
+pub mod SinkLaws
+pub mod Sinks

@@ -3,6 +3,7 @@
 
 mod replace;
 mod replacement;
+mod room;
 mod sink;
 #[cfg(test)]
 mod tests;

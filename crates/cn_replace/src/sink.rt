@@ -1,5 +1,5 @@
 // What a text is put to, piece by piece.
-ghost use Rattle.std.specs.Prelude.{◌≡◌, ◌++◌, [], List, ℕ, OnOk, string_bytes};
+ghost use Rattle.std.specs.Prelude.{◌++◌, [], List, ℕ, OnOk};
 
 use std::alloc::AllocError;
 
@@ -26,13 +26,15 @@ pub trait Sink {
 impl Sink for String {
     type Error = AllocError;
 
-    ghost took = { λ old new bytes. string_bytes new ≡ string_bytes old ++ bytes };
+    ghost use Rattle.std.specs.Prelude.{string_bytes};
+    ghost use Rattle.cn_replace.specs.SinkLaws.{AppendsTo-none, AppendsTo-both};
+    ghost use Rattle.cn_replace.specs.Sinks.{AppendsTo};
 
-    ghost use Rattle.cn_replace.proofs.Sinks.{appends-none, appends-both};
+    ghost took = { λ old new bytes. AppendsTo (string_bytes old) (string_bytes new) bytes };
 
-    ghost took_none = { λ sink. appends-none (string_bytes sink) };
+    ghost took_none = { λ sink. AppendsTo-none (string_bytes sink) };
 
-    ghost took_both = { λ old mid new first second. appends-both _ _ _ first second };
+    ghost took_both = { λ old mid new first second. AppendsTo-both _ _ _ first second };
 
     fn put(&mut self, piece: &str) -> Result<(), AllocError> {
         self.push_str(piece)

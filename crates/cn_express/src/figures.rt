@@ -1,0 +1,121 @@
+// A quantity in figures.
+ghost use Rattle.std.specs.Prelude.{◌≡◌, ◌+◌, ℕ, ◌≤◌, ◌<◌, IfOk, IsUtf8, decimal, drop, length};
+ghost use Rattle.cn_express.specs.Figures.{figure_char, figures_of, figures_text, figures_with, unsigned_figures};
+ghost use Rattle.cn_express.specs.Working.Room.{PutsInFront};
+ghost use Rattle.cn_express.specs.Writes.{IsStringOf};
+
+use crate::digits::{Hand, put_behind_point};
+use crate::memory::string_of;
+use crate::room::Room;
+use cn_quantity::{Quantity, QuantityForm, decimals_of};
+use std::alloc::{AllocError, Global};
+use std::str;
+
+/// The most bytes that a quantity in figures has.
+pub const MOST_FIGURES_BYTES: usize = 80;
+
+// ASCII digits.
+struct Ascii;
+
+impl Hand for Ascii {
+    ghost point = { λ _. 46 };
+
+    ghost character = { λ _. figure_char };
+
+    ghost most = { 1 };
+
+    fn point(&self) -> char {
+        '.'
+    }
+
+    fn digit(&self, digit: u8) -> char {
+        (b'0' + digit) as char
+    }
+}
+
+// Puts a number.
+fn put_number(text: &mut Room, number: u128)
+    requires { 39 ≤ text.old.free }
+    ensures put { PutsInFront text.old text.new (decimal number) }
+    ensures room { text.old.free ≤ text.new.free + 39 }
+{
+    let mut left = number;
+    while left >= 10 {
+        text.put_char(Ascii.digit((left % 10) as u8));
+        left /= 10;
+    }
+    text.put_char(Ascii.digit(left as u8));
+}
+
+// Puts a number with so many decimals.
+fn put_with_decimals(text: &mut Room, decimals: usize, number: u128)
+    requires decimals { decimals ≤ 38 }
+    requires room { 78 ≤ text.old.free }
+    ensures put { PutsInFront text.old text.new (figures_with decimals number) }
+    ensures room { text.old.free ≤ text.new.free + 78 }
+{
+    put_behind_point(text, &Ascii, decimals, number);
+    put_number(text, number / 10_u128.pow(decimals as u32));
+}
+
+// Puts a quantity without its sign.
+fn put_unsigned(text: &mut Room, quantity: Quantity)
+    requires { 79 ≤ text.old.free }
+    ensures put { PutsInFront text.old text.new (unsigned_figures quantity) }
+    ensures room { text.old.free ≤ text.new.free + 79 }
+{
+    let magnitude = quantity.numerator.unsigned_abs();
+    match decimals_of(quantity) {
+        Some(decimals) => {
+            if quantity.form == QuantityForm::Percent {
+                text.put("%");
+            }
+            put_with_decimals(text, decimals, magnitude);
+        }
+        None => {
+            put_number(text, quantity.denominator);
+            text.put("/");
+            put_number(text, magnitude);
+        }
+    }
+}
+
+// The figures of a quantity as it is, at the end of a room, and where they begin.
+fn put_at_end(room: &mut [u8; MOST_FIGURES_BYTES], quantity: Quantity) -> usize
+    ensures text { drop result room.new ≡ figures_of quantity }
+    ensures utf8 { IsUtf8 (drop result room.new) }
+{
+    let mut text = Room::new(room);
+    put_unsigned(&mut text, quantity);
+    if quantity.numerator < 0 {
+        text.put("-");
+    }
+    text.free
+}
+
+/// Puts a quantity in figures into a room, without zeros at the end of its decimals, and hands out
+/// its text, which is the end of the room. It asks for no memory.
+///
+/// ```text
+/// let mut room = [0; MOST_FIGURES_BYTES];
+/// put_figures(&mut room, quantity) // "3.5" for 350/100, "12.5%" for 125/1000, "1/3" for 1/3
+/// ```
+pub fn put_figures(room: &mut [u8; MOST_FIGURES_BYTES], quantity: Quantity) -> &str
+    ensures text { result.now ≡ figures_text quantity }
+    ensures bound { length result.now ≤ 80 }
+{
+    let start = put_at_end(room, quantity.trimmed());
+    unsafe { str::from_utf8_unchecked(&room[start..]) }
+}
+
+/// A quantity in figures, as `put_figures` puts it, in one request for memory of its very size.
+///
+/// ```text
+/// quantity_to_figures(alloc, quantity) == Ok("3.5") // for 35/10
+/// ```
+pub fn quantity_to_figures(alloc: Global, quantity: Quantity) -> Result<String, AllocError>
+    ensures { IfOk result (IsStringOf (figures_text quantity)) }
+{
+    let mut room = [0; MOST_FIGURES_BYTES];
+    string_of(alloc, put_figures(&mut room, quantity))
+}

@@ -1,0 +1,267 @@
+// A quantity in numerals.
+ghost use Rattle.std.specs.Prelude.{◌≡◌, ◌+◌, ◌/◌, ◌^◌, ◌&&◌, ℕ, ◌≤◌, ◌<◌, pos, IsTrue, IsFalse, MatchResult, IsUtf8, chars, drop, length, encode_utf8_all, nat_abs};
+ghost use Rattle.cn_core.specs.Characters.{digit_char};
+ghost use Rattle.cn_core.specs.Printing.{is_printable};
+ghost use Rattle.cn_core.specs.Text.{text_of};
+ghost use Rattle.cn_express.specs.Numerals.{decimal_text, divisor_text, fraction_text, hundredths, is_written_by, magnitude_text, point_char, quantity_text, stand_alone, unsigned_text, without_front};
+ghost use Rattle.cn_express.specs.Working.Room.{PutsInFront, PutsIfWritten};
+ghost use Rattle.cn_express.specs.Writes.{IsTooGreat, IsUnwritten, PutsQuantity, WritesQuantity};
+ghost use Rattle.cn_quantity.specs.declared.quantity.QuantityForm.TheVariants.{Percent};
+
+use crate::QuantityToChineseError;
+use crate::digits::{Hand, put_behind_point};
+use crate::memory::string_of;
+use crate::room::Room;
+use cn_core::{
+    ChineseCase, ChineseCountMethod, ChineseVariant, Unit, digit_char, minus_char,
+    split_first_char, unit_char,
+};
+use cn_quantity::{Quantity, QuantityForm, are_rising_units, decimals_of, first_unit};
+use cn_spell::{MOST_BYTES, NumberToChineseError, put_chinese};
+use std::alloc::Global;
+use std::str;
+
+/// The most bytes that a quantity in numerals has: three for each of a sign, two numbers of 39 digits
+/// and 38 units, and 分之.
+pub const MOST_QUANTITY_BYTES: usize = 471;
+
+// In which characters numbers are written, and by which method.
+#[derive(Clone, Copy)]
+struct Style {
+    variant: ChineseVariant,
+    case: ChineseCase,
+    method: ChineseCountMethod,
+}
+
+impl Hand for Style {
+    ghost point = { λ style. point_char style.variant };
+
+    ghost character = { λ style. digit_char style.variant style.case };
+
+    ghost most = { 3 };
+
+    fn point(&self) -> char {
+        match self.variant {
+            ChineseVariant::Traditional => '點',
+            ChineseVariant::Simple => '点',
+        }
+    }
+
+    fn digit(&self, digit: u8) -> char {
+        digit_char(self.variant, self.case, digit)
+    }
+}
+
+// Puts a magnitude, if the method writes it.
+fn put_magnitude(text: &mut Room, style: Style, number: u128) -> Result<(), NumberToChineseError>
+    requires { 231 ≤ text.old.free }
+    ensures put { PutsIfWritten (is_printable style.method (pos number)) text.old text.new
+        (magnitude_text style.variant style.case style.method number) 231 result }
+{
+    let Style {
+        variant,
+        case,
+        method,
+    } = style;
+    let mut room = [0; MOST_BYTES];
+    text.put(put_chinese(&mut room, variant, case, method, number)?);
+    Ok(())
+}
+
+// Whether a divisor has no 一 in front of this text: it is rising units, of which the first is 百,
+// 千, 萬 or 億.
+fn stand_alone(text: &str) -> bool
+    ensures { result ≡ stand_alone (text_of text.now) }
+{
+    match first_unit(text) {
+        Some(unit) => unit <= Unit::Yi && are_rising_units(text),
+        None => false,
+    }
+}
+
+// A text without its first character, where that is this one and such units follow.
+fn without_front(front: char, text: &str) -> &str
+    requires { text_of text.now ≡ chars text.now }
+    ensures text { chars result.now ≡ without_front front (chars text.now) }
+    ensures bound { length result.now ≤ length text.now }
+{
+    match split_first_char(text) {
+        Some((first, rest)) if first == front && stand_alone(rest) => rest,
+        _ => text,
+    }
+}
+
+// Puts a divisor, if the method writes it.
+fn put_divisor(text: &mut Room, style: Style, divisor: u128) -> Result<(), NumberToChineseError>
+    requires { 231 ≤ text.old.free }
+    ensures put { PutsIfWritten (is_printable style.method (pos divisor)) text.old text.new
+        (divisor_text style.variant style.case style.method divisor) 231 result }
+{
+    let Style {
+        variant,
+        case,
+        method,
+    } = style;
+    let mut room = [0; MOST_BYTES];
+    let spelled = put_chinese(&mut room, variant, case, method, divisor)?;
+    text.put(without_front(style.digit(1), spelled));
+    Ok(())
+}
+
+// Puts a number with so many decimals, if the method writes it.
+fn put_with_decimals(
+    text: &mut Room,
+    style: Style,
+    decimals: usize,
+    number: u128,
+) -> Result<(), NumberToChineseError>
+    requires decimals { decimals ≤ 38 }
+    requires room { 348 ≤ text.old.free }
+    ensures put { PutsIfWritten (is_printable style.method (pos (number / 10 ^ decimals)))
+        text.old text.new
+        (decimal_text style.variant style.case style.method decimals number) 348 result }
+{
+    put_behind_point(text, &style, decimals, number);
+    put_magnitude(text, style, number / 10_u128.pow(decimals as u32))
+}
+
+// Puts a fraction, if the method writes it.
+fn put_fraction(
+    text: &mut Room,
+    style: Style,
+    divisor: u128,
+    number: u128,
+) -> Result<(), NumberToChineseError>
+    requires { 468 ≤ text.old.free }
+    ensures put { PutsIfWritten
+        (is_printable style.method (pos divisor) && is_printable style.method (pos number))
+        text.old text.new
+        (fraction_text style.variant style.case style.method divisor number) 468 result }
+{
+    put_magnitude(text, style, number)?;
+    text.put("分之");
+    put_divisor(text, style, divisor)
+}
+
+// Puts what stands in front of a percentage.
+fn put_hundredths(text: &mut Room, style: Style)
+    requires { 9 ≤ text.old.free }
+    ensures put { PutsInFront text.old text.new
+        (encode_utf8_all (hundredths style.variant style.case Percent)) }
+    ensures room { text.old.free ≤ text.new.free + 9 }
+{
+    text.put("分之");
+    text.put_char(unit_char(style.variant, style.case, Unit::Bai));
+}
+
+// Puts a quantity without its sign, if the method writes it.
+fn put_unsigned(
+    text: &mut Room,
+    style: Style,
+    quantity: Quantity,
+) -> Result<(), NumberToChineseError>
+    requires { 468 ≤ text.old.free }
+    ensures put { PutsIfWritten (is_written_by style.method quantity) text.old text.new
+        (unsigned_text style.variant style.case style.method quantity) 468 result }
+{
+    let magnitude = quantity.numerator.unsigned_abs();
+    match decimals_of(quantity) {
+        Some(decimals) => {
+            put_with_decimals(text, style, decimals, magnitude)?;
+            if quantity.form == QuantityForm::Percent {
+                put_hundredths(text, style);
+            }
+            Ok(())
+        }
+        None => put_fraction(text, style, quantity.denominator, magnitude),
+    }
+}
+
+// A quantity at the end of a room, and where it begins, if the method writes it.
+fn put_at_end(
+    room: &mut [u8; MOST_QUANTITY_BYTES],
+    style: Style,
+    quantity: Quantity,
+) -> Result<usize, NumberToChineseError>
+    ensures { MatchResult result (λ start. IsTrue (is_written_by style.method quantity)
+        × (drop start room.new
+        ≡ encode_utf8_all (quantity_text style.variant style.case style.method quantity))
+        × IsUtf8 (drop start room.new))
+        (λ _. IsFalse (is_written_by style.method quantity)) }
+{
+    let mut text = Room::new(room);
+    put_unsigned(&mut text, style, quantity)?;
+    if quantity.numerator < 0 {
+        text.put_char(minus_char(style.variant));
+    }
+    Ok(text.free)
+}
+
+// Why the method does not write a quantity.
+fn too_far(method: ChineseCountMethod, quantity: Quantity) -> QuantityToChineseError
+    requires { IsTooGreat method quantity }
+    ensures { IsUnwritten method quantity result }
+{
+    if quantity.numerator < 0 {
+        QuantityToChineseError::Underflow
+    } else {
+        QuantityToChineseError::Overflow
+    }
+}
+
+/// Puts a quantity in numerals into a room, and hands out its text, which is the end of the room.
+/// Zeros at the end of its decimals stay.
+///
+/// ```text
+/// let mut room = [0; MOST_QUANTITY_BYTES];
+/// put_quantity(&mut room, variant, case, method, quantity)
+/// // 三点一四 for 314/100, 百分之十二点五 for 125/1000 as a percentage, 三分之一 for 1/3
+/// ```
+///
+/// It asks for no memory. `ZeroDenominator` where the denominator is 0; by `Low`, where a number in
+/// it is 10^16 or more, `Overflow`, or `Underflow` for a quantity below zero.
+pub fn put_quantity<'a>(
+    room: &'a mut [u8; MOST_QUANTITY_BYTES],
+    variant: ChineseVariant,
+    case: ChineseCase,
+    method: ChineseCountMethod,
+    quantity: Quantity,
+) -> Result<&'a str, QuantityToChineseError>
+    ensures { MatchResult result (λ text. PutsQuantity variant case method quantity text.now)
+        (IsUnwritten method quantity) }
+{
+    if quantity.denominator == 0 {
+        return Err(QuantityToChineseError::ZeroDenominator);
+    }
+    let style = Style {
+        variant,
+        case,
+        method,
+    };
+    match put_at_end(room, style, quantity) {
+        Ok(start) => Ok(unsafe { str::from_utf8_unchecked(&room[start..]) }),
+        Err(_) => Err(too_far(method, quantity)),
+    }
+}
+
+/// A quantity in numerals, as `put_quantity` puts it, in one request for memory of its very size.
+///
+/// ```text
+/// quantity_to_chinese(alloc, variant, case, method, quantity) == Ok("三点五") // for 35/10
+/// ```
+///
+/// It refuses what `put_quantity` refuses, before memory is asked for; `OutOfMemory` where there is
+/// none for the text.
+pub fn quantity_to_chinese(
+    alloc: Global,
+    variant: ChineseVariant,
+    case: ChineseCase,
+    method: ChineseCountMethod,
+    quantity: Quantity,
+) -> Result<String, QuantityToChineseError>
+    ensures { WritesQuantity variant case method quantity result }
+{
+    let mut room = [0; MOST_QUANTITY_BYTES];
+    let text = put_quantity(&mut room, variant, case, method, quantity)?;
+    Ok(string_of(alloc, text)?)
+}

@@ -1,0 +1,86 @@
+// How many decimals a quantity has, and with how many zeros they end.
+ghost use Rattle.std.specs.Prelude.{◌≡◌, ◌≤◌, ◌<◌};
+ghost use Rattle.cn_quantity.specs.Trimmed.{decimals_in, decimals_of, decimals_over, form_with, trimmed, without_zeros, zeros_at_end};
+
+use crate::ratio::form_of;
+use crate::{Quantity, QuantityForm};
+
+// How many decimals make this divisor the denominator.
+fn decimals_over(divisor: u128, denominator: u128) -> Option<usize>
+    requires { 0 < divisor }
+    ensures { result ≡ decimals_over divisor denominator }
+{
+    let mut reached = divisor;
+    for decimals in 0..39 {
+        if reached == denominator {
+            return Some(decimals);
+        }
+        reached = reached.checked_mul(10)?;
+    }
+    None
+}
+
+/// How many decimals a quantity has: 2 of 314/100, and 1 of 125/1000 as a percentage, which is
+/// 12.5%. `None` of a fraction, and where the denominator is not one of the form.
+pub fn decimals_of(quantity: Quantity) -> Option<usize>
+    ensures { result ≡ decimals_of quantity }
+{
+    match quantity.form {
+        QuantityForm::Whole if quantity.denominator == 1 => Some(0),
+        QuantityForm::Decimal => Some(decimals_over(10, quantity.denominator)? + 1),
+        QuantityForm::Percent => decimals_over(100, quantity.denominator),
+        _ => None,
+    }
+}
+
+// With how many zeros a number ends, of its last so many digits.
+fn zeros_at_end(count: usize, number: u128) -> usize
+    ensures value { result ≡ zeros_at_end count number }
+    ensures most { result ≤ count }
+{
+    let mut left = number;
+    for zeros in 0..count {
+        if left % 10 > 0 {
+            return zeros;
+        }
+        left /= 10;
+    }
+    count
+}
+
+// The form with so many decimals left.
+fn form_with(form: QuantityForm, decimals: usize) -> QuantityForm
+    ensures { result ≡ form_with form decimals }
+{
+    match form {
+        QuantityForm::Percent | QuantityForm::Fraction => form,
+        QuantityForm::Whole | QuantityForm::Decimal => form_of(decimals),
+    }
+}
+
+// The quantity without so many zeros at the end of its decimals.
+fn without_zeros(quantity: Quantity, decimals: usize, zeros: usize) -> Quantity
+    requires zeros { zeros ≤ decimals }
+    requires decimals { decimals ≤ 38 }
+    ensures { result ≡ without_zeros quantity decimals zeros }
+{
+    let power = 10_u128.pow(zeros as u32);
+    Quantity {
+        numerator: quantity.numerator / power as i128,
+        denominator: quantity.denominator / power,
+        form: form_with(quantity.form, decimals - zeros),
+    }
+}
+
+/// The quantity without the zeros at the end of its decimals.
+pub fn trimmed(quantity: Quantity) -> Quantity
+    ensures { result ≡ trimmed quantity }
+{
+    match decimals_of(quantity) {
+        Some(decimals) => {
+            let zeros = zeros_at_end(decimals, quantity.numerator.unsigned_abs());
+            without_zeros(quantity, decimals, zeros)
+        }
+        None => quantity,
+    }
+}
