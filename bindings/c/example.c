@@ -30,18 +30,6 @@ static void first_steps(void) {
         if (cn_read_found(sentence, &span, CN_I64, CN_TEN_THOUSAND, &reading) == CN_DONE)
             printf("%lld\n", (long long)reading.number.low); /* 50 */
 
-    char quantity_text[CN_MOST_QUANTITY_BYTES + 1];
-    cn_quantity quantity;
-    if (cn_read_quantity("12.5%", 5, CN_TEN_THOUSAND, &quantity) == CN_DONE
-        && cn_print_quantity(&quantity, CN_TEN_THOUSAND, CN_SIMPLIFIED, CN_LOWER, quantity_text, sizeof quantity_text) == CN_DONE)
-        puts(quantity_text); /* 百分之十二点五 */
-    char figures[64];
-    size_t length;
-    const char with_quantities[] = "共3.5万元，剩三分之一";
-    if (cn_quantities_to_figures(with_quantities, strlen(with_quantities), 0, CN_ZHAO, CN_TEN_THOUSAND, 0, figures,
-                                 sizeof figures, &length) == CN_DONE)
-        puts(figures); /* 共35000元，剩1/3 */
-
     char capitals[CN_MOST_SIGNED_AMOUNT_BYTES + 1];
     cn_amount amount;
     if (cn_print_amount(140950, CN_SIMPLIFIED, CN_PLAIN, capitals, sizeof capitals) == CN_DONE)
@@ -56,6 +44,20 @@ static void first_steps(void) {
         puts(capitals); /* 贰零贰陆年零壹月壹拾伍日 */
     if (cn_read_date(capitals, strlen(capitals), &date) == CN_DONE)
         printf("%u-%02u-%02u\n", date.year, date.month, date.day); /* 2026-01-15 */
+}
+
+/* Prints a quantity, and a text with its quantities in figures. */
+static void quantities(void) {
+    const char sentence[] = "共3.5万元，剩三分之一";
+    char text[CN_MOST_QUANTITY_BYTES + 1];
+    size_t length;
+    cn_quantity quantity;
+    if (cn_read_quantity("12.5%", 5, CN_TEN_THOUSAND, &quantity) == CN_DONE
+        && cn_print_quantity(&quantity, CN_TEN_THOUSAND, CN_SIMPLIFIED, CN_LOWER, text, sizeof text) == CN_DONE)
+        puts(text); /* 百分之十二点五 */
+    if (cn_quantities_to_figures(sentence, strlen(sentence), 0, CN_ZHAO, CN_TEN_THOUSAND, 0, text, sizeof text, &length)
+        == CN_DONE)
+        puts(text); /* 共35000元，剩1/3 */
 }
 
 /* Finds each number of a text. */
@@ -451,6 +453,7 @@ static void null_of_char(void) {
 
 int main(void) {
     first_steps();
+    quantities();
     numbers_of_a_text();
     quantities_of_a_text();
     texts_of_char();

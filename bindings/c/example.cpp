@@ -27,10 +27,6 @@ void first_steps() {
     if (auto it = to_number<unsigned>("二十十"); !it)
         std::cout << it.error().message() << '\n'; // the chinese number is incorrect (position: 1)
 
-    if (auto quantity = chinese_to_quantity("12.5%"))
-        std::cout << quantity->to_chinese().value_or("") << '\n'; // 百分之十二点五
-    std::cout << quantities_to_figures("共3.5万元，剩三分之一").value_or("") << '\n'; // 共35000元，剩1/3
-
     AmountForm form;
     form.currency = true;
     std::cout << amount_to_chinese(1500, form).value_or("") << '\n'; // 人民币壹拾伍元整
@@ -67,6 +63,10 @@ void numbers() {
 }
 
 void quantities() {
+    if (auto quantity = chinese_to_quantity("12.5%"))
+        std::cout << quantity->to_chinese().value_or("") << '\n'; // 百分之十二点五
+    std::cout << quantities_to_figures("共3.5万元，剩三分之一").value_or("") << '\n'; // 共35000元，剩1/3
+
     const Quantity half = {{1, 0}, {2, 0}, QuantityForm::fraction}, over_zero = {{1, 0}, {0, 0}, QuantityForm::whole};
     const Style digits = {Way::digits, Script::simplified, Case::lower};
     const Style low = {Way::low, Script::simplified, Case::lower};
