@@ -8,4 +8,5 @@ pub mod Ratios
 pub mod Signed
 pub mod Today
 pub mod Told
+pub mod Trims
 pub mod WholeQuantities

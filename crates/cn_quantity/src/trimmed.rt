@@ -1,6 +1,6 @@
 // How many decimals a quantity has, and with how many zeros they end.
-ghost use Rattle.std.specs.Prelude.{◌≡◌, ◌≤◌, ◌<◌};
-ghost use Rattle.cn_quantity.specs.Trimmed.{decimals_in, decimals_of, decimals_over, form_with, trimmed, without_zeros, zeros_at_end};
+ghost use Rattle.std.specs.Prelude.{◌≡◌, ◌*◌, ◌^◌, ◌≤◌, ◌<◌, IfSome};
+ghost use Rattle.cn_quantity.specs.Trimmed.{decimals_of, decimals_over, form_with, trimmed, without_zeros, zeros_at_end};
 
 use crate::ratio::form_of;
 use crate::{Quantity, QuantityForm};
@@ -8,7 +8,8 @@ use crate::{Quantity, QuantityForm};
 // How many decimals make this divisor the denominator.
 fn decimals_over(divisor: u128, denominator: u128) -> Option<usize>
     requires { 0 < divisor }
-    ensures { result ≡ decimals_over divisor denominator }
+    ensures value { result ≡ decimals_over divisor denominator }
+    ensures exact { IfSome result (λ decimals. divisor * 10 ^ decimals ≡ denominator) }
 {
     let mut reached = divisor;
     for decimals in 0..39 {
@@ -23,7 +24,8 @@ fn decimals_over(divisor: u128, denominator: u128) -> Option<usize>
 /// How many decimals a quantity has: 2 of 314/100, and 1 of 125/1000 as a percentage, which is
 /// 12.5%. `None` of a fraction, and where the denominator is not one of the form.
 pub fn decimals_of(quantity: Quantity) -> Option<usize>
-    ensures { result ≡ decimals_of quantity }
+    ensures value { result ≡ decimals_of quantity }
+    ensures most { IfSome result (λ decimals. decimals ≤ 38) }
 {
     match quantity.form {
         QuantityForm::Whole if quantity.denominator == 1 => Some(0),

@@ -1,3 +1,4 @@
+pub mod InFigures
 pub mod Replaced
 pub mod SinkLaws
 pub mod Sinks

@@ -22,8 +22,8 @@ fn put_in_place<S: Sink, R: Replacement>(
     }
 }
 
-// Puts a text with its expressions replaced.
-fn put_replaced<S: Sink, R: Replacement>(
+/// Puts a text with its expressions replaced.
+pub fn put_replaced<S: Sink, R: Replacement>(
     sink: &mut S,
     text: &str,
     wanted: Wanted,

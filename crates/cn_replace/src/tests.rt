@@ -1,7 +1,11 @@
 // What is put in place of expressions by a replacement of one's own.
 ghost use Rattle.std.specs.Prelude.{◌++◌, codes, Some, None, if◌then◌else◌, nat_lt, length};
 
-use crate::{Replacement, Sink, replace_quantities};
+use crate::{
+    Included, Replacement, Sink, put_quantities_in_figures, quantities_to_figures,
+    replace_quantities,
+};
+use cn_core::ChineseCountMethod;
 use cn_find::{Found, Wanted};
 use std::test::Fail;
 
@@ -27,5 +31,46 @@ impl Replacement for InBrackets {
 fn replaces_in_brackets(rt: HostRuntime) -> Result<(), Fail> {
     let new = replace_quantities(rt.alloc(), "共3.5万元,一般占12.5%", Wanted::EVERYDAY, InBrackets)?;
     assert_eq!(rt; new.as_str(), "共[3.5万]元,一般占[12.5%]");
+    Ok(())
+}
+
+// A text, and the same in figures: without those that are about so much or one character, and with
+// them.
+static IN_FIGURES: [(&str, &str, &str); 10] = [
+    ("共3.5万元，占12.50%", "共35000元，占12.5%", "共35000元，占12.5%"),
+    ("一般十分", "一般十分", "1般10分"),
+    ("十几人", "十几人", "10几人"),
+    ("三百多人", "三百多人", "300多人"),
+    ("廿三日", "23日", "23日"),
+    ("三分之一", "1/3", "1/3"),
+    ("零下负三点五度", "零下-3.5度", "0下-3.5度"),
+    ("二十十", "二十十", "二十十"),
+    ("", "", ""),
+    ("没有", "没有", "没有"),
+];
+
+// How many bytes the text has in figures, and whether the room begins with what is expected.
+fn put<const N: usize>(text: &str, included: Included, expected: &str) -> (usize, bool) {
+    let mut room = [7; N];
+    let method = ChineseCountMethod::TenThousand;
+    let count = put_quantities_in_figures(&mut room, text, Wanted::EVERYDAY, method, included);
+    (count, room.starts_with(expected.as_bytes()))
+}
+
+#[test]
+fn puts_in_figures(rt: HostRuntime) -> Result<(), Fail> {
+    let all = Included {
+        about: true,
+        one_character: true,
+    };
+    let method = ChineseCountMethod::TenThousand;
+    for (text, some, every) in &IN_FIGURES {
+        for (included, expected) in [(Included::NONE, *some), (all, *every)] {
+            let new = quantities_to_figures(rt.alloc(), text, Wanted::EVERYDAY, method, included)?;
+            assert_eq!(rt; new.as_str(), expected);
+            assert!(rt; put::<24>(text, included, expected) == (expected.len(), true));
+            assert!(rt; put::<1>(text, included, expected).0 == expected.len());
+        }
+    }
     Ok(())
 }

@@ -1,0 +1,87 @@
+-- Decimals, and the zeros at their end.
+use Rattle.std.proofs.Common.{◌≡◌, ℕ, zero, suc, ◌+◌, ◌*◌, ◌/◌, ◌%◌, ◌^◌, ◌<◌, ◌≤◌, ◌==◌, ℤ, pos, negsuc, nat_abs, int_div, int_lt, true, false, Option, Some, None, find, refl, ◌∙◌, arith}
+use Rattle.std.proofs.Math.Nat.{pow-le-pow_right}
+use Rattle.std.proofs.lemmas.Bool.Decides.{nat_tests}
+use Rattle.std.proofs.lemmas.Bool.{eq-eqb}
+use Rattle.std.proofs.lemmas.Int.{ints}
+use Rattle.std.proofs.lemmas.Nat.{pow-add}
+use Rattle.std.specs.List.{range_with_len}
+use Rattle.cn_core.specs.Whole.{signed_number}
+use Rattle.cn_quantity.specs.Trimmed.{decimals_over, zeros_at_end}
+
+-- the decimals from a number on, so many of them, that make the denominator
+unfoldable pub over_from : ℕ → ℕ → ℕ → ℕ → Option ℕ
+over_from divisor denominator start count =
+    find (λ decimals. divisor * 10 ^ decimals == denominator) (range_with_len start count)
+
+pub over-all : (divisor denominator : ℕ)
+    → decimals_over divisor denominator ≡ over_from divisor denominator 0 39
+unfolding decimals_over over_from
+over-all divisor denominator = refl
+
+-- these make it
+pub over-here : (divisor denominator start count : ℕ) → divisor * 10 ^ start ≡ denominator
+    → over_from divisor denominator start (suc count) ≡ Some start
+unfolding over_from
+over-here divisor denominator start count same =
+    let test : (divisor * 10 ^ start == denominator) ≡ true = eq-eqb _ _ same in rw test refl
+
+-- these do not
+pub over-next : (divisor denominator start count : ℕ)
+    → (divisor * 10 ^ start ≡ denominator → ⊥)
+    → over_from divisor denominator start (suc count)
+    ≡ over_from divisor denominator (start + 1) count
+unfolding over_from
+over-next divisor denominator start count other =
+    let test : (divisor * 10 ^ start == denominator) ≡ false = grind (arith, nat_tests, other) in
+    rw test refl
+
+-- none is left
+pub over-end : (divisor denominator start : ℕ) → over_from divisor denominator start 0 ≡ None
+unfolding over_from
+over-end divisor denominator start = refl
+
+pub raised : (n : ℕ) → 10 ^ (n + 1) ≡ 10 ^ n * 10
+raised n = pow-add 10 n 1
+
+-- none does where the first is too great
+pub over-none : (divisor denominator start count : ℕ) → denominator < divisor * 10 ^ start
+    → over_from divisor denominator start count ≡ None
+over-none divisor denominator start zero less = over-end divisor denominator start
+over-none divisor denominator start (suc count) less =
+    let next : denominator < divisor * 10 ^ (start + 1) =
+    let more = raised start in rw more (omega (arith, less)) in
+    over-next divisor denominator start count (λ same. omega (arith, same, less))
+    ∙ over-none divisor denominator (start + 1) count next
+
+-- powers of ten
+pub ten-up : (i j : ℕ) → i ≤ j → 10 ^ i ≤ 10 ^ j
+ten-up i j less = pow-le-pow_right {n = 10} (omega arith) less
+
+pub ten-above : (n : ℕ) → 0 < 10 ^ n
+ten-above n = let one = ten-up 0 n (omega arith) in omega (arith, one)
+
+-- one that fits 128 bits, times a number above 0
+pub few : (m decimals : ℕ) → 0 < m → m * 10 ^ decimals < 2 ^ 128 → decimals ≤ 38
+few m decimals some fits =
+    let size : (39 ≤ decimals) → 2 ^ 128 ≤ 10 ^ decimals =
+    λ many. let great = ten-up 39 decimals many in omega (arith, great) in
+    grind (arith, size, some, fits)
+
+-- a signed number divided is its magnitude divided, with its sign
+pub divided : (z : ℤ) (d : ℕ)
+    → int_div z (pos d) ≡ signed_number (int_lt z (pos 0)) (nat_abs z / d)
+divided (pos m) d =
+    let test : int_lt (pos m) (pos 0) ≡ false = grind (arith, ints, nat_tests) in rw test refl
+divided (negsuc m) d = refl
+
+-- a zero more, and no more zeros
+pub zeros-next : (count number : ℕ) → number % 10 ≤ 0
+    → zeros_at_end (suc count) number ≡ suc (zeros_at_end count (number / 10))
+zeros-next count number none =
+    let test : (number % 10 == 0) ≡ true = eq-eqb _ _ (omega (arith, none)) in rw test refl
+
+pub zeros-stop : (count number : ℕ) → 0 < number % 10 → zeros_at_end count number ≡ 0
+zeros-stop zero number some = refl
+zeros-stop (suc count) number some =
+    let test : (number % 10 == 0) ≡ false = grind (arith, nat_tests, some) in rw test refl
