@@ -83,11 +83,13 @@ TOO_LONG = {
 SOURCE = "source/chinese_number.c.in"
 OF_LENGTH = (HEADER, RUST, PYTHON, "source/README.md", MORE[RUST])
 EXPORTED = re.compile(r'^pub (?:unsafe )?extern "C" fn (\w+)', re.MULTILINE)
-CALL = r"chinese_(?:number|quantity|(?:signed_|typed_)?amount|figures|date)_\w+"
+CALL = r"chinese_(?:number|quantity|quantities|(?:signed_|typed_)?amount|figures|date)_\w+"
 CALLED = re.compile(rf"\b({CALL})\(|\blibrary\.({CALL})")
 # The most bytes of a text: what each language names so, and the file whose clauses have it.
 BOUNDS = {
     "MOST_BYTES": "src/printing.rt",
+    "MOST_QUANTITY_BYTES": "src/quantity_text.rt",
+    "MOST_FIGURES_BYTES": "src/quantity_figures.rt",
     "MOST_AMOUNT_BYTES": "src/amount.rt",
     "MOST_SIGNED_AMOUNT_BYTES": "src/signed_amount.rt",
     "MOST_DATE_BYTES": "src/date.rt",

@@ -1,7 +1,8 @@
 /* same [COUNT [ROUNDS]]: shows one sum over what each call of chinese_number.h answers to COUNT
- * pseudo-random numbers of each type by each way, to ten times as many amounts in all forms and in
- * figures, dates and texts, and at the ends: what is printed, each room to its last byte, and what
- * is read, either way too, and found in texts as they were printed, typed, changed and cut. Builds
+ * pseudo-random numbers of each type by each way, to ten times as many quantities, amounts in all
+ * forms and in figures, dates and texts, and at the ends: what is printed, each room to its last
+ * byte, and what is read, either way too, found and replaced in texts as they were printed, typed,
+ * changed and cut. Builds
  * of one library have to show one sum. With -DTHREADS four threads have to find it at once. With
  * ROUNDS it shows what a call takes, too, in the best of so many rounds. */
 #include "chinese_number.h"
@@ -118,6 +119,21 @@ static void try_read_quantity(run *r, const text *t, uint32_t method) {
     add_word(r, quantity.form);
 }
 
+/* Each code is drawn in a statement of its own, since a call may draw its arguments in any order. */
+static void try_replace(run *r, const text *t) {
+    static const uint32_t INCLUDED[] = {0, CN_ABOUT, CN_ONE_CHARACTER, CN_ABOUT | CN_ONE_CHARACTER, 1};
+    uint8_t room[MOST];
+    uint32_t upper = code(r, 2), greatest = code(r, CN_JI + 1), method = code(r, CN_ANY);
+    uint32_t included = INCLUDED[code(r, 4)];
+    size_t most = below(r, 4) == 0 ? below(r, MOST) : MOST, length = 9;
+    uint32_t status = chinese_quantities_to_figures(t->bytes, t->length, upper, greatest, method,
+                                                    included, room, most, &length);
+    add_word(r, status);
+    add_word(r, length);
+    if (status == CN_DONE)
+        add(r, room, length);
+}
+
 typedef uint32_t finding(const uint8_t *, size_t, size_t, uint32_t, uint32_t, cn_span *, size_t,
                          size_t *);
 
@@ -176,7 +192,6 @@ static void try_read_capitals(run *r, const text *t) {
     add_word(r, date.byte_index);
 }
 
-/* Each code is drawn in a statement of its own, since a call may draw its arguments in any order. */
 static void try_read_and_find(run *r, const text *t) {
     uint32_t kind = code(r, CN_I128 + 1);
     uint32_t way = code(r, CN_ANY + 1);
@@ -184,6 +199,7 @@ static void try_read_and_find(run *r, const text *t) {
     try_read_quantity(r, t, way);
     try_find(r, t, chinese_number_find, chinese_number_find_utf8);
     try_find(r, t, chinese_quantity_find, chinese_quantity_find_utf8);
+    try_replace(r, t);
 }
 
 /* What was printed, with all of the room, and as a text to be read. */
@@ -226,6 +242,35 @@ static void try_number(run *r, uint32_t kind, uint32_t way, cn_number number) {
     try_read(r, &t, kind, CN_ANY);
     change(r, &t);
     try_read(r, &t, kind, way);
+    try_read_and_find(r, &t);
+}
+
+/* A denominator that is mostly one of a decimal or a percentage. */
+static cn_number some_denominator(run *r) {
+    uint64_t power = 1;
+    if (below(r, 4) == 0)
+        return some_number(r);
+    for (uint32_t digits = below(r, 20); digits > 0; digits--)
+        power *= 10;
+    return cn_unsigned(power);
+}
+
+static void try_quantity(run *r) {
+    text t;
+    cn_quantity quantity = {{0, 0}, {0, 0}, 0, 1, 2};
+    size_t length = 1, room = begin(r, &t, CN_MOST_QUANTITY_BYTES);
+    uint32_t method = code(r, CN_ANY), script = code(r, 2), letter_case = code(r, 2), status;
+    quantity.numerator = some_number(r);
+    quantity.denominator = some_denominator(r);
+    quantity.form = code(r, CN_FRACTION + 1);
+    status = chinese_quantity_print(&quantity, method, script, letter_case, t.bytes, room, &length);
+    add_printed(r, status, length, &t);
+    try_read_quantity(r, &t, method);
+    change(r, &t);
+    try_read_and_find(r, &t);
+    room = begin(r, &t, CN_MOST_FIGURES_BYTES);
+    status = chinese_quantity_figures(&quantity, t.bytes, room, &length);
+    add_printed(r, status, length, &t);
     try_read_and_find(r, &t);
 }
 
@@ -341,6 +386,7 @@ static void try_all(run *r) {
         try_amount(r, fen >> below(r, 64));
         try_signed_amount(r, (int64_t)fen >> below(r, 64));
         try_date(r, year, month, day);
+        try_quantity(r);
         try_text(r, below(r, 24));
     }
     try_ends(r);
@@ -401,7 +447,7 @@ static void show_times(run *r, int rounds) {
 int main(int argc, char **argv) {
     run r = {0, 0, argc > 1 ? atol(argv[1]) : 100, 0};
     try_all(&r);
-    printf("%ld numbers, amounts, dates and texts, sum %08lx%08lx\n", r.cases,
+    printf("%ld numbers, quantities, amounts, dates and texts, sum %08lx%08lx\n", r.cases,
            (unsigned long)(r.sum >> 32), (unsigned long)(r.sum & UINT32_MAX));
     if (!is_same_in_threads(&r)) {
         puts("a thread found another sum");

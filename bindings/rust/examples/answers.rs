@@ -7,10 +7,17 @@ use std::str::FromStr;
 use chinese_number::{
     amount_to_chinese, amount_to_chinese_as, chinese_to_amount, chinese_to_amount_as_typed,
     chinese_to_date, chinese_to_quantity, chinese_to_signed_amount, date_to_chinese, find_numbers,
-    find_quantities, signed_amount_to_chinese, yuan_to_fen, AmountForm, BillDate, ChineseCase,
-    ChineseCountMethod, ChineseToNumber, ChineseToNumberError, ChineseVariant, Found,
-    NumberToChinese, Numbers, Quantity, QuantityForm, Wanted,
+    find_quantities, quantities_to_figures, replace_quantities, signed_amount_to_chinese,
+    yuan_to_fen, AmountForm, BillDate, ChineseCase, ChineseCountMethod, ChineseToNumber,
+    ChineseVariant, Found, Included, NumberToChinese, Numbers, Quantity, QuantityForm, Wanted,
 };
+
+const FORMS: [(&str, QuantityForm); 4] = [
+    ("whole", QuantityForm::Whole),
+    ("decimal", QuantityForm::Decimal),
+    ("percent", QuantityForm::Percent),
+    ("fraction", QuantityForm::Fraction),
+];
 
 fn told<T: Display, E: Display>(answer: Result<T, E>) -> String {
     match answer {
@@ -106,16 +113,40 @@ fn print_date(script: &str, date: &str) -> String {
     told(date_to_chinese(variant(script), date))
 }
 
-fn told_quantity(answer: Result<Quantity, ChineseToNumberError>) -> String {
-    told(answer.map(|Quantity { numerator, denominator, form }| {
-        let form = match form {
-            QuantityForm::Whole => "whole",
-            QuantityForm::Decimal => "decimal",
-            QuantityForm::Percent => "percent",
-            QuantityForm::Fraction => "fraction",
-        };
-        format!("{numerator}/{denominator} {form}")
-    }))
+fn shown(Quantity { numerator, denominator, form }: Quantity) -> String {
+    format!("{numerator}/{denominator} {}", FORMS[form as usize].0)
+}
+
+/// The quantity of words as `350000/10 decimal`.
+fn quantity(words: &str) -> Quantity {
+    let (numerator, rest) = words.split_once('/').expect("a line");
+    let (denominator, name) = rest.split_once(' ').expect("a form");
+    let form = FORMS.iter().find(|form| form.0 == name).expect("the name of a form").1;
+    Quantity { numerator: number(numerator), denominator: number(denominator), form }
+}
+
+fn print_quantity(way: &str, script: &str, letter_case: &str, words: &str) -> String {
+    told(quantity(words).to_chinese(variant(script), case(letter_case), method(way)))
+}
+
+/// What is included, by its words with `+` between them; `none` is nothing.
+fn included(words: &str) -> Included {
+    let has = |name| words.split('+').any(|word| word == name);
+    Included { about: has("about"), one_character: has("one") }
+}
+
+fn to_figures(words: &str, text: &str) -> String {
+    let method = ChineseCountMethod::TenThousand;
+    quantities_to_figures(text, Wanted::EVERYDAY, method, included(words))
+}
+
+fn to_numerals(words: &str, text: &str) -> String {
+    let method = ChineseCountMethod::TenThousand;
+    replace_quantities(text, Wanted::EVERYDAY, method, included(words), |found| {
+        let quantity = found.quantity(method).ok()?;
+        let text = quantity.to_chinese(ChineseVariant::Simple, ChineseCase::Lower, method);
+        text.ok().filter(|_| quantity.form != QuantityForm::Fraction)
+    })
 }
 
 fn flags(found: Found<'_>) -> String {
@@ -147,7 +178,7 @@ fn find(text: &str) -> String {
 
 fn find_expressions(text: &str) -> String {
     in_place(text, find_quantities(text, Wanted::EVERYDAY), |found| {
-        told_quantity(found.quantity(ChineseCountMethod::TenThousand))
+        told(found.quantity(ChineseCountMethod::TenThousand).map(shown))
     })
 }
 
@@ -187,8 +218,13 @@ fn answer(line: &str) -> String {
         ["print_date", script, date] => print_date(script, date),
         ["find", text] => find(text),
         ["flags", text] => in_place(text, find_numbers(text, Wanted::EVERYDAY), flags),
-        ["read_quantity", way, text] => told_quantity(chinese_to_quantity(text, method(way))),
+        ["read_quantity", way, text] => told(chinese_to_quantity(text, method(way)).map(shown)),
         ["find_quantities", text] => find_expressions(text),
+        ["print_quantity", way, script, case, words] => print_quantity(way, script, case, words),
+        ["quantity_figures", words] => format!("ok {}", quantity(words).to_figures()),
+        ["trim_quantity", words] => format!("ok {}", shown(quantity(words).trimmed())),
+        ["quantities_to_figures", words, text] => format!("ok {}", to_figures(words, text)),
+        ["replace_quantities", words, text] => format!("ok {}", to_numerals(words, text)),
         _ => panic!("no question: {line}"),
     }
 }

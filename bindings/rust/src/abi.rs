@@ -7,6 +7,9 @@
 
 use core::mem::MaybeUninit;
 
+use alloc::string::String;
+use alloc::vec::Vec;
+
 use crate::{
     BillDate, ChineseCase, ChineseCountMethod, ChineseVariant, Quantity, QuantityForm, Unit,
 };
@@ -26,6 +29,7 @@ pub mod status {
     pub const UNFINISHED: u32 = 9;
     pub const NONE: u32 = 10;
     pub const NOT_A_DATE: u32 = 11;
+    pub const NOT_A_QUANTITY: u32 = 12;
     /// The C source alone answers it.
     pub const TOO_LONG: u32 = u32::MAX;
 }
@@ -68,16 +72,19 @@ impl From<ChineseCountMethod> for Way {
     }
 }
 
-/// No printed text has more bytes: a number's has at most so many, and all others have fewer.
-pub const MOST_BYTES: usize = 234;
+/// No printed text has more bytes: a quantity's has at most so many, and all others have fewer.
+pub const MOST_QUANTITY_BYTES: usize = 471;
+const MOST_BYTES: usize = 234;
+const MOST_FIGURES_BYTES: usize = 80;
 const MOST_AMOUNT_BYTES: usize = 117;
 const MOST_SIGNED_AMOUNT_BYTES: usize = 120;
 const MOST_DATE_BYTES: usize = 39;
+const _: () = assert!(MOST_BYTES < MOST_QUANTITY_BYTES && MOST_FIGURES_BYTES < MOST_BYTES);
 const _: () = assert!(MOST_AMOUNT_BYTES < MOST_BYTES && MOST_DATE_BYTES < MOST_BYTES);
 const _: () = assert!(MOST_SIGNED_AMOUNT_BYTES < MOST_BYTES);
 
 /// The bytes of a room for one printed text.
-pub type Bytes = [MaybeUninit<u8>; MOST_BYTES];
+pub type Bytes = [MaybeUninit<u8>; MOST_QUANTITY_BYTES];
 
 /// The bits of an integer, extended by its sign to 128.
 #[derive(Default)]
@@ -106,7 +113,7 @@ struct Reading<T> {
     _byte_index: usize,
 }
 
-// What is read of a text as a quantity.
+// A quantity as the library has it, or the place of the character at fault.
 #[derive(Default)]
 #[repr(C)]
 struct QuantityReading {
@@ -115,6 +122,14 @@ struct QuantityReading {
     form: u32,
     char_index: usize,
     _byte_index: usize,
+}
+
+impl From<Quantity> for QuantityReading {
+    #[inline]
+    fn from(Quantity { numerator, denominator, form }: Quantity) -> Self {
+        let (numerator, denominator) = (numerator.number(), denominator.number());
+        Self { numerator, denominator, form: form as u32, char_index: 0, _byte_index: 0 }
+    }
 }
 
 /// What a text is searched for.
@@ -236,6 +251,35 @@ unsafe extern "C" {
         text_length: usize,
         method: u32,
         quantity: *mut QuantityReading,
+    ) -> u32;
+
+    fn chinese_quantity_print(
+        quantity: *const QuantityReading,
+        method: u32,
+        script: u32,
+        letter_case: u32,
+        room: *mut u8,
+        room_length: usize,
+        length: *mut usize,
+    ) -> u32;
+
+    fn chinese_quantity_figures(
+        quantity: *const QuantityReading,
+        room: *mut u8,
+        room_length: usize,
+        length: *mut usize,
+    ) -> u32;
+
+    fn chinese_quantities_to_figures(
+        text: *const u8,
+        text_length: usize,
+        upper: u32,
+        greatest: u32,
+        method: u32,
+        included: u32,
+        room: *mut u8,
+        room_length: usize,
+        length: *mut usize,
     ) -> u32;
 }
 
@@ -414,11 +458,43 @@ pub fn find(
     count
 }
 
+/// The text with its quantities in figures, also with those that have these flags.
+pub fn quantities_to_figures(
+    text: &str,
+    (upper, greatest): (bool, Unit),
+    method: Way,
+    included: u32,
+) -> String {
+    let (upper, greatest, method) = (u32::from(upper), greatest as u32, method as u32);
+    let (start, end) = (text.as_ptr(), text.len());
+    let mut bytes: Vec<u8> = Vec::with_capacity(end);
+    loop {
+        let (room, most) = (bytes.as_mut_ptr(), bytes.capacity());
+        // SAFETY: as for a number; the room is a vector's own, of this length, which the library
+        // writes to and does not read; and the length is a place of its own.
+        let (length, status) = answered(|length| unsafe {
+            chinese_quantities_to_figures(
+                start, end, upper, greatest, method, included, room, most, length,
+            )
+        });
+        if status == status::DONE {
+            debug_assert!(length <= most);
+            // SAFETY: at `DONE` so many bytes, no more than there is room for, are written at its
+            // start, and they are UTF-8 as the text is.
+            return unsafe {
+                bytes.set_len(length);
+                String::from_utf8_unchecked(bytes)
+            };
+        }
+        bytes.reserve_exact(length);
+    }
+}
+
 // The text that a call prints into a room, or its status.
 //
-// SAFETY: the call is given a room of `MOST_BYTES` bytes and a length of its own, and knows that it
-// may write to both until it returns; and at `DONE` it has written so many bytes, at most
-// `MOST_BYTES`, at the start of the room, and they are UTF-8.
+// SAFETY: the call is given a room of `MOST_QUANTITY_BYTES` bytes and a length of its own, and knows
+// that it may write to both until it returns; and at `DONE` it has written so many bytes, no more
+// than the room has, at the start of the room, and they are UTF-8.
 #[inline]
 unsafe fn printed(
     room: &mut Bytes,
@@ -429,7 +505,7 @@ unsafe fn printed(
     if status != status::DONE {
         return Err(status);
     }
-    debug_assert!(length <= MOST_BYTES);
+    debug_assert!(length <= MOST_QUANTITY_BYTES);
     let bytes = core::slice::from_raw_parts(room.as_ptr().cast(), length);
     Ok(core::str::from_utf8_unchecked(bytes))
 }
@@ -445,11 +521,43 @@ pub fn print<T: Whole>(
 ) -> Result<&str, u32> {
     let Number { low, high } = value.number();
     let (kind, way, script, case) = (T::KIND as u32, way as u32, script as u32, case as u32);
-    // SAFETY: the declaration is that of the header. The library writes to the room, of this
-    // length, and does not read it; and no text of a number has more bytes.
+    // SAFETY: the declaration is that of the header. The library writes to the room, which has no
+    // fewer bytes, and does not read it; and no text of a number has more bytes.
     unsafe {
         printed(room, |room, length| {
             chinese_number_print(low, high, kind, way, script, case, room, MOST_BYTES, length)
+        })
+    }
+}
+
+/// The text of a quantity, or the status.
+#[inline]
+pub fn print_quantity(
+    room: &mut Bytes,
+    script: ChineseVariant,
+    case: ChineseCase,
+    method: Way,
+    quantity: Quantity,
+) -> Result<&str, u32> {
+    let quantity = &QuantityReading::from(quantity);
+    let (method, script, case) = (method as u32, script as u32, case as u32);
+    // SAFETY: as for a number; the quantity is lent until the call returns.
+    unsafe {
+        printed(room, |room, length| {
+            let most = MOST_QUANTITY_BYTES;
+            chinese_quantity_print(quantity, method, script, case, room, most, length)
+        })
+    }
+}
+
+/// The figures of a quantity, or the status.
+#[inline]
+pub fn print_figures(room: &mut Bytes, quantity: Quantity) -> Result<&str, u32> {
+    let quantity = &QuantityReading::from(quantity);
+    // SAFETY: as for a quantity.
+    unsafe {
+        printed(room, |room, length| {
+            chinese_quantity_figures(quantity, room, MOST_FIGURES_BYTES, length)
         })
     }
 }
@@ -465,7 +573,7 @@ pub fn print_amount(
     // SAFETY: as for a number; and no text of an amount has more bytes than this room.
     unsafe {
         printed(room, |room, length| {
-            chinese_amount_print(fen, script as u32, form, room, MOST_BYTES, length)
+            chinese_amount_print(fen, script as u32, form, room, MOST_AMOUNT_BYTES, length)
         })
     }
 }
@@ -481,7 +589,14 @@ pub fn print_signed_amount(
     // SAFETY: as for an amount.
     unsafe {
         printed(room, |room, length| {
-            chinese_signed_amount_print(fen, script as u32, form, room, MOST_BYTES, length)
+            chinese_signed_amount_print(
+                fen,
+                script as u32,
+                form,
+                room,
+                MOST_SIGNED_AMOUNT_BYTES,
+                length,
+            )
         })
     }
 }
@@ -493,7 +608,7 @@ pub fn print_date(room: &mut Bytes, script: ChineseVariant, date: BillDate) -> R
     // SAFETY: as for a number; and no text of a date has more bytes than this room.
     unsafe {
         printed(room, |room, length| {
-            chinese_date_print(year, month, day, script as u32, room, MOST_BYTES, length)
+            chinese_date_print(year, month, day, script as u32, room, MOST_DATE_BYTES, length)
         })
     }
 }

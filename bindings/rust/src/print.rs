@@ -1,4 +1,4 @@
-//! The printers: numbers, amounts of money and dates as texts.
+//! The printers: numbers, quantities, amounts of money and dates as texts.
 
 use core::fmt::{self, Display, Formatter};
 use core::mem::MaybeUninit;
@@ -6,7 +6,7 @@ use core::mem::MaybeUninit;
 use alloc::string::String;
 
 use crate::abi::{self, status, Way, Whole};
-use crate::{BillDate, ChineseCase, ChineseCountMethod, ChineseVariant};
+use crate::{BillDate, ChineseCase, ChineseCountMethod, ChineseVariant, Quantity};
 
 /// Why a number is not written by `Low`.
 #[derive(Debug, Copy, Clone, Eq, PartialEq)]
@@ -34,7 +34,7 @@ pub trait Integer: Whole {}
 impl<T: Whole> Integer for T {}
 
 /// A room for one text, which is printed without taking memory: the text lies in the room until the
-/// next one is printed there. It is large enough for each number, amount and date.
+/// next one is printed there. It is large enough for each number, quantity, amount and date.
 ///
 /// ```rust
 /// use core::fmt::{self, Display, Formatter};
@@ -61,7 +61,7 @@ impl Room {
     #[inline]
     #[must_use]
     pub const fn new() -> Self {
-        Self([MaybeUninit::uninit(); abi::MOST_BYTES])
+        Self([MaybeUninit::uninit(); abi::MOST_QUANTITY_BYTES])
     }
 
     /// Prints a number with units, as [`NumberToChinese::to_chinese`] does.
@@ -105,6 +105,37 @@ impl Room {
             status::TOO_SMALL => NumberToChineseError::Underflow,
             _ => unreachable!("the codes are the library's, and the type holds its value"),
         })
+    }
+
+    /// Prints a quantity, as [`Quantity::to_chinese`] does.
+    ///
+    /// # Errors
+    ///
+    /// [`QuantityToChineseError`] says for what a quantity is refused.
+    #[inline]
+    pub fn quantity(
+        &mut self,
+        chinese_variant: ChineseVariant,
+        chinese_case: ChineseCase,
+        method: ChineseCountMethod,
+        quantity: Quantity,
+    ) -> Result<&str, QuantityToChineseError> {
+        let method = method.into();
+        let text =
+            abi::print_quantity(&mut self.0, chinese_variant, chinese_case, method, quantity);
+        text.map_err(|status| match status {
+            status::TOO_LARGE => QuantityToChineseError::Overflow,
+            status::TOO_SMALL => QuantityToChineseError::Underflow,
+            status::NOT_A_QUANTITY => QuantityToChineseError::ZeroDenominator,
+            _ => unreachable!("the codes are the library's"),
+        })
+    }
+
+    /// Prints a quantity in figures, as [`Quantity::to_figures`] does.
+    #[inline]
+    pub fn figures(&mut self, quantity: Quantity) -> &str {
+        let text = abi::print_figures(&mut self.0, quantity);
+        text.unwrap_or_else(|_| unreachable!("the form is one, and the room large enough"))
     }
 
     /// Prints an amount of money, in fen, as [`amount_to_chinese_as`] does.
@@ -326,6 +357,79 @@ printers! {
     from_isize_to_chinese_ten_thousand TenThousand,
     from_isize_to_chinese_middle Middle,
     from_isize_to_chinese_high High
+}
+
+/// Why a quantity is not written.
+#[non_exhaustive]
+#[derive(Debug, Copy, Clone, Eq, PartialEq)]
+pub enum QuantityToChineseError {
+    /// A number in it is 10^16 or more, and the method is `Low`.
+    Overflow,
+    /// The same, and the quantity is below zero.
+    Underflow,
+    /// The denominator is 0.
+    ZeroDenominator,
+}
+
+impl Display for QuantityToChineseError {
+    fn fmt(&self, f: &mut Formatter<'_>) -> fmt::Result {
+        f.write_str(match self {
+            Self::Overflow => "number is too large",
+            Self::Underflow => "number is too small",
+            Self::ZeroDenominator => "the denominator is 0",
+        })
+    }
+}
+
+impl core::error::Error for QuantityToChineseError {}
+
+impl Quantity {
+    /// Writes the quantity by a method: 三点一四, 百分之十二点五, 三分之一. One whose denominator is not
+    /// one of its form is written as a fraction. `chinese_to_quantity` reads the text as the same
+    /// numerator and denominator.
+    ///
+    /// # Errors
+    ///
+    /// A denominator of 0 is refused, and by `Low` a quantity with a number in it of 10^16 or more.
+    ///
+    /// ```rust
+    /// use chinese_number::{
+    ///     ChineseCase, ChineseCountMethod, ChineseVariant, Quantity, QuantityToChineseError,
+    /// };
+    ///
+    /// let written = |quantity: Quantity| {
+    ///     let method = ChineseCountMethod::TenThousand;
+    ///     quantity.to_chinese(ChineseVariant::Simple, ChineseCase::Lower, method)
+    /// };
+    /// assert_eq!(written(Quantity::percent(125, 1).unwrap()).unwrap(), "百分之十二点五");
+    /// assert_eq!(written(Quantity::fraction(-1, 3).unwrap()).unwrap(), "负三分之一");
+    /// let over_zero = Quantity { denominator: 0, ..Quantity::fraction(1, 3).unwrap() };
+    /// assert_eq!(written(over_zero), Err(QuantityToChineseError::ZeroDenominator));
+    /// ```
+    #[inline]
+    pub fn to_chinese(
+        self,
+        chinese_variant: ChineseVariant,
+        chinese_case: ChineseCase,
+        method: ChineseCountMethod,
+    ) -> Result<String, QuantityToChineseError> {
+        Room::new().quantity(chinese_variant, chinese_case, method, self).map(String::from)
+    }
+
+    /// Writes the quantity in figures, without the zeros at the end of its decimals.
+    ///
+    /// ```rust
+    /// use chinese_number::Quantity;
+    ///
+    /// assert_eq!(Quantity::decimal(350_000, 1).unwrap().to_figures(), "35000");
+    /// assert_eq!(Quantity::percent(-125, 1).unwrap().to_figures(), "-12.5%");
+    /// assert_eq!(Quantity::fraction(1, 3).unwrap().to_figures(), "1/3");
+    /// ```
+    #[inline]
+    #[must_use]
+    pub fn to_figures(self) -> String {
+        Room::new().figures(self).into()
+    }
 }
 
 /// How an amount of money is written, where cheques differ.

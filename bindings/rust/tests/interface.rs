@@ -194,6 +194,10 @@ fn traits() {
     is_an_error::<FiguresError>();
     is_a_value::<BillDate>();
     is_a_value::<AmountForm>();
+    is_a_value::<Quantity>();
+    is_a_value::<QuantityForm>();
+    is_a_value::<Included>();
+    is_an_error::<QuantityToChineseError>();
     is_an_error::<DateToChineseError>();
     is_an_error::<ChineseToDateError>();
     has_a_hash::<ChineseVariant>();
@@ -201,6 +205,9 @@ fn traits() {
     has_a_hash::<ChineseCountMethod>();
     has_a_hash::<Unit>();
     has_a_hash::<Wanted>();
+    has_a_hash::<Quantity>();
+    has_a_hash::<QuantityForm>();
+    has_a_hash::<Included>();
     has_a_hash::<BillDate>();
     has_a_hash::<AmountForm>();
     assert!(Unit::Wan < Unit::Yi);
@@ -216,7 +223,7 @@ fn methods_in_their_order() {
 #[test]
 fn texts_of_errors() {
     use ChineseToNumberError::*;
-    let rows: [(&dyn Display, &str); 16] = [
+    let rows: [(&dyn Display, &str); 19] = [
         (&ChineseNumberEmpty, "a chinese number cannot be empty"),
         (
             &ChineseNumberIncorrect { char_index: 12 },
@@ -226,6 +233,9 @@ fn texts_of_errors() {
         (&Underflow, "number is too small"),
         (&NumberToChineseError::Overflow, "number is too large"),
         (&NumberToChineseError::Underflow, "number is too small"),
+        (&QuantityToChineseError::Overflow, "number is too large"),
+        (&QuantityToChineseError::Underflow, "number is too small"),
+        (&QuantityToChineseError::ZeroDenominator, "the denominator is 0"),
         (&AmountToChineseError::Overflow, "number is too large"),
         (&AmountToChineseError::Underflow, "number is too small"),
         (&ChineseToAmountError::Unfinished, "the amount is not finished"),

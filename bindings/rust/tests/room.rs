@@ -24,6 +24,21 @@ fn numbers() {
 }
 
 #[test]
+fn quantities() {
+    let mut room = Room::new();
+    let greatest = Quantity::fraction(i128::MIN, u128::MAX);
+    for quantity in [Quantity::percent(-125, 1), greatest].into_iter().flatten() {
+        assert_eq!(room.figures(quantity), quantity.to_figures());
+        for (script, case) in SCRIPTS.into_iter().flat_map(|it| CASES.map(|case| (it, case))) {
+            for method in ChineseCountMethod::variants() {
+                let text = quantity.to_chinese(script, case, method);
+                assert_eq!(room.quantity(script, case, method, quantity).map(String::from), text);
+            }
+        }
+    }
+}
+
+#[test]
 fn amounts() {
     let mut room = Room::new();
     for fen in [0, 140_950, 999_999_999_999_999_999, 1_000_000_000_000_000_000] {

@@ -128,6 +128,10 @@ CN_UNFINISHED = 9
 abbrev pub CN_NOT_A_DATE : ℕ
 CN_NOT_A_DATE = 11
 
+-- the denominator of the quantity is 0
+abbrev pub CN_NOT_A_QUANTITY : ℕ
+CN_NOT_A_QUANTITY = 12
+
 -- the status that tells a refusal
 abbrev pub refusal_status : Refusal → ℕ
 refusal_status empty = CN_EMPTY

@@ -1,5 +1,6 @@
--- What a call that reads quantities answers.
-use Rattle.std.specs.Prelude.{◌≡◌, ℕ, pos, Bool, true, false, List, Option, Some, None, Result, Ok, Err, slice_get}
+-- Quantities as C has them, and what a call that reads them answers.
+use Rattle.std.specs.Prelude.{◌≡◌, ℕ, pos, Bool, true, false, List, [], ◌∷◌, Option, Some, None, Result, Ok, Err, slice_get}
+use Rattle.std.specs.Option.{option_map}
 use Rattle.std.specs.Bool.{MatchBool}
 use Rattle.std.specs.Str.{is_utf8}
 use Rattle.chinese_number.specs.declared.ChineseCountMethod.{ChineseCountMethod}
@@ -12,8 +13,8 @@ use Rattle.cn_quantity.specs.declared.quantity.QuantityForm.TheVariants.{Whole, 
 use Rattle.cn_quantity.specs.Reading.{quantity_answer}
 use Rattle.cn_c.specs.declared.quantity.Quantity.{Quantity}
 use Rattle.cn_c.specs.Codes.{ways, refusal_status, CN_DONE, CN_NOT_UTF8, CN_UNKNOWN}
-use Rattle.cn_c.specs.Halves.{number_of}
-use Rattle.cn_c.specs.Reads.{refusal_told}
+use Rattle.cn_c.specs.Halves.{bits_of, number_of}
+use Rattle.cn_c.specs.Reads.{chars_in_front, bytes_in_front}
 
 -- the method that a way with units has
 abbrev pub method_of : Option Way → Option ChineseCountMethod
@@ -26,6 +27,20 @@ form_code Whole = 0
 form_code Decimal = 1
 form_code Percent = 2
 form_code Fraction = 3
+
+-- the forms, in the order of their codes
+abbrev pub quantity_forms : List QuantityForm
+quantity_forms = Whole ∷ Decimal ∷ Percent ∷ Fraction ∷ []
+
+-- the quantity that halves and the code of a form are, if it names one
+abbrev pub quantity_of : Quantity → Option ExactQuantity
+quantity_of told =
+    option_map (λ form. record {
+      numerator = number_of true told.numerator;
+      denominator = bits_of told.denominator;
+      form = form;
+    })
+    (slice_get quantity_forms told.form)
 
 -- what is told where there is no quantity
 abbrev pub no_quantity : ℕ → ℕ → Quantity
@@ -50,8 +65,7 @@ abbrev pub TellsQuantity : List ℕ → Result ExactQuantity Refusal → ℕ →
 TellsQuantity text (Ok quantity) status told = (status ≡ CN_DONE) × IsTold quantity told
 TellsQuantity text (Err refusal) status told =
     (status ≡ refusal_status refusal)
-    × (told ≡ no_quantity (refusal_told text refusal).char_index
-    (refusal_told text refusal).byte_index)
+    × (told ≡ no_quantity (chars_in_front refusal) (bytes_in_front text refusal))
 
 -- what is told of bytes, by the method that a code names
 abbrev pub IsQuantityReadAs : Option ChineseCountMethod → List ℕ → ℕ → Quantity → Type 0

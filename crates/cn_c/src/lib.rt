@@ -1,6 +1,6 @@
 //! Chinese numerals for C, and for languages that call C: calls that print and read whole numbers
-//! of each type by each method, find the numbers and the expressions of a text, read these as exact
-//! quantities, and print and read amounts of money and dates.
+//! of each type by each method, exact quantities, amounts of money and dates, find the numbers and
+//! the expressions of a text, and replace its quantities.
 //!
 //! `bindings/c/chinese_number.h` declares them.
 #![tactic(auto)]
@@ -15,7 +15,9 @@ mod number;
 mod place;
 mod printing;
 mod quantity;
+mod quantity_figures;
 mod quantity_form;
+mod quantity_text;
 mod reading;
 mod room;
 mod signed_amount;
@@ -34,6 +36,8 @@ pub use finding::{
 pub use number::Number;
 pub use printing::chinese_number_print;
 pub use quantity::{Quantity, chinese_quantity_read};
+pub use quantity_figures::chinese_quantity_figures;
+pub use quantity_text::chinese_quantity_print;
 pub use reading::{Reading, chinese_number_read, chinese_number_read_utf8};
 pub use signed_amount::{
     SignedAmount, chinese_figures_read, chinese_signed_amount_print, chinese_signed_amount_read,

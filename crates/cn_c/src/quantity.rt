@@ -2,18 +2,19 @@
 ghost use Rattle.std.specs.Prelude.{◌≡◌, slice_get};
 ghost use Rattle.chinese_number.specs.Answer.{answer_of};
 ghost use Rattle.cn_c.specs.Codes.{ways};
-ghost use Rattle.cn_c.specs.Quantities.{TellsQuantity, IsQuantityRead, method_of};
+ghost use Rattle.cn_c.specs.Quantities.{TellsQuantity, IsQuantityRead, method_of, quantity_of};
 
 use crate::codes::way_of;
-use crate::number::{Number, halves};
-use crate::quantity_form::form_code;
-use crate::reading::{refused, status_of};
+use crate::number::{Number, bits_of, halves, signed_number};
+use crate::quantity_form::{form_code, quantity_form_of};
+use crate::reading::tell_refusal;
 use crate::status::{DONE, NOT_UTF8, UNKNOWN};
 use chinese_number::{ChineseCountMethod, ChineseToNumberError, chinese_to_quantity};
 use cn_faces::{Way, utf8_text};
 
-/// What was read: the numbers above and below the line and the code of the form, or of the character
-/// at fault how many characters and how many bytes of the text stand in front of it.
+/// A quantity, as it is read and printed: the numbers above and below the line and the code of the
+/// form; or of the character at fault how many characters and how many bytes of the text stand in
+/// front of it.
 #[repr(C)]
 #[derive(Clone, Copy)]
 pub struct Quantity {
@@ -32,14 +33,25 @@ const NOTHING: Quantity = Quantity {
     byte_index: 0,
 };
 
-// The method of a code.
-fn method_of(code: u32) -> Option<ChineseCountMethod>
+/// The method of a code.
+pub fn method_of(code: u32) -> Option<ChineseCountMethod>
     ensures { result ≡ method_of (slice_get ways code) }
 {
     match way_of(code) {
         Some(Way::Units(method)) => Some(method),
         _ => None,
     }
+}
+
+/// The quantity that C tells, if the code of its form names one.
+pub fn quantity_of(told: &Quantity) -> Option<chinese_number::Quantity>
+    ensures { result ≡ quantity_of told.now }
+{
+    Some(chinese_number::Quantity {
+        numerator: signed_number(told.numerator),
+        denominator: bits_of(told.denominator),
+        form: quantity_form_of(told.form)?,
+    })
 }
 
 // Tells an answer to a text to C.
@@ -58,12 +70,7 @@ fn tell_quantity(
             quantity.form = form_code(exact.form);
             DONE
         }
-        Err(error) => {
-            let nothing = refused(text, error);
-            quantity.char_index = nothing.char_index;
-            quantity.byte_index = nothing.byte_index;
-            status_of(error)
-        }
+        Err(error) => tell_refusal(text, error, &mut quantity.char_index, &mut quantity.byte_index),
     }
 }
 

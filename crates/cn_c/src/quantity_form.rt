@@ -1,6 +1,6 @@
 // The codes of how a quantity is written.
-ghost use Rattle.std.specs.Prelude.{◌≡◌};
-ghost use Rattle.cn_c.specs.Quantities.{form_code};
+ghost use Rattle.std.specs.Prelude.{◌≡◌, slice_get};
+ghost use Rattle.cn_c.specs.Quantities.{form_code, quantity_forms};
 
 use chinese_number::QuantityForm;
 
@@ -25,5 +25,18 @@ pub fn form_code(form: QuantityForm) -> u32
         QuantityForm::Decimal => DECIMAL,
         QuantityForm::Percent => PERCENT,
         QuantityForm::Fraction => FRACTION,
+    }
+}
+
+/// The form of a code.
+pub fn quantity_form_of(code: u32) -> Option<QuantityForm>
+    ensures { result ≡ slice_get quantity_forms code }
+{
+    match code {
+        WHOLE => Some(QuantityForm::Whole),
+        DECIMAL => Some(QuantityForm::Decimal),
+        PERCENT => Some(QuantityForm::Percent),
+        FRACTION => Some(QuantityForm::Fraction),
+        _ => None,
     }
 }

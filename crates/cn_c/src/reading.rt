@@ -1,10 +1,9 @@
 // Reading.
 ghost use Rattle.std.specs.Prelude.{◌≡◌, IsUtf8};
 ghost use Rattle.chinese_number.specs.Answer.{answer_of, refusal_of};
-ghost use Rattle.cn_c.specs.Codes.{refusal_status};
 ghost use Rattle.cn_c.specs.Halves.{FitsHalves};
 ghost use Rattle.cn_c.specs.Kinds.{the_kind};
-ghost use Rattle.cn_c.specs.Reads.{Answers, ReadsInto, Tells, IsRead, refusal_told};
+ghost use Rattle.cn_c.specs.Reads.{Answers, ReadsInto, Tells, TellsRefusal, IsRead};
 
 use crate::codes::{Kind, ReadingWay, kind_of, reading_way_of};
 use crate::number::{Number, halves};
@@ -30,29 +29,25 @@ const NOTHING: Reading = Reading {
     byte_index: 0,
 };
 
-/// The status that tells a refusal.
-pub fn status_of(error: ChineseToNumberError) -> u32
-    ensures { result ≡ refusal_status (refusal_of error) }
+/// Tells why a text is refused: the status, and where the character at fault stands.
+pub fn tell_refusal(
+    text: &str,
+    error: ChineseToNumberError,
+    chars: &mut usize,
+    bytes: &mut usize,
+) -> u32
+    ensures { TellsRefusal text.now (refusal_of error) result chars.new bytes.new }
 {
+    (*chars, *bytes) = (0, 0);
     match error {
         ChineseToNumberError::ChineseNumberEmpty => EMPTY,
-        ChineseToNumberError::ChineseNumberIncorrect { .. } => INCORRECT,
+        ChineseToNumberError::ChineseNumberIncorrect { char_index } => {
+            *chars = char_index;
+            *bytes = byte_index(text, char_index);
+            INCORRECT
+        }
         ChineseToNumberError::Overflow => TOO_LARGE,
         ChineseToNumberError::Underflow => TOO_SMALL,
-    }
-}
-
-/// What is told of a text that is refused.
-pub fn refused(text: &str, error: ChineseToNumberError) -> Reading
-    ensures { result ≡ refusal_told text.now (refusal_of error) }
-{
-    match error {
-        ChineseToNumberError::ChineseNumberIncorrect { char_index } => Reading {
-            number: NOTHING.number,
-            char_index,
-            byte_index: byte_index(text, char_index),
-        },
-        _ => NOTHING,
     }
 }
 
@@ -67,10 +62,7 @@ fn tell<T: Whole>(text: &str, answer: Result<T, ChineseToNumberError>, reading: 
             reading.number = halves(value);
             DONE
         }
-        Err(error) => {
-            *reading = refused(text, error);
-            status_of(error)
-        }
+        Err(error) => tell_refusal(text, error, &mut reading.char_index, &mut reading.byte_index),
     }
 }
 

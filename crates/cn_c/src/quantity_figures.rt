@@ -1,0 +1,28 @@
+// Printing quantities in figures.
+ghost use Rattle.std.specs.Prelude.{◌≤◌};
+ghost use Rattle.cn_c.specs.QuantityPrints.{IsFiguresPrinted};
+
+use crate::quantity::{Quantity, quantity_of};
+use crate::room::put_text;
+use crate::status::UNKNOWN;
+use cn_express::{MOST_FIGURES_BYTES, put_figures};
+
+/// Prints a quantity in figures into the caller's room, where 80 bytes are enough for any.
+///
+/// Writes `*len`, and the bytes in front of it where the text fits; all else in the room stays.
+#[unsafe(no_mangle)]
+pub extern "C" fn chinese_quantity_figures(
+    quantity: &Quantity,
+    room: &mut [u8],
+    len: &mut usize,
+) -> u32
+    ensures printed { IsFiguresPrinted quantity.now room.old result room.new len.new }
+    ensures bound { len.new ≤ 80 }
+{
+    *len = 0;
+    let Some(quantity) = quantity_of(quantity) else {
+        return UNKNOWN;
+    };
+    let mut scratch = [0; MOST_FIGURES_BYTES];
+    put_text(put_figures(&mut scratch, quantity).as_bytes(), room, len)
+}

@@ -1,0 +1,41 @@
+// The quantities of a text, replaced.
+ghost use Rattle.cn_c.specs.Replaces.{IsReplaced};
+
+use crate::codes::{unit_of, upper_of};
+use crate::flags::included_of;
+use crate::quantity::method_of;
+use crate::status::{DONE, NO_ROOM, NOT_UTF8, UNKNOWN};
+use chinese_number::Wanted;
+use cn_faces::utf8_text;
+use cn_replace::put_quantities_in_figures;
+
+/// Puts a text into the caller's room with its quantities in figures, but for those that are about so
+/// much or one Chinese character, where the flags do not include them.
+///
+/// Writes `*len`, and to the room: where the new text fits it stands at the start of the room.
+#[unsafe(no_mangle)]
+pub extern "C" fn chinese_quantities_to_figures(
+    text: &[u8],
+    upper: u32,
+    greatest: u32,
+    method: u32,
+    included: u32,
+    room: &mut [u8],
+    len: &mut usize,
+) -> u32
+    ensures { IsReplaced text.now upper greatest method included room.old result room.new len.new }
+{
+    *len = 0;
+    let (Some(upper), Some(greatest)) = (upper_of(upper), unit_of(greatest)) else {
+        return UNKNOWN;
+    };
+    let (Some(method), Some(included)) = (method_of(method), included_of(included)) else {
+        return UNKNOWN;
+    };
+    let Some(text) = utf8_text(text) else {
+        return NOT_UTF8;
+    };
+    let wanted = Wanted { upper, greatest };
+    *len = put_quantities_in_figures(room, text, wanted, method, included);
+    if *len <= room.len() { DONE } else { NO_ROOM }
+}
