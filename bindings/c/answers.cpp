@@ -58,11 +58,23 @@ std::string shown(T number) {
     return is_negative ? '-' + figures(-wide) : figures(wide);
 }
 
+const char *const quantity_forms[] = {"whole", "decimal", "percent", "fraction"};
+
 std::string shown(const Quantity &quantity) {
-    static const char *const forms[] = {"whole", "decimal", "percent", "fraction"};
     return shown(detail::of_halves<Signed>(quantity.numerator)) + '/'
          + shown(detail::of_halves<Unsigned>(quantity.denominator)) + ' '
-         + forms[static_cast<std::size_t>(quantity.form)];
+         + quantity_forms[static_cast<std::size_t>(quantity.form)];
+}
+
+/* The quantity of words as 350000/10 decimal. */
+Quantity quantity_of(const std::string &words) {
+    const std::size_t line = words.find('/'), blank = words.find(' ');
+    const std::string numerator = words.substr(0, line), denominator = words.substr(line + 1, blank - line - 1);
+    std::uint32_t form = 0;
+    while (words.substr(blank + 1) != quantity_forms[form])
+        form++;
+    return {detail::halves_of(number_of<Signed>(numerator)), detail::halves_of(number_of<Unsigned>(denominator)),
+            static_cast<QuantityForm>(form)};
 }
 
 template <typename Value>
@@ -95,10 +107,18 @@ std::string print_signed_amount(const std::string &script, const std::string &fe
     return told(signed_amount_to_chinese(number_of<std::int64_t>(fen), {}, scripts.at(script)));
 }
 
+bool has(const std::string &words, const char *word) {
+    return words.find(word) != std::string::npos;
+}
+
 /* The form of words with + between them; `plain` is none of them. */
 AmountForm form_of(const std::string &words) {
-    const auto has = [&](const char *word) { return words.find(word) != std::string::npos; };
-    return {has("currency"), has("round_yuan"), has("upright_closing")};
+    return {has(words, "currency"), has(words, "round_yuan"), has(words, "upright_closing")};
+}
+
+/* What is included, likewise; `none` is nothing. */
+Included included_of(const std::string &words) {
+    return {has(words, "about"), has(words, "one+") || has(words, "+one") || words == "one"};
 }
 
 std::string print_date(const std::string &script, const std::string &figures_of_date) {
@@ -137,6 +157,16 @@ std::string in_place(const std::string &text, Numbers runs, std::string (*shown_
     return done + text.substr(at);
 }
 
+std::string print_quantity(const Words &words) {
+    const Style style = {ways.at(words[1]), scripts.at(words[2]), cases.at(words[3])};
+    return told(quantity_of(words[4]).to_chinese(style));
+}
+
+std::optional<std::string> in_numerals(const Found &found) {
+    const Result<Quantity> quantity = found.quantity();
+    return quantity->form == QuantityForm::fraction ? std::nullopt : quantity->to_chinese().optional();
+}
+
 std::string of_kind(const Words &words) {
     return kinds.at(words[1])(words);
 }
@@ -163,6 +193,17 @@ const std::map<std::string, std::string (*)(const Words &)> calls = {
      [](const Words &words) { return told(chinese_to_quantity(words[2], ways.at(words[1]))); }},
     {"find_quantities",
      [](const Words &words) { return in_place(words[1], find_quantities(words[1]), quantity_told); }},
+    {"print_quantity", print_quantity},
+    {"quantity_figures", [](const Words &words) { return "ok " + quantity_of(words[1]).to_figures(); }},
+    {"trim_quantity", [](const Words &words) { return "ok " + shown(quantity_of(words[1]).trimmed()); }},
+    {"quantities_to_figures",
+     [](const Words &words) {
+         return told(quantities_to_figures(words[2], {}, Way::ten_thousand, included_of(words[1])));
+     }},
+    {"replace_quantities",
+     [](const Words &words) {
+         return told(replace_quantities(words[2], in_numerals, {}, Way::ten_thousand, included_of(words[1])));
+     }},
 };
 
 } // namespace

@@ -1,4 +1,5 @@
-/* Prints a number, an amount and a date, reads them back, finds the numbers of a text, and meets each status. */
+/* Prints a number, a quantity, an amount and a date, reads them back, finds the numbers of a text, replaces its quantities,
+ * and meets each status. */
 #include "chinese_number.h"
 
 #include <stdio.h>
@@ -28,6 +29,18 @@ static void first_steps(void) {
     while (cn_find_next(sentence, strlen(sentence), 0, CN_ZHAO, &span) == CN_DONE)
         if (cn_read_found(sentence, &span, CN_I64, CN_TEN_THOUSAND, &reading) == CN_DONE)
             printf("%lld\n", (long long)reading.number.low); /* 50 */
+
+    char quantity_text[CN_MOST_QUANTITY_BYTES + 1];
+    cn_quantity quantity;
+    if (cn_read_quantity("12.5%", 5, CN_TEN_THOUSAND, &quantity) == CN_DONE
+        && cn_print_quantity(&quantity, CN_TEN_THOUSAND, CN_SIMPLIFIED, CN_LOWER, quantity_text, sizeof quantity_text) == CN_DONE)
+        puts(quantity_text); /* 百分之十二点五 */
+    char figures[64];
+    size_t length;
+    const char with_quantities[] = "共3.5万元，剩三分之一";
+    if (cn_quantities_to_figures(with_quantities, strlen(with_quantities), 0, CN_ZHAO, CN_TEN_THOUSAND, 0, figures,
+                                 sizeof figures, &length) == CN_DONE)
+        puts(figures); /* 共35000元，剩1/3 */
 
     char capitals[CN_MOST_SIGNED_AMOUNT_BYTES + 1];
     cn_amount amount;
@@ -110,6 +123,79 @@ static void each_status_of_quantities(void) {
     is_quantity("\xff", CN_TEN_THOUSAND, CN_NOT_UTF8, 0, 0, 0, 0, 0);
     is_quantity("一", CN_DIGITS, CN_UNKNOWN, 0, 0, 0, 0, 0);
     is_quantity("一", CN_ANY, CN_UNKNOWN, 0, 0, 0, 0, 0);
+}
+
+/* Prints a quantity into a room of this length, with this status and length; the text is this one. */
+static void prints_quantity(cn_quantity quantity, uint32_t method, uint32_t script, uint32_t letter_case, size_t room_length,
+                            uint32_t status, size_t wanted, const char *text) {
+    uint8_t room[CN_MOST_QUANTITY_BYTES], untouched[CN_MOST_QUANTITY_BYTES];
+    size_t length, written = status == CN_DONE ? wanted : 0;
+    uint32_t found;
+    memset(room, 7, sizeof room);
+    memset(untouched, 7, sizeof untouched);
+    found = chinese_quantity_print(&quantity, method, script, letter_case, room, room_length, &length);
+    expect(text, found == status && length == wanted && memcmp(room, text, written) == 0
+                     && memcmp(room + written, untouched, sizeof room - written) == 0);
+}
+
+/* Prints it in figures, likewise. */
+static void prints_figures(cn_quantity quantity, size_t room_length, uint32_t status, size_t wanted, const char *text) {
+    uint8_t room[CN_MOST_FIGURES_BYTES], untouched[CN_MOST_FIGURES_BYTES];
+    size_t length, written = status == CN_DONE ? wanted : 0;
+    memset(room, 7, sizeof room);
+    memset(untouched, 7, sizeof untouched);
+    expect(text, chinese_quantity_figures(&quantity, room, room_length, &length) == status && length == wanted
+                     && memcmp(room, text, written) == 0
+                     && memcmp(room + written, untouched, sizeof room - written) == 0);
+}
+
+static void each_status_of_printing_quantities(void) {
+    const uint32_t ten_thousand = CN_TEN_THOUSAND, simple = CN_SIMPLIFIED, lower = CN_LOWER;
+    const size_t most = CN_MOST_QUANTITY_BYTES;
+    const cn_quantity decimal = {{314, 0}, {100, 0}, CN_DECIMAL, 5, 7}, over_zero = {{1, 0}, {0, 0}, CN_FRACTION, 0, 0};
+    const cn_quantity no_form = {{1, 0}, {1, 0}, CN_FRACTION + 1, 0, 0}, large = {{1, 0}, {0, 1}, CN_FRACTION, 0, 0};
+    const cn_quantity small = {{UINT64_MAX, UINT64_MAX}, {0, 1}, CN_FRACTION, 0, 0};
+    const cn_quantity least = {{0, UINT64_C(1) << 63}, {UINT64_MAX, UINT64_MAX}, CN_FRACTION, 0, 0};
+    prints_quantity(decimal, ten_thousand, simple, lower, 12, CN_DONE, 12, "三点一四");
+    prints_quantity(decimal, ten_thousand, simple, lower, 11, CN_NO_ROOM, 12, "a room that is a byte too small");
+    prints_quantity(decimal, ten_thousand, simple, lower, 0, CN_NO_ROOM, 12, "a room without a byte");
+    prints_quantity(large, CN_LOW, simple, lower, most, CN_TOO_LARGE, 0, "a divisor too large for the method");
+    prints_quantity(small, CN_LOW, simple, lower, most, CN_TOO_SMALL, 0, "the same below 0");
+    prints_quantity(over_zero, ten_thousand, simple, lower, most, CN_NOT_A_QUANTITY, 0, "a quantity over 0");
+    prints_quantity(over_zero, CN_DIGITS, simple, lower, most, CN_UNKNOWN, 0, "a way that is no method");
+    prints_quantity(over_zero, CN_ANY, simple, lower, most, CN_UNKNOWN, 0, "a way to read alone");
+    prints_quantity(over_zero, ten_thousand, simple + 1, lower, most, CN_UNKNOWN, 0, "an unknown script");
+    prints_quantity(over_zero, ten_thousand, simple, lower + 1, most, CN_UNKNOWN, 0, "an unknown case");
+    prints_quantity(no_form, ten_thousand, simple, lower, most, CN_UNKNOWN, 0, "an unknown form");
+    prints_figures(decimal, 4, CN_DONE, 4, "3.14");
+    prints_figures(decimal, 3, CN_NO_ROOM, 4, "a room too small for figures");
+    prints_figures(over_zero, 3, CN_DONE, 3, "1/0");
+    prints_figures(no_form, CN_MOST_FIGURES_BYTES, CN_UNKNOWN, 0, "an unknown form in figures");
+    prints_figures(least, CN_MOST_FIGURES_BYTES, CN_DONE, CN_MOST_FIGURES_BYTES,
+                   "-170141183460469231731687303715884105728/340282366920938463463374607431768211455");
+}
+
+/* Replaces the quantities of a text, in a room of this length, with this status and length; the new text is this one. */
+static void replaces(const char *text, uint32_t method, uint32_t included, size_t room_length, uint32_t status, size_t wanted,
+                     const char *new_text) {
+    uint8_t room[64];
+    size_t length;
+    uint32_t found = chinese_quantities_to_figures((const uint8_t *)text, strlen(text), 0, CN_ZHAO, method, included, room,
+                                                   room_length, &length);
+expect(new_text, found == status && length == wanted && (found != CN_DONE || memcmp(room, new_text, wanted) == 0));
+}
+
+static void each_status_of_replacing(void) {
+    const uint32_t both = CN_ABOUT | CN_ONE_CHARACTER;
+    replaces("共3.5万元", CN_TEN_THOUSAND, 0, 11, CN_DONE, 11, "共35000元");
+    replaces("共3.5万元", CN_TEN_THOUSAND, 0, 10, CN_NO_ROOM, 11, "a room that is a byte too small");
+    replaces("共3.5万元", CN_TEN_THOUSAND, 0, 0, CN_NO_ROOM, 11, "a room without a byte");
+    replaces("一亿", CN_LOW, 0, 64, CN_DONE, 6, "100000");
+    replaces("十几，一般", CN_TEN_THOUSAND, both, 64, CN_DONE, 12, "10几，1般");
+    replaces("", CN_TEN_THOUSAND, 0, 0, CN_DONE, 0, "");
+    replaces("\xff", CN_TEN_THOUSAND, 0, 64, CN_NOT_UTF8, 0, "no UTF-8");
+    replaces("一", CN_DIGITS, 0, 64, CN_UNKNOWN, 0, "a way that is no method");
+    replaces("一", CN_TEN_THOUSAND, both | CN_STANDS_ALONE, 64, CN_UNKNOWN, 0, "a flag that is not to be included");
 }
 
 /* Finds each expression of a text. */
@@ -293,7 +379,7 @@ static void texts_of_char(void) {
                                              && room[0] == 0);
     expect("a zero byte inside", cn_read("一\0二", 7, CN_U8, CN_DIGITS, &reading) == CN_INCORRECT
                                      && reading.char_index == 1 && reading.byte_index == 3);
-    for (uint32_t status = CN_DONE; status <= CN_NOT_A_DATE; status++)
+    for (uint32_t status = CN_DONE; status <= CN_NOT_A_QUANTITY; status++)
         expect("a status has words of its own", strcmp(cn_status_text(status), cn_status_text(status + 1)) != 0);
 }
 
@@ -309,6 +395,26 @@ static void amounts_of_char(void) {
     expect("no amount in the room", cn_print_amount(UINT64_MAX, CN_SIMPLIFIED, CN_PLAIN, room, 10) == CN_TOO_LARGE
                                         && room[0] == 0);
     expect("a zero byte in an amount", cn_read_amount("壹\0元整", 10, &amount) == CN_INCORRECT && amount.char_index == 1);
+}
+
+/* The same of quantities. */
+static void quantities_of_char(void) {
+    const cn_quantity half = {{5, 0}, {10, 0}, CN_DECIMAL, 0, 0}, over_zero = {{5, 0}, {0, 0}, CN_DECIMAL, 0, 0};
+    size_t length;
+    char room[12];
+    memset(room, 7, sizeof room);
+    cn_status status = cn_print_quantity(&half, CN_LOW, CN_SIMPLIFIED, CN_LOWER, room, 9);
+    expect("a room of the quantity alone", status == CN_NO_ROOM && room[0] == 0 && room[1] == 7);
+    status = cn_print_quantity(&half, CN_LOW, CN_SIMPLIFIED, CN_LOWER, room, 10);
+    expect("a zero byte behind a quantity", status == CN_DONE && strcmp(room, "零点五") == 0 && room[10] == 7);
+    status = cn_print_quantity(&over_zero, CN_LOW, CN_SIMPLIFIED, CN_LOWER, room, 10);
+    expect("no quantity in the room", status == CN_NOT_A_QUANTITY && room[0] == 0);
+    status = cn_quantity_figures(&half, room, 4);
+    expect("a zero byte behind figures", status == CN_DONE && strcmp(room, "0.5") == 0);
+    status = cn_quantities_to_figures("廿三", 6, 0, CN_ZHAO, CN_LOW, 0, room, 2, &length);
+    expect("a room of the new text alone", status == CN_NO_ROOM && length == 2 && room[0] == 0);
+    status = cn_quantities_to_figures("廿三", 6, 0, CN_ZHAO, CN_LOW, 0, room, 3, &length);
+    expect("a zero byte behind a new text", status == CN_DONE && length == 2 && strcmp(room, "23") == 0);
 }
 
 /* The same of dates. */
@@ -331,11 +437,14 @@ static void null_of_char(void) {
     cn_amount amount;
     cn_date date;
     cn_span span = {0, 0, 0};
+    size_t length;
     expect("no text", cn_read(NULL, 0, CN_U8, CN_ANY, &reading) == CN_EMPTY);
     expect("no amount", cn_read_amount(NULL, 0, &amount) == CN_UNFINISHED);
     expect("no date", cn_read_date(NULL, 0, &date) == CN_UNFINISHED);
     expect("nothing to find", cn_find_next(NULL, 0, 0, CN_ZHAO, &span) == CN_NONE && span.end == 0);
     expect("no room", cn_print(number, CN_U8, CN_LOW, CN_SIMPLIFIED, CN_UPPER, NULL, 0) == CN_NO_ROOM);
+    expect("nothing to replace", cn_quantities_to_figures(NULL, 0, 0, CN_ZHAO, CN_LOW, 0, NULL, 0, &length) == CN_DONE);
+    expect("no room for a new text", cn_quantities_to_figures("一", 3, 0, CN_ZHAO, CN_LOW, 0, NULL, 0, &length) == CN_NO_ROOM);
     expect("no room for an amount", cn_print_amount(1, CN_SIMPLIFIED, CN_PLAIN, NULL, 0) == CN_NO_ROOM);
     expect("no room for a date", cn_print_date(5, 3, 1, CN_SIMPLIFIED, NULL, 0) == CN_NO_ROOM);
 }
@@ -345,6 +454,7 @@ int main(void) {
     numbers_of_a_text();
     quantities_of_a_text();
     texts_of_char();
+    quantities_of_char();
     amounts_of_char();
     dates_of_char();
     null_of_char();
@@ -353,6 +463,8 @@ int main(void) {
     each_status_of_printing();
     each_status_of_finding();
     each_status_of_quantities();
+    each_status_of_printing_quantities();
+    each_status_of_replacing();
     each_status_of_printing_amounts();
     each_status_of_reading_amounts();
     each_status_of_printing_dates();

@@ -1,5 +1,5 @@
-/* Numbers, amounts and dates by chinese_number.hpp: the first steps, and what the rows of test.py do
- * not ask. */
+/* Numbers, quantities, amounts and dates by chinese_number.hpp: the first steps, and what the rows of
+ * test.py do not ask. */
 #include "chinese_number.hpp"
 
 #include <iostream>
@@ -26,6 +26,10 @@ void first_steps() {
             std::cout << *number << '\n'; // 50
     if (auto it = to_number<unsigned>("二十十"); !it)
         std::cout << it.error().message() << '\n'; // the chinese number is incorrect (position: 1)
+
+    if (auto quantity = chinese_to_quantity("12.5%"))
+        std::cout << quantity->to_chinese().value_or("") << '\n'; // 百分之十二点五
+    std::cout << quantities_to_figures("共3.5万元，剩三分之一").value_or("") << '\n'; // 共35000元，剩1/3
 
     AmountForm form;
     form.currency = true;
@@ -62,6 +66,44 @@ void numbers() {
     expect("its text", to_chinese(*halves, CN_U128, traditional).value_or("") == "三百四十澗");
 }
 
+void quantities() {
+    const Quantity half = {{1, 0}, {2, 0}, QuantityForm::fraction}, over_zero = {{1, 0}, {0, 0}, QuantityForm::whole};
+    const Style digits = {Way::digits, Script::simplified, Case::lower};
+    const Style low = {Way::low, Script::simplified, Case::lower};
+    const auto quantity_of = [](const char *text) { return *chinese_to_quantity(text); };
+    expect("no whole number", !half.to_whole<int>() && !over_zero.to_whole<int>());
+    expect("over 0", is_refused(over_zero.to_chinese(), Status::not_a_quantity));
+    expect("no method", is_refused(half.to_chinese(digits), Status::unknown));
+    expect("a method of small numbers", is_refused(quantity_of("-10000000000000000").to_chinese(low), Status::too_small));
+    expect("a whole number", quantity_of("3.5万").to_whole<int>() == 35000);
+    expect("one below 0", quantity_of("-300%").to_whole<std::int8_t>() == -3);
+    expect("none below 0", !quantity_of("-300%").to_whole<unsigned>());
+    expect("a type that holds it", quantity_of("128").to_whole<std::uint8_t>() == 128);
+    expect("a type that does not", !quantity_of("128").to_whole<std::int8_t>());
+    const char *const least = "-170141183460469231731687303715884105728";
+    expect("the least number", quantity_of(least).to_figures() == least && !quantity_of(least).to_whole<std::int64_t>());
+    expect("equal by all three", quantity_of("3.50").trimmed() == quantity_of("3.5"));
+    expect("two quantities", quantity_of("3.50") != quantity_of("3.5") && quantity_of("50%") != quantity_of("百分之五十"));
+}
+
+void replaced_quantities() {
+    std::vector<std::string> asked;
+    const auto note = [&](const Found &found) {
+        asked.emplace_back(found.text);
+        return found.text == "5%" ? std::nullopt : std::optional<std::string>("?");
+    };
+    const Result<std::string> noted = replace_quantities("十几个，3万，5%，1.2.3，一般", note);
+    expect("what is asked for", noted.value_or("") == "十几个，?，5%，1.2.3，一般");
+    expect("in order", asked == std::vector<std::string>{"3万", "5%"});
+    const auto removed = [](const Found &) { return ""; };
+    expect("a text with its end", replace_quantities("3万元", removed).value_or("") == "元");
+    expect("no UTF-8 to replace", is_refused(replace_quantities("一\xff", removed), Status::not_utf8));
+    expect("no method to replace by", is_refused(replace_quantities("一", removed, {}, Way::any), Status::unknown));
+    expect("no UTF-8 for figures", is_refused(quantities_to_figures("\xff"), Status::not_utf8));
+    expect("no method for figures", is_refused(quantities_to_figures("一", {}, Way::digits), Status::unknown));
+    expect("a longer text", quantities_to_figures("一百亿").value_or("") == "10000000000");
+}
+
 void found_numbers() {
     const Numbers numbers_of_text = find_numbers("第二十三回，二零二五年");
     const std::vector<Found> found(numbers_of_text.begin(), numbers_of_text.end());
@@ -84,6 +126,8 @@ void found_numbers() {
 int main() {
     first_steps();
     numbers();
+    quantities();
+    replaced_quantities();
     found_numbers();
     return failed != 0;
 }
