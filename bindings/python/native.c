@@ -358,7 +358,7 @@ static PyObject *print_figures(PyObject *module, PyObject *words) {
     if (!quantity_of(words, &it))
         return NULL;
     uint32_t status = chinese_quantity_figures(&it, room, sizeof room, &length);
-    return Py_BuildValue("Is#", status, (char *)room, (Py_ssize_t)length);
+    return Py_BuildValue("IN", status, PyUnicode_DecodeUTF8((char *)room, (Py_ssize_t)length, NULL));
 }
 
 /* The text with its quantities in figures. The data are the text in UTF-8. */

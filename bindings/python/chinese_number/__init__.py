@@ -625,13 +625,6 @@ def chinese_to_date(text: str) -> date:
     return date(*fields)
 
 
-# The denominators of what has decimals.
-_POWERS = {
-    QuantityForm.DECIMAL: tuple(10**places for places in range(1, _MOST_PLACES + 1)),
-    QuantityForm.PERCENT: tuple(10**places for places in range(2, _MOST_PLACES + 1)),
-}
-
-
 def _over_power(value: Decimal) -> Tuple[int, int, QuantityForm]:
     """The numerator, the denominator and the form of a Decimal. Of one of many digits, or far from 1
     as Decimal('1E+999999999999'), they are others that 128 bits do not hold either."""
@@ -758,13 +751,10 @@ class Quantity:
         >>> to_quantity('12.50%').trimmed() == to_quantity('12.5%')
         True
         """
-        numerator, denominator, form = self.numerator, self.denominator, self.form
-        if denominator not in _POWERS.get(form, ()):
+        try:
+            return to_quantity(self.to_figures())
+        except NumeralError:  # those of a fraction are no quantity
             return self
-        least = 100 if form is QuantityForm.PERCENT else 1
-        while denominator > least and numerator % 10 == 0:
-            numerator, denominator = numerator // 10, denominator // 10
-        return Quantity(numerator, denominator, form if denominator > 1 else QuantityForm.WHOLE)
 
     def to_chinese(
         self,
