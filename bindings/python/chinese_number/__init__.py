@@ -652,7 +652,7 @@ class Quantity:
     '三分之一'
 
     Two are equal where all three are: 50% and 百分之五十 are two, of one to_fraction(). A numerator that
-    i128 does not hold, or a denominator that u128 does not, is a NumeralError.
+    i128 does not hold, and a denominator that is 0 or that u128 does not hold, is a NumeralError.
     """
 
     numerator: int
@@ -668,6 +668,8 @@ class Quantity:
         above, below = (_whole(it, "a whole number") for it in (numerator, denominator))
         _refuse_not_held(above, Kind.I128)
         _refuse_not_held(below, Kind.U128)
+        if below == 0:
+            raise NumeralError(Status.NOT_A_QUANTITY)
         of_code = tuple(QuantityForm)[_code(_FORMS, form, "form")]
         for name, value in (("numerator", above), ("denominator", below), ("form", of_code)):
             object.__setattr__(self, name, value)
@@ -709,12 +711,11 @@ class Quantity:
         >>> to_quantity('3.5万').to_whole(), to_quantity('3.5').to_whole()
         (35000, None)
         """
-        if self.denominator == 0 or self.numerator % self.denominator:
-            return None
-        return self.numerator // self.denominator
+        whole, rest = divmod(self.numerator, self.denominator)
+        return None if rest else whole
 
     def to_fraction(self) -> Fraction:
-        """Its value; a ZeroDivisionError where the denominator is 0.
+        """Its value.
 
         >>> to_quantity('百分之五十').to_fraction()
         Fraction(1, 2)
@@ -722,16 +723,14 @@ class Quantity:
         return Fraction(self.numerator, self.denominator)
 
     def to_decimal(self) -> Decimal:
-        """Its value with its decimals, exactly, whatever the precision of the context.
+        """Its value with its decimals, exactly, whatever the precision of the context; a ValueError
+        where they have no end.
 
         >>> to_quantity('三点一零').to_decimal(), to_quantity('四分之三').to_decimal()
         (Decimal('3.10'), Decimal('0.75'))
         >>> to_quantity('三分之一').to_decimal()
         Traceback (most recent call last):
         ValueError: the decimals of 1/3 have no end
-
-        It is a ValueError where its decimals have no end, and a ZeroDivisionError where the
-        denominator is 0.
         """
         value = self.to_fraction()
         places = _places_of(self.denominator)
@@ -765,8 +764,8 @@ class Quantity:
     ) -> str:
         """Its text by a method, which to_quantity reads as the same numerator and denominator; a
         percentage is read as a fraction. One whose denominator is not of its form is written as a
-        fraction. A NumeralError says why there is no text: the denominator is 0, or a number in it
-        has 17 digits or more and the method is LOW.
+        fraction. A NumeralError says why there is no text: a number in it has 17 digits or more and
+        the method is LOW.
 
         >>> to_quantity('-12.5%').to_chinese(script='traditional', case='upper')
         '負佰分之拾貳點伍'
