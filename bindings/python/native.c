@@ -358,7 +358,8 @@ static PyObject *print_figures(PyObject *module, PyObject *words) {
     if (!quantity_of(words, &it))
         return NULL;
     uint32_t status = chinese_quantity_figures(&it, room, sizeof room, &length);
-    return Py_BuildValue("IN", status, PyUnicode_DecodeUTF8((char *)room, (Py_ssize_t)length, NULL));
+    PyObject *figures = PyUnicode_DecodeUTF8((char *)room, (Py_ssize_t)length, NULL);
+    return Py_BuildValue("IN", status, figures);
 }
 
 /* The text with its quantities in figures. The data are the text in UTF-8. */
@@ -548,8 +549,9 @@ static PyMethodDef METHODS[] = {
     CALL(read_amount, METH_O), CALL(read_typed_amount, METH_O), CALL(read_signed_amount, METH_O),
     CALL(read_figures, METH_O), CALL(read_date, METH_O), CALL(print_number, METH_VARARGS),
     CALL(print_amount, METH_VARARGS), CALL(print_signed_amount, METH_VARARGS),
-    CALL(print_date, METH_VARARGS), CALL(find_numbers, METH_VARARGS), CALL(read_quantity, METH_VARARGS),
-    CALL(print_quantity, METH_VARARGS), CALL(print_figures, METH_O), CALL(find_quantities, METH_VARARGS),
+    CALL(print_date, METH_VARARGS), CALL(find_numbers, METH_VARARGS),
+    CALL(read_quantity, METH_VARARGS), CALL(print_quantity, METH_VARARGS),
+    CALL(print_figures, METH_O), CALL(find_quantities, METH_VARARGS),
     CALL(quantities_to_figures, METH_VARARGS), {NULL, NULL, 0, NULL},
 };
 

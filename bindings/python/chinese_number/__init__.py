@@ -176,8 +176,8 @@ class QuantityForm(str, Enum):
 
 class Status(Enum):
     """What a call answers. A NumeralError has one of those from EMPTY to TOO_SMALL, NOT_HELD or
-    NOT_A_QUANTITY; an AmountError has INCORRECT, UNFINISHED, TOO_LARGE or TOO_SMALL, and a DateError
-    INCORRECT, UNFINISHED or NOT_A_DATE.
+    NOT_A_QUANTITY; an AmountError has INCORRECT, UNFINISHED, TOO_LARGE or TOO_SMALL, and a
+    DateError INCORRECT, UNFINISHED or NOT_A_DATE.
     """
 
     DONE = 0
@@ -626,8 +626,8 @@ def chinese_to_date(text: str) -> date:
 
 
 def _over_power(value: Decimal) -> Tuple[int, int, QuantityForm]:
-    """The numerator, the denominator and the form of a Decimal. Of one of many digits, or far from 1
-    as Decimal('1E+999999999999'), they are others that 128 bits do not hold either."""
+    """The numerator, the denominator and the form of a Decimal. Of one of many digits, or far from
+    1 as Decimal('1E+999999999999'), they are others that 128 bits do not hold either."""
     sign, digits, exponent = value.as_tuple()
     if not isinstance(exponent, int):
         raise ValueError(f"a finite number is wanted, and not {_shown(value)}")
@@ -684,7 +684,7 @@ class Quantity:
         Traceback (most recent call last):
         TypeError: a whole number, a Decimal or a Fraction is wanted, and not 0.5
 
-        A NumeralError says that 128 bits do not hold it; NaN and the infinite ones are a ValueError.
+        A NumeralError says that 128 bits do not hold it. NaN and the infinite are a ValueError.
         """
         if isinstance(value, Decimal):
             return cls(*_over_power(value))
@@ -742,8 +742,8 @@ class Quantity:
         return Decimal(f"{digits}E-{places}")
 
     def trimmed(self) -> Quantity:
-        """The same quantity without the zeros at the end of its decimals. One without decimals, as a
-        whole number or a fraction, is the same.
+        """The same quantity without the zeros at the end of its decimals. One that has no decimals,
+        as a whole number or a fraction, is the same.
 
         >>> to_quantity('3.5万').trimmed()
         Quantity(numerator=35000, denominator=1, form=<QuantityForm.WHOLE: 'whole'>)
@@ -864,8 +864,8 @@ class Found(_Run):
 
 
 class FoundQuantity(_Run):
-    """An expression in a text, from start to end, as positions in the str; the rest is told of it as
-    of what is Found."""
+    """An expression in a text, from start to end, as positions in the str; the rest is told of it
+    as of what is Found."""
 
     __slots__ = ()
 
@@ -913,8 +913,8 @@ def find_numbers(
 def find_quantities(
     text: str, *, upper: bool = False, greatest: Union[Unit, str] = Unit.ZHAO
 ) -> Iterator[FoundQuantity]:
-    """The expressions of a text, from the first to the last: numbers with their sign, figures, point
-    and units, percentages and fractions, of the characters that find_numbers looks for.
+    """The expressions of a text, from the first to the last: numbers with their sign, figures,
+    point and units, percentages and fractions. upper and greatest are as in find_numbers.
 
     >>> [(found.start, found.text) for found in find_quantities('增长12.5%，共3.5万，剩三分之一')]
     [(2, '12.5%'), (9, '3.5万'), (15, '三分之一')]
@@ -988,8 +988,8 @@ def quantities_to_figures(
     about: bool = False,
     one_character: bool = False,
 ) -> str:
-    """The text with its quantities in figures, as Quantity.to_figures() gives them; which ones, is as
-    in replace_quantities.
+    """The text with its quantities in figures, as Quantity.to_figures() gives them: those that
+    replace_quantities gives to its function.
 
     >>> quantities_to_figures('一般共三点五万元，占三分之一')
     '一般共35000元，占1/3'
