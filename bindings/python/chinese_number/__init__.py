@@ -4,17 +4,10 @@ texts with their quantities written anew, by a proved library.
 >>> from datetime import date
 >>> from decimal import Decimal
 >>> from chinese_number import amount_to_chinese, chinese_to_amount, chinese_to_amount_as_typed
->>> from chinese_number import Quantity, chinese_to_date, date_to_chinese, find_numbers
->>> from chinese_number import find_quantities, quantities_to_figures, signed_amount_to_chinese
->>> from chinese_number import to_chinese, to_number, to_quantity, yuan_to_fen
+>>> from chinese_number import chinese_to_date, date_to_chinese, find_numbers
+>>> from chinese_number import signed_amount_to_chinese, to_chinese, to_number, yuan_to_fen
 >>> [found.value() for found in find_numbers('百分之五十的人')]
 [None, 50]
->>> [str(found.quantity().to_fraction()) for found in find_quantities('百分之五十的人，共3.5万')]
-['1/2', '35000']
->>> quantities_to_figures('共三点五万元，占三分之一')
-'共35000元，占1/3'
->>> to_quantity('12.5%').to_decimal(), Quantity.of(Decimal('3.14')).to_chinese()
-(Decimal('0.125'), '三点一四')
 >>> to_number('一百二'), to_number('一二〇'), to_number('十万五')
 (120, 120, 105000)
 >>> to_number('负一百二十九', kind='i8')
@@ -36,6 +29,18 @@ chinese_number.NumeralError: number is too small
 '贰零贰陆年零壹月壹拾伍日'
 >>> chinese_to_date('贰零贰陆年零壹月壹拾伍日')
 datetime.date(2026, 1, 15)
+>>> from chinese_number import Quantity, find_quantities, quantities_to_figures
+>>> from chinese_number import replace_quantities, to_quantity
+>>> to_quantity('3.5万').to_whole(), to_quantity('12.5%').to_decimal()
+(35000, Decimal('0.125'))
+>>> Quantity.of(Decimal('3.14')).to_chinese(), Quantity.of_percent(5).to_chinese()
+('三点一四', '百分之五')
+>>> [found.quantity().to_figures() for found in find_quantities('共三点五万，剩三分之一')]
+['35000', '1/3']
+>>> quantities_to_figures('一般共三点五万元，占１２．５０％')
+'一般共35000元，占12.5%'
+>>> replace_quantities('占12.5%', lambda found: found.quantity().to_chinese())
+'占百分之十二点五'
 
 A kind, way, script, case, unit or form is a member of its enum, or the str that the member equals.
 
@@ -211,9 +216,9 @@ class _Refusal(ValueError):
 class NumeralError(_Refusal):
     """Why a text is no number of a type or no quantity, or a number or quantity is not written.
 
-    status says why, and kind as which type, or None of a quantity; char_index, where a character
-    cannot stand in its place, how many characters of the text stand in front of it, white space
-    among them, and else None.
+    status says why, and kind as which type, which of a quantity is that of its numerator, I128;
+    char_index, where a character cannot stand in its place, how many characters of the text stand
+    in front of it, white space among them, and else None.
 
     >>> try:
     ...     to_number(' 二 十 十 ')
@@ -232,9 +237,9 @@ class NumeralError(_Refusal):
     }
 
     def __init__(
-        self, status: Status, kind: Optional[Kind] = None, char_index: Optional[int] = None
+        self, status: Status, kind: Kind = Kind.I128, char_index: Optional[int] = None
     ) -> None:
-        super().__init__(status, char_index, kind=kind and kind.value)
+        super().__init__(status, char_index, kind=kind.value)
         self.kind = kind
 
     def __reduce__(self) -> Tuple[Any, ...]:
@@ -812,7 +817,7 @@ def to_quantity(text: str, *, method: Union[Way, str] = Way.TEN_THOUSAND) -> Qua
     code, words, char_index = _library.read_quantity(_text(text), method_code)
     if code:
         status = _status(code)
-        raise NumeralError(status, None, _place(status, char_index))
+        raise NumeralError(status, char_index=_place(status, char_index))
     low, high, below_low, below_high, form = words
     above, below = _of_halves(low, high, Kind.I128), _of_halves(below_low, below_high, Kind.U128)
     return Quantity(above, below, tuple(QuantityForm)[form])
