@@ -48,7 +48,7 @@ The shared library libchinese_number.so, on macOS .dylib and on Windows .dll, st
 file, as pip puts it, or in the folder that CHINESE_NUMBER_LIB names, as bindings/archive.sh makes
 it, which comes first. It takes no memory, keeps nothing between calls and reads no locale, and a
 call lets other threads of Python run. Where it is made of C source, a text of more than
-4,293,918,720 bytes is an OverflowError.
+4,293,918,720 bytes is an OverflowError, and so is one that has as many with its new text.
 """
 
 from __future__ import annotations
