@@ -1,7 +1,8 @@
 """What the command chinese-number answers, Python's and JavaScript's alike.
 
 The rows are those of `tests/rows/command.tsv`. Each word of the tests of `cheque` has its answer or
-its refusal here too. Python's runs where the locale knows ASCII alone.
+its refusal here too, and each text of those of `numbers`. Python's runs where the locale knows ASCII
+alone.
 """
 import os
 import pty
@@ -14,6 +15,7 @@ import time
 import pytest
 
 import test_cheque
+import test_numbers
 from questions import table
 from running import TOP, Program, needs, write
 
@@ -91,6 +93,14 @@ def test_words_of_cheque(command, what):
         wanted = "".join(f"{answer}\n" for answer in rows.values()).encode()
         found = command(what, "--", *rows)
         assert found == ((status, wanted, b"") if status == 0 else (status, b"", wanted))
+
+
+def test_texts_of_numbers(command):
+    """They are answered as by `numbers`, which takes a method without its option."""
+    for options, text, answer in test_numbers.ANSWERED:
+        name = "--method" if "--exact" in options else "--way"
+        words = [it if it.startswith("--") else f"{name}={it}" for it in options]
+        assert command("find", *words, data=text.encode()) == (0, answer.encode(), b"")
 
 
 def test_long_numbers(command):

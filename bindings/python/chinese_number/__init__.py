@@ -299,7 +299,8 @@ def _words(of: Iterable[Any]) -> Tuple[str, ...]:
 
 _library.know_words(_words(Kind), _words(Way), _words(Script), _words(Case))
 _KINDS, _WAYS, _UNITS = _codes(Kind), _codes(Way), _codes(Unit)
-_SCRIPTS, _CASES, _FORMS = _codes(Script), _codes(Case), _codes(QuantityForm)
+_SCRIPTS, _CASES = _codes(Script), _codes(Case)
+_FORMS, _FORM_OF = _codes(QuantityForm), tuple(QuantityForm)
 _PRINT_WAYS = {way: code for way, code in _WAYS.items() if way is not Way.ANY}
 _METHODS = {way: code for way, code in _PRINT_WAYS.items() if way is not Way.DIGITS}
 # What each word adds to the form in which an amount is written, and the currency in front.
@@ -670,14 +671,14 @@ class Quantity:
         denominator: SupportsIndex = 1,
         form: Union[QuantityForm, str] = QuantityForm.WHOLE,
     ) -> None:
-        above, below = (_whole(it, "a whole number") for it in (numerator, denominator))
+        above, below = _whole(numerator, "a whole number"), _whole(denominator, "a whole number")
         _refuse_not_held(above, Kind.I128)
         _refuse_not_held(below, Kind.U128)
         if below == 0:
             raise NumeralError(Status.NOT_A_QUANTITY)
-        of_code = tuple(QuantityForm)[_code(_FORMS, form, "form")]
-        for name, value in (("numerator", above), ("denominator", below), ("form", of_code)):
-            object.__setattr__(self, name, value)
+        object.__setattr__(self, "numerator", above)
+        object.__setattr__(self, "denominator", below)
+        object.__setattr__(self, "form", _FORM_OF[_code(_FORMS, form, "form")])
 
     @classmethod
     def of(cls, value: Union[Decimal, Fraction, SupportsIndex]) -> Quantity:
@@ -820,7 +821,7 @@ def to_quantity(text: str, *, method: Union[Way, str] = Way.TEN_THOUSAND) -> Qua
         raise NumeralError(status, char_index=_place(status, char_index))
     low, high, below_low, below_high, form = words
     above, below = _of_halves(low, high, Kind.I128), _of_halves(below_low, below_high, Kind.U128)
-    return Quantity(above, below, tuple(QuantityForm)[form])
+    return Quantity(above, below, _FORM_OF[form])
 
 
 class _Run(NamedTuple):
