@@ -7,8 +7,7 @@ The tables of `codes.rt` give a type, way, script, case, form or unit its place 
 the way behind them; `status.rt`, `flags.rt` and `quantity_form.rt` name the statuses, the flags of
 what is found, and the forms of a quantity. The header, the Rust crate and the Python file name each
 of them once, with the same number or in this order, and no other, as the JavaScript file lists
-them; but what a form is made of is named by the header alone, and flags and the forms of a quantity
-by the header and the Rust crate. The header declares each
+them; but what a form is made of is named by the header alone. The header declares each
 call that the crate exports, and no language has any other. Alike, too, are the most bytes of a
 text of each kind, which a clause of each file in BOUNDS bounds; the status of the C source alone
 for a text that is too long, and how long that is; the version of all, which is that of the first
@@ -68,6 +67,8 @@ BEGINNINGS = {
         "SCRIPTS": "class Script(",
         "CASES": "class Case(",
         "UNITS": "class Unit(",
+        "QUANTITY_FORMS": "class QuantityForm(",
+        "FLAGS": "# The flags of what is found.\n",
         "STATUSES": "class Status(",
     },
 }
@@ -218,11 +219,12 @@ def of_language(language, text):
 
 
 def of_lists(text):
-    """The tables of the JavaScript file: the names in the order of their codes."""
+    """The tables of the JavaScript file: the names in the order of their codes, or of their bits."""
     found = {}
     for name in BEGINNINGS[PYTHON]:
         listed = re.search(rf"\b{name} =[^\[]*?\[((?:\s*'\w+',?)+)\]", text)[1]
         found[name] = numbered(map(snake, re.findall(r"\w+", listed)))
+    found["FLAGS"] = {name: 1 << bit for name, bit in found["FLAGS"].items()}
     return found
 
 

@@ -1,7 +1,8 @@
 """What the command chinese-number answers, Python's and JavaScript's alike.
 
 The rows are those of `tests/rows/command.tsv`. Each word of the tests of `cheque` has its answer or
-its refusal here too. Python's runs where the locale knows ASCII alone.
+its refusal here too, and each text of those of `numbers`. Python's runs where the locale knows ASCII
+alone.
 """
 import os
 import pty
@@ -14,6 +15,7 @@ import time
 import pytest
 
 import test_cheque
+import test_numbers
 from questions import table
 from running import TOP, Program, needs, write
 
@@ -22,7 +24,8 @@ MISUSE = re.compile(rb"chinese-number: .+ \(--help says more\)\n")
 MANY = "二十三\n".encode() * 20000
 TABLE, ROWS = ["amount", "--column", "1"], b"15\n" * 60000
 # Words and an input to which something is written.
-WRITTEN = [(["read", "一"], b""), (["find"], MANY), (TABLE, b"15\n"), (TABLE, ROWS)]
+WRITTEN = [(["read", "一"], b""), (["find"], MANY), (["replace"], MANY), (TABLE, b"15\n")]
+WRITTEN.append((TABLE, ROWS))
 ESCAPES = {r"\n": "\n", r"\r": "\r", r"\xff": "\udcff"}
 
 
@@ -92,6 +95,14 @@ def test_words_of_cheque(command, what):
         assert found == ((status, wanted, b"") if status == 0 else (status, b"", wanted))
 
 
+def test_texts_of_numbers(command):
+    """They are answered as by `numbers`, which takes a method without its option."""
+    for options, text, answer in test_numbers.ANSWERED:
+        name = "--method" if "--exact" in options else "--way"
+        words = [it if it.startswith("--") else f"{name}={it}" for it in options]
+        assert command("find", *words, data=text.encode()) == (0, answer.encode(), b"")
+
+
 def test_long_numbers(command):
     for sign in ("", "-"):
         found = command("print", "--", f"{sign}{'9' * 5000}")
@@ -99,7 +110,7 @@ def test_long_numbers(command):
 
 
 def test_no_input(command):
-    for words in (["find"], TABLE):
+    for words in (["find"], ["replace"], TABLE):
         assert command.of_no_file(*words)[:2] == (1, b"")
 
 
@@ -123,12 +134,23 @@ def test_closed_pipe(command):
 def test_many_lines(command):
     answers = b"".join(b"%d:1 %s 23\n" % (line, MANY[:9]) for line in range(1, 20001))
     assert command("find", data=MANY) == (0, answers, b"")
+    assert command("find", "--exact", data=MANY) == (0, answers, b"")
+    assert command("replace", data=MANY) == (0, b"23\n" * 20000, b"")
+
+
+def test_one_line(command):
+    """Of any length, and without a line feed at the end."""
+    found = command("replace", data="三十，".encode() * 200000)
+    assert found == (0, "30，".encode() * 200000, b"")
 
 
 def test_dialogue(command):
     with command.dialogue("find") as dialogue:
         for line in range(1, 101):
             assert dialogue.ask("他三十歲") == f"{line}:2 三十 30"
+    with command.dialogue("replace") as dialogue:
+        for _ in range(100):
+            assert dialogue.ask("他三十歲") == "他30歲"
 
 
 def test_many_rows(command):

@@ -25,13 +25,14 @@ SINCE = {"PyType_GetSlot": 4, "PyModuleDef_Init": 5, "PyUnicode_AsUCS4": 7}
 SINCE.update(PyUnicode_GetLength=7, PyUnicode_Substring=7, PyCMethod_New=9)
 SINCE.update(PyUnicode_AsUTF8AndSize=10)
 OF_3_2 = """
-PyArg_ParseTuple PyBool_FromLong PyBytes_AsStringAndSize PyDict_GetItemString PyDict_New
+PyArg_ParseTuple PyBool_FromLong PyBytes_AsString PyBytes_AsStringAndSize
+PyBytes_FromStringAndSize PyDict_GetItemString PyDict_New
 PyDict_SetItem PyDict_SetItemString PyDict_Type PyErr_Clear PyErr_Format PyErr_Occurred
 PyErr_SetString PyEval_RestoreThread PyEval_SaveThread PyExc_RuntimeError PyExc_ValueError
 PyList_New PyList_SetItem PyLong_AsLongLongAndOverflow PyLong_FromLongLong PyLong_FromSsize_t
 PyLong_FromUnsignedLong PyLong_FromUnsignedLongLong PyLong_Type PyModule_GetState PyObject_Call
 PyTuple_GetItem PyTuple_New PyTuple_SetItem PyTuple_Size PyTuple_Type PyType_GetFlags
-PyType_IsSubtype PyType_Type PyUnicode_AsEncodedString PyUnicode_FromWideChar
+PyType_IsSubtype PyType_Type PyUnicode_AsEncodedString PyUnicode_DecodeUTF8 PyUnicode_FromWideChar
 PyUnicode_InternFromString Py_BuildValue _PyArg_ParseTuple_SizeT _Py_BuildValue_SizeT _Py_Dealloc
 _Py_FalseStruct _Py_NoneStruct _Py_TrueStruct""".split()
 NEWEST = list(BY_NATIVE.values())[-2:][0]
@@ -178,6 +179,11 @@ def test_nothing_is_kept(numerals):
         (it.chinese_to_date, ("贰零贰陆年零壹月壹拾伍日", "贰")),
         (lambda text: list(it.find_numbers(text)), ("一，二十，", None)),
         (lambda text: next(it.find_numbers(text)), ("三" + "，一" * 100,)),
+        (it.to_quantity, ("3.5万", "三分之一", "12,34", "x" * 300, None)),
+        (lambda text: it.to_quantity(text).to_chinese(method="low"), ("12.5%", "1000京")),
+        (lambda text: it.to_quantity(text).to_figures(), ("12.5%", "三分之一")),
+        (lambda text: [its.value() for its in it.find_quantities(text)], ("3.5万，1.2.3", None)),
+        (it.quantities_to_figures, ("共三点五万，占三分之一", "三亿" * 99, "\ud800一百", None)),
     ]
     some = [(call, argument) for call, arguments in asked for argument in arguments]
     shared = [
@@ -185,6 +191,8 @@ def test_nothing_is_kept(numerals):
         True,
         False,
         it.Found,
+        it.FoundQuantity,
+        it.QuantityForm.DECIMAL,
         it.Kind.I128,
         it.Way.ANY,
         *(argument for _, argument in some),

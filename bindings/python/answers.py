@@ -2,10 +2,11 @@
 import sys
 from datetime import date
 
-from chinese_number import amount_to_chinese, chinese_to_amount, chinese_to_amount_as_typed
-from chinese_number import chinese_to_date, chinese_to_signed_amount, date_to_chinese
-from chinese_number import find_numbers, signed_amount_to_chinese, to_chinese, to_number
-from chinese_number import yuan_to_fen
+from chinese_number import Quantity, QuantityForm, amount_to_chinese, chinese_to_amount
+from chinese_number import chinese_to_amount_as_typed, chinese_to_date, chinese_to_signed_amount
+from chinese_number import date_to_chinese, find_numbers, find_quantities, quantities_to_figures
+from chinese_number import replace_quantities, signed_amount_to_chinese, to_chinese, to_number
+from chinese_number import to_quantity, yuan_to_fen
 
 # The words of questions that this package has other ones for.
 OTHERS = {"naive": "digits", "simple": "simplified"}
@@ -15,6 +16,14 @@ FORMS = {
     "round_yuan": {"yuan": "圆"},
     "upright_closing": {"closing": "正"},
 }
+# Those of what is found, as questions name them and as here.
+FLAGS = {
+    "plain": "is_plain",
+    "alone": "stands_alone",
+    "about": "is_about",
+    "one": "is_one_character",
+}
+INCLUDED = {"none": {}, "about": {"about": True}, "one": {"one_character": True}}
 
 
 def told(call, *words):
@@ -52,12 +61,65 @@ def write_date(script, day):
     return date_to_chinese(date.fromisoformat(day), script=OTHERS.get(script, script))
 
 
-def find(text):
+def shown(quantity):
+    return f"{quantity.numerator}/{quantity.denominator} {quantity.form.value}"
+
+
+def quantity_of(words):
+    numbers, form = words.split(" ")
+    return Quantity(*map(int, numbers.split("/")), form)
+
+
+def read_quantity(method, text):
+    return shown(to_quantity(text, method=method))
+
+
+def write_quantity(method, script, case, words):
+    script = OTHERS.get(script, script)
+    return quantity_of(words).to_chinese(method=method, script=script, case=case)
+
+
+def included(words):
+    return {name: it for word in words.split("+") for name, it in INCLUDED[word].items()}
+
+
+def replace_with_figures(words, text):
+    return quantities_to_figures(text, **included(words))
+
+
+def in_numerals(found):
+    quantity = found.quantity()
+    return None if quantity.form is QuantityForm.FRACTION else quantity.to_chinese()
+
+
+def replace_with_numerals(words, text):
+    return replace_quantities(text, in_numerals, **included(words))
+
+
+def flags(found):
+    return " ".join(word for word, name in FLAGS.items() if getattr(found, name))
+
+
+def in_place(text, all_found, tell):
+    """The text with what is told of each that was found, in brackets, in its place."""
     done, at = "", 0
-    for found in find_numbers(text):
-        done += f"{text[at:found.start]}[{told(found.number)}]"
+    for found in all_found:
+        done += f"{text[at:found.start]}[{tell(found)}]"
         at = found.end
     return done + text[at:]
+
+
+def find(text):
+    return in_place(text, find_numbers(text), lambda found: told(found.number))
+
+
+def find_flags(text):
+    return in_place(text, find_numbers(text), flags)
+
+
+def find_expressions(text):
+    answer = lambda found: told(lambda: shown(found.quantity()))
+    return in_place(text, find_quantities(text), answer)
 
 
 CALLS = {
@@ -73,6 +135,14 @@ CALLS = {
     "read_date": chinese_to_date,
     "print_date": write_date,
     "find": find,
+    "flags": find_flags,
+    "read_quantity": read_quantity,
+    "find_quantities": find_expressions,
+    "print_quantity": write_quantity,
+    "quantity_figures": lambda words: quantity_of(words).to_figures(),
+    "trim_quantity": lambda words: shown(quantity_of(words).trimmed()),
+    "quantities_to_figures": replace_with_figures,
+    "replace_quantities": replace_with_numerals,
 }
 
 for line in sys.stdin:

@@ -12,6 +12,7 @@ enum {
     SHORT = 256,    /* characters; a text of no more is read from the stack, and takes no memory */
     LONG = 1 << 16, /* bytes; see let_go */
     AT_ONCE = 64,   /* numbers of a text that are found before the first of them is handed out */
+    FIELDS = 7,     /* that are told of each */
     CHOICES = 4,
     MOST_WORDS = 20 /* of one choice: the members of its enum, and the str that each equals */
 };
@@ -155,33 +156,6 @@ static size_t put_short(PyObject *text, Py_ssize_t length, uint8_t *room) {
     return (size_t)(end - room);
 }
 
-/* A str in UTF-8: in the room, or in the bytes that are held. */
-typedef struct text {
-    const uint8_t *bytes;
-    size_t length;
-    PyObject *held;
-    uint8_t room[4 * SHORT];
-} text;
-
-static int take(PyObject *given, text *it) {
-    Py_ssize_t length = PyUnicode_GetLength(given);
-    char *bytes;
-    it->held = NULL;
-    if (length < 0)
-        return 0;
-    if (length <= SHORT) {
-        it->length = put_short(given, length, it->room);
-        it->bytes = it->room;
-        return 1;
-    }
-    it->held = PyUnicode_AsEncodedString(given, "utf-8", "replace");
-    if (!it->held || PyBytes_AsStringAndSize(it->held, &bytes, &length))
-        return 0;
-    it->length = (size_t)length;
-    it->bytes = (const uint8_t *)bytes;
-    return 1;
-}
-
 /* Lets other threads of Python run while a long text is read. A shorter one takes less than a tenth
  * of the 5 ms that Python lets a thread run anyway, and to let go for it could cost as many to
  * wait. */
@@ -194,6 +168,42 @@ static void take_back(PyThreadState *thread) {
         PyEval_RestoreThread(thread);
 }
 
+/* A str in UTF-8: in the room, or in the bytes that are held. */
+typedef struct text {
+    const uint8_t *bytes;
+    size_t length;
+    PyObject *held;
+    PyThreadState *thread;
+    uint8_t room[4 * SHORT];
+} text;
+
+/* Takes a str to be read. Where that takes long, other threads run until it is given back. */
+static int take(PyObject *given, text *it) {
+    Py_ssize_t length = PyUnicode_GetLength(given);
+    char *bytes;
+    it->held = NULL;
+    it->thread = NULL;
+    if (length < 0)
+        return 0;
+    if (length <= SHORT) {
+        it->length = put_short(given, length, it->room);
+        it->bytes = it->room;
+        return 1;
+    }
+    it->held = PyUnicode_AsEncodedString(given, "utf-8", "replace");
+    if (!it->held || PyBytes_AsStringAndSize(it->held, &bytes, &length))
+        return 0;
+    it->length = (size_t)length;
+    it->bytes = (const uint8_t *)bytes;
+    it->thread = let_go(it->length);
+    return 1;
+}
+
+static void give_back(text *it) {
+    take_back(it->thread);
+    Py_XDECREF(it->held);
+}
+
 /* A function that reads a text by a call, and gives the status, what the format and the words
  * behind it make of `it`, and how many characters stand before one at fault. */
 #define READER(name, call, answer, format, ...)                                               \
@@ -202,10 +212,8 @@ static void take_back(PyThreadState *thread) {
         answer it;                                                                            \
         if (!take(given, &from))                                                                  \
             return NULL;                                                                      \
-        PyThreadState *thread = let_go(from.length);                                          \
         uint32_t status = call(from.bytes, from.length, &it);                                 \
-        take_back(thread);                                                                    \
-        Py_XDECREF(from.held);                                                                \
+        give_back(&from);                                                                     \
         return Py_BuildValue("I" format "n", status, __VA_ARGS__, (Py_ssize_t)it.char_index); \
     }
 
@@ -222,12 +230,26 @@ static PyObject *read_number(PyObject *module, PyObject *given) {
     cn_reading it;
     if (!PyArg_ParseTuple(given, "OII", &string, &kind, &way) || !take(string, &from))
         return NULL;
-    PyThreadState *thread = let_go(from.length);
     uint32_t status = chinese_number_read_utf8(from.bytes, from.length, kind, way, &it);
-    take_back(thread);
-    Py_XDECREF(from.held);
+    give_back(&from);
     return Py_BuildValue("IKKn", status, (unsigned long long)it.number.low,
                          (unsigned long long)it.number.high, (Py_ssize_t)it.char_index);
+}
+
+/* The words of a quantity are the halves of its numerator and of its denominator, and its form. */
+static PyObject *read_quantity(PyObject *module, PyObject *given) {
+    text from;
+    PyObject *string;
+    unsigned method;
+    cn_quantity it;
+    if (!PyArg_ParseTuple(given, "OI", &string, &method) || !take(string, &from))
+        return NULL;
+    uint32_t status = chinese_quantity_read(from.bytes, from.length, method, &it);
+    give_back(&from);
+    cn_number above = it.numerator, below = it.denominator;
+    return Py_BuildValue("I(KKKKI)n", status, (unsigned long long)above.low,
+                         (unsigned long long)above.high, (unsigned long long)below.low,
+                         (unsigned long long)below.high, it.form, (Py_ssize_t)it.char_index);
 }
 
 /* Whether 64 bits hold a number of a kind with its sign. */
@@ -260,7 +282,7 @@ static PyObject *to_number(PyObject *module, PyObject *const *values, Py_ssize_t
 /* The str of a text that is printed: each of its characters takes three bytes. Python's own decoder
  * takes twice as long. */
 static PyObject *string_of(const uint8_t *text, size_t length) {
-    wchar_t characters[CN_MOST_BYTES / 3];
+    wchar_t characters[CN_MOST_QUANTITY_BYTES / 3];
     Py_ssize_t count = 0;
     for (const uint8_t *at = text; at < text + length; at += 3)
         characters[count++] = (wchar_t)((at[0] & 15) << 12 | (at[1] & 63) << 6 | (at[2] & 63));
@@ -303,6 +325,69 @@ static PyObject *print_date(PyObject *module, PyObject *given) {
         return NULL;
     uint32_t status = chinese_date_print(year, month, day, script, room, sizeof room, &length);
     return Py_BuildValue("IN", status, string_of(room, length));
+}
+
+/* A quantity of its words. */
+static int quantity_of(PyObject *words, cn_quantity *it) {
+    unsigned long long low, high, below_low, below_high;
+    unsigned form;
+    if (!PyArg_ParseTuple(words, "KKKKI", &low, &high, &below_low, &below_high, &form))
+        return 0;
+    *it = (cn_quantity){{low, high}, {below_low, below_high}, form, 0, 0};
+    return 1;
+}
+
+static PyObject *print_quantity(PyObject *module, PyObject *given) {
+    PyObject *words;
+    cn_quantity it;
+    unsigned method, script, letter_case;
+    uint8_t room[CN_MOST_QUANTITY_BYTES];
+    size_t length;
+    if (!PyArg_ParseTuple(given, "OIII", &words, &method, &script, &letter_case) ||
+        !quantity_of(words, &it))
+        return NULL;
+    uint32_t status =
+        chinese_quantity_print(&it, method, script, letter_case, room, sizeof room, &length);
+    return Py_BuildValue("IN", status, string_of(room, length));
+}
+
+static PyObject *print_figures(PyObject *module, PyObject *words) {
+    cn_quantity it;
+    uint8_t room[CN_MOST_FIGURES_BYTES];
+    size_t length;
+    if (!quantity_of(words, &it))
+        return NULL;
+    uint32_t status = chinese_quantity_figures(&it, room, sizeof room, &length);
+    PyObject *figures = PyUnicode_DecodeUTF8((char *)room, (Py_ssize_t)length, NULL);
+    return Py_BuildValue("IN", status, figures);
+}
+
+/* The text with its quantities in figures. The data are the text in UTF-8. */
+static PyObject *quantities_to_figures(PyObject *module, PyObject *given) {
+    PyObject *data, *room = NULL;
+    char *bytes;
+    Py_ssize_t given_length;
+    unsigned upper, greatest, method, included;
+    if (!PyArg_ParseTuple(given, "SIIII", &data, &upper, &greatest, &method, &included) ||
+        PyBytes_AsStringAndSize(data, &bytes, &given_length))
+        return NULL;
+    size_t length = (size_t)given_length;
+    uint32_t status = CN_NO_ROOM;
+    while (status == CN_NO_ROOM) {
+        size_t most = length;
+        Py_XDECREF(room);
+        room = PyBytes_FromStringAndSize(NULL, (Py_ssize_t)most);
+        if (!room)
+            return NULL;
+        uint8_t *to = (uint8_t *)PyBytes_AsString(room);
+        PyThreadState *thread = let_go((size_t)given_length);
+        status = chinese_quantities_to_figures((const uint8_t *)bytes, (size_t)given_length, upper,
+                                               greatest, method, included, to, most, &length);
+        take_back(thread);
+    }
+    PyObject *text = PyUnicode_DecodeUTF8(PyBytes_AsString(room), (Py_ssize_t)length, NULL);
+    Py_DECREF(room);
+    return Py_BuildValue("IN", status, text);
 }
 
 /* to_chinese of an int that 64 bits hold with its sign, by known words. */
@@ -369,14 +454,14 @@ static Py_ssize_t characters(const uint8_t *from, const uint8_t *to) {
     return (Py_ssize_t)count;
 }
 
-/* A tuple of four objects, which become its own, of a class of tuples; `one` is a tuple for it. */
-static PyObject *tuple_of(PyObject *class, PyObject *one, PyObject *fields[4]) {
+/* A tuple of objects, which become its own, of a class of tuples; `one` is a tuple for it. */
+static PyObject *tuple_of(PyObject *class, PyObject *one, PyObject *fields[FIELDS]) {
     void *slot = PyType_GetSlot(&PyTuple_Type, Py_tp_new);
     newfunc make;
-    PyObject *plain = PyTuple_New(4);
+    PyObject *plain = PyTuple_New(FIELDS);
     int failed = !plain;
     memcpy(&make, &slot, sizeof make);
-    for (Py_ssize_t i = 0; i < 4; i++) {
+    for (Py_ssize_t i = 0; i < FIELDS; i++) {
         failed |= !fields[i];
         if (plain)
             PyTuple_SetItem(plain, i, fields[i]);
@@ -388,10 +473,17 @@ static PyObject *tuple_of(PyObject *class, PyObject *one, PyObject *fields[4]) {
     return make((PyTypeObject *)class, one, NULL);
 }
 
-/* The next numbers of a text behind its first bytes, which have so many characters: the status, a
- * list of the numbers, and up to where they were looked for, in bytes and in characters. The data
- * are the text in UTF-8. */
-static PyObject *find_numbers(PyObject *module, PyObject *given) {
+static PyObject *flag_of(const cn_span *span, cn_flag flag) {
+    return PyBool_FromLong((span->flags & flag) != 0);
+}
+
+typedef uint32_t search(const uint8_t *text, size_t length, size_t from, uint32_t upper,
+                        uint32_t greatest, cn_span *spans, size_t most, size_t *count);
+
+/* The next numbers of a text behind its first bytes, which have so many characters, or what another
+ * search finds: the status, a list of them, and up to where they were looked for, in bytes and in
+ * characters. The data are the text in UTF-8. */
+static PyObject *find(PyObject *given, search *next) {
     PyObject *string, *data, *class;
     char *first;
     Py_ssize_t length, searched, index;
@@ -409,19 +501,24 @@ static PyObject *find_numbers(PyObject *module, PyObject *given) {
         return NULL;
     }
     PyThreadState *thread = let_go((size_t)(length - searched));
-    uint32_t status = chinese_number_find_utf8(bytes, (size_t)length, (size_t)searched, upper,
-                                               greatest, spans, AT_ONCE, &count);
+    uint32_t status = next(bytes, (size_t)length, (size_t)searched, upper, greatest, spans, AT_ONCE,
+                           &count);
     take_back(thread);
     PyObject *made = PyList_New((Py_ssize_t)count), *one = PyTuple_New(1);
     int failed = !made || !one;
     for (size_t i = 0; !failed && i < count; i++) {
-        const uint8_t *start = bytes + spans[i].start, *end = bytes + spans[i].end;
+        const cn_span *span = &spans[i];
+        const uint8_t *start = bytes + span->start, *end = bytes + span->end;
         Py_ssize_t first = index + characters(bytes + searched, start);
         index = first + characters(start, end);
         searched = end - bytes;
-        PyObject *fields[] = {PyLong_FromSsize_t(first), PyLong_FromSsize_t(index),
-                              PyUnicode_Substring(string, first, index),
-                              PyBool_FromLong((spans[i].flags & CN_PLAIN_DIGITS) != 0)};
+        PyObject *fields[FIELDS] = {PyLong_FromSsize_t(first),
+                                    PyLong_FromSsize_t(index),
+                                    PyUnicode_Substring(string, first, index),
+                                    flag_of(span, CN_PLAIN_DIGITS),
+                                    flag_of(span, CN_STANDS_ALONE),
+                                    flag_of(span, CN_ABOUT),
+                                    flag_of(span, CN_ONE_CHARACTER)};
         PyObject *found = tuple_of(class, one, fields);
         failed = !found || PyList_SetItem(made, (Py_ssize_t)i, found);
     }
@@ -431,6 +528,14 @@ static PyObject *find_numbers(PyObject *module, PyObject *given) {
         return NULL;
     }
     return Py_BuildValue("INnn", status, made, count < AT_ONCE ? length : searched, index);
+}
+
+static PyObject *find_numbers(PyObject *module, PyObject *given) {
+    return find(given, chinese_number_find_utf8);
+}
+
+static PyObject *find_quantities(PyObject *module, PyObject *given) {
+    return find(given, chinese_quantity_find_utf8);
 }
 
 static PyObject *version(PyObject *module, PyObject *none) {
@@ -444,7 +549,10 @@ static PyMethodDef METHODS[] = {
     CALL(read_amount, METH_O), CALL(read_typed_amount, METH_O), CALL(read_signed_amount, METH_O),
     CALL(read_figures, METH_O), CALL(read_date, METH_O), CALL(print_number, METH_VARARGS),
     CALL(print_amount, METH_VARARGS), CALL(print_signed_amount, METH_VARARGS),
-    CALL(print_date, METH_VARARGS), CALL(find_numbers, METH_VARARGS), {NULL, NULL, 0, NULL},
+    CALL(print_date, METH_VARARGS), CALL(find_numbers, METH_VARARGS),
+    CALL(read_quantity, METH_VARARGS), CALL(print_quantity, METH_VARARGS),
+    CALL(print_figures, METH_O), CALL(find_quantities, METH_VARARGS),
+    CALL(quantities_to_figures, METH_VARARGS), {NULL, NULL, 0, NULL},
 };
 
 static int traverse(PyObject *module, visitproc visit, void *arg) {

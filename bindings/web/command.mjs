@@ -1,16 +1,16 @@
 #!/usr/bin/env node
-// The command chinese-number: amounts, dates and numerals are written and read, and the numbers of
-// a text are found. Answers go to standard output, refusals to standard error. The status is 0
-// where all is answered, 1 where something is refused or cannot be read or written, and 2 where the
-// words of the command line ask for nothing.
+// The command chinese-number: amounts, dates and numerals are written and read, the numbers and the
+// quantities of a text are found, and quantities are replaced. Answers go to standard output,
+// refusals to standard error. The status is 0 where all is answered, 1 where something is refused
+// or cannot be read or written, and 2 where the words of the command line ask for nothing.
 
 import { isUtf8 } from 'node:buffer';
 import { fstatSync } from 'node:fs';
 
 import {
-  AmountError, DateError, KINDS, NumeralError, VERSION, WAYS, chineseToAmountAsTypedBigInt,
+  AmountError, DateError, KINDS, METHODS, NumeralError, VERSION, WAYS, chineseToAmountAsTypedBigInt,
   chineseToAmountBigInt, chineseToDate, chineseToSignedAmountBigInt, dateToChinese, findNumbers,
-  signedAmountToChinese, toBigInt, toChinese, yuanToFenBigInt,
+  findQuantities, quantitiesToFigures, signedAmountToChinese, toBigInt, toChinese, yuanToFenBigInt,
 } from './chinese-number.mjs';
 import { Table, linesOfTable } from './table.mjs';
 
@@ -27,7 +27,7 @@ function notOneOf(name, choices, given) {
 const FLAG = null;
 const snake = (name) => name.replace(/[A-Z]/g, (it) => `_${it.toLowerCase()}`);
 const wordsFor = (names) => new Map(names.map((it) => [snake(it), it]));
-const KIND = wordsFor(KINDS), WAY = wordsFor(WAYS);
+const KIND = wordsFor(KINDS), WAY = wordsFor(WAYS), METHOD = wordsFor(METHODS);
 const PRINT_WAY = wordsFor(WAYS.filter((it) => it !== 'any'));
 const COLUMN = {
   has: (it) => /^[1-9][0-9]{0,8}$/.test(it), get: Number,
@@ -46,6 +46,8 @@ usage: chinese-number amount [--traditional] [--currency] [--yuan 圆] [--closin
        chinese-number read [--kind i128] [--way any] WORD..
        chinese-number print [--traditional] [--upper] [--kind i128] [--way ten_thousand] NUMBER..
        chinese-number find [--all] [--kind u128] [--way any]
+       chinese-number find --exact [--all] [--method ten_thousand]
+       chinese-number replace [--all] [--method ten_thousand] [--about] [--one-character] [WORD..]
        chinese-number --help | --version
 
 amount   writes yuan in capitals, 1409.50 as 壹仟肆佰零玖元伍角整, and reads capitals; with --signed
@@ -58,10 +60,15 @@ date     writes dates in capitals, 2026-01-15 as 贰零贰陆年零壹月壹拾�
 read     reads numerals, 一百二 as 120
 print    writes whole numbers as numerals, -120 as 负一百二十
 find     writes LINE:CHARACTER TEXT NUMBER of each number in standard input, or err and why it is
-         refused; with --all also of the characters of cheques and of units above 兆
+         refused; with --all also of the characters of cheques and of units above 兆; with --exact
+         of each quantity, as 3.5万, -5, 12.5% and 三分之一, whose NUMBER is then exact, as 125/1000
+replace  writes words, or standard input, with their quantities in figures, 共3.5万元 as 共35000元;
+         with --about also those that are about so much, as in 三百多, and with --one-character those
+         of one Chinese character, as in 一般
 
 A kind is u8, u16, u32, u64, u128, i8, i16, i32, i64, i128; a way to read
-is digits, low, ten_thousand, middle, high, any, and to write each but any.
+is digits, low, ten_thousand, middle, high, any, and to write each but any;
+a method is low, ten_thousand, middle, high.
 Words behind -- are no options.
 `;
 
@@ -91,8 +98,16 @@ const COMMANDS = {
     },
   },
   find: {
-    options: { all: FLAG, kind: KIND, way: WAY },
+    options: { exact: FLAG, all: FLAG, kind: KIND, way: WAY, method: METHOD },
     run: findInInput,
+  },
+  replace: {
+    options: { all: FLAG, method: METHOD, about: FLAG, 'one-character': FLAG },
+    run: ({ all, 'one-character': oneCharacter, ...options }, words) => {
+      const choices = { ...options, ...wantedBy(all), oneCharacter };
+      const anew = (text) => quantitiesToFigures(text, choices);
+      return words.length ? answerEach(words, anew) : replaceInInput(anew);
+    },
   },
 };
 
@@ -217,14 +232,14 @@ function answerDate(word, options) {
   return dateToChinese({ year, month, day }, options);
 }
 
-// The lines of a stream in bytes, without their line feeds: those that each piece of it ends.
+// The lines of a stream in bytes: those that each piece of it ends.
 async function* linesOf(stream) {
   let begun = [];
   for await (const piece of stream) {
     const lines = [];
     let at = 0;
     for (let end; (end = piece.indexOf(10, at)) >= 0; at = end + 1) {
-      lines.push(Buffer.concat([...begun, piece.subarray(at, end)]));
+      lines.push(Buffer.concat([...begun, piece.subarray(at, end + 1)]));
       begun = [];
     }
     begun.push(piece.subarray(at));
@@ -283,36 +298,69 @@ async function answerTable(column, isHeaded, delimiter, answerOf) {
   return refused ? 1 : 0;
 }
 
-function answerFound(found, options) {
+function answerFound(found, answerOf) {
   try {
-    return found.bigInt(options);
+    return answerOf(found);
   } catch (error) {
     if (!isRefusal(error)) throw error;
     return `err ${error.message}`;
   }
 }
 
-// What is written of a line: of each of its numbers a line.
-function answersTo(bytes, line, wanted, options) {
+// What is written of a line: of each that is found in it a line.
+function answersTo(bytes, line, find, answerOf) {
   if (!isUtf8(bytes)) return `${line}:1 bad line\n`;
   const text = bytes.toString();
   let answers = '', column = 1, at = 0;
-  for (const found of findNumbers(text, wanted)) {
+  for (const found of find(text)) {
     for (const _ of text.slice(at, found.start)) column++;
-    answers += `${line}:${column} ${found.text} ${answerFound(found, options)}\n`;
+    answers += `${line}:${column} ${found.text} ${answerFound(found, answerOf)}\n`;
     at = found.start;
   }
   return answers;
 }
 
-async function findInInput({ all, ...form }, words) {
+const wantedBy = (all) => (all ? { upper: true, greatest: 'ji' } : {});
+
+function exactOf(quantity) {
+  const { numerator, denominator } = quantity;
+  return denominator === 1n ? `${numerator}` : `${numerator}/${denominator}`;
+}
+
+function refuseMisfits({ exact, method, kind, way }) {
+  if (exact && kind) throw new Misuse('--exact and --kind exclude each other');
+  if (exact && way) throw new Misuse('--exact and --way exclude each other');
+  if (method && !exact) throw new Misuse('--method needs --exact');
+}
+
+async function findInInput({ all, ...options }, words) {
   refuseWords(words);
-  const wanted = all ? { upper: true, greatest: 'ji' } : {}, options = { kind: 'u128', ...form };
+  refuseMisfits(options);
+  const { exact, method, ...form } = options, wanted = wantedBy(all);
+  const find = exact ? findQuantities : findNumbers;
+  const answerOf = exact ? (found) => exactOf(found.quantity({ method }))
+    : (found) => found.bigInt({ kind: 'u128', ...form });
   let count = 0;
   for await (const lines of linesOf(input())) {
-    await write(lines.map((it) => answersTo(it, ++count, wanted, options)).join(''));
+    const answers = lines.map(
+      (it) => answersTo(it, ++count, (text) => find(text, wanted), answerOf));
+    await write(answers.join(''));
   }
   return 0;
+}
+
+// Writes standard input anew, a line at a time. One that is no UTF-8 stays, and is told.
+async function replaceInInput(anew) {
+  let count = 0, status = 0;
+  const answerTo = (bytes) => {
+    count++;
+    if (isUtf8(bytes)) return Buffer.from(anew(bytes.toString()));
+    process.stderr.write(`${count}: the line is no UTF-8\n`);
+    status = 1;
+    return bytes;
+  };
+  for await (const lines of linesOf(input())) await write(Buffer.concat(lines.map(answerTo)));
+  return status;
 }
 
 // Runs a command, and gives the status.

@@ -2,21 +2,13 @@ from datetime import date
 from decimal import Decimal
 from typing import List, Optional
 
-from chinese_number import (
-    AmountError,
-    DateError,
-    Found,
-    Kind,
-    NumeralError,
-    Script,
-    Status,
-    Unit,
-    Way,
-)
+from chinese_number import AmountError, DateError, Found, FoundQuantity, Kind, NumeralError
+from chinese_number import Quantity, QuantityForm, Script, Status, Unit, Way
 from chinese_number import __version__, amount_to_chinese, chinese_to_amount, find_numbers
 from chinese_number import chinese_to_amount_as_typed, chinese_to_date, chinese_to_signed_amount
-from chinese_number import date_to_chinese, signed_amount_to_chinese, to_chinese, to_number
-from chinese_number import yuan_to_fen
+from chinese_number import date_to_chinese, find_quantities, quantities_to_figures
+from chinese_number import replace_quantities, signed_amount_to_chinese, to_chinese, to_number
+from chinese_number import to_quantity, yuan_to_fen
 
 
 def chapter(text: str) -> Optional[int]:
@@ -68,9 +60,30 @@ def percentages(text: str) -> List[Optional[int]]:
     return [it.value(way="any") for it in find_numbers(text, greatest="yi")]
 
 
+def quantities(text: str) -> List[Optional[Quantity]]:
+    found: List[FoundQuantity] = [it for it in find_quantities(text, greatest=Unit.YI)]
+    return [it.value(method=Way.LOW) for it in found if it.stands_alone]
+
+
+def values(text: str) -> List[object]:
+    it: Quantity = to_quantity(text)
+    whole: Optional[int] = it.trimmed().to_whole()
+    decimal: Decimal = it.to_decimal()
+    return [whole, decimal, it.to_fraction(), it == Quantity(it.numerator, it.denominator, it.form)]
+
+
+def in_numerals(found: FoundQuantity) -> Optional[str]:
+    it = found.quantity(method="low")
+    return None if it.form is QuantityForm.FRACTION else it.to_chinese(script="traditional")
+
+
 if __name__ == "__main__":
     print(chapter("二十三"), chapter("二十十"), years("二〇二五年十一月"), len(__version__.split(".")))
     print(percentages("百分之五十的人"))
     print(fen("壹佰元整"), fen("壹佰贰元整"), fen("壹佰元"), day("伍年叁月零壹日"), day("伍年拾月"))
     print(cheque(Decimal("12805.00"), date(2026, 1, 15)))
     print(invoice(Decimal("-15.0000"), "⊗壹拾 伍元整"))
+    print(quantities("共3.5亿，版本1.2.3"))
+    print(values("3.5万"), Quantity.of(Decimal("-0.5")).to_figures(), Quantity.of_percent(5).form)
+    print(replace_quantities("占12.5%，剩3分之1", in_numerals, about=True))
+    print(quantities_to_figures("共三点五万，十几人", about=True, one_character=True))

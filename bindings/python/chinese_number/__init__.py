@@ -1,4 +1,5 @@
-"""Chinese numerals for whole numbers: texts as numbers and numbers as texts, by a proved library.
+"""Chinese numerals for whole numbers and exact quantities: texts as numbers, numbers as texts, and
+texts with their quantities written anew, by a proved library.
 
 >>> from datetime import date
 >>> from decimal import Decimal
@@ -28,25 +29,39 @@ chinese_number.NumeralError: number is too small
 '贰零贰陆年零壹月壹拾伍日'
 >>> chinese_to_date('贰零贰陆年零壹月壹拾伍日')
 datetime.date(2026, 1, 15)
+>>> from chinese_number import Quantity, find_quantities, quantities_to_figures
+>>> from chinese_number import replace_quantities, to_quantity
+>>> to_quantity('3.5万').to_whole(), to_quantity('12.5%').to_decimal()
+(35000, Decimal('0.125'))
+>>> Quantity.of(Decimal('3.14')).to_chinese(), Quantity.of_percent(5).to_chinese()
+('三点一四', '百分之五')
+>>> [found.quantity().to_figures() for found in find_quantities('共三点五万，剩三分之一')]
+['35000', '1/3']
+>>> quantities_to_figures('一般共三点五万元，占１２．５０％')
+'一般共35000元，占12.5%'
+>>> replace_quantities('占12.5%', lambda found: found.quantity().to_chinese())
+'占百分之十二点五'
 
-A kind, way, script, case or unit is a member of its enum, or the str that the member equals.
+A kind, way, script, case, unit or form is a member of its enum, or the str that the member equals.
 
 The shared library libchinese_number.so, on macOS .dylib and on Windows .dll, stands beside this
 file, as pip puts it, or in the folder that CHINESE_NUMBER_LIB names, as bindings/archive.sh makes
 it, which comes first. It takes no memory, keeps nothing between calls and reads no locale, and a
 call lets other threads of Python run. Where it is made of C source, a text of more than
-4,293,918,720 bytes is an OverflowError.
+4,293,918,720 bytes is an OverflowError, and so is one that has as many with its new text.
 """
 
 from __future__ import annotations
 
 import operator
+from dataclasses import dataclass
 from datetime import date, datetime
 from decimal import Decimal
 from enum import Enum
+from fractions import Fraction
 from sys import intern
-from typing import Any, Callable, Dict, Iterable, Iterator, NamedTuple, Optional, SupportsIndex
-from typing import Tuple, Union
+from typing import Any, Callable, Dict, Iterable, Iterator, List, NamedTuple, Optional
+from typing import SupportsIndex, Tuple, Type, TypeVar, Union
 
 from . import _library
 
@@ -55,8 +70,11 @@ __all__ = [
     "Case",
     "DateError",
     "Found",
+    "FoundQuantity",
     "Kind",
     "NumeralError",
+    "Quantity",
+    "QuantityForm",
     "Script",
     "Status",
     "Unit",
@@ -68,9 +86,13 @@ __all__ = [
     "chinese_to_signed_amount",
     "date_to_chinese",
     "find_numbers",
+    "find_quantities",
+    "quantities_to_figures",
+    "replace_quantities",
     "signed_amount_to_chinese",
     "to_chinese",
     "to_number",
+    "to_quantity",
     "yuan_to_fen",
 ]
 __version__ = "0.1.0"
@@ -148,10 +170,19 @@ class Unit(str, Enum):
     JI = "ji"
 
 
+class QuantityForm(str, Enum):
+    """How a quantity is written: 35; 3.5 and 3.5万; 12.5%; 三分之一 and 百分之五十."""
+
+    WHOLE = "whole"
+    DECIMAL = "decimal"
+    PERCENT = "percent"
+    FRACTION = "fraction"
+
+
 class Status(Enum):
-    """What a call answers. A NumeralError has one of those from EMPTY to TOO_SMALL, or NOT_HELD; an
-    AmountError has INCORRECT, UNFINISHED, TOO_LARGE or TOO_SMALL, and a DateError INCORRECT,
-    UNFINISHED or NOT_A_DATE.
+    """What a call answers. A NumeralError has one of those from EMPTY to TOO_SMALL, NOT_HELD or
+    NOT_A_QUANTITY; an AmountError has INCORRECT, UNFINISHED, TOO_LARGE or TOO_SMALL, and a
+    DateError INCORRECT, UNFINISHED or NOT_A_DATE.
     """
 
     DONE = 0
@@ -166,6 +197,7 @@ class Status(Enum):
     UNFINISHED = 9
     NONE = 10
     NOT_A_DATE = 11
+    NOT_A_QUANTITY = 12
 
 
 class _Refusal(ValueError):
@@ -182,11 +214,11 @@ class _Refusal(ValueError):
 
 
 class NumeralError(_Refusal):
-    """Why a text is no number of a type, or a number is not written.
+    """Why a text is no number of a type or no quantity, or a number or quantity is not written.
 
-    status says why, and kind as which type; char_index, where a character cannot stand in its
-    place, how many characters of the text stand in front of it, white space among them, and else
-    None.
+    status says why, and kind as which type, which of a quantity is that of its numerator, I128;
+    char_index, where a character cannot stand in its place, how many characters of the text stand
+    in front of it, white space among them, and else None.
 
     >>> try:
     ...     to_number(' 二 十 十 ')
@@ -201,9 +233,12 @@ class NumeralError(_Refusal):
         Status.TOO_LARGE: "number is too large",
         Status.TOO_SMALL: "number is too small",
         Status.NOT_HELD: "{kind} does not hold the number",
+        Status.NOT_A_QUANTITY: "the denominator is 0",
     }
 
-    def __init__(self, status: Status, kind: Kind, char_index: Optional[int] = None) -> None:
+    def __init__(
+        self, status: Status, kind: Kind = Kind.I128, char_index: Optional[int] = None
+    ) -> None:
         super().__init__(status, char_index, kind=kind.value)
         self.kind = kind
 
@@ -265,13 +300,16 @@ def _words(of: Iterable[Any]) -> Tuple[str, ...]:
 _library.know_words(_words(Kind), _words(Way), _words(Script), _words(Case))
 _KINDS, _WAYS, _UNITS = _codes(Kind), _codes(Way), _codes(Unit)
 _SCRIPTS, _CASES = _codes(Script), _codes(Case)
+_FORMS, _FORM_OF = _codes(QuantityForm), tuple(QuantityForm)
 _PRINT_WAYS = {way: code for way, code in _WAYS.items() if way is not Way.ANY}
+_METHODS = {way: code for way, code in _PRINT_WAYS.items() if way is not Way.DIGITS}
 # What each word adds to the form in which an amount is written, and the currency in front.
 _CURRENCY = 1
 _YUAN = {"元": 0, "圆": 2}
 _CLOSINGS = {"整": 0, "正": 4}
 _FIRST_NOT_WRITTEN = 10**18
 _TOO_MANY_PLACES = 16  # in front of the point: 10**16 yuan are 10**18 fen
+_MOST_PLACES = 38  # that a decimal has in 128 bits
 _FIRST_SIGNED = _KINDS["i8"]
 _TOO_LONG = 2**32 - 1
 _MOST_SHOWN = 100
@@ -314,6 +352,20 @@ def _whole(value: SupportsIndex, what: str) -> int:
     raise TypeError(f"{what} is wanted, and not {_shown(value)}")
 
 
+def _refuse_not_held(number: int, kind: Union[Kind, str]) -> None:
+    """Refuses what 128 bits do not hold, with a sign where the kind has one."""
+    least = -(1 << 127) if _KINDS[kind] >= _FIRST_SIGNED else 0
+    if not least <= number < least + (1 << 128):
+        raise NumeralError(Status.NOT_HELD, Kind(kind))
+
+
+def _of_halves(low: int, high: int, kind: Union[Kind, str]) -> int:
+    """The number of a kind whose low and high 64 bits these are."""
+    if high >> 63 and _KINDS[kind] >= _FIRST_SIGNED:
+        high -= 1 << 64
+    return high << 64 | low
+
+
 def _text(value: str) -> str:
     if not isinstance(value, str):
         raise TypeError(f"a str is wanted, and not {_shown(value)}")
@@ -351,9 +403,7 @@ def to_number(
     if code:
         status = _status(code)
         raise NumeralError(status, Kind(kind), _place(status, char_index))
-    if kind_code >= _FIRST_SIGNED and high >> 63:
-        high -= 1 << 64
-    return high << 64 | low
+    return _of_halves(low, high, kind)
 
 
 @_library.quick
@@ -379,9 +429,7 @@ def to_chinese(
     whole, kind_code = _whole(number, "a whole number"), _code(_KINDS, kind, "kind")
     way_code, script_code = _code(_PRINT_WAYS, way, "way"), _code(_SCRIPTS, script, "script")
     case_code = _code(_CASES, case, "case")
-    least = -(1 << 127) if kind_code >= _FIRST_SIGNED else 0
-    if not least <= whole < least + (1 << 128):
-        raise NumeralError(Status.NOT_HELD, Kind(kind))
+    _refuse_not_held(whole, kind)
     codes = kind_code, way_code, script_code, case_code
     status, text = _library.print_number(whole, whole >> 64, *codes)
     if status:
@@ -583,16 +631,219 @@ def chinese_to_date(text: str) -> date:
     return date(*fields)
 
 
-class Found(NamedTuple):
-    """A run of numeral characters in a text, from start to end, as positions in the str.
+def _over_power(value: Decimal) -> Tuple[int, int, QuantityForm]:
+    """The numerator, the denominator and the form of a Decimal. Of one of many digits, or far from
+    1 as Decimal('1E+999999999999'), they are others that 128 bits do not hold either."""
+    sign, digits, exponent = value.as_tuple()
+    if not isinstance(exponent, int):
+        raise ValueError(f"a finite number is wanted, and not {_shown(value)}")
+    places = max(-_MOST_PLACES - 1, min(-exponent, _MOST_PLACES + 1))
+    numerator = int(Decimal((sign, digits[: _MOST_PLACES + 2], 0))) * 10 ** max(-places, 0)
+    form = QuantityForm.DECIMAL if places > 0 else QuantityForm.WHOLE
+    return numerator, 10 ** max(places, 0), form
 
-    is_plain says whether it is plain digits: a single digit is, 十 is not.
+
+def _places_of(denominator: int) -> Optional[int]:
+    """How many decimals a number over it has, or None where they have no end."""
+    return next((places for places in range(128) if 10**places % denominator == 0), None)
+
+
+@dataclass(frozen=True, init=False)
+class Quantity:
+    """An exact quantity: a numerator over a denominator, as written and not reduced, and its form.
+
+    >>> to_quantity('12.5%')
+    Quantity(numerator=125, denominator=1000, form=<QuantityForm.PERCENT: 'percent'>)
+    >>> Quantity(1, 3, 'fraction').to_chinese()
+    '三分之一'
+
+    Two are equal where all three are: 50% and 百分之五十 are two, of one to_fraction(). A numerator that
+    i128 does not hold, and a denominator that is 0 or that u128 does not hold, is a NumeralError.
     """
 
+    numerator: int
+    denominator: int
+    form: QuantityForm
+
+    def __init__(
+        self,
+        numerator: SupportsIndex,
+        denominator: SupportsIndex = 1,
+        form: Union[QuantityForm, str] = QuantityForm.WHOLE,
+    ) -> None:
+        above, below = _whole(numerator, "a whole number"), _whole(denominator, "a whole number")
+        _refuse_not_held(above, Kind.I128)
+        _refuse_not_held(below, Kind.U128)
+        if below == 0:
+            raise NumeralError(Status.NOT_A_QUANTITY)
+        object.__setattr__(self, "numerator", above)
+        object.__setattr__(self, "denominator", below)
+        object.__setattr__(self, "form", _FORM_OF[_code(_FORMS, form, "form")])
+
+    @classmethod
+    def of(cls, value: Union[Decimal, Fraction, SupportsIndex]) -> Quantity:
+        """The quantity of a whole number, a Decimal or a Fraction, exactly, with its decimals.
+
+        >>> Quantity.of(Decimal('3.10')).to_chinese(), Quantity.of(Fraction(-1, 3)).to_chinese()
+        ('三点一零', '负三分之一')
+        >>> Quantity.of(0.5)
+        Traceback (most recent call last):
+        TypeError: a whole number, a Decimal or a Fraction is wanted, and not 0.5
+
+        A NumeralError says that 128 bits do not hold it. NaN and the infinite are a ValueError.
+        """
+        if isinstance(value, Decimal):
+            return cls(*_over_power(value))
+        if isinstance(value, Fraction):
+            form = QuantityForm.FRACTION if value.denominator > 1 else QuantityForm.WHOLE
+            return cls(value.numerator, value.denominator, form)
+        return cls(_whole(value, "a whole number, a Decimal or a Fraction"))
+
+    @classmethod
+    def of_percent(cls, value: Union[Decimal, SupportsIndex]) -> Quantity:
+        """So many percent: of a whole number or a Decimal, as of() takes them.
+
+        >>> Quantity.of_percent(Decimal('12.5')).to_chinese(), Quantity.of_percent(5).to_figures()
+        ('百分之十二点五', '5%')
+        """
+        if not isinstance(value, Decimal):
+            value = _whole(value, "a whole number or a Decimal")
+        it = cls.of(value)
+        return cls(it.numerator, 100 * it.denominator, QuantityForm.PERCENT)
+
+    def to_whole(self) -> Optional[int]:
+        """The whole number that it is, or None where it is none.
+
+        >>> to_quantity('3.5万').to_whole(), to_quantity('3.5').to_whole()
+        (35000, None)
+        """
+        whole, rest = divmod(self.numerator, self.denominator)
+        return None if rest else whole
+
+    def to_fraction(self) -> Fraction:
+        """Its value.
+
+        >>> to_quantity('百分之五十').to_fraction()
+        Fraction(1, 2)
+        """
+        return Fraction(self.numerator, self.denominator)
+
+    def to_decimal(self) -> Decimal:
+        """Its value with its decimals, exactly, whatever the precision of the context; a ValueError
+        where they have no end.
+
+        >>> to_quantity('三点一零').to_decimal(), to_quantity('四分之三').to_decimal()
+        (Decimal('3.10'), Decimal('0.75'))
+        >>> to_quantity('三分之一').to_decimal()
+        Traceback (most recent call last):
+        ValueError: the decimals of 1/3 have no end
+        """
+        value = self.to_fraction()
+        places = _places_of(self.denominator)
+        if places is None:
+            places = _places_of(value.denominator)
+        if places is None:
+            raise ValueError(f"the decimals of {self.to_figures()} have no end")
+        digits = value.numerator * 10**places // value.denominator
+        return Decimal(f"{digits}E-{places}")
+
+    def trimmed(self) -> Quantity:
+        """The same quantity without the zeros at the end of its decimals. One that has no decimals,
+        as a whole number or a fraction, is the same.
+
+        >>> to_quantity('3.5万').trimmed()
+        Quantity(numerator=35000, denominator=1, form=<QuantityForm.WHOLE: 'whole'>)
+        >>> to_quantity('12.50%').trimmed() == to_quantity('12.5%')
+        True
+        """
+        try:
+            return to_quantity(self.to_figures())
+        except NumeralError:  # those of a fraction are no quantity
+            return self
+
+    def to_chinese(
+        self,
+        *,
+        method: Union[Way, str] = Way.TEN_THOUSAND,
+        script: Union[Script, str] = Script.SIMPLIFIED,
+        case: Union[Case, str] = Case.LOWER,
+    ) -> str:
+        """Its text by a method, which to_quantity reads as the same numerator and denominator; a
+        percentage is read as a fraction. One whose denominator is not of its form is written as a
+        fraction. A NumeralError says why there is no text: a number in it has 17 digits or more and
+        the method is LOW.
+
+        >>> to_quantity('-12.5%').to_chinese(script='traditional', case='upper')
+        '負佰分之拾貳點伍'
+        >>> to_quantity('3.5万').to_chinese(), to_quantity('3.5万').trimmed().to_chinese()
+        ('三万五千点零', '三万五千')
+        """
+        method_code = _code(_METHODS, method, "method")
+        codes = _code(_SCRIPTS, script, "script"), _code(_CASES, case, "case")
+        status, text = _library.print_quantity(self._words(), method_code, *codes)
+        if status:
+            raise NumeralError(Status(status))
+        return text
+
+    def to_figures(self) -> str:
+        """Its figures, in ASCII and without zeros at the end of its decimals.
+
+        >>> [to_quantity(it).to_figures() for it in ('三点一零', '12.50％', '负三分之一')]
+        ['3.1', '12.5%', '-1/3']
+        """
+        _, text = _library.print_figures(self._words())
+        return text
+
+    def _words(self) -> _library.Words:
+        above, below = self.numerator, self.denominator
+        return above, above >> 64, below, below >> 64, _FORMS[self.form]
+
+
+def to_quantity(text: str, *, method: Union[Way, str] = Way.TEN_THOUSAND) -> Quantity:
+    """The quantity of a text, by a method, low, ten_thousand, middle or high: a whole number, a
+    decimal, a percentage or a fraction, in figures or in numerals. A NumeralError says why it is
+    none.
+
+    >>> to_quantity('三点五万')
+    Quantity(numerator=350000, denominator=10, form=<QuantityForm.DECIMAL: 'decimal'>)
+    >>> to_quantity('1,280.50').to_figures(), to_quantity('三分之一').to_fraction()
+    ('1280.5', Fraction(1, 3))
+    >>> to_quantity('12,34')
+    Traceback (most recent call last):
+    chinese_number.NumeralError: the chinese number is incorrect (position: 3)
+
+    Half of a surrogate pair is one character, and at fault.
+    """
+    method_code = _code(_METHODS, method, "method")
+    code, words, char_index = _library.read_quantity(_text(text), method_code)
+    if code:
+        status = _status(code)
+        raise NumeralError(status, char_index=_place(status, char_index))
+    low, high, below_low, below_high, form = words
+    above, below = _of_halves(low, high, Kind.I128), _of_halves(below_low, below_high, Kind.U128)
+    return Quantity(above, below, _FORM_OF[form])
+
+
+class _Run(NamedTuple):
     start: int
     end: int
     text: str
     is_plain: bool
+    stands_alone: bool
+    is_about: bool
+    is_one_character: bool
+
+
+class Found(_Run):
+    """A run of numeral characters in a text, from start to end, as positions in the str.
+
+    is_plain says whether it is plain digits: a single digit is, 十 is not. stands_alone says whether
+    no letter or digit touches it and none is linked to it, so neither part of 3.5万 does; is_about,
+    whether it is about so much, as the 十 of 十几 and 五六 are; is_one_character, whether it is one
+    Chinese character, as the 一 of 一般 is.
+    """
+
+    __slots__ = ()
 
     def number(self, *, kind: Union[Kind, str] = Kind.I128, way: Union[Way, str] = Way.ANY) -> int:
         """Its number, as plain digits where it is those; a NumeralError says why it is none of the
@@ -618,6 +869,33 @@ class Found(NamedTuple):
             return None
 
 
+class FoundQuantity(_Run):
+    """An expression in a text, from start to end, as positions in the str; the rest is told of it
+    as of what is Found."""
+
+    __slots__ = ()
+
+    def quantity(self, *, method: Union[Way, str] = Way.TEN_THOUSAND) -> Quantity:
+        """Its quantity, as to_quantity gives it; a NumeralError says why it is none. Its char_index
+        counts within the expression.
+
+        >>> [found.quantity().to_whole() for found in find_quantities('共3.5万人，二十三岁')]
+        [35000, 23]
+        """
+        return to_quantity(self.text, method=method)
+
+    def value(self, *, method: Union[Way, str] = Way.TEN_THOUSAND) -> Optional[Quantity]:
+        """Its quantity, as quantity() gives it, or None where that is refused.
+
+        >>> [(found.text, found.value() is None) for found in find_quantities('版本1.2.3，五六十')]
+        [('1.2.3', True), ('五六十', True)]
+        """
+        try:
+            return self.quantity(method=method)
+        except NumeralError:
+            return None
+
+
 def find_numbers(
     text: str, *, upper: bool = False, greatest: Union[Unit, str] = Unit.ZHAO
 ) -> Iterator[Found]:
@@ -634,18 +912,114 @@ def find_numbers(
     It does not understand sentences: 一起 has a 1 in it, 两三个 is 23, and 3.5万 is two numbers.
     Half of a surrogate pair is one character, and parts a text.
     """
-    return _found(_text(text), _flag(upper), _code(_UNITS, greatest, "greatest"))
+    wanted = _flag(upper), _code(_UNITS, greatest, "greatest")
+    return _found(_library.find_numbers, Found, _text(text), *wanted)
 
 
-def _found(text: str, upper: bool, greatest: int) -> Iterator[Found]:
-    """The numbers of a text, of which some are found at a time."""
+def find_quantities(
+    text: str, *, upper: bool = False, greatest: Union[Unit, str] = Unit.ZHAO
+) -> Iterator[FoundQuantity]:
+    """The expressions of a text, from the first to the last: numbers with their sign, figures,
+    point and units, percentages and fractions. upper and greatest are as in find_numbers.
+
+    >>> [(found.start, found.text) for found in find_quantities('增长12.5%，共3.5万，剩三分之一')]
+    [(2, '12.5%'), (9, '3.5万'), (15, '三分之一')]
+
+    It does not understand sentences either, and half of a surrogate pair is as there.
+    """
+    wanted = _flag(upper), _code(_UNITS, greatest, "greatest")
+    return _found(_library.find_quantities, FoundQuantity, _text(text), *wanted)
+
+
+_AnyRun = TypeVar("_AnyRun", bound=_Run)
+
+
+def _found(
+    find: Callable[..., _library.Some], of: Type[_AnyRun], text: str, upper: bool, greatest: int
+) -> Iterator[_AnyRun]:
+    """What is found in a text, of which some is found at a time."""
     data = str.encode(text, "utf-8", "replace")
     searched = index = 0
     while searched < len(data):
         place = searched, index
-        code, found, searched, index = _library.find_numbers(
-            text, data, *place, upper, greatest, Found
-        )
+        code, found, searched, index = find(text, data, *place, upper, greatest, of)
         if code:
             _status(code)
         yield from found
+
+
+def replace_quantities(
+    text: str,
+    new: Callable[[FoundQuantity], Optional[str]],
+    *,
+    upper: bool = False,
+    greatest: Union[Unit, str] = Unit.ZHAO,
+    method: Union[Way, str] = Way.TEN_THOUSAND,
+    about: bool = False,
+    one_character: bool = False,
+) -> str:
+    """The text with its quantities written anew: new is given each expression that find_quantities
+    finds and to_quantity reads by the method, and gives what stands in its place, or None where it
+    stays.
+
+    >>> replace_quantities('占12.5%，共3.5万', lambda it: it.quantity().trimmed().to_chinese())
+    '占百分之十二点五，共三万五千'
+    >>> replace_quantities('一般三点十分', lambda it: f'[{it.text}]', one_character=True)
+    '[一]般[三]点[十]分'
+
+    Those that are about so much, as 五六, or one Chinese character, as the 一 of 一般, stay, unless
+    about or one_character is True.
+    """
+    _code(_METHODS, method, "method")
+    about, one_character = _flag(about), _flag(one_character)
+    done: List[str] = []
+    at = 0
+    for found in find_quantities(text, upper=upper, greatest=greatest):
+        is_left = found.is_about and not about or found.is_one_character and not one_character
+        if is_left or found.value(method=method) is None:
+            continue
+        written = new(found)
+        if written is not None:
+            done += text[at : found.start], _text(written)
+            at = found.end
+    return "".join((*done, text[at:]))
+
+
+def quantities_to_figures(
+    text: str,
+    *,
+    upper: bool = False,
+    greatest: Union[Unit, str] = Unit.ZHAO,
+    method: Union[Way, str] = Way.TEN_THOUSAND,
+    about: bool = False,
+    one_character: bool = False,
+) -> str:
+    """The text with its quantities in figures, as Quantity.to_figures() gives them: those that
+    replace_quantities gives to its function.
+
+    >>> quantities_to_figures('一般共三点五万元，占三分之一')
+    '一般共35000元，占1/3'
+    >>> quantities_to_figures('一共十几个', one_character=True)
+    '1共十几个'
+    >>> quantities_to_figures('一共十几个', about=True, one_character=True)
+    '1共10几个'
+    """
+    wanted = _flag(upper), _code(_UNITS, greatest, "greatest"), _code(_METHODS, method, "method")
+    included = _library.ABOUT if _flag(about) else 0
+    included += _library.ONE_CHARACTER if _flag(one_character) else 0
+    try:
+        data = str.encode(_text(text), "utf-8")
+    except UnicodeEncodeError:  # half of a surrogate pair, which has no UTF-8, stays
+        return replace_quantities(
+            text,
+            lambda found: found.quantity(method=method).to_figures(),
+            upper=upper,
+            greatest=greatest,
+            method=method,
+            about=about,
+            one_character=one_character,
+        )
+    code, figures = _library.quantities_to_figures(data, *wanted, included)
+    if code:
+        _status(code)
+    return figures

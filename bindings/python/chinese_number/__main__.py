@@ -1,5 +1,5 @@
-"""The command chinese-number: amounts, dates and numerals are written and read, the numbers of a
-text are found, and the amounts of a table answered.
+"""The command chinese-number: amounts, dates and numerals are written and read, the numbers and the
+quantities of a text are found, quantities are replaced, and the amounts of a table answered.
 
 Answers go to standard output, and refusals to standard error. The status is 0 where all is
 answered, 1 where something is refused or cannot be read or written, and 2 where the words of the
@@ -13,12 +13,12 @@ import re
 import sys
 from datetime import date
 from functools import partial
-from typing import Any, Callable, Dict, Iterable, Iterator, List, TextIO, Tuple
+from typing import Any, Callable, Dict, Iterable, Iterator, List, Optional, TextIO, Tuple
 
-from . import AmountError, DateError, Kind, NumeralError, Status, Way, __version__
-from . import chinese_to_amount, chinese_to_amount_as_typed, chinese_to_date
-from . import chinese_to_signed_amount, date_to_chinese, find_numbers, signed_amount_to_chinese
-from . import to_chinese, to_number, yuan_to_fen
+from . import AmountError, DateError, Found, FoundQuantity, Kind, NumeralError, Status, Way
+from . import __version__, chinese_to_amount, chinese_to_amount_as_typed, chinese_to_date
+from . import chinese_to_signed_amount, date_to_chinese, find_numbers, find_quantities
+from . import quantities_to_figures, signed_amount_to_chinese, to_chinese, to_number, yuan_to_fen
 from ._tables import Table, write_table
 
 
@@ -41,6 +41,8 @@ _TRADITIONAL: _Options = {"--traditional": _FLAG}
 _KIND: _Options = {"--kind": [it.value for it in Kind]}
 _WAY: _Options = {"--way": [it.value for it in Way]}
 _PRINT_WAY: _Options = {"--way": [it.value for it in Way if it is not Way.ANY]}
+_METHOD: _Options = {"--method": [it.value for it in Way if it not in (Way.DIGITS, Way.ANY)]}
+_INCLUDED: _Options = {"--about": _FLAG, "--one-character": _FLAG}
 _FORM: _Options = {"--currency": _FLAG, "--yuan": ["元", "圆"], "--closing": ["整", "正"]}
 _READER: _Options = {"--signed": _FLAG, "--typed": _FLAG}
 _TABLE: _Options = {
@@ -53,6 +55,7 @@ _MEANINGS: Dict[str, Dict[str, Any]] = {
     "--traditional": {"script": "traditional"},
     "--upper": {"case": "upper"},
     "--all": {"upper": True, "greatest": "ji"},
+    "--one-character": {"one_character": True},
 }
 USAGE = """\
 usage: chinese-number amount [--traditional] [--currency] [--yuan 圆] [--closing 正]
@@ -62,6 +65,8 @@ usage: chinese-number amount [--traditional] [--currency] [--yuan 圆] [--closin
        chinese-number read [--kind i128] [--way any] WORD..
        chinese-number print [--traditional] [--upper] [--kind i128] [--way ten_thousand] NUMBER..
        chinese-number find [--all] [--kind u128] [--way any]
+       chinese-number find --exact [--all] [--method ten_thousand]
+       chinese-number replace [--all] [--method ten_thousand] [--about] [--one-character] [WORD..]
        chinese-number --help | --version
 
 amount   writes yuan in capitals, 1409.50 as 壹仟肆佰零玖元伍角整, and reads capitals; with --signed
@@ -74,10 +79,15 @@ date     writes dates in capitals, 2026-01-15 as 贰零贰陆年零壹月壹拾�
 read     reads numerals, 一百二 as 120
 print    writes whole numbers as numerals, -120 as 负一百二十
 find     writes LINE:CHARACTER TEXT NUMBER of each number in standard input, or err and why it is
-         refused; with --all also of the characters of cheques and of units above 兆
+         refused; with --all also of the characters of cheques and of units above 兆; with --exact
+         of each quantity, as 3.5万, -5, 12.5% and 三分之一, whose NUMBER is then exact, as 125/1000
+replace  writes words, or standard input, with their quantities in figures, 共3.5万元 as 共35000元;
+         with --about also those that are about so much, as in 三百多, and with --one-character those
+         of one Chinese character, as in 一般
 
 A kind is u8, u16, u32, u64, u128, i8, i16, i32, i64, i128; a way to read
-is digits, low, ten_thousand, middle, high, any, and to write each but any.
+is digits, low, ten_thousand, middle, high, any, and to write each but any;
+a method is low, ten_thousand, middle, high.
 Words behind -- are no options."""
 
 
@@ -142,29 +152,57 @@ def _number(word: str) -> int:
     return -magnitude if word.startswith("-") else magnitude
 
 
-def _numbers(line: bytes, wanted: Dict[str, Any], options: Dict[str, Any]) -> Iterator[str]:
-    """The column, the text and the answer of each number in a line."""
+def _number_of(found: Found, **options: Any) -> str:
+    return str(found.number(**{"kind": Kind.U128, **options}))
+
+
+def _quantity_of(found: FoundQuantity, **options: Any) -> str:
+    quantity = found.quantity(**options)
+    below = "" if quantity.denominator == 1 else f"/{quantity.denominator}"
+    return f"{quantity.numerator}{below}"
+
+
+def _answers(line: bytes, find: Callable[[str], Any], answer: Callable[..., str]) -> Iterator[str]:
+    """The column, the text and the answer of each that is found in a line."""
     try:
         text = line.decode()
     except UnicodeDecodeError:
         yield "1 bad line"
         return
-    for found in find_numbers(text, **wanted):
+    for found in find(text):
         try:
-            answer = str(found.number(**options))
+            answered = answer(found)
         except NumeralError as error:
-            answer = f"err {error}"
-        yield f"{found.start + 1} {found.text} {answer}"
+            answered = f"err {error}"
+        yield f"{found.start + 1} {found.text} {answered}"
 
 
 def _find(options: Dict[str, Any]) -> int:
+    is_exact = options.pop("exact", False)
     wanted = {it: options.pop(it) for it in ("upper", "greatest") if it in options}
-    options.setdefault("kind", "u128")
+    find = partial(find_quantities if is_exact else find_numbers, **wanted)
+    answer: Callable[..., str] = partial(_quantity_of if is_exact else _number_of, **options)
     with open(0, "rb", closefd=False) as lines:
         for count, line in enumerate(lines, 1):
-            for answer in _numbers(line, wanted, options):
-                print(f"{count}:{answer}")
+            for answered in _answers(line, find, answer):
+                print(f"{count}:{answered}")
     return 0
+
+
+def _replace(options: Dict[str, Any]) -> int:
+    """Writes standard input anew, a line at a time. One that is no UTF-8 stays, and is told."""
+    status = 0
+    output = sys.stdout.buffer
+    with open(0, "rb", closefd=False) as lines:
+        for count, line in enumerate(lines, 1):
+            try:
+                line = quantities_to_figures(line.decode(), **options).encode()
+            except UnicodeDecodeError:
+                print(f"{count}: the line is no UTF-8", file=sys.stderr)
+                status = 1
+            output.write(line)
+            output.flush()
+    return status
 
 
 # What gives the answer to a word, what it takes for the word, and which options it has.
@@ -173,7 +211,8 @@ _COMMANDS: Dict[str, Tuple[Callable[..., Any], Callable[[str], Any], _Options]] 
     "date": (_date, str, _TRADITIONAL),
     "read": (to_number, str, {**_KIND, **_WAY}),
     "print": (to_chinese, _number, {**_TRADITIONAL, "--upper": _FLAG, **_KIND, **_PRINT_WAY}),
-    "find": (_find, str, {"--all": _FLAG, **_KIND, **_WAY}),
+    "find": (_find, str, {"--exact": _FLAG, "--all": _FLAG, **_KIND, **_WAY, **_METHOD}),
+    "replace": (quantities_to_figures, str, {"--all": _FLAG, **_METHOD, **_INCLUDED}),
 }
 
 
@@ -201,12 +240,16 @@ def _parted(words: List[str], known: _Options) -> Tuple[List[str], Dict[str, Any
     return others, options
 
 
-def _refuse_misfits(options: Dict[str, Any]) -> None:
-    """Refuses two ways of reading, and what is said of a table where there is none."""
-    if options.keys() >= {"signed", "typed"}:
-        raise _Misuse("--signed and --typed exclude each other")
+def _refuse_misfits(first: str, options: Dict[str, Any]) -> None:
+    """Refuses two ways of reading, and what is said of a table or of quantities where there are
+    none."""
+    for one, other in (("signed", "typed"), ("exact", "kind"), ("exact", "way")):
+        if options.keys() >= {one, other}:
+            raise _Misuse(f"--{one} and --{other} exclude each other")
     if "column" not in options and options.keys() & {"header", "delimiter"}:
         raise _Misuse("--header and --delimiter need --column")
+    if first == "find" and "method" in options and "exact" not in options:
+        raise _Misuse("--method needs --exact")
 
 
 def _answered(call: Callable[..., object], arguments: List[Any], options: Dict[str, Any]) -> int:
@@ -221,6 +264,15 @@ def _answered(call: Callable[..., object], arguments: List[Any], options: Dict[s
     return status
 
 
+def _of_input(
+    first: str, others: List[str], options: Dict[str, Any]
+) -> Optional[Callable[[Dict[str, Any]], int]]:
+    """What answers standard input, where that is asked for."""
+    if first == "replace":
+        return None if others else _replace
+    return _find if first == "find" else _table if "column" in options else None
+
+
 def _run(words: List[str]) -> int:
     """Does what the words of the command line ask for, and gives the status."""
     first = words[0] if words else ""
@@ -233,10 +285,10 @@ def _run(words: List[str]) -> int:
     others, options = _parted(words[1:], {"--help": _FLAG, **known})
     if "help" in options:
         return _run(["--help"])
-    of_input = _find if first == "find" else _table if "column" in options else None
+    of_input = _of_input(first, others, options)
     if bool(of_input) == bool(others):
         raise _Misuse("standard input is answered, and no words" if others else "there is no word")
-    _refuse_misfits(options)
+    _refuse_misfits(first, options)
     return of_input(options) if of_input else _answered(call, [*map(of_word, others)], options)
 
 

@@ -16,22 +16,37 @@ import os
 import sys
 from ctypes import POINTER as _at, byref
 from pathlib import Path
-from typing import Any, Callable, Dict, List, Tuple, TypeVar, Union
+from typing import Any, Dict, List, Tuple, TypeVar, Union
 
 _MOST_BYTES = 234
+_MOST_QUANTITY_BYTES = 471
+_MOST_FIGURES_BYTES = 80
 _MOST_AMOUNT_BYTES = 117
 _MOST_SIGNED_AMOUNT_BYTES = 120
 _MOST_DATE_BYTES = 39
 _AT_ONCE = 64
-_PLAIN_DIGITS = 1
+_NO_ROOM = 6
 _MODULE = "_native.abi3.so"
 _CODE, _WORD, _SIZE = ctypes.c_uint32, ctypes.c_uint64, ctypes.c_size_t
 _SIGNED_WORD = ctypes.c_int64
 _PLACE = [("char_index", _SIZE), ("byte_index", _SIZE)]
+# The flags of what is found.
+PLAIN_DIGITS = 1
+STANDS_ALONE = 2
+ABOUT = 4
+ONE_CHARACTER = 8
 
 
 class _Reading(ctypes.Structure):
     _fields_ = [("low", _WORD), ("high", _WORD), *_PLACE]
+
+
+class _Number(ctypes.Structure):
+    _fields_ = [("low", _WORD), ("high", _WORD)]
+
+
+class _Quantity(ctypes.Structure):
+    _fields_ = [("numerator", _Number), ("denominator", _Number), ("form", _CODE), *_PLACE]
 
 
 class _Amount(ctypes.Structure):
@@ -52,10 +67,16 @@ class _Span(ctypes.Structure):
 
 _TEXT = ctypes.c_char_p, _SIZE
 _ROOM = ctypes.c_char_p, _SIZE, _at(_SIZE)
+_SEARCH = (*_TEXT, _SIZE, _CODE, _CODE, _at(_Span), _SIZE, _at(_SIZE))
 _ARGUMENTS: Dict[str, Tuple[Any, ...]] = {
     "chinese_number_read": (*_TEXT, _CODE, _CODE, _at(_Reading)),
     "chinese_number_print": (_WORD, _WORD, _CODE, _CODE, _CODE, _CODE, *_ROOM),
-    "chinese_number_find_utf8": (*_TEXT, _SIZE, _CODE, _CODE, _at(_Span), _SIZE, _at(_SIZE)),
+    "chinese_number_find_utf8": _SEARCH,
+    "chinese_quantity_read": (*_TEXT, _CODE, _at(_Quantity)),
+    "chinese_quantity_print": (_at(_Quantity), _CODE, _CODE, _CODE, *_ROOM),
+    "chinese_quantity_figures": (_at(_Quantity), *_ROOM),
+    "chinese_quantity_find_utf8": _SEARCH,
+    "chinese_quantities_to_figures": (*_TEXT, _CODE, _CODE, _CODE, _CODE, *_ROOM),
     "chinese_amount_read": (*_TEXT, _at(_Amount)),
     "chinese_amount_print": (_WORD, _CODE, _CODE, *_ROOM),
     "chinese_signed_amount_read": (*_TEXT, _at(_SignedAmount)),
@@ -70,9 +91,18 @@ _HERE = Path(__file__).resolve().parent
 # What `_native` has of this module.
 _CALLS = (
     "know_words read_number read_amount read_signed_amount read_typed_amount read_figures "
-    "read_date print_number print_amount print_signed_amount print_date find_numbers"
+    "read_date read_quantity print_number print_amount print_signed_amount print_date "
+    "print_quantity print_figures find_numbers find_quantities quantities_to_figures"
 ).split()
-_Found = TypeVar("_Found")
+# Of the flags added together, whether each is among them.
+_FLAGS_OF = [
+    tuple(bool(flags & it) for it in (PLAIN_DIGITS, STANDS_ALONE, ABOUT, ONE_CHARACTER))
+    for flags in range(2 * ONE_CHARACTER)
+]
+# A quantity: the low and the high 64 bits of its numerator and of its denominator, and its form.
+Words = Tuple[int, int, int, int, int]
+# The status, some of what is found, and up to where it was looked for, in bytes and in characters.
+Some = Tuple[int, List[Any], int, int]
 _Function = TypeVar("_Function", bound=Any)
 library: Any = None
 _native: Any = None
@@ -165,7 +195,7 @@ def _read(call: Any, text: str, answer: Any, *codes: int) -> int:
     return status
 
 
-def _printed(call: Any, most: int, *codes: int) -> Tuple[int, str]:
+def _printed(call: Any, most: int, *codes: Any) -> Tuple[int, str]:
     """The status and the text of a call that prints so many bytes at most."""
     room, length = ctypes.create_string_buffer(most), _SIZE()
     status: int = call(*codes, room, most, byref(length))
@@ -212,6 +242,14 @@ def read_date(text: str) -> Tuple[int, Tuple[int, int, int], int]:
     return status, (it.year, it.month, it.day), it.char_index
 
 
+def read_quantity(text: str, method: int) -> Tuple[int, Words, int]:
+    """The quantity, and how many characters stand before one at fault."""
+    it = _Quantity()
+    status = _read(library.chinese_quantity_read, text, it, method)
+    above, below = it.numerator, it.denominator
+    return status, (above.low, above.high, below.low, below.high, it.form), it.char_index
+
+
 def print_number(
     low: int, high: int, kind: int, way: int, script: int, case: int
 ) -> Tuple[int, str]:
@@ -236,23 +274,54 @@ def print_date(year: int, month: int, day: int, script: int) -> Tuple[int, str]:
     return _printed(library.chinese_date_print, _MOST_DATE_BYTES, year, month, day, script)
 
 
-def find_numbers(
-    text: str,
-    data: bytes,
-    searched: int,
-    index: int,
-    upper: bool,
-    greatest: int,
-    of: Callable[..., _Found],
-) -> Tuple[int, List[_Found], int, int]:
-    """The next numbers of a text behind its first bytes, which have so many characters: of a class
-    of tuples, where each begins and ends, its text, and whether it is plain digits. Behind them, up
-    to where they were looked for, in bytes and in characters. The data are the text in UTF-8."""
+def _at_words(low: int, high: int, below_low: int, below_high: int, form: int) -> Any:
+    return byref(_Quantity(_Number(low, high), _Number(below_low, below_high), form))
+
+
+def print_quantity(quantity: Words, method: int, script: int, case: int) -> Tuple[int, str]:
+    """The text of a quantity. Of what goes as a word the low 64 bits are taken."""
+    codes = _at_words(*quantity), method, script, case
+    return _printed(library.chinese_quantity_print, _MOST_QUANTITY_BYTES, *codes)
+
+
+def print_figures(quantity: Words) -> Tuple[int, str]:
+    """The figures of a quantity."""
+    call, it = library.chinese_quantity_figures, _at_words(*quantity)
+    return _printed(call, _MOST_FIGURES_BYTES, it)
+
+
+def quantities_to_figures(
+    data: bytes, upper: bool, greatest: int, method: int, included: int
+) -> Tuple[int, str]:
+    """The text with its quantities in figures. The data are the text in UTF-8."""
+    codes, length, status = (upper, greatest, method, included), _SIZE(len(data)), _NO_ROOM
+    while status == _NO_ROOM:
+        room = ctypes.create_string_buffer(max(length.value, _MOST_FIGURES_BYTES))
+        status = library.chinese_quantities_to_figures(
+            data, len(data), *codes, room, len(room), byref(length)
+        )
+    return status, room.raw[: length.value].decode()
+
+
+def _some(call: Any, text: str, data: bytes, searched: int, index: int, *wanted: Any) -> Some:
     spans, count, made = (_Span * _AT_ONCE)(), _SIZE(), []
-    codes = upper, greatest, spans, _AT_ONCE, byref(count)
-    status: int = library.chinese_number_find_utf8(data, len(data), searched, *codes)
+    *codes, of = wanted
+    status = call(data, len(data), searched, *codes, spans, _AT_ONCE, byref(count))
     for span in spans[: count.value]:
         start = index + len(data[searched : span.start].decode())
         searched, index = span.end, start + len(data[span.start : span.end].decode())
-        made.append(of(start, index, text[start:index], bool(span.flags & _PLAIN_DIGITS)))
+        made.append(of(start, index, text[start:index], *_FLAGS_OF[span.flags]))
     return status, made, searched if len(made) == _AT_ONCE else len(data), index
+
+
+def find_numbers(*words: Any) -> Some:
+    """The next numbers of a text, which is given with its UTF-8, behind its first bytes, which have
+    so many characters; whether those of the upper case are wanted, and the code of the greatest
+    unit; and a class of tuples, of where each begins and ends, its text and whether it has each of
+    the four flags."""
+    return _some(library.chinese_number_find_utf8, *words)
+
+
+def find_quantities(*words: Any) -> Some:
+    """The same of the next expressions."""
+    return _some(library.chinese_quantity_find_utf8, *words)
