@@ -27,13 +27,18 @@ parted by tabs. An answer is `ok` and what the call gives, or `err` and the erro
     read_date TEXT                      the date of a text, as 2026-01-15
     print_date SCRIPT DATE              the text of a date
     find TEXT                           the text, with the answer in the place of each number
-
-C, C++ and Rust answer these, too, which this file does not ask:
-
     flags TEXT                          the text, with the flags of each number in its place, of
                                         `plain`, `alone`, `about` and `one`
     read_quantity WAY TEXT              the quantity of a text, as 350000/10 decimal
     find_quantities TEXT                the text, with the answer in the place of each expression
+    print_quantity WAY SCRIPT CASE QUANTITY
+                                        the text of a quantity
+    quantity_figures QUANTITY           the same in figures, as 12.5%
+    trim_quantity QUANTITY              the quantity without the zeros at the end of its decimals
+    quantities_to_figures FLAGS TEXT    the text with its quantities in figures, also those with
+                                        FLAGS: `none`, or with + between them `about` and `one`
+    replace_quantities FLAGS TEXT       the text with its quantities in simple numerals of the lower
+                                        case, by a function that leaves fractions as they stand
 """
 import json
 import os

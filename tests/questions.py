@@ -14,8 +14,18 @@ OF_NUMERAL = re.compile(r"(?:ok|err) .*|bad line")
 LINE = re.compile(r"(?:read|print) \w+ \w+ ")
 # The plain characters of figures; ¥ and commas stand for nothing.
 PLAIN = str.maketrans("０１２３４５６７８９．", "0123456789.", "¥￥,，")
-# The files of `tests/rows` that C, C++ and Rust alone are asked.
-MORE = ("flags", "quantities")
+# The files of `tests/rows` that the libraries alone are asked: no program is.
+OF_LIBRARIES = (
+    "any",
+    "forms",
+    "signed",
+    "typed",
+    "figures",
+    "flags",
+    "quantities",
+    "written",
+    "replaced",
+)
 # How many words a line of `numeral` has; the last one may have spaces in it.
 WORDS = {"read": 4, "print": 6}
 NUMBERS = re.compile(r"^\| text \| numbers \| answers \|.*\n\|[-|]*\n((?:\|.*\n)+)", re.MULTILINE)
@@ -109,8 +119,7 @@ def questions():
     """What the calls of the library are asked, as test.py says it: the words of a question, of
     which the first one names the call, and the answer."""
     yield from of_files()
-    # Of the libraries alone: no program is asked these.
-    yield from of_files(("any", "forms", "signed", "typed", "figures"))
+    yield from of_files(OF_LIBRARIES)
     for _, line, answer in of_numeral():
         if answer != "bad line":
             yield line.split(" ", WORDS[line.split(" ")[0]] - 1), answer
@@ -120,11 +129,10 @@ def questions():
         yield ["find", text], f"ok {in_place(text, numbers, answers)}"
 
 
-def wrong_answers(ask, more=()):
+def wrong_answers(ask):
     """The questions that are answered otherwise, each with its answer and the one that is wanted.
-    `ask` gives what is said to questions, a line each. `more` names files of `tests/rows` that not
-    all languages are asked."""
-    rows = [*questions(), *of_files(more)]
+    `ask` gives what is said to questions, a line each."""
+    rows = list(questions())
     said = ask("".join("\t".join(question) + "\n" for question, _ in rows)).splitlines()
     said += ["nothing"] * (len(rows) - len(said))
     return [

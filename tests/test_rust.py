@@ -5,7 +5,7 @@ import shutil
 
 import pytest
 
-from questions import MORE, wrong_answers
+from questions import wrong_answers
 from running import TOP, fail, needs, run
 
 BOTH = "number-to-chinese,chinese-to-number"
@@ -56,4 +56,4 @@ def test_crate(cargo, library):
 
 def test_answers(cargo, library):
     words = ("run", "--quiet", "--example", "answers")
-    assert wrong_answers(lambda asked: cargo(library, *words, stdin=asked), MORE) == []
+    assert wrong_answers(lambda asked: cargo(library, *words, stdin=asked)) == []

@@ -14,7 +14,7 @@ static const char *const KINDS[] = {
 static const char *const WAYS[] = {"naive", "low", "ten_thousand", "middle", "high", "any", NULL};
 static const char *const SCRIPTS[] = {"traditional", "simple", NULL};
 static const char *const CASES[] = {"upper", "lower", NULL};
-static const char *const QUANTITY_FORMS[] = {"whole", "decimal", "percent", "fraction"};
+static const char *const QUANTITY_FORMS[] = {"whole", "decimal", "percent", "fraction", NULL};
 /* Those of the flags and of the forms of an amount are added together. */
 static const char *const FLAGS[] = {"plain", "alone", "about", "one", NULL};
 static const char *const FORMS[] = {"currency", "round_yuan", "upright_closing", NULL};
@@ -27,13 +27,14 @@ static uint32_t code_of(const char *const *names, const char *name) {
     return code;
 }
 
-/* The form of words with `+` between them; `plain` is none of them. */
-static cn_form form_of(char *words) {
-    uint32_t form = CN_PLAIN;
-    for (char *word = strtok(words, "+"); word != NULL; word = strtok(NULL, "+"))
-        if (strcmp(word, "plain") != 0)
-            form |= UINT32_C(1) << code_of(FORMS, word);
-    return (cn_form)form;
+/* The flags or the form of words with `+` between them, of which one that is no name stands for none. */
+static uint32_t flags_of(const char *const *names, char *words) {
+    uint32_t flags = 0;
+    for (char *word = strtok(words, "+"); word != NULL; word = strtok(NULL, "+")) {
+        uint32_t code = code_of(names, word);
+        flags |= names[code] != NULL ? UINT32_C(1) << code : 0;
+    }
+    return flags;
 }
 
 static cn_number negated(cn_number number) {
@@ -165,7 +166,7 @@ static void answer_print_amount(char **words) {
 }
 
 static void answer_print_amount_as(char **words) {
-    put_amount(words[1], form_of(words[2]), words[3]);
+    put_amount(words[1], (cn_form)flags_of(FORMS, words[2]), words[3]);
 }
 
 static void answer_print_signed_amount(char **words) {
@@ -192,22 +193,60 @@ static void answer_print_date(char **words) {
     put_printed("date", cn_print_date(year, month, day, script, text, sizeof text), text);
 }
 
-static void put_quantity(const char *text, size_t length, cn_way method) {
+/* The quantity of words as 350000/10 decimal. */
+static cn_quantity quantity_of(char *words) {
+    cn_quantity quantity = {{0, 0}, {0, 0}, 0, 0, 0};
+    quantity.numerator = number_of(strtok(words, "/"));
+    quantity.denominator = number_of(strtok(NULL, " "));
+    quantity.form = code_of(QUANTITY_FORMS, strtok(NULL, " "));
+    return quantity;
+}
+
+static void put_quantity(const cn_quantity *quantity) {
+    fputs("ok ", stdout);
+    put_number(quantity->numerator, CN_I128);
+    putchar('/');
+    put_number(quantity->denominator, CN_U128);
+    printf(" %s", QUANTITY_FORMS[quantity->form]);
+}
+
+static void put_quantity_read(const char *text, size_t length, cn_way method) {
     cn_quantity quantity;
     cn_status status = cn_read_quantity(text, length, method, &quantity);
-    if (status != CN_DONE) {
+    if (status == CN_DONE)
+        put_quantity(&quantity);
+    else
         put_refusal("chinese number", status, quantity.char_index);
-        return;
-    }
-    fputs("ok ", stdout);
-    put_number(quantity.numerator, CN_I128);
-    putchar('/');
-    put_number(quantity.denominator, CN_U128);
-    printf(" %s", QUANTITY_FORMS[quantity.form]);
 }
 
 static void answer_read_quantity(char **words) {
-    put_quantity(words[2], strlen(words[2]), (cn_way)code_of(WAYS, words[1]));
+    put_quantity_read(words[2], strlen(words[2]), (cn_way)code_of(WAYS, words[1]));
+}
+
+static void answer_print_quantity(char **words) {
+    char text[CN_MOST_QUANTITY_BYTES + 1];
+    cn_way method = (cn_way)code_of(WAYS, words[1]);
+    cn_script script = (cn_script)code_of(SCRIPTS, words[2]);
+    cn_case letter_case = (cn_case)code_of(CASES, words[3]);
+    cn_quantity quantity = quantity_of(words[4]);
+    put_printed("quantity",
+                cn_print_quantity(&quantity, method, script, letter_case, text, sizeof text), text);
+}
+
+static void answer_quantity_figures(char **words) {
+    char text[CN_MOST_FIGURES_BYTES + 1];
+    cn_quantity quantity = quantity_of(words[1]);
+    put_printed("quantity", cn_quantity_figures(&quantity, text, sizeof text), text);
+}
+
+/* Figures are read as the trimmed quantity, but for those of a fraction, which are not read. */
+static void answer_trim_quantity(char **words) {
+    char text[CN_MOST_FIGURES_BYTES + 1];
+    cn_quantity quantity = quantity_of(words[1]), trimmed;
+    cn_status status = cn_quantity_figures(&quantity, text, sizeof text);
+    if (status == CN_DONE)
+        status = cn_read_quantity(text, strlen(text), CN_TEN_THOUSAND, &trimmed);
+    put_quantity(status == CN_DONE ? &trimmed : &quantity);
 }
 
 /* What is put of a run that was found in a text. */
@@ -218,7 +257,7 @@ static void put_found_number(const char *text, const cn_span *span) {
 }
 
 static void put_found_quantity(const char *text, const cn_span *span) {
-    put_quantity(text + span->start, span->end - span->start, CN_TEN_THOUSAND);
+    put_quantity_read(text + span->start, span->end - span->start, CN_TEN_THOUSAND);
 }
 
 static void put_flags(const char *text, const cn_span *span) {
@@ -259,6 +298,42 @@ static void answer_find_quantities(char **words) {
     answer_found(words[1], cn_find_next_quantity, put_found_quantity);
 }
 
+static void answer_quantities_to_figures(char **words) {
+    char text[2 * MOST_BYTES_OF_LINE];
+    size_t length;
+    uint32_t included = flags_of(FLAGS, words[1]);
+    put_printed("text",
+                cn_quantities_to_figures(words[2], strlen(words[2]), 0, CN_ZHAO, CN_TEN_THOUSAND,
+                                         included, text, sizeof text, &length), text);
+}
+
+/* Writes what is found in a text, and is no fraction, in numerals; says whether it has. */
+static int write_in_numerals(const char *text, const cn_span *span, char *room, size_t room_length) {
+    cn_quantity quantity;
+    cn_status status = cn_read_quantity(text + span->start, span->end - span->start,
+                                        CN_TEN_THOUSAND, &quantity);
+    if (status != CN_DONE || quantity.form == CN_FRACTION)
+        return 0;
+    status = cn_print_quantity(&quantity, CN_TEN_THOUSAND, CN_SIMPLIFIED, CN_LOWER, room, room_length);
+    return status == CN_DONE;
+}
+
+static void answer_replace_quantities(char **words) {
+    uint32_t left = (CN_ABOUT | CN_ONE_CHARACTER) & ~flags_of(FLAGS, words[1]);
+    const char *text = words[2];
+    size_t length = strlen(text), at = 0;
+    cn_span span = {0, 0, 0};
+    char numerals[CN_MOST_QUANTITY_BYTES + 1];
+    fputs("ok ", stdout);
+    while (cn_find_next_quantity(text, length, 0, CN_ZHAO, &span) == CN_DONE)
+        if ((span.flags & left) == 0
+            && write_in_numerals(text, &span, numerals, sizeof numerals)) {
+            printf("%.*s%s", (int)(span.start - at), text + at, numerals);
+            at = span.end;
+        }
+    fputs(text + at, stdout);
+}
+
 static const struct {
     const char *name;
     size_t words;
@@ -279,6 +354,11 @@ static const struct {
     {"flags", 2, answer_flags},
     {"read_quantity", 3, answer_read_quantity},
     {"find_quantities", 2, answer_find_quantities},
+    {"print_quantity", 5, answer_print_quantity},
+    {"quantity_figures", 2, answer_quantity_figures},
+    {"trim_quantity", 2, answer_trim_quantity},
+    {"quantities_to_figures", 3, answer_quantities_to_figures},
+    {"replace_quantities", 3, answer_replace_quantities},
 };
 
 /* Parts a line into its words, and says how many they are. */
