@@ -1,7 +1,7 @@
 // node face_test.mjs NUMERAL: compares the face with the native program NUMERAL, line by line, and
 // the modules' calls with the header for C. What has no line of the program is compared with what
-// RULES says: amounts, dates, running text and quantities. test_web.py puts the face, the header and the rows
-// beside this file.
+// RULES says: amounts, dates, running text and quantities. test_web.py puts the face, the header and
+// the rows beside this file.
 import assert from 'node:assert/strict';
 import { spawnSync } from 'node:child_process';
 import { existsSync, readFileSync } from 'node:fs';
@@ -680,8 +680,6 @@ function someQuantity() {
   return Quantity.decimal(numerator, form === 'whole' ? 0 : below(39));
 }
 
-const partsOf = ({ numerator, denominator, form }) => [numerator, denominator, form];
-
 // The figures of a quantity, by cutting its digits at the point.
 function figuresOf({ numerator, denominator, form }) {
   const isOfForm = { whole: /^1$/, decimal: /^10+$/, percent: /^100+$/, fraction: /^$/ }[form];
@@ -695,10 +693,11 @@ function figuresOf({ numerator, denominator, form }) {
 
 // What is written is read back; its figures are those of its digits, and read as it is trimmed.
 function compareAQuantity() {
-  const quantity = someQuantity(), [numerator, denominator, form] = partsOf(quantity);
+  const quantity = someQuantity(), { numerator, denominator, form } = quantity;
   const [method, script, letterCase] = [METHODS.slice(1), SCRIPTS, CASES].map(one);
   const text = quantity.toChinese({ method, script, case: letterCase });
-  assert.deepEqual(partsOf(toQuantity(text, { method })).slice(0, 2), [numerator, denominator], text);
+  const read = toQuantity(text, { method });
+  assert.deepEqual([read.numerator, read.denominator], [numerator, denominator], text);
   const figures = quantity.toFigures(), trimmed = quantity.trimmed();
   assert.equal(figures, figuresOf(quantity));
   if (!figures.includes('/')) assert(toQuantity(figures).equals(trimmed), figures);
@@ -782,14 +781,14 @@ function tryReplaced() {
       assert.equal(quantitiesToFigures(part.repeat(count)), figures.repeat(count));
     }
   }
-  assert.equal(replaceQuantities('三百，-5，7', ({ text }) => (text === '-5' ? undefined : text + text)),
-    '三百三百，-5，77');
+  const twice = ({ text }) => (text === '-5' ? undefined : text + text);
+  assert.equal(replaceQuantities('三百，-5，7', twice), '三百三百，-5，77');
   assert.equal(replaceQuantities('5％ 6', () => ''), ' ');
   // The function may search a text itself.
   const within = (found) => replaceQuantities(`(${found.text})`, (it) => it.quantity().toChinese());
   assert.equal(replaceQuantities('12和3', within), '(十二)和(三)');
   refuseNoReplacements();
-  console.log(`replaced: ${replaced} quantities in ${TEXTS} texts, by the module and by a function`);
+  console.log(`replaced: ${replaced} quantities of ${TEXTS} texts, by the module and by a function`);
 }
 
 function refuseNoReplacements() {
