@@ -222,7 +222,7 @@ function valueOf(it) {
     const { start, end } = error;
     const words = reasonOf(error, {
       empty: 'a sign alone',
-      incorrect: `${it.text.slice(start, end)} cannot stand here`,
+      incorrect: `“${it.text.slice(start, end)}” cannot stand here`,
       tooLarge: 'too large',
       tooSmall: 'too small',
     });

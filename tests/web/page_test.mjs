@@ -305,7 +305,7 @@ async function findsQuantities() {
   await type('text', typed);
   assert.deepEqual(await marks('textMirror'), [['3.5万', ''], ['12.5%', ''], ['一', 'left'], ['三百', 'left'], ['五六十', 'fault'], ['三分之一', '']]);
   assert.deepEqual((await marks('found')).map(([it]) => it.split('\u00a0')), [['3.5万', '35000'], ['12.5%', '12.5%'], ['一', '(1)'],
-    ['三百', '(about 300)'], ['五六十', '五 cannot stand here'], ['三分之一', '1/3']]);
+    ['三百', '(about 300)'], ['五六十', '“五” cannot stand here'], ['三分之一', '1/3']]);
   assert.deepEqual(await value(`Array.from(found.querySelectorAll('u'), (it) => it.textContent)`), ['五']);
   assert.equal(await value('textMirror.textContent'), typed);
   assert.deepEqual(await told(), ['6 quantities, 1 refused, 2 left as they stand.', '共35000元，占12.5%，一般三百多人，他五六十歲，剩1/3']);
