@@ -422,20 +422,21 @@ export class DateError extends Refusal {
  */
 export class Quantity {
   /**
-   * A number with so many decimals, from 0 to 38: `Quantity.decimal(314, 2)` is 3.14, and without
-   * decimals it is 'whole'.
+   * A number with so many decimals, from 0 to 38: `Quantity.decimal(314, 2)` is 3.14, and
+   * `Quantity.decimal(3)` is 3, which is 'whole'.
    *
    * @param {bigint | number} numerator
    * @param {number} decimals
    */
-  static decimal(numerator: bigint | number, decimals: number): Quantity;
+  static decimal(numerator: bigint | number, decimals?: number): Quantity;
   /**
-   * A percentage with so many decimals, from 0 to 36: `Quantity.percent(125, 1)` is 12.5%.
+   * A percentage with so many decimals, from 0 to 36: `Quantity.percent(125, 1)` is 12.5%, and
+   * `Quantity.percent(5)` is 5%.
    *
    * @param {bigint | number} numerator
    * @param {number} decimals
    */
-  static percent(numerator: bigint | number, decimals: number): Quantity;
+  static percent(numerator: bigint | number, decimals?: number): Quantity;
   /**
    * A fraction: `Quantity.fraction(1, 3)` is 三分之一.
    *

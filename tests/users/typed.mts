@@ -25,7 +25,7 @@ console.log(toChinese(big), amountToChinese(1500), fen, bigFen, numbers, date.ye
 console.log(fens, bigFens);
 const method: Method = 'low', quantity: Quantity = toQuantity('3.5万', { method });
 const form: QuantityForm = quantity.form, upper: bigint = quantity.numerator;
-const all: Quantity[] = [Quantity.decimal(35, 1), Quantity.percent(5n, 0), Quantity.fraction(1, 3)];
+const all: Quantity[] = [Quantity.decimal(35, 1), Quantity.percent(5n), Quantity.fraction(1, 3)];
 const tenths: Quantity = new Quantity(upper, 10, form).trimmed();
 const written: string = tenths.toChinese({ method, case: 'upper' });
 const expressions: FoundQuantity[] = Array.from(findQuantities(written, { greatest }));

@@ -709,7 +709,7 @@ function compareAQuantity() {
 
 function tryQuantities() {
   for (let i = 0; i < QUANTITIES; i++) compareAQuantity();
-  const greatest = 2n ** 127n - 1n, half = Quantity.percent(50, 0);
+  const greatest = 2n ** 127n - 1n, half = Quantity.percent(50);
   for (const it of [greatest, -greatest - 1n]) assert.equal(toQuantity(String(it)).numerator, it);
   assert.equal(toQuantity(`${2n ** 128n - 1n}分之1`).denominator, 2n ** 128n - 1n);
   for (const [kind, call] of [['i128', () => Quantity.decimal(greatest + 1n, 0)],
@@ -735,7 +735,7 @@ function tryQuantities() {
 function refuseNoQuantities(half) {
   refusesEach([1.5, 2 ** 53, '1', null, undefined], (it) => Quantity.fraction(it, 1));
   refusesEach([1.5, 2 ** 53, '1', null, undefined], (it) => Quantity.fraction(1, it));
-  refusesEach([-1, 1.5, NaN, 1n, '1', undefined], (it) => Quantity.decimal(1, it));
+  refusesEach([-1, 1.5, NaN, 1n, '1', null], (it) => Quantity.percent(1, it));
   refusesEach(['half', 0, null, undefined], (it) => new Quantity(1, 2, it));
   refusesEach([1n, null, undefined, ['一']], (it) => toQuantity(it));
   refusesEach([...NO_OPTIONS, { way: 'low' }, { method: 'any' }], (it) => toQuantity('一', it));
