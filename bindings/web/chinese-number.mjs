@@ -10,7 +10,7 @@
 //     for (const found of findNumbers('第二十三回')) ..  found.number() is 23
 //     toQuantity('3.5万').toFigures()                 '35000'
 //     Quantity.fraction(1, 3).toChinese()             '三分之一'
-//     quantitiesToFigures('占百分之十二点五')         '占12.5%'
+//     quantitiesToFigures('共三点五万元')             '共35000元'
 //
 // What gives a Number gives only one that is exact, a safe integer, and has a second name for the
 // BigInt: there `BigInt` stands for `Number`, or at the end. The module takes no memory of its own:
@@ -290,7 +290,8 @@ const UNITS_OF = Array.from({ length: MOST_PRINTED / 3 + 1 }, (_, it) => Array(i
 let words;
 /** @type {Int32Array} The halves of these and of the spans, each lower one first. */
 let halves;
-const LENGTH_WORD = 7, LENGTH_HALF = 14, SPANS_HALF = 16;
+// Where parts of these stand.
+const FORM_HALF = 8, LENGTH_WORD = 7, LENGTH_HALF = 14, SPANS_HALF = 16;
 /** @type {Uint8Array} */
 let text = new Uint8Array(0);
 
@@ -502,7 +503,7 @@ function safeNumber(kind) {
   return number;
 }
 
-/** @param {number} kind That of the number that was read. @param {number} word Its first one. */
+/** @param {number} kind That of a number that was read. @param {number} word Where it begins. */
 function wholeNumber(kind, word = 0) {
   const low = BigInt.asUintN(64, words[word]);
   if (halves[2 * word + 2] === 0 && halves[2 * word + 3] === 0) return low;
@@ -941,7 +942,7 @@ const methodOf = (options) => FIRST_METHOD + codeOf(METHOD, options.method);
 function lendWith({ numerator, denominator, form }) {
   lend(Number(MOST_QUANTITY_BYTES));
   words.set([numerator, numerator >> 64n, denominator, denominator >> 64n]);
-  halves[8] = QUANTITY_FORMS.indexOf(form);
+  halves[FORM_HALF] = QUANTITY_FORMS.indexOf(form);
 }
 
 // The text that was written from a byte on.
@@ -970,7 +971,7 @@ export function toQuantity(string, options = NO_OPTIONS) {
     TEXT_AT, words[LENGTH_WORD], method, READING_AT));
   if (status !== DONE) throw new NumeralError(STATUSES[status], undefined, placeOf(status, 5));
   return new Quantity(
-    wholeNumber(NUMERATOR), wholeNumber(DENOMINATOR, 2), QUANTITY_FORMS[halves[8]]);
+    wholeNumber(NUMERATOR), wholeNumber(DENOMINATOR, 2), QUANTITY_FORMS[halves[FORM_HALF]]);
 }
 
 /** Where a number or an expression stands in a text, and what is told of it. */
@@ -1112,15 +1113,15 @@ const expressionsOf = (string, options) =>
   foundIn(string, spansOf(string, options, 'chinese_quantity_find_utf8'), FoundQuantity);
 
 /**
- * @template {Span} Its
+ * @template {Span} Item
  * @param {string} string
  * @param {{ start: number, end: number, flags: number }[]} spans
- * @param {new (start: number, text: string, flags: number) => Its} Its
- * @returns {Generator<Its, void, undefined>}
+ * @param {new (start: number, text: string, flags: number) => Item} Item
+ * @returns {Generator<Item, void, undefined>}
  */
-function* foundIn(string, spans, Its) {
+function* foundIn(string, spans, Item) {
   for (const { start, end, flags } of spans) {
-    yield new Its(start, string.slice(start, end), flags);
+    yield new Item(start, string.slice(start, end), flags);
   }
 }
 
