@@ -1,7 +1,7 @@
 // node face_test.mjs NUMERAL: compares the face with the native program NUMERAL, line by line, and
 // the modules' calls with the header for C. What has no line of the program is compared with what
-// RULES says: amounts, dates, running text and quantities. test_web.py puts the face, the header and
-// the rows beside this file.
+// RULES says: amounts, dates, running text and quantities. test_web.py puts the face, the header
+// and the rows beside this file.
 import assert from 'node:assert/strict';
 import { spawnSync } from 'node:child_process';
 import { existsSync, readFileSync } from 'node:fs';
@@ -788,7 +788,7 @@ function tryReplaced() {
   const within = (found) => replaceQuantities(`(${found.text})`, (it) => it.quantity().toChinese());
   assert.equal(replaceQuantities('12和3', within), '(十二)和(三)');
   refuseNoReplacements();
-  console.log(`replaced: ${replaced} quantities of ${TEXTS} texts, by the module and by a function`);
+  console.log(`replaced: ${replaced} quantities of ${TEXTS} texts, by the module and a function`);
 }
 
 function refuseNoReplacements() {
