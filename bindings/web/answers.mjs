@@ -2,20 +2,22 @@
 import { readFileSync } from 'node:fs';
 
 import {
-  amountToChinese, chineseToAmountAsTypedBigInt, chineseToAmountBigInt, chineseToDate,
-  chineseToSignedAmountBigInt, dateToChinese, findNumbers, signedAmountToChinese, toBigInt,
-  toChinese, yuanToFenBigInt,
+  Quantity, amountToChinese, chineseToAmountAsTypedBigInt, chineseToAmountBigInt, chineseToDate,
+  chineseToSignedAmountBigInt, dateToChinese, findNumbers, findQuantities, quantitiesToFigures,
+  replaceQuantities, signedAmountToChinese, toBigInt, toChinese, toQuantity, yuanToFenBigInt,
 } from './chinese-number.mjs';
 
 // The words of a question that this face has others for.
 const OTHERS = { naive: 'digits', ten_thousand: 'tenThousand', simple: 'simplified' };
 const named = (word) => OTHERS[word] ?? word;
 
-// What a word of a form sets; `plain` sets nothing.
-const FORMS = {
+// What a word of a form, or of what is included, sets; `plain` and `none` set nothing.
+const SETS = {
   plain: {}, currency: { currency: true }, round_yuan: { yuan: '圆' },
-  upright_closing: { closing: '正' },
+  upright_closing: { closing: '正' }, none: {}, about: { about: true },
+  one: { oneCharacter: true },
 };
+const optionsOf = (words) => Object.assign({}, ...words.split('+').map((it) => SETS[it]));
 
 function told(call) {
   try {
@@ -26,8 +28,7 @@ function told(call) {
 }
 
 function printAmountAs(script, form, fen) {
-  const options = form.split('+').map((it) => FORMS[it]);
-  return amountToChinese(BigInt(fen), Object.assign({ script: named(script) }, ...options));
+  return amountToChinese(BigInt(fen), { script: named(script), ...optionsOf(form) });
 }
 
 function readDate(text) {
@@ -41,10 +42,31 @@ function printDate(script, date) {
   return dateToChinese({ year, month, day }, { script: named(script) });
 }
 
-function find(text) {
+function quantityOf(words) {
+  const [, numerator, denominator, form] = /^(.*)\/(.*) (.*)$/.exec(words);
+  return new Quantity(BigInt(numerator), BigInt(denominator), form);
+}
+
+const shown = ({ numerator, denominator, form }) => `${numerator}/${denominator} ${form}`;
+
+function flagsOf(found) {
+  const flags = {
+    plain: found.isPlain, alone: found.standsAlone, about: found.isAbout,
+    one: found.isOneCharacter,
+  };
+  return Object.keys(flags).filter((it) => flags[it]).join(' ');
+}
+
+const numeralsUnlessFraction = (found) => {
+  const quantity = found.quantity();
+  return quantity.form === 'fraction' ? undefined : quantity.toChinese();
+};
+
+// The text with what is told of each that is found in it in its place.
+function inPlace(search, text, tell) {
   let done = '', at = 0;
-  for (const found of findNumbers(text)) {
-    done += `${text.slice(at, found.start)}[${told(() => found.bigInt())}]`;
+  for (const found of search(text)) {
+    done += `${text.slice(at, found.start)}[${tell(found)}]`;
     at = found.end;
   }
   return done + text.slice(at);
@@ -64,7 +86,18 @@ const calls = {
   yuan_to_fen: yuanToFenBigInt,
   read_date: readDate,
   print_date: printDate,
-  find,
+  find: (text) => inPlace(findNumbers, text, (found) => told(() => found.bigInt())),
+  flags: (text) => inPlace(findNumbers, text, flagsOf),
+  read_quantity: (way, text) => shown(toQuantity(text, { method: named(way) })),
+  find_quantities: (text) => inPlace(findQuantities, text,
+    (found) => told(() => shown(found.quantity()))),
+  print_quantity: (way, script, letterCase, words) => quantityOf(words).toChinese(
+    { method: named(way), script: named(script), case: letterCase }),
+  quantity_figures: (words) => quantityOf(words).toFigures(),
+  trim_quantity: (words) => shown(quantityOf(words).trimmed()),
+  quantities_to_figures: (included, text) => quantitiesToFigures(text, optionsOf(included)),
+  replace_quantities: (included, text) =>
+    replaceQuantities(text, numeralsUnlessFraction, optionsOf(included)),
 };
 
 for (const line of readFileSync(0, 'utf8').split('\n').slice(0, -1)) {

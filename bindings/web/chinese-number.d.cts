@@ -15,6 +15,9 @@ export const KINDS: readonly ['u8', 'u16', 'u32', 'u64', 'u128', 'i8', 'i16', 'i
  */
 export const WAYS: readonly ['digits', 'low', 'tenThousand', 'middle', 'high', 'any'];
 
+/** The methods: the ways with units, by which an exact quantity is read and written. */
+export const METHODS: readonly ['low', 'tenThousand', 'middle', 'high'];
+
 /** The scripts. */
 export const SCRIPTS: readonly ['traditional', 'simplified'];
 
@@ -30,12 +33,17 @@ export const UNITS: readonly [
   'zheng', 'zai', 'ji',
 ];
 
+/** How a quantity is written: 35, 3.5, 12.5%, and 三分之一 or 百分之五十. */
+export const QUANTITY_FORMS: readonly ['whole', 'decimal', 'percent', 'fraction'];
+
 export type Kind = (typeof KINDS)[number];
 export type Way = (typeof WAYS)[number];
 export type PrintWay = Exclude<Way, 'any'>;
+export type Method = (typeof METHODS)[number];
 export type Script = (typeof SCRIPTS)[number];
 export type Case = (typeof CASES)[number];
 export type Unit = (typeof UNITS)[number];
+export type QuantityForm = (typeof QUANTITY_FORMS)[number];
 export type Yuan = '元' | '圆';
 export type Closing = '整' | '正';
 export type ReadOptions = { kind?: Kind; way?: Way };
@@ -43,6 +51,9 @@ export type PrintOptions = { kind?: Kind; way?: PrintWay; script?: Script; case?
 export type ScriptOptions = { script?: Script };
 export type AmountOptions = { script?: Script; currency?: boolean; yuan?: Yuan; closing?: Closing };
 export type Wanted = { upper?: boolean; greatest?: Unit };
+export type MethodOptions = { method?: Method };
+export type QuantityOptions = { method?: Method; script?: Script; case?: Case };
+export type ReplaceOptions = Wanted & MethodOptions & { about?: boolean; oneCharacter?: boolean };
 export type BillDate = { year: number; month: number; day: number };
 export type Place = { charIndex: number; start: number; end: number };
 export type NumeralCode =
@@ -52,6 +63,7 @@ export type NumeralCode =
   | 'tooSmall'
   | 'unsafe'
   | 'notHeld'
+  | 'notAQuantity'
   | 'outOfMemory';
 export type AmountCode = 'unfinished' | 'incorrect' | 'tooLarge' | 'tooSmall' | 'unsafe';
 export type DateCode = 'unfinished' | 'incorrect' | 'notADate';
@@ -254,6 +266,68 @@ export function chineseToDate(string: string): BillDate;
  */
 export function findNumbers(string: string, options?: Wanted): Generator<Found, void, undefined>;
 
+/**
+ * Reads an exact quantity, as it is written: that of '3.5万' is 350000/10, a decimal, of '12.5%'
+ * 125/1000, and of '三分之一' 1/3.
+ *
+ * It is a whole number, a decimal, a percentage or a fraction, in figures, in numerals or in both,
+ * with one sign in front or none; white space is left out. It is read by a method, else
+ * 'tenThousand'. Throws a NumeralError where the text is none or its numbers are too large, and a
+ * TypeError where it is no string, or an option or what it names is unknown.
+ *
+ * @param {string} string
+ * @param {MethodOptions} options
+ * @returns {Quantity}
+ */
+export function toQuantity(string: string, options?: MethodOptions): Quantity;
+
+/**
+ * Finds the expressions of a text, as `findNumbers` finds its numbers: numbers with their sign,
+ * figures, point and units, percentages and fractions. Of '占12.5%，共3.5万' these are 12.5% and 3.5万.
+ *
+ * @param {string} string
+ * @param {Wanted} options
+ * @returns {Generator<FoundQuantity, void, undefined>}
+ */
+export function findQuantities(
+  string: string,
+  options?: Wanted,
+): Generator<FoundQuantity, void, undefined>;
+
+/**
+ * Puts other texts in the place of the expressions of a text: with `(found) =>
+ * found.quantity().toChinese()` '占12.5%' becomes '占百分之十二点五'.
+ *
+ * Each expression that `findQuantities` finds, and `toQuantity` reads by the method, is handed to a
+ * function, which gives the text that stands in its place, or undefined, and then it stays. Those
+ * that are about so much, or one Chinese character, stay too, unless `about` or `oneCharacter` is
+ * true. Throws what the function throws, and a TypeError where it gives anything else, or as
+ * `findQuantities` does.
+ *
+ * @param {string} string
+ * @param {(found: FoundQuantity) => string | undefined} replacement
+ * @param {ReplaceOptions} options
+ * @returns {string}
+ */
+export function replaceQuantities(
+  string: string,
+  replacement: (found: FoundQuantity) => string | undefined,
+  options?: ReplaceOptions,
+): string;
+
+/**
+ * Puts figures in the place of the expressions of a text: '共3.5万元，占12.50%' becomes
+ * '共35000元，占12.5%'.
+ *
+ * They are those of `toFigures`, and stand for each expression that `replaceQuantities` hands on.
+ * All else of the text stays. Throws a TypeError as `findQuantities` does.
+ *
+ * @param {string} string
+ * @param {ReplaceOptions} options
+ * @returns {string}
+ */
+export function quantitiesToFigures(string: string, options?: ReplaceOptions): string;
+
 /** A refusal, with the place of the character at fault where there is one. */
 declare class Refusal extends Error {
   /**
@@ -273,7 +347,7 @@ declare class Refusal extends Error {
 }
 
 /**
- * Why a text was not read, or a number not printed.
+ * Why a text was not read, or a number or a quantity not printed.
  *
  * `code` is
  * - 'empty': nothing is left of the text without its white space and, for a signed type, one sign;
@@ -281,7 +355,8 @@ declare class Refusal extends Error {
  * - 'tooLarge', 'tooSmall': the number read does not fit the type, or by 'low' the number has no
  *   text;
  * - 'unsafe': the number read is no safe integer, so a Number does not hold it exactly;
- * - 'notHeld': the type does not hold the number that is to be printed;
+ * - 'notHeld': the type does not hold the number that is to be printed, or a number of a quantity;
+ * - 'notAQuantity': the denominator is 0;
  * - 'outOfMemory': the host has no memory for the text, which may be that of any call.
  */
 export class NumeralError extends Refusal {
@@ -292,7 +367,10 @@ export class NumeralError extends Refusal {
    */
   constructor(code: NumeralCode, kind?: Kind, place?: Place);
   code: NumeralCode;
-  /** The integer type that the number was to have; at 'outOfMemory' none is named. */
+  /**
+   * The integer type that the number was to have; of a quantity that is read or written, and at
+   * 'outOfMemory', none is named.
+   */
   kind: Kind | undefined;
 }
 
@@ -333,14 +411,97 @@ export class DateError extends Refusal {
   code: DateCode;
 }
 
-/** A number in its text, as findNumbers gives it. */
-export class Found {
+/**
+ * An exact quantity, as it is written and not reduced: 12.5% is 125/1000, of the form 'percent'.
+ *
+ * The numerator may be below 0, and the denominator is above it; both have at most 128 bits. A
+ * quantity does not change. `toQuantity` reads one of a text, as of '-3.50'; `Quantity.decimal`,
+ * `Quantity.percent` and `Quantity.fraction` make one of numbers. These, and the constructor, throw
+ * a NumeralError where the denominator is 0 or a number has more bits, and a TypeError where a
+ * number is no BigInt and no whole Number that is exact, or there is no such form.
+ */
+export class Quantity {
+  /**
+   * A number with so many decimals, from 0 to 38: `Quantity.decimal(314, 2)` is 3.14, and
+   * `Quantity.decimal(3)` is 3, which is 'whole'.
+   *
+   * @param {bigint | number} numerator
+   * @param {number} decimals
+   */
+  static decimal(numerator: bigint | number, decimals?: number): Quantity;
+  /**
+   * A percentage with so many decimals, from 0 to 36: `Quantity.percent(125, 1)` is 12.5%, and
+   * `Quantity.percent(5)` is 5%.
+   *
+   * @param {bigint | number} numerator
+   * @param {number} decimals
+   */
+  static percent(numerator: bigint | number, decimals?: number): Quantity;
+  /**
+   * A fraction: `Quantity.fraction(1, 3)` is 三分之一.
+   *
+   * @param {bigint | number} numerator
+   * @param {bigint | number} denominator
+   */
+  static fraction(numerator: bigint | number, denominator: bigint | number): Quantity;
+  /**
+   * @param {bigint | number} numerator
+   * @param {bigint | number} denominator
+   * @param {QuantityForm} form
+   */
+  constructor(numerator: bigint | number, denominator: bigint | number, form: QuantityForm);
+  /** The number above the line. */
+  readonly numerator: bigint;
+  /** The number below the line. */
+  readonly denominator: bigint;
+  /** How it is written. */
+  readonly form: QuantityForm;
+  /**
+   * Whether another one has the same numerator, denominator and form.
+   *
+   * @param {Quantity} other
+   */
+  equals(other: Quantity): boolean;
+  /**
+   * The whole number that it is, as a BigInt, or null where it is none: 35000n of 3.5万, and null of
+   * 3.5.
+   */
+  toWhole(): bigint | null;
+  /**
+   * The same quantity without the zeros at the end of its decimals: 3.10 is 3.1, and 3.5万 35000,
+   * which is 'whole'. A fraction stays, and so does what has no denominator of its form.
+   */
+  trimmed(): Quantity;
+  /**
+   * Its text, which `toQuantity` reads by the same method as the same numerator and denominator:
+   * 三点一四 of 3.14, 百分之十二点五 of 12.5%, 三分之一 of 1/3. What has no denominator of its form is
+   * written as a fraction.
+   *
+   * It is written by a method, else 'tenThousand', in a script, else 'simplified', and a case, else
+   * 'lower'. Throws a NumeralError where 'low' has no text for one of its numbers, and a TypeError
+   * where an option or what it names is unknown.
+   *
+   * @param {QuantityOptions} options
+   * @returns {string}
+   */
+  toChinese(options?: QuantityOptions): string;
+  /**
+   * Its figures, without zeros at the end of its decimals: '35000' of 3.5万, '-3.5', '12.5%', '1/3',
+   * and '50/100' of 百分之五十.
+   *
+   * @returns {string}
+   */
+  toFigures(): string;
+}
+
+/** Where a number or an expression stands in a text, and what is told of it. */
+declare class Span {
   /**
    * @param {number} start
    * @param {string} text
-   * @param {boolean} isPlain
+   * @param {number} flags
    */
-  constructor(start: number, text: string, isPlain: boolean);
+  constructor(start: number, text: string, flags: number);
   /**
    * Where it starts in the string, in UTF-16 code units, as setSelectionRange and slice take it.
    */
@@ -351,6 +512,16 @@ export class Found {
   text: string;
   /** Whether it is plain digits: 二零二五 is, 十 is not. */
   isPlain: boolean;
+  /** Whether it goes on to neither side: 二十三 of 第二十三回 does not, the 4 of A4 does. */
+  standsAlone: boolean;
+  /** Whether it is about so much, as 十 of 十几, and 五六. */
+  isAbout: boolean;
+  /** Whether it is one Chinese character, as 一 of 一般. */
+  isOneCharacter: boolean;
+}
+
+/** A number in its text, as findNumbers gives it. */
+export class Found extends Span {
   /**
    * The number, as toNumber reads its text: as plain digits where it is those, else by the way that
    * is named.
@@ -376,6 +547,26 @@ export class Found {
    * @returns {number | null}
    */
   value(options?: ReadOptions): number | null;
+}
+
+/** An expression in its text, as findQuantities gives it. */
+export class FoundQuantity extends Span {
+  /**
+   * The quantity, as toQuantity reads its text.
+   *
+   * Throws what toQuantity throws; a place counts within the expression's own text.
+   *
+   * @param {MethodOptions} options
+   * @returns {Quantity}
+   */
+  quantity(options?: MethodOptions): Quantity;
+  /**
+   * The quantity, or null where its text is refused, as 五六十. Else throws what `quantity` throws.
+   *
+   * @param {MethodOptions} options
+   * @returns {Quantity | null}
+   */
+  value(options?: MethodOptions): Quantity | null;
 }
 
 export {};

@@ -1,14 +1,18 @@
 // The page: numerals, and amounts and dates in capitals, are read at each key; those in figures are
-// written; and the numbers of a text are marked. What was typed goes into the page as text alone,
-// by textContent and by the strings of append and replaceChildren.
+// written; and the quantities of a text are marked, and put into figures. What was typed goes into
+// the page as text alone, by textContent and by the strings of append and replaceChildren.
 
 const {
   readingNumerals, writingNumerals, readingAmounts, writingAmounts, readingDates, writingDates,
   searching,
 } = document.forms;
-const IDS = ['loading', 'kind', 'way', 'text', 'textMirror', 'upper', 'count', 'found'];
-const [loading, kind, way, text, textMirror, upper, count, found] =
-  IDS.map((id) => document.getElementById(id));
+const IDS = [
+  'loading', 'kind', 'way', 'text', 'textMirror', 'upper', 'about', 'oneCharacter', 'count',
+  'found', 'replaced',
+];
+const [
+  loading, kind, way, text, textMirror, upper, about, oneCharacter, count, found, replaced,
+] = IDS.map((id) => document.getElementById(id));
 
 // In the order in which they are offered.
 const WAY_NAMES = {
@@ -24,13 +28,15 @@ try {
   throw error;
 }
 const {
-  CASES, KINDS, amountToChinese, chineseToAmountBigInt, chineseToDate, dateToChinese, findNumbers,
-  toBigInt, toChinese, yuanToFenBigInt,
+  CASES, KINDS, METHODS, amountToChinese, chineseToAmountBigInt, chineseToDate, dateToChinese,
+  findQuantities, quantitiesToFigures, toBigInt, toChinese, yuanToFenBigInt,
 } = library;
 const SCRIPTS = ['simplified', 'traditional'];
 const options = () => ({ kind: kind.value, way: way.value });
 // What is read by any way is written by ten thousand.
 const optionsToWrite = () => (way.value === 'any' ? { kind: kind.value } : options());
+// A quantity is read by a method, which digits and any are not.
+const byMethod = () => (METHODS.includes(way.value) ? { method: way.value } : {});
 
 function element(name, ...parts) {
   const it = document.createElement(name);
@@ -65,11 +71,11 @@ function reasonOfPlace(typed, { charIndex, start, end }) {
 
 const partsOf = (form, ...selectors) => selectors.map((it) => form.querySelector(it));
 
-// What a field's mirror has: the text with the character at fault marked, or nothing.
-function mirrored(typed, fault) {
-  if (!fault) return [];
+// A text in parts, of which the one at fault, where there is one, is an element.
+function partsAround(typed, fault, name) {
+  if (!fault) return [typed];
   const { start, end } = fault;
-  return [typed.slice(0, start), element('mark', typed.slice(start, end)), typed.slice(end)];
+  return [typed.slice(0, start), element(name, typed.slice(start, end)), typed.slice(end)];
 }
 
 // Has a form's field read at each key: what `read` gives or throws is said, and the character at
@@ -93,7 +99,7 @@ function readAtEachKey(form, read, words) {
       const reason = fault ? reasonOfPlace(typed, fault) : reasonOf(error, words(typed));
       say(field, output, reason, !['empty', 'unfinished'].includes(error.code));
     }
-    mirror.replaceChildren(...mirrored(typed, fault));
+    mirror.replaceChildren(...(fault ? partsAround(typed, fault, 'mark') : []));
     follow();
   }
 
@@ -207,54 +213,79 @@ const writeDate = writeAtEachKey(writingDates, textsOfDate, () => ({
   notADate: 'There is no such date.',
 }), BEGUN_DATE);
 
-// What a number of the text is, or why it is refused, in few words; and whether it is refused.
+// What an expression of the text is in figures, or why it is refused, in few words; and where the
+// character at fault is.
 function valueOf(it) {
   try {
-    return [String(it.bigInt(options())), false];
+    return { words: it.quantity(byMethod()).toFigures() };
   } catch (error) {
-    return [reasonOf(error, {
+    const { start, end } = error;
+    const words = reasonOf(error, {
       empty: 'a sign alone',
-      incorrect: `${it.text.slice(error.start, error.end)} cannot stand here`,
-      tooLarge: `too large for ${kind.value}`,
-    }), true];
+      incorrect: `“${it.text.slice(start, end)}” cannot stand here`,
+      tooLarge: 'too large',
+      tooSmall: 'too small',
+    });
+    return { words, fault: { start: start ?? 0, end: end ?? it.text.length } };
   }
 }
 
-function markOf(isFault, ...parts) {
+// Whether an expression is replaced only where that is asked for, and is not.
+const isLeft = (it) =>
+  (it.isAbout && !about.checked) || (it.isOneCharacter && !oneCharacter.checked);
+
+// The class of an expression's marks, and what stands behind the one below: its value, that of one
+// that is left in brackets, or its refusal.
+function tellOf(it, { words, fault }) {
+  if (fault) return ['fault', words];
+  const told = it.isAbout ? `about ${words}` : words;
+  return isLeft(it) ? ['left', `(${told})`] : ['', told];
+}
+
+function markOf(name, ...parts) {
   const it = element('mark', ...parts);
-  it.classList.toggle('fault', isFault);
+  it.className = name;
   return it;
 }
 
-// Marks numbers of a text in place, and below it each with its value or its refusal. Gives how many
-// are refused.
-function show(typed, numbers) {
-  const inPlace = new DocumentFragment(), below = new DocumentFragment();
-  let at = 0, refused = 0;
-  for (const it of numbers) {
-    const [words, isFault] = valueOf(it), before = typed.slice(at, it.start);
-    inPlace.append(before, markOf(isFault, it.text));
-    below.append(before, markOf(isFault, it.text, '\u00a0', element('small', words)));
+// Marks the expressions of a text in place, and below it each with its value or its refusal, and
+// the character at fault. Gives how many there are of each class.
+function show(typed, expressions) {
+  const inPlace = new DocumentFragment(), below = new DocumentFragment(), counts = {};
+  let at = 0;
+  for (const it of expressions) {
+    const value = valueOf(it), [name, words] = tellOf(it, value);
+    const before = typed.slice(at, it.start), parts = partsAround(it.text, value.fault, 'u');
+    inPlace.append(before, markOf(name, it.text));
+    below.append(before, markOf(name, ...parts, '\u00a0', element('small', words)));
     at = it.end;
-    if (isFault) refused++;
+    counts[name] = (counts[name] ?? 0) + 1;
   }
   textMirror.replaceChildren(inPlace, typed.slice(at));
   found.replaceChildren(below, typed.slice(at));
-  return refused;
+  return counts;
+}
+
+// How many there are, how many are refused, and how many are left as they stand.
+function summary({ length }, { fault, left }) {
+  const parts = [`${length} ${length === 1 ? 'quantity' : 'quantities'}`];
+  if (fault) parts.push(`${fault} refused`);
+  if (left) parts.push(`${left} left as ${left === 1 ? 'it stands' : 'they stand'}`);
+  return `${parts.join(', ')}.`;
 }
 
 function search() {
-  const typed = text.value;
-  const wanted = upper.checked ? { upper: true, greatest: 'ji' } : {};
-  let numbers = [], reason = '';
+  const typed = text.value, wanted = upper.checked ? { upper: true, greatest: 'ji' } : {};
+  const included = { about: about.checked, oneCharacter: oneCharacter.checked };
+  let expressions = [], inFigures = '', reason = '';
   try {
-    numbers = Array.from(findNumbers(typed, wanted));
+    expressions = Array.from(findQuantities(typed, wanted));
+    inFigures = quantitiesToFigures(typed, { ...wanted, ...byMethod(), ...included });
   } catch (error) {
     reason = reasonOf(error, {});
   }
-  const refused = show(typed, numbers), { length } = numbers;
-  const words = `${length} ${length === 1 ? 'number' : 'numbers'}`;
-  const all = refused ? `${words}, ${refused} refused.` : `${words}.`;
+  replaced.textContent = inFigures;
+  const all = summary(expressions, show(typed, expressions));
   say(text, count, reason || (typed === '' ? 'No text yet.' : all), reason !== '');
 }
 
@@ -268,7 +299,7 @@ text.addEventListener('input', (event) => {
   else search();
 });
 text.addEventListener('compositionend', search);
-upper.addEventListener('change', search);
+for (const it of [upper, about, oneCharacter]) it.addEventListener('change', search);
 searching.addEventListener('submit', (event) => event.preventDefault());
 for (const it of [kind, way]) {
   it.addEventListener('change', () => {

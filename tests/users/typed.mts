@@ -4,7 +4,10 @@ import { chineseToAmountAsTyped, chineseToAmountAsTypedBigInt } from 'chinese-nu
 import { chineseToSignedAmount, chineseToSignedAmountBigInt } from 'chinese-number-proved';
 import { signedAmountToChinese, yuanToFen, yuanToFenBigInt } from 'chinese-number-proved';
 import { chineseToDate, dateToChinese, findNumbers } from 'chinese-number-proved';
+import { Quantity, findQuantities, toQuantity } from 'chinese-number-proved';
+import { quantitiesToFigures, replaceQuantities } from 'chinese-number-proved';
 import type { BillDate, Kind, NumeralCode, PrintWay, Unit, Way } from 'chinese-number-proved';
+import type { FoundQuantity, Method, QuantityForm } from 'chinese-number-proved';
 import { toNumber as other } from 'chinese-number-proved/files';
 const way: Way = 'any', printWay: PrintWay = 'tenThousand', greatest: Unit = 'yi';
 const value: number = toNumber('一', { kind: 'u64', way }), big: bigint = toBigInt('一', { way });
@@ -20,6 +23,15 @@ const numbers: (number | null)[] = found;
 const date: BillDate = chineseToDate(dateToChinese({ year: 2026, month: 1, day: 15 }));
 console.log(toChinese(big), amountToChinese(1500), fen, bigFen, numbers, date.year);
 console.log(fens, bigFens);
+const method: Method = 'low', quantity: Quantity = toQuantity('3.5万', { method });
+const form: QuantityForm = quantity.form, upper: bigint = quantity.numerator;
+const all: Quantity[] = [Quantity.decimal(35, 1), Quantity.percent(5n), Quantity.fraction(1, 3)];
+const tenths: Quantity = new Quantity(upper, 10, form).trimmed();
+const written: string = tenths.toChinese({ method, case: 'upper' });
+const expressions: FoundQuantity[] = Array.from(findQuantities(written, { greatest }));
+const isAbout: boolean[] = expressions.map((it) => it.isAbout || it.isOneCharacter);
+const replaced: string = replaceQuantities(text, (it) => it.value()?.toFigures(), { about: true });
+console.log(all.map((it) => it.toWhole() ?? 0n), isAbout, replaced, quantitiesToFigures(text));
 try {
   other(text);
 } catch (error) {
@@ -47,5 +59,11 @@ amountToChinese('15');
 yuanToFen(['15']);
 // @ts-expect-error: a Date is an instant
 dateToChinese(new Date());
+// @ts-expect-error: plain digits are no method
+toQuantity('一', { method: 'digits' });
+// @ts-expect-error: no such form
+new Quantity(1, 2, 'half');
+// @ts-expect-error: what stands in the place of an expression is a text
+replaceQuantities('一', () => 1);
 // @ts-expect-error: what is not for users has no name here
 import type { MESSAGES } from 'chinese-number-proved';

@@ -4,6 +4,7 @@ import * as files from 'chinese-number-proved/files';
 for (const { CASES, toBigInt, toChinese, toNumber, NumeralError, ...other } of [face, files]) {
   const { amountToChinese, chineseToAmount, AmountError, yuanToFen, findNumbers } = other;
   const { chineseToDate, dateToChinese, DateError } = other;
+  const { Quantity, findQuantities, quantitiesToFigures, replaceQuantities, toQuantity } = other;
   deepEqual(CASES, ['upper', 'lower']);
   equal(toChinese(120, { script: 'traditional', case: 'upper' }), '壹佰貳拾');
   equal(JSON.stringify(['一百二', '一二〇'].map((it) => toNumber(it))), '[120,120]');
@@ -25,4 +26,15 @@ for (const { CASES, toBigInt, toChinese, toNumber, NumeralError, ...other } of [
     && error.code === 'notADate');
   const found = Array.from(findNumbers('😀百分之二十三'), (it) => [it.start, it.end, it.value()]);
   deepEqual(found, [[2, 3, null], [5, 8, 23]]);
+  const half = toQuantity('12.5%');
+  deepEqual([half.numerator, half.denominator, half.form], [125n, 1000n, 'percent']);
+  equal(half.equals(Quantity.percent(125, 1)), true);
+  equal(half.toChinese({ script: 'traditional' }), '百分之十二點五');
+  equal(toQuantity('3.50万').trimmed().toWhole(), 35000n);
+  const text = '😀共3.5万元，占12.5%，十几人';
+  deepEqual(Array.from(findQuantities(text), (it) => [it.start, it.isAbout]),
+    [[3, false], [10, false], [16, true]]);
+  equal(quantitiesToFigures(text), '😀共35000元，占12.5%，十几人');
+  equal(replaceQuantities(text, (it) => it.value()?.toChinese(), { about: true }),
+    '😀共三万五千点零元，占百分之十二点五，十几人');
 }

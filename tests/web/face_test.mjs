@@ -1,22 +1,25 @@
 // node face_test.mjs NUMERAL: compares the face with the native program NUMERAL, line by line, and
 // the modules' calls with the header for C. What has no line of the program is compared with what
-// RULES says: amounts, dates and running text. test_web.py puts the face, the header and the rows
-// beside this file.
+// RULES says: amounts, dates, running text and quantities. test_web.py puts the face, the header
+// and the rows beside this file.
 import assert from 'node:assert/strict';
 import { spawnSync } from 'node:child_process';
 import { existsSync, readFileSync } from 'node:fs';
 import * as face from './files/chinese-number.mjs';
 
-const { CASES, KINDS, SCRIPTS, UNITS, WAYS, AmountError, DateError, Found, NumeralError } = face;
+const { CASES, KINDS, METHODS, QUANTITY_FORMS, SCRIPTS, UNITS, WAYS } = face;
+const { AmountError, DateError, Found, FoundQuantity, NumeralError } = face;
 const { findNumbers, toBigInt, toChinese, toNumber, chineseToDate, dateToChinese } = face;
 const { amountToChinese, chineseToAmount, chineseToAmountBigInt } = face;
 const { signedAmountToChinese, chineseToSignedAmount, chineseToSignedAmountBigInt } = face;
 const { chineseToAmountAsTyped, chineseToAmountAsTypedBigInt } = face;
 const { yuanToFen, yuanToFenBigInt } = face;
+const { Quantity, findQuantities, quantitiesToFigures, replaceQuantities, toQuantity } = face;
 
 const [program] = process.argv.slice(2);
 const textOf = (path) => readFileSync(new URL(path, import.meta.url), 'utf8');
 const READINGS = 60_000, PRINTINGS = 30_000, AMOUNTS = 20_000, DATES = 20_000, TEXTS = 20_000;
+const QUANTITIES = 20_000;
 const LETTERS = Array.from('零〇一二三四五六七八九十百千萬万億亿兆京垓秭壹貳叁肆伍陸柒捌玖拾佰仟兩两負负正個角分廿'
   + ' \t　x1１⼀é￿😀𠀀');
 const DIGITS = '零〇一二三四五六七八九兩两壹貳貮贰參叁叄参肆伍陸陆柒捌玖0123456789';
@@ -607,7 +610,8 @@ function compareTheNumbersOf(characters) {
     return { start, end, text: parts.join(''), isPlain: parts.every((it) => DIGITS.includes(it)) };
   });
   const ours = Array.from(findNumbers(string, wanted));
-  assert.deepEqual(ours.map((it) => ({ ...it })), theirs, string);
+  const told = ours.map(({ start, end, text, isPlain }) => ({ start, end, text, isPlain }));
+  assert.deepEqual(told, theirs, string);
   for (const it of ours) {
     assert.equal(string.slice(it.start, it.end), it.text);
     compareANumber(it, options);
@@ -666,6 +670,143 @@ function tryFound() {
   console.log('found numbers: as wanted');
 }
 
+// A quantity of a form, of which one in four has a denominator that is not of it.
+function someQuantity() {
+  const numerator = BigInt.asIntN(128, someNumber('i128')), form = one(QUANTITY_FORMS);
+  if (form === 'fraction' || below(4) === 0) {
+    return new Quantity(numerator, 1n + BigInt.asUintN(127, someNumber('u128')), form);
+  }
+  if (form === 'percent') return Quantity.percent(numerator, below(37));
+  return Quantity.decimal(numerator, form === 'whole' ? 0 : below(39));
+}
+
+// The figures of a quantity, by cutting its digits at the point.
+function figuresOf({ numerator, denominator, form }) {
+  const isOfForm = { whole: /^1$/, decimal: /^10+$/, percent: /^100+$/, fraction: /^$/ }[form];
+  if (!isOfForm.test(denominator)) return `${numerator}/${denominator}`;
+  const decimals = String(denominator).length - (form === 'percent' ? 3 : 1);
+  const [, sign, digits] = /^(-?)(.*)$/.exec(numerator);
+  const all = digits.padStart(decimals + 1, '0'), point = all.length - decimals;
+  const behind = all.slice(point).replace(/0+$/, '');
+  return sign + all.slice(0, point) + (behind && `.${behind}`) + (form === 'percent' ? '%' : '');
+}
+
+// What is written is read back; its figures are those of its digits, and read as it is trimmed.
+function compareAQuantity() {
+  const quantity = someQuantity(), { numerator, denominator, form } = quantity;
+  const [method, script, letterCase] = [METHODS.slice(1), SCRIPTS, CASES].map(one);
+  const text = quantity.toChinese({ method, script, case: letterCase });
+  const read = toQuantity(text, { method });
+  assert.deepEqual([read.numerator, read.denominator], [numerator, denominator], text);
+  const figures = quantity.toFigures(), trimmed = quantity.trimmed();
+  assert.equal(figures, figuresOf(quantity));
+  if (!figures.includes('/')) assert(toQuantity(figures).equals(trimmed), figures);
+  assert.equal(trimmed.numerator * denominator, numerator * trimmed.denominator);
+  const rest = numerator % denominator;
+  assert.equal(quantity.toWhole(), rest === 0n ? numerator / denominator : null);
+  assert(quantity.equals(new Quantity(numerator, denominator, form)));
+}
+
+function tryQuantities() {
+  for (let i = 0; i < QUANTITIES; i++) compareAQuantity();
+  const greatest = 2n ** 127n - 1n, half = Quantity.percent(50);
+  for (const it of [greatest, -greatest - 1n]) assert.equal(toQuantity(String(it)).numerator, it);
+  assert.equal(toQuantity(`${2n ** 128n - 1n}分之1`).denominator, 2n ** 128n - 1n);
+  for (const [kind, call] of [['i128', () => Quantity.decimal(greatest + 1n, 0)],
+    ['i128', () => Quantity.decimal(-greatest - 2n, 0)], ['u128', () => Quantity.fraction(1, -1)],
+    ['u128', () => Quantity.fraction(1, 2n ** 128n)], ['u128', () => Quantity.decimal(1, 39)],
+    ['u128', () => Quantity.percent(1, 37)], ['u128', () => Quantity.percent(1, 1e9)]]) {
+    assert.throws(call, { name: 'NumeralError', code: 'notHeld', kind });
+  }
+  assert.throws(() => Quantity.fraction(1, 0),
+    { name: 'NumeralError', code: 'notAQuantity', message: 'the denominator is 0' });
+  assert.throws(() => toQuantity('😀１x'),
+    { code: 'incorrect', kind: undefined, charIndex: 2, start: 3, end: 4 });
+  assert.throws(() => Quantity.decimal(10n ** 16n, 0).toChinese({ method: 'low' }),
+    { code: 'tooLarge', kind: undefined, message: 'number is too large' });
+  assert(!half.equals(Quantity.fraction(50, 100)) && !half.equals(Quantity.percent(500, 1)));
+  assert.throws(() => {
+    half.numerator = 1n;
+  }, TypeError);
+  refuseNoQuantities(half);
+  console.log(`quantities: ${QUANTITIES} are read back as written, and their figures are theirs`);
+}
+
+function refuseNoQuantities(half) {
+  refusesEach([1.5, 2 ** 53, '1', null, undefined], (it) => Quantity.fraction(it, 1));
+  refusesEach([1.5, 2 ** 53, '1', null, undefined], (it) => Quantity.fraction(1, it));
+  refusesEach([-1, 1.5, NaN, 1n, '1', null], (it) => Quantity.percent(1, it));
+  refusesEach(['half', 0, null, undefined], (it) => new Quantity(1, 2, it));
+  refusesEach([1n, null, undefined, ['一']], (it) => toQuantity(it));
+  refusesEach([...NO_OPTIONS, { way: 'low' }, { method: 'any' }], (it) => toQuantity('一', it));
+  refusesEach([...NO_OPTIONS, { way: 'low' }, { method: 'digits' }, { case: 'Upper' }],
+    (it) => half.toChinese(it));
+}
+
+const RUNNING_QUANTITIES = Array.from('二三十百万亿点分之几多负正25.,-％%，。 \n😀é\ufffd\ud800\udc00');
+
+// The quantities of a text, each with its flags, in their places.
+function compareTheQuantitiesOf(text) {
+  const [about, oneCharacter] = [below(2) === 1, below(2) === 1];
+  const options = { upper: below(2) === 1, greatest: one(UNITS), method: one(METHODS) };
+  const { method, ...wanted } = options, all = { ...options, about, oneCharacter };
+  let anew = '', at = 0, replaced = 0;
+  for (const it of findQuantities(text, wanted)) {
+    assert(it instanceof FoundQuantity && it.start >= at);
+    assert.equal(text.slice(it.start, it.end), it.text);
+    const quantity = answerOf(() => toQuantity(it.text, { method })), value = it.value({ method });
+    assert.deepEqual(value ?? answerOf(() => it.quantity({ method })), quantity, it.text);
+    if (value === null || (it.isAbout && !about) || (it.isOneCharacter && !oneCharacter)) continue;
+    anew += text.slice(at, it.start) + figuresOf(value);
+    at = it.end;
+    replaced++;
+  }
+  anew += text.slice(at);
+  assert.equal(quantitiesToFigures(text, all), anew);
+  const figures = (it) => it.quantity({ method }).toFigures();
+  assert.equal(replaceQuantities(text, figures, all), anew);
+  return replaced;
+}
+
+function tryReplaced() {
+  let replaced = 0;
+  for (let i = 0; i < TEXTS; i++) {
+    const characters = Array.from({ length: below(24) }, () => one(RUNNING_QUANTITIES));
+    replaced += compareTheQuantitiesOf(characters.join(''));
+  }
+  assert(replaced > TEXTS);
+  // A new text may be much longer, and more is found than one call of the module gives.
+  for (const [part, figures] of [['1亿，', '100000000，'], ['文三百', '文300'], ['😀é一半', '😀é一半']]) {
+    for (const count of [1, 64, 65, 300_000]) {
+      assert.equal(quantitiesToFigures(part.repeat(count)), figures.repeat(count));
+    }
+  }
+  const twice = ({ text }) => (text === '-5' ? undefined : text + text);
+  assert.equal(replaceQuantities('三百，-5，7', twice), '三百三百，-5，77');
+  assert.equal(replaceQuantities('5％ 6', () => ''), ' ');
+  // The function may search a text itself.
+  const within = (found) => replaceQuantities(`(${found.text})`, (it) => it.quantity().toChinese());
+  assert.equal(replaceQuantities('12和3', within), '(十二)和(三)');
+  refuseNoReplacements();
+  console.log(`replaced: ${replaced} quantities of ${TEXTS} texts, by the module and a function`);
+}
+
+function refuseNoReplacements() {
+  const wrong = [...NO_OPTIONS, { about: 1 }, { oneCharacter: 'yes' }, { upper: 1 },
+    { greatest: 'ZHAO' }, { method: 'any' }, { kind: 'u8' }];
+  refusesEach(wrong, (it) => quantitiesToFigures('一', it));
+  refusesEach(wrong, (it) => replaceQuantities('文', () => '', it));
+  refusesEach([...NO_OPTIONS, { method: 'low' }, { about: true }], (it) => findQuantities('一', it));
+  refusesEach([1, null, undefined, ['一']], (it) => quantitiesToFigures(it));
+  refusesEach([1, null, undefined, ['一']], (it) => replaceQuantities(it, () => ''));
+  refusesEach([1, null, undefined, 'x'], (it) => replaceQuantities('12', it));
+  refusesEach([1, null, 1n, ['x']], (it) => replaceQuantities('12', () => it));
+  const failure = new Error('of the function');
+  assert.throws(() => replaceQuantities('12', () => {
+    throw failure;
+  }), failure);
+}
+
 // A host that has no more memory, and one that has it again.
 function tryWithoutMemory() {
   const { grow } = WebAssembly.Memory.prototype;
@@ -676,7 +817,8 @@ function tryWithoutMemory() {
   WebAssembly.Memory.prototype.grow = withoutGrowth;
   const refusal = { name: 'NumeralError', code: 'outOfMemory', message: 'out of memory', cause };
   assert.throws(() => toNumber(longer), { ...refusal, start: undefined });
-  assert.throws(() => new Found(0, longer, true).value(), refusal);
+  assert.throws(() => new Found(0, longer, 1).value(), refusal);
+  assert.throws(() => quantitiesToFigures(longer), refusal);
   assert.equal(toNumber('一百二'), 120);
   WebAssembly.Memory.prototype.grow = grow;
   assert.equal(toNumber(longer), 0);
@@ -714,7 +856,9 @@ function tryLongTexts() {
   // The memory of a long text is left with its instance.
   const read = (count) => instancesOf(() => toNumber(`${'零'.repeat(count)}七`));
   const LONG = 6_000_000;
+  const write = (count) => instancesOf(() => quantitiesToFigures('文'.repeat(count)));
   assert.deepEqual([LONG, LONG, 1, 1, LONG, LONG, 1].map(read), [0, 0, 1, 0, 0, 0, 1]);
+  assert.deepEqual([LONG, LONG, 1, 1].map(write), [0, 0, 1, 0]);
   console.log('long texts: as wanted, also where memory does not grow');
 }
 
@@ -753,7 +897,7 @@ function tryTraps() {
 }
 
 for (const it of [lookAtTheModules, compareWithTheProgram, tryEdges, tryOptions, tryAmounts,
-  trySignedAmounts, tryTypedAmounts, tryFigures, tryDates, tryRunningText, tryFound, tryLongTexts,
-  tryTraps]) {
+  trySignedAmounts, tryTypedAmounts, tryFigures, tryDates, tryRunningText, tryFound, tryQuantities,
+  tryReplaced, tryLongTexts, tryTraps]) {
   it();
 }

@@ -296,20 +296,37 @@ async function writesCapitals() {
   }
 }
 
-// The numbers of a text are marked in place, and below it each with its value or its refusal.
-async function findsNumbers() {
+// The quantities of a text are marked in place, and below it each with its figures, those in brackets that stay, or with its
+// refusal and the character at fault; and the text has its quantities in figures.
+async function findsQuantities() {
   const marks = (id) => value(`Array.from(${id}.querySelectorAll('mark'), (it) => [it.textContent, it.className])`);
-  await type('text', '第二十三回，他五六十歲');
-  assert.deepEqual(await marks('textMirror'), [['二十三', ''], ['五六十', 'fault']]);
-  assert.deepEqual(await marks('found'), [['二十三\u00a023', ''], ['五六十\u00a0五 cannot stand here', 'fault']]);
-  assert.deepEqual(await value('[textMirror.textContent, count.textContent]'), ['第二十三回，他五六十歲', '2 numbers, 1 refused.']);
+  const told = () => value('[count.textContent, replaced.textContent]');
+  const typed = '共3.5万元，占12.5%，一般三百多人，他五六十歲，剩三分之一';
+  await type('text', typed);
+  assert.deepEqual(await marks('textMirror'), [['3.5万', ''], ['12.5%', ''], ['一', 'left'], ['三百', 'left'], ['五六十', 'fault'], ['三分之一', '']]);
+  assert.deepEqual((await marks('found')).map(([it]) => it.split('\u00a0')), [['3.5万', '35000'], ['12.5%', '12.5%'], ['一', '(1)'],
+    ['三百', '(about 300)'], ['五六十', '“五” cannot stand here'], ['三分之一', '1/3']]);
+  assert.deepEqual(await value(`Array.from(found.querySelectorAll('u'), (it) => it.textContent)`), ['五']);
+  assert.equal(await value('textMirror.textContent'), typed);
+  assert.deepEqual(await told(), ['6 quantities, 1 refused, 2 left as they stand.', '共35000元，占12.5%，一般三百多人，他五六十歲，剩1/3']);
+  await value('about.click()');
+  assert.deepEqual(await told(), ['6 quantities, 1 refused, 1 left as it stands.', '共35000元，占12.5%，一般300多人，他五六十歲，剩1/3']);
+  await value('about.click(), oneCharacter.click()');
+  assert.deepEqual(await told(), ['6 quantities, 1 refused, 1 left as it stands.', '共35000元，占12.5%，1般三百多人，他五六十歲，剩1/3']);
+  await value('oneCharacter.click()');
+  // By the method, and by ten thousand where there is none.
+  await type('text', '1兆');
+  for (const [way, figures] of [['low', '1000000'], ['high', '10000000000000000'], ['digits', '1000000000000'], ['any', '1000000000000']]) {
+    await choose('way', way);
+    assert.deepEqual(await told(), ['1 quantity.', figures]);
+  }
   await type('text', '正在參加');
-  assert.equal(await value('count.textContent'), '0 numbers.');
+  assert.deepEqual(await told(), ['0 quantities.', '正在參加']);
   await value('upper.click()');
-  assert.equal(await value('count.textContent'), '2 numbers, 1 refused.');
+  assert.equal(await value('count.textContent'), '2 quantities, 1 refused, 1 left as it stands.');
   await value('upper.click()');
-  await type('text', '<b>一</b>');
-  assert.equal(await value(`document.querySelectorAll('b').length`), 0);
+  await type('text', '<b>12</b>');
+  assert.deepEqual([await value(`document.querySelectorAll('b').length`), await told()], [0, ['1 quantity.', '<b>12</b>']]);
   // The mirror has the field's lines: it is as high and as wide, and the field does not scroll.
   await type('text', '');
   await insert(`${'文字二十三，'.repeat(60)}\n\n`);
@@ -383,7 +400,7 @@ async function goesByKeyboard() {
 async function standsOut() {
   await type('numeral', '三千兩白五十六');
   await type('number', '-1');
-  await type('text', '二十三，五六十');
+  await type('text', '二十三，五六十，一般');
   const grounds = new Set();
   for (const scheme of ['light', 'dark']) {
     await lookThrough({ 'prefers-color-scheme': scheme });
@@ -401,9 +418,10 @@ async function standsOut() {
       };
       const of = (it, what = 'color', part) => contrast(getComputedStyle(it, part)[what]);
       const onMark = (it) => contrast(getComputedStyle(it.lastChild).color, getComputedStyle(it).backgroundColor);
-      const [right, wrong] = found.querySelectorAll('mark');
+      const [right, wrong, left] = found.querySelectorAll('mark');
       return [ground, { words: of(document.body), numeral: of(numeral), fault: of(answer), refusal: of(refusal), value: onMark(right),
-        reason: onMark(wrong), hint: of(numeral, 'color', '::placeholder'), border: of(numeral, 'borderTopColor') + 1.5,
+        reason: onMark(wrong), left: of(left.lastChild), frame: of(left, 'outlineColor') + 1.5,
+        place: of(wrong.querySelector('u'), 'textDecorationColor') + 1.5, hint: of(numeral, 'color', '::placeholder'), border: of(numeral, 'borderTopColor') + 1.5,
         line: of(mirror.querySelector('mark'), 'textDecorationColor') + 1.5,
         lineBelow: of(textMirror.querySelector('mark'), 'textDecorationColor') + 1.5 }];
     })()`);
@@ -418,7 +436,7 @@ async function standsOut() {
 // Pictures of the page with all of its fields filled.
 async function poses() {
   for (const [id, it] of [['number', '100100000'], ['numeral', '三千兩白五十六'], ['capitals', '壹仟陆佰捌拾元'], ['figures', '1680.32'],
-    ['dateCapitals', '贰零贰陆年零壹月拾伍日'], ['dateFigures', '2026-01-15'], ['text', '第二十三回，二零二五年十一月，他五六十歲，買2兩，三萬五千元。']]) {
+    ['dateCapitals', '贰零贰陆年零壹月拾伍日'], ['dateFigures', '2026-01-15'], ['text', '共3.5万元，占12.5%，一般三百多人，他五六十歲，剩三分之一，-5度。']]) {
     await type(id, it);
   }
   await value('text.blur()');
@@ -439,7 +457,7 @@ async function fitsAPhone() {
   await type('numeral', '三千兩白五十六');
   await type('number', '-170141183460469231731687303715884105728');
   await type('figures', '9999999999999999.99');
-  await type('text', '第二十三回，五六十'.repeat(20));
+  await type('text', '第二十三回，五六十，一般'.repeat(20));
   const [widths, outside] = await value(`(() => {
     const { scrollWidth, clientWidth } = document.documentElement;
     const all = Array.from(document.body.querySelectorAll('*:not(mark)'));
@@ -513,7 +531,7 @@ async function test() {
   }
   await opens();
   for (const it of [reads, leavesTheCaret, leavesTheUnfinished, refusesNumerals, leavesComposition, marksTheCharacter, scrolls, prints,
-    readsCapitals, writesCapitals, findsNumbers, showsTextAlone, goesByKeyboard, tellsScreenReaders, standsOut,
+    readsCapitals, writesCapitals, findsQuantities, showsTextAlone, goesByKeyboard, tellsScreenReaders, standsOut,
     poses, fitsAPhone]) {
     await it();
     assert.deepEqual(tab.problems, [], it.name);

@@ -8,6 +8,9 @@
 //     signedAmountToChinese(yuanToFen('-1,409.50'))   '负壹仟肆佰零玖元伍角整'
 //     chineseToDate('伍年零壹月壹拾伍日')               { year: 5, month: 1, day: 15 }
 //     for (const found of findNumbers('第二十三回')) ..  found.number() is 23
+//     toQuantity('3.5万').toFigures()                 '35000'
+//     Quantity.fraction(1, 3).toChinese()             '三分之一'
+//     quantitiesToFigures('共三点五万元')             '共35000元'
 //
 // What gives a Number gives only one that is exact, a safe integer, and has a second name for the
 // BigInt: there `BigInt` stands for `Number`, or at the end. The module takes no memory of its own:
@@ -34,6 +37,10 @@ export const KINDS = Object.freeze(/** @type {const} */ (
 export const WAYS = Object.freeze(/** @type {const} */ (
   ['digits', 'low', 'tenThousand', 'middle', 'high', 'any']));
 
+/** The methods: the ways with units, by which an exact quantity is read and written. */
+export const METHODS = Object.freeze(/** @type {const} */ (
+  ['low', 'tenThousand', 'middle', 'high']));
+
 /** The scripts. */
 export const SCRIPTS = Object.freeze(/** @type {const} */ (['traditional', 'simplified']));
 
@@ -48,11 +55,20 @@ export const UNITS = Object.freeze(/** @type {const} */ (
   ['ge', 'shi', 'bai', 'qian', 'wan', 'yi', 'zhao', 'jing', 'gai', 'zi', 'rang', 'gou', 'jian',
     'zheng', 'zai', 'ji']));
 
+/** How a quantity is written: 35, 3.5, 12.5%, and 三分之一 or 百分之五十. */
+export const QUANTITY_FORMS = Object.freeze(/** @type {const} */ (
+  ['whole', 'decimal', 'percent', 'fraction']));
+
 const STATUSES = /** @type {Array<any>} */ (
   ['done', 'empty', 'incorrect', 'tooLarge', 'tooSmall', 'notUtf8', 'noRoom', 'notHeld', 'unknown',
-    'unfinished', 'none', 'notADate']);
+    'unfinished', 'none', 'notADate', 'notAQuantity']);
 
-const DONE = STATUSES.indexOf('done'), DIGITS = WAYS.indexOf('digits');
+// The bits of what is told of a number or an expression that was found, each twice the one before.
+const FLAGS = ['plainDigits', 'standsAlone', 'about', 'oneCharacter'];
+const [PLAIN_DIGITS, STANDS_ALONE, ABOUT, ONE_CHARACTER] = FLAGS.map((_, bit) => 1 << bit);
+
+const DONE = STATUSES.indexOf('done'), NO_ROOM = STATUSES.indexOf('noRoom');
+const DIGITS = WAYS.indexOf('digits'), FIRST_METHOD = WAYS.indexOf('low');
 const FIRST_SIGNED = KINDS.indexOf('i8');
 
 // An option, which has one of these names, else the usual one. The last one that a call named is
@@ -66,11 +82,13 @@ function option(what, names, usual) {
 const KIND = option('kind', KINDS, 'i128');
 const WAY = option('way', WAYS, 'any');
 const PRINT_WAY = option('way to write', WAYS.filter((it) => it !== 'any'), 'tenThousand');
+const METHOD = option('method', METHODS, 'tenThousand');
 const SCRIPT = option('script', SCRIPTS, 'simplified');
 const CASE = option('case', CASES, 'lower');
 const YUAN = option('yuan', ['元', '圆'], '元');
 const CLOSING = option('closing', ['整', '正'], '整');
 const UNIT = option('unit', UNITS, 'zhao');
+const QUANTITY_FORM = option('form', QUANTITY_FORMS, 'whole');
 const NO_OPTIONS = {};
 
 /** @type {Record<string, (name: string) => boolean>} Whether a call has an option of a name. */
@@ -80,15 +98,21 @@ const HAS = {
   amounts: (it) => it === 'script' || it === 'currency' || it === 'yuan' || it === 'closing',
   dates: (it) => it === 'script',
   searches: (it) => it === 'upper' || it === 'greatest',
+  quantities: (it) => it === 'method',
+  writing: (it) => it === 'method' || it === 'script' || it === 'case',
+  replacing: (it) => it === 'about' || it === 'oneCharacter' || HAS.searches(it)
+    || HAS.quantities(it),
 };
 
 /**
  * @typedef {typeof KINDS[number]} Kind
  * @typedef {typeof WAYS[number]} Way
  * @typedef {Exclude<Way, 'any'>} PrintWay
+ * @typedef {typeof METHODS[number]} Method
  * @typedef {typeof SCRIPTS[number]} Script
  * @typedef {typeof CASES[number]} Case
  * @typedef {typeof UNITS[number]} Unit
+ * @typedef {typeof QUANTITY_FORMS[number]} QuantityForm
  * @typedef {{ kind?: Kind, way?: Way }} ReadOptions
  * @typedef {{ kind?: Kind, way?: PrintWay, script?: Script, case?: Case }} PrintOptions
  * @typedef {{ script?: Script }} ScriptOptions
@@ -96,6 +120,9 @@ const HAS = {
  * @typedef {'整' | '正'} Closing
  * @typedef {{ script?: Script, currency?: boolean, yuan?: Yuan, closing?: Closing }} AmountOptions
  * @typedef {{ upper?: boolean, greatest?: Unit }} Wanted
+ * @typedef {{ method?: Method }} MethodOptions
+ * @typedef {{ method?: Method, script?: Script, case?: Case }} QuantityOptions
+ * @typedef {Wanted & MethodOptions & { about?: boolean, oneCharacter?: boolean }} ReplaceOptions
  * @typedef {{ year: number, month: number, day: number }} BillDate
  * @typedef {{ charIndex: number, start: number, end: number }} Place
  * @typedef {keyof typeof MESSAGES} NumeralCode
@@ -110,6 +137,7 @@ const MESSAGES = {
   tooSmall: 'number is too small',
   notHeld: 'does not hold the number', // behind the name of the kind
   unsafe: 'a Number does not hold the number exactly',
+  notAQuantity: 'the denominator is 0',
   outOfMemory: 'out of memory',
 };
 
@@ -148,7 +176,7 @@ class Refusal extends Error {
 }
 
 /**
- * Why a text was not read, or a number not printed.
+ * Why a text was not read, or a number or a quantity not printed.
  *
  * `code` is
  * - 'empty': nothing is left of the text without its white space and, for a signed type, one sign;
@@ -156,7 +184,8 @@ class Refusal extends Error {
  * - 'tooLarge', 'tooSmall': the number read does not fit the type, or by 'low' the number has no
  *   text;
  * - 'unsafe': the number read is no safe integer, so a Number does not hold it exactly;
- * - 'notHeld': the type does not hold the number that is to be printed;
+ * - 'notHeld': the type does not hold the number that is to be printed, or a number of a quantity;
+ * - 'notAQuantity': the denominator is 0;
  * - 'outOfMemory': the host has no memory for the text, which may be that of any call.
  */
 export class NumeralError extends Refusal {
@@ -169,7 +198,10 @@ export class NumeralError extends Refusal {
     super(code === 'notHeld' ? `${kind} ${MESSAGES[code]}` : MESSAGES[code], place);
     this.name = 'NumeralError';
     this.code = code;
-    /** The integer type that the number was to have; at 'outOfMemory' none is named. */
+    /**
+     * The integer type that the number was to have; of a quantity that is read or written, and at
+     * 'outOfMemory', none is named.
+     */
     this.kind = kind;
   }
 }
@@ -232,10 +264,10 @@ let library = instance();
 // no memory. The next one has a new instance then, since this one's may be half written.
 let isInside = false;
 
-// What is lent: a reading (32 bytes; an amount and a date fit there too), a length (8), spans (24
-// each) and the text. In both modules a size has 8 bytes.
+// What is lent: a quantity (56 bytes; a reading, an amount and a date fit there too), a length (8),
+// spans (24 each) and the text. In both modules a size has 8 bytes.
 const READING = Math.ceil(Number(library.__heap_base.value) / 16) * 16;
-const LENGTH = READING + 32;
+const LENGTH = READING + 56;
 const SPANS = LENGTH + 8;
 const MOST_SPANS = 64;
 const TEXT = SPANS + 24 * MOST_SPANS;
@@ -244,18 +276,22 @@ const MOST_BYTES = 234n;
 const MOST_AMOUNT_BYTES = 117n;
 const MOST_SIGNED_AMOUNT_BYTES = 120n;
 const MOST_DATE_BYTES = 39n;
+const MOST_QUANTITY_BYTES = 471n;
+const MOST_FIGURES_BYTES = 80n;
 const MOST_PRINTED = Number(MOST_BYTES);
 const PAGE = 65536;
 const MOST_KEPT = 2 ** 24;
-const encoder = new TextEncoder();
+const encoder = new TextEncoder(), decoder = new TextDecoder('utf-8', { ignoreBOM: true });
 // How many code units are written sooner one by one than by the encoder.
 const FEW = 40;
 // For each number of code units that a printed text may have, a list that is filled with them.
 const UNITS_OF = Array.from({ length: MOST_PRINTED / 3 + 1 }, (_, it) => Array(it).fill(0));
-/** @type {BigInt64Array} The reading (or amount or date) and the length. */
+/** @type {BigInt64Array} The quantity (or reading, amount or date) and the length. */
 let words;
 /** @type {Int32Array} The halves of these and of the spans, each lower one first. */
 let halves;
+// Where parts of these stand.
+const FORM_HALF = 8, LENGTH_WORD = 7, LENGTH_HALF = 14, SPANS_HALF = 16;
 /** @type {Uint8Array} */
 let text = new Uint8Array(0);
 
@@ -275,7 +311,7 @@ function makeRoom(bytes) {
   const { memory } = library, missing = TEXT + bytes - memory.buffer.byteLength;
   if (missing > 0) grow(memory, Math.ceil(missing / PAGE));
   // A memory that has grown has another buffer, and so has that of a new instance.
-  words = new BigInt64Array(memory.buffer, READING, 5);
+  words = new BigInt64Array(memory.buffer, READING, LENGTH_WORD + 1);
   halves = new Int32Array(memory.buffer, READING, (TEXT - READING) / 4);
   text = new Uint8Array(memory.buffer, TEXT);
 }
@@ -303,12 +339,13 @@ function grow(memory, pages) {
 }
 
 // Writes a string where the module reads it, and as the length how many bytes it has there. It is
-// UTF-8, with half a surrogate pair as U+FFFD, so the module need not test it.
-/** @param {string} string */
-function hand(string) {
+// UTF-8, with half a surrogate pair as U+FFFD, so the module need not test it. Behind it there is
+// room for so many bytes.
+/** @param {string} string @param {number} room */
+function hand(string, room = 0) {
   if (typeof string !== 'string') throw new TypeError('a text is a string');
-  lend(3 * string.length);
-  halves[8] = string.length > FEW ? encoded(string) : written(string);
+  lend(3 * string.length + room);
+  halves[LENGTH_HALF] = string.length > FEW ? encoded(string) : written(string);
 }
 
 /** @param {string} string */
@@ -346,7 +383,7 @@ function placeOf(status, word) {
 
 /** The text that was printed: each of its characters has three bytes. */
 function printed() {
-  const bytes = text, units = UNITS_OF[halves[8] / 3];
+  const bytes = text, units = UNITS_OF[halves[LENGTH_HALF] / 3];
   for (let index = 0; index < units.length; index++) {
     const at = 3 * index;
     units[index] = (bytes[at] & 0xf) << 12 | (bytes[at + 1] & 0x3f) << 6 | bytes[at + 2] & 0x3f;
@@ -453,7 +490,7 @@ function readNumeral(string, options, isPlain) {
   const kind = codeOf(KIND, options.kind), way = codeOf(WAY, options.way);
   hand(string);
   const status = ended(library.chinese_number_read_utf8(
-    TEXT_AT, words[4], kind, isPlain ? DIGITS : way, READING_AT));
+    TEXT_AT, words[LENGTH_WORD], kind, isPlain ? DIGITS : way, READING_AT));
   if (status !== DONE) throw new NumeralError(STATUSES[status], KINDS[kind], placeOf(status, 2));
   return kind;
 }
@@ -466,11 +503,11 @@ function safeNumber(kind) {
   return number;
 }
 
-/** @param {number} kind That of the number that was read. */
-function wholeNumber(kind) {
-  const low = BigInt.asUintN(64, words[0]);
-  if (halves[2] === 0 && halves[3] === 0) return low;
-  const number = (words[1] << 64n) | low;
+/** @param {number} kind That of a number that was read. @param {number} word Where it begins. */
+function wholeNumber(kind, word = 0) {
+  const low = BigInt.asUintN(64, words[word]);
+  if (halves[2 * word + 2] === 0 && halves[2 * word + 3] === 0) return low;
+  const number = (words[word + 1] << 64n) | low;
   return kind >= FIRST_SIGNED ? number : BigInt.asUintN(128, number);
 }
 
@@ -682,7 +719,7 @@ function figuresOf(yuan) {
 /** @param {string} string @param {string} name */
 function fenOf(string, name) {
   hand(string);
-  const status = ended(library[name](TEXT_AT, words[4], READING_AT));
+  const status = ended(library[name](TEXT_AT, words[LENGTH_WORD], READING_AT));
   if (status !== DONE) throw new AmountError(STATUSES[status], placeOf(status, 1));
   return words[0];
 }
@@ -739,19 +776,212 @@ export function dateToChinese(date, options = NO_OPTIONS) {
  */
 export function chineseToDate(string) {
   hand(string);
-  const status = ended(library.chinese_date_read(TEXT_AT, words[4], READING_AT));
+  const status = ended(library.chinese_date_read(TEXT_AT, words[LENGTH_WORD], READING_AT));
   if (status !== DONE) throw new DateError(STATUSES[status], placeOf(status, 2));
   return { year: halves[0], month: halves[1], day: halves[2] };
 }
 
-/** A number in its text, as findNumbers gives it. */
-export class Found {
+// The numbers of a quantity are of these kinds.
+const NUMERATOR = KINDS.indexOf('i128'), DENOMINATOR = KINDS.indexOf('u128');
+// The denominators of the forms that have decimals, and that without decimals.
+const WITH_DECIMALS = {
+  decimal: { denominators: /^10+$/, least: 1n },
+  percent: { denominators: /^100+$/, least: 100n },
+};
+
+/**
+ * An exact quantity, as it is written and not reduced: 12.5% is 125/1000, of the form 'percent'.
+ *
+ * The numerator may be below 0, and the denominator is above it; both have at most 128 bits. A
+ * quantity does not change. `toQuantity` reads one of a text, as of '-3.50'; `Quantity.decimal`,
+ * `Quantity.percent` and `Quantity.fraction` make one of numbers. These, and the constructor, throw
+ * a NumeralError where the denominator is 0 or a number has more bits, and a TypeError where a
+ * number is no BigInt and no whole Number that is exact, or there is no such form.
+ */
+export class Quantity {
+  /**
+   * @param {bigint | number} numerator
+   * @param {bigint | number} denominator
+   * @param {QuantityForm} form
+   */
+  constructor(numerator, denominator, form) {
+    /** The number above the line. */
+    this.numerator = heldBy(NUMERATOR, numerator);
+    /** The number below the line. */
+    this.denominator = heldBy(DENOMINATOR, denominator);
+    /** How it is written. */
+    this.form = QUANTITY_FORMS[codeAmong(QUANTITY_FORM, form)];
+    if (this.denominator === 0n) throw new NumeralError('notAQuantity');
+    Object.freeze(this);
+  }
+
+  /**
+   * A number with so many decimals, from 0 to 38: `Quantity.decimal(314, 2)` is 3.14, and
+   * `Quantity.decimal(3)` is 3, which is 'whole'.
+   *
+   * @param {bigint | number} numerator
+   * @param {number} decimals
+   */
+  static decimal(numerator, decimals = 0) {
+    return new Quantity(numerator, tenTo(decimals), decimals === 0 ? 'whole' : 'decimal');
+  }
+
+  /**
+   * A percentage with so many decimals, from 0 to 36: `Quantity.percent(125, 1)` is 12.5%, and
+   * `Quantity.percent(5)` is 5%.
+   *
+   * @param {bigint | number} numerator
+   * @param {number} decimals
+   */
+  static percent(numerator, decimals = 0) {
+    return new Quantity(numerator, 100n * tenTo(decimals), 'percent');
+  }
+
+  /**
+   * A fraction: `Quantity.fraction(1, 3)` is 三分之一.
+   *
+   * @param {bigint | number} numerator
+   * @param {bigint | number} denominator
+   */
+  static fraction(numerator, denominator) {
+    return new Quantity(numerator, denominator, 'fraction');
+  }
+
+  /**
+   * Whether another one has the same numerator, denominator and form.
+   *
+   * @param {Quantity} other
+   */
+  equals(other) {
+    return this.numerator === other.numerator && this.denominator === other.denominator
+      && this.form === other.form;
+  }
+
+  /**
+   * The whole number that it is, as a BigInt, or null where it is none: 35000n of 3.5万, and null of
+   * 3.5.
+   */
+  toWhole() {
+    const { numerator, denominator } = this;
+    return numerator % denominator === 0n ? numerator / denominator : null;
+  }
+
+  /**
+   * The same quantity without the zeros at the end of its decimals: 3.10 is 3.1, and 3.5万 35000,
+   * which is 'whole'. A fraction stays, and so does what has no denominator of its form.
+   */
+  trimmed() {
+    let { numerator, denominator, form } = this;
+    if (form === 'whole' || form === 'fraction') return this;
+    const { denominators, least } = WITH_DECIMALS[form];
+    if (!denominators.test(String(denominator))) return this;
+    while (denominator > least && numerator % 10n === 0n) {
+      numerator /= 10n;
+      denominator /= 10n;
+    }
+    return new Quantity(numerator, denominator, denominator === 1n ? 'whole' : form);
+  }
+
+  /**
+   * Its text, which `toQuantity` reads by the same method as the same numerator and denominator:
+   * 三点一四 of 3.14, 百分之十二点五 of 12.5%, 三分之一 of 1/3. What has no denominator of its form is
+   * written as a fraction.
+   *
+   * It is written by a method, else 'tenThousand', in a script, else 'simplified', and a case, else
+   * 'lower'. Throws a NumeralError where 'low' has no text for one of its numbers, and a TypeError
+   * where an option or what it names is unknown.
+   *
+   * @param {QuantityOptions} options
+   * @returns {string}
+   */
+  toChinese(options = NO_OPTIONS) {
+    refuseOthers(options, HAS.writing);
+    const method = methodOf(options), script = scriptOf(options);
+    const letterCase = codeOf(CASE, options.case);
+    lendWith(this);
+    const status = ended(library.chinese_quantity_print(READING_AT, method, script, letterCase,
+      TEXT_AT, MOST_QUANTITY_BYTES, LENGTH_AT));
+    if (status !== DONE) throw new NumeralError(STATUSES[status]);
+    return decoded(0);
+  }
+
+  /**
+   * Its figures, without zeros at the end of its decimals: '35000' of 3.5万, '-3.5', '12.5%', '1/3',
+   * and '50/100' of 百分之五十.
+   *
+   * @returns {string}
+   */
+  toFigures() {
+    lendWith(this);
+    ended(library.chinese_quantity_figures(READING_AT, TEXT_AT, MOST_FIGURES_BYTES, LENGTH_AT));
+    return decoded(0);
+  }
+}
+
+/** @param {number} kind @param {bigint | number} number */
+function heldBy(kind, number) {
+  const whole = wholeOf(number);
+  highOf(whole, kind);
+  return whole;
+}
+
+// Where there are too many decimals, a number that no denominator is.
+/** @param {number} decimals */
+function tenTo(decimals) {
+  if (!Number.isInteger(decimals) || decimals < 0) {
+    throw new TypeError('decimals are counted by a whole Number');
+  }
+  return 10n ** BigInt(Math.min(decimals, 39));
+}
+
+/** @param {MethodOptions} options */
+const methodOf = (options) => FIRST_METHOD + codeOf(METHOD, options.method);
+
+// Writes a quantity where the module reads it.
+/** @param {Quantity} quantity */
+function lendWith({ numerator, denominator, form }) {
+  lend(Number(MOST_QUANTITY_BYTES));
+  words.set([numerator, numerator >> 64n, denominator, denominator >> 64n]);
+  halves[FORM_HALF] = QUANTITY_FORMS.indexOf(form);
+}
+
+// The text that was written from a byte on.
+/** @param {number} start */
+const decoded = (start) =>
+  decoder.decode(text.subarray(start, start + Number(words[LENGTH_WORD])));
+
+/**
+ * Reads an exact quantity, as it is written: that of '3.5万' is 350000/10, a decimal, of '12.5%'
+ * 125/1000, and of '三分之一' 1/3.
+ *
+ * It is a whole number, a decimal, a percentage or a fraction, in figures, in numerals or in both,
+ * with one sign in front or none; white space is left out. It is read by a method, else
+ * 'tenThousand'. Throws a NumeralError where the text is none or its numbers are too large, and a
+ * TypeError where it is no string, or an option or what it names is unknown.
+ *
+ * @param {string} string
+ * @param {MethodOptions} options
+ * @returns {Quantity}
+ */
+export function toQuantity(string, options = NO_OPTIONS) {
+  refuseOthers(options, HAS.quantities);
+  const method = methodOf(options);
+  hand(string);
+  const status = ended(library.chinese_quantity_read(
+    TEXT_AT, words[LENGTH_WORD], method, READING_AT));
+  if (status !== DONE) throw new NumeralError(STATUSES[status], undefined, placeOf(status, 5));
+  return new Quantity(
+    wholeNumber(NUMERATOR), wholeNumber(DENOMINATOR, 2), QUANTITY_FORMS[halves[FORM_HALF]]);
+}
+
+/** Where a number or an expression stands in a text, and what is told of it. */
+class Span {
   /**
    * @param {number} start
    * @param {string} text
-   * @param {boolean} isPlain
+   * @param {number} flags
    */
-  constructor(start, text, isPlain) {
+  constructor(start, text, flags) {
     /**
      * Where it starts in the string, in UTF-16 code units, as setSelectionRange and slice take it.
      */
@@ -761,9 +991,18 @@ export class Found {
     /** Its own text. */
     this.text = text;
     /** Whether it is plain digits: 二零二五 is, 十 is not. */
-    this.isPlain = isPlain;
+    this.isPlain = (flags & PLAIN_DIGITS) !== 0;
+    /** Whether it goes on to neither side: 二十三 of 第二十三回 does not, the 4 of A4 does. */
+    this.standsAlone = (flags & STANDS_ALONE) !== 0;
+    /** Whether it is about so much, as 十 of 十几, and 五六. */
+    this.isAbout = (flags & ABOUT) !== 0;
+    /** Whether it is one Chinese character, as 一 of 一般. */
+    this.isOneCharacter = (flags & ONE_CHARACTER) !== 0;
   }
+}
 
+/** A number in its text, as findNumbers gives it. */
+export class Found extends Span {
   /**
    * The number, as toNumber reads its text: as plain digits where it is those, else by the way that
    * is named.
@@ -795,12 +1034,45 @@ export class Found {
    * @returns {number | null}
    */
   value(options = NO_OPTIONS) {
-    try {
-      return this.number(options);
-    } catch (error) {
-      if (!(error instanceof NumeralError) || error.code === 'outOfMemory') throw error;
-      return null;
-    }
+    return unlessRefused(() => this.number(options));
+  }
+}
+
+/** An expression in its text, as findQuantities gives it. */
+export class FoundQuantity extends Span {
+  /**
+   * The quantity, as toQuantity reads its text.
+   *
+   * Throws what toQuantity throws; a place counts within the expression's own text.
+   *
+   * @param {MethodOptions} options
+   * @returns {Quantity}
+   */
+  quantity(options = NO_OPTIONS) {
+    return toQuantity(this.text, options);
+  }
+
+  /**
+   * The quantity, or null where its text is refused, as 五六十. Else throws what `quantity` throws.
+   *
+   * @param {MethodOptions} options
+   * @returns {Quantity | null}
+   */
+  value(options = NO_OPTIONS) {
+    return unlessRefused(() => this.quantity(options));
+  }
+}
+
+/**
+ * @template Value
+ * @param {() => Value} call
+ */
+function unlessRefused(call) {
+  try {
+    return call();
+  } catch (error) {
+    if (!(error instanceof NumeralError) || error.code === 'outOfMemory') throw error;
+    return null;
   }
 }
 
@@ -820,37 +1092,56 @@ export class Found {
  */
 export function findNumbers(string, options = NO_OPTIONS) {
   refuseOthers(options, HAS.searches);
-  const upper = flagOf(options.upper, 'upper');
-  return foundIn(string, spansOf(string, upper, codeOf(UNIT, options.greatest)));
+  return foundIn(string, spansOf(string, options, 'chinese_number_find_utf8'), Found);
 }
 
 /**
+ * Finds the expressions of a text, as `findNumbers` finds its numbers: numbers with their sign,
+ * figures, point and units, percentages and fractions. Of '占12.5%，共3.5万' these are 12.5% and 3.5万.
+ *
  * @param {string} string
- * @param {{ start: number, end: number, isPlain: boolean }[]} spans
- * @returns {Generator<Found, void, undefined>}
+ * @param {Wanted} options
+ * @returns {Generator<FoundQuantity, void, undefined>}
  */
-function* foundIn(string, spans) {
-  for (const { start, end, isPlain } of spans) {
-    yield new Found(start, string.slice(start, end), isPlain);
+export function findQuantities(string, options = NO_OPTIONS) {
+  refuseOthers(options, HAS.searches);
+  return expressionsOf(string, options);
+}
+
+/** @param {string} string @param {Wanted} options */
+const expressionsOf = (string, options) =>
+  foundIn(string, spansOf(string, options, 'chinese_quantity_find_utf8'), FoundQuantity);
+
+/**
+ * @template {Span} Item
+ * @param {string} string
+ * @param {{ start: number, end: number, flags: number }[]} spans
+ * @param {new (start: number, text: string, flags: number) => Item} Item
+ * @returns {Generator<Item, void, undefined>}
+ */
+function* foundIn(string, spans, Item) {
+  for (const { start, end, flags } of spans) {
+    yield new Item(start, string.slice(start, end), flags);
   }
 }
 
-// The numbers are looked for at once, since a call in between writes over the text that is lent.
-/** @param {string} string @param {number} upper @param {number} greatest */
-function spansOf(string, upper, greatest) {
+// All is looked for at once, since a call in between writes over the text that is lent.
+/** @param {string} string @param {Wanted} options @param {string} name That of the call. */
+function spansOf(string, options, name) {
+  const upper = flagOf(options.upper, 'upper'), greatest = codeOf(UNIT, options.greatest);
   hand(string);
-  const length = words[4], spans = [];
+  const length = words[LENGTH_WORD], spans = [];
   let count = MOST_SPANS, from = 0, position = 0;
   while (count === MOST_SPANS) {
     isInside = true;
-    ended(library.chinese_number_find_utf8(TEXT_AT, length, BigInt(from), upper, greatest,
-      SPANS_AT, BigInt(MOST_SPANS), LENGTH_AT));
-    count = halves[8];
-    for (let half = 10; half < 10 + 6 * count; half += 6) {
+    ended(library[name](TEXT_AT, length, BigInt(from), upper, greatest, SPANS_AT,
+      BigInt(MOST_SPANS), LENGTH_AT));
+    count = halves[LENGTH_HALF];
+    for (let half = SPANS_HALF; half < SPANS_HALF + 6 * count; half += 6) {
       const first = halves[half] >>> 0, start = position + unitsBetween(from, first);
       from = halves[half + 2] >>> 0;
       position = start + unitsBetween(first, from);
-      spans.push({ start, end: position, isPlain: (halves[half + 4] & 1) === 1 });
+      spans.push({ start, end: position, flags: halves[half + 4] });
     }
   }
   return spans;
@@ -868,4 +1159,81 @@ function unitsBetween(start, end) {
     if (first >= 0xf0) units++;
   }
   return units;
+}
+
+/**
+ * Puts other texts in the place of the expressions of a text: with `(found) =>
+ * found.quantity().toChinese()` '占12.5%' becomes '占百分之十二点五'.
+ *
+ * Each expression that `findQuantities` finds, and `toQuantity` reads by the method, is handed to a
+ * function, which gives the text that stands in its place, or undefined, and then it stays. Those
+ * that are about so much, or one Chinese character, stay too, unless `about` or `oneCharacter` is
+ * true. Throws what the function throws, and a TypeError where it gives anything else, or as
+ * `findQuantities` does.
+ *
+ * @param {string} string
+ * @param {(found: FoundQuantity) => string | undefined} replacement
+ * @param {ReplaceOptions} options
+ * @returns {string}
+ */
+export function replaceQuantities(string, replacement, options = NO_OPTIONS) {
+  refuseOthers(options, HAS.replacing);
+  if (typeof replacement !== 'function') throw new TypeError('a replacement is a function');
+  const included = includedOf(options), { method } = options;
+  methodOf(options);
+  let replaced = '', at = 0;
+  for (const found of expressionsOf(string, options)) {
+    if (!isReplaced(found, included) || found.value({ method }) === null) continue;
+    const other = replacement(found);
+    if (other === undefined) continue;
+    if (typeof other !== 'string') throw new TypeError('a replacement gives a string or undefined');
+    replaced += string.slice(at, found.start) + other;
+    at = found.end;
+  }
+  return replaced + string.slice(at);
+}
+
+/** @param {FoundQuantity} found @param {number} included */
+const isReplaced = ({ isAbout, isOneCharacter }, included) =>
+  (!isAbout || (included & ABOUT) !== 0) && (!isOneCharacter || (included & ONE_CHARACTER) !== 0);
+
+/** @param {ReplaceOptions} options */
+const includedOf = ({ about, oneCharacter }) =>
+  ABOUT * flagOf(about, 'about') + ONE_CHARACTER * flagOf(oneCharacter, 'oneCharacter');
+
+/**
+ * Puts figures in the place of the expressions of a text: '共3.5万元，占12.50%' becomes
+ * '共35000元，占12.5%'.
+ *
+ * They are those of `toFigures`, and stand for each expression that `replaceQuantities` hands on.
+ * All else of the text stays. Throws a TypeError as `findQuantities` does.
+ *
+ * @param {string} string
+ * @param {ReplaceOptions} options
+ * @returns {string}
+ */
+export function quantitiesToFigures(string, options = NO_OPTIONS) {
+  refuseOthers(options, HAS.replacing);
+  const upper = flagOf(options.upper, 'upper'), greatest = codeOf(UNIT, options.greatest);
+  const method = methodOf(options), included = includedOf(options);
+  // Figures seldom have more bytes than what they stand for. Where they do, the call says how many.
+  let room = 3 * string.length + Number(MOST_FIGURES_BYTES), length, status;
+  do {
+    hand(string, room);
+    length = words[LENGTH_WORD];
+    status = ended(library.chinese_quantities_to_figures(TEXT_AT, length, upper, greatest, method,
+      included, TEXT_AT + length, BigInt(room), LENGTH_AT));
+    room = Number(words[LENGTH_WORD]);
+  } while (status === NO_ROOM);
+  return withHalves(decoded(Number(length)), string);
+}
+
+// In a text that was written anew U+FFFD stands for each half of a surrogate pair, and for itself.
+// No expression has one, so each is that of the string at the same place among them.
+/** @param {string} anew @param {string} string */
+function withHalves(anew, string) {
+  if (!anew.includes('\ufffd')) return anew;
+  const all = string.match(/\ufffd|\p{Surrogate}/gu) ?? [];
+  let at = 0;
+  return anew.replace(/\ufffd/g, () => all[at++]);
 }
