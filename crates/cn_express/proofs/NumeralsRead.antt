@@ -18,7 +18,7 @@ use Rattle.cn_core.specs.Whole.{holds, signed_kind}
 use Rattle.cn_core.proofs.Fronts.{and-left, and-right}
 use Rattle.cn_express.specs.Digits.{behind_point, last_digits}
 use Rattle.cn_express.specs.Numerals.{bar, decimal_text, divisor_text, fraction_text, hundredths, is_written_by, magnitude_text, point_char, quantity_text, unsigned_text}
-use Rattle.cn_express.specs.ReadBack.{form_read_back, form_with_decimals}
+use Rattle.cn_express.specs.ReadBack.{form_read_back}
 use Rattle.cn_express.proofs.Cuts.{lacks, lacks-append, marks-lack}
 use Rattle.cn_express.proofs.DecimalTexts.{IsSpelled, IsSpelled-magnitude, IsText-point, WritesDigits-chinese, chinese-marks, decimal-read, part-number, part-whole, point-no_fen, point-no_percent}
 use Rattle.cn_express.proofs.DigitTexts.{last-digits}
@@ -34,6 +34,7 @@ use Rattle.cn_quantity.specs.declared.quantity.QuantityForm.{QuantityForm}
 use Rattle.cn_quantity.specs.declared.quantity.QuantityForm.TheVariants.{Whole, Decimal, Percent, Fraction}
 use Rattle.cn_quantity.specs.Characters.{is_fen, is_percent, sign_of}
 use Rattle.cn_quantity.specs.Number.{part_answer}
+use Rattle.cn_quantity.specs.Ratio.{form_over}
 use Rattle.cn_quantity.specs.Reading.{leading_sign, quantity_answer}
 use Rattle.cn_quantity.specs.Trimmed.{decimals_in, decimals_of}
 use Rattle.cn_quantity.proofs.Today.{are_marks, no-fen, no-percent}
@@ -136,7 +137,7 @@ IsUnsigned-fraction : (method : ChineseCountMethod)
     → part_answer method after ≡ Ok (record { number = number; decimals = decimals })
     → 0 < divisor → divisor * 10 ^ decimals ≡ denominator → denominator < 2 ^ 128
     → IsUnsigned method
-    (record { numerator = number; denominator = denominator; form = Fraction })
+    (record { numerator = number; denominator = denominator; form = form_over divisor })
     (before ++ (bar ++ after))
 IsUnsigned-fraction method divisor number decimals denominator before after d written some part
     above is small = record {
@@ -146,7 +147,7 @@ IsUnsigned-fraction method divisor number decimals denominator before after d wr
       read = fraction-ratio method divisor (record { number = number; decimals = decimals })
           before after (marks-lack is_fen no-fen before d.marks) d.some some
           (divisor-answered method divisor before above d.read) part
-          ∙ ratio-fits divisor number decimals denominator Fraction is small;
+          ∙ ratio-fits divisor number decimals denominator (form_over divisor) is small;
     }
 
 -- 百
@@ -205,7 +206,7 @@ numerals-by : (variant : ChineseVariant) (case : ChineseCase) (method : ChineseC
     (record {
       numerator = number;
       denominator = denominator;
-      form = form_with_decimals decimals form;
+      form = option_map_or (λ decimals. form) decimals (form_over denominator);
     })
     (option_map_or (λ decimals. hundredths variant case form
     ++ decimal_text variant case method decimals number) decimals
@@ -236,7 +237,7 @@ numerals-by variant case method form number denominator (Some decimals) is small
           (record {
             numerator = number;
             denominator = denominator;
-            form = form_with_decimals (Some decimals) form;
+            form = form;
           })
           (hundredths variant case form ++ decimal_text variant case method decimals number)
       by Whole is =

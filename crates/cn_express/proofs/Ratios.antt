@@ -6,11 +6,11 @@ use Rattle.cn_express.specs.Numerals.{bar}
 use Rattle.cn_express.proofs.Cuts.{bar-at, bar-none, lacks, percent-none}
 use Rattle.cn_quantity.specs.declared.number.Decimal.{Decimal as DecimalNumber}
 use Rattle.cn_quantity.specs.declared.quantity.QuantityForm.{QuantityForm}
-use Rattle.cn_quantity.specs.declared.quantity.QuantityForm.TheVariants.{Fraction, Percent}
+use Rattle.cn_quantity.specs.declared.quantity.QuantityForm.TheVariants.{Percent}
 use Rattle.cn_quantity.specs.Answer.{and_then, further_by}
 use Rattle.cn_quantity.specs.Characters.{is_fen, is_percent, is_zhi}
 use Rattle.cn_quantity.specs.Number.{divisor_answer, number_answer, part_answer}
-use Rattle.cn_quantity.specs.Ratio.{after_bar, before_bar, form_of, fraction_answer, is_fraction, is_percentage, ratio_answer, ratio_of}
+use Rattle.cn_quantity.specs.Ratio.{after_bar, before_bar, form_of, form_over, fraction_answer, is_fraction, is_percentage, ratio_answer, ratio_of}
 use Rattle.cn_quantity.proofs.Bars.{front-taken, percent-some}
 use Rattle.cn_quantity.proofs.Ratios.{a-fraction, a-number, a-percentage}
 use Rattle.cn_quantity.proofs.Today.{and-none}
@@ -35,15 +35,15 @@ bar-cut before after none =
 pub fraction-ratio : (method : ChineseCountMethod) (divisor : ℕ) (decimal : DecimalNumber)
     (before after : List ℕ) → lacks is_fen before ≡ true → 0 < length before → 0 < length after
     → divisor_answer method before ≡ Ok divisor → part_answer method after ≡ Ok decimal
-    → ratio_answer method (before ++ (bar ++ after)) ≡ ratio_of divisor Fraction decimal
+    → ratio_answer method (before ++ (bar ++ after)) ≡ ratio_of divisor (form_over divisor) decimal
 fraction-ratio method divisor decimal before after none some many one other =
     a-fraction method (before ++ (bar ++ after)) is
     ∙ ap₂ (fraction_answer method) cut.0 cut.1
     ∙ ap (λ a. and_then a (λ divisor.
     and_then (further_by (length before + 2) (part_answer method after))
-    (λ decimal. ratio_of divisor Fraction decimal))) one
+    (λ decimal. ratio_of divisor (form_over divisor) decimal))) one
     ∙ ap (λ a. and_then (further_by (length before + 2) a)
-    (λ decimal. ratio_of divisor Fraction decimal)) other where
+    (λ decimal. ratio_of divisor (form_over divisor) decimal)) other where
       cut : (before_bar (before ++ (bar ++ after)) ≡ before)
           × (after_bar (before ++ (bar ++ after)) ≡ after)
       cut = bar-cut before after none

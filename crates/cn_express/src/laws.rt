@@ -12,8 +12,8 @@ ghost use Rattle.cn_quantity.specs.Reading.{quantity_answer};
 ghost use Rattle.cn_quantity.specs.Trimmed.{decimals_of, trimmed};
 
 /// What is written in numerals is read back, by the same method: as the same numerator over the
-/// same denominator. A percentage is read as a fraction, and so is what is written as one since its
-/// denominator is not one of its form.
+/// same denominator, in the same form. But what is written as a fraction since its denominator is
+/// not one of its form is read as one, and over 100 as a percentage.
 ///
 /// For whoever shows quantities in numerals: 314/100 is 三點一四 as a decimal, which is read as
 /// 314/100, and as nothing else.
