@@ -126,8 +126,8 @@ typedef enum cn_form CN_OF_CODE {
 typedef enum cn_quantity_form CN_OF_CODE {
     CN_WHOLE = 0,   /* 35, 三十五, 3万 */
     CN_DECIMAL = 1, /* 3.5, 三點五, 3.5万 */
-    CN_PERCENT = 2, /* 12.5% */
-    CN_FRACTION = 3 /* 三分之一, 百分之五十 */
+    CN_PERCENT = 2, /* 12.5%, 百分之五十 */
+    CN_FRACTION = 3 /* 三分之一, 千分之五 */
 } cn_quantity_form;
 
 /* The flags that are told of a number or an expression in a text: none or several of these, added together. */

@@ -258,7 +258,7 @@ Result<T> to_number(std::string_view text, Way way = Way::any) {
 
 /* An exact quantity, as written and not reduced: 12.5% is 125/1000. Its numbers are in halves, the numerator in two's
  * complement as of CN_I128, and the denominator, above 0, as of CN_U128. Two are equal where numerators, denominators and
- * forms are: 50% and 百分之五十 are two. */
+ * forms are: 3.10 and 3.1 are two. */
 struct Quantity {
     cn_number numerator;
     cn_number denominator;

@@ -657,7 +657,7 @@ class Quantity:
     >>> Quantity(1, 3, 'fraction').to_chinese()
     '三分之一'
 
-    Two are equal where all three are: 50% and 百分之五十 are two, of one to_fraction(). A numerator that
+    Two are equal where all three are: 3.10 and 3.1 are two, of one to_fraction(). A numerator that
     i128 does not hold, and a denominator that is 0 or that u128 does not hold, is a NumeralError.
     """
 

@@ -4,7 +4,7 @@ use crate::QuantityForm;
 
 /// An exact quantity, as written and not reduced: 12.5% is 125/1000.
 ///
-/// Two are equal where numerators, denominators and forms are: 50% and 百分之五十 are two.
+/// Two are equal where numerators, denominators and forms are: 3.10 and 3.1 are two.
 #[derive(Debug, Copy, Clone, Eq, PartialEq, Hash)]
 pub struct Quantity {
     /// The number above the line, with the sign.
