@@ -1,3 +1,5 @@
 pub mod Bytes
+pub mod KnownFigures
+pub mod LastFigures
 pub mod Points
 pub mod Rooms
