@@ -5,6 +5,8 @@ pub mod DigitTexts
 pub mod FiguresRead
 pub mod FractionTexts
 pub mod KnownDecimals
+pub mod KnownFigures
+pub mod LastFigures
 pub mod LastMarks
 pub mod NumberTexts
 pub mod NumeralsRead
