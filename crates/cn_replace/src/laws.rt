@@ -33,3 +33,8 @@ pub fn texts_are_put_in_figures_in_parts(
         ≡ in_figures method included wanted left
         ++ (encode_utf8 c ++ in_figures method included wanted right) }
 {}
+
+/// `NONE` includes neither what is about so much nor one character.
+pub fn included_constants_are()
+    ensures { Included.NONE ≡ record { about = false; one_character = false } }
+{}
