@@ -1,5 +1,6 @@
 -- The expressions of a text in figures.
-use Rattle.std.specs.Prelude.{ℕ, Bool, not, ◌&&◌, ◌||◌, List, chars, Option, Some, None, Result, Ok, Err, if◌then◌else◌}
+use Rattle.std.specs.Prelude.{ℕ, Bool, not, ◌&&◌, ◌||◌, List, codes, chars, Option, Some, None, Result, Ok, Err, if◌then◌else◌}
+use Rattle.std.specs.Char.{char_set_contains}
 use Rattle.cn_core.specs.declared.method.ChineseCountMethod.{ChineseCountMethod}
 use Rattle.cn_core.specs.Refusal.{Refusal}
 use Rattle.cn_express.specs.Figures.{figures_text}
@@ -30,3 +31,8 @@ figures_for method included span =
 -- a text with its expressions in figures
 abbrev pub in_figures : ChineseCountMethod → Included → Wanted → List ℕ → List ℕ
 in_figures method included wanted bytes = replaced (figures_for method included) wanted bytes
+
+-- the character can tell of an expression beside it that it is about so much
+unfoldable pub tells_about : ℕ → Bool
+tells_about c =
+    char_set_contains (codes "几幾数數") c || char_set_contains (codes "几幾多余餘来來") c

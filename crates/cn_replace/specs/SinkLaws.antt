@@ -1,6 +1,6 @@
 -- What was put to a sink piece by piece was put at once. These are proofs, and nothing hangs on them.
 -- They stand in `specs`, since the code of a trait may cite no `proofs`.
-use Rattle.std.proofs.Common.{◌≡◌, ℕ, ◌+◌, ◌-◌, ◌^◌, ◌≤◌, min, List, [], ◌++◌, length, take, drop, refl, sym, ap, ◌∙◌, arith, append-nil, append_assoc, length-append, take_at, drop_at}
+use Rattle.std.proofs.Common.{◌≡◌, ℕ, ◌+◌, ◌-◌, ◌^◌, ◌<◌, ◌≤◌, min, List, [], ◌++◌, length, take, drop, refl, sym, ap, ◌∙◌, arith, append-nil, append_assoc, length-append, take_at, drop_at}
 use Rattle.std.proofs.lemmas.List.{drop-drop, take-append-drop, length-take-le}
 use Rattle.cn_replace.specs.Sinks.{AppendsTo, put_at, PutsTo}
 
@@ -12,9 +12,9 @@ pub AppendsTo-both : (old mid new first second : List ℕ) → AppendsTo old mid
 AppendsTo-both old mid new first second e f =
     f ∙ ap (λ l. l ++ second) e ∙ append_assoc old first second
 
-pub PutsTo-none : (count : ℕ) (room : List ℕ) → PutsTo count room count room []
-PutsTo-none count room = record {
-  count = ap (λ n. min n (2 ^ 64 - 1)) same;
+pub PutsTo-none : (count : ℕ) (room : List ℕ) → count < 2 ^ 64 → PutsTo count room count room []
+PutsTo-none count room counted = record {
+  count = omega (arith, counted, same);
   size = refl;
   counted = λ fits. same;
   put = λ fits. sym (take-append-drop count room) ∙ ap (λ n. take count room ++ drop n room) same;

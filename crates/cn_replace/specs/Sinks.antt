@@ -12,7 +12,7 @@ put_at from room bytes = take from room ++ (bytes ++ drop (from + length bytes) 
 -- these bytes were put to a room behind those that it had counted: they are counted, up to the
 -- greatest count, and stand there if they fit
 pub record PutsTo (old_count : ℕ) (old : List ℕ) (new_count : ℕ) (new bytes : List ℕ) : Type 0 where
-  pub count : min new_count (2 ^ 64 - 1) ≡ min (old_count + length bytes) (2 ^ 64 - 1)
+  pub count : new_count ≡ min (old_count + length bytes) (2 ^ 64 - 1)
   pub size : length new ≡ length old
   pub counted : old_count + length bytes ≤ length old → new_count ≡ old_count + length bytes
   pub put : old_count + length bytes ≤ length old → new ≡ put_at old_count old bytes

@@ -1,5 +1,5 @@
 // A room that is lent for a text.
-ghost use Rattle.std.specs.Prelude.{◌≡◌};
+ghost use Rattle.std.specs.Prelude.{◌≡◌, ◌^◌, ◌<◌};
 ghost use Rattle.cn_replace.specs.Sinks.{PutsTo};
 
 use crate::Sink;
@@ -11,6 +11,7 @@ pub struct LentRoom<'a> {
     pub room: &'a mut [u8],
     /// How many bytes were put, up to the greatest `usize`.
     pub count: usize,
+    ghost counted: { count < 2 ^ 64 },
 }
 
 // Puts bytes behind so many of a room if they fit, and says how many they are with those.
@@ -34,7 +35,7 @@ impl Sink for LentRoom<'_> {
     ghost use Rattle.std.proofs.Common.{◌∙◌};
     ghost use Rattle.cn_replace.specs.SinkLaws.{PutsTo-none, PutsTo-both};
 
-    ghost took_none = { λ sink. (refl, PutsTo-none _ _) };
+    ghost took_none = { λ sink. (refl, PutsTo-none _ _ sink.counted) };
 
     ghost took_both = { λ old mid new first second a b.
         (b.0 ∙ a.0, PutsTo-both _ _ _ _ _ _ first second a.1 b.1) };
