@@ -124,6 +124,7 @@ REFUSALS_OF_CAPITALS = (
     "crates/cn_amount/specs/ErrorText.antt",
     "crates/cn_date/specs/ErrorText.antt",
 )
+REFUSALS_OF_QUANTITIES = "crates/cn_express/specs/ErrorText.antt"
 REFUSALS_OF_FIGURES = "crates/cn_figures/specs/ErrorText.antt"
 OF_READERS_OF_CAPITALS = (
     "bindings/rust/src/read.rs",
@@ -136,7 +137,7 @@ OF_READERS_OF_FIGURES = (
     "bindings/python/chinese_number/__init__.py",
     "bindings/web/chinese-number.mjs",
 )
-OF_PRINTERS_OF_CAPITALS = (
+OF_PRINTERS_BESIDE_NUMBERS = (
     "bindings/c/chinese_number.h",
     "bindings/rust/src/print.rs",
     "bindings/rust/tests/interface.rs",
@@ -289,13 +290,14 @@ def compare_refusals(top):
     ]
     figures = texts_of(top / REFUSALS_OF_FIGURES, "refusal_text", 3)
     # The other one is out of memory, which is no refusal.
-    printed = [texts_of(top / path, "writing_error_text", 2)[0] for path in REFUSALS_OF_CAPITALS]
+    of_printers = (*REFUSALS_OF_CAPITALS, REFUSALS_OF_QUANTITIES)
+    printed = [texts_of(top / path, "writing_error_text", 2)[0] for path in of_printers]
     for files, wanted in (
         (OF_READERS, texts),
         (OF_PRINTERS, texts[2:]),
         (OF_READERS_OF_CAPITALS, read),
         (OF_READERS_OF_FIGURES, figures),
-        (OF_PRINTERS_OF_CAPITALS, printed),
+        (OF_PRINTERS_BESIDE_NUMBERS, printed),
     ):
         for file in files:
             for text in wanted:

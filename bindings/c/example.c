@@ -73,6 +73,22 @@ static void numbers_of_a_text(void) {
     expect("all numbers are found", count == 2 && numbers[0] == 23 && numbers[1] == 2025 && span.end == 0);
 }
 
+/* What a call prints to, and as it is before. */
+static uint8_t printed[CN_MOST_QUANTITY_BYTES], untouched[CN_MOST_QUANTITY_BYTES];
+
+static uint8_t *fresh_room(void) {
+    memset(printed, 7, sizeof printed);
+    memset(untouched, 7, sizeof untouched);
+    return printed;
+}
+
+/* What was found has this status and this length; at CN_DONE the text is this one, and nothing else is written. */
+static void is_printed(const char *text, uint32_t found, size_t length, uint32_t status, size_t wanted) {
+    size_t written = status == CN_DONE ? wanted : 0;
+    expect(text, found == status && length == wanted && memcmp(printed, text, written) == 0
+                     && memcmp(printed + written, untouched, sizeof printed - written) == 0);
+}
+
 /* Finds at most two numbers of a text from a byte on, with this status and where the last one stands. */
 static void finds(const char *text, size_t from, uint32_t upper, uint32_t greatest, uint32_t status, size_t count,
                   size_t start, size_t end, uint32_t flags) {
@@ -130,25 +146,16 @@ static void each_status_of_quantities(void) {
 /* Prints a quantity into a room of this length, with this status and length; the text is this one. */
 static void prints_quantity(cn_quantity quantity, uint32_t method, uint32_t script, uint32_t letter_case, size_t room_length,
                             uint32_t status, size_t wanted, const char *text) {
-    uint8_t room[CN_MOST_QUANTITY_BYTES], untouched[CN_MOST_QUANTITY_BYTES];
-    size_t length, written = status == CN_DONE ? wanted : 0;
-    uint32_t found;
-    memset(room, 7, sizeof room);
-    memset(untouched, 7, sizeof untouched);
-    found = chinese_quantity_print(&quantity, method, script, letter_case, room, room_length, &length);
-    expect(text, found == status && length == wanted && memcmp(room, text, written) == 0
-                     && memcmp(room + written, untouched, sizeof room - written) == 0);
+    size_t length;
+    uint32_t found = chinese_quantity_print(&quantity, method, script, letter_case, fresh_room(), room_length, &length);
+    is_printed(text, found, length, status, wanted);
 }
 
 /* Prints it in figures, likewise. */
 static void prints_figures(cn_quantity quantity, size_t room_length, uint32_t status, size_t wanted, const char *text) {
-    uint8_t room[CN_MOST_FIGURES_BYTES], untouched[CN_MOST_FIGURES_BYTES];
-    size_t length, written = status == CN_DONE ? wanted : 0;
-    memset(room, 7, sizeof room);
-    memset(untouched, 7, sizeof untouched);
-    expect(text, chinese_quantity_figures(&quantity, room, room_length, &length) == status && length == wanted
-                     && memcmp(room, text, written) == 0
-                     && memcmp(room + written, untouched, sizeof room - written) == 0);
+    size_t length;
+    uint32_t found = chinese_quantity_figures(&quantity, fresh_room(), room_length, &length);
+    is_printed(text, found, length, status, wanted);
 }
 
 static void each_status_of_printing_quantities(void) {
@@ -180,11 +187,10 @@ static void each_status_of_printing_quantities(void) {
 /* Replaces the quantities of a text, in a room of this length, with this status and length; the new text is this one. */
 static void replaces(const char *text, uint32_t method, uint32_t included, size_t room_length, uint32_t status, size_t wanted,
                      const char *new_text) {
-    uint8_t room[64];
     size_t length;
-    uint32_t found = chinese_quantities_to_figures((const uint8_t *)text, strlen(text), 0, CN_ZHAO, method, included, room,
-                                                   room_length, &length);
-expect(new_text, found == status && length == wanted && (found != CN_DONE || memcmp(room, new_text, wanted) == 0));
+    uint32_t found = chinese_quantities_to_figures((const uint8_t *)text, strlen(text), 0, CN_ZHAO, method, included,
+                                                   fresh_room(), room_length, &length);
+    expect(new_text, found == status && length == wanted && (found != CN_DONE || memcmp(printed, new_text, wanted) == 0));
 }
 
 static void each_status_of_replacing(void) {
@@ -245,14 +251,10 @@ static void each_status_of_reading(void) {
 /* Prints a number into a room of this length, with this status and length; the text is this one. */
 static void prints(cn_number number, uint32_t kind, uint32_t way, uint32_t script, uint32_t letter_case, size_t room_length,
                    uint32_t status, size_t wanted, const char *text) {
-    uint8_t room[CN_MOST_BYTES], untouched[CN_MOST_BYTES];
-    size_t length, written = status == CN_DONE ? wanted : 0;
-    uint32_t found;
-    memset(room, 7, sizeof room);
-    memset(untouched, 7, sizeof untouched);
-    found = chinese_number_print(number.low, number.high, kind, way, script, letter_case, room, room_length, &length);
-    expect(text, found == status && length == wanted && memcmp(room, text, written) == 0
-                     && memcmp(room + written, untouched, sizeof room - written) == 0);
+    size_t length;
+    uint32_t found = chinese_number_print(number.low, number.high, kind, way, script, letter_case, fresh_room(), room_length,
+                                          &length);
+    is_printed(text, found, length, status, wanted);
 }
 
 static void each_status_of_printing(void) {
@@ -278,13 +280,9 @@ static void each_status_of_printing(void) {
 /* Prints an amount into a room of this length, with this status and length; the text is this one. */
 static void prints_amount(uint64_t fen, uint32_t script, uint32_t form, size_t room_length, uint32_t status, size_t wanted,
                           const char *text) {
-    uint8_t room[CN_MOST_AMOUNT_BYTES], untouched[CN_MOST_AMOUNT_BYTES];
-    size_t length, written = status == CN_DONE ? wanted : 0;
-    memset(room, 7, sizeof room);
-    memset(untouched, 7, sizeof untouched);
-    expect(text, chinese_amount_print(fen, script, form, room, room_length, &length) == status && length == wanted
-                     && memcmp(room, text, written) == 0
-                     && memcmp(room + written, untouched, sizeof room - written) == 0);
+    size_t length;
+    uint32_t found = chinese_amount_print(fen, script, form, fresh_room(), room_length, &length);
+    is_printed(text, found, length, status, wanted);
 }
 
 static void each_status_of_printing_amounts(void) {
@@ -324,13 +322,9 @@ static void each_status_of_reading_amounts(void) {
 /* Prints a date into a room of this length, with this status and length; the text is this one. */
 static void prints_date(uint32_t year, uint32_t month, uint32_t day, uint32_t script, size_t room_length, uint32_t status,
                         size_t wanted, const char *text) {
-    uint8_t room[CN_MOST_DATE_BYTES], untouched[CN_MOST_DATE_BYTES];
-    size_t length, written = status == CN_DONE ? wanted : 0;
-    memset(room, 7, sizeof room);
-    memset(untouched, 7, sizeof untouched);
-    expect(text, chinese_date_print(year, month, day, script, room, room_length, &length) == status && length == wanted
-                     && memcmp(room, text, written) == 0
-                     && memcmp(room + written, untouched, sizeof room - written) == 0);
+    size_t length;
+    uint32_t found = chinese_date_print(year, month, day, script, fresh_room(), room_length, &length);
+    is_printed(text, found, length, status, wanted);
 }
 
 static void each_status_of_printing_dates(void) {

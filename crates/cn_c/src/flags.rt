@@ -1,9 +1,11 @@
-// What is told of a number in a text: flags, added together.
+// What is told of a number in a text, and what is asked for: flags, added together.
 ghost use Rattle.std.specs.Prelude.{◌≡◌};
 ghost use Rattle.chinese_number.specs.Spans.{span_of};
 ghost use Rattle.cn_c.specs.Finds.{flag_if, flags_told};
+ghost use Rattle.cn_c.specs.Replaces.{included_of};
 
 use chinese_number::Found;
+use cn_replace::Included;
 
 /// Each of its characters is a digit.
 pub const PLAIN_DIGITS: u32 = 1;
@@ -32,4 +34,23 @@ pub fn flags_of(found: Found<'_>) -> u32
         + flag_if(found.stands_alone(), STANDS_ALONE)
         + flag_if(found.is_about(), ABOUT)
         + flag_if(found.is_one_character(), ONE_CHARACTER)
+}
+
+const BOTH: u32 = ABOUT + ONE_CHARACTER;
+
+/// What is replaced too, by none, one or both of two flags.
+pub fn included_of(flags: u32) -> Option<Included>
+    ensures { result ≡ included_of flags }
+{
+    let (about, one_character) = match flags {
+        0 => (false, false),
+        ABOUT => (true, false),
+        ONE_CHARACTER => (false, true),
+        BOTH => (true, true),
+        _ => return None,
+    };
+    Some(Included {
+        about,
+        one_character,
+    })
 }

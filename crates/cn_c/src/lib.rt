@@ -19,6 +19,7 @@ mod quantity_figures;
 mod quantity_form;
 mod quantity_text;
 mod reading;
+mod replacing;
 mod room;
 mod signed_amount;
 mod status;
@@ -39,6 +40,7 @@ pub use quantity::{Quantity, chinese_quantity_read};
 pub use quantity_figures::chinese_quantity_figures;
 pub use quantity_text::chinese_quantity_print;
 pub use reading::{Reading, chinese_number_read, chinese_number_read_utf8};
+pub use replacing::chinese_quantities_to_figures;
 pub use signed_amount::{
     SignedAmount, chinese_figures_read, chinese_signed_amount_print, chinese_signed_amount_read,
 };

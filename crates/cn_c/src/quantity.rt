@@ -70,7 +70,12 @@ fn tell_quantity(
             quantity.form = form_code(exact.form);
             DONE
         }
-        Err(error) => tell_refusal(text, error, &mut quantity.char_index, &mut quantity.byte_index),
+        Err(error) => tell_refusal(
+            text,
+            error,
+            &mut quantity.char_index,
+            &mut quantity.byte_index,
+        ),
     }
 }
 

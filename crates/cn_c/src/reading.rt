@@ -62,7 +62,12 @@ fn tell<T: Whole>(text: &str, answer: Result<T, ChineseToNumberError>, reading: 
             reading.number = halves(value);
             DONE
         }
-        Err(error) => tell_refusal(text, error, &mut reading.char_index, &mut reading.byte_index),
+        Err(error) => tell_refusal(
+            text,
+            error,
+            &mut reading.char_index,
+            &mut reading.byte_index,
+        ),
     }
 }
 

@@ -2,6 +2,7 @@
 mod amounts;
 mod dates;
 mod quantities;
+mod written_quantities;
 
 use crate::{
     Number, Reading, Span, chinese_number_find, chinese_number_find_utf8, chinese_number_print,
