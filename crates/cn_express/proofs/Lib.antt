@@ -14,6 +14,7 @@ pub mod Points
 pub mod Ratios
 pub mod Rooms
 pub mod SignedTexts
+pub mod SpelledBytes
 pub mod SpelledNumbers
 pub mod TrimmedDecimals
 pub mod WrittenTexts
