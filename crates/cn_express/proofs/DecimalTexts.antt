@@ -1,12 +1,10 @@
 -- A written number, with decimals or without, is read as that number.
-use Rattle.std.proofs.Common.{◌≡◌, ℕ, zero, suc, ◌*◌, ◌/◌, ◌^◌, ◌<◌, pos, Bool, true, false, ◌&&◌, ◌==◌, nat_lt, is_none, is_some, List, [], ◌∷◌, ◌++◌, length, map, Some, None, Ok, refl, ap, ap₂, ◌∙◌, arith, if◌then◌else◌, append-nil}
+use Rattle.std.proofs.Common.{◌≡◌, ℕ, zero, suc, ◌*◌, ◌/◌, ◌^◌, ◌<◌, pos, Bool, true, false, ◌&&◌, nat_lt, is_none, is_some, List, [], ◌∷◌, ◌++◌, length, map, Some, None, Ok, refl, ap, ap₂, ◌∙◌, arith, if◌then◌else◌, append-nil}
 use Rattle.std.specs.Char.{is_ascii_digit}
 use Rattle.std.specs.List.{list_all}
-use Rattle.std.specs.Option.{option_map_or}
 use Rattle.std.proofs.lemmas.Bool.Decides.{nat_tests}
 use Rattle.std.proofs.Math.Nat.{div-le_self}
 use Rattle.cn_core.specs.declared.case.ChineseCase.{ChineseCase}
-use Rattle.cn_core.specs.declared.case.ChineseCase.TheVariants.{Upper, Lower}
 use Rattle.cn_core.specs.declared.method.ChineseCountMethod.{ChineseCountMethod}
 use Rattle.cn_core.specs.declared.script.ChineseVariant.{ChineseVariant}
 use Rattle.cn_core.specs.declared.script.ChineseVariant.TheVariants.{Traditional, Simple}
@@ -24,7 +22,7 @@ use Rattle.cn_express.specs.Numerals.{decimal_text, magnitude_text, point_char}
 use Rattle.cn_express.proofs.Cuts.{lacks, marks-lack, point-at}
 use Rattle.cn_express.proofs.DigitTexts.{WritesDigits, WritesDigits-each, are_digits, digits-alone, digits-all, last-count, last-digits, last-read, no-factors}
 use Rattle.cn_express.proofs.LastMarks.{spelled-ended}
-use Rattle.cn_express.proofs.SpelledNumbers.{BeginsNumber, BeginsNumber-marks, mark_read, printed-known, spelled-whole}
+use Rattle.cn_express.proofs.SpelledNumbers.{BeginsNumber, BeginsNumber-marks, digits_written, mark_read, printed-known, spelled-whole}
 use Rattle.cn_express.proofs.WrittenTexts.{IsText, IsText-back}
 use Rattle.cn_quantity.specs.declared.characters.DigitKind.TheVariants.{Chinese, Figure}
 use Rattle.cn_quantity.specs.Answer.{and_then}
@@ -36,7 +34,7 @@ use Rattle.cn_quantity.specs.Number.{decimal_of, number_answer, part_answer, who
 use Rattle.cn_quantity.specs.Units.{are_rising_units, times_units}
 use Rattle.cn_quantity.proofs.Numbers.{a-decimal}
 use Rattle.cn_quantity.proofs.Today.{and-none, are_marks, digit-mark, digit-no_unit, no-point, number-whole}
-use Rattle.cn_spell.proofs.Printed.{IsReadBack-marks, each_below, is_printed}
+use Rattle.cn_spell.proofs.Printed.{IsReadBack-marks, is_printed}
 use Rattle.cn_spell.proofs.SpelledMarks.{below_square, spelling-printed}
 
 -- what a written spelling is like
@@ -117,15 +115,6 @@ part-whole method number text s =
     rw append-nil at (part-number method text [] s.begins) ∙ whole-read method number text s
 
 -- the digits behind a point
-digits_written : (variant : ChineseVariant) (case : ChineseCase)
-    → each_below (λ value. option_map_or (λ read. read == value)
-    (chinese_digit_of (digit_char variant case value)) false) 10 ≡ true
-unfolding digit_char chinese_digit_of digit_of
-digits_written Traditional Upper = refl
-digits_written Traditional Lower = refl
-digits_written Simple Upper = refl
-digits_written Simple Lower = refl
-
 pub WritesDigits-chinese : (variant : ChineseVariant) (case : ChineseCase)
     → WritesDigits Chinese (digit_char variant case)
 WritesDigits-chinese variant case =

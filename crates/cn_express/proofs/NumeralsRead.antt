@@ -223,8 +223,8 @@ numerals-by variant case method form number denominator None is small above fits
     (and-left (is_printable method (pos denominator)) _ written))
     s.written filled (part-whole method number (magnitude_text variant case method number) s)
     above (omega arith) fits
-numerals-by variant case method form number denominator (Some decimals) is small above fits written =
-    by form is where
+numerals-by variant case method form number denominator (Some decimals) is small above fits
+    written = by form is where
       printable : is_printable method (pos (number / 10 ^ decimals)) ≡ true
       printable = and-left (is_printable method (pos (number / 10 ^ decimals))) true written
 
