@@ -20,9 +20,10 @@ use Rattle.cn_core.proofs.ReadBack.{spelling-is_numeral}
 use Rattle.chinese_number.specs.Digits.{is_digit}
 use Rattle.chinese_number.specs.Parts.{sign_length}
 use Rattle.chinese_number.proofs.PlainDigits.{decimal_is, starts, front-le, naive_answer-digits}
-use Rattle.chinese_number.proofs.Printed.{is_printed}
-use Rattle.chinese_number.proofs.Reading.{IsWhole, HasParts, HasParts-signed_text, held-smaller, Reads-parts, naive_reading-parts, typed_number-held, minus_is_signed, written_sign}
-use Rattle.chinese_number.proofs.SpelledMarks.{below_square, spelling-printed, Judges-beginning}
+use Rattle.cn_spell.proofs.Printed.{is_printed}
+use Rattle.chinese_number.proofs.Reading.{IsWhole, HasParts, HasParts-signed_text, Reads-parts, naive_reading-parts, minus_is_signed}
+use Rattle.cn_spell.proofs.SignedNumbers.{held-smaller, typed_number-held, written_sign}
+use Rattle.cn_spell.proofs.SpelledMarks.{below_square, spelling-printed, Judges-beginning}
 
 -- it is written from a beginning of the marks
 take-signed_text : (variant : ChineseVariant) (case : ChineseCase) (negative : Bool) (marks : List Mark) (count : ℕ) → sign_len (written_sign negative) < count

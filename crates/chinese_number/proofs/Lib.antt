@@ -6,11 +6,9 @@ pub mod Methods
 pub mod Numerals
 pub mod Places
 pub mod PlainDigits
-pub mod Printed
 pub mod Quantities
 pub mod Reading
 pub mod Refusals
 pub mod Signs
 pub mod SmallUnits
-pub mod SpelledMarks
 pub mod WhiteSpace

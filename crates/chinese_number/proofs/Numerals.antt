@@ -11,8 +11,9 @@ use Rattle.cn_core.specs.Reading.{Reads, is_minus, typed_number, typed_answer}
 use Rattle.cn_core.specs.Value.{numeral_value}
 use Rattle.cn_core.specs.Whole.{signed_number, Kind, holds}
 use Rattle.chinese_number.specs.Parts.{sign_at, unsigned_text}
-use Rattle.chinese_number.proofs.Reading.{IsWhole, Reads-parts, typed_number-held, held-typed_number, held_is, size_of}
-use Rattle.chinese_number.proofs.SpelledMarks.{Judges-numeral}
+use Rattle.chinese_number.proofs.Reading.{IsWhole, Reads-parts, held-typed_number, held_is, size_of}
+use Rattle.cn_spell.proofs.SignedNumbers.{typed_number-held}
+use Rattle.cn_spell.proofs.SpelledMarks.{Judges-numeral}
 
 -- what a text that is judged as a number is like
 pub record IsJudged (method : ChineseCountMethod) (marks : List Mark) (number : ℕ) : Type 0 where

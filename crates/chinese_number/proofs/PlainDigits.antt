@@ -21,8 +21,9 @@ use Rattle.cn_core.specs.Printing.{signed_bytes, naive_text}
 use Rattle.cn_core.proofs.Fronts.{list_all-both}
 use Rattle.chinese_number.specs.Digits.{is_digit}
 use Rattle.chinese_number.specs.Parts.{sign_at, unsigned_text}
-use Rattle.chinese_number.proofs.Printed.{is_printed}
-use Rattle.chinese_number.proofs.Reading.{IsWhole, HasParts-signed_text, naive_reading-parts, typed_answer-held, minus_is_signed, written_sign, typed_number-held, held-typed_number, held_is, size_of}
+use Rattle.cn_spell.proofs.Printed.{is_printed}
+use Rattle.chinese_number.proofs.Reading.{IsWhole, HasParts-signed_text, naive_reading-parts, typed_answer-held, minus_is_signed, held-typed_number, held_is, size_of}
+use Rattle.cn_spell.proofs.SignedNumbers.{written_sign, typed_number-held}
 
 -- one more digit in the sum
 abbrev step : ℕ → Mark → ℕ

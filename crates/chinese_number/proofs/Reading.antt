@@ -21,15 +21,11 @@ use Rattle.cn_core.specs.Judging.{judge}
 use Rattle.cn_core.proofs.Fronts.{and-left}
 use Rattle.cn_core.proofs.Judging.{Judges-judge, Judges-same}
 use Rattle.cn_core.proofs.ReadBack.{spelling-is_numeral}
-use Rattle.chinese_number.proofs.Printed.{is_printed, IsReadBack-marks, text_of-signed_text, minus_is_sign, no_sign}
-use Rattle.chinese_number.proofs.SpelledMarks.{below_square, spelling-printed, Judges-spelling}
+use Rattle.cn_spell.proofs.Printed.{is_printed, IsReadBack-marks, text_of-signed_text, minus_is_sign, no_sign}
+use Rattle.cn_spell.proofs.SignedNumbers.{typed_number-held, written_sign, signed_number-signed_text}
+use Rattle.cn_spell.proofs.SpelledMarks.{below_square, spelling-printed, Judges-spelling}
 
--- a number that the type holds
-pub typed_number-held : (kind : Kind) (number : ℤ) → holds kind number ≡ true
-    → typed_number kind number ≡ Ok number
-typed_number-held kind number h = grind (arith, ints, h)
-
--- and what is answered is such a number
+-- what is answered is a number that the type holds
 pub held-typed_number : (kind : Kind) (number answer : ℤ) → typed_number kind number ≡ Ok answer
     → holds kind answer ≡ true
 held-typed_number kind number answer h = grind (arith, ints, h)
@@ -72,28 +68,6 @@ unsigned_start : (variant : ChineseVariant) (case : ChineseCase) (signed : Bool)
 unsigned_start variant case false marks h s = refl
 unsigned_start variant case true [] h s = refl
 unsigned_start variant case true (mark ∷ rest) h s = no_sign variant case mark rest (and-left (is_printed mark) _ h) s
-
--- the sign that a negative number is written with, where the type has one
-abbrev pub written_sign : Bool → Option Sign
-written_sign true = Some Minus
-written_sign false = None
-
-not_below_zero : (n : ℕ) → int_lt (pos n) (pos 0) ≡ false
-not_below_zero n = grind (arith, ints)
-
-pub signed_number-signed_text : (number : ℤ)
-    → signed_number (is_minus (written_sign (int_lt number (pos 0)))) (nat_abs number) ≡ number
-signed_number-signed_text (pos n) = rw (not_below_zero n)
-signed_number-signed_text (negsuc n) = refl
-
--- with this sign a type that holds the number, and 0, holds each smaller magnitude too
-pub held-smaller : (kind : Kind) (number : ℤ) (magnitude : ℕ) → holds kind (pos 0) ≡ true
-    → holds kind number ≡ true → magnitude ≤ nat_abs number
-    → holds kind (signed_number (is_minus (written_sign (int_lt number (pos 0)))) magnitude) ≡ true
-held-smaller kind (pos n) magnitude none held low =
-    rw (not_below_zero n) (grind (arith, ints, none, held, low))
-held-smaller kind (negsuc n) zero none held low = none
-held-smaller kind (negsuc n) (suc magnitude) none held low = grind (arith, ints, none, held, low)
 
 -- a sign leaves the magnitude as it was
 pub size_of : (sign : Option Sign) (magnitude : ℕ)

@@ -11,8 +11,9 @@ use Rattle.cn_core.specs.Text.{text_of, marks_of}
 use Rattle.cn_core.specs.Reading.{Reads, is_minus}
 use Rattle.cn_core.specs.Value.{numeral_value}
 use Rattle.cn_core.specs.Whole.{signed_number, Kind, holds}
-use Rattle.chinese_number.proofs.Reading.{IsWhole, HasParts, Reads-parts, typed_number-held, size_of}
-use Rattle.chinese_number.proofs.SpelledMarks.{Judges-numeral}
+use Rattle.chinese_number.proofs.Reading.{IsWhole, HasParts, Reads-parts, size_of}
+use Rattle.cn_spell.proofs.SignedNumbers.{typed_number-held}
+use Rattle.cn_spell.proofs.SpelledMarks.{Judges-numeral}
 
 HasParts-sign : (kind : Kind) (bytes rest : List ℕ) (character : ℕ) (sign : Sign)
     → kind.signed ≡ true → text_of bytes ≡ character ∷ rest → sign_of character ≡ Some sign

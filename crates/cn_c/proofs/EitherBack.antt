@@ -25,9 +25,10 @@ use Rattle.chinese_number.specs.Digits.{is_digit}
 use Rattle.chinese_number.specs.Number.{is_plain}
 use Rattle.chinese_number.specs.Parts.{unsigned_text}
 use Rattle.chinese_number.proofs.PlainDigits.{decimal_is, starts, naive_answer-digits}
-use Rattle.chinese_number.proofs.Printed.{is_printed}
-use Rattle.chinese_number.proofs.Reading.{HasParts, HasParts-signed_text, minus_is_signed, naive_reading-parts, typed_answer-held, written_sign}
-use Rattle.chinese_number.proofs.SpelledMarks.{below_square, spelling-printed}
+use Rattle.cn_spell.proofs.Printed.{is_printed}
+use Rattle.chinese_number.proofs.Reading.{HasParts, HasParts-signed_text, minus_is_signed, naive_reading-parts, typed_answer-held}
+use Rattle.cn_spell.proofs.SignedNumbers.{written_sign}
+use Rattle.cn_spell.proofs.SpelledMarks.{below_square, spelling-printed}
 use Rattle.cn_faces.specs.Either.{either_way, ReadsEither}
 use Rattle.cn_faces.specs.Ways.{ReadsBy}
 use Rattle.cn_faces.specs.declared.Way.{Way}

@@ -17,9 +17,9 @@ use Rattle.cn_spell.proofs.NaiveTexts.{three-naive}
 use Rattle.cn_core.proofs.Characters.{takes_three}
 use Rattle.cn_spell.proofs.ThreeBytes.{IsUtf8-three, three-minus}
 use Rattle.chinese_number.proofs.PlainDigits.{naive_reading-signed_text}
-use Rattle.chinese_number.proofs.Printed.{is_printed, IsReadBack-marks}
+use Rattle.cn_spell.proofs.Printed.{is_printed, IsReadBack-marks}
 use Rattle.chinese_number.proofs.Reading.{IsWhole, Reads-same, Reads-spelled}
-use Rattle.chinese_number.proofs.SpelledMarks.{below_square, spelling-printed}
+use Rattle.cn_spell.proofs.SpelledMarks.{below_square, spelling-printed}
 use Rattle.cn_c.specs.declared.codes.Kind.{Kind as KindCode}
 use Rattle.cn_c.specs.declared.codes.Kind.TheVariants.{U8, U16, U32, U64, U128, I8, I16, I32, I64, I128}
 use Rattle.cn_faces.specs.declared.Way.{Way}

@@ -6,6 +6,7 @@
 mod digits;
 mod error;
 mod figures;
+pub mod laws;
 mod memory;
 mod numerals;
 mod room;

@@ -52,7 +52,7 @@ rows_at p [] i h low = absurd (omega (arith, low))
 rows_at p (row ∷ rows) zero h low = and-left (p row) _ h
 rows_at p (row ∷ rows) (suc i) h low = rows_at p rows i (and-right (p row) _ h) (omega arith)
 
-rows_have : (p : ℕ → Bool) (rows : List (List ℕ)) (c i : ℕ) → list_all (list_all p) rows ≡ true
+pub rows_have : (p : ℕ → Bool) (rows : List (List ℕ)) (c i : ℕ) → list_all (list_all p) rows ≡ true
     → row_with c rows ≡ Some i → p c ≡ true
 rows_have p rows c i h e =
     let at = position-Some (λ row. char_set_contains row c) rows i [] e in

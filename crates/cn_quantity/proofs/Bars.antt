@@ -21,12 +21,12 @@ pub IsBarSought-none : (bytes : List ℕ) → IsBarSought bytes bytes
 IsBarSought-none bytes =
     record { end = IsEnd-all bytes; seen = []; text = refl; before = refl; after = refl }
 
-bar-gone : (c : ℕ) (l : List ℕ) → (is_fen c && begins_with_zhi l) ≡ false
+pub bar-gone : (c : ℕ) (l : List ℕ) → (is_fen c && begins_with_zhi l) ≡ false
     → after_bar (c ∷ l) ≡ after_bar l
 bar-gone c [] none = refl
 bar-gone c (next ∷ rest) none = rw none
 
-bar-passed : (c : ℕ) (l : List ℕ) → (is_fen c && begins_with_zhi l) ≡ false
+pub bar-passed : (c : ℕ) (l : List ℕ) → (is_fen c && begins_with_zhi l) ≡ false
     → before_bar (c ∷ l) ≡ c ∷ before_bar l
 bar-passed c l none = rw none
 
@@ -43,11 +43,11 @@ IsBarSought-more bytes rest after c s b none = record {
   after = s.after ∙ ap after_bar b.text ∙ bar-gone c (text_of after) none;
 }
 
-bar-stops : (c zhi : ℕ) (l : List ℕ) → is_fen c ≡ true → is_zhi zhi ≡ true
+pub bar-stops : (c zhi : ℕ) (l : List ℕ) → is_fen c ≡ true → is_zhi zhi ≡ true
     → before_bar (c ∷ zhi ∷ l) ≡ []
 bar-stops c zhi l e f = rw (e, f)
 
-bar-cut : (c zhi : ℕ) (l : List ℕ) → is_fen c ≡ true → is_zhi zhi ≡ true
+pub bar-cut : (c zhi : ℕ) (l : List ℕ) → is_fen c ≡ true → is_zhi zhi ≡ true
     → after_bar (c ∷ zhi ∷ l) ≡ l
 bar-cut c zhi l e f = rw (e, f)
 
@@ -99,7 +99,7 @@ pub none-barred : (bytes rest : List ℕ) → IsBarSought bytes rest → text_of
 none-barred bytes rest s none = s.after ∙ ap after_bar none
 
 -- the last character
-percent-last : (c : ℕ) (xs : List ℕ) → ends_with_percent (xs ++ c ∷ []) ≡ is_percent c
+pub percent-last : (c : ℕ) (xs : List ℕ) → ends_with_percent (xs ++ c ∷ []) ≡ is_percent c
 percent-last c [] = refl
 percent-last c (x ∷ []) = refl
 percent-last c (x ∷ y ∷ rest) = percent-last c (y ∷ rest)

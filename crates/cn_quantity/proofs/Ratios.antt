@@ -38,11 +38,11 @@ ratio-told skipped bytes divisor form decimal =
       by false = refl
 
 -- which text is a fraction, a percentage, or neither
-a-fraction : (method : ChineseCountMethod) (text : List ℕ) → is_fraction text ≡ true
+pub a-fraction : (method : ChineseCountMethod) (text : List ℕ) → is_fraction text ≡ true
     → ratio_answer method text ≡ fraction_answer method (before_bar text) (after_bar text)
 a-fraction method text e = rw e
 
-a-percentage : (method : ChineseCountMethod) (text : List ℕ) → is_fraction text ≡ false
+pub a-percentage : (method : ChineseCountMethod) (text : List ℕ) → is_fraction text ≡ false
     → is_percentage text ≡ true
     → ratio_answer method text ≡ and_then (number_answer method (take (length text - 1) text))
     (λ decimal. ratio_of 100 Percent decimal)

@@ -40,7 +40,7 @@ use Rattle.cn_quantity.specs.Reading.{leading_sign, quantity_answer, signed_answ
 use Rattle.cn_quantity.specs.Units.{are_rising, times_units}
 
 -- what each digit and unit of numerals has
-own : (p : ℕ → Bool) (c : ℕ) → list_all (list_all p) digit_rows ≡ true
+pub own : (p : ℕ → Bool) (c : ℕ) → list_all (list_all p) digit_rows ≡ true
     → list_all (list_all p) unit_rows ≡ true → is_digit_or_unit (mark_of c) ≡ true → p c ≡ true
 own p c digits units marked = by (p c) refl where
   by : (b : Bool) → p c ≡ b → b ≡ true
@@ -49,11 +49,11 @@ own p c digits units marked = by (p c) refl where
       let none : is_digit_or_unit other ≡ true =
       ap is_digit_or_unit (sym (outside-mark p c digits units e)) ∙ marked in cc
 
-none-of : (b : Bool) → not b ≡ true → b ≡ false
+pub none-of : (b : Bool) → not b ≡ true → b ≡ false
 none-of true h = cc
 none-of false h = refl
 
-no-point : (c : ℕ) → is_digit_or_unit (mark_of c) ≡ true → is_point Chinese c ≡ false
+pub no-point : (c : ℕ) → is_digit_or_unit (mark_of c) ≡ true → is_point Chinese c ≡ false
 unfolding is_point
 no-point c m = none-of (is_point Chinese c) (own (λ c. not (is_point Chinese c)) c refl refl m)
 
@@ -65,15 +65,15 @@ no-comma : (c : ℕ) → is_digit_or_unit (mark_of c) ≡ true → is_comma c �
 unfolding is_comma
 no-comma c m = none-of (is_comma c) (own (λ c. not (is_comma c)) c refl refl m)
 
-no-fen : (c : ℕ) → is_digit_or_unit (mark_of c) ≡ true → is_fen c ≡ false
+pub no-fen : (c : ℕ) → is_digit_or_unit (mark_of c) ≡ true → is_fen c ≡ false
 unfolding is_fen
 no-fen c m = none-of (is_fen c) (own (λ c. not (is_fen c)) c refl refl m)
 
-no-percent : (c : ℕ) → is_digit_or_unit (mark_of c) ≡ true → is_percent c ≡ false
+pub no-percent : (c : ℕ) → is_digit_or_unit (mark_of c) ≡ true → is_percent c ≡ false
 unfolding is_percent
 no-percent c m = none-of (is_percent c) (own (λ c. not (is_percent c)) c refl refl m)
 
-no-tens : (c : ℕ) → is_digit_or_unit (mark_of c) ≡ true → tens_of c ≡ None
+pub no-tens : (c : ℕ) → is_digit_or_unit (mark_of c) ≡ true → tens_of c ≡ None
 unfolding tens_of
 no-tens c m =
     by (tens_of c) (none-of (is_some (tens_of c))
@@ -128,14 +128,14 @@ one-kind c rank is = by (digit_of c) refl where
       let both : test c ≡ false =
       ap (λ d. not (is_some d && is_some (rank_of c))) e ∙ ap (λ r. not (is_some r)) is in cc
 
-unit-mark : (c rank : ℕ) → rank_of c ≡ Some rank → mark_of c ≡ unit rank
+pub unit-mark : (c rank : ℕ) → rank_of c ≡ Some rank → mark_of c ≡ unit rank
 unit-mark c rank is =
     ap (λ d. mark_from d (rank_of c)) (one-kind c rank is) ∙ ap (mark_from None) is
 
-digit-mark : (c v : ℕ) → digit_of c ≡ Some v → mark_of c ≡ digit v
+pub digit-mark : (c v : ℕ) → digit_of c ≡ Some v → mark_of c ≡ digit v
 digit-mark c v is = ap (λ d. mark_from d (rank_of c)) is
 
-digit-no_unit : (c v : ℕ) → digit_of c ≡ Some v → rank_of c ≡ None
+pub digit-no_unit : (c v : ℕ) → digit_of c ≡ Some v → rank_of c ≡ None
 digit-no_unit c v is = by (rank_of c) refl where
   by : (r : Option ℕ) → rank_of c ≡ r → r ≡ None
   by None e = refl
@@ -145,11 +145,11 @@ digit-no_unit c v is = by (rank_of c) refl where
 abbrev pub are_marks : List ℕ → Bool
 are_marks text = list_all (λ c. is_digit_or_unit (mark_of c)) text
 
-first-mark : (c : ℕ) (rest : List ℕ) → are_marks (c ∷ rest) ≡ true
+pub first-mark : (c : ℕ) (rest : List ℕ) → are_marks (c ∷ rest) ≡ true
     → is_digit_or_unit (mark_of c) ≡ true
 first-mark c rest h = and-left (is_digit_or_unit (mark_of c)) (are_marks rest) h
 
-rest-marks : (c : ℕ) (rest : List ℕ) → are_marks (c ∷ rest) ≡ true → are_marks rest ≡ true
+pub rest-marks : (c : ℕ) (rest : List ℕ) → are_marks (c ∷ rest) ≡ true → are_marks rest ≡ true
 rest-marks c rest h = and-right (is_digit_or_unit (mark_of c)) (are_marks rest) h
 
 point-nowhere : (text : List ℕ) → are_marks text ≡ true → after_point text ≡ []
@@ -187,7 +187,7 @@ no-decimal text h =
     (are_decimals Chinese (after_point text)) _
     (ap (are_decimals Chinese) (point-nowhere text h))
 
-and-none : (b : Bool) → (b && false) ≡ false
+pub and-none : (b : Bool) → (b && false) ≡ false
 and-none true = refl
 and-none false = refl
 
@@ -202,7 +202,7 @@ no-percentage text h =
     ∙ and-none (nat_lt 1 (length text))
 
 -- rising units count the product of their scales
-units-product : (method : ChineseCountMethod) (least k number : ℕ) (text : List ℕ)
+pub units-product : (method : ChineseCountMethod) (least k number : ℕ) (text : List ℕ)
     → are_rising least text ≡ true → k ≤ least + 1 → some_unfit method (marks_of text) ≡ false
     → number * product (map (scale method) (records_from k (marks_of text))) < 2 ^ 128
     → times_units method number text
@@ -263,7 +263,7 @@ units-product method least k number (c ∷ rest) rising low fit small =
           ∙ ap Some (sym all)
 
 -- they hold no digits
-units-no_value : (method : ChineseCountMethod) (least : ℕ) (text : List ℕ)
+pub units-no_value : (method : ChineseCountMethod) (least : ℕ) (text : List ℕ)
     → are_rising least text ≡ true → colloquial_value method (marks_of text) ≡ 0
 units-no_value method least [] h = refl
 units-no_value method least (c ∷ rest) h =
@@ -309,7 +309,7 @@ units-read number least (c ∷ rest) m h =
           let none = one-kind c rank e in cc
 
 -- one digit more
-times-digit : (method : ChineseCountMethod) (number c : ℕ) (rest : List ℕ) → rank_of c ≡ None
+pub times-digit : (method : ChineseCountMethod) (number c : ℕ) (rest : List ℕ) → rank_of c ≡ None
     → times_units method number (c ∷ rest) ≡ times_units method number rest
 times-digit method number c rest none =
     ap (λ r. option_map_or (λ rank. if scale_fits method rank
@@ -390,7 +390,7 @@ figure-and_more method c rest is_digit g sum more = record {
 }
 
 -- without a digit in front
-rest-fit : (method : ChineseCountMethod) (c v : ℕ) (rest : List ℕ) → digit_of c ≡ Some v
+pub rest-fit : (method : ChineseCountMethod) (c v : ℕ) (rest : List ℕ) → digit_of c ≡ Some v
     → some_unfit method (marks_of (c ∷ rest)) ≡ false → some_unfit method (marks_of rest) ≡ false
 rest-fit method c v rest is_digit fit =
     sym (ap (λ m. is_unfit method m || some_unfit method (marks_of rest)) (digit-mark c v is_digit))
@@ -455,7 +455,7 @@ numeral-read method (c ∷ d ∷ more) m some rising each fit small =
           (omega (arith, value, low)))
 
 -- plain digits hold no units
-plain-times : (method : ChineseCountMethod) (number : ℕ) (text : List ℕ) → is_plain text ≡ true
+pub plain-times : (method : ChineseCountMethod) (number : ℕ) (text : List ℕ) → is_plain text ≡ true
     → times_units method number text ≡ times_units method number []
 plain-times method number [] plain = refl
 plain-times method number (c ∷ rest) plain =
@@ -741,7 +741,7 @@ same_sign-is (Some Minus) None h = cc
 same_sign-is (Some Plus) (Some Minus) h = cc
 same_sign-is (Some Minus) (Some Plus) h = cc
 
-mark-sign : (c : ℕ) → is_digit_or_unit (mark_of c) ≡ true → sign_of c ≡ numeral_sign c
+pub mark-sign : (c : ℕ) → is_digit_or_unit (mark_of c) ≡ true → sign_of c ≡ numeral_sign c
 unfolding same_sign sign_of numeral_sign
 mark-sign c m =
     same_sign-is (sign_of c) (numeral_sign c)

@@ -2,12 +2,15 @@ pub mod Bounds
 pub mod Ends
 pub mod NaiveTexts
 pub mod Pens
+pub mod Printed
 pub mod Rooms
 pub mod SectionCuts
 pub mod SectionWalks
+pub mod SignedNumbers
 pub mod Signs
 pub mod Single
 pub mod SingleTops
+pub mod SpelledMarks
 pub mod ThreeBytes
 pub mod Tops
 pub mod UnitLoops

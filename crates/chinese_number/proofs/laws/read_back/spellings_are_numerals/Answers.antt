@@ -1,6 +1,6 @@
 use Rattle.std.proofs.Common.{nat_abs}
 use Rattle.cn_core.proofs.ReadBack.{spelling-is_numeral}
-use Rattle.chinese_number.proofs.SpelledMarks.{below_square}
+use Rattle.cn_spell.proofs.SpelledMarks.{below_square}
 use Rattle.chinese_number.proofs.laws.read_back.spellings_are_numerals.Goals as goal
 
 pub returns : goal.returns

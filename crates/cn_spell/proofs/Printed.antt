@@ -26,11 +26,11 @@ is_printed (unit rank) = nat_lt rank 16
 is_printed other = false
 
 -- a test of each number below a bound
-abbrev each_below : (ℕ → Bool) → ℕ → Bool
+abbrev pub each_below : (ℕ → Bool) → ℕ → Bool
 each_below test zero = true
 each_below test (suc n) = test n && each_below test n
 
-each_below-at : (test : ℕ → Bool) (n k : ℕ) → each_below test n ≡ true → k < n → test k ≡ true
+pub each_below-at : (test : ℕ → Bool) (n k : ℕ) → each_below test n ≡ true → k < n → test k ≡ true
 each_below-at test zero k h low = absurd (omega (arith, low))
 each_below-at test (suc n) k h low = elim (dec_lt k n) [
   | yes less ↦ each_below-at test n k (and-right (test n) _ h) less
@@ -136,7 +136,7 @@ ten_no_sign Traditional Lower = refl
 ten_no_sign Simple Upper = refl
 ten_no_sign Simple Lower = refl
 
-none_from_is_none : {A : Type 0} (o : Option A) → is_none o ≡ true → o ≡ None
+pub none_from_is_none : {A : Type 0} (o : Option A) → is_none o ≡ true → o ≡ None
 none_from_is_none None h = refl
 none_from_is_none (Some x) h = cc
 

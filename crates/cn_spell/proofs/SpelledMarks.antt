@@ -19,7 +19,7 @@ use Rattle.cn_core.proofs.Fronts.{and-left, and-right, both, list_all-both}
 use Rattle.cn_core.proofs.ReadBack.{spelling-is_numeral}
 use Rattle.cn_core.proofs.Spellings.{Spells-spelling_within, IsCut, after_unit-all, spelled-by, short_spelling-by}
 use Rattle.cn_core.proofs.Sums.{all_below}
-use Rattle.chinese_number.proofs.Printed.{is_printed}
+use Rattle.cn_spell.proofs.Printed.{is_printed}
 
 -- each number of 128 bits that a method writes is below the square of its greatest scale
 pub below_square : (method : ChineseCountMethod) (number : ℤ) → nat_abs number < 2 ^ 128

@@ -1,0 +1,410 @@
+-- A quantity in figures is read as that quantity.
+use Rattle.std.proofs.Common.{◌≡◌, ℕ, zero, suc, ◌+◌, ◌*◌, ◌/◌, ◌%◌, ◌^◌, ◌<◌, ◌≤◌, pos, int_lt, nat_abs, Bool, true, false, not, ◌&&◌, ◌==◌, nat_lt, is_none, is_some, List, [], ◌∷◌, ◌++◌, length, map, codes, decimal, encode_utf8_all, slice_index, Option, Some, None, Ok, refl, sym, ap, ap₂, ◌∙◌, arith, if◌then◌else◌, append-nil, length-append}
+use Rattle.std.specs.Char.{is_not_whitespace}
+use Rattle.std.specs.List.{list_all}
+use Rattle.std.specs.Option.{option_map_or}
+use Rattle.std.specs.Str.{all_scalars}
+use Rattle.std.proofs.lemmas.Bool.Decides.{nat_tests}
+use Rattle.std.proofs.lemmas.Fmt.{IsAscii-decimal_wide, decimal_by_steps_wide}
+use Rattle.std.proofs.lemmas.List.Folds.{list_all-append}
+use Rattle.std.specs.Str.{IsAscii}
+use Rattle.std.proofs.lemmas.Str.{IsAscii-append, encodes-IsAscii}
+use Rattle.std.proofs.lemmas.Str.Ascii.{IsAscii-nil}
+use Rattle.std.proofs.Math.Nat.{div-add-mod', div-le_self}
+use Rattle.cn_core.specs.declared.method.ChineseCountMethod.{ChineseCountMethod}
+use Rattle.cn_core.specs.declared.sign.Sign.{Sign}
+use Rattle.cn_core.specs.declared.sign.Sign.TheVariants.{Minus}
+use Rattle.cn_core.specs.Characters.{rank_of}
+use Rattle.cn_core.specs.Whole.{holds, signed_kind}
+use Rattle.cn_core.proofs.Fronts.{and-left, and-right, both}
+use Rattle.cn_express.specs.Digits.{behind_point, last_digits}
+use Rattle.cn_express.specs.Figures.{figure_char, figures_of, figures_with, percent_sign, unsigned_figures}
+use Rattle.cn_express.proofs.Cuts.{lacks, lacks-append}
+use Rattle.cn_express.proofs.DigitTexts.{WritesDigits, WritesDigits-each, are_digits, digits-all, digits-alone, digits-lead, has_no_units, last-count, last-digits, last-read, no-factors, read-digit, read_on-append}
+use Rattle.cn_express.proofs.KnownDecimals.{over-is}
+use Rattle.cn_express.proofs.NumberTexts.{IsNumberText, IsUnsigned-decimal, IsUnsigned-whole}
+use Rattle.cn_express.proofs.Ratios.{percent-ratio, ratio-fits}
+use Rattle.cn_express.proofs.SignedTexts.{IsUnsigned, magnitude-fits, signed-read}
+use Rattle.cn_express.proofs.WrittenTexts.{IsText, IsText-append, IsText-nil}
+use Rattle.cn_judge.proofs.Walking.{rows_have}
+use Rattle.cn_quantity.specs.declared.characters.DigitKind.TheVariants.{Figure}
+use Rattle.cn_quantity.specs.declared.quantity.Quantity.{Quantity}
+use Rattle.cn_quantity.specs.declared.quantity.QuantityForm.{QuantityForm}
+use Rattle.cn_quantity.specs.declared.quantity.QuantityForm.TheVariants.{Whole, Decimal, Percent, Fraction}
+use Rattle.cn_quantity.specs.Characters.{figure_of, figure_rows, is_comma, is_fen, is_percent, is_point, sign_of}
+use Rattle.cn_quantity.specs.Digits.{after_digits, begins_with_digit, is_digit, leading_digits, read_on, read_with_units}
+use Rattle.cn_quantity.specs.Figures.{after_figures, after_groups, decimals_of, ends_in_figures, is_in_figures, may_lead_groups}
+use Rattle.cn_quantity.specs.Number.{decimal_of, number_answer}
+use Rattle.cn_quantity.specs.Reading.{leading_sign, quantity_answer}
+use Rattle.cn_quantity.specs.Trimmed.{decimals_in, decimals_of as decimals_of_quantity}
+use Rattle.cn_quantity.specs.Units.{times_units}
+use Rattle.cn_quantity.proofs.Numbers.{in-figures}
+use Rattle.cn_spell.proofs.Printed.{each_below}
+
+-- what each figure has
+figure-has : (test : ℕ → Bool) → list_all (list_all test) figure_rows ≡ true → (c value : ℕ)
+    → figure_of c ≡ Some value → test c ≡ true
+unfolding figure_of
+figure-has test all c value is = rows_have test figure_rows c value all is
+
+figures-have : (test : ℕ → Bool) → list_all (list_all test) figure_rows ≡ true
+    → (text : List ℕ) → are_digits Figure text ≡ true → list_all test text ≡ true
+figures-have test all text figures = digits-all Figure test (figure-has test all) text figures
+
+-- figures are characters, and no white space
+is_dark : ℕ → Bool
+is_dark c = all_scalars (c ∷ []) && is_not_whitespace c
+
+IsText-each : (text : List ℕ) → list_all is_dark text ≡ true → IsText text
+unfolding is_dark
+IsText-each [] h = IsText-nil
+IsText-each (c ∷ rest) h =
+    let one = and-left (is_dark c) (list_all is_dark rest) h in
+    IsText-append (c ∷ []) rest (record {
+      scalars = and-left (all_scalars (c ∷ [])) (is_not_whitespace c) one;
+      kept = ap (λ b. if b then c ∷ [] else [])
+          (and-right (all_scalars (c ∷ [])) (is_not_whitespace c) one);
+    })
+    (IsText-each rest (and-right (is_dark c) (list_all is_dark rest) h))
+
+figures-text : (text : List ℕ) → are_digits Figure text ≡ true → IsText text
+unfolding is_dark
+figures-text text figures = IsText-each text (figures-have is_dark refl text figures)
+
+figures-no_units : (text : List ℕ) → are_digits Figure text ≡ true → has_no_units text ≡ true
+unfolding rank_of
+figures-no_units text figures = figures-have (λ c. is_none (rank_of c)) refl text figures
+
+figures-no_fen : (text : List ℕ) → are_digits Figure text ≡ true → lacks is_fen text ≡ true
+unfolding is_fen
+figures-no_fen text figures = figures-have (λ c. not (is_fen c)) refl text figures
+
+figures-no_percent : (text : List ℕ) → are_digits Figure text ≡ true
+    → lacks is_percent text ≡ true
+unfolding is_percent
+figures-no_percent text figures = figures-have (λ c. not (is_percent c)) refl text figures
+
+figures-signless : (text : List ℕ) → are_digits Figure text ≡ true
+    → list_all (λ c. is_none (sign_of c)) text ≡ true
+unfolding sign_of
+figures-signless text figures = figures-have (λ c. is_none (sign_of c)) refl text figures
+
+figures-no_sign : (text more : List ℕ) → are_digits Figure text ≡ true → 0 < length text
+    → leading_sign (text ++ more) ≡ None
+figures-no_sign [] more figures some = absurd (omega (arith, some))
+figures-no_sign (c ∷ rest) more figures some =
+    none-is (sign_of c) (and-left (is_none (sign_of c)) _ (figures-signless (c ∷ rest) figures))
+  where
+    none-is : (s : Option Sign) → is_none s ≡ true → s ≡ None
+    none-is None h = refl
+    none-is (Some sign) h = cc
+
+-- the digits that are written
+figures_written : each_below (λ value. option_map_or (λ read. read == value)
+    (figure_of (figure_char value)) false) 10 ≡ true
+unfolding figure_of
+figures_written = refl
+
+WritesDigits-figures : WritesDigits Figure figure_char
+WritesDigits-figures = WritesDigits-each Figure figure_char figures_written
+
+-- a number in decimal digits
+record IsDecimal (number : ℕ) (text : List ℕ) : Type 0 where
+  figures : are_digits Figure text ≡ true
+  some : 0 < length text
+  read : read_on Figure 0 text ≡ number
+
+IsDecimal-one : (number : ℕ) → number < 10 → IsDecimal number (figure_char number ∷ [])
+IsDecimal-one number low = record {
+  figures = both (is_digit Figure (figure_char number)) true
+      (ap is_some (WritesDigits-figures number low)) refl;
+  some = omega arith;
+  read = read-digit Figure figure_char 0 number [] WritesDigits-figures low ∙ omega arith;
+}
+
+IsDecimal-more : (number : ℕ) (text : List ℕ) → 10 ≤ number → IsDecimal (number / 10) text
+    → IsDecimal number (text ++ figure_char (number % 10) ∷ [])
+IsDecimal-more number text ten h =
+    let low : number % 10 < 10 = omega arith in
+    let last = IsDecimal-one (number % 10) low in
+    record {
+      figures = list_all-append (is_digit Figure) text (figure_char (number % 10) ∷ [])
+          ∙ both (are_digits Figure text) _ h.figures last.figures;
+      some = omega (arith, length-append text (figure_char (number % 10) ∷ []));
+      read = read_on-append Figure 0 text (figure_char (number % 10) ∷ [])
+          ∙ ap (λ n. read_on Figure n (figure_char (number % 10) ∷ [])) h.read
+          ∙ read-digit Figure figure_char (number / 10) (number % 10) [] WritesDigits-figures low
+          ∙ div-add-mod' number 10;
+    }
+
+IsDecimal-written : (number : ℕ) → number < 2 ^ 128 → IsDecimal number (decimal number)
+IsDecimal-written number small =
+    decimal_by_steps_wide IsDecimal IsDecimal-one IsDecimal-more number (omega (arith, small))
+
+-- what stands behind the whole part
+record IsBehind (count number : ℕ) (text : List ℕ) : Type 0 where
+  written : IsText text
+  no_fen : lacks is_fen text ≡ true
+  no_percent : lacks is_percent text ≡ true
+  no_units : has_no_units text ≡ true
+  no_digit : begins_with_digit Figure text ≡ false
+  no_groups : after_groups text ≡ text
+  ends : ends_in_figures text ≡ true
+  decimals : decimals_of text ≡ count
+  read : read_on Figure (number / 10 ^ count) text ≡ number
+
+groups-none : (c : ℕ) (rest : List ℕ) → is_comma c ≡ false → after_groups (c ∷ rest) ≡ c ∷ rest
+groups-none c [] none = refl
+groups-none c (x ∷ []) none = refl
+groups-none c (x ∷ y ∷ []) none = refl
+groups-none c (x ∷ y ∷ z ∷ rest) none = rw none
+
+-- the point
+record IsPoint (c : ℕ) : Type 0 where
+  written : IsText (c ∷ [])
+  no_fen : lacks is_fen (c ∷ []) ≡ true
+  no_percent : lacks is_percent (c ∷ []) ≡ true
+  no_unit : has_no_units (c ∷ []) ≡ true
+  no_figure : figure_of c ≡ None
+  no_comma : is_comma c ≡ false
+  point : is_point Figure c ≡ true
+
+IsPoint-ascii : IsPoint (slice_index (codes ".") 0)
+unfolding is_fen is_percent rank_of figure_of is_comma is_point
+IsPoint-ascii = record {
+  written = record { scalars = refl; kept = refl };
+  no_fen = refl;
+  no_percent = refl;
+  no_unit = refl;
+  no_figure = refl;
+  no_comma = refl;
+  point = refl;
+}
+
+IsBehind-point : (count number c : ℕ) → 0 < count → IsPoint c
+    → IsBehind count number (c ∷ map figure_char (last_digits count number))
+IsBehind-point count number c some p = record {
+  written = IsText-append (c ∷ []) digits p.written (figures-text digits figures);
+  no_fen = lacks-append is_fen (c ∷ []) digits p.no_fen (figures-no_fen digits figures);
+  no_percent = lacks-append is_percent (c ∷ []) digits p.no_percent
+      (figures-no_percent digits figures);
+  no_units = both (is_none (rank_of c)) _ (and-left (is_none (rank_of c)) true p.no_unit)
+      (figures-no_units digits figures);
+  no_digit = ap is_some p.no_figure;
+  no_groups = groups-none c digits p.no_comma;
+  ends = rw (p.point, alone.1, decimals);
+  decimals = ap (λ b. if b then leading_digits Figure digits else 0) p.point ∙ size;
+  read = ap (λ d. read_on Figure (option_map_or (λ digit. number / 10 ^ count * 10 + digit) d
+      (number / 10 ^ count)) digits) p.no_figure
+      ∙ last-read Figure figure_char count number WritesDigits-figures;
+} where
+  digits : List ℕ
+  digits = map figure_char (last_digits count number)
+
+  figures : are_digits Figure (map figure_char (last_digits count number)) ≡ true
+  figures = last-digits Figure figure_char count number WritesDigits-figures
+
+  alone : (leading_digits Figure (map figure_char (last_digits count number))
+      ≡ length (map figure_char (last_digits count number)))
+      × (after_digits Figure (map figure_char (last_digits count number)) ≡ [])
+  alone = digits-alone Figure (map figure_char (last_digits count number)) figures
+
+  size : leading_digits Figure (map figure_char (last_digits count number)) ≡ count
+  size = alone.0 ∙ last-count figure_char count number
+
+  decimals : nat_lt 0 (leading_digits Figure (map figure_char (last_digits count number))) ≡ true
+  decimals = let count_is = size in rw count_is (grind (arith, nat_tests, some))
+
+IsBehind-written : (count number : ℕ)
+    → IsBehind count number (behind_point (slice_index (codes ".") 0) figure_char count number)
+IsBehind-written zero number = record {
+  written = IsText-nil;
+  no_fen = refl;
+  no_percent = refl;
+  no_units = refl;
+  no_digit = refl;
+  no_groups = refl;
+  ends = refl;
+  decimals = refl;
+  read = omega arith;
+}
+IsBehind-written (suc count) number =
+    IsBehind-point (suc count) number (slice_index (codes ".") 0) (omega arith) IsPoint-ascii
+
+-- a number with so many decimals
+figures-number : (method : ChineseCountMethod) (count number : ℕ) (front behind : List ℕ)
+    → IsDecimal (number / 10 ^ count) front → IsBehind count number behind → number < 2 ^ 128
+    → number_answer method (front ++ behind)
+    ≡ Ok (record { number = number; decimals = count })
+figures-number method count number front behind f b small =
+    in-figures method (front ++ behind) is
+    ∙ ap₂ (λ decimals read. decimal_of decimals read) (ap decimals_of after ∙ b.decimals) read where
+      lead : (leading_digits Figure (front ++ behind) ≡ length front)
+          × (after_digits Figure (front ++ behind) ≡ behind)
+      lead = digits-lead Figure front behind f.figures b.no_digit
+
+      after : after_figures (front ++ behind) ≡ behind
+      after = by (may_lead_groups (front ++ behind)) where
+        by : (b : Bool) → (if b then after_groups (after_digits Figure (front ++ behind))
+            else after_digits Figure (front ++ behind)) ≡ behind
+        by true = ap after_groups lead.1 ∙ b.no_groups
+        by false = lead.1
+
+      is : is_in_figures (front ++ behind) ≡ true
+      is =
+          let some = f.some in
+          let test : nat_lt 0 (length front) ≡ true = grind (arith, nat_tests, some) in
+          rw (lead.0, after, test) b.ends
+
+      read : read_with_units method Figure 0 (front ++ behind) ≡ Some number
+      read =
+          ap (λ n. times_units method n (front ++ behind))
+          (read_on-append Figure 0 front behind ∙ ap (λ n. read_on Figure n behind) f.read ∙ b.read)
+          ∙ no-factors method number (front ++ behind)
+          (list_all-append (λ c. is_none (rank_of c)) front behind
+          ∙ both (has_no_units front) _ (figures-no_units front f.figures) b.no_units) small
+
+IsNumberText-figures : (method : ChineseCountMethod) (count number : ℕ) → number < 2 ^ 128
+    → (0 < length (figures_with count number))
+    × IsNumberText method (record { number = number; decimals = count })
+    (figures_with count number)
+IsNumberText-figures method count number small =
+    let front = decimal (number / 10 ^ count) in
+    let behind = behind_point (slice_index (codes ".") 0) figure_char count number in
+    let f = IsDecimal-written (number / 10 ^ count)
+    (omega (arith, small, div-le_self number (10 ^ count))) in
+    let b = IsBehind-written count number in
+    let some = f.some in (
+      omega (arith, some, length-append front behind),
+      record {
+        written = IsText-append front behind (figures-text front f.figures) b.written;
+        no_fen = lacks-append is_fen front behind (figures-no_fen front f.figures) b.no_fen;
+        no_percent = lacks-append is_percent front behind (figures-no_percent front f.figures)
+            b.no_percent;
+        no_sign = figures-no_sign front behind f.figures f.some;
+        read = figures-number method count number front behind f b small;
+      },
+    )
+
+-- a percentage
+sign-front : (text more : List ℕ) → 0 < length text
+    → leading_sign (text ++ more) ≡ leading_sign text
+sign-front [] more some = absurd (omega (arith, some))
+sign-front (c ∷ rest) more some = refl
+
+percent-is : (is_percent (slice_index (codes "%") 0) ≡ true)
+    × (lacks is_fen (codes "%") ≡ true)
+unfolding is_percent is_fen
+percent-is = (refl, refl)
+
+IsText-percent : IsText (codes "%")
+IsText-percent = record { scalars = refl; kept = refl }
+
+IsUnsigned-percent : (method : ChineseCountMethod) (number decimals denominator : ℕ)
+    (text : List ℕ) → 0 < length text
+    → IsNumberText method (record { number = number; decimals = decimals }) text
+    → decimals_in Percent denominator ≡ Some decimals → denominator < 2 ^ 128
+    → IsUnsigned method
+    (record { numerator = number; denominator = denominator; form = Percent })
+    (text ++ codes "%")
+IsUnsigned-percent method number decimals denominator text some n is small = record {
+  written = IsText-append text (codes "%") n.written IsText-percent;
+  no_sign = sign-front text (codes "%") some ∙ n.no_sign;
+  read = percent-ratio method (record { number = number; decimals = decimals })
+      (slice_index (codes "%") 0) text
+      (lacks-append is_fen text (codes "%") n.no_fen (percent-is.1)) (percent-is.0) some n.read
+      ∙ ratio-fits 100 number decimals denominator Percent
+      (over-is 100 denominator decimals is) small;
+}
+
+-- without its sign
+figures-by : (method : ChineseCountMethod) (form : QuantityForm)
+    (number denominator decimals : ℕ) → decimals_in form denominator ≡ Some decimals
+    → number < 2 ^ 128 → denominator < 2 ^ 128
+    → IsUnsigned method
+    (record { numerator = number; denominator = denominator; form = form })
+    (figures_with decimals number ++ percent_sign form)
+figures-by method Whole number denominator decimals is small fits =
+    rw append-nil (IsUnsigned-whole method number decimals denominator
+    (figures_with decimals number) (IsNumberText-figures method decimals number small).1 is fits)
+figures-by method Decimal number denominator decimals is small fits =
+    rw append-nil (IsUnsigned-decimal method number decimals denominator
+    (figures_with decimals number) (IsNumberText-figures method decimals number small).1 is fits)
+figures-by method Percent number denominator decimals is small fits =
+    let n = IsNumberText-figures method decimals number small in
+    IsUnsigned-percent method number decimals denominator (figures_with decimals number)
+    n.0 n.1 is fits
+figures-by method Fraction number denominator decimals is small fits = cc
+
+-- with it
+minus-is : sign_of (slice_index (codes "-") 0) ≡ Some Minus
+unfolding sign_of
+minus-is = refl
+
+IsText-minus : IsText (codes "-")
+IsText-minus = record { scalars = refl; kept = refl }
+
+figures-encoded : (method : ChineseCountMethod) (q : Quantity) (decimals : ℕ)
+    → holds (signed_kind 128) q.numerator ≡ true → q.denominator < 2 ^ 128
+    → decimals_of_quantity q ≡ Some decimals
+    → quantity_answer method (encode_utf8_all (figures_of q)) ≡ Ok q
+figures-encoded method q decimals held fits is =
+    let unsigned : IsUnsigned method
+    (record { numerator = nat_abs q.numerator; denominator = q.denominator; form = q.form })
+    (unsigned_figures q) = rw is (figures-by method q.form (nat_abs q.numerator) q.denominator
+    decimals is (magnitude-fits q.numerator held) fits) in
+    signed-read method q.numerator q.denominator q.form (slice_index (codes "-") 0)
+    (unsigned_figures q) held minus-is IsText-minus unsigned
+
+-- figures are ASCII
+IsAscii-one : (c : ℕ) → c < 128 → IsAscii (c ∷ [])
+IsAscii-one c low zero = low
+IsAscii-one c low (suc i) = omega arith
+
+IsAscii-last : (count number : ℕ) → IsAscii (map figure_char (last_digits count number))
+IsAscii-last zero number = IsAscii-nil
+IsAscii-last (suc count) number =
+    IsAscii-append (figure_char (number / 10 ^ count % 10) ∷ [])
+    (map figure_char (last_digits count number))
+    (IsAscii-one (figure_char (number / 10 ^ count % 10)) (omega arith))
+    (IsAscii-last count number)
+
+IsAscii-behind : (count number : ℕ)
+    → IsAscii (behind_point (slice_index (codes ".") 0) figure_char count number)
+IsAscii-behind zero number = IsAscii-nil
+IsAscii-behind (suc count) number =
+    IsAscii-append (codes ".") (map figure_char (last_digits (suc count) number))
+    (IsAscii-one (slice_index (codes ".") 0) (omega arith)) (IsAscii-last (suc count) number)
+
+IsAscii-percent : (form : QuantityForm) → IsAscii (percent_sign form)
+IsAscii-percent Whole = IsAscii-nil
+IsAscii-percent Decimal = IsAscii-nil
+IsAscii-percent Percent = IsAscii-one (slice_index (codes "%") 0) (omega arith)
+IsAscii-percent Fraction = IsAscii-nil
+
+IsAscii-sign : (negative : Bool) → IsAscii (if negative then codes "-" else [])
+IsAscii-sign true = IsAscii-one (slice_index (codes "-") 0) (omega arith)
+IsAscii-sign false = IsAscii-nil
+
+IsAscii-figures : (q : Quantity) (decimals : ℕ) → nat_abs q.numerator < 2 ^ 128
+    → decimals_of_quantity q ≡ Some decimals → IsAscii (figures_of q)
+IsAscii-figures q decimals small is =
+    let number = nat_abs q.numerator in
+    let whole : number / 10 ^ decimals < 10 ^ 64 =
+    omega (arith, small, div-le_self number (10 ^ decimals)) in
+    IsAscii-append (if int_lt q.numerator (pos 0) then codes "-" else []) (unsigned_figures q)
+    (IsAscii-sign (int_lt q.numerator (pos 0)))
+    (rw is (IsAscii-append (figures_with decimals number) (percent_sign q.form)
+    (IsAscii-append (decimal (number / 10 ^ decimals))
+    (behind_point (slice_index (codes ".") 0) figure_char decimals number)
+    (IsAscii-decimal_wide (number / 10 ^ decimals) whole) (IsAscii-behind decimals number))
+    (IsAscii-percent q.form)))
+
+pub figures-read : (method : ChineseCountMethod) (q : Quantity) (decimals : ℕ)
+    → holds (signed_kind 128) q.numerator ≡ true → q.denominator < 2 ^ 128
+    → decimals_of_quantity q ≡ Some decimals
+    → quantity_answer method (figures_of q) ≡ Ok q
+figures-read method q decimals held fits is =
+    ap (quantity_answer method) (sym (encodes-IsAscii (figures_of q)
+    (IsAscii-figures q decimals (magnitude-fits q.numerator held) is)))
+    ∙ figures-encoded method q decimals held fits is

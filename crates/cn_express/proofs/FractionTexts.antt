@@ -1,0 +1,189 @@
+-- A written fraction is read as that fraction.
+use Rattle.std.proofs.Common.{◌≡◌, ℕ, ◌*◌, ◌^◌, ◌<◌, ◌≤◌, pos, Bool, true, false, ◌&&◌, ◌||◌, ◌==◌, nat_le, nat_lt, is_none, List, [], ◌∷◌, ◌++◌, length, map, Option, Some, None, Ok, Err, refl, sym, ap, ◌∙◌, arith, if◌then◌else◌}
+use Rattle.std.specs.List.{list_all}
+use Rattle.std.specs.Option.{option_map_or}
+use Rattle.std.proofs.lemmas.Bool.Decides.{nat_tests}
+use Rattle.cn_core.specs.declared.case.ChineseCase.{ChineseCase}
+use Rattle.cn_core.specs.declared.method.ChineseCountMethod.{ChineseCountMethod}
+use Rattle.cn_core.specs.declared.script.ChineseVariant.{ChineseVariant}
+use Rattle.cn_core.specs.declared.sign.Sign.{Sign}
+use Rattle.cn_core.specs.Characters.{rank_of, digit_char}
+use Rattle.cn_core.specs.Mark.{Mark, digit, mark_of}
+use Rattle.cn_core.specs.Numeral.{is_digit_or_unit}
+use Rattle.cn_core.specs.Place.{some_unfit}
+use Rattle.cn_core.specs.Printing.{is_printable, mark_char}
+use Rattle.cn_core.specs.Refusal.{incorrect_at}
+use Rattle.cn_core.specs.Scale.{scale}
+use Rattle.cn_core.specs.Spelling.{spelling}
+use Rattle.cn_core.specs.Text.{marks_of}
+use Rattle.cn_core.specs.Value.{numeral_value, weight}
+use Rattle.cn_core.proofs.Fronts.{and-left, and-right, both}
+use Rattle.cn_core.proofs.ReadBack.{spelling-is_numeral}
+use Rattle.cn_express.specs.Numerals.{divisor_text, stand_alone, without_front}
+use Rattle.cn_express.proofs.DecimalTexts.{IsSpelled, IsSpelled-magnitude, part-whole, printed-marks}
+use Rattle.cn_express.proofs.SpelledNumbers.{mark_read}
+use Rattle.cn_express.proofs.WrittenTexts.{IsText, IsText-back}
+use Rattle.cn_quantity.specs.Answer.{and_then}
+use Rattle.cn_quantity.specs.Characters.{sign_of}
+use Rattle.cn_quantity.specs.Number.{decimal_of, divisor_answer, is_divisor, number_answer, part_answer}
+use Rattle.cn_quantity.specs.Reading.{leading_sign}
+use Rattle.cn_quantity.specs.Units.{are_rising_units, times_units}
+use Rattle.cn_quantity.proofs.Today.{are_marks, first-mark, own, units-no_value, units-product}
+use Rattle.cn_spell.proofs.Printed.{IsReadBack, IsReadBack-marks, is_printed}
+use Rattle.cn_spell.proofs.SpelledMarks.{below_square, spelling-fits, spelling-printed}
+
+-- what a written divisor is like
+pub record IsDivisorText (method : ChineseCountMethod) (divisor : ℕ)
+    (text : List ℕ) : Type 0 where
+  pub written : IsText text
+  pub marks : are_marks text ≡ true
+  pub some : 0 < length text
+  pub no_sign : (more : List ℕ) → leading_sign (text ++ more) ≡ None
+  pub read : part_answer method text ≡ Ok (record { number = divisor; decimals = 0 })
+
+-- with its 一, or where there is none, it is a number as any other
+IsDivisorText-spelled : (method : ChineseCountMethod) (divisor : ℕ) (text : List ℕ)
+    → IsSpelled method divisor text → IsDivisorText method divisor text
+IsDivisorText-spelled method divisor text s = record {
+  written = s.written;
+  marks = s.marks;
+  some = filled;
+  no_sign = λ more. ap (λ l. leading_sign (l ++ more)) s.begins.parts ∙ s.begins.no_sign;
+  read = part-whole method divisor text s;
+} where
+  filled : 0 < length text
+  filled = let size = ap length s.begins.parts in omega (arith, size)
+
+-- the scales of rising units behind 一 are the number
+units-number : (method : ChineseCountMethod) (divisor : ℕ) (text : List ℕ)
+    → divisor < 2 ^ 128 → divisor < scale method 15 * scale method 15
+    → spelling method divisor ≡ digit 1 ∷ marks_of text → are_rising_units text ≡ true
+    → times_units method 1 text ≡ Some divisor
+units-number method divisor text small square spelled rising =
+    let none = units-no_value method 1 text rising in
+    let value : numeral_value method (digit 1 ∷ marks_of text) ≡ divisor =
+    ap (numeral_value method) (sym spelled) ∙ (spelling-is_numeral method divisor square).1 in
+    let product : 1 * weight method (marks_of text) ≡ divisor = omega (arith, none, value) in
+    let fits : some_unfit method (marks_of text) ≡ false =
+    ap (some_unfit method) (sym spelled) ∙ spelling-fits method divisor small square in
+    units-product method 1 0 1 text rising (omega arith) fits (omega (arith, product, small))
+    ∙ ap Some product
+
+-- a unit below 兆 is no sign
+small-no_sign : (c rank : ℕ) → is_digit_or_unit (mark_of c) ≡ true → rank_of c ≡ Some rank
+    → rank ≤ 5 → sign_of c ≡ None
+unfolding rank_of sign_of
+small-no_sign c rank marked is low = by (sign_of c) (ap (λ r. option_map_or (λ rank. nat_lt 5 rank)
+    r true || is_none (sign_of c)) (sym is)
+    ∙ own (λ c. option_map_or (λ rank. nat_lt 5 rank) (rank_of c) true || is_none (sign_of c)) c
+    refl refl marked) where
+      by : (s : Option Sign) → (nat_lt 5 rank || is_none s) ≡ true → s ≡ None
+      by None h = refl
+      by (Some sign) h =
+          let above : (nat_lt 5 rank || false) ≡ true = h in
+          absurd (grind (arith, nat_tests, low, above))
+
+-- what stands alone begins with such a unit
+alone-no_sign : (text more : List ℕ) → are_marks text ≡ true → stand_alone text ≡ true
+    → leading_sign (text ++ more) ≡ None
+alone-no_sign [] more marks alone = cc
+alone-no_sign (c ∷ rest) more marks alone =
+    by (rank_of c) refl (and-right (are_rising_units (c ∷ rest)) _ alone) where
+      by : (r : Option ℕ) → rank_of c ≡ r → option_map_or (λ rank. nat_le rank 5) r false ≡ true
+          → sign_of c ≡ None
+      by None is low = cc
+      by (Some rank) is low =
+          small-no_sign c rank (first-mark c rest marks) is (grind (arith, nat_tests, low))
+
+alone-some : (text : List ℕ) → stand_alone text ≡ true → 0 < length text
+alone-some [] alone = cc
+alone-some (c ∷ rest) alone = omega arith
+
+-- without its 一 the divisor is rising units
+IsDivisorText-alone : (variant : ChineseVariant) (case : ChineseCase) (method : ChineseCountMethod)
+    (divisor : ℕ) (marks : List Mark) → divisor < 2 ^ 128
+    → divisor < scale method 15 * scale method 15 → spelling method divisor ≡ digit 1 ∷ marks
+    → list_all is_printed marks ≡ true
+    → stand_alone (map (mark_char variant case) marks) ≡ true
+    → IsDivisorText method divisor (map (mark_char variant case) marks)
+IsDivisorText-alone variant case method divisor marks small square spelled printed alone = record {
+  written = IsText-back text marks back;
+  marks = known;
+  some = some;
+  no_sign = λ more. alone-no_sign text more known alone;
+  read = ap (λ b. if b then decimal_of 0 (times_units method 1 text)
+      else number_answer method text) (both (nat_lt 0 (length text)) (are_rising_units text)
+      (grind (arith, nat_tests, some)) rising)
+      ∙ ap (decimal_of 0) (units-number method divisor text small square
+      (spelled ∙ ap (λ l. digit 1 ∷ l) (sym back.marks_same)) rising);
+} where
+  text : List ℕ
+  text = map (mark_char variant case) marks
+
+  back : IsReadBack (map (mark_char variant case) marks) marks
+  back = IsReadBack-marks variant case marks printed
+
+  known : are_marks (map (mark_char variant case) marks) ≡ true
+  known = printed-marks variant case marks printed
+
+  some : 0 < length (map (mark_char variant case) marks)
+  some = alone-some (map (mark_char variant case) marks) alone
+
+  rising : are_rising_units (map (mark_char variant case) marks) ≡ true
+  rising = and-left (are_rising_units (map (mark_char variant case) marks)) _ alone
+
+-- the character of 一 is that of no other mark
+one-mark : (variant : ChineseVariant) (case : ChineseCase) (mark : Mark)
+    → is_printed mark ≡ true
+    → (mark_char variant case mark == digit_char variant case 1) ≡ true → mark ≡ digit 1
+one-mark variant case mark printed same =
+    let e : mark_char variant case mark ≡ digit_char variant case 1 =
+    grind (arith, nat_tests, same) in
+    sym (mark_read variant case mark printed) ∙ ap mark_of e ∙ mark_read variant case (digit 1) refl
+
+divisor-by : (variant : ChineseVariant) (case : ChineseCase) (method : ChineseCountMethod)
+    (divisor : ℕ) (marks : List Mark) → divisor < 2 ^ 128
+    → divisor < scale method 15 * scale method 15 → spelling method divisor ≡ marks
+    → list_all is_printed marks ≡ true
+    → IsSpelled method divisor (map (mark_char variant case) marks)
+    → IsDivisorText method divisor
+    (without_front (digit_char variant case 1) (map (mark_char variant case) marks))
+divisor-by variant case method divisor [] small square spelled printed s =
+    IsDivisorText-spelled method divisor [] s
+divisor-by variant case method divisor (mark ∷ rest) small square spelled printed s =
+    by (mark_char variant case mark == digit_char variant case 1)
+    (stand_alone (map (mark_char variant case) rest)) refl refl where
+      by : (one alone : Bool) → (mark_char variant case mark == digit_char variant case 1) ≡ one
+          → stand_alone (map (mark_char variant case) rest) ≡ alone
+          → IsDivisorText method divisor (if one && alone then map (mark_char variant case) rest
+          else map (mark_char variant case) (mark ∷ rest))
+      by false alone e f = IsDivisorText-spelled method divisor _ s
+      by true false e f = IsDivisorText-spelled method divisor _ s
+      by true true e f =
+          let first = one-mark variant case mark
+          (and-left (is_printed mark) (list_all is_printed rest) printed) e in
+          IsDivisorText-alone variant case method divisor rest small square
+          (spelled ∙ ap (λ m. m ∷ rest) first)
+          (and-right (is_printed mark) (list_all is_printed rest) printed) f
+
+pub IsDivisorText-written : (variant : ChineseVariant) (case : ChineseCase)
+    (method : ChineseCountMethod) (divisor : ℕ) → divisor < 2 ^ 128
+    → is_printable method (pos divisor) ≡ true
+    → IsDivisorText method divisor (divisor_text variant case method divisor)
+IsDivisorText-written variant case method divisor small printable =
+    let square : divisor < scale method 15 * scale method 15 =
+    below_square method (pos divisor) small printable in
+    divisor-by variant case method divisor (spelling method divisor) small square refl
+    (spelling-printed method divisor square)
+    (IsSpelled-magnitude variant case method divisor small printable)
+
+-- a divisor above 0 is answered
+pub divisor-answered : (method : ChineseCountMethod) (divisor : ℕ) (text : List ℕ) → 0 < divisor
+    → part_answer method text ≡ Ok (record { number = divisor; decimals = 0 })
+    → divisor_answer method text ≡ Ok divisor
+divisor-answered method divisor text some read =
+    ap (λ a. and_then a
+    (λ decimal. if is_divisor decimal then Ok decimal.number else Err (incorrect_at 0))) read
+    ∙ ap (λ b. if b && true then Ok divisor else Err (incorrect_at 0)) above where
+      above : nat_lt 0 divisor ≡ true
+      above = grind (arith, nat_tests, some)

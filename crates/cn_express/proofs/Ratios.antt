@@ -1,0 +1,86 @@
+-- Which ratio a text without sign is, from what its parts are answered.
+use Rattle.std.proofs.Common.{◌≡◌, ℕ, ◌+◌, ◌*◌, ◌^◌, ◌<◌, true, false, ◌&&◌, nat_lt, List, [], ◌∷◌, ◌++◌, length, slice_index, Ok, refl, sym, ap, ap₂, ◌∙◌, arith}
+use Rattle.std.proofs.lemmas.Bool.Decides.{nat_tests}
+use Rattle.cn_core.specs.declared.method.ChineseCountMethod.{ChineseCountMethod}
+use Rattle.cn_express.specs.Numerals.{bar}
+use Rattle.cn_express.proofs.Cuts.{bar-at, bar-none, lacks, percent-none}
+use Rattle.cn_quantity.specs.declared.number.Decimal.{Decimal as DecimalNumber}
+use Rattle.cn_quantity.specs.declared.quantity.QuantityForm.{QuantityForm}
+use Rattle.cn_quantity.specs.declared.quantity.QuantityForm.TheVariants.{Fraction, Percent}
+use Rattle.cn_quantity.specs.Answer.{and_then, further_by}
+use Rattle.cn_quantity.specs.Characters.{is_fen, is_percent, is_zhi}
+use Rattle.cn_quantity.specs.Number.{divisor_answer, number_answer, part_answer}
+use Rattle.cn_quantity.specs.Ratio.{after_bar, before_bar, form_of, fraction_answer, is_fraction, is_percentage, ratio_answer, ratio_of}
+use Rattle.cn_quantity.proofs.Bars.{front-taken, percent-some}
+use Rattle.cn_quantity.proofs.Ratios.{a-fraction, a-number, a-percentage}
+use Rattle.cn_quantity.proofs.Today.{and-none}
+
+-- a ratio whose denominator fits
+pub ratio-fits : (divisor number decimals denominator : ℕ) (form : QuantityForm)
+    → divisor * 10 ^ decimals ≡ denominator → denominator < 2 ^ 128
+    → ratio_of divisor form (record { number = number; decimals = decimals })
+    ≡ Ok (record { numerator = number; denominator = denominator; form = form })
+ratio-fits divisor number decimals denominator form is small = rw (is, fits) where
+  fits : nat_lt denominator (2 ^ 128) ≡ true
+  fits = grind (arith, nat_tests, small)
+
+-- 分之 between two texts
+bar-cut : (before after : List ℕ) → lacks is_fen before ≡ true
+    → (before_bar (before ++ (bar ++ after)) ≡ before)
+    × (after_bar (before ++ (bar ++ after)) ≡ after)
+unfolding is_fen is_zhi
+bar-cut before after none =
+    bar-at before (slice_index bar 0) (slice_index bar 1) after none refl refl
+
+pub fraction-ratio : (method : ChineseCountMethod) (divisor : ℕ) (decimal : DecimalNumber)
+    (before after : List ℕ) → lacks is_fen before ≡ true → 0 < length before → 0 < length after
+    → divisor_answer method before ≡ Ok divisor → part_answer method after ≡ Ok decimal
+    → ratio_answer method (before ++ (bar ++ after)) ≡ ratio_of divisor Fraction decimal
+fraction-ratio method divisor decimal before after none some many one other =
+    a-fraction method (before ++ (bar ++ after)) is
+    ∙ ap₂ (fraction_answer method) cut.0 cut.1
+    ∙ ap (λ a. and_then a (λ divisor.
+    and_then (further_by (length before + 2) (part_answer method after))
+    (λ decimal. ratio_of divisor Fraction decimal))) one
+    ∙ ap (λ a. and_then (further_by (length before + 2) a)
+    (λ decimal. ratio_of divisor Fraction decimal)) other where
+      cut : (before_bar (before ++ (bar ++ after)) ≡ before)
+          × (after_bar (before ++ (bar ++ after)) ≡ after)
+      cut = bar-cut before after none
+
+      is : is_fraction (before ++ (bar ++ after)) ≡ true
+      is = rw (cut.0, cut.1) (grind (arith, nat_tests, some, many))
+
+-- without 分之 a text is no fraction
+no-fraction : (text : List ℕ) → lacks is_fen text ≡ true → is_fraction text ≡ false
+no-fraction text no_fen =
+    ap (λ l. nat_lt 0 (length (before_bar text)) && nat_lt 0 (length l)) (bar-none text no_fen)
+    ∙ and-none (nat_lt 0 (length (before_bar text)))
+
+-- a percent sign at the end
+pub percent-ratio : (method : ChineseCountMethod) (decimal : DecimalNumber) (sign : ℕ)
+    (text : List ℕ) → lacks is_fen (text ++ sign ∷ []) ≡ true → is_percent sign ≡ true
+    → 0 < length text → number_answer method text ≡ Ok decimal
+    → ratio_answer method (text ++ sign ∷ []) ≡ ratio_of 100 Percent decimal
+percent-ratio method decimal sign text no_fen percent some read =
+    a-percentage method (text ++ sign ∷ [])
+    (no-fraction (text ++ sign ∷ []) no_fen) (is text some)
+    ∙ ap (λ l. and_then (number_answer method l) (λ decimal. ratio_of 100 Percent decimal))
+    (sym (front-taken sign (text ++ sign ∷ []) text refl))
+    ∙ ap (λ a. and_then a (λ decimal. ratio_of 100 Percent decimal)) read where
+      is : (text : List ℕ) → 0 < length text → is_percentage (text ++ sign ∷ []) ≡ true
+      is [] some = absurd (omega (arith, some))
+      is (c ∷ rest) some =
+          percent-some sign c (c ∷ rest ++ sign ∷ []) (c ∷ rest) rest refl refl ∙ percent
+
+-- a text with neither 分之 nor a percent sign
+pub number-ratio : (method : ChineseCountMethod) (decimal : DecimalNumber) (text : List ℕ)
+    → lacks is_fen text ≡ true → lacks is_percent text ≡ true
+    → number_answer method text ≡ Ok decimal
+    → ratio_answer method text ≡ ratio_of 1 (form_of decimal.decimals) decimal
+number-ratio method decimal text no_fen no_percent read =
+    a-number method text
+    (no-fraction text no_fen)
+    (ap (λ b. nat_lt 1 (length text) && b) (percent-none text no_percent)
+    ∙ and-none (nat_lt 1 (length text)))
+    ∙ ap (λ a. and_then a (λ decimal. ratio_of 1 (form_of decimal.decimals) decimal)) read

@@ -1,0 +1,77 @@
+-- A quantity is read from its sign and from what is read without it.
+use Rattle.std.proofs.Common.{◌≡◌, ℕ, ◌^◌, ◌<◌, ℤ, pos, negsuc, int_lt, nat_abs, Bool, true, false, List, [], ◌∷◌, ◌++◌, drop, encode_utf8_all, Some, None, Ok, refl, ap, ◌∙◌, arith, if◌then◌else◌}
+use Rattle.std.proofs.lemmas.Int.{ints}
+use Rattle.cn_core.specs.declared.method.ChineseCountMethod.{ChineseCountMethod}
+use Rattle.cn_core.specs.declared.sign.Sign.TheVariants.{Minus}
+use Rattle.cn_core.specs.Reading.{sign_len, typed_number}
+use Rattle.cn_core.specs.Whole.{holds, signed_kind}
+use Rattle.cn_express.proofs.WrittenTexts.{IsText, IsText-append, text_of-written}
+use Rattle.cn_quantity.specs.declared.quantity.QuantityForm.{QuantityForm}
+use Rattle.cn_quantity.specs.declared.ratio.Ratio.{Ratio}
+use Rattle.cn_quantity.specs.Answer.{and_then}
+use Rattle.cn_quantity.specs.Characters.{sign_of}
+use Rattle.cn_quantity.specs.Ratio.{ratio_answer}
+use Rattle.cn_quantity.specs.Reading.{leading_sign, quantity_answer, signed_answer}
+use Rattle.cn_spell.proofs.SignedNumbers.{signed_number-signed_text, typed_number-held, written_sign}
+
+-- a text without sign that is read as this ratio
+pub record IsUnsigned (method : ChineseCountMethod) (ratio : Ratio)
+    (text : List ℕ) : Type 0 where
+  pub written : IsText text
+  pub no_sign : leading_sign text ≡ None
+  pub read : ratio_answer method text ≡ Ok ratio
+
+abbrev sign_text : Bool → ℕ → List ℕ
+sign_text negative minus = if negative then minus ∷ [] else []
+
+sign-text : (negative : Bool) (minus : ℕ) (text : List ℕ) → IsText (minus ∷ []) → IsText text
+    → IsText (sign_text negative minus ++ text)
+sign-text true minus text sign is = IsText-append (minus ∷ []) text sign is
+sign-text false minus text sign is = is
+
+sign-first : (negative : Bool) (minus : ℕ) (text : List ℕ) → sign_of minus ≡ Some Minus
+    → leading_sign text ≡ None
+    → leading_sign (sign_text negative minus ++ text) ≡ written_sign negative
+sign-first true minus text sign none = sign
+sign-first false minus text sign none = none
+
+sign-rest : (negative : Bool) (minus : ℕ) (text : List ℕ)
+    → drop (sign_len (written_sign negative)) (sign_text negative minus ++ text) ≡ text
+sign-rest true minus text = refl
+sign-rest false minus text = refl
+
+-- the magnitude of a number of 128 bits
+pub magnitude-fits : (number : ℤ) → holds (signed_kind 128) number ≡ true → nat_abs number < 2 ^ 128
+magnitude-fits (pos n) held = grind (arith, ints, held)
+magnitude-fits (negsuc n) held = grind (arith, ints, held)
+
+pub signed-read : (method : ChineseCountMethod) (number : ℤ) (denominator : ℕ)
+    (form : QuantityForm) (minus : ℕ) (text : List ℕ) → holds (signed_kind 128) number ≡ true
+    → sign_of minus ≡ Some Minus → IsText (minus ∷ [])
+    → IsUnsigned method
+    (record { numerator = nat_abs number; denominator = denominator; form = form }) text
+    → quantity_answer method
+    (encode_utf8_all ((if int_lt number (pos 0) then minus ∷ [] else []) ++ text))
+    ≡ Ok (record { numerator = number; denominator = denominator; form = form })
+signed-read method number denominator form minus text held sign minus_text is =
+    let negative = int_lt number (pos 0) in
+    let whole = sign_text negative minus ++ text in
+    let bytes = encode_utf8_all whole in
+    ap (λ l. signed_answer bytes (leading_sign l)
+    (ratio_answer method (drop (sign_len (leading_sign l)) l)))
+    (text_of-written whole (sign-text negative minus text minus_text is.written))
+    ∙ ap (λ s. signed_answer bytes s (ratio_answer method (drop (sign_len s) whole)))
+    (sign-first negative minus text sign is.no_sign)
+    ∙ ap (λ l. signed_answer bytes (written_sign negative) (ratio_answer method l))
+    (sign-rest negative minus text)
+    ∙ ap (signed_answer bytes (written_sign negative)) is.read
+    ∙ ap (λ n. and_then (typed_number (signed_kind 128) n) (λ numerator. Ok (record {
+      numerator = numerator;
+      denominator = denominator;
+      form = form;
+    }))) (signed_number-signed_text number)
+    ∙ ap (λ a. and_then a (λ numerator. Ok (record {
+      numerator = numerator;
+      denominator = denominator;
+      form = form;
+    }))) (typed_number-held (signed_kind 128) number held)

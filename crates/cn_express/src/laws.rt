@@ -1,0 +1,42 @@
+//! What users may count on, as contracts of functions that do nothing.
+ghost use Rattle.std.specs.Prelude.{◌≡◌, ◌<◌, ◌^◌, IsSome, IsTrue, Ok};
+ghost use Rattle.cn_core.specs.declared.case.ChineseCase.{ChineseCase};
+ghost use Rattle.cn_core.specs.declared.method.ChineseCountMethod.{ChineseCountMethod};
+ghost use Rattle.cn_core.specs.declared.script.ChineseVariant.{ChineseVariant};
+ghost use Rattle.cn_core.specs.Whole.{holds, signed_kind};
+ghost use Rattle.cn_express.specs.Writes.{IsWritten, numeral_bytes};
+ghost use Rattle.cn_express.specs.Figures.{figures_text};
+ghost use Rattle.cn_express.specs.ReadBack.{form_read_back};
+ghost use Rattle.cn_quantity.specs.declared.quantity.Quantity.{Quantity};
+ghost use Rattle.cn_quantity.specs.Reading.{quantity_answer};
+ghost use Rattle.cn_quantity.specs.Trimmed.{decimals_of, trimmed};
+
+/// What is written in numerals is read back, by the same method: as the same numerator over the
+/// same denominator. A percentage is read as a fraction, and so is what is written as one since its
+/// denominator is not one of its form.
+///
+/// For whoever shows quantities in numerals: 314/100 is 三點一四 as a decimal, which is read as
+/// 314/100, and as nothing else.
+pub fn what_is_written_is_read_back()
+    ensures { (variant : ChineseVariant) (case : ChineseCase) (method : ChineseCountMethod)
+        (q : Quantity) → IsTrue (holds (signed_kind 128) q.numerator)
+        → q.denominator < 2 ^ 128 → IsWritten method q
+        → quantity_answer method (numeral_bytes variant case method q)
+        ≡ Ok (record {
+          numerator = q.numerator;
+          denominator = q.denominator;
+          form = form_read_back q;
+        }) }
+{}
+
+/// What is written in figures without a fraction's line is read back, by each method: as exactly
+/// the quantity that is written, which has no zeros at the end of its decimals.
+///
+/// For whoever keeps quantities as figures: 1250/10000 as a percentage is 12.5%, which is read as
+/// 125/1000, a percentage.
+pub fn figures_are_read_back()
+    ensures { (method : ChineseCountMethod) (q : Quantity)
+        → IsTrue (holds (signed_kind 128) q.numerator) → q.denominator < 2 ^ 128
+        → IsSome (decimals_of q)
+        → quantity_answer method (figures_text q) ≡ Ok (trimmed q) }
+{}
