@@ -23,6 +23,9 @@ NO_NULL chinese_number_find_utf8(const uint8_t *, size_t, size_t, uint32_t, uint
 NO_NULL chinese_quantity_read(const uint8_t *, size_t, uint32_t, struct cn_quantity *);
 NO_NULL chinese_quantity_find(const uint8_t *, size_t, size_t, uint32_t, uint32_t, struct cn_span *, size_t, size_t *);
 NO_NULL chinese_quantity_find_utf8(const uint8_t *, size_t, size_t, uint32_t, uint32_t, struct cn_span *, size_t, size_t *);
+NO_NULL chinese_quantity_print(const struct cn_quantity *, uint32_t, uint32_t, uint32_t, uint8_t *, size_t, size_t *);
+NO_NULL chinese_quantity_figures(const struct cn_quantity *, uint8_t *, size_t, size_t *);
+NO_NULL chinese_quantities_to_figures(const uint8_t *, size_t, uint32_t, uint32_t, uint32_t, uint32_t, uint8_t *, size_t, size_t *);
 NO_NULL chinese_amount_print(uint64_t, uint32_t, uint32_t, uint8_t *, size_t, size_t *);
 NO_NULL chinese_amount_read(const uint8_t *, size_t, struct cn_amount *);
 NO_NULL chinese_typed_amount_read(const uint8_t *, size_t, struct cn_amount *);

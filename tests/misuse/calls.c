@@ -17,6 +17,8 @@
 #define STATUS(status) (1u << (status))
 
 enum { UNTOUCHED = 0xA5, PLACES = 4, MOST_THREADS = 8, TEXTS = 100000, MOST_TEXT = 800 };
+/* A text in figures has no more than twice as many bytes as one that is made here. */
+enum { MOST_NEW_TEXT = 2 * MOST_TEXT };
 
 /* A call is proved, or trusts its text to be UTF-8, or takes chars and is of the header. One of the
  * last two answers a text as the call before it does. */
@@ -191,6 +193,43 @@ static answer number_print(const question *it) {
     return printed(it, status, *to);
 }
 
+static cn_quantity quantity_of(const question *it, uint32_t form) {
+    const uint64_t *values = it->values;
+    return (cn_quantity){{values[0], values[1]}, {values[2], values[3]}, form, SIZE_MAX, SIZE_MAX};
+}
+
+static answer quantity_print(const question *it) {
+    size_t *to = told(it, sizeof *to), room = it->room_length;
+    const uint32_t *codes = it->codes, method = codes[0] + CN_LOW;
+    const cn_quantity quantity = quantity_of(it, codes[3]);
+    uint64_t status = it->style == IN_CHARS
+        ? cn_print_quantity(&quantity, method, codes[1], codes[2], room_of(it), room)
+        : chinese_quantity_print(&quantity, method, codes[1], codes[2], it->room, room, to);
+    return printed(it, status, *to);
+}
+
+static answer quantity_figures(const question *it) {
+    size_t *to = told(it, sizeof *to), room = it->room_length;
+    const cn_quantity quantity = quantity_of(it, it->codes[0]);
+    uint64_t status = it->style == IN_CHARS
+        ? cn_quantity_figures(&quantity, room_of(it), room)
+        : chinese_quantity_figures(&quantity, it->room, room, to);
+    return printed(it, status, *to);
+}
+
+/* In chars, too, the length is told. The last code is that of two flags, or has another one. */
+static answer quantities_to_figures(const question *it) {
+    size_t *to = told(it, sizeof *to), length = it->text_length, room = it->room_length;
+    const uint32_t *codes = it->codes, method = codes[2] + CN_LOW;
+    uint32_t included = codes[3] < 4 ? codes[3] * CN_ABOUT : codes[3] | CN_PLAIN_DIGITS;
+    uint64_t status = it->style == IN_CHARS
+        ? cn_quantities_to_figures(text_of(it), length, codes[0], codes[1], method, included,
+                                   room_of(it), room, to)
+        : chinese_quantities_to_figures(it->text, length, codes[0], codes[1], method, included,
+                                        it->room, room, to);
+    return (answer){status, {*to}, 0, 0};
+}
+
 static answer amount_print(const question *it) {
     size_t *to = told(it, sizeof *to), room = it->room_length;
     uint32_t script = it->codes[0], form = it->codes[1];
@@ -222,16 +261,21 @@ static answer date_print(const question *it) {
 }
 
 /* What is printed: first what each code serves, then others, among them what is refused and what
- * has the longest text: of the numbers the last one, -1 and 38 sixes. */
-static const uint64_t numbers[][3] = {
+ * has the longest text: of the numbers the last one, -1 and 38 sixes, and of the quantities the same
+ * over 1 and 38 sixes. */
+static const uint64_t numbers[][4] = {
     {5}, {0}, {105000}, {UINT64_MAX}, {UINT64_MAX, UINT64_MAX}, {0, UINT64_C(1) << 63},
     {UINT64_C(0x9AC4719555555556), UINT64_C(0x829D2AE7691F6334)}};
-static const uint64_t amounts[][3] = {
+static const uint64_t quantities[][4] = {
+    {5, 0, 1, 0}, {0, 0, 1, 0}, {314, 0, 100, 0}, {(uint64_t)-125, UINT64_MAX, 1000, 0}, {1, 0, 0, 0},
+    {UINT64_C(0x9AC4719555555556), UINT64_C(0x829D2AE7691F6334), UINT64_C(0x653B8E6AAAAAAAAA),
+     UINT64_C(0x7D62D51896E09CCB)}};
+static const uint64_t amounts[][4] = {
     {1500}, {0}, {1}, {140950}, {UINT64_MAX}, {UINT64_C(999999999999999999)}};
-static const uint64_t signed_amounts[][3] = {
+static const uint64_t signed_amounts[][4] = {
     {(uint64_t)-1500}, {1500}, {0}, {(uint64_t)INT64_MIN}, {INT64_MAX},
     {(uint64_t)-INT64_C(999999999999999999)}};
-static const uint64_t dates[][3] = {
+static const uint64_t dates[][4] = {
     {2026, 1, 15}, {2025, 12, 31}, {1, 1, 1}, {2026, 2, 29}, {2026, 257, 15}};
 
 enum {
@@ -243,17 +287,18 @@ enum { READ_FIGURES = READ_CAPITALS | STATUS(CN_TOO_LARGE) };
 enum { FIND = STATUS(CN_DONE) | STATUS(CN_NONE) };
 
 /* Each call: how many codes name something in each place; and of one that takes a text its statuses
- * where that is UTF-8, of one that prints its values, and the most bytes of a text. */
+ * where that is UTF-8, of one that prints its values, and the most bytes of a text that is written. */
 typedef struct call {
     const char *name;
     answer (*ask)(const question *);
     style style;
     uint32_t named[PLACES], statuses;
-    const uint64_t (*values)[3];
+    const uint64_t (*values)[4];
     size_t count, most;
 } call;
 
 #define OF_TEXT(statuses) statuses, NULL, 0, 0
+#define REPLACES STATUS(CN_DONE), NULL, 0, MOST_NEW_TEXT
 #define PRINTS(values, most) 0, values, LENGTH_OF(values), most
 
 static const call calls[] = {
@@ -268,6 +313,8 @@ static const call calls[] = {
     {"chinese_quantity_find", quantity_find, PROVED, {2, 16}, OF_TEXT(FIND)},
     {"chinese_quantity_find_utf8", quantity_find, TRUSTS, {2, 16}, OF_TEXT(FIND)},
     {"cn_find_next_quantity", quantity_find, IN_CHARS, {2, 16}, OF_TEXT(FIND)},
+    {"chinese_quantities_to_figures", quantities_to_figures, PROVED, {2, 16, 4, 4}, REPLACES},
+    {"cn_quantities_to_figures", quantities_to_figures, IN_CHARS, {2, 16, 4, 4}, REPLACES},
     {"chinese_amount_read", amount_read, PROVED, {0}, OF_TEXT(READ_CAPITALS)},
     {"cn_read_amount", amount_read, IN_CHARS, {0}, OF_TEXT(READ_CAPITALS)},
     {"chinese_typed_amount_read", typed_amount_read, PROVED, {0}, OF_TEXT(READ_CAPITALS)},
@@ -280,6 +327,14 @@ static const call calls[] = {
     {"cn_read_date", date_read, IN_CHARS, {0}, OF_TEXT(READ_CAPITALS)},
     {"chinese_number_print", number_print, PROVED, {10, 5, 2, 2}, PRINTS(numbers, CN_MOST_BYTES)},
     {"cn_print", number_print, IN_CHARS, {10, 5, 2, 2}, PRINTS(numbers, CN_MOST_BYTES)},
+    {"chinese_quantity_print", quantity_print, PROVED, {4, 2, 2, 4},
+     PRINTS(quantities, CN_MOST_QUANTITY_BYTES)},
+    {"cn_print_quantity", quantity_print, IN_CHARS, {4, 2, 2, 4},
+     PRINTS(quantities, CN_MOST_QUANTITY_BYTES)},
+    {"chinese_quantity_figures", quantity_figures, PROVED, {4},
+     PRINTS(quantities, CN_MOST_FIGURES_BYTES)},
+    {"cn_quantity_figures", quantity_figures, IN_CHARS, {4},
+     PRINTS(quantities, CN_MOST_FIGURES_BYTES)},
     {"chinese_amount_print", amount_print, PROVED, {2, 8}, PRINTS(amounts, CN_MOST_AMOUNT_BYTES)},
     {"cn_print_amount", amount_print, IN_CHARS, {2, 8}, PRINTS(amounts, CN_MOST_AMOUNT_BYTES)},
     {"chinese_signed_amount_print", signed_amount_print, PROVED, {2, 8},
@@ -326,11 +381,13 @@ static void judge(task *mine, int right, const call *by, const question *it) {
 }
 
 /* How many bytes of the room are written: the text at CN_DONE; and in chars its end, too, or the
- * end alone. */
+ * end alone. Where a text is written anew and has no room, that may have been any of them. */
 static size_t written(const call *by, const question *it, const answer *said) {
     size_t text = said->status == CN_DONE ? (size_t)said->values[0] : 0;
     if (by->most == 0)
         return 0;
+    if (by->statuses != 0 && said->status == CN_NO_ROOM)
+        return it->room_length;
     return text + (by->style == IN_CHARS && it->room_length != 0);
 }
 
@@ -344,7 +401,8 @@ static answer ask(task *mine, const call *by, const question *it, uint8_t *text)
     int right = length <= it->room_length && is_untouched(mine->room.first, room)
         && is_untouched(room + length, mine->room.end)
         && is_untouched(mine->told.first, mine->told.end - told)
-        && (by->style != IN_CHARS || length == 0 || room[length - 1] == 0);
+        && (by->style != IN_CHARS || length == 0
+            || room[said.status == CN_DONE ? length - 1 : 0] == 0);
     add_to_sum(mine, &said, sizeof said);
     add_to_sum(mine, room, length);
     if (text != NULL)
@@ -415,7 +473,7 @@ static answer for_room(const call *by, const question *it, answer whole) {
     int in_chars = by->style == IN_CHARS;
     if (whole.status == CN_DONE && whole.values[0] + (uint64_t)in_chars > it->room_length) {
         whole.status = CN_NO_ROOM;
-        whole.values[0] *= !in_chars;
+        whole.values[0] *= !in_chars || by->statuses != 0;
     }
     return whole;
 }
@@ -423,7 +481,7 @@ static answer for_room(const call *by, const question *it, answer whole) {
 /* A room of each length, directly in front of the page that nobody may touch, and directly behind
  * the other. Gives how long the text is. */
 static size_t try_rooms(task *mine, const call *by, question it) {
-    uint8_t text[CN_MOST_BYTES + 1], same[CN_MOST_BYTES + 1];
+    uint8_t text[CN_MOST_QUANTITY_BYTES + 1], same[CN_MOST_QUANTITY_BYTES + 1];
     answer whole = ask(mine, by, &it, text), said;
     for (size_t length = 0, most = it.room_length + 1; length <= most; length++)
         for (int at_end = 0; at_end < 2; at_end++) {
@@ -435,6 +493,19 @@ static size_t try_rooms(task *mine, const call *by, question it) {
                   by, &it);
         }
     return whole.status == CN_DONE ? (size_t)whole.values[0] : 0;
+}
+
+/* A room of each length for a text of 18 bytes, 共350000000000元. */
+static void try_replacing(task *mine, const call *by) {
+    static const uint8_t text[] = "共三千五百亿元";
+    question it = ample(mine, by);
+    it.text = text;
+    it.text_length = sizeof text - 1;
+    it.room_length = 24;
+    it.room = mine->room.end - it.room_length;
+    it.codes[1] = CN_ZHAO;
+    it.codes[2] = CN_TEN_THOUSAND - CN_LOW;
+    judge(mine, try_rooms(mine, by, it) == 18, by, &it);
 }
 
 static void try_printing(task *mine, const call *by) {
@@ -575,8 +646,10 @@ static void *try_all(void *argument) {
     mine->told = between_pages();
     for (const call *by = calls; by < calls + LENGTH_OF(calls); by++) {
         try_codes(mine, by);
-        if (by->most != 0)
+        if (by->values != NULL)
             try_printing(mine, by);
+        else if (by->most != 0)
+            try_replacing(mine, by);
     }
     try_texts(mine);
     return NULL;
