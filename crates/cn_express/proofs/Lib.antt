@@ -1,3 +1,4 @@
+pub mod BareTexts
 pub mod Cuts
 pub mod DecimalTexts
 pub mod DigitTexts
