@@ -20,7 +20,6 @@ use Rattle.cn_express.specs.Digits.{behind_point}
 use Rattle.cn_express.specs.Numerals.{bar, decimal_text, divisor_text, fraction_text, hundredths, is_written_by, magnitude_text, point_char, quantity_text, unsigned_text, without_front}
 use Rattle.cn_express.specs.ReadBack.{form_read_back, form_with_decimals}
 use Rattle.cn_express.proofs.BareTexts.{bare-append, bare-no_fen, bare-text, behind-bare, marks-bare}
-use Rattle.cn_express.proofs.Cuts.{marks-lack}
 use Rattle.cn_express.proofs.DecimalTexts.{IsSpelled-magnitude, WritesDigits-chinese, chinese-bare, decimal-read, part-number, part-whole, point_bare}
 use Rattle.cn_express.proofs.FractionTexts.{IsDivisorText, IsDivisorText-written, divisor-answered}
 use Rattle.cn_express.proofs.KnownDecimals.{over-is}
@@ -36,7 +35,6 @@ use Rattle.cn_quantity.specs.Characters.{is_fen, sign_of}
 use Rattle.cn_quantity.specs.Number.{part_answer}
 use Rattle.cn_quantity.specs.Reading.{leading_sign, quantity_answer}
 use Rattle.cn_quantity.specs.Trimmed.{decimals_in, decimals_of}
-use Rattle.cn_quantity.proofs.Today.{no-fen}
 
 IsNumberText-decimal : (variant : ChineseVariant) (case : ChineseCase)
     (method : ChineseCountMethod) (count number : ℕ) → number < 2 ^ 128

@@ -1,6 +1,6 @@
 // A quantity in figures.
 ghost use Rattle.std.specs.Prelude.{◌≡◌, ◌+◌, ℕ, ◌≤◌, ◌<◌, IfOk, IsUtf8, decimal, drop, length};
-ghost use Rattle.cn_express.specs.Figures.{figure_char, figures_of, figures_text, figures_with, unsigned_figures};
+ghost use Rattle.cn_express.specs.Figures.{figure_char, figures_of, figures_text, figures_with, percent_sign, unsigned_figures};
 ghost use Rattle.cn_express.specs.Working.Room.{PutsInFront};
 ghost use Rattle.cn_express.specs.Writes.{IsStringOf};
 
@@ -58,6 +58,17 @@ fn put_with_decimals(text: &mut Room, decimals: usize, number: u128)
     put_number(text, number / 10_u128.pow(decimals as u32));
 }
 
+// Puts the sign of a percentage.
+fn put_percent_sign(text: &mut Room, form: QuantityForm)
+    requires { 1 ≤ text.old.free }
+    ensures put { PutsInFront text.old text.new (percent_sign form) }
+    ensures room { text.old.free ≤ text.new.free + 1 }
+{
+    if form == QuantityForm::Percent {
+        text.put("%");
+    }
+}
+
 // Puts a quantity without its sign.
 fn put_unsigned(text: &mut Room, quantity: Quantity)
     requires { 79 ≤ text.old.free }
@@ -67,9 +78,7 @@ fn put_unsigned(text: &mut Room, quantity: Quantity)
     let magnitude = quantity.numerator.unsigned_abs();
     match decimals_of(quantity) {
         Some(decimals) => {
-            if quantity.form == QuantityForm::Percent {
-                text.put("%");
-            }
+            put_percent_sign(text, quantity.form);
             put_with_decimals(text, decimals, magnitude);
         }
         None => {
@@ -84,6 +93,7 @@ fn put_unsigned(text: &mut Room, quantity: Quantity)
 fn put_at_end(room: &mut [u8; MOST_FIGURES_BYTES], quantity: Quantity) -> usize
     ensures text { drop result room.new ≡ figures_of quantity }
     ensures utf8 { IsUtf8 (drop result room.new) }
+    ensures within { result ≤ 80 }
 {
     let mut text = Room::new(room);
     put_unsigned(&mut text, quantity);

@@ -1,6 +1,7 @@
 // A room that is filled from its end.
-ghost use Rattle.std.specs.Prelude.{◌≡◌, ◌≤◌, drop, length, IsUtf8, encode_utf8};
-ghost use Rattle.cn_express.specs.Working.Room.{PutsInFront};
+ghost use Rattle.std.specs.Prelude.{◌≤◌, drop, length, IsUtf8};
+
+mod methods;
 
 /// A text that is put into a room from its last character to its first: some free bytes, and behind
 /// them the text.
@@ -10,35 +11,4 @@ pub struct Room<'a> {
     pub free: usize,
     ghost within: { free ≤ length bytes.now },
     ghost utf8: { ∥ IsUtf8 (drop free bytes.now) ∥₁ },
-}
-
-impl<'a> Room<'a> {
-    /// All of these bytes are free.
-    pub fn new(bytes: &'a mut [u8]) -> Self
-        ensures lender { result.bytes.ghost_name ≡ bytes.entry.ghost_name }
-        ensures bytes { result.bytes.now ≡ bytes.old }
-        ensures free { result.free ≡ length bytes.old }
-    {
-        let free = bytes.len();
-        Room { bytes, free }
-    }
-
-    /// Puts a text in front of what is there.
-    pub fn put(&mut self, more: &str)
-        requires { length more.now ≤ self.old.free }
-        ensures { PutsInFront self.old self.new more.now }
-    {
-        let start = self.free - more.len();
-        self.bytes[start..self.free].copy_from_slice(more.as_bytes());
-        self.free = start;
-    }
-
-    /// Puts a character in front of what is there.
-    pub fn put_char(&mut self, character: char)
-        requires { length (encode_utf8 character) ≤ self.old.free }
-        ensures { PutsInFront self.old self.new (encode_utf8 character) }
-    {
-        let mut room = [0; 4];
-        self.put(character.encode_utf8(&mut room));
-    }
 }

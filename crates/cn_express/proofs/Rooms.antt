@@ -1,0 +1,82 @@
+-- What stands in a room after a text is put.
+use Rattle.std.proofs.Common.{◌≡◌, ℕ, ◌+◌, ◌-◌, ◌≤◌, List, [], ◌∷◌, ◌++◌, length, take, drop, encode_utf8, encode_utf8_all, refl, sym, ap, subst, ◌∙◌, append_assoc, length-append, length-drop, arith}
+use Rattle.std.proofs.lemmas.List.{drop-drop, drop_at, length-take-le}
+use Rattle.std.proofs.lemmas.Str.{encodes-append}
+use borrow.Rule.Slice.PartMut.{put_mid}
+use Rattle.cn_express.specs.declared.room.Room.{Room}
+use Rattle.cn_express.specs.Working.Room.{PutsInFront, text_in}
+
+-- a part of a list is written, and stands in front of what followed it
+pub put-front : (start free : ℕ) (items more : List ℕ) → start ≤ free → free ≤ length items
+    → drop start (put_mid start (free - start) items more) ≡ more ++ drop free items
+put-front start free items more before within =
+    let e : start + (free - start) ≡ free = omega (arith, before) in
+    drop_at (take start items) (more ++ drop (free - start) (drop start items)) start
+    (length-take-le start items (omega (arith, before, within)))
+    ∙ ap (λ rest. more ++ rest)
+    (drop-drop (free - start) start items ∙ ap (λ n. drop n items) e)
+
+pub put-size : (start free : ℕ) (items more : List ℕ) → start + length more ≡ free
+    → free ≤ length items → length (put_mid start (free - start) items more) ≡ length items
+put-size start free items more end within =
+    omega (
+      arith,
+      end,
+      within,
+      length-append (take start items) (more ++ drop (free - start) (drop start items)),
+      length-append more (drop (free - start) (drop start items)),
+      length-take-le start items (omega (arith, end, within)),
+      length-drop (free - start) (drop start items),
+      length-drop start items,
+    )
+
+-- nothing is put
+pub puts-nothing : (room : Room) → PutsInFront room room []
+puts-nothing room =
+    record { lender = refl; size = refl; free = omega arith; text = refl }
+
+-- two texts, the second in front of the first
+pub puts-two : (old mid new : Room) (first second : List ℕ) → PutsInFront old mid first
+    → PutsInFront mid new second → PutsInFront old new (second ++ first)
+puts-two old mid new first second one two = record {
+  lender = two.lender ∙ one.lender;
+  size = two.size ∙ one.size;
+  free = omega (arith, length-append second first, one.free, two.free);
+  text = two.text ∙ ap (λ rest. second ++ rest) one.text
+      ∙ sym (append_assoc second first (text_in old));
+}
+
+-- what is put takes room: the room that is left follows from the text
+pub puts-text : (old new : Room) (more : List ℕ)
+    → new.bytes.ghost_name ≡ old.bytes.ghost_name
+    → length new.bytes.now ≡ length old.bytes.now → text_in new ≡ more ++ text_in old
+    → PutsInFront old new more
+puts-text old new more lender size text = record {
+  lender = lender;
+  size = size;
+  free = omega (
+    arith,
+    size,
+    ap length text,
+    length-append more (text_in old),
+    length-drop new.free new.bytes.now,
+    length-drop old.free old.bytes.now,
+    new.within,
+    old.within,
+  );
+  text = text;
+}
+
+-- two runs of characters, the second in front of the first
+pub puts-characters : (old mid new : Room) (first second : List ℕ)
+    → PutsInFront old mid (encode_utf8_all first) → PutsInFront mid new (encode_utf8_all second)
+    → PutsInFront old new (encode_utf8_all (second ++ first))
+puts-characters old mid new first second one two =
+    subst (PutsInFront old new) (sym (encodes-append second first))
+    (puts-two old mid new _ _ one two)
+
+-- a character in front of others
+pub puts-one : (old mid new : Room) (c : ℕ) (rest : List ℕ)
+    → PutsInFront old mid (encode_utf8_all rest) → PutsInFront mid new (encode_utf8 c)
+    → PutsInFront old new (encode_utf8_all (c ∷ rest))
+puts-one old mid new c rest one two = puts-two old mid new _ _ one two
