@@ -19,11 +19,12 @@ use Rattle.cn_core.proofs.Fronts.{and-left, and-right, both}
 use Rattle.cn_core.proofs.ReadBack.{spelling-is_numeral}
 use Rattle.cn_express.specs.Digits.{behind_point, last_digits}
 use Rattle.cn_express.specs.Numerals.{decimal_text, magnitude_text, point_char}
-use Rattle.cn_express.proofs.BareTexts.{is_bare, mark-bare}
+use Rattle.cn_express.proofs.BareTexts.{bare-text, is_bare, mark-bare, marks-bare}
 use Rattle.cn_express.proofs.Cuts.{marks-lack, point-at}
 use Rattle.cn_express.proofs.DigitTexts.{WritesDigits, WritesDigits-each, are_digits, digits-alone, digits-all, last-count, last-digits, last-read, no-factors}
 use Rattle.cn_express.proofs.LastMarks.{spelled-ended}
 use Rattle.cn_express.proofs.SpelledNumbers.{BeginsNumber, BeginsNumber-marks, digits_written, mark_read, printed-known, spelled-whole}
+use Rattle.cn_express.proofs.WrittenTexts.{IsText}
 use Rattle.cn_quantity.specs.declared.characters.DigitKind.TheVariants.{Chinese, Figure}
 use Rattle.cn_quantity.specs.Answer.{and_then}
 use Rattle.cn_quantity.specs.Characters.{chinese_digit_of, is_fen, is_percent, is_point}
@@ -39,6 +40,7 @@ use Rattle.cn_spell.proofs.SpelledMarks.{below_square, spelling-printed}
 
 -- what a written spelling is like
 pub record IsSpelled (method : ChineseCountMethod) (number : ℕ) (text : List ℕ) : Type 0 where
+  pub written : IsText text
   pub same : marks_of text ≡ spelling method number
   pub marks : are_marks text ≡ true
   pub whole : whole_answer method text ≡ Ok number
@@ -65,9 +67,12 @@ IsSpelled-magnitude variant case method number small printable =
     let printed = spelling-printed method number square in
     let back = IsReadBack-marks variant case marks printed in
     let numeral = spelling-is_numeral method number square in
+    let known = printed-marks variant case marks printed in
     record {
+      written = bare-text (map (mark_char variant case) marks)
+          (marks-bare (map (mark_char variant case) marks) known);
       same = back.marks_same;
-      marks = printed-marks variant case marks printed;
+      marks = known;
       whole = spelled-whole method number (map (mark_char variant case) marks) small square
           back.marks_same;
       begins = BeginsNumber-marks variant case marks printed

@@ -162,9 +162,7 @@ numerals-by variant case method form number denominator None is small above fits
     (divisor_text variant case method denominator) (magnitude_text variant case method number)
     (IsDivisorText-written variant case method denominator fits
     (and-left (is_printable method (pos denominator)) _ written))
-    (bare-text (magnitude_text variant case method number)
-    (marks-bare (magnitude_text variant case method number) s.marks))
-    filled (part-whole method number (magnitude_text variant case method number) s)
+    s.written filled (part-whole method number (magnitude_text variant case method number) s)
     above (omega arith) fits
 numerals-by variant case method form number denominator (Some decimals) is small above fits
     written = by form is where
