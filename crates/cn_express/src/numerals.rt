@@ -1,5 +1,6 @@
 // A quantity in numerals.
 ghost use Rattle.std.specs.Prelude.{◌≡◌, ◌+◌, ◌/◌, ◌^◌, ◌&&◌, ℕ, ◌≤◌, ◌<◌, pos, IsTrue, IsFalse, MatchResult, IsUtf8, chars, drop, length, encode_utf8_all, nat_abs};
+ghost use Rattle.cn_core.specs.declared.method.ChineseCountMethod.{ChineseCountMethod};
 ghost use Rattle.cn_core.specs.Characters.{digit_char};
 ghost use Rattle.cn_core.specs.Printing.{is_printable};
 ghost use Rattle.cn_core.specs.Text.{text_of};
@@ -212,9 +213,9 @@ fn put_at_end(
 }
 
 // Why the method does not write a quantity.
-fn too_far(method: ChineseCountMethod, quantity: Quantity) -> QuantityToChineseError
-    requires { IsTooGreat method quantity }
-    ensures { IsUnwritten method quantity result }
+fn too_far(quantity: Quantity) -> QuantityToChineseError
+    ensures { (method : ChineseCountMethod) → IsTooGreat method quantity
+        → IsUnwritten method quantity result }
 {
     if quantity.numerator < 0 {
         QuantityToChineseError::Underflow
@@ -254,7 +255,7 @@ pub fn put_quantity<'a>(
     };
     match put_at_end(room, style, quantity) {
         Ok(start) => Ok(unsafe { str::from_utf8_unchecked(&room[start..]) }),
-        Err(_) => Err(too_far(method, quantity)),
+        Err(_) => Err(too_far(quantity)),
     }
 }
 
