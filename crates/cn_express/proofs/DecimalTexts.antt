@@ -19,11 +19,12 @@ use Rattle.cn_core.proofs.Fronts.{and-left, and-right, both}
 use Rattle.cn_core.proofs.ReadBack.{spelling-is_numeral}
 use Rattle.cn_express.specs.Digits.{behind_point, last_digits}
 use Rattle.cn_express.specs.Numerals.{decimal_text, magnitude_text, point_char}
-use Rattle.cn_express.proofs.Cuts.{lacks, marks-lack, point-at}
+use Rattle.cn_express.proofs.BareTexts.{bare-text, is_bare, mark-bare, marks-bare}
+use Rattle.cn_express.proofs.Cuts.{marks-lack, point-at}
 use Rattle.cn_express.proofs.DigitTexts.{WritesDigits, WritesDigits-each, are_digits, digits-alone, digits-all, last-count, last-digits, last-read, no-factors}
 use Rattle.cn_express.proofs.LastMarks.{spelled-ended}
 use Rattle.cn_express.proofs.SpelledNumbers.{BeginsNumber, BeginsNumber-marks, digits_written, mark_read, printed-known, spelled-whole}
-use Rattle.cn_express.proofs.WrittenTexts.{IsText, IsText-back}
+use Rattle.cn_express.proofs.WrittenTexts.{IsText}
 use Rattle.cn_quantity.specs.declared.characters.DigitKind.TheVariants.{Chinese, Figure}
 use Rattle.cn_quantity.specs.Answer.{and_then}
 use Rattle.cn_quantity.specs.Characters.{chinese_digit_of, is_fen, is_percent, is_point}
@@ -66,10 +67,12 @@ IsSpelled-magnitude variant case method number small printable =
     let printed = spelling-printed method number square in
     let back = IsReadBack-marks variant case marks printed in
     let numeral = spelling-is_numeral method number square in
+    let known = printed-marks variant case marks printed in
     record {
-      written = IsText-back (map (mark_char variant case) marks) marks back;
+      written = bare-text (map (mark_char variant case) marks)
+          (marks-bare (map (mark_char variant case) marks) known);
       same = back.marks_same;
-      marks = printed-marks variant case marks printed;
+      marks = known;
       whole = spelled-whole method number (map (mark_char variant case) marks) small square
           back.marks_same;
       begins = BeginsNumber-marks variant case marks printed
@@ -126,20 +129,10 @@ unfolding is_point
 point_is Traditional = refl
 point_is Simple = refl
 
-pub point-no_fen : (variant : ChineseVariant) → lacks is_fen (point_char variant ∷ []) ≡ true
-unfolding is_fen
-point-no_fen Traditional = refl
-point-no_fen Simple = refl
-
-pub point-no_percent : (variant : ChineseVariant)
-    → lacks is_percent (point_char variant ∷ []) ≡ true
-unfolding is_percent
-point-no_percent Traditional = refl
-point-no_percent Simple = refl
-
-pub IsText-point : (variant : ChineseVariant) → IsText (point_char variant ∷ [])
-IsText-point Traditional = record { scalars = refl; kept = refl }
-IsText-point Simple = record { scalars = refl; kept = refl }
+pub point_bare : (variant : ChineseVariant) → is_bare (point_char variant) ≡ true
+unfolding is_bare is_fen is_percent
+point_bare Traditional = refl
+point_bare Simple = refl
 
 -- digits behind a point hold no unit
 chinese-digit : (c value : ℕ) → chinese_digit_of c ≡ Some value → digit_of c ≡ Some value
@@ -152,13 +145,9 @@ chinese-digit c value h = by (is_ascii_digit c) h where
 chinese-no_unit : (c value : ℕ) → chinese_digit_of c ≡ Some value → is_none (rank_of c) ≡ true
 chinese-no_unit c value is = ap is_none (digit-no_unit c value (chinese-digit c value is))
 
-chinese-mark : (c value : ℕ) → chinese_digit_of c ≡ Some value
-    → is_digit_or_unit (mark_of c) ≡ true
-chinese-mark c value is = ap is_digit_or_unit (digit-mark c value (chinese-digit c value is))
-
-pub chinese-marks : (text : List ℕ) → are_digits Chinese text ≡ true → are_marks text ≡ true
-chinese-marks text all =
-    digits-all Chinese (λ c. is_digit_or_unit (mark_of c)) chinese-mark text all
+pub chinese-bare : (c value : ℕ) → chinese_digit_of c ≡ Some value → is_bare c ≡ true
+chinese-bare c value is =
+    mark-bare c (ap is_digit_or_unit (digit-mark c value (chinese-digit c value is)))
 
 -- what decimals are read as
 pub decimals-read : (method : ChineseCountMethod) (variant : ChineseVariant) (case : ChineseCase)
