@@ -10,6 +10,7 @@ pub mod LastFigures
 pub mod LastMarks
 pub mod NumberTexts
 pub mod NumeralsRead
+pub mod Pieces
 pub mod Points
 pub mod Ratios
 pub mod Rooms

@@ -1,11 +1,11 @@
 -- A spelled number that is put into a room.
-use Rattle.std.proofs.Common.{◌≡◌, ℕ, zero, suc, ◌+◌, ◌*◌, ◌/◌, ◌^◌, ◌<◌, ◌≤◌, ◌==◌, pos, int_lt, Bool, true, false, ◌&&◌, nat_lt, IsTrue, List, [], ◌∷◌, ◌++◌, length, map, filter, chars, IsUtf8, encode_utf8_all, if◌then◌else◌, refl, sym, ap, ap₂, subst, ◌∙◌, arith}
+use Rattle.std.proofs.Common.{◌≡◌, ℕ, ◌^◌, ◌<◌, ◌≤◌, ◌==◌, pos, int_lt, Bool, true, false, ◌&&◌, List, [], ◌∷◌, length, map, filter, chars, IsUtf8, encode_utf8_all, if◌then◌else◌, refl, sym, ap, ap₂, subst, ◌∙◌, arith}
 use Rattle.std.specs.Char.{is_not_whitespace}
 use Rattle.std.specs.List.{list_all}
-use Rattle.std.proofs.lemmas.Bool.{eq-eqb}
 use Rattle.std.proofs.lemmas.Bool.Decides.{nat_tests}
 use Rattle.std.proofs.lemmas.Int.{ints}
 use Rattle.std.proofs.lemmas.List.{length-map}
+use Rattle.std.proofs.lemmas.List.Sums.{count_by-le-length, length-filter}
 use Rattle.std.proofs.lemmas.Str.{chars-encodes, encodes-chars}
 use Rattle.cn_core.specs.declared.case.ChineseCase.{ChineseCase}
 use Rattle.cn_core.specs.declared.case.ChineseCase.TheVariants.{Upper, Lower}
@@ -109,12 +109,7 @@ spelled-bytes variant case method number bytes small puts =
     }
 
 few-kept : (p : ℕ → Bool) (xs : List ℕ) → length (filter p xs) ≤ length xs
-few-kept p [] = omega arith
-few-kept p (x ∷ xs) = by (p x) (few-kept p xs) where
-  by : (b : Bool) → length (filter p xs) ≤ length xs
-      → length (if b then x ∷ filter p xs else filter p xs) ≤ suc (length xs)
-  by true h = omega (arith, h)
-  by false h = omega (arith, h)
+few-kept p xs = omega (arith, length-filter p xs, count_by-le-length p xs)
 
 -- a text of no white space has none behind its first character
 pub plain-rest : (c : ℕ) (rest : List ℕ) → filter is_not_whitespace (c ∷ rest) ≡ c ∷ rest

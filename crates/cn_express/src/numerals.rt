@@ -3,7 +3,7 @@ ghost use Rattle.std.specs.Prelude.{◌≡◌, ◌+◌, ◌/◌, ◌^◌, ◌&&�
 ghost use Rattle.cn_core.specs.Characters.{digit_char};
 ghost use Rattle.cn_core.specs.Printing.{is_printable};
 ghost use Rattle.cn_core.specs.Text.{text_of};
-ghost use Rattle.cn_express.specs.Numerals.{decimal_text, divisor_text, fraction_text, hundredths, is_written_by, magnitude_text, point_char, quantity_text, stand_alone, unsigned_text, without_front};
+ghost use Rattle.cn_express.specs.Numerals.{decimal_text, divisor_text, fraction_text, hundredths, is_written_by, magnitude_text, point_char, quantity_text, sign_text, stand_alone, unsigned_text, without_front};
 ghost use Rattle.cn_express.specs.Working.Room.{PutsCharacters, PutsIfWritten};
 ghost use Rattle.cn_express.specs.Writes.{IsTooGreat, IsUnwritten, PutsQuantity, WritesQuantity};
 
@@ -135,6 +135,7 @@ fn put_fraction(
     number: u128,
 ) -> Result<(), NumberToChineseError>
     requires { 468 ≤ text.old.free }
+    ensures lender { text.new.bytes.ghost_name ≡ text.old.bytes.ghost_name }
     ensures put { PutsIfWritten
         (is_printable style.method (pos divisor) && is_printable style.method (pos number))
         text.old text.new
@@ -178,6 +179,16 @@ fn put_unsigned(
     }
 }
 
+// Puts the sign of a numerator below 0.
+fn put_sign(text: &mut Room, variant: ChineseVariant, numerator: i128)
+    requires { 3 ≤ text.old.free }
+    ensures { PutsCharacters text.old text.new (sign_text variant numerator) 3 }
+{
+    if numerator < 0 {
+        text.put_char(minus_char(variant));
+    }
+}
+
 // A quantity at the end of a room, and where it begins, if the method writes it.
 fn put_at_end(
     room: &mut [u8; MOST_QUANTITY_BYTES],
@@ -192,9 +203,7 @@ fn put_at_end(
 {
     let mut text = Room::new(room);
     put_unsigned(&mut text, style, quantity)?;
-    if quantity.numerator < 0 {
-        text.put_char(minus_char(style.variant));
-    }
+    put_sign(&mut text, style.variant, quantity.numerator);
     Ok(text.free)
 }
 

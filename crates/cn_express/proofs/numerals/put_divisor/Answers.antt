@@ -1,4 +1,4 @@
-use Rattle.std.proofs.Common.{◌≡◌, arith}
+use Rattle.std.proofs.Common.{arith}
 use Rattle.cn_express.proofs.SpelledBytes.{divisor-bytes, puts-spelled, spelled-bytes}
 use Rattle.cn_express.proofs.numerals.put_divisor.Goals as goal
 

@@ -1,6 +1,5 @@
-use Rattle.std.proofs.Common.{◌≡◌, ◌&&◌, ◌==◌, chars, true, false, sym, ap, ap₂, ◌∙◌}
+use Rattle.std.proofs.Common.{◌≡◌, ◌&&◌, ◌==◌, chars, true, false, sym, ap, ◌∙◌}
 use Rattle.std.proofs.lemmas.Bool.{eq-eqb}
-use Rattle.cn_core.specs.Text.{text_of}
 use Rattle.cn_core.proofs.Fronts.{both}
 use Rattle.cn_quantity.proofs.Today.{and-none}
 use Rattle.cn_express.specs.Numerals.{stand_alone, without_front}
