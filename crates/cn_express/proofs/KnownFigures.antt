@@ -1,5 +1,5 @@
 -- The figures of a quantity whose decimals are known.
-use Rattle.std.proofs.Common.{◌≡◌, ℕ, ◌++◌, nat_abs, codes, decimal, Option, Some, sym, ap}
+use Rattle.std.proofs.Common.{◌≡◌, ℕ, ◌++◌, nat_abs, codes, decimal, Some, sym, ap}
 use Rattle.std.specs.Option.{option_map_or}
 use Rattle.cn_quantity.specs.declared.quantity.Quantity.{Quantity}
 use Rattle.cn_quantity.specs.Trimmed.{decimals_of}

@@ -10,10 +10,12 @@ pub mod LastFigures
 pub mod LastMarks
 pub mod NumberTexts
 pub mod NumeralsRead
+pub mod Pieces
 pub mod Points
 pub mod Ratios
 pub mod Rooms
 pub mod SignedTexts
+pub mod SpelledBytes
 pub mod SpelledNumbers
 pub mod TrimmedDecimals
 pub mod WrittenTexts

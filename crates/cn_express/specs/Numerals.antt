@@ -1,5 +1,5 @@
 -- A quantity in numerals.
-use Rattle.std.specs.Prelude.{ℕ, ◌/◌, ◌^◌, ◌==◌, pos, int_lt, nat_abs, nat_le, Bool, ◌&&◌, false, List, [], ◌∷◌, ◌++◌, map, codes, slice_index, if◌then◌else◌}
+use Rattle.std.specs.Prelude.{ℕ, ◌/◌, ◌^◌, ◌==◌, ℤ, pos, int_lt, nat_abs, nat_le, Bool, ◌&&◌, false, List, [], ◌∷◌, ◌++◌, map, codes, slice_index, if◌then◌else◌}
 use Rattle.std.specs.Option.{option_map_or}
 use Rattle.std.specs.List.{list_all}
 use Rattle.cn_core.specs.declared.case.ChineseCase.{ChineseCase}
@@ -69,11 +69,15 @@ unsigned_text variant case method q =
     ++ decimal_text variant case method decimals (nat_abs q.numerator))
     (decimals_of q) (fraction_text variant case method q.denominator (nat_abs q.numerator))
 
+-- the sign of a numerator below 0
+abbrev pub sign_text : ChineseVariant → ℤ → List ℕ
+sign_text variant numerator =
+    if int_lt numerator (pos 0) then minus_char variant ∷ [] else []
+
 -- a quantity: 三點一四, 百分之十二點五, 負三分之一
 abbrev pub quantity_text : ChineseVariant → ChineseCase → ChineseCountMethod → Quantity → List ℕ
 quantity_text variant case method q =
-    (if int_lt q.numerator (pos 0) then minus_char variant ∷ [] else [])
-    ++ unsigned_text variant case method q
+    sign_text variant q.numerator ++ unsigned_text variant case method q
 
 -- the numbers that are spelled in it
 abbrev pub spelled_numbers : Quantity → List ℕ

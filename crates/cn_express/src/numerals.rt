@@ -3,10 +3,9 @@ ghost use Rattle.std.specs.Prelude.{◌≡◌, ◌+◌, ◌/◌, ◌^◌, ◌&&�
 ghost use Rattle.cn_core.specs.Characters.{digit_char};
 ghost use Rattle.cn_core.specs.Printing.{is_printable};
 ghost use Rattle.cn_core.specs.Text.{text_of};
-ghost use Rattle.cn_express.specs.Numerals.{decimal_text, divisor_text, fraction_text, hundredths, is_written_by, magnitude_text, point_char, quantity_text, stand_alone, unsigned_text, without_front};
-ghost use Rattle.cn_express.specs.Working.Room.{PutsInFront, PutsIfWritten};
+ghost use Rattle.cn_express.specs.Numerals.{decimal_text, divisor_text, fraction_text, hundredths, is_written_by, magnitude_text, point_char, quantity_text, sign_text, stand_alone, unsigned_text, without_front};
+ghost use Rattle.cn_express.specs.Working.Room.{PutsCharacters, PutsIfWritten};
 ghost use Rattle.cn_express.specs.Writes.{IsTooGreat, IsUnwritten, PutsQuantity, WritesQuantity};
-ghost use Rattle.cn_quantity.specs.declared.quantity.QuantityForm.TheVariants.{Percent};
 
 use crate::QuantityToChineseError;
 use crate::digits::{Hand, put_behind_point};
@@ -55,6 +54,7 @@ impl Hand for Style {
 // Puts a magnitude, if the method writes it.
 fn put_magnitude(text: &mut Room, style: Style, number: u128) -> Result<(), NumberToChineseError>
     requires { 231 ≤ text.old.free }
+    ensures lender { text.new.bytes.ghost_name ≡ text.old.bytes.ghost_name }
     ensures put { PutsIfWritten (is_printable style.method (pos number)) text.old text.new
         (magnitude_text style.variant style.case style.method number) 231 result }
 {
@@ -94,6 +94,7 @@ fn without_front(front: char, text: &str) -> &str
 // Puts a divisor, if the method writes it.
 fn put_divisor(text: &mut Room, style: Style, divisor: u128) -> Result<(), NumberToChineseError>
     requires { 231 ≤ text.old.free }
+    ensures lender { text.new.bytes.ghost_name ≡ text.old.bytes.ghost_name }
     ensures put { PutsIfWritten (is_printable style.method (pos divisor)) text.old text.new
         (divisor_text style.variant style.case style.method divisor) 231 result }
 {
@@ -117,6 +118,7 @@ fn put_with_decimals(
 ) -> Result<(), NumberToChineseError>
     requires decimals { decimals ≤ 38 }
     requires room { 348 ≤ text.old.free }
+    ensures lender { text.new.bytes.ghost_name ≡ text.old.bytes.ghost_name }
     ensures put { PutsIfWritten (is_printable style.method (pos (number / 10 ^ decimals)))
         text.old text.new
         (decimal_text style.variant style.case style.method decimals number) 348 result }
@@ -133,6 +135,7 @@ fn put_fraction(
     number: u128,
 ) -> Result<(), NumberToChineseError>
     requires { 468 ≤ text.old.free }
+    ensures lender { text.new.bytes.ghost_name ≡ text.old.bytes.ghost_name }
     ensures put { PutsIfWritten
         (is_printable style.method (pos divisor) && is_printable style.method (pos number))
         text.old text.new
@@ -144,14 +147,14 @@ fn put_fraction(
 }
 
 // Puts what stands in front of a percentage.
-fn put_hundredths(text: &mut Room, style: Style)
+fn put_hundredths(text: &mut Room, style: Style, form: QuantityForm)
     requires { 9 ≤ text.old.free }
-    ensures put { PutsInFront text.old text.new
-        (encode_utf8_all (hundredths style.variant style.case Percent)) }
-    ensures room { text.old.free ≤ text.new.free + 9 }
+    ensures { PutsCharacters text.old text.new (hundredths style.variant style.case form) 9 }
 {
-    text.put("分之");
-    text.put_char(unit_char(style.variant, style.case, Unit::Bai));
+    if form == QuantityForm::Percent {
+        text.put("分之");
+        text.put_char(unit_char(style.variant, style.case, Unit::Bai));
+    }
 }
 
 // Puts a quantity without its sign, if the method writes it.
@@ -161,6 +164,7 @@ fn put_unsigned(
     quantity: Quantity,
 ) -> Result<(), NumberToChineseError>
     requires { 468 ≤ text.old.free }
+    ensures lender { text.new.bytes.ghost_name ≡ text.old.bytes.ghost_name }
     ensures put { PutsIfWritten (is_written_by style.method quantity) text.old text.new
         (unsigned_text style.variant style.case style.method quantity) 468 result }
 {
@@ -168,12 +172,20 @@ fn put_unsigned(
     match decimals_of(quantity) {
         Some(decimals) => {
             put_with_decimals(text, style, decimals, magnitude)?;
-            if quantity.form == QuantityForm::Percent {
-                put_hundredths(text, style);
-            }
+            put_hundredths(text, style, quantity.form);
             Ok(())
         }
         None => put_fraction(text, style, quantity.denominator, magnitude),
+    }
+}
+
+// Puts the sign of a numerator below 0.
+fn put_sign(text: &mut Room, variant: ChineseVariant, numerator: i128)
+    requires { 3 ≤ text.old.free }
+    ensures { PutsCharacters text.old text.new (sign_text variant numerator) 3 }
+{
+    if numerator < 0 {
+        text.put_char(minus_char(variant));
     }
 }
 
@@ -186,14 +198,12 @@ fn put_at_end(
     ensures { MatchResult result (λ start. IsTrue (is_written_by style.method quantity)
         × (drop start room.new
         ≡ encode_utf8_all (quantity_text style.variant style.case style.method quantity))
-        × IsUtf8 (drop start room.new))
+        × IsUtf8 (drop start room.new) × (start ≤ 471))
         (λ _. IsFalse (is_written_by style.method quantity)) }
 {
     let mut text = Room::new(room);
     put_unsigned(&mut text, style, quantity)?;
-    if quantity.numerator < 0 {
-        text.put_char(minus_char(style.variant));
-    }
+    put_sign(&mut text, style.variant, quantity.numerator);
     Ok(text.free)
 }
 

@@ -1,5 +1,4 @@
-use Rattle.std.proofs.Common.{◌≡◌, ◌+◌, ◌*◌, ◌/◌, ◌%◌, ◌^◌, ◌∷◌, map, encode_utf8_all, sym, ap, subst, ◌∙◌, arith}
-use Rattle.std.specs.Char.{encode_utf8}
+use Rattle.std.proofs.Common.{◌/◌, ◌%◌, ◌∷◌, map, encode_utf8_all, sym, ap, subst, ◌∙◌, arith}
 use Rattle.cn_express.specs.Digits.{last_digits}
 use Rattle.cn_express.specs.Working.Room.{PutsInFront}
 use Rattle.cn_express.proofs.Points.{one-less, one-more, room-left, room-taken, no-digits}

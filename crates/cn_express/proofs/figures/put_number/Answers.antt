@@ -1,4 +1,4 @@
-use Rattle.std.proofs.Common.{◌≡◌, ◌+◌, ◌%◌, ◌<◌, ◌≤◌, ◌^◌, ◌++◌, ◌∷◌, [], length, decimal, refl, ap, ◌∙◌, ◌/◌, arith}
+use Rattle.std.proofs.Common.{◌++◌, decimal, refl, ap, ◌∙◌, ◌/◌, arith}
 use Rattle.std.specs.Char.{encode_utf8}
 use Rattle.cn_express.specs.Working.Room.{PutsInFront, text_in}
 use Rattle.cn_express.proofs.LastFigures.{few-figures, figures-last, figures-more, figures-one, figures-step}

@@ -1,4 +1,4 @@
-use Rattle.std.proofs.Common.{◌≡◌, ◌<◌, ◌/◌, ◌^◌, ◌++◌, decimal, ap, subst, arith}
+use Rattle.std.proofs.Common.{◌/◌, ◌++◌, decimal, subst, arith}
 use Rattle.cn_quantity.proofs.Trims.{ten-above, ten-up}
 use Rattle.cn_express.specs.Digits.{behind_point}
 use Rattle.cn_express.specs.Figures.{figure_char}

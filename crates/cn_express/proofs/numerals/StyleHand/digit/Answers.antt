@@ -1,4 +1,4 @@
-use Rattle.std.proofs.Common.{◌≡◌, ap, length, arith}
+use Rattle.std.proofs.Common.{arith}
 use Rattle.cn_core.specs.Characters.{digit_char}
 use Rattle.cn_core.proofs.Characters.{three-digit}
 use Rattle.cn_express.proofs.Bytes.{length-three}
