@@ -3,6 +3,7 @@ pub mod DateReadBack
 pub mod EitherBack
 pub mod Filling
 pub mod Passing
+pub mod QuantityReadBack
 pub mod ReadBack
 pub mod SignedReadBack
 pub mod ToldBack

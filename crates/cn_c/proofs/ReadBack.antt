@@ -46,7 +46,7 @@ put-text text old new len = by (nat_le (length text) (length old)) where
   by false p = absurd (omega (arith, p.0))
 
 -- written characters are UTF-8
-utf8-scalars : (text : List ℕ) → all_scalars text ≡ true → IsUtf8 (encode_utf8_all text)
+pub utf8-scalars : (text : List ℕ) → all_scalars text ≡ true → IsUtf8 (encode_utf8_all text)
 utf8-scalars [] h = IsUtf8-nil
 utf8-scalars (c ∷ text) h = IsUtf8-append _ _ (IsUtf8-encode c (and-left _ (all_scalars text) h))
     (utf8-scalars text (and-right _ (all_scalars text) h))

@@ -1,15 +1,19 @@
 // What users can count on, as the contract of a function that does nothing.
-ghost use Rattle.std.specs.Prelude.{◌≡◌, ℕ, ℤ, List, take};
+ghost use Rattle.std.specs.Prelude.{◌≡◌, ℕ, ℤ, true, false, List, take};
 ghost use Rattle.std.specs.Str.{IsUtf8};
 ghost use Rattle.cn_c.specs.Amounts.{IsAmountPrinted, IsAmountRead};
 ghost use Rattle.cn_c.specs.Codes.{CN_ANY, CN_DIGITS, CN_DONE, CN_TEN_THOUSAND};
 ghost use Rattle.cn_c.specs.Dates.{IsDatePrinted, IsDateRead};
+ghost use Rattle.cn_c.specs.Halves.{AreHalves, number_of};
 ghost use Rattle.cn_c.specs.Prints.{IsPrinted};
+ghost use Rattle.cn_c.specs.Quantities.{IsQuantityRead};
+ghost use Rattle.cn_c.specs.QuantityPrints.{IsQuantityPrinted};
 ghost use Rattle.cn_c.specs.Reads.{ReadsBack};
 ghost use Rattle.cn_c.specs.SignedAmounts.{IsSignedPrinted, IsSignedRead, signed_told};
 ghost use Rattle.cn_c.specs.declared.amount.Amount.{Amount};
 ghost use Rattle.cn_c.specs.declared.date.Date.{Date};
 ghost use Rattle.cn_c.specs.declared.number.Number.{Number};
+ghost use Rattle.cn_c.specs.declared.quantity.Quantity.{Quantity};
 ghost use Rattle.cn_c.specs.declared.signed_amount.SignedAmount.{SignedAmount};
 
 /// What `chinese_number_print` writes is UTF-8, and `chinese_number_read_utf8` reads it, as the
@@ -32,6 +36,21 @@ pub fn printed_numbers_read_back_either_way()
     ensures ten_thousand { (number : Number) (kind script case : ℕ) (old new : List ℕ) (len : ℕ)
         → IsPrinted number.low number.high kind CN_TEN_THOUSAND script case old CN_DONE new len
         → ReadsBack (take len new) kind CN_ANY number }
+{}
+
+/// What `chinese_quantity_print` writes is UTF-8, and `chinese_quantity_read` reads it, by the same
+/// method, as the same numerator and denominator.
+///
+/// For quantities that cross from one language to another.
+pub fn printed_quantities_read_back()
+    ensures { (quantity : Quantity) (method script case : ℕ) (old new : List ℕ) (len : ℕ)
+        → AreHalves quantity.numerator → AreHalves quantity.denominator
+        → IsQuantityPrinted quantity method script case old CN_DONE new len
+        → IsUtf8 (take len new)
+        × ((status : ℕ) (told : Quantity) → IsQuantityRead (take len new) method status told
+        → (status ≡ CN_DONE)
+        × (number_of true told.numerator ≡ number_of true quantity.numerator)
+        × (number_of false told.denominator ≡ number_of false quantity.denominator)) }
 {}
 
 /// What `chinese_amount_print` writes, in each form, is UTF-8, and `chinese_amount_read` reads it as

@@ -24,7 +24,7 @@ pub record IsUnsigned (method : ChineseCountMethod) (ratio : Ratio)
 abbrev sign_text : Bool → ℕ → List ℕ
 sign_text negative minus = if negative then minus ∷ [] else []
 
-sign-text : (negative : Bool) (minus : ℕ) (text : List ℕ) → IsText (minus ∷ []) → IsText text
+pub sign-text : (negative : Bool) (minus : ℕ) (text : List ℕ) → IsText (minus ∷ []) → IsText text
     → IsText (sign_text negative minus ++ text)
 sign-text true minus text sign is = IsText-append (minus ∷ []) text sign is
 sign-text false minus text sign is = is

@@ -1,0 +1,119 @@
+-- What is printed for a quantity is read back as the same numerator and denominator.
+use Rattle.std.proofs.Common.{◌≡◌, ℕ, ◌^◌, ◌<◌, ◌==◌, ℤ, pos, int_lt, Bool, true, false, MatchBool, IsTrue, List, take, encode_utf8_all, Option, Some, None, Ok, if◌then◌else◌, refl, sym, ap, subst, ◌∙◌, option_map, arith}
+use Rattle.std.proofs.lemmas.Int.{ints}
+use Rattle.std.proofs.lemmas.Str.{is_utf8-from_IsUtf8}
+use Rattle.std.specs.Str.{IsUtf8, all_scalars, is_utf8}
+use Rattle.cn_core.specs.declared.case.ChineseCase.{ChineseCase}
+use Rattle.cn_core.specs.declared.method.ChineseCountMethod.{ChineseCountMethod}
+use Rattle.cn_core.specs.declared.script.ChineseVariant.{ChineseVariant}
+use Rattle.cn_core.specs.Whole.{holds, signed_kind}
+use Rattle.cn_express.specs.Numerals.{is_written_by}
+use Rattle.cn_express.specs.Writes.{numeral_bytes}
+use Rattle.cn_express.proofs.NumeralsRead.{numerals-read, numerals-text}
+use Rattle.cn_quantity.specs.declared.quantity.Quantity.{Quantity as ExactQuantity}
+use Rattle.cn_quantity.specs.declared.quantity.QuantityForm.{QuantityForm}
+use Rattle.cn_quantity.specs.Reading.{quantity_answer}
+use Rattle.cn_c.specs.declared.number.Number.{Number}
+use Rattle.cn_c.specs.declared.quantity.Quantity.{Quantity}
+use Rattle.cn_c.specs.Codes.{CN_DONE, CN_TOO_LARGE, CN_TOO_SMALL}
+use Rattle.cn_c.specs.Halves.{AreHalves, bits_of, number_of}
+use Rattle.cn_c.specs.Prints.{PutsNothing, PutsIfItFits}
+use Rattle.cn_c.specs.Quantities.{IsQuantityReadAs, TellsQuantity, no_quantity}
+use Rattle.cn_c.specs.QuantityPrints.{PutsQuantity, IsQuantityPrintedAs}
+use Rattle.cn_c.proofs.ReadBack.{put-text, utf8-scalars}
+
+-- what is told of a quantity's text
+abbrev IsBack : ExactQuantity → ChineseCountMethod → List ℕ → Type 0
+IsBack quantity method bytes =
+    IsUtf8 bytes × ((status : ℕ) (told : Quantity)
+    → IsQuantityReadAs (Some method) bytes status told
+    → (status ≡ CN_DONE) × (number_of true told.numerator ≡ quantity.numerator)
+    × (number_of false told.denominator ≡ pos quantity.denominator))
+
+-- of a text that is read as a quantity
+read-back : (quantity read : ExactQuantity) (method : ChineseCountMethod) (bytes : List ℕ)
+    → IsUtf8 bytes → quantity_answer method bytes ≡ Ok read
+    → read.numerator ≡ quantity.numerator → read.denominator ≡ quantity.denominator
+    → IsBack quantity method bytes
+read-back quantity read method bytes utf8 is above below = (utf8, shown) where
+  shown : (status : ℕ) (told : Quantity) → IsQuantityReadAs (Some method) bytes status told
+      → (status ≡ CN_DONE) × (number_of true told.numerator ≡ quantity.numerator)
+      × (number_of false told.denominator ≡ pos quantity.denominator)
+  shown status told tells =
+      let t : TellsQuantity bytes (quantity_answer method bytes) status told =
+      rw (is_utf8-from_IsUtf8 bytes utf8) at tells in
+      let ok : TellsQuantity bytes (Ok read) status told =
+      subst (λ answer. TellsQuantity bytes answer status told) is t in
+      (ok.0, cc, ok.1.denominator ∙ ap pos below)
+
+not-done : (below : Bool) → CN_DONE ≡ (if below then CN_TOO_SMALL else CN_TOO_LARGE) → ⊥
+not-done true e = omega (arith, e)
+not-done false e = omega (arith, e)
+
+exact-back : (quantity : ExactQuantity) (method : ChineseCountMethod) (script : ChineseVariant)
+    (case : ChineseCase) (old new : List ℕ) (len : ℕ)
+    → holds (signed_kind 128) quantity.numerator ≡ true → quantity.denominator < 2 ^ 128
+    → PutsQuantity quantity method script case old CN_DONE new len
+    → IsBack quantity method (take len new)
+exact-back quantity method script case old new len held fits put =
+    over (quantity.denominator == 0) refl put where
+      bytes : List ℕ
+      bytes = numeral_bytes script case method quantity
+
+      text : 0 < quantity.denominator → is_written_by method quantity ≡ true
+          → PutsIfItFits bytes old CN_DONE new len → IsBack quantity method (take len new)
+      text above written put =
+          subst (IsBack quantity method) (sym (put-text bytes old new len put))
+          (read-back quantity _ method bytes
+          (utf8-scalars _ (numerals-text script case method quantity held above fits written).scalars)
+          (numerals-read script case method quantity held above fits written) refl refl)
+
+      by : (b : Bool) → is_written_by method quantity ≡ b → 0 < quantity.denominator
+          → MatchBool b (PutsIfItFits bytes old CN_DONE new len)
+          (PutsNothing (if int_lt quantity.numerator (pos 0) then CN_TOO_SMALL else CN_TOO_LARGE)
+          old CN_DONE new len)
+          → IsBack quantity method (take len new)
+      by true written above put = text above written put
+      by false written above put = absurd (not-done (int_lt quantity.numerator (pos 0)) put.0)
+
+      over : (b : Bool) → (quantity.denominator == 0) ≡ b
+          → MatchBool b (PutsNothing 12 old CN_DONE new len)
+          (MatchBool (is_written_by method quantity) (PutsIfItFits bytes old CN_DONE new len)
+          (PutsNothing (if int_lt quantity.numerator (pos 0) then CN_TOO_SMALL else CN_TOO_LARGE)
+          old CN_DONE new len))
+          → IsBack quantity method (take len new)
+      over true is put = absurd (omega (arith, put.0))
+      over false is put = by (is_written_by method quantity) refl (grind (arith, is)) put
+
+-- two halves are a number of 128 bits
+halves-held : (number : Number) → AreHalves number → holds (signed_kind 128) (number_of true number) ≡ true
+halves-held number are = grind (arith, ints, are.0, are.1)
+
+pub quantity-back : (numerator denominator : Number) (form : Option QuantityForm)
+    (method : Option ChineseCountMethod) (script : Option ChineseVariant)
+    (case : Option ChineseCase) (old new : List ℕ) (len : ℕ) → AreHalves numerator
+    → AreHalves denominator
+    → IsQuantityPrintedAs
+    (option_map (λ form. record {
+      numerator = number_of true numerator;
+      denominator = bits_of denominator;
+      form = form;
+    }) form) method script case old CN_DONE new len
+    → IsUtf8 (take len new) × ((status : ℕ) (told : Quantity)
+    → IsQuantityReadAs method (take len new) status told
+    → (status ≡ CN_DONE) × (number_of true told.numerator ≡ number_of true numerator)
+    × (number_of false told.denominator ≡ number_of false denominator))
+quantity-back numerator denominator None method script case old new len above below printed =
+    absurd (omega (arith, printed.0))
+quantity-back numerator denominator (Some form) None script case old new len above below printed =
+    absurd (omega (arith, printed.0))
+quantity-back numerator denominator (Some form) (Some method) None case old new len above below
+    printed =
+    absurd (omega (arith, printed.0))
+quantity-back numerator denominator (Some form) (Some method) (Some script) None old new len above
+    below printed =
+    absurd (omega (arith, printed.0))
+quantity-back numerator denominator (Some form) (Some method) (Some script) (Some case) old new
+    len above below printed =
+    exact-back _ method script case old new len (halves-held numerator above)
+    (omega (arith, below.0, below.1)) printed
