@@ -31,7 +31,7 @@ use Rattle.cn_quantity.specs.declared.characters.DigitKind.TheVariants.{Chinese}
 use Rattle.cn_quantity.specs.declared.quantity.Quantity.{Quantity}
 use Rattle.cn_quantity.specs.declared.quantity.QuantityForm.{QuantityForm}
 use Rattle.cn_quantity.specs.declared.quantity.QuantityForm.TheVariants.{Whole, Decimal, Percent, Fraction}
-use Rattle.cn_quantity.specs.Characters.{is_fen, sign_of}
+use Rattle.cn_quantity.specs.Characters.{sign_of}
 use Rattle.cn_quantity.specs.Number.{part_answer}
 use Rattle.cn_quantity.specs.Ratio.{form_over}
 use Rattle.cn_quantity.specs.Reading.{leading_sign, quantity_answer}
