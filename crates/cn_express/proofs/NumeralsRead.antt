@@ -1,5 +1,5 @@
 -- A quantity in numerals is read as that quantity.
-use Rattle.std.proofs.Common.{◌≡◌, ℕ, ◌*◌, ◌/◌, ◌^◌, ◌<◌, pos, nat_abs, true, List, [], ◌∷◌, ◌++◌, length, map, encode_utf8_all, Option, Some, None, Ok, refl, ap, subst, ◌∙◌, arith, length-append}
+use Rattle.std.proofs.Common.{◌≡◌, ℕ, ◌*◌, ◌/◌, ◌^◌, ◌<◌, pos, int_lt, nat_abs, true, List, [], ◌∷◌, ◌++◌, length, map, encode_utf8_all, Option, Some, None, Ok, refl, ap, subst, ◌∙◌, arith, length-append}
 use Rattle.std.specs.List.{list_all}
 use Rattle.std.specs.Option.{option_map_or}
 use Rattle.std.proofs.Math.Nat.{div-le_self}
@@ -25,7 +25,7 @@ use Rattle.cn_express.proofs.FractionTexts.{IsDivisorText, IsDivisorText-written
 use Rattle.cn_express.proofs.KnownDecimals.{over-is}
 use Rattle.cn_express.proofs.NumberTexts.{IsNumberText, IsUnsigned-decimal, IsUnsigned-whole}
 use Rattle.cn_express.proofs.Ratios.{fraction-ratio, ratio-fits}
-use Rattle.cn_express.proofs.SignedTexts.{IsUnsigned, magnitude-fits, signed-read}
+use Rattle.cn_express.proofs.SignedTexts.{IsUnsigned, magnitude-fits, sign-text, signed-read}
 use Rattle.cn_express.proofs.WrittenTexts.{IsText, IsText-append}
 use Rattle.cn_quantity.specs.declared.characters.DigitKind.TheVariants.{Chinese}
 use Rattle.cn_quantity.specs.declared.quantity.Quantity.{Quantity}
@@ -197,7 +197,31 @@ numerals-by variant case method form number denominator (Some decimals) is small
           (omega arith) (over-is 100 denominator decimals is) fits
       by Fraction is = cc
 
--- with it
+-- a quantity that is written
+unsigned-is : (variant : ChineseVariant) (case : ChineseCase) (method : ChineseCountMethod)
+    (q : Quantity) → holds (signed_kind 128) q.numerator ≡ true → 0 < q.denominator
+    → q.denominator < 2 ^ 128 → is_written_by method q ≡ true
+    → IsUnsigned method
+    (record {
+      numerator = nat_abs q.numerator;
+      denominator = q.denominator;
+      form = form_read_back q;
+    })
+    (unsigned_text variant case method q)
+unsigned-is variant case method q held above fits written =
+    numerals-by variant case method q.form (nat_abs q.numerator) q.denominator (decimals_of q) refl
+    (magnitude-fits q.numerator held) above fits written
+
+-- with its sign
+pub numerals-text : (variant : ChineseVariant) (case : ChineseCase) (method : ChineseCountMethod)
+    (q : Quantity) → holds (signed_kind 128) q.numerator ≡ true → 0 < q.denominator
+    → q.denominator < 2 ^ 128 → is_written_by method q ≡ true
+    → IsText (quantity_text variant case method q)
+numerals-text variant case method q held above fits written =
+    sign-text (int_lt q.numerator (pos 0)) (minus_char variant)
+    (unsigned_text variant case method q) (IsText-minus variant)
+    (unsigned-is variant case method q held above fits written).written
+
 pub numerals-read : (variant : ChineseVariant) (case : ChineseCase) (method : ChineseCountMethod)
     (q : Quantity) → holds (signed_kind 128) q.numerator ≡ true → 0 < q.denominator
     → q.denominator < 2 ^ 128 → is_written_by method q ≡ true
@@ -210,5 +234,4 @@ pub numerals-read : (variant : ChineseVariant) (case : ChineseCase) (method : Ch
 numerals-read variant case method q held above fits written =
     signed-read method q.numerator q.denominator (form_read_back q) (minus_char variant)
     (unsigned_text variant case method q) held (minus-sign variant) (IsText-minus variant)
-    (numerals-by variant case method q.form (nat_abs q.numerator) q.denominator (decimals_of q)
-    refl (magnitude-fits q.numerator held) above fits written)
+    (unsigned-is variant case method q held above fits written)
