@@ -1,5 +1,5 @@
 -- A quantity in figures is read as that quantity.
-use Rattle.std.proofs.Common.{◌≡◌, ℕ, zero, suc, ◌+◌, ◌*◌, ◌/◌, ◌%◌, ◌^◌, ◌<◌, ◌≤◌, pos, int_lt, nat_abs, Bool, true, false, ◌==◌, nat_lt, is_none, is_some, List, [], ◌∷◌, ◌++◌, length, map, codes, decimal, encode_utf8_all, slice_index, Option, Some, None, Ok, refl, sym, ap, ap₂, ◌∙◌, arith, if◌then◌else◌, append-nil, length-append}
+use Rattle.std.proofs.Common.{◌≡◌, ℕ, zero, suc, ◌+◌, ◌*◌, ◌/◌, ◌%◌, ◌^◌, ◌<◌, ◌≤◌, pos, int_lt, nat_abs, Bool, true, false, ◌==◌, nat_lt, is_none, is_some, List, [], ◌∷◌, ◌++◌, length, map, codes, decimal, encode_utf8_all, slice_index, Some, None, Ok, refl, sym, ap, ap₂, ◌∙◌, arith, if◌then◌else◌, append-nil, length-append}
 use Rattle.std.specs.List.{list_all}
 use Rattle.std.specs.Option.{option_map_or}
 use Rattle.std.proofs.lemmas.Bool.Decides.{nat_tests}
@@ -10,7 +10,6 @@ use Rattle.std.proofs.lemmas.Str.{IsAscii-append, encodes-IsAscii}
 use Rattle.std.proofs.lemmas.Str.Ascii.{IsAscii-nil}
 use Rattle.std.proofs.Math.Nat.{div-add-mod', div-le_self}
 use Rattle.cn_core.specs.declared.method.ChineseCountMethod.{ChineseCountMethod}
-use Rattle.cn_core.specs.declared.sign.Sign.{Sign}
 use Rattle.cn_core.specs.declared.sign.Sign.TheVariants.{Minus}
 use Rattle.cn_core.specs.Characters.{rank_of}
 use Rattle.cn_core.specs.Whole.{holds, signed_kind}
@@ -38,7 +37,7 @@ use Rattle.cn_quantity.specs.Reading.{leading_sign, quantity_answer}
 use Rattle.cn_quantity.specs.Trimmed.{decimals_in, decimals_of as decimals_of_quantity}
 use Rattle.cn_quantity.specs.Units.{times_units}
 use Rattle.cn_quantity.proofs.Numbers.{in-figures}
-use Rattle.cn_spell.proofs.Printed.{each_below}
+use Rattle.cn_spell.proofs.Printed.{each_below, none_from_is_none}
 
 -- what each figure has
 figure-has : (test : ℕ → Bool) → list_all (list_all test) figure_rows ≡ true → (c value : ℕ)
@@ -67,11 +66,8 @@ figures-no_sign : (text more : List ℕ) → are_digits Figure text ≡ true →
     → leading_sign (text ++ more) ≡ None
 figures-no_sign [] more figures some = absurd (omega (arith, some))
 figures-no_sign (c ∷ rest) more figures some =
-    none-is (sign_of c) (and-left (is_none (sign_of c)) _ (figures-signless (c ∷ rest) figures))
-  where
-    none-is : (s : Option Sign) → is_none s ≡ true → s ≡ None
-    none-is None h = refl
-    none-is (Some sign) h = cc
+    none_from_is_none (sign_of c)
+    (and-left (is_none (sign_of c)) _ (figures-signless (c ∷ rest) figures))
 
 -- the digits that are written
 figures_written : each_below (λ value. option_map_or (λ read. read == value)
