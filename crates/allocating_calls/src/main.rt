@@ -9,7 +9,8 @@ use chinese_number::ChineseCase::Lower;
 use chinese_number::ChineseCountMethod::{High, Low, Middle, TenThousand};
 use chinese_number::ChineseVariant::{Simple, Traditional};
 use chinese_number::{
-    AMOUNT_LIMIT, AmountForm, BillDate, ChineseCountMethod, ChineseVariant, NumberToChinese,
+    AMOUNT_LIMIT, AmountForm, BillDate, ChineseCountMethod, ChineseVariant, InFigures, Included,
+    NumberToChinese, Wanted,
 };
 use std::fmt::{Debug, Display};
 use std::io;
@@ -197,6 +198,16 @@ fn dates(rt: &(impl Print + AllocGlobal)) -> io::Result<()> {
     date(rt, Traditional, (9999, 12, 31))
 }
 
+// Texts with their quantities in figures, which take as many bytes.
+fn in_figures(rt: &(impl Print + AllocGlobal)) -> io::Result<()> {
+    let (wanted, method, included) = (Wanted::EVERYDAY, TenThousand, Included::NONE);
+    let outcome = chinese_number::quantities_to_figures(rt.alloc(), "十萬", wanted, method, included);
+    show(rt, "quantities_to_figures", outcome)?;
+    let figures = InFigures { method, included };
+    let outcome = chinese_number::replace_quantities(rt.alloc(), "共十萬人", wanted, figures);
+    show(rt, "replace_quantities", outcome)
+}
+
 // The form that is longest: 圓 has as many bytes as 元, and 正 as 整.
 const LONGEST: AmountForm = AmountForm {
     currency: true,
@@ -228,5 +239,6 @@ fn main(rt: HostRuntime) -> io::Result<()> {
     ends_by_trait(&rt)?;
     amounts(&rt)?;
     dates(&rt)?;
+    in_figures(&rt)?;
     refused(&rt)
 }

@@ -57,3 +57,6 @@ pub use Rattle.cn_quantity.specs.Units as QuantityUnits
 pub use Rattle.cn_quantity.specs.Whole as QuantityWhole
 pub use Rattle.cn_read.specs.Answer
 pub use Rattle.cn_read.specs.ErrorText as ReadErrorText
+pub use Rattle.cn_replace.specs.InFigures
+pub use Rattle.cn_replace.specs.Replaced
+pub use Rattle.cn_replace.specs.Sinks

@@ -29,6 +29,9 @@ pub use cn_find::laws::{
     searches_go_on_in_the_whole_text, types_answer_alike_without_sign,
     unnamed_characters_part_texts, unwanted_characters_part_texts, wanted_constants_are,
 };
+pub use cn_replace::laws::{
+    included_constants_are, texts_are_put_in_figures_in_parts, texts_stay_where_nothing_is_new,
+};
 pub use enums::{
     equal_dates_are_the_same_day, equal_values_are_the_same_variant, units_compare_by_rank,
 };

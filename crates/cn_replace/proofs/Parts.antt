@@ -1,5 +1,5 @@
 -- A text in figures, in front of a character that parts it and behind it.
-use Rattle.std.proofs.Common.{◌≡◌, ℕ, ◌+◌, ◌≤◌, Bool, true, false, not, ◌&&◌, ◌||◌, List, [], ◌∷◌, ◌++◌, length, drop, map, reverse, chars, codes, encode_utf8_all, IsUtf8, Option, unwrap_or, if◌then◌else◌, None, refl, sym, ap, subst, ◌∙◌, arith, append_assoc, append-nil, length-append, drop_at}
+use Rattle.std.proofs.Common.{◌≡◌, ℕ, ◌+◌, ◌≤◌, Bool, true, false, not, ◌&&◌, ◌||◌, List, [], ◌∷◌, ◌++◌, length, drop, map, reverse, chars, codes, IsUtf8, Option, unwrap_or, if◌then◌else◌, None, refl, sym, ap, ◌∙◌, arith, append_assoc, append-nil, length-append, drop_at}
 use Rattle.std.specs.Char.{char_set_contains, encode_utf8}
 use Rattle.std.specs.List.{Contains}
 use Rattle.std.proofs.lemmas.List.{drop-append-le, drop-drop, reverse-append}
@@ -19,8 +19,8 @@ use Rattle.cn_find.proofs.RunLaws.{found-is_run, scalars-end}
 use Rattle.cn_find.proofs.Unnamed.{unnamed-parts}
 use Rattle.cn_quantity.specs.Reading.{quantity_answer}
 use Rattle.cn_replace.specs.declared.figures.Included.{Included}
-use Rattle.cn_replace.specs.InFigures.{figures_for, figures_of_answer, in_figures, is_included, tells_about}
-use Rattle.cn_replace.specs.Replaced.{replaced, replaced_from, text_for}
+use Rattle.cn_replace.specs.InFigures.{figures_for, figures_of_answer, in_figures, tells_about}
+use Rattle.cn_replace.specs.Replaced.{replaced_from, text_for}
 use Rattle.cn_replace.proofs.Replacing.{parts-of}
 use Rattle.cn_replace.proofs.Unchanged.{of-first, of-others}
 

@@ -1,5 +1,5 @@
 -- A text is put piece by piece with its expressions replaced.
-use Rattle.std.proofs.Common.{◌≡◌, ℕ, ◌+◌, ◌≤◌, nat_le, Bool, true, false, List, [], ◌∷◌, ◌++◌, length, slice_index_or, drop, chars, encode_utf8_all, IsUtf8, IsCharBoundary, Option, Some, None, is_some, unwrap_or, refl, sym, ap, subst, ◌∙◌, arith, append_assoc, length-append}
+use Rattle.std.proofs.Common.{◌≡◌, ℕ, ◌+◌, ◌≤◌, nat_le, true, false, List, [], ◌∷◌, ◌++◌, length, slice_index_or, drop, chars, encode_utf8_all, IsUtf8, IsCharBoundary, Option, Some, None, is_some, unwrap_or, refl, sym, ap, subst, ◌∙◌, arith, append_assoc, length-append}
 use Rattle.std.specs.List.{Contains}
 use Rattle.std.proofs.lemmas.Bool.Decides.{nat_tests}
 use Rattle.std.proofs.lemmas.List.{get_or_append_left}
@@ -60,23 +60,17 @@ module _ {S : Type 0} (took : S → S → List ℕ → Type 0)
   put-old old mid new None stays e first second = both old mid new [] stays first second
   put-old old mid new (Some text) stays e first second = cc
 
-  -- the new text of one that is replaced was put
-  pub put-new : (old new : S) (text : Option (List ℕ)) (stays : List ℕ)
-      → is_some text ≡ true → took old new (unwrap_or text [])
-      → took old new (unwrap_or text stays)
-  put-new old new None stays e put = cc
-  put-new old new (Some text) stays e put = put
-
   pub Put-none : (new : Span → Option (List ℕ)) (wanted : Wanted) (bytes : List ℕ) (old : S)
-      → IsUtf8 bytes → took old old [] → Put took new wanted bytes old old 0 (expressions wanted bytes)
-  Put-none new wanted bytes old utf8 none = record {
+      (left : List Span) → IsUtf8 bytes → took old old [] → left ≡ expressions wanted bytes
+      → Put took new wanted bytes old old 0 left
+  Put-none new wanted bytes old left utf8 none all = record {
     passed = [];
-    parts = refl;
-    rises = spans-rise (expression_rule wanted) bytes;
+    parts = sym all;
+    rises = ap (is_rising 0) all ∙ spans-rise (expression_rule wanted) bytes;
     boundary = IsCharBoundary-start bytes utf8;
     put = [];
     took_put = none;
-    completes = refl;
+    completes = ap (replaced_from new bytes 0) (sym all);
   }
 
   found-next : {new : Span → Option (List ℕ)} {wanted : Wanted} {bytes : List ℕ} {old now : S}
@@ -97,38 +91,45 @@ module _ {S : Type 0} (took : S → S → List ℕ → Type 0)
         (parts-of wanted bytes span utf8 (found-next p span others e)) within p.boundary where
           within : from ≤ length span.before
           within = let rises : is_rising from (span ∷ others) ≡ true =
-              subst (λ l. is_rising from l ≡ true) e p.rises in
+              ap (is_rising from) (sym e) ∙ p.rises in
               let first : nat_le from (length span.before) ≡ true = and-left _ _ rises in
               grind (arith, nat_tests, first)
 
     -- behind one more
-    pub Put-more : (span : Span) (others : List Span) (mid then : S) → left ≡ span ∷ others
-        → IsUtf8 span.after → took now mid (drop from span.before)
-        → took mid then (text_for new span)
-        → Put took new wanted bytes old then (length span.before + length span.text) others
-    Put-more span others mid then e ended between text = record {
+    pub Put-more : (span : Span) (others : List Span) (mid then : S) (between : List ℕ) (end : ℕ)
+        → left ≡ span ∷ others → IsUtf8 span.after → between ≡ drop from span.before
+        → took now mid between → took mid then (text_for new span)
+        → end ≡ length span.before + length span.text
+        → Put took new wanted bytes old then end others
+    Put-more span others mid then between end e ended same front text ends = record {
       passed = p.passed ++ span ∷ [];
       parts = p.parts ∙ ap (λ l. p.passed ++ l) e
           ∙ sym (append_assoc p.passed (span ∷ []) others);
-      rises = and-right (nat_le from (length span.before)) _
-          (subst (λ l. is_rising from l ≡ true) e p.rises);
-      boundary = subst (IsCharBoundary bytes) (length-append span.before span.text)
+      rises = ap (λ n. is_rising n others) ends ∙ and-right (nat_le from (length span.before)) _
+          (ap (is_rising from) (sym e) ∙ p.rises);
+      boundary = subst (IsCharBoundary bytes)
+          (length-append span.before span.text ∙ sym ends)
           (IsCharBoundary-at_seam bytes (span.before ++ span.text) span.after at ended);
-      put = p.put ++ (drop from span.before ++ text_for new span);
-      took_put = both old now then p.put (drop from span.before ++ text_for new span) p.took_put
-          (both now mid then (drop from span.before) (text_for new span) between text);
+      put = p.put ++ (between ++ text_for new span);
+      took_put = both old now then p.put (between ++ text_for new span) p.took_put
+          (both now mid then between (text_for new span) front text);
       completes =
           p.completes ∙ ap (λ l. p.put ++ replaced_from new bytes from l) e
-          ∙ sym (append_assoc p.put (drop from span.before ++ text_for new span)
-          (replaced_from new bytes (length span.before + length span.text) others));
+          ∙ ap (λ l. p.put ++ (l ++ text_for new span ++ replaced_from new bytes
+          (length span.before + length span.text) others)) (sym same)
+          ∙ ap (λ n. p.put ++ (between ++ text_for new span ++ replaced_from new bytes n others))
+          (sym ends)
+          ∙ sym (append_assoc p.put (between ++ text_for new span)
+          (replaced_from new bytes end others));
     } where
       at : bytes ≡ (span.before ++ span.text) ++ span.after
       at = parts-of wanted bytes span utf8 (found-next p span others e)
           ∙ sym (append_assoc span.before span.text span.after)
 
     -- and at the end
-    pub Put-all : (then : S) → left ≡ [] → took now then (drop from bytes)
-        → took old then (replaced new wanted bytes)
-    Put-all then none rest = subst (took old then)
-        (sym (p.completes ∙ ap (λ l. p.put ++ replaced_from new bytes from l) none))
-        (both old now then p.put (drop from bytes) p.took_put rest)
+    pub Put-all : (then : S) (rest : List ℕ) → left ≡ [] → rest ≡ drop from bytes
+        → took now then rest → took old then (replaced new wanted bytes)
+    Put-all then rest none same last = subst (took old then)
+        (ap (λ l. p.put ++ l) same
+        ∙ sym (p.completes ∙ ap (λ l. p.put ++ replaced_from new bytes from l) none))
+        (both old now then p.put rest p.took_put last)

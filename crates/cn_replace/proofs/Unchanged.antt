@@ -1,5 +1,5 @@
 -- A text in which nothing is new.
-use Rattle.std.proofs.Common.{◌≡◌, ℕ, zero, suc, ◌+◌, ◌≤◌, nat_le, true, List, [], ◌∷◌, ◌++◌, length, drop, IsUtf8, Option, None, unwrap_or, refl, sym, ap, ◌∙◌, arith, append_assoc, length-append}
+use Rattle.std.proofs.Common.{◌≡◌, ℕ, suc, ◌+◌, ◌≤◌, nat_le, true, List, [], ◌∷◌, ◌++◌, length, drop, IsUtf8, Option, None, unwrap_or, refl, sym, ap, ◌∙◌, arith, append_assoc, length-append}
 use Rattle.std.specs.List.{Contains}
 use Rattle.std.proofs.lemmas.Bool.Decides.{nat_tests}
 use Rattle.std.proofs.lemmas.List.{drop-append-le}
@@ -10,7 +10,7 @@ use Rattle.cn_find.specs.Expressions.{expression_rule}
 use Rattle.cn_find.specs.Runs.{is_rising}
 use Rattle.cn_find.specs.Spans.{Span, expressions}
 use Rattle.cn_find.proofs.RunLaws.{spans-rise}
-use Rattle.cn_replace.specs.Replaced.{replaced, replaced_from, text_for}
+use Rattle.cn_replace.specs.Replaced.{replaced, replaced_from}
 use Rattle.cn_replace.proofs.Replacing.{parts-of}
 
 -- what is of the others is of all

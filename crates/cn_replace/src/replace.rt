@@ -47,6 +47,11 @@ pub fn put_replaced<S: Sink, R: Replacement>(
 /// A text with its expressions replaced: each by its new text where it has one, and all else as it
 /// stood.
 ///
+/// ```text
+/// // ByStar puts a star in place of each.
+/// replace_quantities(alloc, "共3.5万元", Wanted::EVERYDAY, ByStar) == Ok("共*元")
+/// ```
+///
 /// The error is running out of memory, which is asked for as the text grows.
 pub fn replace_quantities<R: Replacement>(
     alloc: Global,

@@ -11,7 +11,7 @@ pub trait Sink {
     // These bytes were put to it: what it was, and what it is.
     ghost took: { Self → Self → List ℕ → Type 0 };
 
-    /// Puts a piece behind those that were put.
+    /// Puts a piece behind those that were put. At an error nothing is said of what it holds.
     fn put(&mut self, piece: &str) -> Result<(), Self::Error>
         ensures { OnOk result (took self.old self.new piece.now) };
 

@@ -1,5 +1,5 @@
 // What is put in place of expressions by a replacement of one's own.
-ghost use Rattle.std.specs.Prelude.{◌++◌, codes, Some, None, if◌then◌else◌, nat_lt, length};
+ghost use Rattle.std.specs.Prelude.{codes, Some, None, if◌then◌else◌, nat_lt, length};
 
 use crate::{
     Included, Replacement, Sink, put_quantities_in_figures, quantities_to_figures,
@@ -10,27 +10,24 @@ use cn_find::{Found, Wanted};
 use std::test::Fail;
 
 #[derive(Copy, Clone)]
-struct InBrackets;
+struct ByStar;
 
-impl Replacement for InBrackets {
-    ghost new = { λ r span. if nat_lt 3 (length span.text)
-        then Some (codes "[" ++ span.text ++ codes "]") else None };
+impl Replacement for ByStar {
+    ghost new = { λ r span. if nat_lt 3 (length span.text) then Some (codes "*") else None };
 
     fn put_new<S: Sink>(self, found: Found<'_>, sink: &mut S) -> Result<bool, S::Error> {
         if found.text.len() <= 3 {
             return Ok(false);
         }
-        sink.put("[")?;
-        sink.put(found.text)?;
-        sink.put("]")?;
+        sink.put("*")?;
         Ok(true)
     }
 }
 
 #[test]
-fn replaces_in_brackets(rt: HostRuntime) -> Result<(), Fail> {
-    let new = replace_quantities(rt.alloc(), "共3.5万元,一般占12.5%", Wanted::EVERYDAY, InBrackets)?;
-    assert_eq!(rt; new.as_str(), "共[3.5万]元,一般占[12.5%]");
+fn replaces_by_stars(rt: HostRuntime) -> Result<(), Fail> {
+    let new = replace_quantities(rt.alloc(), "共3.5万元,一般占12.5%", Wanted::EVERYDAY, ByStar)?;
+    assert_eq!(rt; new.as_str(), "共*元,一般占*");
     Ok(())
 }
 
@@ -49,12 +46,12 @@ static IN_FIGURES: [(&str, &str, &str); 10] = [
     ("没有", "没有", "没有"),
 ];
 
-// How many bytes the text has in figures, and whether the room begins with what is expected.
-fn put<const N: usize>(text: &str, included: Included, expected: &str) -> (usize, bool) {
-    let mut room = [7; N];
+// Whether so many bytes are told of a text in figures, and a room begins with them that has a place
+// for them.
+fn puts(room: &mut [u8], text: &str, included: Included, expected: &str) -> bool {
     let method = ChineseCountMethod::TenThousand;
-    let count = put_quantities_in_figures(&mut room, text, Wanted::EVERYDAY, method, included);
-    (count, room.starts_with(expected.as_bytes()))
+    let count = put_quantities_in_figures(room, text, Wanted::EVERYDAY, method, included);
+    count == expected.len() && (count > room.len() || room.starts_with(expected.as_bytes()))
 }
 
 #[test]
@@ -68,8 +65,8 @@ fn puts_in_figures(rt: HostRuntime) -> Result<(), Fail> {
         for (included, expected) in [(Included::NONE, *some), (all, *every)] {
             let new = quantities_to_figures(rt.alloc(), text, Wanted::EVERYDAY, method, included)?;
             assert_eq!(rt; new.as_str(), expected);
-            assert!(rt; put::<24>(text, included, expected) == (expected.len(), true));
-            assert!(rt; put::<1>(text, included, expected).0 == expected.len());
+            assert!(rt; puts(&mut [7; 24], text, included, expected));
+            assert!(rt; puts(&mut [7], text, included, expected));
         }
     }
     Ok(())
