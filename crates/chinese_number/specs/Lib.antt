@@ -33,6 +33,12 @@ pub use Rattle.cn_date.specs.ErrorText as DateErrorText
 pub use Rattle.cn_date.specs.Form as DateForm
 pub use Rattle.cn_date.specs.Reading as DateReading
 pub use Rattle.cn_date.specs.Writes as DateWrites
+pub use Rattle.cn_express.specs.Digits as ExpressDigits
+pub use Rattle.cn_express.specs.ErrorText as ExpressErrorText
+pub use Rattle.cn_express.specs.Figures as ExpressFigures
+pub use Rattle.cn_express.specs.Numerals as ExpressNumerals
+pub use Rattle.cn_express.specs.ReadBack as ExpressReadBack
+pub use Rattle.cn_express.specs.Writes as ExpressWrites
 pub use Rattle.cn_find.specs.Belongs
 pub use Rattle.cn_find.specs.Expressions
 pub use Rattle.cn_find.specs.Flags
@@ -53,6 +59,7 @@ pub use Rattle.cn_quantity.specs.Figures as QuantityFigures
 pub use Rattle.cn_quantity.specs.Number as QuantityNumber
 pub use Rattle.cn_quantity.specs.Ratio as QuantityRatio
 pub use Rattle.cn_quantity.specs.Reading as QuantityReading
+pub use Rattle.cn_quantity.specs.Trimmed as QuantityTrimmed
 pub use Rattle.cn_quantity.specs.Units as QuantityUnits
 pub use Rattle.cn_quantity.specs.Whole as QuantityWhole
 pub use Rattle.cn_read.specs.Answer

@@ -1,5 +1,6 @@
 //! Chinese numerals, read and written, for the twelve integer types; quantities, as 3.5万 and
-//! 百分之五十, read exactly; amounts of money and dates in capitals; and the numbers of a running text.
+//! 百分之五十, read exactly, and written in numerals or in figures; amounts of money and dates in
+//! capitals; and the numbers of a running text.
 //!
 //! All that callers need has its name here; `laws` says what they can count on.
 #![tactic(auto)]
@@ -34,6 +35,13 @@ pub use cn_date::ChineseToDateError;
 pub use cn_date::DateToChineseError;
 pub use cn_date::chinese_to_date;
 pub use cn_date::date_to_chinese;
+pub use cn_express::MOST_FIGURES_BYTES;
+pub use cn_express::MOST_QUANTITY_BYTES;
+pub use cn_express::QuantityToChineseError;
+pub use cn_express::put_figures;
+pub use cn_express::put_quantity;
+pub use cn_express::quantity_to_chinese;
+pub use cn_express::quantity_to_figures;
 pub use cn_find::Found;
 pub use cn_find::NumberRule;
 pub use cn_find::Numbers;

@@ -1,12 +1,10 @@
 -- A written number, with decimals or without, is read as that number.
-use Rattle.std.proofs.Common.{◌≡◌, ℕ, zero, suc, ◌*◌, ◌/◌, ◌^◌, ◌<◌, pos, Bool, true, false, ◌&&◌, ◌==◌, nat_lt, is_none, is_some, List, [], ◌∷◌, ◌++◌, length, map, Some, None, Ok, refl, ap, ap₂, ◌∙◌, arith, if◌then◌else◌, append-nil}
+use Rattle.std.proofs.Common.{◌≡◌, ℕ, zero, suc, ◌*◌, ◌/◌, ◌^◌, ◌<◌, pos, Bool, true, false, ◌&&◌, nat_lt, is_none, is_some, List, [], ◌∷◌, ◌++◌, length, map, Some, None, Ok, refl, ap, ap₂, ◌∙◌, arith, if◌then◌else◌, append-nil}
 use Rattle.std.specs.Char.{is_ascii_digit}
 use Rattle.std.specs.List.{list_all}
-use Rattle.std.specs.Option.{option_map_or}
 use Rattle.std.proofs.lemmas.Bool.Decides.{nat_tests}
 use Rattle.std.proofs.Math.Nat.{div-le_self}
 use Rattle.cn_core.specs.declared.case.ChineseCase.{ChineseCase}
-use Rattle.cn_core.specs.declared.case.ChineseCase.TheVariants.{Upper, Lower}
 use Rattle.cn_core.specs.declared.method.ChineseCountMethod.{ChineseCountMethod}
 use Rattle.cn_core.specs.declared.script.ChineseVariant.{ChineseVariant}
 use Rattle.cn_core.specs.declared.script.ChineseVariant.TheVariants.{Traditional, Simple}
@@ -21,11 +19,12 @@ use Rattle.cn_core.proofs.Fronts.{and-left, and-right, both}
 use Rattle.cn_core.proofs.ReadBack.{spelling-is_numeral}
 use Rattle.cn_express.specs.Digits.{behind_point, last_digits}
 use Rattle.cn_express.specs.Numerals.{decimal_text, magnitude_text, point_char}
-use Rattle.cn_express.proofs.Cuts.{lacks, marks-lack, point-at}
+use Rattle.cn_express.proofs.BareTexts.{bare-text, is_bare, mark-bare, marks-bare}
+use Rattle.cn_express.proofs.Cuts.{marks-lack, point-at}
 use Rattle.cn_express.proofs.DigitTexts.{WritesDigits, WritesDigits-each, are_digits, digits-alone, digits-all, last-count, last-digits, last-read, no-factors}
 use Rattle.cn_express.proofs.LastMarks.{spelled-ended}
-use Rattle.cn_express.proofs.SpelledNumbers.{BeginsNumber, BeginsNumber-marks, mark_read, printed-known, spelled-whole}
-use Rattle.cn_express.proofs.WrittenTexts.{IsText, IsText-back}
+use Rattle.cn_express.proofs.SpelledNumbers.{BeginsNumber, BeginsNumber-marks, digits_written, mark_read, printed-known, spelled-whole}
+use Rattle.cn_express.proofs.WrittenTexts.{IsText}
 use Rattle.cn_quantity.specs.declared.characters.DigitKind.TheVariants.{Chinese, Figure}
 use Rattle.cn_quantity.specs.Answer.{and_then}
 use Rattle.cn_quantity.specs.Characters.{chinese_digit_of, is_fen, is_percent, is_point}
@@ -36,7 +35,7 @@ use Rattle.cn_quantity.specs.Number.{decimal_of, number_answer, part_answer, who
 use Rattle.cn_quantity.specs.Units.{are_rising_units, times_units}
 use Rattle.cn_quantity.proofs.Numbers.{a-decimal}
 use Rattle.cn_quantity.proofs.Today.{and-none, are_marks, digit-mark, digit-no_unit, no-point, number-whole}
-use Rattle.cn_spell.proofs.Printed.{IsReadBack-marks, each_below, is_printed}
+use Rattle.cn_spell.proofs.Printed.{IsReadBack-marks, is_printed}
 use Rattle.cn_spell.proofs.SpelledMarks.{below_square, spelling-printed}
 
 -- what a written spelling is like
@@ -68,10 +67,12 @@ IsSpelled-magnitude variant case method number small printable =
     let printed = spelling-printed method number square in
     let back = IsReadBack-marks variant case marks printed in
     let numeral = spelling-is_numeral method number square in
+    let known = printed-marks variant case marks printed in
     record {
-      written = IsText-back (map (mark_char variant case) marks) marks back;
+      written = bare-text (map (mark_char variant case) marks)
+          (marks-bare (map (mark_char variant case) marks) known);
       same = back.marks_same;
-      marks = printed-marks variant case marks printed;
+      marks = known;
       whole = spelled-whole method number (map (mark_char variant case) marks) small square
           back.marks_same;
       begins = BeginsNumber-marks variant case marks printed
@@ -117,15 +118,6 @@ part-whole method number text s =
     rw append-nil at (part-number method text [] s.begins) ∙ whole-read method number text s
 
 -- the digits behind a point
-digits_written : (variant : ChineseVariant) (case : ChineseCase)
-    → each_below (λ value. option_map_or (λ read. read == value)
-    (chinese_digit_of (digit_char variant case value)) false) 10 ≡ true
-unfolding digit_char chinese_digit_of digit_of
-digits_written Traditional Upper = refl
-digits_written Traditional Lower = refl
-digits_written Simple Upper = refl
-digits_written Simple Lower = refl
-
 pub WritesDigits-chinese : (variant : ChineseVariant) (case : ChineseCase)
     → WritesDigits Chinese (digit_char variant case)
 WritesDigits-chinese variant case =
@@ -137,20 +129,10 @@ unfolding is_point
 point_is Traditional = refl
 point_is Simple = refl
 
-pub point-no_fen : (variant : ChineseVariant) → lacks is_fen (point_char variant ∷ []) ≡ true
-unfolding is_fen
-point-no_fen Traditional = refl
-point-no_fen Simple = refl
-
-pub point-no_percent : (variant : ChineseVariant)
-    → lacks is_percent (point_char variant ∷ []) ≡ true
-unfolding is_percent
-point-no_percent Traditional = refl
-point-no_percent Simple = refl
-
-pub IsText-point : (variant : ChineseVariant) → IsText (point_char variant ∷ [])
-IsText-point Traditional = record { scalars = refl; kept = refl }
-IsText-point Simple = record { scalars = refl; kept = refl }
+pub point_bare : (variant : ChineseVariant) → is_bare (point_char variant) ≡ true
+unfolding is_bare is_fen is_percent
+point_bare Traditional = refl
+point_bare Simple = refl
 
 -- digits behind a point hold no unit
 chinese-digit : (c value : ℕ) → chinese_digit_of c ≡ Some value → digit_of c ≡ Some value
@@ -163,13 +145,9 @@ chinese-digit c value h = by (is_ascii_digit c) h where
 chinese-no_unit : (c value : ℕ) → chinese_digit_of c ≡ Some value → is_none (rank_of c) ≡ true
 chinese-no_unit c value is = ap is_none (digit-no_unit c value (chinese-digit c value is))
 
-chinese-mark : (c value : ℕ) → chinese_digit_of c ≡ Some value
-    → is_digit_or_unit (mark_of c) ≡ true
-chinese-mark c value is = ap is_digit_or_unit (digit-mark c value (chinese-digit c value is))
-
-pub chinese-marks : (text : List ℕ) → are_digits Chinese text ≡ true → are_marks text ≡ true
-chinese-marks text all =
-    digits-all Chinese (λ c. is_digit_or_unit (mark_of c)) chinese-mark text all
+pub chinese-bare : (c value : ℕ) → chinese_digit_of c ≡ Some value → is_bare c ≡ true
+chinese-bare c value is =
+    mark-bare c (ap is_digit_or_unit (digit-mark c value (chinese-digit c value is)))
 
 -- what decimals are read as
 pub decimals-read : (method : ChineseCountMethod) (variant : ChineseVariant) (case : ChineseCase)

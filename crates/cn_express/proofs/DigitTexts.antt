@@ -13,7 +13,7 @@ use Rattle.cn_quantity.specs.Characters.{digit_by}
 use Rattle.cn_quantity.specs.Digits.{after_digits, begins_with_digit, is_digit, leading_digits, read_on}
 use Rattle.cn_quantity.specs.Units.{times_units}
 use Rattle.cn_quantity.proofs.Today.{times-digit}
-use Rattle.cn_spell.proofs.Printed.{each_below, each_below-at}
+use Rattle.cn_spell.proofs.Printed.{each_below, each_below-at, none_from_is_none}
 
 -- digits of this kind alone
 abbrev pub are_digits : DigitKind → List ℕ → Bool
@@ -126,10 +126,6 @@ last-read kind character (suc count) number writes =
 abbrev pub has_no_units : List ℕ → Bool
 has_no_units text = list_all (λ c. is_none (rank_of c)) text
 
-none-is : (o : Option ℕ) → is_none o ≡ true → o ≡ None
-none-is None h = refl
-none-is (Some value) h = cc
-
 -- without units a number stays as it is
 pub no-factors : (method : ChineseCountMethod) (number : ℕ) (text : List ℕ)
     → has_no_units text ≡ true → number < 2 ^ 128 → times_units method number text ≡ Some number
@@ -137,6 +133,6 @@ no-factors method number [] none small =
     let test : nat_lt number (2 ^ 128) ≡ true = grind (arith, nat_tests, small) in rw test
 no-factors method number (c ∷ rest) none small =
     times-digit method number c rest
-    (none-is (rank_of c) (and-left (is_none (rank_of c)) (has_no_units rest) none))
+    (none_from_is_none (rank_of c) (and-left (is_none (rank_of c)) (has_no_units rest) none))
     ∙ no-factors method number rest
     (and-right (is_none (rank_of c)) (has_no_units rest) none) small

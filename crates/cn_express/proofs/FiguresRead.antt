@@ -1,9 +1,7 @@
 -- A quantity in figures is read as that quantity.
-use Rattle.std.proofs.Common.{◌≡◌, ℕ, zero, suc, ◌+◌, ◌*◌, ◌/◌, ◌%◌, ◌^◌, ◌<◌, ◌≤◌, pos, int_lt, nat_abs, Bool, true, false, not, ◌&&◌, ◌==◌, nat_lt, is_none, is_some, List, [], ◌∷◌, ◌++◌, length, map, codes, decimal, encode_utf8_all, slice_index, Option, Some, None, Ok, refl, sym, ap, ap₂, ◌∙◌, arith, if◌then◌else◌, append-nil, length-append}
-use Rattle.std.specs.Char.{is_not_whitespace}
+use Rattle.std.proofs.Common.{◌≡◌, ℕ, zero, suc, ◌+◌, ◌*◌, ◌/◌, ◌%◌, ◌^◌, ◌<◌, ◌≤◌, pos, int_lt, nat_abs, Bool, true, false, ◌==◌, nat_lt, is_none, is_some, List, [], ◌∷◌, ◌++◌, length, map, codes, decimal, encode_utf8_all, slice_index, Some, None, Ok, refl, sym, ap, ap₂, ◌∙◌, arith, if◌then◌else◌, append-nil, length-append}
 use Rattle.std.specs.List.{list_all}
 use Rattle.std.specs.Option.{option_map_or}
-use Rattle.std.specs.Str.{all_scalars}
 use Rattle.std.proofs.lemmas.Bool.Decides.{nat_tests}
 use Rattle.std.proofs.lemmas.Fmt.{IsAscii-decimal_wide, decimal_by_steps_wide}
 use Rattle.std.proofs.lemmas.List.Folds.{list_all-append}
@@ -12,20 +10,20 @@ use Rattle.std.proofs.lemmas.Str.{IsAscii-append, encodes-IsAscii}
 use Rattle.std.proofs.lemmas.Str.Ascii.{IsAscii-nil}
 use Rattle.std.proofs.Math.Nat.{div-add-mod', div-le_self}
 use Rattle.cn_core.specs.declared.method.ChineseCountMethod.{ChineseCountMethod}
-use Rattle.cn_core.specs.declared.sign.Sign.{Sign}
 use Rattle.cn_core.specs.declared.sign.Sign.TheVariants.{Minus}
 use Rattle.cn_core.specs.Characters.{rank_of}
 use Rattle.cn_core.specs.Whole.{holds, signed_kind}
-use Rattle.cn_core.proofs.Fronts.{and-left, and-right, both}
+use Rattle.cn_core.proofs.Fronts.{and-left, both}
 use Rattle.cn_express.specs.Digits.{behind_point, last_digits}
 use Rattle.cn_express.specs.Figures.{figure_char, figures_of, figures_with, percent_sign, unsigned_figures}
+use Rattle.cn_express.proofs.BareTexts.{bare-append, bare-no_fen, bare-text, behind-bare, is_bare}
 use Rattle.cn_express.proofs.Cuts.{lacks, lacks-append}
 use Rattle.cn_express.proofs.DigitTexts.{WritesDigits, WritesDigits-each, are_digits, digits-all, digits-alone, digits-lead, has_no_units, last-count, last-digits, last-read, no-factors, read-digit, read_on-append}
 use Rattle.cn_express.proofs.KnownDecimals.{over-is}
 use Rattle.cn_express.proofs.NumberTexts.{IsNumberText, IsUnsigned-decimal, IsUnsigned-whole}
 use Rattle.cn_express.proofs.Ratios.{percent-ratio, ratio-fits}
 use Rattle.cn_express.proofs.SignedTexts.{IsUnsigned, magnitude-fits, signed-read}
-use Rattle.cn_express.proofs.WrittenTexts.{IsText, IsText-append, IsText-nil}
+use Rattle.cn_express.proofs.WrittenTexts.{IsText, IsText-append}
 use Rattle.cn_judge.proofs.Walking.{rows_have}
 use Rattle.cn_quantity.specs.declared.characters.DigitKind.TheVariants.{Figure}
 use Rattle.cn_quantity.specs.declared.quantity.Quantity.{Quantity}
@@ -39,7 +37,7 @@ use Rattle.cn_quantity.specs.Reading.{leading_sign, quantity_answer}
 use Rattle.cn_quantity.specs.Trimmed.{decimals_in, decimals_of as decimals_of_quantity}
 use Rattle.cn_quantity.specs.Units.{times_units}
 use Rattle.cn_quantity.proofs.Numbers.{in-figures}
-use Rattle.cn_spell.proofs.Printed.{each_below}
+use Rattle.cn_spell.proofs.Printed.{each_below, none_from_is_none}
 
 -- what each figure has
 figure-has : (test : ℕ → Bool) → list_all (list_all test) figure_rows ≡ true → (c value : ℕ)
@@ -51,38 +49,13 @@ figures-have : (test : ℕ → Bool) → list_all (list_all test) figure_rows �
     → (text : List ℕ) → are_digits Figure text ≡ true → list_all test text ≡ true
 figures-have test all text figures = digits-all Figure test (figure-has test all) text figures
 
--- figures are characters, and no white space
-is_dark : ℕ → Bool
-is_dark c = all_scalars (c ∷ []) && is_not_whitespace c
-
-IsText-each : (text : List ℕ) → list_all is_dark text ≡ true → IsText text
-unfolding is_dark
-IsText-each [] h = IsText-nil
-IsText-each (c ∷ rest) h =
-    let one = and-left (is_dark c) (list_all is_dark rest) h in
-    IsText-append (c ∷ []) rest (record {
-      scalars = and-left (all_scalars (c ∷ [])) (is_not_whitespace c) one;
-      kept = ap (λ b. if b then c ∷ [] else [])
-          (and-right (all_scalars (c ∷ [])) (is_not_whitespace c) one);
-    })
-    (IsText-each rest (and-right (is_dark c) (list_all is_dark rest) h))
-
-figures-text : (text : List ℕ) → are_digits Figure text ≡ true → IsText text
-unfolding is_dark
-figures-text text figures = IsText-each text (figures-have is_dark refl text figures)
+figure-bare : (c value : ℕ) → figure_of c ≡ Some value → is_bare c ≡ true
+unfolding is_bare is_fen is_percent
+figure-bare c value is = figure-has is_bare refl c value is
 
 figures-no_units : (text : List ℕ) → are_digits Figure text ≡ true → has_no_units text ≡ true
 unfolding rank_of
 figures-no_units text figures = figures-have (λ c. is_none (rank_of c)) refl text figures
-
-figures-no_fen : (text : List ℕ) → are_digits Figure text ≡ true → lacks is_fen text ≡ true
-unfolding is_fen
-figures-no_fen text figures = figures-have (λ c. not (is_fen c)) refl text figures
-
-figures-no_percent : (text : List ℕ) → are_digits Figure text ≡ true
-    → lacks is_percent text ≡ true
-unfolding is_percent
-figures-no_percent text figures = figures-have (λ c. not (is_percent c)) refl text figures
 
 figures-signless : (text : List ℕ) → are_digits Figure text ≡ true
     → list_all (λ c. is_none (sign_of c)) text ≡ true
@@ -93,11 +66,8 @@ figures-no_sign : (text more : List ℕ) → are_digits Figure text ≡ true →
     → leading_sign (text ++ more) ≡ None
 figures-no_sign [] more figures some = absurd (omega (arith, some))
 figures-no_sign (c ∷ rest) more figures some =
-    none-is (sign_of c) (and-left (is_none (sign_of c)) _ (figures-signless (c ∷ rest) figures))
-  where
-    none-is : (s : Option Sign) → is_none s ≡ true → s ≡ None
-    none-is None h = refl
-    none-is (Some sign) h = cc
+    none_from_is_none (sign_of c)
+    (and-left (is_none (sign_of c)) _ (figures-signless (c ∷ rest) figures))
 
 -- the digits that are written
 figures_written : each_below (λ value. option_map_or (λ read. read == value)
@@ -143,9 +113,6 @@ IsDecimal-written number small =
 
 -- what stands behind the whole part
 record IsBehind (count number : ℕ) (text : List ℕ) : Type 0 where
-  written : IsText text
-  no_fen : lacks is_fen text ≡ true
-  no_percent : lacks is_percent text ≡ true
   no_units : has_no_units text ≡ true
   no_digit : begins_with_digit Figure text ≡ false
   no_groups : after_groups text ≡ text
@@ -161,20 +128,16 @@ groups-none c (x ∷ y ∷ z ∷ rest) none = rw none
 
 -- the point
 record IsPoint (c : ℕ) : Type 0 where
-  written : IsText (c ∷ [])
-  no_fen : lacks is_fen (c ∷ []) ≡ true
-  no_percent : lacks is_percent (c ∷ []) ≡ true
+  bare : is_bare c ≡ true
   no_unit : has_no_units (c ∷ []) ≡ true
   no_figure : figure_of c ≡ None
   no_comma : is_comma c ≡ false
   point : is_point Figure c ≡ true
 
 IsPoint-ascii : IsPoint (slice_index (codes ".") 0)
-unfolding is_fen is_percent rank_of figure_of is_comma is_point
+unfolding is_bare is_fen is_percent rank_of figure_of is_comma is_point
 IsPoint-ascii = record {
-  written = record { scalars = refl; kept = refl };
-  no_fen = refl;
-  no_percent = refl;
+  bare = refl;
   no_unit = refl;
   no_figure = refl;
   no_comma = refl;
@@ -184,10 +147,6 @@ IsPoint-ascii = record {
 IsBehind-point : (count number c : ℕ) → 0 < count → IsPoint c
     → IsBehind count number (c ∷ map figure_char (last_digits count number))
 IsBehind-point count number c some p = record {
-  written = IsText-append (c ∷ []) digits p.written (figures-text digits figures);
-  no_fen = lacks-append is_fen (c ∷ []) digits p.no_fen (figures-no_fen digits figures);
-  no_percent = lacks-append is_percent (c ∷ []) digits p.no_percent
-      (figures-no_percent digits figures);
   no_units = both (is_none (rank_of c)) _ (and-left (is_none (rank_of c)) true p.no_unit)
       (figures-no_units digits figures);
   no_digit = ap is_some p.no_figure;
@@ -218,9 +177,6 @@ IsBehind-point count number c some p = record {
 IsBehind-written : (count number : ℕ)
     → IsBehind count number (behind_point (slice_index (codes ".") 0) figure_char count number)
 IsBehind-written zero number = record {
-  written = IsText-nil;
-  no_fen = refl;
-  no_percent = refl;
   no_units = refl;
   no_digit = refl;
   no_groups = refl;
@@ -277,10 +233,9 @@ IsNumberText-figures method count number small =
     let some = f.some in (
       omega (arith, some, length-append front behind),
       record {
-        written = IsText-append front behind (figures-text front f.figures) b.written;
-        no_fen = lacks-append is_fen front behind (figures-no_fen front f.figures) b.no_fen;
-        no_percent = lacks-append is_percent front behind (figures-no_percent front f.figures)
-            b.no_percent;
+        bare = bare-append front behind (digits-all Figure is_bare figure-bare front f.figures)
+            (behind-bare Figure (slice_index (codes ".") 0) figure_char count number
+            IsPoint-ascii.bare WritesDigits-figures figure-bare);
         no_sign = figures-no_sign front behind f.figures f.some;
         read = figures-number method count number front behind f b small;
       },
@@ -308,11 +263,12 @@ IsUnsigned-percent : (method : ChineseCountMethod) (number decimals denominator 
     (record { numerator = number; denominator = denominator; form = Percent })
     (text ++ codes "%")
 IsUnsigned-percent method number decimals denominator text some n is small = record {
-  written = IsText-append text (codes "%") n.written IsText-percent;
+  written = IsText-append text (codes "%") (bare-text text n.bare) IsText-percent;
   no_sign = sign-front text (codes "%") some ∙ n.no_sign;
   read = percent-ratio method (record { number = number; decimals = decimals })
       (slice_index (codes "%") 0) text
-      (lacks-append is_fen text (codes "%") n.no_fen (percent-is.1)) (percent-is.0) some n.read
+      (lacks-append is_fen text (codes "%") (bare-no_fen text n.bare) (percent-is.1))
+      (percent-is.0) some n.read
       ∙ ratio-fits 100 number decimals denominator Percent
       (over-is 100 denominator decimals is) small;
 }

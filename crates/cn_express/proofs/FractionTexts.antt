@@ -22,7 +22,6 @@ use Rattle.cn_core.proofs.ReadBack.{spelling-is_numeral}
 use Rattle.cn_express.specs.Numerals.{divisor_text, stand_alone, without_front}
 use Rattle.cn_express.proofs.DecimalTexts.{IsSpelled, IsSpelled-magnitude, part-whole, printed-marks}
 use Rattle.cn_express.proofs.SpelledNumbers.{mark_read}
-use Rattle.cn_express.proofs.WrittenTexts.{IsText, IsText-back}
 use Rattle.cn_quantity.specs.Answer.{and_then}
 use Rattle.cn_quantity.specs.Characters.{sign_of}
 use Rattle.cn_quantity.specs.Number.{decimal_of, divisor_answer, is_divisor, number_answer, part_answer}
@@ -35,7 +34,6 @@ use Rattle.cn_spell.proofs.SpelledMarks.{below_square, spelling-fits, spelling-p
 -- what a written divisor is like
 pub record IsDivisorText (method : ChineseCountMethod) (divisor : ℕ)
     (text : List ℕ) : Type 0 where
-  pub written : IsText text
   pub marks : are_marks text ≡ true
   pub some : 0 < length text
   pub no_sign : (more : List ℕ) → leading_sign (text ++ more) ≡ None
@@ -45,7 +43,6 @@ pub record IsDivisorText (method : ChineseCountMethod) (divisor : ℕ)
 IsDivisorText-spelled : (method : ChineseCountMethod) (divisor : ℕ) (text : List ℕ)
     → IsSpelled method divisor text → IsDivisorText method divisor text
 IsDivisorText-spelled method divisor text s = record {
-  written = s.written;
   marks = s.marks;
   some = filled;
   no_sign = λ more. ap (λ l. leading_sign (l ++ more)) s.begins.parts ∙ s.begins.no_sign;
@@ -107,7 +104,6 @@ IsDivisorText-alone : (variant : ChineseVariant) (case : ChineseCase) (method : 
     → stand_alone (map (mark_char variant case) marks) ≡ true
     → IsDivisorText method divisor (map (mark_char variant case) marks)
 IsDivisorText-alone variant case method divisor marks small square spelled printed alone = record {
-  written = IsText-back text marks back;
   marks = known;
   some = some;
   no_sign = λ more. alone-no_sign text more known alone;

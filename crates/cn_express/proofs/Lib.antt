@@ -1,3 +1,4 @@
+pub mod BareTexts
 pub mod Bytes
 pub mod Cuts
 pub mod DecimalTexts

@@ -1,15 +1,13 @@
 -- A text that is a number by itself is read as a whole number or a decimal.
 use Rattle.std.proofs.Common.{◌≡◌, ℕ, zero, suc, ◌^◌, ◌<◌, true, List, None, Some, Ok, refl, sym, ap, ◌∙◌, arith}
 use Rattle.cn_core.specs.declared.method.ChineseCountMethod.{ChineseCountMethod}
-use Rattle.cn_express.proofs.Cuts.{lacks}
+use Rattle.cn_express.proofs.BareTexts.{are_bare, bare-no_fen, bare-no_percent, bare-text}
 use Rattle.cn_express.proofs.KnownDecimals.{decimal-is, whole-is}
 use Rattle.cn_express.proofs.Ratios.{number-ratio, ratio-fits}
 use Rattle.cn_express.proofs.SignedTexts.{IsUnsigned}
-use Rattle.cn_express.proofs.WrittenTexts.{IsText}
 use Rattle.cn_quantity.specs.declared.number.Decimal.{Decimal as DecimalNumber}
 use Rattle.cn_quantity.specs.declared.quantity.QuantityForm.{QuantityForm}
 use Rattle.cn_quantity.specs.declared.quantity.QuantityForm.TheVariants.{Whole, Decimal}
-use Rattle.cn_quantity.specs.Characters.{is_fen, is_percent}
 use Rattle.cn_quantity.specs.Number.{number_answer}
 use Rattle.cn_quantity.specs.Ratio.{form_of}
 use Rattle.cn_quantity.specs.Reading.{leading_sign}
@@ -18,9 +16,7 @@ use Rattle.cn_quantity.specs.Trimmed.{decimals_in}
 -- what a written number with decimals is like
 pub record IsNumberText (method : ChineseCountMethod) (decimal : DecimalNumber)
     (text : List ℕ) : Type 0 where
-  pub written : IsText text
-  pub no_fen : lacks is_fen text ≡ true
-  pub no_percent : lacks is_percent text ≡ true
+  pub bare : are_bare text ≡ true
   pub no_sign : leading_sign text ≡ None
   pub read : number_answer method text ≡ Ok decimal
 
@@ -31,10 +27,10 @@ IsUnsigned-number : (method : ChineseCountMethod) (number decimals denominator :
     → IsUnsigned method
     (record { numerator = number; denominator = denominator; form = form }) text
 IsUnsigned-number method number decimals denominator form text n form_is is small = record {
-  written = n.written;
+  written = bare-text text n.bare;
   no_sign = n.no_sign;
-  read = number-ratio method (record { number = number; decimals = decimals }) text n.no_fen
-      n.no_percent n.read
+  read = number-ratio method (record { number = number; decimals = decimals }) text
+      (bare-no_fen text n.bare) (bare-no_percent text n.bare) n.read
       ∙ ratio-fits 1 number decimals denominator (form_of decimals) (omega (arith, is)) small
       ∙ ap (λ form. Ok (record {
         numerator = number;

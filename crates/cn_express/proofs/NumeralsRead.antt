@@ -1,8 +1,7 @@
 -- A quantity in numerals is read as that quantity.
-use Rattle.std.proofs.Common.{◌≡◌, ℕ, zero, suc, ◌*◌, ◌/◌, ◌%◌, ◌^◌, ◌<◌, pos, int_lt, nat_abs, true, List, [], ◌∷◌, ◌++◌, length, map, encode_utf8_all, Option, Some, None, Ok, refl, ap, subst, ◌∙◌, arith, length-append}
+use Rattle.std.proofs.Common.{◌≡◌, ℕ, ◌*◌, ◌/◌, ◌^◌, ◌<◌, pos, int_lt, nat_abs, true, List, [], ◌∷◌, ◌++◌, length, map, encode_utf8_all, Option, Some, None, Ok, refl, ap, subst, ◌∙◌, arith, length-append}
 use Rattle.std.specs.List.{list_all}
 use Rattle.std.specs.Option.{option_map_or}
-use Rattle.std.proofs.lemmas.Bool.Decides.{nat_tests}
 use Rattle.std.proofs.Math.Nat.{div-le_self}
 use Rattle.cn_core.specs.declared.case.ChineseCase.{ChineseCase}
 use Rattle.cn_core.specs.declared.case.ChineseCase.TheVariants.{Upper, Lower}
@@ -12,100 +11,47 @@ use Rattle.cn_core.specs.declared.script.ChineseVariant.{ChineseVariant}
 use Rattle.cn_core.specs.declared.script.ChineseVariant.TheVariants.{Traditional, Simple}
 use Rattle.cn_core.specs.declared.sign.Sign.TheVariants.{Minus}
 use Rattle.cn_core.specs.Characters.{digit_char, minus_char, rank_of, unit_char}
-use Rattle.cn_core.specs.Mark.{digit}
-use Rattle.cn_core.specs.Printing.{is_printable}
+use Rattle.cn_core.specs.Mark.{digit, unit}
+use Rattle.cn_core.specs.Printing.{is_printable, mark_char}
+use Rattle.cn_core.specs.Spelling.{spelling}
 use Rattle.cn_core.specs.Whole.{holds, signed_kind}
 use Rattle.cn_core.proofs.Fronts.{and-left, and-right}
-use Rattle.cn_express.specs.Digits.{behind_point, last_digits}
-use Rattle.cn_express.specs.Numerals.{bar, decimal_text, divisor_text, fraction_text, hundredths, is_written_by, magnitude_text, point_char, quantity_text, unsigned_text}
+use Rattle.cn_express.specs.Digits.{behind_point}
+use Rattle.cn_express.specs.Numerals.{bar, decimal_text, divisor_text, fraction_text, hundredths, is_written_by, magnitude_text, point_char, quantity_text, unsigned_text, without_front}
 use Rattle.cn_express.specs.ReadBack.{form_read_back, form_with_decimals}
-use Rattle.cn_express.proofs.Cuts.{lacks, lacks-append, marks-lack}
-use Rattle.cn_express.proofs.DecimalTexts.{IsSpelled, IsSpelled-magnitude, IsText-point, WritesDigits-chinese, chinese-marks, decimal-read, part-number, part-whole, point-no_fen, point-no_percent}
-use Rattle.cn_express.proofs.DigitTexts.{last-digits}
+use Rattle.cn_express.proofs.BareTexts.{bare-append, bare-no_fen, bare-text, behind-bare, marks-bare}
+use Rattle.cn_express.proofs.DecimalTexts.{IsSpelled-magnitude, WritesDigits-chinese, chinese-bare, decimal-read, part-number, part-whole, point_bare}
 use Rattle.cn_express.proofs.FractionTexts.{IsDivisorText, IsDivisorText-written, divisor-answered}
 use Rattle.cn_express.proofs.KnownDecimals.{over-is}
 use Rattle.cn_express.proofs.NumberTexts.{IsNumberText, IsUnsigned-decimal, IsUnsigned-whole}
 use Rattle.cn_express.proofs.Ratios.{fraction-ratio, ratio-fits}
 use Rattle.cn_express.proofs.SignedTexts.{IsUnsigned, magnitude-fits, sign-text, signed-read}
-use Rattle.cn_express.proofs.WrittenTexts.{IsText, IsText-append, IsText-back, IsText-nil}
+use Rattle.cn_express.proofs.WrittenTexts.{IsText, IsText-append}
 use Rattle.cn_quantity.specs.declared.characters.DigitKind.TheVariants.{Chinese}
 use Rattle.cn_quantity.specs.declared.quantity.Quantity.{Quantity}
 use Rattle.cn_quantity.specs.declared.quantity.QuantityForm.{QuantityForm}
 use Rattle.cn_quantity.specs.declared.quantity.QuantityForm.TheVariants.{Whole, Decimal, Percent, Fraction}
-use Rattle.cn_quantity.specs.Characters.{is_fen, is_percent, sign_of}
+use Rattle.cn_quantity.specs.Characters.{sign_of}
 use Rattle.cn_quantity.specs.Number.{part_answer}
 use Rattle.cn_quantity.specs.Reading.{leading_sign, quantity_answer}
 use Rattle.cn_quantity.specs.Trimmed.{decimals_in, decimals_of}
-use Rattle.cn_quantity.proofs.Today.{are_marks, no-fen, no-percent}
-use Rattle.cn_spell.proofs.Printed.{IsReadBack-marks}
-
--- what stands behind the whole part
-record IsBehind (text : List ℕ) : Type 0 where
-  written : IsText text
-  no_fen : lacks is_fen text ≡ true
-  no_percent : lacks is_percent text ≡ true
-
-one-digit : (variant : ChineseVariant) (case : ChineseCase) (value : ℕ) → value < 10
-    → IsText (digit_char variant case value ∷ [])
-one-digit variant case value low =
-    IsText-back (digit_char variant case value ∷ []) (digit value ∷ [])
-    (IsReadBack-marks variant case (digit value ∷ []) (grind (arith, nat_tests, low)))
-
-digits-text : (variant : ChineseVariant) (case : ChineseCase) (count number : ℕ)
-    → IsText (map (digit_char variant case) (last_digits count number))
-digits-text variant case zero number = IsText-nil
-digits-text variant case (suc count) number =
-    IsText-append (digit_char variant case (number / 10 ^ count % 10) ∷ [])
-    (map (digit_char variant case) (last_digits count number))
-    (one-digit variant case (number / 10 ^ count % 10) (omega arith))
-    (digits-text variant case count number)
-
-IsBehind-written : (variant : ChineseVariant) (case : ChineseCase) (count number : ℕ)
-    → IsBehind (behind_point (point_char variant) (digit_char variant case) count number)
-IsBehind-written variant case zero number =
-    record { written = IsText-nil; no_fen = refl; no_percent = refl }
-IsBehind-written variant case (suc count) number = record {
-  written = IsText-append (point_char variant ∷ []) digits (IsText-point variant)
-      (digits-text variant case (suc count) number);
-  no_fen = lacks-append is_fen (point_char variant ∷ []) digits (point-no_fen variant)
-      (marks-lack is_fen no-fen digits marks);
-  no_percent = lacks-append is_percent (point_char variant ∷ []) digits
-      (point-no_percent variant) (marks-lack is_percent no-percent digits marks);
-} where
-  digits : List ℕ
-  digits = map (digit_char variant case) (last_digits (suc count) number)
-
-  marks : are_marks (map (digit_char variant case) (last_digits (suc count) number)) ≡ true
-  marks = chinese-marks (map (digit_char variant case) (last_digits (suc count) number))
-      (last-digits Chinese (digit_char variant case) (suc count) number
-      (WritesDigits-chinese variant case))
 
 IsNumberText-decimal : (variant : ChineseVariant) (case : ChineseCase)
     (method : ChineseCountMethod) (count number : ℕ) → number < 2 ^ 128
     → is_printable method (pos (number / 10 ^ count)) ≡ true
     → IsNumberText method (record { number = number; decimals = count })
     (decimal_text variant case method count number)
-IsNumberText-decimal variant case method count number small printable = record {
-  written = IsText-append front behind s.written b.written;
-  no_fen = lacks-append is_fen front behind (marks-lack is_fen no-fen front s.marks) b.no_fen;
-  no_percent = lacks-append is_percent front behind
-      (marks-lack is_percent no-percent front s.marks) b.no_percent;
-  no_sign = ap (λ l. leading_sign (l ++ behind)) s.begins.parts ∙ s.begins.no_sign;
-  read = decimal-read method variant case count number small printable;
-} where
-  front : List ℕ
-  front = magnitude_text variant case method (number / 10 ^ count)
-
-  behind : List ℕ
-  behind = behind_point (point_char variant) (digit_char variant case) count number
-
-  s : IsSpelled method (number / 10 ^ count)
-      (magnitude_text variant case method (number / 10 ^ count))
-  s = IsSpelled-magnitude variant case method (number / 10 ^ count)
-      (omega (arith, small, div-le_self number (10 ^ count))) printable
-
-  b : IsBehind (behind_point (point_char variant) (digit_char variant case) count number)
-  b = IsBehind-written variant case count number
+IsNumberText-decimal variant case method count number small printable =
+    let front = magnitude_text variant case method (number / 10 ^ count) in
+    let behind = behind_point (point_char variant) (digit_char variant case) count number in
+    let s = IsSpelled-magnitude variant case method (number / 10 ^ count)
+    (omega (arith, small, div-le_self number (10 ^ count))) printable in record {
+      bare = bare-append front behind (marks-bare front s.marks)
+          (behind-bare Chinese (point_char variant) (digit_char variant case) count number
+          (point_bare variant) (WritesDigits-chinese variant case) chinese-bare);
+      no_sign = ap (λ l. leading_sign (l ++ behind)) s.begins.parts ∙ s.begins.no_sign;
+      read = decimal-read method variant case count number small printable;
+    }
 
 -- of a fraction too
 decimal-part : (variant : ChineseVariant) (case : ChineseCase) (method : ChineseCountMethod)
@@ -140,35 +86,30 @@ IsUnsigned-fraction : (method : ChineseCountMethod)
     (before ++ (bar ++ after))
 IsUnsigned-fraction method divisor number decimals denominator before after d written some part
     above is small = record {
-      written = IsText-append before (bar ++ after) d.written
+      written = IsText-append before (bar ++ after) (bare-text before (marks-bare before d.marks))
           (IsText-append bar after IsText-bar written);
       no_sign = d.no_sign (bar ++ after);
       read = fraction-ratio method divisor (record { number = number; decimals = decimals })
-          before after (marks-lack is_fen no-fen before d.marks) d.some some
+          before after (bare-no_fen before (marks-bare before d.marks)) d.some some
           (divisor-answered method divisor before above d.read) part
           ∙ ratio-fits divisor number decimals denominator Fraction is small;
     }
 
 -- 百
-hundred-text : (variant : ChineseVariant) (case : ChineseCase) (method : ChineseCountMethod)
-    → divisor_text variant case method 100 ≡ unit_char variant case 2 ∷ []
+hundred-marks : (method : ChineseCountMethod) → spelling method 100 ≡ digit 1 ∷ unit 2 ∷ []
+hundred-marks Low = refl
+hundred-marks TenThousand = refl
+hundred-marks Middle = refl
+hundred-marks High = refl
+
+hundred-alone : (variant : ChineseVariant) (case : ChineseCase)
+    → without_front (digit_char variant case 1) (map (mark_char variant case)
+    (digit 1 ∷ unit 2 ∷ [])) ≡ unit_char variant case 2 ∷ []
 unfolding digit_char unit_char rank_of
-hundred-text Traditional Upper Low = refl
-hundred-text Traditional Upper TenThousand = refl
-hundred-text Traditional Upper Middle = refl
-hundred-text Traditional Upper High = refl
-hundred-text Traditional Lower Low = refl
-hundred-text Traditional Lower TenThousand = refl
-hundred-text Traditional Lower Middle = refl
-hundred-text Traditional Lower High = refl
-hundred-text Simple Upper Low = refl
-hundred-text Simple Upper TenThousand = refl
-hundred-text Simple Upper Middle = refl
-hundred-text Simple Upper High = refl
-hundred-text Simple Lower Low = refl
-hundred-text Simple Lower TenThousand = refl
-hundred-text Simple Lower Middle = refl
-hundred-text Simple Lower High = refl
+hundred-alone Traditional Upper = refl
+hundred-alone Traditional Lower = refl
+hundred-alone Simple Upper = refl
+hundred-alone Simple Lower = refl
 
 hundred-written : (method : ChineseCountMethod) → is_printable method (pos 100) ≡ true
 hundred-written Low = refl
@@ -179,7 +120,8 @@ hundred-written High = refl
 IsDivisorText-hundred : (variant : ChineseVariant) (case : ChineseCase)
     (method : ChineseCountMethod) → IsDivisorText method 100 (unit_char variant case 2 ∷ [])
 IsDivisorText-hundred variant case method =
-    subst (IsDivisorText method 100) (hundred-text variant case method)
+    subst (IsDivisorText method 100) (ap (λ marks. without_front (digit_char variant case 1)
+    (map (mark_char variant case) marks)) (hundred-marks method) ∙ hundred-alone variant case)
     (IsDivisorText-written variant case method 100 (omega arith) (hundred-written method))
 
 -- the minus sign
@@ -222,8 +164,8 @@ numerals-by variant case method form number denominator None is small above fits
     (and-left (is_printable method (pos denominator)) _ written))
     s.written filled (part-whole method number (magnitude_text variant case method number) s)
     above (omega arith) fits
-numerals-by variant case method form number denominator (Some decimals) is small above fits written =
-    by form is where
+numerals-by variant case method form number denominator (Some decimals) is small above fits
+    written = by form is where
       printable : is_printable method (pos (number / 10 ^ decimals)) ≡ true
       printable = and-left (is_printable method (pos (number / 10 ^ decimals))) true written
 
@@ -249,8 +191,9 @@ numerals-by variant case method form number denominator (Some decimals) is small
           let part = decimal-part variant case method decimals number small printable in
           IsUnsigned-fraction method 100 number decimals denominator
           (unit_char variant case 2 ∷ []) (decimal_text variant case method decimals number)
-          (IsDivisorText-hundred variant case method) n.written part.0 part.1 (omega arith)
-          (over-is 100 denominator decimals is) fits
+          (IsDivisorText-hundred variant case method)
+          (bare-text (decimal_text variant case method decimals number) n.bare) part.0 part.1
+          (omega arith) (over-is 100 denominator decimals is) fits
       by Fraction is = cc
 
 -- a quantity that is written

@@ -27,6 +27,7 @@ use Rattle.cn_spell.proofs.ThreeBytes.{length-encode_all}
 use Rattle.cn_express.specs.declared.room.Room.{Room}
 use Rattle.cn_express.specs.Numerals.{divisor_text, magnitude_text, stand_alone, without_front}
 use Rattle.cn_express.specs.Working.Room.{PutsCharacters, PutsInFront}
+use Rattle.cn_express.specs.Working.Spelled.{IsSpelled}
 use Rattle.cn_express.proofs.DecimalTexts.{IsSpelled-magnitude}
 use Rattle.cn_express.proofs.WrittenTexts.{text_of-written}
 
@@ -80,18 +81,10 @@ spelled-same variant case method number =
     ap (λ b. signed_text variant case b (spelling method number)) above
 
 -- what the printer puts of it
-pub record IsSpelledBytes (variant : ChineseVariant) (case : ChineseCase)
-    (method : ChineseCountMethod) (number : ℕ) (bytes : List ℕ) : Type 0 where
-  pub printable : is_printable method (pos number) ≡ true
-  pub content : bytes ≡ encode_utf8_all (magnitude_text variant case method number)
-  pub bound : length bytes ≤ 231
-  pub characters : chars bytes ≡ magnitude_text variant case method number
-  pub plain : text_of bytes ≡ chars bytes
-
 pub spelled-bytes : (variant : ChineseVariant) (case : ChineseCase) (method : ChineseCountMethod)
     (number : ℕ) (bytes : List ℕ) → number < 2 ^ 128
     → PutsSpelled variant case method (pos number) bytes
-    → IsSpelledBytes variant case method number bytes
+    → IsSpelled variant case method number bytes
 spelled-bytes variant case method number bytes small puts =
     let text = magnitude_text variant case method number in
     let content : bytes ≡ encode_utf8_all text =
@@ -132,7 +125,7 @@ front-by front c rest gone is = ap (λ b. if b then rest else c ∷ rest) is
 -- a divisor is put
 pub divisor-bytes : (variant : ChineseVariant) (case : ChineseCase) (method : ChineseCountMethod)
     (number front : ℕ) (spelled bytes : List ℕ)
-    → IsSpelledBytes variant case method number spelled → front ≡ digit_char variant case 1
+    → IsSpelled variant case method number spelled → front ≡ digit_char variant case 1
     → IsUtf8 bytes → chars bytes ≡ without_front front (chars spelled)
     → bytes ≡ encode_utf8_all (divisor_text variant case method number)
 divisor-bytes variant case method number front spelled bytes is one utf8 shorter =

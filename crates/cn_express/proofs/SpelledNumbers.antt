@@ -1,5 +1,6 @@
 -- A written spelling is a number by itself.
-use Rattle.std.proofs.Common.{◌≡◌, ℕ, ◌+◌, ◌*◌, ◌%◌, ◌^◌, ◌<◌, ◌≤◌, Bool, true, false, ◌&&◌, ◌==◌, nat_le, nat_lt, is_none, List, [], ◌∷◌, ◌++◌, map, Option, Some, None, Ok, refl, ap, ap₂, ◌∙◌, arith, if◌then◌else◌}
+use Rattle.std.proofs.Common.{◌≡◌, ℕ, ◌+◌, ◌*◌, ◌%◌, ◌^◌, ◌<◌, ◌≤◌, Bool, true, false, ◌&&◌, ◌||◌, ◌==◌, nat_le, nat_lt, is_none, List, [], ◌∷◌, ◌++◌, map, Option, Some, None, Ok, refl, sym, ap, ap₂, ◌∙◌, arith, if◌then◌else◌}
+use Rattle.std.specs.Char.{is_ascii_digit}
 use Rattle.std.specs.List.{list_all}
 use Rattle.std.specs.Option.{option_map_or}
 use Rattle.std.proofs.lemmas.Bool.Decides.{nat_tests}
@@ -9,7 +10,7 @@ use Rattle.cn_core.specs.declared.case.ChineseCase.TheVariants.{Upper, Lower}
 use Rattle.cn_core.specs.declared.method.ChineseCountMethod.{ChineseCountMethod}
 use Rattle.cn_core.specs.declared.script.ChineseVariant.{ChineseVariant}
 use Rattle.cn_core.specs.declared.script.ChineseVariant.TheVariants.{Traditional, Simple}
-use Rattle.cn_core.specs.Characters.{digit_of, rank_of, digit_char, unit_char}
+use Rattle.cn_core.specs.Characters.{digit_of, digit_rows, rank_of, unit_rows, digit_char, unit_char}
 use Rattle.cn_core.specs.Judging.{judge}
 use Rattle.cn_core.specs.Mark.{Mark, digit, unit, other, mark_from, mark_of}
 use Rattle.cn_core.specs.Naive.{naive_answer}
@@ -22,12 +23,15 @@ use Rattle.cn_core.proofs.Fronts.{and-left, both}
 use Rattle.cn_core.proofs.Judging.{Judges-judge, Judges-same}
 use Rattle.cn_core.proofs.Spellings.{short_spelling-by, spelled-by}
 use Rattle.cn_core.proofs.Sums.{spelled-digit}
+use Rattle.cn_express.proofs.DigitTexts.{WritesDigits-each}
 use Rattle.cn_express.proofs.LastMarks.{digit-as_mark, is_digit}
-use Rattle.cn_quantity.specs.Characters.{figure_of, sign_of}
+use Rattle.cn_judge.proofs.Walking.{rows_have}
+use Rattle.cn_quantity.specs.declared.characters.DigitKind.TheVariants.{Chinese}
+use Rattle.cn_quantity.specs.Characters.{chinese_digit_of, figure_of, sign_of}
 use Rattle.cn_quantity.specs.Number.{is_plain, whole_answer}
 use Rattle.cn_quantity.specs.Units.{are_rising}
 use Rattle.cn_quantity.proofs.Today.{digit-no_unit, mark-sign}
-use Rattle.cn_spell.proofs.Printed.{IsReadBack-marks, each_below, each_below-at, is_printed, no_sign, none_from_is_none}
+use Rattle.cn_spell.proofs.Printed.{IsReadBack-marks, each_below, is_printed, no_sign, none_from_is_none}
 use Rattle.cn_spell.proofs.SpelledMarks.{Judges-spelling}
 
 -- plain digits are digits as marks
@@ -99,34 +103,33 @@ spelled-whole method number text small square same = by (dec_lt number 10) where
       ap (λ b. if b then naive_answer (marks_of text) else judge method (marks_of text)) none
       ∙ units
 
--- no character that is written is a figure
-digits_no_figure : (variant : ChineseVariant) (case : ChineseCase)
-    → each_below (λ value. is_none (figure_of (digit_char variant case value))) 10 ≡ true
-unfolding digit_char figure_of
-digits_no_figure Traditional Upper = refl
-digits_no_figure Traditional Lower = refl
-digits_no_figure Simple Upper = refl
-digits_no_figure Simple Lower = refl
+-- each digit is written as a Chinese digit of its value
+pub digits_written : (variant : ChineseVariant) (case : ChineseCase)
+    → each_below (λ value. option_map_or (λ read. read == value)
+    (chinese_digit_of (digit_char variant case value)) false) 10 ≡ true
+unfolding digit_char chinese_digit_of digit_of
+digits_written Traditional Upper = refl
+digits_written Traditional Lower = refl
+digits_written Simple Upper = refl
+digits_written Simple Lower = refl
 
-units_no_figure : (variant : ChineseVariant) (case : ChineseCase)
-    → each_below (λ rank. is_none (figure_of (unit_char variant case rank))) 16 ≡ true
-unfolding unit_char figure_of
-units_no_figure Traditional Upper = refl
-units_no_figure Traditional Lower = refl
-units_no_figure Simple Upper = refl
-units_no_figure Simple Lower = refl
+-- no such digit is a figure, and no unit is
+digit-no_figure : (c value : ℕ) → chinese_digit_of c ≡ Some value → figure_of c ≡ None
+unfolding chinese_digit_of digit_of figure_of
+digit-no_figure c value is = by (is_ascii_digit c) refl is where
+  by : (b : Bool) → is_ascii_digit c ≡ b → (if b then None else digit_of c) ≡ Some value
+      → figure_of c ≡ None
+  by true e is = cc
+  by false e is =
+      let known = rows_have (λ c. is_ascii_digit c || is_none (figure_of c)) digit_rows c value
+      refl is in
+      none_from_is_none (figure_of c) (ap (λ b. b || is_none (figure_of c)) (sym e) ∙ known)
 
-pub no_figure : (variant : ChineseVariant) (case : ChineseCase) (mark : Mark)
-    → is_printed mark ≡ true → figure_of (mark_char variant case mark) ≡ None
-no_figure variant case (digit value) h =
-    none_from_is_none _
-    (each_below-at (λ value. is_none (figure_of (digit_char variant case value))) 10 value
-    (digits_no_figure variant case) (grind (arith, nat_tests)))
-no_figure variant case (unit rank) h =
-    none_from_is_none _
-    (each_below-at (λ rank. is_none (figure_of (unit_char variant case rank))) 16 rank
-    (units_no_figure variant case) (grind (arith, nat_tests)))
-no_figure variant case other h = cc
+unit-no_figure : (c rank : ℕ) → rank_of c ≡ Some rank → figure_of c ≡ None
+unfolding rank_of figure_of
+unit-no_figure c rank is =
+    none_from_is_none (figure_of c)
+    (rows_have (λ c. is_none (figure_of c)) unit_rows c rank refl is)
 
 pub printed-known : (mark : Mark) → is_printed mark ≡ true → is_digit_or_unit mark ≡ true
 printed-known (digit value) h = refl
@@ -165,6 +168,18 @@ unit-first c rank h = by (digit_of c) (rank_of c) refl refl h where
   by None (Some one) e f h = let same : one ≡ rank = cc in f ∙ ap Some same
   by (Some v) r e f h = cc
 
+no-figure : (variant : ChineseVariant) (case : ChineseCase) (mark : Mark)
+    → is_printed mark ≡ true → mark_of (mark_char variant case mark) ≡ mark
+    → figure_of (mark_char variant case mark) ≡ None
+no-figure variant case (digit value) printed same =
+    digit-no_figure (digit_char variant case value) value
+    (WritesDigits-each Chinese (digit_char variant case) (digits_written variant case) value
+    (grind (arith, nat_tests, printed)))
+no-figure variant case (unit rank) printed same =
+    unit-no_figure (unit_char variant case rank) rank
+    (unit-first (unit_char variant case rank) rank same)
+no-figure variant case other printed same = cc
+
 no-factor : (c : ℕ) (mark : Mark) (rest : List Mark) (more : List ℕ) → mark_of c ≡ mark
     → starts_with_digit (with_first_digit (mark ∷ rest)) ≡ true
     → are_rising 1 (c ∷ more) ≡ false
@@ -190,7 +205,7 @@ BeginsNumber-marks variant case (mark ∷ rest) printed starts = record {
   rest = map (mark_char variant case) rest;
   parts = refl;
   no_sign = mark-sign c marked ∙ no_sign variant case mark rest one starts;
-  no_figure = no_figure variant case mark one;
+  no_figure = no-figure variant case mark one same;
   no_factor = λ more. no-factor c mark rest more same starts;
 } where
   c : ℕ

@@ -22,30 +22,38 @@ zeros-low (suc count) number = by (number % 10 == 0) (zeros-low count (number / 
   by true ih = omega (arith, ih)
   by false ih = omega arith
 
--- the decimals that make a denominator are found
 power-less : (start decimals : ℕ) → start < decimals → 10 ^ start < 10 ^ decimals
 power-less start decimals less =
     let above = ten-above start in
     let next : 10 ^ suc start ≡ 10 ^ start * 10 = pow-suc 10 start in
     let up = ten-up (suc start) decimals less in omega (arith, above, next, up)
 
+-- the decimals that make a denominator are found
 over-found : (divisor denominator decimals start count : ℕ) → 0 < divisor
     → divisor * 10 ^ decimals ≡ denominator → start ≤ decimals → decimals < start + count
     → over_from divisor denominator start count ≡ Some decimals
-over-found divisor denominator decimals start zero some is low high = absurd (omega (arith, low, high))
-over-found divisor denominator decimals start (suc count) some is low high = elim (dec_lt start decimals) [
-  | yes less ↦ over-next divisor denominator start count (other less)
-      ∙ over-found divisor denominator decimals (start + 1) count some is (omega arith) (omega arith)
-  | no last ↦
-      let same : start ≡ decimals = omega (arith, low, last) in
-      over-here divisor denominator start count (ap (λ n. divisor * 10 ^ n) same ∙ is)
-      ∙ ap Some same
-] where
-  other : start < decimals → divisor * 10 ^ start ≡ denominator → ⊥
-  other less same =
-      let more : divisor * 10 ^ start < divisor * 10 ^ decimals =
-      mul-lt-mul_of_pos_left (power-less start decimals less) some in
-      omega (arith, more, same, is)
+over-found divisor denominator decimals start zero some is low high =
+    absurd (omega (arith, low, high))
+over-found divisor denominator decimals start (suc count) some is low high =
+    by (dec_lt start decimals)
+    (over-found divisor denominator decimals (start + 1) count some is) where
+      other : start < decimals → divisor * 10 ^ start ≡ denominator → ⊥
+      other less same =
+          let more : divisor * 10 ^ start < divisor * 10 ^ decimals =
+          mul-lt-mul_of_pos_left (power-less start decimals less) some in
+          omega (arith, more, same, is)
+
+      by : Dec (start < decimals)
+          → (start + 1 ≤ decimals → decimals < start + 1 + count
+          → over_from divisor denominator (start + 1) count ≡ Some decimals)
+          → over_from divisor denominator start (suc count) ≡ Some decimals
+      by (yes less) further =
+          over-next divisor denominator start count (other less)
+          ∙ further (omega (arith, less)) (omega (arith, high))
+      by (no last) further =
+          let same : start ≡ decimals = omega (arith, low, last) in
+          over-here divisor denominator start count (ap (λ n. divisor * 10 ^ n) same ∙ is)
+          ∙ ap Some same
 
 over-some : (divisor denominator decimals : ℕ) → 0 < divisor
     → divisor * 10 ^ decimals ≡ denominator → denominator < 2 ^ 128
@@ -62,7 +70,8 @@ less-dropped divisor decimals dropped low =
     let sum : decimals ≡ decimals - dropped + dropped = omega (arith, low) in
     ap (λ n. divisor * 10 ^ n / 10 ^ dropped) sum
     ∙ ap (λ n. divisor * n / 10 ^ dropped) (pow-add 10 (decimals - dropped) dropped)
-    ∙ ap (λ n. n / 10 ^ dropped) (sym (mul_assoc divisor (10 ^ (decimals - dropped)) (10 ^ dropped)))
+    ∙ ap (λ n. n / 10 ^ dropped)
+    (sym (mul_assoc divisor (10 ^ (decimals - dropped)) (10 ^ dropped)))
     ∙ mul-div_cancel (divisor * 10 ^ (decimals - dropped)) (ten-above dropped)
 
 -- the decimals that are left

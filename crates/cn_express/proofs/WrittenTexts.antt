@@ -4,10 +4,8 @@ use Rattle.std.specs.Char.{is_not_whitespace}
 use Rattle.std.specs.Str.{all_scalars}
 use Rattle.std.proofs.lemmas.List.Elements.{filter-append}
 use Rattle.std.proofs.lemmas.Str.{chars-encodes}
-use Rattle.cn_core.specs.Mark.{Mark}
 use Rattle.cn_core.specs.Text.{text_of}
 use Rattle.cn_core.proofs.Fronts.{and-left, and-right, both}
-use Rattle.cn_spell.proofs.Printed.{IsReadBack}
 
 -- characters, of which none is white space
 pub record IsText (text : List ℕ) : Type 0 where
@@ -16,9 +14,6 @@ pub record IsText (text : List ℕ) : Type 0 where
 
 pub IsText-nil : IsText []
 IsText-nil = record { scalars = refl; kept = refl }
-
-pub IsText-back : (text : List ℕ) (marks : List Mark) → IsReadBack text marks → IsText text
-IsText-back text marks back = record { scalars = back.scalars; kept = back.kept }
 
 scalars-append : (front rest : List ℕ) → all_scalars front ≡ true → all_scalars rest ≡ true
     → all_scalars (front ++ rest) ≡ true

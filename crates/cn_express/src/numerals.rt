@@ -1,10 +1,12 @@
 // A quantity in numerals.
 ghost use Rattle.std.specs.Prelude.{◌≡◌, ◌+◌, ◌/◌, ◌^◌, ◌&&◌, ℕ, ◌≤◌, ◌<◌, pos, IsTrue, IsFalse, MatchResult, IsUtf8, chars, drop, length, encode_utf8_all, nat_abs};
+ghost use Rattle.cn_core.specs.declared.method.ChineseCountMethod.{ChineseCountMethod};
 ghost use Rattle.cn_core.specs.Characters.{digit_char};
 ghost use Rattle.cn_core.specs.Printing.{is_printable};
 ghost use Rattle.cn_core.specs.Text.{text_of};
 ghost use Rattle.cn_express.specs.Numerals.{decimal_text, divisor_text, fraction_text, hundredths, is_written_by, magnitude_text, point_char, quantity_text, sign_text, stand_alone, unsigned_text, without_front};
 ghost use Rattle.cn_express.specs.Working.Room.{PutsCharacters, PutsIfWritten};
+ghost use Rattle.cn_express.specs.Working.Spelled.{IsSpelled};
 ghost use Rattle.cn_express.specs.Writes.{IsTooGreat, IsUnwritten, PutsQuantity, WritesQuantity};
 
 use crate::QuantityToChineseError;
@@ -51,6 +53,19 @@ impl Hand for Style {
     }
 }
 
+// The spelling of a magnitude, if the method writes it.
+fn spell(
+    room: &mut [u8; MOST_BYTES],
+    style: Style,
+    number: u128,
+) -> Result<&str, NumberToChineseError>
+    ensures { MatchResult result
+        (λ text. IsSpelled style.variant style.case style.method number text.now)
+        (λ _. IsFalse (is_printable style.method (pos number))) }
+{
+    put_chinese(room, style.variant, style.case, style.method, number)
+}
+
 // Puts a magnitude, if the method writes it.
 fn put_magnitude(text: &mut Room, style: Style, number: u128) -> Result<(), NumberToChineseError>
     requires { 231 ≤ text.old.free }
@@ -58,13 +73,8 @@ fn put_magnitude(text: &mut Room, style: Style, number: u128) -> Result<(), Numb
     ensures put { PutsIfWritten (is_printable style.method (pos number)) text.old text.new
         (magnitude_text style.variant style.case style.method number) 231 result }
 {
-    let Style {
-        variant,
-        case,
-        method,
-    } = style;
     let mut room = [0; MOST_BYTES];
-    text.put(put_chinese(&mut room, variant, case, method, number)?);
+    text.put(spell(&mut room, style, number)?);
     Ok(())
 }
 
@@ -98,13 +108,8 @@ fn put_divisor(text: &mut Room, style: Style, divisor: u128) -> Result<(), Numbe
     ensures put { PutsIfWritten (is_printable style.method (pos divisor)) text.old text.new
         (divisor_text style.variant style.case style.method divisor) 231 result }
 {
-    let Style {
-        variant,
-        case,
-        method,
-    } = style;
     let mut room = [0; MOST_BYTES];
-    let spelled = put_chinese(&mut room, variant, case, method, divisor)?;
+    let spelled = spell(&mut room, style, divisor)?;
     text.put(without_front(style.digit(1), spelled));
     Ok(())
 }
@@ -208,9 +213,9 @@ fn put_at_end(
 }
 
 // Why the method does not write a quantity.
-fn too_far(method: ChineseCountMethod, quantity: Quantity) -> QuantityToChineseError
-    requires { IsTooGreat method quantity }
-    ensures { IsUnwritten method quantity result }
+fn too_far(quantity: Quantity) -> QuantityToChineseError
+    ensures { (method : ChineseCountMethod) → IsTooGreat method quantity
+        → IsUnwritten method quantity result }
 {
     if quantity.numerator < 0 {
         QuantityToChineseError::Underflow
@@ -250,7 +255,7 @@ pub fn put_quantity<'a>(
     };
     match put_at_end(room, style, quantity) {
         Ok(start) => Ok(unsafe { str::from_utf8_unchecked(&room[start..]) }),
-        Err(_) => Err(too_far(method, quantity)),
+        Err(_) => Err(too_far(quantity)),
     }
 }
 

@@ -99,7 +99,7 @@ pub none-barred : (bytes rest : List ℕ) → IsBarSought bytes rest → text_of
 none-barred bytes rest s none = s.after ∙ ap after_bar none
 
 -- the last character
-pub percent-last : (c : ℕ) (xs : List ℕ) → ends_with_percent (xs ++ c ∷ []) ≡ is_percent c
+percent-last : (c : ℕ) (xs : List ℕ) → ends_with_percent (xs ++ c ∷ []) ≡ is_percent c
 percent-last c [] = refl
 percent-last c (x ∷ []) = refl
 percent-last c (x ∷ y ∷ rest) = percent-last c (y ∷ rest)

@@ -65,15 +65,15 @@ no-comma : (c : ℕ) → is_digit_or_unit (mark_of c) ≡ true → is_comma c �
 unfolding is_comma
 no-comma c m = none-of (is_comma c) (own (λ c. not (is_comma c)) c refl refl m)
 
-pub no-fen : (c : ℕ) → is_digit_or_unit (mark_of c) ≡ true → is_fen c ≡ false
+no-fen : (c : ℕ) → is_digit_or_unit (mark_of c) ≡ true → is_fen c ≡ false
 unfolding is_fen
 no-fen c m = none-of (is_fen c) (own (λ c. not (is_fen c)) c refl refl m)
 
-pub no-percent : (c : ℕ) → is_digit_or_unit (mark_of c) ≡ true → is_percent c ≡ false
+no-percent : (c : ℕ) → is_digit_or_unit (mark_of c) ≡ true → is_percent c ≡ false
 unfolding is_percent
 no-percent c m = none-of (is_percent c) (own (λ c. not (is_percent c)) c refl refl m)
 
-pub no-tens : (c : ℕ) → is_digit_or_unit (mark_of c) ≡ true → tens_of c ≡ None
+no-tens : (c : ℕ) → is_digit_or_unit (mark_of c) ≡ true → tens_of c ≡ None
 unfolding tens_of
 no-tens c m =
     by (tens_of c) (none-of (is_some (tens_of c))
@@ -128,7 +128,7 @@ one-kind c rank is = by (digit_of c) refl where
       let both : test c ≡ false =
       ap (λ d. not (is_some d && is_some (rank_of c))) e ∙ ap (λ r. not (is_some r)) is in cc
 
-pub unit-mark : (c rank : ℕ) → rank_of c ≡ Some rank → mark_of c ≡ unit rank
+unit-mark : (c rank : ℕ) → rank_of c ≡ Some rank → mark_of c ≡ unit rank
 unit-mark c rank is =
     ap (λ d. mark_from d (rank_of c)) (one-kind c rank is) ∙ ap (mark_from None) is
 
@@ -390,7 +390,7 @@ figure-and_more method c rest is_digit g sum more = record {
 }
 
 -- without a digit in front
-pub rest-fit : (method : ChineseCountMethod) (c v : ℕ) (rest : List ℕ) → digit_of c ≡ Some v
+rest-fit : (method : ChineseCountMethod) (c v : ℕ) (rest : List ℕ) → digit_of c ≡ Some v
     → some_unfit method (marks_of (c ∷ rest)) ≡ false → some_unfit method (marks_of rest) ≡ false
 rest-fit method c v rest is_digit fit =
     sym (ap (λ m. is_unfit method m || some_unfit method (marks_of rest)) (digit-mark c v is_digit))
@@ -455,7 +455,7 @@ numeral-read method (c ∷ d ∷ more) m some rising each fit small =
           (omega (arith, value, low)))
 
 -- plain digits hold no units
-pub plain-times : (method : ChineseCountMethod) (number : ℕ) (text : List ℕ) → is_plain text ≡ true
+plain-times : (method : ChineseCountMethod) (number : ℕ) (text : List ℕ) → is_plain text ≡ true
     → times_units method number text ≡ times_units method number []
 plain-times method number [] plain = refl
 plain-times method number (c ∷ rest) plain =

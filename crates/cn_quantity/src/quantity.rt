@@ -13,7 +13,7 @@ ghost use Rattle.cn_quantity.specs.declared.quantity.QuantityForm.TheVariants.{P
 
 use crate::characters::sign_of;
 use crate::ratio::{Ratio, form_of, judge_ratio};
-use crate::trimmed::trimmed;
+use crate::trimmed::{decimals_of, without_zeros, zeros_at_end};
 use cn_core::{ChineseCountMethod, Sign, Whole, power_of_ten};
 use cn_judge::{AfterSign, ChineseToNumberError, signed_answer};
 
@@ -75,7 +75,13 @@ impl Quantity {
     pub fn trimmed(self) -> Quantity
         ensures { result ≡ trimmed self }
     {
-        trimmed(self)
+        match decimals_of(self) {
+            Some(decimals) => {
+                let zeros = zeros_at_end(decimals, self.numerator.unsigned_abs());
+                without_zeros(self, decimals, zeros)
+            }
+            None => self,
+        }
     }
 
     /// The number with so many decimals, a whole number where they are none; `None` from 39 decimals

@@ -1,6 +1,6 @@
 // How many decimals a quantity has, and with how many zeros they end.
 ghost use Rattle.std.specs.Prelude.{◌≡◌, ◌*◌, ◌^◌, ◌≤◌, ◌<◌, IfSome};
-ghost use Rattle.cn_quantity.specs.Trimmed.{decimals_of, decimals_over, form_with, trimmed, without_zeros, zeros_at_end};
+ghost use Rattle.cn_quantity.specs.Trimmed.{decimals_of, decimals_over, form_with, without_zeros, zeros_at_end};
 
 use crate::ratio::form_of;
 use crate::{Quantity, QuantityForm};
@@ -35,8 +35,8 @@ pub fn decimals_of(quantity: Quantity) -> Option<usize>
     }
 }
 
-// With how many zeros a number ends, of its last so many digits.
-fn zeros_at_end(count: usize, number: u128) -> usize
+/// With how many zeros a number ends, of its last so many digits.
+pub fn zeros_at_end(count: usize, number: u128) -> usize
     ensures value { result ≡ zeros_at_end count number }
     ensures most { result ≤ count }
 {
@@ -60,8 +60,8 @@ fn form_with(form: QuantityForm, decimals: usize) -> QuantityForm
     }
 }
 
-// The quantity without so many zeros at the end of its decimals.
-fn without_zeros(quantity: Quantity, decimals: usize, zeros: usize) -> Quantity
+/// The quantity without so many zeros at the end of its decimals.
+pub fn without_zeros(quantity: Quantity, decimals: usize, zeros: usize) -> Quantity
     requires zeros { zeros ≤ decimals }
     requires decimals { decimals ≤ 38 }
     ensures { result ≡ without_zeros quantity decimals zeros }
@@ -71,18 +71,5 @@ fn without_zeros(quantity: Quantity, decimals: usize, zeros: usize) -> Quantity
         numerator: quantity.numerator / power as i128,
         denominator: quantity.denominator / power,
         form: form_with(quantity.form, decimals - zeros),
-    }
-}
-
-/// The quantity without the zeros at the end of its decimals.
-pub fn trimmed(quantity: Quantity) -> Quantity
-    ensures { result ≡ trimmed quantity }
-{
-    match decimals_of(quantity) {
-        Some(decimals) => {
-            let zeros = zeros_at_end(decimals, quantity.numerator.unsigned_abs());
-            without_zeros(quantity, decimals, zeros)
-        }
-        None => quantity,
     }
 }

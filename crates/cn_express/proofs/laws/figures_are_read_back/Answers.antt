@@ -9,8 +9,8 @@ use Rattle.cn_quantity.specs.declared.quantity.Quantity.{Quantity}
 use Rattle.cn_quantity.specs.Reading.{quantity_answer}
 use Rattle.cn_quantity.specs.Trimmed.{decimals_of, trimmed, without_zeros, zeros_at_end}
 
-read-back : (method : ChineseCountMethod) (q : Quantity) → holds (signed_kind 128) q.numerator ≡ true
-    → q.denominator < 2 ^ 128 → IsSome (decimals_of q)
+read-back : (method : ChineseCountMethod) (q : Quantity)
+    → holds (signed_kind 128) q.numerator ≡ true → q.denominator < 2 ^ 128 → IsSome (decimals_of q)
     → quantity_answer method (figures_text q) ≡ Ok (trimmed q)
 read-back method q held fits some = by (decimals_of q) refl some where
   by : (o : Option ℕ) → decimals_of q ≡ o → IsSome o

@@ -1,25 +1,11 @@
 use Rattle.std.proofs.Common.{arith}
-use Rattle.cn_express.proofs.SpelledBytes.{divisor-bytes, puts-spelled, spelled-bytes}
+use Rattle.cn_express.proofs.SpelledBytes.{divisor-bytes, puts-spelled}
 use Rattle.cn_express.proofs.numerals.put_divisor.Goals as goal
-
-pub without_front-requires : goal.without_front-requires
-without_front-requires c =
-    let style = c.args.style in
-    (spelled-bytes style.variant style.case style.method c.args.divisor _
-    c.ranges.divisor.fits c.in_ok-spelled.ensures).plain
-
-pub put-requires : goal.put-requires
-put-requires c =
-    let style = c.args.style in
-    let is = spelled-bytes style.variant style.case style.method c.args.divisor _
-    c.ranges.divisor.fits c.in_ok-spelled.ensures in
-    omega (arith, is.bound, c.without_front.ensures.bound, c.requires)
 
 pub returns-clause-put : goal.returns-clause-put
 returns-clause-put c =
     let style = c.args.style in
-    let is = spelled-bytes style.variant style.case style.method c.args.divisor _
-    c.ranges.divisor.fits c.in_ok-spelled.ensures in
+    let is = c.in_ok-spelled.ensures in
     let content = divisor-bytes style.variant style.case style.method c.args.divisor _ _ _ is
     c.digit.ensures.character c.without_front.utf8 c.without_front.ensures.text in (
       is.printable,
