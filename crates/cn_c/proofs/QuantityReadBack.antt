@@ -1,8 +1,8 @@
 -- What is printed for a quantity is read back as the same numerator and denominator.
-use Rattle.std.proofs.Common.{◌≡◌, ℕ, ◌^◌, ◌<◌, ◌==◌, ℤ, pos, int_lt, Bool, true, false, MatchBool, IsTrue, List, take, encode_utf8_all, Option, Some, None, Ok, if◌then◌else◌, refl, sym, ap, subst, ◌∙◌, option_map, arith}
+use Rattle.std.proofs.Common.{◌≡◌, ℕ, ◌^◌, ◌<◌, ◌==◌, pos, int_lt, Bool, true, false, MatchBool, List, take, Option, Some, None, Ok, if◌then◌else◌, refl, sym, ap, subst, ◌∙◌, option_map, arith}
 use Rattle.std.proofs.lemmas.Int.{ints}
 use Rattle.std.proofs.lemmas.Str.{is_utf8-from_IsUtf8}
-use Rattle.std.specs.Str.{IsUtf8, all_scalars, is_utf8}
+use Rattle.std.specs.Str.{IsUtf8}
 use Rattle.cn_core.specs.declared.case.ChineseCase.{ChineseCase}
 use Rattle.cn_core.specs.declared.method.ChineseCountMethod.{ChineseCountMethod}
 use Rattle.cn_core.specs.declared.script.ChineseVariant.{ChineseVariant}
@@ -18,7 +18,7 @@ use Rattle.cn_c.specs.declared.quantity.Quantity.{Quantity}
 use Rattle.cn_c.specs.Codes.{CN_DONE, CN_TOO_LARGE, CN_TOO_SMALL}
 use Rattle.cn_c.specs.Halves.{AreHalves, bits_of, number_of}
 use Rattle.cn_c.specs.Prints.{PutsNothing, PutsIfItFits}
-use Rattle.cn_c.specs.Quantities.{IsQuantityReadAs, TellsQuantity, no_quantity}
+use Rattle.cn_c.specs.Quantities.{IsQuantityReadAs, TellsQuantity}
 use Rattle.cn_c.specs.QuantityPrints.{PutsQuantity, IsQuantityPrintedAs}
 use Rattle.cn_c.proofs.ReadBack.{put-text, utf8-scalars}
 

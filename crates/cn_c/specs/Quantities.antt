@@ -1,12 +1,12 @@
 -- Quantities as C has them, and what a call that reads them answers.
-use Rattle.std.specs.Prelude.{◌≡◌, ℕ, pos, Bool, true, false, List, [], ◌∷◌, Option, Some, None, Result, Ok, Err, slice_get}
+use Rattle.std.specs.Prelude.{◌≡◌, ℕ, pos, true, false, List, [], ◌∷◌, Option, Some, None, Result, Ok, Err, slice_get}
 use Rattle.std.specs.Option.{option_map}
 use Rattle.std.specs.Bool.{MatchBool}
 use Rattle.std.specs.Str.{is_utf8}
 use Rattle.chinese_number.specs.declared.ChineseCountMethod.{ChineseCountMethod}
 use Rattle.chinese_number.specs.Refusal.{Refusal}
 use Rattle.cn_faces.specs.declared.Way.{Way}
-use Rattle.cn_faces.specs.declared.Way.TheVariants.{Digits, Units}
+use Rattle.cn_faces.specs.declared.Way.TheVariants.{Units}
 use Rattle.cn_quantity.specs.declared.quantity.Quantity.{Quantity as ExactQuantity}
 use Rattle.cn_quantity.specs.declared.quantity.QuantityForm.{QuantityForm}
 use Rattle.cn_quantity.specs.declared.quantity.QuantityForm.TheVariants.{Whole, Decimal, Percent, Fraction}
