@@ -3,8 +3,8 @@
 The program `allocating_calls` prints a line for each call that takes memory. Each growth is refused by
 itself and with the next one. Each line has one growth, of exactly as many bytes as its text. Where
 that is refused the line says that memory was short, and every other line stays as it is; so a
-second growth of a line would be seen. At the end stand the calls that refuse their number or date
-by name: they ask for no memory.
+second growth of a line would be seen. At the end stand the calls that refuse their number, quantity
+or date by name: they ask for no memory.
 """
 import re
 import subprocess
@@ -15,7 +15,7 @@ from running import TOP, needs_rt
 
 # The names of errors: of memory, and of what is refused before memory is asked for.
 SHORT = ("AllocError", "OutOfMemory")
-BY_NAME = ("Overflow", "Underflow", "NotADate")
+BY_NAME = ("Overflow", "Underflow", "ZeroDenominator", "NotADate")
 MODULE = "without_memory"
 
 

@@ -2,7 +2,7 @@
 //! name of the error.
 //!
 //! Each line takes one growth, so that `tests/test_memory.py` can refuse them in turn. The last
-//! lines take none: they refuse their number or date by name.
+//! lines take none: they refuse their number, quantity or date by name.
 #![tactic(auto)]
 
 use chinese_number::ChineseCase::Lower;
@@ -10,7 +10,7 @@ use chinese_number::ChineseCountMethod::{High, Low, Middle, TenThousand};
 use chinese_number::ChineseVariant::{Simple, Traditional};
 use chinese_number::{
     AMOUNT_LIMIT, AmountForm, BillDate, ChineseCountMethod, ChineseVariant, InFigures, Included,
-    NumberToChinese, Wanted,
+    NumberToChinese, Quantity, QuantityForm, Wanted,
 };
 use std::fmt::{Debug, Display};
 use std::io;
@@ -152,6 +152,53 @@ fn ends_by_trait(rt: &(impl Print + AllocGlobal)) -> io::Result<()> {
     by_units(rt, "u128", u128::MAX, High)
 }
 
+// A quantity in numerals.
+fn numerals(rt: &(impl Print + AllocGlobal), quantity: Quantity) -> io::Result<()> {
+    let alloc = rt.alloc();
+    let outcome = chinese_number::quantity_to_chinese(
+        alloc,
+        Traditional,
+        Lower,
+        TenThousand,
+        quantity,
+    );
+    show(rt, "quantity_to_chinese", outcome)
+}
+
+// A quantity in figures.
+fn figures(rt: &(impl Print + AllocGlobal), quantity: Quantity) -> io::Result<()> {
+    let outcome = chinese_number::quantity_to_figures(rt.alloc(), quantity);
+    show(rt, "quantity_to_figures", outcome)
+}
+
+// The quantity whose texts are the longest: each number has 39 digits, and no digit is 0.
+const LONGEST_QUANTITY: Quantity = Quantity {
+    numerator: -111_111_111_111_111_111_111_111_111_111_111_111_111,
+    denominator: 211_111_111_111_111_111_111_111_111_111_111_111_111,
+    form: QuantityForm::Fraction,
+};
+
+// The quantity whose texts are the shortest, of a whole number.
+const NONE: Quantity = Quantity {
+    numerator: 0,
+    denominator: 1,
+    form: QuantityForm::Whole,
+};
+
+// These, and a percentage.
+fn quantities(rt: &(impl Print + AllocGlobal)) -> io::Result<()> {
+    let percentage = Quantity {
+        numerator: 1_250,
+        denominator: 10_000,
+        form: QuantityForm::Percent,
+    };
+    for quantity in [NONE, percentage, LONGEST_QUANTITY] {
+        numerals(rt, quantity)?;
+        figures(rt, quantity)?;
+    }
+    Ok(())
+}
+
 // An amount of money.
 fn amount(rt: &(impl Print + AllocGlobal), variant: ChineseVariant, fen: u64) -> io::Result<()> {
     let outcome = chinese_number::amount_to_chinese(rt.alloc(), variant, fen);
@@ -222,6 +269,11 @@ fn refused(rt: &(impl Print + AllocGlobal)) -> io::Result<()> {
     show_each!(rt, MOST_BY_LOW + 1; from_u64_to_chinese_low);
     show_each!(rt, -10_000_000_000_000_000; from_i64_to_chinese_low);
     by_units(rt, "u64", MOST_BY_LOW + 1, Low)?;
+    let by_zero = Quantity {
+        denominator: 0,
+        ..NONE
+    };
+    numerals(rt, by_zero)?;
     amount(rt, Simple, AMOUNT_LIMIT)?;
     amount_as(rt, AMOUNT_LIMIT)?;
     signed_amount(rt, -1_000_000_000_000_000_000)?;
@@ -237,6 +289,7 @@ fn main(rt: HostRuntime) -> io::Result<()> {
     one_at_each_type(&rt)?;
     ends_by_name(&rt)?;
     ends_by_trait(&rt)?;
+    quantities(&rt)?;
     amounts(&rt)?;
     dates(&rt)?;
     in_figures(&rt)?;

@@ -3,6 +3,7 @@ pub mod Bytes
 pub mod Cuts
 pub mod DecimalTexts
 pub mod DigitTexts
+mod Examples
 pub mod FiguresRead
 pub mod FractionTexts
 pub mod KnownDecimals

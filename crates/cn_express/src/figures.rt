@@ -1,5 +1,5 @@
 // A quantity in figures.
-ghost use Rattle.std.specs.Prelude.{◌≡◌, ◌+◌, ℕ, ◌≤◌, ◌<◌, IfOk, IsUtf8, decimal, drop, length};
+ghost use Rattle.std.specs.Prelude.{◌≡◌, ◌+◌, ◌≤◌, IfOk, IsUtf8, decimal, drop, length};
 ghost use Rattle.cn_express.specs.Figures.{figure_char, figures_of, figures_text, figures_with, percent_sign, unsigned_figures};
 ghost use Rattle.cn_express.specs.Working.Room.{PutsInFront};
 ghost use Rattle.cn_express.specs.Writes.{IsStringOf};

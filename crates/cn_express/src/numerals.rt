@@ -1,5 +1,5 @@
 // A quantity in numerals.
-ghost use Rattle.std.specs.Prelude.{◌≡◌, ◌+◌, ◌/◌, ◌^◌, ◌&&◌, ℕ, ◌≤◌, ◌<◌, pos, IsTrue, IsFalse, MatchResult, IsUtf8, chars, drop, length, encode_utf8_all, nat_abs};
+ghost use Rattle.std.specs.Prelude.{◌≡◌, ◌/◌, ◌^◌, ◌&&◌, ◌≤◌, pos, IsTrue, IsFalse, MatchResult, IsUtf8, chars, drop, length, encode_utf8_all};
 ghost use Rattle.cn_core.specs.declared.method.ChineseCountMethod.{ChineseCountMethod};
 ghost use Rattle.cn_core.specs.Characters.{digit_char};
 ghost use Rattle.cn_core.specs.Printing.{is_printable};
