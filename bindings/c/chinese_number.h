@@ -6,9 +6,10 @@
  * them, take texts in char and the enumerations below, so that a compiler can tell exchanged arguments apart.
  *
  * On Linux on x86-64 and aarch64, with any C library, link libchinese_number.a or libchinese_number.so. They need at most
- * memcpy and memset of it, and __udivti3 of the compiler's. On other systems compile chinese_number.c, which is the proved
- * module for WebAssembly as C source. It needs abort, memcpy, memmove and memset at most. No call takes memory, opens a
- * file, reads the locale or keeps anything between calls, so any number of threads may call at once.
+ * memcpy, memmove and memset of it, and __divti3 and __udivti3 of the compiler's. On other systems compile
+ * chinese_number.c, which is the proved module for WebAssembly as C source. It needs abort, memcpy, memmove and memset at
+ * most. No call takes memory, opens a file, reads the locale or keeps anything between calls, so any number of threads may
+ * call at once.
  *
  * What the caller must see to, since nothing tests it:
  * - no pointer is NULL, not that of an empty text, room or array either (cn_.. take NULL as a text or a room of length 0);
