@@ -40,6 +40,7 @@ STATEMENTS = (
     rf"{VALUE} = \(u(?:32|64)\)\(s(?:32|64)\)\(s(8|16)\)\(u\1\)\({VALUE}\);",
     rf"{VALUE} = (?:DIV_U|REM_U)\({VALUE}, {VALUE}\);",
     rf"{VALUE} = I64_C[LT]Z\({VALUE}\);",
+    rf"{VALUE} = I32_ROTL\({VALUE}, {VALUE}\);",
     rf"memory_(?:copy\({MEMORY}, |fill\(){MEMORY}, {VALUE}, {VALUE}, {VALUE}\);",
     rf"(?:{VALUE} = )?w2c_\w+\(instance(?:, {VALUE})*\);",
     rf"(?:if \({VALUE}\) \{{)?goto {LABEL};\}}?",
