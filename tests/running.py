@@ -56,7 +56,7 @@ def numbers_of(text):
 
 
 def version_of(tool):
-    return numbers_of(run(tool, "--version", cwd=TOP))
+    return numbers_of(run(tool, "version" if tool == "go" else "--version", cwd=TOP))
 
 
 def outside():
