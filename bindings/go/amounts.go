@@ -3,8 +3,8 @@ package chinesenumber
 // #include "library.h"
 import "C"
 
-// AmountForm is the form in which an amount is written: by default, as nil too, in Simplified, with
-// 元 and 整. All forms are read.
+// AmountForm is the form in which an amount is written: by default, as nil too, in Simplified,
+// with 元 and 整. All forms are read.
 type AmountForm struct {
 	Script Script
 	// Currency puts 人民币 in front.
@@ -32,16 +32,17 @@ func AmountToChinese(fen uint64, form *AmountForm) (string, error) {
 	return printed(ofAmount, &it)
 }
 
-// SignedAmountToChinese is the same of an amount that may be below zero, as on a red invoice: 负 is
-// then in front. TooSmall comes from -10^18 fen down.
+// SignedAmountToChinese is the same of an amount that may be below zero, as on a red invoice: 负
+// is then in front. TooSmall comes from -10^18 fen down.
 func SignedAmountToChinese(fen int64, form *AmountForm) (string, error) {
 	script, rest := form.codes()
 	it := C.print_signed_amount(C.int64_t(fen), script, rest)
 	return printed(ofAmount, &it)
 }
 
-// ChineseToAmount is the amount of a text in capitals, in fen. The errors are Unfinished, Incorrect at
-// the first character with which no amount begins, white space too, NotUTF8 and TooLong.
+// ChineseToAmount is the amount of a text in capitals, in fen. The errors are Unfinished,
+// Incorrect at the first character with which no amount begins, white space too, NotUTF8 and
+// TooLong.
 func ChineseToAmount(text string) (uint64, error) {
 	it := C.read_amount(text)
 	return uint64(it.told.fen), refusalOfAmount(it.status, it.told.char_index, it.told.byte_index)
@@ -53,17 +54,19 @@ func ChineseToSignedAmount(text string) (int64, error) {
 	return int64(it.told.fen), refusalOfAmount(it.status, it.told.char_index, it.told.byte_index)
 }
 
-// ChineseToAmountAsTyped is the same as ChineseToAmount of an amount as it is typed: white space is left
-// out, and so is one ⊗ in front, as an invoice has it, and then one colon directly behind 人民币.
+// ChineseToAmountAsTyped is the same as ChineseToAmount of an amount as it is typed: white space
+// is left out, and so is one ⊗ in front, as an invoice has it, and then one colon directly behind
+// 人民币.
 func ChineseToAmountAsTyped(text string) (uint64, error) {
 	it := C.read_typed_amount(text)
 	return uint64(it.told.fen), refusalOfAmount(it.status, it.told.char_index, it.told.byte_index)
 }
 
-// YuanToFen is the fen of figures in yuan, exactly: 140950 of 1409.5, of ¥1,409.50 and of 1409.5000. In
-// front of them there may be - or −, and then ¥. Commas, points, digits and ¥ may be full-width. Of
-// the digits behind the point those from the third on are 0: nothing is rounded. The errors are as of
-// ChineseToAmount, and TooLarge, from 10^18 fen on and from -10^18 down.
+// YuanToFen is the fen of figures in yuan, exactly: 140950 of 1409.5, of ¥1,409.50 and of
+// 1409.5000. In front of them there may be - or −, and then ¥. Commas, points, digits and ¥ may
+// be full-width. Of the digits behind the point those from the third on are 0: nothing is
+// rounded. The errors are as of ChineseToAmount, and TooLarge, from 10^18 fen on and from -10^18
+// down.
 func YuanToFen(figures string) (int64, error) {
 	it := C.read_figures(figures)
 	return int64(it.told.fen), refusalOfAmount(it.status, it.told.char_index, it.told.byte_index)

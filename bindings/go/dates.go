@@ -35,7 +35,8 @@ func DateToChinese(date Date, script Script) (string, error) {
 	return printed(ofDate, &it)
 }
 
-// part is the number of a year, a month or a day, or 0, which is none, for what 32 bits do not hold.
+// part is the number of a year, a month or a day, or 0, which is none, for what 32 bits do not
+// hold.
 func part(number int) C.uint32_t {
 	if number < 0 || uint64(number) > math.MaxUint32 {
 		return 0
@@ -43,8 +44,8 @@ func part(number int) C.uint32_t {
 	return C.uint32_t(number)
 }
 
-// ChineseToDate is the date of a text in capitals. The errors are Unfinished, Incorrect at the first
-// character with which no date begins, white space too, NotUTF8 and TooLong.
+// ChineseToDate is the date of a text in capitals. The errors are Unfinished, Incorrect at the
+// first character with which no date begins, white space too, NotUTF8 and TooLong.
 func ChineseToDate(text string) (Date, error) {
 	it := C.read_date(text)
 	date := Date{int(it.told.year), time.Month(it.told.month), int(it.told.day)}

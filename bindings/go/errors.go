@@ -16,8 +16,8 @@ import "fmt"
 type Error struct {
 	// Status says why.
 	Status Status
-	// CharIndex is, at Incorrect, how many characters of the text stand in front of the one at fault,
-	// white space among them, and else 0.
+	// CharIndex is, at Incorrect, how many characters of the text stand in front of the one at
+	// fault, white space among them, and else 0.
 	CharIndex int
 	// ByteIndex is how many bytes do.
 	ByteIndex int
@@ -32,8 +32,8 @@ const (
 	ofDate   = "date"
 )
 
-// Error is the status in words, as "the chinese number is incorrect (position: 3)", where the position
-// is CharIndex.
+// Error is the status in words, as "the chinese number is incorrect (position: 3)", where the
+// position is CharIndex.
 func (it *Error) Error() string {
 	switch it.Status {
 	case Incorrect:

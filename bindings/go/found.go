@@ -5,8 +5,9 @@ import "C"
 
 import "math/big"
 
-// Wanted is which characters are looked for in a text: the digits, and the units up to the greatest
-// one. By default, as nil too, those are of the lower case and up to Zhao, as sentences have them.
+// Wanted is which characters are looked for in a text: the digits, and the units up to the
+// greatest one. By default, as nil too, those are of the lower case and up to Zhao, as sentences
+// have them.
 type Wanted struct {
 	// Upper adds the characters that only cheques have, as 參 and 陸.
 	Upper bool
@@ -26,12 +27,13 @@ func (it *Wanted) codes() (upper, greatest C.uint32_t) {
 type Found struct {
 	// Text is it.
 	Text string
-	// Start and End are how many bytes of the whole text stand in front of it and of what follows it.
+	// Start and End are how many bytes of the whole text stand in front of it and of what
+	// follows it.
 	Start, End int
 	// IsPlain says that it is plain digits: a single digit is, 十 is not.
 	IsPlain bool
-	// StandsAlone says that no letter or digit touches it and none is linked to it: of the numbers of
-	// 3.5万 neither does.
+	// StandsAlone says that no letter or digit touches it and none is linked to it: of the
+	// numbers of 3.5万 neither does.
 	StandsAlone bool
 	// IsAbout says that it is about so much, as the 十 of 十几 is, and 五六.
 	IsAbout bool
@@ -39,8 +41,9 @@ type Found struct {
 	IsOneCharacter bool
 }
 
-// Number is its number, as ToNumber reads it by Any or by another way, plain digits as such. Its error is
-// that of ToNumber, whose CharIndex counts within the run: not each run is a number, as 五六十.
+// Number is its number, as ToNumber reads it by Any or by another way, plain digits as such. Its
+// error is that of ToNumber, whose CharIndex counts within the run: not each run is a number, as
+// 五六十.
 func (it Found) Number(way Way) (int64, error) {
 	return ToNumber[int64](it.Text, it.way(way))
 }
@@ -63,15 +66,15 @@ func (it Found) way(way Way) Way {
 	return way
 }
 
-// FindNumbers is the numbers of a text, from the first to the last: its longest runs of digits and of
-// units. It does not understand sentences: 一起 has a 1 in it, 两三个 is 23, and 3.5万 is two numbers. The
-// errors are NotUTF8, TooLong, and Unknown for the unit.
+// FindNumbers is the numbers of a text, from the first to the last: its longest runs of digits
+// and of units. It does not understand sentences: 一起 has a 1 in it, 两三个 is 23, and 3.5万 is two
+// numbers. The errors are NotUTF8, TooLong, and Unknown for the unit.
 func FindNumbers(text string, wanted *Wanted) ([]Found, error) {
 	return all(EachNumber, text, wanted)
 }
 
-// EachNumber gives each number of a text to visit, as FindNumbers has them, and stops where visit gives
-// false. The text is searched as it goes.
+// EachNumber gives each number of a text to visit, as FindNumbers has them, and stops where visit
+// gives false. The text is searched as it goes.
 func EachNumber(text string, wanted *Wanted, visit func(Found) bool) error {
 	upper, greatest := wanted.codes()
 	return each(text, visit, func(from C.size_t) C.found {
@@ -79,14 +82,14 @@ func EachNumber(text string, wanted *Wanted, visit func(Found) bool) error {
 	})
 }
 
-// FindQuantities is the expressions of a text, from the first to the last: numbers with their sign,
-// figures, point and units, percentages and fractions. The errors are as of FindNumbers.
+// FindQuantities is the expressions of a text, from the first to the last: numbers with their
+// sign, figures, point and units, percentages and fractions. The errors are as of FindNumbers.
 func FindQuantities(text string, wanted *Wanted) ([]Found, error) {
 	return all(EachQuantity, text, wanted)
 }
 
-// EachQuantity gives each expression of a text to visit, as FindQuantities has them, and stops where
-// visit gives false. The text is searched as it goes.
+// EachQuantity gives each expression of a text to visit, as FindQuantities has them, and stops
+// where visit gives false. The text is searched as it goes.
 func EachQuantity(text string, wanted *Wanted, visit func(Found) bool) error {
 	upper, greatest := wanted.codes()
 	return each(text, visit, func(from C.size_t) C.found {
@@ -94,7 +97,10 @@ func EachQuantity(text string, wanted *Wanted, visit func(Found) bool) error {
 	})
 }
 
-func all(each func(string, *Wanted, func(Found) bool) error, text string, wanted *Wanted) ([]Found, error) {
+// all is what a search gives.
+func all(
+	each func(string, *Wanted, func(Found) bool) error, text string, wanted *Wanted,
+) ([]Found, error) {
 	var found []Found
 	err := each(text, wanted, func(it Found) bool {
 		found = append(found, it)

@@ -1,6 +1,6 @@
-/* The calls of the library in a form for Go, which each file with `import "C"` includes. A call takes
- * texts where they are and answers with a value, so that C is given no pointer of Go but those of
- * texts and of a room for one. */
+/* The calls of the library in a form for Go, which each file with `import "C"` includes. A call
+ * takes texts where they are and answers with a value, so that C is given no pointer of Go but those
+ * of texts and of a room for one. */
 #ifndef LIBRARY_H
 #define LIBRARY_H
 
@@ -26,20 +26,37 @@ static quantity_read read_quantity(_GoString_ text, uint32_t method) {
     return it;
 }
 
-#define READER(name, type, call)          \
-    static type name(_GoString_ text) {   \
-        type it;                          \
-        it.status = call(TEXT(text), &it.told); \
-        return it;                        \
-    }
+static amount_read read_amount(_GoString_ text) {
+    amount_read it;
+    it.status = chinese_amount_read(TEXT(text), &it.told);
+    return it;
+}
 
-READER(read_amount, amount_read, chinese_amount_read)
-READER(read_typed_amount, amount_read, chinese_typed_amount_read)
-READER(read_signed_amount, signed_amount_read, chinese_signed_amount_read)
-READER(read_figures, signed_amount_read, chinese_figures_read)
-READER(read_date, date_read, chinese_date_read)
+static amount_read read_typed_amount(_GoString_ text) {
+    amount_read it;
+    it.status = chinese_typed_amount_read(TEXT(text), &it.told);
+    return it;
+}
 
-/* No text that is printed into a room of this size has more bytes. */
+static signed_amount_read read_signed_amount(_GoString_ text) {
+    signed_amount_read it;
+    it.status = chinese_signed_amount_read(TEXT(text), &it.told);
+    return it;
+}
+
+static signed_amount_read read_figures(_GoString_ text) {
+    signed_amount_read it;
+    it.status = chinese_figures_read(TEXT(text), &it.told);
+    return it;
+}
+
+static date_read read_date(_GoString_ text) {
+    date_read it;
+    it.status = chinese_date_read(TEXT(text), &it.told);
+    return it;
+}
+
+/* A text that was printed, of which none has more bytes. */
 typedef struct { uint32_t status; size_t length; uint8_t text[CN_MOST_QUANTITY_BYTES]; } printed;
 
 #define ROOM(it) (it).text, sizeof (it).text, &(it).length
@@ -47,7 +64,8 @@ typedef struct { uint32_t status; size_t length; uint8_t text[CN_MOST_QUANTITY_B
 static printed print_number(cn_number number, uint32_t kind, uint32_t way, uint32_t script,
                             uint32_t letter_case) {
     printed it;
-    it.status = chinese_number_print(number.low, number.high, kind, way, script, letter_case, ROOM(it));
+    it.status = chinese_number_print(number.low, number.high, kind, way, script, letter_case,
+                                     ROOM(it));
     return it;
 }
 
@@ -84,20 +102,24 @@ static printed print_date(uint32_t year, uint32_t month, uint32_t day, uint32_t 
 
 enum { AT_ONCE = 8 };
 
+/* Some of what is found in a text, which is tested to be UTF-8 at its start alone. */
 typedef struct { uint32_t status; size_t count; cn_span spans[AT_ONCE]; } found;
 
-/* The text is tested to be UTF-8 at its start alone. */
-#define FINDER(name, call)                                                                    \
-    static found name(_GoString_ text, size_t from, uint32_t upper, uint32_t greatest) {      \
-        found it;                                                                             \
-        it.status = (from == 0 ? call : call##_utf8)(TEXT(text), from, upper, greatest,       \
-                                                     it.spans, AT_ONCE, &it.count);           \
-        return it;                                                                            \
-    }
+static found find_numbers(_GoString_ text, size_t from, uint32_t upper, uint32_t greatest) {
+    found it;
+    it.status = (from == 0 ? chinese_number_find : chinese_number_find_utf8)(
+        TEXT(text), from, upper, greatest, it.spans, AT_ONCE, &it.count);
+    return it;
+}
 
-FINDER(find_numbers, chinese_number_find)
-FINDER(find_quantities, chinese_quantity_find)
+static found find_quantities(_GoString_ text, size_t from, uint32_t upper, uint32_t greatest) {
+    found it;
+    it.status = (from == 0 ? chinese_quantity_find : chinese_quantity_find_utf8)(
+        TEXT(text), from, upper, greatest, it.spans, AT_ONCE, &it.count);
+    return it;
+}
 
+/* How many bytes a text has that is written into a room. */
 typedef struct { uint32_t status; size_t length; } written;
 
 static written write_figures(_GoString_ text, uint32_t upper, uint32_t greatest, uint32_t method,

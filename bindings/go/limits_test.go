@@ -60,6 +60,18 @@ func power(sign int64, exponent uint, more int64) *big.Int {
 	return it.Add(it, big.NewInt(more))
 }
 
+func wantNumber(t *testing.T, text string, wanted *big.Int) {
+	read := cn.ToBigUint
+	if wanted.Sign() < 0 {
+		read = cn.ToBigInt
+	}
+	number, err := read(text, cn.Any)
+	wantStatus(t, text, err, cn.Done)
+	if number.Cmp(wanted) != 0 {
+		t.Errorf("%v is written as %s, and read as %v", wanted, text, number)
+	}
+}
+
 func TestBigInt(t *testing.T) {
 	for _, row := range []struct {
 		number *big.Int
@@ -77,12 +89,8 @@ func TestBigInt(t *testing.T) {
 	} {
 		text, err := cn.BigIntToChinese(row.number, nil)
 		wantStatus(t, "to write", err, row.status)
-		read := cn.ToBigUint
-		if row.number.Sign() < 0 {
-			read = cn.ToBigInt
-		}
-		if again, err := read(text, cn.Any); row.status == cn.Done && (err != nil || again.Cmp(row.number) != 0) {
-			t.Errorf("%v is written as %s, and read as %v", row.number, text, again)
+		if row.status == cn.Done {
+			wantNumber(t, text, row.number)
 		}
 	}
 	number, err := cn.ToBigInt("x", cn.Any)
@@ -92,68 +100,78 @@ func TestBigInt(t *testing.T) {
 	}
 }
 
+// errorOf is the error of an answer.
+func errorOf[T any](_ T, err error) error {
+	return err
+}
+
+func everyOne(cn.Found) (string, bool) {
+	return "", true
+}
+
 func TestUnknownChoices(t *testing.T) {
 	quantity, _ := cn.NewDecimal(5, 1)
-	visit := func(cn.Found) bool { return true }
-	replace := func(cn.Found) (string, bool) { return "", true }
-	calls := map[string]func() error{
-		"a way to read": func() error { _, err := cn.ToNumber[int]("一", cn.Any+1); return err },
-		"a way of all":  func() error { _, err := cn.ToBigInt("一", math.MaxUint32); return err },
-		"any to write":  func() error { _, err := cn.ToChinese(1, &cn.Style{Way: cn.Any}); return err },
-		"a script":      func() error { _, err := cn.ToChinese(1, &cn.Style{Script: 3}); return err },
-		"a case":        func() error { _, err := quantity.ToChinese(&cn.Style{Case: 3}); return err },
-		"digits":        func() error { _, err := quantity.ToChinese(&cn.Style{Way: cn.Digits}); return err },
-		"of an amount":  func() error { _, err := cn.AmountToChinese(1, &cn.AmountForm{Script: 3}); return err },
-		"of a date":     func() error { _, err := cn.DateToChinese(cn.Date{Year: 1, Month: 1, Day: 1}, 3); return err },
-		"a form":        func() error { _, err := cn.NewQuantity(big.NewInt(1), big.NewInt(1), 4); return err },
-		"a method":      func() error { _, err := cn.ToQuantity("一", cn.Any); return err },
-		"a unit":        func() error { return cn.EachNumber("一", &cn.Wanted{Greatest: 17}, visit) },
-		"of found ones": func() error { _, err := cn.Found{Text: "一", IsPlain: true}.Number(7); return err },
-		"to replace":    func() error { _, err := cn.ReplaceQuantities("", &cn.Replacing{Method: 1}, replace); return err },
-		"in figures":    func() error { _, err := cn.QuantitiesToFigures("", &cn.Replacing{Method: 6}); return err },
-	}
-	for what, call := range calls {
-		wantStatus(t, what, call(), cn.Unknown)
+	one, first := big.NewInt(1), cn.Date{Year: 1, Month: 1, Day: 1}
+	for what, err := range map[string]error{
+		"a way":         errorOf(cn.ToBigInt("一", math.MaxUint32)),
+		"a way to read": errorOf(cn.ToNumber[int]("一", cn.Any+1)),
+		"any to write":  errorOf(cn.ToChinese(1, &cn.Style{Way: cn.Any})),
+		"a script":      errorOf(cn.ToChinese(1, &cn.Style{Script: 3})),
+		"a case":        errorOf(quantity.ToChinese(&cn.Style{Case: 3})),
+		"digits":        errorOf(quantity.ToChinese(&cn.Style{Way: cn.Digits})),
+		"of an amount":  errorOf(cn.AmountToChinese(1, &cn.AmountForm{Script: 3})),
+		"of a date":     errorOf(cn.DateToChinese(first, 3)),
+		"a form":        errorOf(cn.NewQuantity(one, one, 4)),
+		"a method":      errorOf(cn.ToQuantity("一", cn.Any)),
+		"a unit":        errorOf(cn.FindNumbers("一", &cn.Wanted{Greatest: 17})),
+		"of found ones": errorOf(cn.Found{Text: "一", IsPlain: true}.Number(7)),
+		"to replace":    errorOf(cn.ReplaceQuantities("", &cn.Replacing{Method: 1}, everyOne)),
+		"in figures":    errorOf(cn.QuantitiesToFigures("", &cn.Replacing{Method: 6})),
+	} {
+		wantStatus(t, what, err, cn.Unknown)
 	}
 }
 
-// Each call that takes a text is given it here.
-var ofTexts = map[string]func(text string) error{
-	"ToNumber":               func(text string) error { _, err := cn.ToNumber[int](text, 0); return err },
-	"ToBigInt":               func(text string) error { _, err := cn.ToBigInt(text, 0); return err },
-	"ToQuantity":             func(text string) error { _, err := cn.ToQuantity(text, 0); return err },
-	"ChineseToAmount":        func(text string) error { _, err := cn.ChineseToAmount(text); return err },
-	"ChineseToSignedAmount":  func(text string) error { _, err := cn.ChineseToSignedAmount(text); return err },
-	"ChineseToAmountAsTyped": func(text string) error { _, err := cn.ChineseToAmountAsTyped(text); return err },
-	"YuanToFen":              func(text string) error { _, err := cn.YuanToFen(text); return err },
-	"ChineseToDate":          func(text string) error { _, err := cn.ChineseToDate(text); return err },
-	"FindNumbers":            func(text string) error { _, err := cn.FindNumbers(text, nil); return err },
-	"FindQuantities":         func(text string) error { _, err := cn.FindQuantities(text, nil); return err },
-	"QuantitiesToFigures":    func(text string) error { _, err := cn.QuantitiesToFigures(text, nil); return err },
-	"ReplaceQuantities": func(text string) error {
-		_, err := cn.ReplaceQuantities(text, nil, func(cn.Found) (string, bool) { return "", true })
-		return err
-	},
+// errorsOf are the errors of each call that takes a text.
+func errorsOf(text string) map[string]error {
+	return map[string]error{
+		"ToNumber":               errorOf(cn.ToNumber[int](text, 0)),
+		"ToBigInt":               errorOf(cn.ToBigInt(text, 0)),
+		"ToQuantity":             errorOf(cn.ToQuantity(text, 0)),
+		"ChineseToAmount":        errorOf(cn.ChineseToAmount(text)),
+		"ChineseToSignedAmount":  errorOf(cn.ChineseToSignedAmount(text)),
+		"ChineseToAmountAsTyped": errorOf(cn.ChineseToAmountAsTyped(text)),
+		"YuanToFen":              errorOf(cn.YuanToFen(text)),
+		"ChineseToDate":          errorOf(cn.ChineseToDate(text)),
+		"FindNumbers":            errorOf(cn.FindNumbers(text, nil)),
+		"FindQuantities":         errorOf(cn.FindQuantities(text, nil)),
+		"QuantitiesToFigures":    errorOf(cn.QuantitiesToFigures(text, nil)),
+		"ReplaceQuantities":      errorOf(cn.ReplaceQuantities(text, nil, everyOne)),
+	}
 }
 
 func TestTexts(t *testing.T) {
-	empty := map[string]cn.Status{"ToNumber": cn.Empty, "ToBigInt": cn.Empty, "ToQuantity": cn.Empty}
-	for name, call := range ofTexts {
-		for _, text := range []string{"\xff", "一\xe4\xb8", "三点五万\xed\xa0\x80"} {
-			wantStatus(t, name, call(text), cn.NotUTF8)
+	for _, text := range []string{"\xff", "一\xe4\xb8", "三点五万\xed\xa0\x80"} {
+		for name, err := range errorsOf(text) {
+			wantStatus(t, name, err, cn.NotUTF8)
 		}
-		wanted := empty[name]
-		if strings.HasPrefix(name, "Chinese") || name == "YuanToFen" {
+	}
+	for name, err := range errorsOf("") {
+		wanted := cn.Done
+		if strings.HasPrefix(name, "To") {
+			wanted = cn.Empty
+		} else if strings.HasPrefix(name, "Chinese") || name == "YuanToFen" {
 			wanted = cn.Unfinished
 		}
-		wantStatus(t, name+" of nothing", call(""), wanted)
+		wantStatus(t, name+" of nothing", err, wanted)
 	}
 }
 
 func TestDates(t *testing.T) {
+	const far = math.MaxInt/2 + 1 // whose last 32 bits are 0, where an int has 64
 	for _, date := range []cn.Date{
 		{}, {2026, 2, 29}, {2026, 13, 1}, {10_000, 1, 1}, {-1, 1, 1},
-		{2026, 1 + 1<<32, 1}, {2026 + 1<<32, 1, 1}, {2026, 1, math.MinInt},
+		{2026 + far, 1, 1}, {2026, 1 + far, 1}, {2026, 1, 1 + far}, {2026, 1, math.MinInt},
 	} {
 		_, err := cn.DateToChinese(date, cn.Traditional)
 		wantStatus(t, date.String(), err, cn.NotADate)
@@ -183,36 +201,51 @@ func TestQuantities(t *testing.T) {
 		_, err := cn.NewQuantity(big.NewInt(1), big.NewInt(denominator), cn.Fraction)
 		wantStatus(t, "below zero", err, cn.NotHeld)
 	}
-	least, _ := cn.NewQuantity(power(-1, 127, 0), power(1, 128, -1), cn.Fraction)
-	if least.Numerator().Cmp(power(-1, 127, 0)) != 0 || least.Denominator().Cmp(power(1, 128, -1)) != 0 {
-		t.Errorf("%v", least)
+	above, below := power(-1, 127, 0), power(1, 128, -1)
+	least, _ := cn.NewQuantity(above, below, cn.Fraction)
+	if least.Numerator().Cmp(above) != 0 || least.Denominator().Cmp(below) != 0 {
+		t.Errorf("%v, and not %v/%v", least, above, below)
 	}
+}
+
+func inFigures(found cn.Found) (string, bool) {
+	quantity, err := found.Quantity(cn.TenThousand)
+	return quantity.ToFigures(), err == nil
 }
 
 // Texts that are longer than what is found or written at once, also such as grow.
 func TestLongTexts(t *testing.T) {
 	const many = 20_000
-	for piece, wanted := range map[string]string{"三亿，": "300000000，", "一百二十三，": "123，", "文": "文"} {
-		figures, err := cn.QuantitiesToFigures(strings.Repeat(piece, many), nil)
+	for piece, its := range map[string]string{
+		"三亿，": "300000000，", "一百二十三，": "123，", "文": "文",
+	} {
+		text, wanted := strings.Repeat(piece, many), strings.Repeat(its, many)
+		figures, err := cn.QuantitiesToFigures(text, nil)
 		wantStatus(t, piece, err, cn.Done)
-		replaced, err := cn.ReplaceQuantities(strings.Repeat(piece, many), nil, func(it cn.Found) (string, bool) {
-			quantity, err := it.Quantity(0)
-			return quantity.ToFigures(), err == nil
-		})
+		replaced, err := cn.ReplaceQuantities(text, nil, inFigures)
 		wantStatus(t, piece, err, cn.Done)
-		if all := strings.Repeat(wanted, many); figures != all || replaced != all {
+		if figures != wanted || replaced != wanted {
 			t.Errorf("%d times %s is otherwise", many, piece)
 		}
 	}
-	for wanted := 0; wanted < 20; wanted++ {
+}
+
+func TestSearchesStop(t *testing.T) {
+	const all = 20
+	text := strings.Repeat("三，", all)
+	for wanted := 1; wanted <= all; wanted++ {
 		count := 0
-		err := cn.EachQuantity(strings.Repeat("三，", 20), nil, func(cn.Found) bool {
+		err := cn.EachQuantity(text, nil, func(found cn.Found) bool {
 			count++
 			return count < wanted
 		})
-		if err != nil || count != wanted && count != 1 {
-			t.Errorf("%d of %d are given, and %v", count, wanted, err)
+		wantStatus(t, "to search", err, cn.Done)
+		if count != wanted {
+			t.Errorf("%d are given, and not %d", count, wanted)
 		}
+	}
+	if found, _ := cn.FindNumbers(text, nil); len(found) != all {
+		t.Errorf("%d are found, and not %d", len(found), all)
 	}
 }
 

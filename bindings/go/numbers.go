@@ -11,11 +11,12 @@ import (
 
 // Integer is the integer types of Go.
 type Integer interface {
-	~int | ~int8 | ~int16 | ~int32 | ~int64 | ~uint | ~uint8 | ~uint16 | ~uint32 | ~uint64 | ~uintptr
+	~int | ~int8 | ~int16 | ~int32 | ~int64 |
+		~uint | ~uint8 | ~uint16 | ~uint32 | ~uint64 | ~uintptr
 }
 
-// Style is how a number or a quantity is written: by default, as nil too, TenThousand in Simplified
-// and Lower. By Any nothing is written.
+// Style is how a number or a quantity is written: by default, as nil too, TenThousand in
+// Simplified and Lower. By Any nothing is written.
 type Style struct {
 	Way    Way
 	Script Script
@@ -34,7 +35,8 @@ func (it *Style) codes() (way, script, letterCase C.uint32_t) {
 //
 //	number, err := chinesenumber.ToNumber[int64]("一百二", chinesenumber.Any)
 //
-// The errors are Empty, Incorrect, TooLarge, TooSmall, NotUTF8 and TooLong, and Unknown for the way.
+// The errors are Empty, Incorrect, TooLarge, TooSmall, NotUTF8 and TooLong, and Unknown for the
+// way.
 func ToNumber[T Integer](text string, way Way) (T, error) {
 	number, err := read(text, kindOf[T](), way)
 	return T(number.low), err
@@ -50,8 +52,8 @@ func ToBigUint(text string, way Way) (*big.Int, error) {
 	return readBig(text, u128, way)
 }
 
-// ToChinese is the text of a number: 十万五千 of 105000. The errors are TooLarge and TooSmall, by Low,
-// and Unknown for a choice of the style.
+// ToChinese is the text of a number: 十万五千 of 105000. The errors are TooLarge and TooSmall, by
+// Low, and Unknown for a choice of the style.
 func ToChinese[T Integer](number T, style *Style) (string, error) {
 	low, high := uint64(number), uint64(0)
 	if number < 0 {
@@ -60,8 +62,8 @@ func ToChinese[T Integer](number T, style *Style) (string, error) {
 	return write(halves{low, high}, kindOf[T](), style)
 }
 
-// BigIntToChinese is the text of a number of 128 bits, with a sign or without. The errors are as of
-// ToChinese, and NotHeld.
+// BigIntToChinese is the text of a number of 128 bits, with a sign or without. The errors are as
+// of ToChinese, and NotHeld.
 func BigIntToChinese(number *big.Int, style *Style) (string, error) {
 	kind := u128
 	if number.Sign() < 0 {

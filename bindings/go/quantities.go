@@ -5,17 +5,17 @@ import "C"
 
 import "math/big"
 
-// Quantity is an exact quantity: a numerator over a denominator, as written and not reduced, and its
-// form. So 12.5% is 125/1000 and Percent. Two are equal, by ==, where all three are: 3.10 and 3.1 are
-// two, of one Rat. The zero Quantity is over 0, and has no value.
+// Quantity is an exact quantity: a numerator over a denominator, as written and not reduced, and
+// its form. So 12.5% is 125/1000 and Percent. Two are equal, by ==, where all three are: 3.10 and
+// 3.1 are two, of one Rat. The zero Quantity is over 0, and has no value.
 type Quantity struct {
 	numerator, denominator halves
 	form                   Form
 }
 
-// NewQuantity is the quantity of a numerator, a denominator and a form. The errors are NotHeld, where 128
-// bits do not hold them or the denominator is below 0, NotAQuantity where it is 0, and Unknown for the
-// form.
+// NewQuantity is the quantity of a numerator, a denominator and a form. The errors are NotHeld,
+// where 128 bits do not hold them or the denominator is below 0, NotAQuantity where it is 0, and
+// Unknown for the form.
 func NewQuantity(numerator, denominator *big.Int, form Form) (Quantity, error) {
 	above, err := halvesOfBig(numerator, i128)
 	if err != nil {
@@ -51,7 +51,8 @@ func NewPercent(numerator int64, decimals uint) (Quantity, error) {
 	return NewQuantity(big.NewInt(numerator), below.Mul(below, big.NewInt(100)), Percent)
 }
 
-// NewFraction is a fraction, as it is given. The error is NotAQuantity where the denominator is 0.
+// NewFraction is a fraction, as it is given. The error is NotAQuantity where the denominator is
+// 0.
 func NewFraction(numerator int64, denominator uint64) (Quantity, error) {
 	return NewQuantity(big.NewInt(numerator), new(big.Int).SetUint64(denominator), Fraction)
 }
@@ -64,9 +65,9 @@ func power(exponent uint) *big.Int {
 	return new(big.Int).Exp(big.NewInt(10), new(big.Int).SetUint64(uint64(exponent)), nil)
 }
 
-// ToQuantity is the quantity of a text, by a method, Low to High: a whole number, a decimal, a percentage
-// or a fraction, in figures, in numerals or in both. Where no method is named, it is TenThousand. The
-// errors are as of ToNumber.
+// ToQuantity is the quantity of a text, by a method, Low to High: a whole number, a decimal, a
+// percentage or a fraction, in figures, in numerals or in both. Where no method is named, it is
+// TenThousand. The errors are as of ToNumber.
 func ToQuantity(text string, method Way) (Quantity, error) {
 	it := C.read_quantity(text, code(method, TenThousand))
 	told := &it.told
@@ -103,9 +104,9 @@ func (it Quantity) Whole() (whole *big.Int, isWhole bool) {
 	return value.Num(), true
 }
 
-// Trimmed is the same quantity without the zeros at the end of its decimals: 3.1 of 3.10, the whole
-// number 35000 of 3.5万, 12.5% of 12.50%. A fraction stays, and so does a quantity whose denominator is
-// not one of its form.
+// Trimmed is the same quantity without the zeros at the end of its decimals: 3.1 of 3.10, the
+// whole number 35000 of 3.5万, 12.5% of 12.50%. A fraction stays, and so does a quantity whose
+// denominator is not one of its form.
 func (it Quantity) Trimmed() Quantity {
 	trimmed, err := ToQuantity(it.ToFigures(), TenThousand)
 	if err != nil { // the figures of a fraction are no quantity
@@ -114,17 +115,18 @@ func (it Quantity) Trimmed() Quantity {
 	return trimmed
 }
 
-// ToChinese is its text, which ToQuantity reads by the same method as the same numerator and denominator:
-// 百分之十二点五 of 12.5%. One whose denominator is not one of its form is written as a fraction. The way
-// of the style is a method, Low to High. The errors are TooLarge and TooSmall, by Low, NotAQuantity of
-// the zero Quantity, and Unknown for a choice of the style.
+// ToChinese is its text, which ToQuantity reads by the same method as the same numerator and
+// denominator: 百分之十二点五 of 12.5%. One whose denominator is not one of its form is written as a
+// fraction. The way of the style is a method, Low to High. The errors are TooLarge and TooSmall,
+// by Low, NotAQuantity of the zero Quantity, and Unknown for a choice of the style.
 func (it Quantity) ToChinese(style *Style) (string, error) {
 	method, script, letterCase := style.codes()
 	printing := C.print_quantity(it.quantity(), method, script, letterCase)
 	return printed(ofNumber, &printing)
 }
 
-// ToFigures is its figures, in ASCII and without zeros at the end of its decimals: 3.5, 12.5%, 1/3.
+// ToFigures is its figures, in ASCII and without zeros at the end of its decimals: 3.5, 12.5%,
+// 1/3.
 func (it Quantity) ToFigures() string {
 	printing := C.print_quantity_figures(it.quantity())
 	figures, _ := printed(ofNumber, &printing) // each quantity has them

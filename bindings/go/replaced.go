@@ -5,9 +5,9 @@ import "C"
 
 import "strings"
 
-// Replacing is which quantities of a text are replaced: of those that are Wanted each that ToQuantity
-// reads by the method. By default, as nil too, that is TenThousand, and those that are about so much
-// or one Chinese character stay.
+// Replacing is which quantities of a text are replaced: of those that are Wanted each that
+// ToQuantity reads by the method. By default, as nil too, that is TenThousand, and those that are
+// about so much or one Chinese character stay.
 type Replacing struct {
 	Wanted
 	// Method is Low to High.
@@ -23,10 +23,12 @@ func (it *Replacing) leaves(found Found) bool {
 	return found.IsAbout && !it.About || found.IsOneCharacter && !it.OneCharacter
 }
 
-// ReplaceQuantities is the text with its quantities written anew: replace is given each that is to be
-// replaced, and gives what stands in its place, and false where it stays. The errors are as of
-// FindQuantities, and Unknown for the method.
-func ReplaceQuantities(text string, which *Replacing, replace func(Found) (string, bool)) (string, error) {
+// ReplaceQuantities is the text with its quantities written anew: replace is given each that is
+// to be replaced, and gives what stands in its place, and false where it stays. The errors are as
+// of FindQuantities, and Unknown for the method.
+func ReplaceQuantities(
+	text string, which *Replacing, replace func(Found) (string, bool),
+) (string, error) {
 	if which == nil {
 		which = &Replacing{}
 	}
@@ -53,8 +55,8 @@ func ReplaceQuantities(text string, which *Replacing, replace func(Found) (strin
 	return done.String(), nil
 }
 
-// QuantitiesToFigures is the text with its quantities in figures, as ToFigures gives them: those that
-// ReplaceQuantities replaces. Its errors are the same.
+// QuantitiesToFigures is the text with its quantities in figures, as ToFigures gives them: those
+// that ReplaceQuantities replaces. Its errors are the same.
 func QuantitiesToFigures(text string, which *Replacing) (string, error) {
 	if which == nil {
 		which = &Replacing{}
