@@ -16,10 +16,10 @@ RACES = ("x86_64", "aarch64")  # where Go has a race detector
 def go():
     """Calls go in the module."""
     needs("cc", "go 1.19")
-    return lambda *words, **more: run("go", *words, cwd=MODULE, **OF_GO, **more)
+    return lambda *words, **more: run("go", *words, cwd=MODULE, **{**OF_GO, **more})
 
 
-def tests_of(kind):
+def count_of(kind):
     """How many tests or examples there are."""
     texts = [path.read_text("utf-8") for path in MODULE.glob("*_test.go")]
     return len(re.findall(rf"^func {kind}", "".join(texts), re.M))
@@ -34,10 +34,15 @@ def test_vet(go):
     go("vet", "./...")
 
 
+def test_no_cgo(go):
+    said = go("build", ".", fails=True, CGO_ENABLED="0")
+    assert "install_a_C_compiler" in said, said
+
+
 def test_module(go):
     said = go("test", "-count=1", "-v", ".")
     for kind in ("Test", "Example"):
-        assert len(re.findall(rf"^--- PASS: {kind}", said, re.M)) == tests_of(kind) > 0, said
+        assert len(re.findall(rf"^--- PASS: {kind}", said, re.M)) == count_of(kind) > 0, said
 
 
 def test_races(go):

@@ -44,22 +44,19 @@ func SignedAmountToChinese(fen int64, form *AmountForm) (string, error) {
 // Incorrect at the first character with which no amount begins, white space too, NotUTF8 and
 // TooLong.
 func ChineseToAmount(text string) (uint64, error) {
-	it := C.read_amount(text)
-	return uint64(it.told.fen), refusalOfAmount(it.status, it.told.char_index, it.told.byte_index)
+	return amount(C.read_amount(text))
 }
 
 // ChineseToSignedAmount is the same of an amount that may be below zero: 负 or 負 is then in front.
 func ChineseToSignedAmount(text string) (int64, error) {
-	it := C.read_signed_amount(text)
-	return int64(it.told.fen), refusalOfAmount(it.status, it.told.char_index, it.told.byte_index)
+	return signedAmount(C.read_signed_amount(text))
 }
 
 // ChineseToAmountAsTyped is the same as ChineseToAmount of an amount as it is typed: white space
 // is left out, and so is one ⊗ in front, as an invoice has it, and then one colon directly behind
 // 人民币.
 func ChineseToAmountAsTyped(text string) (uint64, error) {
-	it := C.read_typed_amount(text)
-	return uint64(it.told.fen), refusalOfAmount(it.status, it.told.char_index, it.told.byte_index)
+	return amount(C.read_typed_amount(text))
 }
 
 // YuanToFen is the fen of figures in yuan, exactly: 140950 of 1409.5, of ¥1,409.50 and of
@@ -68,10 +65,15 @@ func ChineseToAmountAsTyped(text string) (uint64, error) {
 // rounded. The errors are as of ChineseToAmount, and TooLarge, from 10^18 fen on and from -10^18
 // down.
 func YuanToFen(figures string) (int64, error) {
-	it := C.read_figures(figures)
-	return int64(it.told.fen), refusalOfAmount(it.status, it.told.char_index, it.told.byte_index)
+	return signedAmount(C.read_figures(figures))
 }
 
-func refusalOfAmount(status C.uint32_t, charIndex, byteIndex C.size_t) error {
-	return refusal(ofAmount, status, charIndex, byteIndex)
+func amount(it C.amount_read) (uint64, error) {
+	err := refusal(ofAmount, it.status, it.told.char_index, it.told.byte_index)
+	return uint64(it.told.fen), err
+}
+
+func signedAmount(it C.signed_amount_read) (int64, error) {
+	err := refusal(ofAmount, it.status, it.told.char_index, it.told.byte_index)
+	return int64(it.told.fen), err
 }

@@ -26,35 +26,19 @@ static quantity_read read_quantity(_GoString_ text, uint32_t method) {
     return it;
 }
 
-static amount_read read_amount(_GoString_ text) {
-    amount_read it;
-    it.status = chinese_amount_read(TEXT(text), &it.told);
-    return it;
-}
+/* The readers that take nothing but a text. */
+#define READER(name, answer, call)                \
+    static answer name(_GoString_ text) {         \
+        answer it;                                \
+        it.status = call(TEXT(text), &it.told);   \
+        return it;                                \
+    }
 
-static amount_read read_typed_amount(_GoString_ text) {
-    amount_read it;
-    it.status = chinese_typed_amount_read(TEXT(text), &it.told);
-    return it;
-}
-
-static signed_amount_read read_signed_amount(_GoString_ text) {
-    signed_amount_read it;
-    it.status = chinese_signed_amount_read(TEXT(text), &it.told);
-    return it;
-}
-
-static signed_amount_read read_figures(_GoString_ text) {
-    signed_amount_read it;
-    it.status = chinese_figures_read(TEXT(text), &it.told);
-    return it;
-}
-
-static date_read read_date(_GoString_ text) {
-    date_read it;
-    it.status = chinese_date_read(TEXT(text), &it.told);
-    return it;
-}
+READER(read_amount, amount_read, chinese_amount_read)
+READER(read_typed_amount, amount_read, chinese_typed_amount_read)
+READER(read_signed_amount, signed_amount_read, chinese_signed_amount_read)
+READER(read_figures, signed_amount_read, chinese_figures_read)
+READER(read_date, date_read, chinese_date_read)
 
 /* A text that was printed, of which none has more bytes. */
 typedef struct { uint32_t status; size_t length; uint8_t text[CN_MOST_QUANTITY_BYTES]; } printed;

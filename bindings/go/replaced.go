@@ -18,9 +18,13 @@ type Replacing struct {
 	OneCharacter bool
 }
 
-// leaves says that it leaves what was found as it stands.
-func (it *Replacing) leaves(found Found) bool {
-	return found.IsAbout && !it.About || found.IsOneCharacter && !it.OneCharacter
+// takes says whether what was found is to be replaced.
+func (it *Replacing) takes(found Found) bool {
+	if found.IsAbout && !it.About || found.IsOneCharacter && !it.OneCharacter {
+		return false
+	}
+	_, err := found.Quantity(it.Method)
+	return err == nil
 }
 
 // ReplaceQuantities is the text with its quantities written anew: replace is given each that is
@@ -38,12 +42,12 @@ func ReplaceQuantities(
 	var done strings.Builder
 	at := 0
 	err := EachQuantity(text, &which.Wanted, func(found Found) bool {
-		if _, err := found.Quantity(which.Method); err != nil || which.leaves(found) {
+		if !which.takes(found) {
 			return true
 		}
-		if it, isReplaced := replace(found); isReplaced {
+		if written, isReplaced := replace(found); isReplaced {
 			done.WriteString(text[at:found.Start])
-			done.WriteString(it)
+			done.WriteString(written)
 			at = found.End
 		}
 		return true
