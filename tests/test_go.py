@@ -1,15 +1,21 @@
-"""The Go module: its layout, its tests and its examples, under the race detector too, and its
-answers, over its copy of the C source and with no network."""
+"""The Go module, over its copy of the C source and with no network: its layout, its tests and its
+examples, under the race detector too, and for other systems and processors, and its answers."""
 import re
 
 import pytest
 
 from installing import NATIVE, OF_GO
 from questions import wrong_answers
-from running import TOP, leave_out, needs, run
+from running import TOP, leave_out, needs, of_wine, run
 
 MODULE = TOP / "bindings/go"
 RACES = ("x86_64", "aarch64")  # where Go has a race detector
+# What compiles the tests for another system or processor, and what runs them here.
+OTHERS = {
+    "linux/arm": ("arm-linux-gnueabihf-gcc", "qemu-arm|qemu-arm-static"),
+    "linux/s390x": ("s390x-linux-gnu-gcc", "qemu-s390x|qemu-s390x-static"),
+    "windows/amd64": ("x86_64-w64-mingw32-gcc", "wine|wine64|/usr/lib/wine/wine64"),
+}
 
 
 @pytest.fixture(scope="module")
@@ -49,6 +55,15 @@ def test_races(go):
     if NATIVE not in RACES:
         leave_out(f"Go has no race detector for {NATIVE}")
     go("test", "-count=1", "-race", ".")
+
+
+@pytest.mark.parametrize("name", OTHERS)
+def test_elsewhere(go, tmp_path, name):
+    (compiler, runner), (system, processor) = OTHERS[name], name.split("/")
+    runner, program = needs(compiler, runner), tmp_path / "tests.exe"
+    own = {"GOOS": system, "GOARCH": processor, "CC": compiler}
+    go("test", "-c", "-ldflags=-extldflags=-static", "-o", program, ".", **own)
+    run(runner, program, cwd=MODULE, **of_wine(tmp_path))
 
 
 def test_answers(go):
