@@ -95,7 +95,8 @@ def needs(tool, *least):
     """Refuses a tool that is not there, or older than that."""
     if not shutil.which(tool):
         raise LeftOut(f"there is no {tool}")
-    version = re.search(r"\d+(\.\d+)+", run(tool, "--version"))[0]
+    word = "version" if tool == "go" else "--version"
+    version = re.search(r"\d+(\.\d+)+", run(tool, word))[0]
     if tuple(map(int, version.split("."))) < least:
         wanted = ".".join(map(str, least))
         raise LeftOut(f"{tool} is of version {version}, and {wanted} or later is needed")
@@ -142,6 +143,14 @@ class Clone:
         words = ("run", "--quiet", "--offline", "--example", "answers")
         return run("cargo", *words, text=asked, cwd=own, env=self.library)
 
+    def go(self, asked):
+        needs("go", 1, 19)
+        own = {"CC": shlex.join(self.cc), "CGO_ENABLED": "1", "GOCACHE": str(self.scratch / "go")}
+        own.update(GOFLAGS="-buildvcs=false", GOTOOLCHAIN="local", GOWORK="off")
+        return run(
+            "go", "run", "./answers", text=asked, cwd=BINDINGS / "go", env={**os.environ, **own}
+        )
+
     def javascript(self, asked):
         needs("node", 20)
         return run("node", BINDINGS / "web/answers.mjs", text=asked)
@@ -152,6 +161,7 @@ LANGUAGES = {
     "C++": Clone.cpp,
     "Python": Clone.python,
     "Rust": Clone.rust,
+    "Go": Clone.go,
     "JavaScript": Clone.javascript,
 }
 

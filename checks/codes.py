@@ -5,9 +5,10 @@ Usage: codes.py CN_C BINDINGS
 
 The tables of `codes.rt` give a type, way, script, case, form or unit its place as its code, `ANY` is
 the way behind them; `status.rt`, `flags.rt` and `quantity_form.rt` name the statuses, the flags of
-what is found, and the forms of a quantity. The header, the Rust crate and the Python file name each
-of them once, with the same number or in this order, and no other, as the JavaScript file lists
-them; but what a form is made of is named by the header alone. The header declares each
+what is found, and the forms of a quantity. The header, the Rust crate, the Python file and the Go
+file name each of them once, with the same number or in this order, and no other, as the JavaScript
+file lists them; but what a form is made of is named by the header alone, of which Go also takes the
+flags and the most bytes. The header declares each
 call that the crate exports, and no language has any other. Alike, too, are the most bytes of a
 text of each kind, which a clause of each file in BOUNDS bounds; the status of the C source alone
 for a text that is too long, and how long that is; the version of all, which is that of the first
@@ -31,13 +32,17 @@ TABLE = re.compile(r"^pub static (\w+): \[.*?\] = \[(.*?)\];", re.MULTILINE | re
 NAMED = re.compile(
     r"(?:^|[,;{])[ \t]*(?:pub const )?(?:CN_)?(\w+)(?:: u32)? = (\d+)\b", re.MULTILINE
 )
-LISTED = re.compile(r"^    (\w+) = \"", re.MULTILINE)
-END_OF_TABLE = re.compile(r"\n\}[ \w]*;?\n|\n\n\n")
+LISTED = re.compile(r"^(?:    (?=\w+ = \")|\t)(\w+)", re.MULTILINE)
+END_OF_TABLE = re.compile(r"\n\}[ \w]*;?\n|\n\)\n|\n\n\n")
 
 HEADER, RUST, PYTHON = "c/chinese_number.h", "rust/src/abi.rs", "python/chinese_number/__init__.py"
-JAVASCRIPT = "web/chinese-number.mjs"
+GO, JAVASCRIPT = "go/choices.go", "web/chinese-number.mjs"
 # The second file of a face.
-MORE = {RUST: "rust/src/lib.rs", PYTHON: "python/chinese_number/_library.py"}
+MORE = {
+    RUST: "rust/src/lib.rs",
+    PYTHON: "python/chinese_number/_library.py",
+    GO: "go/library.h",
+}
 # Where each table begins.
 BEGINNINGS = {
     HEADER: {
@@ -71,6 +76,16 @@ BEGINNINGS = {
         "FLAGS": "# The flags of what is found.\n",
         "STATUSES": "class Status(",
     },
+    # It has the flags and the most bytes of the header itself.
+    GO: {
+        "KINDS": "type kind ",
+        "WAYS": "type Way ",
+        "SCRIPTS": "type Script ",
+        "CASES": "type Case ",
+        "UNITS": "type Unit ",
+        "QUANTITY_FORMS": "type Form ",
+        "STATUSES": "type Status ",
+    },
 }
 # The inherited name of a script, which the crates in Rattle and Rust keep.
 INHERITED = {"simple": "simplified"}
@@ -79,10 +94,11 @@ TOO_LONG = {
     HEADER: "#define CN_TOO_LONG UINT32_MAX\n",
     RUST: "pub const TOO_LONG: u32 = u32::MAX;\n",
     PYTHON: "\n_TOO_LONG = 2**32 - 1\n",
+    GO: "\nconst TooLong Status = math.MaxUint32\n",
 }
 # The C source's text begins at an address of 32 bits, and so has a most length, which these files name.
 SOURCE = "source/chinese_number.c.in"
-OF_LENGTH = (HEADER, RUST, PYTHON, "source/README.md", MORE[RUST])
+OF_LENGTH = (HEADER, RUST, PYTHON, "source/README.md", MORE[RUST], GO, "go/doc.go", "go/README.md")
 EXPORTED = re.compile(r'^pub (?:unsafe )?extern "C" fn (\w+)', re.MULTILINE)
 CALL = r"chinese_(?:number|quantity|quantities|(?:signed_|typed_)?amount|figures|date)_\w+"
 CALLED = re.compile(rf"\b({CALL})\(|\blibrary\.({CALL})")
@@ -158,8 +174,9 @@ def found_by(bindings, patterns):
 
 
 def snake(name):
-    """TenThousand and NOT_UTF8 as ten_thousand and not_utf8."""
-    return name.lower() if name.isupper() else re.sub(r"\B([A-Z])", r"_\1", name).lower()
+    """TenThousand, NotADate, NotUTF8 and NOT_UTF8 as ten_thousand, not_a_date and not_utf8."""
+    parted = re.sub(r"\B(?=[A-Z][a-z])|(?<=[a-z])(?=[A-Z])", "_", name)
+    return name.lower() if name.isupper() else parted.lower()
 
 
 def numbered(names):
@@ -337,11 +354,11 @@ def main():
         if texts[language].count(line) != 1:
             sys.exit(f"codes: {language} lacks the line {line.strip()!r}")
     calls = compare_calls(crate, texts)
-    compare_bounds(crate, texts)
+    compare_bounds(crate, {it: text for it, text in texts.items() if it != GO})
     compare_length(bindings)
     compare_refusals(bindings.resolve().parent)
     print(
-        f"codes: {calls} calls, {sum(map(len, wanted.values()))} codes and statuses, alike in C, Rust, Python and JavaScript, of version {versions.pop()}"
+        f"codes: {calls} calls, {sum(map(len, wanted.values()))} codes and statuses, alike in C, Rust, Python, JavaScript and Go, of version {versions.pop()}"
     )
 
 

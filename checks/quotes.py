@@ -14,6 +14,7 @@ FILES = {
     "c": "c/example.c",
     "cpp": "c/example.cpp",
     "rust": "rust/src/lib.rs",
+    "go": "go/example_test.go",
     "python": "python/chinese_number/__init__.py",
     "js": "web/README.md",
 }
@@ -22,6 +23,7 @@ PAGES = {
     "README.md": [*FILES],
     "c/README.md": ["c", "cpp"],
     "rust/README.md": ["rust"],
+    "go/README.md": ["go"],
     "python/README.md": ["python"],
 }
 

@@ -23,6 +23,8 @@ edition = "2021"
 
 [dependencies]
 """
+# Go as it is, with a C compiler and without a network.
+OF_GO = {"CGO_ENABLED": "1", "GOPROXY": "off", "GOTOOLCHAIN": "local", "GOWORK": "off"}
 
 
 def user(name):

@@ -8,7 +8,7 @@ import re
 
 import pytest
 
-from running import TOP, needs, needs_compiler, run, write
+from running import TOP, needs, needs_compiler, of_wine, run, write
 from test_c import EACH_WARNING, FIRST_STEPS, FIRST_STEPS_OF_CPP
 
 DIST, EXAMPLE = TOP / "dist", TOP / "bindings/c/example.c"
@@ -42,10 +42,7 @@ def sum_of(folder, words, library, runner=(), **more):
     """The sum that `same.c` shows over a library."""
     program = folder / "same.exe"
     run(*words, "-I", DIST, TOP / "checks/same.c", library, "-o", program, cwd=folder)
-    # For wine: a Windows of its own, without what asks for downloads or makes menus.
-    own = {"HOME": str(folder), "WINEPREFIX": str(folder / "wine"), "WINEDEBUG": "-all"}
-    own["WINEDLLOVERRIDES"] = "mscoree,mshtml,winemenubuilder.exe="
-    said = run(*runner, program, cwd=folder, **own, **more)
+    said = run(*runner, program, cwd=folder, **of_wine(folder), **more)
     (found,) = set(re.findall(r"sum ([0-9a-f]{16})", said))
     return found
 

@@ -13,7 +13,7 @@ from pathlib import Path
 
 import pytest
 
-from installing import CPYTHONS, Page, commands, of_rust, user, virtual_environment
+from installing import CPYTHONS, OF_GO, Page, commands, of_rust, user, virtual_environment
 from running import ENVIRONMENT, HEADER, TOP, fail, needs, run, write
 
 PAGE = (TOP / "bindings/README.md").read_text(encoding="utf-8")
@@ -128,6 +128,24 @@ def test_cargo(follow, way):
     user = of_rust(follow.folder, RUST)
     own = {"CARGO_HOME": str(user / "cargo"), "CARGO_TARGET_DIR": str(user / "target")}
     follow(OF_CARGO[way], **own)
+
+
+# The file in which go keeps that a module is vendored takes no blank in a path.
+BY_LINK = """\
+ln -s "$CLONE" clone
+go mod edit -replace chinese-number-proved/chinesenumber=./clone/bindings/go
+go get -d .
+go mod vendor
+rm clone
+"""
+OF_MODULES = {"by path": by_page("Go"), "vendored": BY_LINK}
+
+
+@pytest.mark.parametrize("way", OF_MODULES)
+def test_go(follow, way):
+    needs("cc", "go 1.19")
+    write(follow.folder / "main.go", user("main.go"))
+    follow(f"go mod init user\n{OF_MODULES[way]}go run .\n", NUMBER, **OF_GO)
 
 
 # As a part it builds as its user's project does, and installs nothing of its own.

@@ -1,0 +1,259 @@
+// Command answers answers the questions of test.py, which says what they are, a line each.
+package main
+
+import (
+	"bufio"
+	"fmt"
+	"math/big"
+	"os"
+	"strings"
+	"time"
+
+	cn "chinese-number-proved/chinesenumber"
+)
+
+var ways = map[string]cn.Way{
+	"naive":        cn.Digits,
+	"low":          cn.Low,
+	"ten_thousand": cn.TenThousand,
+	"middle":       cn.Middle,
+	"high":         cn.High,
+	"any":          cn.Any,
+}
+
+var scripts = map[string]cn.Script{"traditional": cn.Traditional, "simple": cn.Simplified}
+
+var cases = map[string]cn.Case{"upper": cn.Upper, "lower": cn.Lower}
+
+// The names of forms, in the order of the forms.
+var forms = []string{"whole", "decimal", "percent", "fraction"}
+
+// told is what is said of the answer of a call.
+func told[T any](answer T, err error) string {
+	if err != nil {
+		return "err " + err.Error()
+	}
+	return fmt.Sprint("ok ", answer)
+}
+
+func bigNumber(decimal string) *big.Int {
+	number, isNumber := new(big.Int).SetString(decimal, 10)
+	if !isNumber {
+		panic("no number: " + decimal)
+	}
+	return number
+}
+
+func signed(decimal string) int64 {
+	return bigNumber(decimal).Int64()
+}
+
+func unsigned(decimal string) uint64 {
+	return bigNumber(decimal).Uint64()
+}
+
+func read[T cn.Integer](words []string) string {
+	return told(cn.ToNumber[T](words[1], ways[words[0]]))
+}
+
+// The readers of each type, which are given a way and a text.
+var readers = map[string]func([]string) string{
+	"u8": read[uint8], "u16": read[uint16], "u32": read[uint32], "u64": read[uint64],
+	"i8": read[int8], "i16": read[int16], "i32": read[int32], "i64": read[int64],
+	"u128": func(words []string) string { return told(cn.ToBigUint(words[1], ways[words[0]])) },
+	"i128": func(words []string) string { return told(cn.ToBigInt(words[1], ways[words[0]])) },
+}
+
+// style is that of a way, a script and a case.
+func style(words []string) *cn.Style {
+	return &cn.Style{Way: ways[words[0]], Script: scripts[words[1]], Case: cases[words[2]]}
+}
+
+func write[T cn.Integer](words []string) string {
+	number := bigNumber(words[3])
+	value := T(number.Uint64())
+	if number.Sign() < 0 {
+		value = T(number.Int64())
+	}
+	return told(cn.ToChinese(value, style(words)))
+}
+
+func writeBig(words []string) string {
+	return told(cn.BigIntToChinese(bigNumber(words[3]), style(words)))
+}
+
+// The writers of each type, which are given a way, a script, a case and a number.
+var writers = map[string]func([]string) string{
+	"u8": write[uint8], "u16": write[uint16], "u32": write[uint32], "u64": write[uint64],
+	"i8": write[int8], "i16": write[int16], "i32": write[int32], "i64": write[int64],
+	"u128": writeBig, "i128": writeBig,
+}
+
+// has says whether a word is among others with + between them.
+func has(words, word string) bool {
+	return strings.Contains("+"+words+"+", "+"+word+"+")
+}
+
+func amountForm(script, words string) *cn.AmountForm {
+	return &cn.AmountForm{
+		Script:         scripts[script],
+		Currency:       has(words, "currency"),
+		RoundYuan:      has(words, "round_yuan"),
+		UprightClosing: has(words, "upright_closing"),
+	}
+}
+
+func writeDate(script, date string) string {
+	day, err := time.Parse("2006-01-02", date)
+	if err != nil {
+		panic(err)
+	}
+	return told(cn.DateToChinese(cn.DateOf(day), scripts[script]))
+}
+
+func shown(it cn.Quantity) string {
+	return fmt.Sprintf("%v/%v %v", it.Numerator(), it.Denominator(), forms[it.Form()])
+}
+
+// shownQuantity is the answer of a call, with the quantity in words.
+func shownQuantity(it cn.Quantity, err error) string {
+	if err != nil {
+		return told("", err)
+	}
+	return told(shown(it), nil)
+}
+
+// quantity is that of words such as 350000/10 decimal.
+func quantity(words string) cn.Quantity {
+	numbers, name, _ := strings.Cut(words, " ")
+	numerator, denominator, _ := strings.Cut(numbers, "/")
+	for form, its := range forms {
+		if its == name {
+			it, err := cn.NewQuantity(bigNumber(numerator), bigNumber(denominator), cn.Form(form))
+			if err != nil {
+				panic(err)
+			}
+			return it
+		}
+	}
+	panic("no form is named " + name)
+}
+
+func replacing(words string) *cn.Replacing {
+	return &cn.Replacing{About: has(words, "about"), OneCharacter: has(words, "one")}
+}
+
+func inNumerals(found cn.Found) (string, bool) {
+	it, err := found.Quantity(cn.TenThousand)
+	if err != nil || it.Form() == cn.Fraction {
+		return "", false
+	}
+	text, err := it.ToChinese(nil)
+	return text, err == nil
+}
+
+func flags(found cn.Found) string {
+	var told []string
+	for _, flag := range []struct {
+		isTold bool
+		name   string
+	}{
+		{found.IsPlain, "plain"},
+		{found.StandsAlone, "alone"},
+		{found.IsAbout, "about"},
+		{found.IsOneCharacter, "one"},
+	} {
+		if flag.isTold {
+			told = append(told, flag.name)
+		}
+	}
+	return strings.Join(told, " ")
+}
+
+// inPlace is the text with what is shown of each that was found, in brackets, in its place.
+func inPlace(text string, all []cn.Found, err error, show func(cn.Found) string) string {
+	var done strings.Builder
+	at := 0
+	for _, found := range all {
+		done.WriteString(text[at:found.Start] + "[" + show(found) + "]")
+		at = found.End
+	}
+	return told(done.String()+text[at:], err)
+}
+
+func showNumber(found cn.Found) string {
+	return told(found.BigInt(cn.TenThousand))
+}
+
+func showQuantity(found cn.Found) string {
+	return shownQuantity(found.Quantity(cn.TenThousand))
+}
+
+func find(text string, show func(cn.Found) string) string {
+	all, err := cn.FindNumbers(text, nil)
+	return inPlace(text, all, err, show)
+}
+
+func findQuantities(text string) string {
+	all, err := cn.FindQuantities(text, nil)
+	return inPlace(text, all, err, showQuantity)
+}
+
+// The answers to each question, by its name; each is given the other words.
+var answers = map[string]func([]string) string{
+	"read":  func(words []string) string { return readers[words[0]](words[1:]) },
+	"print": func(words []string) string { return writers[words[0]](words[1:]) },
+	"read_amount": func(words []string) string {
+		return told(cn.ChineseToAmount(words[0]))
+	},
+	"print_amount": func(words []string) string {
+		return told(cn.AmountToChinese(unsigned(words[1]), amountForm(words[0], "")))
+	},
+	"print_amount_as": func(words []string) string {
+		return told(cn.AmountToChinese(unsigned(words[2]), amountForm(words[0], words[1])))
+	},
+	"read_typed_amount": func(words []string) string {
+		return told(cn.ChineseToAmountAsTyped(words[0]))
+	},
+	"read_signed_amount": func(words []string) string {
+		return told(cn.ChineseToSignedAmount(words[0]))
+	},
+	"print_signed_amount": func(words []string) string {
+		return told(cn.SignedAmountToChinese(signed(words[1]), amountForm(words[0], "")))
+	},
+	"yuan_to_fen": func(words []string) string { return told(cn.YuanToFen(words[0])) },
+	"read_date":   func(words []string) string { return told(cn.ChineseToDate(words[0])) },
+	"print_date":  func(words []string) string { return writeDate(words[0], words[1]) },
+	"find":        func(words []string) string { return find(words[0], showNumber) },
+	"flags":       func(words []string) string { return find(words[0], flags) },
+	"read_quantity": func(words []string) string {
+		return shownQuantity(cn.ToQuantity(words[1], ways[words[0]]))
+	},
+	"find_quantities": func(words []string) string { return findQuantities(words[0]) },
+	"print_quantity": func(words []string) string {
+		return told(quantity(words[3]).ToChinese(style(words)))
+	},
+	"quantity_figures": func(words []string) string {
+		return told(quantity(words[0]).ToFigures(), nil)
+	},
+	"trim_quantity": func(words []string) string {
+		return told(shown(quantity(words[0]).Trimmed()), nil)
+	},
+	"quantities_to_figures": func(words []string) string {
+		return told(cn.QuantitiesToFigures(words[1], replacing(words[0])))
+	},
+	"replace_quantities": func(words []string) string {
+		return told(cn.ReplaceQuantities(words[1], replacing(words[0]), inNumerals))
+	},
+}
+
+func main() {
+	lines := bufio.NewScanner(os.Stdin)
+	for lines.Scan() {
+		words := strings.Split(lines.Text(), "\t")
+		fmt.Println(answers[words[0]](words[1:]))
+	}
+	if err := lines.Err(); err != nil {
+		panic(err)
+	}
+}

@@ -1,0 +1,183 @@
+package chinesenumber_test
+
+import (
+	"errors"
+	"fmt"
+	"math/big"
+	"time"
+
+	cn "chinese-number-proved/chinesenumber"
+)
+
+func Example() {
+	found, _ := cn.FindNumbers("百分之五十的人", nil)
+	for _, it := range found {
+		if number, err := it.Number(cn.Any); err == nil {
+			fmt.Println(number) // 50
+		}
+	}
+	number, _ := cn.ToNumber[int64]("一百二", cn.Any)
+	fmt.Println(number) // 120
+	_, err := cn.ToNumber[int8]("负一百二十九", cn.Any)
+	fmt.Println(err) // number is too small
+
+	text, _ := cn.ToChinese(105_000, nil)
+	fmt.Println(text) // 十万五千
+	text, _ = cn.ToChinese(120, &cn.Style{Script: cn.Traditional, Case: cn.Upper})
+	fmt.Println(text) // 壹佰貳拾
+
+	fen, _ := cn.YuanToFen("-1,409.50")
+	text, _ = cn.SignedAmountToChinese(fen, nil)
+	fmt.Println(text) // 负壹仟肆佰零玖元伍角整
+	text, _ = cn.AmountToChinese(1500, &cn.AmountForm{Currency: true, UprightClosing: true})
+	fmt.Println(text) // 人民币壹拾伍元正
+	amount, _ := cn.ChineseToAmountAsTyped("⊗人民币：壹拾 伍元整")
+	fmt.Println(amount) // 1500
+	text, _ = cn.DateToChinese(cn.Date{Year: 2026, Month: time.January, Day: 15}, cn.Simplified)
+	fmt.Println(text) // 贰零贰陆年零壹月壹拾伍日
+
+	quantity, _ := cn.ToQuantity("12.5%", cn.TenThousand)
+	fmt.Println(quantity.Rat()) // 1/8
+	text, _ = quantity.ToChinese(nil)
+	fmt.Println(text) // 百分之十二点五
+	text, _ = cn.QuantitiesToFigures("一般共三点五万元，占１２．５０％", nil)
+	fmt.Println(text) // 一般共35000元，占12.5%
+	// Output:
+	// 50
+	// 120
+	// number is too small
+	// 十万五千
+	// 壹佰貳拾
+	// 负壹仟肆佰零玖元伍角整
+	// 人民币壹拾伍元正
+	// 1500
+	// 贰零贰陆年零壹月壹拾伍日
+	// 1/8
+	// 百分之十二点五
+	// 一般共35000元，占12.5%
+}
+
+func ExampleError() {
+	text := " 二 十 十 "
+	_, err := cn.ToNumber[int64](text, cn.Any)
+	var refusal *cn.Error
+	if errors.As(err, &refusal) {
+		fmt.Println(refusal)
+		fmt.Printf("%v %q\n", refusal.Status == cn.Incorrect, text[refusal.ByteIndex:])
+	}
+	_, err = cn.ChineseToAmount("壹佰元")
+	fmt.Println(err, errors.Is(err, cn.Unfinished))
+	// Output:
+	// the chinese number is incorrect (position: 3)
+	// true "十 十 "
+	// the amount is not finished true
+}
+
+func ExampleToBigInt() {
+	number, _ := cn.ToBigInt("负一极", cn.Low)
+	fmt.Println(number)
+	text, _ := cn.BigIntToChinese(new(big.Int).Lsh(big.NewInt(1), 127), nil)
+	again, _ := cn.ToBigUint(text, cn.TenThousand)
+	fmt.Println(again.BitLen())
+	// Output:
+	// -1000000000000000
+	// 128
+}
+
+func ExampleDateOf() {
+	day := time.Date(2026, time.October, 20, 23, 30, 0, 0, time.UTC)
+	text, _ := cn.DateToChinese(cn.DateOf(day), cn.Simplified)
+	fmt.Println(text)
+	date, _ := cn.ChineseToDate(text)
+	fmt.Println(date, time.Date(date.Year, date.Month, date.Day, 0, 0, 0, 0, time.UTC).Weekday())
+	// Output:
+	// 贰零贰陆年零壹拾月零贰拾日
+	// 2026-10-20 Tuesday
+}
+
+func ExampleFindNumbers() {
+	found, _ := cn.FindNumbers("买2两，三个亿", nil)
+	for _, it := range found {
+		fmt.Println(it.Start, it.End, it.Text, it.IsPlain)
+	}
+	// Output:
+	// 3 4 2 true
+	// 4 7 两 true
+	// 10 19 三个亿 false
+}
+
+func ExampleEachNumber() {
+	err := cn.EachNumber("第二十三回，第二十四回", nil, func(found cn.Found) bool {
+		fmt.Println(found.Text)
+		return false
+	})
+	fmt.Println(err)
+	// Output:
+	// 二十三
+	// <nil>
+}
+
+func ExampleFindQuantities() {
+	found, _ := cn.FindQuantities("增长12.5%，共3.5万人，剩三分之一，五六十", nil)
+	for _, it := range found {
+		quantity, err := it.Quantity(cn.TenThousand)
+		fmt.Println(it.Text, quantity, err)
+	}
+	// Output:
+	// 12.5% 12.5% <nil>
+	// 3.5万 35000 <nil>
+	// 三分之一 1/3 <nil>
+	// 五六十 0/0 the chinese number is incorrect (position: 0)
+}
+
+func ExampleQuantity() {
+	it, _ := cn.ToQuantity("3.5万", cn.TenThousand)
+	whole, isWhole := it.Whole()
+	fmt.Println(it.Numerator(), it.Denominator(), it.Form() == cn.Decimal, whole, isWhole)
+	same, _ := cn.NewDecimal(350_000, 1)
+	fmt.Println(it == same, it == it.Trimmed())
+	text, _ := it.ToChinese(nil)
+	trimmed, _ := it.Trimmed().ToChinese(nil)
+	fmt.Println(text, trimmed)
+	// Output:
+	// 350000 10 true 35000 true
+	// true false
+	// 三万五千点零 三万五千
+}
+
+func ExampleNewQuantity() {
+	third, _ := cn.NewFraction(1, 3)
+	percentage, _ := cn.NewPercent(125, 1)
+	large, _ := cn.NewQuantity(big.NewInt(-7), new(big.Int).Lsh(big.NewInt(1), 100), cn.Fraction)
+	fmt.Println(third, percentage, large)
+	_, err := cn.NewFraction(1, 0)
+	fmt.Println(err)
+	// Output:
+	// 1/3 12.5% -7/1267650600228229401496703205376
+	// the denominator is 0
+}
+
+func ExampleReplaceQuantities() {
+	text := "2026年市值3.5亿元，占12.5%"
+	spoken, _ := cn.ReplaceQuantities(text, nil, func(found cn.Found) (string, bool) {
+		if quantity, err := found.Quantity(cn.TenThousand); err == nil {
+			it, err := quantity.Trimmed().ToChinese(nil)
+			return it, err == nil
+		}
+		return "", false
+	})
+	fmt.Println(spoken)
+	// Output:
+	// 二千零二十六年市值三亿五千万元，占百分之十二点五
+}
+
+func ExampleQuantitiesToFigures() {
+	text := "一共十几个，三百多人"
+	usual, _ := cn.QuantitiesToFigures(text, nil)
+	all, _ := cn.QuantitiesToFigures(text, &cn.Replacing{About: true, OneCharacter: true})
+	fmt.Println(usual)
+	fmt.Println(all)
+	// Output:
+	// 一共十几个，三百多人
+	// 1共10几个，300多人
+}

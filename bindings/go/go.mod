@@ -1,0 +1,3 @@
+module chinese-number-proved/chinesenumber
+
+go 1.19

@@ -1,0 +1,52 @@
+package chinesenumber
+
+// Without what a debugger wants, the C source is compiled in half the time.
+
+// #cgo CFLAGS: -g0
+// #include "library.h"
+import "C"
+
+// halves are the low and the high 64 bits of a number, in two's complement.
+type halves struct {
+	low, high uint64
+}
+
+func halvesOf(number C.cn_number) halves {
+	return halves{uint64(number.low), uint64(number.high)}
+}
+
+func (it halves) number() C.cn_number {
+	return C.cn_number{low: C.uint64_t(it.low), high: C.uint64_t(it.high)}
+}
+
+// code is that of a choice, or of the other one where none is made.
+func code[T Way | Script | Case | Unit](choice, other T) C.uint32_t {
+	if choice == 0 {
+		choice = other
+	}
+	return C.uint32_t(choice - 1)
+}
+
+// flag is a flag where it is set, and else none.
+func flag(isSet bool, it C.uint32_t) C.uint32_t {
+	if isSet {
+		return it
+	}
+	return 0
+}
+
+// refusal is the error of a status; of that of a call that is done there is none.
+func refusal(what string, status C.uint32_t, charIndex, byteIndex C.size_t) error {
+	if status == C.CN_DONE {
+		return nil
+	}
+	return &Error{Status(status), int(charIndex), int(byteIndex), what}
+}
+
+// printed is the text that a call has printed.
+func printed(what string, it *C.printed) (string, error) {
+	if it.status != C.CN_DONE {
+		return "", refusal(what, it.status, 0, 0)
+	}
+	return string(it.text[:it.length]), nil
+}

@@ -1,0 +1,120 @@
+/* The calls of the library in a form for Go, which each file with `import "C"` includes. A call
+ * takes texts where they are and answers with a value, so that C is given no pointer of Go but
+ * those of texts and of a room for one. */
+#ifndef LIBRARY_H
+#define LIBRARY_H
+
+#include "chinese_number.h"
+
+#define TEXT(text) cn_bytes(_GoStringPtr(text), _GoStringLen(text)), _GoStringLen(text)
+
+typedef struct { uint32_t status; cn_reading told; } number_read;
+typedef struct { uint32_t status; cn_quantity told; } quantity_read;
+typedef struct { uint32_t status; cn_amount told; } amount_read;
+typedef struct { uint32_t status; cn_signed_amount told; } signed_amount_read;
+typedef struct { uint32_t status; cn_date told; } date_read;
+
+static inline number_read read_number(_GoString_ text, uint32_t kind, uint32_t way) {
+    number_read it;
+    it.status = chinese_number_read(TEXT(text), kind, way, &it.told);
+    return it;
+}
+
+static inline quantity_read read_quantity(_GoString_ text, uint32_t method) {
+    quantity_read it;
+    it.status = chinese_quantity_read(TEXT(text), method, &it.told);
+    return it;
+}
+
+/* The readers that take nothing but a text. */
+#define READER(name, answer, call)                  \
+    static inline answer name(_GoString_ text) {    \
+        answer it;                                  \
+        it.status = call(TEXT(text), &it.told);     \
+        return it;                                  \
+    }
+
+READER(read_amount, amount_read, chinese_amount_read)
+READER(read_typed_amount, amount_read, chinese_typed_amount_read)
+READER(read_signed_amount, signed_amount_read, chinese_signed_amount_read)
+READER(read_figures, signed_amount_read, chinese_figures_read)
+READER(read_date, date_read, chinese_date_read)
+
+/* A text that was printed, of which none has more bytes. */
+typedef struct { uint32_t status; size_t length; uint8_t text[CN_MOST_QUANTITY_BYTES]; } printed;
+
+#define ROOM(it) (it).text, sizeof (it).text, &(it).length
+
+static inline printed print_number(cn_number number, uint32_t kind, uint32_t way, uint32_t script,
+                                   uint32_t letter_case) {
+    printed it;
+    it.status = chinese_number_print(number.low, number.high, kind, way, script, letter_case,
+                                     ROOM(it));
+    return it;
+}
+
+static inline printed print_quantity(cn_quantity quantity, uint32_t method, uint32_t script,
+                                     uint32_t letter_case) {
+    printed it;
+    it.status = chinese_quantity_print(&quantity, method, script, letter_case, ROOM(it));
+    return it;
+}
+
+static inline printed print_quantity_figures(cn_quantity quantity) {
+    printed it;
+    it.status = chinese_quantity_figures(&quantity, ROOM(it));
+    return it;
+}
+
+static inline printed print_amount(uint64_t fen, uint32_t script, uint32_t form) {
+    printed it;
+    it.status = chinese_amount_print(fen, script, form, ROOM(it));
+    return it;
+}
+
+static inline printed print_signed_amount(int64_t fen, uint32_t script, uint32_t form) {
+    printed it;
+    it.status = chinese_signed_amount_print(fen, script, form, ROOM(it));
+    return it;
+}
+
+static inline printed print_date(uint32_t year, uint32_t month, uint32_t day, uint32_t script) {
+    printed it;
+    it.status = chinese_date_print(year, month, day, script, ROOM(it));
+    return it;
+}
+
+enum { AT_ONCE = 8 };
+
+/* Some of what is found in a text, which is tested to be UTF-8 at its start alone. */
+typedef struct { uint32_t status; size_t count; cn_span spans[AT_ONCE]; } found;
+
+static inline found find_numbers(_GoString_ text, size_t from, uint32_t upper,
+                                 uint32_t greatest) {
+    found it;
+    it.status = (from == 0 ? chinese_number_find : chinese_number_find_utf8)(
+        TEXT(text), from, upper, greatest, it.spans, AT_ONCE, &it.count);
+    return it;
+}
+
+static inline found find_quantities(_GoString_ text, size_t from, uint32_t upper,
+                                    uint32_t greatest) {
+    found it;
+    it.status = (from == 0 ? chinese_quantity_find : chinese_quantity_find_utf8)(
+        TEXT(text), from, upper, greatest, it.spans, AT_ONCE, &it.count);
+    return it;
+}
+
+/* How many bytes a text has that is written into a room. */
+typedef struct { uint32_t status; size_t length; } written;
+
+static inline written write_figures(_GoString_ text, uint32_t upper, uint32_t greatest,
+                                    uint32_t method, uint32_t included, uint8_t *room,
+                                    size_t room_length) {
+    written it;
+    it.status = chinese_quantities_to_figures(TEXT(text), upper, greatest, method, included, room,
+                                              room_length, &it.length);
+    return it;
+}
+
+#endif

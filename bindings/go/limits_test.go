@@ -1,0 +1,267 @@
+package chinesenumber_test
+
+import (
+	"errors"
+	"math"
+	"math/big"
+	"strings"
+	"sync"
+	"testing"
+
+	cn "chinese-number-proved/chinesenumber"
+)
+
+// wantStatus fails where an error is not that of a status; that of Done is none.
+func wantStatus(t *testing.T, what string, err error, wanted cn.Status) {
+	t.Helper()
+	if wanted == cn.Done && err != nil || wanted != cn.Done && !errors.Is(err, wanted) {
+		t.Errorf("%s: %v, and not %v", what, err, wanted)
+	}
+}
+
+func thereAndBack[T cn.Integer](t *testing.T, numbers ...T) {
+	for _, number := range numbers {
+		text, err := cn.ToChinese(number, nil)
+		wantStatus(t, "to write", err, cn.Done)
+		again, err := cn.ToNumber[T](text, cn.Any)
+		wantStatus(t, text, err, cn.Done)
+		if again != number {
+			t.Errorf("%v is written as %s, and read as %v", number, text, again)
+		}
+	}
+}
+
+type ownType int16
+
+func TestEachType(t *testing.T) {
+	thereAndBack[int8](t, math.MinInt8, -1, math.MaxInt8)
+	thereAndBack[int16](t, math.MinInt16, -1, math.MaxInt16)
+	thereAndBack[int32](t, math.MinInt32, -1, math.MaxInt32)
+	thereAndBack[int64](t, math.MinInt64, -1, math.MaxInt64)
+	thereAndBack[int](t, math.MinInt, -1, math.MaxInt)
+	thereAndBack[uint8](t, 0, math.MaxUint8)
+	thereAndBack[uint16](t, 0, math.MaxUint16)
+	thereAndBack[uint32](t, 0, math.MaxUint32)
+	thereAndBack[uint64](t, 0, math.MaxUint64)
+	thereAndBack[uint](t, 0, math.MaxUint)
+	thereAndBack[uintptr](t, 0, math.MaxUint)
+	thereAndBack[ownType](t, math.MinInt16, -1, math.MaxInt16)
+	_, err := cn.ToNumber[uint8]("二百五十六", cn.Any)
+	wantStatus(t, "256 as a uint8", err, cn.TooLarge)
+	_, err = cn.ToNumber[ownType]("负三万二千七百六十九", cn.Any)
+	wantStatus(t, "-32769 as an int16", err, cn.TooSmall)
+	_, err = cn.ToNumber[uint64]("负一", cn.Any)
+	wantStatus(t, "-1 as a uint64", err, cn.Incorrect)
+}
+
+// power is a sum of powers of two, below zero where it says so.
+func power(sign int64, exponent uint, more int64) *big.Int {
+	it := new(big.Int).Lsh(big.NewInt(sign), exponent)
+	return it.Add(it, big.NewInt(more))
+}
+
+func wantNumber(t *testing.T, text string, wanted *big.Int) {
+	read := cn.ToBigUint
+	if wanted.Sign() < 0 {
+		read = cn.ToBigInt
+	}
+	number, err := read(text, cn.Any)
+	wantStatus(t, text, err, cn.Done)
+	if number.Cmp(wanted) != 0 {
+		t.Errorf("%v is written as %s, and read as %v", wanted, text, number)
+	}
+}
+
+func TestBigInt(t *testing.T) {
+	for _, row := range []struct {
+		number *big.Int
+		status cn.Status
+	}{
+		{power(-1, 127, 0), cn.Done},
+		{power(-1, 64, 0), cn.Done},
+		{power(-1, 0, 0), cn.Done},
+		{power(1, 64, 5), cn.Done},
+		{power(1, 128, -1), cn.Done},
+		{power(-1, 127, -1), cn.NotHeld},
+		{power(1, 128, 0), cn.NotHeld},
+		{power(-1, 20_000, 0), cn.NotHeld},
+		{power(1, 20_000, 1), cn.NotHeld},
+	} {
+		text, err := cn.BigIntToChinese(row.number, nil)
+		wantStatus(t, "to write", err, row.status)
+		if row.status == cn.Done {
+			wantNumber(t, text, row.number)
+		}
+	}
+	number, err := cn.ToBigInt("x", cn.Any)
+	wantStatus(t, "x", err, cn.Incorrect)
+	if number != nil {
+		t.Errorf("x is read as %v", number)
+	}
+}
+
+// errorOf is the error of an answer.
+func errorOf[T any](_ T, err error) error {
+	return err
+}
+
+func everyOne(cn.Found) (string, bool) {
+	return "", true
+}
+
+func TestUnknownChoices(t *testing.T) {
+	quantity, _ := cn.NewDecimal(5, 1)
+	one, first := big.NewInt(1), cn.Date{Year: 1, Month: 1, Day: 1}
+	for what, err := range map[string]error{
+		"a way":         errorOf(cn.ToBigInt("一", math.MaxUint32)),
+		"a way to read": errorOf(cn.ToNumber[int]("一", cn.Any+1)),
+		"any to write":  errorOf(cn.ToChinese(1, &cn.Style{Way: cn.Any})),
+		"a script":      errorOf(cn.ToChinese(1, &cn.Style{Script: 3})),
+		"a case":        errorOf(quantity.ToChinese(&cn.Style{Case: 3})),
+		"digits":        errorOf(quantity.ToChinese(&cn.Style{Way: cn.Digits})),
+		"of an amount":  errorOf(cn.AmountToChinese(1, &cn.AmountForm{Script: 3})),
+		"of a date":     errorOf(cn.DateToChinese(first, 3)),
+		"a form":        errorOf(cn.NewQuantity(one, one, 4)),
+		"a method":      errorOf(cn.ToQuantity("一", cn.Any)),
+		"a unit":        errorOf(cn.FindNumbers("一", &cn.Wanted{Greatest: 17})),
+		"of found ones": errorOf(cn.Found{Text: "一", IsPlain: true}.Number(7)),
+		"to replace":    errorOf(cn.ReplaceQuantities("", &cn.Replacing{Method: 1}, everyOne)),
+		"in figures":    errorOf(cn.QuantitiesToFigures("", &cn.Replacing{Method: 6})),
+	} {
+		wantStatus(t, what, err, cn.Unknown)
+	}
+}
+
+// errorsOf are the errors of each call that takes a text.
+func errorsOf(text string) map[string]error {
+	return map[string]error{
+		"ToNumber":               errorOf(cn.ToNumber[int](text, 0)),
+		"ToBigInt":               errorOf(cn.ToBigInt(text, 0)),
+		"ToQuantity":             errorOf(cn.ToQuantity(text, 0)),
+		"ChineseToAmount":        errorOf(cn.ChineseToAmount(text)),
+		"ChineseToSignedAmount":  errorOf(cn.ChineseToSignedAmount(text)),
+		"ChineseToAmountAsTyped": errorOf(cn.ChineseToAmountAsTyped(text)),
+		"YuanToFen":              errorOf(cn.YuanToFen(text)),
+		"ChineseToDate":          errorOf(cn.ChineseToDate(text)),
+		"FindNumbers":            errorOf(cn.FindNumbers(text, nil)),
+		"FindQuantities":         errorOf(cn.FindQuantities(text, nil)),
+		"QuantitiesToFigures":    errorOf(cn.QuantitiesToFigures(text, nil)),
+		"ReplaceQuantities":      errorOf(cn.ReplaceQuantities(text, nil, everyOne)),
+	}
+}
+
+func TestTexts(t *testing.T) {
+	for _, text := range []string{"\xff", "一\xe4\xb8", "三点五万\xed\xa0\x80"} {
+		for name, err := range errorsOf(text) {
+			wantStatus(t, name, err, cn.NotUTF8)
+		}
+	}
+	for name, err := range errorsOf("") {
+		wanted := cn.Done
+		if strings.HasPrefix(name, "To") {
+			wanted = cn.Empty
+		} else if strings.HasPrefix(name, "Chinese") || name == "YuanToFen" {
+			wanted = cn.Unfinished
+		}
+		wantStatus(t, name+" of nothing", err, wanted)
+	}
+}
+
+func TestDates(t *testing.T) {
+	const far = math.MaxInt/2 + 1 // whose last 32 bits are 0, where an int has 64
+	for _, date := range []cn.Date{
+		{}, {2026, 2, 29}, {2026, 13, 1}, {10_000, 1, 1}, {-1, 1, 1},
+		{2026 + far, 1, 1}, {2026, 1 + far, 1}, {2026, 1, 1 + far}, {2026, 1, math.MinInt},
+	} {
+		_, err := cn.DateToChinese(date, cn.Traditional)
+		wantStatus(t, date.String(), err, cn.NotADate)
+	}
+}
+
+func TestQuantities(t *testing.T) {
+	var none cn.Quantity
+	_, err := none.ToChinese(nil)
+	wantStatus(t, "the zero quantity", err, cn.NotAQuantity)
+	for _, row := range []struct {
+		made     func(int64, uint) (cn.Quantity, error)
+		decimals uint
+		status   cn.Status
+	}{
+		{cn.NewDecimal, 38, cn.Done},
+		{cn.NewDecimal, 39, cn.NotHeld},
+		{cn.NewDecimal, math.MaxUint, cn.NotHeld},
+		{cn.NewPercent, 36, cn.Done},
+		{cn.NewPercent, 37, cn.NotHeld},
+		{cn.NewPercent, math.MaxUint, cn.NotHeld},
+	} {
+		it, err := row.made(-5, row.decimals)
+		wantStatus(t, it.String(), err, row.status)
+	}
+	for _, denominator := range []int64{-1, math.MinInt64} {
+		_, err := cn.NewQuantity(big.NewInt(1), big.NewInt(denominator), cn.Fraction)
+		wantStatus(t, "below zero", err, cn.NotHeld)
+	}
+	above, below := power(-1, 127, 0), power(1, 128, -1)
+	least, _ := cn.NewQuantity(above, below, cn.Fraction)
+	if least.Numerator().Cmp(above) != 0 || least.Denominator().Cmp(below) != 0 {
+		t.Errorf("%v, and not %v/%v", least, above, below)
+	}
+}
+
+func inFigures(found cn.Found) (string, bool) {
+	quantity, err := found.Quantity(cn.TenThousand)
+	return quantity.ToFigures(), err == nil
+}
+
+// Texts that are longer than what is found or written at once, also such as grow.
+func TestLongTexts(t *testing.T) {
+	const many = 20_000
+	for piece, its := range map[string]string{
+		"三亿，": "300000000，", "一百二十三，": "123，", "文": "文",
+	} {
+		text, wanted := strings.Repeat(piece, many), strings.Repeat(its, many)
+		figures, err := cn.QuantitiesToFigures(text, nil)
+		wantStatus(t, piece, err, cn.Done)
+		replaced, err := cn.ReplaceQuantities(text, nil, inFigures)
+		wantStatus(t, piece, err, cn.Done)
+		if figures != wanted || replaced != wanted {
+			t.Errorf("%d times %s is otherwise", many, piece)
+		}
+	}
+}
+
+func TestSearchesStop(t *testing.T) {
+	const all = 20
+	text := strings.Repeat("三，", all)
+	for wanted := 1; wanted <= all; wanted++ {
+		count := 0
+		err := cn.EachQuantity(text, nil, func(found cn.Found) bool {
+			count++
+			return count < wanted
+		})
+		wantStatus(t, "to search", err, cn.Done)
+		if count != wanted {
+			t.Errorf("%d are given, and not %d", count, wanted)
+		}
+	}
+	if found, _ := cn.FindNumbers(text, nil); len(found) != all {
+		t.Errorf("%d are found, and not %d", len(found), all)
+	}
+}
+
+func TestManyGoroutines(t *testing.T) {
+	var all sync.WaitGroup
+	for first := int64(0); first < 8; first++ {
+		all.Add(1)
+		go func(number int64) {
+			defer all.Done()
+			for end := number + 1_000; number < end; number++ {
+				thereAndBack(t, number, -number<<40)
+			}
+			if text, _ := cn.QuantitiesToFigures("共三点五万", nil); text != "共35000" {
+				t.Error(text)
+			}
+		}(first << 50)
+	}
+	all.Wait()
+}

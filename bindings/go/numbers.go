@@ -1,0 +1,127 @@
+package chinesenumber
+
+// #include "library.h"
+import "C"
+
+import (
+	"math/big"
+	"math/bits"
+	"unsafe"
+)
+
+// Integer is the integer types of Go.
+type Integer interface {
+	~int | ~int8 | ~int16 | ~int32 | ~int64 |
+		~uint | ~uint8 | ~uint16 | ~uint32 | ~uint64 | ~uintptr
+}
+
+// Style is how a number or a quantity is written: by default, as nil too, TenThousand in
+// Simplified and Lower. By Any nothing is written.
+type Style struct {
+	Way    Way
+	Script Script
+	Case   Case
+}
+
+// codes are those of its way, its script and its case.
+func (it *Style) codes() (way, script, letterCase C.uint32_t) {
+	if it == nil {
+		it = &Style{}
+	}
+	return code(it.Way, TenThousand), code(it.Script, Simplified), code(it.Case, Lower)
+}
+
+// ToNumber is the number of a text, of an integer type:
+//
+//	number, err := chinesenumber.ToNumber[int64]("一百二", chinesenumber.Any)
+//
+// The errors are Empty, Incorrect, TooLarge, TooSmall, NotUTF8 and TooLong, and Unknown for the
+// way.
+func ToNumber[T Integer](text string, way Way) (T, error) {
+	number, err := read(text, kindOf[T](), way)
+	return T(number.low), err
+}
+
+// ToBigInt is the number of a text, of 128 bits with a sign. The errors are as of ToNumber.
+func ToBigInt(text string, way Way) (*big.Int, error) {
+	return readBig(text, i128, way)
+}
+
+// ToBigUint is the number of a text, of 128 bits without a sign. The errors are as of ToNumber.
+func ToBigUint(text string, way Way) (*big.Int, error) {
+	return readBig(text, u128, way)
+}
+
+// ToChinese is the text of a number: 十万五千 of 105000. The errors are TooLarge and TooSmall, by
+// Low, and Unknown for a choice of the style.
+func ToChinese[T Integer](number T, style *Style) (string, error) {
+	low, high := uint64(number), uint64(0)
+	if number < 0 {
+		high = 1<<64 - 1
+	}
+	return write(halves{low, high}, kindOf[T](), style)
+}
+
+// BigIntToChinese is the text of a number of 128 bits, with a sign or without. The errors are as
+// of ToChinese, and NotHeld.
+func BigIntToChinese(number *big.Int, style *Style) (string, error) {
+	kind := u128
+	if number.Sign() < 0 {
+		kind = i128
+	}
+	it, err := halvesOfBig(number, kind)
+	if err != nil {
+		return "", err
+	}
+	return write(it, kind, style)
+}
+
+// kindOf is the integer type as the library knows it: by whether it has a sign, and by its width.
+func kindOf[T Integer]() kind {
+	var zero T
+	first := u8
+	if zero-1 < zero {
+		first = i8
+	}
+	return first + kind(bits.Len(uint(unsafe.Sizeof(zero)))-1)
+}
+
+func read(text string, kind kind, way Way) (halves, error) {
+	it := C.read_number(text, C.uint32_t(kind), code(way, Any))
+	err := refusal(ofNumber, it.status, it.told.char_index, it.told.byte_index)
+	return halvesOf(it.told.number), err
+}
+
+func readBig(text string, kind kind, way Way) (*big.Int, error) {
+	number, err := read(text, kind, way)
+	if err != nil {
+		return nil, err
+	}
+	return number.big(kind), nil
+}
+
+func write(number halves, kind kind, style *Style) (string, error) {
+	way, script, letterCase := style.codes()
+	it := C.print_number(number.number(), C.uint32_t(kind), way, script, letterCase)
+	return printed(ofNumber, &it)
+}
+
+// big is the number whose halves these are.
+func (it halves) big(kind kind) *big.Int {
+	number := new(big.Int).SetUint64(it.high)
+	number.Lsh(number, 64).Or(number, new(big.Int).SetUint64(it.low))
+	if kind == i128 && it.high>>63 != 0 {
+		number.Sub(number, new(big.Int).Lsh(big.NewInt(1), 128))
+	}
+	return number
+}
+
+// halvesOfBig are those of a number, where the type holds it, and else the error is NotHeld.
+func halvesOfBig(number *big.Int, kind kind) (halves, error) {
+	low, high := new(big.Int), new(big.Int).Rsh(number, 64)
+	if kind == i128 && !high.IsInt64() || kind == u128 && !high.IsUint64() {
+		return halves{}, &Error{Status: NotHeld, what: ofNumber}
+	}
+	word := new(big.Int).SetUint64(1<<64 - 1)
+	return halves{low.And(number, word).Uint64(), high.And(high, word).Uint64()}, nil
+}
