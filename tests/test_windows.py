@@ -29,6 +29,7 @@ def folder(packages, tmp_path_factory):
     made = tmp_path_factory.mktemp("windows")
     take(packages, CRATE, f"/windows-x86_64/{ARCHIVE}", made)
     take(packages, WHEEL, f"/{DLL}", made)
+    run(needs(WINE), "cmd", "/c", "exit", cwd=made, **of_wine(made))
     return made
 
 
@@ -56,8 +57,7 @@ def test_sum(folder, of_linux, name):
 
 def test_library_is_loaded(folder):
     run(*MINGW, USERS / "load.c", f"-I{DIST}", "-o", "load.exe", cwd=folder)
-    own = of_wine(folder)
-    run(needs(WINE), "load.exe", DLL, cwd=folder, wanted="壹拾伍元整", **own)
+    run(needs(WINE), "load.exe", DLL, cwd=folder, wanted="壹拾伍元整", **of_wine(folder))
 
 
 def test_crate(packages, folder, tmp_path):
