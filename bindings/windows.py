@@ -3,11 +3,11 @@
 
 Usage: windows.py CLANG TARGET WORDS..
 
-The toolchain builds nothing for Windows. What it hands to clang, by WORDS, is a module of LLVM for
-Linux on x86-64. Where each call takes and gives integers and addresses of one register, that says
-nothing of the system but how names are marked; so CLANG makes an object for TARGET of it, by the
-same words. The functions are to have the tables by which Windows unwinds the stack. Other words,
-and each line of a module that is not known, are refused.
+`rattle build` hands a module of LLVM for Linux on x86-64 to clang, by WORDS. By the same words CLANG
+makes an object for TARGET of it, with the tables by which Windows unwinds the stack. That the module
+can mean nothing else there is seen here: a call of the library takes and gives integers and
+addresses of one register, and nothing but how names are marked is of Linux alone. Other words, and
+each line of a module that is not known, are refused.
 """
 import re
 import subprocess
