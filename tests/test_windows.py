@@ -19,35 +19,43 @@ sys.path.insert(0, str(TOP / "bindings"))
 import windows
 
 TARGET, ARCHIVE, DLL = "x86_64-pc-windows-gnu", "libchinese_number.a", "libchinese_number.dll"
-CRATE, WHEEL = "*.crate", "*-win_amd64.whl"
 
 
 @pytest.fixture(scope="module")
-def folder(packages, tmp_path_factory):
+def wheel(packages):
+    return package(packages, "*-win_amd64.whl", "Windows")
+
+
+@pytest.fixture(scope="module")
+def crate(packages):
+    return package(packages, "*.crate", "Rust")
+
+
+@pytest.fixture(scope="module")
+def folder(wheel, crate, tmp_path_factory):
     """A folder with what the packages have for Windows, and with a Windows of its own."""
     needs(MINGW[0], WINE)
     made = tmp_path_factory.mktemp("windows")
-    take(packages, CRATE, f"/windows-x86_64/{ARCHIVE}", made)
-    take(packages, WHEEL, f"/{DLL}", made)
+    take(wheel, f"/{DLL}", made)
+    take(crate, f"/windows-x86_64/{ARCHIVE}", made)
     run(needs(WINE), "cmd", "/c", "exit", cwd=made, **of_wine(made))
     return made
 
 
-def take(packages, pattern, end, folder):
+def take(package, end, folder):
     """A file of a package, written to a folder."""
-    files = listed(package(packages, pattern, "Windows"))
-    (data,) = (data for name, data in files.items() if name.endswith(end))
+    (data,) = (data for name, data in listed(package).items() if name.endswith(end))
     path = folder / end.rpartition("/")[2]
     path.write_bytes(data)
     return path
 
 
 @pytest.fixture(scope="module")
-def of_linux(packages, tmp_path_factory):
+def of_linux(crate, tmp_path_factory):
     """The sum over the archive for Linux."""
     needs("cc")
     made = tmp_path_factory.mktemp("linux")
-    return sum_of(made, ("cc", "-O2"), take(packages, CRATE, f"/linux-x86_64/{ARCHIVE}", made))
+    return sum_of(made, ("cc", "-O2"), take(crate, f"/linux-x86_64/{ARCHIVE}", made))
 
 
 @pytest.mark.parametrize("name", [ARCHIVE, DLL])
@@ -60,12 +68,11 @@ def test_library_is_loaded(folder):
     run(needs(WINE), "load.exe", DLL, cwd=folder, wanted="壹拾伍元整", **of_wine(folder))
 
 
-def test_crate(packages, folder, tmp_path):
+def test_crate(crate, folder, tmp_path):
     """cargo calls no compiler of C for it but to link."""
     needs("cargo 1.82")
     project = shutil.copytree(PROGRAM, tmp_path / "project")
-    crate = unpacked(package(packages, CRATE, "Rust"), tmp_path)
-    crate.rename(project / "crate")
+    unpacked(crate, tmp_path).rename(project / "crate")
     made = built(project, TARGET, MINGW[0], CC="/nowhere")
     answers = user("freestanding/answers.txt")
     run(needs(WINE), made / "freestanding.exe", cwd=project, wanted=answers, **of_wine(folder))
