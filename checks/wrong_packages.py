@@ -69,6 +69,7 @@ def other_soname(data):
 WRONG = (
     ("a byte of the wheel's library", WHEEL, ".so", a_byte, "sums", NO_FILE),
     ("another library in the other one", BY_CTYPES, ".so", lambda _: b"\x7fELF", "sums", NO_FILE),
+    ("a byte of that for Windows", "*-win_amd64.whl", ".dll", a_byte, "sums", NO_FILE),
     ("no py.typed", WHEEL, "py.typed", None, "types_of_wheel", "mypy"),
     ("another answer in a README", WHEEL, "METADATA", OTHER_ANSWER, "test_wheel", "doctest"),
     ("types that say bigint", NPM, ".d.mts", OTHER_TYPE, "types_of_npm", "typed.mts"),

@@ -15,6 +15,7 @@ TOP = Path(__file__).resolve().parent.parent
 PYTHON = TOP / "bindings/python"
 HEADER = Path(sysconfig.get_path("include"), "Python.h")
 SECONDS = 10  # for an answer in a dialogue
+WINE = "wine|wine64|/usr/lib/wine/wine64"
 
 
 def leave_out(why):
@@ -92,6 +93,13 @@ def run(*words, cwd, wanted=None, stdin="", fails=False, **more):
     if bool(ended.returncode) != fails or (wanted is not None and ended.stdout != wanted):
         fail(f"{' '.join(words)}: status {ended.returncode}\n{ended.stdout[-4000:]}")
     return ended.stdout
+
+
+def of_wine(folder):
+    """The variables by which wine has a Windows of its own in a folder, without what asks for
+    downloads or makes menus."""
+    own = {"HOME": str(folder), "WINEPREFIX": str(folder / "wine"), "WINEDEBUG": "-all"}
+    return {**own, "WINEDLLOVERRIDES": "mscoree,mshtml,winemenubuilder.exe="}
 
 
 def write(path, text):

@@ -1,7 +1,8 @@
-"""The build script of the Rust crate: which tools it calls for many targets.
+"""The build script of the Rust crate: which archive it takes, and which tools it calls, for many
+targets.
 
-It runs as cargo runs it, with what rustc says of the target, over C source and no archive. It finds
-only tools that say how they were called, so no compiler for any target is needed.
+It runs as cargo runs it, with what rustc says of the target. It finds only tools that say how they
+were called, so no compiler for any target is needed.
 """
 import re
 import subprocess
@@ -13,6 +14,7 @@ from running import TOP, needs, run, write
 LINUX, ARM = "x86_64-unknown-linux-gnu", "aarch64-unknown-linux-gnu"
 INTEL_MAC, MAC = "x86_64-apple-darwin", "aarch64-apple-darwin"
 MICROSOFT, WEB, BARE = "x86_64-pc-windows-msvc", "wasm32-unknown-unknown", "thumbv8m.main-none-eabi"
+MINGW = "x86_64-pc-windows-gnu"
 OF_WEB, OF_BARE = "CC_wasm32_unknown_unknown", "CC_thumbv8m_main_none_eabi"
 # A target, the host, variables, and the compiler and the archiver that are called; or the variable
 # that the script asks for.
@@ -27,7 +29,7 @@ ROWS = (
     ("armv7-unknown-linux-gnueabihf", LINUX, {}, "arm-linux-gnueabihf-gcc, arm-linux-gnueabihf-ar"),
     ("riscv64gc-unknown-linux-gnu", LINUX, {}, "riscv64-linux-gnu-gcc, riscv64-linux-gnu-ar"),
     ("s390x-unknown-linux-gnu", LINUX, {}, "s390x-linux-gnu-gcc, s390x-linux-gnu-ar"),
-    ("x86_64-pc-windows-gnu", LINUX, {}, "x86_64-w64-mingw32-gcc, x86_64-w64-mingw32-ar"),
+    (MINGW, LINUX, {}, "x86_64-w64-mingw32-gcc, x86_64-w64-mingw32-ar"),
     (WEB, LINUX, {}, OF_WEB),
     (WEB, MAC, {}, OF_WEB),
     (BARE, LINUX, {}, OF_BARE),
@@ -50,6 +52,18 @@ ROWS = (
     (BARE, LINUX, {"TARGET_CC": "clang", "CC": "cc"}, "clang, ar"),
     (BARE, LINUX, {OF_BARE: "clang", "TARGET_CC": "cc"}, "clang, ar"),
     (BARE, LINUX, {f"CC_{BARE}": "clang", OF_BARE: "cc"}, "clang, ar"),
+)
+# A target, and which of the package's archives it is given, if any.
+ARCHIVES = (
+    (LINUX, "linux-x86_64"),
+    ("x86_64-unknown-linux-musl", "linux-x86_64"),
+    ("x86_64-unknown-linux-gnux32", None),
+    (ARM, "linux-aarch64"),
+    ("aarch64_be-unknown-linux-gnu", None),
+    (MINGW, "windows-x86_64"),
+    ("i686-pc-windows-gnu", None),
+    (MICROSOFT, None),
+    (MAC, None),
 )
 TOOL = '#!/bin/sh\necho "called ${0##*/} $*"\n'
 
@@ -74,12 +88,16 @@ def of_target(target):
     return {f"CARGO_CFG_{name.upper()}": value for name, value in found}
 
 
+def end_of(script, folder, target, host, **variables):
+    """How the script ends for the package in a folder."""
+    told = {"TARGET": target, "HOST": host, "CARGO_MANIFEST_DIR": folder, "OUT_DIR": folder}
+    told |= {"PATH": f"{script.parent}/tools", **of_target(target), **variables}
+    return subprocess.run([script], env=told, capture_output=True, text=True)
+
+
 def outcome(script, target, host, variables):
     """The tools' calls, up to the words that the script puts behind, or what it asks for."""
-    folder = str(script.parent)
-    told = {"TARGET": target, "HOST": host, "CARGO_MANIFEST_DIR": folder, "OUT_DIR": folder}
-    told |= {"PATH": f"{folder}/tools", **of_target(target), **variables}
-    ended = subprocess.run([script], env=told, capture_output=True, text=True)
+    ended = end_of(script, script.parent, target, host, **variables)
     calls = re.findall(r"^called (.*?) (?:-O2|crs|/nologo) ", ended.stdout, re.M)
     asked = re.search(r" Set (\S+) to one\.$", ended.stderr.strip())
     if ended.returncode == 1 and asked and not calls:
@@ -90,3 +108,14 @@ def outcome(script, target, host, variables):
 @pytest.mark.parametrize("target, host, variables, wanted", ROWS)
 def test_tools(script, target, host, variables, wanted):
     assert outcome(script, target, host, variables) == wanted
+
+
+@pytest.mark.parametrize("target, wanted", ARCHIVES)
+def test_archives(script, tmp_path, target, wanted):
+    """Where there is none for a target, the C source is compiled."""
+    write(tmp_path / "source/chinese_number.c", "")
+    for name in {name for _, name in ARCHIVES if name}:
+        write(tmp_path / "lib" / name / "libchinese_number.a", "")
+    said = end_of(script, tmp_path, target, target, CC="cc", AR="ar").stdout
+    found = re.findall(r"^cargo:rustc-link-search=native=.*/lib/(.*)$", said, re.M)
+    assert found == ([wanted] if wanted else []) and ("called cc" in said) != bool(wanted)

@@ -8,11 +8,12 @@ import re
 
 import pytest
 
-from running import TOP, needs, needs_compiler, of_wine, run, write
+from running import TOP, WINE, needs, needs_compiler, of_wine, run, write
 from test_c import EACH_WARNING, FIRST_STEPS, FIRST_STEPS_OF_CPP
 
 DIST, EXAMPLE = TOP / "dist", TOP / "bindings/c/example.c"
 THREADS = ("-DTHREADS", "-pthread")
+MINGW = ("x86_64-w64-mingw32-gcc", "-O2", "-static")
 STATIC = ("-O2", "-static", *THREADS)
 SANITIZED = ("-fno-sanitize-recover=all", *THREADS)
 # What compiles, and what runs the program where this machine does not: the first that is there.
@@ -28,10 +29,7 @@ BUILDS = {
     "aarch64": (("aarch64-linux-gnu-gcc", *STATIC), "qemu-aarch64|qemu-aarch64-static"),
     "arm": (("arm-linux-gnueabihf-gcc", *STATIC), "qemu-arm|qemu-arm-static"),
     "s390x": (("s390x-linux-gnu-gcc", *STATIC), "qemu-s390x|qemu-s390x-static"),
-    "windows": (
-        ("x86_64-w64-mingw32-gcc", "-O2", "-static"),
-        "wine|wine64|/usr/lib/wine/wine64",
-    ),
+    "windows": (MINGW, WINE),
 }
 # Each request for memory is refused. There are no threads, which ask for some themselves.
 REFUSING = {"REFUSE": "1", "MORE": "1000000000"}

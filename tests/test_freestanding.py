@@ -56,23 +56,26 @@ def library(target):
     return leave_out("rustc has no core and alloc for bare targets, nor their source")
 
 
-@pytest.mark.parametrize("target", TARGETS)
-def test_answers(tmp_path, target):
-    (linker, *words), runner, program = TARGETS[target]
-    needs("cargo 1.82", "clang", linker, runner[0])
+def built(project, target, linker, *words, **own):
+    """The folder of what cargo builds for a target of the program, beside which its crate is."""
     rustc, more = library(target)
-    project, name = shutil.copytree(PROGRAM, tmp_path / "project"), target.replace("-", "_")
-    ignored = shutil.ignore_patterns("target", "lib")
-    shutil.copytree(TOP / "bindings/rust", project / "crate", ignore=ignored)
-    own = {
-        "RUSTC": str(rustc),
-        "CARGO_TARGET_DIR": str(tmp_path / "target"),
-        f"CC_{name}": f"clang --target={target}",
-        f"CARGO_TARGET_{name.upper()}_LINKER": linker,
-        f"CARGO_TARGET_{name.upper()}_RUSTFLAGS": " ".join(f"-Clink-arg={it}" for it in words),
-    }
+    own.update(RUSTC=str(rustc), CARGO_TARGET_DIR=str(project / "target"))
+    of_target = f"CARGO_TARGET_{target.upper().replace('-', '_')}_"
+    own[f"{of_target}LINKER"] = linker
+    own[f"{of_target}RUSTFLAGS"] = " ".join(f"-Clink-arg={it}" for it in words)
     if more:
         own["RUSTC_BOOTSTRAP"] = "1"
     run("cargo", "build", "--release", "--offline", "--target", target, *more, cwd=project, **own)
-    built = tmp_path / "target" / target / "release" / program
-    run(*runner, built, cwd=project, wanted=user("freestanding/answers.txt"))
+    return project / "target" / target / "release"
+
+
+@pytest.mark.parametrize("target", TARGETS)
+def test_answers(tmp_path, target):
+    linker, runner, program = TARGETS[target]
+    needs("cargo 1.82", "clang", linker[0], runner[0])
+    project = shutil.copytree(PROGRAM, tmp_path / "project")
+    ignored = shutil.ignore_patterns("target", "lib")
+    shutil.copytree(TOP / "bindings/rust", project / "crate", ignore=ignored)
+    compiler = {f"CC_{target.replace('-', '_')}": f"clang --target={target}"}
+    made = built(project, target, *linker, **compiler)
+    run(*runner, made / program, cwd=project, wanted=user("freestanding/answers.txt"))

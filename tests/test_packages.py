@@ -57,12 +57,17 @@ def of_builds(package_name, files, builds):
     for name, data in files.items():
         if name in ("package/compiled.mjs", "package/chinese-number.cjs"):
             data = base64.b64decode(re.search(rb"^const base64 = '(.*)';$", data, re.M)[1])
-        elif not re.search(r"\.(a|so|wasm)(\.[\d.]+)?$|/chinese_number\.c$", name):
+        elif not re.search(r"\.(a|dll|so|wasm)(\.[\d.]+)?$|/chinese_number\.c$", name):
             continue
-        whole = f"{package_name}/{name}"
-        build = next((it for it in builds if it in whole), "dist")
+        whole = f"{package_name}/{name}".replace("win_amd64", "windows-x86_64")
+        build = next((it for it in builds if of_build(it, whole)), "dist")
         if sha256(data) not in builds[build]["sha256"].values():
             fail(f"{whole} is none of the files that PROVENANCE.json names for {build}")
+
+
+def of_build(build, name):
+    """Whether a name has both the system and the processor of a build."""
+    return all(it in name for it in build.split("-"))
 
 
 BY_CTYPES, BY_MODULE = f"*-py3-none-*_{NATIVE}.whl", f"*-cp310-abi3-*_{NATIVE}.whl"

@@ -1,5 +1,6 @@
 //! What the Rust crate answers where there is no operating system, as a text with a zero byte at its
 //! end. test_freestanding.py builds it: node asks the module for the text, a Cortex-M4 hands it to qemu.
+//! For test_windows.py it writes the text by the C library of Windows.
 
 #![no_std]
 #![no_main]
@@ -102,6 +103,30 @@ fn panic(_: &PanicInfo) -> ! {
 mod machine {
     pub fn fail() -> ! {
         core::arch::wasm32::unreachable()
+    }
+}
+
+#[cfg(windows)]
+mod machine {
+    use core::ffi::{c_int, c_uint, CStr};
+
+    extern "C" {
+        fn _write(file: c_int, bytes: *const u8, count: c_uint) -> c_int;
+        fn abort() -> !;
+    }
+
+    #[no_mangle]
+    extern "C" fn main() -> c_int {
+        // SAFETY: the text ends in a zero byte.
+        let text = unsafe { CStr::from_ptr(super::answers().cast()) }.to_bytes();
+        // SAFETY: it has so many bytes.
+        let written = unsafe { _write(1, text.as_ptr(), text.len() as c_uint) };
+        c_int::from(written < 0)
+    }
+
+    pub fn fail() -> ! {
+        // SAFETY: it asks for nothing.
+        unsafe { abort() }
     }
 }
 
