@@ -1,11 +1,13 @@
 """What all tests run programs by. A program's memory and its disk are refused here, it is talked to
 line by line here, and a test for which a tool is missing is left out here, and nowhere else."""
+import importlib.util
 import os
 import re
 import resource
 import select
 import shutil
 import subprocess
+import sys
 import sysconfig
 from pathlib import Path
 
@@ -36,6 +38,13 @@ def needs(*tools):
         if least and version_of(found) < numbers_of(least):
             leave_out(f"{found} is older than {least}")
     return found
+
+
+def needs_modules(*names):
+    """Leaves a test out where this Python lacks one of these modules."""
+    for name in names:
+        if not importlib.util.find_spec(name):
+            leave_out(f"{sys.executable} has no {name}")
 
 
 def needs_rt():
