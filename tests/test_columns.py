@@ -1,6 +1,7 @@
-"""Columns of a table, by the user's program `tests/users/columns.py`: each cell has the answer or the
-refusal that stands in `tests/rows`; and the workers of a Dask cluster write what one process does,
-also where one of them is killed at its work.
+"""Columns of a table, by the user's program `tests/users/columns.py`.
+
+Each cell has the answer or the refusal that stands in `tests/rows`. The workers of a Dask cluster
+write what one process does, also where one of them is killed at its work.
 """
 import importlib
 import os
