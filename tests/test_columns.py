@@ -156,6 +156,7 @@ def kill_at_work(client, answering):
     fail("no worker was killed at its work")
 
 
+@pytest.mark.filterwarnings("ignore:make_current")  # of tornado, by which a client listens
 def test_killed(columns, own, client, files, tmp_path):
     """The other workers do the parts of the one that is killed, also those that it has done."""
     address = client.scheduler.address
