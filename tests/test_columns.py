@@ -1,21 +1,24 @@
-"""Columns of a table, by the user's program `tests/users/columns.py`: each cell has the answer or the
-refusal that stands in `tests/rows`; and the workers of a Dask cluster write what one process does,
-also where one of them is killed at its work.
+"""Columns of a table, by the user's program `tests/users/columns.py`.
+
+Each cell has the answer or the refusal that stands in `tests/rows`. The workers of a Dask cluster
+write what one process does, also where one of them is killed at its work.
 """
 import importlib
 import os
 import re
 import signal
+import subprocess
 import sys
 import time
 from concurrent.futures import ThreadPoolExecutor
+from contextlib import ExitStack, contextmanager
 from itertools import cycle, islice
 
 import pytest
 
 from installing import USERS
 from questions import of_files
-from running import PYTHON, fail, needs_modules, run
+from running import ENVIRONMENT, PYTHON, fail, needs_modules, run
 from test_python import module_over
 
 # The rows that a column is asked: their file and the words in front; the call that answers them;
@@ -29,18 +32,22 @@ COLUMNS = [
     ("numbers", ["read", "u128", "ten_thousand"], "to_number", LARGE, object),
 ]
 FILES, ROWS_OF_EACH, WORKERS = 40, 2500, 3
-# tornado, by which the processes of a cluster talk, warns of itself.
-pytestmark = pytest.mark.filterwarnings("ignore:make_current:DeprecationWarning")
+PROGRAM = (sys.executable, "-B", USERS / "columns.py")
 
 
 @pytest.fixture(scope="module")
 def columns(of_c_source):
-    """The user's program, as a module that workers find too."""
+    """The user's program, as a module."""
     needs_modules("pandas", "dask", "distributed")
-    with module_over(of_c_source), pytest.MonkeyPatch.context() as own:
-        own.syspath_prepend(USERS)
-        own.setenv("PYTHONDONTWRITEBYTECODE", "1")
+    with module_over(of_c_source), pytest.MonkeyPatch.context() as path:
+        path.syspath_prepend(USERS)
         yield importlib.import_module("columns")
+
+
+@pytest.fixture(scope="module")
+def own(of_c_source):
+    """The variables by which each process finds the library."""
+    return {"PYTHONPATH": str(PYTHON), "CHINESE_NUMBER_LIB": str(of_c_source)}
 
 
 def rows_of(file, front):
@@ -73,17 +80,6 @@ def test_rows(columns, file, front, name, words, dtype):
 
 
 @pytest.fixture(scope="module")
-def client(columns, tmp_path_factory):
-    """Of a cluster of processes, each of which works on one part of a table at a time."""
-    from distributed import Client, LocalCluster
-
-    own = {"n_workers": WORKERS, "threads_per_worker": 1, "processes": True}
-    own.update(dashboard_address=None, local_directory=tmp_path_factory.mktemp("workers"))
-    with LocalCluster(**own) as cluster, Client(cluster) as client:
-        yield client
-
-
-@pytest.fixture(scope="module")
 def files(columns, tmp_path_factory):
     """A table in CSV, in more files than there are workers."""
     folder, (texts, _) = tmp_path_factory.mktemp("table"), rows_of("amounts", ["read_amount"])
@@ -105,6 +101,48 @@ def of_one_process(columns, files):
     return table.to_csv(index=False).splitlines()
 
 
+def written(folder):
+    """The lines of the parts in a folder, the first of which alone has its header here."""
+    parts = [it.read_text(encoding="utf-8").splitlines() for it in sorted(folder.iterdir())]
+    assert len(parts) == FILES
+    return parts[0][:1] + [line for part in parts for line in part[1:]]
+
+
+def test_one_machine(columns, own, files, tmp_path):
+    run(*PROGRAM, files, "answered", cwd=tmp_path, **own)
+    assert written(tmp_path / "answered") == of_one_process(columns, files)
+
+
+@contextmanager
+def started(*words, log, **own):
+    """A process that runs until it is not wanted any more."""
+    pipes = {"stdout": log, "stderr": log, "stdin": subprocess.DEVNULL}
+    process = subprocess.Popen(words, env=dict(ENVIRONMENT, **own), **pipes)
+    try:
+        yield
+    finally:
+        process.kill()
+        process.wait()
+
+
+@pytest.fixture
+def client(columns, own, tmp_path):
+    """Of a cluster that is started as on machines, each worker of which does one part at a time."""
+    from distributed import Client
+
+    file = tmp_path / "scheduler.json"
+    common = ("--no-dashboard", "--host", "127.0.0.1", "--scheduler-file", file)
+    worker = ("worker", "--nthreads", "1", "--no-nanny", "--local-directory", tmp_path)
+    with ExitStack() as stack:
+        log = stack.enter_context(open(tmp_path / "log", "wb"))
+        for name, *words in [("scheduler", "--port", "0")] + [worker] * WORKERS:
+            module = ("-B", "-m", f"distributed.cli.dask_{name}")
+            stack.enter_context(started(sys.executable, *module, *words, *common, log=log, **own))
+        client = stack.enter_context(Client(scheduler_file=str(file)))
+        client.wait_for_workers(WORKERS)
+        yield client
+
+
 def kill_at_work(client, answering):
     """Kills the process of a worker that has something done and something to do."""
     processes = client.run(os.getpid)
@@ -113,24 +151,18 @@ def kill_at_work(client, answering):
         for worker, process in processes.items():
             if done.get(worker) and to_do.get(worker):
                 os.kill(process, signal.SIGKILL)
-                return process
+                return
         time.sleep(0.01)
-    return fail("no worker was killed at its work")
+    fail("no worker was killed at its work")
 
 
-@pytest.mark.parametrize("killed", [False, True], ids=["all", "one killed"])
-def test_cluster(columns, client, files, of_c_source, tmp_path, killed):
-    words = (sys.executable, "-B", USERS / "columns.py", files, "answered")
-    own = {"PYTHONPATH": str(PYTHON), "CHINESE_NUMBER_LIB": str(of_c_source)}
+@pytest.mark.filterwarnings("ignore:make_current")  # of tornado, by which a client listens
+def test_killed(columns, own, client, files, tmp_path):
+    """The other workers do the parts of the one that is killed, also those that it has done."""
+    address = client.scheduler.address
     with ThreadPoolExecutor() as pool:
-        answering = pool.submit(run, *words, client.scheduler.address, cwd=tmp_path, **own)
-        process = kill_at_work(client, answering) if killed else None
+        answering = pool.submit(run, *PROGRAM, files, "answered", address, cwd=tmp_path, **own)
+        kill_at_work(client, answering)
         answering.result()
-    assert process not in client.run(os.getpid).values()
-    parts = [
-        it.read_text(encoding="utf-8").splitlines()
-        for it in sorted((tmp_path / "answered").iterdir())
-    ]
-    assert len(parts) == FILES
-    lines = parts[0][:1] + [line for part in parts for line in part[1:]]
-    assert lines == of_one_process(columns, files)
+    assert len(client.run(os.getpid)) == WORKERS - 1
+    assert written(tmp_path / "answered") == of_one_process(columns, files)

@@ -15,7 +15,7 @@ from distributed import Client
 
 from chinese_number import chinese_to_amount
 
-# Each cell is a text, and only an empty one is missing: none is taken for a number, or N/A for none.
+# No text is taken for a number, and none but the empty one for a missing cell.
 AS_IT_STANDS = {"dtype": "string", "keep_default_na": False, "na_values": [""]}
 
 
