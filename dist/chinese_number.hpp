@@ -1,6 +1,7 @@
-/* Chinese numerals for C++ from 17 on: numbers, amounts of money and dates on bills as std::string, and these and exact
- * quantities read and found in a std::string_view. It is written over chinese_number.h, which says what stands behind each choice and each
- * status, and what is to be linked. Texts are UTF-8. Nothing is thrown but by std::string where memory runs out.
+/* Chinese numerals for C++ from 17 on: numbers, exact quantities, amounts of money and dates on bills as std::string, and
+ * these read and found in a std::string_view. It is written over chinese_number.h, which says what stands behind each choice
+ * and each status, and what is to be linked. Texts are UTF-8. Nothing is thrown but by std::string where memory runs out,
+ * and by functions of the caller's.
  *
  *     auto number = chinese_number::to_number<int>("一百二");
  *     if (number)
@@ -46,15 +47,8 @@ enum class QuantityForm : std::uint32_t {
 enum class Status : std::uint32_t {
     done = CN_DONE, empty = CN_EMPTY, incorrect = CN_INCORRECT, too_large = CN_TOO_LARGE, too_small = CN_TOO_SMALL,
     not_utf8 = CN_NOT_UTF8, no_room = CN_NO_ROOM, not_held = CN_NOT_HELD, unknown = CN_UNKNOWN,
-    unfinished = CN_UNFINISHED, none = CN_NONE, not_a_date = CN_NOT_A_DATE, too_long = CN_TOO_LONG
-};
-
-/* An exact quantity, as written and not reduced: 12.5% is 125/1000. Its numbers are in halves, the numerator in two's
- * complement as of CN_I128, and the denominator, above 0, as of CN_U128. */
-struct Quantity {
-    cn_number numerator;
-    cn_number denominator;
-    QuantityForm form;
+    unfinished = CN_UNFINISHED, none = CN_NONE, not_a_date = CN_NOT_A_DATE, not_a_quantity = CN_NOT_A_QUANTITY,
+    too_long = CN_TOO_LONG
 };
 
 /* How a number is printed. */
@@ -82,6 +76,12 @@ struct Date {
 struct Wanted {
     bool upper = false;
     Unit greatest = Unit::zhao;
+};
+
+/* Which quantities of a text are replaced that are else left: those about so much, and those of one Chinese character. */
+struct Included {
+    bool about = false;
+    bool one_character = false;
 };
 
 /* Why there is no number, amount, date or text; at Status::incorrect with the place of the character at fault. */
@@ -178,6 +178,42 @@ constexpr cn_form flags_of(AmountForm form) {
          | (form.upright_closing ? CN_UPRIGHT_CLOSING : CN_PLAIN);
 }
 
+constexpr std::uint32_t flags_of(Included included) {
+    return (included.about ? CN_ABOUT : 0u) | (included.one_character ? CN_ONE_CHARACTER : 0u);
+}
+
+constexpr bool are_same(cn_number one, cn_number other) {
+    return one.low == other.low && one.high == other.high;
+}
+
+/* The magnitude of a number in two's complement, and with a sign the number of a magnitude. */
+constexpr cn_number negated_if(bool is_negative, cn_number number) {
+    if (!is_negative)
+        return number;
+    return {~number.low + 1, ~number.high + (number.low == 0)};
+}
+
+struct Division {
+    cn_number quotient;
+    cn_number rest;
+};
+
+/* A division bit by bit, since not each compiler has integers of 128 bits. */
+constexpr Division divided(cn_number dividend, cn_number divisor) {
+    Division done = {{0, 0}, {0, 0}};
+    for (unsigned bit = 128; bit-- > 0;) {
+        const bool carries = done.rest.high >> 63 != 0;
+        const std::uint64_t next = (bit >= 64 ? dividend.high >> (bit - 64) : dividend.low >> bit) & 1;
+        cn_number &rest = done.rest, &quotient = done.quotient;
+        rest = {rest.low << 1 | next, rest.high << 1 | rest.low >> 63};
+        const bool fits = carries || rest.high > divisor.high || (rest.high == divisor.high && rest.low >= divisor.low);
+        if (fits)
+            rest = {rest.low - divisor.low, rest.high - divisor.high - (rest.low < divisor.low)};
+        quotient = {quotient.low << 1 | fits, quotient.high << 1 | quotient.low >> 63};
+    }
+    return done;
+}
+
 template <typename Value>
 Result<Value> told(cn_status status, Value value, const char *subject, std::size_t char_index = 0,
                    std::size_t byte_index = 0) {
@@ -220,12 +256,78 @@ Result<T> to_number(std::string_view text, Way way = Way::any) {
     return read ? Result<T>(detail::of_halves<T>(*read)) : read.error();
 }
 
+/* An exact quantity, as written and not reduced: 12.5% is 125/1000. Its numbers are in halves, the numerator in two's
+ * complement as of CN_I128, and the denominator, above 0, as of CN_U128. Two are equal where numerators, denominators and
+ * forms are: 3.10 and 3.1 are two. */
+struct Quantity {
+    cn_number numerator;
+    cn_number denominator;
+    QuantityForm form;
+
+    /* The whole number that it is, where it is one and the type holds it: 35000 of 3.5万, and nothing of 3.5. */
+    template <typename T>
+    std::optional<T> to_whole() const;
+
+    /* The same quantity without the zeros at the end of its decimals: 35000 of 3.5万, 3.1 of 3.10, 12.5% of 12.50%. */
+    Quantity trimmed() const;
+
+    /* Its text: 三点五, 百分之十二点五, 三分之一. There is none where the denominator is 0 (Status::not_a_quantity), and by
+     * Way::low where a number in it is 10^16 or more; the style's way is a method. */
+    Result<std::string> to_chinese(Style style = {}) const;
+
+    /* Its text in figures, without the zeros at the end of its decimals: 35000, -3.5, 12.5%, 1/3. */
+    std::string to_figures() const;
+
+    friend bool operator==(const Quantity &one, const Quantity &other) {
+        return detail::are_same(one.numerator, other.numerator) && detail::are_same(one.denominator, other.denominator)
+            && one.form == other.form;
+    }
+    friend bool operator!=(const Quantity &one, const Quantity &other) { return !(one == other); }
+
+private:
+    cn_quantity told() const {
+        return {numerator, denominator, static_cast<std::uint32_t>(form), 0, 0};
+    }
+};
+
 /* The exact quantity of a text, by a method: a whole number, a decimal, a percentage or a fraction, as 3.5万 and 三分之一. */
 inline Result<Quantity> chinese_to_quantity(std::string_view text, Way method = Way::ten_thousand) {
     cn_quantity read;
     const cn_status status = cn_read_quantity(text.data(), text.size(), static_cast<cn_way>(method), &read);
     const Quantity quantity = {read.numerator, read.denominator, static_cast<QuantityForm>(read.form)};
     return detail::told(status, quantity, "chinese number", read.char_index, read.byte_index);
+}
+
+template <typename T>
+std::optional<T> Quantity::to_whole() const {
+    static_assert(detail::is_whole<T>, "a whole number is an integer of 8 to 128 bits, and no character");
+    const bool is_negative = numerator.high >> 63 != 0;
+    const auto [quotient, rest] = detail::divided(detail::negated_if(is_negative, numerator), denominator);
+    const cn_number whole = detail::negated_if(is_negative, quotient);
+    const T value = detail::of_halves<T>(whole);
+    const bool is_held = detail::are_same(detail::halves_of(value), whole) && detail::is_below_zero(value) == is_negative;
+    const bool is_whole = !detail::are_same(denominator, {0, 0}) && detail::are_same(rest, {0, 0});
+    return is_whole && is_held ? std::optional<T>(value) : std::nullopt;
+}
+
+/* Figures are read as the quantity without those zeros, but for those of a fraction, which are not read. */
+inline Quantity Quantity::trimmed() const {
+    return chinese_to_quantity(to_figures()).value_or(*this);
+}
+
+inline Result<std::string> Quantity::to_chinese(Style style) const {
+    const cn_quantity quantity = told();
+    char room[CN_MOST_QUANTITY_BYTES + 1];
+    const cn_status status =
+        cn_print_quantity(&quantity, static_cast<cn_way>(style.way), static_cast<cn_script>(style.script),
+                          static_cast<cn_case>(style.letter_case), room, sizeof room);
+    return detail::told(status, std::string(room), "quantity");
+}
+
+inline std::string Quantity::to_figures() const {
+    const cn_quantity quantity = told();
+    char room[CN_MOST_FIGURES_BYTES + 1];
+    return cn_quantity_figures(&quantity, room, sizeof room) == CN_DONE ? room : "";
 }
 
 /* The text of a number in halves. By Way::low there is none for 10^16 and more, and by Way::any none at all. */
@@ -409,6 +511,53 @@ inline Numbers find_numbers(std::string_view text, Wanted wanted = {}) {
  * asked for its quantity. */
 inline Numbers find_quantities(std::string_view text, Wanted wanted = {}) {
     return {text, wanted, cn_find_next_quantity};
+}
+
+/* The text with its quantities replaced by what a function of a Found gives: its new text as a std::string, or std::nullopt
+ * where it is to stay. It is asked for each expression that has a quantity by the method, in order; what is about so much or
+ * one Chinese character stays, unless it is included. There is no text where the bytes are no UTF-8 (Status::not_utf8).
+ *
+ *     auto text = replace_quantities("共3.5万元", [](Found found) { return '[' + found.quantity()->to_figures() + ']'; });
+ *     *text; // 共[35000]元 */
+template <typename Replacement>
+Result<std::string> replace_quantities(std::string_view text, Replacement &&replacement, Wanted wanted = {},
+                                       Way method = Way::ten_thousand, Included included = {}) {
+    const Numbers expressions = find_quantities(text, wanted);
+    if (expressions.status() != Status::done && expressions.status() != Status::none)
+        return Error{expressions.status(), "text", 0, 0};
+    std::string done;
+    std::size_t at = 0;
+    for (const Found found : expressions) {
+        const Result<Quantity> quantity = found.quantity(method);
+        if (!quantity && quantity.error().status == Status::unknown)
+            return quantity.error();
+        if (!quantity || (found.is_about && !included.about) || (found.is_one_character && !included.one_character))
+            continue;
+        if (const std::optional<std::string> put = replacement(found)) {
+            done.append(text.substr(at, found.start - at)).append(*put);
+            at = found.end;
+        }
+    }
+    return done.append(text.substr(at));
+}
+
+/* The same with their figures, as Quantity::to_figures gives them: 共35000元 of 共3.5万元. */
+inline Result<std::string> quantities_to_figures(std::string_view text, Wanted wanted = {}, Way method = Way::ten_thousand,
+                                                 Included included = {}) {
+    std::string done(text.size(), '\0');
+    std::size_t length = 0;
+    const auto put = [&] {
+        return cn_quantities_to_figures(text.data(), text.size(), wanted.upper, static_cast<cn_unit>(wanted.greatest),
+                                        static_cast<cn_way>(method), detail::flags_of(included), done.data(),
+                                        done.size() + 1, &length);
+    };
+    cn_status status = put();
+    if (status == CN_NO_ROOM) {
+        done.resize(length);
+        status = put();
+    }
+    done.resize(length);
+    return detail::told(status, std::move(done), "text");
 }
 
 /* Not of a string that ends before its numbers are looked at. */

@@ -33,7 +33,7 @@ export const UNITS: readonly [
   'zheng', 'zai', 'ji',
 ];
 
-/** How a quantity is written: 35, 3.5, 12.5%, and 三分之一 or 百分之五十. */
+/** How a quantity is written: 35, 3.5, 12.5% or 百分之五十, and 三分之一. */
 export const QUANTITY_FORMS: readonly ['whole', 'decimal', 'percent', 'fraction'];
 
 export type Kind = (typeof KINDS)[number];
@@ -487,7 +487,7 @@ export class Quantity {
   toChinese(options?: QuantityOptions): string;
   /**
    * Its figures, without zeros at the end of its decimals: '35000' of 3.5万, '-3.5', '12.5%', '1/3',
-   * and '50/100' of 百分之五十.
+   * and '50%' of 百分之五十.
    *
    * @returns {string}
    */

@@ -1,14 +1,15 @@
-/* Chinese numerals for whole numbers, printed, read and found in a text, exact quantities, amounts of money and dates in
- * capitals, and amounts in figures: the C face of the proved library chinese_number. For C from C99 on; chinese_number.hpp has classes for C++17
- * over it.
+/* Chinese numerals for whole numbers and exact quantities, printed, read, and found and replaced in a text, amounts of money
+ * and dates in capitals, and amounts in figures: the C face of the proved library chinese_number. For C from C99 on;
+ * chinese_number.hpp has classes for C++17 over it.
  *
  * The calls chinese_.. are the proved ones: texts are bytes, and choices are codes. The calls cn_.., written here over
  * them, take texts in char and the enumerations below, so that a compiler can tell exchanged arguments apart.
  *
  * On Linux on x86-64 and aarch64, with any C library, link libchinese_number.a or libchinese_number.so. They need at most
- * memcpy and memset of it, and __udivti3 of the compiler's. On other systems compile chinese_number.c, which is the proved
- * module for WebAssembly as C source. It needs abort, memcpy, memmove and memset at most. No call takes memory, opens a
- * file, reads the locale or keeps anything between calls, so any number of threads may call at once.
+ * memcpy, memmove and memset of it, and __divti3 and __udivti3 of the compiler's. On other systems compile
+ * chinese_number.c, which is the proved module for WebAssembly as C source. It needs abort, memcpy, memmove and memset at
+ * most. No call takes memory, opens a file, reads the locale or keeps anything between calls, so any number of threads may
+ * call at once.
  *
  * What the caller must see to, since nothing tests it:
  * - no pointer is NULL, not that of an empty text, room or array either (cn_.. take NULL as a text or a room of length 0);
@@ -126,8 +127,8 @@ typedef enum cn_form CN_OF_CODE {
 typedef enum cn_quantity_form CN_OF_CODE {
     CN_WHOLE = 0,   /* 35, 三十五, 3万 */
     CN_DECIMAL = 1, /* 3.5, 三點五, 3.5万 */
-    CN_PERCENT = 2, /* 12.5% */
-    CN_FRACTION = 3 /* 三分之一, 百分之五十 */
+    CN_PERCENT = 2, /* 12.5%, 百分之五十 */
+    CN_FRACTION = 3 /* 三分之一, 千分之五 */
 } cn_quantity_form;
 
 /* The flags that are told of a number or an expression in a text: none or several of these, added together. */
@@ -163,19 +164,26 @@ typedef enum cn_status CN_OF_CODE {
     CN_DONE = 0,      /* the text was read, printed or searched */
     CN_EMPTY = 1,     /* read: nothing is left of the text without white space and, for signed types, one sign */
     CN_INCORRECT = 2, /* read: the character at char_index cannot stand there; no amount or date begins with what ends there */
-    CN_TOO_LARGE = 3, /* read: past the type's greatest, or no number of 128 bits; print by CN_LOW: 10^16 or more; print an amount, read figures: 10^18 fen or more */
-    CN_TOO_SMALL = 4, /* read: past the type's least; print by CN_LOW: -10^16 or less; print an amount: -10^18 fen or less */
-    CN_NOT_UTF8 = 5,  /* read, find: the bytes are no UTF-8; find: no character begins at `from`, nor does the text end there */
-    CN_NO_ROOM = 6,   /* print: the text has more bytes than the room; *length says how many */
+    CN_TOO_LARGE = 3, /* read: past the type's greatest, or no number of 128 bits; print by CN_LOW: 10^16 or more, or such a number in a quantity; print an amount, read figures: 10^18 fen or more */
+    CN_TOO_SMALL = 4, /* read: past the type's least; print by CN_LOW: -10^16 or less, or such a number in a quantity below 0; print an amount: -10^18 fen or less */
+    CN_NOT_UTF8 = 5,  /* read, find, replace: the bytes are no UTF-8; find: no character begins at `from`, nor does the text end there */
+    CN_NO_ROOM = 6,   /* print, replace: the text has more bytes than the room; *length says how many */
     CN_NOT_HELD = 7,  /* print: the type does not hold the number */
-    CN_UNKNOWN = 8,   /* a code names no type, way, script, case, form or unit; CN_ANY is no way to print, and CN_DIGITS and CN_ANY are no method */
+    CN_UNKNOWN = 8,   /* a code names no type, way, script, case, form, unit or flag; CN_ANY is no way to print, and CN_DIGITS and CN_ANY are no method */
     CN_UNFINISHED = 9, /* read an amount, figures or a date: the text is none, but something behind it can make it one */
     CN_NONE = 10,      /* cn_find_next, cn_find_next_quantity: there is no further one in the text */
-    CN_NOT_A_DATE = 11 /* print a date: there is no such date */
+    CN_NOT_A_DATE = 11, /* print a date: there is no such date */
+    CN_NOT_A_QUANTITY = 12 /* print a quantity: its denominator is 0 */
 } cn_status;
 
 /* No number is printed with more bytes. A zero byte at the end, which cn_print alone writes, is not among them. */
 #define CN_MOST_BYTES 234
+
+/* No quantity is printed with more bytes, but for a zero byte that cn_print_quantity writes. */
+#define CN_MOST_QUANTITY_BYTES 471
+
+/* And none in figures, but for a zero byte that cn_quantity_figures writes. */
+#define CN_MOST_FIGURES_BYTES 80
 
 /* No amount is printed with more bytes, but for a zero byte that cn_print_amount writes. */
 #define CN_MOST_AMOUNT_BYTES 117
@@ -186,8 +194,8 @@ typedef enum cn_status CN_OF_CODE {
 /* No date is printed with more bytes, but for a zero byte that cn_print_date writes. */
 #define CN_MOST_DATE_BYTES 39
 
-/* What the C source alone returns where a text has more than 4293918720 bytes, and what is written is 0; no call of the
- * archives answers it. */
+/* What the C source alone returns where a text, or a text and the room for the new one, have more than 4293918720 bytes, and
+ * what is written is 0; no call of the archives answers it. */
 #define CN_TOO_LONG UINT32_MAX
 
 /* A whole number in two halves of 64 bits; for a signed type, in two's complement of 128 bits. So (int8_t)number.low is
@@ -273,6 +281,34 @@ uint32_t chinese_quantity_find(const uint8_t *text, size_t text_length, size_t f
 /* The same for bytes that the caller knows to be UTF-8. Nothing tests that: with other bytes the behaviour is undefined. */
 uint32_t chinese_quantity_find_utf8(const uint8_t *text, size_t text_length, size_t from, uint32_t upper, uint32_t greatest,
                                     cn_span *spans, size_t most, size_t *count);
+
+/* Prints a quantity by a method, CN_LOW to CN_HIGH, at the start of a room, in UTF-8: 三点一四 for 314/100 of CN_DECIMAL,
+ * 百分之十二点五 for 125/1000 of CN_PERCENT, 三分之一 for 1/3. A quantity whose denominator is not one of its form (1 of a
+ * whole number, 10, 100 and so on of a decimal, 100, 1000 and so on of a percentage) is printed as a fraction. What is
+ * printed is read by chinese_quantity_read as the same numerator and denominator. Its char_index and byte_index are not
+ * looked at. Length and room as with chinese_number_print.
+ *
+ * Returns CN_DONE, CN_TOO_LARGE, CN_TOO_SMALL, CN_NO_ROOM, CN_NOT_A_QUANTITY or CN_UNKNOWN (also where its form is none). A
+ * room of CN_MOST_QUANTITY_BYTES is never too small. */
+uint32_t chinese_quantity_print(const cn_quantity *quantity, uint32_t method, uint32_t script, uint32_t letter_case,
+                                uint8_t *room, size_t room_length, size_t *length);
+
+/* Prints a quantity in figures, in ASCII, likewise: 35000, -3.5, 12.5%, 1/3. The zeros at the end of its decimals are left
+ * out. What would be printed as a fraction is printed as numerator/denominator, also over 0.
+ *
+ * Returns CN_DONE, CN_NO_ROOM or CN_UNKNOWN (its form is none). A room of CN_MOST_FIGURES_BYTES is never too small. */
+uint32_t chinese_quantity_figures(const cn_quantity *quantity, uint8_t *room, size_t room_length, size_t *length);
+
+/* Writes a text in UTF-8 anew, with the expressions of chinese_quantity_find that chinese_quantity_read reads by a method in
+ * figures, as chinese_quantity_figures prints them: 共3.5万元 becomes 共35000元. An expression that is about so much, or one
+ * Chinese character, stands as it stood, unless `included` has CN_ABOUT or CN_ONE_CHARACTER; it is both, one of them or 0.
+ * All else of the text stands as it stood. Writes *length at each status: at CN_DONE and CN_NO_ROOM how many bytes the new
+ * text has (SIZE_MAX for more), else 0. What the room holds behind the new text, and at other statuses, is not said.
+ *
+ * Returns CN_DONE, CN_NO_ROOM, CN_NOT_UTF8 or CN_UNKNOWN. */
+uint32_t chinese_quantities_to_figures(const uint8_t *text, size_t text_length, uint32_t upper, uint32_t greatest,
+                                       uint32_t method, uint32_t included, uint8_t *room, size_t room_length,
+                                       size_t *length);
 
 /* What was read as an amount: how many fen, the hundredth part of a yuan, at CN_DONE, and at CN_INCORRECT how many
  * characters and how many bytes stand in front of the character at fault. All else is 0. */
@@ -492,6 +528,36 @@ CN_NODISCARD static inline cn_status cn_print(cn_number number, cn_kind kind, cn
     return cn_ended(status, room, room_length, length);
 }
 
+/* chinese_quantity_print into a room of char, likewise: one of CN_MOST_QUANTITY_BYTES + 1 is never too small. */
+CN_NODISCARD static inline cn_status cn_print_quantity(const cn_quantity *quantity, cn_way method, cn_script script,
+                                                       cn_case letter_case, char *room, size_t room_length) {
+    uint8_t none;
+    size_t length, most = cn_most_of_text(room_length);
+    uint32_t status = chinese_quantity_print(quantity, method, script, letter_case, cn_room(room, room_length, &none), most,
+                                             &length);
+    return cn_ended(status, room, room_length, length);
+}
+
+/* chinese_quantity_figures into a room of char, likewise: one of CN_MOST_FIGURES_BYTES + 1 is never too small. */
+CN_NODISCARD static inline cn_status cn_quantity_figures(const cn_quantity *quantity, char *room, size_t room_length) {
+    uint8_t none;
+    size_t length, most = cn_most_of_text(room_length);
+    uint32_t status = chinese_quantity_figures(quantity, cn_room(room, room_length, &none), most, &length);
+    return cn_ended(status, room, room_length, length);
+}
+
+/* chinese_quantities_to_figures for a text in char, into a room of char, likewise: at CN_NO_ROOM one of *length + 1 is not
+ * too small. */
+CN_NODISCARD static inline cn_status cn_quantities_to_figures(const char *text, size_t text_length, uint32_t upper,
+                                                              cn_unit greatest, cn_way method, uint32_t included,
+                                                              char *room, size_t room_length, size_t *length) {
+    uint8_t none;
+    size_t most = cn_most_of_text(room_length);
+    uint32_t status = chinese_quantities_to_figures(cn_bytes(text, text_length), text_length, upper, greatest, method,
+                                                    included, cn_room(room, room_length, &none), most, length);
+    return cn_ended(status, room, room_length, *length);
+}
+
 /* chinese_amount_print into a room of char, likewise: one of CN_MOST_AMOUNT_BYTES + 1 is never too small. */
 CN_NODISCARD static inline cn_status cn_print_amount(uint64_t fen, cn_script script, cn_form form, char *room,
                                                      size_t room_length) {
@@ -530,10 +596,11 @@ static inline const char *cn_status_text(uint32_t status) {
     case CN_NOT_UTF8: return "the text is no UTF-8";
     case CN_NO_ROOM: return "the room is too small for the text";
     case CN_NOT_HELD: return "the type does not hold the number";
-    case CN_UNKNOWN: return "a code names no type, way, script, case, form or unit";
+    case CN_UNKNOWN: return "a code names no type, way, script, case, form, unit or flag";
     case CN_UNFINISHED: return "the amount or date is not finished";
     case CN_NONE: return "there is no number in the text";
     case CN_NOT_A_DATE: return "there is no such date";
+    case CN_NOT_A_QUANTITY: return "the denominator is 0";
     case CN_TOO_LONG: return "the text is too long";
     default: return "no status of this library";
     }

@@ -55,7 +55,7 @@ export const UNITS = Object.freeze(/** @type {const} */ (
   ['ge', 'shi', 'bai', 'qian', 'wan', 'yi', 'zhao', 'jing', 'gai', 'zi', 'rang', 'gou', 'jian',
     'zheng', 'zai', 'ji']));
 
-/** How a quantity is written: 35, 3.5, 12.5%, and 三分之一 or 百分之五十. */
+/** How a quantity is written: 35, 3.5, 12.5% or 百分之五十, and 三分之一. */
 export const QUANTITY_FORMS = Object.freeze(/** @type {const} */ (
   ['whole', 'decimal', 'percent', 'fraction']));
 
@@ -907,7 +907,7 @@ export class Quantity {
 
   /**
    * Its figures, without zeros at the end of its decimals: '35000' of 3.5万, '-3.5', '12.5%', '1/3',
-   * and '50/100' of 百分之五十.
+   * and '50%' of 百分之五十.
    *
    * @returns {string}
    */
