@@ -446,8 +446,8 @@ static void null_of_char(void) {
 }
 
 int main(void) {
-    first_steps();
     quantities();
+    first_steps();
     numbers_of_a_text();
     quantities_of_a_text();
     texts_of_char();
