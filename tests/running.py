@@ -61,12 +61,6 @@ def needs_compiler(folder, *words):
         leave_out(f"{words[0]} takes no {' '.join(words[1:-3])}")
 
 
-def of_wine(folder):
-    """For wine: a Windows of its own, without what asks for downloads or makes menus."""
-    own = {"HOME": str(folder), "WINEPREFIX": str(folder / "wine"), "WINEDEBUG": "-all"}
-    return dict(own, WINEDLLOVERRIDES="mscoree,mshtml,winemenubuilder.exe=")
-
-
 def numbers_of(text):
     return tuple(map(int, re.search(r"\d+(\.\d+)*", text)[0].split(".")))
 
