@@ -70,10 +70,12 @@ at_once=()
 
 run_tests() { # WORD..
     [ -n "$python" ] || return 0
-    local words=(-m pytest -q tests --basetemp "$scratch/of_tests")
-    time "$python" "${words[@]}" "$@" | tee "$scratch/tests" || {
-        [ "${PIPESTATUS[0]}" -eq 5 ] && [ "$ran" = yes ] # no test has this name, and a script has
-    }
+    local words=(-m pytest -q tests --basetemp "$scratch/of_tests") ended=0
+    time "$python" "${words[@]}" "$@" | tee "$scratch/tests" || ended=${PIPESTATUS[0]}
+    case $ended$ran in
+        0* | 5yes) ;; # 5: no test has this name, and a script has
+        *) exit 1 ;;
+    esac
     sed -n 's/^SKIPPED \[[0-9]*\] [^ ]* //p' "$scratch/tests" >> "$scratch/left_out"
 }
 

@@ -9,6 +9,7 @@ import shutil
 import subprocess
 import sys
 import sysconfig
+import tempfile
 from pathlib import Path
 
 import pytest
@@ -132,10 +133,14 @@ class Program:
         )
         return ended.returncode, ended.stdout, ended.stderr
 
-    def with_refused(self, first, *words, more=0, **other):
-        """The same with this growth of memory refused, counted from 1, and the next ones."""
+    def with_refused(self, first, *words, more=0, data=b""):
+        """The same with this growth of memory refused, counted from 1, and the next ones. The data
+        is in a file, which each run reads by the same pieces."""
         own = {"LD_PRELOAD": str(self.refuse_growth), "REFUSE": str(first), "MORE": str(more)}
-        return self(*words, env={**os.environ, **own, "SIZES": "1"}, **other)
+        with tempfile.TemporaryFile() as asked:
+            asked.write(data)
+            asked.seek(0)
+            return self(*words, stdin=asked, env={**os.environ, **own, "SIZES": "1"})
 
     def each_growth_refused(self, *words, data=b""):
         """What it has written with each growth that it takes refused in turn, in a run of its own.
