@@ -14,8 +14,6 @@ from running import TOP, needs, needs_compiler, run, write
 
 C = TOP / "bindings/c"
 FIRST_STEPS = """\
-百分之十二点五
-共35000元，剩1/3
 负十万五千
 -105000
 50
@@ -24,10 +22,10 @@ FIRST_STEPS = """\
 负壹拾伍元整
 贰零贰陆年零壹月壹拾伍日
 2026-01-15
-"""
-FIRST_STEPS_OF_CPP = """\
 百分之十二点五
 共35000元，剩1/3
+"""
+FIRST_STEPS_OF_CPP = """\
 负十万五千
 120
 50
@@ -36,6 +34,8 @@ the chinese number is incorrect (position: 1)
 1500
 负壹拾伍元整
 贰零贰陆年零壹月壹拾伍日
+百分之十二点五
+共35000元，剩1/3
 """
 EXAMPLES = {
     "example.c": FIRST_STEPS,

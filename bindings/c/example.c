@@ -44,20 +44,17 @@ static void first_steps(void) {
         puts(capitals); /* 贰零贰陆年零壹月壹拾伍日 */
     if (cn_read_date(capitals, strlen(capitals), &date) == CN_DONE)
         printf("%u-%02u-%02u\n", date.year, date.month, date.day); /* 2026-01-15 */
-}
 
-/* Prints a quantity, and a text with its quantities in figures. */
-static void quantities(void) {
-    const char sentence[] = "共3.5万元，剩三分之一";
-    char text[CN_MOST_QUANTITY_BYTES + 1];
+    const char expressions[] = "共3.5万元，剩三分之一";
+    char written[CN_MOST_QUANTITY_BYTES + 1];
     size_t length;
     cn_quantity quantity;
     if (cn_read_quantity("12.5%", 5, CN_TEN_THOUSAND, &quantity) == CN_DONE
-        && cn_print_quantity(&quantity, CN_TEN_THOUSAND, CN_SIMPLIFIED, CN_LOWER, text, sizeof text) == CN_DONE)
-        puts(text); /* 百分之十二点五 */
-    if (cn_quantities_to_figures(sentence, strlen(sentence), 0, CN_ZHAO, CN_TEN_THOUSAND, 0, text, sizeof text, &length)
+        && cn_print_quantity(&quantity, CN_TEN_THOUSAND, CN_SIMPLIFIED, CN_LOWER, written, sizeof written) == CN_DONE)
+        puts(written); /* 百分之十二点五 */
+    if (cn_quantities_to_figures(expressions, strlen(expressions), 0, CN_ZHAO, CN_TEN_THOUSAND, 0, written, sizeof written, &length)
         == CN_DONE)
-        puts(text); /* 共35000元，剩1/3 */
+        puts(written); /* 共35000元，剩1/3 */
 }
 
 /* Finds each number of a text. */
@@ -446,7 +443,6 @@ static void null_of_char(void) {
 }
 
 int main(void) {
-    quantities();
     first_steps();
     numbers_of_a_text();
     quantities_of_a_text();

@@ -33,6 +33,10 @@ void first_steps() {
     std::cout << chinese_to_amount("壹拾伍圆正").value_or(0) << '\n'; // 1500
     std::cout << signed_amount_to_chinese(-1500).value_or("") << '\n'; // 负壹拾伍元整
     std::cout << date_to_chinese({2026, 1, 15}).value_or("") << '\n'; // 贰零贰陆年零壹月壹拾伍日
+
+    if (auto quantity = chinese_to_quantity("12.5%"))
+        std::cout << quantity->to_chinese().value_or("") << '\n'; // 百分之十二点五
+    std::cout << quantities_to_figures("共3.5万元，剩三分之一").value_or("") << '\n'; // 共35000元，剩1/3
 }
 
 /* Whether there is no answer, for this reason. */
@@ -63,10 +67,6 @@ void numbers() {
 }
 
 void quantities() {
-    if (auto quantity = chinese_to_quantity("12.5%"))
-        std::cout << quantity->to_chinese().value_or("") << '\n'; // 百分之十二点五
-    std::cout << quantities_to_figures("共3.5万元，剩三分之一").value_or("") << '\n'; // 共35000元，剩1/3
-
     const Quantity half = {{1, 0}, {2, 0}, QuantityForm::fraction}, over_zero = {{1, 0}, {0, 0}, QuantityForm::whole};
     const Style digits = {Way::digits, Script::simplified, Case::lower};
     const Style low = {Way::low, Script::simplified, Case::lower};
@@ -124,10 +124,10 @@ void found_numbers() {
 } // namespace
 
 int main() {
-    quantities();
-    replaced_quantities();
     first_steps();
     numbers();
+    quantities();
+    replaced_quantities();
     found_numbers();
     return failed != 0;
 }
