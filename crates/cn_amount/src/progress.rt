@@ -21,6 +21,7 @@ impl Grammar for Progress {
 
     ghost machine = { amount_machine };
 
+    #[inline(always)]
     fn begin() -> Progress {
         Progress {
             state: State::Beginning,
@@ -28,6 +29,7 @@ impl Grammar for Progress {
         }
     }
 
+    #[inline(always)]
     fn step(self, character: char) -> Option<Progress> {
         let capital = capital_of(character)?;
         let state = self.state.step(capital)?;
@@ -37,6 +39,7 @@ impl Grammar for Progress {
         })
     }
 
+    #[inline(always)]
     fn end(self) -> Option<u64> {
         if self.state.is_end() {
             Some(self.sum.fen)

@@ -98,6 +98,7 @@ impl Stage {
     }
 
     // What closes a section, whose last digit is 0 or not.
+    #[inline(always)]
     fn close(self, is_round: bool, capital: Capital) -> Option<State>
         ensures { result ≡ close self is_round capital }
     {
@@ -114,6 +115,7 @@ impl Stage {
     }
 
     // Behind a digit at a place.
+    #[inline(always)]
     fn digit_at(self, place: Place, capital: Capital) -> Option<State>
         ensures { result ≡ digit_at self place capital }
     {
@@ -127,6 +129,7 @@ impl Stage {
     }
 
     // Behind a digit at a place or a lower one.
+    #[inline(always)]
     fn digit_below(self, place: Place, capital: Capital) -> Option<State>
         ensures { result ≡ digit_below self place capital }
     {
@@ -151,6 +154,7 @@ impl Stage {
     }
 
     // Behind the unit of a place.
+    #[inline(always)]
     fn after_unit(self, place: Place, capital: Capital) -> Option<State>
         ensures { result ≡ after_unit self place capital }
     {
@@ -174,6 +178,7 @@ impl Stage {
     }
 
     // 零 right behind 万 or 亿, at whose place the digit is 0 or not.
+    #[inline(always)]
     fn after_ling(self, is_round: bool) -> State
         ensures { result ≡ after_ling self is_round }
     {
@@ -185,6 +190,7 @@ impl Stage {
     }
 
     // Right behind 万 or 亿.
+    #[inline(always)]
     fn after_great(self, is_round: bool, capital: Capital) -> Option<State>
         ensures { result ≡ after_great self is_round capital }
     {
@@ -198,6 +204,7 @@ impl Stage {
 }
 
 // Behind the first digit.
+#[inline(always)]
 fn first_digit(capital: Capital) -> Option<State>
     ensures { result ≡ first_digit capital }
 {
@@ -210,6 +217,7 @@ fn first_digit(capital: Capital) -> Option<State>
 
 impl State {
     // Outside of a section.
+    #[inline(always)]
     fn outside(self, capital: Capital) -> Option<State>
         ensures { result ≡ outside self capital }
     {
@@ -234,6 +242,7 @@ impl State {
     }
 
     /// The state after one more capital; `None` where no amount goes on so.
+    #[inline(always)]
     pub fn step(self, capital: Capital) -> Option<State>
         ensures { result ≡ step self capital }
     {

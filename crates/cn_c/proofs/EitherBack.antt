@@ -29,7 +29,7 @@ use Rattle.cn_spell.proofs.Printed.{is_printed}
 use Rattle.chinese_number.proofs.Reading.{HasParts, HasParts-signed_text, minus_is_signed, naive_reading-parts, typed_answer-held}
 use Rattle.cn_spell.proofs.SignedNumbers.{written_sign}
 use Rattle.cn_spell.proofs.SpelledMarks.{below_square, spelling-printed}
-use Rattle.cn_faces.specs.Either.{either_way, ReadsEither}
+use Rattle.cn_faces.specs.Either.{either_way}
 use Rattle.cn_faces.specs.Ways.{ReadsBy}
 use Rattle.cn_faces.specs.declared.Way.{Way}
 use Rattle.cn_faces.specs.declared.Way.TheVariants.{Digits, Units}
@@ -143,6 +143,6 @@ either-ten_thousand kind script case number old new len whole held h = (back.0, 
   by true e answer r = r ∙ as_digits e
   by false e answer r = back.1 answer r
 
-  answered : (answer : Result ℤ Refusal) → ReadsEither kind (take len new) answer → answer ≡ Ok number
+  answered : (answer : Result ℤ Refusal) → ReadsBy kind (either_way kind (take len new)) (take len new) answer → answer ≡ Ok number
   answered answer r = by (list_all is_digit marks) refl answer
       (subst (λ w. ReadsBy kind w (take len new) answer) (way (list_all is_digit marks) refl) r)

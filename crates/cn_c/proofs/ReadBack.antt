@@ -33,7 +33,7 @@ use Rattle.cn_c.specs.Codes.{CN_DONE, ways, reading_ways, refusal_status}
 use Rattle.cn_c.specs.Halves.{number_of}
 use Rattle.cn_c.specs.Kinds.{the_kind}
 use Rattle.cn_c.specs.Prints.{PutsNothing, PutsIfItFits, PutsWritten, PrintsNumber, IsPrintedAs}
-use Rattle.cn_c.specs.Reads.{Answers, Tells, ReadsInto, IsReadAs}
+use Rattle.cn_c.specs.Reads.{Tells, ReadsInto, IsReadAs, way_meant}
 
 -- what is put where all goes well
 pub put-text : (text old new : List ℕ) (len : ℕ) → PutsIfItFits text old CN_DONE new len
@@ -137,7 +137,7 @@ IsAnswered way to_read = (kind : Kind) (script : ChineseVariant) (case : Chinese
     (old new : List ℕ) (len : ℕ) → IsWhole kind → holds kind number ≡ true
     → PutsWritten (written_by way script case number) old CN_DONE new len
     → IsUtf8 (take len new) × ((answer : Result ℤ Refusal)
-    → Answers kind to_read (take len new) answer → answer ≡ Ok number)
+    → ReadsBy kind (way_meant kind to_read (take len new)) (take len new) answer → answer ≡ Ok number)
 
 read-as : (way : Way) (to_read : ReadingWay) → IsAnswered way to_read
     → (kind : KindCode) (script : ChineseVariant) (case : ChineseCase) (number : Number) (old new : List ℕ) (len : ℕ)

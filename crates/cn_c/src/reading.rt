@@ -3,14 +3,14 @@ ghost use Rattle.std.specs.Prelude.{◌≡◌, IsUtf8};
 ghost use Rattle.chinese_number.specs.Answer.{answer_of, refusal_of};
 ghost use Rattle.cn_c.specs.Halves.{FitsHalves};
 ghost use Rattle.cn_c.specs.Kinds.{the_kind};
-ghost use Rattle.cn_c.specs.Reads.{Answers, ReadsInto, Tells, TellsRefusal, IsRead};
+ghost use Rattle.cn_c.specs.Reads.{ReadsInto, Tells, TellsRefusal, IsRead, way_meant};
 
 use crate::codes::{Kind, ReadingWay, kind_of, reading_way_of};
 use crate::number::{Number, halves};
 use crate::place::byte_index;
 use crate::status::{DONE, EMPTY, INCORRECT, NOT_UTF8, TOO_LARGE, TOO_SMALL, UNKNOWN};
 use chinese_number::{ChineseToNumberError, Whole};
-use cn_faces::{read_by, read_either, utf8_text};
+use cn_faces::{Way, either_way, read_by, utf8_text};
 use std::str;
 
 /// What was read: the number, or of the character at fault how many characters and how many bytes
@@ -29,7 +29,9 @@ const NOTHING: Reading = Reading {
     byte_index: 0,
 };
 
-/// Tells why a text is refused: the status, and where the character at fault stands.
+/// Tells why a text is refused: the status, and where the character at fault stands. It stands by
+/// itself, so that telling a number is short.
+#[inline(never)]
 pub fn tell_refusal(
     text: &str,
     error: ChineseToNumberError,
@@ -71,21 +73,23 @@ fn tell<T: Whole>(text: &str, answer: Result<T, ChineseToNumberError>, reading: 
     }
 }
 
-// The answer to a text.
-fn answer<T: Whole>(way: ReadingWay, text: &str) -> Result<T, ChineseToNumberError>
-    ensures { Answers T.kind way text.now (answer_of T.number result) }
+// The way in which a text is read as a number of a type.
+fn way_meant<T: Whole>(way: ReadingWay, text: &str) -> Way
+    ensures { result ≡ way_meant T.kind way text.now }
 {
     match way {
-        ReadingWay::By(way) => read_by(way, text),
-        ReadingWay::Either => read_either(text),
+        ReadingWay::By(way) => way,
+        ReadingWay::Either => either_way::<T>(text),
     }
 }
 
+#[inline(always)]
 fn read_as<T: Whole>(way: ReadingWay, text: &str, reading: &mut Reading) -> u32
     requires { FitsHalves T.kind }
     ensures { ReadsInto T.kind way text.now result reading.new }
 {
-    tell(text, answer::<T>(way, text), reading)
+    let answer = read_by::<T>(way_meant::<T>(way, text), text);
+    tell(text, answer, reading)
 }
 
 #[inline(always)]
@@ -119,7 +123,10 @@ pub extern "C" fn chinese_number_read(
     ensures { IsRead text.now kind way result reading.new }
 {
     *reading = NOTHING;
-    let (Some(kind), Some(way)) = (kind_of(kind), reading_way_of(way)) else {
+    let Some(kind) = kind_of(kind) else {
+        return UNKNOWN;
+    };
+    let Some(way) = reading_way_of(way) else {
         return UNKNOWN;
     };
     match utf8_text(text) {
@@ -140,7 +147,10 @@ pub unsafe extern "C" fn chinese_number_read_utf8(
     ensures { IsRead text.now kind way result reading.new }
 {
     *reading = NOTHING;
-    let (Some(kind), Some(way)) = (kind_of(kind), reading_way_of(way)) else {
+    let Some(kind) = kind_of(kind) else {
+        return UNKNOWN;
+    };
+    let Some(way) = reading_way_of(way) else {
         return UNKNOWN;
     };
     let text = unsafe { str::from_utf8_unchecked(text) };

@@ -2,14 +2,13 @@
 ghost use Rattle.std.specs.Prelude.{◌≡◌, ◌||◌, chars, is_some};
 ghost use Rattle.std.specs.Char.{is_whitespace};
 ghost use Rattle.std.specs.List.{list_all};
-ghost use Rattle.chinese_number.specs.Answer.{answer_of};
 ghost use Rattle.chinese_number.specs.Characters.{digit_of};
 ghost use Rattle.chinese_number.specs.Number.{is_plain};
 ghost use Rattle.chinese_number.specs.Text.{text_of};
-ghost use Rattle.cn_faces.specs.Either.{either_way, ReadsEither};
+ghost use Rattle.cn_faces.specs.Either.{either_way};
 
-use crate::way::{Way, read_by};
-use chinese_number::{ChineseCountMethod, ChineseToNumberError, Whole, digit_of};
+use crate::Way;
+use chinese_number::{ChineseCountMethod, Whole, digit_of};
 use cn_judge::split_sign;
 
 // Whether a character is a digit or white space.
@@ -33,8 +32,9 @@ fn is_plain(text: &str) -> bool
     is_digits_and_white(text)
 }
 
-// The way in which a text is read either way as a number of a type.
-fn either_way<T: Whole>(text: &str) -> Way
+/// The way in which a text is read either way, as a number of a type: plain digits as such, and any
+/// other text by `TenThousand`.
+pub fn either_way<T: Whole>(text: &str) -> Way
     ensures { result ≡ either_way T.kind text.now }
 {
     if is_plain(split_sign(T::SIGNED, text).rest) {
@@ -42,12 +42,4 @@ fn either_way<T: Whole>(text: &str) -> Way
     } else {
         Way::Units(ChineseCountMethod::TenThousand)
     }
-}
-
-/// Reads a text either way, as a number of a type: plain digits as such, and any other text by
-/// `TenThousand`.
-pub fn read_either<T: Whole>(text: &str) -> Result<T, ChineseToNumberError>
-    ensures { ReadsEither T.kind text.now (answer_of T.number result) }
-{
-    read_by(either_way::<T>(text), text)
 }

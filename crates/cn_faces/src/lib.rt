@@ -8,6 +8,6 @@ mod either;
 mod utf8;
 mod way;
 
-pub use either::read_either;
+pub use either::either_way;
 pub use utf8::utf8_text;
 pub use way::{SignedMagnitude, Way, put_by, read_by, way_named};

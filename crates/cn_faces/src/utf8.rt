@@ -21,6 +21,7 @@ fn is_common(key: u32) -> bool
 
 // Whether all of these bytes are such characters, from the last to the first. The three bytes of
 // each but the first are loaded at once, with the one in front of them.
+#[inline(always)]
 fn are_common(bytes: &[u8]) -> bool
     ensures { IsTrue result → IsUtf8 bytes.now }
 {
@@ -40,7 +41,21 @@ fn are_common(bytes: &[u8]) -> bool
     }
 }
 
+// The text of any bytes, if they are UTF-8. It stands by itself, so that the short test is short
+// where it is inlined.
+#[inline(never)]
+fn tested_text(bytes: &[u8]) -> Option<&str>
+    ensures { MatchOption result (is_utf8 bytes.now ≡ false)
+        (λ text. (is_utf8 bytes.now ≡ true) × (text.now ≡ bytes.now)) }
+{
+    match str::from_utf8(bytes) {
+        Ok(text) => Some(text),
+        Err(_) => None,
+    }
+}
+
 /// The text of these bytes, if they are UTF-8.
+#[inline(always)]
 pub fn utf8_text(bytes: &[u8]) -> Option<&str>
     ensures { MatchOption result (is_utf8 bytes.now ≡ false)
         (λ text. (is_utf8 bytes.now ≡ true) × (text.now ≡ bytes.now)) }
@@ -48,8 +63,5 @@ pub fn utf8_text(bytes: &[u8]) -> Option<&str>
     if are_common(bytes) {
         return Some(unsafe { str::from_utf8_unchecked(bytes) });
     }
-    match str::from_utf8(bytes) {
-        Ok(text) => Some(text),
-        Err(_) => None,
-    }
+    tested_text(bytes)
 }

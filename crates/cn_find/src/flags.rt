@@ -7,7 +7,7 @@ ghost use Rattle.cn_find.specs.Flags.{are_near, begins_linked, begins_with_unit,
 
 use crate::belongs::is_chinese_digit;
 use cn_core::{digit_of, split_first_char, unit_of};
-use cn_judge::split_last_char;
+use cn_judge::{Mark, mark_of, split_last_char};
 
 /// Whether a character is a full-width digit.
 pub fn is_wide_digit(c: char) -> bool
@@ -16,10 +16,11 @@ pub fn is_wide_digit(c: char) -> bool
     matches!(c, '０'..='９')
 }
 
+#[inline(always)]
 fn is_digit(c: char) -> bool
     ensures { result ≡ is_some (digit_of c) }
 {
-    digit_of(c).is_some()
+    matches!(mark_of(c), Mark::Digit(_))
 }
 
 fn is_unit(c: char) -> bool
@@ -64,8 +65,11 @@ fn goes_on_before(before: &str) -> bool
     if clings(near) {
         return true;
     }
+    if !is_link(near) {
+        return false;
+    }
     match split_last_char(others) {
-        Some((far, _)) => is_link(near) && is_linked(far),
+        Some((far, _)) => is_linked(far),
         None => false,
     }
 }
@@ -80,8 +84,11 @@ fn goes_on_after(after: &str) -> bool
     if clings(near) {
         return true;
     }
+    if !is_link(near) {
+        return false;
+    }
     match split_first_char(others) {
-        Some((far, _)) => is_link(near) && is_linked(far),
+        Some((far, _)) => is_linked(far),
         None => false,
     }
 }
@@ -139,9 +146,11 @@ fn first_pair(text: &str) -> Option<(char, char, &str)>
 {
     let mut rest = text;
     'looking: while let Some((c, others)) = split_first_char(rest) {
-        if let Some((next, _)) = split_first_char(others) {
-            if is_digit(c) && is_digit(next) {
-                return Some((c, next, others));
+        if is_digit(c) {
+            if let Some((next, _)) = split_first_char(others) {
+                if is_digit(next) {
+                    return Some((c, next, others));
+                }
             }
         }
         rest = others;

@@ -129,6 +129,7 @@ pub fn print_naive<T: Whole>(
 
 // The text of a sign and a magnitude at the end of a room, and where it begins: one body for all
 // types.
+#[inline(always)]
 fn put_plain(
     room: &mut [u8; MOST_BYTES],
     characters: Characters,
