@@ -2,7 +2,7 @@
 tables of the pages, and the worked examples of docs/RULES.md.
 
 In a row of a page that begins with two cells in code a program answers: `numeral` where the second
-is `ok ..`, `err ..` or `bad line`, and else `cheque`. An example of RULES is `ASKED` → `ANSWER`, where
+is `ok ..`, `err ..` or `bad line`, and else `cheque`. An example of RULES is `ASKED`→`ANSWER`, where
 refusals are short, and its heading says what answers. test.py needs this file, which takes Python
 from 3.8 on.
 """
@@ -13,7 +13,7 @@ TOP = Path(__file__).resolve().parent.parent
 PAGES = ("README.md", "README.zh.md", "docs/*.md")
 RULES = "docs/RULES.md"
 ROW = re.compile(r"^\| `([^`]*)` \| `([^`]*)` \|", re.MULTILINE)
-EXAMPLE = re.compile(r"`([^`]+)` → `([^`]+)`")
+EXAMPLE = re.compile(r"`([^`]+)`→`([^`]+)`")
 OF_NUMERAL = re.compile(r"(?:ok|err) .*|bad line")
 # The refusals that examples have in short, beside that of a position.
 REFUSALS = {

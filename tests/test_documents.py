@@ -64,14 +64,13 @@ def test_units():
     most = int(re.search(r"^scale_fits method rank = .*\) (\d+)$", scales, re.MULTILINE)[1])
     powers = dict(EXPONENT.findall(scales))
     methods = ["TenThousand", "Middle", "High"]
-    wanted = [["rank", "unit", *methods]]
+    wanted = [["unit", *methods]]
     for rank, unit in enumerate(characters("cn_core/specs/Characters.antt", "unit_rows")):
         formulas = (powers[it].replace("^", "**") if rank > 4 else "rank" for it in methods)
         exponents = [eval(formula, {"rank": rank}) for formula in formulas]
-        wanted.append([str(rank), unit, *(str(it) if it <= most else "-" for it in exponents)])
-    table = rules("Characters").partition("    rank ")[1:]
-    found = [line.split() for line in "".join(table).split("\n\n")[0].splitlines()]
-    assert found == wanted
+        wanted.append([unit, *(str(it) for it in exponents if it <= most)])
+    table = rules("Characters").partition("    unit ")[1:]
+    assert [row.split() for row in "".join(table).split("\n\n")[0].splitlines()] == wanted
 
 
 def test_written_characters():
