@@ -28,7 +28,7 @@ LISTED = (
     "cn_amount/specs/Typed.antt",
 )
 WRITTEN = re.compile("^    (Traditional|Simple) (Upper|Lower) +(.*)$", re.MULTILINE)
-EXPONENT = re.compile("^exponent (\\w+) rank = if nat_le rank 4 then rank else (.*)$", re.MULTILINE)
+EXPONENT = re.compile(r"^exponent (\w+) rank = if nat_le rank 4 then rank else (.*)$", re.MULTILINE)
 # What `numbers` has found in a line: the column, the text and the answer.
 FOUND = re.compile(r"^1:(\d+) (.+?) (err .*|[-\d/]+)$", re.MULTILINE)
 CALL = re.compile(r"((?:^///.*\n)+)pub fn (from_\w+)", re.MULTILINE)
