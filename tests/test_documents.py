@@ -18,7 +18,7 @@ from running import TOP, needs_rt
 
 # The pages beside which one in Chinese stands, README.zh.md.
 IN_CHINESE_TOO = ("README.md", "bindings/python/README.md", "bindings/web/README.md")
-CODE = re.compile(r"^```\w*\n(.*?)^```$|^((?:    .*\n)+)", re.MULTILINE | re.DOTALL)
+CODE = re.compile(r"^```\w*\n(.*?)^```$|^((?:    [^\n]*\n)+)", re.MULTILINE | re.DOTALL)
 # The definitions whose lists of characters stand in RULES, each as one word.
 LISTED = (
     "cn_find/specs/Belongs.antt",
