@@ -7,7 +7,7 @@ It takes half a minute, and needs Python from 3.8 on and a C compiler; CC and CX
 
 - The C source in dist/ is compiled. What it answers to 126,507 numbers, quantities, amounts, dates
   and texts has to have the sum that the answers of the proved archive have, by dist/PROVENANCE.json.
-- Each language that is here is asked the rows of tests/rows, and the worked rows in the tables of
+- Each language that is here is asked the rows of tests/rows, and the worked rows and examples of
   README.md and docs/. What is not here is left out, and named.
 
 Each language has a program `answers` in bindings/. It is given questions, a line each, of words

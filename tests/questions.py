@@ -1,17 +1,42 @@
-"""What the library is asked in all languages: the rows of `tests/rows`, and the worked rows in the
-tables of README.md and docs/.
+"""What the library is asked in all languages: the rows of `tests/rows`, the worked rows in the
+tables of the pages, and the worked examples of docs/RULES.md.
 
 In a row of a page that begins with two cells in code a program answers: `numeral` where the second
-is `ok ..`, `err ..` or `bad line`, and else `cheque`. The table of numbers in a text is known by
-the names of its columns. test.py needs this file, which takes Python from 3.8 on.
+is `ok ..`, `err ..` or `bad line`, and else `cheque`. An example of RULES is `ASKED`→`ANSWER`, where
+refusals are short, and its heading says what answers. test.py needs this file, which takes Python
+from 3.8 on.
 """
 import re
 from pathlib import Path
 
 TOP = Path(__file__).resolve().parent.parent
+PAGES = ("README.md", "README.zh.md", "docs/*.md")
+RULES = "docs/RULES.md"
 ROW = re.compile(r"^\| `([^`]*)` \| `([^`]*)` \|", re.MULTILINE)
+EXAMPLE = re.compile(r"`([^`]+)`→`([^`]+)`")
 OF_NUMERAL = re.compile(r"(?:ok|err) .*|bad line")
-LINE = re.compile(r"(?:read|print) \w+ \w+ ")
+# The refusals that examples have in short, beside that of a position.
+REFUSALS = {
+    "empty": "err a chinese number cannot be empty",
+    "unfinished": "err the {} is not finished",
+    "too large": "err number is too large",
+    "too small": "err number is too small",
+    "bad line": "bad line",
+}
+# The headings of RULES under which `cheque` answers, and those under which a call of the libraries
+# does, with its words in front. Under all others `numeral` answers.
+OF_CHEQUE = ("Amounts of money", "Amounts in figures", "Dates on bills")
+OF_CALLS = {
+    "Numbers in a text": ["find"],
+    "What is told of a number": ["flags"],
+    "Either way": ["read", "i64", "any"],
+    "Quantities": ["read_quantity", "ten_thousand"],
+    "Quantities written": ["print_quantity", "ten_thousand", "simple", "lower"],
+    "Quantities in figures": ["quantity_figures"],
+    "Expressions replaced": ["quantities_to_figures", "none"],
+    "Amounts below zero": ["read_signed_amount"],
+    "Amounts as typed": ["read_typed_amount"],
+}
 # The plain characters of figures; ¥ and commas stand for nothing.
 PLAIN = str.maketrans("０１２３４５６７８９．", "0123456789.", "¥￥,，")
 # The files of `tests/rows` that the libraries alone are asked: no program is.
@@ -28,7 +53,6 @@ OF_LIBRARIES = (
 )
 # How many words a line of `numeral` has; the last one may have spaces in it.
 WORDS = {"read": 4, "print": 6}
-NUMBERS = re.compile(r"^\| text \| numbers \| answers \|.*\n\|[-|]*\n((?:\|.*\n)+)", re.MULTILINE)
 
 
 def table(name):
@@ -48,35 +72,55 @@ def of_files(names=("numbers", "amounts", "dates")):
 
 
 def pages():
-    for path in [TOP / "README.md", *sorted(TOP.glob("docs/*.md"))]:
+    for path in (path for it in PAGES for path in sorted(TOP.glob(it))):
         yield path.name, path.read_text(encoding="utf-8")
 
 
+def in_full(answer, what):
+    """What answers, by the answer of an example; `what` is read."""
+    if re.fullmatch(r"at \d+", answer):
+        return f"err the {what} is incorrect (position: {answer[3:]})"
+    of_numbers = re.compile(r"(?<=\[)(at )?\d+(?=\])")
+    told = of_numbers.sub(lambda number: in_full(number[0], what), answer)
+    return REFUSALS.get(answer, f"ok {told}").format(what)
+
+
+def examples():
+    """The heading, what is asked and the answer of each example of RULES."""
+    text = (TOP / RULES).read_text(encoding="utf-8")
+    for part in re.split("^#+ ", text, flags=re.MULTILINE)[1:]:
+        heading, _, its = part.partition("\n")
+        capitals = "date" if heading.startswith("Dates") else "amount"
+        what = capitals if re.match("Amounts|Dates", heading) else "chinese number"
+        for asked, answer in EXAMPLE.findall(re.sub("\n *", " ", its)):
+            yield heading, asked, in_full(answer, what)
+
+
+def line_of(asked):
+    """The line of `numeral`. What is none is a text, read as an `i64` by `ten_thousand`."""
+    return asked if re.match("(read|print) ", asked) else f"read i64 ten_thousand {asked}"
+
+
 def of_numeral():
-    """The page, the line and the answer of each row of `numeral`. What is no line of it is a text
-    that is read as an `i64` by `ten_thousand`."""
+    """The page, the line and the answer of each row and example of `numeral`."""
     for page, text in pages():
         for asked, answer in ROW.findall(text):
             if OF_NUMERAL.fullmatch(answer):
-                is_line = answer == "bad line" or LINE.match(asked)
-                yield page, asked if is_line else f"read i64 ten_thousand {asked}", answer
+                yield page, line_of(asked), answer
+    for heading, asked, answer in examples():
+        if heading not in OF_CHEQUE and heading not in OF_CALLS:
+            yield RULES, line_of(asked), answer
 
 
 def of_cheque():
-    """The word and the answer of each row of `cheque`."""
+    """The word and the answer of each row and example of `cheque`."""
     for _, text in pages():
         for asked, answer in ROW.findall(text):
             if not OF_NUMERAL.fullmatch(answer):
                 yield asked, answer
-
-
-def of_numbers():
-    """Each text, its numbers, and the answer to each of them."""
-    for _, page in pages():
-        for row in "".join(NUMBERS.findall(page)).splitlines():
-            text, *cells = (cell.strip() for cell in row.split("|")[1:4])
-            numbers, answers = ([] if it == "none" else it.split(", ") for it in cells)
-            yield text, numbers, answers
+    for heading, asked, answer in examples():
+        if heading in OF_CHEQUE:
+            yield asked, answer.partition(" ")[2]
 
 
 def begins_figures(text):
@@ -106,15 +150,6 @@ def questions_on_capitals(word, answer):
         yield [f"read_{what}", word], f"ok {value(answer)}" if is_read else f"err {answer}"
 
 
-def in_place(text, numbers, answers):
-    """The text with the answer to each of its numbers, in brackets, in the place of that number."""
-    done = ""
-    for number, answer in zip(numbers, answers):
-        before, _, text = text.partition(number)
-        done += f"{before}[{answer if answer.startswith('err ') else f'ok {answer}'}]"
-    return done + text
-
-
 def questions():
     """What the calls of the library are asked, as test.py says it: the words of a question, of
     which the first one names the call, and the answer."""
@@ -125,8 +160,9 @@ def questions():
             yield line.split(" ", WORDS[line.split(" ")[0]] - 1), answer
     for word, answer in of_cheque():
         yield from questions_on_capitals(word, answer)
-    for text, numbers, answers in of_numbers():
-        yield ["find", text], f"ok {in_place(text, numbers, answers)}"
+    for heading, asked, answer in examples():
+        if heading in OF_CALLS:
+            yield [*OF_CALLS[heading], asked], answer
 
 
 def wrong_answers(ask):

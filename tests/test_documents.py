@@ -1,33 +1,36 @@
-"""What the documents, the comments and `tests/rows` show, held against the programs.
+"""What the documents, the comments and `tests/rows` show, held against programs and definitions.
 
-- The rows of `numeral` and of `cheque` in the tables of README.md and docs/, and those of
-  `tests/rows`, are asked.
-- The characters that RULES lists for amounts and dates are those of the definitions, each read as
-  what it says.
+- The worked rows of the pages, the examples of docs/RULES.md and the rows of `tests/rows` are asked
+  of `numeral`, `cheque` and `numbers`.
+- The lists of characters in RULES, and its scales, are those of the definitions.
+- The pages that there are in Chinese too have the same rows and the same code in both languages.
 - The example in the comment of each of the 96 calls by name is asked, with its type and method.
 - Each block of Rust in README.md stands, line by line, in a source of a program of `crates/`.
 - Each folder of `crates/` and `bindings/` has a row in docs/DESIGN.md.
-- The toolchain is named in one place of the documents, with the logic that `rt version` says.
+- The documents name one toolchain, by the logic that `rt version` says.
 """
-import itertools
 import re
 import subprocess
 
+import pytest
 import questions
 from running import TOP, needs_rt
 
-ROW_OF_CHARACTERS = re.compile(r"^\| ([^|]*) \| ([^|]*)\| ([^|]*)\|$", re.MULTILINE)
-DEFINED = re.compile(r'\(codes "(\w+)", (\w+(?: \d)?)\)')
-# What the list of characters calls the capitals of the definitions. Ling is the 0 of amounts.
-CAPITALS = {
-    "0 to 9": [f"Digit {digit}" for digit in range(10)],
-    "10": ["Shi"],
-    "100, 1000, 10^4, 10^8": ["Bai", "Qian", "Wan", "Yi"],
-    "yuan, jiao, fen": ["Yuan", "Jiao", "Fen"],
-    "the end": ["Zheng"],
-    "the currency": ["Ren", "Min", "Bi"],
-    "year, month, day": ["Nian", "Yue", "Ri"],
-}
+# The pages beside which one in Chinese stands, README.zh.md.
+IN_CHINESE_TOO = ("README.md", "bindings/python/README.md", "bindings/web/README.md")
+CODE = re.compile(r"^```\w*\n(.*?)^```$|^((?:    [^\n]*\n)+)", re.MULTILINE | re.DOTALL)
+# The definitions whose lists of characters stand in RULES, each as one word.
+LISTED = (
+    "cn_find/specs/Belongs.antt",
+    "cn_find/specs/Flags.antt",
+    "cn_find/specs/Expressions.antt",
+    "cn_quantity/specs/Characters.antt",
+    "cn_amount/specs/Typed.antt",
+)
+WRITTEN = re.compile("^    (Traditional|Simple) (Upper|Lower) +(.*)$", re.MULTILINE)
+EXPONENT = re.compile(r"^exponent (\w+) rank = if nat_le rank 4 then rank else (.*)$", re.MULTILINE)
+# What `numbers` has found in a line: the column, the text and the answer.
+FOUND = re.compile(r"^1:(\d+) (.+?) (err .*|[-\d/]+)$", re.MULTILINE)
 CALL = re.compile(r"((?:^///.*\n)+)pub fn (from_\w+)", re.MULTILINE)
 READ = re.compile(r"^/// Reads .*: `(\S+)` is (-?[\d_]+)\.$", re.MULTILINE)
 PRINTED = re.compile(r"^/// Writes .*: (-?[\d_]+) is `(\S+)`\n/// in traditional", re.MULTILINE)
@@ -38,20 +41,80 @@ def text_of(path):
     return path.read_text(encoding="utf-8")
 
 
-def test_characters():
-    """The characters that RULES lists for amounts and dates are read as the definitions say."""
-    rules = text_of(TOP / "docs/RULES.md")
-    heading = "## Characters of amounts and dates\n"
-    found = ROW_OF_CHARACTERS.findall(rules.split(heading)[1].split("\n## ")[0])[1:]
-    of_amounts = [(name, first) for name, first, _ in found]
-    of_dates = [(name, second.replace("the same", first)) for name, first, second in found]
-    for crate, cells in (("cn_amount", of_amounts), ("cn_date", of_dates)):
-        listed = set()
-        for name, cell in cells:
-            alike = re.findall(r"\w+", cell.replace(" ", ""))
-            listed.update(itertools.zip_longest(alike, CAPITALS.get(name, []) if alike else []))
-        definition = text_of(TOP / f"crates/{crate}/specs/Reading.antt")
-        assert listed == set(DEFINED.findall(definition.replace("Ling)", "Digit 0)"))), crate
+def rules(heading):
+    """What stands in RULES under a heading."""
+    return text_of(TOP / questions.RULES).split(f"# {heading}\n")[1].split("\n#")[0]
+
+
+def characters(path, name=""):
+    """The lists of characters of a file of definitions, in order, or those of one definition."""
+    text = text_of(TOP / "crates" / path)
+    text = re.search(f"^{name} =(.*\n)((?:  .*\n)*)", text, re.MULTILINE)[0] if name else text
+    return [it.replace("\\\\", "\\") for it in re.findall('codes "([^"]+)"', text)]
+
+
+def test_digits():
+    digits = characters("cn_core/specs/Characters.antt", "digit_rows")
+    assert f"\n    {' '.join(digits)}\n" in rules("Characters")
+
+
+def test_units():
+    """Each unit has its characters and the exponents of its scales, where these fit."""
+    scales = text_of(TOP / "crates/cn_core/specs/Scale.antt")
+    most = int(re.search(r"^scale_fits method rank = .*\) (\d+)$", scales, re.MULTILINE)[1])
+    powers = dict(EXPONENT.findall(scales))
+    methods = ["TenThousand", "Middle", "High"]
+    wanted = [["unit", *methods]]
+    for rank, unit in enumerate(characters("cn_core/specs/Characters.antt", "unit_rows")):
+        formulas = (powers[it].replace("^", "**") if rank > 4 else "rank" for it in methods)
+        exponents = [eval(formula, {"rank": rank}) for formula in formulas]
+        wanted.append([unit, *(str(it) for it in exponents if it <= most)])
+    table = rules("Characters").partition("    unit ")[1:]
+    assert [row.split() for row in "".join(table).split("\n\n")[0].splitlines()] == wanted
+
+
+def test_written_characters():
+    path, told = "cn_core/specs/Characters.antt", WRITTEN.findall(rules("Characters"))
+    assert len(told) == 4
+    for script, case, words in told:
+        names = (f"printed_digits (?:variant|{script}) {case}", f"printed_units {script} {case}")
+        lists = [*names, f"minus_char {script}"]
+        assert words.split() == [it for name in lists for it in characters(path, name)]
+
+
+def test_lists():
+    """Each list of two characters or more stands in RULES, in whatever order."""
+    words = {frozenset(it) for it in re.findall(r"[^\s`]+", text_of(TOP / questions.RULES))}
+    lists = [it for path in LISTED for it in characters(path) if len(it) > 1 and " " not in it]
+    assert [it for it in lists if not it[0].isdecimal() and frozenset(it) not in words] == []
+
+
+@pytest.mark.parametrize("kind", ["amount", "date"])
+def test_capitals(kind):
+    capitals = characters(f"cn_{kind}/specs/Reading.antt", "capital_rows")
+    told = rules("Characters of amounts and dates")
+    assert re.search(f"^    {kind}s +(.*)$", told, re.MULTILINE)[1].split() == capitals
+
+
+def test_arrows():
+    """Each arrow in RULES is that of an example."""
+    assert text_of(TOP / questions.RULES).count("→") == len(list(questions.examples()))
+
+
+def shown(path):
+    """The code in each row of the tables of a page, and the lines of its other code, but for those
+    that are comments."""
+    text = text_of(path)
+    rows = [re.findall("`[^`]+`", row) for row in re.findall(r"^\|.*\|$", text, re.MULTILINE)]
+    lines = "\n".join(map("".join, CODE.findall(text))).splitlines()
+    code = [it.strip() for it in lines if it.strip() and not re.match(" *(#|//)", it)]
+    return sorted(filter(None, rows)), sorted(code)
+
+
+@pytest.mark.parametrize("page", IN_CHINESE_TOO)
+def test_two_languages(page):
+    path = TOP / page
+    assert shown(path.with_name("README.zh.md")) == shown(path)
 
 
 def examples():
@@ -111,6 +174,33 @@ def test_cheque(cheque):
         assert (word, (output + error).decode()) == (word, f"{wanted}\n")
 
 
+def in_brackets(numbers, text, tell, *options):
+    """A text where what is told of each number that is found stands in its place, in brackets."""
+    done, end = "", 0
+    answers = numbers(*options, data=text.encode())[1].decode()
+    for column, found, answer in FOUND.findall(answers):
+        start = int(column) - 1
+        done += f"{text[end:start]}[{tell(found, answer)}]"
+        end = start + len(found)
+        assert text[start:end] == found
+    return done + text[end:]
+
+
+def test_numbers(numbers):
+    """The numbers of each text of RULES have their answers, and its expressions their places."""
+    for heading, text, answer in questions.examples():
+        if heading == "Numbers in a text":
+            found = in_brackets(
+                numbers, text, lambda _, it: it if it.startswith("err ") else f"ok {it}"
+            )
+            assert f"ok {found}" == answer
+    bracketed = re.findall(r"`([^`]*\[[^`]*)`", rules("Expressions in a text"))
+    assert bracketed
+    for text in bracketed:
+        bare = re.sub(r"[\[\]]", "", text)
+        assert in_brackets(numbers, bare, lambda it, _: it, "--exact") == text
+
+
 def test_blocks():
     """The Rust of README stands in sources."""
     texts = [text_of(path) for path in TOP.glob("crates/*/src/*.rt")]
@@ -127,9 +217,10 @@ def test_folders():
 
 
 def test_toolchain():
-    """The documents name one toolchain, once, and its logic, which decides, is the logic of rt."""
+    """The documents name one toolchain, and its logic, which decides, is the logic of rt."""
     needs_rt()
     said = subprocess.run(["rt", "version"], capture_output=True, text=True, check=True).stdout
     pages = [page for it in ("*.md", "docs/*.md", "bindings/**/*.md") for page in TOP.glob(it)]
-    named = re.findall(r"rattle-kit-\w+|logic [0-9a-f]{16}\b", "".join(map(text_of, pages)))
-    assert len(named) == 2 and said.strip().endswith(f" {named[1]}")
+    named = set(re.findall(r"rattle-kit-\w+|logic [0-9a-f]{16}\b", "".join(map(text_of, pages))))
+    logics = {it for it in named if it.startswith("logic ")}
+    assert len(named) == 2 and logics == {said.strip()[-len("logic ") - 16 :]}
