@@ -3,7 +3,8 @@
 - The worked rows of the pages, the examples of docs/RULES.md and the rows of `tests/rows` are asked
   of `numeral`, `cheque` and `numbers`.
 - The lists of characters in RULES, and its scales, are those of the definitions.
-- The pages that there are in Chinese too have the same rows and the same code in both languages.
+- The pages that there are in Chinese too have the same rows and the same code in both languages,
+  but that those in Chinese may have more rows.
 - The example in the comment of each of the 96 calls by name is asked, with its type and method.
 - Each block of Rust in README.md stands, line by line, in a source of a program of `crates/`.
 - Each folder of `crates/` and `bindings/` has a row in docs/DESIGN.md.
@@ -113,8 +114,12 @@ def shown(path):
 
 @pytest.mark.parametrize("page", IN_CHINESE_TOO)
 def test_two_languages(page):
+    """The page in Chinese has the rows and the code of the other, and may have more rows of two
+    cells in code, of which programs are asked."""
     path = TOP / page
-    assert shown(path.with_name("README.zh.md")) == shown(path)
+    (rows, code), (in_chinese, alike) = shown(path), shown(path.with_name("README.zh.md"))
+    assert alike == code and [it for it in in_chinese if it in rows] == rows
+    assert [it for it in in_chinese if it not in rows and len(it) != 2] == []
 
 
 def examples():
