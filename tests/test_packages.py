@@ -357,9 +357,9 @@ def test_c_by_pkg_config(of_c):
     needs("cc", "pkg-config")
     own = {"PKG_CONFIG_PATH": f"{of_c.lib}/pkgconfig", "LD_LIBRARY_PATH": of_c.lib}
     words = "$(pkg-config --cflags --libs 'chinese-number >= 0.1.0')"
-    call = ("bash", "-euc", f'eval cc "$1" -I. -o user {words}', "", of_c.example)
+    call = ("bash", "-euc", f'eval cc "$1" -I. -o user {words}', "", USERS / "main.c")
     run(*call, cwd=of_c.scratch, **own)
-    of_c.answers("./user", **own)
+    of_c.answers("./user", wanted=of_c.page.answer, **own)
 
 
 def test_c_by_cmake(of_c, tmp_path):
