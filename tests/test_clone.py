@@ -21,15 +21,15 @@ OF_GIT = ("-c", "user.name=clone", "-c", "user.email=", "-c", "init.defaultBranc
 OFFLINE = ("unshare", "--map-root-user", "--net")
 
 
-def page_of(folder, language):
-    """The page of a language, and its example."""
+def page_of(folder, language=None):
+    """A page of `bindings/`, and its example in a language, else in that of the folder's name."""
     name = f"bindings/{folder}/README.md"
-    return Page((TOP / name).read_text(encoding="utf-8"), name, language)
+    return Page((TOP / name).read_text(encoding="utf-8"), name, language or folder)
 
 
-def by_page(folder, language, which=0):
-    """The lines that the page has for a clone."""
-    return textwrap.dedent(page_of(folder, language).installs[which])
+def by_page(page, which=0):
+    """The lines that a page has for a clone."""
+    return textwrap.dedent(page.installs[which])
 
 
 @pytest.fixture(scope="module")
@@ -78,7 +78,7 @@ def test_there_is_no_network(begin):
 
 NUMBER, URL = "十万五千\n", "file://${CLONE// /%20}"
 USE = 'python -c "from chinese_number import to_chinese; print(to_chinese(105_000))"\n'
-BY_PAGE = f'{by_page("python", "python")}{USE}'
+BY_PAGE = f'{by_page(page_of("python"))}{USE}'
 EDITABLE = f'pip install -e "$CLONE/bindings/python"\n{USE}'
 BY_GIT = f'pip install "git+{URL}#subdirectory=bindings/python"\n{USE}'
 LIBRARY = "_native.abi3.so" if HEADER.is_file() else "libchinese_number.so"
@@ -117,8 +117,9 @@ cargo vendor --quiet vendored > .cargo/config.toml
 export CARGO_HOME=$PWD/other CARGO_TARGET_DIR=$PWD/other
 cargo run --quiet
 """
+RUST = page_of("rust")
 OF_CARGO = {
-    "by path": f"{by_page('rust', 'rust')}cargo run --quiet\n",
+    "by path": f"{by_page(RUST)}cargo run --quiet\n",
     "by git, and vendored": VENDORED,
     "packed": 'cd "$CLONE/bindings/rust"\ncargo package --quiet\n',
 }
@@ -127,7 +128,7 @@ OF_CARGO = {
 @pytest.mark.parametrize("way", OF_CARGO)
 def test_cargo(follow, way):
     needs("cc", "cargo 1.82")
-    user = of_rust(follow.folder, page_of("rust", "rust"))
+    user = of_rust(follow.folder, RUST)
     own = {"CARGO_HOME": str(user / "cargo"), "CARGO_TARGET_DIR": str(user / "target")}
     follow(OF_CARGO[way], **own)
 
@@ -140,7 +141,7 @@ go get -d .
 go mod vendor
 rm clone
 """
-OF_MODULES = {"by path": by_page("go", "go"), "vendored": BY_LINK}
+OF_MODULES = {"by path": by_page(page_of("go")), "vendored": BY_LINK}
 
 
 @pytest.mark.parametrize("way", OF_MODULES)
@@ -176,10 +177,13 @@ eval cc '"$CLONE/bindings/c/example.c"' "$words" -o user
 """
 
 
-@pytest.mark.parametrize("which, example", enumerate(("example.c", "example.cpp")))
-def test_cc(follow, which, example):
+@pytest.mark.parametrize("which, language", enumerate(("c", "cpp")))
+def test_cc(follow, which, language):
+    """The example answers as the page says, which has a part of it."""
     needs("cc", "c++")
-    follow(by_page("c", "c", which), EXAMPLES[example])
+    page, answers = page_of("c", language), EXAMPLES[f"example.{language}"]
+    assert page.answer in answers
+    follow(by_page(page, which), answers)
 
 
 def test_cmake_part(follow):

@@ -345,8 +345,10 @@ def test_c_by_compiler(of_c, call):
 
 
 def test_cpp(packages, of_c):
-    """The example of the header for C++ answers as it says."""
+    """The example of the header for C++ answers as the page says, which has a part of it."""
     needs("g++")
+    page = Readme(package(packages, NATIVE_C, NATIVE), "README.md", "cpp")
+    assert page.answer in EXAMPLES["example.cpp"]
     words = ("-std=c++17", *STRICT.split(), f"-I{of_c.prefix}/include", "-o", "program")
     example, archive = of_c.example.with_suffix(".cpp"), f"{of_c.lib}/libchinese_number.a"
     run("g++", *words, example, archive, cwd=of_c.scratch)
