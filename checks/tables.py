@@ -42,14 +42,14 @@ class Table:
 
     def placed(self, chars):
         """The least multiplier that gives each character a slot of its own, and the slots."""
-        multiplier = self.multiplier
-        while True:
+        period = self.slots * self.divisor  # after which the slots are the same again
+        for multiplier in range(self.multiplier, self.multiplier + period, 2):
             slots = {
                 self.key(char) * multiplier // self.divisor % self.slots: char for char in chars
             }
             if len(slots) == len(chars):
                 return multiplier, slots
-            multiplier += 2
+        sys.exit(f"tables: no multiplier parts the characters of {self.name}: it needs more slots")
 
     def written(self, found, placed):
         rows = "".join(
