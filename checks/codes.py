@@ -339,7 +339,7 @@ def main():
                 sys.exit(f"codes: {name} of {language}: {table}, and not {wanted[name]}")
 
     authors, versions = found_by(bindings, AUTHORS), found_by(bindings, VERSIONS)
-    for page in ("README.md", "web/README.md"):
+    for page in ("README.md", "web/README.md", "web/README.zh.md"):
         versions.update(
             re.findall(r"chinese.number[a-z-_]*-(\d[\d.]*\d)\b", text_of(bindings / page))
         )

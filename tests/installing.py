@@ -47,7 +47,8 @@ def commands(text):
 
 
 class Page:
-    """The install lines of a page, and its example in a language, with answers in comments."""
+    """The install lines of a page, those from a clone first, and its example in a language, with
+    answers in comments."""
 
     def __init__(self, text, name, language):
         blocks = re.findall(rf"^```{language}\n(.*?)^```$", text, re.M | re.S)
@@ -66,8 +67,8 @@ class Readme(Page):
         text = next(data for it, data in listed(package).items() if it.endswith(name)).decode()
         super().__init__(text, f"the README of {package.name}", language)
 
-    def follow(self, packages, folder, which=0, **more):
-        """Follows install lines, the first of the page or others, in a folder that has the
+    def follow(self, packages, folder, which=1, **more):
+        """Follows install lines, the second ones of the page or others, in a folder that has the
         packages."""
         folder.mkdir(exist_ok=True)
         for package in packages_in(packages):

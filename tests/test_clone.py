@@ -1,10 +1,9 @@
-"""The library, installed from a clone as bindings/README.md says and in further ways of pip, cargo,
-CMake and cc, where there is no `rt` on the path and no network.
+"""The library, installed from a clone as the pages of `bindings/` say and in further ways of pip,
+cargo, CMake and cc, where there is no `rt` on the path and no network.
 
 The clones are of the files that are here, each in a folder with a blank in its name. Behind each
 installing stands a use of what was installed, and then the clone has no file more than was said.
 """
-import re
 import shutil
 import subprocess
 import sys
@@ -13,21 +12,24 @@ from pathlib import Path
 
 import pytest
 
-from installing import CPYTHONS, OF_GO, Page, commands, of_rust, user, virtual_environment
+from installing import CPYTHONS, OF_GO, Page, of_rust, user, virtual_environment
 from running import ENVIRONMENT, HEADER, TOP, fail, needs, run, write
+from test_c import EXAMPLES
 
-PAGE = (TOP / "bindings/README.md").read_text(encoding="utf-8")
-OF_C_PAGE = (TOP / "bindings/c/README.md").read_text(encoding="utf-8")
-RUST, C = Page(PAGE, "bindings/README.md", "rust"), Page(OF_C_PAGE, "bindings/c/README.md", "c")
 NOT_CLONED = shutil.ignore_patterns(".git", "out", "target", "__pycache__")
 OF_GIT = ("-c", "user.name=clone", "-c", "user.email=", "-c", "init.defaultBranch=main")
 OFFLINE = ("unshare", "--map-root-user", "--net")
 
 
-def by_page(heading):
-    """The lines that the page has for a clone, the first ones of a language's section."""
-    section = re.search(rf"^## {re.escape(heading)}$(.*?)(?=^## |\Z)", PAGE, re.M | re.S)[1]
-    return textwrap.dedent(commands(section)[0])
+def page_of(folder, language=None):
+    """A page of `bindings/`, and its example in a language, else in that of the folder's name."""
+    name = f"bindings/{folder}/README.md"
+    return Page((TOP / name).read_text(encoding="utf-8"), name, language or folder)
+
+
+def by_page(page, which=0):
+    """The lines that a page has for a clone."""
+    return textwrap.dedent(page.installs[which])
 
 
 @pytest.fixture(scope="module")
@@ -76,7 +78,7 @@ def test_there_is_no_network(begin):
 
 NUMBER, URL = "十万五千\n", "file://${CLONE// /%20}"
 USE = 'python -c "from chinese_number import to_chinese; print(to_chinese(105_000))"\n'
-BY_PAGE = f'cd "$CLONE"\n{by_page("Python")}'
+BY_PAGE = f'{by_page(page_of("python"))}{USE}'
 EDITABLE = f'pip install -e "$CLONE/bindings/python"\n{USE}'
 BY_GIT = f'pip install "git+{URL}#subdirectory=bindings/python"\n{USE}'
 LIBRARY = "_native.abi3.so" if HEADER.is_file() else "libchinese_number.so"
@@ -115,8 +117,9 @@ cargo vendor --quiet vendored > .cargo/config.toml
 export CARGO_HOME=$PWD/other CARGO_TARGET_DIR=$PWD/other
 cargo run --quiet
 """
+RUST = page_of("rust")
 OF_CARGO = {
-    "by path": f"{by_page('Rust')}cargo run --quiet\n",
+    "by path": f"{by_page(RUST)}cargo run --quiet\n",
     "by git, and vendored": VENDORED,
     "packed": 'cd "$CLONE/bindings/rust"\ncargo package --quiet\n',
 }
@@ -138,7 +141,7 @@ go get -d .
 go mod vendor
 rm clone
 """
-OF_MODULES = {"by path": by_page("Go"), "vendored": BY_LINK}
+OF_MODULES = {"by path": by_page(page_of("go")), "vendored": BY_LINK}
 
 
 @pytest.mark.parametrize("way", OF_MODULES)
@@ -174,19 +177,23 @@ eval cc '"$CLONE/bindings/c/example.c"' "$words" -o user
 """
 
 
-def test_cc(follow):
-    needs("cc")
-    follow(by_page("C and C++"), C.answer)
+@pytest.mark.parametrize("which, language", enumerate(("c", "cpp")))
+def test_cc(follow, which, language):
+    """The example answers as the page says, which has a part of it."""
+    needs("cc", "c++")
+    page, answers = page_of("c", language), EXAMPLES[f"example.{language}"]
+    assert page.answer in answers
+    follow(by_page(page, which), answers)
 
 
 def test_cmake_part(follow):
     needs("cc", "cmake")
     write(follow.folder / "CMakeLists.txt", user("part.cmake"))
-    follow(AS_PART, C.answer)
+    follow(AS_PART, EXAMPLES["example.c"])
 
 
 @pytest.mark.parametrize("shared", ["OFF", "ON"])
 def test_cmake_installed(follow, shared):
     needs("cc", "cmake", "pkg-config")
     write(follow.folder / "CMakeLists.txt", user("found.cmake"))
-    follow(INSTALLED, C.answer, SHARED=shared)
+    follow(INSTALLED, EXAMPLES["example.c"], SHARED=shared)

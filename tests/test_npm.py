@@ -17,6 +17,7 @@ NAME = "chinese-number-proved"
 PACKED = {
     "LICENSE",
     "README.md",
+    "README.zh.md",
     "chinese-number.cjs",
     "chinese-number.d.cts",
     "chinese-number.d.mts",

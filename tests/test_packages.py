@@ -23,6 +23,7 @@ from installing import MANIFEST, NATIVE, PYTHONS, USERS, Readme, commands, liste
 from installing import package, packages_in, unpacked, user, virtual_environment
 from questions import wrong_answers
 from running import ENVIRONMENT, TOP, fail, needs, run, write
+from test_c import EXAMPLES
 
 NAME = "chinese-number-proved"
 
@@ -104,7 +105,7 @@ def test_library_of_wheel_by_musl(packages, of_c, tmp_path):
 def test_python_source(packages, tmp_path, program):
     needs("cc")
     sdist = package(packages, "chinese_number_proved-*.tar.gz", "the C source")
-    by_pip(packages, tmp_path, Readme(sdist, "PKG-INFO", "python"), program, which=1)
+    by_pip(packages, tmp_path, Readme(sdist, "PKG-INFO", "python"), program, which=2)
 
 
 # Whether the extension module is there where this Python takes it, and else is not.
@@ -115,7 +116,7 @@ print(takes == (type(chinese_number.to_number).__name__ != "function"))
 """
 
 
-def by_pip(packages, scratch, readme, program, which=0):
+def by_pip(packages, scratch, readme, program, which=1):
     """Installs by one of the README's install lines, tries what is there, and uninstalls it."""
     own = virtual_environment(program, scratch / "venv")
     where = "import sysconfig; print(sysconfig.get_path('purelib'))"
@@ -233,7 +234,7 @@ def project(packages, readme_of_npm, tmp_path):
     made = write(tmp_path / "project/package.json", '{ "private": true }\n').parent
     own = {"HOME": str(tmp_path), "npm_config_cache": str(tmp_path / "npm")}
     own.update(npm_config_offline="true", npm_config_audit="false", npm_config_fund="false")
-    readme_of_npm.follow(packages, made, which=1, **own)
+    readme_of_npm.follow(packages, made, **own)
     return made
 
 
@@ -297,21 +298,21 @@ COMPILERS = (
 
 
 class OfC:
-    """A package for C: its page, what it unpacks to, and two programs over it that answer alike."""
+    """A package for C: its page, what it unpacks to, and two programs over it with their answers."""
 
     def __init__(self, packages, scratch, pattern, processor):
         tarball = package(packages, pattern, processor)
         self.page, self.scratch = Readme(tarball, "README.md", "c"), scratch
         self.prefix = unpacked(tarball, scratch)
         write(scratch / "example_of_page.h", textwrap.indent(self.page.example, "    "))
-        example = self.prefix / "share/doc/chinese-number/example.c"
-        self.programs = (USERS / "main.c", example)
+        self.example = self.prefix / "share/doc/chinese-number/example.c"
+        self.programs = {USERS / "main.c": self.page.answer, self.example: EXAMPLES["example.c"]}
         self.lib = f"{self.prefix}/lib"
 
     def compile(self, compiler, *words, runner=()):
         """Each program is compiled with each of the two files, and answers."""
         own, output = {"LD_LIBRARY_PATH": self.lib}, ("-o", "program")
-        for source in self.programs:
+        for source, answer in self.programs.items():
             first = [compiler, *words, *STRICT.split(), f"-I{self.prefix}/include", "-I."]
             first += [source, *(["-x", "none"] if "-x" in words else [])]
             for library in (
@@ -319,10 +320,10 @@ class OfC:
                 [f"{self.lib}/libchinese_number.a"],
             ):
                 run(*first, *library, *output, cwd=self.scratch)
-                self.answers(*runner, "./program", **own)
+                self.answers(*runner, "./program", wanted=answer, **own)
 
-    def answers(self, *words, **own):
-        run(*words, cwd=self.scratch, wanted=self.page.answer, **own)
+    def answers(self, *words, wanted=EXAMPLES["example.c"], **own):
+        run(*words, cwd=self.scratch, wanted=wanted, **own)
 
 
 @pytest.fixture
@@ -332,7 +333,7 @@ def of_c(packages, tmp_path):
 
 def test_c(packages, of_c, tmp_path):
     needs("cc")
-    of_c.page.follow(packages, tmp_path / "c")
+    of_c.page.follow(packages, tmp_path / "c", which=2)
     of_c.answers(next(tmp_path.glob("c/*/a.out")))
 
 
@@ -344,28 +345,29 @@ def test_c_by_compiler(of_c, call):
 
 
 def test_cpp(packages, of_c):
-    """The example of the header for C++ answers as the page says."""
+    """The example of the header for C++ answers as the page says, which has a part of it."""
     needs("g++")
     page = Readme(package(packages, NATIVE_C, NATIVE), "README.md", "cpp")
+    assert page.answer in EXAMPLES["example.cpp"]
     words = ("-std=c++17", *STRICT.split(), f"-I{of_c.prefix}/include", "-o", "program")
-    example, archive = of_c.programs[1].with_suffix(".cpp"), f"{of_c.lib}/libchinese_number.a"
+    example, archive = of_c.example.with_suffix(".cpp"), f"{of_c.lib}/libchinese_number.a"
     run("g++", *words, example, archive, cwd=of_c.scratch)
-    run("./program", cwd=of_c.scratch, wanted=page.answer)
+    of_c.answers("./program", wanted=EXAMPLES["example.cpp"])
 
 
 def test_c_by_pkg_config(of_c):
     needs("cc", "pkg-config")
     own = {"PKG_CONFIG_PATH": f"{of_c.lib}/pkgconfig", "LD_LIBRARY_PATH": of_c.lib}
     words = "$(pkg-config --cflags --libs 'chinese-number >= 0.1.0')"
-    call = ("bash", "-euc", f'eval cc "$1" -I. -o user {words}', "", of_c.programs[0])
+    call = ("bash", "-euc", f'eval cc "$1" -I. -o user {words}', "", USERS / "main.c")
     run(*call, cwd=of_c.scratch, **own)
-    of_c.answers("./user", **own)
+    of_c.answers("./user", wanted=of_c.page.answer, **own)
 
 
 def test_c_by_cmake(of_c, tmp_path):
     needs("cc", "cmake")
     write(tmp_path / "CMakeLists.txt", user("found.cmake"))
-    source, prefix = f"-DSOURCE={of_c.programs[1]}", f"-DCMAKE_PREFIX_PATH={of_c.prefix}"
+    source, prefix = f"-DSOURCE={of_c.example}", f"-DCMAKE_PREFIX_PATH={of_c.prefix}"
     run("cmake", "-S", ".", "-B", "build", source, prefix, cwd=tmp_path)
     run("cmake", "--build", "build", cwd=tmp_path)
     for name in ("user", "static"):
@@ -388,5 +390,5 @@ def test_c_source(packages, of_c, tmp_path):
     run("bash", "-euc", by_compiler, cwd=folder)
     run("bash", "-euc", by_cmake, cwd=folder, DESTDIR=str(tmp_path / "installed"))
     header, library = (next((tmp_path / "installed").rglob(it)) for it in ("*.h", "*.a"))
-    run("cc", of_c.programs[1], "-I", header.parent, library, "-o", "program", cwd=tmp_path)
+    run("cc", of_c.example, "-I", header.parent, library, "-o", "program", cwd=tmp_path)
     of_c.answers("./program")

@@ -2,43 +2,46 @@
 texts with their quantities written anew, by a proved library.
 
 >>> from datetime import date
->>> from decimal import Decimal
->>> from chinese_number import amount_to_chinese, chinese_to_amount, chinese_to_amount_as_typed
->>> from chinese_number import chinese_to_date, date_to_chinese, find_numbers
->>> from chinese_number import signed_amount_to_chinese, to_chinese, to_number, yuan_to_fen
->>> [found.value() for found in find_numbers('百分之五十的人')]
-[None, 50]
->>> to_number('一百二'), to_number('一二〇'), to_number('十万五')
-(120, 120, 105000)
+>>> from chinese_number import amount_to_chinese, chinese_to_amount, date_to_chinese, find_numbers
+>>> from chinese_number import quantities_to_figures, to_chinese, to_number, to_quantity
+>>> from chinese_number import yuan_to_fen
+>>> to_number('一百二'), to_number('一二〇'), to_chinese(105_000)
+(120, 120, '十万五千')
 >>> to_number('负一百二十九', kind='i8')
 Traceback (most recent call last):
 chinese_number.NumeralError: number is too small
->>> to_chinese(105_000), to_chinese(105_000, script='traditional')
-('十万五千', '十萬五千')
->>> amount_to_chinese(yuan_to_fen('1409.50'))
+>>> amount_to_chinese(yuan_to_fen('1,409.50'))
 '壹仟肆佰零玖元伍角整'
 >>> amount_to_chinese(1500, currency=True, closing='正')
 '人民币壹拾伍元正'
 >>> chinese_to_amount('壹仟肆佰零玖元伍角')
 140950
+>>> date_to_chinese(date(2026, 1, 15))
+'贰零贰陆年零壹月壹拾伍日'
+>>> [found.value() for found in find_numbers('百分之五十的人')]
+[None, 50]
+>>> to_quantity('12.5%').to_fraction(), to_quantity('3.5万').to_whole()
+(Fraction(1, 8), 35000)
+>>> quantities_to_figures('一般共三点五万元，占１２．５０％')
+'一般共35000元，占12.5%'
+
+>>> from decimal import Decimal
+>>> from chinese_number import Quantity, chinese_to_amount_as_typed, chinese_to_date
+>>> from chinese_number import find_quantities, replace_quantities, signed_amount_to_chinese
+>>> to_number('十万五'), to_chinese(105_000, script='traditional')
+(105000, '十萬五千')
 >>> signed_amount_to_chinese(yuan_to_fen(Decimal('-1409.50')))
 '负壹仟肆佰零玖元伍角整'
 >>> chinese_to_amount_as_typed('⊗ 人民币：壹拾 伍元整')
 1500
->>> date_to_chinese(date(2026, 1, 15))
-'贰零贰陆年零壹月壹拾伍日'
 >>> chinese_to_date('贰零贰陆年零壹月壹拾伍日')
 datetime.date(2026, 1, 15)
->>> from chinese_number import Quantity, find_quantities, quantities_to_figures
->>> from chinese_number import replace_quantities, to_quantity
->>> to_quantity('3.5万').to_whole(), to_quantity('12.5%').to_decimal()
-(35000, Decimal('0.125'))
+>>> to_quantity('12.5%').to_decimal()
+Decimal('0.125')
 >>> Quantity.of(Decimal('3.14')).to_chinese(), Quantity.of_percent(5).to_chinese()
 ('三点一四', '百分之五')
 >>> [found.quantity().to_figures() for found in find_quantities('共三点五万，剩三分之一')]
 ['35000', '1/3']
->>> quantities_to_figures('一般共三点五万元，占１２．５０％')
-'一般共35000元，占12.5%'
 >>> replace_quantities('占12.5%', lambda found: found.quantity().to_chinese())
 '占百分之十二点五'
 
