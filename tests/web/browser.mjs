@@ -11,9 +11,9 @@ const KINDS = { '.html': 'text/html', '.css': 'text/css', '.mjs': 'text/javascri
 export async function serve(folder, changed = (name, bytes) => bytes) {
   const asked = [];
   const server = createServer(async (request, response) => {
-    const name = request.url === '/' ? 'index.html' : request.url.slice(1);
+    const name = new URL(request.url, 'http://localhost').pathname.slice(1) || 'index.html';
     try {
-      if (!/^(files\/)?[\w.-]+$/.test(name)) throw new Error('no such file');
+      if (!/^((files|page)\/)?[\w.-]+$/.test(name)) throw new Error('no such file');
       const bytes = await changed(name, await readFile(join(folder, name)));
       response.writeHead(200, { 'content-type': KINDS[extname(name)] ?? 'application/octet-stream' }).end(bytes);
       asked.push({ name, bytes: bytes.length });

@@ -1,0 +1,53 @@
+// What may follow a text, and what a refused one lacks: found by asking the reader itself, with
+// each character that there is for it.
+
+import { either, words } from './language.mjs';
+
+// A longer text is not asked about, since each question reads all of it.
+const MOST_ASKED = 1000;
+
+/** Whether a text can be read, or something behind it can make it one that can. */
+export function isBegun(read, text) {
+  try {
+    read(text);
+    return true;
+  } catch (error) {
+    return error.code !== 'incorrect';
+  }
+}
+
+/** The characters that may follow a text, as words. Three digits and more in order are a range. */
+function whatMayFollow(read, front, { digits, others }) {
+  if (front.length > MOST_ASKED) return '';
+  const may = (character) => isBegun(read, front + character);
+  const numbers = Array.from(digits).filter(may), first = numbers[0], last = numbers.at(-1);
+  const isRange = numbers.length > 2 && digits.includes(numbers.join(''));
+  const names = { '.': words('point'), ',': words('comma') };
+  const named = Array.from(others).filter(may).map((it) => names[it] ?? it);
+  return either([...named, ...(isRange ? [words('range', { first, last })] : numbers)]);
+}
+
+/** Which of 零 and 壹 leads a text past its fault, and in front of which character. */
+function whatIsMissing(read, text, { start, end }) {
+  for (const missing of '零壹') {
+    for (let at = start; at >= Math.max(start - 2, 0); at--) {
+      const withIt = text.slice(0, at) + missing + text.slice(at, end);
+      if (isBegun(read, withIt)) return { missing, before: text[at] };
+    }
+  }
+  return undefined;
+}
+
+/** What is said of a text that is not finished. */
+export function sayWhatMayFollow(read, text, characters) {
+  const next = whatMayFollow(read, text, characters);
+  return next ? words('goOn', { next }) : words('unfinished');
+}
+
+/** What is said of a text that is refused at a place: what is missing, or what is expected there. */
+export function sayWhatIsWrong(read, text, fault, characters) {
+  const missing = whatIsMissing(read, text, fault);
+  if (missing) return words('missing', missing);
+  const next = whatMayFollow(read, text.slice(0, fault.start), characters);
+  return next ? words('expected', { next }) : words('ended');
+}

@@ -1,0 +1,16 @@
+// The page begins: its words stand there before the library has loaded, which says where it did not.
+
+import { speak, switchInPlace, words } from './language.mjs';
+
+const loading = document.getElementById('loading');
+speak();
+try {
+  const { judgeAll } = await import('./forms.mjs');
+  switchInPlace(judgeAll);
+  // What was typed while the library loaded.
+  judgeAll();
+  loading.hidden = true;
+} catch (error) {
+  loading.textContent = words('loadFailed', error);
+  throw error;
+}
