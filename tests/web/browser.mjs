@@ -82,5 +82,5 @@ export async function openTab(browser, width, height) {
     await send('Input.dispatchKeyEvent', { type: 'keyUp', key: name, code: name, windowsVirtualKeyCode: code });
   }
   const close = () => browser.send('Target.disposeBrowserContext', { browserContextId });
-  return { send, value, key, problems, close };
+  return { send, value, key, problems, close, context: browserContextId };
 }

@@ -36,8 +36,8 @@ const IN_FIGURES = {
 };
 
 const CHARACTERS = {
-  simplified: { digits: '零壹贰叁肆伍陆柒捌玖', others: '整正元角分万亿仟佰拾人民币' },
-  traditional: { digits: '零壹貳參肆伍陸柒捌玖', others: '整正元角分萬億仟佰拾人民幣' },
+  simplified: { digits: '壹贰叁肆伍陆柒捌玖', others: '整正元角分万亿仟佰拾人民币零' },
+  traditional: { digits: '壹貳參肆伍陸柒捌玖', others: '整正元角分萬億仟佰拾人民幣零' },
 };
 
 const inCapitals = () => ({

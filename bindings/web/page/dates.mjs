@@ -12,9 +12,10 @@ export function writeDate(typed) {
   const { text, placeOf } = regular(typed), numbers = text.match(DATE);
   if (numbers) return capitalsOf(...numbers.slice(1).filter(Boolean).map(Number));
   if (BEGUN.test(text)) return text === '' ? {} : { said: words('unfinished') };
-  let end = 1;
-  while (BEGUN.test(text.slice(0, end))) end++;
-  const fault = placeOf({ start: end - 1, end });
+  let start = 0;
+  while (BEGUN.test(text.slice(0, start + 1))) start++;
+  const [character] = text.slice(start);
+  const fault = placeOf({ charIndex: start, start, end: start + character.length });
   return { said: sentences(sayWhere(typed, fault), words('dateOrder')), fault };
 }
 
@@ -31,8 +32,8 @@ function capitalsOf(year, month, day) {
 
 // The characters of dates, in the script of the page.
 const CHARACTERS = {
-  simplified: { digits: '零壹贰叁肆伍陆柒捌玖', others: '年月日拾' },
-  traditional: { digits: '零壹貳參肆伍陸柒捌玖', others: '年月日拾' },
+  simplified: { digits: '壹贰叁肆伍陆柒捌玖', others: '年月日拾零' },
+  traditional: { digits: '壹貳參肆伍陸柒捌玖', others: '年月日拾零' },
 };
 
 /** Says of a date whose month does not have its day that it is so: with 叁月 it is a date. */

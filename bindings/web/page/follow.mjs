@@ -7,7 +7,7 @@ import { either, words } from './language.mjs';
 const MOST_ASKED = 1000;
 
 /** Whether a text can be read, or something behind it can make it one that can. */
-export function isBegun(read, text) {
+function isBegun(read, text) {
   try {
     read(text);
     return true;
@@ -16,15 +16,18 @@ export function isBegun(read, text) {
   }
 }
 
+/** Whether one of these ends makes a refused text one that is read. */
+export const canEnd = (read, text, ends) =>
+  text.length <= MOST_ASKED && ends.some((it) => isBegun(read, text + it));
+
 /** The characters that may follow a text, as words. Three digits and more in order are a range. */
 function whatMayFollow(read, front, { digits, others }) {
   if (front.length > MOST_ASKED) return '';
   const may = (character) => isBegun(read, front + character);
-  const numbers = Array.from(digits).filter(may), first = numbers[0], last = numbers.at(-1);
+  const numbers = Array.from(digits).filter(may), names = { '.': 'point', ',': 'comma' };
+  const named = Array.from(others).filter(may).map((it) => (names[it] ? words(names[it]) : it));
   const isRange = numbers.length > 2 && digits.includes(numbers.join(''));
-  const names = { '.': words('point'), ',': words('comma') };
-  const named = Array.from(others).filter(may).map((it) => names[it] ?? it);
-  return either([...named, ...(isRange ? [words('range', { first, last })] : numbers)]);
+  return either([...named, ...(isRange ? [`${numbers[0]}–${numbers.at(-1)}`] : numbers)]);
 }
 
 /** Which of 零 and 壹 leads a text past its fault, and in front of which character. */

@@ -10,7 +10,10 @@ const IDS = ['text', 'textSaid', 'found', 'replaced', 'upper', 'about', 'oneChar
 const [text, said, found, replaced, upper, about, oneCharacter] =
   IDS.map((id) => document.getElementById(id));
 const mirror = document.querySelector('#searching .mirror');
-const MOST_LISTED = 200;
+const MOST_LISTED = 100;
+// So many characters of a text that is too long for marks are searched at each key.
+const NEAR = 2000;
+let caret = 0;
 // What belongs to an expression is decided by at most four characters on either side of it.
 const SIGHT = 4;
 
@@ -95,10 +98,10 @@ function summaryOf(judged) {
 /** The expressions of a text; of a long one those near the caret. */
 function expressionsOf(typed) {
   if (typed.length <= MOST_MARKED) return Array.from(findQuantities(typed, wanted()));
-  const from = Math.max(text.selectionStart - MOST_MARKED / 2, 0), to = from + MOST_MARKED;
-  const isWhole = ({ start, end }) =>
-    (start > SIGHT || from === 0) && (end < MOST_MARKED - SIGHT || to >= typed.length);
-  return Array.from(findQuantities(typed.slice(from, to), wanted())).filter(isWhole);
+  const from = Math.max(text.selectionStart - NEAR / 2, 0), near = typed.slice(from, from + NEAR);
+  const isWhole = ({ start, end }) => (start > SIGHT || from === 0)
+    && (end < NEAR - SIGHT || from + NEAR >= typed.length);
+  return Array.from(findQuantities(near, wanted())).filter(isWhole);
 }
 
 function show(typed) {
@@ -109,12 +112,14 @@ function show(typed) {
   else mark(typed, judged);
   list(judged);
   replaced.textContent = isLong ? '' : inFigures(typed);
-  const near = isLong ? [words('long', { count: MOST_MARKED })] : [];
+  replaced.closest('section').hidden = typed === '';
+  const near = isLong ? [words('long', { count: NEAR })] : [];
   return typed === '' ? '' : [...near, summaryOf(judged)].join(' ');
 }
 
 /** Searches the text anew. */
 export function search() {
+  caret = text.selectionStart;
   try {
     say(text, said, show(text.value), false);
   } catch (error) {
@@ -131,5 +136,10 @@ export function offerCopy() {
 // While an input method composes the text stands in the mirror all the same, since the field is as
 // high as the mirror.
 atEachKey(text, search, () => mirror.replaceChildren(text.value));
+for (const it of ['keyup', 'pointerup']) {
+  text.addEventListener(it, () => {
+    if (text.value.length > MOST_MARKED && text.selectionStart !== caret) search();
+  });
+}
 for (const it of [upper, about, oneCharacter]) it.addEventListener('change', search);
 document.forms.searching.addEventListener('submit', (event) => event.preventDefault());

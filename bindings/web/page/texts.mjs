@@ -49,7 +49,7 @@ export const TEXTS = {
   searching: ['文本中的数量', '文字中的數量', 'Quantities in a text'],
   text: ['文本', '文字', 'Text'],
   textExample: ['共3.5万元，占百分之五十', '共3.5萬元，佔百分之五十', '共3.5万元，占百分之五十'],
-  searchChoices: ['查找范围', '尋找範圍', 'What is looked for'],
+  searchChoices: ['查找范围', '搜尋範圍', 'What is looked for'],
   upper: [
     '也找大写（如“叁”）和比“兆”大的单位',
     '也找大寫（如「參」）和比「兆」大的單位',
@@ -81,8 +81,8 @@ export const TEXTS = {
   // Why there is no result.
   unfinished: ['还没写完。', '還沒寫完。', 'Not finished yet.'],
   goOn: [
-    '还没写完，后面可以写{next}。',
-    '還沒寫完，後面可以寫{next}。',
+    '还没写完，后面可以写：{next}。',
+    '還沒寫完，後面可以寫：{next}。',
     'Not finished yet: {next} may follow.',
   ],
   wrong: [
@@ -95,12 +95,15 @@ export const TEXTS = {
     '「{before}」前面缺「{missing}」。',
     '“{missing}” is missing in front of “{before}”.',
   ],
-  expected: ['这里应写{next}。', '這裡應寫{next}。', 'Here stands {next}.'],
-  ended: ['前面已经写完。', '前面已經寫完。', 'It ends in front of this.'],
-  range: ['{first}至{last}', '{first}至{last}', '{first} to {last}'],
+  expected: ['这里应写：{next}。', '這裡應寫：{next}。', 'Expected here: {next}.'],
+  ended: ['前面已经写完。', '前面已經寫完。', 'What stands in front is complete.'],
   point: ['小数点', '小數點', 'a point'],
   comma: ['逗号', '逗號', 'a comma'],
-  toFen: ['最多写到分（两位小数）。', '最多寫到分（兩位小數）。', 'Fen are the last: two decimals.'],
+  toFen: [
+    '最多写到分（两位小数）。',
+    '最多寫到分（兩位小數）。',
+    'There are two decimals at most, jiao and fen.',
+  ],
   dateOrder: [
     '请按年、月、日的顺序写，如 2026-1-15。',
     '請按年、月、日的順序寫，如 2026-1-15。',

@@ -1,6 +1,6 @@
 // What was typed, made regular, read and answered: in the same way for amounts, dates and numbers.
 
-import { isBegun, sayWhatIsWrong, sayWhatMayFollow } from './follow.mjs';
+import { canEnd, sayWhatIsWrong, sayWhatMayFollow } from './follow.mjs';
 import { sentences, words } from './language.mjs';
 
 /** A character in its usual width; 。 is a point, which input methods write for one. */
@@ -50,7 +50,7 @@ export function answerTyped(typed, { read, answer, reasons, characters, why, end
     if (text === '' || error.code === 'empty') return {};
     if (error.code === 'unfinished') return { said: sayWhatMayFollow(read, text, characters) };
     if (error.code !== 'incorrect') return { said: reasonOf(error, reasons?.()), isFault: true };
-    if (ends.some((it) => isBegun(read, text + it))) return { said: words('unfinished') };
+    if (canEnd(read, text, ends)) return { said: words('unfinished') };
     const fault = placeOf(error);
     const reason = why?.(text, error)
       || (characters && sayWhatIsWrong(read, text, error, characters));
