@@ -15,7 +15,7 @@ export function writeDate(typed) {
   let start = 0;
   while (BEGUN.test(text.slice(0, start + 1))) start++;
   const [character] = text.slice(start);
-  const fault = placeOf({ charIndex: start, start, end: start + character.length });
+  const fault = placeOf({ start, end: start + character.length });
   return { said: sentences(sayWhere(typed, fault), words('dateOrder')), fault };
 }
 

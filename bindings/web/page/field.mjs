@@ -62,9 +62,9 @@ export function atEachKey(field, judge, compose) {
 }
 
 /**
- * Has a form's field judged at each key. `judge` gives of what was typed its `rows`, what is `said`,
- * and the place of the character at `fault`; or whether it is a fault, where no character is.
- * Returns the function that judges what stands there.
+ * Has a form's field judged at each key. `judge` gives of what was typed its `rows`, what is
+ * `said`, and the place of the character at `fault`, or whether it is a fault where no character is
+ * one. Returns the function that judges what stands there.
  */
 export function judgeForm(form, judge) {
   const [field, mirror, output, select, list] =

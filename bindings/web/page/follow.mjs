@@ -47,7 +47,7 @@ export function sayWhatMayFollow(read, text, characters) {
   return next ? words('goOn', { next }) : words('unfinished');
 }
 
-/** What is said of a text that is refused at a place: what is missing, or what is expected there. */
+/** What is said of a text that is refused at a place: what is missing, or expected there. */
 export function sayWhatIsWrong(read, text, fault, characters) {
   const missing = whatIsMissing(read, text, fault);
   if (missing) return words('missing', missing);

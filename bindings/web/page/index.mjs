@@ -1,4 +1,5 @@
-// The page begins: its words stand there before the library has loaded, which says where it did not.
+// The page begins. Its words stand there before the library has loaded; where it does not load,
+// they say so.
 
 import { speak, switchInPlace, words } from './language.mjs';
 

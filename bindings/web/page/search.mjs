@@ -41,9 +41,9 @@ function valueOf(it) {
 }
 
 /**
- * The class of an expression, and what is said of it: refused; left as it stands, since nobody asked
- * for what is about so much or one character; doubtful, since it may be a part of something; or
- * neither.
+ * The class of an expression, and what is said of it: refused; left as it stands, since nobody
+ * asked for what is about so much or one character; doubtful, since it is about so much or may be a
+ * part of something; or none of these.
  */
 function judge(it) {
   const { value, fault } = valueOf(it);

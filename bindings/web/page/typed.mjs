@@ -3,25 +3,22 @@
 import { canEnd, sayWhatIsWrong, sayWhatMayFollow } from './follow.mjs';
 import { sentences, words } from './language.mjs';
 
-/** A character in its usual width; 。 is a point, which input methods write for one. */
-function usual(unit) {
-  const code = unit.charCodeAt(0);
-  if (code >= 0xff01 && code <= 0xff5e) return String.fromCharCode(code - 0xfee0);
-  return unit === '。' ? '.' : unit;
-}
+// A full-width character in its usual width; 。 is a point, which input methods write for one.
+const usual = (it) => (it === '。' ? '.' : String.fromCharCode(it.charCodeAt(0) - 0xfee0));
 
 /**
  * The text that is read of what was typed, without white space and with each character in its usual
  * width; and a function that says of a place in it where that was typed.
  */
 export function regular(typed) {
-  if (!/[\s。\uff01-\uff5e]/.test(typed)) return { text: typed, placeOf: (place) => place };
-  const kept = typed.split('').map((it, at) => [usual(it), at]).filter(([it]) => it.trim());
+  const text = typed.replace(/\s/g, '').replace(/[。\uff01-\uff5e]/g, usual);
   const placeOf = ({ start, end }) => {
-    const first = kept[start][1], last = kept[end - 1][1];
-    return { charIndex: Array.from(typed.slice(0, first)).length, start: first, end: last + 1 };
+    const kept = /\S/g;
+    for (let at = 0; at <= start; at++) kept.exec(typed);
+    const first = kept.lastIndex - 1, charIndex = Array.from(typed.slice(0, first)).length;
+    return { charIndex, start: first, end: first + end - start };
   };
-  return { text: kept.map(([it]) => it).join(''), placeOf };
+  return { text, placeOf };
 }
 
 /** What is said of a character that cannot stand where it does. */
