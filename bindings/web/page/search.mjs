@@ -2,7 +2,7 @@
 
 import { findQuantities, quantitiesToFigures } from '../files/chinese-number.mjs';
 import { MOST_MARKED, atEachKey, copyButton, element, partsAround, say } from './field.mjs';
-import { words } from './language.mjs';
+import { sentences, words } from './language.mjs';
 import { methodChosen } from './numbers.mjs';
 import { reasonOf } from './typed.mjs';
 
@@ -12,11 +12,12 @@ const [text, said, found, replaced, upper, about, oneCharacter] =
 const mirror = document.querySelector('#searching .mirror');
 const MOST_LISTED = 100;
 // So many characters of a text that is too long for marks are searched at each key.
-const NEAR = 2000;
+const NEAR = 400;
 let caret = 0;
 // What belongs to an expression is decided by at most four characters on either side of it.
 const SIGHT = 4;
 
+const isLong = (typed) => typed.length > MOST_MARKED;
 const wanted = () => (upper.checked ? { upper: true, greatest: 'ji' } : {});
 
 function inFigures(typed) {
@@ -97,7 +98,7 @@ function summaryOf(judged) {
 
 /** The expressions of a text; of a long one those near the caret. */
 function expressionsOf(typed) {
-  if (typed.length <= MOST_MARKED) return Array.from(findQuantities(typed, wanted()));
+  if (!isLong(typed)) return Array.from(findQuantities(typed, wanted()));
   const from = Math.max(text.selectionStart - NEAR / 2, 0), near = typed.slice(from, from + NEAR);
   const isWhole = ({ start, end }) => (start > SIGHT || from === 0)
     && (end < NEAR - SIGHT || from + NEAR >= typed.length);
@@ -105,16 +106,16 @@ function expressionsOf(typed) {
 }
 
 function show(typed) {
-  const isLong = typed.length > MOST_MARKED;
-  text.parentElement.classList.toggle('long', isLong);
   const judged = expressionsOf(typed).map((it) => [it, judge(it)]);
-  if (isLong) mirror.replaceChildren();
+  if (isLong(typed)) mirror.replaceChildren();
   else mark(typed, judged);
+  text.parentElement.classList.toggle('long', isLong(typed));
   list(judged);
-  replaced.textContent = isLong ? '' : inFigures(typed);
+  replaced.textContent = isLong(typed) ? '' : inFigures(typed);
   replaced.closest('section').hidden = typed === '';
-  const near = isLong ? [words('long', { count: NEAR })] : [];
-  return typed === '' ? '' : [...near, summaryOf(judged)].join(' ');
+  if (typed === '') return '';
+  const near = isLong(typed) ? words('long', { count: NEAR }) : '';
+  return sentences(near, summaryOf(judged));
 }
 
 /** Searches the text anew. */
@@ -134,11 +135,11 @@ export function offerCopy() {
 }
 
 // While an input method composes the text stands in the mirror all the same, since the field is as
-// high as the mirror.
-atEachKey(text, search, () => mirror.replaceChildren(text.value));
+// high as the mirror. A long text has none, and is searched anew where the caret goes.
+atEachKey(text, search, () => mirror.replaceChildren(isLong(text.value) ? '' : text.value));
 for (const it of ['keyup', 'pointerup']) {
   text.addEventListener(it, () => {
-    if (text.value.length > MOST_MARKED && text.selectionStart !== caret) search();
+    if (isLong(text.value) && text.selectionStart !== caret) search();
   });
 }
 for (const it of [upper, about, oneCharacter]) it.addEventListener('change', search);
