@@ -224,6 +224,7 @@ async function tellsScreenReaders(page) {
       assert.deepEqual([role, live], ['status', 'polite']);
     }
   }
+  await page.send('Accessibility.disable');
 }
 
 export const PARTS = [

@@ -50,7 +50,7 @@ async function findsByChoices(page) {
   assert.equal((await told(page))[0], 'Quantities: 2 · not replaced: 1 · refused: 1');
 }
 
-// In a text no longer than 3,000 characters the mirror has the field's lines: it is as high and as
+// In a text no longer than 2,000 characters the mirror has the field's lines: it is as high and as
 // wide, and the field does not scroll. A longer one is searched near the caret, and copied whole.
 async function showsLongTexts(page) {
   for (const language of LANGUAGES) {
@@ -79,36 +79,54 @@ async function showsLongTexts(page) {
     `300${'字'.repeat(5000)}50${'字'.repeat(5000)}7000`);
 }
 
-// A key takes less than 100 ms of the page's thread in a field with 160,000 characters, and in a
-// text that is just short enough for marks.
-async function answersLongTexts(page) {
-  await page.speak('en');
-  await page.send('Performance.enable', { timeDomain: 'threadTicks' });
+// How many ms of the page's thread a key takes in a field with so many characters: the least of
+// some keys.
+async function keyIn(page, id, fill, length) {
+  const text = fill.repeat(length / fill.length + 1).slice(0, length), times = [];
   const busy = async () => (await page.send('Performance.getMetrics')).metrics
     .find((it) => it.name === 'TaskDuration').value * 1000;
-  const dense = '共3.5万元，占12.5%，一般三百多人，他五六十歲，';
+  await page.value(`${id}.focus(); ${id}.value = ${JSON.stringify(text)}`);
+  for (let i = 0; i < 5; i++) {
+    const before = await busy();
+    await page.insert('三');
+    await page.painted();
+    times.push(Math.round(await busy() - before));
+  }
+  await page.type(id, '');
+  console.log(`a key in ${length} characters, ${id} ${fill.slice(0, 4)}: ${times.join(', ')} ms`);
+  return Math.min(...times);
+}
+
+// A key takes less than 100 ms in each field with 160,000 characters, and in a text that is just
+// short enough for marks; or, where the machine is busy, than three times what it takes in a field
+// that nothing judges.
+async function answersLongTexts(page) {
+  const dense = '共3.5万元，占12.5%，一般三百多人，他五六十歲，', long = 160_000;
+  await page.speak('en');
+  await page.send('Performance.enable', { timeDomain: 'threadTicks' });
+  await page.value(`document.body.append(Object.assign(document.createElement('textarea'),
+    { id: 'bare' }))`);
+  const most = Math.max(100, 3 * await keyIn(page, 'bare', dense, long));
   for (const [id, fill, length] of [
-    ['text', dense, 2_990], ['text', dense, 160_000], ['text', '沒有數目的文字', 160_000],
-    ['numeral', '零', 160_000], ['numeral', '一百', 160_000], ['capitals', '壹', 160_000],
-    ['capitals', ' 　', 160_000], ['dateCapitals', '贰零', 160_000],
+    ['text', dense, 1_990], ['text', dense, long], ['text', '沒有數目的文字', long],
+    ['numeral', '零', long], ['numeral', '一百', long], ['capitals', '壹', long],
+    ['capitals', ' 　', long], ['dateCapitals', '贰零', long],
   ]) {
-    const text = fill.repeat(length / fill.length + 1).slice(0, length), times = [];
-    await page.value(`${id}.focus(); ${id}.value = ${JSON.stringify(text)}`);
-    for (let i = 0; i < 5; i++) {
-      const before = await busy();
-      await page.insert('三');
-      await page.painted();
-      times.push(Math.round(await busy() - before));
-    }
-    console.log(`a key in ${length} characters, ${id} ${fill.slice(0, 4)}: ${times.join(', ')} ms`);
-    assert(Math.min(...times) < 100, `${id} takes ${times} ms a key`);
-    await page.type(id, '');
+    const least = await keyIn(page, id, fill, length);
+    assert(least < most, `a key in ${id} takes ${least} ms`);
   }
   await page.send('Performance.disable');
+}
+
+// A text with a million characters is read, and its place told.
+async function readsVeryLongTexts(page) {
+  await page.speak('en');
   await page.type('numeral', `${' '.repeat(1_000_000)}一百二`);
   assert.deepEqual((await page.answer('numeral')).rows, ['120']);
   await page.insert('x');
   assert.match((await page.answer('numeral')).said, /^Character 1000004, “x”/);
 }
 
-export const PARTS = [findsQuantities, findsByChoices, showsLongTexts, answersLongTexts];
+export const PARTS = [
+  findsQuantities, findsByChoices, showsLongTexts, answersLongTexts, readsVeryLongTexts,
+];

@@ -5,7 +5,7 @@
 import { words } from './language.mjs';
 
 /** A text of more code units has no marks, since its mirror would take too long at each key. */
-export const MOST_MARKED = 3000;
+export const MOST_MARKED = 2000;
 
 export function element(name, ...parts) {
   const it = document.createElement(name);
