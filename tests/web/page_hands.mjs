@@ -127,6 +127,13 @@ async function scrolls(page) {
   assert.equal(await page.value('numeral.scrollLeft + numeral.nextElementSibling.scrollLeft'), 0);
 }
 
+// A phone offers digits and a point where these are enough.
+async function offersDigits(page) {
+  await page.speak('zh-Hans');
+  assert.deepEqual(await page.value(`Array.from(document.querySelectorAll('[inputmode=decimal]'),
+    (it) => it.id)`), ['figures', 'dateFigures']);
+}
+
 // A button copies what stands in front of it, and says so.
 async function copies(page) {
   for (const language of LANGUAGES) {
@@ -228,6 +235,6 @@ async function tellsScreenReaders(page) {
 }
 
 export const PARTS = [
-  leavesTheCaret, saysOnce, leavesComposition, marksTheCharacter, scrolls, copies, showsTextAlone,
-  goesByKeyboard, tellsScreenReaders,
+  leavesTheCaret, saysOnce, leavesComposition, marksTheCharacter, scrolls, offersDigits, copies,
+  showsTextAlone, goesByKeyboard, tellsScreenReaders,
 ];

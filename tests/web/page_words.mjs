@@ -35,9 +35,11 @@ async function speaksTheLanguage(page) {
     await page.open(address);
     const told = await page.value(`[document.documentElement.lang, document.title,
       document.querySelector('h1').textContent,
+      document.querySelector('[name=description]').content,
       document.querySelector('#languages [aria-current=true]').lang, loading.hidden]`);
-    const title = titles[LANGUAGES.indexOf(language)];
-    assert.deepEqual(told, [language, title, title, language, true], `${browsers} ${address}`);
+    const at = LANGUAGES.indexOf(language), title = titles[at];
+    assert.deepEqual(told, [language, title, title, TEXTS.description[at], language, true],
+      `${browsers} ${address}`);
   }
   await page.prefer('en');
 }
@@ -47,13 +49,15 @@ async function switchesInPlace(page) {
   await page.open();
   await page.type('figures', '107000.53');
   await page.type('capitals', '壹拾伍元');
+  await page.type('dateCapitals', '伍年零壹月壹拾伍日');
   const told = (name) => page.value(
     `Array.from(figures.form.querySelectorAll('${name}'), (it) => it.textContent)`);
   const amounts = ['壹拾万零柒仟元伍角叁分', '壹拾萬零柒仟元伍角參分'];
-  for (const [language, names, said] of [
-    ['zh-Hant', ['繁體', '簡體'], '還沒寫完，後面可以寫：整、正、零或壹–玖。'],
-    ['zh-Hans', ['简体', '繁体'], '还没写完，后面可以写：整、正、零或壹–玖。'],
-    ['en', ['Simplified', 'Traditional'], 'Not finished yet: 整, 正, 零, or 壹–玖 may follow.'],
+  for (const [language, copy, names, said] of [
+    ['zh-Hant', '複製', ['繁體', '簡體'], '還沒寫完，後面可以寫：整、正、零或壹–玖。'],
+    ['zh-Hans', '复制', ['简体', '繁体'], '还没写完，后面可以写：整、正、零或壹–玖。'],
+    ['en', 'Copy', ['Simplified', 'Traditional'],
+      'Not finished yet: 整, 正, 零, or 壹–玖 may follow.'],
   ]) {
     await page.value(`document.querySelector('#languages [lang=${language}]').click()`);
     assert.deepEqual(await page.value('[location.search, figures.value]'),
@@ -63,6 +67,9 @@ async function switchesInPlace(page) {
     assert.deepEqual(await told('dd span'),
       language === 'zh-Hant' ? amounts.toReversed() : amounts);
     assert.equal((await page.answer('capitals')).said, said);
+    const buttons = await page.value(
+      `Array.from(document.querySelectorAll('dd button'), (it) => it.textContent)`);
+    assert.deepEqual(buttons, [copy, copy, copy]);
   }
   // A link with this address has its language, whatever the browser prefers.
   await page.prefer('zh-TW');

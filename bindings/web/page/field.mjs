@@ -86,7 +86,7 @@ export function judgeForm(form, judge) {
     say(field, output, said, isFault);
     select.hidden = !place;
     mark(place);
-    const seen = JSON.stringify(rows);
+    const seen = JSON.stringify([words('copy'), rows]);
     if (seen !== shown) list.replaceChildren(...rows.flatMap(row));
     shown = seen;
   }

@@ -3,7 +3,7 @@
 
 import { either, words } from './language.mjs';
 
-// A longer text is not asked about, since each question reads all of it.
+// Nothing is asked of a longer text, since each question reads all of it.
 const MOST_ASKED = 1000;
 
 /** Whether a text can be read, or something behind it can make it one that can. */
@@ -22,7 +22,6 @@ export const canEnd = (read, text, ends) =>
 
 /** The characters that may follow a text, as words. Three digits and more in order are a range. */
 function whatMayFollow(read, front, { digits, others }) {
-  if (front.length > MOST_ASKED) return '';
   const may = (character) => isBegun(read, front + character);
   const numbers = Array.from(digits).filter(may), names = { '.': 'point', ',': 'comma' };
   const named = Array.from(others).filter(may).map((it) => (names[it] ? words(names[it]) : it));
@@ -43,12 +42,13 @@ function whatIsMissing(read, text, { start, end }) {
 
 /** What is said of a text that is not finished. */
 export function sayWhatMayFollow(read, text, characters) {
-  const next = whatMayFollow(read, text, characters);
-  return next ? words('goOn', { next }) : words('unfinished');
+  if (text.length > MOST_ASKED) return words('unfinished');
+  return words('goOn', { next: whatMayFollow(read, text, characters) });
 }
 
 /** What is said of a text that is refused at a place: what is missing, or expected there. */
 export function sayWhatIsWrong(read, text, fault, characters) {
+  if (fault.start > MOST_ASKED) return '';
   const missing = whatIsMissing(read, text, fault);
   if (missing) return words('missing', missing);
   const next = whatMayFollow(read, text.slice(0, fault.start), characters);
