@@ -38,8 +38,7 @@ function handsOf({ send, value, key }) {
   const insert = (text) => send('Input.insertText', { text });
   async function type(id, text) {
     await value(`((it) => { it.focus(); it.select(); })(document.getElementById('${id}'))`);
-    await key('Backspace', 8);
-    if (text) await insert(text);
+    await (text ? insert(text) : key('Backspace', 8));
   }
   const change = (id, what) => value(`((it) => {
     ${what};
