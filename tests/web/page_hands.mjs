@@ -149,10 +149,14 @@ async function copies(page) {
       assert.equal(await page.value(`${button}.textContent`), ['已复制', '已複製', 'Copied'][at]);
     }
   }
-  // Without a clipboard, as where there is no https, it selects the text.
+  // Without a clipboard, as where there is no https, it selects the text, which it shows for that.
   await page.value(`Object.defineProperty(navigator, 'clipboard', { value: undefined })`);
-  await page.value(`figures.form.querySelector('dd button').click()`);
-  assert.equal(await page.value('String(getSelection())'), '壹仟肆佰零玖元伍角整');
+  await page.type('text', `${'字'.repeat(3000)}三百`);
+  for (const [button, selected] of [['#writingAmounts dd button', '壹仟肆佰零玖元伍角整'],
+    ['.replaced button', `${'字'.repeat(3000)}300`]]) {
+    await page.value(`document.querySelector('${button}').click()`);
+    assert.equal(await page.value('String(getSelection())'), selected);
+  }
 }
 
 // What was typed is text on the page, and never markup.

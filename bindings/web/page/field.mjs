@@ -29,7 +29,9 @@ export function copyButton(name, textOf) {
       setTimeout(label, 2000, 'copy');
     } catch {
       // A page without https has no clipboard: what is selected can be copied by hand.
-      getSelection().selectAllChildren(button.previousElementSibling);
+      const shown = button.previousElementSibling;
+      if (shown.textContent === '') shown.textContent = textOf();
+      getSelection().selectAllChildren(shown);
     }
   });
   return button;
