@@ -19,8 +19,9 @@ CHROMIUM = "chromium|chromium-browser|google-chrome|google-chrome-stable"
 def folder(request, tmp_path_factory):
     """The face with this module alone: it has both names, whatever the host would take."""
     made = tmp_path_factory.mktemp(request.param)
-    for path in (*WEB.glob("index.*"), WEB / "answers.mjs", *(TOP / "tests/web").glob("*.mjs")):
+    for path in (WEB / "index.html", WEB / "answers.mjs", *(TOP / "tests/web").glob("*.mjs")):
         shutil.copy(path, made)
+    shutil.copytree(WEB / "page", made / "page")
     shutil.copy(TOP / "bindings/c/chinese_number.h", made)
     shutil.copytree(TOP / "tests/rows", made / "rows")
     shutil.copytree(WEB / "files", made / "files")

@@ -1,21 +1,25 @@
-// A folder served over HTTP, and a headless Chromium that is driven over its debugging pipe: what page_test.mjs stands on.
+// A folder served over HTTP, and a headless Chromium that is driven over its debugging pipe: what
+// page_test.mjs stands on.
 import { spawn } from 'node:child_process';
 import { mkdtemp, readFile, rm } from 'node:fs/promises';
 import { createServer } from 'node:http';
 import { tmpdir } from 'node:os';
 import { extname, join } from 'node:path';
 
-const KINDS = { '.html': 'text/html', '.css': 'text/css', '.mjs': 'text/javascript', '.wasm': 'application/wasm' };
+const KINDS = {
+  '.html': 'text/html', '.css': 'text/css', '.mjs': 'text/javascript', '.wasm': 'application/wasm',
+};
 
 /** Serves the files of a folder; `changed` may answer other bytes for a file, or wait. */
 export async function serve(folder, changed = (name, bytes) => bytes) {
   const asked = [];
   const server = createServer(async (request, response) => {
-    const name = request.url === '/' ? 'index.html' : request.url.slice(1);
+    const name = new URL(request.url, 'http://localhost').pathname.slice(1) || 'index.html';
     try {
-      if (!/^(files\/)?[\w.-]+$/.test(name)) throw new Error('no such file');
+      if (!/^((files|page)\/)?[\w.-]+$/.test(name)) throw new Error('no such file');
       const bytes = await changed(name, await readFile(join(folder, name)));
-      response.writeHead(200, { 'content-type': KINDS[extname(name)] ?? 'application/octet-stream' }).end(bytes);
+      const type = KINDS[extname(name)] ?? 'application/octet-stream';
+      response.writeHead(200, { 'content-type': type }).end(bytes);
       asked.push({ name, bytes: bytes.length });
     } catch {
       response.writeHead(404).end();
@@ -29,8 +33,9 @@ export async function serve(folder, changed = (name, bytes) => bytes) {
 export async function start(program, flags = []) {
   const profile = await mkdtemp(join(tmpdir(), 'page-test-'));
   const sandbox = process.getuid() === 0 ? ['--no-sandbox'] : [];
-  const child = spawn(program, ['--headless', ...sandbox, '--disable-gpu', '--remote-debugging-pipe', `--user-data-dir=${profile}`, ...flags],
-    { stdio: ['ignore', 'ignore', 'ignore', 'pipe', 'pipe'] });
+  const words = ['--headless', ...sandbox, '--disable-gpu', '--remote-debugging-pipe',
+    `--user-data-dir=${profile}`, ...flags];
+  const child = spawn(program, words, { stdio: ['ignore', 'ignore', 'ignore', 'pipe', 'pipe'] });
   const ended = new Promise((done) => child.once('exit', done).once('error', done));
   const waiting = new Map(), listeners = [];
   let last = 0, kept = '';
@@ -46,7 +51,8 @@ export async function start(program, flags = []) {
     const id = ++last;
     const answer = new Promise((done) => waiting.set(id, done));
     child.stdio[3].write(`${JSON.stringify({ id, method, params, sessionId })}\0`);
-    const { error, result } = await Promise.race([answer, ended.then(() => ({ error: { message: 'the browser has ended' } }))]);
+    const gone = ended.then(() => ({ error: { message: 'the browser has ended' } }));
+    const { error, result } = await Promise.race([answer, gone]);
     if (error) throw new Error(`${method}: ${error.message}`);
     return result;
   }
@@ -58,29 +64,36 @@ export async function start(program, flags = []) {
   return { send, close, listen: (listener) => listeners.push(listener) };
 }
 
+const textOf = ({ exception, text }) => exception?.description ?? text;
+
 /** A tab with a cache of its own. */
 export async function openTab(browser, width, height) {
   const { browserContextId } = await browser.send('Target.createBrowserContext');
-  const { targetId } = await browser.send('Target.createTarget', { url: 'about:blank', browserContextId, width, height });
+  const { targetId } = await browser.send('Target.createTarget',
+    { url: 'about:blank', browserContextId, width, height });
   const { sessionId } = await browser.send('Target.attachToTarget', { targetId, flatten: true });
   const send = (method, params) => browser.send(method, params, sessionId);
   const problems = [];
   browser.listen(({ method, params, sessionId: of }) => {
     if (of !== sessionId) return;
-    if (method === 'Runtime.exceptionThrown') problems.push(params.exceptionDetails.exception?.description ?? params.exceptionDetails.text);
-    if (method === 'Log.entryAdded' && params.entry.level === 'error') problems.push(params.entry.text);
+    if (method === 'Runtime.exceptionThrown') problems.push(textOf(params.exceptionDetails));
+    if (method === 'Log.entryAdded' && params.entry.level === 'error') {
+      problems.push(params.entry.text);
+    }
   });
   for (const it of ['Runtime', 'Log', 'Page']) await send(`${it}.enable`);
 
   async function value(expression) {
-    const { result, exceptionDetails } = await send('Runtime.evaluate', { expression, awaitPromise: true, returnByValue: true });
-    if (exceptionDetails) throw new Error(exceptionDetails.exception?.description ?? exceptionDetails.text);
+    const { result, exceptionDetails } = await send('Runtime.evaluate',
+      { expression, awaitPromise: true, returnByValue: true });
+    if (exceptionDetails) throw new Error(textOf(exceptionDetails));
     return result.value;
   }
   async function key(name, code, more = {}) {
-    await send('Input.dispatchKeyEvent', { type: 'keyDown', key: name, code: name, windowsVirtualKeyCode: code, ...more });
-    await send('Input.dispatchKeyEvent', { type: 'keyUp', key: name, code: name, windowsVirtualKeyCode: code });
+    const pressed = { key: name, code: name, windowsVirtualKeyCode: code };
+    await send('Input.dispatchKeyEvent', { type: 'keyDown', ...pressed, ...more });
+    await send('Input.dispatchKeyEvent', { type: 'keyUp', ...pressed });
   }
   const close = () => browser.send('Target.disposeBrowserContext', { browserContextId });
-  return { send, value, key, problems, close };
+  return { send, value, key, problems, close, context: browserContextId };
 }

@@ -1,0 +1,108 @@
+// A form whose field is judged at each key. Below the field stand the rows of the result, or why
+// there is none, and in a mirror over it the character at fault is marked. What was typed goes into
+// the page as text alone, by textContent and by the strings of append and replaceChildren.
+
+import { words } from './language.mjs';
+
+/** A text of more code units has no marks, since its mirror would take too long at each key. */
+export const MOST_MARKED = 2000;
+
+export function element(name, ...parts) {
+  const it = document.createElement(name);
+  it.append(...parts);
+  return it;
+}
+
+/** A button that copies a text, which it asks for when it is pressed; `name` says of what. */
+export function copyButton(name, textOf) {
+  const button = element('button');
+  button.type = 'button';
+  const label = (key) => {
+    button.textContent = words(key);
+    button.ariaLabel = `${words(key)} ${name}`;
+  };
+  label('copy');
+  button.addEventListener('click', async () => {
+    try {
+      await navigator.clipboard.writeText(textOf());
+      label('copied');
+      setTimeout(label, 2000, 'copy');
+    } catch {
+      // A page without https has no clipboard: what is selected can be copied by hand.
+      const shown = button.previousElementSibling;
+      if (shown.textContent === '') shown.textContent = textOf();
+      getSelection().selectAllChildren(shown);
+    }
+  });
+  return button;
+}
+
+function row({ name, text, lang }) {
+  const value = element('span', text);
+  value.lang = lang ?? '';
+  return [element('dt', name), element('dd', value, copyButton(name, () => text))];
+}
+
+/** A text in parts, of which the one at fault, where there is one, is an element. */
+export function partsAround(text, fault, name) {
+  if (!fault) return [text];
+  const { start, end } = fault;
+  return [text.slice(0, start), element(name, text.slice(start, end)), text.slice(end)];
+}
+
+/** Says something. What stays as it was is not written again, so no screen reader repeats it. */
+export function say(field, output, said, isFault) {
+  if (output.textContent !== said) output.textContent = said;
+  output.classList.toggle('fault', isFault);
+  field.ariaInvalid = String(isFault);
+}
+
+/** Calls a function at each change of a field's text, another while an input method composes. */
+export function atEachKey(field, judge, compose) {
+  field.addEventListener('input', (event) => (event.isComposing ? compose : judge)());
+  field.addEventListener('compositionend', judge);
+}
+
+/**
+ * Has a form's field judged at each key. `judge` gives of what was typed its `rows`, what is
+ * `said`, and the place of the character at `fault`, or whether it is a fault where no character is
+ * one. Returns the function that judges what stands there.
+ */
+export function judgeForm(form, judge) {
+  const [field, mirror, output, select, list] =
+    ['input', '.mirror', 'output', '.select', 'dl'].map((it) => form.querySelector(it));
+  let place, shown;
+
+  const follow = () => {
+    mirror.scrollLeft = field.scrollLeft;
+  };
+  const mark = (fault) => {
+    const isMarked = fault && field.value.length <= MOST_MARKED;
+    mirror.replaceChildren(...(isMarked ? partsAround(field.value, fault, 'mark') : []));
+    if (isMarked) follow();
+  };
+
+  function judgeAgain() {
+    const { rows = [], said = '', fault, isFault = Boolean(fault) } = judge(field.value);
+    place = fault;
+    say(field, output, said, isFault);
+    select.hidden = !place;
+    mark(place);
+    const seen = JSON.stringify([words('copy'), rows]);
+    if (seen !== shown) list.replaceChildren(...rows.flatMap(row));
+    shown = seen;
+  }
+
+  // While an input method composes, its letters are no text yet: nothing is judged, and no mark
+  // stands.
+  atEachKey(field, judgeAgain, () => mark());
+  for (const it of ['scroll', 'keyup', 'pointerup', 'select']) field.addEventListener(it, follow);
+  // Enter and the button lead to the character at fault. Nothing else moves the caret.
+  form.addEventListener('submit', (event) => {
+    event.preventDefault();
+    if (!place) return;
+    field.focus();
+    field.setSelectionRange(place.start, place.end);
+  });
+  return judgeAgain;
+}

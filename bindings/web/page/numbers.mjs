@@ -1,0 +1,74 @@
+// Numbers: figures to numerals, and numerals to figures. Unless an integer type or plain digits are
+// chosen, they may have decimals, and be percentages and fractions.
+
+import { KINDS, METHODS, toBigInt, toChinese, toQuantity } from '../files/chinese-number.mjs';
+import { inEachScript, words } from './language.mjs';
+import { answerTyped } from './typed.mjs';
+
+const [kind, way] = ['kind', 'way'].map((it) => document.getElementById(it));
+// In the order in which they are offered.
+const WAYS = ['any', 'digits', 'tenThousand', 'low', 'middle', 'high'];
+
+/** Offers the integer types and the ways, in the language of the page. */
+export function offerChoices() {
+  const offer = (select, names) => {
+    const chosen = select.value;
+    select.replaceChildren(...names.map(([it, name]) => new Option(name, it)));
+    if (chosen) select.value = chosen;
+  };
+  offer(kind, [['', words('anyKind')], ...KINDS.map((it) => [it, it])]);
+  offer(way, WAYS.map((it) => [it, words(it)]));
+}
+
+/** The method that was chosen, by which quantities are read and written; or none. */
+export const methodChosen = () => (METHODS.includes(way.value) ? { method: way.value } : {});
+
+const kindChosen = () => kind.value || 'i128';
+const notHeld = () => words('notHeld', { kind: kindChosen() });
+
+function figuresOf(text) {
+  if (kind.value === '' && way.value !== 'digits') {
+    return toQuantity(text, methodChosen()).toFigures();
+  }
+  return String(toBigInt(text, { kind: kindChosen(), way: way.value }));
+}
+
+function numeralsOf(quantity) {
+  const textOf = (options) => {
+    if (kind.value === '' && way.value !== 'digits') {
+      return quantity.toChinese({ ...methodChosen(), ...options });
+    }
+    if (quantity.form !== 'whole') throw Object.assign(new RangeError(), { code: 'notWhole' });
+    const written = way.value === 'any' ? 'tenThousand' : way.value;
+    return toChinese(quantity.numerator, { kind: kindChosen(), way: written, ...options });
+  };
+  return ['lower', 'upper'].flatMap((it) =>
+    inEachScript((script) => textOf({ script, case: it }), `_${it}`));
+}
+
+// What may end a number that is not read as it stands, as 1,4 and 三点 and 三分.
+const ENDS = ['0', '00', '000', '一', '之一', '分之一'];
+
+const IN_FIGURES = {
+  read: (text) => toQuantity(text).trimmed(),
+  answer: (quantity) => ({ rows: numeralsOf(quantity) }),
+  reasons: () => ({
+    notHeld: notHeld(),
+    notWhole: words('notWhole'),
+    tooLarge: words('tooLarge'),
+    tooSmall: words('tooSmall'),
+  }),
+  ends: ENDS,
+};
+
+const IN_NUMERALS = {
+  read: figuresOf,
+  answer: (figures) => ({ rows: [{ name: words('number'), text: figures }] }),
+  reasons: () => (kind.value
+    ? { tooLarge: notHeld(), tooSmall: notHeld() }
+    : { tooLarge: words('tooLarge'), tooSmall: words('tooSmall') }),
+  ends: ENDS,
+};
+
+export const writeNumber = (typed) => answerTyped(typed, IN_FIGURES);
+export const readNumber = (typed) => answerTyped(typed, IN_NUMERALS);

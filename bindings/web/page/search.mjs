@@ -1,0 +1,146 @@
+// The quantities of a text: marked in it, listed below it with their values, and put into figures.
+
+import { findQuantities, quantitiesToFigures } from '../files/chinese-number.mjs';
+import { MOST_MARKED, atEachKey, copyButton, element, partsAround, say } from './field.mjs';
+import { sentences, words } from './language.mjs';
+import { methodChosen } from './numbers.mjs';
+import { reasonOf } from './typed.mjs';
+
+const IDS = ['text', 'textSaid', 'found', 'replaced', 'upper', 'about', 'oneCharacter'];
+const [text, said, found, replaced, upper, about, oneCharacter] =
+  IDS.map((id) => document.getElementById(id));
+const mirror = document.querySelector('#searching .mirror');
+const MOST_LISTED = 100;
+// So many characters of a text that is too long for marks are searched at each key.
+const NEAR = 400;
+let caret = 0;
+// What belongs to an expression is decided by at most four characters on either side of it.
+const SIGHT = 4;
+
+const isLong = (typed) => typed.length > MOST_MARKED;
+const wanted = () => (upper.checked ? { upper: true, greatest: 'ji' } : {});
+
+function inFigures(typed) {
+  const included = { about: about.checked, oneCharacter: oneCharacter.checked };
+  return quantitiesToFigures(typed, { ...wanted(), ...methodChosen(), ...included });
+}
+
+/** The figures of an expression, or why it has none and where. */
+function valueOf(it) {
+  try {
+    return { value: it.quantity(methodChosen()).toFigures() };
+  } catch (error) {
+    const { start = 0, end = it.text.length } = error;
+    const value = reasonOf(error, {
+      empty: words('valueEmpty'),
+      incorrect: words('valueWrong', { character: it.text.slice(start, end) }),
+      tooLarge: words('valueTooLarge'),
+      tooSmall: words('valueTooSmall'),
+    });
+    return { value, fault: { start, end } };
+  }
+}
+
+/**
+ * The class of an expression, and what is said of it: refused; left as it stands, since nobody
+ * asked for what is about so much or one character; doubtful, since it is about so much or may be a
+ * part of something; or none of these.
+ */
+function judge(it) {
+  const { value, fault } = valueOf(it);
+  if (fault) return { name: 'fault', told: value, fault };
+  const told = it.isAbout ? words('valueAbout', { value }) : value;
+  if ((it.isAbout && !about.checked) || (it.isOneCharacter && !oneCharacter.checked)) {
+    return { name: 'left', told };
+  }
+  return it.standsAlone
+    ? { name: it.isAbout ? 'doubtful' : '', told }
+    : { name: 'doubtful', told: words('valueDoubtful', { value: told }) };
+}
+
+function markOf(name, ...parts) {
+  const it = element('mark', ...parts);
+  it.className = name;
+  return it;
+}
+
+/** Marks the expressions in the mirror of the text. */
+function mark(typed, judged) {
+  const parts = [];
+  let at = 0;
+  for (const [it, { name }] of judged) {
+    parts.push(typed.slice(at, it.start), markOf(name, it.text));
+    at = it.end;
+  }
+  mirror.replaceChildren(...parts, typed.slice(at));
+}
+
+/** Lists the expressions with their values or refusals. */
+function list(judged) {
+  const items = judged.slice(0, MOST_LISTED).map(([it, { name, told, fault }]) => {
+    const expression = element('span', ...partsAround(it.text, fault, 'u'));
+    return element('li', markOf(name, expression, ' ', element('small', told)));
+  });
+  found.replaceChildren(...items);
+}
+
+/** How many there are, and how many of each class. */
+function summaryOf(judged) {
+  const all = judged.length, counts = { found: all, more: Math.max(all - MOST_LISTED, 0) };
+  for (const [, { name }] of judged) {
+    const key = { fault: 'foundFault', left: 'foundLeft', doubtful: 'foundDoubtful' }[name];
+    if (key) counts[key] = (counts[key] ?? 0) + 1;
+  }
+  return ['found', 'foundLeft', 'foundDoubtful', 'foundFault', 'more']
+    .filter((key) => key === 'found' || counts[key])
+    .map((key) => words(key, { count: counts[key] })).join(' · ');
+}
+
+/** The expressions of a text; of a long one those near the caret. */
+function expressionsOf(typed) {
+  if (!isLong(typed)) return Array.from(findQuantities(typed, wanted()));
+  const from = Math.max(text.selectionStart - NEAR / 2, 0), near = typed.slice(from, from + NEAR);
+  const isWhole = ({ start, end }) => (start > SIGHT || from === 0)
+    && (end < NEAR - SIGHT || from + NEAR >= typed.length);
+  return Array.from(findQuantities(near, wanted())).filter(isWhole);
+}
+
+function show(typed) {
+  const judged = expressionsOf(typed).map((it) => [it, judge(it)]);
+  if (isLong(typed)) mirror.replaceChildren();
+  else mark(typed, judged);
+  text.parentElement.classList.toggle('long', isLong(typed));
+  list(judged);
+  replaced.textContent = isLong(typed) ? '' : inFigures(typed);
+  replaced.closest('section').hidden = typed === '';
+  if (typed === '') return '';
+  const near = isLong(typed) ? words('long', { count: NEAR }) : '';
+  return sentences(near, summaryOf(judged));
+}
+
+/** Searches the text anew. */
+export function search() {
+  caret = text.selectionStart;
+  try {
+    say(text, said, show(text.value), false);
+  } catch (error) {
+    say(text, said, reasonOf(error), true);
+  }
+}
+
+/** Offers to copy the text in figures, in the language of the page. */
+export function offerCopy() {
+  replaced.parentElement.querySelector('button')?.remove();
+  replaced.after(copyButton(words('replaced'), () => inFigures(text.value)));
+}
+
+// While an input method composes the text stands in the mirror all the same, since the field is as
+// high as the mirror. A long text has none, and is searched anew where the caret goes.
+atEachKey(text, search, () => mirror.replaceChildren(isLong(text.value) ? '' : text.value));
+for (const it of ['keyup', 'pointerup']) {
+  text.addEventListener(it, () => {
+    if (isLong(text.value) && text.selectionStart !== caret) search();
+  });
+}
+for (const it of [upper, about, oneCharacter]) it.addEventListener('change', search);
+document.forms.searching.addEventListener('submit', (event) => event.preventDefault());

@@ -1,0 +1,148 @@
+// What the page says, in each of its languages: data, and the only words of the page.
+
+/** The languages, in the order of the texts below. */
+export const LANGUAGES = ['zh-Hans', 'zh-Hant', 'en'];
+
+/** A text by its key, in each language. What stands in braces is put in its place. */
+export const TEXTS = {
+  // The page.
+  title: ['大写金额与中文数字', '大寫金額與中文數字', 'Chinese amounts and numerals'],
+  description: [
+    '金额、出票日期和数字转中文大写，大写转回数字，边输入边检查。内容不离开本机。',
+    '金額、出票日期和數字轉中文大寫，大寫轉回數字，邊輸入邊檢查。內容不離開本機。',
+    'Amounts, dates and numbers to Chinese capitals and back, checked as you type. '
+      + 'Nothing leaves your device.',
+  ],
+  language: ['语言', '語言', 'Language'],
+  loading: ['正在载入……', '正在載入……', 'Loading…'],
+  loadFailed: ['载入失败：{message}', '載入失敗：{message}', 'The library did not load: {message}'],
+
+  // The forms.
+  writingAmounts: ['金额转大写', '金額轉大寫', 'Amount to capitals'],
+  figures: ['金额（元）', '金額（元）', 'Amount in yuan'],
+  form: ['写法', '寫法', 'How it is written'],
+  currency: ['前面写“人民币”', '前面寫「人民幣」', '人民币 in front'],
+  roundYuan: ['“元”写作“圆”', '「元」寫作「圓」', '圆 for 元'],
+  uprightClosing: ['“整”写作“正”', '「整」寫作「正」', '正 for 整'],
+  readingAmounts: ['大写转金额', '大寫轉金額', 'Capitals to amount'],
+  capitals: ['大写金额', '大寫金額', 'Amount in capitals'],
+  writingDates: ['出票日期转大写', '出票日期轉大寫', 'Date to capitals'],
+  dateFigures: ['出票日期', '出票日期', 'Date, as year-month-day'],
+  readingDates: ['大写转出票日期', '大寫轉出票日期', 'Capitals to date'],
+  dateCapitals: ['大写日期', '大寫日期', 'Date in capitals'],
+  date: ['日期', '日期', 'Date'],
+  dateExample: ['贰零贰陆年零壹月壹拾伍日', '貳零貳陸年零壹月壹拾伍日', '贰零贰陆年零壹月壹拾伍日'],
+  writingNumerals: ['数字转中文', '數字轉中文', 'Number to numerals'],
+  number: ['数字', '數字', 'Number'],
+  readingNumerals: ['中文转数字', '中文轉數字', 'Numeral to number'],
+  numeral: ['中文数字', '中文數字', 'Numeral'],
+  choices: ['整数类型和读写方式', '整數型別和讀寫方式', 'Integer type and way'],
+  kind: ['整数类型', '整數型別', 'Integer type'],
+  anyKind: ['不限', '不限', 'any'],
+  way: ['读写方式', '讀寫方式', 'Way'],
+  any: ['自动', '自動', 'any'],
+  digits: ['逐位（一二〇）', '逐位（一二〇）', 'plain digits (一二〇)'],
+  low: ['下数（亿 = 十万）', '下數（億 = 十萬）', 'low (億 = 10⁵)'],
+  tenThousand: ['万进（兆 = 万亿）', '萬進（兆 = 萬億）', 'ten thousand (兆 = 10¹²)'],
+  middle: ['中数（兆 = 亿亿）', '中數（兆 = 億億）', 'middle (兆 = 10¹⁶)'],
+  high: ['上数（京 = 兆兆）', '上數（京 = 兆兆）', 'high (京 = 10³²)'],
+  searching: ['文本中的数量', '文字中的數量', 'Quantities in a text'],
+  text: ['文本', '文字', 'Text'],
+  textExample: ['共3.5万元，占百分之五十', '共3.5萬元，佔百分之五十', '共3.5万元，占百分之五十'],
+  searchChoices: ['查找范围', '搜尋範圍', 'What is looked for'],
+  upper: [
+    '也找大写（如“叁”）和比“兆”大的单位',
+    '也找大寫（如「參」）和比「兆」大的單位',
+    'Capitals too, as 叁, and units above 兆',
+  ],
+  about: [
+    '也替换约数（如“十几”的“十”）',
+    '也取代約數（如「十幾」的「十」）',
+    'Replace what is about so much too, as 十 of 十几',
+  ],
+  oneCharacter: [
+    '也替换单个字（如“一般”的“一”）',
+    '也取代單個字（如「一般」的「一」）',
+    'Replace single characters too, as 一 of 一般',
+  ],
+  replaced: ['换成阿拉伯数字', '換成阿拉伯數字', 'In figures'],
+
+  // The rows of a result, and their buttons.
+  simplified: ['简体', '簡體', 'Simplified'],
+  traditional: ['繁体', '繁體', 'Traditional'],
+  simplified_upper: ['简体大写', '簡體大寫', 'Simplified capitals'],
+  simplified_lower: ['简体小写', '簡體小寫', 'Simplified'],
+  traditional_upper: ['繁体大写', '繁體大寫', 'Traditional capitals'],
+  traditional_lower: ['繁体小写', '繁體小寫', 'Traditional'],
+  copy: ['复制', '複製', 'Copy'],
+  copied: ['已复制', '已複製', 'Copied'],
+  select: ['选中这个字', '選取這個字', 'Select it'],
+
+  // Why there is no result.
+  unfinished: ['还没写完。', '還沒寫完。', 'Not finished yet.'],
+  goOn: [
+    '还没写完，后面可以写：{next}。',
+    '還沒寫完，後面可以寫：{next}。',
+    'Not finished yet: {next} may follow.',
+  ],
+  wrong: [
+    '第 {place} 个字“{character}”不能写在这里。',
+    '第 {place} 個字「{character}」不能寫在這裡。',
+    'Character {place}, “{character}”, cannot stand here.',
+  ],
+  missing: [
+    '“{before}”前面缺“{missing}”。',
+    '「{before}」前面缺「{missing}」。',
+    '“{missing}” is missing in front of “{before}”.',
+  ],
+  expected: ['这里应写：{next}。', '這裡應寫：{next}。', 'Expected here: {next}.'],
+  ended: ['前面已经写完。', '前面已經寫完。', 'What stands in front is complete.'],
+  point: ['小数点', '小數點', 'a point'],
+  comma: ['逗号', '逗號', 'a comma'],
+  toFen: [
+    '最多写到分（两位小数）。',
+    '最多寫到分（兩位小數）。',
+    'There are two decimals at most, jiao and fen.',
+  ],
+  dateOrder: [
+    '请按年、月、日的顺序写，如 2026-1-15。',
+    '請按年、月、日的順序寫，如 2026-1-15。',
+    'Write year, month and day, as 2026-1-15.',
+  ],
+  noDay: [
+    '{year} 年 {month} 月没有 {day} 日。',
+    '{year} 年 {month} 月沒有 {day} 日。',
+    'Month {month} of {year} has no day {day}.',
+  ],
+  notADate: ['没有这个日期。', '沒有這個日期。', 'There is no such date.'],
+  belowZero: [
+    '票据上没有负数金额；红字发票可以这样写。',
+    '票據上沒有負數金額；紅字發票可以這樣寫。',
+    'No cheque has an amount below zero; red invoices have.',
+  ],
+  tooManyYuan: ['元的位数最多 16 位。', '元的位數最多 16 位。', 'Yuan have 16 digits at most.'],
+  tooLarge: ['数字太大。', '數字太大。', 'The number is too large.'],
+  tooSmall: ['数字太小。', '數字太小。', 'The number is too small.'],
+  notHeld: ['{kind} 放不下这个数字。', '{kind} 放不下這個數字。', '{kind} does not hold this number.'],
+  notWhole: ['这样只能写整数。', '這樣只能寫整數。', 'So only whole numbers are written.'],
+  outOfMemory: ['文本太长，内存不够。', '文字太長，記憶體不足。', 'The text is too long for the memory.'],
+  failed: ['程序出错：{message}', '程式出錯：{message}', 'The library failed: {message}'],
+
+  // What was found.
+  found: ['数量 {count}', '數量 {count}', 'Quantities: {count}'],
+  foundLeft: ['不替换 {count}', '不取代 {count}', 'not replaced: {count}'],
+  foundDoubtful: ['存疑 {count}', '存疑 {count}', 'doubtful: {count}'],
+  foundFault: ['读不出 {count}', '讀不出 {count}', 'refused: {count}'],
+  valueAbout: ['约 {value}', '約 {value}', 'about {value}'],
+  valueDoubtful: ['{value}？', '{value}？', '{value}?'],
+  valueEmpty: ['只有符号', '只有符號', 'a sign alone'],
+  valueWrong: ['“{character}”不对', '「{character}」不對', '“{character}” is wrong'],
+  valueTooLarge: ['太大', '太大', 'too large'],
+  valueTooSmall: ['太小', '太小', 'too small'],
+  more: ['另有 {count} 个未列出', '另有 {count} 個未列出', '{count} more are not listed'],
+  long: [
+    '文本较长：只看光标附近的 {count} 字，复制时换全文。',
+    '文字較長：只看游標附近的 {count} 字，複製時換全文。',
+    'A long text: searched are {count} characters near the caret. Copy takes all of it.',
+  ],
+};

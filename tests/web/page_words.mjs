@@ -1,0 +1,222 @@
+// What the page says and answers, in each of its languages; a part of page_test.mjs.
+import assert from 'node:assert/strict';
+import { LANGUAGES, rowsOf } from './page.mjs';
+import { TEXTS } from './page/texts.mjs';
+
+const FIELDS = ['figures', 'capitals', 'dateFigures', 'dateCapitals', 'number', 'numeral'];
+
+// Each text is there in each language, with the same places to fill; the page asks for no other.
+async function hasEachText(page) {
+  for (const [key, texts] of Object.entries(TEXTS)) {
+    assert.equal(texts.length, LANGUAGES.length, key);
+    const [first, ...others] = texts.map((it) => it.match(/\{\w+\}/g)?.sort().join());
+    for (const it of others) assert.equal(it, first, key);
+    for (const it of texts) assert.notEqual(it.trim(), '', key);
+  }
+  const keys = await page.value(`Array.from(document.querySelectorAll('*'),
+    ({ dataset }) => dataset.text ?? dataset.placeholder).filter(Boolean)`);
+  assert(keys.length > 30);
+  for (const it of keys) assert(it in TEXTS, it);
+  const [hans, hant] = [0, 1].map((it) => Object.values(TEXTS).map((texts) => texts[it]).join(''));
+  assert.doesNotMatch(hans, /[額寫轉檢數類進萬億]/);
+  assert.doesNotMatch(hant, /[额写转检数类进万亿个这里没]/);
+}
+
+// The language is that of the address, else the first of the browser's that the page has.
+async function speaksTheLanguage(page) {
+  const titles = ['大写金额与中文数字', '大寫金額與中文數字', 'Chinese amounts and numerals'];
+  for (const [browsers, address, language] of [
+    ['zh-CN,zh', '', 'zh-Hans'], ['zh-SG', '', 'zh-Hans'], ['zh-TW,zh,en', '', 'zh-Hant'],
+    ['zh-HK', '', 'zh-Hant'], ['en-GB', '', 'en'], ['fr,zh-TW', '', 'zh-Hant'], ['fr', '', 'en'],
+    ['zh-CN', '?lang=en', 'en'], ['en', '?lang=zh-Hant', 'zh-Hant'], ['en', '?lang=zh', 'zh-Hans'],
+    ['zh-CN', '?lang=', 'zh-Hans'], ['zh-TW', '?lang=de', 'zh-Hant'],
+  ]) {
+    await page.prefer(browsers);
+    await page.open(address);
+    const told = await page.value(`[document.documentElement.lang, document.title,
+      document.querySelector('h1').textContent,
+      document.querySelector('[name=description]').content,
+      document.querySelector('#languages [aria-current=true]').lang, loading.hidden]`);
+    const at = LANGUAGES.indexOf(language), title = titles[at];
+    assert.deepEqual(told, [language, title, title, TEXTS.description[at], language, true],
+      `${browsers} ${address}`);
+  }
+  await page.prefer('en');
+}
+
+// A switch changes the words in place and stays in the address; what was typed stays as it was.
+async function switchesInPlace(page) {
+  await page.open();
+  await page.type('figures', '107000.53');
+  await page.type('capitals', '壹拾伍元');
+  await page.type('dateCapitals', '伍年零壹月壹拾伍日');
+  const told = (name) => page.value(
+    `Array.from(figures.form.querySelectorAll('${name}'), (it) => it.textContent)`);
+  const amounts = ['壹拾万零柒仟元伍角叁分', '壹拾萬零柒仟元伍角參分'];
+  for (const [language, copy, names, said] of [
+    ['zh-Hant', '複製', ['繁體', '簡體'], '還沒寫完，後面可以寫：整、正、零或壹–玖。'],
+    ['zh-Hans', '复制', ['简体', '繁体'], '还没写完，后面可以写：整、正、零或壹–玖。'],
+    ['en', 'Copy', ['Simplified', 'Traditional'],
+      'Not finished yet: 整, 正, 零, or 壹–玖 may follow.'],
+  ]) {
+    await page.value(`document.querySelector('#languages [lang=${language}]').click()`);
+    assert.deepEqual(await page.value('[location.search, figures.value]'),
+      [`?lang=${language}`, '107000.53']);
+    assert.equal(await page.value('document.documentElement.lang'), language);
+    assert.deepEqual(await told('dt'), names);
+    assert.deepEqual(await told('dd span'),
+      language === 'zh-Hant' ? amounts.toReversed() : amounts);
+    assert.equal((await page.answer('capitals')).said, said);
+    const buttons = await page.value(
+      `Array.from(document.querySelectorAll('dd button'), (it) => it.textContent)`);
+    assert.deepEqual(buttons, [copy, copy, copy]);
+  }
+  // A link with this address has its language, whatever the browser prefers.
+  await page.prefer('zh-TW');
+  await page.open(await page.value('location.search'));
+  assert.equal(await page.value('document.documentElement.lang'), 'en');
+  await page.prefer('en');
+}
+
+// What is answered, in the order of the scripts of the page's language.
+async function answers(page) {
+  for (const language of LANGUAGES) {
+    const at = await page.speak(language);
+    for (const [id, typed, ...texts] of rowsOf('answered')) {
+      const wanted = language === 'zh-Hant' ? texts.toReversed() : texts;
+      const note = /^[-－负負]/.test(typed) && ['figures', 'capitals'].includes(id);
+      const said = note ? TEXTS.belowZero[at] : '';
+      assert.deepEqual(await page.ask(id, typed),
+        { rows: wanted, said, isFault: false, marked: null }, typed);
+    }
+  }
+}
+
+const WRONG = [
+  (place, it) => `第 ${place} 个字“${it}”不能写在这里。`,
+  (place, it) => `第 ${place} 個字「${it}」不能寫在這裡。`,
+  (place, it) => `Character ${place}, “${it}”, cannot stand here. `,
+];
+
+// What is refused at a character, which is marked, and why; Enter selects it.
+async function refuses(page) {
+  for (const language of LANGUAGES) {
+    const at = await page.speak(language);
+    for (const [id, row, ...reasons] of rowsOf('refused')) {
+      const [front, character, behind] = row.split(/[[\]]/);
+      const said = WRONG[at](Array.from(front).length + 1, character) + (reasons[at] ?? '');
+      assert.deepEqual(await page.ask(id, front + character + behind),
+        { rows: [], said: said.trim(), isFault: true, marked: [front, character] }, row);
+      await page.enter();
+      assert.deepEqual(await page.caret(id), [front.length, front.length + character.length]);
+    }
+  }
+}
+
+// What is not finished is no fault, and what may follow it is told.
+async function leavesTheUnfinished(page) {
+  for (const language of LANGUAGES) {
+    const at = await page.speak(language);
+    for (const [id, typed, ...texts] of rowsOf('unfinished')) {
+      const said = texts[at] ?? TEXTS.unfinished[at];
+      assert.deepEqual(await page.ask(id, typed),
+        { rows: [], said, isFault: false, marked: null }, typed);
+    }
+    const nothing = { rows: [], said: '', isFault: false, marked: null };
+    for (const id of FIELDS) {
+      for (const it of ['', ' ', '　']) assert.deepEqual(await page.ask(id, it), nothing);
+    }
+    for (const it of ['負', '正', ' 负', '-']) {
+      assert.deepEqual(await page.ask('numeral', it), nothing, it);
+    }
+  }
+}
+
+// Any beginning of a printed text is no fault.
+async function leavesBeginnings(page) {
+  await page.speak('en');
+  for (const [from, typed, to, read] of [
+    ['number', '-170141183460469231731687303715884105727', 'numeral'],
+    ['number', '-1409.05', 'numeral'], ['number', '12.5%', 'numeral'],
+    ['figures', '9876543210987654.32', 'capitals'], ['figures', '107000.05', 'capitals'],
+    ['figures', '-15', 'capitals', '-15.00'], ['dateFigures', '2026-10-20', 'dateCapitals'],
+  ]) {
+    for (const text of (await page.ask(from, typed)).rows) {
+      const faults = await page.value(`Array.from('${text}', (_, at) => {
+        ${to}.value = '${text}'.slice(0, at + 1);
+        ${to}.dispatchEvent(new InputEvent('input'));
+        return ${to}.ariaInvalid === 'true' ? ${to}.value : null;
+      }).filter(Boolean)`);
+      assert.deepEqual(faults, []);
+      assert.deepEqual((await page.answer(to)).rows, [read ?? typed]);
+    }
+  }
+}
+
+// Why what has no character at fault is refused.
+async function saysWhy(page) {
+  for (const language of LANGUAGES) {
+    const at = await page.speak(language);
+    for (const [id, typed, ...texts] of rowsOf('without a place')) {
+      assert.deepEqual(await page.ask(id, typed),
+        { rows: [], said: texts[at], isFault: true, marked: null }, typed);
+      assert(await page.value(`${id}.form.querySelector('.select').hidden`));
+    }
+  }
+}
+
+// An integer type and a way are asked for; else any type and any way will do.
+async function goesByChoices(page) {
+  await page.speak('en');
+  assert.deepEqual(await page.value('[kind.value, way.value, choosing.open]'), ['', 'any', false]);
+  assert.deepEqual((await page.ask('number', '100100000')).rows,
+    ['一亿零一十万', '一億零一十萬', '壹亿零壹拾万', '壹億零壹拾萬']);
+  assert.deepEqual((await page.ask('number', '−１，０００．５０')).rows.slice(0, 2),
+    ['负一千点五', '負一千點五']);
+  for (const [kind, way, id, typed, rows, said] of [
+    ['u8', 'any', 'numeral', '三百', [], 'u8 does not hold this number.'],
+    ['i8', 'any', 'numeral', '負一百二十九', [], 'i8 does not hold this number.'],
+    ['i16', 'any', 'numeral', '負一百二十九', ['-129'], ''],
+    ['u64', 'any', 'numeral', '一二〇', ['120'], ''],
+    ['u64', 'any', 'number', '-1', [], 'u64 does not hold this number.'],
+    ['u64', 'any', 'number', '1.5', [], 'So only whole numbers are written.'],
+    ['', 'low', 'number', '10000000000000000', [], 'The number is too large.'],
+    ['', 'low', 'numeral', '一兆', ['1000000'], ''],
+    ['', 'high', 'numeral', '一兆', ['10000000000000000'], ''],
+    ['', 'digits', 'numeral', '一二〇', ['120'], ''],
+    ['', 'digits', 'number', '120', ['一二零', '一二零', '壹贰零', '壹貳零'], ''],
+    ['', 'middle', 'number', '1000100000000',
+      ['一万零一亿', '一萬零一億', '壹万零壹亿', '壹萬零壹億'], ''],
+    ['u128', 'any', 'numeral', '三百四十澗', [`340${'0'.repeat(36)}`], ''],
+  ]) {
+    await page.choose('kind', kind);
+    await page.choose('way', way);
+    assert.deepEqual(await page.ask(id, typed),
+      { rows, said, isFault: said !== '', marked: null }, typed);
+  }
+  // A type chosen anew judges anew.
+  await page.choose('way', 'any');
+  await page.choose('kind', 'u64');
+  assert.deepEqual((await page.ask('numeral', '負一')).marked, ['', '負']);
+  await page.choose('kind', 'i16');
+  assert.deepEqual((await page.answer('numeral')).rows, ['-1']);
+}
+
+// Of an amount its form may be asked for.
+async function writesForms(page) {
+  await page.speak('zh-Hans');
+  await page.type('figures', '15');
+  for (const [id, simplified, traditional] of [
+    ['currency', '人民币壹拾伍元整', '人民幣壹拾伍元整'],
+    ['roundYuan', '壹拾伍圆整', '壹拾伍圓整'], ['uprightClosing', '壹拾伍元正', '壹拾伍元正'],
+  ]) {
+    await page.check(id, true);
+    assert.deepEqual((await page.answer('figures')).rows, [simplified, traditional]);
+    await page.check(id, false);
+  }
+}
+
+export const PARTS = [
+  hasEachText, speaksTheLanguage, switchesInPlace, answers, refuses, leavesTheUnfinished,
+  leavesBeginnings, saysWhy, goesByChoices, writesForms,
+];
