@@ -135,9 +135,17 @@ static PyObject *unusual(const quick *of, PyObject *const *values, Py_ssize_t co
     return answer;
 }
 
-/* The end of a character in UTF-8, written at its start. */
+/* The end of a character in UTF-8, written at its start. Those of numerals take three bytes. */
 static uint8_t *put(uint8_t *to, Py_UCS4 character) {
     static const uint8_t first[] = {0, 0xC0, 0xE0, 0xF0};
+    if (character - 0x800 < 0xD000) {
+        to[0] = (uint8_t)(0xE0 | character >> 12);
+        to[1] = (uint8_t)(0x80 | (character >> 6 & 63));
+        to[2] = (uint8_t)(0x80 | (character & 63));
+        return to + 3;
+    }
+    if ((character & ~0x7FFu) == 0xD800)
+        character = '?';
     int more = character < 0x80 ? 0 : character < 0x800 ? 1 : character < 0x10000 ? 2 : 3;
     *to++ = (uint8_t)(first[more] | character >> 6 * more);
     while (more-- > 0)
@@ -152,7 +160,7 @@ static size_t put_short(PyObject *text, Py_ssize_t length, uint8_t *room) {
     uint8_t *end = room;
     PyUnicode_AsUCS4(text, characters, SHORT, 0);
     for (Py_ssize_t i = 0; i < length; i++)
-        end = put(end, (characters[i] & ~0x7FFu) == 0xD800 ? '?' : characters[i]);
+        end = put(end, characters[i]);
     return (size_t)(end - room);
 }
 
