@@ -57,7 +57,7 @@ TYPE = "export function toNumber(string: string, options?: ReadOptions): {};"
 OTHER_TYPE = replaced(TYPE.format("number"), TYPE.format("bigint"))
 NO_MODULE = replaced("./chinese-number.node.mjs", "./chinese.mjs")
 OTHER_PREFIX = replaced("${pcfiledir}/../..", "/usr/local")
-OTHER_ANSWER = replaced("\n105000\n", "\n105001\n")
+OTHER_ANSWER = replaced("(120, 120, 105000)", "(120, 120, 105001)")
 
 
 def other_soname(data):
