@@ -22,16 +22,16 @@ static const char *const KEYWORDS[CHOICES] = {"kind", "way", "script", "case"};
 
 /* A keyword and its words: the members of its enum by their code, and then their str. */
 typedef struct choice {
-    PyObject *keyword, *words[MOST_WORDS];
-    int count, last; /* `last` is the place of the word that was last asked for */
+    PyObject *keyword, *words[MOST_WORDS], *last; /* the word that was last asked for */
+    int count, code;                              /* that of `last` */
 } choice;
 
 /* A quick function, and the Python function behind it, which takes what is unusual, with the codes
  * of its defaults, or -1. */
 typedef struct quick {
     PyMethodDef method;
-    PyObject *function, *names; /* `names`, and `places` of them: see know_names */
-    int defaults[CHOICES], places[CHOICES];
+    PyObject *function, *names; /* `names`, and how many, and `places` of them: see know_names */
+    int count, defaults[CHOICES], places[CHOICES];
 } quick;
 
 /* `held` is a dict, which owns all objects that are named here. */
@@ -43,15 +43,16 @@ typedef struct state {
 
 /* The code of a word, or -1 of one that is not known as this very object. */
 static int code_of(choice *of, PyObject *word) {
-    int members = of->count / 2, at = of->last;
-    if (of->words[at] != word) {
-        for (at = 0; at < of->count && of->words[at] != word; at++)
-            ;
+    if (of->last != word) {
+        int members = of->count / 2, at = 0;
+        while (at < of->count && of->words[at] != word)
+            at++;
         if (at == of->count)
             return -1;
-        of->last = at;
+        of->code = at < members ? at : at - members;
+        of->last = word;
     }
-    return at < members ? at : at - members;
+    return of->code;
 }
 
 /* Takes a tuple of words for each choice. */
@@ -68,20 +69,19 @@ static PyObject *know_words(PyObject *module, PyObject *given) {
         Py_XDECREF(keyword);
         if (failed)
             return NULL;
-        of->keyword = keyword;
+        *of = (choice){.keyword = keyword, .count = (int)count};
         for (Py_ssize_t word = 0; word < count; word++)
             of->words[word] = PyTuple_GetItem(words, word);
-        of->count = (int)count;
-        of->last = 0;
     }
     Py_RETURN_NONE;
 }
 
 /* Learns which choice each keyword of a call is; 0 where one is none. A call has the same tuple of
  * names each time that it is made, so the last one is kept. */
-static int know_names(state *own, quick *of, PyObject *names, Py_ssize_t count) {
+static int know_names(state *own, quick *of, PyObject *names) {
     of->names = NULL;
-    for (Py_ssize_t i = 0; i < count; i++) {
+    of->count = (int)PyTuple_Size(names);
+    for (int i = 0; i < of->count; i++) {
         int at = 0;
         while (at < CHOICES && own->choices[at].keyword != PyTuple_GetItem(names, i))
             at++;
@@ -100,10 +100,9 @@ static int know_names(state *own, quick *of, PyObject *names, Py_ssize_t count) 
 /* The codes of what a call names, and else of its defaults; 0 where one is not known. */
 static int codes_of(state *own, quick *of, PyObject *const *values, PyObject *names, int *codes) {
     memcpy(codes, of->defaults, sizeof of->defaults);
-    Py_ssize_t count = names ? PyTuple_Size(names) : 0;
-    if (count > 0 && names != of->names && !know_names(own, of, names, count))
+    if (names && names != of->names && !know_names(own, of, names))
         return 0;
-    for (Py_ssize_t i = 0; i < count; i++) {
+    for (int i = 0; names && i < of->count; i++) {
         int at = of->places[i], code = code_of(&own->choices[at], values[i]);
         if (code < 0)
             return 0;
@@ -135,24 +134,24 @@ static PyObject *unusual(const quick *of, PyObject *const *values, Py_ssize_t co
     return answer;
 }
 
-/* The end of a character in UTF-8, written at its start. */
-static uint8_t *put(uint8_t *to, Py_UCS4 character) {
-    static const uint8_t first[] = {0, 0xC0, 0xE0, 0xF0};
-    int more = character < 0x80 ? 0 : character < 0x800 ? 1 : character < 0x10000 ? 2 : 3;
-    *to++ = (uint8_t)(first[more] | character >> 6 * more);
-    while (more-- > 0)
-        *to++ = (uint8_t)(0x80 | (character >> 6 * more & 63));
-    return to;
-}
-
-/* The bytes of a text of at most SHORT characters. Unlike PyUnicode_AsUTF8AndSize it leaves no copy
- * in the str. */
+/* The bytes of a text of at most SHORT characters, or 0 where one takes neither one byte of UTF-8 nor
+ * three. Unlike PyUnicode_AsUTF8AndSize it leaves no copy in the str. */
 static size_t put_short(PyObject *text, Py_ssize_t length, uint8_t *room) {
     Py_UCS4 characters[SHORT];
     uint8_t *end = room;
     PyUnicode_AsUCS4(text, characters, SHORT, 0);
-    for (Py_ssize_t i = 0; i < length; i++)
-        end = put(end, (characters[i] & ~0x7FFu) == 0xD800 ? '?' : characters[i]);
+    for (Py_ssize_t i = 0; i < length; i++) {
+        Py_UCS4 it = characters[i];
+        if (it < 0x80) {
+            *end++ = (uint8_t)it;
+        } else if (it - 0x800 < 0xD000 || it - 0xE000 < 0x2000) {
+            *end++ = (uint8_t)(0xE0 | it >> 12);
+            *end++ = (uint8_t)(0x80 | (it >> 6 & 63));
+            *end++ = (uint8_t)(0x80 | (it & 63));
+        } else {
+            return 0;
+        }
+    }
     return (size_t)(end - room);
 }
 
@@ -174,7 +173,7 @@ typedef struct text {
     size_t length;
     PyObject *held;
     PyThreadState *thread;
-    uint8_t room[4 * SHORT];
+    uint8_t room[3 * SHORT];
 } text;
 
 /* Takes a str to be read. Where that takes long, other threads run until it is given back. */
@@ -185,11 +184,10 @@ static int take(PyObject *given, text *it) {
     it->thread = NULL;
     if (length < 0)
         return 0;
-    if (length <= SHORT) {
-        it->length = put_short(given, length, it->room);
-        it->bytes = it->room;
+    it->bytes = it->room;
+    it->length = length <= SHORT ? put_short(given, length, it->room) : 0;
+    if (it->length)
         return 1;
-    }
     it->held = PyUnicode_AsEncodedString(given, "utf-8", "replace");
     if (!it->held || PyBytes_AsStringAndSize(it->held, &bytes, &length))
         return 0;
@@ -263,7 +261,7 @@ static PyObject *to_number(PyObject *module, PyObject *const *values, Py_ssize_t
                            PyObject *names) {
     state *own = PyModule_GetState(module);
     quick *of = &own->to_number;
-    uint8_t room[4 * SHORT];
+    uint8_t room[3 * SHORT];
     int codes[CHOICES];
     cn_reading it;
     Py_ssize_t length = -1;

@@ -69,7 +69,7 @@ _TEXT = ctypes.c_char_p, _SIZE
 _ROOM = ctypes.c_char_p, _SIZE, _at(_SIZE)
 _SEARCH = (*_TEXT, _SIZE, _CODE, _CODE, _at(_Span), _SIZE, _at(_SIZE))
 _ARGUMENTS: Dict[str, Tuple[Any, ...]] = {
-    "chinese_number_read": (*_TEXT, _CODE, _CODE, _at(_Reading)),
+    "chinese_number_read_utf8": (*_TEXT, _CODE, _CODE, _at(_Reading)),
     "chinese_number_print": (_WORD, _WORD, _CODE, _CODE, _CODE, _CODE, *_ROOM),
     "chinese_number_find_utf8": _SEARCH,
     "chinese_quantity_read": (*_TEXT, _CODE, _at(_Quantity)),
@@ -206,7 +206,7 @@ def read_number(text: str, kind: int, way: int) -> Tuple[int, int, int, int]:
     """The low and the high 64 bits of the number, and how many characters stand before one at
     fault."""
     it = _Reading()
-    status = _read(library.chinese_number_read, text, it, kind, way)
+    status = _read(library.chinese_number_read_utf8, text, it, kind, way)
     return status, it.low, it.high, it.char_index
 
 
