@@ -53,6 +53,7 @@ pub fn tell_refusal(
 }
 
 // The way in which a text is read as a number of a type.
+#[inline(always)]
 fn way_meant(integer: IntegerType, way: ReadingWay, text: &str) -> Way
     ensures { result ≡ way_meant (the_kind integer) way text.now }
 {

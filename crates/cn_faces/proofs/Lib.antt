@@ -1,4 +1,3 @@
 pub mod Characters
 pub mod Decimal
-pub mod Narrowing
 pub mod PlainTexts

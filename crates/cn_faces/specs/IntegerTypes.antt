@@ -1,5 +1,4 @@
 -- What the integer types are.
-use Rattle.std.specs.Prelude.{◌≡◌, ◌≤ℤ◌, Bool, true, false}
 use Rattle.chinese_number.specs.Whole.{Kind, unsigned_kind, signed_kind}
 use Rattle.cn_faces.specs.declared.integer_type.IntegerType.{IntegerType}
 use Rattle.cn_faces.specs.declared.integer_type.IntegerType.TheVariants.{U8, U16, U32, U64, U128, I8, I16, I32, I64, I128}
@@ -16,15 +15,3 @@ the_kind I16 = signed_kind 16
 the_kind I32 = signed_kind 32
 the_kind I64 = signed_kind 64
 the_kind I128 = signed_kind 128
-
--- the type of 128 bits that is signed, or is not
-abbrev pub widest : Bool → Kind
-widest false = unsigned_kind 128
-widest true = signed_kind 128
-
--- the type of 128 bits that is signed as one of this kind is, holds all that the one does
-pub record IsWithin (kind wide : Kind) : Type 0 where
-  pub signed : kind.signed ≡ wide.signed
-  pub least : wide.least ≤ℤ kind.least
-  pub order : wide.least ≤ℤ kind.greatest
-  pub greatest : kind.greatest ≤ℤ wide.greatest

@@ -1,7 +1,7 @@
 // The integer types, and what they hold.
-ghost use Rattle.std.specs.Prelude.{◌≡◌, pos, neg_ℤ};
+ghost use Rattle.std.specs.Prelude.{◌≡◌, pos, neg_ℤ, IsTrue};
 ghost use Rattle.chinese_number.specs.Whole.{holds};
-ghost use Rattle.cn_faces.specs.IntegerTypes.{IsWithin, the_kind, widest};
+ghost use Rattle.cn_faces.specs.IntegerTypes.{the_kind};
 ghost use Rattle.cn_faces.specs.Ways.{stands_for};
 
 use crate::SignedMagnitude;
@@ -24,8 +24,7 @@ pub enum IntegerType {
 impl IntegerType {
     /// Whether the type is signed.
     pub fn is_signed(self) -> bool
-        ensures signed { result ≡ (the_kind self).signed }
-        ensures within { IsWithin (the_kind self) (widest result) }
+        ensures { result ≡ (the_kind self).signed }
     {
         match self {
             IntegerType::U8
@@ -62,7 +61,8 @@ impl IntegerType {
 
     /// Whether the type holds a number.
     pub fn holds(self, number: SignedMagnitude) -> bool
-        ensures { result ≡ holds (the_kind self) (stands_for number) }
+        ensures number { result ≡ holds (the_kind self) (stands_for number) }
+        ensures zero { IsTrue (holds (the_kind self) (pos 0)) }
     {
         let (below, above) = self.most();
         let most = if number.negative { below } else { above };

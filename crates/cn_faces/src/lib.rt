@@ -7,10 +7,12 @@
 
 mod either;
 mod integer_type;
+mod read;
 mod utf8;
 mod way;
 
 pub use either::either_way;
 pub use integer_type::IntegerType;
+pub use read::read_as;
 pub use utf8::utf8_text;
-pub use way::{SignedMagnitude, Way, put_by, read_as, read_by, way_named};
+pub use way::{SignedMagnitude, Way, put_by, read_by, way_named};

@@ -2,10 +2,8 @@
 ghost use Rattle.std.specs.Prelude.{◌≡◌, ◌↔◌, ◌≤◌, ◌<ℤ◌, pos, length, IsTrue, IfOk, MatchResult};
 ghost use Rattle.chinese_number.specs.Answer.{answer_of};
 ghost use Rattle.chinese_number.specs.Whole.{holds};
-ghost use Rattle.cn_faces.specs.IntegerTypes.{the_kind, widest};
 ghost use Rattle.cn_faces.specs.Ways.{Explains, IsText, ReadsBy, stands_for, way_named, written_by};
 
-use crate::IntegerType;
 use chinese_number::{
     ChineseCase, ChineseCountMethod, ChineseToNumber, ChineseToNumberError, ChineseVariant,
     MOST_BYTES, NumberToChineseError, Whole, put_chinese, put_chinese_naive,
@@ -44,40 +42,6 @@ pub fn read_by<T: Whole>(way: Way, text: &str) -> Result<T, ChineseToNumberError
     match way {
         Way::Digits => text.to_number_naive(),
         Way::Units(method) => text.to_number(method),
-    }
-}
-
-// Reads a text in a way as a number of 128 bits.
-#[inline(always)]
-fn read_widest(signed: bool, way: Way, text: &str) -> Result<SignedMagnitude, ChineseToNumberError>
-    ensures { ReadsBy (widest signed) way text.now (answer_of stands_for result) }
-{
-    if signed {
-        let value: i128 = read_by(way, text)?;
-        Ok(SignedMagnitude::of(value))
-    } else {
-        let value: u128 = read_by(way, text)?;
-        Ok(SignedMagnitude::of(value))
-    }
-}
-
-/// Reads a text in a way as a number of an integer type: as one of 128 bits, and then by what the
-/// type holds.
-pub fn read_as(
-    integer: IntegerType,
-    way: Way,
-    text: &str,
-) -> Result<SignedMagnitude, ChineseToNumberError>
-    ensures read { ReadsBy (the_kind integer) way text.now (answer_of stands_for result) }
-    ensures held { IfOk result (λ n. IsTrue (holds (the_kind integer) (stands_for n))) }
-{
-    let number = read_widest(integer.is_signed(), way, text)?;
-    if integer.holds(number) {
-        Ok(number)
-    } else if number.is_negative() {
-        Err(ChineseToNumberError::Underflow)
-    } else {
-        Err(ChineseToNumberError::Overflow)
     }
 }
 

@@ -9,7 +9,7 @@ use Rattle.cn_faces.proofs.either.either_way.Goals as goal
 pub returns-then-is_plain : goal.returns-then-is_plain
 returns-then-is_plain c =
     let e = unsigned_text-rest (the_kind c.args.integer) _ c.args.text.now _ _ _
-    (sym c.is_signed.ensures.signed) c.split_sign.ensures.sign
+    (sym c.is_signed.ensures) c.split_sign.ensures.sign
     c.split_sign.ensures.rest in
     ap (λ b. if b then Digits else Units TenThousand)
     (sym c.if-is_plain.true ∙ c.is_plain.ensures ∙ ap is_plain (sym e))
@@ -17,7 +17,7 @@ returns-then-is_plain c =
 pub returns-else-is_plain : goal.returns-else-is_plain
 returns-else-is_plain c =
     let e = unsigned_text-rest (the_kind c.args.integer) _ c.args.text.now _ _ _
-    (sym c.is_signed.ensures.signed) c.split_sign.ensures.sign
+    (sym c.is_signed.ensures) c.split_sign.ensures.sign
     c.split_sign.ensures.rest in
     ap (λ b. if b then Digits else Units TenThousand)
     (sym c.if-is_plain.false ∙ c.is_plain.ensures ∙ ap is_plain (sym e))
