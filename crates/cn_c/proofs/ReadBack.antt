@@ -20,18 +20,18 @@ use Rattle.chinese_number.proofs.PlainDigits.{naive_reading-signed_text}
 use Rattle.cn_spell.proofs.Printed.{is_printed, IsReadBack-marks}
 use Rattle.chinese_number.proofs.Reading.{IsWhole, Reads-same, Reads-spelled}
 use Rattle.cn_spell.proofs.SpelledMarks.{below_square, spelling-printed}
-use Rattle.cn_c.specs.declared.codes.Kind.{Kind as KindCode}
-use Rattle.cn_c.specs.declared.codes.Kind.TheVariants.{U8, U16, U32, U64, U128, I8, I16, I32, I64, I128}
+use Rattle.cn_faces.specs.declared.IntegerType.{IntegerType}
+use Rattle.cn_faces.specs.declared.IntegerType.TheVariants.{U8, U16, U32, U64, U128, I8, I16, I32, I64, I128}
 use Rattle.cn_faces.specs.declared.Way.{Way}
 use Rattle.cn_faces.specs.declared.Way.TheVariants.{Digits, Units}
 use Rattle.cn_c.specs.declared.number.Number.{Number}
 use Rattle.cn_c.specs.declared.reading.Reading.{Reading}
+use Rattle.cn_faces.specs.IntegerTypes.{the_kind}
 use Rattle.cn_faces.specs.Ways.{ReadsBy, unprintable, written_by}
 use Rattle.cn_c.specs.declared.codes.ReadingWay.{ReadingWay}
 use Rattle.cn_c.specs.declared.codes.ReadingWay.TheVariants.{By}
 use Rattle.cn_c.specs.Codes.{CN_DONE, ways, reading_ways, refusal_status}
 use Rattle.cn_c.specs.Halves.{number_of}
-use Rattle.cn_c.specs.Kinds.{the_kind}
 use Rattle.cn_c.specs.Prints.{PutsNothing, PutsIfItFits, PutsWritten, PrintsNumber, IsPrintedAs}
 use Rattle.cn_c.specs.Reads.{Tells, ReadsInto, IsReadAs, way_meant}
 
@@ -103,7 +103,7 @@ signed-whole bits few = record { from_zero = λ e. cc; fits = fits } where
   fits : (z : ℤ) → holds (signed_kind bits) z ≡ true → nat_abs z < 2 ^ 128
   fits z held = grind (arith, ints, held, few)
 
-whole : (kind : KindCode) → IsWhole (the_kind kind)
+whole : (kind : IntegerType) → IsWhole (the_kind kind)
 whole U8 = unsigned-whole 8 (omega arith)
 whole U16 = unsigned-whole 16 (omega arith)
 whole U32 = unsigned-whole 32 (omega arith)
@@ -123,7 +123,7 @@ told : (signed : Bool) (text : List ℕ) (value : ℤ) (status : ℕ) (reading :
 told signed text value status reading answer e tells = rw e at tells
 
 -- the bytes are read back, by the type and the way that two codes name
-abbrev pub ReadsBackAs : List ℕ → Option KindCode → Option ReadingWay → Number → Type 0
+abbrev pub ReadsBackAs : List ℕ → Option IntegerType → Option ReadingWay → Number → Type 0
 ReadsBackAs bytes kind way number =
     IsUtf8 bytes × ((status : ℕ) (reading : Reading) → IsReadAs kind way bytes status reading
     → (status ≡ CN_DONE) × MatchOption kind ⊥
@@ -140,7 +140,7 @@ IsAnswered way to_read = (kind : Kind) (script : ChineseVariant) (case : Chinese
     → ReadsBy kind (way_meant kind to_read (take len new)) (take len new) answer → answer ≡ Ok number)
 
 read-as : (way : Way) (to_read : ReadingWay) → IsAnswered way to_read
-    → (kind : KindCode) (script : ChineseVariant) (case : ChineseCase) (number : Number) (old new : List ℕ) (len : ℕ)
+    → (kind : IntegerType) (script : ChineseVariant) (case : ChineseCase) (number : Number) (old new : List ℕ) (len : ℕ)
     → PrintsNumber (the_kind kind) way script case (number_of (the_kind kind).signed number) old CN_DONE new len
     → ReadsBackAs (take len new) (Some kind) (Some to_read) number
 read-as way to_read answered code script case number old new len = by (holds kind value) refl where
@@ -163,7 +163,7 @@ read-as way to_read answered code script case number old new len = by (holds kin
   by false e h = absurd (omega (arith, h.0))
 
 pub read-named : (way : Way) (to_read : ReadingWay) → IsAnswered way to_read
-    → (number : Number) (kind : Option KindCode) (script : Option ChineseVariant) (case : Option ChineseCase) (old new : List ℕ) (len : ℕ)
+    → (number : Number) (kind : Option IntegerType) (script : Option ChineseVariant) (case : Option ChineseCase) (old new : List ℕ) (len : ℕ)
     → IsPrintedAs number kind (Some way) script case old CN_DONE new len
     → ReadsBackAs (take len new) kind (Some to_read) number
 read-named way to_read answered number (Some kind) (Some script) (Some case) old new len h = read-as way to_read answered kind script case number old new len h
@@ -181,11 +181,11 @@ reading_way (suc (suc (suc zero))) way e = ap (option_map By) e
 reading_way (suc (suc (suc (suc zero)))) way e = ap (option_map By) e
 reading_way (suc (suc (suc (suc (suc code))))) way e = cc
 
-pub read-back : (number : Number) (kind : Option KindCode) (way : ℕ) (script : Option ChineseVariant) (case : Option ChineseCase) (old new : List ℕ) (len : ℕ)
+pub read-back : (number : Number) (kind : Option IntegerType) (way : ℕ) (script : Option ChineseVariant) (case : Option ChineseCase) (old new : List ℕ) (len : ℕ)
     → IsPrintedAs number kind (slice_get ways way) script case old CN_DONE new len
     → ReadsBackAs (take len new) kind (slice_get reading_ways way) number
 read-back number kind code script case old new len h = by (slice_get ways code) refl h where
-  unnamed : (kind : Option KindCode) → IsPrintedAs number kind None script case old CN_DONE new len → ⊥
+  unnamed : (kind : Option IntegerType) → IsPrintedAs number kind None script case old CN_DONE new len → ⊥
   unnamed None h = omega (arith, h.0)
   unnamed (Some kind) h = omega (arith, h.0)
 

@@ -10,7 +10,7 @@ use crate::quantity_form::{form_code, quantity_form_of};
 use crate::reading::tell_refusal;
 use crate::status::{DONE, NOT_UTF8, UNKNOWN};
 use chinese_number::{ChineseCountMethod, ChineseToNumberError, chinese_to_quantity};
-use cn_faces::{Way, utf8_text};
+use cn_faces::{SignedMagnitude, Way, utf8_text};
 
 /// A quantity, as it is read and printed: the numbers above and below the line and the code of the
 /// form; or of the character at fault how many characters and how many bytes of the text stand in
@@ -65,8 +65,8 @@ fn tell_quantity(
     *quantity = NOTHING;
     match answer {
         Ok(exact) => {
-            quantity.numerator = halves(exact.numerator);
-            quantity.denominator = halves(exact.denominator);
+            quantity.numerator = halves(SignedMagnitude::of(exact.numerator));
+            quantity.denominator = halves(SignedMagnitude::of(exact.denominator));
             quantity.form = form_code(exact.form);
             DONE
         }

@@ -1,16 +1,15 @@
 // Reading.
 ghost use Rattle.std.specs.Prelude.{◌≡◌, IsUtf8};
-ghost use Rattle.chinese_number.specs.Answer.{answer_of, refusal_of};
-ghost use Rattle.cn_c.specs.Halves.{FitsHalves};
-ghost use Rattle.cn_c.specs.Kinds.{the_kind};
-ghost use Rattle.cn_c.specs.Reads.{ReadsInto, Tells, TellsRefusal, IsRead, way_meant};
+ghost use Rattle.chinese_number.specs.Answer.{refusal_of};
+ghost use Rattle.cn_c.specs.Reads.{ReadsInto, TellsRefusal, IsRead, no_number, way_meant};
+ghost use Rattle.cn_faces.specs.IntegerTypes.{the_kind};
 
-use crate::codes::{Kind, ReadingWay, kind_of, reading_way_of};
+use crate::codes::{ReadingWay, kind_of, reading_way_of};
 use crate::number::{Number, halves};
 use crate::place::byte_index;
 use crate::status::{DONE, EMPTY, INCORRECT, NOT_UTF8, TOO_LARGE, TOO_SMALL, UNKNOWN};
-use chinese_number::{ChineseToNumberError, Whole};
-use cn_faces::{Way, either_way, read_by, utf8_text};
+use chinese_number::ChineseToNumberError;
+use cn_faces::{IntegerType, Way, either_way, read_as, utf8_text};
 use std::str;
 
 /// What was read: the number, or of the character at fault how many characters and how many bytes
@@ -53,15 +52,26 @@ pub fn tell_refusal(
     }
 }
 
-// Tells an answer to a text to C.
-fn tell<T: Whole>(text: &str, answer: Result<T, ChineseToNumberError>, reading: &mut Reading) -> u32
-    requires { FitsHalves T.kind }
-    ensures { Tells T.kind.signed text.now (answer_of T.number answer) result reading.new }
+// The way in which a text is read as a number of a type.
+#[inline(always)]
+fn way_meant(integer: IntegerType, way: ReadingWay, text: &str) -> Way
+    ensures { result ≡ way_meant (the_kind integer) way text.now }
 {
-    *reading = NOTHING;
-    match answer {
-        Ok(value) => {
-            reading.number = halves(value);
+    match way {
+        ReadingWay::By(way) => way,
+        ReadingWay::Either => either_way(integer, text),
+    }
+}
+
+// Reads a text as a number of a type, and tells it to C.
+#[inline(always)]
+fn read_text(integer: IntegerType, way: ReadingWay, text: &str, reading: &mut Reading) -> u32
+    requires { reading.old ≡ no_number 0 0 }
+    ensures { ReadsInto (the_kind integer) way text.now result reading.new }
+{
+    match read_as(integer, way_meant(integer, way, text), text) {
+        Ok(number) => {
+            reading.number = halves(number);
             DONE
         }
         Err(error) => tell_refusal(
@@ -70,43 +80,6 @@ fn tell<T: Whole>(text: &str, answer: Result<T, ChineseToNumberError>, reading: 
             &mut reading.char_index,
             &mut reading.byte_index,
         ),
-    }
-}
-
-// The way in which a text is read as a number of a type.
-fn way_meant<T: Whole>(way: ReadingWay, text: &str) -> Way
-    ensures { result ≡ way_meant T.kind way text.now }
-{
-    match way {
-        ReadingWay::By(way) => way,
-        ReadingWay::Either => either_way::<T>(text),
-    }
-}
-
-#[inline(always)]
-fn read_as<T: Whole>(way: ReadingWay, text: &str, reading: &mut Reading) -> u32
-    requires { FitsHalves T.kind }
-    ensures { ReadsInto T.kind way text.now result reading.new }
-{
-    let answer = read_by::<T>(way_meant::<T>(way, text), text);
-    tell(text, answer, reading)
-}
-
-#[inline(always)]
-fn read_kind(kind: Kind, way: ReadingWay, text: &str, reading: &mut Reading) -> u32
-    ensures { ReadsInto (the_kind kind) way text.now result reading.new }
-{
-    match kind {
-        Kind::U8 => read_as::<u8>(way, text, reading),
-        Kind::U16 => read_as::<u16>(way, text, reading),
-        Kind::U32 => read_as::<u32>(way, text, reading),
-        Kind::U64 => read_as::<u64>(way, text, reading),
-        Kind::U128 => read_as::<u128>(way, text, reading),
-        Kind::I8 => read_as::<i8>(way, text, reading),
-        Kind::I16 => read_as::<i16>(way, text, reading),
-        Kind::I32 => read_as::<i32>(way, text, reading),
-        Kind::I64 => read_as::<i64>(way, text, reading),
-        Kind::I128 => read_as::<i128>(way, text, reading),
     }
 }
 
@@ -123,14 +96,14 @@ pub extern "C" fn chinese_number_read(
     ensures { IsRead text.now kind way result reading.new }
 {
     *reading = NOTHING;
-    let Some(kind) = kind_of(kind) else {
+    let Some(integer) = kind_of(kind) else {
         return UNKNOWN;
     };
     let Some(way) = reading_way_of(way) else {
         return UNKNOWN;
     };
     match utf8_text(text) {
-        Some(text) => read_kind(kind, way, text, reading),
+        Some(text) => read_text(integer, way, text, reading),
         None => NOT_UTF8,
     }
 }
@@ -147,12 +120,12 @@ pub unsafe extern "C" fn chinese_number_read_utf8(
     ensures { IsRead text.now kind way result reading.new }
 {
     *reading = NOTHING;
-    let Some(kind) = kind_of(kind) else {
+    let Some(integer) = kind_of(kind) else {
         return UNKNOWN;
     };
     let Some(way) = reading_way_of(way) else {
         return UNKNOWN;
     };
     let text = unsafe { str::from_utf8_unchecked(text) };
-    read_kind(kind, way, text, reading)
+    read_text(integer, way, text, reading)
 }

@@ -1,3 +1,4 @@
 pub mod Decimal
 pub mod Either
+pub mod IntegerTypes
 pub mod Ways

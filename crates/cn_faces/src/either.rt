@@ -6,9 +6,10 @@ ghost use Rattle.chinese_number.specs.Characters.{digit_of};
 ghost use Rattle.chinese_number.specs.Number.{is_plain};
 ghost use Rattle.chinese_number.specs.Text.{text_of};
 ghost use Rattle.cn_faces.specs.Either.{either_way};
+ghost use Rattle.cn_faces.specs.IntegerTypes.{the_kind};
 
-use crate::Way;
-use chinese_number::{ChineseCountMethod, Whole, digit_of};
+use crate::{IntegerType, Way};
+use chinese_number::{ChineseCountMethod, digit_of};
 use cn_judge::split_sign;
 
 // Whether a character is a digit or white space.
@@ -34,10 +35,10 @@ fn is_plain(text: &str) -> bool
 
 /// The way in which a text is read either way, as a number of a type: plain digits as such, and any
 /// other text by `TenThousand`.
-pub fn either_way<T: Whole>(text: &str) -> Way
-    ensures { result ≡ either_way T.kind text.now }
+pub fn either_way(integer: IntegerType, text: &str) -> Way
+    ensures { result ≡ either_way (the_kind integer) text.now }
 {
-    if is_plain(split_sign(T::SIGNED, text).rest) {
+    if is_plain(split_sign(integer.is_signed(), text).rest) {
         Way::Digits
     } else {
         Way::Units(ChineseCountMethod::TenThousand)

@@ -1,6 +1,7 @@
 // The ways in which a number is read or written, and numbers of whatever type.
 ghost use Rattle.std.specs.Prelude.{◌≡◌, ◌↔◌, ◌≤◌, ◌<ℤ◌, pos, length, IsTrue, IfOk, MatchResult};
 ghost use Rattle.chinese_number.specs.Answer.{answer_of};
+ghost use Rattle.chinese_number.specs.Whole.{holds};
 ghost use Rattle.cn_faces.specs.Ways.{Explains, IsText, ReadsBy, stands_for, way_named, written_by};
 
 use chinese_number::{
@@ -75,7 +76,8 @@ pub struct SignedMagnitude {
 impl SignedMagnitude {
     /// A number of a type.
     pub fn of<T: Whole>(value: T) -> Self
-        ensures { stands_for result ≡ T.number value }
+        ensures number { stands_for result ≡ T.number value }
+        ensures held { IsTrue (holds T.kind (stands_for result)) }
     {
         SignedMagnitude {
             negative: value.is_negative(),

@@ -4,6 +4,7 @@ use Rattle.chinese_number.specs.Refusal.{Refusal}
 use Rattle.chinese_number.specs.Reading.{naive_reading}
 use Rattle.chinese_number.specs.Whole.{Kind}
 use Rattle.chinese_number.proofs.Reading.{the_answer, Reads-same, Reads-the_answer}
+use Rattle.cn_faces.specs.IntegerTypes.{the_kind}
 use Rattle.cn_faces.specs.Ways.{ReadsBy}
 use Rattle.cn_faces.specs.declared.Way.{Way}
 use Rattle.cn_faces.specs.declared.Way.TheVariants.{Digits, Units}
@@ -24,10 +25,10 @@ single_reading kind (Units method) text a b p q = Reads-same kind method text a 
 
 single_to_question : (question : Option Question) → IsSingle (AnswersAny question)
 single_to_question None = single _
-single_to_question (Some (read kind way text)) =
+single_to_question (Some (read integer way text)) =
     λ a b (x, is_x, a_is) (y, is_y, b_is). a_is
-    ∙ ap reading_text (single_reading kind way text x y is_x is_y) ∙ sym b_is
-single_to_question (Some (print kind way variant case number)) = single _
+    ∙ ap reading_text (single_reading (the_kind integer) way text x y is_x is_y) ∙ sym b_is
+single_to_question (Some (print integer way variant case number)) = single _
 
 pub single_answer : (line : List ℕ) → IsSingle (Answers line)
 unfolding Answers
@@ -43,10 +44,12 @@ single_output (line ∷ lines) a b p q =
 some_to_question : (question : Option Question)
     → (answer : List ℕ) × AnswersAny question answer
 some_to_question None = (_, refl)
-some_to_question (Some (read kind Digits text)) = (_, (naive_reading kind text, refl, refl))
-some_to_question (Some (read kind (Units method) text)) =
+some_to_question (Some (read integer Digits text)) =
+    (_, (naive_reading (the_kind integer) text, refl, refl))
+some_to_question (Some (read integer (Units method) text)) =
+    let kind = the_kind integer in
     (_, (the_answer kind method text, Reads-the_answer kind method text, refl))
-some_to_question (Some (print kind way variant case number)) = (_, refl)
+some_to_question (Some (print integer way variant case number)) = (_, refl)
 
 pub some_answer : (line : List ℕ) → (answer : List ℕ) × Answers line answer
 unfolding Answers

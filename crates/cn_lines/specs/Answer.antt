@@ -5,6 +5,7 @@ use Rattle.chinese_number.specs.declared.ChineseVariant.{ChineseVariant}
 use Rattle.chinese_number.specs.declared.ChineseCase.{ChineseCase}
 use Rattle.chinese_number.specs.Refusal.{Refusal, refusal_text}
 use Rattle.chinese_number.specs.Whole.{Kind, holds}
+use Rattle.cn_faces.specs.IntegerTypes.{the_kind}
 use Rattle.cn_faces.specs.Ways.{ReadsBy, written_by}
 use Rattle.cn_faces.specs.declared.Way.{Way}
 use Rattle.cn_lines.specs.Question.{Question, read, print, question_of}
@@ -38,9 +39,9 @@ AnswersPrinting kind way variant case number answer =
 
 -- the answer to a question
 abbrev pub AnswersQuestion : Question → List ℕ → Type 0
-AnswersQuestion (read kind way text) answer = AnswersRead kind way text answer
-AnswersQuestion (print kind way variant case number) answer =
-    AnswersPrinting kind way variant case number answer
+AnswersQuestion (read integer way text) answer = AnswersRead (the_kind integer) way text answer
+AnswersQuestion (print integer way variant case number) answer =
+    AnswersPrinting (the_kind integer) way variant case number answer
 
 -- the answer to what is asked, if anything is
 abbrev pub AnswersAny : Option Question → List ℕ → Type 0

@@ -7,9 +7,11 @@ use Rattle.chinese_number.specs.declared.ChineseVariant.{ChineseVariant}
 use Rattle.chinese_number.specs.declared.ChineseVariant.TheVariants.{Traditional, Simple}
 use Rattle.chinese_number.specs.declared.ChineseCase.{ChineseCase}
 use Rattle.chinese_number.specs.declared.ChineseCase.TheVariants.{Upper, Lower}
-use Rattle.chinese_number.specs.Whole.{Kind, unsigned_kind, signed_kind, signed_number}
+use Rattle.chinese_number.specs.Whole.{signed_number}
 use Rattle.cn_faces.specs.Decimal.{value_of}
 use Rattle.cn_faces.specs.Ways.{named, way_named}
+use Rattle.cn_faces.specs.declared.IntegerType.{IntegerType}
+use Rattle.cn_faces.specs.declared.IntegerType.TheVariants.{U8, U16, U32, U64, U128, I8, I16, I32, I64, I128}
 use Rattle.cn_faces.specs.declared.Way.{Way}
 
 infixl 10 ◌>>=◌
@@ -18,18 +20,16 @@ o >>= f = option_and_then f o
 
 -- what a line asks: to read a text as a number of a type, or to print a number of a type
 pub data Question : Type 0 where
-  read : Kind → Way → List ℕ → Question
-  print : Kind → Way → ChineseVariant → ChineseCase → ℤ → Question
+  read : IntegerType → Way → List ℕ → Question
+  print : IntegerType → Way → ChineseVariant → ChineseCase → ℤ → Question
 
--- the integer type of a name: whether it is signed, and what it holds
-abbrev pub type_named : List ℕ → Option Kind
+-- the integer type of a name
+abbrev pub type_named : List ℕ → Option IntegerType
 type_named name = named name
-    ((codes "u8", unsigned_kind 8) ∷ (codes "i8", signed_kind 8)
-    ∷ (codes "u16", unsigned_kind 16) ∷ (codes "i16", signed_kind 16)
-    ∷ (codes "u32", unsigned_kind 32) ∷ (codes "i32", signed_kind 32)
-    ∷ (codes "u64", unsigned_kind 64) ∷ (codes "i64", signed_kind 64)
-    ∷ (codes "u128", unsigned_kind 128) ∷ (codes "i128", signed_kind 128)
-    ∷ (codes "usize", unsigned_kind 64) ∷ (codes "isize", signed_kind 64) ∷ [])
+    ((codes "u8", U8) ∷ (codes "i8", I8) ∷ (codes "u16", U16) ∷ (codes "i16", I16)
+    ∷ (codes "u32", U32) ∷ (codes "i32", I32) ∷ (codes "u64", U64) ∷ (codes "i64", I64)
+    ∷ (codes "u128", U128) ∷ (codes "i128", I128) ∷ (codes "usize", U64) ∷ (codes "isize", I64)
+    ∷ [])
 
 -- the script of a name
 abbrev pub script_named : List ℕ → Option ChineseVariant
@@ -66,10 +66,10 @@ abbrev pub read_question : List ℕ → Option Question
 read_question fields = do
   type ← cut fields
   way ← cut type.1
-  kind ← type_named type.0
+  integer ← type_named type.0
   by ← way_named way.0
   text ← utf8_text way.1
-  Some (read kind by text)
+  Some (read integer by text)
 
 -- <type> <way> <script> <case> <decimal>
 abbrev pub print_question : List ℕ → Option Question
@@ -78,12 +78,12 @@ print_question fields = do
   way ← cut type.1
   script ← cut way.1
   letters ← cut script.1
-  kind ← type_named type.0
+  integer ← type_named type.0
   by ← way_named way.0
   variant ← script_named script.0
   case ← case_named letters.0
   number ← decimal_number letters.1
-  Some (print kind by variant case number)
+  Some (print integer by variant case number)
 
 -- by the first word of a line
 abbrev pub question_after : List ℕ → List ℕ → Option Question

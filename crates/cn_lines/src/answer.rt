@@ -3,11 +3,12 @@ ghost use Rattle.std.specs.Prelude.{◌≡◌, ◌++◌, [], OnOk, codes, string
 ghost use Rattle.chinese_number.specs.Answer.{answer_of};
 ghost use Rattle.cn_lines.specs.Question.{read_question, print_question};
 ghost use Rattle.cn_lines.specs.Answer.{Answers, AnswersAny, AnswersRead, AnswersPrinting, bad_line, reading_text};
-ghost use Rattle.cn_faces.specs.Ways.{ReadsBy, stands_for};
+ghost use Rattle.cn_faces.specs.IntegerTypes.{the_kind};
+ghost use Rattle.cn_faces.specs.Ways.{stands_for};
 
-use crate::question::{Printing, Reading, asked_printing, asked_reading, cut};
+use crate::question::{Printing, asked_printing, asked_reading, cut};
 use chinese_number::{ChineseToNumberError, MOST_BYTES, Whole};
-use cn_faces::{SignedMagnitude, Way, put_by, read_by};
+use cn_faces::{SignedMagnitude, put_by, read_as};
 use std::alloc::AllocError;
 
 // Puts the answer to a line that asks nothing.
@@ -15,33 +16,6 @@ fn put_bad_line(answer: &mut String) -> Result<(), AllocError>
     ensures { OnOk result (string_bytes answer.new ≡ string_bytes answer.old ++ bad_line) }
 {
     answer.push_str("bad line")
-}
-
-// Reads a text as a number of a type.
-fn read_as<T: Whole>(way: Way, text: &str) -> Result<SignedMagnitude, ChineseToNumberError>
-    ensures { ReadsBy T.kind way text.now (answer_of stands_for result) }
-{
-    let value: T = read_by(way, text)?;
-    Ok(SignedMagnitude::of(value))
-}
-
-// Reads a text that is to be read: as a number of 128 bits, and then by what its type holds.
-fn read_asked(asked: Reading<'_>) -> Result<SignedMagnitude, ChineseToNumberError>
-    ensures { ReadsBy asked.entry.integer asked.entry.way asked.entry.text.now
-        (answer_of stands_for result) }
-{
-    let number = if asked.integer.is_signed() {
-        read_as::<i128>(asked.way, asked.text)?
-    } else {
-        read_as::<u128>(asked.way, asked.text)?
-    };
-    if asked.integer.holds(number) {
-        Ok(number)
-    } else if number.is_negative() {
-        Err(ChineseToNumberError::Underflow)
-    } else {
-        Err(ChineseToNumberError::Overflow)
-    }
 }
 
 // Puts the number that was read, or why there is none.
@@ -68,7 +42,9 @@ fn answer_read(answer: &mut String, fields: &[u8]) -> Result<(), AllocError>
     ensures { OnOk result (AnswersAny (read_question fields.now) (string_bytes answer.new)) }
 {
     match asked_reading(fields) {
-        Some(asked) => put_number_or_refusal(answer, read_asked(asked)),
+        Some(asked) => {
+            put_number_or_refusal(answer, read_as(asked.integer, asked.way, asked.text))
+        },
         None => put_bad_line(answer),
     }
 }
@@ -105,7 +81,7 @@ fn put_printed_as<T: Whole>(answer: &mut String, asked: Printing) -> Result<(), 
 // Puts the text of a number, if its type holds it, as one of 128 bits; or why there is none.
 fn put_printed(answer: &mut String, asked: Printing) -> Result<(), AllocError>
     requires { string_bytes answer.old ≡ [] }
-    ensures { OnOk result (AnswersPrinting asked.integer asked.way asked.variant
+    ensures { OnOk result (AnswersPrinting (the_kind asked.integer) asked.way asked.variant
         asked.case (stands_for asked.number) (string_bytes answer.new)) }
 {
     if !asked.integer.holds(asked.number) {

@@ -4,7 +4,6 @@
 #![tactic(auto)]
 
 pub mod answer;
-mod integer_type;
 pub mod laws;
 pub mod lines;
 mod question;

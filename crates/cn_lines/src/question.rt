@@ -8,10 +8,9 @@ ghost use Rattle.cn_lines.specs.Private.{IsBeyondAll};
 ghost use Rattle.cn_faces.specs.Decimal.{value_after, value_of};
 ghost use Rattle.cn_faces.specs.Ways.{stands_for};
 
-use crate::integer_type::IntegerType;
 use crate::lines::first_position;
 use chinese_number::{ChineseCase, ChineseVariant};
-use cn_faces::{SignedMagnitude, Way, utf8_text, way_named};
+use cn_faces::{IntegerType, SignedMagnitude, Way, utf8_text, way_named};
 
 /// The first field, which a space ends, and all that follows the space.
 pub(crate) fn cut(bytes: &[u8]) -> Option<(&[u8], &[u8])>
@@ -30,12 +29,12 @@ fn unsigned_type(width: &[u8]) -> Option<IntegerType>
     ensures { result ≡ type_named (117 ∷ width.now) }
 {
     match width {
-        b"8" => Some(IntegerType::unsigned(u8::MAX as u128)),
-        b"16" => Some(IntegerType::unsigned(u16::MAX as u128)),
-        b"32" => Some(IntegerType::unsigned(u32::MAX as u128)),
-        b"64" => Some(IntegerType::unsigned(u64::MAX as u128)),
-        b"128" => Some(IntegerType::unsigned(u128::MAX)),
-        b"size" => Some(IntegerType::unsigned(usize::MAX as u128)),
+        b"8" => Some(IntegerType::U8),
+        b"16" => Some(IntegerType::U16),
+        b"32" => Some(IntegerType::U32),
+        b"64" => Some(IntegerType::U64),
+        b"128" => Some(IntegerType::U128),
+        b"size" => Some(IntegerType::U64),
         _ => None,
     }
 }
@@ -46,12 +45,12 @@ fn signed_type(width: &[u8]) -> Option<IntegerType>
     ensures { result ≡ type_named (105 ∷ width.now) }
 {
     match width {
-        b"8" => Some(IntegerType::signed(i8::MAX as u128)),
-        b"16" => Some(IntegerType::signed(i16::MAX as u128)),
-        b"32" => Some(IntegerType::signed(i32::MAX as u128)),
-        b"64" => Some(IntegerType::signed(i64::MAX as u128)),
-        b"128" => Some(IntegerType::signed(i128::MAX as u128)),
-        b"size" => Some(IntegerType::signed(isize::MAX as u128)),
+        b"8" => Some(IntegerType::I8),
+        b"16" => Some(IntegerType::I16),
+        b"32" => Some(IntegerType::I32),
+        b"64" => Some(IntegerType::I64),
+        b"128" => Some(IntegerType::I128),
+        b"size" => Some(IntegerType::I64),
         _ => None,
     }
 }

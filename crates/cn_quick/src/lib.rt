@@ -12,4 +12,4 @@ mod quick;
 mod state;
 mod steps;
 
-pub use quick::{read, read_quickly};
+pub use quick::{judge_quickly, read, read_quickly};

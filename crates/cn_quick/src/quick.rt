@@ -55,9 +55,9 @@ pub fn read_quickly(method: ChineseCountMethod, text: &str) -> Option<u128>
     finish(&units, state, first)
 }
 
-// The answer to a text without sign: a regular numeral is read at once, and any other text is judged
-// from its beginning.
-fn judge_quickly(
+/// The answer to a text without sign: a regular numeral is read at once, and any other text is judged
+/// from its beginning.
+pub fn judge_quickly(
     method: ChineseCountMethod,
     skipped: usize,
     text: &str,

@@ -1,0 +1,71 @@
+// The integer types, and what they hold.
+ghost use Rattle.std.specs.Prelude.{◌≡◌, pos, neg_ℤ, IsTrue};
+ghost use Rattle.chinese_number.specs.Whole.{holds};
+ghost use Rattle.cn_faces.specs.IntegerTypes.{the_kind};
+ghost use Rattle.cn_faces.specs.Ways.{stands_for};
+
+use crate::SignedMagnitude;
+
+/// An integer type; `usize` is `u64` and `isize` is `i64`.
+#[derive(Clone, Copy)]
+pub enum IntegerType {
+    U8,
+    U16,
+    U32,
+    U64,
+    U128,
+    I8,
+    I16,
+    I32,
+    I64,
+    I128,
+}
+
+impl IntegerType {
+    /// Whether the type is signed.
+    pub fn is_signed(self) -> bool
+        ensures { result ≡ (the_kind self).signed }
+    {
+        match self {
+            IntegerType::U8
+            | IntegerType::U16
+            | IntegerType::U32
+            | IntegerType::U64
+            | IntegerType::U128 => false,
+            IntegerType::I8
+            | IntegerType::I16
+            | IntegerType::I32
+            | IntegerType::I64
+            | IntegerType::I128 => true,
+        }
+    }
+
+    // The greatest magnitude that the type holds below zero, and above.
+    fn most(self) -> (u128, u128)
+        ensures below { (the_kind self).least ≡ neg_ℤ (pos result.0) }
+        ensures above { (the_kind self).greatest ≡ pos result.1 }
+    {
+        match self {
+            IntegerType::U8 => (0, u8::MAX as u128),
+            IntegerType::U16 => (0, u16::MAX as u128),
+            IntegerType::U32 => (0, u32::MAX as u128),
+            IntegerType::U64 => (0, u64::MAX as u128),
+            IntegerType::U128 => (0, u128::MAX),
+            IntegerType::I8 => (i8::MAX as u128 + 1, i8::MAX as u128),
+            IntegerType::I16 => (i16::MAX as u128 + 1, i16::MAX as u128),
+            IntegerType::I32 => (i32::MAX as u128 + 1, i32::MAX as u128),
+            IntegerType::I64 => (i64::MAX as u128 + 1, i64::MAX as u128),
+            IntegerType::I128 => (i128::MAX as u128 + 1, i128::MAX as u128),
+        }
+    }
+
+    /// Whether the type holds a number.
+    pub fn holds(self, number: SignedMagnitude) -> bool
+        ensures number { result ≡ holds (the_kind self) (stands_for number) }
+        ensures zero { IsTrue (holds (the_kind self) (pos 0)) }
+    {
+        let (below, above) = self.most();
+        let most = if number.negative { below } else { above };
+        number.magnitude <= most
+    }
+}
