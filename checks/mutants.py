@@ -17,6 +17,7 @@ counted apart. What does not compile is left out.
 import argparse
 import hashlib
 import os
+import re
 import shutil
 import signal
 import subprocess
@@ -29,7 +30,9 @@ import planting
 import turns
 from planting import AT_LIMIT, BY_LEMMA, CRATES, ONLY_GONE, PROVED, REFUSED, UNCLEAR, WAITING
 
-UNREAD = "it does not compile"
+UNREAD, ENDLESS = "it does not compile", "its check does not end"
+# What a check may take, and for each turn that is planted.
+SECONDS = 100, 40
 # The gravest first.
 KINDS = [REFUSED, BY_LEMMA, AT_LIMIT, UNCLEAR, ONLY_GONE, WAITING, PROVED]
 # How a turn is planted: with any others; if it only calls what is not proved, with others of those;
@@ -79,6 +82,7 @@ class Crate:
 
     def tell(self, turn, kind, words=""):
         self.came[turn.name] = kind
+        self.file.parent.mkdir(exist_ok=True)
         with open(self.file, "a", encoding="utf-8") as file:
             words = " ".join(words.split())
             print(digest(turn), turn.name, kind, words, sep="\t", file=file)
@@ -89,7 +93,7 @@ class Crate:
             self.rounds, self.seconds = self.rounds + 1, self.seconds + seconds
             for turn, (kind, words) in judged.items():
                 if kind is None:
-                    self.waiting[turn] = max(level + 1, words)
+                    self.waiting[turn] = max(level, words)
                 else:
                     self.tell(turn, kind, words)
 
@@ -145,8 +149,18 @@ def judge(crate, planted, level, said):
         if kind in (PROVED, WAITING) and others:
             kind, words = (REFUSED, others[0]) if len(planted) == 1 else (None, ALONE)
         elif kind == WAITING:
-            kind, words = (UNCLEAR, words) if len(planted) == 1 else (None, WITH_WAITING)
+            kind, words = (UNCLEAR, words) if len(planted) == 1 else (None, min(level + 1, ALONE))
         yield turn, (kind, words)
+
+
+def judge_stopped(crate, planted, level, ran):
+    """How to go on with turns whose check was stopped: by themselves, where they were not reached."""
+    reached = set(re.findall(rf"^checked (?:{crate.name}::)?(\S+),", ran.said, re.MULTILINE))
+    for turn in planted:
+        if len(planted) == 1:
+            yield turn, (ENDLESS if ran.status < 0 else UNREAD, ran.said[-300:])
+        else:
+            yield turn, (None, level if reached.issuperset(turn.owners) else ALONE)
 
 
 def try_round(crate, room, group):
@@ -155,7 +169,8 @@ def try_round(crate, room, group):
     judged, seconds = {}, 0
     while planted:
         plant(crate, room, planted)
-        ran = planting.check(crate.name, room, group)
+        most = SECONDS[0] + SECONDS[1] * len(planted)
+        ran = planting.check(crate.name, room, group, "--progress", most=most)
         seconds += ran.seconds
         bad = unread(planted, planting.UNREAD.findall(ran.said))
         if not bad:
@@ -164,14 +179,13 @@ def try_round(crate, room, group):
         planted = [it for it in planted if it not in bad]
     if planted and planting.verdicts_of(crate.name, ran.said):
         judged |= dict(judge(crate, planted, level, ran.said))
-    elif len(planted) == 1:
-        judged[planted[0]] = (UNREAD, f"status {ran.status}: {ran.said[-300:]}")
     else:
-        judged |= {it: (None, ALONE) for it in planted}
+        judged |= dict(judge_stopped(crate, planted, level, ran))
     crate.note(level, judged, seconds)
     kinds = Counter(kind or "to be tried again" for kind, _ in judged.values())
     told = ", ".join(f"{count} {kind}" for kind, count in kinds.items())
-    print(f"{crate.name}, {seconds:.0f} s of processor time: {told}", flush=True)
+    left = len(crate.waiting)
+    print(f"{crate.name}, {seconds:.0f} s of processor time: {told}; {left} left", flush=True)
 
 
 def work(crates, room, group):

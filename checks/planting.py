@@ -57,8 +57,8 @@ def listed(name):
     raise ValueError(f"crates.txt has no {name}")
 
 
-def check(name, room, group):
-    """Checks the crate that lies in the room."""
+def check(name, room, group, *more, most=None):
+    """Checks the crate that lies in the room, in so many seconds of processor time at most."""
     kit = Path(shutil.which("rt")).resolve().parent.parent
     libraries, is_static = listed(name)
     root = "src/main.rt" if (room / "src/main.rt").exists() else "src/lib.rt"
@@ -71,6 +71,9 @@ def check(name, room, group):
     for it in CRATES.glob("*/out/rlib"):
         words += ["-L", f"dependency={it}"]
     words += ["--crate-type", "staticlib"] if is_static else []
+    words += more
+    if most:
+        words = ["prlimit", f"--cpu={most}", *words]
     with open(room / "said", "wb") as to:
         how = {"stdout": to, "stderr": subprocess.STDOUT, "process_group": group}
         _, status, used = os.wait4(subprocess.Popen(words, cwd=room, **how).pid, 0)
