@@ -1,7 +1,9 @@
-"""Each value of a crate's functions and constants, and what it is turned into.
+"""The mutants of a crate: each has one value of a function or a constant turned into another.
 
-Contracts, ghost items and tests are left as they are, and so is what stands outside of bodies: the
-layout of `rt fmt` tells where a body begins and ends. A line that has a value turned names the turn.
+Contracts, ghost items and tests are left as they are, and so is all that stands outside of bodies:
+the layout of `rt fmt` tells where one begins and ends. A mutant is named by what it turns and the
+line that it makes. Of a table's entries, and of the literals of patterns that have lines of their
+own, one is turned for each kind of value, drawn by the table's name.
 """
 import random
 import re
@@ -13,15 +15,15 @@ from planting import CRATES
 # A function, a constant, a table or a macro: its path as a check prints it, its place in its file and
 # its body's there.
 Item = namedtuple("Item", "path name kind file start begin end text")
-# One value: its item, the functions that it can make wrong, and the part of the file that becomes
-# another text.
-Turn = namedtuple("Turn", "name item owners begin end new")
+# What it turns, the functions that it can make wrong, and the part of the file that becomes another
+# text.
+Mutant = namedtuple("Mutant", "name item owners begin end new")
 
 HEAD = re.compile(
     r'( *)(?:pub(?:\(crate\))? )?(?:(?:final|const|unsafe|extern "C") )*(fn|static|const|macro_rules!)'
     r" (\w+)"
 )
-HOLDER = re.compile(r"impl(<.*?>)? (?:([\w:]+)(?:<.*>)? for )?(&?[\w:]+)")
+HOLDER = re.compile(r"impl(<.*?>)? (?:([\w:]+)(<.*>)? for )?(&?[\w:]+)")
 QUOTED = r"""b?"(?:\\.|[^"\\])*"|b?'(?:\\u\{\w+\}|\\.|[^'\\])'"""
 COMMENT = re.compile(rf"({QUOTED})|//[^\n]*", re.DOTALL)
 ENUM = re.compile(r"^(?:pub )?enum (\w+).*?\{\n(.*?)^\}", re.MULTILINE | re.DOTALL)
@@ -68,11 +70,19 @@ def holder_of(line, module, modules):
         return [*module, head[1]]
     if not (head := HOLDER.match(line)):
         return None
-    kind = head[3].lstrip("&").split("::")[-1]
+    given = re.findall(r"\w+", head[1] or "")
+    kind = head[4].lstrip("&").split("::")[-1]
     own = modules.get(kind, module)
-    kind = "Any" if re.search(rf"\b{kind}\b", head[1] or "") else kind[0].upper() + kind[1:]
-    kind = ("Ref" if head[3][0] == "&" else "") + kind
-    return [*module, kind + head[2].split("::")[-1]] if head[2] else [*own, kind]
+    words = [("Ref" if head[4][0] == "&" else "") + ("Any" if kind in given else upper(kind))]
+    if not head[2]:
+        return [*own, *words]
+    words += [it for it in re.findall(r"\w+", head[3] or "") if it not in given]
+    words.insert(1, head[2].split("::")[-1])
+    return [*module, "".join(map(upper, words))]
+
+
+def upper(word):
+    return word[0].upper() + word[1:]
 
 
 def items_of(crate):
@@ -93,8 +103,7 @@ def items_of(crate):
             if body:
                 first, last = (at + len("".join(lines[number:it])) for it in body)
                 path = "::".join([*(holder if head[1] else module_of(file)), head[3]])
-                if text[first:last].strip() != "{}":
-                    yield Item(path, head[3], head[2], file, at, first, last, text)
+                yield Item(path, head[3], head[2], file, at, first, last, text)
             is_test = line.strip() == "#[cfg(test)]"
             at += len(line)
 
@@ -104,11 +113,8 @@ def body_of(lines, start, head):
     told = [line.rstrip() for line in lines[start:]]
     if head[2] != "fn":
         ends = [head[1] + it for it in ("}", "};", "];", ");")]
-        ends += [it for it in told if it.endswith('";')][:1]
-        is_short = told[0].endswith(";")
-        return start, start + (
-            1 if is_short else next(i for i, it in enumerate(told) if it in ends) + 1
-        )
+        ends += [it for it in told if it.endswith('";')][:1] + told[:1] * told[0].endswith(";")
+        return start, start + next(at for at, it in enumerate(told, 1) if it in ends)
     signature = [told[0], *(it for it in told if it.startswith(head[1] + ")"))][:2]
     for at, line in enumerate(told):
         is_alone = line in (head[1] + "{", head[1] + "{}")
@@ -201,23 +207,32 @@ def exchanged(body, parameters):
     """Two arguments of one type, exchanged."""
     for call in CALL.finditer(body):
         types = parameters.get(re.split(r"::|\.", call[1])[-1], [])
-        end = call.end()
-        while (
-            end < len(body)
-            and len(split(body[call.end() : end + 1] + ",")) <= len(types)
-            and (body.count("(", call.start(), end) > body.count(")", call.start(), end))
-        ):
-            end += 1
-        words = split(body[call.end() : end - 1])
-        if len(types) < 2 or len(words) != len(types):
+        begin, end = call.end(), closing(body, call.end())
+        words = split(body[begin:end])
+        if len(words) != len(types):
             continue
-        for one in range(len(types)):
-            for other in range(one + 1, len(types)):
-                if types[one] == types[other] and words[one].strip() != words[other].strip():
-                    both = list(words)
-                    both[one], both[other] = words[other], words[one]
-                    yield call.end(), end - 1, ",".join(both)
-                    break
+        for one, other in pairs_of_one_type(types):
+            if words[one].strip() != words[other].strip():
+                both = list(words)
+                both[one], both[other] = words[other], words[one]
+                yield begin, end, ",".join(both)
+
+
+def pairs_of_one_type(types):
+    """Each place with the next one of its type."""
+    for one, kind in enumerate(types):
+        if kind in types[one + 1 :]:
+            yield one, types.index(kind, one + 1)
+
+
+def closing(body, at):
+    """Where the bracket closes that opens in front of a place."""
+    depth = 1
+    for sign in re.compile(rf"{QUOTED}|[()]", re.DOTALL).finditer(body, at):
+        depth += (sign[0] == "(") - (sign[0] == ")")
+        if depth == 0:
+            return sign.start()
+    return at
 
 
 def turned(item, variants, parameters):
@@ -245,31 +260,30 @@ def is_entry(kind, body, begin):
     return kind in ("text", "number") and bool(ENTRY.match(line))
 
 
-def turns_of(crate):
-    """The turns of a crate; of a table's entries one for each kind of turn, drawn by its name."""
-    # Of two that have one name the crate's own counts.
+def mutants_of(crate):
+    # Of two types or functions of one name the crate's own counts.
     folders = sorted((it.parent for it in CRATES.glob("*/src")), key=lambda it: it == crate)
     variants, parameters = variants_of(folders), parameters_of(folders)
     items = list(items_of(crate))
     for item in items:
-        body, names = item.text[item.begin : item.end], []
-        found, tables = [], {}
+        body, names, found, tables = item.text[item.begin : item.end], [], [], {}
         for kind, begin, end, new in turned(item, variants, parameters):
             is_table = item.kind != "fn" and body.count("\n") > 2 or is_entry(kind, body, begin)
-            key = kind + ("+" if kind == "number" and int(new, 0) > int(body[begin:end], 0) else "")
-            (tables.setdefault(key, []) if is_table else found).append((begin, end, new))
-        for key, entries in tables.items():
-            found.append(random.Random(f"{item.path} {key}").choice(entries))
+            is_up = kind == "number" and int(new, 0) > int(body[begin:end], 0)
+            entries = tables.setdefault((kind, is_up), []) if is_table else found
+            entries.append((begin, end, new))
+        for (kind, is_up), entries in tables.items():
+            key = f"{item.path} {kind}{'+' if is_up else ''}"
+            found.append(random.Random(key).choice(entries))
         owners = (item.path,) if item.kind == "fn" else citing(item, items)
         for begin, end, new in sorted(found):
-            name = named(item, body, begin, end, new)
-            names.append(name)
+            names.append(name := named(item, body, begin, end, new))
             name += f" #{names.count(name)}" if names.count(name) > 1 else ""
-            yield Turn(name, item, owners, item.begin + begin, item.begin + end, new)
+            yield Mutant(name, item, owners, item.begin + begin, item.begin + end, new)
 
 
 def named(item, body, begin, end, new):
-    """The name of a turn: the path of what it turns, and the line that it makes or takes away."""
+    """The name of a mutant: the path of what it turns, and the line that it makes or lacks."""
     if body[begin:end].endswith("\n"):
         return f"{item.path}: without {' '.join(body[begin:end].split())}"
     made = body[body.rfind("\n", 0, begin) + 1 : begin] + new + (body[end:] + "\n").split("\n")[0]
@@ -277,14 +291,11 @@ def named(item, body, begin, end, new):
 
 
 def citing(item, items):
-    """The functions that cite a constant, or one that cites it."""
-    found, todo = set(), [item.name]
-    while todo:
-        name = todo.pop()
+    """The functions that cite a constant, or one that cites it, and the constant itself."""
+    found, names = [item], [item.name]
+    for name in names:
         for other in items:
             if re.search(rf"\b{name}\b", other.text[other.begin : other.end]):
-                if other.kind == "fn":
-                    found.add(other.path)
-                elif other.name not in todo and other.name != name:
-                    todo.append(other.name)
-    return tuple(sorted(found))
+                found.append(other)
+                names += [other.name] if other.kind != "fn" and other.name not in names else []
+    return tuple(sorted({it.path for it in found}))
