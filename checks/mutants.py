@@ -99,6 +99,7 @@ def plant(crate, room, planted):
     places = [(it.item.file, it.begin, it.end, it.new) for it in planted]
     planting.lay_out(crate.folder, room, places)
     shutil.rmtree(room / "kept", ignore_errors=True)
+    (crate.folder / "out/incremental").mkdir(parents=True, exist_ok=True)
     shutil.copytree(crate.folder / "out/incremental", room / "kept", copy_function=linked)
 
 
@@ -204,7 +205,8 @@ def report(crates, draw):
         told = "; ".join(f"{count} {kind}" for kind, count in kinds)
         used = f"{crate.rounds} rounds, {crate.seconds:.0f} s of processor time"
         print(f"{crate.name}: {len(crate.mutants)} mutants; {used}; {told}")
-    refused = [f"{it.name}: {one}" for it in crates for one in it.came if it.came[one] == REFUSED]
+    kinds = (REFUSED, BY_LEMMA, AT_LIMIT)
+    refused = [f"{it.name}: {one}" for it in crates for one in it.came if it.came[one] in kinds]
     for one in sorted(random.Random(SEED).sample(sorted(refused), min(draw, len(refused)))):
         print(f"drawn with the seed {SEED}: {one}")
 
