@@ -33,7 +33,7 @@ CALL = re.compile(r"(?<![\w!])((?:\w+(?:::|\.))*\w+)(?:::<[^<>()]*>)?\(")
 SWAPPED = {"<": "<=", ">": ">=", "==": "!=", "+": "-", "*": "/", "<<": ">>", "&": "|", "&&": "||"}
 SWAPPED |= {other: one for one, other in SWAPPED.items()} | {"%": "/"}
 SWAPPED |= {"+=": "-=", "-=": "+=", "*=": "/=", "/=": "*=", "..": "..=", "..=": ".."}
-# What is turned by itself, in this order: a text, a number, an operator, a word or a path.
+# A value that is turned by itself. Binary operators stand between blanks.
 VALUE = re.compile(
     rf"(?P<text>{QUOTED})|(?<![\w.])(?P<number>0x[\da-f_]+|\d+(?:_\d+)*)"
     r"|(?<=[ \n])(?P<operator><<|>>|<=|>=|==|!=|&&|\|\||[-+*/]=|[-+*/%<>&|])(?=[ \n])"
@@ -41,10 +41,12 @@ VALUE = re.compile(
     r"|(?<![\w:])(?P<path>(?:\w+::)+[A-Z]\w*)\b|(?<![\w!])(?P<not>!)(?=[\w(])",
     re.DOTALL,
 )
+# An early return, the guard of an arm, and a call of which only the error is looked at; and a line of
+# a pattern that is one of literals.
 RETURN = re.compile(r"^( +)if (?:[^\n{]|\n\1 )*?(?: |\n\1)\{\n\1    return [^;]*;\n\1\}\n", re.M)
 GUARD = re.compile(r"(?<=[\w)}]) if [^\n]*?(?= =>)")
-ENTRY = re.compile(rf" *(?:\| )?(?:{QUOTED}|\d+)(?:$|,| \||\.\.=| =>)")
 TRIED = re.compile(r"(?m)^ *([\w&][^\n=;{}]*)\?;$")
+ENTRY = re.compile(rf" *(?:\| )?(?:{QUOTED}|\d+)(?:$|,| \||\.\.=| =>)")
 
 
 def texts_of(crate):
@@ -52,11 +54,8 @@ def texts_of(crate):
     for path in sorted(crate.glob("src/**/*.rt")):
         if not {"tests", "tests.rt"} & set(path.parts):
             text = path.read_text(encoding="utf-8")
-            yield path.relative_to(crate).as_posix(), COMMENT.sub(blank, text)
-
-
-def blank(comment):
-    return comment[1] or " " * len(comment[0])
+            blank = COMMENT.sub(lambda it: it[1] or " " * len(it[0]), text)
+            yield path.relative_to(crate).as_posix(), blank
 
 
 def module_of(file):
