@@ -21,44 +21,21 @@ import shutil
 import signal
 import subprocess
 import sys
-import tempfile
 from collections import namedtuple
 from concurrent.futures import ThreadPoolExecutor, as_completed
-from pathlib import Path
 
 import edit_files
+import planting
+from planting import AT_LIMIT, BY_LEMMA, CRATES, PROVED, REFUSED, WAITING
 
-CRATES = Path(__file__).resolve().parent.parent / "crates"
-MEMORY = 2_500_000_000  # what a check may take, in bytes
-
-# A check prints what is wrong in proof files, and then of each item its open goals and a line.
-FAULT = re.compile(r"^\./(proofs(?:/\S+)?)/\w+\.antt:\d+:\d+: error: (.*(?:\n  .*)*)", re.MULTILINE)
-GOAL = re.compile(r"note: src/\S+: (?:it is not proved|`search` found no proof)")
-LINE = re.compile(r"(?:fn|impl|struct|enum|trait) (\S+): (.*)")
-WAITS = re.compile(
-    r"(?:no proof|not proved)(?:[:;] it (?:calls|passes the block|waits for) [^;]*)+"
-)
-LIMIT = re.compile(r"gave up at one of its limits|stopped at its own limit|ran out of")
-GONE = re.compile(r"has no field|is not in scope|has no `")
-DEPENDS = re.compile(r"was not admitted|that depends on")
-UNREAD = re.compile(r"^(?:\./)?(?:src|specs)/\S+:\d+:\d+: error: .*", re.MULTILINE)
 # An item of a source begins; a constant or a table of a module has its name here.
 HEAD = re.compile(
     r"^(?:(?:pub(?:\(crate\))? )?(?:const|static) (\w+):| *[\w\"() ]*\b(?:fn|const) \w+)",
     re.MULTILINE,
 )
 
-# What it comes to for a function.
-PROVED, REFUSED = "it is proved", "it is refused"
-AT_LIMIT = "it is refused at a limit of the search"
-BY_LEMMA = "it is refused for a lemma"
-ONLY_GONE = "it is refused only because a proof names what is gone"
-WAITING = "it calls what is not proved"
-UNCLEAR = "it is not proved"
-
 # An edit or a twin: the part of its file's source that becomes another text.
 Plant = namedtuple("Plant", "edit label is_twin source begin end text")
-Verdict = namedtuple("Verdict", "kind words")
 Judgement = namedtuple("Judgement", "faults at_limit again functions")
 
 
@@ -106,93 +83,21 @@ def rounds_of(plants):
     return rounds
 
 
-def lay_out(crate, room, plants):
-    """Copies the crate into the room, with these plants in it."""
-    for part in ("src", "specs", "proofs"):
-        shutil.rmtree(room / part, ignore_errors=True)
-        if (crate / part).is_dir():
-            shutil.copytree(crate / part, room / part)
-    for plant in sorted(plants, key=lambda it: it.begin, reverse=True):
-        file = room / plant.edit.file
-        text = file.read_text(encoding="utf-8")
-        file.write_text(text[: plant.begin] + plant.text + text[plant.end :], encoding="utf-8")
-
-
-def listed(name):
-    """The libraries of a crate, and whether it is a static library, by crates.txt."""
-    for line in (CRATES.parent / "crates.txt").read_text(encoding="utf-8").split("\n"):
-        head, _, libraries = line.partition(":")
-        if head.split()[:1] == [name]:
-            return libraries.split(), head.endswith(" staticlib")
-    raise ValueError(f"crates.txt has no {name}")
-
-
-def check(name, room, group):
-    """Checks the crate that lies in the room."""
-    kit = Path(shutil.which("rt")).resolve().parent.parent
-    libraries, is_static = listed(name)
-    root = "src/main.rt" if (room / "src/main.rt").exists() else "src/lib.rt"
-    words = [f"{kit}/bin/rattle", "check", "--crate-name", name, root, "--jobs", "1"]
-    words += ["--antt-project", f"{kit}/rattle/logic/antt-project.json"]
-    words += ["--logic-built", f"{kit}/logic_built", "--links", f"{name}=", "--incremental", "kept"]
-    words += ["--extern", f"std={kit}/rlibs/std.rlib", "-L", f"dependency={kit}/rlibs"]
-    for it in libraries:
-        words += ["--extern", f"{it}={CRATES}/{it}/out/rlib/{it}.rlib"]
-    for it in CRATES.glob("*/out/rlib"):
-        words += ["-L", f"dependency={it}"]
-    words += ["--crate-type", "staticlib"] if is_static else []
-    how = {"stdout": subprocess.PIPE, "stderr": subprocess.STDOUT, "errors": "replace"}
-    return subprocess.run(words, cwd=room, check=False, process_group=group, **how)
-
-
-def kind_of(words, goals, faults, lemmas):
-    """What a check says of a function: by the words of its line, the goals of it that are open,
-    what is wrong in its own proof, and in lemmas."""
-    if words == "proved":
-        return PROVED
-    own = [it for it in faults if not GONE.search(it) and not DEPENDS.search(it)]
-    if not own and any(GONE.search(it) for it in faults):
-        return ONLY_GONE
-    if own + goals:
-        return AT_LIMIT if all(LIMIT.search(it) for it in own + goals) else REFUSED
-    if faults:
-        return BY_LEMMA if lemmas and not any(GONE.search(it) for it in lemmas) else ONLY_GONE
-    if words.startswith("could not tell"):
-        return AT_LIMIT
-    return WAITING if WAITS.fullmatch(words) else UNCLEAR
-
-
-def verdicts_of(name, said):
-    """What a check says of each function of the crate, by its path."""
-    faults, found, goals = FAULT.findall(said), {}, []
-    lemmas = [it for place, it in faults if place == "proofs" and not DEPENDS.search(it)]
-    for line in said.split("\n"):
-        if GOAL.match(line):
-            goals.append(line)
-        elif head := LINE.match(line):
-            path, words = head[1].removeprefix(f"{name}::"), head[2]
-            own = [it for place, it in faults if place == f"proofs/{path}".replace("::", "/")]
-            kind = kind_of(words, goals, own, lemmas)
-            # A closure goes by its function.
-            path = re.sub(r"(^|::)fn::(\w+)::.*", r"\1\2", path)
-            if path not in found or found[path].kind in (PROVED, WAITING):
-                found[path] = Verdict(kind, "; ".join([words, *own, *goals])[:400])
-            goals = []
-    return found
-
-
 def judged(name, plants, ran):
     """What comes of a round: what is wrong, the edits that were refused at a limit, the twins that
     are to be planted again, since they call what was not proved, and the functions of the crate."""
-    found, unread = verdicts_of(name, ran.stdout), UNREAD.findall(ran.stdout)
-    if ran.returncode not in (0, 1, 3) or unread or not found:
-        errors = unread or re.findall(r".*\berror\b.*", ran.stdout) or ran.stdout.split("\n")
+    found = planting.verdicts_of(name, ran.said)
+    unread = [it[0] for it in planting.UNREAD.finditer(ran.said)]
+    if ran.status not in (0, 1, 3) or unread or not found:
+        errors = unread or re.findall(r".*\berror\b.*", ran.said) or ran.said.split("\n")
         labels = ", ".join(plant.label for plant in plants)
-        fault = f"no verdict on {labels} (status {ran.returncode}): {' / '.join(errors[:5])}"
+        fault = f"no verdict on {labels} (status {ran.status}): {' / '.join(errors[:5])}"
         return Judgement([fault], [], [], set())
     faults, at_limit, again, by_lemma = [], [], [], []
     for plant in plants:
-        verdicts = [found.get(it, Verdict("there is none", "")) for it in plant.edit.refused]
+        verdicts = [
+            found.get(it, planting.Verdict("there is none", "")) for it in plant.edit.refused
+        ]
         kinds = {it.kind for it in verdicts}
         if plant.is_twin and WAITING in kinds and not all(it.is_twin for it in plants):
             again.append(plant)
@@ -222,8 +127,9 @@ def try_crate(name, scratch, group):
         shutil.copytree(kept, room / "kept")
     (room / "kept").mkdir(parents=True, exist_ok=True)
     for plants in rounds:
-        lay_out(crate, room, plants)
-        judgements.append(judged(name, plants, check(name, room, group)))
+        places = [(it.edit.file, it.begin, it.end, it.text) for it in plants]
+        planting.lay_out(crate, room, places)
+        judgements.append(judged(name, plants, planting.check(name, room, group)))
         if judgements[-1].again:
             rounds.append(judgements[-1].again)
     shutil.rmtree(room)
@@ -238,13 +144,6 @@ def faults_of(name, judgements):
         if judgement.functions:
             faults = faults + [f"{it}: no line" for it in sorted(functions - judgement.functions)]
         yield from (f"{name}, round {number}: {it}" for it in faults)
-
-
-def at_once_by_default():
-    """As many crates as there are processors to use, and as memory holds."""
-    told = Path("/proc/meminfo").read_text(encoding="utf-8")
-    free = 1024 * int(re.search(r"MemAvailable: +(\d+)", told)[1])
-    return max(1, min(len(os.sched_getaffinity(0)), free // MEMORY))
 
 
 def try_crates(names, at_once, scratch, group):
@@ -270,29 +169,20 @@ def try_crates(names, at_once, scratch, group):
     return faults, "{} refused, {} of them at a limit; {} twins proved".format(*counts)
 
 
-def scratch_folder():
-    """A folder, and who removes it when this process ends, however it ends: the leader of a group
-    of processes, which ends the others first."""
-    scratch = tempfile.mkdtemp(prefix="wrong-bodies-")
-    # Its input ends with this process.
-    words = ["sh", "-c", 'trap "" TERM; cat; kill -TERM 0; rm -rf "$0"', scratch]
-    return Path(scratch), subprocess.Popen(words, stdin=subprocess.PIPE, process_group=0)
-
-
 def main():
     words = argparse.ArgumentParser(usage=__doc__.split("\n\n")[1].removeprefix("Usage: "))
     words.add_argument("--built", action="store_true")
-    words.add_argument("--at-once", type=int, default=at_once_by_default())
+    words.add_argument("--at-once", type=int, default=planting.at_once_by_default())
     words.add_argument("crates", nargs="*", metavar="CRATE")
     given = words.parse_args()
     names = given.crates or [it.name for it in edit_files.crates_with_edits(CRATES)]
     # The longest first.
     names.sort(key=lambda it: -len(edit_files.edits_of(CRATES / it)))
-    for name in dict.fromkeys(it for name in names for it in listed(name)[0]):
+    for name in dict.fromkeys(it for name in names for it in planting.listed(name)[0]):
         if not given.built:
             subprocess.run(["rt", "lib"], cwd=CRATES / name, check=True, stdout=sys.stderr)
     signal.signal(signal.SIGINT, signal.SIG_DFL)
-    scratch, watch = scratch_folder()
+    scratch, watch = planting.scratch_folder()
     faults, told = try_crates(names, given.at_once, scratch, watch.pid)
     watch.communicate()
     if faults:

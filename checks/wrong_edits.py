@@ -157,7 +157,7 @@ def main():
     with tempfile.TemporaryDirectory(prefix="wrong-edits-") as scratch:
         top = Path(scratch)
         (top / "checks").mkdir()
-        for script in ("edit_files.py", "wrong_bodies.py"):
+        for script in ("edit_files.py", "planting.py", "wrong_bodies.py"):
             shutil.copy(CHECKS / script, top / "checks")
         (top / "crates.txt").write_text("digits:\n", encoding="utf-8")
         lay_out(top, FILES)

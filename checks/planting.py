@@ -1,0 +1,133 @@
+"""Wrong bodies in a copy of a crate: laid out, checked, and what a check says of each function."""
+import os
+import re
+import shutil
+import subprocess
+import sys
+import tempfile
+from collections import namedtuple
+from pathlib import Path
+
+CRATES = Path(__file__).resolve().parent.parent / "crates"
+MEMORY = 2_500_000_000  # what a check may take, in bytes
+
+# A check prints what is wrong in proof files, and then of each item its open goals and a line.
+FAULT = re.compile(r"^\./(proofs(?:/\S+)?)/\w+\.antt:\d+:\d+: error: (.*(?:\n  .*)*)", re.MULTILINE)
+GOAL = re.compile(r"note: src/\S+: (?:it is not proved|`search` found no proof)")
+LINE = re.compile(r"(?:fn|impl|struct|enum|trait) (\S+): (.*)")
+WAITS = re.compile(
+    r"(?:no proof|not proved)(?:[:;] it (?:calls|passes the block|waits for) [^;]*)+"
+)
+LIMIT = re.compile(r"gave up at one of its limits|stopped at its own limit|ran out of")
+GONE = re.compile(r"has no field|is not in scope|has no `")
+DEPENDS = re.compile(r"was not admitted|that depends on")
+UNREAD = re.compile(r"^(?:\./)?((?:src|specs)/\S+?):(\d+):\d+: error\b.*", re.MULTILINE)
+# What it comes to for a function.
+PROVED, REFUSED = "it is proved", "it is refused"
+AT_LIMIT = "it is refused at a limit of the search"
+BY_LEMMA = "it is refused for a lemma"
+ONLY_GONE = "it is refused only because a proof names what is gone"
+WAITING = "it calls what is not proved"
+UNCLEAR = "it is not proved"
+
+Verdict = namedtuple("Verdict", "kind words")
+# What a check came to: its status, what it said, and the processor time that it took.
+Ran = namedtuple("Ran", "status said seconds")
+
+
+def lay_out(crate, room, plants):
+    """Copies the crate into the room, with these plants in it: each a file, the place in it that
+    becomes another text, and that text."""
+    for part in ("src", "specs", "proofs"):
+        shutil.rmtree(room / part, ignore_errors=True)
+        if (crate / part).is_dir():
+            shutil.copytree(crate / part, room / part)
+    for name, begin, end, new in sorted(plants, reverse=True):
+        file = room / name
+        text = file.read_text(encoding="utf-8")
+        file.write_text(text[:begin] + new + text[end:], encoding="utf-8")
+
+
+def listed(name):
+    """The libraries of a crate, and whether it is a static library, by crates.txt."""
+    for line in (CRATES.parent / "crates.txt").read_text(encoding="utf-8").split("\n"):
+        head, _, libraries = line.partition(":")
+        if head.split()[:1] == [name]:
+            return libraries.split(), head.endswith(" staticlib")
+    raise ValueError(f"crates.txt has no {name}")
+
+
+def check(name, room, group, *more, most=None):
+    """Checks the crate that lies in the room, in so many seconds of processor time at most."""
+    kit = Path(shutil.which("rt")).resolve().parent.parent
+    libraries, is_static = listed(name)
+    root = "src/main.rt" if (room / "src/main.rt").exists() else "src/lib.rt"
+    words = [f"{kit}/bin/rattle", "check", "--crate-name", name, root, "--jobs", "1"]
+    words += ["--antt-project", f"{kit}/rattle/logic/antt-project.json"]
+    words += ["--logic-built", f"{kit}/logic_built", "--links", f"{name}=", "--incremental", "kept"]
+    words += ["--extern", f"std={kit}/rlibs/std.rlib", "-L", f"dependency={kit}/rlibs"]
+    for it in libraries:
+        words += ["--extern", f"{it}={CRATES}/{it}/out/rlib/{it}.rlib"]
+    for it in CRATES.glob("*/out/rlib"):
+        words += ["-L", f"dependency={it}"]
+    words += ["--crate-type", "staticlib"] if is_static else []
+    words += more
+    if most:
+        words = ["prlimit", f"--cpu={most}", *words]
+    with open(room / "said", "wb") as to:
+        how = {"stdout": to, "stderr": subprocess.STDOUT, "process_group": group}
+        _, status, used = os.wait4(subprocess.Popen(words, cwd=room, **how).pid, 0)
+    said = (room / "said").read_text(encoding="utf-8", errors="replace")
+    return Ran(os.waitstatus_to_exitcode(status), said, used.ru_utime + used.ru_stime)
+
+
+def kind_of(words, goals, faults, lemmas):
+    """What a check says of a function: by the words of its line, the goals of it that are open,
+    what is wrong in its own proof, and in lemmas."""
+    if words == "proved":
+        return PROVED
+    own = [it for it in faults if not GONE.search(it) and not DEPENDS.search(it)]
+    if not own and any(GONE.search(it) for it in faults):
+        return ONLY_GONE
+    if own + goals:
+        return AT_LIMIT if all(LIMIT.search(it) for it in own + goals) else REFUSED
+    if faults:
+        return BY_LEMMA if lemmas and not any(GONE.search(it) for it in lemmas) else ONLY_GONE
+    if words.startswith("could not tell"):
+        return AT_LIMIT
+    return WAITING if WAITS.fullmatch(words) else UNCLEAR
+
+
+def verdicts_of(name, said):
+    """What a check says of each function of the crate, by its path."""
+    faults, found, goals = FAULT.findall(said), {}, []
+    lemmas = [it for place, it in faults if place == "proofs" and not DEPENDS.search(it)]
+    for line in said.split("\n"):
+        if GOAL.match(line):
+            goals.append(line)
+        elif head := LINE.match(line):
+            path, words = head[1].removeprefix(f"{name}::"), head[2]
+            own = [it for place, it in faults if place == f"proofs/{path}".replace("::", "/")]
+            kind = kind_of(words, goals, own, lemmas)
+            # A closure goes by its function.
+            path = re.sub(r"(^|::)fn::(\w+)::.*", r"\1\2", path)
+            if path not in found or found[path].kind in (PROVED, WAITING):
+                found[path] = Verdict(kind, "; ".join([words, *own, *goals])[:400])
+            goals = []
+    return found
+
+
+def at_once_by_default():
+    """As many crates as there are processors to use, and as memory holds."""
+    told = Path("/proc/meminfo").read_text(encoding="utf-8")
+    free = 1024 * int(re.search(r"MemAvailable: +(\d+)", told)[1])
+    return max(1, min(len(os.sched_getaffinity(0)), free // MEMORY))
+
+
+def scratch_folder():
+    """A folder, and who removes it when this process ends, however it ends: the leader of a group
+    of processes, which ends the others first."""
+    scratch = tempfile.mkdtemp(prefix="planting-")
+    # Its input ends with this process.
+    words = ["sh", "-c", 'trap "" TERM; cat; kill -TERM 0; rm -rf "$0"', scratch]
+    return Path(scratch), subprocess.Popen(words, stdin=subprocess.PIPE, process_group=0)
