@@ -114,7 +114,7 @@ run_tests "${at_once[@]}" -m 'not built and not packages'
 
 # What a clone has, by itself and with no `rt` on the path.
 mkdir "$scratch/clone"
-tar -c README.md bindings checks dist docs test.py tests | tar -x -C "$scratch/clone"
+tar -c README.md README.zh.md bindings checks dist docs test.py tests | tar -x -C "$scratch/clone"
 without_rt=$(tr : '\n' <<< "$PATH" | grep -vxF "$(dirname "$(command -v rt)")" | paste -sd :)
 time PATH=$without_rt python3 "$scratch/clone/test.py"
 
