@@ -8,6 +8,7 @@ own, one is turned for each kind of value, drawn by the table's name.
 import random
 import re
 from collections import namedtuple
+from os.path import commonprefix
 from pathlib import Path
 
 from planting import CRATES
@@ -285,8 +286,9 @@ def named(item, body, begin, end, new):
     """The name of a mutant: the path of what it turns, and the line that it makes or lacks."""
     if body[begin:end].endswith("\n"):
         return f"{item.path}: without {' '.join(body[begin:end].split())}"
-    made = body[body.rfind("\n", 0, begin) + 1 : begin] + new + (body[end:] + "\n").split("\n")[0]
-    return f"{item.path}: {' '.join(made.split())}"
+    made, at = body[:begin] + new + body[end:], begin + len(commonprefix([body[begin:end], new]))
+    line = made[made.rfind("\n", 0, at) + 1 :].partition("\n")[0]
+    return f"{item.path}: {' '.join(line.split())}"
 
 
 def citing(item, items):
