@@ -122,11 +122,11 @@ class Program:
         """Its status, and what it writes to its output and to standard error."""
         limit = (megabytes << 20 if megabytes else resource.RLIM_INFINITY,) * 2
         more.setdefault("stdout", subprocess.PIPE)
+        more.setdefault("stderr", subprocess.PIPE)
         if "stdin" not in more:
             more["input"] = data
         ended = subprocess.run(
             [self.path, *words],
-            stderr=subprocess.PIPE,
             timeout=60,
             preexec_fn=lambda: resource.setrlimit(resource.RLIMIT_AS, limit),
             **more,

@@ -104,6 +104,8 @@ def test_many_lines(numbers):
 def test_full_disk(numbers):
     for words, data in (([], SAMPLE), ([], MANY), (["--help"], b"")):
         assert numbers.onto_a_full_disk(*words, data=data)[0] == 1
+    with open("/dev/full", "wb") as full:
+        assert numbers(*UNKNOWN[0], stderr=full)[0] == 1
 
 
 def test_no_input(numbers):
