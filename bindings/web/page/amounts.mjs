@@ -32,7 +32,8 @@ const IN_FIGURES = {
   answer: (fen) => ({ rows: inEachScript((script) => capitalsOf(fen, script)), said: note(fen) }),
   reasons,
   characters: { digits: '0123456789', others: '.,' },
-  why: (text, { start }) => (/\.\d\d0*$/.test(text.slice(0, start)) ? words('toFen') : ''),
+  why: (text, { start }) => (/\.\d\d0*$/.test(text.slice(0, start))
+    ? words(/\d/.test(text[start]) ? 'toFen' : 'ended') : ''),
 };
 
 const CHARACTERS = {

@@ -23,16 +23,18 @@ export const canEnd = (read, text, ends) =>
 /** The characters that may follow a text, as words. Three digits and more in order are a range. */
 function whatMayFollow(read, front, { digits, others }) {
   const may = (character) => isBegun(read, front + character);
-  const numbers = Array.from(digits).filter(may), names = { '.': 'point', ',': 'comma' };
+  const names = { '.': 'point', ',': 'comma', 人: 'renminbi' };
+  const numbers = Array.from(digits).filter(may);
   const named = Array.from(others).filter(may).map((it) => (names[it] ? words(names[it]) : it));
   const isRange = numbers.length > 2 && digits.includes(numbers.join(''));
   return either([...named, ...(isRange ? [`${numbers[0]}–${numbers.at(-1)}`] : numbers)]);
 }
 
-/** Which of 零 and 壹 leads a text past its fault, and in front of which character. */
+/** Which of 零 and, before 拾, 佰 or 仟, 壹 leads a text past its fault, and in front of what. */
 function whatIsMissing(read, text, { start, end }) {
   for (const missing of '零壹') {
     for (let at = start; at >= Math.max(start - 2, 0); at--) {
+      if (missing === '壹' && !/[拾佰仟]/.test(text[at])) continue;
       const withIt = text.slice(0, at) + missing + text.slice(at, end);
       if (isBegun(read, withIt)) return { missing, before: text[at] };
     }

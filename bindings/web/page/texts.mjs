@@ -99,6 +99,7 @@ export const TEXTS = {
   ended: ['前面已经写完。', '前面已經寫完。', 'What stands in front is complete.'],
   point: ['小数点', '小數點', 'a point'],
   comma: ['逗号', '逗號', 'a comma'],
+  renminbi: ['人民币', '人民幣', '人民币'],
   toFen: [
     '最多写到分（两位小数）。',
     '最多寫到分（兩位小數）。',
@@ -124,7 +125,11 @@ export const TEXTS = {
   tooLarge: ['数字太大。', '數字太大。', 'The number is too large.'],
   tooSmall: ['数字太小。', '數字太小。', 'The number is too small.'],
   notHeld: ['{kind} 放不下这个数字。', '{kind} 放不下這個數字。', '{kind} does not hold this number.'],
-  notWhole: ['这样只能写整数。', '這樣只能寫整數。', 'So only whole numbers are written.'],
+  notWhole: [
+    '这样只能写整数。',
+    '這樣只能寫整數。',
+    'With this choice only whole numbers are written.',
+  ],
   outOfMemory: ['文本太长，内存不够。', '文字太長，記憶體不足。', 'The text is too long for the memory.'],
   failed: ['程序出错：{message}', '程式出錯：{message}', 'The library failed: {message}'],
 
