@@ -1,4 +1,4 @@
-//! Tests alone, by the public calls and one of the quick way: each call by its name, long texts, and
+//! Tests alone, by the public calls and one of the shortcut: each call by its name, long texts, and
 //! callers who print and read back. Worked examples and the upstream crate's vectors are `tests/rows`.
 #![tactic(auto)]
 

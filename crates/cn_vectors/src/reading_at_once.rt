@@ -1,4 +1,4 @@
-// That printed texts are read at once: the contract of the quick way lets it leave any text to the
+// That printed texts are read at once: the contract of the shortcut lets it leave any text to the
 // walk.
 use chinese_number::ChineseCase::{Lower, Upper};
 use chinese_number::ChineseVariant::{Simple, Traditional};
