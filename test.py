@@ -3,7 +3,8 @@
 
 Usage: python3 test.py
 
-It takes half a minute, and needs Python from 3.8 on and a C compiler; CC and CXX may name others.
+It takes some 40 seconds on four cores, and needs Python from 3.8 on and a C compiler; CC and CXX
+may name others.
 
 - The C source in dist/ is compiled. What it answers to 126,507 numbers, quantities, amounts, dates
   and texts has to have the sum that the answers of the proved archive have, by dist/PROVENANCE.json.
