@@ -72,8 +72,8 @@ pub fn chinese_to_signed_amount(text: &str) -> Result<i64, ChineseToAmountError>
 /// chinese_to_amount_as_typed("⊗ 拾伍元整") == Err(ChineseToAmountError::Incorrect { char_index: 2 })
 /// ```
 ///
-/// `Unfinished` exactly where something behind the text can make it an amount; else `Incorrect` at
-/// the first character of the text, as it is typed, with which none begins.
+/// `Unfinished` exactly where the text is no amount, and something behind it can make it one; else
+/// `Incorrect` at the first character of the text, as it is typed, with which none begins.
 pub fn chinese_to_amount_as_typed(text: &str) -> Result<u64, ChineseToAmountError>
     ensures { ReadsTypedAmount text.now (answer_of result) }
 {

@@ -8,8 +8,8 @@ use cn_core::split_first_char;
 
 /// The value for which a text stands: `Ok` exactly where the text is a form. It takes no memory.
 ///
-/// `Unfinished` exactly where something behind the text can make it a form; else `Incorrect` at the
-/// first character with which no form begins.
+/// `Unfinished` exactly where the text is no form, and something behind it can make it one; else
+/// `Incorrect` at the first character with which no form begins.
 pub fn read<G: Grammar>(text: &str) -> Result<G::Value, Refusal>
     requires { Reads G.is_form G.machine }
     ensures { Answers G.is_form (chars text.now) result }

@@ -15,9 +15,9 @@ use cn_capitals::{Refusal, read};
 /// chinese_to_date("贰零贰伍年零贰月贰拾玖日") == Err(ChineseToDateError::Incorrect { char_index: 10 })
 /// ```
 ///
-/// `Unfinished` exactly where something behind the text can make it a date; else `Incorrect` at the
-/// first character with which no date begins. White space is refused at its place, since nothing may
-/// be put in there.
+/// `Unfinished` exactly where the text is no date, and something behind it can make it one; else
+/// `Incorrect` at the first character with which no date begins. White space is refused at its place,
+/// since nothing may be put in there.
 pub fn chinese_to_date(text: &str) -> Result<BillDate, ChineseToDateError>
     ensures { ReadsDate text.now (answer_of result) }
 {
