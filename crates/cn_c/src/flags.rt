@@ -5,6 +5,7 @@ ghost use Rattle.cn_c.specs.Finds.{flag_if, flags_told};
 ghost use Rattle.cn_c.specs.Replaces.{included_of};
 
 use chinese_number::Found;
+use cn_find::told_of;
 use cn_replace::Included;
 
 /// Each of its characters is a digit.
@@ -30,10 +31,11 @@ fn flag_if(told: bool, flag: u32) -> u32
 pub fn flags_of(found: Found<'_>) -> u32
     ensures { result ≡ flags_told (span_of found.entry) }
 {
-    flag_if(found.is_plain(), PLAIN_DIGITS)
-        + flag_if(found.stands_alone(), STANDS_ALONE)
-        + flag_if(found.is_about(), ABOUT)
-        + flag_if(found.is_one_character(), ONE_CHARACTER)
+    let told = told_of(found.before, found.text, found.after);
+    flag_if(told.is_plain, PLAIN_DIGITS)
+        + flag_if(told.stands_alone, STANDS_ALONE)
+        + flag_if(told.is_about, ABOUT)
+        + flag_if(told.is_one_character, ONE_CHARACTER)
 }
 
 const BOTH: u32 = ABOUT + ONE_CHARACTER;

@@ -1,13 +1,13 @@
 // What is told of a number by what stands around it, and by its own characters. Whoever finds other
 // numbers than those of this crate tells the same of them.
-ghost use Rattle.std.specs.Prelude.{◌≡◌, ◌∷◌, [], reverse, codes, chars, is_some, MatchOption};
+ghost use Rattle.std.specs.Prelude.{◌≡◌, ℕ, ◌<◌, ◌&&◌, ◌||◌, List, ◌∷◌, [], length, reverse, codes, chars, is_some, MatchOption, IfSome, IfNone};
 ghost use Rattle.cn_core.specs.Characters.{digit_of, rank_of};
 ghost use Rattle.cn_find.specs.Belongs.{begins_with};
+ghost use Rattle.cn_find.specs.Number.{is_plain};
 ghost use Rattle.cn_find.specs.Flags.{are_near, begins_linked, begins_with_unit, clings, goes_on, is_about, is_estimate, is_link, is_one_character, is_one_estimate, is_wide_digit, pairs, stands_alone};
 
-use crate::belongs::is_chinese_digit;
 use cn_core::{digit_of, split_first_char, unit_of};
-use cn_judge::{Mark, mark_of, split_last_char};
+use cn_judge::{Mark, mark_of, split_first_known, split_last_char};
 
 /// Whether a character is a full-width digit.
 pub fn is_wide_digit(c: char) -> bool
@@ -30,6 +30,7 @@ fn is_unit(c: char) -> bool
 }
 
 // Whether a number that touches the character goes on with it.
+#[inline(always)]
 #[tactic(auto, unfolding(crate::specs::Flags::clings))]
 fn clings(c: char) -> bool
     ensures { result ≡ clings c }
@@ -40,6 +41,7 @@ fn clings(c: char) -> bool
         || matches!(c, '_' | '廿' | '卅' | '卌' | '幺')
 }
 
+#[inline(always)]
 #[tactic(auto, unfolding(crate::specs::Flags::is_link))]
 fn is_link(c: char) -> bool
     ensures { result ≡ is_link c }
@@ -54,42 +56,71 @@ fn is_linked(c: char) -> bool
     clings(c) || is_unit(c)
 }
 
-// Whether a number that begins behind this text goes on in it.
+// What the text on one side of a number tells of it.
+#[derive(Copy, Clone)]
+struct Side {
+    // Whether the number goes on in it.
+    goes_on: bool,
+    // Whether the number is about so much by it.
+    estimates: bool,
+}
+
+// Nothing stands there.
+const NOTHING: Side = Side {
+    goes_on: false,
+    estimates: false,
+};
+
+// Whether a link behind this text leads into it.
 #[tactic(auto, using(crate::proofs::Nearest::reverse_last))]
-fn goes_on_before(before: &str) -> bool
-    ensures { result ≡ goes_on (reverse (chars before.now)) }
+fn ends_linked(before: &str) -> bool
+    ensures { result ≡ begins_linked (reverse (chars before.now)) }
 {
-    let Some((near, others)) = split_last_char(before) else {
-        return false;
-    };
-    if clings(near) {
-        return true;
-    }
-    if !is_link(near) {
-        return false;
-    }
-    match split_last_char(others) {
+    match split_last_char(before) {
         Some((far, _)) => is_linked(far),
         None => false,
     }
 }
 
-// Whether a number that ends in front of this text goes on in it.
-fn goes_on_after(after: &str) -> bool
-    ensures { result ≡ goes_on (chars after.now) }
+// Whether a link in front of this text leads into it.
+fn begins_linked(after: &str) -> bool
+    ensures { result ≡ begins_linked (chars after.now) }
 {
-    let Some((near, others)) = split_first_char(after) else {
-        return false;
-    };
-    if clings(near) {
-        return true;
-    }
-    if !is_link(near) {
-        return false;
-    }
-    match split_first_char(others) {
+    match split_first_char(after) {
         Some((far, _)) => is_linked(far),
         None => false,
+    }
+}
+
+// What the text in front of a number tells: about so much by a last 几 or 数, in front of a unit.
+#[inline(always)]
+#[tactic(auto, using(crate::proofs::Nearest::reverse_last))]
+fn look_before(before: &str) -> Side
+    ensures goes_on { result.goes_on ≡ goes_on (reverse (chars before.now)) }
+    ensures estimates { result.estimates
+        ≡ begins_with (codes "几幾数數") (reverse (chars before.now)) }
+{
+    let Some((near, others)) = split_last_char(before) else {
+        return NOTHING;
+    };
+    Side {
+        goes_on: clings(near) || (is_link(near) && ends_linked(others)),
+        estimates: matches!(near, '几' | '幾' | '数' | '數'),
+    }
+}
+
+// What the text behind a number tells: about so much by a first 几, 多 or another such character.
+#[inline(always)]
+fn look_after(after: &str) -> Side
+    ensures goes_on { result.goes_on ≡ goes_on (chars after.now) }
+    ensures estimates { result.estimates ≡ begins_with (codes "几幾多余餘来來") (chars after.now) }
+{
+    let Some((near, others)) = split_first_char(after) else {
+        return NOTHING;
+    };
+    Side {
+        goes_on: clings(near) || (is_link(near) && begins_linked(others)),
+        estimates: matches!(near, '几' | '幾' | '多' | '余' | '餘' | '来' | '來'),
     }
 }
 
@@ -104,7 +135,7 @@ fn goes_on_after(after: &str) -> bool
 pub fn stands_alone(before: &str, after: &str) -> bool
     ensures { result ≡ stands_alone (chars before.now) (chars after.now) }
 {
-    !goes_on_before(before) && !goes_on_after(after)
+    !look_before(before).goes_on && !look_after(after).goes_on
 }
 
 // Whether the text begins with a unit.
@@ -117,25 +148,46 @@ fn begins_with_unit(text: &str) -> bool
     }
 }
 
-// Whether 几 or 数 is the last character.
-#[tactic(auto, using(crate::proofs::Nearest::reverse_last))]
-fn ends_with_some(before: &str) -> bool
-    ensures { result ≡ begins_with (codes "几幾数數") (reverse (chars before.now)) }
+// Whether the first character is a digit, and what stands after it. Most are in the table of marks,
+// and are not decoded: so a search with flags takes 7 % fewer instructions.
+#[inline(always)]
+fn split_first_is_digit(text: &str) -> Option<(bool, &str)>
+    ensures parts { MatchOption result (chars text.now ≡ [])
+        (λ r. (c : ℕ) × (chars text.now ≡ c ∷ chars r.1.now) × (r.0 ≡ is_some (digit_of c))) }
+    ensures shorter { IfSome result (λ r. length r.1.now < length text.now) }
 {
-    match split_last_char(before) {
-        Some((c, _)) => matches!(c, '几' | '幾' | '数' | '數'),
-        None => false,
+    if let Some((mark, after)) = split_first_known(text) {
+        return Some((matches!(mark, Mark::Digit(_)), after));
+    }
+    match split_first_char(text) {
+        Some((c, after)) => Some((is_digit(c), after)),
+        None => None,
     }
 }
 
-// Whether 几, 多 or another such character is the first one.
-fn begins_with_more(after: &str) -> bool
-    ensures { result ≡ begins_with (codes "几幾多余餘来來") (chars after.now) }
+/// Whether each character is a digit.
+pub fn is_plain(text: &str) -> bool
+    ensures { result ≡ is_plain (chars text.now) }
 {
-    match split_first_char(after) {
-        Some((c, _)) => matches!(c, '几' | '幾' | '多' | '余' | '餘' | '来' | '來'),
-        None => false,
+    let mut rest = text;
+    'looking: while let Some((digit, others)) = split_first_is_digit(rest) {
+        if !digit {
+            return false;
+        }
+        rest = others;
     }
+    true
+}
+
+// The first two characters, and the text from the second of them on.
+fn first_two(text: &str) -> Option<(char, char, &str)>
+    ensures two { IfSome result (λ r. (others : List ℕ)
+        × (chars text.now ≡ r.0 ∷ r.1 ∷ others) × (chars r.2.now ≡ r.1 ∷ others)) }
+    ensures none { IfNone result (length (chars text.now) < 2) }
+{
+    let (first, others) = split_first_char(text)?;
+    let (second, _) = split_first_char(others)?;
+    Some((first, second, others))
 }
 
 // The first two digits that stand side by side, and the text from the second of them on.
@@ -145,15 +197,18 @@ fn first_pair(text: &str) -> Option<(char, char, &str)>
         ≡ record { first = r.0; second = r.1 } ∷ pairs (chars r.2.now)) }
 {
     let mut rest = text;
-    'looking: while let Some((c, others)) = split_first_char(rest) {
-        if is_digit(c) {
-            if let Some((next, _)) = split_first_char(others) {
-                if is_digit(next) {
-                    return Some((c, next, others));
+    'looking: while let Some((digit, others)) = split_first_is_digit(rest) {
+        let start = rest;
+        rest = others;
+        if digit {
+            if let Some((next_digit, behind)) = split_first_is_digit(others) {
+                if next_digit {
+                    return first_two(start);
                 }
+                // It begins no pair either.
+                rest = behind;
             }
         }
-        rest = others;
     }
     None
 }
@@ -173,8 +228,8 @@ fn are_near(value: Option<u8>, next: Option<u8>) -> bool
 fn is_estimate(first: char, second: char) -> bool
     ensures { result ≡ is_estimate (record { first = first; second = second }) }
 {
-    is_chinese_digit(first)
-        && is_chinese_digit(second)
+    !first.is_ascii_digit()
+        && !second.is_ascii_digit()
         && are_near(digit_of(first), digit_of(second))
 }
 
@@ -186,6 +241,14 @@ fn has_one_estimate(text: &str) -> bool
         Some((first, second, rest)) => { is_estimate(first, second) && first_pair(rest).is_none() }
         None => false,
     }
+}
+
+// Whether a number is about so much, by what its sides tell and by itself.
+fn estimates(front: Side, text: &str, behind: Side) -> bool
+    ensures { result ≡ ((front.estimates && begins_with_unit (chars text.now)) || behind.estimates
+        || is_one_estimate (pairs (chars text.now))) }
+{
+    (front.estimates && begins_with_unit(text)) || behind.estimates || has_one_estimate(text)
 }
 
 /// Whether a number between these texts is about so much: 几 or 数 directly in front of its unit, as in
@@ -200,9 +263,7 @@ fn has_one_estimate(text: &str) -> bool
 pub fn is_about(before: &str, text: &str, after: &str) -> bool
     ensures { result ≡ is_about (chars before.now) (chars text.now) (chars after.now) }
 {
-    (ends_with_some(before) && begins_with_unit(text))
-        || begins_with_more(after)
-        || has_one_estimate(text)
+    estimates(look_before(before), text, look_after(after))
 }
 
 /// Whether a number is one Chinese character, as the 一 of 一般, the 十 of 十分 and the 零 of 零下 are: no
@@ -220,4 +281,40 @@ pub fn is_one_character(text: &str) -> bool
         return false;
     };
     split_first_char(others).is_none() && !c.is_ascii_digit() && !is_wide_digit(c)
+}
+
+/// All that is told of a number.
+#[derive(Debug, Copy, Clone)]
+pub struct Told {
+    /// Whether it is plain digits.
+    pub is_plain: bool,
+    /// Whether nothing around it goes on with it.
+    pub stands_alone: bool,
+    /// Whether it is about so much.
+    pub is_about: bool,
+    /// Whether it is one Chinese character.
+    pub is_one_character: bool,
+}
+
+/// All that is told of a number between these texts. Each neighbour is looked at once: so a search
+/// takes 5 to 7 % fewer instructions than by a call for each flag.
+///
+/// ```text
+/// told_of("几", "十", "人").is_about == true
+/// ```
+pub fn told_of(before: &str, text: &str, after: &str) -> Told
+    ensures plain { result.is_plain ≡ is_plain (chars text.now) }
+    ensures alone { result.stands_alone ≡ stands_alone (chars before.now) (chars after.now) }
+    ensures about { result.is_about
+        ≡ is_about (chars before.now) (chars text.now) (chars after.now) }
+    ensures one { result.is_one_character ≡ is_one_character (chars text.now) }
+{
+    let front = look_before(before);
+    let behind = look_after(after);
+    Told {
+        is_plain: is_plain(text),
+        stands_alone: !front.goes_on && !behind.goes_on,
+        is_about: estimates(front, text, behind),
+        is_one_character: is_one_character(text),
+    }
 }

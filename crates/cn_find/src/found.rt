@@ -4,8 +4,8 @@ ghost use Rattle.cn_find.specs.Flags.{is_about, is_one_character, stands_alone};
 ghost use Rattle.cn_find.specs.Number.{IsAnswer, is_plain};
 ghost use Rattle.cn_quantity.specs.Reading.{quantity_answer};
 
-use crate::flags::{is_about, is_one_character, stands_alone};
-use cn_core::{ChineseCountMethod, Whole, digit_of};
+use crate::flags::{is_about, is_one_character, is_plain, stands_alone};
+use cn_core::{ChineseCountMethod, Whole};
 use cn_judge::{ChineseToNumberError, read_naive};
 use cn_quantity::{Quantity, chinese_to_quantity};
 use cn_quick::read;
@@ -21,13 +21,6 @@ pub struct Found<'a> {
     pub after: &'a str,
     // So that its end is a position.
     pub ghost fits: { length before.now + length text.now < 2 ^ 64 },
-}
-
-/// Whether each character is a digit.
-fn is_plain(text: &str) -> bool
-    ensures { result ≡ is_plain (chars text.now) }
-{
-    text.chars().all(|c| digit_of(c).is_some())
 }
 
 impl Found<'_> {
