@@ -21,6 +21,21 @@ pub enum IntegerType {
     I128,
 }
 
+// The greatest magnitudes that the types hold above zero, and below, in their order. By a `match` a
+// number takes 4 instructions more to be read.
+static MOST: [(u128, u128); 10] = [
+    (u8::MAX as u128, 0),
+    (u16::MAX as u128, 0),
+    (u32::MAX as u128, 0),
+    (u64::MAX as u128, 0),
+    (u128::MAX, 0),
+    (i8::MAX as u128, i8::MAX as u128 + 1),
+    (i16::MAX as u128, i16::MAX as u128 + 1),
+    (i32::MAX as u128, i32::MAX as u128 + 1),
+    (i64::MAX as u128, i64::MAX as u128 + 1),
+    (i128::MAX as u128, i128::MAX as u128 + 1),
+];
+
 impl IntegerType {
     /// Whether the type is signed.
     pub fn is_signed(self) -> bool
@@ -40,23 +55,12 @@ impl IntegerType {
         }
     }
 
-    // The greatest magnitude that the type holds below zero, and above.
+    // The greatest magnitude that the type holds above zero, and below.
     fn most(self) -> (u128, u128)
-        ensures below { (the_kind self).least ≡ neg_ℤ (pos result.0) }
-        ensures above { (the_kind self).greatest ≡ pos result.1 }
+        ensures above { (the_kind self).greatest ≡ pos result.0 }
+        ensures below { (the_kind self).least ≡ neg_ℤ (pos result.1) }
     {
-        match self {
-            IntegerType::U8 => (0, u8::MAX as u128),
-            IntegerType::U16 => (0, u16::MAX as u128),
-            IntegerType::U32 => (0, u32::MAX as u128),
-            IntegerType::U64 => (0, u64::MAX as u128),
-            IntegerType::U128 => (0, u128::MAX),
-            IntegerType::I8 => (i8::MAX as u128 + 1, i8::MAX as u128),
-            IntegerType::I16 => (i16::MAX as u128 + 1, i16::MAX as u128),
-            IntegerType::I32 => (i32::MAX as u128 + 1, i32::MAX as u128),
-            IntegerType::I64 => (i64::MAX as u128 + 1, i64::MAX as u128),
-            IntegerType::I128 => (i128::MAX as u128 + 1, i128::MAX as u128),
-        }
+        MOST[self as usize]
     }
 
     /// Whether the type holds a number.
@@ -64,7 +68,7 @@ impl IntegerType {
         ensures number { result ≡ holds (the_kind self) (stands_for number) }
         ensures zero { IsTrue (holds (the_kind self) (pos 0)) }
     {
-        let (below, above) = self.most();
+        let (above, below) = self.most();
         let most = if number.negative { below } else { above };
         number.magnitude <= most
     }

@@ -1,6 +1,7 @@
 pub mod DigitRuns
 pub mod Endings
 pub mod Faults
+pub mod FirstBytes
 pub mod Judgements
 pub mod MarkTable
 pub mod OpenSums

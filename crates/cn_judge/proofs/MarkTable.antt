@@ -6,7 +6,7 @@ use Rattle.std.specs.List.{list_all}
 use Rattle.std.proofs.lemmas.Bool.Decides.{nat_tests}
 use Rattle.std.proofs.lemmas.Bool.{not-true}
 use Rattle.cn_core.specs.Characters.{digit_of, rank_of, digit_rows, unit_rows}
-use Rattle.cn_core.specs.Mark.{Mark, digit, unit, other, mark_of}
+use Rattle.cn_core.specs.Mark.{mark_of}
 use Rattle.cn_core.proofs.Fronts.{and-left, and-right}
 use Rattle.cn_core.proofs.Marks.{same_mark, same_mark-is}
 use Rattle.cn_judge.specs.declared.mark.Mark.{Mark as ReadMark}

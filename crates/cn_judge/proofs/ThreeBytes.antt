@@ -10,17 +10,17 @@ use lib.Utf8.{next, encode, encodes}
 use Rattle.cn_judge.proofs.Walking.{chars-back}
 
 -- a character's bytes, by which of the three bounds it is below
-abbrev bytes_by : Bool → Bool → Bool → ℕ → List ℕ
+abbrev pub bytes_by : Bool → Bool → Bool → ℕ → List ℕ
 bytes_by x y z c =
     cond x (c ∷ []) (cond y ((192 + c / 64) ∷ next c ∷ [])
     (cond z ((224 + c / 4096) ∷ next (c / 64) ∷ next c ∷ [])
     ((240 + c / 262144) ∷ next (c / 4096) ∷ next (c / 64) ∷ next c ∷ [])))
 
-encode-by : (c : ℕ) → encode c ≡ bytes_by (ltb c 128) (ltb c 2048) (ltb c 65536) c
+pub encode-by : (c : ℕ) → encode c ≡ bytes_by (ltb c 128) (ltb c 2048) (ltb c 65536) c
 unfolding encode
 encode-by c = refl
 
-below : (m n : ℕ) → ltb m n ≡ true → m < n
+pub below : (m n : ℕ) → ltb m n ≡ true → m < n
 below m n e = ltb→lt m n (subst T (sym e) tt)
 
 abbrev IsThree : ℕ → List ℕ → List ℕ → Type 0

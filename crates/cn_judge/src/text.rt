@@ -2,6 +2,7 @@
 // too: of characters of three bytes quickly, of any other as it comes.
 ghost use Rattle.std.specs.Prelude.{◌≡◌, ℕ, ◌+◌, ◌*◌, ◌<◌, ◌≤◌, [], ◌∷◌, ◌++◌, length, chars, false, IfSome, IfNone, MatchOption};
 ghost use Rattle.std.specs.Char.{is_whitespace};
+ghost use Rattle.std.specs.Str.{continuation_len};
 ghost use Rattle.cn_core.specs.Mark.{digit, mark_of};
 ghost use Rattle.cn_core.specs.Text.{text_of};
 ghost use Rattle.cn_judge.specs.Marked.{marked};
@@ -84,12 +85,45 @@ pub fn split_last(text: &str) -> Option<(char, &str)>
     None
 }
 
+// How many bytes a character has, by the first four of their bits.
+static CHAR_LENS: [usize; 16] = [1, 1, 1, 1, 1, 1, 1, 1, 2, 2, 2, 2, 2, 2, 3, 4];
+
+// How many bytes a character has, by the first of them. By a `match` each takes 7 instructions more
+// to be passed.
+#[inline(always)]
+fn char_len(first: u8) -> usize
+    ensures { result ≡ continuation_len first + 1 }
+{
+    CHAR_LENS[(first / 16) as usize]
+}
+
+/// What stands after the first character, which is not decoded.
+#[inline(always)]
+pub fn skip_first_char(text: &str) -> Option<&str>
+    ensures parts { MatchOption result (chars text.now ≡ [])
+        (λ after. (c : ℕ) × (chars text.now ≡ c ∷ chars after.now)) }
+    ensures shorter { IfSome result (λ after. length after.now < length text.now) }
+{
+    let bytes = text.as_bytes();
+    if bytes.is_empty() {
+        return None;
+    }
+    let (_, after) = text.split_at(char_len(bytes[0]));
+    Some(after)
+}
+
 /// How many characters a text has.
 pub fn count_chars(text: &str) -> usize
     ensures count { result ≡ length (chars text.now) }
     ensures within { result ≤ length text.now }
 {
-    text.chars().count()
+    let mut count = 0;
+    let mut rest = text;
+    'counting: while let Some(after) = skip_first_char(rest) {
+        count += 1;
+        rest = after;
+    }
+    count
 }
 
 /// The mark of the last character where the table of marks has it, and what stands before it. The

@@ -7,7 +7,7 @@ passing-init c = record { passed = Passed-none _; utf8 = search rules }
 
 pub passing-preserved : goal.passing-preserved
 passing-preserved c = record {
-  passed = Passed-more _ _ _ _ _ c.passing.invariant.passed c.in-Some.ensures.parts (search rules) (search rules);
+  passed = Passed-more _ _ _ _ _ c.passing.invariant.passed c.in-Some.ensures.parts.1 (search rules) (search rules);
   utf8 = search rules;
 }
 
