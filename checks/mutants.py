@@ -156,14 +156,15 @@ def linked(one, other):
     return os.link(one, other) if str(one).endswith(".oantt") else shutil.copy2(one, other)
 
 
-def line_of(plant, planted):
-    """The line of a planted file on which a mutant stands."""
+def distance(plant, planted, line):
+    """How far a line of a planted file is from a plant, and from where the mutant stands in it."""
     text = plant.item.text
-    line = text.count("\n", 0, plant.begin) + plant.new.count("\n", 0, plant.at) + 1
+    first = text.count("\n", 0, plant.begin) + 1
     for it in planted:
         if it.item.file == plant.item.file and (it.begin, it.new) < (plant.begin, plant.new):
-            line += it.new.count("\n") - text.count("\n", it.begin, it.end)
-    return line
+            first += it.new.count("\n") - text.count("\n", it.begin, it.end)
+    last, at = (first + plant.new.count("\n", 0, end) for end in (None, plant.at))
+    return max(first - line, line - last, 0), abs(at - line)
 
 
 def unread(planted, errors):
@@ -171,7 +172,7 @@ def unread(planted, errors):
     for file, line in errors:
         near = [it for it in planted if it.item.file == file]
         if near:
-            yield min(near, key=lambda it: abs(line_of(it, planted) - int(line)))
+            yield min(near, key=lambda it: distance(it, planted, int(line)))
 
 
 def judged(crate, planted, level, ran):
