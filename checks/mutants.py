@@ -3,9 +3,11 @@
 
 Usage: mutants.py [--built] [--at-once N] [--count] [--draw N] CRATE ..
 
-mutate.py says what a mutant is. They are planted in a copy, in rounds, at most one in each function,
-and one check judges a round, over what `rt check` left in the crate's folder; before the first,
-`rt lib` makes the libraries below, but with --built they are those that there are. What came of each
+mutate.py says what a mutant is. They are planted in a copy of the crate, in rounds, and one check
+judges a round, over what `rt check` left in the crate's folder; before the first, `rt lib` makes the
+libraries below, but with --built they are those that there are. Those of a function stand beside it in
+copies under other names, with one as it is, which has to be proved; where that cannot be, as in
+methods of traits, a round has at most one in each function, as it has of constants. What came of each
 is added to crates/NAME/out/mutants.tsv. There it holds while the text of its function and its
 contract stay, so a run goes on where one before it was stopped; to try all anew, remove the file.
 
@@ -24,7 +26,7 @@ import shutil
 import signal
 import subprocess
 import sys
-from collections import Counter
+from collections import Counter, namedtuple
 from concurrent.futures import ThreadPoolExecutor
 from threading import Lock
 
@@ -38,9 +40,40 @@ KINDS = [REFUSED, BY_LEMMA, AT_LIMIT, UNCLEAR, ONLY_GONE, WAITING, PROVED]
 # How a mutant is planted: with any others; with others that only call what was not proved, as it
 # does; or by itself, where it was not clear what it makes wrong.
 WITH_ANY, WITH_WAITING, ALONE = range(3)
-# The processor time that a check may take, and for each mutant that is planted, in seconds.
-SECONDS = 100, 40
+# The processor time that a check may take, and for each mutant that is planted, in seconds; and how
+# many are planted in copies.
+SECONDS, MOST = (120, 15), 32
 SEED = 47  # for what is drawn
+
+# A mutant, or none, as it is planted: the functions that it can make wrong, the part of its file that
+# becomes another text, and where in that it stands.
+Plant = namedtuple("Plant", "mutant item owners begin end new at")
+
+
+def in_place(mutant):
+    return Plant(mutant, mutant.item, mutant.owners, mutant.begin, mutant.end, mutant.new, 0)
+
+
+def in_copy(item, number, mutant=None):
+    """A copy of a function, which comes behind it, with a mutant in it."""
+    text, name = item.text, f"{item.name}_turn_{number}"
+    start = re.search(r"(?:^ *#\[[^\n]*\]\n)*\Z", text[: item.start], re.MULTILINE).start()
+    head = text[start : item.begin].replace("#[unsafe(no_mangle)]\n", "")
+    head = re.sub(rf"\bfn {item.name}\b", f"fn {name}", head)
+    begin, end, new = (mutant.begin, mutant.end, mutant.new) if mutant else [item.begin] * 2 + [""]
+    head += text[item.begin : begin]
+    path = "::".join([*item.path.split("::")[:-1], name])
+    new = head + new + text[end : item.end]
+    return Plant(mutant, item, (path,), item.end, item.end, new, len(head))
+
+
+def is_copied(item):
+    """Whether a function can stand beside itself under another name."""
+    holders = re.findall(r"^(?:pub )?(?:impl|trait)\b.*", item.text[: item.start], re.MULTILINE)
+    is_method = item.text[item.start] == " "
+    calls_itself = re.search(rf"\b{item.name}(?:::<.*>)?\(", item.text[item.begin : item.end])
+    of_trait = is_method and re.match(r"(?:pub )?trait|impl.* for ", holders[-1])
+    return item.kind == "fn" and not calls_itself and not of_trait
 
 
 def digest(mutant):
@@ -70,16 +103,23 @@ class Crate:
             if (key, mutant) in names:
                 self.came[mutant] = kind
         self.waiting = {it: WITH_ANY for it in self.mutants if it.name not in self.came}
+        self.copied = {it.item.path for it in self.mutants if is_copied(it.item)}
 
     def next_round(self):
         """How the next mutants are planted, and which; they wait no longer."""
         with self.lock:
             level, planted, taken = min(self.waiting.values(), default=ALONE), [], set()
-            for mutant in [it for it, its_level in self.waiting.items() if its_level == level]:
+            waiting = [it for it, its_level in self.waiting.items() if its_level == level]
+            counts = Counter(it.item.path for it in waiting if it.item.path in self.copied)
+            copied = [it for it in waiting if counts[it.item.path] > 2 and level == WITH_ANY][:MOST]
+            planted += [in_copy(it.item, number, it) for number, it in enumerate(copied, 1)]
+            planted += [in_copy(it, 0) for it in {it.item.path: it.item for it in copied}.values()]
+            for mutant in [] if copied else waiting:
                 if not taken & set(mutant.owners) and not (level == ALONE and planted):
-                    planted.append(mutant)
+                    planted.append(in_place(mutant))
                     taken.update(mutant.owners)
-                    del self.waiting[mutant]
+            for it in planted:
+                self.waiting.pop(it.mutant, None)
             return level, planted
 
     def note(self, judged, seconds):
@@ -95,9 +135,17 @@ class Crate:
                     print(digest(mutant), mutant.name, kind, words, sep="\t", file=file)
 
 
-def plant(crate, room, planted):
+def lay_out(crate, room, planted):
     places = [(it.item.file, it.begin, it.end, it.new) for it in planted]
     planting.lay_out(crate.folder, room, places)
+    for it in planted:
+        own, other = (f"proofs::{path}".split("::") for path in (it.item.path, it.owners[0]))
+        if it.begin == it.item.end and room.joinpath(*own).is_dir():
+            shutil.copytree(room.joinpath(*own), room.joinpath(*other))
+            for file in room.joinpath(*other).iterdir():
+                text = file.read_text(encoding="utf-8")
+                text = text.replace(f".{'.'.join(own)}.", f".{'.'.join(other)}.")
+                file.write_text(text, encoding="utf-8")
     shutil.rmtree(room / "kept", ignore_errors=True)
     (crate.folder / "out/incremental").mkdir(parents=True, exist_ok=True)
     shutil.copytree(crate.folder / "out/incremental", room / "kept", copy_function=linked)
@@ -108,52 +156,53 @@ def linked(one, other):
     return os.link(one, other) if str(one).endswith(".oantt") else shutil.copy2(one, other)
 
 
-def line_of(mutant, planted):
-    """The line of a planted file on which a mutant stands."""
-    text = mutant.item.text
-    line = text.count("\n", 0, mutant.begin) + 1
+def distance(plant, planted, line):
+    """How far a line of a planted file is from a plant, and from where the mutant stands in it."""
+    text = plant.item.text
+    first = text.count("\n", 0, plant.begin) + 1
     for it in planted:
-        if it.item.file == mutant.item.file and it.begin < mutant.begin:
-            line += it.new.count("\n") - text.count("\n", it.begin, it.end)
-    return line
+        if it.item.file == plant.item.file and (it.begin, it.new) < (plant.begin, plant.new):
+            first += it.new.count("\n") - text.count("\n", it.begin, it.end)
+    last, at = (first + plant.new.count("\n", 0, end) for end in (None, plant.at))
+    return max(first - line, line - last, 0), abs(at - line)
 
 
 def unread(planted, errors):
-    """The mutants that do not compile: of each error the nearest in its file."""
+    """Those that do not compile: of each error the nearest in its file."""
     for file, line in errors:
         near = [it for it in planted if it.item.file == file]
         if near:
-            yield min(near, key=lambda it: abs(line_of(it, planted) - int(line)))
+            yield min(near, key=lambda it: distance(it, planted, int(line)))
 
 
 def judged(crate, planted, level, ran):
     """What came of each mutant by what a check said; or nothing, and how to plant it again."""
     found, is_alone = planting.verdicts_of(crate.name, ran.said), len(planted) == 1
-    owned = {path for mutant in planted for path in mutant.owners}
+    owned = {path for plant in planted for path in plant.owners}
     others = [
         f"{path}: {words}"
         for path, (kind, words) in found.items()
         if path not in owned and kind not in (PROVED, WAITING)
     ]
-    for mutant in planted:
-        verdicts = [found[it] for it in mutant.owners if it in found]
-        nothing = (UNCLEAR if mutant.item.kind == "fn" else PROVED, "nothing cites it")
+    for plant in planted:
+        verdicts = [found[it] for it in plant.owners if it in found]
+        nothing = (UNCLEAR if plant.item.kind == "fn" else PROVED, "nothing cites it")
         kind, words = min(verdicts, key=lambda it: KINDS.index(it.kind), default=nothing)
         if kind in (PROVED, WAITING) and others:
             kind, words = (REFUSED, others[0]) if is_alone else (None, ALONE)
         elif kind == WAITING:
             kind, words = (UNCLEAR, words) if is_alone else (None, min(level + 1, ALONE))
-        yield mutant, (kind, words)
+        yield plant, (kind, words)
 
 
 def judged_unended(crate, planted, level, ran):
     """The same of a check that came to no end: those that it did not reach are planted alone."""
     reached = set(re.findall(rf"^checked (?:{crate.name}::)?(\S+),", ran.said, re.MULTILINE))
-    for mutant in planted:
+    for plant in planted:
         if len(planted) == 1:
-            yield mutant, (ENDLESS if ran.status < 0 else UNREAD, ran.said[-300:])
+            yield plant, (ENDLESS if ran.status < 0 else UNREAD, ran.said[-300:])
         else:
-            yield mutant, (None, level if reached.issuperset(mutant.owners) else ALONE)
+            yield plant, (None, level if reached.issuperset(plant.owners) else ALONE)
 
 
 def try_round(crate, room, group):
@@ -161,7 +210,7 @@ def try_round(crate, room, group):
     level, planted = crate.next_round()
     came, seconds = {}, 0
     while planted:
-        plant(crate, room, planted)
+        lay_out(crate, room, planted)
         most = SECONDS[0] + SECONDS[1] * len(planted)
         ran = planting.check(crate.name, room, group, "--progress", most=most)
         seconds += ran.seconds
@@ -172,6 +221,14 @@ def try_round(crate, room, group):
             is_ended = planting.verdicts_of(crate.name, ran.said)
             came |= (judged if is_ended else judged_unended)(crate, planted, level, ran)
             break
+    # Where a copy of a function as it is was not proved, copies of it show nothing.
+    wrong = {it.item.path for it, (kind, _) in came.items() if not it.mutant and kind != PROVED}
+    crate.copied -= wrong
+    came = {
+        it.mutant: (None, level) if it.item.path in wrong else verdict
+        for it, verdict in came.items()
+        if it.mutant
+    }
     crate.note(came, seconds)
     kinds = Counter(kind or "it is planted again" for kind, _ in came.values())
     told = ", ".join(f"{count} {kind}" for kind, count in kinds.items())

@@ -296,7 +296,9 @@ def citing(item, items):
     found, names = [item], [item.name]
     for name in names:
         for other in items:
-            if re.search(rf"\b{name}\b", other.text[other.begin : other.end]):
+            text = other.text[other.begin : other.end]
+            # Another constant of its name, as of another type, does not cite it.
+            if other.name != name and re.search(rf"\b{name}\b", text):
                 found.append(other)
                 names += [other.name] if other.kind != "fn" and other.name not in names else []
     return tuple(sorted({it.path for it in found}))
