@@ -105,6 +105,11 @@ class Crate:
         self.waiting = {it: WITH_ANY for it in self.mutants if it.name not in self.came}
         self.copied = {it.item.path for it in self.mutants if is_copied(it.item)}
 
+    def breadth(self):
+        """How many mutants a round can plant, nearly."""
+        with self.lock:
+            return len({it.owners for it in self.waiting})
+
     def next_round(self):
         """How the next mutants are planted, and which; they wait no longer."""
         with self.lock:
@@ -237,8 +242,8 @@ def try_round(crate, room, group):
 
 
 def work(crates, room, group):
-    """Tries rounds while mutants wait, those of the first crate first."""
-    while crate := next((it for it in crates if it.waiting), None):
+    """Tries rounds while mutants wait, the broadest first: a run that is stopped has judged most."""
+    while (crate := max(crates, key=Crate.breadth)).waiting:
         try_round(crate, room, group)
 
 

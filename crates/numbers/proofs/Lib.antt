@@ -1,2 +1,4 @@
+mod Examples
 pub mod Found
 pub mod Lines
+pub mod Requests

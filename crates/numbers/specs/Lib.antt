@@ -2,3 +2,4 @@ pub mod Answers
 pub mod Faults
 pub mod Leaves
 pub mod Private
+pub mod Request

@@ -1,6 +1,6 @@
 ghost use Rattle.std.specs.Prelude.{◌≡◌};
 ghost use Rattle.std.specs.IoError.{error_kind};
-ghost use Rattle.numbers.specs.Faults.{fault_of_read};
+ghost use Rattle.numbers.specs.Faults.{fault_of_read, status_of};
 
 use std::io::{self, ErrorKind};
 
@@ -24,5 +24,16 @@ impl RunError {
             ErrorKind::OutOfMemory => RunError::Memory,
             _ => RunError::Read,
         }
+    }
+}
+
+/// The status of a run, by whether the command line asked for anything or why the run stopped.
+pub fn status(outcome: &Result<bool, RunError>) -> u8
+    ensures { result ≡ status_of outcome.now }
+{
+    match outcome {
+        Ok(true) => 0,
+        Ok(false) | Err(RunError::Memory) => 2,
+        Err(RunError::Read) | Err(RunError::Write) => 1,
     }
 }

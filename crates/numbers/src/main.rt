@@ -17,15 +17,19 @@
 //! first lines were written, whole unless a write failed.
 #![tactic(auto)]
 
+ghost use Rattle.std.specs.Prelude.{◌≡◌, IfErr, IfOk, false, is_some};
+ghost use Rattle.numbers.specs.Request.{asks_search};
+
 mod fault;
 mod options;
 mod search;
 
-use crate::fault::RunError;
+use crate::fault::{RunError, status};
 use crate::options::{Request, Search, request_of};
 use crate::search::search_lines;
+use std::alloc::Global;
 use std::env;
-use std::io::{self, BufReader, BufWriter};
+use std::io::{self, BufReader, BufWriter, Read, Write};
 use std::process::ExitCode;
 
 static USAGE: &str = "\
@@ -44,15 +48,31 @@ fn request(rt: &HostRuntime) -> io::Result<Option<Request>> {
     Ok(request_of(words.as_slice()))
 }
 
+// Both ends of a search, buffered. The only error is running out of memory.
+fn buffered<R: Read + Drop, W: Write + Drop>(
+    alloc: Global,
+    source: R,
+    sink: W,
+) -> Result<(BufReader<R>, BufWriter<W>), RunError>
+    ensures { IfErr result (λ error. error ≡ RunError.Memory) }
+{
+    let reader = BufReader::new(alloc, source).map_err(|_| RunError::Memory)?;
+    let writer = BufWriter::new(alloc, sink).map_err(|_| RunError::Memory)?;
+    Ok((reader, writer))
+}
+
 fn search_input(rt: &HostRuntime, search: Search) -> Result<(), RunError> {
-    let mut reader = BufReader::new(rt.alloc(), rt.reader()).map_err(|_| RunError::Memory)?;
-    let mut writer = BufWriter::new(rt.alloc(), io::writer(rt)).map_err(|_| RunError::Memory)?;
+    let (mut reader, mut writer) = buffered(rt.alloc(), rt.reader(), io::writer(rt))?;
     search_lines(rt.alloc(), &mut reader, &mut writer, search)
 }
 
-// Answers the request, and says whether there was one.
-fn serve(rt: &HostRuntime) -> Result<bool, RunError> {
-    match request(rt).map_err(RunError::of_read)? {
+// Answers the request, and says whether there was one. Where nothing is searched, the only error is
+// that a write failed.
+fn serve(rt: &HostRuntime, request: Option<Request>) -> Result<bool, RunError>
+    ensures answered { IfOk result (λ answered. answered ≡ is_some request) }
+    ensures fault { asks_search request ≡ false → IfErr result (λ error. error ≡ RunError.Write) }
+{
+    match request {
         Some(Request::Help) => println!(rt; "{USAGE}").map_err(|_| RunError::Write)?,
         Some(Request::Search(search)) => search_input(rt, search)?,
         None => {
@@ -63,10 +83,12 @@ fn serve(rt: &HostRuntime) -> Result<bool, RunError> {
     Ok(true)
 }
 
+// Answers what the command line asks for, and says whether it asks for anything.
+fn run(rt: &HostRuntime) -> Result<bool, RunError> {
+    let request = request(rt).map_err(RunError::of_read)?;
+    serve(rt, request)
+}
+
 fn main(rt: HostRuntime) -> ExitCode {
-    match serve(&rt) {
-        Ok(true) => ExitCode::from(0),
-        Ok(false) | Err(RunError::Memory) => ExitCode::from(2),
-        Err(_) => ExitCode::from(1),
-    }
+    ExitCode::from(status(&run(&rt)))
 }

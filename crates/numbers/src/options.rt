@@ -1,3 +1,6 @@
+ghost use Rattle.std.specs.Prelude.{◌≡◌, map, string_bytes};
+ghost use Rattle.numbers.specs.Request.{asked, method_named};
+
 use chinese_number::{ChineseCountMethod, Wanted};
 use cn_faces::{Way, way_named};
 
@@ -17,8 +20,20 @@ pub enum Request {
     Search(Search),
 }
 
+// The method of a name.
+fn method_named(name: &str) -> Option<ChineseCountMethod>
+    ensures { result ≡ method_named name.now }
+{
+    match way_named(name.as_bytes()) {
+        Some(Way::Units(method)) => Some(method),
+        _ => None,
+    }
+}
+
 /// The request of these words; `None` where one of them is unknown.
-pub fn request_of(words: &[String]) -> Option<Request> {
+pub fn request_of(words: &[String]) -> Option<Request>
+    ensures { result ≡ asked (map string_bytes words.now) }
+{
     let mut search = Search {
         exact: false,
         wanted: Wanted::EVERYDAY,
@@ -30,10 +45,7 @@ pub fn request_of(words: &[String]) -> Option<Request> {
             "--help" => asks_help = true,
             "--exact" => search.exact = true,
             "--all" => search.wanted = Wanted::ALL,
-            name => match way_named(name.as_bytes()) {
-                Some(Way::Units(method)) => search.method = method,
-                _ => return None,
-            },
+            name => search.method = method_named(name)?,
         }
     }
     if asks_help {
