@@ -60,7 +60,7 @@ typedef int64_t s64;
  * - behind it, for the one call that writes a text as long as any, the caller's room, where it is.
  *
  * An access outside, or a write to its constants or the text, ends the program by abort(). */
-#define STACK_BYTES UINT64_C(2384)
+#define STACK_BYTES UINT64_C(2416)
 #define LENT_BYTES UINT64_C(544)
 #define OWN_BYTES (STACK_BYTES + LENT_BYTES)
 #define FIRST_CONSTANT UINT64_C(65536)
@@ -197,6 +197,17 @@ static const u8 constants[] = {
   0x01, 0x00, 0x00, 0x00, 0x06, 0x52, 0x00, 0x00, 0x01, 0x09, 0x00, 0x00,
   0x01, 0x5e, 0x00, 0x00, 0x01, 0x0d, 0x00, 0x00, 0x06, 0x57, 0x00, 0x00,
   0x01, 0x07, 0x00, 0x00, 0x21, 0x71, 0x00, 0x00, 0x00, 0x00, 0x00, 0x00,
+  0x00, 0x00, 0x00, 0x00, 0x01, 0x00, 0x00, 0x00, 0x00, 0x00, 0x00, 0x00,
+  0x01, 0x00, 0x00, 0x00, 0x00, 0x00, 0x00, 0x00, 0x01, 0x00, 0x00, 0x00,
+  0x00, 0x00, 0x00, 0x00, 0x01, 0x00, 0x00, 0x00, 0x00, 0x00, 0x00, 0x00,
+  0x01, 0x00, 0x00, 0x00, 0x00, 0x00, 0x00, 0x00, 0x01, 0x00, 0x00, 0x00,
+  0x00, 0x00, 0x00, 0x00, 0x01, 0x00, 0x00, 0x00, 0x00, 0x00, 0x00, 0x00,
+  0x01, 0x00, 0x00, 0x00, 0x00, 0x00, 0x00, 0x00, 0x02, 0x00, 0x00, 0x00,
+  0x00, 0x00, 0x00, 0x00, 0x02, 0x00, 0x00, 0x00, 0x00, 0x00, 0x00, 0x00,
+  0x02, 0x00, 0x00, 0x00, 0x00, 0x00, 0x00, 0x00, 0x02, 0x00, 0x00, 0x00,
+  0x00, 0x00, 0x00, 0x00, 0x02, 0x00, 0x00, 0x00, 0x00, 0x00, 0x00, 0x00,
+  0x02, 0x00, 0x00, 0x00, 0x00, 0x00, 0x00, 0x00, 0x03, 0x00, 0x00, 0x00,
+  0x00, 0x00, 0x00, 0x00, 0x04, 0x00, 0x00, 0x00, 0x00, 0x00, 0x00, 0x00,
   0x00, 0x01, 0x02, 0x03, 0x04, 0x05, 0x06, 0x07, 0x08, 0x09, 0x0a, 0x0b,
   0x0c, 0x0d, 0x0e, 0x0f, 0xe4, 0xbb, 0x9f, 0x00, 0x01, 0x03, 0x00, 0x00,
   0xe5, 0x8d, 0x83, 0x00, 0x01, 0x03, 0x00, 0x00, 0xe7, 0x84, 0xa1, 0x00,
@@ -285,81 +296,108 @@ static const u8 constants[] = {
   0x01, 0x0e, 0x00, 0x00, 0xe5, 0x9b, 0x9b, 0x00, 0x00, 0x04, 0x00, 0x00,
   0xe7, 0x84, 0xa1, 0x00, 0x02, 0x00, 0x00, 0x00, 0x00, 0x01, 0x02, 0x03,
   0x04, 0x05, 0x06, 0x07, 0x08, 0x09, 0x00, 0x00, 0x01, 0x00, 0x01, 0x01,
-  0x01, 0x02, 0x01, 0x03, 0x00, 0x01, 0x02, 0x03, 0x04, 0x01, 0x02, 0x03,
-  0x05, 0x01, 0x02, 0x03, 0x06, 0x01, 0x02, 0x03, 0x07, 0x01, 0x02, 0x03,
-  0x08, 0x01, 0x02, 0x03, 0x09, 0x01, 0x02, 0x03, 0x0a, 0x01, 0x02, 0x03,
-  0x0b, 0x01, 0x02, 0x03, 0x0c, 0x01, 0x02, 0x00, 0x01, 0x02, 0x03, 0x04,
-  0x01, 0x02, 0x03, 0x05, 0x01, 0x02, 0x03, 0x04, 0x01, 0x02, 0x03, 0x06,
-  0x01, 0x02, 0x03, 0x04, 0x01, 0x02, 0x03, 0x07, 0x01, 0x02, 0x03, 0x04,
-  0x01, 0x02, 0x03, 0x08, 0x01, 0x02, 0x03, 0x04, 0x01, 0x02, 0x00, 0x01,
+  0x01, 0x02, 0x01, 0x03, 0x00, 0x00, 0x00, 0x00, 0x00, 0x00, 0x00, 0x00,
+  0x00, 0x00, 0x00, 0x00, 0xff, 0x00, 0x00, 0x00, 0x00, 0x00, 0x00, 0x00,
+  0x00, 0x00, 0x00, 0x00, 0x00, 0x00, 0x00, 0x00, 0x00, 0x00, 0x00, 0x00,
+  0x00, 0x00, 0x00, 0x00, 0x00, 0x00, 0x00, 0x00, 0x00, 0x00, 0x00, 0x00,
+  0xff, 0xff, 0x00, 0x00, 0x00, 0x00, 0x00, 0x00, 0x00, 0x00, 0x00, 0x00,
+  0x00, 0x00, 0x00, 0x00, 0x00, 0x00, 0x00, 0x00, 0x00, 0x00, 0x00, 0x00,
+  0x00, 0x00, 0x00, 0x00, 0x00, 0x00, 0x00, 0x00, 0xff, 0xff, 0xff, 0xff,
+  0x00, 0x00, 0x00, 0x00, 0x00, 0x00, 0x00, 0x00, 0x00, 0x00, 0x00, 0x00,
+  0x00, 0x00, 0x00, 0x00, 0x00, 0x00, 0x00, 0x00, 0x00, 0x00, 0x00, 0x00,
+  0x00, 0x00, 0x00, 0x00, 0xff, 0xff, 0xff, 0xff, 0xff, 0xff, 0xff, 0xff,
+  0x00, 0x00, 0x00, 0x00, 0x00, 0x00, 0x00, 0x00, 0x00, 0x00, 0x00, 0x00,
+  0x00, 0x00, 0x00, 0x00, 0x00, 0x00, 0x00, 0x00, 0x00, 0x00, 0x00, 0x00,
+  0xff, 0xff, 0xff, 0xff, 0xff, 0xff, 0xff, 0xff, 0xff, 0xff, 0xff, 0xff,
+  0xff, 0xff, 0xff, 0xff, 0x00, 0x00, 0x00, 0x00, 0x00, 0x00, 0x00, 0x00,
+  0x00, 0x00, 0x00, 0x00, 0x00, 0x00, 0x00, 0x00, 0x7f, 0x00, 0x00, 0x00,
+  0x00, 0x00, 0x00, 0x00, 0x00, 0x00, 0x00, 0x00, 0x00, 0x00, 0x00, 0x00,
+  0x80, 0x00, 0x00, 0x00, 0x00, 0x00, 0x00, 0x00, 0x00, 0x00, 0x00, 0x00,
+  0x00, 0x00, 0x00, 0x00, 0xff, 0x7f, 0x00, 0x00, 0x00, 0x00, 0x00, 0x00,
+  0x00, 0x00, 0x00, 0x00, 0x00, 0x00, 0x00, 0x00, 0x00, 0x80, 0x00, 0x00,
+  0x00, 0x00, 0x00, 0x00, 0x00, 0x00, 0x00, 0x00, 0x00, 0x00, 0x00, 0x00,
+  0xff, 0xff, 0xff, 0x7f, 0x00, 0x00, 0x00, 0x00, 0x00, 0x00, 0x00, 0x00,
+  0x00, 0x00, 0x00, 0x00, 0x00, 0x00, 0x00, 0x80, 0x00, 0x00, 0x00, 0x00,
+  0x00, 0x00, 0x00, 0x00, 0x00, 0x00, 0x00, 0x00, 0xff, 0xff, 0xff, 0xff,
+  0xff, 0xff, 0xff, 0x7f, 0x00, 0x00, 0x00, 0x00, 0x00, 0x00, 0x00, 0x00,
+  0x00, 0x00, 0x00, 0x00, 0x00, 0x00, 0x00, 0x80, 0x00, 0x00, 0x00, 0x00,
+  0x00, 0x00, 0x00, 0x00, 0xff, 0xff, 0xff, 0xff, 0xff, 0xff, 0xff, 0xff,
+  0xff, 0xff, 0xff, 0xff, 0xff, 0xff, 0xff, 0x7f, 0x00, 0x00, 0x00, 0x00,
+  0x00, 0x00, 0x00, 0x00, 0x00, 0x00, 0x00, 0x00, 0x00, 0x00, 0x00, 0x80,
+  0x00, 0x01, 0x02, 0x03, 0x04, 0x01, 0x02, 0x03, 0x05, 0x01, 0x02, 0x03,
+  0x06, 0x01, 0x02, 0x03, 0x07, 0x01, 0x02, 0x03, 0x08, 0x01, 0x02, 0x03,
+  0x09, 0x01, 0x02, 0x03, 0x0a, 0x01, 0x02, 0x03, 0x0b, 0x01, 0x02, 0x03,
+  0x0c, 0x01, 0x02, 0x00, 0x01, 0x02, 0x03, 0x04, 0x01, 0x02, 0x03, 0x05,
+  0x01, 0x02, 0x03, 0x04, 0x01, 0x02, 0x03, 0x06, 0x01, 0x02, 0x03, 0x04,
+  0x01, 0x02, 0x03, 0x07, 0x01, 0x02, 0x03, 0x04, 0x01, 0x02, 0x03, 0x08,
+  0x01, 0x02, 0x03, 0x04, 0x01, 0x02, 0x00, 0x01, 0x02, 0x03, 0x04, 0x01,
+  0x02, 0x03, 0x05, 0x01, 0x02, 0x03, 0x04, 0x01, 0x02, 0x03, 0x06, 0x01,
   0x02, 0x03, 0x04, 0x01, 0x02, 0x03, 0x05, 0x01, 0x02, 0x03, 0x04, 0x01,
-  0x02, 0x03, 0x06, 0x01, 0x02, 0x03, 0x04, 0x01, 0x02, 0x03, 0x05, 0x01,
-  0x02, 0x03, 0x04, 0x01, 0x02, 0x03, 0x07, 0x01, 0x02, 0x03, 0x04, 0x01,
-  0x02, 0x00, 0x00, 0x00, 0x01, 0x00, 0x02, 0x00, 0x03, 0x00, 0x04, 0x00,
-  0x05, 0x00, 0x06, 0x00, 0x07, 0x00, 0x08, 0x00, 0x09, 0x00, 0x0a, 0x00,
-  0x0b, 0x00, 0x0c, 0x00, 0x0d, 0x00, 0x0e, 0x00, 0x0f, 0x00, 0x00, 0x00,
-  0x01, 0x00, 0x02, 0x00, 0x03, 0x00, 0x04, 0x00, 0x08, 0x00, 0x0c, 0x00,
-  0x10, 0x00, 0x14, 0x00, 0x18, 0x00, 0x1c, 0x00, 0x20, 0x00, 0x24, 0x00,
-  0x28, 0x00, 0x2c, 0x00, 0x30, 0x00, 0x00, 0x00, 0x01, 0x00, 0x02, 0x00,
-  0x03, 0x00, 0x04, 0x00, 0x08, 0x00, 0x10, 0x00, 0x18, 0x00, 0x20, 0x00,
-  0x28, 0x00, 0x30, 0x00, 0x38, 0x00, 0x40, 0x00, 0x48, 0x00, 0x50, 0x00,
-  0x58, 0x00, 0x00, 0x00, 0x01, 0x00, 0x02, 0x00, 0x03, 0x00, 0x04, 0x00,
-  0x08, 0x00, 0x10, 0x00, 0x20, 0x00, 0x40, 0x00, 0x80, 0x00, 0x00, 0x01,
-  0x00, 0x02, 0x00, 0x04, 0x00, 0x08, 0x00, 0x10, 0x00, 0x20, 0x00, 0x00,
-  0x00, 0x00, 0x00, 0x00, 0x00, 0x00, 0x00, 0x00, 0x01, 0x00, 0x00, 0x00,
+  0x02, 0x03, 0x07, 0x01, 0x02, 0x03, 0x04, 0x01, 0x02, 0x00, 0x00, 0x00,
+  0x01, 0x00, 0x02, 0x00, 0x03, 0x00, 0x04, 0x00, 0x05, 0x00, 0x06, 0x00,
+  0x07, 0x00, 0x08, 0x00, 0x09, 0x00, 0x0a, 0x00, 0x0b, 0x00, 0x0c, 0x00,
+  0x0d, 0x00, 0x0e, 0x00, 0x0f, 0x00, 0x00, 0x00, 0x01, 0x00, 0x02, 0x00,
+  0x03, 0x00, 0x04, 0x00, 0x08, 0x00, 0x0c, 0x00, 0x10, 0x00, 0x14, 0x00,
+  0x18, 0x00, 0x1c, 0x00, 0x20, 0x00, 0x24, 0x00, 0x28, 0x00, 0x2c, 0x00,
+  0x30, 0x00, 0x00, 0x00, 0x01, 0x00, 0x02, 0x00, 0x03, 0x00, 0x04, 0x00,
+  0x08, 0x00, 0x10, 0x00, 0x18, 0x00, 0x20, 0x00, 0x28, 0x00, 0x30, 0x00,
+  0x38, 0x00, 0x40, 0x00, 0x48, 0x00, 0x50, 0x00, 0x58, 0x00, 0x00, 0x00,
+  0x01, 0x00, 0x02, 0x00, 0x03, 0x00, 0x04, 0x00, 0x08, 0x00, 0x10, 0x00,
+  0x20, 0x00, 0x40, 0x00, 0x80, 0x00, 0x00, 0x01, 0x00, 0x02, 0x00, 0x04,
+  0x00, 0x08, 0x00, 0x10, 0x00, 0x20, 0x00, 0x00, 0x00, 0x00, 0x00, 0x00,
+  0x00, 0x00, 0x00, 0x00, 0x01, 0x00, 0x00, 0x00, 0x00, 0x00, 0x00, 0x00,
+  0x00, 0x00, 0x00, 0x00, 0x00, 0x00, 0x00, 0x00, 0x0a, 0x00, 0x00, 0x00,
   0x00, 0x00, 0x00, 0x00, 0x00, 0x00, 0x00, 0x00, 0x00, 0x00, 0x00, 0x00,
-  0x0a, 0x00, 0x00, 0x00, 0x00, 0x00, 0x00, 0x00, 0x00, 0x00, 0x00, 0x00,
-  0x00, 0x00, 0x00, 0x00, 0x64, 0x00, 0x00, 0x00, 0x00, 0x00, 0x00, 0x00,
-  0x00, 0x00, 0x00, 0x00, 0x00, 0x00, 0x00, 0x00, 0xe8, 0x03, 0x00, 0x00,
+  0x64, 0x00, 0x00, 0x00, 0x00, 0x00, 0x00, 0x00, 0x00, 0x00, 0x00, 0x00,
+  0x00, 0x00, 0x00, 0x00, 0xe8, 0x03, 0x00, 0x00, 0x00, 0x00, 0x00, 0x00,
+  0x00, 0x00, 0x00, 0x00, 0x00, 0x00, 0x00, 0x00, 0x10, 0x27, 0x00, 0x00,
   0x00, 0x00, 0x00, 0x00, 0x00, 0x00, 0x00, 0x00, 0x00, 0x00, 0x00, 0x00,
-  0x10, 0x27, 0x00, 0x00, 0x00, 0x00, 0x00, 0x00, 0x00, 0x00, 0x00, 0x00,
-  0x00, 0x00, 0x00, 0x00, 0xa0, 0x86, 0x01, 0x00, 0x00, 0x00, 0x00, 0x00,
-  0x00, 0x00, 0x00, 0x00, 0x00, 0x00, 0x00, 0x00, 0x40, 0x42, 0x0f, 0x00,
+  0xa0, 0x86, 0x01, 0x00, 0x00, 0x00, 0x00, 0x00, 0x00, 0x00, 0x00, 0x00,
+  0x00, 0x00, 0x00, 0x00, 0x40, 0x42, 0x0f, 0x00, 0x00, 0x00, 0x00, 0x00,
+  0x00, 0x00, 0x00, 0x00, 0x00, 0x00, 0x00, 0x00, 0x80, 0x96, 0x98, 0x00,
   0x00, 0x00, 0x00, 0x00, 0x00, 0x00, 0x00, 0x00, 0x00, 0x00, 0x00, 0x00,
-  0x80, 0x96, 0x98, 0x00, 0x00, 0x00, 0x00, 0x00, 0x00, 0x00, 0x00, 0x00,
-  0x00, 0x00, 0x00, 0x00, 0x00, 0xe1, 0xf5, 0x05, 0x00, 0x00, 0x00, 0x00,
-  0x00, 0x00, 0x00, 0x00, 0x00, 0x00, 0x00, 0x00, 0x00, 0xca, 0x9a, 0x3b,
-  0x00, 0x00, 0x00, 0x00, 0x00, 0x00, 0x00, 0x00, 0x00, 0x00, 0x00, 0x00,
-  0x00, 0xe4, 0x0b, 0x54, 0x02, 0x00, 0x00, 0x00, 0x00, 0x00, 0x00, 0x00,
-  0x00, 0x00, 0x00, 0x00, 0x00, 0xe8, 0x76, 0x48, 0x17, 0x00, 0x00, 0x00,
-  0x00, 0x00, 0x00, 0x00, 0x00, 0x00, 0x00, 0x00, 0x00, 0x10, 0xa5, 0xd4,
-  0xe8, 0x00, 0x00, 0x00, 0x00, 0x00, 0x00, 0x00, 0x00, 0x00, 0x00, 0x00,
-  0x00, 0xa0, 0x72, 0x4e, 0x18, 0x09, 0x00, 0x00, 0x00, 0x00, 0x00, 0x00,
-  0x00, 0x00, 0x00, 0x00, 0x00, 0x40, 0x7a, 0x10, 0xf3, 0x5a, 0x00, 0x00,
-  0x00, 0x00, 0x00, 0x00, 0x00, 0x00, 0x00, 0x00, 0x00, 0x80, 0xc6, 0xa4,
-  0x7e, 0x8d, 0x03, 0x00, 0x00, 0x00, 0x00, 0x00, 0x00, 0x00, 0x00, 0x00,
-  0x00, 0x00, 0xc1, 0x6f, 0xf2, 0x86, 0x23, 0x00, 0x00, 0x00, 0x00, 0x00,
-  0x00, 0x00, 0x00, 0x00, 0x00, 0x00, 0x8a, 0x5d, 0x78, 0x45, 0x63, 0x01,
-  0x00, 0x00, 0x00, 0x00, 0x00, 0x00, 0x00, 0x00, 0x00, 0x00, 0x64, 0xa7,
-  0xb3, 0xb6, 0xe0, 0x0d, 0x00, 0x00, 0x00, 0x00, 0x00, 0x00, 0x00, 0x00,
-  0x00, 0x00, 0xe8, 0x89, 0x04, 0x23, 0xc7, 0x8a, 0x00, 0x00, 0x00, 0x00,
-  0x00, 0x00, 0x00, 0x00, 0x00, 0x00, 0x10, 0x63, 0x2d, 0x5e, 0xc7, 0x6b,
-  0x05, 0x00, 0x00, 0x00, 0x00, 0x00, 0x00, 0x00, 0x00, 0x00, 0xa0, 0xde,
-  0xc5, 0xad, 0xc9, 0x35, 0x36, 0x00, 0x00, 0x00, 0x00, 0x00, 0x00, 0x00,
-  0x00, 0x00, 0x40, 0xb2, 0xba, 0xc9, 0xe0, 0x19, 0x1e, 0x02, 0x00, 0x00,
-  0x00, 0x00, 0x00, 0x00, 0x00, 0x00, 0x80, 0xf6, 0x4a, 0xe1, 0xc7, 0x02,
-  0x2d, 0x15, 0x00, 0x00, 0x00, 0x00, 0x00, 0x00, 0x00, 0x00, 0x00, 0xa1,
-  0xed, 0xcc, 0xce, 0x1b, 0xc2, 0xd3, 0x00, 0x00, 0x00, 0x00, 0x00, 0x00,
-  0x00, 0x00, 0x00, 0x4a, 0x48, 0x01, 0x14, 0x16, 0x95, 0x45, 0x08, 0x00,
-  0x00, 0x00, 0x00, 0x00, 0x00, 0x00, 0x00, 0xe4, 0xd2, 0x0c, 0xc8, 0xdc,
-  0xd2, 0xb7, 0x52, 0x00, 0x00, 0x00, 0x00, 0x00, 0x00, 0x00, 0x00, 0xe8,
-  0x3c, 0x80, 0xd0, 0x9f, 0x3c, 0x2e, 0x3b, 0x03, 0x00, 0x00, 0x00, 0x00,
-  0x00, 0x00, 0x00, 0x10, 0x61, 0x02, 0x25, 0x3e, 0x5e, 0xce, 0x4f, 0x20,
-  0x00, 0x00, 0x00, 0x00, 0x00, 0x00, 0x00, 0xa0, 0xca, 0x17, 0x72, 0x6d,
-  0xae, 0x0f, 0x1e, 0x43, 0x01, 0x00, 0x00, 0x00, 0x00, 0x00, 0x00, 0x40,
-  0xea, 0xed, 0x74, 0x46, 0xd0, 0x9c, 0x2c, 0x9f, 0x0c, 0x00, 0x00, 0x00,
-  0x00, 0x00, 0x00, 0x80, 0x26, 0x4b, 0x91, 0xc0, 0x22, 0x20, 0xbe, 0x37,
-  0x7e, 0x00, 0x00, 0x00, 0x00, 0x00, 0x00, 0x00, 0x81, 0xef, 0xac, 0x85,
-  0x5b, 0x41, 0x6d, 0x2d, 0xee, 0x04, 0x00, 0x00, 0x00, 0x00, 0x00, 0x00,
-  0x0a, 0x5b, 0xc1, 0x38, 0x93, 0x8d, 0x44, 0xc6, 0x4d, 0x31, 0x00, 0x00,
-  0x00, 0x00, 0x00, 0x00, 0x64, 0x8e, 0x8d, 0x37, 0xc0, 0x87, 0xad, 0xbe,
-  0x09, 0xed, 0x01, 0x00, 0x00, 0x00, 0x00, 0x00, 0xe8, 0x8f, 0x87, 0x2b,
-  0x82, 0x4d, 0xc7, 0x72, 0x61, 0x42, 0x13, 0x00, 0x00, 0x00, 0x00, 0x00,
-  0x10, 0x9f, 0x4b, 0xb3, 0x15, 0x07, 0xc9, 0x7b, 0xce, 0x97, 0xc0, 0x00,
-  0x00, 0x00, 0x00, 0x00, 0xa0, 0x36, 0xf4, 0x00, 0xd9, 0x46, 0xda, 0xd5,
-  0x10, 0xee, 0x85, 0x07, 0x00, 0x00, 0x00, 0x00, 0x40, 0x22, 0x8a, 0x09,
-  0x7a, 0xc4, 0x86, 0x5a, 0xa8, 0x4c, 0x3b, 0x4b, 0xe5, 0x88, 0x86, 0xe4,
-  0xb9, 0x8b,
+  0x00, 0xe1, 0xf5, 0x05, 0x00, 0x00, 0x00, 0x00, 0x00, 0x00, 0x00, 0x00,
+  0x00, 0x00, 0x00, 0x00, 0x00, 0xca, 0x9a, 0x3b, 0x00, 0x00, 0x00, 0x00,
+  0x00, 0x00, 0x00, 0x00, 0x00, 0x00, 0x00, 0x00, 0x00, 0xe4, 0x0b, 0x54,
+  0x02, 0x00, 0x00, 0x00, 0x00, 0x00, 0x00, 0x00, 0x00, 0x00, 0x00, 0x00,
+  0x00, 0xe8, 0x76, 0x48, 0x17, 0x00, 0x00, 0x00, 0x00, 0x00, 0x00, 0x00,
+  0x00, 0x00, 0x00, 0x00, 0x00, 0x10, 0xa5, 0xd4, 0xe8, 0x00, 0x00, 0x00,
+  0x00, 0x00, 0x00, 0x00, 0x00, 0x00, 0x00, 0x00, 0x00, 0xa0, 0x72, 0x4e,
+  0x18, 0x09, 0x00, 0x00, 0x00, 0x00, 0x00, 0x00, 0x00, 0x00, 0x00, 0x00,
+  0x00, 0x40, 0x7a, 0x10, 0xf3, 0x5a, 0x00, 0x00, 0x00, 0x00, 0x00, 0x00,
+  0x00, 0x00, 0x00, 0x00, 0x00, 0x80, 0xc6, 0xa4, 0x7e, 0x8d, 0x03, 0x00,
+  0x00, 0x00, 0x00, 0x00, 0x00, 0x00, 0x00, 0x00, 0x00, 0x00, 0xc1, 0x6f,
+  0xf2, 0x86, 0x23, 0x00, 0x00, 0x00, 0x00, 0x00, 0x00, 0x00, 0x00, 0x00,
+  0x00, 0x00, 0x8a, 0x5d, 0x78, 0x45, 0x63, 0x01, 0x00, 0x00, 0x00, 0x00,
+  0x00, 0x00, 0x00, 0x00, 0x00, 0x00, 0x64, 0xa7, 0xb3, 0xb6, 0xe0, 0x0d,
+  0x00, 0x00, 0x00, 0x00, 0x00, 0x00, 0x00, 0x00, 0x00, 0x00, 0xe8, 0x89,
+  0x04, 0x23, 0xc7, 0x8a, 0x00, 0x00, 0x00, 0x00, 0x00, 0x00, 0x00, 0x00,
+  0x00, 0x00, 0x10, 0x63, 0x2d, 0x5e, 0xc7, 0x6b, 0x05, 0x00, 0x00, 0x00,
+  0x00, 0x00, 0x00, 0x00, 0x00, 0x00, 0xa0, 0xde, 0xc5, 0xad, 0xc9, 0x35,
+  0x36, 0x00, 0x00, 0x00, 0x00, 0x00, 0x00, 0x00, 0x00, 0x00, 0x40, 0xb2,
+  0xba, 0xc9, 0xe0, 0x19, 0x1e, 0x02, 0x00, 0x00, 0x00, 0x00, 0x00, 0x00,
+  0x00, 0x00, 0x80, 0xf6, 0x4a, 0xe1, 0xc7, 0x02, 0x2d, 0x15, 0x00, 0x00,
+  0x00, 0x00, 0x00, 0x00, 0x00, 0x00, 0x00, 0xa1, 0xed, 0xcc, 0xce, 0x1b,
+  0xc2, 0xd3, 0x00, 0x00, 0x00, 0x00, 0x00, 0x00, 0x00, 0x00, 0x00, 0x4a,
+  0x48, 0x01, 0x14, 0x16, 0x95, 0x45, 0x08, 0x00, 0x00, 0x00, 0x00, 0x00,
+  0x00, 0x00, 0x00, 0xe4, 0xd2, 0x0c, 0xc8, 0xdc, 0xd2, 0xb7, 0x52, 0x00,
+  0x00, 0x00, 0x00, 0x00, 0x00, 0x00, 0x00, 0xe8, 0x3c, 0x80, 0xd0, 0x9f,
+  0x3c, 0x2e, 0x3b, 0x03, 0x00, 0x00, 0x00, 0x00, 0x00, 0x00, 0x00, 0x10,
+  0x61, 0x02, 0x25, 0x3e, 0x5e, 0xce, 0x4f, 0x20, 0x00, 0x00, 0x00, 0x00,
+  0x00, 0x00, 0x00, 0xa0, 0xca, 0x17, 0x72, 0x6d, 0xae, 0x0f, 0x1e, 0x43,
+  0x01, 0x00, 0x00, 0x00, 0x00, 0x00, 0x00, 0x40, 0xea, 0xed, 0x74, 0x46,
+  0xd0, 0x9c, 0x2c, 0x9f, 0x0c, 0x00, 0x00, 0x00, 0x00, 0x00, 0x00, 0x80,
+  0x26, 0x4b, 0x91, 0xc0, 0x22, 0x20, 0xbe, 0x37, 0x7e, 0x00, 0x00, 0x00,
+  0x00, 0x00, 0x00, 0x00, 0x81, 0xef, 0xac, 0x85, 0x5b, 0x41, 0x6d, 0x2d,
+  0xee, 0x04, 0x00, 0x00, 0x00, 0x00, 0x00, 0x00, 0x0a, 0x5b, 0xc1, 0x38,
+  0x93, 0x8d, 0x44, 0xc6, 0x4d, 0x31, 0x00, 0x00, 0x00, 0x00, 0x00, 0x00,
+  0x64, 0x8e, 0x8d, 0x37, 0xc0, 0x87, 0xad, 0xbe, 0x09, 0xed, 0x01, 0x00,
+  0x00, 0x00, 0x00, 0x00, 0xe8, 0x8f, 0x87, 0x2b, 0x82, 0x4d, 0xc7, 0x72,
+  0x61, 0x42, 0x13, 0x00, 0x00, 0x00, 0x00, 0x00, 0x10, 0x9f, 0x4b, 0xb3,
+  0x15, 0x07, 0xc9, 0x7b, 0xce, 0x97, 0xc0, 0x00, 0x00, 0x00, 0x00, 0x00,
+  0xa0, 0x36, 0xf4, 0x00, 0xd9, 0x46, 0xda, 0xd5, 0x10, 0xee, 0x85, 0x07,
+  0x00, 0x00, 0x00, 0x00, 0x40, 0x22, 0x8a, 0x09, 0x7a, 0xc4, 0x86, 0x5a,
+  0xa8, 0x4c, 0x3b, 0x4b, 0xe5, 0x88, 0x86, 0xe4, 0xb9, 0x8b,
 };
 
 /* Each access has its test where it stands, and what one call alone needs stands apart: then a call
@@ -555,7 +593,7 @@ static void w2c_f21(module *, u64, u32);
 static u32 w2c_f22(module *, u64, u64);
 static u32 w2c_f23(module *, u32, u32, u64, u64);
 static u32 w2c_f24(module *, u32);
-static u32 w2c_f25(module *, u64);
+static u32 w2c_f25(module *, u32, u64, u64, u32);
 static void w2c_f26(module *, u64, u64, u64);
 static u32 w2c_f27(module *, u32, u32, u64, u64, u32, u64, u64);
 static u32 w2c_f28(module *, u32, u32, u32);
@@ -8013,7 +8051,7 @@ static u32 w2c_f15(module *m, u32 w2c_p0, u64 w2c_p1, u64 w2c_p2, u64 w2c_p3, u3
   i64_store(m, (u64)(w2c_i0) + 8, w2c_j1);
   w2c_i0 = w2c_p5;
   w2c_j0 = (u64)(w2c_i0);
-  w2c_j1 = 66844ull;
+  w2c_j1 = 66976ull;
   w2c_j0 += w2c_j1;
   w2c_i0 = (u32)(w2c_j0);
   w2c_i0 = i32_load8_u(m, (u64)(w2c_i0));
@@ -8528,12 +8566,12 @@ static u32 w2c_f16(module *m, u32 w2c_p0, u64 w2c_p1, u64 w2c_p2, u64 w2c_p3, u3
     w2c_j0 &= w2c_j1;
     w2c_l13 = w2c_j0;
     w2c_i0 = (u32)(w2c_j0);
-    w2c_i0 = i32_load(m, (u64)(w2c_i0) + 66860u);
+    w2c_i0 = i32_load(m, (u64)(w2c_i0) + 66992u);
     w2c_i1 = w2c_l19;
     w2c_i0 = w2c_i0 != w2c_i1;
     if (w2c_i0) {goto w2c_B13;}
     w2c_j0 = w2c_l13;
-    w2c_j1 = 66864ull;
+    w2c_j1 = 66996ull;
     w2c_j0 += w2c_j1;
     w2c_i0 = (u32)(w2c_j0);
     w2c_i0 = i32_load8_u(m, (u64)(w2c_i0));
@@ -8544,7 +8582,7 @@ static u32 w2c_f16(module *m, u32 w2c_p0, u64 w2c_p1, u64 w2c_p2, u64 w2c_p3, u3
     w2c_i0 = w2c_i0 == w2c_i1;
     if (w2c_i0) {goto w2c_B13;}
     w2c_j0 = w2c_l13;
-    w2c_j1 = 66865ull;
+    w2c_j1 = 66997ull;
     w2c_j0 += w2c_j1;
     w2c_i0 = (u32)(w2c_j0);
     w2c_i0 = i32_load8_u(m, (u64)(w2c_i0));
@@ -9042,12 +9080,12 @@ static u32 w2c_f16(module *m, u32 w2c_p0, u64 w2c_p1, u64 w2c_p2, u64 w2c_p3, u3
       w2c_j0 &= w2c_j1;
       w2c_l16 = w2c_j0;
       w2c_i0 = (u32)(w2c_j0);
-      w2c_i0 = i32_load(m, (u64)(w2c_i0) + 66860u);
+      w2c_i0 = i32_load(m, (u64)(w2c_i0) + 66992u);
       w2c_i1 = w2c_p0;
       w2c_i0 = w2c_i0 != w2c_i1;
       if (w2c_i0) {goto w2c_B42;}
       w2c_j0 = w2c_l16;
-      w2c_j1 = 66864ull;
+      w2c_j1 = 66996ull;
       w2c_j0 += w2c_j1;
       w2c_i0 = (u32)(w2c_j0);
       w2c_i0 = i32_load8_u(m, (u64)(w2c_i0));
@@ -9058,7 +9096,7 @@ static u32 w2c_f16(module *m, u32 w2c_p0, u64 w2c_p1, u64 w2c_p2, u64 w2c_p3, u3
       w2c_i0 = w2c_i0 == w2c_i1;
       if (w2c_i0) {goto w2c_B42;}
       w2c_j0 = w2c_l16;
-      w2c_j1 = 66865ull;
+      w2c_j1 = 66997ull;
       w2c_j0 += w2c_j1;
       w2c_i0 = (u32)(w2c_j0);
       w2c_i0 = i32_load8_u(m, (u64)(w2c_i0));
@@ -9443,21 +9481,21 @@ static void w2c_f17(module *m, u64 w2c_p0, u64 w2c_p1) {
     w2c_j1 = 1016ull;
     w2c_j0 &= w2c_j1;
     w2c_l5 = w2c_j0;
-    w2c_j1 = 66865ull;
+    w2c_j1 = 66997ull;
     w2c_j0 += w2c_j1;
     w2c_i0 = (u32)(w2c_j0);
     w2c_i0 = i32_load8_u(m, (u64)(w2c_i0));
     w2c_i1 = 0u;
     w2c_j2 = w2c_l5;
     w2c_i2 = (u32)(w2c_j2);
-    w2c_i2 = i32_load(m, (u64)(w2c_i2) + 66860u);
+    w2c_i2 = i32_load(m, (u64)(w2c_i2) + 66992u);
     w2c_i3 = w2c_l18;
     w2c_i2 = w2c_i2 == w2c_i3;
     w2c_l18 = w2c_i2;
     w2c_i0 = w2c_i2 ? w2c_i0 : w2c_i1;
     w2c_l19 = w2c_i0;
     w2c_j0 = w2c_l5;
-    w2c_j1 = 66864ull;
+    w2c_j1 = 66996ull;
     w2c_j0 += w2c_j1;
     w2c_i0 = (u32)(w2c_j0);
     w2c_i0 = i32_load8_u(m, (u64)(w2c_i0));
@@ -9888,21 +9926,21 @@ static void w2c_f17(module *m, u64 w2c_p0, u64 w2c_p1) {
     w2c_j1 = 1016ull;
     w2c_j0 &= w2c_j1;
     w2c_l11 = w2c_j0;
-    w2c_j1 = 66865ull;
+    w2c_j1 = 66997ull;
     w2c_j0 += w2c_j1;
     w2c_i0 = (u32)(w2c_j0);
     w2c_i0 = i32_load8_u(m, (u64)(w2c_i0));
     w2c_i1 = 0u;
     w2c_j2 = w2c_l11;
     w2c_i2 = (u32)(w2c_j2);
-    w2c_i2 = i32_load(m, (u64)(w2c_i2) + 66860u);
+    w2c_i2 = i32_load(m, (u64)(w2c_i2) + 66992u);
     w2c_i3 = w2c_l15;
     w2c_i2 = w2c_i2 == w2c_i3;
     w2c_l15 = w2c_i2;
     w2c_i0 = w2c_i2 ? w2c_i0 : w2c_i1;
     w2c_l18 = w2c_i0;
     w2c_j0 = w2c_l11;
-    w2c_j1 = 66864ull;
+    w2c_j1 = 66996ull;
     w2c_j0 += w2c_j1;
     w2c_i0 = (u32)(w2c_j0);
     w2c_i0 = i32_load8_u(m, (u64)(w2c_i0));
@@ -10288,12 +10326,12 @@ static void w2c_f17(module *m, u64 w2c_p0, u64 w2c_p1) {
 }
 
 static void w2c_f18(module *m, u64 w2c_p0, u64 w2c_p1) {
-  u32 w2c_l11 = 0, w2c_l12 = 0, w2c_l13 = 0, w2c_l14 = 0, w2c_l15 = 0, w2c_l16 = 0;
+  u32 w2c_l11 = 0, w2c_l12 = 0, w2c_l13 = 0, w2c_l14 = 0, w2c_l15 = 0, w2c_l16 = 0, w2c_l17 = 0, w2c_l18 = 0;
   u64 w2c_l2 = 0, w2c_l3 = 0, w2c_l4 = 0, w2c_l5 = 0, w2c_l6 = 0, w2c_l7 = 0, w2c_l8 = 0, w2c_l9 = 0, w2c_l10 = 0;
-  u32 w2c_i0, w2c_i1, w2c_i2, w2c_i3;
+  u32 w2c_i0, w2c_i1, w2c_i2, w2c_i3, w2c_i4;
   u64 w2c_j0, w2c_j1, w2c_j2, w2c_j3;
   w2c_j0 = m->w2c_g0;
-  w2c_j1 = 80ull;
+  w2c_j1 = 48ull;
   w2c_j0 -= w2c_j1;
   w2c_l2 = w2c_j0;
   m->w2c_g0 = w2c_j0;
@@ -10301,7 +10339,7 @@ static void w2c_f18(module *m, u64 w2c_p0, u64 w2c_p1) {
   w2c_l3 = w2c_j0;
   w2c_j1 = 16ull;
   w2c_i0 = (u64)((s64)w2c_j0 < (s64)w2c_j1);
-  if (w2c_i0) {goto w2c_B0;}
+  if (w2c_i0) {goto w2c_B3;}
   w2c_j0 = w2c_p1;
   w2c_i0 = (u32)(w2c_j0);
   w2c_j0 = i64_load(m, (u64)(w2c_i0) + 40u);
@@ -10309,191 +10347,61 @@ static void w2c_f18(module *m, u64 w2c_p0, u64 w2c_p1) {
   w2c_j0 = w2c_p1;
   w2c_i0 = (u32)(w2c_j0);
   w2c_j0 = i64_load(m, (u64)(w2c_i0) + 32u);
-  w2c_l5 = w2c_j0;
+  w2c_l2 = w2c_j0;
   w2c_j0 = w2c_p1;
   w2c_i0 = (u32)(w2c_j0);
   w2c_j0 = i64_load(m, (u64)(w2c_i0) + 24u);
+  w2c_l5 = w2c_j0;
+  w2c_j0 = w2c_p1;
+  w2c_i0 = (u32)(w2c_j0);
+  w2c_j0 = i64_load(m, (u64)(w2c_i0) + 16u);
   w2c_l6 = w2c_j0;
+  w2c_i0 = 0u;
+  w2c_l11 = w2c_i0;
   w2c_j0 = w2c_p1;
   w2c_i0 = (u32)(w2c_j0);
   w2c_j0 = i64_load(m, (u64)(w2c_i0) + 8u);
   w2c_l7 = w2c_j0;
+  w2c_i0 = !(w2c_j0);
+  w2c_i0 = !(w2c_i0);
+  if (w2c_i0) {goto w2c_B4;}
+  w2c_i0 = 0u;
+  w2c_l12 = w2c_i0;
+  w2c_i0 = 0u;
+  w2c_l13 = w2c_i0;
+  goto w2c_B0;
+  w2c_B4:;
   w2c_j0 = w2c_p1;
   w2c_i0 = (u32)(w2c_j0);
   w2c_j0 = i64_load(m, (u64)(w2c_i0));
-  w2c_l8 = w2c_j0;
-  w2c_j0 = w2c_p1;
-  w2c_i0 = (u32)(w2c_j0);
-  w2c_j0 = i64_load(m, (u64)(w2c_i0) + 16u);
-  w2c_l9 = w2c_j0;
-  w2c_j0 = w2c_l3;
-  w2c_i0 = (u32)(w2c_j0);
-  w2c_j1 = 0ull;
-  i64_store(m, (u64)(w2c_i0) + 72, w2c_j1);
-  w2c_j0 = w2c_l3;
-  w2c_i0 = (u32)(w2c_j0);
-  w2c_j1 = 0ull;
-  i64_store(m, (u64)(w2c_i0) + 64, w2c_j1);
-  w2c_j0 = w2c_l3;
-  w2c_i0 = (u32)(w2c_j0);
-  w2c_j1 = 0ull;
-  i64_store(m, (u64)(w2c_i0) + 56, w2c_j1);
-  w2c_j0 = w2c_l3;
-  w2c_i0 = (u32)(w2c_j0);
-  w2c_j1 = 0ull;
-  i64_store(m, (u64)(w2c_i0) + 48, w2c_j1);
-  w2c_j0 = w2c_l3;
-  w2c_i0 = (u32)(w2c_j0);
-  w2c_j1 = 0ull;
-  i64_store(m, (u64)(w2c_i0) + 40, w2c_j1);
-  w2c_j0 = w2c_l3;
-  w2c_i0 = (u32)(w2c_j0);
-  w2c_j1 = 0ull;
-  i64_store(m, (u64)(w2c_i0) + 32, w2c_j1);
-  w2c_j0 = w2c_l6;
-  w2c_l10 = w2c_j0;
-  w2c_j0 = w2c_l9;
   w2c_p1 = w2c_j0;
-  w2c_L2:
-    w2c_j0 = w2c_l10;
-    w2c_i0 = !(w2c_j0);
-    w2c_l11 = w2c_i0;
-    if (w2c_i0) {goto w2c_B1;}
-    w2c_j0 = w2c_p1;
-    w2c_i0 = (u32)(w2c_j0);
-    w2c_i0 = i32_load8_s(m, (u64)(w2c_i0));
-    w2c_l12 = w2c_i0;
-    w2c_i1 = 255u;
-    w2c_i0 &= w2c_i1;
-    w2c_l13 = w2c_i0;
-    w2c_j0 = 1ull;
-    w2c_l2 = w2c_j0;
-    w2c_i0 = w2c_l12;
-    w2c_i1 = 4294967295u;
-    w2c_i0 = (u32)((s32)w2c_i0 > (s32)w2c_i1);
-    if (w2c_i0) {goto w2c_B3;}
-    w2c_j0 = w2c_p1;
-    w2c_i0 = (u32)(w2c_j0);
-    w2c_i0 = i32_load8_u(m, (u64)(w2c_i0) + 1u);
-    w2c_i1 = 63u;
-    w2c_i0 &= w2c_i1;
-    w2c_l14 = w2c_i0;
-    w2c_i0 = w2c_l12;
-    w2c_i1 = 4294967263u;
-    w2c_i0 = w2c_i0 > w2c_i1;
-    if (w2c_i0) {goto w2c_B4;}
-    w2c_i0 = w2c_l13;
-    w2c_i1 = 6u;
-    w2c_i0 <<= (w2c_i1 & 31);
-    w2c_i1 = 1984u;
-    w2c_i0 &= w2c_i1;
-    w2c_i1 = w2c_l14;
-    w2c_i0 |= w2c_i1;
-    w2c_l13 = w2c_i0;
-    w2c_j0 = 2ull;
-    w2c_l2 = w2c_j0;
-    goto w2c_B3;
-    w2c_B4:;
-    w2c_j0 = w2c_p1;
-    w2c_i0 = (u32)(w2c_j0);
-    w2c_i0 = i32_load8_u(m, (u64)(w2c_i0) + 2u);
-    w2c_i1 = 63u;
-    w2c_i0 &= w2c_i1;
-    w2c_l15 = w2c_i0;
-    w2c_i0 = w2c_l12;
-    w2c_i1 = 4294967279u;
-    w2c_i0 = w2c_i0 > w2c_i1;
-    if (w2c_i0) {goto w2c_B5;}
-    w2c_i0 = w2c_l14;
-    w2c_i1 = 6u;
-    w2c_i0 <<= (w2c_i1 & 31);
-    w2c_i1 = w2c_l13;
-    w2c_i2 = 12u;
-    w2c_i1 <<= (w2c_i2 & 31);
-    w2c_i2 = 61440u;
-    w2c_i1 &= w2c_i2;
-    w2c_i0 |= w2c_i1;
-    w2c_i1 = w2c_l15;
-    w2c_i0 |= w2c_i1;
-    w2c_l13 = w2c_i0;
-    w2c_j0 = 3ull;
-    w2c_l2 = w2c_j0;
-    goto w2c_B3;
-    w2c_B5:;
-    w2c_i0 = w2c_l15;
-    w2c_i1 = 6u;
-    w2c_i0 <<= (w2c_i1 & 31);
-    w2c_i1 = w2c_l14;
-    w2c_i2 = 12u;
-    w2c_i1 <<= (w2c_i2 & 31);
-    w2c_i2 = w2c_l13;
-    w2c_i3 = 18u;
-    w2c_i2 <<= (w2c_i3 & 31);
-    w2c_i3 = 1835008u;
-    w2c_i2 &= w2c_i3;
-    w2c_i1 |= w2c_i2;
-    w2c_i0 |= w2c_i1;
-    w2c_j1 = w2c_p1;
-    w2c_i1 = (u32)(w2c_j1);
-    w2c_i1 = i32_load8_u(m, (u64)(w2c_i1) + 3u);
-    w2c_i2 = 63u;
-    w2c_i1 &= w2c_i2;
-    w2c_i0 |= w2c_i1;
-    w2c_l13 = w2c_i0;
-    w2c_j0 = 4ull;
-    w2c_l2 = w2c_j0;
-    w2c_B3:;
-    w2c_j0 = w2c_l3;
-    w2c_j1 = 24ull;
-    w2c_j0 += w2c_j1;
-    w2c_i1 = w2c_l13;
-    w2c_f21(m, w2c_j0, w2c_i1);
-    w2c_j0 = w2c_l10;
-    w2c_j1 = w2c_l2;
-    w2c_j0 -= w2c_j1;
-    w2c_l10 = w2c_j0;
-    w2c_j0 = w2c_p1;
-    w2c_j1 = w2c_l2;
-    w2c_j0 += w2c_j1;
-    w2c_p1 = w2c_j0;
-    w2c_j0 = w2c_l3;
-    w2c_i0 = (u32)(w2c_j0);
-    w2c_i0 = i32_load8_u(m, (u64)(w2c_i0) + 24u);
-    w2c_i1 = 1u;
-    w2c_i0 = w2c_i0 == w2c_i1;
-    if (w2c_i0) {goto w2c_L2;}
-  w2c_B1:;
-  w2c_j0 = w2c_l7;
-  w2c_i0 = !(w2c_j0);
-  if (w2c_i0) {goto w2c_B7;}
-  w2c_j0 = w2c_l8;
   w2c_j1 = w2c_l7;
   w2c_j2 = 18446744073709551615ull;
   w2c_j1 += w2c_j2;
-  w2c_p1 = w2c_j1;
+  w2c_l8 = w2c_j1;
   w2c_j0 += w2c_j1;
   w2c_i0 = (u32)(w2c_j0);
   w2c_i0 = i32_load8_s(m, (u64)(w2c_i0));
-  w2c_l13 = w2c_i0;
+  w2c_l14 = w2c_i0;
   w2c_i1 = 0u;
   w2c_i0 = (u32)((s32)w2c_i0 >= (s32)w2c_i1);
-  if (w2c_i0) {goto w2c_B8;}
+  if (w2c_i0) {goto w2c_B5;}
   w2c_j0 = 18446744073709551614ull;
-  w2c_p1 = w2c_j0;
-  w2c_j0 = w2c_l8;
+  w2c_l8 = w2c_j0;
+  w2c_j0 = w2c_p1;
   w2c_j1 = w2c_l7;
   w2c_j0 += w2c_j1;
-  w2c_l2 = w2c_j0;
+  w2c_l9 = w2c_j0;
   w2c_j1 = 18446744073709551614ull;
   w2c_j0 += w2c_j1;
   w2c_i0 = (u32)(w2c_j0);
   w2c_i0 = i32_load8_u(m, (u64)(w2c_i0));
   w2c_i1 = 191u;
   w2c_i0 = w2c_i0 > w2c_i1;
-  if (w2c_i0) {goto w2c_B9;}
+  if (w2c_i0) {goto w2c_B6;}
   w2c_j0 = 18446744073709551613ull;
   w2c_j1 = 18446744073709551612ull;
-  w2c_j2 = w2c_l2;
+  w2c_j2 = w2c_l9;
   w2c_j3 = 18446744073709551613ull;
   w2c_j2 += w2c_j3;
   w2c_i2 = (u32)(w2c_j2);
@@ -10501,76 +10409,477 @@ static void w2c_f18(module *m, u64 w2c_p0, u64 w2c_p1) {
   w2c_i3 = 191u;
   w2c_i2 = w2c_i2 > w2c_i3;
   w2c_j0 = w2c_i2 ? w2c_j0 : w2c_j1;
-  w2c_p1 = w2c_j0;
-  w2c_B9:;
-  w2c_j0 = w2c_l8;
-  w2c_j1 = w2c_p1;
+  w2c_l8 = w2c_j0;
+  w2c_B6:;
+  w2c_j0 = w2c_p1;
+  w2c_j1 = w2c_l8;
   w2c_j2 = w2c_l7;
   w2c_j1 += w2c_j2;
-  w2c_p1 = w2c_j1;
+  w2c_l8 = w2c_j1;
   w2c_j0 += w2c_j1;
-  w2c_l2 = w2c_j0;
+  w2c_l9 = w2c_j0;
   w2c_i0 = (u32)(w2c_j0);
   w2c_i0 = i32_load8_s(m, (u64)(w2c_i0));
-  w2c_l12 = w2c_i0;
+  w2c_l15 = w2c_i0;
   w2c_i1 = 255u;
   w2c_i0 &= w2c_i1;
-  w2c_l13 = w2c_i0;
-  w2c_i0 = w2c_l12;
+  w2c_l14 = w2c_i0;
+  w2c_i0 = w2c_l15;
   w2c_i1 = 4294967295u;
   w2c_i0 = (u32)((s32)w2c_i0 > (s32)w2c_i1);
-  if (w2c_i0) {goto w2c_B8;}
-  w2c_j0 = w2c_l2;
+  if (w2c_i0) {goto w2c_B5;}
+  w2c_j0 = w2c_l9;
   w2c_i0 = (u32)(w2c_j0);
   w2c_i0 = i32_load8_u(m, (u64)(w2c_i0) + 1u);
   w2c_i1 = 63u;
   w2c_i0 &= w2c_i1;
-  w2c_l14 = w2c_i0;
-  w2c_i0 = w2c_l12;
+  w2c_l16 = w2c_i0;
+  w2c_i0 = w2c_l15;
   w2c_i1 = 4294967263u;
   w2c_i0 = w2c_i0 > w2c_i1;
-  if (w2c_i0) {goto w2c_B10;}
-  w2c_i0 = w2c_l13;
+  if (w2c_i0) {goto w2c_B7;}
+  w2c_i0 = w2c_l14;
   w2c_i1 = 6u;
   w2c_i0 <<= (w2c_i1 & 31);
   w2c_i1 = 1984u;
   w2c_i0 &= w2c_i1;
-  w2c_i1 = w2c_l14;
+  w2c_i1 = w2c_l16;
   w2c_i0 |= w2c_i1;
-  w2c_l13 = w2c_i0;
-  goto w2c_B8;
-  w2c_B10:;
-  w2c_j0 = w2c_l2;
+  w2c_l14 = w2c_i0;
+  goto w2c_B5;
+  w2c_B7:;
+  w2c_j0 = w2c_l9;
   w2c_i0 = (u32)(w2c_j0);
   w2c_i0 = i32_load8_u(m, (u64)(w2c_i0) + 2u);
   w2c_i1 = 63u;
   w2c_i0 &= w2c_i1;
-  w2c_l15 = w2c_i0;
-  w2c_i0 = w2c_l12;
+  w2c_l13 = w2c_i0;
+  w2c_i0 = w2c_l15;
   w2c_i1 = 4294967279u;
   w2c_i0 = w2c_i0 > w2c_i1;
-  if (w2c_i0) {goto w2c_B11;}
-  w2c_i0 = w2c_l14;
+  if (w2c_i0) {goto w2c_B8;}
+  w2c_i0 = w2c_l16;
   w2c_i1 = 6u;
   w2c_i0 <<= (w2c_i1 & 31);
-  w2c_i1 = w2c_l13;
+  w2c_i1 = w2c_l14;
   w2c_i2 = 12u;
   w2c_i1 <<= (w2c_i2 & 31);
   w2c_i2 = 61440u;
   w2c_i1 &= w2c_i2;
   w2c_i0 |= w2c_i1;
-  w2c_i1 = w2c_l15;
+  w2c_i1 = w2c_l13;
   w2c_i0 |= w2c_i1;
+  w2c_l14 = w2c_i0;
+  goto w2c_B5;
+  w2c_B8:;
+  w2c_i0 = w2c_l13;
+  w2c_i1 = 6u;
+  w2c_i0 <<= (w2c_i1 & 31);
+  w2c_i1 = w2c_l16;
+  w2c_i2 = 12u;
+  w2c_i1 <<= (w2c_i2 & 31);
+  w2c_i2 = w2c_l14;
+  w2c_i3 = 18u;
+  w2c_i2 <<= (w2c_i3 & 31);
+  w2c_i3 = 1835008u;
+  w2c_i2 &= w2c_i3;
+  w2c_i1 |= w2c_i2;
+  w2c_i0 |= w2c_i1;
+  w2c_j1 = w2c_l9;
+  w2c_i1 = (u32)(w2c_j1);
+  w2c_i1 = i32_load8_u(m, (u64)(w2c_i1) + 3u);
+  w2c_i2 = 63u;
+  w2c_i1 &= w2c_i2;
+  w2c_i0 |= w2c_i1;
+  w2c_l14 = w2c_i0;
+  w2c_B5:;
+  w2c_i0 = 1u;
+  w2c_l12 = w2c_i0;
+  w2c_i0 = 1u;
   w2c_l13 = w2c_i0;
-  goto w2c_B8;
+  w2c_i0 = w2c_l14;
+  w2c_i1 = 4294967248u;
+  w2c_i0 += w2c_i1;
+  w2c_i1 = 10u;
+  w2c_i0 = w2c_i0 < w2c_i1;
+  if (w2c_i0) {goto w2c_B1;}
+  w2c_i0 = 1u;
+  w2c_l13 = w2c_i0;
+  w2c_i0 = w2c_l14;
+  w2c_i1 = 4294967263u;
+  w2c_i0 &= w2c_i1;
+  w2c_i1 = 4294967231u;
+  w2c_i0 += w2c_i1;
+  w2c_i1 = 26u;
+  w2c_i0 = w2c_i0 < w2c_i1;
+  if (w2c_i0) {goto w2c_B1;}
+  w2c_i0 = 1u;
+  w2c_l13 = w2c_i0;
+  w2c_i0 = w2c_l14;
+  w2c_i1 = 4294902000u;
+  w2c_i0 += w2c_i1;
+  w2c_i1 = 10u;
+  w2c_i0 = w2c_i0 < w2c_i1;
+  if (w2c_i0) {goto w2c_B1;}
+  w2c_i0 = w2c_l14;
+  w2c_i1 = 4294965248u;
+  w2c_i0 += w2c_i1;
+  w2c_i1 = 63487u;
+  w2c_i0 = w2c_i0 > w2c_i1;
+  if (w2c_i0) {goto w2c_B10;}
+  w2c_i0 = w2c_l14;
+  w2c_i1 = 12u;
+  w2c_i0 >>= (w2c_i1 & 31);
+  w2c_i1 = w2c_l14;
+  w2c_i2 = 2u;
+  w2c_i1 <<= (w2c_i2 & 31);
+  w2c_i2 = 16128u;
+  w2c_i1 &= w2c_i2;
+  w2c_i0 |= w2c_i1;
+  w2c_i1 = w2c_l14;
+  w2c_i2 = 16u;
+  w2c_i1 <<= (w2c_i2 & 31);
+  w2c_i2 = 4128768u;
+  w2c_i1 &= w2c_i2;
+  w2c_i0 |= w2c_i1;
+  w2c_i1 = 8421600u;
+  w2c_i0 |= w2c_i1;
+  w2c_l15 = w2c_i0;
+  w2c_j0 = (u64)(w2c_i0);
+  w2c_j1 = 953497ull;
+  w2c_j0 *= w2c_j1;
+  w2c_j1 = 22ull;
+  w2c_j0 >>= (w2c_j1 & 63);
+  w2c_j1 = 1016ull;
+  w2c_j0 &= w2c_j1;
+  w2c_l9 = w2c_j0;
+  w2c_i0 = (u32)(w2c_j0);
+  w2c_i0 = i32_load(m, (u64)(w2c_i0) + 66992u);
+  w2c_i1 = w2c_l15;
+  w2c_i0 = w2c_i0 != w2c_i1;
+  if (w2c_i0) {goto w2c_B9;}
+  w2c_i0 = 1u;
+  w2c_l13 = w2c_i0;
+  w2c_j0 = w2c_l9;
+  w2c_j1 = 66996ull;
+  w2c_j0 += w2c_j1;
+  w2c_i0 = (u32)(w2c_j0);
+  w2c_i0 = i32_load8_u(m, (u64)(w2c_i0));
+  w2c_i1 = 255u;
+  w2c_i0 &= w2c_i1;
+  if (w2c_i0) {goto w2c_B9;}
+  goto w2c_B1;
+  w2c_B10:;
+  w2c_j0 = w2c_l3;
+  w2c_j1 = 40ull;
+  w2c_j0 += w2c_j1;
+  w2c_i1 = w2c_l14;
+  w2c_f21(m, w2c_j0, w2c_i1);
+  w2c_i0 = 1u;
+  w2c_l13 = w2c_i0;
+  w2c_j0 = w2c_l3;
+  w2c_i0 = (u32)(w2c_j0);
+  w2c_i0 = i32_load8_u(m, (u64)(w2c_i0) + 40u);
+  w2c_i1 = 1u;
+  w2c_i0 = w2c_i0 == w2c_i1;
+  if (w2c_i0) {goto w2c_B1;}
+  w2c_j0 = w2c_l3;
+  w2c_j1 = 32ull;
+  w2c_j0 += w2c_j1;
+  w2c_i1 = w2c_l14;
+  w2c_f19(m, w2c_j0, w2c_i1);
+  w2c_B9:;
+  w2c_i0 = w2c_l14;
+  w2c_i1 = 24318u;
+  w2c_i0 = (u32)((s32)w2c_i0 > (s32)w2c_i1);
+  if (w2c_i0) {goto w2c_B13;}
+  w2c_i0 = 1u;
+  w2c_l13 = w2c_i0;
+  w2c_i0 = w2c_l14;
+  w2c_i1 = 4294945979u;
+  w2c_i0 += w2c_i1;
+  switch (w2c_i0) {
+    case 0: goto w2c_B1;
+    case 1: goto w2c_B12;
+    case 2: goto w2c_B12;
+    case 3: goto w2c_B12;
+    case 4: goto w2c_B12;
+    case 5: goto w2c_B12;
+    case 6: goto w2c_B12;
+    case 7: goto w2c_B1;
+    default: goto w2c_B14;
+  }
+  w2c_B14:;
+  w2c_i0 = 1u;
+  w2c_l13 = w2c_i0;
+  w2c_i0 = w2c_l14;
+  w2c_i1 = 95u;
+  w2c_i0 = w2c_i0 == w2c_i1;
+  if (w2c_i0) {goto w2c_B1;}
+  w2c_i0 = 1u;
+  w2c_l13 = w2c_i0;
+  w2c_i0 = w2c_l14;
+  w2c_i1 = 24186u;
+  w2c_i0 = w2c_i0 != w2c_i1;
+  if (w2c_i0) {goto w2c_B12;}
+  goto w2c_B1;
+  w2c_B13:;
+  w2c_i0 = 1u;
+  w2c_l13 = w2c_i0;
+  w2c_i0 = w2c_l14;
+  w2c_i1 = 24319u;
+  w2c_i0 = w2c_i0 == w2c_i1;
+  if (w2c_i0) {goto w2c_B1;}
+  w2c_i0 = w2c_l14;
+  w2c_i1 = 28857u;
+  w2c_i0 = w2c_i0 == w2c_i1;
+  if (w2c_i0) {goto w2c_B11;}
+  w2c_i0 = w2c_l14;
+  w2c_i1 = 40670u;
+  w2c_i0 = w2c_i0 == w2c_i1;
+  if (w2c_i0) {goto w2c_B11;}
+  w2c_B12:;
+  w2c_i0 = 0u;
+  w2c_l13 = w2c_i0;
+  w2c_i0 = w2c_l14;
+  w2c_i1 = 4294967249u;
+  w2c_i0 += w2c_i1;
+  w2c_i1 = 4294967293u;
+  w2c_i0 = w2c_i0 < w2c_i1;
+  if (w2c_i0) {goto w2c_B1;}
+  w2c_j0 = w2c_l8;
+  w2c_i0 = !(w2c_j0);
+  if (w2c_i0) {goto w2c_B1;}
+  goto w2c_B2;
   w2c_B11:;
+  w2c_j0 = w2c_l8;
+  w2c_i0 = !(w2c_j0);
+  w2c_i0 = !(w2c_i0);
+  if (w2c_i0) {goto w2c_B2;}
+  w2c_i0 = 0u;
+  w2c_l13 = w2c_i0;
+  goto w2c_B1;
+  w2c_B3:;
+  UNREACHABLE;
+  w2c_B2:;
+  w2c_j0 = w2c_p1;
+  w2c_j1 = w2c_l8;
+  w2c_j0 += w2c_j1;
+  w2c_l9 = w2c_j0;
+  w2c_j1 = 18446744073709551615ull;
+  w2c_j0 += w2c_j1;
+  w2c_i0 = (u32)(w2c_j0);
+  w2c_i0 = i32_load8_s(m, (u64)(w2c_i0));
+  w2c_l15 = w2c_i0;
+  w2c_i1 = 0u;
+  w2c_i0 = (u32)((s32)w2c_i0 >= (s32)w2c_i1);
+  if (w2c_i0) {goto w2c_B15;}
+  w2c_j0 = 18446744073709551614ull;
+  w2c_l10 = w2c_j0;
+  w2c_j0 = w2c_l9;
+  w2c_j1 = 18446744073709551614ull;
+  w2c_j0 += w2c_j1;
+  w2c_i0 = (u32)(w2c_j0);
+  w2c_i0 = i32_load8_u(m, (u64)(w2c_i0));
+  w2c_i1 = 191u;
+  w2c_i0 = w2c_i0 > w2c_i1;
+  if (w2c_i0) {goto w2c_B16;}
+  w2c_j0 = 18446744073709551613ull;
+  w2c_j1 = 18446744073709551612ull;
+  w2c_j2 = w2c_l9;
+  w2c_j3 = 18446744073709551613ull;
+  w2c_j2 += w2c_j3;
+  w2c_i2 = (u32)(w2c_j2);
+  w2c_i2 = i32_load8_u(m, (u64)(w2c_i2));
+  w2c_i3 = 191u;
+  w2c_i2 = w2c_i2 > w2c_i3;
+  w2c_j0 = w2c_i2 ? w2c_j0 : w2c_j1;
+  w2c_l10 = w2c_j0;
+  w2c_B16:;
+  w2c_j0 = w2c_p1;
+  w2c_j1 = w2c_l10;
+  w2c_j0 += w2c_j1;
+  w2c_j1 = w2c_l8;
+  w2c_j0 += w2c_j1;
+  w2c_p1 = w2c_j0;
+  w2c_i0 = (u32)(w2c_j0);
+  w2c_i0 = i32_load8_s(m, (u64)(w2c_i0));
+  w2c_l16 = w2c_i0;
+  w2c_i1 = 255u;
+  w2c_i0 &= w2c_i1;
+  w2c_l15 = w2c_i0;
+  w2c_i0 = w2c_l16;
+  w2c_i1 = 4294967295u;
+  w2c_i0 = (u32)((s32)w2c_i0 > (s32)w2c_i1);
+  if (w2c_i0) {goto w2c_B15;}
+  w2c_j0 = w2c_p1;
+  w2c_i0 = (u32)(w2c_j0);
+  w2c_i0 = i32_load8_u(m, (u64)(w2c_i0) + 1u);
+  w2c_i1 = 63u;
+  w2c_i0 &= w2c_i1;
+  w2c_l13 = w2c_i0;
+  w2c_i0 = w2c_l16;
+  w2c_i1 = 4294967263u;
+  w2c_i0 = w2c_i0 > w2c_i1;
+  if (w2c_i0) {goto w2c_B17;}
   w2c_i0 = w2c_l15;
+  w2c_i1 = 6u;
+  w2c_i0 <<= (w2c_i1 & 31);
+  w2c_i1 = 1984u;
+  w2c_i0 &= w2c_i1;
+  w2c_i1 = w2c_l13;
+  w2c_i0 |= w2c_i1;
+  w2c_l15 = w2c_i0;
+  goto w2c_B15;
+  w2c_B17:;
+  w2c_j0 = w2c_p1;
+  w2c_i0 = (u32)(w2c_j0);
+  w2c_i0 = i32_load8_u(m, (u64)(w2c_i0) + 2u);
+  w2c_i1 = 63u;
+  w2c_i0 &= w2c_i1;
+  w2c_l17 = w2c_i0;
+  w2c_i0 = w2c_l16;
+  w2c_i1 = 4294967279u;
+  w2c_i0 = w2c_i0 > w2c_i1;
+  if (w2c_i0) {goto w2c_B18;}
+  w2c_i0 = w2c_l13;
+  w2c_i1 = 6u;
+  w2c_i0 <<= (w2c_i1 & 31);
+  w2c_i1 = w2c_l15;
+  w2c_i2 = 12u;
+  w2c_i1 <<= (w2c_i2 & 31);
+  w2c_i2 = 61440u;
+  w2c_i1 &= w2c_i2;
+  w2c_i0 |= w2c_i1;
+  w2c_i1 = w2c_l17;
+  w2c_i0 |= w2c_i1;
+  w2c_l15 = w2c_i0;
+  goto w2c_B15;
+  w2c_B18:;
+  w2c_i0 = w2c_l17;
+  w2c_i1 = 6u;
+  w2c_i0 <<= (w2c_i1 & 31);
+  w2c_i1 = w2c_l13;
+  w2c_i2 = 12u;
+  w2c_i1 <<= (w2c_i2 & 31);
+  w2c_i2 = w2c_l15;
+  w2c_i3 = 18u;
+  w2c_i2 <<= (w2c_i3 & 31);
+  w2c_i3 = 1835008u;
+  w2c_i2 &= w2c_i3;
+  w2c_i1 |= w2c_i2;
+  w2c_i0 |= w2c_i1;
+  w2c_j1 = w2c_p1;
+  w2c_i1 = (u32)(w2c_j1);
+  w2c_i1 = i32_load8_u(m, (u64)(w2c_i1) + 3u);
+  w2c_i2 = 63u;
+  w2c_i1 &= w2c_i2;
+  w2c_i0 |= w2c_i1;
+  w2c_l15 = w2c_i0;
+  w2c_B15:;
+  w2c_i0 = w2c_l15;
+  w2c_i0 = w2c_f24(m, w2c_i0);
+  w2c_l13 = w2c_i0;
+  w2c_B1:;
+  w2c_i0 = w2c_l14;
+  w2c_i1 = 4294941328u;
+  w2c_i0 += w2c_i1;
+  switch (w2c_i0) {
+    case 0: goto w2c_B0;
+    case 1: goto w2c_B19;
+    case 2: goto w2c_B19;
+    case 3: goto w2c_B19;
+    case 4: goto w2c_B19;
+    case 5: goto w2c_B19;
+    case 6: goto w2c_B19;
+    case 7: goto w2c_B19;
+    case 8: goto w2c_B0;
+    default: goto w2c_B20;
+  }
+  w2c_B20:;
+  w2c_i0 = w2c_l14;
+  w2c_i1 = 20960u;
+  w2c_i0 = w2c_i0 == w2c_i1;
+  if (w2c_i0) {goto w2c_B0;}
+  w2c_i0 = w2c_l14;
+  w2c_i1 = 24190u;
+  w2c_i0 = w2c_i0 == w2c_i1;
+  if (w2c_i0) {goto w2c_B0;}
+  w2c_B19:;
+  w2c_i0 = 0u;
+  w2c_l12 = w2c_i0;
+  w2c_B0:;
+  w2c_j0 = w2c_l4;
+  w2c_i0 = !(w2c_j0);
+  if (w2c_i0) {goto w2c_B21;}
+  w2c_j0 = w2c_l2;
+  w2c_i0 = (u32)(w2c_j0);
+  w2c_i0 = i32_load8_s(m, (u64)(w2c_i0));
+  w2c_l15 = w2c_i0;
+  w2c_i1 = 255u;
+  w2c_i0 &= w2c_i1;
+  w2c_l14 = w2c_i0;
+  w2c_j0 = 1ull;
+  w2c_p1 = w2c_j0;
+  w2c_i0 = w2c_l15;
+  w2c_i1 = 4294967295u;
+  w2c_i0 = (u32)((s32)w2c_i0 > (s32)w2c_i1);
+  if (w2c_i0) {goto w2c_B22;}
+  w2c_j0 = w2c_l2;
+  w2c_i0 = (u32)(w2c_j0);
+  w2c_i0 = i32_load8_u(m, (u64)(w2c_i0) + 1u);
+  w2c_i1 = 63u;
+  w2c_i0 &= w2c_i1;
+  w2c_l16 = w2c_i0;
+  w2c_i0 = w2c_l15;
+  w2c_i1 = 4294967263u;
+  w2c_i0 = w2c_i0 > w2c_i1;
+  if (w2c_i0) {goto w2c_B23;}
+  w2c_i0 = w2c_l14;
+  w2c_i1 = 6u;
+  w2c_i0 <<= (w2c_i1 & 31);
+  w2c_i1 = 1984u;
+  w2c_i0 &= w2c_i1;
+  w2c_i1 = w2c_l16;
+  w2c_i0 |= w2c_i1;
+  w2c_l14 = w2c_i0;
+  w2c_j0 = 2ull;
+  w2c_p1 = w2c_j0;
+  goto w2c_B22;
+  w2c_B23:;
+  w2c_j0 = w2c_l2;
+  w2c_i0 = (u32)(w2c_j0);
+  w2c_i0 = i32_load8_u(m, (u64)(w2c_i0) + 2u);
+  w2c_i1 = 63u;
+  w2c_i0 &= w2c_i1;
+  w2c_l11 = w2c_i0;
+  w2c_i0 = w2c_l15;
+  w2c_i1 = 4294967279u;
+  w2c_i0 = w2c_i0 > w2c_i1;
+  if (w2c_i0) {goto w2c_B24;}
+  w2c_i0 = w2c_l16;
   w2c_i1 = 6u;
   w2c_i0 <<= (w2c_i1 & 31);
   w2c_i1 = w2c_l14;
   w2c_i2 = 12u;
   w2c_i1 <<= (w2c_i2 & 31);
-  w2c_i2 = w2c_l13;
+  w2c_i2 = 61440u;
+  w2c_i1 &= w2c_i2;
+  w2c_i0 |= w2c_i1;
+  w2c_i1 = w2c_l11;
+  w2c_i0 |= w2c_i1;
+  w2c_l14 = w2c_i0;
+  w2c_j0 = 3ull;
+  w2c_p1 = w2c_j0;
+  goto w2c_B22;
+  w2c_B24:;
+  w2c_i0 = w2c_l11;
+  w2c_i1 = 6u;
+  w2c_i0 <<= (w2c_i1 & 31);
+  w2c_i1 = w2c_l16;
+  w2c_i2 = 12u;
+  w2c_i1 <<= (w2c_i2 & 31);
+  w2c_i2 = w2c_l14;
   w2c_i3 = 18u;
   w2c_i2 <<= (w2c_i3 & 31);
   w2c_i3 = 1835008u;
@@ -10583,345 +10892,242 @@ static void w2c_f18(module *m, u64 w2c_p0, u64 w2c_p1) {
   w2c_i2 = 63u;
   w2c_i1 &= w2c_i2;
   w2c_i0 |= w2c_i1;
-  w2c_l13 = w2c_i0;
-  w2c_B8:;
-  w2c_i0 = w2c_l13;
-  w2c_i0 = w2c_f24(m, w2c_i0);
-  if (w2c_i0) {goto w2c_B6;}
-  w2c_i0 = w2c_l13;
-  w2c_i1 = 28857u;
-  w2c_i0 = w2c_i0 == w2c_i1;
-  if (w2c_i0) {goto w2c_B13;}
-  w2c_i0 = w2c_l13;
-  w2c_i1 = 40670u;
-  w2c_i0 = w2c_i0 == w2c_i1;
-  if (w2c_i0) {goto w2c_B13;}
-  w2c_i0 = w2c_l13;
-  w2c_i1 = 4294967249u;
+  w2c_l14 = w2c_i0;
+  w2c_j0 = 4ull;
+  w2c_p1 = w2c_j0;
+  w2c_B22:;
+  w2c_i0 = 1u;
+  w2c_l11 = w2c_i0;
+  w2c_i0 = 1u;
+  w2c_l15 = w2c_i0;
+  w2c_i0 = w2c_l14;
+  w2c_i1 = 4294967248u;
   w2c_i0 += w2c_i1;
-  w2c_i1 = 4294967293u;
+  w2c_i1 = 10u;
   w2c_i0 = w2c_i0 < w2c_i1;
-  if (w2c_i0) {goto w2c_B7;}
-  w2c_j0 = w2c_p1;
-  w2c_i0 = !(w2c_j0);
-  w2c_i0 = !(w2c_i0);
-  if (w2c_i0) {goto w2c_B12;}
-  goto w2c_B7;
-  w2c_B13:;
-  w2c_j0 = w2c_p1;
-  w2c_i0 = !(w2c_j0);
-  if (w2c_i0) {goto w2c_B7;}
-  w2c_B12:;
-  w2c_j0 = w2c_l8;
-  w2c_j1 = w2c_p1;
-  w2c_j0 += w2c_j1;
-  w2c_l2 = w2c_j0;
-  w2c_j1 = 18446744073709551615ull;
-  w2c_j0 += w2c_j1;
+  if (w2c_i0) {goto w2c_B25;}
+  w2c_i0 = 1u;
+  w2c_l15 = w2c_i0;
+  w2c_i0 = w2c_l14;
+  w2c_i1 = 2097119u;
+  w2c_i0 &= w2c_i1;
+  w2c_i1 = 4294967231u;
+  w2c_i0 += w2c_i1;
+  w2c_i1 = 26u;
+  w2c_i0 = w2c_i0 < w2c_i1;
+  if (w2c_i0) {goto w2c_B25;}
+  w2c_i0 = 1u;
+  w2c_l15 = w2c_i0;
+  w2c_i0 = w2c_l14;
+  w2c_i1 = 4294902000u;
+  w2c_i0 += w2c_i1;
+  w2c_i1 = 10u;
+  w2c_i0 = w2c_i0 < w2c_i1;
+  if (w2c_i0) {goto w2c_B25;}
+  w2c_i0 = w2c_l14;
+  w2c_i1 = 4294965248u;
+  w2c_i0 += w2c_i1;
+  w2c_i1 = 63487u;
+  w2c_i0 = w2c_i0 > w2c_i1;
+  if (w2c_i0) {goto w2c_B27;}
+  w2c_i0 = w2c_l14;
+  w2c_i1 = 12u;
+  w2c_i0 >>= (w2c_i1 & 31);
+  w2c_i1 = w2c_l14;
+  w2c_i2 = 2u;
+  w2c_i1 <<= (w2c_i2 & 31);
+  w2c_i2 = 16128u;
+  w2c_i1 &= w2c_i2;
+  w2c_i0 |= w2c_i1;
+  w2c_i1 = w2c_l14;
+  w2c_i2 = 16u;
+  w2c_i1 <<= (w2c_i2 & 31);
+  w2c_i2 = 4128768u;
+  w2c_i1 &= w2c_i2;
+  w2c_i0 |= w2c_i1;
+  w2c_i1 = 8421600u;
+  w2c_i0 |= w2c_i1;
+  w2c_l15 = w2c_i0;
+  w2c_j0 = (u64)(w2c_i0);
+  w2c_j1 = 953497ull;
+  w2c_j0 *= w2c_j1;
+  w2c_j1 = 22ull;
+  w2c_j0 >>= (w2c_j1 & 63);
+  w2c_j1 = 1016ull;
+  w2c_j0 &= w2c_j1;
+  w2c_l8 = w2c_j0;
   w2c_i0 = (u32)(w2c_j0);
-  w2c_i0 = i32_load8_s(m, (u64)(w2c_i0));
-  w2c_l13 = w2c_i0;
-  w2c_i1 = 0u;
-  w2c_i0 = (u32)((s32)w2c_i0 >= (s32)w2c_i1);
-  if (w2c_i0) {goto w2c_B14;}
-  w2c_j0 = 18446744073709551614ull;
-  w2c_l10 = w2c_j0;
-  w2c_j0 = w2c_l2;
-  w2c_j1 = 18446744073709551614ull;
+  w2c_i0 = i32_load(m, (u64)(w2c_i0) + 66992u);
+  w2c_i1 = w2c_l15;
+  w2c_i0 = w2c_i0 != w2c_i1;
+  if (w2c_i0) {goto w2c_B26;}
+  w2c_i0 = 1u;
+  w2c_l15 = w2c_i0;
+  w2c_j0 = w2c_l8;
+  w2c_j1 = 66996ull;
   w2c_j0 += w2c_j1;
   w2c_i0 = (u32)(w2c_j0);
   w2c_i0 = i32_load8_u(m, (u64)(w2c_i0));
-  w2c_i1 = 191u;
-  w2c_i0 = w2c_i0 > w2c_i1;
-  if (w2c_i0) {goto w2c_B15;}
-  w2c_j0 = 18446744073709551613ull;
-  w2c_j1 = 18446744073709551612ull;
-  w2c_j2 = w2c_l2;
-  w2c_j3 = 18446744073709551613ull;
-  w2c_j2 += w2c_j3;
-  w2c_i2 = (u32)(w2c_j2);
-  w2c_i2 = i32_load8_u(m, (u64)(w2c_i2));
-  w2c_i3 = 191u;
-  w2c_i2 = w2c_i2 > w2c_i3;
-  w2c_j0 = w2c_i2 ? w2c_j0 : w2c_j1;
-  w2c_l10 = w2c_j0;
-  w2c_B15:;
-  w2c_j0 = w2c_l8;
-  w2c_j1 = w2c_l10;
-  w2c_j0 += w2c_j1;
-  w2c_j1 = w2c_p1;
-  w2c_j0 += w2c_j1;
-  w2c_p1 = w2c_j0;
-  w2c_i0 = (u32)(w2c_j0);
-  w2c_i0 = i32_load8_s(m, (u64)(w2c_i0));
-  w2c_l12 = w2c_i0;
   w2c_i1 = 255u;
   w2c_i0 &= w2c_i1;
-  w2c_l13 = w2c_i0;
-  w2c_i0 = w2c_l12;
-  w2c_i1 = 4294967295u;
-  w2c_i0 = (u32)((s32)w2c_i0 > (s32)w2c_i1);
-  if (w2c_i0) {goto w2c_B14;}
-  w2c_j0 = w2c_p1;
-  w2c_i0 = (u32)(w2c_j0);
-  w2c_i0 = i32_load8_u(m, (u64)(w2c_i0) + 1u);
-  w2c_i1 = 63u;
-  w2c_i0 &= w2c_i1;
-  w2c_l14 = w2c_i0;
-  w2c_i0 = w2c_l12;
-  w2c_i1 = 4294967263u;
-  w2c_i0 = w2c_i0 > w2c_i1;
-  if (w2c_i0) {goto w2c_B16;}
-  w2c_i0 = w2c_l13;
-  w2c_i1 = 6u;
-  w2c_i0 <<= (w2c_i1 & 31);
-  w2c_i1 = 1984u;
-  w2c_i0 &= w2c_i1;
+  if (w2c_i0) {goto w2c_B26;}
+  goto w2c_B25;
+  w2c_B27:;
+  w2c_j0 = w2c_l3;
+  w2c_j1 = 24ull;
+  w2c_j0 += w2c_j1;
   w2c_i1 = w2c_l14;
-  w2c_i0 |= w2c_i1;
-  w2c_l13 = w2c_i0;
-  goto w2c_B14;
-  w2c_B16:;
-  w2c_j0 = w2c_p1;
-  w2c_i0 = (u32)(w2c_j0);
-  w2c_i0 = i32_load8_u(m, (u64)(w2c_i0) + 2u);
-  w2c_i1 = 63u;
-  w2c_i0 &= w2c_i1;
+  w2c_f21(m, w2c_j0, w2c_i1);
+  w2c_i0 = 1u;
   w2c_l15 = w2c_i0;
-  w2c_i0 = w2c_l12;
-  w2c_i1 = 4294967279u;
-  w2c_i0 = w2c_i0 > w2c_i1;
-  if (w2c_i0) {goto w2c_B17;}
-  w2c_i0 = w2c_l14;
-  w2c_i1 = 6u;
-  w2c_i0 <<= (w2c_i1 & 31);
-  w2c_i1 = w2c_l13;
-  w2c_i2 = 12u;
-  w2c_i1 <<= (w2c_i2 & 31);
-  w2c_i2 = 61440u;
-  w2c_i1 &= w2c_i2;
-  w2c_i0 |= w2c_i1;
-  w2c_i1 = w2c_l15;
-  w2c_i0 |= w2c_i1;
-  w2c_l13 = w2c_i0;
-  goto w2c_B14;
-  w2c_B17:;
-  w2c_i0 = w2c_l15;
-  w2c_i1 = 6u;
-  w2c_i0 <<= (w2c_i1 & 31);
-  w2c_i1 = w2c_l14;
-  w2c_i2 = 12u;
-  w2c_i1 <<= (w2c_i2 & 31);
-  w2c_i2 = w2c_l13;
-  w2c_i3 = 18u;
-  w2c_i2 <<= (w2c_i3 & 31);
-  w2c_i3 = 1835008u;
-  w2c_i2 &= w2c_i3;
-  w2c_i1 |= w2c_i2;
-  w2c_i0 |= w2c_i1;
-  w2c_j1 = w2c_p1;
-  w2c_i1 = (u32)(w2c_j1);
-  w2c_i1 = i32_load8_u(m, (u64)(w2c_i1) + 3u);
-  w2c_i2 = 63u;
-  w2c_i1 &= w2c_i2;
-  w2c_i0 |= w2c_i1;
-  w2c_l13 = w2c_i0;
-  w2c_B14:;
-  w2c_i0 = w2c_l13;
-  w2c_i0 = w2c_f24(m, w2c_i0);
-  if (w2c_i0) {goto w2c_B6;}
+  w2c_j0 = w2c_l3;
+  w2c_i0 = (u32)(w2c_j0);
+  w2c_i0 = i32_load8_u(m, (u64)(w2c_i0) + 24u);
+  w2c_i1 = 1u;
+  w2c_i0 = w2c_i0 == w2c_i1;
+  if (w2c_i0) {goto w2c_B25;}
   w2c_j0 = w2c_l3;
   w2c_j1 = 16ull;
   w2c_j0 += w2c_j1;
-  w2c_i1 = w2c_l13;
+  w2c_i1 = w2c_l14;
   w2c_f19(m, w2c_j0, w2c_i1);
-  w2c_j0 = w2c_l3;
-  w2c_i0 = (u32)(w2c_j0);
-  w2c_i0 = i32_load8_u(m, (u64)(w2c_i0) + 16u);
-  w2c_i1 = 1u;
-  w2c_i0 = w2c_i0 == w2c_i1;
-  if (w2c_i0) {goto w2c_B6;}
-  w2c_B7:;
-  w2c_j0 = w2c_l4;
-  w2c_i0 = !(w2c_j0);
-  if (w2c_i0) {goto w2c_B18;}
-  w2c_j0 = w2c_l5;
-  w2c_i0 = (u32)(w2c_j0);
-  w2c_i0 = i32_load8_s(m, (u64)(w2c_i0));
-  w2c_l12 = w2c_i0;
-  w2c_i1 = 255u;
-  w2c_i0 &= w2c_i1;
-  w2c_l13 = w2c_i0;
-  w2c_j0 = 1ull;
-  w2c_p1 = w2c_j0;
-  w2c_i0 = w2c_l12;
-  w2c_i1 = 4294967295u;
-  w2c_i0 = (u32)((s32)w2c_i0 > (s32)w2c_i1);
-  if (w2c_i0) {goto w2c_B19;}
-  w2c_j0 = w2c_l5;
-  w2c_i0 = (u32)(w2c_j0);
-  w2c_i0 = i32_load8_u(m, (u64)(w2c_i0) + 1u);
-  w2c_i1 = 63u;
-  w2c_i0 &= w2c_i1;
-  w2c_l14 = w2c_i0;
-  w2c_i0 = w2c_l12;
-  w2c_i1 = 4294967263u;
-  w2c_i0 = w2c_i0 > w2c_i1;
-  if (w2c_i0) {goto w2c_B20;}
-  w2c_i0 = w2c_l13;
-  w2c_i1 = 6u;
-  w2c_i0 <<= (w2c_i1 & 31);
-  w2c_i1 = 1984u;
-  w2c_i0 &= w2c_i1;
-  w2c_i1 = w2c_l14;
-  w2c_i0 |= w2c_i1;
-  w2c_l13 = w2c_i0;
-  w2c_j0 = 2ull;
-  w2c_p1 = w2c_j0;
-  goto w2c_B19;
-  w2c_B20:;
-  w2c_j0 = w2c_l5;
-  w2c_i0 = (u32)(w2c_j0);
-  w2c_i0 = i32_load8_u(m, (u64)(w2c_i0) + 2u);
-  w2c_i1 = 63u;
-  w2c_i0 &= w2c_i1;
-  w2c_l15 = w2c_i0;
-  w2c_i0 = w2c_l12;
-  w2c_i1 = 4294967279u;
-  w2c_i0 = w2c_i0 > w2c_i1;
-  if (w2c_i0) {goto w2c_B21;}
+  w2c_B26:;
   w2c_i0 = w2c_l14;
-  w2c_i1 = 6u;
-  w2c_i0 <<= (w2c_i1 & 31);
-  w2c_i1 = w2c_l13;
-  w2c_i2 = 12u;
-  w2c_i1 <<= (w2c_i2 & 31);
-  w2c_i2 = 61440u;
-  w2c_i1 &= w2c_i2;
-  w2c_i0 |= w2c_i1;
-  w2c_i1 = w2c_l15;
-  w2c_i0 |= w2c_i1;
-  w2c_l13 = w2c_i0;
-  w2c_j0 = 3ull;
-  w2c_p1 = w2c_j0;
-  goto w2c_B19;
-  w2c_B21:;
-  w2c_i0 = w2c_l15;
-  w2c_i1 = 6u;
-  w2c_i0 <<= (w2c_i1 & 31);
-  w2c_i1 = w2c_l14;
-  w2c_i2 = 12u;
-  w2c_i1 <<= (w2c_i2 & 31);
-  w2c_i2 = w2c_l13;
-  w2c_i3 = 18u;
-  w2c_i2 <<= (w2c_i3 & 31);
-  w2c_i3 = 1835008u;
-  w2c_i2 &= w2c_i3;
-  w2c_i1 |= w2c_i2;
-  w2c_i0 |= w2c_i1;
-  w2c_j1 = w2c_l5;
-  w2c_i1 = (u32)(w2c_j1);
-  w2c_i1 = i32_load8_u(m, (u64)(w2c_i1) + 3u);
-  w2c_i2 = 63u;
-  w2c_i1 &= w2c_i2;
-  w2c_i0 |= w2c_i1;
-  w2c_l13 = w2c_i0;
-  w2c_j0 = 4ull;
-  w2c_p1 = w2c_j0;
-  w2c_B19:;
-  w2c_i0 = w2c_l13;
-  w2c_i0 = w2c_f24(m, w2c_i0);
-  if (w2c_i0) {goto w2c_B6;}
-  w2c_i0 = w2c_l13;
+  w2c_i1 = 24318u;
+  w2c_i0 = (u32)((s32)w2c_i0 > (s32)w2c_i1);
+  if (w2c_i0) {goto w2c_B31;}
+  w2c_i0 = 1u;
+  w2c_l15 = w2c_i0;
+  w2c_i0 = w2c_l14;
+  w2c_i1 = 4294945979u;
+  w2c_i0 += w2c_i1;
+  switch (w2c_i0) {
+    case 0: goto w2c_B25;
+    case 1: goto w2c_B30;
+    case 2: goto w2c_B30;
+    case 3: goto w2c_B30;
+    case 4: goto w2c_B30;
+    case 5: goto w2c_B30;
+    case 6: goto w2c_B30;
+    case 7: goto w2c_B25;
+    default: goto w2c_B32;
+  }
+  w2c_B32:;
+  w2c_i0 = 1u;
+  w2c_l15 = w2c_i0;
+  w2c_i0 = w2c_l14;
+  w2c_i1 = 95u;
+  w2c_i0 = w2c_i0 == w2c_i1;
+  if (w2c_i0) {goto w2c_B25;}
+  w2c_i0 = 1u;
+  w2c_l15 = w2c_i0;
+  w2c_i0 = w2c_l14;
+  w2c_i1 = 24186u;
+  w2c_i0 = w2c_i0 != w2c_i1;
+  if (w2c_i0) {goto w2c_B30;}
+  goto w2c_B25;
+  w2c_B31:;
+  w2c_i0 = 1u;
+  w2c_l15 = w2c_i0;
+  w2c_i0 = w2c_l14;
+  w2c_i1 = 24319u;
+  w2c_i0 = w2c_i0 == w2c_i1;
+  if (w2c_i0) {goto w2c_B25;}
+  w2c_i0 = w2c_l14;
   w2c_i1 = 28857u;
   w2c_i0 = w2c_i0 == w2c_i1;
-  if (w2c_i0) {goto w2c_B23;}
-  w2c_i0 = w2c_l13;
+  if (w2c_i0) {goto w2c_B29;}
+  w2c_i0 = w2c_l14;
   w2c_i1 = 40670u;
   w2c_i0 = w2c_i0 == w2c_i1;
-  if (w2c_i0) {goto w2c_B23;}
+  if (w2c_i0) {goto w2c_B29;}
+  w2c_B30:;
+  w2c_i0 = 0u;
+  w2c_l15 = w2c_i0;
   w2c_j0 = w2c_l4;
   w2c_j1 = w2c_p1;
   w2c_i0 = w2c_j0 == w2c_j1;
-  if (w2c_i0) {goto w2c_B18;}
-  w2c_i0 = w2c_l13;
+  if (w2c_i0) {goto w2c_B25;}
+  w2c_i0 = w2c_l14;
   w2c_i1 = 4294967249u;
   w2c_i0 += w2c_i1;
   w2c_i1 = 4294967293u;
   w2c_i0 = w2c_i0 >= w2c_i1;
-  if (w2c_i0) {goto w2c_B22;}
-  goto w2c_B18;
-  w2c_B23:;
+  if (w2c_i0) {goto w2c_B28;}
+  goto w2c_B25;
+  w2c_B29:;
+  w2c_i0 = 0u;
+  w2c_l15 = w2c_i0;
   w2c_j0 = w2c_l4;
   w2c_j1 = w2c_p1;
   w2c_i0 = w2c_j0 == w2c_j1;
-  if (w2c_i0) {goto w2c_B18;}
-  w2c_B22:;
-  w2c_j0 = w2c_l5;
+  if (w2c_i0) {goto w2c_B25;}
+  w2c_B28:;
+  w2c_j0 = w2c_l2;
   w2c_j1 = w2c_p1;
   w2c_j0 += w2c_j1;
   w2c_p1 = w2c_j0;
   w2c_i0 = (u32)(w2c_j0);
   w2c_i0 = i32_load8_s(m, (u64)(w2c_i0));
-  w2c_l12 = w2c_i0;
+  w2c_l16 = w2c_i0;
   w2c_i1 = 255u;
   w2c_i0 &= w2c_i1;
-  w2c_l13 = w2c_i0;
-  w2c_i0 = w2c_l12;
+  w2c_l15 = w2c_i0;
+  w2c_i0 = w2c_l16;
   w2c_i1 = 4294967295u;
   w2c_i0 = (u32)((s32)w2c_i0 > (s32)w2c_i1);
-  if (w2c_i0) {goto w2c_B24;}
+  if (w2c_i0) {goto w2c_B33;}
   w2c_j0 = w2c_p1;
   w2c_i0 = (u32)(w2c_j0);
   w2c_i0 = i32_load8_u(m, (u64)(w2c_i0) + 1u);
   w2c_i1 = 63u;
   w2c_i0 &= w2c_i1;
-  w2c_l14 = w2c_i0;
-  w2c_i0 = w2c_l12;
+  w2c_l17 = w2c_i0;
+  w2c_i0 = w2c_l16;
   w2c_i1 = 4294967263u;
   w2c_i0 = w2c_i0 > w2c_i1;
-  if (w2c_i0) {goto w2c_B25;}
-  w2c_i0 = w2c_l13;
+  if (w2c_i0) {goto w2c_B34;}
+  w2c_i0 = w2c_l15;
   w2c_i1 = 6u;
   w2c_i0 <<= (w2c_i1 & 31);
   w2c_i1 = 1984u;
   w2c_i0 &= w2c_i1;
-  w2c_i1 = w2c_l14;
+  w2c_i1 = w2c_l17;
   w2c_i0 |= w2c_i1;
-  w2c_l13 = w2c_i0;
-  goto w2c_B24;
-  w2c_B25:;
+  w2c_l15 = w2c_i0;
+  goto w2c_B33;
+  w2c_B34:;
   w2c_j0 = w2c_p1;
   w2c_i0 = (u32)(w2c_j0);
   w2c_i0 = i32_load8_u(m, (u64)(w2c_i0) + 2u);
   w2c_i1 = 63u;
   w2c_i0 &= w2c_i1;
-  w2c_l15 = w2c_i0;
-  w2c_i0 = w2c_l12;
+  w2c_l18 = w2c_i0;
+  w2c_i0 = w2c_l16;
   w2c_i1 = 4294967279u;
   w2c_i0 = w2c_i0 > w2c_i1;
-  if (w2c_i0) {goto w2c_B26;}
-  w2c_i0 = w2c_l14;
+  if (w2c_i0) {goto w2c_B35;}
+  w2c_i0 = w2c_l17;
   w2c_i1 = 6u;
   w2c_i0 <<= (w2c_i1 & 31);
-  w2c_i1 = w2c_l13;
+  w2c_i1 = w2c_l15;
   w2c_i2 = 12u;
   w2c_i1 <<= (w2c_i2 & 31);
   w2c_i2 = 61440u;
   w2c_i1 &= w2c_i2;
   w2c_i0 |= w2c_i1;
-  w2c_i1 = w2c_l15;
+  w2c_i1 = w2c_l18;
   w2c_i0 |= w2c_i1;
-  w2c_l13 = w2c_i0;
-  goto w2c_B24;
-  w2c_B26:;
-  w2c_i0 = w2c_l15;
+  w2c_l15 = w2c_i0;
+  goto w2c_B33;
+  w2c_B35:;
+  w2c_i0 = w2c_l18;
   w2c_i1 = 6u;
   w2c_i0 <<= (w2c_i1 & 31);
-  w2c_i1 = w2c_l14;
+  w2c_i1 = w2c_l17;
   w2c_i2 = 12u;
   w2c_i1 <<= (w2c_i2 & 31);
-  w2c_i2 = w2c_l13;
+  w2c_i2 = w2c_l15;
   w2c_i3 = 18u;
   w2c_i2 <<= (w2c_i3 & 31);
   w2c_i3 = 1835008u;
@@ -10934,170 +11140,405 @@ static void w2c_f18(module *m, u64 w2c_p0, u64 w2c_p1) {
   w2c_i2 = 63u;
   w2c_i1 &= w2c_i2;
   w2c_i0 |= w2c_i1;
-  w2c_l13 = w2c_i0;
-  w2c_B24:;
-  w2c_i0 = w2c_l13;
+  w2c_l15 = w2c_i0;
+  w2c_B33:;
+  w2c_i0 = w2c_l15;
   w2c_i0 = w2c_f24(m, w2c_i0);
-  if (w2c_i0) {goto w2c_B6;}
-  w2c_j0 = w2c_l3;
-  w2c_j1 = 8ull;
-  w2c_j0 += w2c_j1;
-  w2c_i1 = w2c_l13;
-  w2c_f19(m, w2c_j0, w2c_i1);
-  w2c_j0 = w2c_l3;
-  w2c_i0 = (u32)(w2c_j0);
-  w2c_i0 = i32_load8_u(m, (u64)(w2c_i0) + 8u);
-  w2c_i1 = 1u;
+  w2c_l15 = w2c_i0;
+  w2c_B25:;
+  w2c_i0 = w2c_l14;
+  w2c_i1 = 22809u;
+  w2c_i0 = (u32)((s32)w2c_i0 > (s32)w2c_i1);
+  if (w2c_i0) {goto w2c_B38;}
+  w2c_i0 = w2c_l14;
+  w2c_i1 = 20313u;
   w2c_i0 = w2c_i0 == w2c_i1;
-  if (w2c_i0) {goto w2c_B6;}
-  w2c_B18:;
-  w2c_i0 = w2c_l11;
-  w2c_i1 = 2u;
-  w2c_i0 |= w2c_i1;
-  w2c_l11 = w2c_i0;
-  w2c_B6:;
-  w2c_j0 = w2c_l3;
-  w2c_i0 = (u32)(w2c_j0);
-  w2c_j1 = w2c_l4;
-  i64_store(m, (u64)(w2c_i0) + 72, w2c_j1);
-  w2c_j0 = w2c_l3;
-  w2c_i0 = (u32)(w2c_j0);
-  w2c_j1 = w2c_l5;
-  i64_store(m, (u64)(w2c_i0) + 64, w2c_j1);
-  w2c_j0 = w2c_l3;
-  w2c_i0 = (u32)(w2c_j0);
-  w2c_j1 = w2c_l9;
-  i64_store(m, (u64)(w2c_i0) + 48, w2c_j1);
-  w2c_j0 = w2c_l3;
-  w2c_i0 = (u32)(w2c_j0);
-  w2c_j1 = w2c_l7;
-  i64_store(m, (u64)(w2c_i0) + 40, w2c_j1);
-  w2c_j0 = w2c_l3;
-  w2c_i0 = (u32)(w2c_j0);
-  w2c_j1 = w2c_l8;
-  i64_store(m, (u64)(w2c_i0) + 32, w2c_j1);
-  w2c_j0 = w2c_l3;
-  w2c_i0 = (u32)(w2c_j0);
-  w2c_j1 = w2c_l6;
-  i64_store(m, (u64)(w2c_i0) + 56, w2c_j1);
-  w2c_j0 = w2c_l3;
-  w2c_j1 = 32ull;
-  w2c_j0 += w2c_j1;
-  w2c_i0 = w2c_f25(m, w2c_j0);
-  w2c_l12 = w2c_i0;
+  if (w2c_i0) {goto w2c_B36;}
+  w2c_i0 = w2c_l14;
+  w2c_i1 = 20358u;
+  w2c_i0 = w2c_i0 == w2c_i1;
+  if (w2c_i0) {goto w2c_B36;}
+  w2c_i0 = w2c_l14;
+  w2c_i1 = 20960u;
+  w2c_i0 = w2c_i0 != w2c_i1;
+  if (w2c_i0) {goto w2c_B37;}
+  goto w2c_B36;
+  w2c_B38:;
+  w2c_i0 = w2c_l14;
+  w2c_i1 = 26468u;
+  w2c_i0 = (u32)((s32)w2c_i0 > (s32)w2c_i1);
+  if (w2c_i0) {goto w2c_B39;}
+  w2c_i0 = w2c_l14;
+  w2c_i1 = 22810u;
+  w2c_i0 = w2c_i0 == w2c_i1;
+  if (w2c_i0) {goto w2c_B36;}
+  w2c_i0 = w2c_l14;
+  w2c_i1 = 24190u;
+  w2c_i0 = w2c_i0 != w2c_i1;
+  if (w2c_i0) {goto w2c_B37;}
+  goto w2c_B36;
+  w2c_B39:;
+  w2c_i0 = w2c_l14;
+  w2c_i1 = 26469u;
+  w2c_i0 = w2c_i0 == w2c_i1;
+  if (w2c_i0) {goto w2c_B36;}
+  w2c_i0 = w2c_l14;
+  w2c_i1 = 39192u;
+  w2c_i0 = w2c_i0 == w2c_i1;
+  if (w2c_i0) {goto w2c_B36;}
+  w2c_B37:;
   w2c_i0 = 0u;
+  w2c_l11 = w2c_i0;
+  w2c_B36:;
+  w2c_i0 = w2c_l13;
+  w2c_i1 = w2c_l15;
+  w2c_i0 |= w2c_i1;
   w2c_l13 = w2c_i0;
+  w2c_B21:;
   w2c_j0 = w2c_l6;
+  w2c_p1 = w2c_j0;
+  w2c_j0 = w2c_l5;
+  w2c_l2 = w2c_j0;
+  w2c_L42:
+    w2c_j0 = w2c_l2;
+    w2c_j1 = 3ull;
+    w2c_i0 = w2c_j0 < w2c_j1;
+    if (w2c_i0) {goto w2c_B44;}
+    w2c_j0 = w2c_p1;
+    w2c_i0 = (u32)(w2c_j0);
+    w2c_i0 = i32_load8_u(m, (u64)(w2c_i0) + 1u);
+    w2c_i1 = 8u;
+    w2c_i0 <<= (w2c_i1 & 31);
+    w2c_j1 = w2c_p1;
+    w2c_i1 = (u32)(w2c_j1);
+    w2c_i1 = i32_load8_u(m, (u64)(w2c_i1) + 2u);
+    w2c_i2 = 16u;
+    w2c_i1 <<= (w2c_i2 & 31);
+    w2c_i0 |= w2c_i1;
+    w2c_j1 = w2c_p1;
+    w2c_i1 = (u32)(w2c_j1);
+    w2c_i1 = i32_load8_u(m, (u64)(w2c_i1));
+    w2c_l14 = w2c_i1;
+    w2c_i0 |= w2c_i1;
+    w2c_l15 = w2c_i0;
+    w2c_j0 = (u64)(w2c_i0);
+    w2c_j1 = 953497ull;
+    w2c_j0 *= w2c_j1;
+    w2c_j1 = 22ull;
+    w2c_j0 >>= (w2c_j1 & 63);
+    w2c_j1 = 1016ull;
+    w2c_j0 &= w2c_j1;
+    w2c_l4 = w2c_j0;
+    w2c_j1 = 66992ull;
+    w2c_j0 += w2c_j1;
+    w2c_i0 = (u32)(w2c_j0);
+    w2c_i0 = i32_load(m, (u64)(w2c_i0));
+    w2c_i1 = w2c_l15;
+    w2c_i0 = w2c_i0 != w2c_i1;
+    if (w2c_i0) {goto w2c_B43;}
+    w2c_j0 = w2c_l2;
+    w2c_j1 = 18446744073709551613ull;
+    w2c_j0 += w2c_j1;
+    w2c_l2 = w2c_j0;
+    w2c_j0 = w2c_p1;
+    w2c_j1 = 3ull;
+    w2c_j0 += w2c_j1;
+    w2c_p1 = w2c_j0;
+    w2c_j0 = w2c_l4;
+    w2c_j1 = 66996ull;
+    w2c_j0 += w2c_j1;
+    w2c_i0 = (u32)(w2c_j0);
+    w2c_i0 = i32_load8_u(m, (u64)(w2c_i0));
+    w2c_i0 = !(w2c_i0);
+    if (w2c_i0) {goto w2c_L42;}
+    goto w2c_B41;
+    w2c_B44:;
+    w2c_j0 = w2c_l2;
+    w2c_i0 = !(w2c_j0);
+    w2c_i0 = !(w2c_i0);
+    if (w2c_i0) {goto w2c_B45;}
+    w2c_i0 = 1u;
+    w2c_l15 = w2c_i0;
+    goto w2c_B40;
+    w2c_B45:;
+    w2c_j0 = w2c_p1;
+    w2c_i0 = (u32)(w2c_j0);
+    w2c_i0 = i32_load8_u(m, (u64)(w2c_i0));
+    w2c_l14 = w2c_i0;
+    w2c_B43:;
+    w2c_j0 = 1ull;
+    w2c_l4 = w2c_j0;
+    w2c_i0 = w2c_l14;
+    w2c_i0 = (u32)(s32)(s8)(u8)(w2c_i0);
+    w2c_i1 = 4294967295u;
+    w2c_i0 = (u32)((s32)w2c_i0 > (s32)w2c_i1);
+    if (w2c_i0) {goto w2c_B46;}
+    w2c_j0 = w2c_p1;
+    w2c_i0 = (u32)(w2c_j0);
+    w2c_i0 = i32_load8_u(m, (u64)(w2c_i0) + 1u);
+    w2c_i1 = 63u;
+    w2c_i0 &= w2c_i1;
+    w2c_l15 = w2c_i0;
+    w2c_i0 = w2c_l14;
+    w2c_i1 = 223u;
+    w2c_i0 = w2c_i0 > w2c_i1;
+    if (w2c_i0) {goto w2c_B47;}
+    w2c_i0 = w2c_l14;
+    w2c_i1 = 6u;
+    w2c_i0 <<= (w2c_i1 & 31);
+    w2c_i1 = 1984u;
+    w2c_i0 &= w2c_i1;
+    w2c_i1 = w2c_l15;
+    w2c_i0 |= w2c_i1;
+    w2c_l14 = w2c_i0;
+    w2c_j0 = 2ull;
+    w2c_l4 = w2c_j0;
+    goto w2c_B46;
+    w2c_B47:;
+    w2c_j0 = w2c_p1;
+    w2c_i0 = (u32)(w2c_j0);
+    w2c_i0 = i32_load8_u(m, (u64)(w2c_i0) + 2u);
+    w2c_i1 = 63u;
+    w2c_i0 &= w2c_i1;
+    w2c_l16 = w2c_i0;
+    w2c_i0 = w2c_l14;
+    w2c_i1 = 239u;
+    w2c_i0 = w2c_i0 > w2c_i1;
+    if (w2c_i0) {goto w2c_B48;}
+    w2c_i0 = w2c_l15;
+    w2c_i1 = 6u;
+    w2c_i0 <<= (w2c_i1 & 31);
+    w2c_i1 = w2c_l14;
+    w2c_i2 = 12u;
+    w2c_i1 <<= (w2c_i2 & 31);
+    w2c_i2 = 61440u;
+    w2c_i1 &= w2c_i2;
+    w2c_i0 |= w2c_i1;
+    w2c_i1 = w2c_l16;
+    w2c_i0 |= w2c_i1;
+    w2c_l14 = w2c_i0;
+    w2c_j0 = 3ull;
+    w2c_l4 = w2c_j0;
+    goto w2c_B46;
+    w2c_B48:;
+    w2c_i0 = w2c_l16;
+    w2c_i1 = 6u;
+    w2c_i0 <<= (w2c_i1 & 31);
+    w2c_i1 = w2c_l15;
+    w2c_i2 = 12u;
+    w2c_i1 <<= (w2c_i2 & 31);
+    w2c_i2 = w2c_l14;
+    w2c_i3 = 18u;
+    w2c_i2 <<= (w2c_i3 & 31);
+    w2c_i3 = 1835008u;
+    w2c_i2 &= w2c_i3;
+    w2c_i1 |= w2c_i2;
+    w2c_i0 |= w2c_i1;
+    w2c_j1 = w2c_p1;
+    w2c_i1 = (u32)(w2c_j1);
+    w2c_i1 = i32_load8_u(m, (u64)(w2c_i1) + 3u);
+    w2c_i2 = 63u;
+    w2c_i1 &= w2c_i2;
+    w2c_i0 |= w2c_i1;
+    w2c_l14 = w2c_i0;
+    w2c_j0 = 4ull;
+    w2c_l4 = w2c_j0;
+    w2c_B46:;
+    w2c_j0 = w2c_l2;
+    w2c_j1 = w2c_l4;
+    w2c_j0 -= w2c_j1;
+    w2c_l2 = w2c_j0;
+    w2c_j0 = w2c_p1;
+    w2c_j1 = w2c_l4;
+    w2c_j0 += w2c_j1;
+    w2c_p1 = w2c_j0;
+    w2c_i0 = w2c_l14;
+    w2c_i1 = 4294965248u;
+    w2c_i0 += w2c_i1;
+    w2c_i1 = 63487u;
+    w2c_i0 = w2c_i0 > w2c_i1;
+    if (w2c_i0) {goto w2c_B49;}
+    w2c_i0 = 0u;
+    w2c_l15 = w2c_i0;
+    w2c_i0 = w2c_l14;
+    w2c_i1 = 12u;
+    w2c_i0 >>= (w2c_i1 & 31);
+    w2c_i1 = w2c_l14;
+    w2c_i2 = 2u;
+    w2c_i1 <<= (w2c_i2 & 31);
+    w2c_i2 = 16128u;
+    w2c_i1 &= w2c_i2;
+    w2c_i0 |= w2c_i1;
+    w2c_i1 = w2c_l14;
+    w2c_i2 = 16u;
+    w2c_i1 <<= (w2c_i2 & 31);
+    w2c_i2 = 4128768u;
+    w2c_i1 &= w2c_i2;
+    w2c_i0 |= w2c_i1;
+    w2c_i1 = 8421600u;
+    w2c_i0 |= w2c_i1;
+    w2c_l14 = w2c_i0;
+    w2c_j0 = (u64)(w2c_i0);
+    w2c_j1 = 953497ull;
+    w2c_j0 *= w2c_j1;
+    w2c_j1 = 22ull;
+    w2c_j0 >>= (w2c_j1 & 63);
+    w2c_j1 = 1016ull;
+    w2c_j0 &= w2c_j1;
+    w2c_l4 = w2c_j0;
+    w2c_i0 = (u32)(w2c_j0);
+    w2c_i0 = i32_load(m, (u64)(w2c_i0) + 66992u);
+    w2c_i1 = w2c_l14;
+    w2c_i0 = w2c_i0 != w2c_i1;
+    if (w2c_i0) {goto w2c_B40;}
+    w2c_j0 = w2c_l4;
+    w2c_j1 = 66996ull;
+    w2c_j0 += w2c_j1;
+    w2c_i0 = (u32)(w2c_j0);
+    w2c_i0 = i32_load8_u(m, (u64)(w2c_i0));
+    w2c_i1 = 255u;
+    w2c_i0 &= w2c_i1;
+    w2c_i0 = !(w2c_i0);
+    if (w2c_i0) {goto w2c_L42;}
+    goto w2c_B40;
+    w2c_B49:;
+    w2c_j0 = w2c_l3;
+    w2c_j1 = 8ull;
+    w2c_j0 += w2c_j1;
+    w2c_i1 = w2c_l14;
+    w2c_f21(m, w2c_j0, w2c_i1);
+    w2c_j0 = w2c_l3;
+    w2c_i0 = (u32)(w2c_j0);
+    w2c_i0 = i32_load8_u(m, (u64)(w2c_i0) + 8u);
+    w2c_i1 = 1u;
+    w2c_i0 = w2c_i0 == w2c_i1;
+    if (w2c_i0) {goto w2c_L42;}
+  w2c_j0 = w2c_l3;
+  w2c_i1 = w2c_l14;
+  w2c_f19(m, w2c_j0, w2c_i1);
+  w2c_B41:;
+  w2c_i0 = 0u;
+  w2c_l15 = w2c_i0;
+  w2c_B40:;
+  w2c_i0 = w2c_l12;
+  w2c_j1 = w2c_l6;
+  w2c_j2 = w2c_l5;
+  w2c_i3 = w2c_l11;
+  w2c_i0 = w2c_f25(m, w2c_i0, w2c_j1, w2c_j2, w2c_i3);
+  w2c_l16 = w2c_i0;
+  w2c_i0 = 0u;
+  w2c_l14 = w2c_i0;
+  w2c_j0 = w2c_l5;
   w2c_i0 = !(w2c_j0);
-  if (w2c_i0) {goto w2c_B27;}
-  w2c_j0 = w2c_l9;
+  if (w2c_i0) {goto w2c_B50;}
+  w2c_j0 = w2c_l6;
   w2c_i0 = (u32)(w2c_j0);
   w2c_i0 = i32_load8_s(m, (u64)(w2c_i0));
-  w2c_l13 = w2c_i0;
+  w2c_l14 = w2c_i0;
   w2c_i1 = 255u;
   w2c_i0 &= w2c_i1;
-  w2c_l14 = w2c_i0;
+  w2c_l11 = w2c_i0;
   w2c_j0 = 1ull;
   w2c_p1 = w2c_j0;
-  w2c_i0 = w2c_l13;
+  w2c_i0 = w2c_l14;
   w2c_i1 = 4294967295u;
   w2c_i0 = (u32)((s32)w2c_i0 > (s32)w2c_i1);
-  if (w2c_i0) {goto w2c_B28;}
-  w2c_j0 = w2c_l9;
+  if (w2c_i0) {goto w2c_B51;}
+  w2c_j0 = w2c_l6;
   w2c_i0 = (u32)(w2c_j0);
   w2c_i0 = i32_load8_u(m, (u64)(w2c_i0) + 1u);
   w2c_i1 = 63u;
   w2c_i0 &= w2c_i1;
-  w2c_l15 = w2c_i0;
-  w2c_i0 = w2c_l13;
+  w2c_l12 = w2c_i0;
+  w2c_i0 = w2c_l14;
   w2c_i1 = 4294967263u;
   w2c_i0 = w2c_i0 > w2c_i1;
-  if (w2c_i0) {goto w2c_B29;}
-  w2c_i0 = w2c_l14;
+  if (w2c_i0) {goto w2c_B52;}
+  w2c_i0 = w2c_l11;
   w2c_i1 = 6u;
   w2c_i0 <<= (w2c_i1 & 31);
   w2c_i1 = 1984u;
   w2c_i0 &= w2c_i1;
-  w2c_i1 = w2c_l15;
+  w2c_i1 = w2c_l12;
   w2c_i0 |= w2c_i1;
-  w2c_l14 = w2c_i0;
+  w2c_l11 = w2c_i0;
   w2c_j0 = 2ull;
   w2c_p1 = w2c_j0;
-  goto w2c_B28;
-  w2c_B29:;
-  w2c_j0 = w2c_l9;
+  goto w2c_B51;
+  w2c_B52:;
+  w2c_j0 = w2c_l6;
   w2c_i0 = (u32)(w2c_j0);
   w2c_i0 = i32_load8_u(m, (u64)(w2c_i0) + 2u);
   w2c_i1 = 63u;
   w2c_i0 &= w2c_i1;
-  w2c_l16 = w2c_i0;
-  w2c_i0 = w2c_l13;
+  w2c_l17 = w2c_i0;
+  w2c_i0 = w2c_l14;
   w2c_i1 = 4294967279u;
   w2c_i0 = w2c_i0 > w2c_i1;
-  if (w2c_i0) {goto w2c_B30;}
-  w2c_i0 = w2c_l15;
+  if (w2c_i0) {goto w2c_B53;}
+  w2c_i0 = w2c_l12;
   w2c_i1 = 6u;
   w2c_i0 <<= (w2c_i1 & 31);
-  w2c_i1 = w2c_l14;
+  w2c_i1 = w2c_l11;
   w2c_i2 = 12u;
   w2c_i1 <<= (w2c_i2 & 31);
   w2c_i2 = 61440u;
   w2c_i1 &= w2c_i2;
   w2c_i0 |= w2c_i1;
-  w2c_i1 = w2c_l16;
+  w2c_i1 = w2c_l17;
   w2c_i0 |= w2c_i1;
-  w2c_l14 = w2c_i0;
+  w2c_l11 = w2c_i0;
   w2c_j0 = 3ull;
   w2c_p1 = w2c_j0;
-  goto w2c_B28;
-  w2c_B30:;
-  w2c_i0 = w2c_l16;
+  goto w2c_B51;
+  w2c_B53:;
+  w2c_i0 = w2c_l17;
   w2c_i1 = 6u;
   w2c_i0 <<= (w2c_i1 & 31);
-  w2c_i1 = w2c_l15;
+  w2c_i1 = w2c_l12;
   w2c_i2 = 12u;
   w2c_i1 <<= (w2c_i2 & 31);
-  w2c_i2 = w2c_l14;
+  w2c_i2 = w2c_l11;
   w2c_i3 = 18u;
   w2c_i2 <<= (w2c_i3 & 31);
   w2c_i3 = 1835008u;
   w2c_i2 &= w2c_i3;
   w2c_i1 |= w2c_i2;
   w2c_i0 |= w2c_i1;
-  w2c_j1 = w2c_l9;
+  w2c_j1 = w2c_l6;
   w2c_i1 = (u32)(w2c_j1);
   w2c_i1 = i32_load8_u(m, (u64)(w2c_i1) + 3u);
   w2c_i2 = 63u;
   w2c_i1 &= w2c_i2;
   w2c_i0 |= w2c_i1;
-  w2c_l14 = w2c_i0;
+  w2c_l11 = w2c_i0;
   w2c_j0 = 4ull;
   w2c_p1 = w2c_j0;
-  w2c_B28:;
+  w2c_B51:;
   w2c_i0 = 0u;
-  w2c_l13 = w2c_i0;
-  w2c_j0 = w2c_l6;
+  w2c_l14 = w2c_i0;
+  w2c_j0 = w2c_l5;
   w2c_j1 = w2c_p1;
   w2c_i0 = w2c_j0 != w2c_j1;
-  if (w2c_i0) {goto w2c_B27;}
+  if (w2c_i0) {goto w2c_B50;}
   w2c_i0 = 0u;
-  w2c_l13 = w2c_i0;
-  w2c_i0 = w2c_l14;
+  w2c_l14 = w2c_i0;
+  w2c_i0 = w2c_l11;
   w2c_i1 = 4294967238u;
   w2c_i0 += w2c_i1;
   w2c_i1 = 4294967285u;
   w2c_i0 = w2c_i0 > w2c_i1;
-  if (w2c_i0) {goto w2c_B27;}
+  if (w2c_i0) {goto w2c_B50;}
   w2c_i0 = 8u;
   w2c_i1 = 0u;
-  w2c_i2 = w2c_l14;
+  w2c_i2 = w2c_l11;
   w2c_i3 = 4294901990u;
   w2c_i2 += w2c_i3;
   w2c_i3 = 4294967286u;
   w2c_i2 = w2c_i2 < w2c_i3;
   w2c_i0 = w2c_i2 ? w2c_i0 : w2c_i1;
-  w2c_l13 = w2c_i0;
-  w2c_B27:;
+  w2c_l14 = w2c_i0;
+  w2c_B50:;
   w2c_j0 = w2c_p0;
   w2c_i0 = (u32)(w2c_j0);
   w2c_i1 = 0u;
@@ -11108,29 +11549,30 @@ static void w2c_f18(module *m, u64 w2c_p0, u64 w2c_p1) {
   i64_store(m, (u64)(w2c_i0), w2c_j1);
   w2c_j0 = w2c_p0;
   w2c_i0 = (u32)(w2c_j0);
-  w2c_j1 = w2c_l6;
+  w2c_j1 = w2c_l5;
   w2c_j2 = w2c_l7;
   w2c_j1 += w2c_j2;
   i64_store(m, (u64)(w2c_i0) + 8, w2c_j1);
   w2c_j0 = w2c_p0;
   w2c_i0 = (u32)(w2c_j0);
-  w2c_i1 = 4u;
+  w2c_i1 = w2c_l15;
   w2c_i2 = 0u;
-  w2c_i3 = w2c_l12;
-  w2c_i1 = w2c_i3 ? w2c_i1 : w2c_i2;
-  w2c_i2 = w2c_l11;
+  w2c_i3 = 2u;
+  w2c_i4 = w2c_l13;
+  w2c_i2 = w2c_i4 ? w2c_i2 : w2c_i3;
   w2c_i1 |= w2c_i2;
-  w2c_i2 = w2c_l13;
-  w2c_i1 += w2c_i2;
+  w2c_i2 = 4u;
+  w2c_i3 = 0u;
+  w2c_i4 = w2c_l16;
+  w2c_i2 = w2c_i4 ? w2c_i2 : w2c_i3;
+  w2c_i1 |= w2c_i2;
+  w2c_i2 = w2c_l14;
+  w2c_i1 |= w2c_i2;
   i32_store(m, (u64)(w2c_i0) + 16, w2c_i1);
   w2c_j0 = w2c_l3;
-  w2c_j1 = 80ull;
+  w2c_j1 = 48ull;
   w2c_j0 += w2c_j1;
   m->w2c_g0 = w2c_j0;
-  goto w2c_Bfunc;
-  w2c_B0:;
-  UNREACHABLE;
-  w2c_Bfunc:;
 }
 
 static void w2c_f19(module *m, u64 w2c_p0, u32 w2c_p1) {
@@ -12369,14 +12811,14 @@ static u32 w2c_f23(module *m, u32 w2c_p0, u32 w2c_p1, u64 w2c_p2, u64 w2c_p3) {
   w2c_j1 = 1016ull;
   w2c_j0 &= w2c_j1;
   w2c_l6 = w2c_j0;
-  w2c_j1 = 66865ull;
+  w2c_j1 = 66997ull;
   w2c_j0 += w2c_j1;
   w2c_i0 = (u32)(w2c_j0);
   w2c_i0 = i32_load8_u(m, (u64)(w2c_i0));
   w2c_i1 = 0u;
   w2c_j2 = w2c_l6;
   w2c_i2 = (u32)(w2c_j2);
-  w2c_i2 = i32_load(m, (u64)(w2c_i2) + 66860u);
+  w2c_i2 = i32_load(m, (u64)(w2c_i2) + 66992u);
   w2c_i3 = w2c_l8;
   w2c_i2 = w2c_i2 == w2c_i3;
   w2c_l10 = w2c_i2;
@@ -12384,7 +12826,7 @@ static u32 w2c_f23(module *m, u32 w2c_p0, u32 w2c_p1, u64 w2c_p2, u64 w2c_p3) {
   w2c_l8 = w2c_i0;
   w2c_i0 = w2c_l10;
   w2c_j1 = w2c_l6;
-  w2c_j2 = 66864ull;
+  w2c_j2 = 66996ull;
   w2c_j1 += w2c_j2;
   w2c_i1 = (u32)(w2c_j1);
   w2c_i1 = i32_load8_u(m, (u64)(w2c_i1));
@@ -12573,7 +13015,7 @@ static u32 w2c_f24(module *m, u32 w2c_p0) {
   u32 w2c_i0, w2c_i1, w2c_i2;
   u64 w2c_j0, w2c_j1;
   w2c_j0 = m->w2c_g0;
-  w2c_j1 = 16ull;
+  w2c_j1 = 32ull;
   w2c_j0 -= w2c_j1;
   w2c_l1 = w2c_j0;
   m->w2c_g0 = w2c_j0;
@@ -12647,12 +13089,12 @@ static u32 w2c_f24(module *m, u32 w2c_p0) {
   w2c_j0 &= w2c_j1;
   w2c_l2 = w2c_j0;
   w2c_i0 = (u32)(w2c_j0);
-  w2c_i0 = i32_load(m, (u64)(w2c_i0) + 66860u);
+  w2c_i0 = i32_load(m, (u64)(w2c_i0) + 66992u);
   w2c_i1 = w2c_l3;
   w2c_i0 = w2c_i0 != w2c_i1;
   if (w2c_i0) {goto w2c_B5;}
   w2c_j0 = w2c_l2;
-  w2c_j1 = 66864ull;
+  w2c_j1 = 66996ull;
   w2c_j0 += w2c_j1;
   w2c_i0 = (u32)(w2c_j0);
   w2c_i0 = i32_load8_u(m, (u64)(w2c_i0));
@@ -12664,7 +13106,7 @@ static u32 w2c_f24(module *m, u32 w2c_p0) {
   goto w2c_B1;
   w2c_B6:;
   w2c_j0 = w2c_l1;
-  w2c_j1 = 8ull;
+  w2c_j1 = 24ull;
   w2c_j0 += w2c_j1;
   w2c_i1 = w2c_p0;
   w2c_f21(m, w2c_j0, w2c_i1);
@@ -12672,11 +13114,13 @@ static u32 w2c_f24(module *m, u32 w2c_p0) {
   w2c_l3 = w2c_i0;
   w2c_j0 = w2c_l1;
   w2c_i0 = (u32)(w2c_j0);
-  w2c_i0 = i32_load8_u(m, (u64)(w2c_i0) + 8u);
+  w2c_i0 = i32_load8_u(m, (u64)(w2c_i0) + 24u);
   w2c_i1 = 1u;
   w2c_i0 = w2c_i0 == w2c_i1;
   if (w2c_i0) {goto w2c_B1;}
   w2c_j0 = w2c_l1;
+  w2c_j1 = 16ull;
+  w2c_j0 += w2c_j1;
   w2c_i1 = w2c_p0;
   w2c_f19(m, w2c_j0, w2c_i1);
   w2c_B5:;
@@ -12724,11 +13168,20 @@ static u32 w2c_f24(module *m, u32 w2c_p0) {
   w2c_i0 = w2c_i0 == w2c_i1;
   if (w2c_i0) {goto w2c_B1;}
   w2c_B7:;
-  w2c_i0 = 0u;
+  w2c_j0 = w2c_l1;
+  w2c_j1 = 8ull;
+  w2c_j0 += w2c_j1;
+  w2c_i1 = w2c_p0;
+  w2c_f19(m, w2c_j0, w2c_i1);
+  w2c_j0 = w2c_l1;
+  w2c_i0 = (u32)(w2c_j0);
+  w2c_i0 = i32_load8_u(m, (u64)(w2c_i0) + 8u);
+  w2c_i1 = 1u;
+  w2c_i0 = w2c_i0 == w2c_i1;
   w2c_l3 = w2c_i0;
   w2c_B1:;
   w2c_j0 = w2c_l1;
-  w2c_j1 = 16ull;
+  w2c_j1 = 32ull;
   w2c_j0 += w2c_j1;
   m->w2c_g0 = w2c_j0;
   w2c_i0 = w2c_l3;
@@ -12739,520 +13192,224 @@ static u32 w2c_f24(module *m, u32 w2c_p0) {
   return w2c_i0;
 }
 
-static u32 w2c_f25(module *m, u64 w2c_p0) {
-  u32 w2c_l9 = 0, w2c_l10 = 0, w2c_l11 = 0, w2c_l12 = 0;
-  u64 w2c_l1 = 0, w2c_l2 = 0, w2c_l3 = 0, w2c_l4 = 0, w2c_l5 = 0, w2c_l6 = 0, w2c_l7 = 0, w2c_l8 = 0;
+static u32 w2c_f25(module *m, u32 w2c_p0, u64 w2c_p1, u64 w2c_p2, u32 w2c_p3) {
+  u32 w2c_l5 = 0, w2c_l6 = 0, w2c_l7 = 0;
+  u64 w2c_l4 = 0;
   u32 w2c_i0, w2c_i1, w2c_i2, w2c_i3;
-  u64 w2c_j0, w2c_j1, w2c_j2, w2c_j3;
+  u64 w2c_j0, w2c_j1, w2c_j2;
   w2c_j0 = m->w2c_g0;
-  w2c_j1 = 112ull;
+  w2c_j1 = 96ull;
   w2c_j0 -= w2c_j1;
-  w2c_l1 = w2c_j0;
+  w2c_l4 = w2c_j0;
   m->w2c_g0 = w2c_j0;
-  w2c_j0 = w2c_l1;
-  w2c_l1 = w2c_j0;
+  w2c_j0 = w2c_l4;
+  w2c_l4 = w2c_j0;
   w2c_j1 = 16ull;
   w2c_i0 = (u64)((s64)w2c_j0 < (s64)w2c_j1);
   if (w2c_i0) {goto w2c_B0;}
-  w2c_j0 = w2c_p0;
-  w2c_i0 = (u32)(w2c_j0);
-  w2c_j0 = i64_load(m, (u64)(w2c_i0) + 16u);
-  w2c_l2 = w2c_j0;
-  w2c_j0 = w2c_p0;
-  w2c_i0 = (u32)(w2c_j0);
-  w2c_j0 = i64_load(m, (u64)(w2c_i0) + 24u);
-  w2c_l3 = w2c_j0;
-  w2c_j0 = w2c_p0;
-  w2c_i0 = (u32)(w2c_j0);
-  w2c_j0 = i64_load(m, (u64)(w2c_i0) + 32u);
-  w2c_l4 = w2c_j0;
-  w2c_j0 = w2c_p0;
-  w2c_i0 = (u32)(w2c_j0);
-  w2c_j0 = i64_load(m, (u64)(w2c_i0) + 40u);
-  w2c_l5 = w2c_j0;
-  w2c_j0 = w2c_p0;
-  w2c_i0 = (u32)(w2c_j0);
-  w2c_j0 = i64_load(m, (u64)(w2c_i0) + 8u);
-  w2c_l6 = w2c_j0;
+  w2c_j0 = w2c_p2;
   w2c_i0 = !(w2c_j0);
-  if (w2c_i0) {goto w2c_B2;}
-  w2c_j0 = w2c_p0;
-  w2c_i0 = (u32)(w2c_j0);
-  w2c_j0 = i64_load(m, (u64)(w2c_i0));
-  w2c_l7 = w2c_j0;
-  w2c_j1 = w2c_l6;
-  w2c_j0 += w2c_j1;
-  w2c_p0 = w2c_j0;
-  w2c_j1 = 18446744073709551615ull;
-  w2c_j0 += w2c_j1;
+  if (w2c_i0) {goto w2c_B5;}
+  w2c_i0 = w2c_p0;
+  w2c_i1 = 1u;
+  w2c_i0 &= w2c_i1;
+  w2c_i0 = !(w2c_i0);
+  if (w2c_i0) {goto w2c_B5;}
+  w2c_j0 = w2c_p1;
   w2c_i0 = (u32)(w2c_j0);
   w2c_i0 = i32_load8_s(m, (u64)(w2c_i0));
-  w2c_l9 = w2c_i0;
-  w2c_i1 = 0u;
-  w2c_i0 = (u32)((s32)w2c_i0 >= (s32)w2c_i1);
-  if (w2c_i0) {goto w2c_B3;}
-  w2c_j0 = 18446744073709551614ull;
-  w2c_l8 = w2c_j0;
-  w2c_j0 = w2c_p0;
-  w2c_j1 = 18446744073709551614ull;
-  w2c_j0 += w2c_j1;
-  w2c_i0 = (u32)(w2c_j0);
-  w2c_i0 = i32_load8_u(m, (u64)(w2c_i0));
-  w2c_i1 = 191u;
-  w2c_i0 = w2c_i0 > w2c_i1;
-  if (w2c_i0) {goto w2c_B4;}
-  w2c_j0 = 18446744073709551613ull;
-  w2c_j1 = 18446744073709551612ull;
-  w2c_j2 = w2c_p0;
-  w2c_j3 = 18446744073709551613ull;
-  w2c_j2 += w2c_j3;
-  w2c_i2 = (u32)(w2c_j2);
-  w2c_i2 = i32_load8_u(m, (u64)(w2c_i2));
-  w2c_i3 = 191u;
-  w2c_i2 = w2c_i2 > w2c_i3;
-  w2c_j0 = w2c_i2 ? w2c_j0 : w2c_j1;
-  w2c_l8 = w2c_j0;
-  w2c_B4:;
-  w2c_j0 = w2c_l7;
-  w2c_j1 = w2c_l8;
-  w2c_j0 += w2c_j1;
-  w2c_j1 = w2c_l6;
-  w2c_j0 += w2c_j1;
-  w2c_p0 = w2c_j0;
-  w2c_i0 = (u32)(w2c_j0);
-  w2c_i0 = i32_load8_s(m, (u64)(w2c_i0));
-  w2c_l10 = w2c_i0;
+  w2c_l5 = w2c_i0;
   w2c_i1 = 255u;
   w2c_i0 &= w2c_i1;
-  w2c_l9 = w2c_i0;
-  w2c_i0 = w2c_l10;
+  w2c_p0 = w2c_i0;
+  w2c_i0 = w2c_l5;
   w2c_i1 = 4294967295u;
   w2c_i0 = (u32)((s32)w2c_i0 > (s32)w2c_i1);
   if (w2c_i0) {goto w2c_B3;}
-  w2c_j0 = w2c_p0;
+  w2c_j0 = w2c_p1;
   w2c_i0 = (u32)(w2c_j0);
   w2c_i0 = i32_load8_u(m, (u64)(w2c_i0) + 1u);
   w2c_i1 = 63u;
   w2c_i0 &= w2c_i1;
-  w2c_l11 = w2c_i0;
-  w2c_i0 = w2c_l10;
+  w2c_l6 = w2c_i0;
+  w2c_i0 = w2c_l5;
   w2c_i1 = 4294967263u;
-  w2c_i0 = w2c_i0 > w2c_i1;
-  if (w2c_i0) {goto w2c_B5;}
-  w2c_i0 = w2c_l9;
-  w2c_i1 = 6u;
-  w2c_i0 <<= (w2c_i1 & 31);
-  w2c_i1 = 1984u;
-  w2c_i0 &= w2c_i1;
-  w2c_i1 = w2c_l11;
-  w2c_i0 |= w2c_i1;
-  w2c_l9 = w2c_i0;
-  goto w2c_B3;
-  w2c_B5:;
-  w2c_j0 = w2c_p0;
-  w2c_i0 = (u32)(w2c_j0);
-  w2c_i0 = i32_load8_u(m, (u64)(w2c_i0) + 2u);
-  w2c_i1 = 63u;
-  w2c_i0 &= w2c_i1;
-  w2c_l12 = w2c_i0;
-  w2c_i0 = w2c_l10;
-  w2c_i1 = 4294967279u;
   w2c_i0 = w2c_i0 > w2c_i1;
   if (w2c_i0) {goto w2c_B6;}
-  w2c_i0 = w2c_l11;
-  w2c_i1 = 6u;
-  w2c_i0 <<= (w2c_i1 & 31);
-  w2c_i1 = w2c_l9;
-  w2c_i2 = 12u;
-  w2c_i1 <<= (w2c_i2 & 31);
-  w2c_i2 = 61440u;
-  w2c_i1 &= w2c_i2;
-  w2c_i0 |= w2c_i1;
-  w2c_i1 = w2c_l12;
-  w2c_i0 |= w2c_i1;
-  w2c_l9 = w2c_i0;
-  goto w2c_B3;
-  w2c_B6:;
-  w2c_i0 = w2c_l12;
-  w2c_i1 = 6u;
-  w2c_i0 <<= (w2c_i1 & 31);
-  w2c_i1 = w2c_l11;
-  w2c_i2 = 12u;
-  w2c_i1 <<= (w2c_i2 & 31);
-  w2c_i2 = w2c_l9;
-  w2c_i3 = 18u;
-  w2c_i2 <<= (w2c_i3 & 31);
-  w2c_i3 = 1835008u;
-  w2c_i2 &= w2c_i3;
-  w2c_i1 |= w2c_i2;
-  w2c_i0 |= w2c_i1;
-  w2c_j1 = w2c_p0;
-  w2c_i1 = (u32)(w2c_j1);
-  w2c_i1 = i32_load8_u(m, (u64)(w2c_i1) + 3u);
-  w2c_i2 = 63u;
-  w2c_i1 &= w2c_i2;
-  w2c_i0 |= w2c_i1;
-  w2c_l9 = w2c_i0;
-  w2c_B3:;
-  w2c_i0 = w2c_l9;
-  w2c_i1 = 4294941328u;
-  w2c_i0 += w2c_i1;
-  switch (w2c_i0) {
-    case 0: goto w2c_B7;
-    case 1: goto w2c_B2;
-    case 2: goto w2c_B2;
-    case 3: goto w2c_B2;
-    case 4: goto w2c_B2;
-    case 5: goto w2c_B2;
-    case 6: goto w2c_B2;
-    case 7: goto w2c_B2;
-    case 8: goto w2c_B7;
-    default: goto w2c_B8;
-  }
-  w2c_B8:;
-  w2c_i0 = w2c_l9;
-  w2c_i1 = 24190u;
-  w2c_i0 = w2c_i0 == w2c_i1;
-  if (w2c_i0) {goto w2c_B7;}
-  w2c_i0 = w2c_l9;
-  w2c_i1 = 20960u;
-  w2c_i0 = w2c_i0 != w2c_i1;
-  if (w2c_i0) {goto w2c_B2;}
-  w2c_B7:;
-  w2c_j0 = w2c_l3;
-  w2c_i0 = !(w2c_j0);
-  if (w2c_i0) {goto w2c_B2;}
-  w2c_j0 = w2c_l2;
-  w2c_i0 = (u32)(w2c_j0);
-  w2c_i0 = i32_load8_s(m, (u64)(w2c_i0));
-  w2c_l10 = w2c_i0;
-  w2c_i1 = 255u;
-  w2c_i0 &= w2c_i1;
-  w2c_l9 = w2c_i0;
-  w2c_i0 = w2c_l10;
-  w2c_i1 = 4294967295u;
-  w2c_i0 = (u32)((s32)w2c_i0 > (s32)w2c_i1);
-  if (w2c_i0) {goto w2c_B9;}
-  w2c_j0 = w2c_l2;
-  w2c_i0 = (u32)(w2c_j0);
-  w2c_i0 = i32_load8_u(m, (u64)(w2c_i0) + 1u);
-  w2c_i1 = 63u;
-  w2c_i0 &= w2c_i1;
-  w2c_l11 = w2c_i0;
-  w2c_i0 = w2c_l10;
-  w2c_i1 = 4294967263u;
-  w2c_i0 = w2c_i0 > w2c_i1;
-  if (w2c_i0) {goto w2c_B10;}
-  w2c_i0 = w2c_l9;
+  w2c_i0 = w2c_p0;
   w2c_i1 = 6u;
   w2c_i0 <<= (w2c_i1 & 31);
   w2c_i1 = 1984u;
   w2c_i0 &= w2c_i1;
-  w2c_i1 = w2c_l11;
+  w2c_i1 = w2c_l6;
   w2c_i0 |= w2c_i1;
-  w2c_l9 = w2c_i0;
-  goto w2c_B9;
-  w2c_B10:;
-  w2c_j0 = w2c_l2;
+  w2c_p0 = w2c_i0;
+  goto w2c_B3;
+  w2c_B6:;
+  w2c_j0 = w2c_p1;
   w2c_i0 = (u32)(w2c_j0);
   w2c_i0 = i32_load8_u(m, (u64)(w2c_i0) + 2u);
   w2c_i1 = 63u;
   w2c_i0 &= w2c_i1;
-  w2c_l12 = w2c_i0;
-  w2c_i0 = w2c_l10;
+  w2c_l7 = w2c_i0;
+  w2c_i0 = w2c_l5;
   w2c_i1 = 4294967279u;
   w2c_i0 = w2c_i0 > w2c_i1;
-  if (w2c_i0) {goto w2c_B11;}
-  w2c_i0 = w2c_l11;
+  if (w2c_i0) {goto w2c_B4;}
+  w2c_i0 = w2c_l6;
   w2c_i1 = 6u;
   w2c_i0 <<= (w2c_i1 & 31);
-  w2c_i1 = w2c_l9;
+  w2c_i1 = w2c_p0;
   w2c_i2 = 12u;
   w2c_i1 <<= (w2c_i2 & 31);
   w2c_i2 = 61440u;
   w2c_i1 &= w2c_i2;
   w2c_i0 |= w2c_i1;
-  w2c_i1 = w2c_l12;
+  w2c_i1 = w2c_l7;
   w2c_i0 |= w2c_i1;
-  w2c_l9 = w2c_i0;
-  goto w2c_B9;
-  w2c_B11:;
-  w2c_i0 = w2c_l12;
+  w2c_p0 = w2c_i0;
+  goto w2c_B3;
+  w2c_B5:;
+  w2c_i0 = 1u;
+  w2c_p0 = w2c_i0;
+  w2c_i0 = w2c_p3;
+  w2c_i1 = 1u;
+  w2c_i0 &= w2c_i1;
+  w2c_i0 = !(w2c_i0);
+  if (w2c_i0) {goto w2c_B2;}
+  goto w2c_B1;
+  w2c_B4:;
+  w2c_i0 = w2c_l7;
   w2c_i1 = 6u;
   w2c_i0 <<= (w2c_i1 & 31);
-  w2c_i1 = w2c_l11;
+  w2c_i1 = w2c_l6;
   w2c_i2 = 12u;
   w2c_i1 <<= (w2c_i2 & 31);
-  w2c_i2 = w2c_l9;
+  w2c_i2 = w2c_p0;
   w2c_i3 = 18u;
   w2c_i2 <<= (w2c_i3 & 31);
   w2c_i3 = 1835008u;
   w2c_i2 &= w2c_i3;
   w2c_i1 |= w2c_i2;
   w2c_i0 |= w2c_i1;
-  w2c_j1 = w2c_l2;
+  w2c_j1 = w2c_p1;
   w2c_i1 = (u32)(w2c_j1);
   w2c_i1 = i32_load8_u(m, (u64)(w2c_i1) + 3u);
   w2c_i2 = 63u;
   w2c_i1 &= w2c_i2;
   w2c_i0 |= w2c_i1;
-  w2c_l9 = w2c_i0;
-  w2c_B9:;
-  w2c_j0 = w2c_l1;
-  w2c_j1 = 40ull;
+  w2c_p0 = w2c_i0;
+  w2c_B3:;
+  w2c_j0 = w2c_l4;
+  w2c_j1 = 24ull;
   w2c_j0 += w2c_j1;
-  w2c_i1 = w2c_l9;
+  w2c_i1 = w2c_p0;
   w2c_f19(m, w2c_j0, w2c_i1);
   w2c_i0 = 1u;
-  w2c_l10 = w2c_i0;
-  w2c_j0 = w2c_l1;
+  w2c_p0 = w2c_i0;
+  w2c_j0 = w2c_l4;
   w2c_i0 = (u32)(w2c_j0);
-  w2c_i0 = i32_load8_u(m, (u64)(w2c_i0) + 40u);
+  w2c_i0 = i32_load8_u(m, (u64)(w2c_i0) + 24u);
   w2c_i1 = 1u;
   w2c_i0 = w2c_i0 == w2c_i1;
   if (w2c_i0) {goto w2c_B1;}
+  w2c_i0 = w2c_p3;
+  w2c_i1 = 1u;
+  w2c_i0 &= w2c_i1;
+  if (w2c_i0) {goto w2c_B1;}
   w2c_B2:;
-  w2c_j0 = w2c_l5;
-  w2c_i0 = !(w2c_j0);
-  if (w2c_i0) {goto w2c_B12;}
   w2c_j0 = w2c_l4;
-  w2c_i0 = (u32)(w2c_j0);
-  w2c_i0 = i32_load8_s(m, (u64)(w2c_i0));
-  w2c_l10 = w2c_i0;
-  w2c_i1 = 255u;
-  w2c_i0 &= w2c_i1;
-  w2c_l9 = w2c_i0;
-  w2c_i0 = w2c_l10;
-  w2c_i1 = 4294967295u;
-  w2c_i0 = (u32)((s32)w2c_i0 > (s32)w2c_i1);
-  if (w2c_i0) {goto w2c_B13;}
-  w2c_j0 = w2c_l4;
-  w2c_i0 = (u32)(w2c_j0);
-  w2c_i0 = i32_load8_u(m, (u64)(w2c_i0) + 1u);
-  w2c_i1 = 63u;
-  w2c_i0 &= w2c_i1;
-  w2c_l11 = w2c_i0;
-  w2c_i0 = w2c_l10;
-  w2c_i1 = 4294967263u;
-  w2c_i0 = w2c_i0 > w2c_i1;
-  if (w2c_i0) {goto w2c_B14;}
-  w2c_i0 = w2c_l9;
-  w2c_i1 = 6u;
-  w2c_i0 <<= (w2c_i1 & 31);
-  w2c_i1 = 1984u;
-  w2c_i0 &= w2c_i1;
-  w2c_i1 = w2c_l11;
-  w2c_i0 |= w2c_i1;
-  w2c_l9 = w2c_i0;
-  goto w2c_B13;
-  w2c_B14:;
-  w2c_j0 = w2c_l4;
-  w2c_i0 = (u32)(w2c_j0);
-  w2c_i0 = i32_load8_u(m, (u64)(w2c_i0) + 2u);
-  w2c_i1 = 63u;
-  w2c_i0 &= w2c_i1;
-  w2c_l12 = w2c_i0;
-  w2c_i0 = w2c_l10;
-  w2c_i1 = 4294967279u;
-  w2c_i0 = w2c_i0 > w2c_i1;
-  if (w2c_i0) {goto w2c_B15;}
-  w2c_i0 = w2c_l11;
-  w2c_i1 = 6u;
-  w2c_i0 <<= (w2c_i1 & 31);
-  w2c_i1 = w2c_l9;
-  w2c_i2 = 12u;
-  w2c_i1 <<= (w2c_i2 & 31);
-  w2c_i2 = 61440u;
-  w2c_i1 &= w2c_i2;
-  w2c_i0 |= w2c_i1;
-  w2c_i1 = w2c_l12;
-  w2c_i0 |= w2c_i1;
-  w2c_l9 = w2c_i0;
-  goto w2c_B13;
-  w2c_B15:;
-  w2c_i0 = w2c_l12;
-  w2c_i1 = 6u;
-  w2c_i0 <<= (w2c_i1 & 31);
-  w2c_i1 = w2c_l11;
-  w2c_i2 = 12u;
-  w2c_i1 <<= (w2c_i2 & 31);
-  w2c_i2 = w2c_l9;
-  w2c_i3 = 18u;
-  w2c_i2 <<= (w2c_i3 & 31);
-  w2c_i3 = 1835008u;
-  w2c_i2 &= w2c_i3;
-  w2c_i1 |= w2c_i2;
-  w2c_i0 |= w2c_i1;
-  w2c_j1 = w2c_l4;
-  w2c_i1 = (u32)(w2c_j1);
-  w2c_i1 = i32_load8_u(m, (u64)(w2c_i1) + 3u);
-  w2c_i2 = 63u;
-  w2c_i1 &= w2c_i2;
-  w2c_i0 |= w2c_i1;
-  w2c_l9 = w2c_i0;
-  w2c_B13:;
-  w2c_i0 = 1u;
-  w2c_l10 = w2c_i0;
-  w2c_i0 = w2c_l9;
-  w2c_i1 = 22809u;
-  w2c_i0 = (u32)((s32)w2c_i0 > (s32)w2c_i1);
-  if (w2c_i0) {goto w2c_B16;}
-  w2c_i0 = w2c_l9;
-  w2c_i1 = 20313u;
-  w2c_i0 = w2c_i0 == w2c_i1;
-  if (w2c_i0) {goto w2c_B1;}
-  w2c_i0 = w2c_l9;
-  w2c_i1 = 20358u;
-  w2c_i0 = w2c_i0 == w2c_i1;
-  if (w2c_i0) {goto w2c_B1;}
-  w2c_i0 = w2c_l9;
-  w2c_i1 = 20960u;
-  w2c_i0 = w2c_i0 != w2c_i1;
-  if (w2c_i0) {goto w2c_B12;}
-  goto w2c_B1;
-  w2c_B16:;
-  w2c_i0 = w2c_l9;
-  w2c_i1 = 26468u;
-  w2c_i0 = (u32)((s32)w2c_i0 > (s32)w2c_i1);
-  if (w2c_i0) {goto w2c_B17;}
-  w2c_i0 = w2c_l9;
-  w2c_i1 = 22810u;
-  w2c_i0 = w2c_i0 == w2c_i1;
-  if (w2c_i0) {goto w2c_B1;}
-  w2c_i0 = w2c_l9;
-  w2c_i1 = 24190u;
-  w2c_i0 = w2c_i0 != w2c_i1;
-  if (w2c_i0) {goto w2c_B12;}
-  goto w2c_B1;
-  w2c_B17:;
-  w2c_i0 = w2c_l9;
-  w2c_i1 = 26469u;
-  w2c_i0 = w2c_i0 == w2c_i1;
-  if (w2c_i0) {goto w2c_B1;}
-  w2c_i0 = w2c_l9;
-  w2c_i1 = 39192u;
-  w2c_i0 = w2c_i0 == w2c_i1;
-  if (w2c_i0) {goto w2c_B1;}
-  w2c_B12:;
-  w2c_j0 = w2c_l1;
-  w2c_i0 = (u32)(w2c_j0);
-  w2c_j1 = 0ull;
-  i64_store(m, (u64)(w2c_i0) + 80, w2c_j1);
-  w2c_j0 = w2c_l1;
-  w2c_i0 = (u32)(w2c_j0);
-  w2c_j1 = 0ull;
-  i64_store(m, (u64)(w2c_i0) + 88, w2c_j1);
-  w2c_j0 = w2c_l1;
-  w2c_i0 = (u32)(w2c_j0);
-  w2c_j1 = 0ull;
-  i64_store(m, (u64)(w2c_i0) + 96, w2c_j1);
-  w2c_j0 = w2c_l1;
-  w2c_i0 = (u32)(w2c_j0);
-  w2c_j1 = 0ull;
-  i64_store(m, (u64)(w2c_i0) + 104, w2c_j1);
-  w2c_j0 = w2c_l1;
-  w2c_i0 = (u32)(w2c_j0);
-  w2c_j1 = 0ull;
-  i64_store(m, (u64)(w2c_i0) + 48, w2c_j1);
-  w2c_j0 = w2c_l1;
-  w2c_i0 = (u32)(w2c_j0);
-  w2c_j1 = 0ull;
-  i64_store(m, (u64)(w2c_i0) + 56, w2c_j1);
-  w2c_j0 = w2c_l1;
   w2c_i0 = (u32)(w2c_j0);
   w2c_j1 = 0ull;
   i64_store(m, (u64)(w2c_i0) + 64, w2c_j1);
-  w2c_j0 = w2c_l1;
+  w2c_j0 = w2c_l4;
   w2c_i0 = (u32)(w2c_j0);
   w2c_j1 = 0ull;
   i64_store(m, (u64)(w2c_i0) + 72, w2c_j1);
-  w2c_j0 = w2c_l1;
-  w2c_j1 = 80ull;
+  w2c_j0 = w2c_l4;
+  w2c_i0 = (u32)(w2c_j0);
+  w2c_j1 = 0ull;
+  i64_store(m, (u64)(w2c_i0) + 80, w2c_j1);
+  w2c_j0 = w2c_l4;
+  w2c_i0 = (u32)(w2c_j0);
+  w2c_j1 = 0ull;
+  i64_store(m, (u64)(w2c_i0) + 88, w2c_j1);
+  w2c_j0 = w2c_l4;
+  w2c_i0 = (u32)(w2c_j0);
+  w2c_j1 = 0ull;
+  i64_store(m, (u64)(w2c_i0) + 32, w2c_j1);
+  w2c_j0 = w2c_l4;
+  w2c_i0 = (u32)(w2c_j0);
+  w2c_j1 = 0ull;
+  i64_store(m, (u64)(w2c_i0) + 40, w2c_j1);
+  w2c_j0 = w2c_l4;
+  w2c_i0 = (u32)(w2c_j0);
+  w2c_j1 = 0ull;
+  i64_store(m, (u64)(w2c_i0) + 48, w2c_j1);
+  w2c_j0 = w2c_l4;
+  w2c_i0 = (u32)(w2c_j0);
+  w2c_j1 = 0ull;
+  i64_store(m, (u64)(w2c_i0) + 56, w2c_j1);
+  w2c_j0 = w2c_l4;
+  w2c_j1 = 64ull;
   w2c_j0 += w2c_j1;
-  w2c_j1 = w2c_l2;
-  w2c_j2 = w2c_l3;
+  w2c_j1 = w2c_p1;
+  w2c_j2 = w2c_p2;
   w2c_f26(m, w2c_j0, w2c_j1, w2c_j2);
   w2c_i0 = 0u;
-  w2c_l10 = w2c_i0;
-  w2c_j0 = w2c_l1;
+  w2c_p0 = w2c_i0;
+  w2c_j0 = w2c_l4;
   w2c_i0 = (u32)(w2c_j0);
-  w2c_i0 = i32_load8_u(m, (u64)(w2c_i0) + 80u);
+  w2c_i0 = i32_load8_u(m, (u64)(w2c_i0) + 64u);
   w2c_i1 = 1u;
   w2c_i0 = w2c_i0 != w2c_i1;
   if (w2c_i0) {goto w2c_B1;}
-  w2c_j0 = w2c_l1;
+  w2c_j0 = w2c_l4;
   w2c_i0 = (u32)(w2c_j0);
-  w2c_j0 = i64_load(m, (u64)(w2c_i0) + 104u);
-  w2c_p0 = w2c_j0;
-  w2c_j0 = w2c_l1;
-  w2c_i0 = (u32)(w2c_j0);
-  w2c_j0 = i64_load(m, (u64)(w2c_i0) + 96u);
-  w2c_l2 = w2c_j0;
-  w2c_j0 = w2c_l1;
-  w2c_i0 = (u32)(w2c_j0);
-  w2c_i0 = i32_load(m, (u64)(w2c_i0) + 92u);
-  w2c_l9 = w2c_i0;
-  w2c_j0 = w2c_l1;
-  w2c_j1 = 32ull;
-  w2c_j0 += w2c_j1;
-  w2c_j1 = w2c_l1;
-  w2c_i1 = (u32)(w2c_j1);
-  w2c_i1 = i32_load(m, (u64)(w2c_i1) + 88u);
-  w2c_l11 = w2c_i1;
-  w2c_f21(m, w2c_j0, w2c_i1);
-  w2c_i0 = w2c_l11;
-  w2c_i1 = 4294967238u;
+  w2c_i0 = i32_load(m, (u64)(w2c_i0) + 72u);
+  w2c_p3 = w2c_i0;
+  w2c_i1 = 4294967248u;
   w2c_i0 += w2c_i1;
-  w2c_i1 = 4294967285u;
-  w2c_i0 = w2c_i0 > w2c_i1;
+  w2c_i1 = 10u;
+  w2c_i0 = w2c_i0 < w2c_i1;
   if (w2c_i0) {goto w2c_B1;}
-  w2c_j0 = w2c_l1;
+  w2c_j0 = w2c_l4;
   w2c_i0 = (u32)(w2c_j0);
-  w2c_i0 = i32_load8_u(m, (u64)(w2c_i0) + 32u);
-  w2c_i1 = 255u;
-  w2c_i0 &= w2c_i1;
-  w2c_i1 = 1u;
-  w2c_i0 = w2c_i0 != w2c_i1;
-  if (w2c_i0) {goto w2c_B1;}
-  w2c_j0 = w2c_l1;
-  w2c_j1 = 24ull;
-  w2c_j0 += w2c_j1;
-  w2c_i1 = w2c_l9;
-  w2c_f21(m, w2c_j0, w2c_i1);
-  w2c_i0 = w2c_l9;
-  w2c_i1 = 4294967238u;
+  w2c_i0 = i32_load(m, (u64)(w2c_i0) + 76u);
+  w2c_l5 = w2c_i0;
+  w2c_i1 = 4294967248u;
   w2c_i0 += w2c_i1;
-  w2c_i1 = 4294967285u;
-  w2c_i0 = w2c_i0 > w2c_i1;
+  w2c_i1 = 10u;
+  w2c_i0 = w2c_i0 < w2c_i1;
   if (w2c_i0) {goto w2c_B1;}
-  w2c_j0 = w2c_l1;
+  w2c_j0 = w2c_l4;
   w2c_i0 = (u32)(w2c_j0);
-  w2c_i0 = i32_load8_u(m, (u64)(w2c_i0) + 24u);
-  w2c_i1 = 255u;
-  w2c_i0 &= w2c_i1;
-  w2c_i1 = 1u;
-  w2c_i0 = w2c_i0 != w2c_i1;
-  if (w2c_i0) {goto w2c_B1;}
-  w2c_j0 = w2c_l1;
+  w2c_j0 = i64_load(m, (u64)(w2c_i0) + 88u);
+  w2c_p2 = w2c_j0;
+  w2c_j0 = w2c_l4;
+  w2c_i0 = (u32)(w2c_j0);
+  w2c_j0 = i64_load(m, (u64)(w2c_i0) + 80u);
+  w2c_p1 = w2c_j0;
+  w2c_j0 = w2c_l4;
   w2c_j1 = 16ull;
   w2c_j0 += w2c_j1;
-  w2c_i1 = w2c_l11;
+  w2c_i1 = w2c_p3;
   w2c_f21(m, w2c_j0, w2c_i1);
-  w2c_j0 = w2c_l1;
+  w2c_j0 = w2c_l4;
   w2c_i0 = (u32)(w2c_j0);
   w2c_i0 = i32_load8_u(m, (u64)(w2c_i0) + 17u);
-  w2c_l11 = w2c_i0;
-  w2c_j0 = w2c_l1;
+  w2c_p3 = w2c_i0;
+  w2c_j0 = w2c_l4;
   w2c_i0 = (u32)(w2c_j0);
   w2c_i0 = i32_load8_u(m, (u64)(w2c_i0) + 16u);
-  w2c_l12 = w2c_i0;
-  w2c_j0 = w2c_l1;
+  w2c_l6 = w2c_i0;
+  w2c_j0 = w2c_l4;
   w2c_j1 = 8ull;
   w2c_j0 += w2c_j1;
-  w2c_i1 = w2c_l9;
+  w2c_i1 = w2c_l5;
   w2c_f21(m, w2c_j0, w2c_i1);
-  w2c_i0 = w2c_l12;
-  w2c_j1 = w2c_l1;
+  w2c_i0 = w2c_l6;
+  w2c_j1 = w2c_l4;
   w2c_i1 = (u32)(w2c_j1);
   w2c_i1 = i32_load8_u(m, (u64)(w2c_i1) + 8u);
   w2c_i0 &= w2c_i1;
@@ -13260,53 +13417,54 @@ static u32 w2c_f25(module *m, u64 w2c_p0) {
   w2c_i0 &= w2c_i1;
   w2c_i0 = !(w2c_i0);
   if (w2c_i0) {goto w2c_B1;}
-  w2c_i0 = w2c_l11;
+  w2c_i0 = w2c_p3;
   w2c_i1 = 255u;
   w2c_i0 &= w2c_i1;
-  w2c_l9 = w2c_i0;
   w2c_i0 = !(w2c_i0);
   if (w2c_i0) {goto w2c_B1;}
-  w2c_j0 = w2c_l1;
+  w2c_j0 = w2c_l4;
   w2c_i0 = (u32)(w2c_j0);
   w2c_i0 = i32_load8_u(m, (u64)(w2c_i0) + 9u);
   w2c_i1 = 255u;
   w2c_i0 &= w2c_i1;
-  w2c_l12 = w2c_i0;
-  w2c_i1 = w2c_l11;
+  w2c_l5 = w2c_i0;
+  w2c_i1 = w2c_p3;
   w2c_i2 = 1u;
   w2c_i1 += w2c_i2;
   w2c_i2 = 255u;
   w2c_i1 &= w2c_i2;
   w2c_i0 = w2c_i0 == w2c_i1;
-  if (w2c_i0) {goto w2c_B18;}
-  w2c_i0 = w2c_l9;
+  if (w2c_i0) {goto w2c_B7;}
+  w2c_i0 = w2c_p3;
+  w2c_i1 = 255u;
+  w2c_i0 &= w2c_i1;
   w2c_i1 = 3u;
   w2c_i0 = w2c_i0 == w2c_i1;
-  w2c_i1 = w2c_l12;
+  w2c_i1 = w2c_l5;
   w2c_i2 = 5u;
   w2c_i1 = w2c_i1 == w2c_i2;
   w2c_i0 &= w2c_i1;
   w2c_i0 = !(w2c_i0);
   if (w2c_i0) {goto w2c_B1;}
-  w2c_B18:;
-  w2c_j0 = w2c_l1;
-  w2c_j1 = 48ull;
+  w2c_B7:;
+  w2c_j0 = w2c_l4;
+  w2c_j1 = 32ull;
   w2c_j0 += w2c_j1;
-  w2c_j1 = w2c_l2;
-  w2c_j2 = w2c_p0;
+  w2c_j1 = w2c_p1;
+  w2c_j2 = w2c_p2;
   w2c_f26(m, w2c_j0, w2c_j1, w2c_j2);
-  w2c_j0 = w2c_l1;
+  w2c_j0 = w2c_l4;
   w2c_i0 = (u32)(w2c_j0);
-  w2c_i0 = i32_load8_u(m, (u64)(w2c_i0) + 48u);
+  w2c_i0 = i32_load8_u(m, (u64)(w2c_i0) + 32u);
   w2c_i1 = 1u;
   w2c_i0 = w2c_i0 != w2c_i1;
-  w2c_l10 = w2c_i0;
+  w2c_p0 = w2c_i0;
   w2c_B1:;
-  w2c_j0 = w2c_l1;
-  w2c_j1 = 112ull;
+  w2c_j0 = w2c_l4;
+  w2c_j1 = 96ull;
   w2c_j0 += w2c_j1;
   m->w2c_g0 = w2c_j0;
-  w2c_i0 = w2c_l10;
+  w2c_i0 = w2c_p0;
   goto w2c_Bfunc;
   w2c_B0:;
   UNREACHABLE;
@@ -13315,8 +13473,8 @@ static u32 w2c_f25(module *m, u64 w2c_p0) {
 }
 
 static void w2c_f26(module *m, u64 w2c_p0, u64 w2c_p1, u64 w2c_p2) {
-  u32 w2c_l5 = 0, w2c_l6 = 0, w2c_l7 = 0, w2c_l8 = 0, w2c_l9 = 0;
-  u64 w2c_l3 = 0, w2c_l4 = 0;
+  u32 w2c_l8 = 0, w2c_l9 = 0, w2c_l10 = 0, w2c_l11 = 0, w2c_l12 = 0;
+  u64 w2c_l3 = 0, w2c_l4 = 0, w2c_l5 = 0, w2c_l6 = 0, w2c_l7 = 0;
   u32 w2c_i0, w2c_i1, w2c_i2, w2c_i3;
   u64 w2c_j0, w2c_j1;
   w2c_j0 = m->w2c_g0;
@@ -13328,130 +13486,32 @@ static void w2c_f26(module *m, u64 w2c_p0, u64 w2c_p1, u64 w2c_p2) {
   w2c_l4 = w2c_j0;
   w2c_j1 = 16ull;
   w2c_i0 = (u64)((s64)w2c_j0 < (s64)w2c_j1);
-  if (w2c_i0) {goto w2c_B2;}
-  w2c_j0 = w2c_p2;
-  w2c_i0 = !(w2c_j0);
-  if (w2c_i0) {goto w2c_B3;}
-  w2c_L4:
+  if (w2c_i0) {goto w2c_B1;}
+  w2c_L3:
     w2c_j0 = w2c_p1;
-    w2c_i0 = (u32)(w2c_j0);
-    w2c_i0 = i32_load8_s(m, (u64)(w2c_i0));
-    w2c_l5 = w2c_i0;
-    w2c_i1 = 255u;
-    w2c_i0 &= w2c_i1;
-    w2c_l6 = w2c_i0;
-    w2c_j0 = 1ull;
     w2c_l3 = w2c_j0;
-    w2c_i0 = w2c_l5;
-    w2c_i1 = 4294967295u;
-    w2c_i0 = (u32)((s32)w2c_i0 > (s32)w2c_i1);
-    if (w2c_i0) {goto w2c_B5;}
-    w2c_j0 = w2c_p1;
+    w2c_j0 = w2c_p2;
+    w2c_l5 = w2c_j0;
+    w2c_j1 = 3ull;
+    w2c_i0 = w2c_j0 < w2c_j1;
+    if (w2c_i0) {goto w2c_B6;}
+    w2c_j0 = w2c_l3;
     w2c_i0 = (u32)(w2c_j0);
     w2c_i0 = i32_load8_u(m, (u64)(w2c_i0) + 1u);
-    w2c_i1 = 63u;
-    w2c_i0 &= w2c_i1;
-    w2c_l7 = w2c_i0;
-    w2c_i0 = w2c_l5;
-    w2c_i1 = 4294967263u;
-    w2c_i0 = w2c_i0 > w2c_i1;
-    if (w2c_i0) {goto w2c_B6;}
-    w2c_i0 = w2c_l6;
-    w2c_i1 = 6u;
+    w2c_i1 = 8u;
     w2c_i0 <<= (w2c_i1 & 31);
-    w2c_i1 = 1984u;
-    w2c_i0 &= w2c_i1;
-    w2c_i1 = w2c_l7;
-    w2c_i0 |= w2c_i1;
-    w2c_l6 = w2c_i0;
-    w2c_j0 = 2ull;
-    w2c_l3 = w2c_j0;
-    goto w2c_B5;
-    w2c_B6:;
-    w2c_j0 = w2c_p1;
-    w2c_i0 = (u32)(w2c_j0);
-    w2c_i0 = i32_load8_u(m, (u64)(w2c_i0) + 2u);
-    w2c_i1 = 63u;
-    w2c_i0 &= w2c_i1;
-    w2c_l8 = w2c_i0;
-    w2c_i0 = w2c_l5;
-    w2c_i1 = 4294967279u;
-    w2c_i0 = w2c_i0 > w2c_i1;
-    if (w2c_i0) {goto w2c_B7;}
-    w2c_i0 = w2c_l7;
-    w2c_i1 = 6u;
-    w2c_i0 <<= (w2c_i1 & 31);
-    w2c_i1 = w2c_l6;
-    w2c_i2 = 12u;
-    w2c_i1 <<= (w2c_i2 & 31);
-    w2c_i2 = 61440u;
-    w2c_i1 &= w2c_i2;
-    w2c_i0 |= w2c_i1;
-    w2c_i1 = w2c_l8;
-    w2c_i0 |= w2c_i1;
-    w2c_l6 = w2c_i0;
-    w2c_j0 = 3ull;
-    w2c_l3 = w2c_j0;
-    goto w2c_B5;
-    w2c_B7:;
-    w2c_i0 = w2c_l8;
-    w2c_i1 = 6u;
-    w2c_i0 <<= (w2c_i1 & 31);
-    w2c_i1 = w2c_l7;
-    w2c_i2 = 12u;
-    w2c_i1 <<= (w2c_i2 & 31);
-    w2c_i2 = w2c_l6;
-    w2c_i3 = 18u;
-    w2c_i2 <<= (w2c_i3 & 31);
-    w2c_i3 = 1835008u;
-    w2c_i2 &= w2c_i3;
-    w2c_i1 |= w2c_i2;
-    w2c_i0 |= w2c_i1;
-    w2c_j1 = w2c_p1;
+    w2c_j1 = w2c_l3;
     w2c_i1 = (u32)(w2c_j1);
-    w2c_i1 = i32_load8_u(m, (u64)(w2c_i1) + 3u);
-    w2c_i2 = 63u;
-    w2c_i1 &= w2c_i2;
-    w2c_i0 |= w2c_i1;
-    w2c_l6 = w2c_i0;
-    w2c_j0 = 4ull;
-    w2c_l3 = w2c_j0;
-    w2c_B5:;
-    w2c_j0 = w2c_p2;
-    w2c_j1 = w2c_l3;
-    w2c_j0 -= w2c_j1;
-    w2c_p2 = w2c_j0;
-    w2c_j0 = w2c_p1;
-    w2c_j1 = w2c_l3;
-    w2c_j0 += w2c_j1;
-    w2c_p1 = w2c_j0;
-    w2c_i0 = w2c_l6;
-    w2c_i1 = 4294965248u;
-    w2c_i0 += w2c_i1;
-    w2c_i1 = 63487u;
-    w2c_i0 = w2c_i0 > w2c_i1;
-    if (w2c_i0) {goto w2c_B10;}
-    w2c_j0 = w2c_p2;
-    w2c_i0 = !(w2c_j0);
-    if (w2c_i0) {goto w2c_B8;}
-    w2c_i0 = w2c_l6;
-    w2c_i1 = 12u;
-    w2c_i0 >>= (w2c_i1 & 31);
-    w2c_i1 = w2c_l6;
-    w2c_i2 = 2u;
-    w2c_i1 <<= (w2c_i2 & 31);
-    w2c_i2 = 16128u;
-    w2c_i1 &= w2c_i2;
-    w2c_i0 |= w2c_i1;
-    w2c_i1 = w2c_l6;
+    w2c_i1 = i32_load8_u(m, (u64)(w2c_i1) + 2u);
     w2c_i2 = 16u;
     w2c_i1 <<= (w2c_i2 & 31);
-    w2c_i2 = 4128768u;
-    w2c_i1 &= w2c_i2;
     w2c_i0 |= w2c_i1;
-    w2c_i1 = 8421600u;
+    w2c_j1 = w2c_l3;
+    w2c_i1 = (u32)(w2c_j1);
+    w2c_i1 = i32_load8_u(m, (u64)(w2c_i1));
+    w2c_l8 = w2c_i1;
     w2c_i0 |= w2c_i1;
-    w2c_l5 = w2c_i0;
+    w2c_l9 = w2c_i0;
     w2c_j0 = (u64)(w2c_i0);
     w2c_j1 = 953497ull;
     w2c_j0 *= w2c_j1;
@@ -13459,107 +13519,323 @@ static void w2c_f26(module *m, u64 w2c_p0, u64 w2c_p1, u64 w2c_p2) {
     w2c_j0 >>= (w2c_j1 & 63);
     w2c_j1 = 1016ull;
     w2c_j0 &= w2c_j1;
-    w2c_l3 = w2c_j0;
+    w2c_l6 = w2c_j0;
+    w2c_j1 = 66992ull;
+    w2c_j0 += w2c_j1;
     w2c_i0 = (u32)(w2c_j0);
-    w2c_i0 = i32_load(m, (u64)(w2c_i0) + 66860u);
-    w2c_i1 = w2c_l5;
+    w2c_i0 = i32_load(m, (u64)(w2c_i0));
+    w2c_i1 = w2c_l9;
     w2c_i0 = w2c_i0 != w2c_i1;
-    if (w2c_i0) {goto w2c_B8;}
+    if (w2c_i0) {goto w2c_B5;}
     w2c_j0 = w2c_l3;
-    w2c_j1 = 66864ull;
+    w2c_j1 = 3ull;
+    w2c_j0 += w2c_j1;
+    w2c_p1 = w2c_j0;
+    w2c_j0 = w2c_l5;
+    w2c_j1 = 18446744073709551613ull;
+    w2c_j0 += w2c_j1;
+    w2c_p2 = w2c_j0;
+    w2c_l7 = w2c_j0;
+    w2c_j0 = w2c_l6;
+    w2c_j1 = 66996ull;
     w2c_j0 += w2c_j1;
     w2c_i0 = (u32)(w2c_j0);
     w2c_i0 = i32_load8_u(m, (u64)(w2c_i0));
-    w2c_i1 = 255u;
-    w2c_i0 &= w2c_i1;
-    w2c_i0 = !(w2c_i0);
-    if (w2c_i0) {goto w2c_B9;}
-    goto w2c_B8;
-    w2c_B10:;
-    w2c_j0 = w2c_l4;
-    w2c_j1 = 24ull;
-    w2c_j0 += w2c_j1;
-    w2c_i1 = w2c_l6;
-    w2c_f21(m, w2c_j0, w2c_i1);
-    w2c_j0 = w2c_l4;
-    w2c_i0 = (u32)(w2c_j0);
-    w2c_i0 = i32_load8_u(m, (u64)(w2c_i0) + 24u);
-    w2c_i1 = 1u;
-    w2c_i0 = w2c_i0 == w2c_i1;
-    if (w2c_i0) {goto w2c_B11;}
-    w2c_j0 = w2c_l4;
-    w2c_j1 = 16ull;
-    w2c_j0 += w2c_j1;
-    w2c_i1 = w2c_l6;
-    w2c_f19(m, w2c_j0, w2c_i1);
-    goto w2c_B8;
-    w2c_B11:;
-    w2c_j0 = w2c_p2;
+    if (w2c_i0) {goto w2c_L3;}
+    goto w2c_B4;
+    w2c_B6:;
+    w2c_j0 = w2c_l5;
     w2c_i0 = !(w2c_j0);
-    if (w2c_i0) {goto w2c_B3;}
-    w2c_B9:;
-    w2c_j0 = w2c_p1;
+    if (w2c_i0) {goto w2c_B2;}
+    w2c_j0 = w2c_l3;
     w2c_i0 = (u32)(w2c_j0);
-    w2c_i0 = i32_load8_s(m, (u64)(w2c_i0));
-    w2c_l7 = w2c_i0;
-    w2c_i1 = 255u;
-    w2c_i0 &= w2c_i1;
-    w2c_l5 = w2c_i0;
-    w2c_i0 = w2c_l7;
+    w2c_i0 = i32_load8_u(m, (u64)(w2c_i0));
+    w2c_l8 = w2c_i0;
+    w2c_B5:;
+    w2c_j0 = 1ull;
+    w2c_p1 = w2c_j0;
+    w2c_i0 = w2c_l8;
+    w2c_i0 = (u32)(s32)(s8)(u8)(w2c_i0);
     w2c_i1 = 4294967295u;
-    w2c_i0 = (u32)((s32)w2c_i0 > (s32)w2c_i1);
-    if (w2c_i0) {goto w2c_B12;}
-    w2c_j0 = w2c_p1;
+    w2c_i0 = (u32)((s32)w2c_i0 <= (s32)w2c_i1);
+    if (w2c_i0) {goto w2c_B8;}
+    w2c_i0 = w2c_l8;
+    w2c_l9 = w2c_i0;
+    goto w2c_B7;
+    w2c_B8:;
+    w2c_j0 = w2c_l3;
     w2c_i0 = (u32)(w2c_j0);
     w2c_i0 = i32_load8_u(m, (u64)(w2c_i0) + 1u);
     w2c_i1 = 63u;
     w2c_i0 &= w2c_i1;
-    w2c_l8 = w2c_i0;
-    w2c_i0 = w2c_l7;
-    w2c_i1 = 4294967263u;
+    w2c_l9 = w2c_i0;
+    w2c_i0 = w2c_l8;
+    w2c_i1 = 223u;
     w2c_i0 = w2c_i0 > w2c_i1;
-    if (w2c_i0) {goto w2c_B13;}
-    w2c_i0 = w2c_l5;
+    if (w2c_i0) {goto w2c_B9;}
+    w2c_i0 = w2c_l8;
     w2c_i1 = 6u;
     w2c_i0 <<= (w2c_i1 & 31);
     w2c_i1 = 1984u;
     w2c_i0 &= w2c_i1;
-    w2c_i1 = w2c_l8;
+    w2c_i1 = w2c_l9;
     w2c_i0 |= w2c_i1;
-    w2c_l5 = w2c_i0;
-    goto w2c_B12;
-    w2c_B13:;
-    w2c_j0 = w2c_p1;
+    w2c_l9 = w2c_i0;
+    w2c_j0 = 2ull;
+    w2c_p1 = w2c_j0;
+    goto w2c_B7;
+    w2c_B9:;
+    w2c_j0 = w2c_l3;
     w2c_i0 = (u32)(w2c_j0);
     w2c_i0 = i32_load8_u(m, (u64)(w2c_i0) + 2u);
     w2c_i1 = 63u;
     w2c_i0 &= w2c_i1;
-    w2c_l9 = w2c_i0;
-    w2c_i0 = w2c_l7;
-    w2c_i1 = 4294967279u;
-    w2c_i0 = w2c_i0 > w2c_i1;
-    if (w2c_i0) {goto w2c_B14;}
+    w2c_l10 = w2c_i0;
     w2c_i0 = w2c_l8;
-    w2c_i1 = 6u;
-    w2c_i0 <<= (w2c_i1 & 31);
-    w2c_i1 = w2c_l5;
-    w2c_i2 = 12u;
-    w2c_i1 <<= (w2c_i2 & 31);
-    w2c_i2 = 61440u;
-    w2c_i1 &= w2c_i2;
-    w2c_i0 |= w2c_i1;
-    w2c_i1 = w2c_l9;
-    w2c_i0 |= w2c_i1;
-    w2c_l5 = w2c_i0;
-    goto w2c_B12;
-    w2c_B14:;
+    w2c_i1 = 239u;
+    w2c_i0 = w2c_i0 > w2c_i1;
+    if (w2c_i0) {goto w2c_B10;}
     w2c_i0 = w2c_l9;
     w2c_i1 = 6u;
     w2c_i0 <<= (w2c_i1 & 31);
     w2c_i1 = w2c_l8;
     w2c_i2 = 12u;
     w2c_i1 <<= (w2c_i2 & 31);
-    w2c_i2 = w2c_l5;
+    w2c_i2 = 61440u;
+    w2c_i1 &= w2c_i2;
+    w2c_i0 |= w2c_i1;
+    w2c_i1 = w2c_l10;
+    w2c_i0 |= w2c_i1;
+    w2c_l9 = w2c_i0;
+    w2c_j0 = 3ull;
+    w2c_p1 = w2c_j0;
+    goto w2c_B7;
+    w2c_B10:;
+    w2c_i0 = w2c_l10;
+    w2c_i1 = 6u;
+    w2c_i0 <<= (w2c_i1 & 31);
+    w2c_i1 = w2c_l9;
+    w2c_i2 = 12u;
+    w2c_i1 <<= (w2c_i2 & 31);
+    w2c_i2 = w2c_l8;
+    w2c_i3 = 18u;
+    w2c_i2 <<= (w2c_i3 & 31);
+    w2c_i3 = 1835008u;
+    w2c_i2 &= w2c_i3;
+    w2c_i1 |= w2c_i2;
+    w2c_i0 |= w2c_i1;
+    w2c_j1 = w2c_l3;
+    w2c_i1 = (u32)(w2c_j1);
+    w2c_i1 = i32_load8_u(m, (u64)(w2c_i1) + 3u);
+    w2c_i2 = 63u;
+    w2c_i1 &= w2c_i2;
+    w2c_i0 |= w2c_i1;
+    w2c_l9 = w2c_i0;
+    w2c_j0 = 4ull;
+    w2c_p1 = w2c_j0;
+    w2c_B7:;
+    w2c_j0 = w2c_l5;
+    w2c_j1 = w2c_p1;
+    w2c_j0 -= w2c_j1;
+    w2c_p2 = w2c_j0;
+    w2c_j0 = w2c_l3;
+    w2c_j1 = w2c_p1;
+    w2c_j0 += w2c_j1;
+    w2c_p1 = w2c_j0;
+    w2c_i0 = w2c_l9;
+    w2c_i1 = 4294965248u;
+    w2c_i0 += w2c_i1;
+    w2c_i1 = 63488u;
+    w2c_i0 = w2c_i0 < w2c_i1;
+    if (w2c_i0) {goto w2c_B11;}
+    w2c_j0 = w2c_l4;
+    w2c_j1 = 24ull;
+    w2c_j0 += w2c_j1;
+    w2c_i1 = w2c_l9;
+    w2c_f21(m, w2c_j0, w2c_i1);
+    w2c_j0 = w2c_l4;
+    w2c_i0 = (u32)(w2c_j0);
+    w2c_i0 = i32_load8_u(m, (u64)(w2c_i0) + 24u);
+    w2c_i1 = 1u;
+    w2c_i0 = w2c_i0 != w2c_i1;
+    if (w2c_i0) {goto w2c_B12;}
+    w2c_j0 = w2c_p2;
+    w2c_l7 = w2c_j0;
+    goto w2c_B4;
+    w2c_B12:;
+    w2c_j0 = w2c_l4;
+    w2c_j1 = 16ull;
+    w2c_j0 += w2c_j1;
+    w2c_i1 = w2c_l9;
+    w2c_f19(m, w2c_j0, w2c_i1);
+    goto w2c_L3;
+    w2c_B11:;
+    w2c_i0 = w2c_l9;
+    w2c_i1 = 12u;
+    w2c_i0 >>= (w2c_i1 & 31);
+    w2c_i1 = w2c_l9;
+    w2c_i2 = 2u;
+    w2c_i1 <<= (w2c_i2 & 31);
+    w2c_i2 = 16128u;
+    w2c_i1 &= w2c_i2;
+    w2c_i0 |= w2c_i1;
+    w2c_i1 = w2c_l9;
+    w2c_i2 = 16u;
+    w2c_i1 <<= (w2c_i2 & 31);
+    w2c_i2 = 4128768u;
+    w2c_i1 &= w2c_i2;
+    w2c_i0 |= w2c_i1;
+    w2c_i1 = 8421600u;
+    w2c_i0 |= w2c_i1;
+    w2c_l9 = w2c_i0;
+    w2c_j0 = (u64)(w2c_i0);
+    w2c_j1 = 953497ull;
+    w2c_j0 *= w2c_j1;
+    w2c_j1 = 22ull;
+    w2c_j0 >>= (w2c_j1 & 63);
+    w2c_j1 = 1016ull;
+    w2c_j0 &= w2c_j1;
+    w2c_l6 = w2c_j0;
+    w2c_i0 = (u32)(w2c_j0);
+    w2c_i0 = i32_load(m, (u64)(w2c_i0) + 66992u);
+    w2c_i1 = w2c_l9;
+    w2c_i0 = w2c_i0 != w2c_i1;
+    if (w2c_i0) {goto w2c_L3;}
+    w2c_j0 = w2c_p2;
+    w2c_l7 = w2c_j0;
+    w2c_j0 = w2c_l6;
+    w2c_j1 = 66996ull;
+    w2c_j0 += w2c_j1;
+    w2c_i0 = (u32)(w2c_j0);
+    w2c_i0 = i32_load8_u(m, (u64)(w2c_i0));
+    w2c_i1 = 255u;
+    w2c_i0 &= w2c_i1;
+    if (w2c_i0) {goto w2c_L3;}
+    w2c_B4:;
+    w2c_j0 = w2c_l7;
+    w2c_j1 = 3ull;
+    w2c_i0 = w2c_j0 < w2c_j1;
+    if (w2c_i0) {goto w2c_B15;}
+    w2c_j0 = w2c_p1;
+    w2c_i0 = (u32)(w2c_j0);
+    w2c_i0 = i32_load8_u(m, (u64)(w2c_i0) + 1u);
+    w2c_i1 = 8u;
+    w2c_i0 <<= (w2c_i1 & 31);
+    w2c_j1 = w2c_p1;
+    w2c_i1 = (u32)(w2c_j1);
+    w2c_i1 = i32_load8_u(m, (u64)(w2c_i1) + 2u);
+    w2c_i2 = 16u;
+    w2c_i1 <<= (w2c_i2 & 31);
+    w2c_i0 |= w2c_i1;
+    w2c_j1 = w2c_p1;
+    w2c_i1 = (u32)(w2c_j1);
+    w2c_i1 = i32_load8_u(m, (u64)(w2c_i1));
+    w2c_l9 = w2c_i1;
+    w2c_i0 |= w2c_i1;
+    w2c_l10 = w2c_i0;
+    w2c_j0 = (u64)(w2c_i0);
+    w2c_j1 = 953497ull;
+    w2c_j0 *= w2c_j1;
+    w2c_j1 = 22ull;
+    w2c_j0 >>= (w2c_j1 & 63);
+    w2c_j1 = 1016ull;
+    w2c_j0 &= w2c_j1;
+    w2c_l6 = w2c_j0;
+    w2c_j1 = 66992ull;
+    w2c_j0 += w2c_j1;
+    w2c_i0 = (u32)(w2c_j0);
+    w2c_i0 = i32_load(m, (u64)(w2c_i0));
+    w2c_i1 = w2c_l10;
+    w2c_i0 = w2c_i0 != w2c_i1;
+    if (w2c_i0) {goto w2c_B14;}
+    w2c_j0 = w2c_l7;
+    w2c_j1 = 18446744073709551613ull;
+    w2c_j0 += w2c_j1;
+    w2c_p2 = w2c_j0;
+    w2c_j0 = w2c_p1;
+    w2c_j1 = 3ull;
+    w2c_j0 += w2c_j1;
+    w2c_p1 = w2c_j0;
+    w2c_j0 = w2c_l6;
+    w2c_j1 = 66996ull;
+    w2c_j0 += w2c_j1;
+    w2c_i0 = (u32)(w2c_j0);
+    w2c_i0 = i32_load8_u(m, (u64)(w2c_i0));
+    if (w2c_i0) {goto w2c_L3;}
+    goto w2c_B13;
+    w2c_B15:;
+    w2c_j0 = 0ull;
+    w2c_p2 = w2c_j0;
+    w2c_j0 = w2c_l7;
+    w2c_i0 = !(w2c_j0);
+    if (w2c_i0) {goto w2c_L3;}
+    w2c_j0 = w2c_p1;
+    w2c_i0 = (u32)(w2c_j0);
+    w2c_i0 = i32_load8_u(m, (u64)(w2c_i0));
+    w2c_l9 = w2c_i0;
+    w2c_B14:;
+    w2c_j0 = 1ull;
+    w2c_l6 = w2c_j0;
+    w2c_i0 = w2c_l9;
+    w2c_i0 = (u32)(s32)(s8)(u8)(w2c_i0);
+    w2c_i1 = 4294967295u;
+    w2c_i0 = (u32)((s32)w2c_i0 > (s32)w2c_i1);
+    if (w2c_i0) {goto w2c_B16;}
+    w2c_j0 = w2c_p1;
+    w2c_i0 = (u32)(w2c_j0);
+    w2c_i0 = i32_load8_u(m, (u64)(w2c_i0) + 1u);
+    w2c_i1 = 63u;
+    w2c_i0 &= w2c_i1;
+    w2c_l10 = w2c_i0;
+    w2c_i0 = w2c_l9;
+    w2c_i1 = 223u;
+    w2c_i0 = w2c_i0 > w2c_i1;
+    if (w2c_i0) {goto w2c_B17;}
+    w2c_i0 = w2c_l9;
+    w2c_i1 = 6u;
+    w2c_i0 <<= (w2c_i1 & 31);
+    w2c_i1 = 1984u;
+    w2c_i0 &= w2c_i1;
+    w2c_i1 = w2c_l10;
+    w2c_i0 |= w2c_i1;
+    w2c_l9 = w2c_i0;
+    w2c_j0 = 2ull;
+    w2c_l6 = w2c_j0;
+    goto w2c_B16;
+    w2c_B17:;
+    w2c_j0 = w2c_p1;
+    w2c_i0 = (u32)(w2c_j0);
+    w2c_i0 = i32_load8_u(m, (u64)(w2c_i0) + 2u);
+    w2c_i1 = 63u;
+    w2c_i0 &= w2c_i1;
+    w2c_l11 = w2c_i0;
+    w2c_i0 = w2c_l9;
+    w2c_i1 = 239u;
+    w2c_i0 = w2c_i0 > w2c_i1;
+    if (w2c_i0) {goto w2c_B18;}
+    w2c_i0 = w2c_l10;
+    w2c_i1 = 6u;
+    w2c_i0 <<= (w2c_i1 & 31);
+    w2c_i1 = w2c_l9;
+    w2c_i2 = 12u;
+    w2c_i1 <<= (w2c_i2 & 31);
+    w2c_i2 = 61440u;
+    w2c_i1 &= w2c_i2;
+    w2c_i0 |= w2c_i1;
+    w2c_i1 = w2c_l11;
+    w2c_i0 |= w2c_i1;
+    w2c_l9 = w2c_i0;
+    w2c_j0 = 3ull;
+    w2c_l6 = w2c_j0;
+    goto w2c_B16;
+    w2c_B18:;
+    w2c_i0 = w2c_l11;
+    w2c_i1 = 6u;
+    w2c_i0 <<= (w2c_i1 & 31);
+    w2c_i1 = w2c_l10;
+    w2c_i2 = 12u;
+    w2c_i1 <<= (w2c_i2 & 31);
+    w2c_i2 = w2c_l9;
     w2c_i3 = 18u;
     w2c_i2 <<= (w2c_i3 & 31);
     w2c_i3 = 1835008u;
@@ -13572,24 +13848,50 @@ static void w2c_f26(module *m, u64 w2c_p0, u64 w2c_p1, u64 w2c_p2) {
     w2c_i2 = 63u;
     w2c_i1 &= w2c_i2;
     w2c_i0 |= w2c_i1;
-    w2c_l5 = w2c_i0;
-    w2c_B12:;
-    w2c_i0 = w2c_l5;
+    w2c_l9 = w2c_i0;
+    w2c_j0 = 4ull;
+    w2c_l6 = w2c_j0;
+    w2c_B16:;
+    w2c_j0 = w2c_l7;
+    w2c_j1 = w2c_l6;
+    w2c_j0 -= w2c_j1;
+    w2c_p2 = w2c_j0;
+    w2c_j0 = w2c_p1;
+    w2c_j1 = w2c_l6;
+    w2c_j0 += w2c_j1;
+    w2c_p1 = w2c_j0;
+    w2c_i0 = w2c_l9;
     w2c_i1 = 4294965248u;
     w2c_i0 += w2c_i1;
-    w2c_i1 = 63487u;
-    w2c_i0 = w2c_i0 > w2c_i1;
-    if (w2c_i0) {goto w2c_B15;}
-    w2c_i0 = w2c_l5;
+    w2c_i1 = 63488u;
+    w2c_i0 = w2c_i0 < w2c_i1;
+    if (w2c_i0) {goto w2c_B19;}
+    w2c_j0 = w2c_l4;
+    w2c_j1 = 8ull;
+    w2c_j0 += w2c_j1;
+    w2c_i1 = w2c_l9;
+    w2c_f21(m, w2c_j0, w2c_i1);
+    w2c_j0 = w2c_l4;
+    w2c_i0 = (u32)(w2c_j0);
+    w2c_i0 = i32_load8_u(m, (u64)(w2c_i0) + 8u);
+    w2c_i1 = 1u;
+    w2c_i0 = w2c_i0 == w2c_i1;
+    if (w2c_i0) {goto w2c_B13;}
+    w2c_j0 = w2c_l4;
+    w2c_i1 = w2c_l9;
+    w2c_f19(m, w2c_j0, w2c_i1);
+    goto w2c_L3;
+    w2c_B19:;
+    w2c_i0 = w2c_l9;
     w2c_i1 = 12u;
     w2c_i0 >>= (w2c_i1 & 31);
-    w2c_i1 = w2c_l5;
+    w2c_i1 = w2c_l9;
     w2c_i2 = 2u;
     w2c_i1 <<= (w2c_i2 & 31);
     w2c_i2 = 16128u;
     w2c_i1 &= w2c_i2;
     w2c_i0 |= w2c_i1;
-    w2c_i1 = w2c_l5;
+    w2c_i1 = w2c_l9;
     w2c_i2 = 16u;
     w2c_i1 <<= (w2c_i2 & 31);
     w2c_i2 = 4128768u;
@@ -13597,7 +13899,7 @@ static void w2c_f26(module *m, u64 w2c_p0, u64 w2c_p1, u64 w2c_p2) {
     w2c_i0 |= w2c_i1;
     w2c_i1 = 8421600u;
     w2c_i0 |= w2c_i1;
-    w2c_l7 = w2c_i0;
+    w2c_l9 = w2c_i0;
     w2c_j0 = (u64)(w2c_i0);
     w2c_j1 = 953497ull;
     w2c_j0 *= w2c_j1;
@@ -13605,42 +13907,230 @@ static void w2c_f26(module *m, u64 w2c_p0, u64 w2c_p1, u64 w2c_p2) {
     w2c_j0 >>= (w2c_j1 & 63);
     w2c_j1 = 1016ull;
     w2c_j0 &= w2c_j1;
-    w2c_l3 = w2c_j0;
+    w2c_l7 = w2c_j0;
     w2c_i0 = (u32)(w2c_j0);
-    w2c_i0 = i32_load(m, (u64)(w2c_i0) + 66860u);
-    w2c_i1 = w2c_l7;
+    w2c_i0 = i32_load(m, (u64)(w2c_i0) + 66992u);
+    w2c_i1 = w2c_l9;
     w2c_i0 = w2c_i0 != w2c_i1;
-    if (w2c_i0) {goto w2c_B8;}
-    w2c_j0 = w2c_l3;
-    w2c_j1 = 66864ull;
+    if (w2c_i0) {goto w2c_L3;}
+    w2c_j0 = w2c_l7;
+    w2c_j1 = 66996ull;
     w2c_j0 += w2c_j1;
     w2c_i0 = (u32)(w2c_j0);
     w2c_i0 = i32_load8_u(m, (u64)(w2c_i0));
     w2c_i1 = 255u;
     w2c_i0 &= w2c_i1;
-    if (w2c_i0) {goto w2c_B8;}
-    goto w2c_B1;
-    w2c_B15:;
-    w2c_j0 = w2c_l4;
-    w2c_j1 = 8ull;
-    w2c_j0 += w2c_j1;
-    w2c_i1 = w2c_l5;
-    w2c_f21(m, w2c_j0, w2c_i1);
-    w2c_j0 = w2c_l4;
-    w2c_i0 = (u32)(w2c_j0);
-    w2c_i0 = i32_load8_u(m, (u64)(w2c_i0) + 8u);
-    w2c_i1 = 1u;
-    w2c_i0 = w2c_i0 == w2c_i1;
-    if (w2c_i0) {goto w2c_B1;}
-    w2c_j0 = w2c_l4;
-    w2c_i1 = w2c_l5;
-    w2c_f19(m, w2c_j0, w2c_i1);
-    w2c_B8:;
-    w2c_j0 = w2c_p2;
-    w2c_j1 = 0ull;
-    w2c_i0 = w2c_j0 != w2c_j1;
-    if (w2c_i0) {goto w2c_L4;}
-  w2c_B3:;
+    if (w2c_i0) {goto w2c_L3;}
+    w2c_B13:;
+  w2c_i0 = w2c_l8;
+  w2c_i0 = (u32)(s32)(s8)(u8)(w2c_i0);
+  w2c_i1 = 4294967295u;
+  w2c_i0 = (u32)((s32)w2c_i0 <= (s32)w2c_i1);
+  if (w2c_i0) {goto w2c_B21;}
+  w2c_j0 = 1ull;
+  w2c_p1 = w2c_j0;
+  goto w2c_B20;
+  w2c_B21:;
+  w2c_j0 = w2c_l3;
+  w2c_i0 = (u32)(w2c_j0);
+  w2c_i0 = i32_load8_u(m, (u64)(w2c_i0) + 1u);
+  w2c_i1 = 63u;
+  w2c_i0 &= w2c_i1;
+  w2c_l9 = w2c_i0;
+  w2c_i0 = w2c_l8;
+  w2c_i1 = 223u;
+  w2c_i0 = w2c_i0 > w2c_i1;
+  if (w2c_i0) {goto w2c_B22;}
+  w2c_i0 = w2c_l8;
+  w2c_i1 = 6u;
+  w2c_i0 <<= (w2c_i1 & 31);
+  w2c_i1 = 1984u;
+  w2c_i0 &= w2c_i1;
+  w2c_i1 = w2c_l9;
+  w2c_i0 |= w2c_i1;
+  w2c_l8 = w2c_i0;
+  w2c_j0 = 2ull;
+  w2c_p1 = w2c_j0;
+  goto w2c_B20;
+  w2c_B22:;
+  w2c_j0 = w2c_l3;
+  w2c_i0 = (u32)(w2c_j0);
+  w2c_i0 = i32_load8_u(m, (u64)(w2c_i0) + 2u);
+  w2c_i1 = 63u;
+  w2c_i0 &= w2c_i1;
+  w2c_l10 = w2c_i0;
+  w2c_i0 = w2c_l8;
+  w2c_i1 = 239u;
+  w2c_i0 = w2c_i0 > w2c_i1;
+  if (w2c_i0) {goto w2c_B23;}
+  w2c_i0 = w2c_l9;
+  w2c_i1 = 6u;
+  w2c_i0 <<= (w2c_i1 & 31);
+  w2c_i1 = w2c_l8;
+  w2c_i2 = 12u;
+  w2c_i1 <<= (w2c_i2 & 31);
+  w2c_i2 = 61440u;
+  w2c_i1 &= w2c_i2;
+  w2c_i0 |= w2c_i1;
+  w2c_i1 = w2c_l10;
+  w2c_i0 |= w2c_i1;
+  w2c_l8 = w2c_i0;
+  w2c_j0 = 3ull;
+  w2c_p1 = w2c_j0;
+  goto w2c_B20;
+  w2c_B23:;
+  w2c_i0 = w2c_l10;
+  w2c_i1 = 6u;
+  w2c_i0 <<= (w2c_i1 & 31);
+  w2c_i1 = w2c_l9;
+  w2c_i2 = 12u;
+  w2c_i1 <<= (w2c_i2 & 31);
+  w2c_i2 = w2c_l8;
+  w2c_i3 = 18u;
+  w2c_i2 <<= (w2c_i3 & 31);
+  w2c_i3 = 1835008u;
+  w2c_i2 &= w2c_i3;
+  w2c_i1 |= w2c_i2;
+  w2c_i0 |= w2c_i1;
+  w2c_j1 = w2c_l3;
+  w2c_i1 = (u32)(w2c_j1);
+  w2c_i1 = i32_load8_u(m, (u64)(w2c_i1) + 3u);
+  w2c_i2 = 63u;
+  w2c_i1 &= w2c_i2;
+  w2c_i0 |= w2c_i1;
+  w2c_l8 = w2c_i0;
+  w2c_j0 = 4ull;
+  w2c_p1 = w2c_j0;
+  w2c_B20:;
+  w2c_j0 = w2c_l5;
+  w2c_j1 = w2c_p1;
+  w2c_j0 -= w2c_j1;
+  w2c_p2 = w2c_j0;
+  w2c_j0 = w2c_l5;
+  w2c_j1 = w2c_p1;
+  w2c_i0 = w2c_j0 != w2c_j1;
+  if (w2c_i0) {goto w2c_B25;}
+  w2c_j0 = 0ull;
+  w2c_p1 = w2c_j0;
+  w2c_i0 = 0u;
+  w2c_l8 = w2c_i0;
+  w2c_i0 = 0u;
+  w2c_l9 = w2c_i0;
+  w2c_j0 = 0ull;
+  w2c_l3 = w2c_j0;
+  goto w2c_B24;
+  w2c_B25:;
+  w2c_j0 = w2c_l3;
+  w2c_j1 = w2c_p1;
+  w2c_j0 += w2c_j1;
+  w2c_l3 = w2c_j0;
+  w2c_i0 = (u32)(w2c_j0);
+  w2c_i0 = i32_load8_s(m, (u64)(w2c_i0));
+  w2c_l10 = w2c_i0;
+  w2c_i1 = 255u;
+  w2c_i0 &= w2c_i1;
+  w2c_l9 = w2c_i0;
+  w2c_j0 = 1ull;
+  w2c_p1 = w2c_j0;
+  w2c_i0 = w2c_l10;
+  w2c_i1 = 4294967295u;
+  w2c_i0 = (u32)((s32)w2c_i0 > (s32)w2c_i1);
+  if (w2c_i0) {goto w2c_B24;}
+  w2c_j0 = w2c_l3;
+  w2c_i0 = (u32)(w2c_j0);
+  w2c_i0 = i32_load8_u(m, (u64)(w2c_i0) + 1u);
+  w2c_i1 = 63u;
+  w2c_i0 &= w2c_i1;
+  w2c_l11 = w2c_i0;
+  w2c_i0 = w2c_l10;
+  w2c_i1 = 4294967263u;
+  w2c_i0 = w2c_i0 > w2c_i1;
+  if (w2c_i0) {goto w2c_B26;}
+  w2c_i0 = w2c_l9;
+  w2c_i1 = 6u;
+  w2c_i0 <<= (w2c_i1 & 31);
+  w2c_i1 = 1984u;
+  w2c_i0 &= w2c_i1;
+  w2c_i1 = w2c_l11;
+  w2c_i0 |= w2c_i1;
+  w2c_l9 = w2c_i0;
+  goto w2c_B24;
+  w2c_B26:;
+  w2c_j0 = w2c_l3;
+  w2c_i0 = (u32)(w2c_j0);
+  w2c_i0 = i32_load8_u(m, (u64)(w2c_i0) + 2u);
+  w2c_i1 = 63u;
+  w2c_i0 &= w2c_i1;
+  w2c_l12 = w2c_i0;
+  w2c_i0 = w2c_l10;
+  w2c_i1 = 4294967279u;
+  w2c_i0 = w2c_i0 > w2c_i1;
+  if (w2c_i0) {goto w2c_B27;}
+  w2c_i0 = w2c_l11;
+  w2c_i1 = 6u;
+  w2c_i0 <<= (w2c_i1 & 31);
+  w2c_i1 = w2c_l9;
+  w2c_i2 = 12u;
+  w2c_i1 <<= (w2c_i2 & 31);
+  w2c_i2 = 61440u;
+  w2c_i1 &= w2c_i2;
+  w2c_i0 |= w2c_i1;
+  w2c_i1 = w2c_l12;
+  w2c_i0 |= w2c_i1;
+  w2c_l9 = w2c_i0;
+  goto w2c_B24;
+  w2c_B27:;
+  w2c_i0 = w2c_l12;
+  w2c_i1 = 6u;
+  w2c_i0 <<= (w2c_i1 & 31);
+  w2c_i1 = w2c_l11;
+  w2c_i2 = 12u;
+  w2c_i1 <<= (w2c_i2 & 31);
+  w2c_i2 = w2c_l9;
+  w2c_i3 = 18u;
+  w2c_i2 <<= (w2c_i3 & 31);
+  w2c_i3 = 1835008u;
+  w2c_i2 &= w2c_i3;
+  w2c_i1 |= w2c_i2;
+  w2c_i0 |= w2c_i1;
+  w2c_j1 = w2c_l3;
+  w2c_i1 = (u32)(w2c_j1);
+  w2c_i1 = i32_load8_u(m, (u64)(w2c_i1) + 3u);
+  w2c_i2 = 63u;
+  w2c_i1 &= w2c_i2;
+  w2c_i0 |= w2c_i1;
+  w2c_l9 = w2c_i0;
+  w2c_B24:;
+  w2c_j0 = w2c_p0;
+  w2c_i0 = (u32)(w2c_j0);
+  w2c_j1 = w2c_p1;
+  i64_store(m, (u64)(w2c_i0), w2c_j1);
+  w2c_j0 = w2c_p0;
+  w2c_j1 = 24ull;
+  w2c_j0 += w2c_j1;
+  w2c_i0 = (u32)(w2c_j0);
+  w2c_j1 = w2c_p2;
+  i64_store(m, (u64)(w2c_i0), w2c_j1);
+  w2c_j0 = w2c_p0;
+  w2c_j1 = 16ull;
+  w2c_j0 += w2c_j1;
+  w2c_i0 = (u32)(w2c_j0);
+  w2c_j1 = w2c_l3;
+  i64_store(m, (u64)(w2c_i0), w2c_j1);
+  w2c_j0 = w2c_p0;
+  w2c_j1 = 12ull;
+  w2c_j0 += w2c_j1;
+  w2c_i0 = (u32)(w2c_j0);
+  w2c_i1 = w2c_l9;
+  i32_store(m, (u64)(w2c_i0), w2c_i1);
+  w2c_j0 = w2c_p0;
+  w2c_j1 = 8ull;
+  w2c_j0 += w2c_j1;
+  w2c_i0 = (u32)(w2c_j0);
+  w2c_i1 = w2c_l8;
+  i32_store(m, (u64)(w2c_i0), w2c_i1);
+  goto w2c_B0;
+  w2c_B2:;
   w2c_j0 = w2c_p0;
   w2c_i0 = (u32)(w2c_j0);
   w2c_j1 = 0ull;
@@ -13658,37 +14148,8 @@ static void w2c_f26(module *m, u64 w2c_p0, u64 w2c_p1, u64 w2c_p2) {
   w2c_j1 = 0ull;
   i64_store(m, (u64)(w2c_i0), w2c_j1);
   goto w2c_B0;
-  w2c_B2:;
-  UNREACHABLE;
   w2c_B1:;
-  w2c_j0 = w2c_p0;
-  w2c_i0 = (u32)(w2c_j0);
-  w2c_j1 = 1ull;
-  i64_store(m, (u64)(w2c_i0), w2c_j1);
-  w2c_j0 = w2c_p0;
-  w2c_j1 = 24ull;
-  w2c_j0 += w2c_j1;
-  w2c_i0 = (u32)(w2c_j0);
-  w2c_j1 = w2c_p2;
-  i64_store(m, (u64)(w2c_i0), w2c_j1);
-  w2c_j0 = w2c_p0;
-  w2c_j1 = 16ull;
-  w2c_j0 += w2c_j1;
-  w2c_i0 = (u32)(w2c_j0);
-  w2c_j1 = w2c_p1;
-  i64_store(m, (u64)(w2c_i0), w2c_j1);
-  w2c_j0 = w2c_p0;
-  w2c_j1 = 12ull;
-  w2c_j0 += w2c_j1;
-  w2c_i0 = (u32)(w2c_j0);
-  w2c_i1 = w2c_l5;
-  i32_store(m, (u64)(w2c_i0), w2c_i1);
-  w2c_j0 = w2c_p0;
-  w2c_j1 = 8ull;
-  w2c_j0 += w2c_j1;
-  w2c_i0 = (u32)(w2c_j0);
-  w2c_i1 = w2c_l6;
-  i32_store(m, (u64)(w2c_i0), w2c_i1);
+  UNREACHABLE;
   w2c_B0:;
   w2c_j0 = w2c_l4;
   w2c_j1 = 32ull;
@@ -14135,21 +14596,21 @@ static u32 w2c_f27(module *m, u32 w2c_p0, u32 w2c_p1, u64 w2c_p2, u64 w2c_p3, u3
   w2c_j1 = 1016ull;
   w2c_j0 &= w2c_j1;
   w2c_p2 = w2c_j0;
-  w2c_j1 = 66865ull;
+  w2c_j1 = 66997ull;
   w2c_j0 += w2c_j1;
   w2c_i0 = (u32)(w2c_j0);
   w2c_i0 = i32_load8_u(m, (u64)(w2c_i0));
   w2c_i1 = 0u;
   w2c_j2 = w2c_p2;
   w2c_i2 = (u32)(w2c_j2);
-  w2c_i2 = i32_load(m, (u64)(w2c_i2) + 66860u);
+  w2c_i2 = i32_load(m, (u64)(w2c_i2) + 66992u);
   w2c_i3 = w2c_l11;
   w2c_i2 = w2c_i2 == w2c_i3;
   w2c_l11 = w2c_i2;
   w2c_i0 = w2c_i2 ? w2c_i0 : w2c_i1;
   w2c_l13 = w2c_i0;
   w2c_j0 = w2c_p2;
-  w2c_j1 = 66864ull;
+  w2c_j1 = 66996ull;
   w2c_j0 += w2c_j1;
   w2c_i0 = (u32)(w2c_j0);
   w2c_i0 = i32_load8_u(m, (u64)(w2c_i0));
@@ -15697,14 +16158,14 @@ static u32 w2c_f27(module *m, u32 w2c_p0, u32 w2c_p1, u64 w2c_p2, u64 w2c_p3, u3
   w2c_j1 = 1016ull;
   w2c_j0 &= w2c_j1;
   w2c_p2 = w2c_j0;
-  w2c_j1 = 66865ull;
+  w2c_j1 = 66997ull;
   w2c_j0 += w2c_j1;
   w2c_i0 = (u32)(w2c_j0);
   w2c_i0 = i32_load8_u(m, (u64)(w2c_i0));
   w2c_i1 = 0u;
   w2c_j2 = w2c_p2;
   w2c_i2 = (u32)(w2c_j2);
-  w2c_i2 = i32_load(m, (u64)(w2c_i2) + 66860u);
+  w2c_i2 = i32_load(m, (u64)(w2c_i2) + 66992u);
   w2c_i3 = w2c_l11;
   w2c_i2 = w2c_i2 == w2c_i3;
   w2c_l11 = w2c_i2;
@@ -15712,7 +16173,7 @@ static u32 w2c_f27(module *m, u32 w2c_p0, u32 w2c_p1, u64 w2c_p2, u64 w2c_p3, u3
   w2c_l12 = w2c_i0;
   w2c_i0 = w2c_l11;
   w2c_j1 = w2c_p2;
-  w2c_j2 = 66864ull;
+  w2c_j2 = 66996ull;
   w2c_j1 += w2c_j2;
   w2c_i1 = (u32)(w2c_j1);
   w2c_i1 = i32_load8_u(m, (u64)(w2c_i1));
@@ -19138,12 +19599,12 @@ static u32 w2c_f28(module *m, u32 w2c_p0, u32 w2c_p1, u32 w2c_p2) {
   w2c_j0 &= w2c_j1;
   w2c_l4 = w2c_j0;
   w2c_i0 = (u32)(w2c_j0);
-  w2c_i0 = i32_load(m, (u64)(w2c_i0) + 66860u);
+  w2c_i0 = i32_load(m, (u64)(w2c_i0) + 66992u);
   w2c_i1 = w2c_l5;
   w2c_i0 = w2c_i0 != w2c_i1;
   if (w2c_i0) {goto w2c_B2;}
   w2c_j0 = w2c_l4;
-  w2c_j1 = 66864ull;
+  w2c_j1 = 66996ull;
   w2c_j0 += w2c_j1;
   w2c_i0 = (u32)(w2c_j0);
   w2c_i0 = i32_load8_u(m, (u64)(w2c_i0));
@@ -19154,7 +19615,7 @@ static u32 w2c_f28(module *m, u32 w2c_p0, u32 w2c_p1, u32 w2c_p2) {
   w2c_i0 = w2c_i0 == w2c_i1;
   if (w2c_i0) {goto w2c_B2;}
   w2c_j0 = w2c_l4;
-  w2c_j1 = 66865ull;
+  w2c_j1 = 66997ull;
   w2c_j0 += w2c_j1;
   w2c_i0 = (u32)(w2c_j0);
   w2c_i0 = i32_load8_u(m, (u64)(w2c_i0));
@@ -19377,12 +19838,12 @@ static u32 w2c_f29(module *m, u32 w2c_p0, u32 w2c_p1, u64 w2c_p2, u64 w2c_p3) {
   w2c_j0 &= w2c_j1;
   w2c_l6 = w2c_j0;
   w2c_i0 = (u32)(w2c_j0);
-  w2c_i0 = i32_load(m, (u64)(w2c_i0) + 66860u);
+  w2c_i0 = i32_load(m, (u64)(w2c_i0) + 66992u);
   w2c_i1 = w2c_l7;
   w2c_i0 = w2c_i0 != w2c_i1;
   if (w2c_i0) {goto w2c_B6;}
   w2c_j0 = w2c_l6;
-  w2c_j1 = 66864ull;
+  w2c_j1 = 66996ull;
   w2c_j0 += w2c_j1;
   w2c_i0 = (u32)(w2c_j0);
   w2c_i0 = i32_load8_u(m, (u64)(w2c_i0));
@@ -19393,7 +19854,7 @@ static u32 w2c_f29(module *m, u32 w2c_p0, u32 w2c_p1, u64 w2c_p2, u64 w2c_p3) {
   w2c_i0 = w2c_i0 == w2c_i1;
   if (w2c_i0) {goto w2c_B6;}
   w2c_j0 = w2c_l6;
-  w2c_j1 = 66865ull;
+  w2c_j1 = 66997ull;
   w2c_j0 += w2c_j1;
   w2c_i0 = (u32)(w2c_j0);
   w2c_i0 = i32_load8_u(m, (u64)(w2c_i0));
@@ -19534,7 +19995,7 @@ static u64 w2c_f30(module *m, u64 w2c_p0, u64 w2c_p1, u32 w2c_p2, u32 w2c_p3, u6
   w2c_L16:
     w2c_j0 = w2c_l6;
     w2c_j1 = w2c_l8;
-    w2c_j2 = 66844ull;
+    w2c_j2 = 66976ull;
     w2c_j1 += w2c_j2;
     w2c_i1 = (u32)(w2c_j1);
     w2c_j1 = i64_load8_u(m, (u64)(w2c_i1));
@@ -19639,7 +20100,7 @@ static u64 w2c_f30(module *m, u64 w2c_p0, u64 w2c_p1, u32 w2c_p2, u32 w2c_p3, u6
   if (w2c_i0) {goto w2c_B15;}
   w2c_j0 = w2c_l6;
   w2c_j1 = w2c_l8;
-  w2c_j2 = 66844ull;
+  w2c_j2 = 66976ull;
   w2c_j1 += w2c_j2;
   w2c_i1 = (u32)(w2c_j1);
   w2c_j1 = i64_load8_u(m, (u64)(w2c_i1));
@@ -19999,7 +20460,7 @@ static u64 w2c_f30(module *m, u64 w2c_p0, u64 w2c_p1, u32 w2c_p2, u32 w2c_p3, u6
     i32_store16(m, (u64)(w2c_i0), w2c_i1);
     w2c_j0 = w2c_l13;
     w2c_j1 = w2c_l8;
-    w2c_j2 = 67904ull;
+    w2c_j2 = 68368ull;
     w2c_j1 += w2c_j2;
     w2c_i1 = (u32)(w2c_j1);
     w2c_j1 = i64_load8_u(m, (u64)(w2c_i1));
@@ -20090,7 +20551,7 @@ static u64 w2c_f30(module *m, u64 w2c_p0, u64 w2c_p1, u32 w2c_p2, u32 w2c_p3, u6
     w2c_B28:;
     w2c_j0 = w2c_l13;
     w2c_j1 = w2c_l8;
-    w2c_j2 = 67904ull;
+    w2c_j2 = 68368ull;
     w2c_j1 += w2c_j2;
     w2c_i1 = (u32)(w2c_j1);
     w2c_j1 = i64_load8_u(m, (u64)(w2c_i1));
@@ -20171,7 +20632,7 @@ static u64 w2c_f30(module *m, u64 w2c_p0, u64 w2c_p1, u32 w2c_p2, u32 w2c_p3, u6
     w2c_B29:;
     w2c_j0 = w2c_l13;
     w2c_j1 = w2c_l8;
-    w2c_j2 = 67904ull;
+    w2c_j2 = 68368ull;
     w2c_j1 += w2c_j2;
     w2c_i1 = (u32)(w2c_j1);
     w2c_j1 = i64_load8_u(m, (u64)(w2c_i1));
@@ -20572,7 +21033,7 @@ static u64 w2c_f30(module *m, u64 w2c_p0, u64 w2c_p1, u32 w2c_p2, u32 w2c_p3, u6
   w2c_j0 = w2c_l13;
   w2c_j1 = w2c_l8;
   w2c_i1 = (u32)(w2c_j1);
-  w2c_j1 = i64_load8_u(m, (u64)(w2c_i1) + 67904u);
+  w2c_j1 = i64_load8_u(m, (u64)(w2c_i1) + 68368u);
   w2c_j2 = 3ull;
   w2c_j1 *= w2c_j2;
   w2c_j0 += w2c_j1;
@@ -20661,7 +21122,7 @@ static u64 w2c_f30(module *m, u64 w2c_p0, u64 w2c_p1, u32 w2c_p2, u32 w2c_p3, u6
   w2c_j0 = w2c_l13;
   w2c_j1 = w2c_l8;
   w2c_i1 = (u32)(w2c_j1);
-  w2c_j1 = i64_load8_u(m, (u64)(w2c_i1) + 67904u);
+  w2c_j1 = i64_load8_u(m, (u64)(w2c_i1) + 68368u);
   w2c_j2 = 3ull;
   w2c_j1 *= w2c_j2;
   w2c_j0 += w2c_j1;
@@ -20740,7 +21201,7 @@ static u64 w2c_f30(module *m, u64 w2c_p0, u64 w2c_p1, u32 w2c_p2, u32 w2c_p3, u6
   w2c_j0 = w2c_l13;
   w2c_j1 = w2c_l8;
   w2c_i1 = (u32)(w2c_j1);
-  w2c_j1 = i64_load8_u(m, (u64)(w2c_i1) + 67904u);
+  w2c_j1 = i64_load8_u(m, (u64)(w2c_i1) + 68368u);
   w2c_j2 = 3ull;
   w2c_j1 *= w2c_j2;
   w2c_j0 += w2c_j1;
@@ -20789,7 +21250,7 @@ static u64 w2c_f30(module *m, u64 w2c_p0, u64 w2c_p1, u32 w2c_p2, u32 w2c_p3, u6
   w2c_L36:
     w2c_j0 = w2c_l6;
     w2c_j1 = w2c_l8;
-    w2c_j2 = 66844ull;
+    w2c_j2 = 66976ull;
     w2c_j1 += w2c_j2;
     w2c_i1 = (u32)(w2c_j1);
     w2c_j1 = i64_load8_u(m, (u64)(w2c_i1));
@@ -20894,7 +21355,7 @@ static u64 w2c_f30(module *m, u64 w2c_p0, u64 w2c_p1, u32 w2c_p2, u32 w2c_p3, u6
   if (w2c_i0) {goto w2c_B35;}
   w2c_j0 = w2c_l6;
   w2c_j1 = w2c_l8;
-  w2c_j2 = 66844ull;
+  w2c_j2 = 66976ull;
   w2c_j1 += w2c_j2;
   w2c_i1 = (u32)(w2c_j1);
   w2c_j1 = i64_load8_u(m, (u64)(w2c_i1));
@@ -21254,7 +21715,7 @@ static u64 w2c_f30(module *m, u64 w2c_p0, u64 w2c_p1, u32 w2c_p2, u32 w2c_p3, u6
     i32_store16(m, (u64)(w2c_i0), w2c_i1);
     w2c_j0 = w2c_l13;
     w2c_j1 = w2c_l8;
-    w2c_j2 = 67943ull;
+    w2c_j2 = 68407ull;
     w2c_j1 += w2c_j2;
     w2c_i1 = (u32)(w2c_j1);
     w2c_j1 = i64_load8_u(m, (u64)(w2c_i1));
@@ -21349,7 +21810,7 @@ static u64 w2c_f30(module *m, u64 w2c_p0, u64 w2c_p1, u32 w2c_p2, u32 w2c_p3, u6
     w2c_j0 = w2c_l13;
     w2c_j1 = w2c_l14;
     w2c_i1 = (u32)(w2c_j1);
-    w2c_j1 = i64_load8_u(m, (u64)(w2c_i1) + 67943u);
+    w2c_j1 = i64_load8_u(m, (u64)(w2c_i1) + 68407u);
     w2c_j2 = 3ull;
     w2c_j1 *= w2c_j2;
     w2c_j0 += w2c_j1;
@@ -21427,7 +21888,7 @@ static u64 w2c_f30(module *m, u64 w2c_p0, u64 w2c_p1, u32 w2c_p2, u32 w2c_p3, u6
     w2c_B50:;
     w2c_j0 = w2c_l13;
     w2c_j1 = w2c_l8;
-    w2c_j2 = 67943ull;
+    w2c_j2 = 68407ull;
     w2c_j1 += w2c_j2;
     w2c_i1 = (u32)(w2c_j1);
     w2c_j1 = i64_load8_u(m, (u64)(w2c_i1));
@@ -21508,7 +21969,7 @@ static u64 w2c_f30(module *m, u64 w2c_p0, u64 w2c_p1, u32 w2c_p2, u32 w2c_p3, u6
     w2c_B51:;
     w2c_j0 = w2c_l13;
     w2c_j1 = w2c_l8;
-    w2c_j2 = 67943ull;
+    w2c_j2 = 68407ull;
     w2c_j1 += w2c_j2;
     w2c_i1 = (u32)(w2c_j1);
     w2c_j1 = i64_load8_u(m, (u64)(w2c_i1));
@@ -21909,7 +22370,7 @@ static u64 w2c_f30(module *m, u64 w2c_p0, u64 w2c_p1, u32 w2c_p2, u32 w2c_p3, u6
   w2c_j0 = w2c_l13;
   w2c_j1 = w2c_l8;
   w2c_i1 = (u32)(w2c_j1);
-  w2c_j1 = i64_load8_u(m, (u64)(w2c_i1) + 67943u);
+  w2c_j1 = i64_load8_u(m, (u64)(w2c_i1) + 68407u);
   w2c_j2 = 3ull;
   w2c_j1 *= w2c_j2;
   w2c_j0 += w2c_j1;
@@ -22001,7 +22462,7 @@ static u64 w2c_f30(module *m, u64 w2c_p0, u64 w2c_p1, u32 w2c_p2, u32 w2c_p3, u6
   w2c_j0 = w2c_l13;
   w2c_j1 = w2c_l10;
   w2c_i1 = (u32)(w2c_j1);
-  w2c_j1 = i64_load8_u(m, (u64)(w2c_i1) + 67943u);
+  w2c_j1 = i64_load8_u(m, (u64)(w2c_i1) + 68407u);
   w2c_j2 = 3ull;
   w2c_j1 *= w2c_j2;
   w2c_j0 += w2c_j1;
@@ -22080,7 +22541,7 @@ static u64 w2c_f30(module *m, u64 w2c_p0, u64 w2c_p1, u32 w2c_p2, u32 w2c_p3, u6
   w2c_j0 = w2c_l13;
   w2c_j1 = w2c_l8;
   w2c_i1 = (u32)(w2c_j1);
-  w2c_j1 = i64_load8_u(m, (u64)(w2c_i1) + 67943u);
+  w2c_j1 = i64_load8_u(m, (u64)(w2c_i1) + 68407u);
   w2c_j2 = 3ull;
   w2c_j1 *= w2c_j2;
   w2c_j0 += w2c_j1;
@@ -22159,7 +22620,7 @@ static u64 w2c_f30(module *m, u64 w2c_p0, u64 w2c_p1, u32 w2c_p2, u32 w2c_p3, u6
   w2c_j0 = w2c_l13;
   w2c_j1 = w2c_l8;
   w2c_i1 = (u32)(w2c_j1);
-  w2c_j1 = i64_load8_u(m, (u64)(w2c_i1) + 67943u);
+  w2c_j1 = i64_load8_u(m, (u64)(w2c_i1) + 68407u);
   w2c_j2 = 3ull;
   w2c_j1 *= w2c_j2;
   w2c_j0 += w2c_j1;
@@ -22208,7 +22669,7 @@ static u64 w2c_f30(module *m, u64 w2c_p0, u64 w2c_p1, u32 w2c_p2, u32 w2c_p3, u6
   w2c_L60:
     w2c_j0 = w2c_l6;
     w2c_j1 = w2c_l8;
-    w2c_j2 = 66844ull;
+    w2c_j2 = 66976ull;
     w2c_j1 += w2c_j2;
     w2c_i1 = (u32)(w2c_j1);
     w2c_j1 = i64_load8_u(m, (u64)(w2c_i1));
@@ -22313,7 +22774,7 @@ static u64 w2c_f30(module *m, u64 w2c_p0, u64 w2c_p1, u32 w2c_p2, u32 w2c_p3, u6
   if (w2c_i0) {goto w2c_B59;}
   w2c_j0 = w2c_l6;
   w2c_j1 = w2c_l8;
-  w2c_j2 = 66844ull;
+  w2c_j2 = 66976ull;
   w2c_j1 += w2c_j2;
   w2c_i1 = (u32)(w2c_j1);
   w2c_j1 = i64_load8_u(m, (u64)(w2c_i1));
@@ -22673,7 +23134,7 @@ static u64 w2c_f30(module *m, u64 w2c_p0, u64 w2c_p1, u32 w2c_p2, u32 w2c_p3, u6
     i32_store16(m, (u64)(w2c_i0), w2c_i1);
     w2c_j0 = w2c_l13;
     w2c_j1 = w2c_l8;
-    w2c_j2 = 67982ull;
+    w2c_j2 = 68446ull;
     w2c_j1 += w2c_j2;
     w2c_i1 = (u32)(w2c_j1);
     w2c_j1 = i64_load8_u(m, (u64)(w2c_i1));
@@ -22768,7 +23229,7 @@ static u64 w2c_f30(module *m, u64 w2c_p0, u64 w2c_p1, u32 w2c_p2, u32 w2c_p3, u6
     w2c_j0 = w2c_l13;
     w2c_j1 = w2c_l14;
     w2c_i1 = (u32)(w2c_j1);
-    w2c_j1 = i64_load8_u(m, (u64)(w2c_i1) + 67982u);
+    w2c_j1 = i64_load8_u(m, (u64)(w2c_i1) + 68446u);
     w2c_j2 = 3ull;
     w2c_j1 *= w2c_j2;
     w2c_j0 += w2c_j1;
@@ -22850,7 +23311,7 @@ static u64 w2c_f30(module *m, u64 w2c_p0, u64 w2c_p1, u32 w2c_p2, u32 w2c_p3, u6
     w2c_j0 = w2c_l13;
     w2c_j1 = w2c_l14;
     w2c_i1 = (u32)(w2c_j1);
-    w2c_j1 = i64_load8_u(m, (u64)(w2c_i1) + 67982u);
+    w2c_j1 = i64_load8_u(m, (u64)(w2c_i1) + 68446u);
     w2c_j2 = 3ull;
     w2c_j1 *= w2c_j2;
     w2c_j0 += w2c_j1;
@@ -22932,7 +23393,7 @@ static u64 w2c_f30(module *m, u64 w2c_p0, u64 w2c_p1, u32 w2c_p2, u32 w2c_p3, u6
     w2c_j0 = w2c_l13;
     w2c_j1 = w2c_l14;
     w2c_i1 = (u32)(w2c_j1);
-    w2c_j1 = i64_load8_u(m, (u64)(w2c_i1) + 67982u);
+    w2c_j1 = i64_load8_u(m, (u64)(w2c_i1) + 68446u);
     w2c_j2 = 3ull;
     w2c_j1 *= w2c_j2;
     w2c_j0 += w2c_j1;
@@ -23010,7 +23471,7 @@ static u64 w2c_f30(module *m, u64 w2c_p0, u64 w2c_p1, u32 w2c_p2, u32 w2c_p3, u6
     w2c_B78:;
     w2c_j0 = w2c_l13;
     w2c_j1 = w2c_l8;
-    w2c_j2 = 67982ull;
+    w2c_j2 = 68446ull;
     w2c_j1 += w2c_j2;
     w2c_i1 = (u32)(w2c_j1);
     w2c_j1 = i64_load8_u(m, (u64)(w2c_i1));
@@ -23091,7 +23552,7 @@ static u64 w2c_f30(module *m, u64 w2c_p0, u64 w2c_p1, u32 w2c_p2, u32 w2c_p3, u6
     w2c_B79:;
     w2c_j0 = w2c_l13;
     w2c_j1 = w2c_l8;
-    w2c_j2 = 67982ull;
+    w2c_j2 = 68446ull;
     w2c_j1 += w2c_j2;
     w2c_i1 = (u32)(w2c_j1);
     w2c_j1 = i64_load8_u(m, (u64)(w2c_i1));
@@ -23492,7 +23953,7 @@ static u64 w2c_f30(module *m, u64 w2c_p0, u64 w2c_p1, u32 w2c_p2, u32 w2c_p3, u6
   w2c_j0 = w2c_l13;
   w2c_j1 = w2c_l8;
   w2c_i1 = (u32)(w2c_j1);
-  w2c_j1 = i64_load8_u(m, (u64)(w2c_i1) + 67982u);
+  w2c_j1 = i64_load8_u(m, (u64)(w2c_i1) + 68446u);
   w2c_j2 = 3ull;
   w2c_j1 *= w2c_j2;
   w2c_j0 += w2c_j1;
@@ -23584,7 +24045,7 @@ static u64 w2c_f30(module *m, u64 w2c_p0, u64 w2c_p1, u32 w2c_p2, u32 w2c_p3, u6
   w2c_j0 = w2c_l13;
   w2c_j1 = w2c_l10;
   w2c_i1 = (u32)(w2c_j1);
-  w2c_j1 = i64_load8_u(m, (u64)(w2c_i1) + 67982u);
+  w2c_j1 = i64_load8_u(m, (u64)(w2c_i1) + 68446u);
   w2c_j2 = 3ull;
   w2c_j1 *= w2c_j2;
   w2c_j0 += w2c_j1;
@@ -23666,7 +24127,7 @@ static u64 w2c_f30(module *m, u64 w2c_p0, u64 w2c_p1, u32 w2c_p2, u32 w2c_p3, u6
   w2c_j0 = w2c_l13;
   w2c_j1 = w2c_l10;
   w2c_i1 = (u32)(w2c_j1);
-  w2c_j1 = i64_load8_u(m, (u64)(w2c_i1) + 67982u);
+  w2c_j1 = i64_load8_u(m, (u64)(w2c_i1) + 68446u);
   w2c_j2 = 3ull;
   w2c_j1 *= w2c_j2;
   w2c_j0 += w2c_j1;
@@ -23748,7 +24209,7 @@ static u64 w2c_f30(module *m, u64 w2c_p0, u64 w2c_p1, u32 w2c_p2, u32 w2c_p3, u6
   w2c_j0 = w2c_l13;
   w2c_j1 = w2c_l10;
   w2c_i1 = (u32)(w2c_j1);
-  w2c_j1 = i64_load8_u(m, (u64)(w2c_i1) + 67982u);
+  w2c_j1 = i64_load8_u(m, (u64)(w2c_i1) + 68446u);
   w2c_j2 = 3ull;
   w2c_j1 *= w2c_j2;
   w2c_j0 += w2c_j1;
@@ -23827,7 +24288,7 @@ static u64 w2c_f30(module *m, u64 w2c_p0, u64 w2c_p1, u32 w2c_p2, u32 w2c_p3, u6
   w2c_j0 = w2c_l13;
   w2c_j1 = w2c_l8;
   w2c_i1 = (u32)(w2c_j1);
-  w2c_j1 = i64_load8_u(m, (u64)(w2c_i1) + 67982u);
+  w2c_j1 = i64_load8_u(m, (u64)(w2c_i1) + 68446u);
   w2c_j2 = 3ull;
   w2c_j1 *= w2c_j2;
   w2c_j0 += w2c_j1;
@@ -23906,7 +24367,7 @@ static u64 w2c_f30(module *m, u64 w2c_p0, u64 w2c_p1, u32 w2c_p2, u32 w2c_p3, u6
   w2c_j0 = w2c_l13;
   w2c_j1 = w2c_l8;
   w2c_i1 = (u32)(w2c_j1);
-  w2c_j1 = i64_load8_u(m, (u64)(w2c_i1) + 67982u);
+  w2c_j1 = i64_load8_u(m, (u64)(w2c_i1) + 68446u);
   w2c_j2 = 3ull;
   w2c_j1 *= w2c_j2;
   w2c_j0 += w2c_j1;
@@ -23955,7 +24416,7 @@ static u64 w2c_f30(module *m, u64 w2c_p0, u64 w2c_p1, u32 w2c_p2, u32 w2c_p3, u6
   w2c_L92:
     w2c_j0 = w2c_l6;
     w2c_j1 = w2c_l8;
-    w2c_j2 = 66844ull;
+    w2c_j2 = 66976ull;
     w2c_j1 += w2c_j2;
     w2c_i1 = (u32)(w2c_j1);
     w2c_j1 = i64_load8_u(m, (u64)(w2c_i1));
@@ -24060,7 +24521,7 @@ static u64 w2c_f30(module *m, u64 w2c_p0, u64 w2c_p1, u32 w2c_p2, u32 w2c_p3, u6
   if (w2c_i0) {goto w2c_B91;}
   w2c_j0 = w2c_l6;
   w2c_j1 = w2c_l8;
-  w2c_j2 = 66844ull;
+  w2c_j2 = 66976ull;
   w2c_j1 += w2c_j2;
   w2c_i1 = (u32)(w2c_j1);
   w2c_j1 = i64_load8_u(m, (u64)(w2c_i1));
@@ -24748,56 +25209,45 @@ static void w2c_f31(module *m, u64 w2c_p0, u64 w2c_p1, u64 w2c_p2, u32 w2c_p3) {
   w2c_j0 -= w2c_j1;
   w2c_l9 = w2c_j0;
   w2c_j0 = 0ull;
-  w2c_l8 = w2c_j0;
+  w2c_l7 = w2c_j0;
   w2c_j0 = w2c_p2;
   w2c_j1 = w2c_l4;
   w2c_i1 = (u32)(w2c_j1);
   w2c_j1 = i64_load(m, (u64)(w2c_i1) + 288u);
   w2c_l10 = w2c_j1;
   w2c_j0 -= w2c_j1;
-  w2c_l11 = w2c_j0;
+  w2c_l8 = w2c_j0;
   w2c_i0 = !(w2c_j0);
   if (w2c_i0) {goto w2c_B17;}
-  w2c_j0 = 0ull;
-  w2c_l8 = w2c_j0;
   w2c_j0 = w2c_p1;
+  w2c_l6 = w2c_j0;
+  w2c_j0 = 0ull;
   w2c_l7 = w2c_j0;
   w2c_L18:
-    w2c_j0 = 1ull;
-    w2c_l6 = w2c_j0;
     w2c_j0 = w2c_l7;
-    w2c_i0 = (u32)(w2c_j0);
-    w2c_i0 = i32_load8_s(m, (u64)(w2c_i0));
-    w2c_l13 = w2c_i0;
-    w2c_i1 = 4294967295u;
-    w2c_i0 = (u32)((s32)w2c_i0 > (s32)w2c_i1);
-    if (w2c_i0) {goto w2c_B19;}
-    w2c_j0 = 2ull;
-    w2c_l6 = w2c_j0;
-    w2c_i0 = w2c_l13;
-    w2c_i1 = 4294967264u;
-    w2c_i0 = w2c_i0 < w2c_i1;
-    if (w2c_i0) {goto w2c_B19;}
-    w2c_j0 = 3ull;
-    w2c_j1 = 4ull;
-    w2c_i2 = w2c_l13;
-    w2c_i3 = 4294967280u;
-    w2c_i2 = w2c_i2 < w2c_i3;
-    w2c_j0 = w2c_i2 ? w2c_j0 : w2c_j1;
-    w2c_l6 = w2c_j0;
-    w2c_B19:;
-    w2c_j0 = w2c_l8;
     w2c_j1 = 1ull;
     w2c_j0 += w2c_j1;
-    w2c_l8 = w2c_j0;
-    w2c_j0 = w2c_l7;
-    w2c_j1 = w2c_l6;
-    w2c_j0 += w2c_j1;
     w2c_l7 = w2c_j0;
-    w2c_j0 = w2c_l11;
+    w2c_j0 = w2c_l6;
     w2c_j1 = w2c_l6;
+    w2c_i1 = (u32)(w2c_j1);
+    w2c_i1 = i32_load8_u(m, (u64)(w2c_i1));
+    w2c_i2 = 1u;
+    w2c_i1 >>= (w2c_i2 & 31);
+    w2c_j1 = (u64)(w2c_i1);
+    w2c_j2 = 120ull;
+    w2c_j1 &= w2c_j2;
+    w2c_j2 = 66848ull;
+    w2c_j1 += w2c_j2;
+    w2c_i1 = (u32)(w2c_j1);
+    w2c_j1 = i64_load(m, (u64)(w2c_i1));
+    w2c_l11 = w2c_j1;
+    w2c_j0 += w2c_j1;
+    w2c_l6 = w2c_j0;
+    w2c_j0 = w2c_l8;
+    w2c_j1 = w2c_l11;
     w2c_j0 -= w2c_j1;
-    w2c_l11 = w2c_j0;
+    w2c_l8 = w2c_j0;
     w2c_j1 = 0ull;
     w2c_i0 = w2c_j0 != w2c_j1;
     if (w2c_i0) {goto w2c_L18;}
@@ -24933,7 +25383,7 @@ static void w2c_f31(module *m, u64 w2c_p0, u64 w2c_p1, u64 w2c_p2, u32 w2c_p3) {
   w2c_j0 = w2c_l4;
   w2c_i0 = (u32)(w2c_j0);
   w2c_j0 = i64_load(m, (u64)(w2c_i0) + 328u);
-  w2c_l7 = w2c_j0;
+  w2c_l8 = w2c_j0;
   w2c_j0 = w2c_l4;
   w2c_j1 = 256ull;
   w2c_j0 += w2c_j1;
@@ -24950,14 +25400,14 @@ static void w2c_f31(module *m, u64 w2c_p0, u64 w2c_p1, u64 w2c_p2, u32 w2c_p3) {
   w2c_i0 = (u32)(w2c_j0);
   w2c_i0 = i32_load8_u(m, (u64)(w2c_i0) + 256u);
   w2c_i0 = !(w2c_i0);
-  if (w2c_i0) {goto w2c_B20;}
+  if (w2c_i0) {goto w2c_B19;}
   w2c_j0 = w2c_l4;
   w2c_i0 = (u32)(w2c_j0);
   w2c_i0 = i32_load8_u(m, (u64)(w2c_i0) + 264u);
   w2c_l13 = w2c_i0;
   goto w2c_B3;
-  w2c_B20:;
-  w2c_j0 = w2c_l7;
+  w2c_B19:;
+  w2c_j0 = w2c_l8;
   w2c_j1 = w2c_l5;
   w2c_j0 += w2c_j1;
   w2c_j1 = w2c_l11;
@@ -24965,7 +25415,7 @@ static void w2c_f31(module *m, u64 w2c_p0, u64 w2c_p1, u64 w2c_p2, u32 w2c_p3) {
   w2c_j3 = w2c_l4;
   w2c_i3 = (u32)(w2c_j3);
   w2c_j3 = i64_load(m, (u64)(w2c_i3) + 280u);
-  w2c_p1 = w2c_j3;
+  w2c_p2 = w2c_j3;
   w2c_j2 |= w2c_j3;
   w2c_i2 = !(w2c_j2);
   w2c_j3 = w2c_l4;
@@ -24976,21 +25426,21 @@ static void w2c_f31(module *m, u64 w2c_p0, u64 w2c_p1, u64 w2c_p2, u32 w2c_p3) {
   w2c_i2 |= w2c_i3;
   w2c_l14 = w2c_i2;
   w2c_j0 = w2c_i2 ? w2c_j0 : w2c_j1;
-  w2c_p2 = w2c_j0;
+  w2c_l8 = w2c_j0;
   w2c_i0 = 1u;
   w2c_l13 = w2c_i0;
   w2c_i0 = w2c_l14;
   w2c_i0 = !(w2c_i0);
-  if (w2c_i0) {goto w2c_B21;}
-  w2c_j0 = w2c_p2;
+  if (w2c_i0) {goto w2c_B20;}
+  w2c_j0 = w2c_l8;
   w2c_l11 = w2c_j0;
   goto w2c_B3;
-  w2c_B21:;
+  w2c_B20:;
   w2c_j0 = w2c_l4;
   w2c_j1 = 208ull;
   w2c_j0 += w2c_j1;
   w2c_i1 = w2c_p3;
-  w2c_j2 = w2c_l8;
+  w2c_j2 = w2c_l7;
   w2c_j3 = w2c_l5;
   w2c_j2 += w2c_j3;
   w2c_j3 = w2c_l6;
@@ -25003,11 +25453,11 @@ static void w2c_f31(module *m, u64 w2c_p0, u64 w2c_p1, u64 w2c_p2, u32 w2c_p3) {
   w2c_j0 = w2c_l4;
   w2c_i0 = (u32)(w2c_j0);
   w2c_i0 = i32_load8_u(m, (u64)(w2c_i0) + 208u);
-  if (w2c_i0) {goto w2c_B22;}
+  if (w2c_i0) {goto w2c_B21;}
   w2c_j0 = w2c_l4;
   w2c_i0 = (u32)(w2c_j0);
   w2c_j0 = i64_load(m, (u64)(w2c_i0) + 240u);
-  w2c_l8 = w2c_j0;
+  w2c_p1 = w2c_j0;
   w2c_j1 = 38ull;
   w2c_i0 = w2c_j0 > w2c_j1;
   if (w2c_i0) {goto w2c_B4;}
@@ -25018,28 +25468,28 @@ static void w2c_f31(module *m, u64 w2c_p0, u64 w2c_p1, u64 w2c_p2, u32 w2c_p3) {
   w2c_j0 = w2c_l4;
   w2c_j1 = 16ull;
   w2c_j0 += w2c_j1;
-  w2c_j1 = w2c_l8;
+  w2c_j1 = w2c_p1;
   w2c_j2 = 4ull;
   w2c_j1 <<= (w2c_j2 & 63);
-  w2c_l8 = w2c_j1;
-  w2c_j2 = 68160ull;
+  w2c_p1 = w2c_j1;
+  w2c_j2 = 68624ull;
   w2c_j1 += w2c_j2;
   w2c_i1 = (u32)(w2c_j1);
   w2c_j1 = i64_load(m, (u64)(w2c_i1));
   w2c_l5 = w2c_j1;
   w2c_j2 = 0ull;
-  w2c_j3 = w2c_p2;
+  w2c_j3 = w2c_l8;
   w2c_j4 = 0ull;
   w2c_f3(m, w2c_j0, w2c_j1, w2c_j2, w2c_j3, w2c_j4);
   w2c_j0 = w2c_l4;
-  w2c_j1 = w2c_l8;
-  w2c_j2 = 68168ull;
+  w2c_j1 = w2c_p1;
+  w2c_j2 = 68632ull;
   w2c_j1 += w2c_j2;
   w2c_i1 = (u32)(w2c_j1);
   w2c_j1 = i64_load(m, (u64)(w2c_i1));
-  w2c_l8 = w2c_j1;
+  w2c_p1 = w2c_j1;
   w2c_j2 = 0ull;
-  w2c_j3 = w2c_p2;
+  w2c_j3 = w2c_l8;
   w2c_j4 = 0ull;
   w2c_f3(m, w2c_j0, w2c_j1, w2c_j2, w2c_j3, w2c_j4);
   w2c_j0 = w2c_l4;
@@ -25047,15 +25497,15 @@ static void w2c_f31(module *m, u64 w2c_p0, u64 w2c_p1, u64 w2c_p2, u32 w2c_p3) {
   w2c_j0 += w2c_j1;
   w2c_j1 = w2c_l5;
   w2c_j2 = 0ull;
-  w2c_j3 = w2c_p1;
+  w2c_j3 = w2c_p2;
   w2c_j4 = 0ull;
   w2c_f3(m, w2c_j0, w2c_j1, w2c_j2, w2c_j3, w2c_j4);
   w2c_j0 = w2c_l4;
   w2c_j1 = 48ull;
   w2c_j0 += w2c_j1;
-  w2c_j1 = w2c_l8;
+  w2c_j1 = w2c_p1;
   w2c_j2 = 0ull;
-  w2c_j3 = w2c_p1;
+  w2c_j3 = w2c_p2;
   w2c_j4 = 0ull;
   w2c_f3(m, w2c_j0, w2c_j1, w2c_j2, w2c_j3, w2c_j4);
   w2c_j0 = w2c_l4;
@@ -25069,25 +25519,25 @@ static void w2c_f31(module *m, u64 w2c_p0, u64 w2c_p1, u64 w2c_p2, u32 w2c_p3) {
   w2c_i2 = (u32)(w2c_j2);
   w2c_j2 = i64_load(m, (u64)(w2c_i2));
   w2c_j1 += w2c_j2;
-  w2c_p2 = w2c_j1;
+  w2c_p1 = w2c_j1;
   w2c_j2 = w2c_l4;
   w2c_i2 = (u32)(w2c_j2);
   w2c_j2 = i64_load(m, (u64)(w2c_i2) + 32u);
   w2c_j1 += w2c_j2;
   w2c_l8 = w2c_j1;
-  w2c_j2 = w2c_p2;
+  w2c_j2 = w2c_p1;
   w2c_i1 = w2c_j1 < w2c_j2;
   w2c_j1 = (u64)(w2c_i1);
   w2c_j0 += w2c_j1;
   w2c_j1 = w2c_l4;
   w2c_i1 = (u32)(w2c_j1);
   w2c_j1 = i64_load(m, (u64)(w2c_i1) + 8u);
-  w2c_j2 = w2c_p2;
+  w2c_j2 = w2c_p1;
   w2c_j3 = w2c_l5;
   w2c_i2 = w2c_j2 < w2c_j3;
   w2c_j2 = (u64)(w2c_i2);
   w2c_j1 += w2c_j2;
-  w2c_p2 = w2c_j1;
+  w2c_p1 = w2c_j1;
   w2c_j2 = w2c_l4;
   w2c_i2 = (u32)(w2c_j2);
   w2c_j2 = i64_load(m, (u64)(w2c_i2) + 48u);
@@ -25098,7 +25548,7 @@ static void w2c_f31(module *m, u64 w2c_p0, u64 w2c_p1, u64 w2c_p2, u32 w2c_p3) {
   w2c_i1 = (u32)(w2c_j1);
   w2c_j1 = i64_load(m, (u64)(w2c_i1) + 56u);
   w2c_j2 = w2c_l5;
-  w2c_j3 = w2c_p2;
+  w2c_j3 = w2c_p1;
   w2c_i2 = w2c_j2 < w2c_j3;
   w2c_j2 = (u64)(w2c_i2);
   w2c_j1 += w2c_j2;
@@ -25111,7 +25561,7 @@ static void w2c_f31(module *m, u64 w2c_p0, u64 w2c_p1, u64 w2c_p2, u32 w2c_p3) {
   w2c_j2 = w2c_l11;
   w2c_j3 = 100ull;
   w2c_j2 ^= w2c_j3;
-  w2c_j3 = w2c_p1;
+  w2c_j3 = w2c_p2;
   w2c_j2 |= w2c_j3;
   w2c_i2 = !(w2c_j2);
   w2c_i0 = w2c_i2 ? w2c_i0 : w2c_i1;
@@ -25121,7 +25571,7 @@ static void w2c_f31(module *m, u64 w2c_p0, u64 w2c_p1, u64 w2c_p2, u32 w2c_p3) {
   w2c_j0 = i64_load(m, (u64)(w2c_i0) + 16u);
   w2c_p2 = w2c_j0;
   goto w2c_B2;
-  w2c_B22:;
+  w2c_B21:;
   w2c_j0 = w2c_l4;
   w2c_i0 = (u32)(w2c_j0);
   w2c_i0 = i32_load8_u(m, (u64)(w2c_i0) + 216u);
@@ -25159,7 +25609,7 @@ static void w2c_f31(module *m, u64 w2c_p0, u64 w2c_p1, u64 w2c_p2, u32 w2c_p3) {
   w2c_i0 = i32_load8_u(m, (u64)(w2c_i0) + 256u);
   w2c_i1 = 1u;
   w2c_i0 = w2c_i0 != w2c_i1;
-  if (w2c_i0) {goto w2c_B23;}
+  if (w2c_i0) {goto w2c_B22;}
   w2c_j0 = w2c_l4;
   w2c_i0 = (u32)(w2c_j0);
   w2c_i0 = i32_load(m, (u64)(w2c_i0) + 264u);
@@ -25203,16 +25653,16 @@ static void w2c_f31(module *m, u64 w2c_p0, u64 w2c_p1, u64 w2c_p2, u32 w2c_p3) {
   w2c_i0 = i32_load8_u(m, (u64)(w2c_i0) + 256u);
   w2c_i1 = 1u;
   w2c_i0 = w2c_i0 != w2c_i1;
-  if (w2c_i0) {goto w2c_B23;}
+  if (w2c_i0) {goto w2c_B22;}
   w2c_i0 = w2c_l13;
   w2c_i1 = 65285u;
   w2c_i0 = w2c_i0 == w2c_i1;
-  if (w2c_i0) {goto w2c_B24;}
+  if (w2c_i0) {goto w2c_B23;}
   w2c_i0 = w2c_l13;
   w2c_i1 = 37u;
   w2c_i0 = w2c_i0 != w2c_i1;
-  if (w2c_i0) {goto w2c_B23;}
-  w2c_B24:;
+  if (w2c_i0) {goto w2c_B22;}
+  w2c_B23:;
   w2c_j0 = w2c_l4;
   w2c_j1 = 160ull;
   w2c_j0 += w2c_j1;
@@ -25228,7 +25678,7 @@ static void w2c_f31(module *m, u64 w2c_p0, u64 w2c_p1, u64 w2c_p2, u32 w2c_p3) {
   w2c_j0 = w2c_l4;
   w2c_i0 = (u32)(w2c_j0);
   w2c_i0 = i32_load8_u(m, (u64)(w2c_i0) + 160u);
-  if (w2c_i0) {goto w2c_B25;}
+  if (w2c_i0) {goto w2c_B24;}
   w2c_j0 = w2c_l4;
   w2c_i0 = (u32)(w2c_j0);
   w2c_j0 = i64_load(m, (u64)(w2c_i0) + 192u);
@@ -25247,7 +25697,7 @@ static void w2c_f31(module *m, u64 w2c_p0, u64 w2c_p1, u64 w2c_p2, u32 w2c_p3) {
   w2c_j2 = 4ull;
   w2c_j1 <<= (w2c_j2 & 63);
   w2c_l8 = w2c_j1;
-  w2c_j2 = 68160ull;
+  w2c_j2 = 68624ull;
   w2c_j1 += w2c_j2;
   w2c_i1 = (u32)(w2c_j1);
   w2c_j1 = i64_load(m, (u64)(w2c_i1));
@@ -25259,7 +25709,7 @@ static void w2c_f31(module *m, u64 w2c_p0, u64 w2c_p1, u64 w2c_p2, u32 w2c_p3) {
   w2c_j1 = 80ull;
   w2c_j0 += w2c_j1;
   w2c_j1 = w2c_l8;
-  w2c_j2 = 68168ull;
+  w2c_j2 = 68632ull;
   w2c_j1 += w2c_j2;
   w2c_i1 = (u32)(w2c_j1);
   w2c_j1 = i64_load(m, (u64)(w2c_i1));
@@ -25295,7 +25745,7 @@ static void w2c_f31(module *m, u64 w2c_p0, u64 w2c_p1, u64 w2c_p2, u32 w2c_p3) {
   w2c_i0 = 2u;
   w2c_l13 = w2c_i0;
   goto w2c_B2;
-  w2c_B25:;
+  w2c_B24:;
   w2c_j0 = w2c_l4;
   w2c_i0 = (u32)(w2c_j0);
   w2c_i0 = i32_load8_u(m, (u64)(w2c_i0) + 168u);
@@ -25303,7 +25753,7 @@ static void w2c_f31(module *m, u64 w2c_p0, u64 w2c_p1, u64 w2c_p2, u32 w2c_p3) {
   w2c_j0 = w2c_l6;
   w2c_l11 = w2c_j0;
   goto w2c_B3;
-  w2c_B23:;
+  w2c_B22:;
   w2c_j0 = w2c_l4;
   w2c_j1 = 112ull;
   w2c_j0 += w2c_j1;
@@ -25319,7 +25769,7 @@ static void w2c_f31(module *m, u64 w2c_p0, u64 w2c_p1, u64 w2c_p2, u32 w2c_p3) {
   w2c_j0 = w2c_l4;
   w2c_i0 = (u32)(w2c_j0);
   w2c_i0 = i32_load8_u(m, (u64)(w2c_i0) + 112u);
-  if (w2c_i0) {goto w2c_B26;}
+  if (w2c_i0) {goto w2c_B25;}
   w2c_j0 = w2c_l4;
   w2c_i0 = (u32)(w2c_j0);
   w2c_j0 = i64_load(m, (u64)(w2c_i0) + 144u);
@@ -25335,13 +25785,13 @@ static void w2c_f31(module *m, u64 w2c_p0, u64 w2c_p1, u64 w2c_p2, u32 w2c_p3) {
   w2c_j1 = 4ull;
   w2c_j0 <<= (w2c_j1 & 63);
   w2c_l7 = w2c_j0;
-  w2c_j1 = 68168ull;
+  w2c_j1 = 68632ull;
   w2c_j0 += w2c_j1;
   w2c_i0 = (u32)(w2c_j0);
   w2c_j0 = i64_load(m, (u64)(w2c_i0));
   w2c_l8 = w2c_j0;
   w2c_j0 = w2c_l7;
-  w2c_j1 = 68160ull;
+  w2c_j1 = 68624ull;
   w2c_j0 += w2c_j1;
   w2c_i0 = (u32)(w2c_j0);
   w2c_j0 = i64_load(m, (u64)(w2c_i0));
@@ -25351,7 +25801,7 @@ static void w2c_f31(module *m, u64 w2c_p0, u64 w2c_p1, u64 w2c_p2, u32 w2c_p3) {
   w2c_j0 = i64_load(m, (u64)(w2c_i0) + 136u);
   w2c_l7 = w2c_j0;
   goto w2c_B2;
-  w2c_B26:;
+  w2c_B25:;
   w2c_j0 = w2c_l4;
   w2c_i0 = (u32)(w2c_j0);
   w2c_i0 = i32_load8_u(m, (u64)(w2c_i0) + 120u);
@@ -25392,7 +25842,7 @@ static void w2c_f31(module *m, u64 w2c_p0, u64 w2c_p1, u64 w2c_p2, u32 w2c_p3) {
   w2c_B2:;
   w2c_i0 = w2c_l12;
   w2c_i0 = !(w2c_i0);
-  if (w2c_i0) {goto w2c_B30;}
+  if (w2c_i0) {goto w2c_B29;}
   w2c_j0 = w2c_l6;
   w2c_i0 = !(w2c_j0);
   w2c_j1 = w2c_l7;
@@ -25402,18 +25852,18 @@ static void w2c_f31(module *m, u64 w2c_p0, u64 w2c_p1, u64 w2c_p2, u32 w2c_p3) {
   w2c_j3 = 9223372036854775808ull;
   w2c_i2 = w2c_j2 == w2c_j3;
   w2c_i0 = w2c_i2 ? w2c_i0 : w2c_i1;
-  if (w2c_i0) {goto w2c_B28;}
+  if (w2c_i0) {goto w2c_B27;}
   w2c_i0 = 3u;
   w2c_l12 = w2c_i0;
-  goto w2c_B29;
-  w2c_B30:;
+  goto w2c_B28;
+  w2c_B29:;
   w2c_j0 = w2c_l7;
   w2c_j1 = 0ull;
   w2c_i0 = (u64)((s64)w2c_j0 >= (s64)w2c_j1);
-  if (w2c_i0) {goto w2c_B27;}
+  if (w2c_i0) {goto w2c_B26;}
   w2c_i0 = 2u;
   w2c_l12 = w2c_i0;
-  w2c_B29:;
+  w2c_B28:;
   w2c_j0 = 0ull;
   w2c_l6 = w2c_j0;
   w2c_j0 = w2c_l4;
@@ -25431,7 +25881,7 @@ static void w2c_f31(module *m, u64 w2c_p0, u64 w2c_p1, u64 w2c_p2, u32 w2c_p3) {
   w2c_j0 = 0ull;
   w2c_l7 = w2c_j0;
   goto w2c_B1;
-  w2c_B28:;
+  w2c_B27:;
   w2c_j0 = 0ull;
   w2c_j1 = w2c_l7;
   w2c_j2 = w2c_l6;
@@ -25445,7 +25895,7 @@ static void w2c_f31(module *m, u64 w2c_p0, u64 w2c_p1, u64 w2c_p2, u32 w2c_p3) {
   w2c_j1 = w2c_l6;
   w2c_j0 -= w2c_j1;
   w2c_l6 = w2c_j0;
-  w2c_B27:;
+  w2c_B26:;
   w2c_j0 = 0ull;
   w2c_p1 = w2c_j0;
   w2c_j0 = w2c_l4;
@@ -28025,7 +28475,7 @@ static void w2c_f36(module *m, u64 w2c_p0, u32 w2c_p1, u64 w2c_p2, u64 w2c_p3, u
   w2c_j0 &= w2c_j1;
   w2c_j1 = 5ull;
   w2c_j0 <<= (w2c_j1 & 63);
-  w2c_j1 = 68022ull;
+  w2c_j1 = 68486ull;
   w2c_j0 += w2c_j1;
   w2c_l7 = w2c_j0;
   w2c_L4:
@@ -28073,7 +28523,7 @@ static void w2c_f36(module *m, u64 w2c_p0, u32 w2c_p1, u64 w2c_p2, u64 w2c_p3, u
     w2c_j2 = 4ull;
     w2c_j1 <<= (w2c_j2 & 63);
     w2c_l8 = w2c_j1;
-    w2c_j2 = 68160ull;
+    w2c_j2 = 68624ull;
     w2c_j1 += w2c_j2;
     w2c_i1 = (u32)(w2c_j1);
     w2c_j1 = i64_load(m, (u64)(w2c_i1));
@@ -28084,7 +28534,7 @@ static void w2c_f36(module *m, u64 w2c_p0, u32 w2c_p1, u64 w2c_p2, u64 w2c_p3, u
     w2c_f3(m, w2c_j0, w2c_j1, w2c_j2, w2c_j3, w2c_j4);
     w2c_j0 = w2c_l6;
     w2c_j1 = w2c_l8;
-    w2c_j2 = 68168ull;
+    w2c_j2 = 68632ull;
     w2c_j1 += w2c_j2;
     w2c_i1 = (u32)(w2c_j1);
     w2c_j1 = i64_load(m, (u64)(w2c_i1));
@@ -29204,7 +29654,7 @@ static void w2c_f41(module *m, u64 w2c_p0, u32 w2c_p1, u64 w2c_p2, u64 w2c_p3, u
   w2c_j1 = 1016ull;
   w2c_j0 &= w2c_j1;
   w2c_l8 = w2c_j0;
-  w2c_j1 = 66860ull;
+  w2c_j1 = 66992ull;
   w2c_j0 += w2c_j1;
   w2c_i0 = (u32)(w2c_j0);
   w2c_i0 = i32_load(m, (u64)(w2c_i0));
@@ -29241,7 +29691,7 @@ static void w2c_f41(module *m, u64 w2c_p0, u32 w2c_p1, u64 w2c_p2, u64 w2c_p3, u
   w2c_j1 = 1016ull;
   w2c_j0 &= w2c_j1;
   w2c_l8 = w2c_j0;
-  w2c_j1 = 66860ull;
+  w2c_j1 = 66992ull;
   w2c_j0 += w2c_j1;
   w2c_i0 = (u32)(w2c_j0);
   w2c_i0 = i32_load(m, (u64)(w2c_i0));
@@ -29256,13 +29706,13 @@ static void w2c_f41(module *m, u64 w2c_p0, u32 w2c_p1, u64 w2c_p2, u64 w2c_p3, u
   w2c_p2 = w2c_j0;
   w2c_B14:;
   w2c_j0 = w2c_l8;
-  w2c_j1 = 66864ull;
+  w2c_j1 = 66996ull;
   w2c_j0 += w2c_j1;
   w2c_i0 = (u32)(w2c_j0);
   w2c_i0 = i32_load8_u(m, (u64)(w2c_i0));
   w2c_l18 = w2c_i0;
   w2c_j0 = w2c_l8;
-  w2c_j1 = 66865ull;
+  w2c_j1 = 66997ull;
   w2c_j0 += w2c_j1;
   w2c_i0 = (u32)(w2c_j0);
   w2c_i0 = i32_load8_u(m, (u64)(w2c_i0));
@@ -29336,7 +29786,7 @@ static void w2c_f41(module *m, u64 w2c_p0, u32 w2c_p1, u64 w2c_p2, u64 w2c_p3, u
   w2c_j1 = 1016ull;
   w2c_j0 &= w2c_j1;
   w2c_l8 = w2c_j0;
-  w2c_j1 = 66860ull;
+  w2c_j1 = 66992ull;
   w2c_j0 += w2c_j1;
   w2c_i0 = (u32)(w2c_j0);
   w2c_i0 = i32_load(m, (u64)(w2c_i0));
@@ -29367,7 +29817,7 @@ static void w2c_f41(module *m, u64 w2c_p0, u32 w2c_p1, u64 w2c_p2, u64 w2c_p3, u
   w2c_j1 = 1016ull;
   w2c_j0 &= w2c_j1;
   w2c_l8 = w2c_j0;
-  w2c_j1 = 66860ull;
+  w2c_j1 = 66992ull;
   w2c_j0 += w2c_j1;
   w2c_i0 = (u32)(w2c_j0);
   w2c_i0 = i32_load(m, (u64)(w2c_i0));
@@ -29376,13 +29826,13 @@ static void w2c_f41(module *m, u64 w2c_p0, u32 w2c_p1, u64 w2c_p2, u64 w2c_p3, u
   if (w2c_i0) {goto w2c_B10;}
   w2c_B16:;
   w2c_j0 = w2c_l8;
-  w2c_j1 = 66864ull;
+  w2c_j1 = 66996ull;
   w2c_j0 += w2c_j1;
   w2c_i0 = (u32)(w2c_j0);
   w2c_i0 = i32_load8_u(m, (u64)(w2c_i0));
   w2c_l20 = w2c_i0;
   w2c_j0 = w2c_l8;
-  w2c_j1 = 66865ull;
+  w2c_j1 = 66997ull;
   w2c_j0 += w2c_j1;
   w2c_i0 = (u32)(w2c_j0);
   w2c_i0 = i32_load8_u(m, (u64)(w2c_i0));
@@ -29503,7 +29953,7 @@ static void w2c_f41(module *m, u64 w2c_p0, u32 w2c_p1, u64 w2c_p2, u64 w2c_p3, u
   w2c_j2 = 1ull;
   w2c_j1 <<= (w2c_j2 & 63);
   w2c_j0 += w2c_j1;
-  w2c_j1 = 68022ull;
+  w2c_j1 = 68486ull;
   w2c_j0 += w2c_j1;
   w2c_i0 = (u32)(w2c_j0);
   w2c_j0 = i64_load16_u(m, (u64)(w2c_i0));
@@ -29598,14 +30048,14 @@ static void w2c_f41(module *m, u64 w2c_p0, u32 w2c_p1, u64 w2c_p2, u64 w2c_p3, u
   w2c_j2 = 4ull;
   w2c_j1 <<= (w2c_j2 & 63);
   w2c_p4 = w2c_j1;
-  w2c_j2 = 68168ull;
+  w2c_j2 = 68632ull;
   w2c_j1 += w2c_j2;
   w2c_i1 = (u32)(w2c_j1);
   w2c_j1 = i64_load(m, (u64)(w2c_i1));
   w2c_l6 = w2c_j1;
   w2c_j2 = w2c_l6;
   w2c_j3 = w2c_p4;
-  w2c_j4 = 68160ull;
+  w2c_j4 = 68624ull;
   w2c_j3 += w2c_j4;
   w2c_i3 = (u32)(w2c_j3);
   w2c_j3 = i64_load(m, (u64)(w2c_i3));
@@ -29803,50 +30253,44 @@ static void w2c_f41(module *m, u64 w2c_p0, u32 w2c_p1, u64 w2c_p2, u64 w2c_p3, u
   w2c_j1 = 1ull;
   w2c_j0 += w2c_j1;
   w2c_l7 = w2c_j0;
-  w2c_j0 = 0ull;
-  w2c_p3 = w2c_j0;
   w2c_j0 = w2c_p2;
   w2c_i0 = !(w2c_j0);
-  if (w2c_i0) {goto w2c_B19;}
-  w2c_L20:
-    w2c_j0 = 1ull;
-    w2c_p4 = w2c_j0;
-    w2c_j0 = w2c_l6;
-    w2c_i0 = (u32)(w2c_j0);
-    w2c_i0 = i32_load8_s(m, (u64)(w2c_i0));
-    w2c_p1 = w2c_i0;
-    w2c_i1 = 4294967295u;
-    w2c_i0 = (u32)((s32)w2c_i0 > (s32)w2c_i1);
-    if (w2c_i0) {goto w2c_B21;}
-    w2c_j0 = 2ull;
-    w2c_p4 = w2c_j0;
-    w2c_i0 = w2c_p1;
-    w2c_i1 = 4294967264u;
-    w2c_i0 = w2c_i0 < w2c_i1;
-    if (w2c_i0) {goto w2c_B21;}
-    w2c_j0 = 3ull;
-    w2c_j1 = 4ull;
-    w2c_i2 = w2c_p1;
-    w2c_i3 = 4294967280u;
-    w2c_i2 = w2c_i2 < w2c_i3;
-    w2c_j0 = w2c_i2 ? w2c_j0 : w2c_j1;
-    w2c_p4 = w2c_j0;
-    w2c_B21:;
-    w2c_j0 = w2c_p3;
+  w2c_i0 = !(w2c_i0);
+  if (w2c_i0) {goto w2c_B20;}
+  w2c_j0 = 0ull;
+  w2c_p4 = w2c_j0;
+  goto w2c_B19;
+  w2c_B20:;
+  w2c_j0 = 0ull;
+  w2c_p4 = w2c_j0;
+  w2c_L21:
+    w2c_j0 = w2c_p4;
     w2c_j1 = 1ull;
     w2c_j0 += w2c_j1;
-    w2c_p3 = w2c_j0;
+    w2c_p4 = w2c_j0;
     w2c_j0 = w2c_l6;
-    w2c_j1 = w2c_p4;
+    w2c_j1 = w2c_l6;
+    w2c_i1 = (u32)(w2c_j1);
+    w2c_i1 = i32_load8_u(m, (u64)(w2c_i1));
+    w2c_i2 = 1u;
+    w2c_i1 >>= (w2c_i2 & 31);
+    w2c_j1 = (u64)(w2c_i1);
+    w2c_j2 = 120ull;
+    w2c_j1 &= w2c_j2;
+    w2c_j2 = 66848ull;
+    w2c_j1 += w2c_j2;
+    w2c_i1 = (u32)(w2c_j1);
+    w2c_j1 = i64_load(m, (u64)(w2c_i1));
+    w2c_p3 = w2c_j1;
     w2c_j0 += w2c_j1;
     w2c_l6 = w2c_j0;
     w2c_j0 = w2c_p2;
-    w2c_j1 = w2c_p4;
+    w2c_j1 = w2c_p3;
     w2c_j0 -= w2c_j1;
     w2c_p2 = w2c_j0;
     w2c_j1 = 0ull;
     w2c_i0 = w2c_j0 != w2c_j1;
-    if (w2c_i0) {goto w2c_L20;}
+    if (w2c_i0) {goto w2c_L21;}
   w2c_B19:;
   w2c_j0 = w2c_p0;
   w2c_i0 = (u32)(w2c_j0);
@@ -29863,7 +30307,7 @@ static void w2c_f41(module *m, u64 w2c_p0, u32 w2c_p1, u64 w2c_p2, u64 w2c_p3, u
   w2c_j0 += w2c_j1;
   w2c_i0 = (u32)(w2c_j0);
   w2c_j1 = w2c_l7;
-  w2c_j2 = w2c_p3;
+  w2c_j2 = w2c_p4;
   w2c_j1 += w2c_j2;
   w2c_p4 = w2c_j1;
   i64_store(m, (u64)(w2c_i0), w2c_j1);
@@ -30068,12 +30512,12 @@ static void w2c_f42(module *m, u64 w2c_p0, u64 w2c_p1, u64 w2c_p2, u64 w2c_p3) {
       w2c_j0 &= w2c_j1;
       w2c_l14 = w2c_j0;
       w2c_i0 = (u32)(w2c_j0);
-      w2c_i0 = i32_load(m, (u64)(w2c_i0) + 66860u);
+      w2c_i0 = i32_load(m, (u64)(w2c_i0) + 66992u);
       w2c_i1 = w2c_l16;
       w2c_i0 = w2c_i0 != w2c_i1;
       if (w2c_i0) {goto w2c_B5;}
       w2c_j0 = w2c_l14;
-      w2c_j1 = 66864ull;
+      w2c_j1 = 66996ull;
       w2c_j0 += w2c_j1;
       w2c_i0 = (u32)(w2c_j0);
       w2c_i0 = i32_load8_u(m, (u64)(w2c_i0));
@@ -30090,7 +30534,7 @@ static void w2c_f42(module *m, u64 w2c_p0, u64 w2c_p1, u64 w2c_p2, u64 w2c_p3) {
       w2c_j1 = 10ull;
       w2c_j0 *= w2c_j1;
       w2c_j1 = w2c_l14;
-      w2c_j2 = 66865ull;
+      w2c_j2 = 66997ull;
       w2c_j1 += w2c_j2;
       w2c_i1 = (u32)(w2c_j1);
       w2c_j1 = i64_load8_u(m, (u64)(w2c_i1));
@@ -30254,7 +30698,7 @@ static void w2c_f42(module *m, u64 w2c_p0, u64 w2c_p1, u64 w2c_p2, u64 w2c_p3) {
     w2c_j1 = 1016ull;
     w2c_j0 &= w2c_j1;
     w2c_l4 = w2c_j0;
-    w2c_j1 = 66860ull;
+    w2c_j1 = 66992ull;
     w2c_j0 += w2c_j1;
     w2c_i0 = (u32)(w2c_j0);
     w2c_i0 = i32_load(m, (u64)(w2c_i0));
@@ -30262,13 +30706,13 @@ static void w2c_f42(module *m, u64 w2c_p0, u64 w2c_p1, u64 w2c_p2, u64 w2c_p3) {
     w2c_i0 = w2c_i0 != w2c_i1;
     if (w2c_i0) {goto w2c_B9;}
     w2c_j0 = w2c_l4;
-    w2c_j1 = 66865ull;
+    w2c_j1 = 66997ull;
     w2c_j0 += w2c_j1;
     w2c_i0 = (u32)(w2c_j0);
     w2c_i0 = i32_load8_u(m, (u64)(w2c_i0));
     w2c_l17 = w2c_i0;
     w2c_j0 = w2c_l4;
-    w2c_j1 = 66864ull;
+    w2c_j1 = 66996ull;
     w2c_j0 += w2c_j1;
     w2c_i0 = (u32)(w2c_j0);
     w2c_j0 = i64_load8_u(m, (u64)(w2c_i0));
@@ -30684,21 +31128,21 @@ static void w2c_f43(module *m, u64 w2c_p0, u64 w2c_p1, u64 w2c_p2) {
   w2c_j1 = 1016ull;
   w2c_j0 &= w2c_j1;
   w2c_l4 = w2c_j0;
-  w2c_j1 = 66865ull;
+  w2c_j1 = 66997ull;
   w2c_j0 += w2c_j1;
   w2c_i0 = (u32)(w2c_j0);
   w2c_i0 = i32_load8_u(m, (u64)(w2c_i0));
   w2c_i1 = 0u;
   w2c_j2 = w2c_l4;
   w2c_i2 = (u32)(w2c_j2);
-  w2c_i2 = i32_load(m, (u64)(w2c_i2) + 66860u);
+  w2c_i2 = i32_load(m, (u64)(w2c_i2) + 66992u);
   w2c_i3 = w2c_l5;
   w2c_i2 = w2c_i2 == w2c_i3;
   w2c_l5 = w2c_i2;
   w2c_i0 = w2c_i2 ? w2c_i0 : w2c_i1;
   w2c_l6 = w2c_i0;
   w2c_j0 = w2c_l4;
-  w2c_j1 = 66864ull;
+  w2c_j1 = 66996ull;
   w2c_j0 += w2c_j1;
   w2c_i0 = (u32)(w2c_j0);
   w2c_i0 = i32_load8_u(m, (u64)(w2c_i0));
@@ -30840,7 +31284,7 @@ static void w2c_f44(module *m, u64 w2c_p0, u32 w2c_p1, u64 w2c_p2, u32 w2c_p3, u
   w2c_j0 &= w2c_j1;
   w2c_j1 = 5ull;
   w2c_j0 <<= (w2c_j1 & 63);
-  w2c_j1 = 68022ull;
+  w2c_j1 = 68486ull;
   w2c_j0 += w2c_j1;
   w2c_l8 = w2c_j0;
   w2c_j0 = w2c_l6;
@@ -30894,7 +31338,7 @@ static void w2c_f44(module *m, u64 w2c_p0, u32 w2c_p1, u64 w2c_p2, u32 w2c_p3, u
     w2c_j1 = 1016ull;
     w2c_j0 &= w2c_j1;
     w2c_l11 = w2c_j0;
-    w2c_j1 = 66860ull;
+    w2c_j1 = 66992ull;
     w2c_j0 += w2c_j1;
     w2c_i0 = (u32)(w2c_j0);
     w2c_i0 = i32_load(m, (u64)(w2c_i0));
@@ -30929,7 +31373,7 @@ static void w2c_f44(module *m, u64 w2c_p0, u32 w2c_p1, u64 w2c_p2, u32 w2c_p3, u
     w2c_j1 = 1016ull;
     w2c_j0 &= w2c_j1;
     w2c_l11 = w2c_j0;
-    w2c_j1 = 66860ull;
+    w2c_j1 = 66992ull;
     w2c_j0 += w2c_j1;
     w2c_i0 = (u32)(w2c_j0);
     w2c_i0 = i32_load(m, (u64)(w2c_i0));
@@ -30944,13 +31388,13 @@ static void w2c_f44(module *m, u64 w2c_p0, u32 w2c_p1, u64 w2c_p2, u32 w2c_p3, u
     w2c_p5 = w2c_j0;
     w2c_B7:;
     w2c_j0 = w2c_l11;
-    w2c_j1 = 66864ull;
+    w2c_j1 = 66996ull;
     w2c_j0 += w2c_j1;
     w2c_i0 = (u32)(w2c_j0);
     w2c_i0 = i32_load8_u(m, (u64)(w2c_i0));
     w2c_l23 = w2c_i0;
     w2c_j0 = w2c_l11;
-    w2c_j1 = 66865ull;
+    w2c_j1 = 66997ull;
     w2c_j0 += w2c_j1;
     w2c_i0 = (u32)(w2c_j0);
     w2c_i0 = i32_load8_u(m, (u64)(w2c_i0));
@@ -31380,7 +31824,7 @@ static void w2c_f44(module *m, u64 w2c_p0, u32 w2c_p1, u64 w2c_p2, u32 w2c_p3, u
     w2c_j2 = 4ull;
     w2c_j1 <<= (w2c_j2 & 63);
     w2c_l13 = w2c_j1;
-    w2c_j2 = 68160ull;
+    w2c_j2 = 68624ull;
     w2c_j1 += w2c_j2;
     w2c_i1 = (u32)(w2c_j1);
     w2c_j1 = i64_load(m, (u64)(w2c_i1));
@@ -31392,7 +31836,7 @@ static void w2c_f44(module *m, u64 w2c_p0, u32 w2c_p1, u64 w2c_p2, u32 w2c_p3, u
     w2c_j0 = w2c_l11;
     w2c_i0 = (u32)(w2c_j0);
     w2c_j1 = w2c_l13;
-    w2c_j2 = 68168ull;
+    w2c_j2 = 68632ull;
     w2c_j1 += w2c_j2;
     w2c_i1 = (u32)(w2c_j1);
     w2c_j1 = i64_load(m, (u64)(w2c_i1));
@@ -31411,53 +31855,47 @@ static void w2c_f44(module *m, u64 w2c_p0, u32 w2c_p1, u64 w2c_p2, u32 w2c_p3, u
     w2c_l21 = w2c_i0;
     goto w2c_B2;
     w2c_B10:;
-    w2c_j0 = 0ull;
-    w2c_l14 = w2c_j0;
     w2c_j0 = w2c_p5;
     w2c_i0 = !(w2c_j0);
-    if (w2c_i0) {goto w2c_B24;}
-    w2c_L25:
-      w2c_j0 = 1ull;
-      w2c_l11 = w2c_j0;
-      w2c_j0 = w2c_p4;
-      w2c_i0 = (u32)(w2c_j0);
-      w2c_i0 = i32_load8_s(m, (u64)(w2c_i0));
-      w2c_p1 = w2c_i0;
-      w2c_i1 = 4294967295u;
-      w2c_i0 = (u32)((s32)w2c_i0 > (s32)w2c_i1);
-      if (w2c_i0) {goto w2c_B26;}
-      w2c_j0 = 2ull;
-      w2c_l11 = w2c_j0;
-      w2c_i0 = w2c_p1;
-      w2c_i1 = 4294967264u;
-      w2c_i0 = w2c_i0 < w2c_i1;
-      if (w2c_i0) {goto w2c_B26;}
-      w2c_j0 = 3ull;
-      w2c_j1 = 4ull;
-      w2c_i2 = w2c_p1;
-      w2c_i3 = 4294967280u;
-      w2c_i2 = w2c_i2 < w2c_i3;
-      w2c_j0 = w2c_i2 ? w2c_j0 : w2c_j1;
-      w2c_l11 = w2c_j0;
-      w2c_B26:;
-      w2c_j0 = w2c_l14;
+    w2c_i0 = !(w2c_i0);
+    if (w2c_i0) {goto w2c_B25;}
+    w2c_j0 = 0ull;
+    w2c_l11 = w2c_j0;
+    goto w2c_B24;
+    w2c_B25:;
+    w2c_j0 = 0ull;
+    w2c_l11 = w2c_j0;
+    w2c_L26:
+      w2c_j0 = w2c_l11;
       w2c_j1 = 1ull;
       w2c_j0 += w2c_j1;
-      w2c_l14 = w2c_j0;
+      w2c_l11 = w2c_j0;
       w2c_j0 = w2c_p4;
-      w2c_j1 = w2c_l11;
+      w2c_j1 = w2c_p4;
+      w2c_i1 = (u32)(w2c_j1);
+      w2c_i1 = i32_load8_u(m, (u64)(w2c_i1));
+      w2c_i2 = 1u;
+      w2c_i1 >>= (w2c_i2 & 31);
+      w2c_j1 = (u64)(w2c_i1);
+      w2c_j2 = 120ull;
+      w2c_j1 &= w2c_j2;
+      w2c_j2 = 66848ull;
+      w2c_j1 += w2c_j2;
+      w2c_i1 = (u32)(w2c_j1);
+      w2c_j1 = i64_load(m, (u64)(w2c_i1));
+      w2c_l14 = w2c_j1;
       w2c_j0 += w2c_j1;
       w2c_p4 = w2c_j0;
       w2c_j0 = w2c_p5;
-      w2c_j1 = w2c_l11;
+      w2c_j1 = w2c_l14;
       w2c_j0 -= w2c_j1;
       w2c_p5 = w2c_j0;
       w2c_j1 = 0ull;
       w2c_i0 = w2c_j0 != w2c_j1;
-      if (w2c_i0) {goto w2c_L25;}
+      if (w2c_i0) {goto w2c_L26;}
     w2c_B24:;
     w2c_j0 = w2c_l7;
-    w2c_j1 = w2c_l14;
+    w2c_j1 = w2c_l11;
     w2c_j0 += w2c_j1;
     w2c_l16 = w2c_j0;
     w2c_j0 = 1ull;
@@ -31519,7 +31957,7 @@ static void w2c_f44(module *m, u64 w2c_p0, u32 w2c_p1, u64 w2c_p2, u32 w2c_p3, u
     w2c_j1 = 1016ull;
     w2c_j0 &= w2c_j1;
     w2c_l11 = w2c_j0;
-    w2c_j1 = 66860ull;
+    w2c_j1 = 66992ull;
     w2c_j0 += w2c_j1;
     w2c_i0 = (u32)(w2c_j0);
     w2c_i0 = i32_load(m, (u64)(w2c_i0));
@@ -31527,13 +31965,13 @@ static void w2c_f44(module *m, u64 w2c_p0, u32 w2c_p1, u64 w2c_p2, u32 w2c_p3, u
     w2c_i0 = w2c_i0 != w2c_i1;
     if (w2c_i0) {goto w2c_B27;}
     w2c_j0 = w2c_l11;
-    w2c_j1 = 66865ull;
+    w2c_j1 = 66997ull;
     w2c_j0 += w2c_j1;
     w2c_i0 = (u32)(w2c_j0);
     w2c_i0 = i32_load8_u(m, (u64)(w2c_i0));
     w2c_p1 = w2c_i0;
     w2c_j0 = w2c_l11;
-    w2c_j1 = 66864ull;
+    w2c_j1 = 66996ull;
     w2c_j0 += w2c_j1;
     w2c_i0 = (u32)(w2c_j0);
     w2c_j0 = i64_load8_u(m, (u64)(w2c_i0));
@@ -31936,8 +32374,8 @@ static void w2c_f44(module *m, u64 w2c_p0, u32 w2c_p1, u64 w2c_p2, u32 w2c_p3, u
 static u32 w2c_f45(module *m, u64 w2c_p0, u64 w2c_p1, u32 w2c_p2, u64 w2c_p3, u64 w2c_p4, u64 w2c_p5) {
   u32 w2c_l6 = 0;
   u64 w2c_l7 = 0;
-  u32 w2c_i0, w2c_i1, w2c_i2, w2c_i3;
-  u64 w2c_j0, w2c_j1;
+  u32 w2c_i0, w2c_i1, w2c_i2;
+  u64 w2c_j0, w2c_j1, w2c_j2;
   w2c_j0 = m->w2c_g0;
   w2c_j1 = 16ull;
   w2c_i0 = (u64)((s64)w2c_j0 < (s64)w2c_j1);
@@ -31980,35 +32418,20 @@ static u32 w2c_f45(module *m, u64 w2c_p0, u64 w2c_p1, u32 w2c_p2, u64 w2c_p3, u6
     w2c_j0 = w2c_p4;
     w2c_i0 = !(w2c_j0);
     if (w2c_i0) {goto w2c_B5;}
-    w2c_j0 = w2c_p0;
-    w2c_i0 = (u32)(w2c_j0);
-    w2c_i0 = i32_load8_s(m, (u64)(w2c_i0));
-    w2c_p2 = w2c_i0;
-    w2c_i1 = 4294967295u;
-    w2c_i0 = (u32)((s32)w2c_i0 <= (s32)w2c_i1);
-    if (w2c_i0) {goto w2c_B9;}
-    w2c_j0 = 1ull;
-    w2c_l7 = w2c_j0;
-    goto w2c_B8;
-    w2c_B9:;
-    w2c_i0 = w2c_p2;
-    w2c_i1 = 4294967264u;
-    w2c_i0 = w2c_i0 >= w2c_i1;
-    if (w2c_i0) {goto w2c_B10;}
-    w2c_j0 = 2ull;
-    w2c_l7 = w2c_j0;
-    goto w2c_B8;
-    w2c_B10:;
-    w2c_j0 = 3ull;
-    w2c_j1 = 4ull;
-    w2c_i2 = w2c_p2;
-    w2c_i3 = 4294967280u;
-    w2c_i2 = w2c_i2 < w2c_i3;
-    w2c_j0 = w2c_i2 ? w2c_j0 : w2c_j1;
-    w2c_l7 = w2c_j0;
-    w2c_B8:;
     w2c_j0 = w2c_p4;
-    w2c_j1 = w2c_l7;
+    w2c_j1 = w2c_p0;
+    w2c_i1 = (u32)(w2c_j1);
+    w2c_i1 = i32_load8_u(m, (u64)(w2c_i1));
+    w2c_i2 = 1u;
+    w2c_i1 >>= (w2c_i2 & 31);
+    w2c_j1 = (u64)(w2c_i1);
+    w2c_j2 = 120ull;
+    w2c_j1 &= w2c_j2;
+    w2c_j2 = 66848ull;
+    w2c_j1 += w2c_j2;
+    w2c_i1 = (u32)(w2c_j1);
+    w2c_j1 = i64_load(m, (u64)(w2c_i1));
+    w2c_l7 = w2c_j1;
     w2c_j0 -= w2c_j1;
     w2c_p4 = w2c_j0;
     w2c_j0 = w2c_p0;
@@ -32394,7 +32817,7 @@ static void w2c_f47(module *m, u64 w2c_p0, u32 w2c_p1, u64 w2c_p2, u64 w2c_p3, u
   w2c_j0 &= w2c_j1;
   w2c_j1 = 5ull;
   w2c_j0 <<= (w2c_j1 & 63);
-  w2c_j1 = 68022ull;
+  w2c_j1 = 68486ull;
   w2c_j0 += w2c_j1;
   w2c_l8 = w2c_j0;
   w2c_j0 = w2c_l5;
@@ -32441,12 +32864,12 @@ static void w2c_f47(module *m, u64 w2c_p0, u32 w2c_p1, u64 w2c_p2, u64 w2c_p3, u
     w2c_j0 &= w2c_j1;
     w2c_l15 = w2c_j0;
     w2c_i0 = (u32)(w2c_j0);
-    w2c_i0 = i32_load(m, (u64)(w2c_i0) + 66860u);
+    w2c_i0 = i32_load(m, (u64)(w2c_i0) + 66992u);
     w2c_i1 = w2c_l18;
     w2c_i0 = w2c_i0 != w2c_i1;
     if (w2c_i0) {goto w2c_B1;}
     w2c_j0 = w2c_l15;
-    w2c_j1 = 66865ull;
+    w2c_j1 = 66997ull;
     w2c_j0 += w2c_j1;
     w2c_i0 = (u32)(w2c_j0);
     w2c_i0 = i32_load8_u(m, (u64)(w2c_i0));
@@ -32458,7 +32881,7 @@ static void w2c_f47(module *m, u64 w2c_p0, u32 w2c_p1, u64 w2c_p2, u64 w2c_p3, u
     w2c_i0 = 0u;
     w2c_l20 = w2c_i0;
     w2c_j0 = w2c_l15;
-    w2c_j1 = 66864ull;
+    w2c_j1 = 66996ull;
     w2c_j0 += w2c_j1;
     w2c_i0 = (u32)(w2c_j0);
     w2c_j0 = i64_load8_u(m, (u64)(w2c_i0));
@@ -32518,7 +32941,7 @@ static void w2c_f47(module *m, u64 w2c_p0, u32 w2c_p1, u64 w2c_p2, u64 w2c_p3, u
     w2c_j1 = 1016ull;
     w2c_j0 &= w2c_j1;
     w2c_l16 = w2c_j0;
-    w2c_j1 = 66860ull;
+    w2c_j1 = 66992ull;
     w2c_j0 += w2c_j1;
     w2c_i0 = (u32)(w2c_j0);
     w2c_i0 = i32_load(m, (u64)(w2c_i0));
@@ -32534,14 +32957,14 @@ static void w2c_f47(module *m, u64 w2c_p0, u32 w2c_p1, u64 w2c_p2, u64 w2c_p3, u
     w2c_i0 = w2c_l18;
     w2c_l20 = w2c_i0;
     w2c_j0 = w2c_l16;
-    w2c_j1 = 66865ull;
+    w2c_j1 = 66997ull;
     w2c_j0 += w2c_j1;
     w2c_i0 = (u32)(w2c_j0);
     w2c_i0 = i32_load8_u(m, (u64)(w2c_i0));
     w2c_l19 = w2c_i0;
     w2c_l18 = w2c_i0;
     w2c_j0 = w2c_l16;
-    w2c_j1 = 66864ull;
+    w2c_j1 = 66996ull;
     w2c_j0 += w2c_j1;
     w2c_i0 = (u32)(w2c_j0);
     w2c_j0 = i64_load8_u(m, (u64)(w2c_i0));
@@ -32559,7 +32982,7 @@ static void w2c_f47(module *m, u64 w2c_p0, u32 w2c_p1, u64 w2c_p2, u64 w2c_p3, u
     w2c_j0 &= w2c_j1;
     w2c_j1 = 4ull;
     w2c_j0 <<= (w2c_j1 & 63);
-    w2c_j1 = 68160ull;
+    w2c_j1 = 68624ull;
     w2c_j0 += w2c_j1;
     w2c_i0 = (u32)(w2c_j0);
     w2c_j0 = i64_load(m, (u64)(w2c_i0));
@@ -32603,12 +33026,12 @@ static void w2c_f47(module *m, u64 w2c_p0, u32 w2c_p1, u64 w2c_p2, u64 w2c_p3, u
       w2c_j0 &= w2c_j1;
       w2c_l16 = w2c_j0;
       w2c_i0 = (u32)(w2c_j0);
-      w2c_i0 = i32_load(m, (u64)(w2c_i0) + 66860u);
+      w2c_i0 = i32_load(m, (u64)(w2c_i0) + 66992u);
       w2c_i1 = w2c_l18;
       w2c_i0 = w2c_i0 != w2c_i1;
       if (w2c_i0) {goto w2c_B1;}
       w2c_j0 = w2c_l16;
-      w2c_j1 = 66865ull;
+      w2c_j1 = 66997ull;
       w2c_j0 += w2c_j1;
       w2c_i0 = (u32)(w2c_j0);
       w2c_i0 = i32_load8_u(m, (u64)(w2c_i0));
@@ -32618,7 +33041,7 @@ static void w2c_f47(module *m, u64 w2c_p0, u32 w2c_p1, u64 w2c_p2, u64 w2c_p3, u
       w2c_j0 += w2c_j1;
       w2c_l12 = w2c_j0;
       w2c_j0 = w2c_l16;
-      w2c_j1 = 66864ull;
+      w2c_j1 = 66996ull;
       w2c_j0 += w2c_j1;
       w2c_i0 = (u32)(w2c_j0);
       w2c_j0 = i64_load8_u(m, (u64)(w2c_i0));
@@ -32680,7 +33103,7 @@ static void w2c_f47(module *m, u64 w2c_p0, u32 w2c_p1, u64 w2c_p2, u64 w2c_p3, u
       w2c_j1 = 1016ull;
       w2c_j0 &= w2c_j1;
       w2c_l12 = w2c_j0;
-      w2c_j1 = 66860ull;
+      w2c_j1 = 66992ull;
       w2c_j0 += w2c_j1;
       w2c_i0 = (u32)(w2c_j0);
       w2c_i0 = i32_load(m, (u64)(w2c_i0));
@@ -32692,13 +33115,13 @@ static void w2c_f47(module *m, u64 w2c_p0, u32 w2c_p1, u64 w2c_p2, u64 w2c_p3, u
       w2c_j0 += w2c_j1;
       w2c_l6 = w2c_j0;
       w2c_j0 = w2c_l12;
-      w2c_j1 = 66865ull;
+      w2c_j1 = 66997ull;
       w2c_j0 += w2c_j1;
       w2c_i0 = (u32)(w2c_j0);
       w2c_i0 = i32_load8_u(m, (u64)(w2c_i0));
       w2c_l19 = w2c_i0;
       w2c_j0 = w2c_l12;
-      w2c_j1 = 66864ull;
+      w2c_j1 = 66996ull;
       w2c_j0 += w2c_j1;
       w2c_i0 = (u32)(w2c_j0);
       w2c_i0 = i32_load8_u(m, (u64)(w2c_i0));
@@ -32733,7 +33156,7 @@ static void w2c_f47(module *m, u64 w2c_p0, u32 w2c_p1, u64 w2c_p2, u64 w2c_p3, u
       w2c_j1 &= w2c_j2;
       w2c_j2 = 4ull;
       w2c_j1 <<= (w2c_j2 & 63);
-      w2c_j2 = 68160ull;
+      w2c_j2 = 68624ull;
       w2c_j1 += w2c_j2;
       w2c_i1 = (u32)(w2c_j1);
       w2c_j1 = i64_load(m, (u64)(w2c_i1));
@@ -32812,13 +33235,13 @@ static void w2c_f47(module *m, u64 w2c_p0, u32 w2c_p1, u64 w2c_p2, u64 w2c_p3, u
     w2c_j1 = 4ull;
     w2c_j0 <<= (w2c_j1 & 63);
     w2c_l16 = w2c_j0;
-    w2c_j1 = 68168ull;
+    w2c_j1 = 68632ull;
     w2c_j0 += w2c_j1;
     w2c_i0 = (u32)(w2c_j0);
     w2c_j0 = i64_load(m, (u64)(w2c_i0));
     w2c_l17 = w2c_j0;
     w2c_j0 = w2c_l16;
-    w2c_j1 = 68160ull;
+    w2c_j1 = 68624ull;
     w2c_j0 += w2c_j1;
     w2c_i0 = (u32)(w2c_j0);
     w2c_j0 = i64_load(m, (u64)(w2c_i0));
@@ -33121,7 +33544,7 @@ static void w2c_f47(module *m, u64 w2c_p0, u32 w2c_p1, u64 w2c_p2, u64 w2c_p3, u
   w2c_j0 &= w2c_j1;
   w2c_l6 = w2c_j0;
   w2c_i0 = (u32)(w2c_j0);
-  w2c_i0 = i32_load(m, (u64)(w2c_i0) + 66860u);
+  w2c_i0 = i32_load(m, (u64)(w2c_i0) + 66992u);
   w2c_i1 = w2c_l18;
   w2c_i0 = w2c_i0 != w2c_i1;
   if (w2c_i0) {goto w2c_B1;}
@@ -33132,14 +33555,14 @@ static void w2c_f47(module *m, u64 w2c_p0, u32 w2c_p1, u64 w2c_p2, u64 w2c_p3, u
   w2c_i0 = 0u;
   w2c_l20 = w2c_i0;
   w2c_j0 = w2c_l6;
-  w2c_j1 = 66865ull;
+  w2c_j1 = 66997ull;
   w2c_j0 += w2c_j1;
   w2c_i0 = (u32)(w2c_j0);
   w2c_i0 = i32_load8_u(m, (u64)(w2c_i0));
   w2c_l18 = w2c_i0;
   w2c_l19 = w2c_i0;
   w2c_j0 = w2c_l6;
-  w2c_j1 = 66864ull;
+  w2c_j1 = 66996ull;
   w2c_j0 += w2c_j1;
   w2c_i0 = (u32)(w2c_j0);
   w2c_j0 = i64_load8_u(m, (u64)(w2c_i0));
@@ -33191,12 +33614,12 @@ static void w2c_f47(module *m, u64 w2c_p0, u32 w2c_p1, u64 w2c_p2, u64 w2c_p3, u
   w2c_j0 &= w2c_j1;
   w2c_l6 = w2c_j0;
   w2c_i0 = (u32)(w2c_j0);
-  w2c_i0 = i32_load(m, (u64)(w2c_i0) + 66860u);
+  w2c_i0 = i32_load(m, (u64)(w2c_i0) + 66992u);
   w2c_i1 = w2c_l20;
   w2c_i0 = w2c_i0 != w2c_i1;
   if (w2c_i0) {goto w2c_B1;}
   w2c_j0 = w2c_l6;
-  w2c_j1 = 66864ull;
+  w2c_j1 = 66996ull;
   w2c_j0 += w2c_j1;
   w2c_i0 = (u32)(w2c_j0);
   w2c_i0 = i32_load8_u(m, (u64)(w2c_i0));
@@ -33208,7 +33631,7 @@ static void w2c_f47(module *m, u64 w2c_p0, u32 w2c_p1, u64 w2c_p2, u64 w2c_p3, u
   w2c_i0 = w2c_i0 > w2c_i1;
   if (w2c_i0) {goto w2c_B2;}
   w2c_j0 = w2c_l6;
-  w2c_j1 = 66865ull;
+  w2c_j1 = 66997ull;
   w2c_j0 += w2c_j1;
   w2c_i0 = (u32)(w2c_j0);
   w2c_i0 = i32_load8_u(m, (u64)(w2c_i0));
@@ -33226,7 +33649,7 @@ static void w2c_f47(module *m, u64 w2c_p0, u32 w2c_p1, u64 w2c_p2, u64 w2c_p3, u
   w2c_j0 &= w2c_j1;
   w2c_j1 = 4ull;
   w2c_j0 <<= (w2c_j1 & 63);
-  w2c_j1 = 68160ull;
+  w2c_j1 = 68624ull;
   w2c_j0 += w2c_j1;
   w2c_i0 = (u32)(w2c_j0);
   w2c_j0 = i64_load(m, (u64)(w2c_i0));
@@ -33274,12 +33697,12 @@ static void w2c_f47(module *m, u64 w2c_p0, u32 w2c_p1, u64 w2c_p2, u64 w2c_p3, u
     w2c_j0 &= w2c_j1;
     w2c_l6 = w2c_j0;
     w2c_i0 = (u32)(w2c_j0);
-    w2c_i0 = i32_load(m, (u64)(w2c_i0) + 66860u);
+    w2c_i0 = i32_load(m, (u64)(w2c_i0) + 66992u);
     w2c_i1 = w2c_l18;
     w2c_i0 = w2c_i0 != w2c_i1;
     if (w2c_i0) {goto w2c_B1;}
     w2c_j0 = w2c_l6;
-    w2c_j1 = 66865ull;
+    w2c_j1 = 66997ull;
     w2c_j0 += w2c_j1;
     w2c_i0 = (u32)(w2c_j0);
     w2c_i0 = i32_load8_u(m, (u64)(w2c_i0));
@@ -33289,7 +33712,7 @@ static void w2c_f47(module *m, u64 w2c_p0, u32 w2c_p1, u64 w2c_p2, u64 w2c_p3, u
     w2c_j0 += w2c_j1;
     w2c_l15 = w2c_j0;
     w2c_j0 = w2c_l6;
-    w2c_j1 = 66864ull;
+    w2c_j1 = 66996ull;
     w2c_j0 += w2c_j1;
     w2c_i0 = (u32)(w2c_j0);
     w2c_j0 = i64_load8_u(m, (u64)(w2c_i0));
@@ -33351,12 +33774,12 @@ static void w2c_f47(module *m, u64 w2c_p0, u32 w2c_p1, u64 w2c_p2, u64 w2c_p3, u
     w2c_j0 &= w2c_j1;
     w2c_l6 = w2c_j0;
     w2c_i0 = (u32)(w2c_j0);
-    w2c_i0 = i32_load(m, (u64)(w2c_i0) + 66860u);
+    w2c_i0 = i32_load(m, (u64)(w2c_i0) + 66992u);
     w2c_i1 = w2c_l20;
     w2c_i0 = w2c_i0 != w2c_i1;
     if (w2c_i0) {goto w2c_B1;}
     w2c_j0 = w2c_l6;
-    w2c_j1 = 66864ull;
+    w2c_j1 = 66996ull;
     w2c_j0 += w2c_j1;
     w2c_i0 = (u32)(w2c_j0);
     w2c_i0 = i32_load8_u(m, (u64)(w2c_i0));
@@ -33368,7 +33791,7 @@ static void w2c_f47(module *m, u64 w2c_p0, u32 w2c_p1, u64 w2c_p2, u64 w2c_p3, u
     w2c_i0 = w2c_i0 >= w2c_i1;
     if (w2c_i0) {goto w2c_B2;}
     w2c_j0 = w2c_l6;
-    w2c_j1 = 66865ull;
+    w2c_j1 = 66997ull;
     w2c_j0 += w2c_j1;
     w2c_i0 = (u32)(w2c_j0);
     w2c_i0 = i32_load8_u(m, (u64)(w2c_i0));
@@ -33396,7 +33819,7 @@ static void w2c_f47(module *m, u64 w2c_p0, u32 w2c_p1, u64 w2c_p2, u64 w2c_p3, u
     w2c_j0 &= w2c_j1;
     w2c_j1 = 4ull;
     w2c_j0 <<= (w2c_j1 & 63);
-    w2c_j1 = 68160ull;
+    w2c_j1 = 68624ull;
     w2c_j0 += w2c_j1;
     w2c_i0 = (u32)(w2c_j0);
     w2c_j0 = i64_load(m, (u64)(w2c_i0));
@@ -33441,18 +33864,18 @@ static void w2c_f47(module *m, u64 w2c_p0, u32 w2c_p1, u64 w2c_p2, u64 w2c_p3, u
   w2c_j0 &= w2c_j1;
   w2c_l6 = w2c_j0;
   w2c_i0 = (u32)(w2c_j0);
-  w2c_i0 = i32_load(m, (u64)(w2c_i0) + 66860u);
+  w2c_i0 = i32_load(m, (u64)(w2c_i0) + 66992u);
   w2c_i1 = w2c_l20;
   w2c_i0 = w2c_i0 != w2c_i1;
   if (w2c_i0) {goto w2c_B1;}
   w2c_j0 = w2c_l6;
-  w2c_j1 = 66865ull;
+  w2c_j1 = 66997ull;
   w2c_j0 += w2c_j1;
   w2c_i0 = (u32)(w2c_j0);
   w2c_i0 = i32_load8_u(m, (u64)(w2c_i0));
   w2c_l20 = w2c_i0;
   w2c_j0 = w2c_l6;
-  w2c_j1 = 66864ull;
+  w2c_j1 = 66996ull;
   w2c_j0 += w2c_j1;
   w2c_i0 = (u32)(w2c_j0);
   w2c_j0 = i64_load8_u(m, (u64)(w2c_i0));
@@ -33505,7 +33928,7 @@ static void w2c_f47(module *m, u64 w2c_p0, u32 w2c_p1, u64 w2c_p2, u64 w2c_p3, u
   w2c_j2 &= w2c_j3;
   w2c_j3 = 4ull;
   w2c_j2 <<= (w2c_j3 & 63);
-  w2c_j3 = 68160ull;
+  w2c_j3 = 68624ull;
   w2c_j2 += w2c_j3;
   w2c_i2 = (u32)(w2c_j2);
   w2c_j2 = i64_load(m, (u64)(w2c_i2));
@@ -33549,13 +33972,13 @@ static void w2c_f47(module *m, u64 w2c_p0, u32 w2c_p1, u64 w2c_p2, u64 w2c_p3, u
   w2c_j1 = 4ull;
   w2c_j0 <<= (w2c_j1 & 63);
   w2c_l12 = w2c_j0;
-  w2c_j1 = 68168ull;
+  w2c_j1 = 68632ull;
   w2c_j0 += w2c_j1;
   w2c_i0 = (u32)(w2c_j0);
   w2c_j0 = i64_load(m, (u64)(w2c_i0));
   w2c_l15 = w2c_j0;
   w2c_j0 = w2c_l12;
-  w2c_j1 = 68160ull;
+  w2c_j1 = 68624ull;
   w2c_j0 += w2c_j1;
   w2c_i0 = (u32)(w2c_j0);
   w2c_j0 = i64_load(m, (u64)(w2c_i0));
@@ -36656,35 +37079,20 @@ static u32 w2c_f59(module *m, u64 w2c_p0, u64 w2c_p1, u64 w2c_p2) {
       w2c_j0 = w2c_p0;
       w2c_i0 = !(w2c_j0);
       if (w2c_i0) {goto w2c_B122;}
-      w2c_j0 = w2c_l6;
-      w2c_i0 = (u32)(w2c_j0);
-      w2c_i0 = i32_load8_s(m, (u64)(w2c_i0));
-      w2c_l15 = w2c_i0;
-      w2c_i1 = 4294967295u;
-      w2c_i0 = (u32)((s32)w2c_i0 <= (s32)w2c_i1);
-      if (w2c_i0) {goto w2c_B126;}
-      w2c_j0 = 1ull;
-      w2c_l5 = w2c_j0;
-      goto w2c_B125;
-      w2c_B126:;
-      w2c_i0 = w2c_l15;
-      w2c_i1 = 4294967264u;
-      w2c_i0 = w2c_i0 >= w2c_i1;
-      if (w2c_i0) {goto w2c_B127;}
-      w2c_j0 = 2ull;
-      w2c_l5 = w2c_j0;
-      goto w2c_B125;
-      w2c_B127:;
-      w2c_j0 = 3ull;
-      w2c_j1 = 4ull;
-      w2c_i2 = w2c_l15;
-      w2c_i3 = 4294967280u;
-      w2c_i2 = w2c_i2 < w2c_i3;
-      w2c_j0 = w2c_i2 ? w2c_j0 : w2c_j1;
-      w2c_l5 = w2c_j0;
-      w2c_B125:;
       w2c_j0 = w2c_p0;
-      w2c_j1 = w2c_l5;
+      w2c_j1 = w2c_l6;
+      w2c_i1 = (u32)(w2c_j1);
+      w2c_i1 = i32_load8_u(m, (u64)(w2c_i1));
+      w2c_i2 = 1u;
+      w2c_i1 >>= (w2c_i2 & 31);
+      w2c_j1 = (u64)(w2c_i1);
+      w2c_j2 = 120ull;
+      w2c_j1 &= w2c_j2;
+      w2c_j2 = 66848ull;
+      w2c_j1 += w2c_j2;
+      w2c_i1 = (u32)(w2c_j1);
+      w2c_j1 = i64_load(m, (u64)(w2c_i1));
+      w2c_l5 = w2c_j1;
       w2c_j0 -= w2c_j1;
       w2c_p0 = w2c_j0;
       w2c_j0 = w2c_l6;
@@ -38822,35 +39230,20 @@ static u32 w2c_f61(module *m, u64 w2c_p0, u64 w2c_p1, u64 w2c_p2) {
       w2c_j0 = w2c_l6;
       w2c_i0 = !(w2c_j0);
       if (w2c_i0) {goto w2c_B137;}
-      w2c_j0 = w2c_l5;
-      w2c_i0 = (u32)(w2c_j0);
-      w2c_i0 = i32_load8_s(m, (u64)(w2c_i0));
-      w2c_l14 = w2c_i0;
-      w2c_i1 = 4294967295u;
-      w2c_i0 = (u32)((s32)w2c_i0 <= (s32)w2c_i1);
-      if (w2c_i0) {goto w2c_B141;}
-      w2c_j0 = 1ull;
-      w2c_p0 = w2c_j0;
-      goto w2c_B140;
-      w2c_B141:;
-      w2c_i0 = w2c_l14;
-      w2c_i1 = 4294967264u;
-      w2c_i0 = w2c_i0 >= w2c_i1;
-      if (w2c_i0) {goto w2c_B142;}
-      w2c_j0 = 2ull;
-      w2c_p0 = w2c_j0;
-      goto w2c_B140;
-      w2c_B142:;
-      w2c_j0 = 3ull;
-      w2c_j1 = 4ull;
-      w2c_i2 = w2c_l14;
-      w2c_i3 = 4294967280u;
-      w2c_i2 = w2c_i2 < w2c_i3;
-      w2c_j0 = w2c_i2 ? w2c_j0 : w2c_j1;
-      w2c_p0 = w2c_j0;
-      w2c_B140:;
       w2c_j0 = w2c_l6;
-      w2c_j1 = w2c_p0;
+      w2c_j1 = w2c_l5;
+      w2c_i1 = (u32)(w2c_j1);
+      w2c_i1 = i32_load8_u(m, (u64)(w2c_i1));
+      w2c_i2 = 1u;
+      w2c_i1 >>= (w2c_i2 & 31);
+      w2c_j1 = (u64)(w2c_i1);
+      w2c_j2 = 120ull;
+      w2c_j1 &= w2c_j2;
+      w2c_j2 = 66848ull;
+      w2c_j1 += w2c_j2;
+      w2c_i1 = (u32)(w2c_j1);
+      w2c_j1 = i64_load(m, (u64)(w2c_i1));
+      w2c_p0 = w2c_j1;
       w2c_j0 -= w2c_j1;
       w2c_l6 = w2c_j0;
       w2c_j0 = w2c_l5;
@@ -38979,12 +39372,12 @@ static u32 w2c_f61(module *m, u64 w2c_p0, u64 w2c_p1, u64 w2c_p2) {
   w2c_i1 = 4294967279u;
   w2c_i0 += w2c_i1;
   switch (w2c_i0) {
-    case 0: goto w2c_B143;
+    case 0: goto w2c_B140;
     case 1: goto w2c_B7;
-    case 2: goto w2c_B143;
-    default: goto w2c_B143;
+    case 2: goto w2c_B140;
+    default: goto w2c_B140;
   }
-  w2c_B143:;
+  w2c_B140:;
   w2c_j0 = w2c_l7;
   w2c_i0 = (u32)(w2c_j0);
   w2c_j1 = 0ull;
@@ -40227,35 +40620,20 @@ static u32 w2c_f63(module *m, u64 w2c_p0, u64 w2c_p1, u64 w2c_p2) {
     w2c_j0 = w2c_p0;
     w2c_i0 = !(w2c_j0);
     if (w2c_i0) {goto w2c_B77;}
-    w2c_j0 = w2c_l6;
-    w2c_i0 = (u32)(w2c_j0);
-    w2c_i0 = i32_load8_s(m, (u64)(w2c_i0));
-    w2c_l9 = w2c_i0;
-    w2c_i1 = 4294967295u;
-    w2c_i0 = (u32)((s32)w2c_i0 <= (s32)w2c_i1);
-    if (w2c_i0) {goto w2c_B81;}
-    w2c_j0 = 1ull;
-    w2c_l5 = w2c_j0;
-    goto w2c_B80;
-    w2c_B81:;
-    w2c_i0 = w2c_l9;
-    w2c_i1 = 4294967264u;
-    w2c_i0 = w2c_i0 >= w2c_i1;
-    if (w2c_i0) {goto w2c_B82;}
-    w2c_j0 = 2ull;
-    w2c_l5 = w2c_j0;
-    goto w2c_B80;
-    w2c_B82:;
-    w2c_j0 = 3ull;
-    w2c_j1 = 4ull;
-    w2c_i2 = w2c_l9;
-    w2c_i3 = 4294967280u;
-    w2c_i2 = w2c_i2 < w2c_i3;
-    w2c_j0 = w2c_i2 ? w2c_j0 : w2c_j1;
-    w2c_l5 = w2c_j0;
-    w2c_B80:;
     w2c_j0 = w2c_p0;
-    w2c_j1 = w2c_l5;
+    w2c_j1 = w2c_l6;
+    w2c_i1 = (u32)(w2c_j1);
+    w2c_i1 = i32_load8_u(m, (u64)(w2c_i1));
+    w2c_i2 = 1u;
+    w2c_i1 >>= (w2c_i2 & 31);
+    w2c_j1 = (u64)(w2c_i1);
+    w2c_j2 = 120ull;
+    w2c_j1 &= w2c_j2;
+    w2c_j2 = 66848ull;
+    w2c_j1 += w2c_j2;
+    w2c_i1 = (u32)(w2c_j1);
+    w2c_j1 = i64_load(m, (u64)(w2c_i1));
+    w2c_l5 = w2c_j1;
     w2c_j0 -= w2c_j1;
     w2c_p0 = w2c_j0;
     w2c_j0 = w2c_l6;
@@ -40755,52 +41133,37 @@ static u32 w2c_f65(module *m, u64 w2c_p0, u64 w2c_p1, u64 w2c_p2) {
   w2c_i0 = !(w2c_j0);
   if (w2c_i0) {goto w2c_B19;}
   w2c_j0 = w2c_l7;
-  w2c_l5 = w2c_j0;
+  w2c_p0 = w2c_j0;
   w2c_j0 = w2c_p1;
   w2c_l3 = w2c_j0;
   w2c_L20:
     w2c_j0 = w2c_l3;
     w2c_i0 = !(w2c_j0);
     if (w2c_i0) {goto w2c_B18;}
-    w2c_j0 = w2c_l6;
-    w2c_i0 = (u32)(w2c_j0);
-    w2c_i0 = i32_load8_s(m, (u64)(w2c_i0));
-    w2c_l8 = w2c_i0;
-    w2c_i1 = 4294967295u;
-    w2c_i0 = (u32)((s32)w2c_i0 <= (s32)w2c_i1);
-    if (w2c_i0) {goto w2c_B22;}
-    w2c_j0 = 1ull;
-    w2c_p0 = w2c_j0;
-    goto w2c_B21;
-    w2c_B22:;
-    w2c_i0 = w2c_l8;
-    w2c_i1 = 4294967264u;
-    w2c_i0 = w2c_i0 >= w2c_i1;
-    if (w2c_i0) {goto w2c_B23;}
-    w2c_j0 = 2ull;
-    w2c_p0 = w2c_j0;
-    goto w2c_B21;
-    w2c_B23:;
-    w2c_j0 = 3ull;
-    w2c_j1 = 4ull;
-    w2c_i2 = w2c_l8;
-    w2c_i3 = 4294967280u;
-    w2c_i2 = w2c_i2 < w2c_i3;
-    w2c_j0 = w2c_i2 ? w2c_j0 : w2c_j1;
-    w2c_p0 = w2c_j0;
-    w2c_B21:;
     w2c_j0 = w2c_l3;
-    w2c_j1 = w2c_p0;
+    w2c_j1 = w2c_l6;
+    w2c_i1 = (u32)(w2c_j1);
+    w2c_i1 = i32_load8_u(m, (u64)(w2c_i1));
+    w2c_i2 = 1u;
+    w2c_i1 >>= (w2c_i2 & 31);
+    w2c_j1 = (u64)(w2c_i1);
+    w2c_j2 = 120ull;
+    w2c_j1 &= w2c_j2;
+    w2c_j2 = 66848ull;
+    w2c_j1 += w2c_j2;
+    w2c_i1 = (u32)(w2c_j1);
+    w2c_j1 = i64_load(m, (u64)(w2c_i1));
+    w2c_l5 = w2c_j1;
     w2c_j0 -= w2c_j1;
     w2c_l3 = w2c_j0;
     w2c_j0 = w2c_l6;
-    w2c_j1 = w2c_p0;
+    w2c_j1 = w2c_l5;
     w2c_j0 += w2c_j1;
     w2c_l6 = w2c_j0;
-    w2c_j0 = w2c_l5;
+    w2c_j0 = w2c_p0;
     w2c_j1 = 18446744073709551615ull;
     w2c_j0 += w2c_j1;
-    w2c_l5 = w2c_j0;
+    w2c_p0 = w2c_j0;
     w2c_j1 = 0ull;
     w2c_i0 = w2c_j0 != w2c_j1;
     if (w2c_i0) {goto w2c_L20;}
@@ -42651,52 +43014,37 @@ static u32 w2c_f67(module *m, u64 w2c_p0, u64 w2c_p1, u64 w2c_p2) {
     w2c_i0 = !(w2c_j0);
     if (w2c_i0) {goto w2c_B124;}
     w2c_j0 = w2c_l5;
-    w2c_l8 = w2c_j0;
+    w2c_p0 = w2c_j0;
     w2c_j0 = w2c_p1;
     w2c_l3 = w2c_j0;
     w2c_L125:
       w2c_j0 = w2c_l3;
       w2c_i0 = !(w2c_j0);
       if (w2c_i0) {goto w2c_B123;}
-      w2c_j0 = w2c_l6;
-      w2c_i0 = (u32)(w2c_j0);
-      w2c_i0 = i32_load8_s(m, (u64)(w2c_i0));
-      w2c_l15 = w2c_i0;
-      w2c_i1 = 4294967295u;
-      w2c_i0 = (u32)((s32)w2c_i0 <= (s32)w2c_i1);
-      if (w2c_i0) {goto w2c_B127;}
-      w2c_j0 = 1ull;
-      w2c_p0 = w2c_j0;
-      goto w2c_B126;
-      w2c_B127:;
-      w2c_i0 = w2c_l15;
-      w2c_i1 = 4294967264u;
-      w2c_i0 = w2c_i0 >= w2c_i1;
-      if (w2c_i0) {goto w2c_B128;}
-      w2c_j0 = 2ull;
-      w2c_p0 = w2c_j0;
-      goto w2c_B126;
-      w2c_B128:;
-      w2c_j0 = 3ull;
-      w2c_j1 = 4ull;
-      w2c_i2 = w2c_l15;
-      w2c_i3 = 4294967280u;
-      w2c_i2 = w2c_i2 < w2c_i3;
-      w2c_j0 = w2c_i2 ? w2c_j0 : w2c_j1;
-      w2c_p0 = w2c_j0;
-      w2c_B126:;
       w2c_j0 = w2c_l3;
-      w2c_j1 = w2c_p0;
+      w2c_j1 = w2c_l6;
+      w2c_i1 = (u32)(w2c_j1);
+      w2c_i1 = i32_load8_u(m, (u64)(w2c_i1));
+      w2c_i2 = 1u;
+      w2c_i1 >>= (w2c_i2 & 31);
+      w2c_j1 = (u64)(w2c_i1);
+      w2c_j2 = 120ull;
+      w2c_j1 &= w2c_j2;
+      w2c_j2 = 66848ull;
+      w2c_j1 += w2c_j2;
+      w2c_i1 = (u32)(w2c_j1);
+      w2c_j1 = i64_load(m, (u64)(w2c_i1));
+      w2c_l8 = w2c_j1;
       w2c_j0 -= w2c_j1;
       w2c_l3 = w2c_j0;
       w2c_j0 = w2c_l6;
-      w2c_j1 = w2c_p0;
+      w2c_j1 = w2c_l8;
       w2c_j0 += w2c_j1;
       w2c_l6 = w2c_j0;
-      w2c_j0 = w2c_l8;
+      w2c_j0 = w2c_p0;
       w2c_j1 = 18446744073709551615ull;
       w2c_j0 += w2c_j1;
-      w2c_l8 = w2c_j0;
+      w2c_p0 = w2c_j0;
       w2c_j1 = 0ull;
       w2c_i0 = w2c_j0 != w2c_j1;
       if (w2c_i0) {goto w2c_L125;}
@@ -43060,7 +43408,7 @@ static u32 w2c_f73(module *m, u64 w2c_p0, u64 w2c_p1, u64 w2c_p2, u32 w2c_p3, u3
   w2c_i4 = w2c_l9;
   w2c_i5 = w2c_p4;
   w2c_j5 = (u64)(w2c_i5);
-  w2c_j6 = 66844ull;
+  w2c_j6 = 66976ull;
   w2c_j5 += w2c_j6;
   w2c_i5 = (u32)(w2c_j5);
   w2c_i5 = i32_load8_u(m, (u64)(w2c_i5));
@@ -43157,7 +43505,7 @@ static u32 w2c_f75(module *m, u64 w2c_p0, u64 w2c_p1, u64 w2c_p2, u32 w2c_p3, u3
   w2c_l9 = w2c_j0;
   w2c_i0 = w2c_p4;
   w2c_j0 = (u64)(w2c_i0);
-  w2c_j1 = 66844ull;
+  w2c_j1 = 66976ull;
   w2c_j0 += w2c_j1;
   w2c_i0 = (u32)(w2c_j0);
   w2c_i0 = i32_load8_u(m, (u64)(w2c_i0));
@@ -43372,7 +43720,7 @@ static u32 w2c_chinese_number_print(module *m, u64 w2c_p0, u64 w2c_p1, u32 w2c_p
 }
 
 static u32 w2c_f77(module *m, u64 w2c_p0, u64 w2c_p1, u32 w2c_p2, u32 w2c_p3, u32 w2c_p4, u32 w2c_p5, u64 w2c_p6, u64 w2c_p7, u64 w2c_p8) {
-  u32 w2c_l18 = 0, w2c_l19 = 0, w2c_l20 = 0, w2c_l21 = 0, w2c_l22 = 0;
+  u32 w2c_l18 = 0, w2c_l19 = 0, w2c_l20 = 0, w2c_l21 = 0;
   u64 w2c_l9 = 0, w2c_l10 = 0, w2c_l11 = 0, w2c_l12 = 0, w2c_l13 = 0, w2c_l14 = 0, w2c_l15 = 0, w2c_l16 = 0, w2c_l17 = 0;
   u32 w2c_i0, w2c_i1, w2c_i2, w2c_i3, w2c_i4;
   u64 w2c_j0, w2c_j1, w2c_j2, w2c_j3, w2c_j4, w2c_j5;
@@ -43418,40 +43766,38 @@ static u32 w2c_f77(module *m, u64 w2c_p0, u64 w2c_p1, u32 w2c_p2, u32 w2c_p3, u3
   w2c_l10 = w2c_j0;
   w2c_i0 = w2c_p2;
   w2c_j0 = (u64)(w2c_i0);
-  w2c_j1 = 67884ull;
+  w2c_j1 = 68016ull;
   w2c_j0 += w2c_j1;
   w2c_i0 = (u32)(w2c_j0);
-  w2c_i0 = i32_load8_u(m, (u64)(w2c_i0));
-  w2c_l18 = w2c_i0;
+  w2c_j0 = i64_load8_u(m, (u64)(w2c_i0));
+  w2c_l11 = w2c_j0;
   w2c_i0 = w2c_p3;
   w2c_j0 = (u64)(w2c_i0);
   w2c_j1 = 1ull;
   w2c_j0 <<= (w2c_j1 & 63);
-  w2c_j1 = 67895ull;
+  w2c_j1 = 68027ull;
   w2c_j0 += w2c_j1;
   w2c_i0 = (u32)(w2c_j0);
   w2c_i0 = i32_load8_u(m, (u64)(w2c_i0));
-  w2c_l19 = w2c_i0;
+  w2c_l18 = w2c_i0;
   w2c_i0 = w2c_p4;
   w2c_j0 = (u64)(w2c_i0);
   w2c_j1 = 65536ull;
   w2c_j0 += w2c_j1;
   w2c_i0 = (u32)(w2c_j0);
   w2c_i0 = i32_load8_u(m, (u64)(w2c_i0));
-  w2c_l20 = w2c_i0;
+  w2c_l19 = w2c_i0;
   w2c_i0 = w2c_p5;
   w2c_j0 = (u64)(w2c_i0);
   w2c_j1 = 65536ull;
   w2c_j0 += w2c_j1;
   w2c_i0 = (u32)(w2c_j0);
   w2c_i0 = i32_load8_u(m, (u64)(w2c_i0));
-  w2c_l21 = w2c_i0;
+  w2c_l20 = w2c_i0;
   w2c_i0 = w2c_p2;
   w2c_i1 = 5u;
   w2c_i0 = w2c_i0 < w2c_i1;
   if (w2c_i0) {goto w2c_B7;}
-  w2c_j0 = 0ull;
-  w2c_l11 = w2c_j0;
   w2c_j0 = 0ull;
   w2c_j1 = w2c_p0;
   w2c_j0 -= w2c_j1;
@@ -43462,86 +43808,33 @@ static u32 w2c_f77(module *m, u64 w2c_p0, u64 w2c_p1, u32 w2c_p2, u32 w2c_p3, u3
   w2c_p2 = w2c_i2;
   w2c_j0 = w2c_i2 ? w2c_j0 : w2c_j1;
   w2c_p6 = w2c_j0;
-  w2c_j0 = 0ull;
-  w2c_j1 = w2c_p1;
-  w2c_j2 = w2c_p0;
-  w2c_j3 = 0ull;
-  w2c_i2 = w2c_j2 != w2c_j3;
-  w2c_j2 = (u64)(w2c_i2);
-  w2c_j1 += w2c_j2;
-  w2c_j0 -= w2c_j1;
-  w2c_j1 = w2c_p1;
-  w2c_i2 = w2c_p2;
-  w2c_j0 = w2c_i2 ? w2c_j0 : w2c_j1;
-  w2c_p0 = w2c_j0;
-  w2c_j0 = 128ull;
-  w2c_l12 = w2c_j0;
-  w2c_j0 = 127ull;
-  w2c_l13 = w2c_j0;
-  w2c_j0 = 0ull;
-  w2c_l14 = w2c_j0;
-  w2c_i0 = w2c_l18;
-  w2c_i1 = 4294967291u;
-  w2c_i0 += w2c_i1;
-  switch (w2c_i0) {
-    case 0: goto w2c_B8;
-    case 1: goto w2c_B12;
-    case 2: goto w2c_B11;
-    case 3: goto w2c_B10;
-    case 4: goto w2c_B9;
-    default: goto w2c_B8;
-  }
-  w2c_B12:;
-  w2c_j0 = 0ull;
-  w2c_l11 = w2c_j0;
-  w2c_j0 = 32768ull;
-  w2c_l12 = w2c_j0;
-  w2c_j0 = 32767ull;
-  w2c_l13 = w2c_j0;
-  w2c_j0 = 0ull;
-  w2c_l14 = w2c_j0;
-  goto w2c_B8;
-  w2c_B11:;
-  w2c_j0 = 0ull;
-  w2c_l11 = w2c_j0;
-  w2c_j0 = 2147483648ull;
-  w2c_l12 = w2c_j0;
-  w2c_j0 = 2147483647ull;
-  w2c_l13 = w2c_j0;
-  w2c_j0 = 0ull;
-  w2c_l14 = w2c_j0;
-  goto w2c_B8;
-  w2c_B10:;
-  w2c_j0 = 0ull;
-  w2c_l11 = w2c_j0;
-  w2c_j0 = 9223372036854775808ull;
-  w2c_l12 = w2c_j0;
-  w2c_j0 = 9223372036854775807ull;
-  w2c_l13 = w2c_j0;
-  w2c_j0 = 0ull;
-  w2c_l14 = w2c_j0;
-  goto w2c_B8;
-  w2c_B9:;
-  w2c_j0 = 9223372036854775808ull;
-  w2c_l14 = w2c_j0;
-  w2c_j0 = 0ull;
-  w2c_l12 = w2c_j0;
-  w2c_j0 = 9223372036854775807ull;
-  w2c_l11 = w2c_j0;
-  w2c_j0 = 18446744073709551615ull;
-  w2c_l13 = w2c_j0;
-  w2c_B8:;
-  w2c_j0 = w2c_p6;
-  w2c_j1 = w2c_l12;
-  w2c_j2 = w2c_l13;
-  w2c_i3 = w2c_p2;
-  w2c_j1 = w2c_i3 ? w2c_j1 : w2c_j2;
-  w2c_i0 = w2c_j0 > w2c_j1;
-  w2c_j1 = w2c_p0;
-  w2c_j2 = w2c_l14;
-  w2c_j3 = w2c_l11;
+  w2c_j1 = w2c_l11;
+  w2c_j2 = 5ull;
+  w2c_j1 <<= (w2c_j2 & 63);
+  w2c_j2 = 68064ull;
+  w2c_j3 = 68048ull;
   w2c_i4 = w2c_p2;
   w2c_j2 = w2c_i4 ? w2c_j2 : w2c_j3;
+  w2c_j1 += w2c_j2;
+  w2c_l11 = w2c_j1;
+  w2c_i1 = (u32)(w2c_j1);
+  w2c_j1 = i64_load(m, (u64)(w2c_i1));
+  w2c_i0 = w2c_j0 > w2c_j1;
+  w2c_j1 = 0ull;
+  w2c_j2 = w2c_p1;
+  w2c_j3 = w2c_p0;
+  w2c_j4 = 0ull;
+  w2c_i3 = w2c_j3 != w2c_j4;
+  w2c_j3 = (u64)(w2c_i3);
+  w2c_j2 += w2c_j3;
+  w2c_j1 -= w2c_j2;
+  w2c_j2 = w2c_p1;
+  w2c_i3 = w2c_p2;
+  w2c_j1 = w2c_i3 ? w2c_j1 : w2c_j2;
+  w2c_p0 = w2c_j1;
+  w2c_j2 = w2c_l11;
+  w2c_i2 = (u32)(w2c_j2);
+  w2c_j2 = i64_load(m, (u64)(w2c_i2) + 8u);
   w2c_l11 = w2c_j2;
   w2c_i1 = w2c_j1 > w2c_j2;
   w2c_j2 = w2c_p0;
@@ -43549,16 +43842,16 @@ static u32 w2c_f77(module *m, u64 w2c_p0, u64 w2c_p1, u32 w2c_p2, u32 w2c_p3, u3
   w2c_i2 = w2c_j2 == w2c_j3;
   w2c_i0 = w2c_i2 ? w2c_i0 : w2c_i1;
   w2c_i0 = !(w2c_i0);
-  if (w2c_i0) {goto w2c_B13;}
+  if (w2c_i0) {goto w2c_B8;}
   w2c_i0 = 7u;
   w2c_l18 = w2c_i0;
   goto w2c_B0;
-  w2c_B13:;
+  w2c_B8:;
   w2c_j0 = w2c_p1;
   w2c_j1 = 63ull;
   w2c_j0 >>= (w2c_j1 & 63);
   w2c_i0 = (u32)(w2c_j0);
-  w2c_l22 = w2c_i0;
+  w2c_l21 = w2c_i0;
   w2c_j0 = w2c_l9;
   w2c_j1 = 14ull;
   w2c_j0 += w2c_j1;
@@ -43568,7 +43861,7 @@ static u32 w2c_f77(module *m, u64 w2c_p0, u64 w2c_p1, u32 w2c_p2, u32 w2c_p3, u3
   w2c_i2 = (u32)(w2c_j2);
   memory_fill(m, w2c_i0, w2c_i1, w2c_i2);
   w2c_i0 = w2c_p3;
-  if (w2c_i0) {goto w2c_B14;}
+  if (w2c_i0) {goto w2c_B9;}
   w2c_j0 = w2c_l9;
   w2c_i0 = (u32)(w2c_j0);
   w2c_i1 = 0u;
@@ -43589,7 +43882,7 @@ static u32 w2c_f77(module *m, u64 w2c_p0, u64 w2c_p1, u32 w2c_p2, u32 w2c_p3, u3
   w2c_p3 = w2c_i0;
   w2c_j0 = w2c_p0;
   w2c_i0 = !(w2c_j0);
-  if (w2c_i0) {goto w2c_B15;}
+  if (w2c_i0) {goto w2c_B10;}
   w2c_j0 = w2c_p6;
   w2c_j1 = 42ull;
   w2c_j0 >>= (w2c_j1 & 63);
@@ -43597,7 +43890,7 @@ static u32 w2c_f77(module *m, u64 w2c_p0, u64 w2c_p1, u32 w2c_p2, u32 w2c_p3, u3
   w2c_j2 = 22ull;
   w2c_j1 <<= (w2c_j2 & 63);
   w2c_j0 |= w2c_j1;
-  w2c_l13 = w2c_j0;
+  w2c_l12 = w2c_j0;
   w2c_j0 = w2c_p0;
   w2c_j1 = 4ull;
   w2c_j0 >>= (w2c_j1 & 63);
@@ -43608,7 +43901,7 @@ static u32 w2c_f77(module *m, u64 w2c_p0, u64 w2c_p1, u32 w2c_p2, u32 w2c_p3, u3
   w2c_p0 = w2c_j0;
   w2c_j0 = 0ull;
   w2c_p1 = w2c_j0;
-  w2c_L16:
+  w2c_L11:
     w2c_j0 = w2c_p0;
     w2c_j1 = 6ull;
     w2c_j0 += w2c_j1;
@@ -43617,13 +43910,13 @@ static u32 w2c_f77(module *m, u64 w2c_p0, u64 w2c_p1, u32 w2c_p2, u32 w2c_p3, u3
     w2c_j2 = w2c_l11;
     w2c_j3 = 152587890625ull;
     w2c_j2 = DIV_U(w2c_j2, w2c_j3);
-    w2c_l12 = w2c_j2;
+    w2c_l13 = w2c_j2;
     w2c_j3 = 152587890625ull;
     w2c_j2 *= w2c_j3;
     w2c_j1 -= w2c_j2;
     w2c_j2 = 26ull;
     w2c_j1 <<= (w2c_j2 & 63);
-    w2c_j2 = w2c_l13;
+    w2c_j2 = w2c_l12;
     w2c_j3 = 67108863ull;
     w2c_j2 &= w2c_j3;
     w2c_j1 |= w2c_j2;
@@ -43643,11 +43936,11 @@ static u32 w2c_f77(module *m, u64 w2c_p0, u64 w2c_p1, u32 w2c_p2, u32 w2c_p3, u3
     w2c_j3 = 67108863ull;
     w2c_j2 &= w2c_j3;
     w2c_j1 |= w2c_j2;
-    w2c_l13 = w2c_j1;
-    w2c_j2 = w2c_l13;
+    w2c_l12 = w2c_j1;
+    w2c_j2 = w2c_l12;
     w2c_j3 = 152587890625ull;
     w2c_j2 = DIV_U(w2c_j2, w2c_j3);
-    w2c_l13 = w2c_j2;
+    w2c_l12 = w2c_j2;
     w2c_j3 = 152587890625ull;
     w2c_j2 *= w2c_j3;
     w2c_j1 -= w2c_j2;
@@ -43696,11 +43989,11 @@ static u32 w2c_f77(module *m, u64 w2c_p0, u64 w2c_p1, u32 w2c_p2, u32 w2c_p3, u3
     w2c_i2 *= w2c_i3;
     w2c_i1 -= w2c_i2;
     i32_store16(m, (u64)(w2c_i0), w2c_i1);
-    w2c_j0 = w2c_l12;
+    w2c_j0 = w2c_l13;
     w2c_j1 = 52ull;
     w2c_j0 <<= (w2c_j1 & 63);
     w2c_l14 = w2c_j0;
-    w2c_j1 = w2c_l13;
+    w2c_j1 = w2c_l12;
     w2c_j2 = w2c_l11;
     w2c_j3 = 26ull;
     w2c_j2 <<= (w2c_j3 & 63);
@@ -43709,7 +44002,7 @@ static u32 w2c_f77(module *m, u64 w2c_p0, u64 w2c_p1, u32 w2c_p2, u32 w2c_p3, u3
     w2c_p6 = w2c_j0;
     w2c_j1 = 42ull;
     w2c_j0 >>= (w2c_j1 & 63);
-    w2c_j1 = w2c_l12;
+    w2c_j1 = w2c_l13;
     w2c_j2 = 12ull;
     w2c_j1 >>= (w2c_j2 & 63);
     w2c_j2 = w2c_p6;
@@ -43717,12 +44010,12 @@ static u32 w2c_f77(module *m, u64 w2c_p0, u64 w2c_p1, u32 w2c_p2, u32 w2c_p3, u3
     w2c_i2 = w2c_j2 < w2c_j3;
     w2c_j2 = (u64)(w2c_i2);
     w2c_j1 += w2c_j2;
-    w2c_l12 = w2c_j1;
+    w2c_l13 = w2c_j1;
     w2c_j2 = 22ull;
     w2c_j1 <<= (w2c_j2 & 63);
     w2c_j0 |= w2c_j1;
-    w2c_l13 = w2c_j0;
-    w2c_j0 = w2c_l12;
+    w2c_l12 = w2c_j0;
+    w2c_j0 = w2c_l13;
     w2c_j1 = 4ull;
     w2c_j0 >>= (w2c_j1 & 63);
     w2c_l11 = w2c_j0;
@@ -43734,25 +44027,25 @@ static u32 w2c_f77(module *m, u64 w2c_p0, u64 w2c_p1, u32 w2c_p2, u32 w2c_p3, u3
     w2c_j1 = 4ull;
     w2c_j0 += w2c_j1;
     w2c_p1 = w2c_j0;
-    w2c_j0 = w2c_l12;
+    w2c_j0 = w2c_l13;
     w2c_j1 = 0ull;
     w2c_i0 = w2c_j0 != w2c_j1;
-    if (w2c_i0) {goto w2c_L16;}
-  w2c_B15:;
+    if (w2c_i0) {goto w2c_L11;}
+  w2c_B10:;
   w2c_j0 = 65564ull;
   w2c_j1 = 65756ull;
   w2c_i2 = w2c_p3;
   w2c_j0 = w2c_i2 ? w2c_j0 : w2c_j1;
-  w2c_l12 = w2c_j0;
+  w2c_l13 = w2c_j0;
   w2c_j0 = 65948ull;
   w2c_j1 = 66140ull;
   w2c_i2 = w2c_p3;
   w2c_j0 = w2c_i2 ? w2c_j0 : w2c_j1;
-  w2c_l13 = w2c_j0;
+  w2c_l12 = w2c_j0;
   w2c_j0 = w2c_p6;
   w2c_j1 = 10000ull;
   w2c_i0 = w2c_j0 < w2c_j1;
-  if (w2c_i0) {goto w2c_B17;}
+  if (w2c_i0) {goto w2c_B12;}
   w2c_j0 = w2c_l9;
   w2c_j1 = 248ull;
   w2c_j0 += w2c_j1;
@@ -43761,7 +44054,7 @@ static u32 w2c_f77(module *m, u64 w2c_p0, u64 w2c_p1, u32 w2c_p2, u32 w2c_p3, u3
   w2c_j1 <<= (w2c_j2 & 63);
   w2c_j0 += w2c_j1;
   w2c_p0 = w2c_j0;
-  w2c_L18:
+  w2c_L13:
     w2c_j0 = w2c_p0;
     w2c_i0 = (u32)(w2c_j0);
     w2c_j1 = w2c_p6;
@@ -43785,10 +44078,10 @@ static u32 w2c_f77(module *m, u64 w2c_p0, u64 w2c_p1, u32 w2c_p2, u32 w2c_p3, u3
     w2c_j0 = w2c_l11;
     w2c_j1 = 99999999ull;
     w2c_i0 = w2c_j0 > w2c_j1;
-    if (w2c_i0) {goto w2c_L18;}
-  w2c_B17:;
-  w2c_j0 = w2c_l13;
-  w2c_j1 = w2c_l12;
+    if (w2c_i0) {goto w2c_L13;}
+  w2c_B12:;
+  w2c_j0 = w2c_l12;
+  w2c_j1 = w2c_l13;
   w2c_i2 = w2c_p4;
   w2c_j0 = w2c_i2 ? w2c_j0 : w2c_j1;
   w2c_l15 = w2c_j0;
@@ -43812,33 +44105,33 @@ static u32 w2c_f77(module *m, u64 w2c_p0, u64 w2c_p1, u32 w2c_p2, u32 w2c_p3, u3
   w2c_j0 = w2c_p1;
   w2c_i0 = !(w2c_j0);
   w2c_i0 = !(w2c_i0);
-  if (w2c_i0) {goto w2c_B19;}
+  if (w2c_i0) {goto w2c_B14;}
   w2c_j0 = 234ull;
-  w2c_l12 = w2c_j0;
+  w2c_l13 = w2c_j0;
   goto w2c_B3;
-  w2c_B19:;
+  w2c_B14:;
   w2c_j0 = w2c_l15;
   w2c_j1 = 108ull;
   w2c_j0 += w2c_j1;
   w2c_l11 = w2c_j0;
   w2c_j0 = 234ull;
-  w2c_l12 = w2c_j0;
+  w2c_l13 = w2c_j0;
   w2c_j0 = w2c_l9;
   w2c_j1 = 248ull;
   w2c_j0 += w2c_j1;
-  w2c_l13 = w2c_j0;
-  w2c_L20:
+  w2c_l12 = w2c_j0;
+  w2c_L15:
     w2c_j0 = w2c_l9;
     w2c_j1 = 14ull;
     w2c_j0 += w2c_j1;
-    w2c_j1 = w2c_l12;
+    w2c_j1 = w2c_l13;
     w2c_j0 += w2c_j1;
     w2c_p0 = w2c_j0;
     w2c_j1 = 18446744073709551606ull;
     w2c_j0 += w2c_j1;
     w2c_i0 = (u32)(w2c_j0);
     w2c_j1 = w2c_l11;
-    w2c_j2 = w2c_l13;
+    w2c_j2 = w2c_l12;
     w2c_i2 = (u32)(w2c_j2);
     w2c_i2 = i32_load16_u(m, (u64)(w2c_i2));
     w2c_p2 = w2c_i2;
@@ -43947,24 +44240,24 @@ static u32 w2c_f77(module *m, u64 w2c_p0, u64 w2c_p1, u32 w2c_p2, u32 w2c_p3, u3
     w2c_i1 = (u32)(w2c_j1);
     w2c_i1 = i32_load16_u(m, (u64)(w2c_i1));
     i32_store16(m, (u64)(w2c_i0), w2c_i1);
-    w2c_j0 = w2c_l13;
+    w2c_j0 = w2c_l12;
     w2c_j1 = 2ull;
     w2c_j0 += w2c_j1;
-    w2c_l13 = w2c_j0;
-    w2c_j0 = w2c_l12;
+    w2c_l12 = w2c_j0;
+    w2c_j0 = w2c_l13;
     w2c_j1 = 18446744073709551604ull;
     w2c_j0 += w2c_j1;
-    w2c_l12 = w2c_j0;
+    w2c_l13 = w2c_j0;
     w2c_j0 = w2c_p1;
     w2c_j1 = 18446744073709551615ull;
     w2c_j0 += w2c_j1;
     w2c_p1 = w2c_j0;
     w2c_i0 = !(w2c_j0);
     w2c_i0 = !(w2c_i0);
-    if (w2c_i0) {goto w2c_L20;}
+    if (w2c_i0) {goto w2c_L15;}
     goto w2c_B3;
   UNREACHABLE;
-  w2c_B14:;
+  w2c_B9:;
   w2c_j0 = w2c_p6;
   w2c_j1 = 10000000000000000ull;
   w2c_i0 = w2c_j0 < w2c_j1;
@@ -43972,24 +44265,24 @@ static u32 w2c_f77(module *m, u64 w2c_p0, u64 w2c_p1, u32 w2c_p2, u32 w2c_p3, u3
   w2c_j2 = w2c_p0;
   w2c_i2 = !(w2c_j2);
   w2c_i0 = w2c_i2 ? w2c_i0 : w2c_i1;
-  if (w2c_i0) {goto w2c_B22;}
-  w2c_i0 = w2c_l19;
+  if (w2c_i0) {goto w2c_B17;}
+  w2c_i0 = w2c_l18;
   w2c_i1 = 255u;
   w2c_i0 &= w2c_i1;
   w2c_i0 = !(w2c_i0);
-  if (w2c_i0) {goto w2c_B21;}
-  w2c_B22:;
+  if (w2c_i0) {goto w2c_B16;}
+  w2c_B17:;
   w2c_j0 = w2c_l9;
   w2c_i0 = (u32)(w2c_j0);
   w2c_i1 = 0u;
   i32_store(m, (u64)(w2c_i0) + 250, w2c_i1);
   w2c_j0 = w2c_l9;
   w2c_i0 = (u32)(w2c_j0);
-  w2c_i1 = w2c_l21;
+  w2c_i1 = w2c_l20;
   i32_store8(m, (u64)(w2c_i0) + 249, w2c_i1);
   w2c_j0 = w2c_l9;
   w2c_i0 = (u32)(w2c_j0);
-  w2c_i1 = w2c_l20;
+  w2c_i1 = w2c_l19;
   i32_store8(m, (u64)(w2c_i0) + 248, w2c_i1);
   w2c_j0 = w2c_l9;
   w2c_i0 = (u32)(w2c_j0);
@@ -44017,14 +44310,14 @@ static u32 w2c_f77(module *m, u64 w2c_p0, u64 w2c_p1, u32 w2c_p2, u32 w2c_p3, u3
   w2c_j1 = w2c_l9;
   w2c_j2 = 248ull;
   w2c_j1 += w2c_j2;
-  w2c_i2 = w2c_l19;
-  w2c_i3 = w2c_l22;
+  w2c_i2 = w2c_l18;
+  w2c_i3 = w2c_l21;
   w2c_j4 = w2c_p6;
   w2c_j5 = w2c_p0;
   w2c_j0 = w2c_f30(m, w2c_j0, w2c_j1, w2c_i2, w2c_i3, w2c_j4, w2c_j5);
   w2c_p0 = w2c_j0;
   goto w2c_B2;
-  w2c_B21:;
+  w2c_B16:;
   w2c_i0 = 3u;
   w2c_i1 = 4u;
   w2c_j2 = w2c_p1;
@@ -44034,44 +44327,30 @@ static u32 w2c_f77(module *m, u64 w2c_p0, u64 w2c_p1, u32 w2c_p2, u32 w2c_p3, u3
   w2c_l18 = w2c_i0;
   goto w2c_B0;
   w2c_B7:;
-  w2c_j0 = 255ull;
-  w2c_p6 = w2c_j0;
-  w2c_i0 = w2c_l18;
-  switch (w2c_i0) {
-    case 0: goto w2c_B24;
-    case 1: goto w2c_B27;
-    case 2: goto w2c_B26;
-    case 3: goto w2c_B25;
-    case 4: goto w2c_B23;
-    default: goto w2c_B24;
-  }
-  w2c_B27:;
-  w2c_j0 = 65535ull;
-  w2c_p6 = w2c_j0;
-  goto w2c_B24;
-  w2c_B26:;
-  w2c_j0 = 4294967295ull;
-  w2c_p6 = w2c_j0;
-  goto w2c_B24;
-  w2c_B25:;
-  w2c_j0 = 18446744073709551615ull;
-  w2c_p6 = w2c_j0;
-  w2c_B24:;
   w2c_j0 = w2c_p0;
-  w2c_j1 = w2c_p6;
+  w2c_j1 = w2c_l11;
+  w2c_j2 = 5ull;
+  w2c_j1 <<= (w2c_j2 & 63);
+  w2c_p6 = w2c_j1;
+  w2c_i1 = (u32)(w2c_j1);
+  w2c_j1 = i64_load(m, (u64)(w2c_i1) + 68048u);
   w2c_i0 = w2c_j0 > w2c_j1;
   w2c_j1 = w2c_p1;
-  w2c_j2 = 0ull;
-  w2c_i1 = w2c_j1 != w2c_j2;
+  w2c_j2 = w2c_p6;
+  w2c_i2 = (u32)(w2c_j2);
+  w2c_j2 = i64_load(m, (u64)(w2c_i2) + 68056u);
+  w2c_p6 = w2c_j2;
+  w2c_i1 = w2c_j1 > w2c_j2;
   w2c_j2 = w2c_p1;
-  w2c_i2 = !(w2c_j2);
+  w2c_j3 = w2c_p6;
+  w2c_i2 = w2c_j2 == w2c_j3;
   w2c_i0 = w2c_i2 ? w2c_i0 : w2c_i1;
   w2c_i0 = !(w2c_i0);
-  if (w2c_i0) {goto w2c_B23;}
+  if (w2c_i0) {goto w2c_B18;}
   w2c_i0 = 7u;
   w2c_l18 = w2c_i0;
   goto w2c_B0;
-  w2c_B23:;
+  w2c_B18:;
   w2c_j0 = w2c_l9;
   w2c_j1 = 14ull;
   w2c_j0 += w2c_j1;
@@ -44081,7 +44360,7 @@ static u32 w2c_f77(module *m, u64 w2c_p0, u64 w2c_p1, u32 w2c_p2, u32 w2c_p3, u3
   w2c_i2 = (u32)(w2c_j2);
   memory_fill(m, w2c_i0, w2c_i1, w2c_i2);
   w2c_i0 = w2c_p3;
-  if (w2c_i0) {goto w2c_B28;}
+  if (w2c_i0) {goto w2c_B19;}
   w2c_j0 = w2c_l9;
   w2c_i0 = (u32)(w2c_j0);
   w2c_i1 = 0u;
@@ -44102,7 +44381,7 @@ static u32 w2c_f77(module *m, u64 w2c_p0, u64 w2c_p1, u32 w2c_p2, u32 w2c_p3, u3
   w2c_p3 = w2c_i0;
   w2c_j0 = w2c_p1;
   w2c_i0 = !(w2c_j0);
-  if (w2c_i0) {goto w2c_B29;}
+  if (w2c_i0) {goto w2c_B20;}
   w2c_j0 = w2c_p0;
   w2c_j1 = 42ull;
   w2c_j0 >>= (w2c_j1 & 63);
@@ -44110,7 +44389,7 @@ static u32 w2c_f77(module *m, u64 w2c_p0, u64 w2c_p1, u32 w2c_p2, u32 w2c_p3, u3
   w2c_j2 = 22ull;
   w2c_j1 <<= (w2c_j2 & 63);
   w2c_j0 |= w2c_j1;
-  w2c_l13 = w2c_j0;
+  w2c_l12 = w2c_j0;
   w2c_j0 = w2c_p1;
   w2c_j1 = 4ull;
   w2c_j0 >>= (w2c_j1 & 63);
@@ -44121,7 +44400,7 @@ static u32 w2c_f77(module *m, u64 w2c_p0, u64 w2c_p1, u32 w2c_p2, u32 w2c_p3, u3
   w2c_p1 = w2c_j0;
   w2c_j0 = 0ull;
   w2c_l11 = w2c_j0;
-  w2c_L30:
+  w2c_L21:
     w2c_j0 = w2c_p1;
     w2c_j1 = 6ull;
     w2c_j0 += w2c_j1;
@@ -44130,13 +44409,13 @@ static u32 w2c_f77(module *m, u64 w2c_p0, u64 w2c_p1, u32 w2c_p2, u32 w2c_p3, u3
     w2c_j2 = w2c_p6;
     w2c_j3 = 152587890625ull;
     w2c_j2 = DIV_U(w2c_j2, w2c_j3);
-    w2c_l12 = w2c_j2;
+    w2c_l13 = w2c_j2;
     w2c_j3 = 152587890625ull;
     w2c_j2 *= w2c_j3;
     w2c_j1 -= w2c_j2;
     w2c_j2 = 26ull;
     w2c_j1 <<= (w2c_j2 & 63);
-    w2c_j2 = w2c_l13;
+    w2c_j2 = w2c_l12;
     w2c_j3 = 67108863ull;
     w2c_j2 &= w2c_j3;
     w2c_j1 |= w2c_j2;
@@ -44156,11 +44435,11 @@ static u32 w2c_f77(module *m, u64 w2c_p0, u64 w2c_p1, u32 w2c_p2, u32 w2c_p3, u3
     w2c_j3 = 67108863ull;
     w2c_j2 &= w2c_j3;
     w2c_j1 |= w2c_j2;
-    w2c_l13 = w2c_j1;
-    w2c_j2 = w2c_l13;
+    w2c_l12 = w2c_j1;
+    w2c_j2 = w2c_l12;
     w2c_j3 = 152587890625ull;
     w2c_j2 = DIV_U(w2c_j2, w2c_j3);
-    w2c_l13 = w2c_j2;
+    w2c_l12 = w2c_j2;
     w2c_j3 = 152587890625ull;
     w2c_j2 *= w2c_j3;
     w2c_j1 -= w2c_j2;
@@ -44209,11 +44488,11 @@ static u32 w2c_f77(module *m, u64 w2c_p0, u64 w2c_p1, u32 w2c_p2, u32 w2c_p3, u3
     w2c_i2 *= w2c_i3;
     w2c_i1 -= w2c_i2;
     i32_store16(m, (u64)(w2c_i0), w2c_i1);
-    w2c_j0 = w2c_l12;
+    w2c_j0 = w2c_l13;
     w2c_j1 = 52ull;
     w2c_j0 <<= (w2c_j1 & 63);
     w2c_l14 = w2c_j0;
-    w2c_j1 = w2c_l13;
+    w2c_j1 = w2c_l12;
     w2c_j2 = w2c_p6;
     w2c_j3 = 26ull;
     w2c_j2 <<= (w2c_j3 & 63);
@@ -44222,7 +44501,7 @@ static u32 w2c_f77(module *m, u64 w2c_p0, u64 w2c_p1, u32 w2c_p2, u32 w2c_p3, u3
     w2c_p0 = w2c_j0;
     w2c_j1 = 42ull;
     w2c_j0 >>= (w2c_j1 & 63);
-    w2c_j1 = w2c_l12;
+    w2c_j1 = w2c_l13;
     w2c_j2 = 12ull;
     w2c_j1 >>= (w2c_j2 & 63);
     w2c_j2 = w2c_p0;
@@ -44230,12 +44509,12 @@ static u32 w2c_f77(module *m, u64 w2c_p0, u64 w2c_p1, u32 w2c_p2, u32 w2c_p3, u3
     w2c_i2 = w2c_j2 < w2c_j3;
     w2c_j2 = (u64)(w2c_i2);
     w2c_j1 += w2c_j2;
-    w2c_l12 = w2c_j1;
+    w2c_l13 = w2c_j1;
     w2c_j2 = 22ull;
     w2c_j1 <<= (w2c_j2 & 63);
     w2c_j0 |= w2c_j1;
-    w2c_l13 = w2c_j0;
-    w2c_j0 = w2c_l12;
+    w2c_l12 = w2c_j0;
+    w2c_j0 = w2c_l13;
     w2c_j1 = 4ull;
     w2c_j0 >>= (w2c_j1 & 63);
     w2c_p6 = w2c_j0;
@@ -44247,25 +44526,25 @@ static u32 w2c_f77(module *m, u64 w2c_p0, u64 w2c_p1, u32 w2c_p2, u32 w2c_p3, u3
     w2c_j1 = 4ull;
     w2c_j0 += w2c_j1;
     w2c_l11 = w2c_j0;
-    w2c_j0 = w2c_l12;
+    w2c_j0 = w2c_l13;
     w2c_j1 = 0ull;
     w2c_i0 = w2c_j0 != w2c_j1;
-    if (w2c_i0) {goto w2c_L30;}
-  w2c_B29:;
+    if (w2c_i0) {goto w2c_L21;}
+  w2c_B20:;
   w2c_j0 = 65564ull;
   w2c_j1 = 65756ull;
   w2c_i2 = w2c_p3;
   w2c_j0 = w2c_i2 ? w2c_j0 : w2c_j1;
-  w2c_l12 = w2c_j0;
+  w2c_l13 = w2c_j0;
   w2c_j0 = 65948ull;
   w2c_j1 = 66140ull;
   w2c_i2 = w2c_p3;
   w2c_j0 = w2c_i2 ? w2c_j0 : w2c_j1;
-  w2c_l13 = w2c_j0;
+  w2c_l12 = w2c_j0;
   w2c_j0 = w2c_p0;
   w2c_j1 = 10000ull;
   w2c_i0 = w2c_j0 < w2c_j1;
-  if (w2c_i0) {goto w2c_B31;}
+  if (w2c_i0) {goto w2c_B22;}
   w2c_j0 = w2c_l9;
   w2c_j1 = 248ull;
   w2c_j0 += w2c_j1;
@@ -44274,7 +44553,7 @@ static u32 w2c_f77(module *m, u64 w2c_p0, u64 w2c_p1, u32 w2c_p2, u32 w2c_p3, u3
   w2c_j1 <<= (w2c_j2 & 63);
   w2c_j0 += w2c_j1;
   w2c_p1 = w2c_j0;
-  w2c_L32:
+  w2c_L23:
     w2c_j0 = w2c_p1;
     w2c_i0 = (u32)(w2c_j0);
     w2c_j1 = w2c_p0;
@@ -44298,10 +44577,10 @@ static u32 w2c_f77(module *m, u64 w2c_p0, u64 w2c_p1, u32 w2c_p2, u32 w2c_p3, u3
     w2c_j0 = w2c_p6;
     w2c_j1 = 99999999ull;
     w2c_i0 = w2c_j0 > w2c_j1;
-    if (w2c_i0) {goto w2c_L32;}
-  w2c_B31:;
-  w2c_j0 = w2c_l13;
-  w2c_j1 = w2c_l12;
+    if (w2c_i0) {goto w2c_L23;}
+  w2c_B22:;
+  w2c_j0 = w2c_l12;
+  w2c_j1 = w2c_l13;
   w2c_i2 = w2c_p4;
   w2c_j0 = w2c_i2 ? w2c_j0 : w2c_j1;
   w2c_l15 = w2c_j0;
@@ -44325,22 +44604,22 @@ static u32 w2c_f77(module *m, u64 w2c_p0, u64 w2c_p1, u32 w2c_p2, u32 w2c_p3, u3
   w2c_j0 = w2c_l11;
   w2c_i0 = !(w2c_j0);
   w2c_i0 = !(w2c_i0);
-  if (w2c_i0) {goto w2c_B33;}
+  if (w2c_i0) {goto w2c_B24;}
   w2c_j0 = 234ull;
   w2c_p1 = w2c_j0;
   goto w2c_B5;
-  w2c_B33:;
+  w2c_B24:;
   w2c_j0 = w2c_l15;
   w2c_j1 = 108ull;
   w2c_j0 += w2c_j1;
-  w2c_l12 = w2c_j0;
+  w2c_l13 = w2c_j0;
   w2c_j0 = 234ull;
   w2c_p1 = w2c_j0;
   w2c_j0 = w2c_l9;
   w2c_j1 = 248ull;
   w2c_j0 += w2c_j1;
-  w2c_l13 = w2c_j0;
-  w2c_L34:
+  w2c_l12 = w2c_j0;
+  w2c_L25:
     w2c_j0 = w2c_l9;
     w2c_j1 = 14ull;
     w2c_j0 += w2c_j1;
@@ -44350,8 +44629,8 @@ static u32 w2c_f77(module *m, u64 w2c_p0, u64 w2c_p1, u32 w2c_p2, u32 w2c_p3, u3
     w2c_j1 = 18446744073709551606ull;
     w2c_j0 += w2c_j1;
     w2c_i0 = (u32)(w2c_j0);
-    w2c_j1 = w2c_l12;
-    w2c_j2 = w2c_l13;
+    w2c_j1 = w2c_l13;
+    w2c_j2 = w2c_l12;
     w2c_i2 = (u32)(w2c_j2);
     w2c_i2 = i32_load16_u(m, (u64)(w2c_i2));
     w2c_p2 = w2c_i2;
@@ -44377,7 +44656,7 @@ static u32 w2c_f77(module *m, u64 w2c_p0, u64 w2c_p1, u32 w2c_p2, u32 w2c_p3, u3
     w2c_j1 = 18446744073709551609ull;
     w2c_j0 += w2c_j1;
     w2c_i0 = (u32)(w2c_j0);
-    w2c_j1 = w2c_l12;
+    w2c_j1 = w2c_l13;
     w2c_i2 = w2c_p2;
     w2c_i3 = 100u;
     w2c_i2 = DIV_U(w2c_i2, w2c_i3);
@@ -44404,7 +44683,7 @@ static u32 w2c_f77(module *m, u64 w2c_p0, u64 w2c_p1, u32 w2c_p2, u32 w2c_p3, u3
     w2c_j1 = 18446744073709551612ull;
     w2c_j0 += w2c_j1;
     w2c_i0 = (u32)(w2c_j0);
-    w2c_j1 = w2c_l12;
+    w2c_j1 = w2c_l13;
     w2c_i2 = w2c_p2;
     w2c_i3 = w2c_l18;
     w2c_i4 = 100u;
@@ -44436,7 +44715,7 @@ static u32 w2c_f77(module *m, u64 w2c_p0, u64 w2c_p1, u32 w2c_p2, u32 w2c_p3, u3
     w2c_j1 = 18446744073709551615ull;
     w2c_j0 += w2c_j1;
     w2c_i0 = (u32)(w2c_j0);
-    w2c_j1 = w2c_l12;
+    w2c_j1 = w2c_l13;
     w2c_i2 = w2c_p2;
     w2c_i3 = w2c_l18;
     w2c_i4 = 10u;
@@ -44460,10 +44739,10 @@ static u32 w2c_f77(module *m, u64 w2c_p0, u64 w2c_p1, u32 w2c_p2, u32 w2c_p3, u3
     w2c_i1 = (u32)(w2c_j1);
     w2c_i1 = i32_load16_u(m, (u64)(w2c_i1));
     i32_store16(m, (u64)(w2c_i0), w2c_i1);
-    w2c_j0 = w2c_l13;
+    w2c_j0 = w2c_l12;
     w2c_j1 = 2ull;
     w2c_j0 += w2c_j1;
-    w2c_l13 = w2c_j0;
+    w2c_l12 = w2c_j0;
     w2c_j0 = w2c_p1;
     w2c_j1 = 18446744073709551604ull;
     w2c_j0 += w2c_j1;
@@ -44474,10 +44753,10 @@ static u32 w2c_f77(module *m, u64 w2c_p0, u64 w2c_p1, u32 w2c_p2, u32 w2c_p3, u3
     w2c_l11 = w2c_j0;
     w2c_i0 = !(w2c_j0);
     w2c_i0 = !(w2c_i0);
-    if (w2c_i0) {goto w2c_L34;}
+    if (w2c_i0) {goto w2c_L25;}
     goto w2c_B5;
   UNREACHABLE;
-  w2c_B28:;
+  w2c_B19:;
   w2c_j0 = w2c_p0;
   w2c_j1 = 10000000000000000ull;
   w2c_i0 = w2c_j0 < w2c_j1;
@@ -44485,26 +44764,26 @@ static u32 w2c_f77(module *m, u64 w2c_p0, u64 w2c_p1, u32 w2c_p2, u32 w2c_p3, u3
   w2c_j2 = w2c_p1;
   w2c_i2 = !(w2c_j2);
   w2c_i0 = w2c_i2 ? w2c_i0 : w2c_i1;
-  if (w2c_i0) {goto w2c_B35;}
-  w2c_i0 = w2c_l19;
+  if (w2c_i0) {goto w2c_B26;}
+  w2c_i0 = w2c_l18;
   w2c_i1 = 255u;
   w2c_i0 &= w2c_i1;
-  if (w2c_i0) {goto w2c_B35;}
+  if (w2c_i0) {goto w2c_B26;}
   w2c_i0 = 3u;
   w2c_l18 = w2c_i0;
   goto w2c_B0;
-  w2c_B35:;
+  w2c_B26:;
   w2c_j0 = w2c_l9;
   w2c_i0 = (u32)(w2c_j0);
   w2c_i1 = 0u;
   i32_store(m, (u64)(w2c_i0) + 250, w2c_i1);
   w2c_j0 = w2c_l9;
   w2c_i0 = (u32)(w2c_j0);
-  w2c_i1 = w2c_l21;
+  w2c_i1 = w2c_l20;
   i32_store8(m, (u64)(w2c_i0) + 249, w2c_i1);
   w2c_j0 = w2c_l9;
   w2c_i0 = (u32)(w2c_j0);
-  w2c_i1 = w2c_l20;
+  w2c_i1 = w2c_l19;
   i32_store8(m, (u64)(w2c_i0) + 248, w2c_i1);
   w2c_j0 = w2c_l9;
   w2c_i0 = (u32)(w2c_j0);
@@ -44532,7 +44811,7 @@ static u32 w2c_f77(module *m, u64 w2c_p0, u64 w2c_p1, u32 w2c_p2, u32 w2c_p3, u3
   w2c_j1 = w2c_l9;
   w2c_j2 = 248ull;
   w2c_j1 += w2c_j2;
-  w2c_i2 = w2c_l19;
+  w2c_i2 = w2c_l18;
   w2c_i3 = 0u;
   w2c_j4 = w2c_p0;
   w2c_j5 = w2c_p1;
@@ -44552,8 +44831,8 @@ static u32 w2c_f77(module *m, u64 w2c_p0, u64 w2c_p1, u32 w2c_p2, u32 w2c_p3, u3
   w2c_j0 = w2c_l15;
   w2c_j1 = 108ull;
   w2c_j0 += w2c_j1;
-  w2c_l12 = w2c_j0;
-  w2c_L36:
+  w2c_l13 = w2c_j0;
+  w2c_L27:
     w2c_j0 = w2c_l9;
     w2c_j1 = 14ull;
     w2c_j0 += w2c_j1;
@@ -44563,7 +44842,7 @@ static u32 w2c_f77(module *m, u64 w2c_p0, u64 w2c_p1, u32 w2c_p2, u32 w2c_p3, u3
     w2c_j1 = 18446744073709551615ull;
     w2c_j0 += w2c_j1;
     w2c_i0 = (u32)(w2c_j0);
-    w2c_j1 = w2c_l12;
+    w2c_j1 = w2c_l13;
     w2c_i2 = w2c_p2;
     w2c_i3 = w2c_p2;
     w2c_i4 = 65535u;
@@ -44604,7 +44883,7 @@ static u32 w2c_f77(module *m, u64 w2c_p0, u64 w2c_p1, u32 w2c_p2, u32 w2c_p3, u3
     w2c_p6 = w2c_j0;
     w2c_j1 = 0ull;
     w2c_i0 = w2c_j0 != w2c_j1;
-    if (w2c_i0) {goto w2c_L36;}
+    if (w2c_i0) {goto w2c_L27;}
   w2c_B4:;
   w2c_j0 = w2c_p8;
   w2c_i0 = (u32)(w2c_j0);
@@ -44616,11 +44895,11 @@ static u32 w2c_f77(module *m, u64 w2c_p0, u64 w2c_p1, u32 w2c_p2, u32 w2c_p3, u3
   w2c_j0 = w2c_p7;
   w2c_j1 = w2c_p0;
   w2c_i0 = w2c_j0 >= w2c_j1;
-  if (w2c_i0) {goto w2c_B37;}
+  if (w2c_i0) {goto w2c_B28;}
   w2c_i0 = 6u;
   w2c_l18 = w2c_i0;
   goto w2c_B0;
-  w2c_B37:;
+  w2c_B28:;
   w2c_j0 = w2c_p0;
   w2c_i0 = !(w2c_j0);
   if (w2c_i0) {goto w2c_B1;}
@@ -44644,15 +44923,15 @@ static u32 w2c_f77(module *m, u64 w2c_p0, u64 w2c_p1, u32 w2c_p2, u32 w2c_p3, u3
   w2c_j0 = w2c_p6;
   w2c_i0 = (u32)(w2c_j0);
   w2c_p2 = w2c_i0;
-  w2c_j0 = w2c_l12;
+  w2c_j0 = w2c_l13;
   w2c_j1 = 18446744073709551613ull;
   w2c_j0 += w2c_j1;
   w2c_p0 = w2c_j0;
   w2c_j0 = w2c_l15;
   w2c_j1 = 108ull;
   w2c_j0 += w2c_j1;
-  w2c_l12 = w2c_j0;
-  w2c_L38:
+  w2c_l13 = w2c_j0;
+  w2c_L29:
     w2c_j0 = w2c_l9;
     w2c_j1 = 14ull;
     w2c_j0 += w2c_j1;
@@ -44662,7 +44941,7 @@ static u32 w2c_f77(module *m, u64 w2c_p0, u64 w2c_p1, u32 w2c_p2, u32 w2c_p3, u3
     w2c_j1 = 2ull;
     w2c_j0 += w2c_j1;
     w2c_i0 = (u32)(w2c_j0);
-    w2c_j1 = w2c_l12;
+    w2c_j1 = w2c_l13;
     w2c_i2 = w2c_p2;
     w2c_i3 = w2c_p2;
     w2c_i4 = 65535u;
@@ -44701,15 +44980,15 @@ static u32 w2c_f77(module *m, u64 w2c_p0, u64 w2c_p1, u32 w2c_p2, u32 w2c_p3, u3
     w2c_p1 = w2c_j0;
     w2c_j1 = 0ull;
     w2c_i0 = w2c_j0 != w2c_j1;
-    if (w2c_i0) {goto w2c_L38;}
-  w2c_i0 = w2c_l22;
-  if (w2c_i0) {goto w2c_B39;}
+    if (w2c_i0) {goto w2c_L29;}
+  w2c_i0 = w2c_l21;
+  if (w2c_i0) {goto w2c_B30;}
   w2c_j0 = w2c_p0;
   w2c_j1 = 3ull;
   w2c_j0 += w2c_j1;
   w2c_p0 = w2c_j0;
   goto w2c_B2;
-  w2c_B39:;
+  w2c_B30:;
   w2c_j0 = w2c_l9;
   w2c_j1 = 14ull;
   w2c_j0 += w2c_j1;
@@ -44744,11 +45023,11 @@ static u32 w2c_f77(module *m, u64 w2c_p0, u64 w2c_p1, u32 w2c_p2, u32 w2c_p3, u3
   w2c_j0 = w2c_p7;
   w2c_j1 = w2c_p1;
   w2c_i0 = w2c_j0 >= w2c_j1;
-  if (w2c_i0) {goto w2c_B40;}
+  if (w2c_i0) {goto w2c_B31;}
   w2c_i0 = 6u;
   w2c_l18 = w2c_i0;
   goto w2c_B0;
-  w2c_B40:;
+  w2c_B31:;
   w2c_j0 = w2c_p1;
   w2c_i0 = !(w2c_j0);
   if (w2c_i0) {goto w2c_B1;}
@@ -44806,7 +45085,7 @@ static u32 w2c_f79(module *m, u64 w2c_p0, u64 w2c_p1, u32 w2c_p2, u32 w2c_p3, u3
   u32 w2c_i0, w2c_i1, w2c_i2, w2c_i3, w2c_i4;
   u64 w2c_j0, w2c_j1, w2c_j2, w2c_j3, w2c_j4, w2c_j5;
   w2c_j0 = m->w2c_g0;
-  w2c_j1 = 304ull;
+  w2c_j1 = 336ull;
   w2c_j0 -= w2c_j1;
   w2c_l9 = w2c_j0;
   m->w2c_g0 = w2c_j0;
@@ -44850,7 +45129,7 @@ static u32 w2c_f79(module *m, u64 w2c_p0, u64 w2c_p1, u32 w2c_p2, u32 w2c_p3, u3
   w2c_j1 = 1ull;
   w2c_j0 <<= (w2c_j1 & 63);
   w2c_l10 = w2c_j0;
-  w2c_j1 = 67895ull;
+  w2c_j1 = 68027ull;
   w2c_j0 += w2c_j1;
   w2c_i0 = (u32)(w2c_j0);
   w2c_i0 = i32_load8_u(m, (u64)(w2c_i0));
@@ -44887,7 +45166,7 @@ static u32 w2c_f79(module *m, u64 w2c_p0, u64 w2c_p1, u32 w2c_p2, u32 w2c_p3, u3
   w2c_l12 = w2c_j0;
   w2c_i0 = w2c_p3;
   w2c_j0 = (u64)(w2c_i0);
-  w2c_j1 = 66844ull;
+  w2c_j1 = 66976ull;
   w2c_j0 += w2c_j1;
   w2c_i0 = (u32)(w2c_j0);
   w2c_i0 = i32_load8_u(m, (u64)(w2c_i0));
@@ -44895,15 +45174,15 @@ static u32 w2c_f79(module *m, u64 w2c_p0, u64 w2c_p1, u32 w2c_p2, u32 w2c_p3, u3
   w2c_j0 = w2c_l9;
   w2c_i0 = (u32)(w2c_j0);
   w2c_j1 = 0ull;
-  i64_store(m, (u64)(w2c_i0) + 176, w2c_j1);
+  i64_store(m, (u64)(w2c_i0) + 208, w2c_j1);
   w2c_j0 = w2c_l9;
   w2c_i0 = (u32)(w2c_j0);
   w2c_j1 = 0ull;
-  i64_store(m, (u64)(w2c_i0) + 168, w2c_j1);
+  i64_store(m, (u64)(w2c_i0) + 200, w2c_j1);
   w2c_j0 = w2c_l9;
   w2c_i0 = (u32)(w2c_j0);
   w2c_j1 = 0ull;
-  i64_store(m, (u64)(w2c_i0) + 160, w2c_j1);
+  i64_store(m, (u64)(w2c_i0) + 192, w2c_j1);
   w2c_j0 = w2c_p1;
   w2c_l10 = w2c_j0;
   w2c_j0 = w2c_p1;
@@ -44994,7 +45273,7 @@ static u32 w2c_f79(module *m, u64 w2c_p0, u64 w2c_p1, u32 w2c_p2, u32 w2c_p3, u3
   if (w2c_i0) {goto w2c_B5;}
   w2c_B6:;
   w2c_j0 = w2c_l9;
-  w2c_j1 = 160ull;
+  w2c_j1 = 192ull;
   w2c_j0 += w2c_j1;
   w2c_j1 = w2c_l12;
   w2c_j2 = w2c_p1;
@@ -45003,17 +45282,17 @@ static u32 w2c_f79(module *m, u64 w2c_p0, u64 w2c_p1, u32 w2c_p2, u32 w2c_p3, u3
   w2c_l31 = w2c_i0;
   w2c_j0 = w2c_l9;
   w2c_i0 = (u32)(w2c_j0);
-  w2c_i0 = i32_load8_u(m, (u64)(w2c_i0) + 160u);
+  w2c_i0 = i32_load8_u(m, (u64)(w2c_i0) + 192u);
   w2c_i1 = 1u;
   w2c_i0 = w2c_i0 != w2c_i1;
   if (w2c_i0) {goto w2c_B1;}
   w2c_j0 = w2c_l9;
   w2c_i0 = (u32)(w2c_j0);
-  w2c_j0 = i64_load(m, (u64)(w2c_i0) + 176u);
+  w2c_j0 = i64_load(m, (u64)(w2c_i0) + 208u);
   w2c_p1 = w2c_j0;
   w2c_j0 = w2c_l9;
   w2c_i0 = (u32)(w2c_j0);
-  w2c_j0 = i64_load(m, (u64)(w2c_i0) + 168u);
+  w2c_j0 = i64_load(m, (u64)(w2c_i0) + 200u);
   w2c_l12 = w2c_j0;
   w2c_B5:;
   w2c_j0 = w2c_p6;
@@ -45028,37 +45307,53 @@ static u32 w2c_f79(module *m, u64 w2c_p0, u64 w2c_p1, u32 w2c_p2, u32 w2c_p3, u3
   w2c_j0 = w2c_l9;
   w2c_i0 = (u32)(w2c_j0);
   w2c_i1 = 0u;
-  i32_store(m, (u64)(w2c_i0) + 74, w2c_i1);
+  i32_store(m, (u64)(w2c_i0) + 106, w2c_i1);
   w2c_j0 = w2c_l9;
   w2c_i0 = (u32)(w2c_j0);
   w2c_i1 = w2c_p3;
-  i32_store8(m, (u64)(w2c_i0) + 73, w2c_i1);
+  i32_store8(m, (u64)(w2c_i0) + 105, w2c_i1);
   w2c_j0 = w2c_l9;
   w2c_i0 = (u32)(w2c_j0);
   w2c_i1 = w2c_l30;
-  i32_store8(m, (u64)(w2c_i0) + 72, w2c_i1);
+  i32_store8(m, (u64)(w2c_i0) + 104, w2c_i1);
   w2c_j0 = w2c_l9;
   w2c_i0 = (u32)(w2c_j0);
   w2c_i1 = 0u;
-  i32_store16(m, (u64)(w2c_i0) + 78, w2c_i1);
+  i32_store16(m, (u64)(w2c_i0) + 110, w2c_i1);
   w2c_j0 = w2c_l9;
   w2c_i0 = (u32)(w2c_j0);
   w2c_j1 = w2c_p1;
-  i64_store(m, (u64)(w2c_i0) + 104, w2c_j1);
+  i64_store(m, (u64)(w2c_i0) + 136, w2c_j1);
   w2c_j0 = w2c_l9;
   w2c_i0 = (u32)(w2c_j0);
   w2c_j1 = w2c_l12;
+  i64_store(m, (u64)(w2c_i0) + 128, w2c_j1);
+  w2c_j0 = w2c_l9;
+  w2c_i0 = (u32)(w2c_j0);
+  w2c_j1 = w2c_p1;
+  i64_store(m, (u64)(w2c_i0) + 120, w2c_j1);
+  w2c_j0 = w2c_l9;
+  w2c_i0 = (u32)(w2c_j0);
+  w2c_j1 = w2c_l12;
+  i64_store(m, (u64)(w2c_i0) + 112, w2c_j1);
+  w2c_j0 = 0ull;
+  w2c_l15 = w2c_j0;
+  w2c_j0 = w2c_l9;
+  w2c_i0 = (u32)(w2c_j0);
+  w2c_j1 = 0ull;
   i64_store(m, (u64)(w2c_i0) + 96, w2c_j1);
   w2c_j0 = w2c_l9;
   w2c_i0 = (u32)(w2c_j0);
-  w2c_j1 = w2c_p1;
+  w2c_j1 = 0ull;
   i64_store(m, (u64)(w2c_i0) + 88, w2c_j1);
   w2c_j0 = w2c_l9;
   w2c_i0 = (u32)(w2c_j0);
-  w2c_j1 = w2c_l12;
+  w2c_j1 = 0ull;
   i64_store(m, (u64)(w2c_i0) + 80, w2c_j1);
-  w2c_j0 = 0ull;
-  w2c_l15 = w2c_j0;
+  w2c_j0 = w2c_l9;
+  w2c_i0 = (u32)(w2c_j0);
+  w2c_j1 = 0ull;
+  i64_store(m, (u64)(w2c_i0) + 72, w2c_j1);
   w2c_j0 = w2c_l9;
   w2c_i0 = (u32)(w2c_j0);
   w2c_j1 = 0ull;
@@ -45072,48 +45367,24 @@ static u32 w2c_f79(module *m, u64 w2c_p0, u64 w2c_p1, u32 w2c_p2, u32 w2c_p3, u3
   w2c_j1 = 0ull;
   i64_store(m, (u64)(w2c_i0) + 48, w2c_j1);
   w2c_j0 = w2c_l9;
-  w2c_i0 = (u32)(w2c_j0);
-  w2c_j1 = 0ull;
-  i64_store(m, (u64)(w2c_i0) + 40, w2c_j1);
-  w2c_j0 = w2c_l9;
-  w2c_i0 = (u32)(w2c_j0);
-  w2c_j1 = 0ull;
-  i64_store(m, (u64)(w2c_i0) + 32, w2c_j1);
-  w2c_j0 = w2c_l9;
-  w2c_i0 = (u32)(w2c_j0);
-  w2c_j1 = 0ull;
-  i64_store(m, (u64)(w2c_i0) + 24, w2c_j1);
-  w2c_j0 = w2c_l9;
-  w2c_i0 = (u32)(w2c_j0);
-  w2c_j1 = 0ull;
-  i64_store(m, (u64)(w2c_i0) + 16, w2c_j1);
-  w2c_j0 = w2c_l9;
-  w2c_j1 = 16ull;
+  w2c_j1 = 48ull;
   w2c_j0 += w2c_j1;
   w2c_j1 = w2c_l9;
-  w2c_j2 = 72ull;
+  w2c_j2 = 104ull;
   w2c_j1 += w2c_j2;
   w2c_f17(m, w2c_j0, w2c_j1);
   w2c_j0 = 0ull;
   w2c_l16 = w2c_j0;
   w2c_j0 = w2c_l9;
   w2c_i0 = (u32)(w2c_j0);
-  w2c_i0 = i32_load8_u(m, (u64)(w2c_i0) + 16u);
+  w2c_i0 = i32_load8_u(m, (u64)(w2c_i0) + 48u);
   w2c_i1 = 1u;
   w2c_i0 = w2c_i0 != w2c_i1;
   if (w2c_i0) {goto w2c_B10;}
   w2c_j0 = w2c_l9;
-  w2c_j1 = 256ull;
+  w2c_j1 = 288ull;
   w2c_j0 += w2c_j1;
   w2c_l17 = w2c_j0;
-  w2c_j0 = w2c_l9;
-  w2c_j1 = 272ull;
-  w2c_j0 += w2c_j1;
-  w2c_l18 = w2c_j0;
-  w2c_j0 = w2c_l9;
-  w2c_j1 = 56ull;
-  w2c_j0 += w2c_j1;
-  w2c_l19 = w2c_j0;
   w2c_j0 = 0ull;
   w2c_l15 = w2c_j0;
   w2c_j0 = 0ull;
@@ -45121,20 +45392,28 @@ static u32 w2c_f79(module *m, u64 w2c_p0, u64 w2c_p1, u32 w2c_p2, u32 w2c_p3, u3
   w2c_L11:
     w2c_j0 = w2c_l9;
     w2c_i0 = (u32)(w2c_j0);
-    w2c_j0 = i64_load(m, (u64)(w2c_i0) + 24u);
+    w2c_j0 = i64_load(m, (u64)(w2c_i0) + 56u);
+    w2c_l18 = w2c_j0;
+    w2c_j0 = w2c_l9;
+    w2c_i0 = (u32)(w2c_j0);
+    w2c_j0 = i64_load(m, (u64)(w2c_i0) + 96u);
+    w2c_l19 = w2c_j0;
+    w2c_j0 = w2c_l9;
+    w2c_i0 = (u32)(w2c_j0);
+    w2c_j0 = i64_load(m, (u64)(w2c_i0) + 88u);
     w2c_l20 = w2c_j0;
     w2c_j0 = w2c_l9;
     w2c_i0 = (u32)(w2c_j0);
-    w2c_j0 = i64_load(m, (u64)(w2c_i0) + 48u);
+    w2c_j0 = i64_load(m, (u64)(w2c_i0) + 80u);
     w2c_l21 = w2c_j0;
     w2c_j0 = w2c_l9;
     w2c_i0 = (u32)(w2c_j0);
-    w2c_j0 = i64_load(m, (u64)(w2c_i0) + 40u);
+    w2c_j0 = i64_load(m, (u64)(w2c_i0) + 72u);
     w2c_l22 = w2c_j0;
     w2c_j0 = 18446744073709551615ull;
     w2c_j1 = w2c_l9;
     w2c_i1 = (u32)(w2c_j1);
-    w2c_j1 = i64_load(m, (u64)(w2c_i1) + 32u);
+    w2c_j1 = i64_load(m, (u64)(w2c_i1) + 64u);
     w2c_l23 = w2c_j1;
     w2c_j2 = w2c_l16;
     w2c_j1 -= w2c_j2;
@@ -45155,7 +45434,7 @@ static u32 w2c_f79(module *m, u64 w2c_p0, u64 w2c_p1, u32 w2c_p2, u32 w2c_p3, u3
     w2c_j1 = w2c_l25;
     w2c_j0 += w2c_j1;
     w2c_l27 = w2c_j0;
-    w2c_j1 = w2c_l20;
+    w2c_j1 = w2c_l18;
     w2c_j2 = w2c_l16;
     w2c_j1 += w2c_j2;
     w2c_l28 = w2c_j1;
@@ -45241,7 +45520,7 @@ static u32 w2c_f79(module *m, u64 w2c_p0, u64 w2c_p1, u32 w2c_p2, u32 w2c_p3, u3
     w2c_j1 += w2c_j2;
     w2c_j0 += w2c_j1;
     w2c_l10 = w2c_j0;
-    w2c_j0 = w2c_l20;
+    w2c_j0 = w2c_l18;
     w2c_j1 = w2c_p0;
     w2c_j2 = w2c_l16;
     w2c_j1 += w2c_j2;
@@ -45387,48 +45666,811 @@ static u32 w2c_f79(module *m, u64 w2c_p0, u64 w2c_p1, u32 w2c_p2, u32 w2c_p3, u3
     w2c_i0 = w2c_l31;
     w2c_i1 = 4294902000u;
     w2c_i0 += w2c_i1;
-    w2c_i1 = 10u;
-    w2c_i0 = w2c_i0 >= w2c_i1;
+    w2c_i1 = 9u;
+    w2c_i0 = w2c_i0 > w2c_i1;
     if (w2c_i0) {goto w2c_B18;}
     w2c_B19:;
     w2c_i0 = w2c_p2;
     w2c_i1 = 1u;
     w2c_i0 &= w2c_i1;
     if (w2c_i0) {goto w2c_B23;}
+    w2c_i0 = 0u;
+    w2c_p4 = w2c_i0;
+    w2c_i0 = 0u;
+    w2c_p3 = w2c_i0;
+    w2c_j0 = w2c_l23;
+    w2c_i0 = !(w2c_j0);
+    if (w2c_i0) {goto w2c_B24;}
     w2c_j0 = w2c_l18;
-    w2c_i0 = (u32)(w2c_j0);
-    w2c_j1 = w2c_l19;
-    w2c_i1 = (u32)(w2c_j1);
-    w2c_j1 = i64_load(m, (u64)(w2c_i1));
-    i64_store(m, (u64)(w2c_i0), w2c_j1);
-    w2c_j0 = w2c_l18;
-    w2c_i0 = (u32)(w2c_j0);
-    w2c_j1 = w2c_l19;
-    w2c_i1 = (u32)(w2c_j1);
-    w2c_j1 = i64_load(m, (u64)(w2c_i1) + 8u);
-    i64_store(m, (u64)(w2c_i0) + 8, w2c_j1);
-    w2c_j0 = w2c_l9;
-    w2c_i0 = (u32)(w2c_j0);
-    w2c_j1 = w2c_l21;
-    i64_store(m, (u64)(w2c_i0) + 264, w2c_j1);
-    w2c_j0 = w2c_l9;
-    w2c_i0 = (u32)(w2c_j0);
-    w2c_j1 = w2c_l22;
-    i64_store(m, (u64)(w2c_i0) + 256, w2c_j1);
-    w2c_j0 = w2c_l9;
-    w2c_i0 = (u32)(w2c_j0);
     w2c_j1 = w2c_l23;
-    i64_store(m, (u64)(w2c_i0) + 248, w2c_j1);
+    w2c_j2 = 18446744073709551615ull;
+    w2c_j1 += w2c_j2;
+    w2c_l10 = w2c_j1;
+    w2c_j0 += w2c_j1;
+    w2c_i0 = (u32)(w2c_j0);
+    w2c_i0 = i32_load8_s(m, (u64)(w2c_i0));
+    w2c_l31 = w2c_i0;
+    w2c_i1 = 0u;
+    w2c_i0 = (u32)((s32)w2c_i0 >= (s32)w2c_i1);
+    if (w2c_i0) {goto w2c_B25;}
+    w2c_j0 = 18446744073709551614ull;
+    w2c_l10 = w2c_j0;
+    w2c_j0 = w2c_l18;
+    w2c_j1 = w2c_l23;
+    w2c_j0 += w2c_j1;
+    w2c_p0 = w2c_j0;
+    w2c_j1 = 18446744073709551614ull;
+    w2c_j0 += w2c_j1;
+    w2c_i0 = (u32)(w2c_j0);
+    w2c_i0 = i32_load8_u(m, (u64)(w2c_i0));
+    w2c_i1 = 191u;
+    w2c_i0 = w2c_i0 > w2c_i1;
+    if (w2c_i0) {goto w2c_B26;}
+    w2c_j0 = 18446744073709551613ull;
+    w2c_j1 = 18446744073709551612ull;
+    w2c_j2 = w2c_p0;
+    w2c_j3 = 18446744073709551613ull;
+    w2c_j2 += w2c_j3;
+    w2c_i2 = (u32)(w2c_j2);
+    w2c_i2 = i32_load8_u(m, (u64)(w2c_i2));
+    w2c_i3 = 191u;
+    w2c_i2 = w2c_i2 > w2c_i3;
+    w2c_j0 = w2c_i2 ? w2c_j0 : w2c_j1;
+    w2c_l10 = w2c_j0;
+    w2c_B26:;
+    w2c_j0 = w2c_l18;
+    w2c_j1 = w2c_l10;
+    w2c_j2 = w2c_l23;
+    w2c_j1 += w2c_j2;
+    w2c_l10 = w2c_j1;
+    w2c_j0 += w2c_j1;
+    w2c_p0 = w2c_j0;
+    w2c_i0 = (u32)(w2c_j0);
+    w2c_i0 = i32_load8_s(m, (u64)(w2c_i0));
+    w2c_p3 = w2c_i0;
+    w2c_i1 = 255u;
+    w2c_i0 &= w2c_i1;
+    w2c_l31 = w2c_i0;
+    w2c_i0 = w2c_p3;
+    w2c_i1 = 4294967295u;
+    w2c_i0 = (u32)((s32)w2c_i0 > (s32)w2c_i1);
+    if (w2c_i0) {goto w2c_B25;}
+    w2c_j0 = w2c_p0;
+    w2c_i0 = (u32)(w2c_j0);
+    w2c_i0 = i32_load8_u(m, (u64)(w2c_i0) + 1u);
+    w2c_i1 = 63u;
+    w2c_i0 &= w2c_i1;
+    w2c_l30 = w2c_i0;
+    w2c_i0 = w2c_p3;
+    w2c_i1 = 4294967263u;
+    w2c_i0 = w2c_i0 > w2c_i1;
+    if (w2c_i0) {goto w2c_B27;}
+    w2c_i0 = w2c_l31;
+    w2c_i1 = 6u;
+    w2c_i0 <<= (w2c_i1 & 31);
+    w2c_i1 = 1984u;
+    w2c_i0 &= w2c_i1;
+    w2c_i1 = w2c_l30;
+    w2c_i0 |= w2c_i1;
+    w2c_l31 = w2c_i0;
+    goto w2c_B25;
+    w2c_B27:;
+    w2c_j0 = w2c_p0;
+    w2c_i0 = (u32)(w2c_j0);
+    w2c_i0 = i32_load8_u(m, (u64)(w2c_i0) + 2u);
+    w2c_i1 = 63u;
+    w2c_i0 &= w2c_i1;
+    w2c_p5 = w2c_i0;
+    w2c_i0 = w2c_p3;
+    w2c_i1 = 4294967279u;
+    w2c_i0 = w2c_i0 > w2c_i1;
+    if (w2c_i0) {goto w2c_B28;}
+    w2c_i0 = w2c_l30;
+    w2c_i1 = 6u;
+    w2c_i0 <<= (w2c_i1 & 31);
+    w2c_i1 = w2c_l31;
+    w2c_i2 = 12u;
+    w2c_i1 <<= (w2c_i2 & 31);
+    w2c_i2 = 61440u;
+    w2c_i1 &= w2c_i2;
+    w2c_i0 |= w2c_i1;
+    w2c_i1 = w2c_p5;
+    w2c_i0 |= w2c_i1;
+    w2c_l31 = w2c_i0;
+    goto w2c_B25;
+    w2c_B28:;
+    w2c_i0 = w2c_p5;
+    w2c_i1 = 6u;
+    w2c_i0 <<= (w2c_i1 & 31);
+    w2c_i1 = w2c_l30;
+    w2c_i2 = 12u;
+    w2c_i1 <<= (w2c_i2 & 31);
+    w2c_i2 = w2c_l31;
+    w2c_i3 = 18u;
+    w2c_i2 <<= (w2c_i3 & 31);
+    w2c_i3 = 1835008u;
+    w2c_i2 &= w2c_i3;
+    w2c_i1 |= w2c_i2;
+    w2c_i0 |= w2c_i1;
+    w2c_j1 = w2c_p0;
+    w2c_i1 = (u32)(w2c_j1);
+    w2c_i1 = i32_load8_u(m, (u64)(w2c_i1) + 3u);
+    w2c_i2 = 63u;
+    w2c_i1 &= w2c_i2;
+    w2c_i0 |= w2c_i1;
+    w2c_l31 = w2c_i0;
+    w2c_B25:;
+    w2c_i0 = w2c_l31;
+    w2c_i1 = 4294967248u;
+    w2c_i0 += w2c_i1;
+    w2c_i1 = 10u;
+    w2c_i0 = w2c_i0 < w2c_i1;
+    if (w2c_i0) {goto w2c_B30;}
+    w2c_i0 = w2c_l31;
+    w2c_i1 = 4294967263u;
+    w2c_i0 &= w2c_i1;
+    w2c_i1 = 4294967231u;
+    w2c_i0 += w2c_i1;
+    w2c_i1 = 26u;
+    w2c_i0 = w2c_i0 < w2c_i1;
+    if (w2c_i0) {goto w2c_B30;}
+    w2c_i0 = w2c_l31;
+    w2c_i1 = 4294902000u;
+    w2c_i0 += w2c_i1;
+    w2c_i1 = 10u;
+    w2c_i0 = w2c_i0 < w2c_i1;
+    if (w2c_i0) {goto w2c_B30;}
+    w2c_i0 = w2c_l31;
+    w2c_i1 = 4294965248u;
+    w2c_i0 += w2c_i1;
+    w2c_i1 = 63487u;
+    w2c_i0 = w2c_i0 > w2c_i1;
+    if (w2c_i0) {goto w2c_B32;}
+    w2c_i0 = w2c_l31;
+    w2c_i1 = 12u;
+    w2c_i0 >>= (w2c_i1 & 31);
+    w2c_i1 = w2c_l31;
+    w2c_i2 = 2u;
+    w2c_i1 <<= (w2c_i2 & 31);
+    w2c_i2 = 16128u;
+    w2c_i1 &= w2c_i2;
+    w2c_i0 |= w2c_i1;
+    w2c_i1 = w2c_l31;
+    w2c_i2 = 16u;
+    w2c_i1 <<= (w2c_i2 & 31);
+    w2c_i2 = 4128768u;
+    w2c_i1 &= w2c_i2;
+    w2c_i0 |= w2c_i1;
+    w2c_i1 = 8421600u;
+    w2c_i0 |= w2c_i1;
+    w2c_p3 = w2c_i0;
+    w2c_j0 = (u64)(w2c_i0);
+    w2c_j1 = 953497ull;
+    w2c_j0 *= w2c_j1;
+    w2c_j1 = 22ull;
+    w2c_j0 >>= (w2c_j1 & 63);
+    w2c_j1 = 1016ull;
+    w2c_j0 &= w2c_j1;
+    w2c_p0 = w2c_j0;
+    w2c_i0 = (u32)(w2c_j0);
+    w2c_i0 = i32_load(m, (u64)(w2c_i0) + 66992u);
+    w2c_i1 = w2c_p3;
+    w2c_i0 = w2c_i0 != w2c_i1;
+    if (w2c_i0) {goto w2c_B31;}
+    w2c_j0 = w2c_p0;
+    w2c_j1 = 66996ull;
+    w2c_j0 += w2c_j1;
+    w2c_i0 = (u32)(w2c_j0);
+    w2c_i0 = i32_load8_u(m, (u64)(w2c_i0));
+    w2c_i1 = 255u;
+    w2c_i0 &= w2c_i1;
+    if (w2c_i0) {goto w2c_B31;}
+    goto w2c_B30;
+    w2c_B32:;
+    w2c_j0 = w2c_l9;
+    w2c_j1 = 40ull;
+    w2c_j0 += w2c_j1;
+    w2c_i1 = w2c_l31;
+    w2c_f21(m, w2c_j0, w2c_i1);
     w2c_j0 = w2c_l9;
     w2c_i0 = (u32)(w2c_j0);
-    w2c_j1 = w2c_l20;
-    i64_store(m, (u64)(w2c_i0) + 240, w2c_j1);
+    w2c_i0 = i32_load8_u(m, (u64)(w2c_i0) + 40u);
+    w2c_i1 = 1u;
+    w2c_i0 = w2c_i0 == w2c_i1;
+    if (w2c_i0) {goto w2c_B30;}
     w2c_j0 = w2c_l9;
-    w2c_j1 = 240ull;
+    w2c_j1 = 32ull;
     w2c_j0 += w2c_j1;
-    w2c_i0 = w2c_f25(m, w2c_j0);
+    w2c_i1 = w2c_l31;
+    w2c_f19(m, w2c_j0, w2c_i1);
+    w2c_B31:;
+    w2c_i0 = w2c_l31;
+    w2c_i1 = 24318u;
+    w2c_i0 = (u32)((s32)w2c_i0 > (s32)w2c_i1);
+    if (w2c_i0) {goto w2c_B36;}
+    w2c_i0 = w2c_l31;
+    w2c_i1 = 4294945979u;
+    w2c_i0 += w2c_i1;
+    switch (w2c_i0) {
+      case 0: goto w2c_B29;
+      case 1: goto w2c_B35;
+      case 2: goto w2c_B35;
+      case 3: goto w2c_B35;
+      case 4: goto w2c_B35;
+      case 5: goto w2c_B35;
+      case 6: goto w2c_B35;
+      case 7: goto w2c_B29;
+      default: goto w2c_B37;
+    }
+    w2c_B37:;
+    w2c_i0 = w2c_l31;
+    w2c_i1 = 95u;
+    w2c_i0 = w2c_i0 == w2c_i1;
+    if (w2c_i0) {goto w2c_B29;}
+    w2c_i0 = w2c_l31;
+    w2c_i1 = 24186u;
+    w2c_i0 = w2c_i0 != w2c_i1;
+    if (w2c_i0) {goto w2c_B35;}
+    goto w2c_B29;
+    w2c_B36:;
+    w2c_i0 = w2c_l31;
+    w2c_i1 = 24319u;
+    w2c_i0 = w2c_i0 == w2c_i1;
+    if (w2c_i0) {goto w2c_B29;}
+    w2c_i0 = w2c_l31;
+    w2c_i1 = 28857u;
+    w2c_i0 = w2c_i0 == w2c_i1;
+    if (w2c_i0) {goto w2c_B34;}
+    w2c_i0 = w2c_l31;
+    w2c_i1 = 40670u;
+    w2c_i0 = w2c_i0 == w2c_i1;
+    if (w2c_i0) {goto w2c_B34;}
+    w2c_B35:;
+    w2c_i0 = w2c_l31;
+    w2c_i1 = 4294967249u;
+    w2c_i0 += w2c_i1;
+    w2c_i1 = 4294967293u;
+    w2c_i0 = w2c_i0 < w2c_i1;
+    if (w2c_i0) {goto w2c_B30;}
+    w2c_j0 = w2c_l10;
+    w2c_i0 = !(w2c_j0);
+    w2c_i0 = !(w2c_i0);
+    if (w2c_i0) {goto w2c_B33;}
+    goto w2c_B30;
+    w2c_B34:;
+    w2c_j0 = w2c_l10;
+    w2c_i0 = !(w2c_j0);
+    if (w2c_i0) {goto w2c_B30;}
+    w2c_B33:;
+    w2c_j0 = w2c_l18;
+    w2c_j1 = w2c_l10;
+    w2c_j0 += w2c_j1;
+    w2c_p0 = w2c_j0;
+    w2c_j1 = 18446744073709551615ull;
+    w2c_j0 += w2c_j1;
+    w2c_i0 = (u32)(w2c_j0);
+    w2c_i0 = i32_load8_s(m, (u64)(w2c_i0));
+    w2c_p3 = w2c_i0;
+    w2c_i1 = 0u;
+    w2c_i0 = (u32)((s32)w2c_i0 >= (s32)w2c_i1);
+    if (w2c_i0) {goto w2c_B38;}
+    w2c_j0 = 18446744073709551614ull;
+    w2c_l11 = w2c_j0;
+    w2c_j0 = w2c_p0;
+    w2c_j1 = 18446744073709551614ull;
+    w2c_j0 += w2c_j1;
+    w2c_i0 = (u32)(w2c_j0);
+    w2c_i0 = i32_load8_u(m, (u64)(w2c_i0));
+    w2c_i1 = 191u;
+    w2c_i0 = w2c_i0 > w2c_i1;
+    if (w2c_i0) {goto w2c_B39;}
+    w2c_j0 = 18446744073709551613ull;
+    w2c_j1 = 18446744073709551612ull;
+    w2c_j2 = w2c_p0;
+    w2c_j3 = 18446744073709551613ull;
+    w2c_j2 += w2c_j3;
+    w2c_i2 = (u32)(w2c_j2);
+    w2c_i2 = i32_load8_u(m, (u64)(w2c_i2));
+    w2c_i3 = 191u;
+    w2c_i2 = w2c_i2 > w2c_i3;
+    w2c_j0 = w2c_i2 ? w2c_j0 : w2c_j1;
+    w2c_l11 = w2c_j0;
+    w2c_B39:;
+    w2c_j0 = w2c_l18;
+    w2c_j1 = w2c_l11;
+    w2c_j0 += w2c_j1;
+    w2c_j1 = w2c_l10;
+    w2c_j0 += w2c_j1;
+    w2c_l10 = w2c_j0;
+    w2c_i0 = (u32)(w2c_j0);
+    w2c_i0 = i32_load8_s(m, (u64)(w2c_i0));
+    w2c_l30 = w2c_i0;
+    w2c_i1 = 255u;
+    w2c_i0 &= w2c_i1;
+    w2c_p3 = w2c_i0;
+    w2c_i0 = w2c_l30;
+    w2c_i1 = 4294967295u;
+    w2c_i0 = (u32)((s32)w2c_i0 > (s32)w2c_i1);
+    if (w2c_i0) {goto w2c_B38;}
+    w2c_j0 = w2c_l10;
+    w2c_i0 = (u32)(w2c_j0);
+    w2c_i0 = i32_load8_u(m, (u64)(w2c_i0) + 1u);
+    w2c_i1 = 63u;
+    w2c_i0 &= w2c_i1;
+    w2c_p5 = w2c_i0;
+    w2c_i0 = w2c_l30;
+    w2c_i1 = 4294967263u;
+    w2c_i0 = w2c_i0 > w2c_i1;
+    if (w2c_i0) {goto w2c_B40;}
+    w2c_i0 = w2c_p3;
+    w2c_i1 = 6u;
+    w2c_i0 <<= (w2c_i1 & 31);
+    w2c_i1 = 1984u;
+    w2c_i0 &= w2c_i1;
+    w2c_i1 = w2c_p5;
+    w2c_i0 |= w2c_i1;
+    w2c_p3 = w2c_i0;
+    goto w2c_B38;
+    w2c_B40:;
+    w2c_j0 = w2c_l10;
+    w2c_i0 = (u32)(w2c_j0);
+    w2c_i0 = i32_load8_u(m, (u64)(w2c_i0) + 2u);
+    w2c_i1 = 63u;
+    w2c_i0 &= w2c_i1;
+    w2c_l32 = w2c_i0;
+    w2c_i0 = w2c_l30;
+    w2c_i1 = 4294967279u;
+    w2c_i0 = w2c_i0 > w2c_i1;
+    if (w2c_i0) {goto w2c_B41;}
+    w2c_i0 = w2c_p5;
+    w2c_i1 = 6u;
+    w2c_i0 <<= (w2c_i1 & 31);
+    w2c_i1 = w2c_p3;
+    w2c_i2 = 12u;
+    w2c_i1 <<= (w2c_i2 & 31);
+    w2c_i2 = 61440u;
+    w2c_i1 &= w2c_i2;
+    w2c_i0 |= w2c_i1;
+    w2c_i1 = w2c_l32;
+    w2c_i0 |= w2c_i1;
+    w2c_p3 = w2c_i0;
+    goto w2c_B38;
+    w2c_B41:;
+    w2c_i0 = w2c_l32;
+    w2c_i1 = 6u;
+    w2c_i0 <<= (w2c_i1 & 31);
+    w2c_i1 = w2c_p5;
+    w2c_i2 = 12u;
+    w2c_i1 <<= (w2c_i2 & 31);
+    w2c_i2 = w2c_p3;
+    w2c_i3 = 18u;
+    w2c_i2 <<= (w2c_i3 & 31);
+    w2c_i3 = 1835008u;
+    w2c_i2 &= w2c_i3;
+    w2c_i1 |= w2c_i2;
+    w2c_i0 |= w2c_i1;
+    w2c_j1 = w2c_l10;
+    w2c_i1 = (u32)(w2c_j1);
+    w2c_i1 = i32_load8_u(m, (u64)(w2c_i1) + 3u);
+    w2c_i2 = 63u;
+    w2c_i1 &= w2c_i2;
+    w2c_i0 |= w2c_i1;
+    w2c_p3 = w2c_i0;
+    w2c_B38:;
+    w2c_i0 = w2c_p3;
+    w2c_i0 = w2c_f24(m, w2c_i0);
+    w2c_B30:;
+    w2c_i0 = 1u;
+    w2c_p3 = w2c_i0;
+    w2c_i0 = w2c_l31;
+    w2c_i1 = 4294941328u;
+    w2c_i0 += w2c_i1;
+    switch (w2c_i0) {
+      case 0: goto w2c_B24;
+      case 1: goto w2c_B29;
+      case 2: goto w2c_B29;
+      case 3: goto w2c_B29;
+      case 4: goto w2c_B29;
+      case 5: goto w2c_B29;
+      case 6: goto w2c_B29;
+      case 7: goto w2c_B29;
+      case 8: goto w2c_B24;
+      default: goto w2c_B42;
+    }
+    w2c_B42:;
+    w2c_i0 = w2c_l31;
+    w2c_i1 = 20960u;
+    w2c_i0 = w2c_i0 == w2c_i1;
+    if (w2c_i0) {goto w2c_B24;}
+    w2c_i0 = w2c_l31;
+    w2c_i1 = 24190u;
+    w2c_i0 = w2c_i0 == w2c_i1;
+    if (w2c_i0) {goto w2c_B24;}
+    w2c_B29:;
+    w2c_i0 = 0u;
+    w2c_p3 = w2c_i0;
+    w2c_B24:;
+    w2c_j0 = w2c_l19;
+    w2c_i0 = !(w2c_j0);
+    if (w2c_i0) {goto w2c_B43;}
+    w2c_j0 = w2c_l20;
+    w2c_i0 = (u32)(w2c_j0);
+    w2c_i0 = i32_load8_s(m, (u64)(w2c_i0));
+    w2c_p4 = w2c_i0;
+    w2c_i1 = 255u;
+    w2c_i0 &= w2c_i1;
+    w2c_l31 = w2c_i0;
+    w2c_j0 = 1ull;
+    w2c_l10 = w2c_j0;
+    w2c_i0 = w2c_p4;
+    w2c_i1 = 4294967295u;
+    w2c_i0 = (u32)((s32)w2c_i0 > (s32)w2c_i1);
+    if (w2c_i0) {goto w2c_B44;}
+    w2c_j0 = w2c_l20;
+    w2c_i0 = (u32)(w2c_j0);
+    w2c_i0 = i32_load8_u(m, (u64)(w2c_i0) + 1u);
+    w2c_i1 = 63u;
+    w2c_i0 &= w2c_i1;
+    w2c_l30 = w2c_i0;
+    w2c_i0 = w2c_p4;
+    w2c_i1 = 4294967263u;
+    w2c_i0 = w2c_i0 > w2c_i1;
+    if (w2c_i0) {goto w2c_B45;}
+    w2c_i0 = w2c_l31;
+    w2c_i1 = 6u;
+    w2c_i0 <<= (w2c_i1 & 31);
+    w2c_i1 = 1984u;
+    w2c_i0 &= w2c_i1;
+    w2c_i1 = w2c_l30;
+    w2c_i0 |= w2c_i1;
+    w2c_l31 = w2c_i0;
+    w2c_j0 = 2ull;
+    w2c_l10 = w2c_j0;
+    goto w2c_B44;
+    w2c_B45:;
+    w2c_j0 = w2c_l20;
+    w2c_i0 = (u32)(w2c_j0);
+    w2c_i0 = i32_load8_u(m, (u64)(w2c_i0) + 2u);
+    w2c_i1 = 63u;
+    w2c_i0 &= w2c_i1;
+    w2c_p5 = w2c_i0;
+    w2c_i0 = w2c_p4;
+    w2c_i1 = 4294967279u;
+    w2c_i0 = w2c_i0 > w2c_i1;
+    if (w2c_i0) {goto w2c_B46;}
+    w2c_i0 = w2c_l30;
+    w2c_i1 = 6u;
+    w2c_i0 <<= (w2c_i1 & 31);
+    w2c_i1 = w2c_l31;
+    w2c_i2 = 12u;
+    w2c_i1 <<= (w2c_i2 & 31);
+    w2c_i2 = 61440u;
+    w2c_i1 &= w2c_i2;
+    w2c_i0 |= w2c_i1;
+    w2c_i1 = w2c_p5;
+    w2c_i0 |= w2c_i1;
+    w2c_l31 = w2c_i0;
+    w2c_j0 = 3ull;
+    w2c_l10 = w2c_j0;
+    goto w2c_B44;
+    w2c_B46:;
+    w2c_i0 = w2c_p5;
+    w2c_i1 = 6u;
+    w2c_i0 <<= (w2c_i1 & 31);
+    w2c_i1 = w2c_l30;
+    w2c_i2 = 12u;
+    w2c_i1 <<= (w2c_i2 & 31);
+    w2c_i2 = w2c_l31;
+    w2c_i3 = 18u;
+    w2c_i2 <<= (w2c_i3 & 31);
+    w2c_i3 = 1835008u;
+    w2c_i2 &= w2c_i3;
+    w2c_i1 |= w2c_i2;
+    w2c_i0 |= w2c_i1;
+    w2c_j1 = w2c_l20;
+    w2c_i1 = (u32)(w2c_j1);
+    w2c_i1 = i32_load8_u(m, (u64)(w2c_i1) + 3u);
+    w2c_i2 = 63u;
+    w2c_i1 &= w2c_i2;
+    w2c_i0 |= w2c_i1;
+    w2c_l31 = w2c_i0;
+    w2c_j0 = 4ull;
+    w2c_l10 = w2c_j0;
+    w2c_B44:;
+    w2c_i0 = w2c_l31;
+    w2c_i1 = 4294967248u;
+    w2c_i0 += w2c_i1;
+    w2c_i1 = 10u;
+    w2c_i0 = w2c_i0 < w2c_i1;
+    if (w2c_i0) {goto w2c_B48;}
+    w2c_i0 = w2c_l31;
+    w2c_i1 = 2097119u;
+    w2c_i0 &= w2c_i1;
+    w2c_i1 = 4294967231u;
+    w2c_i0 += w2c_i1;
+    w2c_i1 = 26u;
+    w2c_i0 = w2c_i0 < w2c_i1;
+    if (w2c_i0) {goto w2c_B48;}
+    w2c_i0 = w2c_l31;
+    w2c_i1 = 4294902000u;
+    w2c_i0 += w2c_i1;
+    w2c_i1 = 10u;
+    w2c_i0 = w2c_i0 < w2c_i1;
+    if (w2c_i0) {goto w2c_B48;}
+    w2c_i0 = w2c_l31;
+    w2c_i1 = 4294965248u;
+    w2c_i0 += w2c_i1;
+    w2c_i1 = 63487u;
+    w2c_i0 = w2c_i0 > w2c_i1;
+    if (w2c_i0) {goto w2c_B50;}
+    w2c_i0 = w2c_l31;
+    w2c_i1 = 12u;
+    w2c_i0 >>= (w2c_i1 & 31);
+    w2c_i1 = w2c_l31;
+    w2c_i2 = 2u;
+    w2c_i1 <<= (w2c_i2 & 31);
+    w2c_i2 = 16128u;
+    w2c_i1 &= w2c_i2;
+    w2c_i0 |= w2c_i1;
+    w2c_i1 = w2c_l31;
+    w2c_i2 = 16u;
+    w2c_i1 <<= (w2c_i2 & 31);
+    w2c_i2 = 4128768u;
+    w2c_i1 &= w2c_i2;
+    w2c_i0 |= w2c_i1;
+    w2c_i1 = 8421600u;
+    w2c_i0 |= w2c_i1;
+    w2c_p4 = w2c_i0;
+    w2c_j0 = (u64)(w2c_i0);
+    w2c_j1 = 953497ull;
+    w2c_j0 *= w2c_j1;
+    w2c_j1 = 22ull;
+    w2c_j0 >>= (w2c_j1 & 63);
+    w2c_j1 = 1016ull;
+    w2c_j0 &= w2c_j1;
+    w2c_p0 = w2c_j0;
+    w2c_i0 = (u32)(w2c_j0);
+    w2c_i0 = i32_load(m, (u64)(w2c_i0) + 66992u);
+    w2c_i1 = w2c_p4;
+    w2c_i0 = w2c_i0 != w2c_i1;
+    if (w2c_i0) {goto w2c_B49;}
+    w2c_j0 = w2c_p0;
+    w2c_j1 = 66996ull;
+    w2c_j0 += w2c_j1;
+    w2c_i0 = (u32)(w2c_j0);
+    w2c_i0 = i32_load8_u(m, (u64)(w2c_i0));
+    w2c_i1 = 255u;
+    w2c_i0 &= w2c_i1;
+    if (w2c_i0) {goto w2c_B49;}
+    goto w2c_B48;
+    w2c_B50:;
+    w2c_j0 = w2c_l9;
+    w2c_j1 = 24ull;
+    w2c_j0 += w2c_j1;
+    w2c_i1 = w2c_l31;
+    w2c_f21(m, w2c_j0, w2c_i1);
+    w2c_j0 = w2c_l9;
+    w2c_i0 = (u32)(w2c_j0);
+    w2c_i0 = i32_load8_u(m, (u64)(w2c_i0) + 24u);
+    w2c_i1 = 1u;
+    w2c_i0 = w2c_i0 == w2c_i1;
+    if (w2c_i0) {goto w2c_B48;}
+    w2c_j0 = w2c_l9;
+    w2c_j1 = 16ull;
+    w2c_j0 += w2c_j1;
+    w2c_i1 = w2c_l31;
+    w2c_f19(m, w2c_j0, w2c_i1);
+    w2c_B49:;
+    w2c_i0 = w2c_l31;
+    w2c_i1 = 24318u;
+    w2c_i0 = (u32)((s32)w2c_i0 > (s32)w2c_i1);
+    if (w2c_i0) {goto w2c_B54;}
+    w2c_i0 = w2c_l31;
+    w2c_i1 = 4294945979u;
+    w2c_i0 += w2c_i1;
+    switch (w2c_i0) {
+      case 0: goto w2c_B47;
+      case 1: goto w2c_B53;
+      case 2: goto w2c_B53;
+      case 3: goto w2c_B53;
+      case 4: goto w2c_B53;
+      case 5: goto w2c_B53;
+      case 6: goto w2c_B53;
+      case 7: goto w2c_B47;
+      default: goto w2c_B55;
+    }
+    w2c_B55:;
+    w2c_i0 = w2c_l31;
+    w2c_i1 = 95u;
+    w2c_i0 = w2c_i0 == w2c_i1;
+    if (w2c_i0) {goto w2c_B47;}
+    w2c_i0 = w2c_l31;
+    w2c_i1 = 24186u;
+    w2c_i0 = w2c_i0 != w2c_i1;
+    if (w2c_i0) {goto w2c_B53;}
+    goto w2c_B47;
+    w2c_B54:;
+    w2c_i0 = w2c_l31;
+    w2c_i1 = 24319u;
+    w2c_i0 = w2c_i0 == w2c_i1;
+    if (w2c_i0) {goto w2c_B47;}
+    w2c_i0 = w2c_l31;
+    w2c_i1 = 28857u;
+    w2c_i0 = w2c_i0 == w2c_i1;
+    if (w2c_i0) {goto w2c_B52;}
+    w2c_i0 = w2c_l31;
+    w2c_i1 = 40670u;
+    w2c_i0 = w2c_i0 == w2c_i1;
+    if (w2c_i0) {goto w2c_B52;}
+    w2c_B53:;
+    w2c_j0 = w2c_l19;
+    w2c_j1 = w2c_l10;
+    w2c_i0 = w2c_j0 == w2c_j1;
+    if (w2c_i0) {goto w2c_B48;}
+    w2c_i0 = w2c_l31;
+    w2c_i1 = 4294967249u;
+    w2c_i0 += w2c_i1;
+    w2c_i1 = 4294967293u;
+    w2c_i0 = w2c_i0 >= w2c_i1;
+    if (w2c_i0) {goto w2c_B51;}
+    goto w2c_B48;
+    w2c_B52:;
+    w2c_j0 = w2c_l19;
+    w2c_j1 = w2c_l10;
+    w2c_i0 = w2c_j0 == w2c_j1;
+    if (w2c_i0) {goto w2c_B48;}
+    w2c_B51:;
+    w2c_j0 = w2c_l20;
+    w2c_j1 = w2c_l10;
+    w2c_j0 += w2c_j1;
+    w2c_l10 = w2c_j0;
+    w2c_i0 = (u32)(w2c_j0);
+    w2c_i0 = i32_load8_s(m, (u64)(w2c_i0));
+    w2c_l30 = w2c_i0;
+    w2c_i1 = 255u;
+    w2c_i0 &= w2c_i1;
+    w2c_p4 = w2c_i0;
+    w2c_i0 = w2c_l30;
+    w2c_i1 = 4294967295u;
+    w2c_i0 = (u32)((s32)w2c_i0 > (s32)w2c_i1);
+    if (w2c_i0) {goto w2c_B56;}
+    w2c_j0 = w2c_l10;
+    w2c_i0 = (u32)(w2c_j0);
+    w2c_i0 = i32_load8_u(m, (u64)(w2c_i0) + 1u);
+    w2c_i1 = 63u;
+    w2c_i0 &= w2c_i1;
+    w2c_p5 = w2c_i0;
+    w2c_i0 = w2c_l30;
+    w2c_i1 = 4294967263u;
+    w2c_i0 = w2c_i0 > w2c_i1;
+    if (w2c_i0) {goto w2c_B57;}
+    w2c_i0 = w2c_p4;
+    w2c_i1 = 6u;
+    w2c_i0 <<= (w2c_i1 & 31);
+    w2c_i1 = 1984u;
+    w2c_i0 &= w2c_i1;
+    w2c_i1 = w2c_p5;
+    w2c_i0 |= w2c_i1;
+    w2c_p4 = w2c_i0;
+    goto w2c_B56;
+    w2c_B57:;
+    w2c_j0 = w2c_l10;
+    w2c_i0 = (u32)(w2c_j0);
+    w2c_i0 = i32_load8_u(m, (u64)(w2c_i0) + 2u);
+    w2c_i1 = 63u;
+    w2c_i0 &= w2c_i1;
+    w2c_l32 = w2c_i0;
+    w2c_i0 = w2c_l30;
+    w2c_i1 = 4294967279u;
+    w2c_i0 = w2c_i0 > w2c_i1;
+    if (w2c_i0) {goto w2c_B58;}
+    w2c_i0 = w2c_p5;
+    w2c_i1 = 6u;
+    w2c_i0 <<= (w2c_i1 & 31);
+    w2c_i1 = w2c_p4;
+    w2c_i2 = 12u;
+    w2c_i1 <<= (w2c_i2 & 31);
+    w2c_i2 = 61440u;
+    w2c_i1 &= w2c_i2;
+    w2c_i0 |= w2c_i1;
+    w2c_i1 = w2c_l32;
+    w2c_i0 |= w2c_i1;
+    w2c_p4 = w2c_i0;
+    goto w2c_B56;
+    w2c_B58:;
+    w2c_i0 = w2c_l32;
+    w2c_i1 = 6u;
+    w2c_i0 <<= (w2c_i1 & 31);
+    w2c_i1 = w2c_p5;
+    w2c_i2 = 12u;
+    w2c_i1 <<= (w2c_i2 & 31);
+    w2c_i2 = w2c_p4;
+    w2c_i3 = 18u;
+    w2c_i2 <<= (w2c_i3 & 31);
+    w2c_i3 = 1835008u;
+    w2c_i2 &= w2c_i3;
+    w2c_i1 |= w2c_i2;
+    w2c_i0 |= w2c_i1;
+    w2c_j1 = w2c_l10;
+    w2c_i1 = (u32)(w2c_j1);
+    w2c_i1 = i32_load8_u(m, (u64)(w2c_i1) + 3u);
+    w2c_i2 = 63u;
+    w2c_i1 &= w2c_i2;
+    w2c_i0 |= w2c_i1;
+    w2c_p4 = w2c_i0;
+    w2c_B56:;
+    w2c_i0 = w2c_p4;
+    w2c_i0 = w2c_f24(m, w2c_i0);
+    w2c_B48:;
+    w2c_i0 = 1u;
+    w2c_p4 = w2c_i0;
+    w2c_i0 = w2c_l31;
+    w2c_i1 = 22809u;
+    w2c_i0 = (u32)((s32)w2c_i0 > (s32)w2c_i1);
+    if (w2c_i0) {goto w2c_B59;}
+    w2c_i0 = w2c_l31;
+    w2c_i1 = 20313u;
+    w2c_i0 = w2c_i0 == w2c_i1;
+    if (w2c_i0) {goto w2c_B43;}
+    w2c_i0 = w2c_l31;
+    w2c_i1 = 20358u;
+    w2c_i0 = w2c_i0 == w2c_i1;
+    if (w2c_i0) {goto w2c_B43;}
+    w2c_i0 = w2c_l31;
+    w2c_i1 = 20960u;
+    w2c_i0 = w2c_i0 != w2c_i1;
+    if (w2c_i0) {goto w2c_B47;}
+    goto w2c_B43;
+    w2c_B59:;
+    w2c_i0 = w2c_l31;
+    w2c_i1 = 26468u;
+    w2c_i0 = (u32)((s32)w2c_i0 > (s32)w2c_i1);
+    if (w2c_i0) {goto w2c_B60;}
+    w2c_i0 = w2c_l31;
+    w2c_i1 = 22810u;
+    w2c_i0 = w2c_i0 == w2c_i1;
+    if (w2c_i0) {goto w2c_B43;}
+    w2c_i0 = w2c_l31;
+    w2c_i1 = 24190u;
+    w2c_i0 = w2c_i0 != w2c_i1;
+    if (w2c_i0) {goto w2c_B47;}
+    goto w2c_B43;
+    w2c_B60:;
+    w2c_i0 = w2c_l31;
+    w2c_i1 = 26469u;
+    w2c_i0 = w2c_i0 == w2c_i1;
+    if (w2c_i0) {goto w2c_B43;}
+    w2c_i0 = w2c_l31;
+    w2c_i1 = 39192u;
+    w2c_i0 = w2c_i0 == w2c_i1;
+    if (w2c_i0) {goto w2c_B43;}
+    w2c_B47:;
+    w2c_i0 = 0u;
+    w2c_p4 = w2c_i0;
+    w2c_B43:;
+    w2c_i0 = w2c_p3;
+    w2c_j1 = w2c_l22;
+    w2c_j2 = w2c_l21;
+    w2c_i3 = w2c_p4;
+    w2c_i0 = w2c_f25(m, w2c_i0, w2c_j1, w2c_j2, w2c_i3);
     if (w2c_i0) {goto w2c_B18;}
     w2c_B23:;
+    w2c_j0 = w2c_l9;
+    w2c_i0 = (u32)(w2c_j0);
+    w2c_j1 = 0ull;
+    i64_store(m, (u64)(w2c_i0) + 328, w2c_j1);
+    w2c_j0 = w2c_l9;
+    w2c_i0 = (u32)(w2c_j0);
+    w2c_j1 = 0ull;
+    i64_store(m, (u64)(w2c_i0) + 320, w2c_j1);
+    w2c_j0 = w2c_l9;
+    w2c_i0 = (u32)(w2c_j0);
+    w2c_j1 = 0ull;
+    i64_store(m, (u64)(w2c_i0) + 312, w2c_j1);
+    w2c_j0 = w2c_l9;
+    w2c_i0 = (u32)(w2c_j0);
+    w2c_j1 = 0ull;
+    i64_store(m, (u64)(w2c_i0) + 304, w2c_j1);
     w2c_j0 = w2c_l9;
     w2c_i0 = (u32)(w2c_j0);
     w2c_j1 = 0ull;
@@ -45446,23 +46488,7 @@ static u32 w2c_f79(module *m, u64 w2c_p0, u64 w2c_p1, u32 w2c_p2, u32 w2c_p3, u3
     w2c_j1 = 0ull;
     i64_store(m, (u64)(w2c_i0) + 272, w2c_j1);
     w2c_j0 = w2c_l9;
-    w2c_i0 = (u32)(w2c_j0);
-    w2c_j1 = 0ull;
-    i64_store(m, (u64)(w2c_i0) + 264, w2c_j1);
-    w2c_j0 = w2c_l9;
-    w2c_i0 = (u32)(w2c_j0);
-    w2c_j1 = 0ull;
-    i64_store(m, (u64)(w2c_i0) + 256, w2c_j1);
-    w2c_j0 = w2c_l9;
-    w2c_i0 = (u32)(w2c_j0);
-    w2c_j1 = 0ull;
-    i64_store(m, (u64)(w2c_i0) + 248, w2c_j1);
-    w2c_j0 = w2c_l9;
-    w2c_i0 = (u32)(w2c_j0);
-    w2c_j1 = 0ull;
-    i64_store(m, (u64)(w2c_i0) + 240, w2c_j1);
-    w2c_j0 = w2c_l9;
-    w2c_j1 = 240ull;
+    w2c_j1 = 272ull;
     w2c_j0 += w2c_j1;
     w2c_j1 = w2c_l22;
     w2c_j2 = w2c_l21;
@@ -45473,43 +46499,43 @@ static u32 w2c_f79(module *m, u64 w2c_p0, u64 w2c_p1, u32 w2c_p2, u32 w2c_p3, u3
     w2c_j1 = w2c_l17;
     w2c_i1 = (u32)(w2c_j1);
     w2c_j1 = i64_load(m, (u64)(w2c_i1));
-    i64_store(m, (u64)(w2c_i0) + 112, w2c_j1);
-    w2c_j0 = w2c_l9;
-    w2c_i0 = (u32)(w2c_j0);
-    w2c_j1 = w2c_l17;
-    w2c_i1 = (u32)(w2c_j1);
-    w2c_j1 = i64_load(m, (u64)(w2c_i1) + 8u);
-    i64_store(m, (u64)(w2c_i0) + 120, w2c_j1);
-    w2c_j0 = w2c_l9;
-    w2c_i0 = (u32)(w2c_j0);
-    w2c_j1 = w2c_l17;
-    w2c_i1 = (u32)(w2c_j1);
-    w2c_j1 = i64_load(m, (u64)(w2c_i1) + 16u);
-    i64_store(m, (u64)(w2c_i0) + 128, w2c_j1);
-    w2c_j0 = w2c_l9;
-    w2c_i0 = (u32)(w2c_j0);
-    w2c_j1 = w2c_l17;
-    w2c_i1 = (u32)(w2c_j1);
-    w2c_j1 = i64_load(m, (u64)(w2c_i1) + 24u);
-    i64_store(m, (u64)(w2c_i0) + 136, w2c_j1);
-    w2c_j0 = w2c_l9;
-    w2c_i0 = (u32)(w2c_j0);
-    w2c_j1 = w2c_l17;
-    w2c_i1 = (u32)(w2c_j1);
-    w2c_j1 = i64_load(m, (u64)(w2c_i1) + 32u);
     i64_store(m, (u64)(w2c_i0) + 144, w2c_j1);
     w2c_j0 = w2c_l9;
     w2c_i0 = (u32)(w2c_j0);
     w2c_j1 = w2c_l17;
     w2c_i1 = (u32)(w2c_j1);
-    w2c_j1 = i64_load(m, (u64)(w2c_i1) + 40u);
+    w2c_j1 = i64_load(m, (u64)(w2c_i1) + 8u);
     i64_store(m, (u64)(w2c_i0) + 152, w2c_j1);
     w2c_j0 = w2c_l9;
     w2c_i0 = (u32)(w2c_j0);
-    w2c_i0 = i32_load8_u(m, (u64)(w2c_i0) + 240u);
+    w2c_j1 = w2c_l17;
+    w2c_i1 = (u32)(w2c_j1);
+    w2c_j1 = i64_load(m, (u64)(w2c_i1) + 16u);
+    i64_store(m, (u64)(w2c_i0) + 160, w2c_j1);
+    w2c_j0 = w2c_l9;
+    w2c_i0 = (u32)(w2c_j0);
+    w2c_j1 = w2c_l17;
+    w2c_i1 = (u32)(w2c_j1);
+    w2c_j1 = i64_load(m, (u64)(w2c_i1) + 24u);
+    i64_store(m, (u64)(w2c_i0) + 168, w2c_j1);
+    w2c_j0 = w2c_l9;
+    w2c_i0 = (u32)(w2c_j0);
+    w2c_j1 = w2c_l17;
+    w2c_i1 = (u32)(w2c_j1);
+    w2c_j1 = i64_load(m, (u64)(w2c_i1) + 32u);
+    i64_store(m, (u64)(w2c_i0) + 176, w2c_j1);
+    w2c_j0 = w2c_l9;
+    w2c_i0 = (u32)(w2c_j0);
+    w2c_j1 = w2c_l17;
+    w2c_i1 = (u32)(w2c_j1);
+    w2c_j1 = i64_load(m, (u64)(w2c_i1) + 40u);
+    i64_store(m, (u64)(w2c_i0) + 184, w2c_j1);
+    w2c_j0 = w2c_l9;
+    w2c_i0 = (u32)(w2c_j0);
+    w2c_i0 = i32_load8_u(m, (u64)(w2c_i0) + 272u);
     if (w2c_i0) {goto w2c_B18;}
     w2c_j0 = w2c_l9;
-    w2c_j1 = 160ull;
+    w2c_j1 = 192ull;
     w2c_j0 += w2c_j1;
     w2c_i0 = (u32)(w2c_j0);
     w2c_i1 = 0u;
@@ -45518,10 +46544,10 @@ static u32 w2c_f79(module *m, u64 w2c_p0, u64 w2c_p1, u32 w2c_p2, u32 w2c_p3, u3
     memory_fill(m, w2c_i0, w2c_i1, w2c_i2);
     w2c_j0 = w2c_l9;
     w2c_j1 = w2c_l9;
-    w2c_j2 = 160ull;
+    w2c_j2 = 192ull;
     w2c_j1 += w2c_j2;
     w2c_j2 = w2c_l9;
-    w2c_j3 = 112ull;
+    w2c_j3 = 144ull;
     w2c_j2 += w2c_j3;
     w2c_f11(m, w2c_j0, w2c_j1, w2c_j2);
     w2c_j0 = 18446744073709551615ull;
@@ -45551,7 +46577,7 @@ static u32 w2c_f79(module *m, u64 w2c_p0, u64 w2c_p1, u32 w2c_p2, u32 w2c_p3, u3
     w2c_j0 -= w2c_j1;
     w2c_j1 = w2c_l10;
     w2c_i0 = w2c_j0 >= w2c_j1;
-    if (w2c_i0) {goto w2c_B24;}
+    if (w2c_i0) {goto w2c_B61;}
     w2c_j0 = w2c_l10;
     w2c_j1 = 3ull;
     w2c_j0 &= w2c_j1;
@@ -45561,14 +46587,14 @@ static u32 w2c_f79(module *m, u64 w2c_p0, u64 w2c_p1, u32 w2c_p2, u32 w2c_p3, u3
     w2c_j0 = w2c_l10;
     w2c_j1 = 4ull;
     w2c_i0 = w2c_j0 < w2c_j1;
-    if (w2c_i0) {goto w2c_B25;}
+    if (w2c_i0) {goto w2c_B62;}
     w2c_j0 = w2c_l10;
     w2c_j1 = 18446744073709551612ull;
     w2c_j0 &= w2c_j1;
     w2c_l28 = w2c_j0;
     w2c_j0 = 0ull;
     w2c_p0 = w2c_j0;
-    w2c_L26:
+    w2c_L63:
       w2c_j0 = w2c_l27;
       w2c_j1 = w2c_p0;
       w2c_j0 += w2c_j1;
@@ -45617,11 +46643,11 @@ static u32 w2c_f79(module *m, u64 w2c_p0, u64 w2c_p1, u32 w2c_p2, u32 w2c_p3, u3
       w2c_j1 += w2c_j2;
       w2c_p0 = w2c_j1;
       w2c_i0 = w2c_j0 != w2c_j1;
-      if (w2c_i0) {goto w2c_L26;}
+      if (w2c_i0) {goto w2c_L63;}
     w2c_j0 = w2c_l29;
     w2c_i0 = !(w2c_j0);
     if (w2c_i0) {goto w2c_B17;}
-    w2c_B25:;
+    w2c_B62:;
     w2c_j0 = w2c_l14;
     w2c_j1 = w2c_l25;
     w2c_j2 = w2c_p0;
@@ -45642,7 +46668,7 @@ static u32 w2c_f79(module *m, u64 w2c_p0, u64 w2c_p1, u32 w2c_p2, u32 w2c_p3, u3
     w2c_j1 = w2c_p0;
     w2c_j0 += w2c_j1;
     w2c_p0 = w2c_j0;
-    w2c_L27:
+    w2c_L64:
       w2c_j0 = w2c_l10;
       w2c_i0 = (u32)(w2c_j0);
       w2c_j1 = w2c_p0;
@@ -45663,10 +46689,10 @@ static u32 w2c_f79(module *m, u64 w2c_p0, u64 w2c_p1, u32 w2c_p2, u32 w2c_p3, u3
       w2c_l29 = w2c_j0;
       w2c_j1 = 0ull;
       w2c_i0 = w2c_j0 != w2c_j1;
-      if (w2c_i0) {goto w2c_L27;}
+      if (w2c_i0) {goto w2c_L64;}
       goto w2c_B17;
     UNREACHABLE;
-    w2c_B24:;
+    w2c_B61:;
     w2c_j0 = w2c_l10;
     w2c_i0 = !(w2c_j0);
     if (w2c_i0) {goto w2c_B17;}
@@ -45700,7 +46726,7 @@ static u32 w2c_f79(module *m, u64 w2c_p0, u64 w2c_p1, u32 w2c_p2, u32 w2c_p3, u3
     w2c_j0 -= w2c_j1;
     w2c_j1 = w2c_l21;
     w2c_i0 = w2c_j0 >= w2c_j1;
-    if (w2c_i0) {goto w2c_B28;}
+    if (w2c_i0) {goto w2c_B65;}
     w2c_j0 = w2c_l21;
     w2c_j1 = 3ull;
     w2c_j0 &= w2c_j1;
@@ -45710,14 +46736,14 @@ static u32 w2c_f79(module *m, u64 w2c_p0, u64 w2c_p1, u32 w2c_p2, u32 w2c_p3, u3
     w2c_j0 = w2c_l21;
     w2c_j1 = 4ull;
     w2c_i0 = w2c_j0 < w2c_j1;
-    if (w2c_i0) {goto w2c_B29;}
+    if (w2c_i0) {goto w2c_B66;}
     w2c_j0 = w2c_l21;
     w2c_j1 = 18446744073709551612ull;
     w2c_j0 &= w2c_j1;
     w2c_l28 = w2c_j0;
     w2c_j0 = 0ull;
     w2c_p0 = w2c_j0;
-    w2c_L30:
+    w2c_L67:
       w2c_j0 = w2c_l27;
       w2c_j1 = w2c_p0;
       w2c_j0 += w2c_j1;
@@ -45766,11 +46792,11 @@ static u32 w2c_f79(module *m, u64 w2c_p0, u64 w2c_p1, u32 w2c_p2, u32 w2c_p3, u3
       w2c_j1 += w2c_j2;
       w2c_p0 = w2c_j1;
       w2c_i0 = w2c_j0 != w2c_j1;
-      if (w2c_i0) {goto w2c_L30;}
+      if (w2c_i0) {goto w2c_L67;}
     w2c_j0 = w2c_l29;
     w2c_i0 = !(w2c_j0);
     if (w2c_i0) {goto w2c_B17;}
-    w2c_B29:;
+    w2c_B66:;
     w2c_j0 = w2c_l14;
     w2c_j1 = w2c_l25;
     w2c_j2 = w2c_p0;
@@ -45791,7 +46817,7 @@ static u32 w2c_f79(module *m, u64 w2c_p0, u64 w2c_p1, u32 w2c_p2, u32 w2c_p3, u3
     w2c_j1 = w2c_p0;
     w2c_j0 += w2c_j1;
     w2c_p0 = w2c_j0;
-    w2c_L31:
+    w2c_L68:
       w2c_j0 = w2c_l10;
       w2c_i0 = (u32)(w2c_j0);
       w2c_j1 = w2c_p0;
@@ -45812,10 +46838,10 @@ static u32 w2c_f79(module *m, u64 w2c_p0, u64 w2c_p1, u32 w2c_p2, u32 w2c_p3, u3
       w2c_l29 = w2c_j0;
       w2c_j1 = 0ull;
       w2c_i0 = w2c_j0 != w2c_j1;
-      if (w2c_i0) {goto w2c_L31;}
+      if (w2c_i0) {goto w2c_L68;}
       goto w2c_B17;
     UNREACHABLE;
-    w2c_B28:;
+    w2c_B65:;
     w2c_j0 = w2c_l21;
     w2c_i0 = !(w2c_j0);
     if (w2c_i0) {goto w2c_B17;}
@@ -45832,15 +46858,15 @@ static u32 w2c_f79(module *m, u64 w2c_p0, u64 w2c_p1, u32 w2c_p2, u32 w2c_p3, u3
     w2c_j0 += w2c_j1;
     w2c_l16 = w2c_j0;
     w2c_j0 = w2c_l9;
-    w2c_j1 = 16ull;
+    w2c_j1 = 48ull;
     w2c_j0 += w2c_j1;
     w2c_j1 = w2c_l9;
-    w2c_j2 = 72ull;
+    w2c_j2 = 104ull;
     w2c_j1 += w2c_j2;
     w2c_f17(m, w2c_j0, w2c_j1);
     w2c_j0 = w2c_l9;
     w2c_i0 = (u32)(w2c_j0);
-    w2c_i0 = i32_load8_u(m, (u64)(w2c_i0) + 16u);
+    w2c_i0 = i32_load8_u(m, (u64)(w2c_i0) + 48u);
     w2c_i1 = 1u;
     w2c_i0 = w2c_i0 == w2c_i1;
     if (w2c_i0) {goto w2c_L11;}
@@ -45860,11 +46886,11 @@ static u32 w2c_f79(module *m, u64 w2c_p0, u64 w2c_p1, u32 w2c_p2, u32 w2c_p3, u3
   w2c_l28 = w2c_j0;
   w2c_j1 = w2c_p7;
   w2c_i0 = w2c_j0 <= w2c_j1;
-  if (w2c_i0) {goto w2c_B33;}
+  if (w2c_i0) {goto w2c_B70;}
   w2c_i0 = 6u;
   w2c_l31 = w2c_i0;
-  goto w2c_B32;
-  w2c_B33:;
+  goto w2c_B69;
+  w2c_B70:;
   w2c_j0 = w2c_l14;
   w2c_j1 = w2c_l15;
   w2c_j0 += w2c_j1;
@@ -45876,7 +46902,7 @@ static u32 w2c_f79(module *m, u64 w2c_p0, u64 w2c_p1, u32 w2c_p2, u32 w2c_p3, u3
   w2c_j0 -= w2c_j1;
   w2c_j1 = w2c_l10;
   w2c_i0 = w2c_j0 >= w2c_j1;
-  if (w2c_i0) {goto w2c_B35;}
+  if (w2c_i0) {goto w2c_B72;}
   w2c_j0 = w2c_l10;
   w2c_j1 = 3ull;
   w2c_j0 &= w2c_j1;
@@ -45888,14 +46914,14 @@ static u32 w2c_f79(module *m, u64 w2c_p0, u64 w2c_p1, u32 w2c_p2, u32 w2c_p3, u3
   w2c_j0 -= w2c_j1;
   w2c_j1 = 18446744073709551612ull;
   w2c_i0 = w2c_j0 > w2c_j1;
-  if (w2c_i0) {goto w2c_B36;}
+  if (w2c_i0) {goto w2c_B73;}
   w2c_j0 = w2c_l10;
   w2c_j1 = 18446744073709551612ull;
   w2c_j0 &= w2c_j1;
   w2c_l27 = w2c_j0;
   w2c_j0 = 0ull;
   w2c_p0 = w2c_j0;
-  w2c_L37:
+  w2c_L74:
     w2c_j0 = w2c_l21;
     w2c_j1 = w2c_p0;
     w2c_j0 += w2c_j1;
@@ -45944,11 +46970,11 @@ static u32 w2c_f79(module *m, u64 w2c_p0, u64 w2c_p1, u32 w2c_p2, u32 w2c_p3, u3
     w2c_j1 += w2c_j2;
     w2c_p0 = w2c_j1;
     w2c_i0 = w2c_j0 != w2c_j1;
-    if (w2c_i0) {goto w2c_L37;}
+    if (w2c_i0) {goto w2c_L74;}
   w2c_j0 = w2c_l29;
   w2c_i0 = !(w2c_j0);
-  if (w2c_i0) {goto w2c_B34;}
-  w2c_B36:;
+  if (w2c_i0) {goto w2c_B71;}
+  w2c_B73:;
   w2c_j0 = w2c_l12;
   w2c_j1 = w2c_l16;
   w2c_j2 = w2c_p0;
@@ -45963,7 +46989,7 @@ static u32 w2c_f79(module *m, u64 w2c_p0, u64 w2c_p1, u32 w2c_p2, u32 w2c_p3, u3
   w2c_j1 += w2c_j2;
   w2c_j0 += w2c_j1;
   w2c_p0 = w2c_j0;
-  w2c_L38:
+  w2c_L75:
     w2c_j0 = w2c_p0;
     w2c_i0 = (u32)(w2c_j0);
     w2c_j1 = w2c_l10;
@@ -45984,13 +47010,13 @@ static u32 w2c_f79(module *m, u64 w2c_p0, u64 w2c_p1, u32 w2c_p2, u32 w2c_p3, u3
     w2c_l29 = w2c_j0;
     w2c_j1 = 0ull;
     w2c_i0 = w2c_j0 != w2c_j1;
-    if (w2c_i0) {goto w2c_L38;}
-    goto w2c_B34;
+    if (w2c_i0) {goto w2c_L75;}
+    goto w2c_B71;
   UNREACHABLE;
-  w2c_B35:;
+  w2c_B72:;
   w2c_j0 = w2c_l10;
   w2c_i0 = !(w2c_j0);
-  if (w2c_i0) {goto w2c_B34;}
+  if (w2c_i0) {goto w2c_B71;}
   w2c_j0 = w2c_l21;
   w2c_i0 = (u32)(w2c_j0);
   w2c_j1 = w2c_l22;
@@ -45998,17 +47024,17 @@ static u32 w2c_f79(module *m, u64 w2c_p0, u64 w2c_p1, u32 w2c_p2, u32 w2c_p3, u3
   w2c_j2 = w2c_l10;
   w2c_i2 = (u32)(w2c_j2);
   memory_copy(m, w2c_i0, w2c_i1, w2c_i2);
-  w2c_B34:;
+  w2c_B71:;
   w2c_i0 = 0u;
   w2c_l31 = w2c_i0;
-  w2c_B32:;
+  w2c_B69:;
   w2c_j0 = w2c_p8;
   w2c_i0 = (u32)(w2c_j0);
   w2c_j1 = w2c_l28;
   i64_store(m, (u64)(w2c_i0), w2c_j1);
   w2c_B1:;
   w2c_j0 = w2c_l9;
-  w2c_j1 = 304ull;
+  w2c_j1 = 336ull;
   w2c_j0 += w2c_j1;
   m->w2c_g0 = w2c_j0;
   w2c_i0 = w2c_l31;
@@ -46136,7 +47162,7 @@ static u32 w2c_f81(module *m, u64 w2c_p0, u32 w2c_p1, u32 w2c_p2, u32 w2c_p3, u6
   w2c_i0 = w2c_i0 > w2c_i1;
   if (w2c_i0) {goto w2c_B3;}
   w2c_j0 = w2c_l11;
-  w2c_j1 = 67895ull;
+  w2c_j1 = 68027ull;
   w2c_j0 += w2c_j1;
   w2c_i0 = (u32)(w2c_j0);
   w2c_i0 = i32_load8_u(m, (u64)(w2c_i0));
@@ -47246,7 +48272,7 @@ static u32 w2c_f81(module *m, u64 w2c_p0, u32 w2c_p1, u32 w2c_p2, u32 w2c_p3, u6
   w2c_p0 = w2c_j1;
   w2c_j0 += w2c_j1;
   w2c_l11 = w2c_j0;
-  w2c_j1 = 68784ull;
+  w2c_j1 = 69248ull;
   w2c_j0 -= w2c_j1;
   w2c_j1 = 5ull;
   w2c_i0 = w2c_j0 > w2c_j1;
@@ -47265,13 +48291,13 @@ static u32 w2c_f81(module *m, u64 w2c_p0, u32 w2c_p1, u32 w2c_p2, u32 w2c_p3, u6
   w2c_i0 = (u32)(w2c_j0);
   w2c_j1 = 0ull;
   w2c_i1 = (u32)(w2c_j1);
-  w2c_i1 = i32_load16_u(m, (u64)(w2c_i1) + 68788u);
+  w2c_i1 = i32_load16_u(m, (u64)(w2c_i1) + 69252u);
   i32_store16(m, (u64)(w2c_i0) + 4, w2c_i1);
   w2c_j0 = w2c_l11;
   w2c_i0 = (u32)(w2c_j0);
   w2c_j1 = 0ull;
   w2c_i1 = (u32)(w2c_j1);
-  w2c_i1 = i32_load(m, (u64)(w2c_i1) + 68784u);
+  w2c_i1 = i32_load(m, (u64)(w2c_i1) + 69248u);
   i32_store(m, (u64)(w2c_i0), w2c_i1);
   w2c_B31:;
   w2c_j0 = w2c_l8;
@@ -47735,7 +48761,7 @@ static u32 w2c_f81(module *m, u64 w2c_p0, u32 w2c_p1, u32 w2c_p2, u32 w2c_p3, u6
   w2c_j1 = 18446744073709551610ull;
   w2c_j0 += w2c_j1;
   w2c_l7 = w2c_j0;
-  w2c_j1 = 68784ull;
+  w2c_j1 = 69248ull;
   w2c_j0 -= w2c_j1;
   w2c_j1 = 5ull;
   w2c_i0 = w2c_j0 > w2c_j1;
@@ -47762,13 +48788,13 @@ static u32 w2c_f81(module *m, u64 w2c_p0, u32 w2c_p1, u32 w2c_p2, u32 w2c_p3, u6
   w2c_i0 = (u32)(w2c_j0);
   w2c_j1 = 0ull;
   w2c_i1 = (u32)(w2c_j1);
-  w2c_i1 = i32_load16_u(m, (u64)(w2c_i1) + 68788u);
+  w2c_i1 = i32_load16_u(m, (u64)(w2c_i1) + 69252u);
   i32_store16(m, (u64)(w2c_i0) + 4, w2c_i1);
   w2c_j0 = w2c_l7;
   w2c_i0 = (u32)(w2c_j0);
   w2c_j1 = 0ull;
   w2c_i1 = (u32)(w2c_j1);
-  w2c_i1 = i32_load(m, (u64)(w2c_i1) + 68784u);
+  w2c_i1 = i32_load(m, (u64)(w2c_i1) + 69248u);
   i32_store(m, (u64)(w2c_i0), w2c_i1);
   w2c_B44:;
   w2c_j0 = w2c_l11;
@@ -48035,7 +49061,7 @@ static u32 w2c_f83(module *m, u64 w2c_p0, u64 w2c_p1, u32 w2c_p2, u64 w2c_p3) {
   w2c_j0 += w2c_j1;
   w2c_l7 = w2c_j0;
   w2c_j0 = w2c_l5;
-  w2c_j1 = 67895ull;
+  w2c_j1 = 68027ull;
   w2c_j0 += w2c_j1;
   w2c_i0 = (u32)(w2c_j0);
   w2c_i0 = i32_load8_u(m, (u64)(w2c_i0));
@@ -48328,8 +49354,8 @@ static u32 w2c_chinese_number_read(module *m, u64 w2c_p0, u64 w2c_p1, u32 w2c_p2
 }
 
 static u32 w2c_f85(module *m, u64 w2c_p0, u64 w2c_p1, u32 w2c_p2, u32 w2c_p3, u64 w2c_p4) {
-  u32 w2c_l13 = 0, w2c_l14 = 0, w2c_l15 = 0, w2c_l16 = 0;
-  u64 w2c_l5 = 0, w2c_l6 = 0, w2c_l7 = 0, w2c_l8 = 0, w2c_l9 = 0, w2c_l10 = 0, w2c_l11 = 0, w2c_l12 = 0;
+  u32 w2c_l10 = 0, w2c_l11 = 0, w2c_l12 = 0, w2c_l13 = 0;
+  u64 w2c_l5 = 0, w2c_l6 = 0, w2c_l7 = 0, w2c_l8 = 0, w2c_l9 = 0;
   u32 w2c_i0, w2c_i1, w2c_i2, w2c_i3, w2c_i4;
   u64 w2c_j0, w2c_j1, w2c_j2, w2c_j3, w2c_j4, w2c_j5, w2c_j6;
   w2c_j0 = m->w2c_g0;
@@ -48359,18 +49385,18 @@ static u32 w2c_f85(module *m, u64 w2c_p0, u64 w2c_p1, u32 w2c_p2, u32 w2c_p3, u6
   w2c_j1 = 0ull;
   i64_store(m, (u64)(w2c_i0), w2c_j1);
   w2c_i0 = 8u;
-  w2c_l13 = w2c_i0;
+  w2c_l10 = w2c_i0;
   w2c_i0 = w2c_p2;
   w2c_i1 = 9u;
   w2c_i0 = w2c_i0 > w2c_i1;
   if (w2c_i0) {goto w2c_B0;}
   w2c_i0 = w2c_p2;
   w2c_j0 = (u64)(w2c_i0);
-  w2c_j1 = 67884ull;
+  w2c_j1 = 68016ull;
   w2c_j0 += w2c_j1;
   w2c_i0 = (u32)(w2c_j0);
   w2c_i0 = i32_load8_u(m, (u64)(w2c_i0));
-  w2c_l14 = w2c_i0;
+  w2c_l11 = w2c_i0;
   w2c_i0 = w2c_p3;
   w2c_i1 = 4u;
   w2c_i0 = w2c_i0 > w2c_i1;
@@ -48380,23 +49406,23 @@ static u32 w2c_f85(module *m, u64 w2c_p0, u64 w2c_p1, u32 w2c_p2, u32 w2c_p3, u6
   w2c_j1 = 1ull;
   w2c_j0 <<= (w2c_j1 & 63);
   w2c_l5 = w2c_j0;
-  w2c_j1 = 67895ull;
+  w2c_j1 = 68027ull;
   w2c_j0 += w2c_j1;
   w2c_i0 = (u32)(w2c_j0);
   w2c_i0 = i32_load8_u(m, (u64)(w2c_i0));
-  w2c_l15 = w2c_i0;
+  w2c_l12 = w2c_i0;
   w2c_j0 = w2c_l5;
-  w2c_j1 = 67894ull;
+  w2c_j1 = 68026ull;
   w2c_j0 += w2c_j1;
   w2c_i0 = (u32)(w2c_j0);
   w2c_i0 = i32_load8_u(m, (u64)(w2c_i0));
-  w2c_l16 = w2c_i0;
+  w2c_l13 = w2c_i0;
   goto w2c_B12;
   w2c_B13:;
   w2c_i0 = 0u;
-  w2c_l15 = w2c_i0;
+  w2c_l12 = w2c_i0;
   w2c_i0 = 0u;
-  w2c_l16 = w2c_i0;
+  w2c_l13 = w2c_i0;
   w2c_i0 = w2c_p3;
   w2c_i1 = 5u;
   w2c_i0 = w2c_i0 != w2c_i1;
@@ -48443,13 +49469,13 @@ static u32 w2c_f85(module *m, u64 w2c_p0, u64 w2c_p1, u32 w2c_p2, u32 w2c_p3, u6
     w2c_j0 += w2c_j1;
     w2c_i0 = (u32)(w2c_j0);
     w2c_i0 = i32_load(m, (u64)(w2c_i0));
-    w2c_l13 = w2c_i0;
+    w2c_l10 = w2c_i0;
     w2c_i1 = 3233808384u;
     w2c_i0 &= w2c_i1;
     w2c_i1 = 2155872256u;
     w2c_i0 = w2c_i0 != w2c_i1;
     if (w2c_i0) {goto w2c_B15;}
-    w2c_i0 = w2c_l13;
+    w2c_i0 = w2c_l10;
     w2c_i1 = 8u;
     w2c_i0 >>= (w2c_i1 & 31);
     w2c_i1 = 255u;
@@ -48519,7 +49545,7 @@ static u32 w2c_f85(module *m, u64 w2c_p0, u64 w2c_p1, u32 w2c_p2, u32 w2c_p3, u6
   w2c_j2 = w2c_p1;
   w2c_f12(m, w2c_j0, w2c_j1, w2c_j2);
   w2c_i0 = 5u;
-  w2c_l13 = w2c_i0;
+  w2c_l10 = w2c_i0;
   w2c_j0 = w2c_l6;
   w2c_i0 = (u32)(w2c_j0);
   w2c_i0 = i32_load8_u(m, (u64)(w2c_i0) + 56u);
@@ -48535,6 +49561,9 @@ static u32 w2c_f85(module *m, u64 w2c_p0, u64 w2c_p1, u32 w2c_p2, u32 w2c_p3, u6
   w2c_j0 = i64_load(m, (u64)(w2c_i0) + 64u);
   w2c_l8 = w2c_j0;
   w2c_B14:;
+  w2c_i0 = w2c_l11;
+  w2c_j0 = (u64)(w2c_i0);
+  w2c_l5 = w2c_j0;
   w2c_i0 = w2c_p3;
   w2c_i1 = 4u;
   w2c_i0 = w2c_i0 <= w2c_i1;
@@ -48542,20 +49571,24 @@ static u32 w2c_f85(module *m, u64 w2c_p0, u64 w2c_p1, u32 w2c_p2, u32 w2c_p3, u6
   w2c_j0 = w2c_l6;
   w2c_j1 = 8ull;
   w2c_j0 += w2c_j1;
-  w2c_i1 = w2c_l14;
+  w2c_i1 = w2c_l11;
   w2c_j2 = w2c_l8;
   w2c_j3 = w2c_p1;
   w2c_f46(m, w2c_j0, w2c_i1, w2c_j2, w2c_j3);
   w2c_j0 = w2c_l6;
   w2c_i0 = (u32)(w2c_j0);
   w2c_i0 = i32_load8_u(m, (u64)(w2c_i0) + 9u);
-  w2c_l15 = w2c_i0;
+  w2c_l12 = w2c_i0;
   w2c_j0 = w2c_l6;
   w2c_i0 = (u32)(w2c_j0);
   w2c_i0 = i32_load8_u(m, (u64)(w2c_i0) + 8u);
-  w2c_l16 = w2c_i0;
+  w2c_l13 = w2c_i0;
   w2c_B19:;
-  w2c_i0 = w2c_l16;
+  w2c_j0 = w2c_l5;
+  w2c_j1 = 255ull;
+  w2c_j0 &= w2c_j1;
+  w2c_l7 = w2c_j0;
+  w2c_i0 = w2c_l13;
   w2c_i1 = 255u;
   w2c_i0 &= w2c_i1;
   if (w2c_i0) {goto w2c_B20;}
@@ -48622,19 +49655,19 @@ static u32 w2c_f85(module *m, u64 w2c_p0, u64 w2c_p1, u32 w2c_p2, u32 w2c_p3, u6
   w2c_j0 = w2c_l6;
   w2c_i0 = (u32)(w2c_j0);
   w2c_j0 = i64_load(m, (u64)(w2c_i0) + 72u);
-  w2c_l7 = w2c_j0;
+  w2c_l9 = w2c_j0;
   w2c_j0 = w2c_l6;
   w2c_i0 = (u32)(w2c_j0);
   w2c_i0 = i32_load(m, (u64)(w2c_i0) + 64u);
-  w2c_l13 = w2c_i0;
+  w2c_l10 = w2c_i0;
   w2c_i1 = 27491u;
   w2c_i0 = w2c_i0 == w2c_i1;
   if (w2c_i0) {goto w2c_B22;}
-  w2c_i0 = w2c_l13;
+  w2c_i0 = w2c_l10;
   w2c_i1 = 36000u;
   w2c_i0 = w2c_i0 == w2c_i1;
   if (w2c_i0) {goto w2c_B21;}
-  w2c_i0 = w2c_l13;
+  w2c_i0 = w2c_l10;
   w2c_i1 = 36127u;
   w2c_i0 = w2c_i0 == w2c_i1;
   if (w2c_i0) {goto w2c_B21;}
@@ -48651,7 +49684,7 @@ static u32 w2c_f85(module *m, u64 w2c_p0, u64 w2c_p1, u32 w2c_p2, u32 w2c_p3, u6
   w2c_j0 = w2c_l6;
   w2c_j1 = 16ull;
   w2c_j0 += w2c_j1;
-  w2c_j1 = w2c_l7;
+  w2c_j1 = w2c_l9;
   w2c_j2 = 1ull;
   w2c_j1 += w2c_j2;
   w2c_j2 = w2c_p0;
@@ -48662,14 +49695,14 @@ static u32 w2c_f85(module *m, u64 w2c_p0, u64 w2c_p1, u32 w2c_p2, u32 w2c_p3, u6
   w2c_j0 = w2c_l6;
   w2c_j1 = 16ull;
   w2c_j0 += w2c_j1;
-  w2c_j1 = w2c_l7;
+  w2c_j1 = w2c_l9;
   w2c_j2 = 1ull;
   w2c_j1 += w2c_j2;
   w2c_j2 = w2c_p0;
   w2c_j3 = w2c_l5;
   w2c_f42(m, w2c_j0, w2c_j1, w2c_j2, w2c_j3);
   w2c_i0 = 3u;
-  w2c_l13 = w2c_i0;
+  w2c_l10 = w2c_i0;
   w2c_i0 = 1u;
   w2c_p2 = w2c_i0;
   goto w2c_B7;
@@ -48737,19 +49770,19 @@ static u32 w2c_f85(module *m, u64 w2c_p0, u64 w2c_p1, u32 w2c_p2, u32 w2c_p3, u6
   w2c_j0 = w2c_l6;
   w2c_i0 = (u32)(w2c_j0);
   w2c_j0 = i64_load(m, (u64)(w2c_i0) + 72u);
-  w2c_l7 = w2c_j0;
+  w2c_l9 = w2c_j0;
   w2c_j0 = w2c_l6;
   w2c_i0 = (u32)(w2c_j0);
   w2c_i0 = i32_load(m, (u64)(w2c_i0) + 64u);
-  w2c_l13 = w2c_i0;
+  w2c_l10 = w2c_i0;
   w2c_i1 = 27491u;
   w2c_i0 = w2c_i0 == w2c_i1;
   if (w2c_i0) {goto w2c_B25;}
-  w2c_i0 = w2c_l13;
+  w2c_i0 = w2c_l10;
   w2c_i1 = 36000u;
   w2c_i0 = w2c_i0 == w2c_i1;
   if (w2c_i0) {goto w2c_B24;}
-  w2c_i0 = w2c_l13;
+  w2c_i0 = w2c_l10;
   w2c_i1 = 36127u;
   w2c_i0 = w2c_i0 == w2c_i1;
   if (w2c_i0) {goto w2c_B24;}
@@ -48757,7 +49790,7 @@ static u32 w2c_f85(module *m, u64 w2c_p0, u64 w2c_p1, u32 w2c_p2, u32 w2c_p3, u6
   w2c_j0 = w2c_l6;
   w2c_j1 = 16ull;
   w2c_j0 += w2c_j1;
-  w2c_i1 = w2c_l15;
+  w2c_i1 = w2c_l12;
   w2c_j2 = 0ull;
   w2c_j3 = w2c_l8;
   w2c_j4 = w2c_p1;
@@ -48767,8 +49800,8 @@ static u32 w2c_f85(module *m, u64 w2c_p0, u64 w2c_p1, u32 w2c_p2, u32 w2c_p3, u6
   w2c_j0 = w2c_l6;
   w2c_j1 = 16ull;
   w2c_j0 += w2c_j1;
-  w2c_i1 = w2c_l15;
-  w2c_j2 = w2c_l7;
+  w2c_i1 = w2c_l12;
+  w2c_j2 = w2c_l9;
   w2c_j3 = 1ull;
   w2c_j2 += w2c_j3;
   w2c_j3 = w2c_p0;
@@ -48779,15 +49812,15 @@ static u32 w2c_f85(module *m, u64 w2c_p0, u64 w2c_p1, u32 w2c_p2, u32 w2c_p3, u6
   w2c_j0 = w2c_l6;
   w2c_j1 = 16ull;
   w2c_j0 += w2c_j1;
-  w2c_i1 = w2c_l15;
-  w2c_j2 = w2c_l7;
+  w2c_i1 = w2c_l12;
+  w2c_j2 = w2c_l9;
   w2c_j3 = 1ull;
   w2c_j2 += w2c_j3;
   w2c_j3 = w2c_p0;
   w2c_j4 = w2c_l5;
   w2c_f47(m, w2c_j0, w2c_i1, w2c_j2, w2c_j3, w2c_j4);
   w2c_i0 = 3u;
-  w2c_l13 = w2c_i0;
+  w2c_l10 = w2c_i0;
   w2c_i0 = 1u;
   w2c_p2 = w2c_i0;
   goto w2c_B9;
@@ -48795,126 +49828,52 @@ static u32 w2c_f85(module *m, u64 w2c_p0, u64 w2c_p1, u32 w2c_p2, u32 w2c_p3, u6
   UNREACHABLE;
   w2c_B10:;
   w2c_i0 = 2u;
-  w2c_l13 = w2c_i0;
+  w2c_l10 = w2c_i0;
   w2c_i0 = 0u;
   w2c_p2 = w2c_i0;
   w2c_B9:;
   w2c_j0 = w2c_l6;
   w2c_i0 = (u32)(w2c_j0);
   w2c_j0 = i64_load(m, (u64)(w2c_i0) + 40u);
-  w2c_l5 = w2c_j0;
+  w2c_p0 = w2c_j0;
   w2c_j0 = w2c_l6;
   w2c_i0 = (u32)(w2c_j0);
   w2c_j0 = i64_load(m, (u64)(w2c_i0) + 32u);
-  w2c_l9 = w2c_j0;
+  w2c_l5 = w2c_j0;
   w2c_j0 = w2c_l6;
   w2c_i0 = (u32)(w2c_j0);
   w2c_i0 = i32_load8_u(m, (u64)(w2c_i0) + 16u);
-  if (w2c_i0) {goto w2c_B29;}
-  w2c_j0 = 0ull;
-  w2c_p0 = w2c_j0;
-  w2c_j0 = 255ull;
+  if (w2c_i0) {goto w2c_B27;}
+  w2c_j0 = w2c_l5;
+  w2c_j1 = w2c_l7;
+  w2c_j2 = 5ull;
+  w2c_j1 <<= (w2c_j2 & 63);
+  w2c_j2 = 68064ull;
+  w2c_j3 = 68048ull;
+  w2c_i4 = w2c_p2;
+  w2c_j2 = w2c_i4 ? w2c_j2 : w2c_j3;
+  w2c_j1 += w2c_j2;
+  w2c_l7 = w2c_j1;
+  w2c_i1 = (u32)(w2c_j1);
+  w2c_j1 = i64_load(m, (u64)(w2c_i1));
+  w2c_i0 = w2c_j0 > w2c_j1;
+  w2c_j1 = w2c_p0;
+  w2c_j2 = w2c_l7;
+  w2c_i2 = (u32)(w2c_j2);
+  w2c_j2 = i64_load(m, (u64)(w2c_i2) + 8u);
+  w2c_l7 = w2c_j2;
+  w2c_i1 = w2c_j1 > w2c_j2;
+  w2c_j2 = w2c_p0;
+  w2c_j3 = w2c_l7;
+  w2c_i2 = w2c_j2 == w2c_j3;
+  w2c_i0 = w2c_i2 ? w2c_i0 : w2c_i1;
+  if (w2c_i0) {goto w2c_B6;}
+  w2c_i0 = w2c_p2;
+  w2c_j0 = (u64)(w2c_i0);
   w2c_l7 = w2c_j0;
-  w2c_j0 = 0ull;
-  w2c_l10 = w2c_j0;
-  w2c_j0 = 0ull;
-  w2c_l11 = w2c_j0;
-  w2c_j0 = 0ull;
-  w2c_l12 = w2c_j0;
-  w2c_i0 = w2c_l14;
-  switch (w2c_i0) {
-    case 0: goto w2c_B27;
-    case 1: goto w2c_B38;
-    case 2: goto w2c_B37;
-    case 3: goto w2c_B36;
-    case 4: goto w2c_B35;
-    case 5: goto w2c_B34;
-    case 6: goto w2c_B33;
-    case 7: goto w2c_B32;
-    case 8: goto w2c_B31;
-    case 9: goto w2c_B30;
-    default: goto w2c_B27;
-  }
-  w2c_B38:;
-  w2c_j0 = 0ull;
-  w2c_l10 = w2c_j0;
-  w2c_j0 = 65535ull;
-  w2c_l7 = w2c_j0;
-  goto w2c_B28;
-  w2c_B37:;
-  w2c_j0 = 0ull;
-  w2c_l10 = w2c_j0;
-  w2c_j0 = 4294967295ull;
-  w2c_l7 = w2c_j0;
-  goto w2c_B28;
-  w2c_B36:;
-  w2c_j0 = 0ull;
-  w2c_l10 = w2c_j0;
-  w2c_j0 = 18446744073709551615ull;
-  w2c_l7 = w2c_j0;
-  goto w2c_B28;
-  w2c_B35:;
-  w2c_j0 = 0ull;
-  w2c_l11 = w2c_j0;
-  w2c_j0 = 18446744073709551615ull;
-  w2c_l7 = w2c_j0;
-  w2c_j0 = 18446744073709551615ull;
-  w2c_l10 = w2c_j0;
-  w2c_j0 = 0ull;
-  w2c_l12 = w2c_j0;
-  goto w2c_B27;
-  w2c_B34:;
-  w2c_j0 = 0ull;
-  w2c_l10 = w2c_j0;
-  w2c_j0 = 128ull;
-  w2c_l11 = w2c_j0;
-  w2c_j0 = 127ull;
-  w2c_l7 = w2c_j0;
-  w2c_j0 = 0ull;
-  w2c_l12 = w2c_j0;
-  goto w2c_B27;
-  w2c_B33:;
-  w2c_j0 = 0ull;
-  w2c_l10 = w2c_j0;
-  w2c_j0 = 32768ull;
-  w2c_l11 = w2c_j0;
-  w2c_j0 = 32767ull;
-  w2c_l7 = w2c_j0;
-  w2c_j0 = 0ull;
-  w2c_l12 = w2c_j0;
-  goto w2c_B27;
-  w2c_B32:;
-  w2c_j0 = 0ull;
-  w2c_l10 = w2c_j0;
-  w2c_j0 = 2147483648ull;
-  w2c_l11 = w2c_j0;
-  w2c_j0 = 2147483647ull;
-  w2c_l7 = w2c_j0;
-  w2c_j0 = 0ull;
-  w2c_l12 = w2c_j0;
-  goto w2c_B27;
-  w2c_B31:;
-  w2c_j0 = 0ull;
-  w2c_l10 = w2c_j0;
-  w2c_j0 = 9223372036854775808ull;
-  w2c_l11 = w2c_j0;
-  w2c_j0 = 9223372036854775807ull;
-  w2c_l7 = w2c_j0;
-  w2c_j0 = 0ull;
-  w2c_l12 = w2c_j0;
-  goto w2c_B27;
-  w2c_B30:;
-  w2c_j0 = 9223372036854775808ull;
-  w2c_l12 = w2c_j0;
-  w2c_j0 = 0ull;
-  w2c_l11 = w2c_j0;
-  w2c_j0 = 9223372036854775807ull;
-  w2c_l10 = w2c_j0;
-  w2c_j0 = 18446744073709551615ull;
-  w2c_l7 = w2c_j0;
-  goto w2c_B27;
-  w2c_B29:;
-  w2c_i0 = w2c_l13;
+  goto w2c_B4;
+  w2c_B27:;
+  w2c_i0 = w2c_l10;
   w2c_j1 = w2c_l6;
   w2c_i1 = (u32)(w2c_j1);
   w2c_i1 = i32_load8_u(m, (u64)(w2c_i1) + 24u);
@@ -48924,171 +49883,80 @@ static u32 w2c_f85(module *m, u64 w2c_p0, u64 w2c_p1, u32 w2c_p2, u32 w2c_p3, u6
   w2c_i2 = w2c_i2 == w2c_i3;
   w2c_p2 = w2c_i2;
   w2c_i0 = w2c_i2 ? w2c_i0 : w2c_i1;
-  w2c_l13 = w2c_i0;
+  w2c_l10 = w2c_i0;
   w2c_j0 = 0ull;
   w2c_p0 = w2c_j0;
   w2c_j0 = 0ull;
-  w2c_j1 = w2c_l9;
+  w2c_j1 = w2c_l5;
   w2c_i2 = w2c_p2;
   w2c_j0 = w2c_i2 ? w2c_j0 : w2c_j1;
   w2c_l7 = w2c_j0;
-  goto w2c_B6;
-  w2c_B28:;
-  w2c_j0 = 0ull;
-  w2c_l11 = w2c_j0;
-  w2c_j0 = 0ull;
-  w2c_l12 = w2c_j0;
-  w2c_B27:;
-  w2c_j0 = w2c_l9;
-  w2c_j1 = w2c_l11;
-  w2c_j2 = w2c_l7;
-  w2c_i3 = w2c_p2;
-  w2c_j1 = w2c_i3 ? w2c_j1 : w2c_j2;
-  w2c_i0 = w2c_j0 > w2c_j1;
-  w2c_j1 = w2c_l5;
-  w2c_j2 = w2c_l12;
-  w2c_j3 = w2c_l10;
-  w2c_i4 = w2c_p2;
-  w2c_j2 = w2c_i4 ? w2c_j2 : w2c_j3;
-  w2c_l7 = w2c_j2;
-  w2c_i1 = w2c_j1 > w2c_j2;
-  w2c_j2 = w2c_l5;
-  w2c_j3 = w2c_l7;
-  w2c_i2 = w2c_j2 == w2c_j3;
-  w2c_i0 = w2c_i2 ? w2c_i0 : w2c_i1;
-  if (w2c_i0) {goto w2c_B3;}
-  w2c_i0 = w2c_p2;
-  w2c_j0 = (u64)(w2c_i0);
-  w2c_l7 = w2c_j0;
-  w2c_i0 = 0u;
-  w2c_p2 = w2c_i0;
-  w2c_j0 = w2c_l9;
-  w2c_p0 = w2c_j0;
-  w2c_i0 = 0u;
-  w2c_l13 = w2c_i0;
-  goto w2c_B1;
+  goto w2c_B2;
   w2c_B8:;
   w2c_i0 = 2u;
-  w2c_l13 = w2c_i0;
+  w2c_l10 = w2c_i0;
   w2c_i0 = 0u;
   w2c_p2 = w2c_i0;
   w2c_B7:;
   w2c_j0 = w2c_l6;
   w2c_i0 = (u32)(w2c_j0);
   w2c_j0 = i64_load(m, (u64)(w2c_i0) + 40u);
-  w2c_l5 = w2c_j0;
+  w2c_p0 = w2c_j0;
   w2c_j0 = w2c_l6;
   w2c_i0 = (u32)(w2c_j0);
   w2c_j0 = i64_load(m, (u64)(w2c_i0) + 32u);
-  w2c_l9 = w2c_j0;
+  w2c_l5 = w2c_j0;
   w2c_j0 = w2c_l6;
   w2c_i0 = (u32)(w2c_j0);
   w2c_i0 = i32_load8_u(m, (u64)(w2c_i0) + 16u);
-  if (w2c_i0) {goto w2c_B39;}
+  if (w2c_i0) {goto w2c_B3;}
+  w2c_j0 = w2c_l5;
+  w2c_j1 = w2c_l7;
+  w2c_j2 = 5ull;
+  w2c_j1 <<= (w2c_j2 & 63);
+  w2c_j2 = 68064ull;
+  w2c_j3 = 68048ull;
+  w2c_i4 = w2c_p2;
+  w2c_j2 = w2c_i4 ? w2c_j2 : w2c_j3;
+  w2c_j1 += w2c_j2;
+  w2c_l7 = w2c_j1;
+  w2c_i1 = (u32)(w2c_j1);
+  w2c_j1 = i64_load(m, (u64)(w2c_i1));
+  w2c_i0 = w2c_j0 > w2c_j1;
+  w2c_j1 = w2c_p0;
+  w2c_j2 = w2c_l7;
+  w2c_i2 = (u32)(w2c_j2);
+  w2c_j2 = i64_load(m, (u64)(w2c_i2) + 8u);
+  w2c_l7 = w2c_j2;
+  w2c_i1 = w2c_j1 > w2c_j2;
+  w2c_j2 = w2c_p0;
+  w2c_j3 = w2c_l7;
+  w2c_i2 = w2c_j2 == w2c_j3;
+  w2c_i0 = w2c_i2 ? w2c_i0 : w2c_i1;
+  w2c_i0 = !(w2c_i0);
+  if (w2c_i0) {goto w2c_B5;}
+  w2c_B6:;
+  w2c_j0 = 0ull;
+  w2c_l5 = w2c_j0;
+  w2c_i0 = 1u;
+  w2c_p2 = w2c_i0;
   w2c_j0 = 0ull;
   w2c_p0 = w2c_j0;
-  w2c_j0 = 255ull;
+  w2c_j0 = 0ull;
   w2c_l7 = w2c_j0;
-  w2c_j0 = 0ull;
-  w2c_l10 = w2c_j0;
-  w2c_j0 = 0ull;
-  w2c_l11 = w2c_j0;
-  w2c_j0 = 0ull;
-  w2c_l12 = w2c_j0;
-  w2c_i0 = w2c_l14;
-  switch (w2c_i0) {
-    case 0: goto w2c_B4;
-    case 1: goto w2c_B48;
-    case 2: goto w2c_B47;
-    case 3: goto w2c_B46;
-    case 4: goto w2c_B45;
-    case 5: goto w2c_B44;
-    case 6: goto w2c_B43;
-    case 7: goto w2c_B42;
-    case 8: goto w2c_B41;
-    case 9: goto w2c_B40;
-    default: goto w2c_B4;
-  }
-  w2c_B48:;
-  w2c_j0 = 0ull;
-  w2c_l10 = w2c_j0;
-  w2c_j0 = 65535ull;
+  goto w2c_B1;
+  w2c_B5:;
+  w2c_i0 = w2c_p2;
+  w2c_j0 = (u64)(w2c_i0);
   w2c_l7 = w2c_j0;
-  goto w2c_B5;
-  w2c_B47:;
-  w2c_j0 = 0ull;
-  w2c_l10 = w2c_j0;
-  w2c_j0 = 4294967295ull;
-  w2c_l7 = w2c_j0;
-  goto w2c_B5;
-  w2c_B46:;
-  w2c_j0 = 0ull;
-  w2c_l10 = w2c_j0;
-  w2c_j0 = 18446744073709551615ull;
-  w2c_l7 = w2c_j0;
-  goto w2c_B5;
-  w2c_B45:;
-  w2c_j0 = 0ull;
-  w2c_l11 = w2c_j0;
-  w2c_j0 = 18446744073709551615ull;
-  w2c_l7 = w2c_j0;
-  w2c_j0 = 18446744073709551615ull;
-  w2c_l10 = w2c_j0;
-  w2c_j0 = 0ull;
-  w2c_l12 = w2c_j0;
-  goto w2c_B4;
-  w2c_B44:;
-  w2c_j0 = 0ull;
-  w2c_l10 = w2c_j0;
-  w2c_j0 = 128ull;
-  w2c_l11 = w2c_j0;
-  w2c_j0 = 127ull;
-  w2c_l7 = w2c_j0;
-  w2c_j0 = 0ull;
-  w2c_l12 = w2c_j0;
-  goto w2c_B4;
-  w2c_B43:;
-  w2c_j0 = 0ull;
-  w2c_l10 = w2c_j0;
-  w2c_j0 = 32768ull;
-  w2c_l11 = w2c_j0;
-  w2c_j0 = 32767ull;
-  w2c_l7 = w2c_j0;
-  w2c_j0 = 0ull;
-  w2c_l12 = w2c_j0;
-  goto w2c_B4;
-  w2c_B42:;
-  w2c_j0 = 0ull;
-  w2c_l10 = w2c_j0;
-  w2c_j0 = 2147483648ull;
-  w2c_l11 = w2c_j0;
-  w2c_j0 = 2147483647ull;
-  w2c_l7 = w2c_j0;
-  w2c_j0 = 0ull;
-  w2c_l12 = w2c_j0;
-  goto w2c_B4;
-  w2c_B41:;
-  w2c_j0 = 0ull;
-  w2c_l10 = w2c_j0;
-  w2c_j0 = 9223372036854775808ull;
-  w2c_l11 = w2c_j0;
-  w2c_j0 = 9223372036854775807ull;
-  w2c_l7 = w2c_j0;
-  w2c_j0 = 0ull;
-  w2c_l12 = w2c_j0;
-  goto w2c_B4;
-  w2c_B40:;
-  w2c_j0 = 9223372036854775808ull;
-  w2c_l12 = w2c_j0;
-  w2c_j0 = 0ull;
-  w2c_l11 = w2c_j0;
-  w2c_j0 = 9223372036854775807ull;
-  w2c_l10 = w2c_j0;
-  w2c_j0 = 18446744073709551615ull;
-  w2c_l7 = w2c_j0;
-  goto w2c_B4;
-  w2c_B39:;
-  w2c_i0 = w2c_l13;
+  w2c_B4:;
+  w2c_i0 = 0u;
+  w2c_p2 = w2c_i0;
+  w2c_i0 = 0u;
+  w2c_l10 = w2c_i0;
+  goto w2c_B1;
+  w2c_B3:;
+  w2c_i0 = w2c_l10;
   w2c_j1 = w2c_l6;
   w2c_i1 = (u32)(w2c_j1);
   w2c_i1 = i32_load8_u(m, (u64)(w2c_i1) + 24u);
@@ -49098,100 +49966,56 @@ static u32 w2c_f85(module *m, u64 w2c_p0, u64 w2c_p1, u32 w2c_p2, u32 w2c_p3, u6
   w2c_i2 = w2c_i2 == w2c_i3;
   w2c_p2 = w2c_i2;
   w2c_i0 = w2c_i2 ? w2c_i0 : w2c_i1;
-  w2c_l13 = w2c_i0;
+  w2c_l10 = w2c_i0;
   w2c_j0 = 0ull;
   w2c_p0 = w2c_j0;
   w2c_j0 = 0ull;
-  w2c_j1 = w2c_l9;
+  w2c_j1 = w2c_l5;
   w2c_i2 = w2c_p2;
   w2c_j0 = w2c_i2 ? w2c_j0 : w2c_j1;
   w2c_l7 = w2c_j0;
-  w2c_B6:;
-  w2c_i0 = 1u;
-  w2c_p2 = w2c_i0;
-  w2c_j0 = 0ull;
-  w2c_l5 = w2c_j0;
-  goto w2c_B1;
-  w2c_B5:;
-  w2c_j0 = 0ull;
-  w2c_l11 = w2c_j0;
-  w2c_j0 = 0ull;
-  w2c_l12 = w2c_j0;
-  w2c_B4:;
-  w2c_j0 = w2c_l9;
-  w2c_j1 = w2c_l11;
-  w2c_j2 = w2c_l7;
-  w2c_i3 = w2c_p2;
-  w2c_j1 = w2c_i3 ? w2c_j1 : w2c_j2;
-  w2c_i0 = w2c_j0 > w2c_j1;
-  w2c_j1 = w2c_l5;
-  w2c_j2 = w2c_l12;
-  w2c_j3 = w2c_l10;
-  w2c_i4 = w2c_p2;
-  w2c_j2 = w2c_i4 ? w2c_j2 : w2c_j3;
-  w2c_l7 = w2c_j2;
-  w2c_i1 = w2c_j1 > w2c_j2;
-  w2c_j2 = w2c_l5;
-  w2c_j3 = w2c_l7;
-  w2c_i2 = w2c_j2 == w2c_j3;
-  w2c_i0 = w2c_i2 ? w2c_i0 : w2c_i1;
-  w2c_i0 = !(w2c_i0);
-  if (w2c_i0) {goto w2c_B2;}
-  w2c_B3:;
-  w2c_i0 = 1u;
-  w2c_p2 = w2c_i0;
-  w2c_j0 = 0ull;
-  w2c_l5 = w2c_j0;
-  w2c_j0 = 0ull;
-  w2c_l7 = w2c_j0;
-  goto w2c_B1;
   w2c_B2:;
-  w2c_i0 = w2c_p2;
-  w2c_j0 = (u64)(w2c_i0);
-  w2c_l7 = w2c_j0;
-  w2c_i0 = 0u;
+  w2c_i0 = 1u;
   w2c_p2 = w2c_i0;
-  w2c_j0 = w2c_l9;
-  w2c_p0 = w2c_j0;
-  w2c_i0 = 0u;
-  w2c_l13 = w2c_i0;
+  w2c_j0 = 0ull;
+  w2c_l5 = w2c_j0;
   w2c_B1:;
   w2c_i0 = w2c_p2;
-  if (w2c_i0) {goto w2c_B49;}
+  if (w2c_i0) {goto w2c_B28;}
   w2c_j0 = w2c_p4;
   w2c_i0 = (u32)(w2c_j0);
   w2c_j1 = 0ull;
-  w2c_j2 = w2c_p0;
+  w2c_j2 = w2c_l5;
   w2c_j1 -= w2c_j2;
-  w2c_j2 = w2c_p0;
+  w2c_j2 = w2c_l5;
   w2c_j3 = w2c_l7;
   w2c_i3 = (u32)(w2c_j3);
   w2c_i4 = 1u;
   w2c_i3 &= w2c_i4;
-  w2c_l13 = w2c_i3;
+  w2c_l10 = w2c_i3;
   w2c_j1 = w2c_i3 ? w2c_j1 : w2c_j2;
   i64_store(m, (u64)(w2c_i0), w2c_j1);
   w2c_j0 = w2c_p4;
   w2c_i0 = (u32)(w2c_j0);
   w2c_j1 = 0ull;
-  w2c_j2 = w2c_l5;
-  w2c_j3 = w2c_p0;
+  w2c_j2 = w2c_p0;
+  w2c_j3 = w2c_l5;
   w2c_j4 = 0ull;
   w2c_i3 = w2c_j3 != w2c_j4;
   w2c_j3 = (u64)(w2c_i3);
   w2c_j2 += w2c_j3;
   w2c_j1 -= w2c_j2;
-  w2c_j2 = w2c_l5;
-  w2c_i3 = w2c_l13;
+  w2c_j2 = w2c_p0;
+  w2c_i3 = w2c_l10;
   w2c_j1 = w2c_i3 ? w2c_j1 : w2c_j2;
   i64_store(m, (u64)(w2c_i0) + 8, w2c_j1);
   w2c_i0 = 0u;
-  w2c_l13 = w2c_i0;
+  w2c_l10 = w2c_i0;
   goto w2c_B0;
-  w2c_B49:;
+  w2c_B28:;
   w2c_j0 = w2c_l8;
   w2c_j1 = w2c_p1;
-  w2c_i2 = w2c_l13;
+  w2c_i2 = w2c_l10;
   w2c_j3 = w2c_l7;
   w2c_j4 = w2c_p4;
   w2c_j5 = 16ull;
@@ -49200,13 +50024,13 @@ static u32 w2c_f85(module *m, u64 w2c_p0, u64 w2c_p1, u32 w2c_p2, u32 w2c_p3, u6
   w2c_j6 = 24ull;
   w2c_j5 += w2c_j6;
   w2c_i0 = w2c_f45(m, w2c_j0, w2c_j1, w2c_i2, w2c_j3, w2c_j4, w2c_j5);
-  w2c_l13 = w2c_i0;
+  w2c_l10 = w2c_i0;
   w2c_B0:;
   w2c_j0 = w2c_l6;
   w2c_j1 = 96ull;
   w2c_j0 += w2c_j1;
   m->w2c_g0 = w2c_j0;
-  w2c_i0 = w2c_l13;
+  w2c_i0 = w2c_l10;
   return w2c_i0;
 }
 
@@ -49232,8 +50056,8 @@ static u32 w2c_chinese_number_read_utf8(module *m, u64 w2c_p0, u64 w2c_p1, u32 w
 }
 
 static u32 w2c_f87(module *m, u64 w2c_p0, u64 w2c_p1, u32 w2c_p2, u32 w2c_p3, u64 w2c_p4) {
-  u32 w2c_l13 = 0, w2c_l14 = 0;
-  u64 w2c_l5 = 0, w2c_l6 = 0, w2c_l7 = 0, w2c_l8 = 0, w2c_l9 = 0, w2c_l10 = 0, w2c_l11 = 0, w2c_l12 = 0;
+  u32 w2c_l10 = 0, w2c_l11 = 0;
+  u64 w2c_l5 = 0, w2c_l6 = 0, w2c_l7 = 0, w2c_l8 = 0, w2c_l9 = 0;
   u32 w2c_i0, w2c_i1, w2c_i2, w2c_i3, w2c_i4;
   u64 w2c_j0, w2c_j1, w2c_j2, w2c_j3, w2c_j4, w2c_j5, w2c_j6;
   w2c_j0 = m->w2c_g0;
@@ -49263,7 +50087,7 @@ static u32 w2c_f87(module *m, u64 w2c_p0, u64 w2c_p1, u32 w2c_p2, u32 w2c_p3, u6
   w2c_j1 = 0ull;
   i64_store(m, (u64)(w2c_i0), w2c_j1);
   w2c_i0 = 8u;
-  w2c_l13 = w2c_i0;
+  w2c_l10 = w2c_i0;
   w2c_i0 = w2c_p2;
   w2c_i1 = 9u;
   w2c_i0 = w2c_i0 > w2c_i1;
@@ -49275,14 +50099,14 @@ static u32 w2c_f87(module *m, u64 w2c_p0, u64 w2c_p1, u32 w2c_p2, u32 w2c_p3, u6
   w2c_i3 = !(w2c_j3);
   w2c_j1 = w2c_i3 ? w2c_j1 : w2c_j2;
   w2c_j0 += w2c_j1;
-  w2c_p0 = w2c_j0;
+  w2c_l6 = w2c_j0;
   w2c_i0 = w2c_p2;
   w2c_j0 = (u64)(w2c_i0);
-  w2c_j1 = 67884ull;
+  w2c_j1 = 68016ull;
   w2c_j0 += w2c_j1;
   w2c_i0 = (u32)(w2c_j0);
   w2c_i0 = i32_load8_u(m, (u64)(w2c_i0));
-  w2c_l14 = w2c_i0;
+  w2c_l11 = w2c_i0;
   w2c_i0 = w2c_p3;
   w2c_i1 = 5u;
   w2c_i0 = w2c_i0 < w2c_i1;
@@ -49294,8 +50118,8 @@ static u32 w2c_f87(module *m, u64 w2c_p0, u64 w2c_p1, u32 w2c_p2, u32 w2c_p3, u6
   w2c_j0 = w2c_l5;
   w2c_j1 = 8ull;
   w2c_j0 += w2c_j1;
-  w2c_i1 = w2c_l14;
-  w2c_j2 = w2c_p0;
+  w2c_i1 = w2c_l11;
+  w2c_j2 = w2c_l6;
   w2c_j3 = w2c_p1;
   w2c_f46(m, w2c_j0, w2c_i1, w2c_j2, w2c_j3);
   w2c_j0 = w2c_l5;
@@ -49305,7 +50129,7 @@ static u32 w2c_f87(module *m, u64 w2c_p0, u64 w2c_p1, u32 w2c_p2, u32 w2c_p3, u6
   w2c_j0 = w2c_l5;
   w2c_i0 = (u32)(w2c_j0);
   w2c_i0 = i32_load8_u(m, (u64)(w2c_i0) + 8u);
-  w2c_l13 = w2c_i0;
+  w2c_l10 = w2c_i0;
   goto w2c_B1;
   w2c_B3:;
   UNREACHABLE;
@@ -49314,20 +50138,25 @@ static u32 w2c_f87(module *m, u64 w2c_p0, u64 w2c_p1, u32 w2c_p2, u32 w2c_p3, u6
   w2c_j0 = (u64)(w2c_i0);
   w2c_j1 = 1ull;
   w2c_j0 <<= (w2c_j1 & 63);
-  w2c_l6 = w2c_j0;
-  w2c_j1 = 67895ull;
+  w2c_p0 = w2c_j0;
+  w2c_j1 = 68027ull;
   w2c_j0 += w2c_j1;
   w2c_i0 = (u32)(w2c_j0);
   w2c_i0 = i32_load8_u(m, (u64)(w2c_i0));
   w2c_p3 = w2c_i0;
-  w2c_j0 = w2c_l6;
-  w2c_j1 = 67894ull;
+  w2c_j0 = w2c_p0;
+  w2c_j1 = 68026ull;
   w2c_j0 += w2c_j1;
   w2c_i0 = (u32)(w2c_j0);
   w2c_i0 = i32_load8_u(m, (u64)(w2c_i0));
-  w2c_l13 = w2c_i0;
+  w2c_l10 = w2c_i0;
   w2c_B1:;
-  w2c_i0 = w2c_l13;
+  w2c_i0 = w2c_l11;
+  w2c_j0 = (u64)(w2c_i0);
+  w2c_j1 = 255ull;
+  w2c_j0 &= w2c_j1;
+  w2c_l7 = w2c_j0;
+  w2c_i0 = w2c_l10;
   w2c_i1 = 255u;
   w2c_i0 &= w2c_i1;
   if (w2c_i0) {goto w2c_B12;}
@@ -49374,7 +50203,7 @@ static u32 w2c_f87(module *m, u64 w2c_p0, u64 w2c_p1, u32 w2c_p2, u32 w2c_p3, u6
   w2c_j0 = w2c_l5;
   w2c_j1 = 56ull;
   w2c_j0 += w2c_j1;
-  w2c_j1 = w2c_p0;
+  w2c_j1 = w2c_l6;
   w2c_j2 = w2c_p1;
   w2c_f32(m, w2c_j0, w2c_j1, w2c_j2);
   w2c_j0 = w2c_l5;
@@ -49386,15 +50215,15 @@ static u32 w2c_f87(module *m, u64 w2c_p0, u64 w2c_p1, u32 w2c_p2, u32 w2c_p3, u6
   w2c_j0 = w2c_l5;
   w2c_i0 = (u32)(w2c_j0);
   w2c_j0 = i64_load(m, (u64)(w2c_i0) + 88u);
-  w2c_l6 = w2c_j0;
+  w2c_p0 = w2c_j0;
   w2c_j0 = w2c_l5;
   w2c_i0 = (u32)(w2c_j0);
   w2c_j0 = i64_load(m, (u64)(w2c_i0) + 80u);
-  w2c_l7 = w2c_j0;
+  w2c_l8 = w2c_j0;
   w2c_j0 = w2c_l5;
   w2c_i0 = (u32)(w2c_j0);
   w2c_j0 = i64_load(m, (u64)(w2c_i0) + 72u);
-  w2c_l8 = w2c_j0;
+  w2c_l9 = w2c_j0;
   w2c_j0 = w2c_l5;
   w2c_i0 = (u32)(w2c_j0);
   w2c_i0 = i32_load(m, (u64)(w2c_i0) + 64u);
@@ -49415,7 +50244,7 @@ static u32 w2c_f87(module *m, u64 w2c_p0, u64 w2c_p1, u32 w2c_p2, u32 w2c_p3, u6
   w2c_j1 = 16ull;
   w2c_j0 += w2c_j1;
   w2c_j1 = 0ull;
-  w2c_j2 = w2c_p0;
+  w2c_j2 = w2c_l6;
   w2c_j3 = w2c_p1;
   w2c_f42(m, w2c_j0, w2c_j1, w2c_j2, w2c_j3);
   goto w2c_B11;
@@ -49423,27 +50252,27 @@ static u32 w2c_f87(module *m, u64 w2c_p0, u64 w2c_p1, u32 w2c_p2, u32 w2c_p3, u6
   w2c_j0 = w2c_l5;
   w2c_j1 = 16ull;
   w2c_j0 += w2c_j1;
-  w2c_j1 = w2c_l8;
+  w2c_j1 = w2c_l9;
   w2c_j2 = 1ull;
   w2c_j1 += w2c_j2;
-  w2c_j2 = w2c_l7;
-  w2c_j3 = w2c_l6;
+  w2c_j2 = w2c_l8;
+  w2c_j3 = w2c_p0;
   w2c_f42(m, w2c_j0, w2c_j1, w2c_j2, w2c_j3);
   goto w2c_B11;
   w2c_B13:;
   w2c_j0 = w2c_l5;
   w2c_j1 = 16ull;
   w2c_j0 += w2c_j1;
-  w2c_j1 = w2c_l8;
+  w2c_j1 = w2c_l9;
   w2c_j2 = 1ull;
   w2c_j1 += w2c_j2;
-  w2c_j2 = w2c_l7;
-  w2c_j3 = w2c_l6;
+  w2c_j2 = w2c_l8;
+  w2c_j3 = w2c_p0;
   w2c_f42(m, w2c_j0, w2c_j1, w2c_j2, w2c_j3);
   w2c_i0 = 3u;
   w2c_p2 = w2c_i0;
   w2c_i0 = 1u;
-  w2c_l13 = w2c_i0;
+  w2c_l10 = w2c_i0;
   goto w2c_B10;
   w2c_B12:;
   w2c_j0 = w2c_l5;
@@ -49489,7 +50318,7 @@ static u32 w2c_f87(module *m, u64 w2c_p0, u64 w2c_p1, u32 w2c_p2, u32 w2c_p3, u6
   w2c_j0 = w2c_l5;
   w2c_j1 = 56ull;
   w2c_j0 += w2c_j1;
-  w2c_j1 = w2c_p0;
+  w2c_j1 = w2c_l6;
   w2c_j2 = w2c_p1;
   w2c_f32(m, w2c_j0, w2c_j1, w2c_j2);
   w2c_j0 = w2c_l5;
@@ -49501,15 +50330,15 @@ static u32 w2c_f87(module *m, u64 w2c_p0, u64 w2c_p1, u32 w2c_p2, u32 w2c_p3, u6
   w2c_j0 = w2c_l5;
   w2c_i0 = (u32)(w2c_j0);
   w2c_j0 = i64_load(m, (u64)(w2c_i0) + 88u);
-  w2c_l6 = w2c_j0;
+  w2c_p0 = w2c_j0;
   w2c_j0 = w2c_l5;
   w2c_i0 = (u32)(w2c_j0);
   w2c_j0 = i64_load(m, (u64)(w2c_i0) + 80u);
-  w2c_l7 = w2c_j0;
+  w2c_l8 = w2c_j0;
   w2c_j0 = w2c_l5;
   w2c_i0 = (u32)(w2c_j0);
   w2c_j0 = i64_load(m, (u64)(w2c_i0) + 72u);
-  w2c_l8 = w2c_j0;
+  w2c_l9 = w2c_j0;
   w2c_j0 = w2c_l5;
   w2c_i0 = (u32)(w2c_j0);
   w2c_i0 = i32_load(m, (u64)(w2c_i0) + 64u);
@@ -49531,7 +50360,7 @@ static u32 w2c_f87(module *m, u64 w2c_p0, u64 w2c_p1, u32 w2c_p2, u32 w2c_p3, u6
   w2c_j0 += w2c_j1;
   w2c_i1 = w2c_p3;
   w2c_j2 = 0ull;
-  w2c_j3 = w2c_p0;
+  w2c_j3 = w2c_l6;
   w2c_j4 = w2c_p1;
   w2c_f47(m, w2c_j0, w2c_i1, w2c_j2, w2c_j3, w2c_j4);
   goto w2c_B17;
@@ -49540,11 +50369,11 @@ static u32 w2c_f87(module *m, u64 w2c_p0, u64 w2c_p1, u32 w2c_p2, u32 w2c_p3, u6
   w2c_j1 = 16ull;
   w2c_j0 += w2c_j1;
   w2c_i1 = w2c_p3;
-  w2c_j2 = w2c_l8;
+  w2c_j2 = w2c_l9;
   w2c_j3 = 1ull;
   w2c_j2 += w2c_j3;
-  w2c_j3 = w2c_l7;
-  w2c_j4 = w2c_l6;
+  w2c_j3 = w2c_l8;
+  w2c_j4 = w2c_p0;
   w2c_f47(m, w2c_j0, w2c_i1, w2c_j2, w2c_j3, w2c_j4);
   goto w2c_B17;
   w2c_B18:;
@@ -49552,389 +50381,180 @@ static u32 w2c_f87(module *m, u64 w2c_p0, u64 w2c_p1, u32 w2c_p2, u32 w2c_p3, u6
   w2c_j1 = 16ull;
   w2c_j0 += w2c_j1;
   w2c_i1 = w2c_p3;
-  w2c_j2 = w2c_l8;
+  w2c_j2 = w2c_l9;
   w2c_j3 = 1ull;
   w2c_j2 += w2c_j3;
-  w2c_j3 = w2c_l7;
-  w2c_j4 = w2c_l6;
+  w2c_j3 = w2c_l8;
+  w2c_j4 = w2c_p0;
   w2c_f47(m, w2c_j0, w2c_i1, w2c_j2, w2c_j3, w2c_j4);
   w2c_i0 = 3u;
   w2c_p2 = w2c_i0;
   w2c_i0 = 1u;
-  w2c_l13 = w2c_i0;
+  w2c_l10 = w2c_i0;
   goto w2c_B16;
   w2c_B17:;
   w2c_i0 = 2u;
   w2c_p2 = w2c_i0;
   w2c_i0 = 0u;
-  w2c_l13 = w2c_i0;
+  w2c_l10 = w2c_i0;
   w2c_B16:;
   w2c_j0 = w2c_l5;
   w2c_i0 = (u32)(w2c_j0);
   w2c_j0 = i64_load(m, (u64)(w2c_i0) + 40u);
-  w2c_l6 = w2c_j0;
+  w2c_l8 = w2c_j0;
   w2c_j0 = w2c_l5;
   w2c_i0 = (u32)(w2c_j0);
   w2c_j0 = i64_load(m, (u64)(w2c_i0) + 32u);
-  w2c_l9 = w2c_j0;
+  w2c_p0 = w2c_j0;
   w2c_j0 = w2c_l5;
   w2c_i0 = (u32)(w2c_j0);
   w2c_i0 = i32_load8_u(m, (u64)(w2c_i0) + 16u);
-  if (w2c_i0) {goto w2c_B23;}
-  w2c_j0 = 0ull;
+  if (w2c_i0) {goto w2c_B21;}
+  w2c_j0 = w2c_p0;
+  w2c_j1 = w2c_l7;
+  w2c_j2 = 5ull;
+  w2c_j1 <<= (w2c_j2 & 63);
+  w2c_j2 = 68064ull;
+  w2c_j3 = 68048ull;
+  w2c_i4 = w2c_l10;
+  w2c_j2 = w2c_i4 ? w2c_j2 : w2c_j3;
+  w2c_j1 += w2c_j2;
+  w2c_l7 = w2c_j1;
+  w2c_i1 = (u32)(w2c_j1);
+  w2c_j1 = i64_load(m, (u64)(w2c_i1));
+  w2c_i0 = w2c_j0 > w2c_j1;
+  w2c_j1 = w2c_l8;
+  w2c_j2 = w2c_l7;
+  w2c_i2 = (u32)(w2c_j2);
+  w2c_j2 = i64_load(m, (u64)(w2c_i2) + 8u);
+  w2c_l7 = w2c_j2;
+  w2c_i1 = w2c_j1 > w2c_j2;
+  w2c_j2 = w2c_l8;
+  w2c_j3 = w2c_l7;
+  w2c_i2 = w2c_j2 == w2c_j3;
+  w2c_i0 = w2c_i2 ? w2c_i0 : w2c_i1;
+  if (w2c_i0) {goto w2c_B9;}
+  w2c_i0 = w2c_l10;
+  w2c_j0 = (u64)(w2c_i0);
   w2c_l7 = w2c_j0;
-  w2c_j0 = 255ull;
-  w2c_l8 = w2c_j0;
-  w2c_j0 = 0ull;
-  w2c_l10 = w2c_j0;
-  w2c_j0 = 0ull;
-  w2c_l11 = w2c_j0;
-  w2c_j0 = 0ull;
-  w2c_l12 = w2c_j0;
-  w2c_i0 = w2c_l14;
-  switch (w2c_i0) {
-    case 0: goto w2c_B21;
-    case 1: goto w2c_B32;
-    case 2: goto w2c_B31;
-    case 3: goto w2c_B30;
-    case 4: goto w2c_B29;
-    case 5: goto w2c_B28;
-    case 6: goto w2c_B27;
-    case 7: goto w2c_B26;
-    case 8: goto w2c_B25;
-    case 9: goto w2c_B24;
-    default: goto w2c_B21;
-  }
-  w2c_B32:;
-  w2c_j0 = 0ull;
-  w2c_l10 = w2c_j0;
-  w2c_j0 = 65535ull;
-  w2c_l8 = w2c_j0;
-  goto w2c_B22;
-  w2c_B31:;
-  w2c_j0 = 0ull;
-  w2c_l10 = w2c_j0;
-  w2c_j0 = 4294967295ull;
-  w2c_l8 = w2c_j0;
-  goto w2c_B22;
-  w2c_B30:;
-  w2c_j0 = 0ull;
-  w2c_l10 = w2c_j0;
-  w2c_j0 = 18446744073709551615ull;
-  w2c_l8 = w2c_j0;
-  goto w2c_B22;
-  w2c_B29:;
-  w2c_j0 = 0ull;
-  w2c_l11 = w2c_j0;
-  w2c_j0 = 18446744073709551615ull;
-  w2c_l8 = w2c_j0;
-  w2c_j0 = 18446744073709551615ull;
-  w2c_l10 = w2c_j0;
-  w2c_j0 = 0ull;
-  w2c_l12 = w2c_j0;
-  goto w2c_B21;
-  w2c_B28:;
-  w2c_j0 = 0ull;
-  w2c_l10 = w2c_j0;
-  w2c_j0 = 128ull;
-  w2c_l11 = w2c_j0;
-  w2c_j0 = 127ull;
-  w2c_l8 = w2c_j0;
-  w2c_j0 = 0ull;
-  w2c_l12 = w2c_j0;
-  goto w2c_B21;
-  w2c_B27:;
-  w2c_j0 = 0ull;
-  w2c_l10 = w2c_j0;
-  w2c_j0 = 32768ull;
-  w2c_l11 = w2c_j0;
-  w2c_j0 = 32767ull;
-  w2c_l8 = w2c_j0;
-  w2c_j0 = 0ull;
-  w2c_l12 = w2c_j0;
-  goto w2c_B21;
-  w2c_B26:;
-  w2c_j0 = 0ull;
-  w2c_l10 = w2c_j0;
-  w2c_j0 = 2147483648ull;
-  w2c_l11 = w2c_j0;
-  w2c_j0 = 2147483647ull;
-  w2c_l8 = w2c_j0;
-  w2c_j0 = 0ull;
-  w2c_l12 = w2c_j0;
-  goto w2c_B21;
-  w2c_B25:;
-  w2c_j0 = 0ull;
-  w2c_l10 = w2c_j0;
-  w2c_j0 = 9223372036854775808ull;
-  w2c_l11 = w2c_j0;
-  w2c_j0 = 9223372036854775807ull;
-  w2c_l8 = w2c_j0;
-  w2c_j0 = 0ull;
-  w2c_l12 = w2c_j0;
-  goto w2c_B21;
-  w2c_B24:;
-  w2c_j0 = 9223372036854775808ull;
-  w2c_l12 = w2c_j0;
-  w2c_j0 = 0ull;
-  w2c_l11 = w2c_j0;
-  w2c_j0 = 9223372036854775807ull;
-  w2c_l10 = w2c_j0;
-  w2c_j0 = 18446744073709551615ull;
-  w2c_l8 = w2c_j0;
-  goto w2c_B21;
-  w2c_B23:;
+  goto w2c_B7;
+  w2c_B21:;
   w2c_i0 = w2c_p2;
   w2c_j1 = w2c_l5;
   w2c_i1 = (u32)(w2c_j1);
   w2c_i1 = i32_load8_u(m, (u64)(w2c_i1) + 24u);
-  w2c_l13 = w2c_i1;
-  w2c_i2 = w2c_l13;
+  w2c_l10 = w2c_i1;
+  w2c_i2 = w2c_l10;
   w2c_i3 = 2u;
   w2c_i2 = w2c_i2 == w2c_i3;
-  w2c_l13 = w2c_i2;
+  w2c_l10 = w2c_i2;
   w2c_i0 = w2c_i2 ? w2c_i0 : w2c_i1;
   w2c_p2 = w2c_i0;
   w2c_j0 = 0ull;
-  w2c_l7 = w2c_j0;
+  w2c_l8 = w2c_j0;
   w2c_j0 = 0ull;
-  w2c_j1 = w2c_l9;
-  w2c_i2 = w2c_l13;
+  w2c_j1 = w2c_p0;
+  w2c_i2 = w2c_l10;
   w2c_j0 = w2c_i2 ? w2c_j0 : w2c_j1;
-  w2c_l8 = w2c_j0;
-  goto w2c_B9;
-  w2c_B22:;
-  w2c_j0 = 0ull;
-  w2c_l11 = w2c_j0;
-  w2c_j0 = 0ull;
-  w2c_l12 = w2c_j0;
-  w2c_B21:;
-  w2c_j0 = w2c_l9;
-  w2c_j1 = w2c_l11;
-  w2c_j2 = w2c_l8;
-  w2c_i3 = w2c_l13;
-  w2c_j1 = w2c_i3 ? w2c_j1 : w2c_j2;
-  w2c_i0 = w2c_j0 > w2c_j1;
-  w2c_j1 = w2c_l6;
-  w2c_j2 = w2c_l12;
-  w2c_j3 = w2c_l10;
-  w2c_i4 = w2c_l13;
-  w2c_j2 = w2c_i4 ? w2c_j2 : w2c_j3;
-  w2c_l8 = w2c_j2;
-  w2c_i1 = w2c_j1 > w2c_j2;
-  w2c_j2 = w2c_l6;
-  w2c_j3 = w2c_l8;
-  w2c_i2 = w2c_j2 == w2c_j3;
-  w2c_i0 = w2c_i2 ? w2c_i0 : w2c_i1;
-  if (w2c_i0) {goto w2c_B6;}
-  w2c_i0 = w2c_l13;
-  w2c_j0 = (u64)(w2c_i0);
-  w2c_l8 = w2c_j0;
-  w2c_i0 = 0u;
-  w2c_l13 = w2c_i0;
-  w2c_j0 = w2c_l9;
   w2c_l7 = w2c_j0;
-  w2c_i0 = 0u;
-  w2c_p2 = w2c_i0;
-  goto w2c_B4;
+  goto w2c_B5;
   w2c_B11:;
   w2c_i0 = 2u;
   w2c_p2 = w2c_i0;
   w2c_i0 = 0u;
-  w2c_l13 = w2c_i0;
+  w2c_l10 = w2c_i0;
   w2c_B10:;
   w2c_j0 = w2c_l5;
   w2c_i0 = (u32)(w2c_j0);
   w2c_j0 = i64_load(m, (u64)(w2c_i0) + 40u);
-  w2c_l6 = w2c_j0;
+  w2c_l8 = w2c_j0;
   w2c_j0 = w2c_l5;
   w2c_i0 = (u32)(w2c_j0);
   w2c_j0 = i64_load(m, (u64)(w2c_i0) + 32u);
-  w2c_l9 = w2c_j0;
+  w2c_p0 = w2c_j0;
   w2c_j0 = w2c_l5;
   w2c_i0 = (u32)(w2c_j0);
   w2c_i0 = i32_load8_u(m, (u64)(w2c_i0) + 16u);
-  if (w2c_i0) {goto w2c_B33;}
+  if (w2c_i0) {goto w2c_B6;}
+  w2c_j0 = w2c_p0;
+  w2c_j1 = w2c_l7;
+  w2c_j2 = 5ull;
+  w2c_j1 <<= (w2c_j2 & 63);
+  w2c_j2 = 68064ull;
+  w2c_j3 = 68048ull;
+  w2c_i4 = w2c_l10;
+  w2c_j2 = w2c_i4 ? w2c_j2 : w2c_j3;
+  w2c_j1 += w2c_j2;
+  w2c_l7 = w2c_j1;
+  w2c_i1 = (u32)(w2c_j1);
+  w2c_j1 = i64_load(m, (u64)(w2c_i1));
+  w2c_i0 = w2c_j0 > w2c_j1;
+  w2c_j1 = w2c_l8;
+  w2c_j2 = w2c_l7;
+  w2c_i2 = (u32)(w2c_j2);
+  w2c_j2 = i64_load(m, (u64)(w2c_i2) + 8u);
+  w2c_l7 = w2c_j2;
+  w2c_i1 = w2c_j1 > w2c_j2;
+  w2c_j2 = w2c_l8;
+  w2c_j3 = w2c_l7;
+  w2c_i2 = w2c_j2 == w2c_j3;
+  w2c_i0 = w2c_i2 ? w2c_i0 : w2c_i1;
+  w2c_i0 = !(w2c_i0);
+  if (w2c_i0) {goto w2c_B8;}
+  w2c_B9:;
+  w2c_j0 = 0ull;
+  w2c_p0 = w2c_j0;
+  w2c_i0 = 1u;
+  w2c_l10 = w2c_i0;
+  w2c_j0 = 0ull;
+  w2c_l8 = w2c_j0;
   w2c_j0 = 0ull;
   w2c_l7 = w2c_j0;
-  w2c_j0 = 255ull;
-  w2c_l8 = w2c_j0;
-  w2c_j0 = 0ull;
-  w2c_l10 = w2c_j0;
-  w2c_j0 = 0ull;
-  w2c_l11 = w2c_j0;
-  w2c_j0 = 0ull;
-  w2c_l12 = w2c_j0;
-  w2c_i0 = w2c_l14;
-  switch (w2c_i0) {
-    case 0: goto w2c_B7;
-    case 1: goto w2c_B42;
-    case 2: goto w2c_B41;
-    case 3: goto w2c_B40;
-    case 4: goto w2c_B39;
-    case 5: goto w2c_B38;
-    case 6: goto w2c_B37;
-    case 7: goto w2c_B36;
-    case 8: goto w2c_B35;
-    case 9: goto w2c_B34;
-    default: goto w2c_B7;
-  }
-  w2c_B42:;
-  w2c_j0 = 0ull;
-  w2c_l10 = w2c_j0;
-  w2c_j0 = 65535ull;
-  w2c_l8 = w2c_j0;
-  goto w2c_B8;
-  w2c_B41:;
-  w2c_j0 = 0ull;
-  w2c_l10 = w2c_j0;
-  w2c_j0 = 4294967295ull;
-  w2c_l8 = w2c_j0;
-  goto w2c_B8;
-  w2c_B40:;
-  w2c_j0 = 0ull;
-  w2c_l10 = w2c_j0;
-  w2c_j0 = 18446744073709551615ull;
-  w2c_l8 = w2c_j0;
-  goto w2c_B8;
-  w2c_B39:;
-  w2c_j0 = 0ull;
-  w2c_l11 = w2c_j0;
-  w2c_j0 = 18446744073709551615ull;
-  w2c_l8 = w2c_j0;
-  w2c_j0 = 18446744073709551615ull;
-  w2c_l10 = w2c_j0;
-  w2c_j0 = 0ull;
-  w2c_l12 = w2c_j0;
-  goto w2c_B7;
-  w2c_B38:;
-  w2c_j0 = 0ull;
-  w2c_l10 = w2c_j0;
-  w2c_j0 = 128ull;
-  w2c_l11 = w2c_j0;
-  w2c_j0 = 127ull;
-  w2c_l8 = w2c_j0;
-  w2c_j0 = 0ull;
-  w2c_l12 = w2c_j0;
-  goto w2c_B7;
-  w2c_B37:;
-  w2c_j0 = 0ull;
-  w2c_l10 = w2c_j0;
-  w2c_j0 = 32768ull;
-  w2c_l11 = w2c_j0;
-  w2c_j0 = 32767ull;
-  w2c_l8 = w2c_j0;
-  w2c_j0 = 0ull;
-  w2c_l12 = w2c_j0;
-  goto w2c_B7;
-  w2c_B36:;
-  w2c_j0 = 0ull;
-  w2c_l10 = w2c_j0;
-  w2c_j0 = 2147483648ull;
-  w2c_l11 = w2c_j0;
-  w2c_j0 = 2147483647ull;
-  w2c_l8 = w2c_j0;
-  w2c_j0 = 0ull;
-  w2c_l12 = w2c_j0;
-  goto w2c_B7;
-  w2c_B35:;
-  w2c_j0 = 0ull;
-  w2c_l10 = w2c_j0;
-  w2c_j0 = 9223372036854775808ull;
-  w2c_l11 = w2c_j0;
-  w2c_j0 = 9223372036854775807ull;
-  w2c_l8 = w2c_j0;
-  w2c_j0 = 0ull;
-  w2c_l12 = w2c_j0;
-  goto w2c_B7;
-  w2c_B34:;
-  w2c_j0 = 9223372036854775808ull;
-  w2c_l12 = w2c_j0;
-  w2c_j0 = 0ull;
-  w2c_l11 = w2c_j0;
-  w2c_j0 = 9223372036854775807ull;
-  w2c_l10 = w2c_j0;
-  w2c_j0 = 18446744073709551615ull;
-  w2c_l8 = w2c_j0;
-  goto w2c_B7;
-  w2c_B33:;
+  goto w2c_B4;
+  w2c_B8:;
+  w2c_i0 = w2c_l10;
+  w2c_j0 = (u64)(w2c_i0);
+  w2c_l7 = w2c_j0;
+  w2c_B7:;
+  w2c_i0 = 0u;
+  w2c_l10 = w2c_i0;
+  w2c_i0 = 0u;
+  w2c_p2 = w2c_i0;
+  goto w2c_B4;
+  w2c_B6:;
   w2c_i0 = w2c_p2;
   w2c_j1 = w2c_l5;
   w2c_i1 = (u32)(w2c_j1);
   w2c_i1 = i32_load8_u(m, (u64)(w2c_i1) + 24u);
-  w2c_l13 = w2c_i1;
-  w2c_i2 = w2c_l13;
+  w2c_l10 = w2c_i1;
+  w2c_i2 = w2c_l10;
   w2c_i3 = 2u;
   w2c_i2 = w2c_i2 == w2c_i3;
-  w2c_l13 = w2c_i2;
+  w2c_l10 = w2c_i2;
   w2c_i0 = w2c_i2 ? w2c_i0 : w2c_i1;
   w2c_p2 = w2c_i0;
   w2c_j0 = 0ull;
-  w2c_l7 = w2c_j0;
+  w2c_l8 = w2c_j0;
   w2c_j0 = 0ull;
-  w2c_j1 = w2c_l9;
-  w2c_i2 = w2c_l13;
+  w2c_j1 = w2c_p0;
+  w2c_i2 = w2c_l10;
   w2c_j0 = w2c_i2 ? w2c_j0 : w2c_j1;
-  w2c_l8 = w2c_j0;
-  w2c_B9:;
-  w2c_i0 = 1u;
-  w2c_l13 = w2c_i0;
-  w2c_j0 = 0ull;
-  w2c_l6 = w2c_j0;
-  goto w2c_B4;
-  w2c_B8:;
-  w2c_j0 = 0ull;
-  w2c_l11 = w2c_j0;
-  w2c_j0 = 0ull;
-  w2c_l12 = w2c_j0;
-  w2c_B7:;
-  w2c_j0 = w2c_l9;
-  w2c_j1 = w2c_l11;
-  w2c_j2 = w2c_l8;
-  w2c_i3 = w2c_l13;
-  w2c_j1 = w2c_i3 ? w2c_j1 : w2c_j2;
-  w2c_i0 = w2c_j0 > w2c_j1;
-  w2c_j1 = w2c_l6;
-  w2c_j2 = w2c_l12;
-  w2c_j3 = w2c_l10;
-  w2c_i4 = w2c_l13;
-  w2c_j2 = w2c_i4 ? w2c_j2 : w2c_j3;
-  w2c_l8 = w2c_j2;
-  w2c_i1 = w2c_j1 > w2c_j2;
-  w2c_j2 = w2c_l6;
-  w2c_j3 = w2c_l8;
-  w2c_i2 = w2c_j2 == w2c_j3;
-  w2c_i0 = w2c_i2 ? w2c_i0 : w2c_i1;
-  w2c_i0 = !(w2c_i0);
-  if (w2c_i0) {goto w2c_B5;}
-  w2c_B6:;
-  w2c_i0 = 1u;
-  w2c_l13 = w2c_i0;
-  w2c_j0 = 0ull;
-  w2c_l6 = w2c_j0;
-  w2c_j0 = 0ull;
-  w2c_l8 = w2c_j0;
-  goto w2c_B4;
-  w2c_B5:;
-  w2c_i0 = w2c_l13;
-  w2c_j0 = (u64)(w2c_i0);
-  w2c_l8 = w2c_j0;
-  w2c_i0 = 0u;
-  w2c_l13 = w2c_i0;
-  w2c_j0 = w2c_l9;
   w2c_l7 = w2c_j0;
-  w2c_i0 = 0u;
-  w2c_p2 = w2c_i0;
+  w2c_B5:;
+  w2c_i0 = 1u;
+  w2c_l10 = w2c_i0;
+  w2c_j0 = 0ull;
+  w2c_p0 = w2c_j0;
   w2c_B4:;
-  w2c_i0 = w2c_l13;
-  if (w2c_i0) {goto w2c_B43;}
+  w2c_i0 = w2c_l10;
+  if (w2c_i0) {goto w2c_B22;}
   w2c_j0 = w2c_p4;
   w2c_i0 = (u32)(w2c_j0);
   w2c_j1 = 0ull;
-  w2c_j2 = w2c_l7;
+  w2c_j2 = w2c_p0;
   w2c_j1 -= w2c_j2;
-  w2c_j2 = w2c_l7;
-  w2c_j3 = w2c_l8;
+  w2c_j2 = w2c_p0;
+  w2c_j3 = w2c_l7;
   w2c_i3 = (u32)(w2c_j3);
   w2c_i4 = 1u;
   w2c_i3 &= w2c_i4;
@@ -49944,25 +50564,25 @@ static u32 w2c_f87(module *m, u64 w2c_p0, u64 w2c_p1, u32 w2c_p2, u32 w2c_p3, u6
   w2c_j0 = w2c_p4;
   w2c_i0 = (u32)(w2c_j0);
   w2c_j1 = 0ull;
-  w2c_j2 = w2c_l6;
-  w2c_j3 = w2c_l7;
+  w2c_j2 = w2c_l8;
+  w2c_j3 = w2c_p0;
   w2c_j4 = 0ull;
   w2c_i3 = w2c_j3 != w2c_j4;
   w2c_j3 = (u64)(w2c_i3);
   w2c_j2 += w2c_j3;
   w2c_j1 -= w2c_j2;
-  w2c_j2 = w2c_l6;
+  w2c_j2 = w2c_l8;
   w2c_i3 = w2c_p2;
   w2c_j1 = w2c_i3 ? w2c_j1 : w2c_j2;
   i64_store(m, (u64)(w2c_i0) + 8, w2c_j1);
   w2c_i0 = 0u;
-  w2c_l13 = w2c_i0;
+  w2c_l10 = w2c_i0;
   goto w2c_B0;
-  w2c_B43:;
-  w2c_j0 = w2c_p0;
+  w2c_B22:;
+  w2c_j0 = w2c_l6;
   w2c_j1 = w2c_p1;
   w2c_i2 = w2c_p2;
-  w2c_j3 = w2c_l8;
+  w2c_j3 = w2c_l7;
   w2c_j4 = w2c_p4;
   w2c_j5 = 16ull;
   w2c_j4 += w2c_j5;
@@ -49970,13 +50590,13 @@ static u32 w2c_f87(module *m, u64 w2c_p0, u64 w2c_p1, u32 w2c_p2, u32 w2c_p3, u6
   w2c_j6 = 24ull;
   w2c_j5 += w2c_j6;
   w2c_i0 = w2c_f45(m, w2c_j0, w2c_j1, w2c_i2, w2c_j3, w2c_j4, w2c_j5);
-  w2c_l13 = w2c_i0;
+  w2c_l10 = w2c_i0;
   w2c_B0:;
   w2c_j0 = w2c_l5;
   w2c_j1 = 96ull;
   w2c_j0 += w2c_j1;
   m->w2c_g0 = w2c_j0;
-  w2c_i0 = w2c_l13;
+  w2c_i0 = w2c_l10;
   return w2c_i0;
 }
 #if defined(__GNUC__)
