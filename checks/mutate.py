@@ -36,7 +36,7 @@ SWAPPED |= {other: one for one, other in SWAPPED.items()} | {"%": "/"}
 SWAPPED |= {"+=": "-=", "-=": "+=", "*=": "/=", "/=": "*=", "..": "..=", "..=": ".."}
 # A value that is turned by itself. Binary operators stand between blanks.
 VALUE = re.compile(
-    rf"(?P<text>{QUOTED})|(?<![\w.])(?P<number>0x[\da-f_]+|\d+(?:_\d+)*)"
+    rf"(?P<text>{QUOTED})|(?<![\w.])(?P<number>0x[\da-fA-F_]+|\d+(?:_\d+)*)"
     r"|(?<=[ \n])(?P<operator><<|>>|<=|>=|==|!=|&&|\|\||[-+*/]=|[-+*/%<>&|])(?=[ \n])"
     r"|(?<=[\w)])(?P<range>\.\.=?)(?=[\w(])|(?P<word>\b(?:true|false)\b)"
     r"|(?<![\w:])(?P<path>(?:\w+::)+[A-Z]\w*)\b|(?<![\w!])(?P<not>!)(?=[\w(])",
