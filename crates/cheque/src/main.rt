@@ -19,6 +19,10 @@
 //! failed, and 2 where memory ran out or the words of the command line ask for nothing.
 #![tactic(auto)]
 
+ghost use Rattle.std.specs.Prelude.{◌≡◌, MatchResult};
+ghost use Rattle.std.specs.IoError.{error_kind};
+ghost use Rattle.cheque.specs.Status.{status_of_fault};
+
 pub mod dates;
 mod digits;
 pub mod laws;
@@ -41,10 +45,20 @@ fn serve(rt: &HostRuntime) -> io::Result<u8> {
     write_reply(rt.alloc(), &mut output, &mut errors, words.as_slice())
 }
 
-fn main(rt: HostRuntime) -> ExitCode {
-    match serve(&rt) {
-        Ok(status) => ExitCode::from(status),
-        Err(error) if error.kind() == ErrorKind::OutOfMemory => ExitCode::from(2),
-        Err(_) => ExitCode::from(1),
+// The status of a run, by that of its reply or why there is none.
+fn status(served: io::Result<u8>) -> u8
+    ensures { MatchResult served (λ status. result ≡ status)
+        (λ error. result ≡ status_of_fault (error_kind error)) }
+{
+    match served {
+        Ok(status) => status,
+        Err(error) => match error.kind() {
+            ErrorKind::OutOfMemory => 2,
+            _ => 1,
+        },
     }
+}
+
+fn main(rt: HostRuntime) -> ExitCode {
+    ExitCode::from(status(serve(&rt)))
 }

@@ -2,7 +2,6 @@ pub mod AmountReadBack
 pub mod DateReadBack
 pub mod EitherBack
 pub mod Filling
-pub mod Passing
 pub mod QuantityReadBack
 pub mod ReadBack
 pub mod SignedReadBack

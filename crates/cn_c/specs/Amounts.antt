@@ -8,7 +8,7 @@ use Rattle.chinese_number.specs.AmountPlaces.{amount_limit}
 use Rattle.chinese_number.specs.AmountReading.{AmountRefusal, unfinished, incorrect_at, ReadsAmount}
 use Rattle.chinese_number.specs.AmountWrites.{amount_text}
 use Rattle.cn_c.specs.declared.amount.Amount.{Amount}
-use Rattle.cn_c.specs.ByteIndex.{byte_index}
+use Rattle.cn_judge.specs.ByteIndex.{byte_index}
 use Rattle.cn_c.specs.Codes.{scripts, forms, CN_DONE, CN_INCORRECT, CN_TOO_LARGE, CN_NOT_UTF8, CN_UNKNOWN, CN_UNFINISHED}
 use Rattle.cn_c.specs.Prints.{PutsNothing, PutsIfItFits}
 

@@ -8,7 +8,7 @@ use Rattle.cn_date.specs.Calendar.{IsDate}
 use Rattle.cn_date.specs.Reading.{DateRefusal, unfinished, incorrect_at, ReadsDate}
 use Rattle.cn_date.specs.Writes.{date_text}
 use Rattle.cn_c.specs.declared.date.Date.{Date}
-use Rattle.cn_c.specs.ByteIndex.{byte_index}
+use Rattle.cn_judge.specs.ByteIndex.{byte_index}
 use Rattle.cn_c.specs.Codes.{scripts, CN_DONE, CN_INCORRECT, CN_NOT_UTF8, CN_UNKNOWN, CN_UNFINISHED, CN_NOT_A_DATE}
 use Rattle.cn_c.specs.Prints.{PutsNothing, PutsIfItFits}
 

@@ -15,7 +15,7 @@ use Rattle.cn_figures.specs.Figures.{ReadsSignedFigures}
 use Rattle.cn_c.specs.declared.amount.Amount.{Amount}
 use Rattle.cn_c.specs.declared.signed_amount.SignedAmount.{SignedAmount}
 use Rattle.cn_c.specs.Amounts.{TellsAmount, no_amount}
-use Rattle.cn_c.specs.ByteIndex.{byte_index}
+use Rattle.cn_judge.specs.ByteIndex.{byte_index}
 use Rattle.cn_c.specs.Codes.{scripts, forms, CN_DONE, CN_INCORRECT, CN_TOO_LARGE, CN_TOO_SMALL, CN_NOT_UTF8, CN_UNKNOWN, CN_UNFINISHED}
 use Rattle.cn_c.specs.Prints.{PutsNothing, PutsIfItFits}
 

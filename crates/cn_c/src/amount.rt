@@ -4,12 +4,12 @@ ghost use Rattle.chinese_number.specs.AmountAnswer.{answer_of};
 ghost use Rattle.cn_c.specs.Amounts.{TellsAmount, IsAmountPrinted, IsAmountRead};
 
 use crate::codes::{form_of, script_of};
-use crate::place::byte_index;
 use crate::room::put_text;
 use crate::status::{DONE, INCORRECT, NOT_UTF8, TOO_LARGE, UNFINISHED, UNKNOWN};
 use chinese_number::{AMOUNT_LIMIT, ChineseToAmountError, chinese_to_amount};
 use cn_amount::amount_text;
 use cn_faces::utf8_text;
+use cn_judge::byte_index;
 
 /// What was read: the amount in fen, or of the character at fault how many characters and how many
 /// bytes of the text stand in front of it.

@@ -5,12 +5,12 @@ ghost use Rattle.cn_date.specs.Answer.{answer_of};
 ghost use Rattle.cn_date.specs.Calendar.{IsDate};
 
 use crate::codes::script_of;
-use crate::place::byte_index;
 use crate::room::put_text;
 use crate::status::{DONE, INCORRECT, NOT_A_DATE, NOT_UTF8, UNFINISHED, UNKNOWN};
 use chinese_number::{BillDate, ChineseToDateError, chinese_to_date};
 use cn_date::date_text;
 use cn_faces::utf8_text;
+use cn_judge::byte_index;
 
 /// What was read: the date, or of the character at fault how many characters and how many bytes of
 /// the text stand in front of it.

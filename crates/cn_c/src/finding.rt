@@ -1,8 +1,8 @@
 // The numbers of a text, and its expressions.
-ghost use Rattle.std.specs.Prelude.{◌≡◌, map, take, IsUtf8, length, slice_get};
+ghost use Rattle.std.specs.Prelude.{◌≡◌, map, take, IfNone, IfSome, IsUtf8, length, slice_get};
 ghost use Rattle.chinese_number.specs.Spans.{span_of};
 ghost use Rattle.cn_c.specs.Finds.{Fills, FindsFrom, IsFound, IsFoundAs, IsQuantityFound, rule_of, span_told};
-ghost use Rattle.cn_c.specs.Codes.{units, uppers};
+ghost use Rattle.cn_c.specs.Codes.{units, uppers, CN_DONE, CN_NOT_UTF8};
 
 use crate::codes::{unit_of, upper_of};
 use crate::flags::flags_of;
@@ -52,6 +52,21 @@ fn fill<R: SearchRule>(mut runs: Numbers<'_, R>, spans: &mut [Span]) -> usize
     count
 }
 
+// Tells what is found from a byte on, if a character begins there or the text ends.
+fn tell<R: SearchRule>(runs: Option<Numbers<'_, R>>, spans: &mut [Span], count: &mut usize) -> u32
+    requires { count.old ≡ 0 }
+    ensures some { IfSome runs.entry (λ left. (result ≡ CN_DONE)
+        × Fills (map span_told (take (length spans.old) left)) spans.old spans.new count.new) }
+    ensures none { IfNone runs.entry
+        ((result ≡ CN_NOT_UTF8) × (spans.new ≡ spans.old) × (count.new ≡ 0)) }
+{
+    let Some(runs) = runs else {
+        return NOT_UTF8;
+    };
+    *count = fill(runs, spans);
+    DONE
+}
+
 // Tells the runs of a text from a byte on.
 fn find_from(
     sought: Sought,
@@ -64,22 +79,10 @@ fn find_from(
     requires { count.old ≡ 0 }
     ensures { FindsFrom (rule_of sought wanted) text.now from spans.old result spans.new count.new }
 {
-    if !text.is_char_boundary(from) {
-        return NOT_UTF8;
-    }
     match sought {
-        Sought::Number => {
-            if let Some(numbers) = find_numbers_from(text, from, wanted) {
-                *count = fill(numbers, spans);
-            }
-        }
-        Sought::Quantity => {
-            if let Some(quantities) = find_quantities_from(text, from, wanted) {
-                *count = fill(quantities, spans);
-            }
-        }
+        Sought::Number => tell(find_numbers_from(text, from, wanted), spans, count),
+        Sought::Quantity => tell(find_quantities_from(text, from, wanted), spans, count),
     }
-    DONE
 }
 
 // Tells the runs of bytes from one on, by the codes of what is wanted.

@@ -12,7 +12,6 @@ mod finding;
 mod flags;
 pub mod laws;
 mod number;
-mod place;
 mod printing;
 mod quantity;
 mod quantity_figures;

@@ -6,10 +6,10 @@ ghost use Rattle.cn_faces.specs.IntegerTypes.{the_kind};
 
 use crate::codes::{ReadingWay, kind_of, reading_way_of};
 use crate::number::{Number, halves};
-use crate::place::byte_index;
 use crate::status::{DONE, EMPTY, INCORRECT, NOT_UTF8, TOO_LARGE, TOO_SMALL, UNKNOWN};
 use chinese_number::ChineseToNumberError;
 use cn_faces::{IntegerType, Way, either_way, read_as, utf8_text};
+use cn_judge::byte_index;
 use std::str;
 
 /// What was read: the number, or of the character at fault how many characters and how many bytes

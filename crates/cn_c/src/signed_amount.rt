@@ -5,13 +5,13 @@ ghost use Rattle.chinese_number.specs.AmountReading.{incorrect_at};
 ghost use Rattle.cn_c.specs.SignedAmounts.{TellsSigned, TellsFigures, IsSignedPrinted, IsSignedRead, IsFiguresRead};
 
 use crate::codes::{form_of, script_of};
-use crate::place::byte_index;
 use crate::room::put_text;
 use crate::status::{DONE, INCORRECT, NOT_UTF8, TOO_LARGE, TOO_SMALL, UNFINISHED, UNKNOWN};
 use chinese_number::{AMOUNT_LIMIT, ChineseToAmountError, chinese_to_signed_amount};
 use cn_amount::signed_amount_text;
 use cn_faces::utf8_text;
 use cn_figures::{FiguresError, signed_yuan_to_fen};
+use cn_judge::byte_index;
 
 /// What was read: the amount in fen, or of the character at fault how many characters and how many
 /// bytes of the text stand in front of it.

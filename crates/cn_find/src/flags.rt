@@ -2,12 +2,14 @@
 // numbers than those of this crate tells the same of them.
 ghost use Rattle.std.specs.Prelude.{◌≡◌, ℕ, ◌<◌, ◌&&◌, ◌||◌, List, ◌∷◌, [], length, reverse, codes, chars, is_some, MatchOption, IfSome, IfNone};
 ghost use Rattle.cn_core.specs.Characters.{digit_of, rank_of};
+ghost use Rattle.cn_core.specs.Mark.{mark_of};
+ghost use Rattle.cn_judge.specs.Marked.{marked};
 ghost use Rattle.cn_find.specs.Belongs.{begins_with};
 ghost use Rattle.cn_find.specs.Number.{is_plain};
 ghost use Rattle.cn_find.specs.Flags.{are_near, begins_linked, begins_with_unit, clings, goes_on, is_about, is_estimate, is_link, is_one_character, is_one_estimate, is_wide_digit, pairs, stands_alone};
 
 use cn_core::{digit_of, split_first_char, unit_of};
-use cn_judge::{Mark, mark_of, split_first_known, split_last_char};
+use cn_judge::{Mark, mark_of, split_first_mark, split_last_char};
 
 /// Whether a character is a full-width digit.
 pub fn is_wide_digit(c: char) -> bool
@@ -17,10 +19,10 @@ pub fn is_wide_digit(c: char) -> bool
 }
 
 #[inline(always)]
-fn is_digit(c: char) -> bool
-    ensures { result ≡ is_some (digit_of c) }
+fn is_digit(mark: Mark) -> bool
+    ensures { (c : ℕ) → marked mark ≡ mark_of c → result ≡ is_some (digit_of c) }
 {
-    matches!(mark_of(c), Mark::Digit(_))
+    matches!(mark, Mark::Digit(_))
 }
 
 fn is_unit(c: char) -> bool
@@ -29,15 +31,16 @@ fn is_unit(c: char) -> bool
     unit_of(c).is_some()
 }
 
-// Whether a number that touches the character goes on with it.
+// Whether a number that touches the character with its mark goes on with it.
 #[inline(always)]
 #[tactic(auto, unfolding(crate::specs::Flags::clings))]
-fn clings(c: char) -> bool
+fn clings(c: char, mark: Mark) -> bool
+    requires { marked mark ≡ mark_of c }
     ensures { result ≡ clings c }
 {
     c.is_ascii_alphanumeric()
         || is_wide_digit(c)
-        || is_digit(c)
+        || is_digit(mark)
         || matches!(c, '_' | '廿' | '卅' | '卌' | '幺')
 }
 
@@ -49,11 +52,12 @@ fn is_link(c: char) -> bool
     matches!(c, '.' | ',' | '-' | '点' | '點')
 }
 
-// Whether a link leads to the character.
-fn is_linked(c: char) -> bool
+// Whether a link leads to the character with its mark.
+fn is_linked(c: char, mark: Mark) -> bool
+    requires { marked mark ≡ mark_of c }
     ensures { result ≡ begins_linked (c ∷ []) }
 {
-    clings(c) || is_unit(c)
+    clings(c, mark) || is_unit(c)
 }
 
 // What the text on one side of a number tells of it.
@@ -77,7 +81,7 @@ fn ends_linked(before: &str) -> bool
     ensures { result ≡ begins_linked (reverse (chars before.now)) }
 {
     match split_last_char(before) {
-        Some((far, _)) => is_linked(far),
+        Some((far, _)) => is_linked(far, mark_of(far)),
         None => false,
     }
 }
@@ -86,8 +90,8 @@ fn ends_linked(before: &str) -> bool
 fn begins_linked(after: &str) -> bool
     ensures { result ≡ begins_linked (chars after.now) }
 {
-    match split_first_char(after) {
-        Some((far, _)) => is_linked(far),
+    match split_first_mark(after) {
+        Some((far, mark, _)) => is_linked(far, mark),
         None => false,
     }
 }
@@ -104,7 +108,7 @@ fn look_before(before: &str) -> Side
         return NOTHING;
     };
     Side {
-        goes_on: clings(near) || (is_link(near) && ends_linked(others)),
+        goes_on: clings(near, mark_of(near)) || (is_link(near) && ends_linked(others)),
         estimates: matches!(near, '几' | '幾' | '数' | '數'),
     }
 }
@@ -115,11 +119,11 @@ fn look_after(after: &str) -> Side
     ensures goes_on { result.goes_on ≡ goes_on (chars after.now) }
     ensures estimates { result.estimates ≡ begins_with (codes "几幾多余餘来來") (chars after.now) }
 {
-    let Some((near, others)) = split_first_char(after) else {
+    let Some((near, mark, others)) = split_first_mark(after) else {
         return NOTHING;
     };
     Side {
-        goes_on: clings(near) || (is_link(near) && begins_linked(others)),
+        goes_on: clings(near, mark) || (is_link(near) && begins_linked(others)),
         estimates: matches!(near, '几' | '幾' | '多' | '余' | '餘' | '来' | '來'),
     }
 }
@@ -148,46 +152,18 @@ fn begins_with_unit(text: &str) -> bool
     }
 }
 
-// Whether the first character is a digit, and what stands after it. Most are in the table of marks,
-// and are not decoded: so a search with flags takes 7 % fewer instructions.
-#[inline(always)]
-fn split_first_is_digit(text: &str) -> Option<(bool, &str)>
-    ensures parts { MatchOption result (chars text.now ≡ [])
-        (λ r. (c : ℕ) × (chars text.now ≡ c ∷ chars r.1.now) × (r.0 ≡ is_some (digit_of c))) }
-    ensures shorter { IfSome result (λ r. length r.1.now < length text.now) }
-{
-    if let Some((mark, after)) = split_first_known(text) {
-        return Some((matches!(mark, Mark::Digit(_)), after));
-    }
-    match split_first_char(text) {
-        Some((c, after)) => Some((is_digit(c), after)),
-        None => None,
-    }
-}
-
 /// Whether each character is a digit.
 pub fn is_plain(text: &str) -> bool
     ensures { result ≡ is_plain (chars text.now) }
 {
     let mut rest = text;
-    'looking: while let Some((digit, others)) = split_first_is_digit(rest) {
-        if !digit {
+    'looking: while let Some((_, mark, others)) = split_first_mark(rest) {
+        if !is_digit(mark) {
             return false;
         }
         rest = others;
     }
     true
-}
-
-// The first two characters, and the text from the second of them on.
-fn first_two(text: &str) -> Option<(char, char, &str)>
-    ensures two { IfSome result (λ r. (others : List ℕ)
-        × (chars text.now ≡ r.0 ∷ r.1 ∷ others) × (chars r.2.now ≡ r.1 ∷ others)) }
-    ensures none { IfNone result (length (chars text.now) < 2) }
-{
-    let (first, others) = split_first_char(text)?;
-    let (second, _) = split_first_char(others)?;
-    Some((first, second, others))
 }
 
 // The first two digits that stand side by side, and the text from the second of them on.
@@ -197,13 +173,12 @@ fn first_pair(text: &str) -> Option<(char, char, &str)>
         ≡ record { first = r.0; second = r.1 } ∷ pairs (chars r.2.now)) }
 {
     let mut rest = text;
-    'looking: while let Some((digit, others)) = split_first_is_digit(rest) {
-        let start = rest;
+    'looking: while let Some((first, mark, others)) = split_first_mark(rest) {
         rest = others;
-        if digit {
-            if let Some((next_digit, behind)) = split_first_is_digit(others) {
-                if next_digit {
-                    return first_two(start);
+        if is_digit(mark) {
+            if let Some((second, next, behind)) = split_first_mark(others) {
+                if is_digit(next) {
+                    return Some((first, second, others));
                 }
                 // It begins no pair either.
                 rest = behind;

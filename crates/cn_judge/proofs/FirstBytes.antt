@@ -1,8 +1,8 @@
 -- The first character of a text, by its first byte, which says how many it has.
-use Rattle.std.proofs.Common.{◌≡◌, ℕ, zero, suc, ◌+◌, ◌*◌, ◌/◌, ◌<◌, map, Bool, true, false, ltb, List, [], ◌∷◌, ◌++◌, length, get_or, drop, chars, IsUtf8, refl, sym, ap, ◌∙◌, subst, arith, length-append}
-use Rattle.std.specs.Str.{continuation_len, IsCharBoundary}
+use Rattle.std.proofs.Common.{◌≡◌, ℕ, zero, suc, ◌+◌, ◌*◌, ◌/◌, ◌<◌, ◌≤◌, map, Bool, true, false, ltb, List, [], ◌∷◌, ◌++◌, length, get_or, drop, chars, IsUtf8, refl, sym, ap, ◌∙◌, subst, arith, length-append}
+use Rattle.std.specs.Str.{continuation_len}
 use Rattle.std.proofs.lemmas.Bool.Decides.{nat_tests}
-use Rattle.std.proofs.lemmas.Str.{IsUtf8-past_char, IsCharBoundary-from_drop, chars_past_char}
+use Rattle.std.proofs.lemmas.Str.{IsUtf8-past_char, chars_past_char}
 use Rattle.std.specs.List.{range_with_len}
 use lib.Seq.{drop_at}
 use lib.Utf8.{encode, encodes}
@@ -69,7 +69,9 @@ first-len c rest = rw (encode-by c) (by (ltb c 128) (ltb c 2048) (ltb c 65536) r
 pub record Starts (bytes : List ℕ) (len : ℕ) : Type 0 where
   pub code : ℕ
   pub parts : chars bytes ≡ code ∷ chars (drop len bytes)
-  pub boundary : IsCharBoundary bytes len
+  pub size : length (encode code) ≡ len
+  pub within : len ≤ length bytes
+  pub left : IsUtf8 (drop len bytes)
 
 pub starts : (bytes : List ℕ) (len : ℕ) → IsUtf8 bytes → 0 < length bytes
     → len ≡ continuation_len (get_or bytes 0 0) + 1 → Starts bytes len
@@ -81,10 +83,10 @@ starts bytes len whole some size = by whole.0 whole.1.1 where
       first-len c (encodes cs) ∙ ap (λ l. len_by (get_or l 0 0)) e ∙ sym size in
       let cut : drop len bytes ≡ encodes cs =
       ap (drop len) (sym e) ∙ drop_at (encode c) (encodes cs) len same in
-      let after = subst IsUtf8 (sym cut) (IsUtf8-past_char bytes (encodes cs) c whole (sym e)) in
       record {
         code = c;
         parts = chars_past_char _ _ _ whole (sym e ∙ ap (λ l. encode c ++ l) (sym cut));
-        boundary = IsCharBoundary-from_drop bytes len
-            (omega (arith, same, ap length e, length-append (encode c) (encodes cs))) after;
+        size = same;
+        within = omega (arith, same, ap length e, length-append (encode c) (encodes cs));
+        left = subst IsUtf8 (sym cut) (IsUtf8-past_char bytes (encodes cs) c whole (sym e));
       }

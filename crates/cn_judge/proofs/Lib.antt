@@ -5,6 +5,7 @@ pub mod FirstBytes
 pub mod Judgements
 pub mod MarkTable
 pub mod OpenSums
+pub mod Passing
 pub mod Pieces
 pub mod PlainDigits
 pub mod Stacks

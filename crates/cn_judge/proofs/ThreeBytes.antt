@@ -6,7 +6,11 @@ use Rattle.std.proofs.lemmas.Str.{IsUtf8-take, IsUtf8-drop, IsUtf8-past_char, Is
 use Rattle.std.proofs.lemmas.List.{take-append-drop, nil_from_length}
 use lib.Dec.{T, ltb→lt}
 use lib.Seq.{drop_at, get_or-drop}
-use lib.Utf8.{next, encode, encodes}
+use lib.Utf8.{next, encode, encodes, scalar, scalars}
+use Rattle.std.specs.Char.{IsScalar}
+use Rattle.std.proofs.lemmas.Bool.{ltb-false}
+use Rattle.cn_core.proofs.Fronts.{and-left}
+use Rattle.cn_judge.specs.Marked.{key_of}
 use Rattle.cn_judge.proofs.Walking.{chars-back}
 
 -- a character's bytes, by which of the three bounds it is below
@@ -26,33 +30,41 @@ below m n e = ltb→lt m n (subst T (sym e) tt)
 abbrev IsThree : ℕ → List ℕ → List ℕ → Type 0
 IsThree c bytes all = (length bytes ≡ 3)
     × (c + 925824 ≡ get_or all 0 0 * 4096 + get_or all 1 0 * 64 + get_or all 2 0)
+    × (key_of c ≡ get_or all 0 0 + get_or all 1 0 * 256 + get_or all 2 0 * 65536)
+    × (2048 ≤ c) × (c < 65536)
 
 is_three : (c : ℕ) (rest : List ℕ) → 224 ≤ get_or (encode c ++ rest) 0 0
     → (240 ≤ get_or (encode c ++ rest) 0 0 → length (encode c ++ rest) < 4)
     → IsThree c (encode c) (encode c ++ rest)
-is_three c rest = rw (encode-by c) (by (ltb c 128) (ltb c 2048) (ltb c 65536) refl refl) where
-  by : (x y z : Bool) → ltb c 128 ≡ x → ltb c 2048 ≡ y
+is_three c rest = rw (encode-by c) (by (ltb c 128) (ltb c 2048) (ltb c 65536) refl refl refl) where
+  by : (x y z : Bool) → ltb c 128 ≡ x → ltb c 2048 ≡ y → ltb c 65536 ≡ z
       → 224 ≤ get_or (bytes_by x y z c ++ rest) 0 0
       → (240 ≤ get_or (bytes_by x y z c ++ rest) 0 0 → length (bytes_by x y z c ++ rest) < 4)
       → IsThree c (bytes_by x y z c) (bytes_by x y z c ++ rest)
-  by true y z p q low short = absurd (let small = below c 128 p in omega (arith, small, low))
-  by false true z p q low short = absurd (let small = below c 2048 q in omega (arith, small, low))
-  by false false true p q low short = (refl, omega arith)
-  by false false false p q low short = absurd (let few = short (omega arith) in omega (arith, few))
+  by true y z p q r low short = absurd (let small = below c 128 p in omega (arith, small, low))
+  by false true z p q r low short = absurd (let small = below c 2048 q in omega (arith, small, low))
+  by false false true p q r low short =
+      (refl, omega arith, omega arith, ltb-false c 2048 q, below c 65536 r)
+  by false false false p q r low short =
+      absurd (let few = short (omega arith) in omega (arith, few))
 
 -- a text that starts with a character of three bytes
 pub record StartsWithThree (bytes : List ℕ) : Type 0 where
   pub code : ℕ
   pub sum : code + 925824 ≡ get_or bytes 0 0 * 4096 + get_or bytes 1 0 * 64 + get_or bytes 2 0
+  pub key : key_of code ≡ get_or bytes 0 0 + get_or bytes 1 0 * 256 + get_or bytes 2 0 * 65536
+  pub low : 2048 ≤ code
+  pub high : code < 65536
+  pub scalar : IsScalar code
   pub parts : bytes ≡ encode_utf8 code ++ drop 3 bytes
   pub rest : IsUtf8 (drop 3 bytes)
 
 starts-three : (bytes : List ℕ) → IsUtf8 bytes → 0 < length bytes → 224 ≤ get_or bytes 0 0
     → (240 ≤ get_or bytes 0 0 → length bytes < 4) → StartsWithThree bytes
-starts-three bytes whole some low short = by whole.0 whole.1.1 where
-  by : (cs : List ℕ) → encodes cs ≡ bytes → StartsWithThree bytes
-  by [] e = absurd (omega (arith, some, ap length e))
-  by (c ∷ cs) e =
+starts-three bytes whole some low short = by whole.0 whole.1.0 whole.1.1 where
+  by : (cs : List ℕ) → scalars cs ≡ true → encodes cs ≡ bytes → StartsWithThree bytes
+  by [] valid e = absurd (omega (arith, some, ap length e))
+  by (c ∷ cs) valid e =
       let three = is_three c (encodes cs) (subst (λ l. 224 ≤ get_or l 0 0) (sym e) low)
       (subst (λ l. 240 ≤ get_or l 0 0 → length l < 4) (sym e) short) in
       let cut : drop 3 bytes ≡ encodes cs =
@@ -60,12 +72,16 @@ starts-three bytes whole some low short = by whole.0 whole.1.1 where
       record {
         code = c;
         sum = three.1 ∙ ap (λ l. get_or l 0 0 * 4096 + get_or l 1 0 * 64 + get_or l 2 0) e;
+        key = three.2 ∙ ap (λ l. get_or l 0 0 + get_or l 1 0 * 256 + get_or l 2 0 * 65536) e;
+        low = three.3;
+        high = three.4;
+        scalar = and-left (scalar c) (scalars cs) valid;
         parts = sym e ∙ ap (λ l. encode c ++ l) (sym cut);
         rest = subst IsUtf8 (sym cut) (IsUtf8-past_char bytes (encodes cs) c whole (sym e));
       }
 
 -- the first character
-first-starts : (bytes : List ℕ) (a : ℕ) → IsUtf8 bytes → 3 ≤ length bytes → a ≡ get_or bytes 0 0
+pub first-starts : (bytes : List ℕ) (a : ℕ) → IsUtf8 bytes → 3 ≤ length bytes → a ≡ get_or bytes 0 0
     → 224 ≤ a → a < 240 → StartsWithThree bytes
 first-starts bytes a whole long p low high =
     starts-three bytes whole (omega (arith, long)) (omega (arith, p, low))

@@ -1,4 +1,5 @@
 pub mod Answer
+pub mod ByteIndex
 pub mod Entries
 pub mod ErrorText
 pub mod Judged

@@ -1,7 +1,7 @@
 // What a character of a numeral is, by a look-up without a search.
-ghost use Rattle.std.specs.Prelude.{◌≡◌, ◌*◌, ◌/◌, ◌%◌, ◌≤◌, ◌<◌, slice_index_or, MatchOption};
+ghost use Rattle.std.specs.Prelude.{◌≡◌, ℕ, ◌*◌, ◌/◌, ◌%◌, ◌≤◌, ◌<◌, slice_index_or, MatchOption};
 ghost use Rattle.cn_core.specs.Mark.{mark_of};
-ghost use Rattle.cn_judge.specs.Marked.{IsKnown, IsUnknown, marked};
+ghost use Rattle.cn_judge.specs.Marked.{IsKnown, IsUnknown, key_of, marked};
 
 use cn_core::{Unit, digit_of, unit_of};
 
@@ -163,6 +163,14 @@ pub fn known_mark(key: u32) -> Option<Mark>
     if known == key { Some(mark) } else { None }
 }
 
+/// What the character of three bytes with this key is.
+#[inline(always)]
+pub fn mark_of_key(key: u32) -> Mark
+    ensures { (c : ℕ) → 2048 ≤ c → c < 65536 → key_of c ≡ key → marked result ≡ mark_of c }
+{
+    known_mark(key).unwrap_or(Mark::Other)
+}
+
 // What a character of three bytes is.
 #[inline(always)]
 fn three_byte_mark(c: char) -> Mark
@@ -173,7 +181,7 @@ fn three_byte_mark(c: char) -> Mark
     let first = 224 + code / 64 / 64;
     let second = 128 + code / 64 % 64;
     let third = 128 + code % 64;
-    known_mark(first + second * 256 + third * 65_536).unwrap_or(Mark::Other)
+    mark_of_key(first + second * 256 + third * 65_536)
 }
 
 /// What the character is.

@@ -5,11 +5,31 @@ ghost use Rattle.std.specs.Char.{is_whitespace};
 ghost use Rattle.std.specs.Str.{continuation_len};
 ghost use Rattle.cn_core.specs.Mark.{digit, mark_of};
 ghost use Rattle.cn_core.specs.Text.{text_of};
+ghost use Rattle.cn_judge.specs.ByteIndex.{byte_index};
 ghost use Rattle.cn_judge.specs.Marked.{marked};
 ghost use Rattle.cn_judge.specs.Piece.{StandsAt, EndsWith};
 
-use crate::mark::{Mark, known_mark, mark_of};
+use crate::mark::{Mark, known_mark, mark_of, mark_of_key};
 use cn_core::split_first_char;
+
+// The first character where it takes three bytes, as most do that are searched. Its mark is looked
+// up by its bytes: by its number each takes XX instructions for YY.
+#[inline(always)]
+fn split_first_three(text: &str) -> Option<(char, Mark, &str)>
+    ensures parts { IfSome result (λ r. (chars text.now ≡ r.0 ∷ chars r.2.now)
+        × (marked r.1 ≡ mark_of r.0)) }
+    ensures shorter { IfSome result (λ r. length r.2.now < length text.now) }
+{
+    let bytes = text.as_bytes();
+    if bytes.len() < 3 || bytes[0] / 16 != 14 {
+        return None;
+    }
+    let (first, second, third) = (bytes[0] as u32, bytes[1] as u32, bytes[2] as u32);
+    let mark = mark_of_key(first + second * 256 + third * 65_536);
+    let c = unsafe { char::from_u32_unchecked(first * 4096 + second * 64 + third - 925_824) };
+    let (_, after) = text.split_at(3);
+    Some((c, mark, after))
+}
 
 /// The first character, its mark, and what stands after it.
 #[inline(always)]
@@ -18,6 +38,9 @@ pub fn split_first_mark(text: &str) -> Option<(char, Mark, &str)>
         (λ r. (chars text.now ≡ r.0 ∷ chars r.2.now) × (marked r.1 ≡ mark_of r.0)) }
     ensures shorter { IfSome result (λ r. length r.2.now < length text.now) }
 {
+    if let Some((c, mark, after)) = split_first_three(text) {
+        return Some((c, mark, after));
+    }
     let (c, after) = split_first_char(text)?;
     Some((c, mark_of(c), after))
 }
@@ -97,33 +120,35 @@ fn char_len(first: u8) -> usize
     CHAR_LENS[(first / 16) as usize]
 }
 
-/// What stands after the first character, which is not decoded.
-#[inline(always)]
-pub fn skip_first_char(text: &str) -> Option<&str>
-    ensures parts { MatchOption result (chars text.now ≡ [])
-        (λ after. (c : ℕ) × (chars text.now ≡ c ∷ chars after.now)) }
-    ensures shorter { IfSome result (λ after. length after.now < length text.now) }
-{
-    let bytes = text.as_bytes();
-    if bytes.is_empty() {
-        return None;
-    }
-    let (_, after) = text.split_at(char_len(bytes[0]));
-    Some(after)
-}
-
-/// How many characters a text has.
+/// How many characters a text has. Each is passed by its first byte: so a refusal takes half of the
+/// instructions to count them.
 pub fn count_chars(text: &str) -> usize
     ensures count { result ≡ length (chars text.now) }
     ensures within { result ≤ length text.now }
 {
+    let bytes = text.as_bytes();
+    let mut passed = 0;
     let mut count = 0;
-    let mut rest = text;
-    'counting: while let Some(after) = skip_first_char(rest) {
+    'counting: while passed < bytes.len() {
+        passed += char_len(bytes[passed]);
         count += 1;
-        rest = after;
     }
     count
+}
+
+/// How many bytes of a text stand in front of a character, by how many characters do.
+pub fn byte_index(text: &str, char_index: usize) -> usize
+    ensures { result ≡ byte_index text.now char_index }
+{
+    let bytes = text.as_bytes();
+    let mut passed = 0;
+    'passing: for _count in 0..char_index {
+        if passed >= bytes.len() {
+            return passed;
+        }
+        passed += char_len(bytes[passed]);
+    }
+    passed
 }
 
 /// The mark of the last character where the table of marks has it, and what stands before it. The

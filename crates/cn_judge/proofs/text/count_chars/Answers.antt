@@ -1,9 +1,20 @@
-use Rattle.std.proofs.Common.{arith, rules, ap, length}
+use Rattle.std.proofs.Common.{ap, ◌∙◌, ◌+◌, get_or, arith}
+use Rattle.std.specs.Str.{continuation_len}
+use Rattle.cn_judge.proofs.Passing.{Passed-none, Passed-next, Passed-all}
 use Rattle.cn_judge.proofs.text.count_chars.Goals as goal
+
+pub counting-init : goal.counting-init
+counting-init c = record { passed = Passed-none _ c.utf8.text }
 
 pub counting-preserved : goal.counting-preserved
 counting-preserved c = record {
-  counted = omega (arith, c.counting.invariant.counted, ap length c.in-Some.ensures.parts.1);
-  within = omega (arith, c.counting.invariant.within, c.in-Some.ensures.shorter);
-  utf8 = search rules;
+  passed = Passed-next _ _ _ _ c.counting.invariant.passed
+      (omega (arith, c.counting-test.true, c.as_bytes-bytes.ensures.len))
+      (c.char_len-passed.ensures
+      ∙ ap (λ l. continuation_len (get_or l c.counting.passed 0) + 1) c.as_bytes-bytes.ensures.value);
 }
+
+pub returns-clause-count : goal.returns-clause-count
+returns-clause-count c =
+    Passed-all _ _ _ c.counting.invariant.passed
+    (omega (arith, c.counting-test.false, c.as_bytes-bytes.ensures.len))

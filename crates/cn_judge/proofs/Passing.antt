@@ -1,0 +1,94 @@
+-- Characters that are passed over, each by its first byte.
+use Rattle.std.proofs.Common.{◌≡◌, ℕ, zero, suc, ◌+◌, ◌<◌, ◌≤◌, List, [], ◌∷◌, ◌++◌, length, get_or, take, drop, chars, encode_utf8_all, IsUtf8, refl, sym, ap, subst, ◌∙◌, arith, length-append, length-drop, get_or-drop, drop-drop}
+use Rattle.std.specs.Str.{continuation_len}
+use Rattle.std.proofs.lemmas.List.{take_all}
+use Rattle.std.proofs.lemmas.Str.{encodes-append, encodes-chars}
+use lib.Utf8.{encode}
+use Rattle.cn_core.proofs.Chars.{chars-from_empty}
+use Rattle.cn_judge.specs.ByteIndex.{byte_index}
+use Rattle.cn_judge.proofs.FirstBytes.{starts}
+
+-- this byte stands behind so many characters
+pub record Passed (text : List ℕ) (count at : ℕ) : Type 0 where
+  pub within : at ≤ length text
+  pub few : count ≤ at
+  pub utf8 : IsUtf8 (drop at text)
+  pub bytes : at ≡ byte_index text count
+  pub ahead : drop count (chars text) ≡ chars (drop at text)
+  pub counted : count + length (chars (drop at text)) ≡ length (chars text)
+
+take-none : (cs : List ℕ) → take 0 cs ≡ []
+take-none [] = refl
+take-none (c ∷ cs) = refl
+
+drop-none : (xs : List ℕ) → drop 0 xs ≡ xs
+drop-none [] = refl
+drop-none (x ∷ xs) = refl
+
+pub Passed-none : (text : List ℕ) → IsUtf8 text → Passed text 0 0
+Passed-none text whole =
+    let all = drop-none text in
+    record {
+      within = omega arith;
+      few = omega arith;
+      utf8 = subst IsUtf8 (sym all) whole;
+      bytes = omega (arith, ap (λ l. length (encode_utf8_all l)) (take-none (chars text)));
+      ahead = drop-none (chars text) ∙ ap chars (sym all);
+      counted = omega (arith, ap (λ l. length (chars l)) all);
+    }
+
+drop-next : (cs : List ℕ) (count c : ℕ) (after : List ℕ) → drop count cs ≡ c ∷ after
+    → (drop (suc count) cs ≡ after) × (take (suc count) cs ≡ take count cs ++ c ∷ [])
+drop-next [] zero c after h = cc
+drop-next [] (suc count) c after h = cc
+drop-next (d ∷ cs) zero c after h = (cc, cc)
+drop-next (d ∷ cs) (suc count) c after h =
+    let next = drop-next cs count c after h in (next.0, ap (λ l. d ∷ l) next.1)
+
+pub Passed-next : (text : List ℕ) (count at len : ℕ) → Passed text count at → at < length text
+    → len ≡ continuation_len (get_or text at 0) + 1 → Passed text (count + 1) (at + len)
+Passed-next text count at len before more size =
+    let left = length-drop at text in
+    let zero-more : at + 0 ≡ at = omega arith in
+    let first = starts (drop at text) len before.utf8 (omega (arith, left, more))
+    (size
+    ∙ ap (λ b. continuation_len b + 1) (sym (get_or-drop at text 0 0
+    ∙ ap (λ i. get_or text i 0) zero-more))) in
+    let cut : drop len (drop at text) ≡ drop (at + len) text = drop-drop len at text in
+    let next = drop-next (chars text) count first.code (chars (drop len (drop at text)))
+    (before.ahead ∙ first.parts) in
+    let one : length (encode_utf8_all (first.code ∷ [])) ≡ length (encode first.code) =
+    length-append (encode first.code) [] ∙ omega arith in
+    let grown : byte_index text (suc count) ≡ byte_index text count + length (encode first.code) =
+    ap (λ l. length (encode_utf8_all l)) next.1
+    ∙ ap length (encodes-append (take count (chars text)) (first.code ∷ []))
+    ∙ length-append (encode_utf8_all (take count (chars text))) (encode_utf8_all (first.code ∷ []))
+    ∙ ap (λ n. byte_index text count + n) one in
+    let passed : Passed text (suc count) (at + len) =
+    record {
+      within = omega (arith, before.within, left, first.within);
+      few = omega (arith, before.few, size);
+      utf8 = subst IsUtf8 cut first.left;
+      bytes = omega (arith, before.bytes, grown, first.size);
+      ahead = next.0 ∙ ap chars cut;
+      counted = omega (arith, before.counted, ap length first.parts, ap (λ l. length (chars l)) cut);
+    } in
+    subst (λ n. Passed text n (at + len)) (omega arith) passed
+
+none-left : (text : List ℕ) (at : ℕ) → length text ≤ at → length (chars (drop at text)) ≡ 0
+none-left text at end =
+    ap length (chars-from_empty (drop at text) (omega (arith, length-drop at text, end)))
+
+pub Passed-all : (text : List ℕ) (count at : ℕ) → Passed text count at → length text ≤ at
+    → count ≡ length (chars text)
+Passed-all text count at passed end =
+    omega (arith, passed.counted, none-left text at end)
+
+pub Passed-end : (text : List ℕ) (count at index : ℕ) → Passed text count at → IsUtf8 text
+    → length text ≤ at → count ≤ index → at ≡ byte_index text index
+Passed-end text count at index passed whole end far =
+    let all = Passed-all text count at passed end in
+    let whole-text : byte_index text index ≡ length text =
+    ap (λ l. length (encode_utf8_all l)) (take_all index (chars text) (omega (arith, all, far)))
+    ∙ ap length (encodes-chars text whole) in
+    omega (arith, passed.within, end, whole-text)
