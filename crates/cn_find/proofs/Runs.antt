@@ -6,7 +6,7 @@ use Rattle.std.proofs.Math.Seq.{take-append_seam, drop-append_seam}
 use Rattle.std.proofs.lemmas.Grind.{reverse_onto}
 use Rattle.std.proofs.lemmas.List.{reverse-append, reverse-reverse}
 use Rattle.std.proofs.Math.Utf8.{scalar, scalars}
-use Rattle.std.proofs.lemmas.Str.{chars-nil, chars-append, chars-encodes, scalars-chars, chars_from_encodes, encodes-append, encodes-chars, IsCharBoundary-at_seam}
+use Rattle.std.proofs.lemmas.Str.{IsUtf8-take, chars-nil, chars-append, chars-encodes, scalars-chars, chars_from_encodes, encodes-append, encodes-chars, IsCharBoundary-at_seam}
 use Rattle.std.specs.Str.{IsCharBoundary}
 use Rattle.cn_core.proofs.Fronts.{and-left, both}
 use Rattle.cn_find.specs.Private.{EndsRun, Skipped}
@@ -85,6 +85,11 @@ pub end-boundary : (whole rest : List ℕ) → IsEnd whole rest → IsUtf8 rest
 end-boundary whole rest is_end ended =
     seam-boundary whole (text_before whole rest) rest (sym is_end) ended
 
+pub front-utf8 : (whole rest : List ℕ) → IsEnd whole rest → IsUtf8 whole → IsUtf8 rest
+    → IsUtf8 (text_before whole rest)
+front-utf8 whole rest is_end utf8 ended =
+    IsUtf8-take whole (length whole - length rest) utf8 (end-boundary whole rest is_end ended)
+
 -- the bytes of a text, by its first character
 first-bytes : (bytes after : List ℕ) (c : ℕ) → IsUtf8 bytes → IsUtf8 after
     → chars bytes ≡ c ∷ chars after → bytes ≡ encode_utf8 c ++ after
@@ -145,22 +150,17 @@ Skipping-more rule whole rest ahead after c s front here ended parts e = record 
   passed = Passed-of whole (text_before whole ahead) ahead after c (sym s.ends) front here ended
       parts
 
-pub Skipped-at : (rule : Rule) (whole rest ahead after : List ℕ) (c : ℕ)
-    → Skipping rule whole rest ahead → chars ahead ≡ c ∷ chars after
-    → rule.belongs (in_front (text_before whole ahead)) c (chars after) ≡ true
-    → Skipped rule whole rest ahead
-Skipped-at rule whole rest ahead after c s parts e = record {
+pub Skipped-of : (rule : Rule) (whole rest ahead : List ℕ) → Skipping rule whole rest ahead
+    → (chars ahead ≡ [])
+    ⊎ (first_belongs rule (in_front (text_before whole ahead)) (chars ahead) ≡ true)
+    → IsUtf8 ahead → Skipped rule whole rest ahead
+Skipped-of rule whole rest ahead s why here = record {
   parts = s.ends;
   same = s.same;
-  stops = inr (ap (first_belongs rule (in_front (text_before whole ahead))) parts ∙ e);
-}
-
-pub Skipped-end : (rule : Rule) (whole rest ahead : List ℕ) → Skipping rule whole rest ahead
-    → chars ahead ≡ [] → IsUtf8 ahead → Skipped rule whole rest ahead
-Skipped-end rule whole rest ahead s none here = record {
-  parts = s.ends;
-  same = s.same;
-  stops = inl (sym (encodes-chars ahead here) ∙ ap encode_utf8_all none);
+  stops = elim why [
+    | inl none ↦ inl (sym (encodes-chars ahead here) ∙ ap encode_utf8_all none)
+    | inr belongs ↦ inr belongs
+  ];
 }
 
 -- the first characters of a run were passed, `last` the last of them, and these are behind it

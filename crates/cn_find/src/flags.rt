@@ -38,10 +38,13 @@ fn clings(c: char, mark: Mark) -> bool
     requires { marked mark ≡ mark_of c }
     ensures { result ≡ clings c }
 {
-    c.is_ascii_alphanumeric()
-        || is_wide_digit(c)
-        || is_digit(mark)
-        || matches!(c, '_' | '廿' | '卅' | '卌' | '幺')
+    if is_digit(mark) {
+        return true;
+    }
+    if c.is_ascii() {
+        return c.is_ascii_alphanumeric() || c == '_';
+    }
+    is_wide_digit(c) || matches!(c, '廿' | '卅' | '卌' | '幺')
 }
 
 #[inline(always)]
@@ -167,6 +170,7 @@ pub fn is_plain(text: &str) -> bool
 }
 
 // The first two digits that stand side by side, and the text from the second of them on.
+#[inline(always)]
 fn first_pair(text: &str) -> Option<(char, char, &str)>
     ensures { MatchOption result (pairs (chars text.now) ≡ [])
         (λ r. pairs (chars text.now)

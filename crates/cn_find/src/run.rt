@@ -1,5 +1,5 @@
 // The next run of a text.
-ghost use Rattle.std.specs.Prelude.{◌≡◌, ◌++◌, ◌+◌, ◌≤◌, ◌∷◌, [], true, length, chars, MatchOption, IfSome};
+ghost use Rattle.std.specs.Prelude.{◌≡◌, ◌⊎◌, ℕ, ◌++◌, ◌+◌, ◌<◌, ◌≤◌, ◌∷◌, [], true, false, length, chars, MatchOption, IfNone, IfSome};
 ghost use Rattle.cn_find.specs.Private.{EndsRun, Skipped};
 ghost use Rattle.cn_find.specs.Runs.{first_belongs};
 ghost use Rattle.cn_find.specs.Spans.{in_front, left_by, span_of, text_before};
@@ -42,16 +42,34 @@ fn skip_run<'a, R: SearchRule>(rule: R, whole: &'a str, before: &'a str, ahead: 
     rest
 }
 
+// What stands behind the first character, where this does not belong.
+#[inline(always)]
+fn pass_outsider<'a, R: SearchRule>(rule: R, whole: &'a str, ahead: &'a str) -> Option<&'a str>
+    requires { text_before whole.now ahead.now ++ ahead.now ≡ whole.now }
+    ensures some { IfSome result (λ after. (c : ℕ) × (chars ahead.now ≡ c ∷ chars after.now)
+        × ((R.rule rule).belongs (in_front (text_before whole.now ahead.now)) c (chars after.now)
+        ≡ false)) }
+    ensures shorter { IfSome result (λ after. length after.now < length ahead.now) }
+    ensures none { IfNone result ((chars ahead.now ≡ []) ⊎ (first_belongs (R.rule rule)
+        (in_front (text_before whole.now ahead.now)) (chars ahead.now) ≡ true)) }
+{
+    if let Some(after) = rule.skip_outsider(ahead) {
+        return Some(after);
+    }
+    let (c, mark, after) = split_first_mark(ahead)?;
+    if rule.belongs(text_before(whole, ahead), c, mark, after) {
+        return None;
+    }
+    Some(after)
+}
+
 // What follows the characters at the start that do not belong.
 fn skip_outside<'a, R: SearchRule>(rule: R, whole: &'a str, rest: &'a str) -> &'a str
     requires { text_before whole.now rest.now ++ rest.now ≡ whole.now }
     ensures { Skipped (R.rule rule) whole.now rest.now result.now }
 {
     let mut ahead = rest;
-    'skipping: while let Some((c, mark, after)) = split_first_mark(ahead) {
-        if rule.belongs(text_before(whole, ahead), c, mark, after) {
-            return ahead;
-        }
+    'skipping: while let Some(after) = pass_outsider(rule, whole, ahead) {
         ahead = after;
     }
     ahead

@@ -11,6 +11,7 @@ use Rattle.std.specs.Char.{IsScalar}
 use Rattle.std.proofs.lemmas.Bool.{ltb-false}
 use Rattle.cn_core.proofs.Fronts.{and-left}
 use Rattle.cn_judge.specs.Marked.{key_of}
+use Rattle.cn_judge.specs.Private.FirstKey.{StartsWithKey}
 use Rattle.cn_judge.proofs.Walking.{chars-back}
 
 -- a character's bytes, by which of the three bounds it is below
@@ -102,6 +103,30 @@ pub first-boundary : (bytes : List ℕ) (a : ℕ) → IsUtf8 bytes → 3 ≤ len
     → a ≡ get_or bytes 0 0 → 224 ≤ a → a < 240 → IsCharBoundary bytes 3
 first-boundary bytes a whole long p low high = let three =
     first-starts bytes a whole long p low high in IsCharBoundary-from_drop bytes 3 long three.rest
+
+-- the first character and its key
+pub first-key : (bytes text : List ℕ) → bytes ≡ text → IsUtf8 text → 3 ≤ length bytes
+    → get_or bytes 1 0 < 256 → get_or bytes 0 0 < 256 → (key : ℕ)
+    → key ≡ get_or bytes 0 0 + get_or bytes 1 0 * 256 + get_or bytes 2 0 * 65536
+    → key % 256 / 16 ≡ 14 → StartsWithKey text key
+first-key bytes text same utf8 long p q key is kind =
+    let whole : IsUtf8 bytes = subst IsUtf8 (sym same) utf8 in
+    let low : 224 ≤ get_or bytes 0 0 = omega (arith, is, kind, p, q) in
+    let high : get_or bytes 0 0 < 240 = omega (arith, is, kind, p, q) in
+    let three = first-starts bytes (get_or bytes 0 0) whole long refl low high in
+    let starts : StartsWithKey bytes key =
+    record {
+      code = three.code;
+      key_is = three.key ∙ sym is;
+      sum = omega (arith, three.sum, is, p, q);
+      low = three.low;
+      high = three.high;
+      scalar = three.scalar;
+      long = long;
+      boundary = first-boundary bytes (get_or bytes 0 0) whole long refl low high;
+      parts = chars_past_char _ _ _ whole three.parts;
+    } in
+    subst (λ l. StartsWithKey l key) same starts
 
 -- the last character
 at-start : (bytes : List ℕ) (start : ℕ) → get_or (drop start bytes) 0 0 ≡ get_or bytes start 0

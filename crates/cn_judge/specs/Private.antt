@@ -1,5 +1,6 @@
 -- Words that contracts of private functions alone cite: how a text is taken apart, and where a walk
 -- stands.
+pub mod FirstKey
 pub mod PlainPiece
 pub mod Stack
 pub mod Walk

@@ -3,32 +3,62 @@
 ghost use Rattle.std.specs.Prelude.{◌≡◌, ℕ, ◌+◌, ◌*◌, ◌<◌, ◌≤◌, [], ◌∷◌, ◌++◌, length, chars, false, IfSome, IfNone, MatchOption};
 ghost use Rattle.std.specs.Char.{is_whitespace};
 ghost use Rattle.std.specs.Str.{continuation_len};
-ghost use Rattle.cn_core.specs.Mark.{digit, mark_of};
+ghost use Rattle.cn_core.specs.Mark.{digit, mark_of, other};
 ghost use Rattle.cn_core.specs.Text.{text_of};
 ghost use Rattle.cn_judge.specs.ByteIndex.{byte_index};
 ghost use Rattle.cn_judge.specs.Marked.{marked};
 ghost use Rattle.cn_judge.specs.Piece.{StandsAt, EndsWith};
+ghost use Rattle.cn_judge.specs.Private.FirstKey.{StartsWithKey};
 
 use crate::mark::{Mark, known_mark, mark_of, mark_of_key};
 use cn_core::split_first_char;
 
-// The first character where it takes three bytes, as most do that are searched. Its mark is looked
-// up by its bytes: by its number each takes XX instructions for YY.
+// The key of the first character where it takes three bytes, as most do that are searched.
+#[inline(always)]
+fn first_key(text: &str) -> Option<u32>
+    ensures { IfSome result (StartsWithKey text.now) }
+{
+    let bytes = text.as_bytes();
+    if bytes.len() < 3 {
+        return None;
+    }
+    let key = bytes[0] as u32 + bytes[1] as u32 * 256 + bytes[2] as u32 * 65_536;
+    if key % 256 / 16 == 14 {
+        Some(key)
+    } else {
+        None
+    }
+}
+
+// The first character where it takes three bytes, its mark, and what stands after it. It is looked
+// up by its bytes: to encode it again takes 11 instructions more.
 #[inline(always)]
 fn split_first_three(text: &str) -> Option<(char, Mark, &str)>
     ensures parts { IfSome result (λ r. (chars text.now ≡ r.0 ∷ chars r.2.now)
         × (marked r.1 ≡ mark_of r.0)) }
     ensures shorter { IfSome result (λ r. length r.2.now < length text.now) }
 {
-    let bytes = text.as_bytes();
-    if bytes.len() < 3 || bytes[0] / 16 != 14 {
+    let key = first_key(text)?;
+    let code = key % 256 * 4096 + key / 256 % 256 * 64 + key / 65_536 - 925_824;
+    let c = unsafe { char::from_u32_unchecked(code) };
+    let (_, after) = text.split_at(3);
+    Some((c, mark_of_key(key), after))
+}
+
+/// What stands behind the first character, where that takes three bytes and is neither digit nor
+/// unit.
+#[inline(always)]
+pub fn split_first_other(text: &str) -> Option<&str>
+    ensures parts { IfSome result (λ after. (c : ℕ) × (chars text.now ≡ c ∷ chars after.now)
+        × (mark_of c ≡ other)) }
+    ensures shorter { IfSome result (λ after. length after.now < length text.now) }
+{
+    let key = first_key(text)?;
+    if known_mark(key).is_some() {
         return None;
     }
-    let (first, second, third) = (bytes[0] as u32, bytes[1] as u32, bytes[2] as u32);
-    let mark = mark_of_key(first + second * 256 + third * 65_536);
-    let c = unsafe { char::from_u32_unchecked(first * 4096 + second * 64 + third - 925_824) };
     let (_, after) = text.split_at(3);
-    Some((c, mark, after))
+    Some(after)
 }
 
 /// The first character, its mark, and what stands after it.

@@ -1,0 +1,16 @@
+-- What a text starts with, by the bytes of its first character.
+use Rattle.std.specs.Prelude.{◌≡◌, ℕ, ◌+◌, ◌*◌, ◌/◌, ◌%◌, ◌<◌, ◌≤◌, List, ◌∷◌, length, drop, chars, IsCharBoundary}
+use Rattle.std.specs.Char.{IsScalar}
+use Rattle.cn_judge.specs.Marked.{key_of}
+
+-- the first character takes three bytes, and this is its key
+pub record StartsWithKey (text : List ℕ) (key : ℕ) : Type 0 where
+  pub code : ℕ
+  pub key_is : key_of code ≡ key
+  pub sum : code + 925824 ≡ key % 256 * 4096 + key / 256 % 256 * 64 + key / 65536
+  pub low : 2048 ≤ code
+  pub high : code < 65536
+  pub scalar : IsScalar code
+  pub long : 3 ≤ length text
+  pub boundary : IsCharBoundary text 3
+  pub parts : chars text ≡ code ∷ chars (drop 3 text)
