@@ -30,8 +30,8 @@ fn first_key(text: &str) -> Option<u32>
     }
 }
 
-// The first character where it takes three bytes, its mark, and what stands after it. It is looked
-// up by its bytes: to encode it again takes 11 instructions more.
+// The first character where it takes three bytes, its mark, and what stands after it. Looked up by
+// its bytes, each is passed in 16 instructions fewer.
 #[inline(always)]
 fn split_first_three(text: &str) -> Option<(char, Mark, &str)>
     ensures parts { IfSome result (λ r. (chars text.now ≡ r.0 ∷ chars r.2.now)
@@ -150,8 +150,7 @@ fn char_len(first: u8) -> usize
     CHAR_LENS[(first / 16) as usize]
 }
 
-/// How many characters a text has. Each is passed by its first byte: so a refusal takes half of the
-/// instructions to count them.
+/// How many characters a text has. Each is passed by its first byte.
 pub fn count_chars(text: &str) -> usize
     ensures count { result ≡ length (chars text.now) }
     ensures within { result ≤ length text.now }
