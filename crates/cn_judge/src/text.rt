@@ -22,7 +22,8 @@ fn first_key(text: &str) -> Option<u32>
     if bytes.len() < 3 {
         return None;
     }
-    let key = bytes[0] as u32 + bytes[1] as u32 * 256 + bytes[2] as u32 * 65_536;
+    let (first, second, third) = (bytes[0] as u32, bytes[1] as u32, bytes[2] as u32);
+    let key = first + second * 256 + third * 65_536;
     if key % 256 / 16 == 14 {
         Some(key)
     } else {
