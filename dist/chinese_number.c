@@ -60,7 +60,7 @@ typedef int64_t s64;
  * - behind it, for the one call that writes a text as long as any, the caller's room, where it is.
  *
  * An access outside, or a write to its constants or the text, ends the program by abort(). */
-#define STACK_BYTES UINT64_C(2416)
+#define STACK_BYTES UINT64_C(2432)
 #define LENT_BYTES UINT64_C(544)
 #define OWN_BYTES (STACK_BYTES + LENT_BYTES)
 #define FIRST_CONSTANT UINT64_C(65536)
@@ -585,77 +585,78 @@ static u64 w2c_f13(module *, u64, u64, u64);
 static void w2c_f14(module *, u64, u64, u64);
 static u32 w2c_f15(module *, u32, u64, u64, u64, u32, u32, u64, u64, u64);
 static u32 w2c_f16(module *, u32, u64, u64, u64, u32, u32, u64, u64, u64);
-static void w2c_f17(module *, u64, u64);
-static void w2c_f18(module *, u64, u64);
+static u32 w2c_f17(module *, u32, u32, u32, u32, u32, u64, u64);
+static void w2c_f18(module *, u64, u32);
 static void w2c_f19(module *, u64, u32);
-static u32 w2c_f20(module *, u32, u32, u32, u32, u32, u64, u64);
-static void w2c_f21(module *, u64, u32);
+static void w2c_f20(module *, u64, u64);
+static void w2c_f21(module *, u64, u64);
 static u32 w2c_f22(module *, u64, u64);
 static u32 w2c_f23(module *, u32, u32, u64, u64);
-static u32 w2c_f24(module *, u32);
-static u32 w2c_f25(module *, u32, u64, u64, u32);
-static void w2c_f26(module *, u64, u64, u64);
-static u32 w2c_f27(module *, u32, u32, u64, u64, u32, u64, u64);
-static u32 w2c_f28(module *, u32, u32, u32);
-static u32 w2c_f29(module *, u32, u32, u64, u64);
-static u64 w2c_f30(module *, u64, u64, u32, u32, u64, u64);
-static void w2c_f31(module *, u64, u64, u64, u32);
-static void w2c_f32(module *, u64, u64, u64);
-static void w2c_f33(module *, u64, u32, u64, u64, u64);
-static void w2c_f34(module *, u64, u64, u64);
-static void w2c_f35(module *, u64, u32, u64, u64, u64);
-static void w2c_f36(module *, u64, u32, u64, u64, u64, u64);
-static void w2c_f37(module *, u64, u32, u32);
-static void w2c_f38(module *, u64, u64, u64);
-static void w2c_f39(module *, u64, u32, u32, u64, u64, u64, u64);
-static void w2c_f40(module *, u64, u32, u64, u64);
-static void w2c_f41(module *, u64, u32, u64, u64, u64);
-static void w2c_f42(module *, u64, u64, u64, u64);
-static void w2c_f43(module *, u64, u64, u64);
-static void w2c_f44(module *, u64, u32, u64, u32, u64, u64);
-static u32 w2c_f45(module *, u64, u64, u32, u64, u64, u64);
-static void w2c_f46(module *, u64, u32, u64, u64);
-static void w2c_f47(module *, u64, u32, u64, u64, u64);
+static u32 w2c_f24(module *, u64, u64);
+static u32 w2c_f25(module *, u64, u64);
+static u32 w2c_f26(module *, u64, u64);
+static u32 w2c_f27(module *, u64, u64);
+static u32 w2c_f28(module *, u32, u32, u64, u64, u32, u64, u64);
+static u32 w2c_f29(module *, u32, u32, u32);
+static u32 w2c_f30(module *, u32, u32, u64, u64);
+static u64 w2c_f31(module *, u64, u64, u32, u32, u64, u64);
+static void w2c_f32(module *, u64, u64, u64, u32);
+static void w2c_f33(module *, u64, u64, u64);
+static void w2c_f34(module *, u64, u32, u64, u64, u64);
+static void w2c_f35(module *, u64, u64, u64);
+static void w2c_f36(module *, u64, u32, u64, u64, u64);
+static void w2c_f37(module *, u64, u32, u64, u64, u64, u64);
+static void w2c_f38(module *, u64, u32, u32);
+static void w2c_f39(module *, u64, u64, u64);
+static void w2c_f40(module *, u64, u32, u32, u64, u64, u64, u64);
+static void w2c_f41(module *, u64, u32, u64, u64);
+static void w2c_f42(module *, u64, u32, u64, u64, u64);
+static void w2c_f43(module *, u64, u64, u64, u64);
+static void w2c_f44(module *, u64, u64, u64);
+static void w2c_f45(module *, u64, u32, u64, u32, u64, u64);
+static u32 w2c_f46(module *, u64, u64, u32, u64, u64, u64);
+static void w2c_f47(module *, u64, u32, u64, u64);
+static void w2c_f48(module *, u64, u32, u64, u64, u64);
 static u32 w2c_chinese_number_version(module *);
-static void w2c_f49(module *);
+static void w2c_f50(module *);
 static u32 w2c_chinese_amount_print(module *, u64, u32, u32, u64, u64, u64);
-static u32 w2c_f51(module *, u64, u32, u32, u64, u64, u64);
+static u32 w2c_f52(module *, u64, u32, u32, u64, u64, u64);
 static u32 w2c_chinese_date_print(module *, u32, u32, u32, u32, u64, u64, u64);
-static u32 w2c_f53(module *, u32, u32, u32, u32, u64, u64, u64);
+static u32 w2c_f54(module *, u32, u32, u32, u32, u64, u64, u64);
 static u32 w2c_chinese_signed_amount_print(module *, u64, u32, u32, u64, u64, u64);
-static u32 w2c_f55(module *, u64, u32, u32, u64, u64, u64);
+static u32 w2c_f56(module *, u64, u32, u32, u64, u64, u64);
 static u32 w2c_chinese_quantity_figures(module *, u64, u64, u64, u64);
-static u32 w2c_f57(module *, u64, u64, u64, u64);
+static u32 w2c_f58(module *, u64, u64, u64, u64);
 static u32 w2c_chinese_amount_read(module *, u64, u64, u64);
-static u32 w2c_f59(module *, u64, u64, u64);
+static u32 w2c_f60(module *, u64, u64, u64);
 static u32 w2c_chinese_typed_amount_read(module *, u64, u64, u64);
-static u32 w2c_f61(module *, u64, u64, u64);
+static u32 w2c_f62(module *, u64, u64, u64);
 static u32 w2c_chinese_date_read(module *, u64, u64, u64);
-static u32 w2c_f63(module *, u64, u64, u64);
+static u32 w2c_f64(module *, u64, u64, u64);
 static u32 w2c_chinese_figures_read(module *, u64, u64, u64);
-static u32 w2c_f65(module *, u64, u64, u64);
+static u32 w2c_f66(module *, u64, u64, u64);
 static u32 w2c_chinese_signed_amount_read(module *, u64, u64, u64);
-static u32 w2c_f67(module *, u64, u64, u64);
+static u32 w2c_f68(module *, u64, u64, u64);
 static u32 w2c_chinese_number_find(module *, u64, u64, u64, u32, u32, u64, u64, u64);
-static u32 w2c_f69(module *, u64, u64, u64, u32, u32, u64, u64, u64);
+static u32 w2c_f70(module *, u64, u64, u64, u32, u32, u64, u64, u64);
 static u32 w2c_chinese_quantity_find(module *, u64, u64, u64, u32, u32, u64, u64, u64);
-static u32 w2c_f71(module *, u64, u64, u64, u32, u32, u64, u64, u64);
+static u32 w2c_f72(module *, u64, u64, u64, u32, u32, u64, u64, u64);
 static u32 w2c_chinese_number_find_utf8(module *, u64, u64, u64, u32, u32, u64, u64, u64);
-static u32 w2c_f73(module *, u64, u64, u64, u32, u32, u64, u64, u64);
+static u32 w2c_f74(module *, u64, u64, u64, u32, u32, u64, u64, u64);
 static u32 w2c_chinese_quantity_find_utf8(module *, u64, u64, u64, u32, u32, u64, u64, u64);
-static u32 w2c_f75(module *, u64, u64, u64, u32, u32, u64, u64, u64);
+static u32 w2c_f76(module *, u64, u64, u64, u32, u32, u64, u64, u64);
 static u32 w2c_chinese_number_print(module *, u64, u64, u32, u32, u32, u32, u64, u64, u64);
-static u32 w2c_f77(module *, u64, u64, u32, u32, u32, u32, u64, u64, u64);
+static u32 w2c_f78(module *, u64, u64, u32, u32, u32, u32, u64, u64, u64);
 static u32 w2c_chinese_quantities_to_figures(module *, u64, u64, u32, u32, u32, u32, u64, u64, u64);
-static u32 w2c_f79(module *, u64, u64, u32, u32, u32, u32, u64, u64, u64);
+static u32 w2c_f80(module *, u64, u64, u32, u32, u32, u32, u64, u64, u64);
 static u32 w2c_chinese_quantity_print(module *, u64, u32, u32, u32, u64, u64, u64);
-static u32 w2c_f81(module *, u64, u32, u32, u32, u64, u64, u64);
+static u32 w2c_f82(module *, u64, u32, u32, u32, u64, u64, u64);
 static u32 w2c_chinese_quantity_read(module *, u64, u64, u32, u64);
-static u32 w2c_f83(module *, u64, u64, u32, u64);
+static u32 w2c_f84(module *, u64, u64, u32, u64);
 static u32 w2c_chinese_number_read(module *, u64, u64, u32, u32, u64);
-static u32 w2c_f85(module *, u64, u64, u32, u32, u64);
+static u32 w2c_f86(module *, u64, u64, u32, u32, u64);
 static u32 w2c_chinese_number_read_utf8(module *, u64, u64, u32, u32, u64);
-static u32 w2c_f87(module *, u64, u64, u32, u32, u64);
+static u32 w2c_f88(module *, u64, u64, u32, u32, u64);
 
 static u32 w2c_f0(module *m) {
   u32 w2c_l0 = 0;
@@ -8191,26 +8192,30 @@ static u32 w2c_f15(module *m, u32 w2c_p0, u64 w2c_p1, u64 w2c_p2, u64 w2c_p3, u3
 }
 
 static u32 w2c_f16(module *m, u32 w2c_p0, u64 w2c_p1, u64 w2c_p2, u64 w2c_p3, u32 w2c_p4, u32 w2c_p5, u64 w2c_p6, u64 w2c_p7, u64 w2c_p8) {
-  u32 w2c_l17 = 0, w2c_l18 = 0, w2c_l19 = 0, w2c_l20 = 0;
-  u64 w2c_l9 = 0, w2c_l10 = 0, w2c_l11 = 0, w2c_l12 = 0, w2c_l13 = 0, w2c_l14 = 0, w2c_l15 = 0, w2c_l16 = 0;
+  u32 w2c_l18 = 0, w2c_l19 = 0, w2c_l20 = 0, w2c_l21 = 0;
+  u64 w2c_l9 = 0, w2c_l10 = 0, w2c_l11 = 0, w2c_l12 = 0, w2c_l13 = 0, w2c_l14 = 0, w2c_l15 = 0, w2c_l16 = 0, w2c_l17 = 0;
   u32 w2c_i0, w2c_i1, w2c_i2, w2c_i3, w2c_i4;
-  u64 w2c_j0, w2c_j1, w2c_j2, w2c_j5, w2c_j6, w2c_j7;
+  u64 w2c_j0, w2c_j1, w2c_j2, w2c_j5, w2c_j6;
   w2c_j0 = m->w2c_g0;
   w2c_j1 = 160ull;
   w2c_j0 -= w2c_j1;
   w2c_l9 = w2c_j0;
   m->w2c_g0 = w2c_j0;
   w2c_j0 = w2c_l9;
-  w2c_l9 = w2c_j0;
+  w2c_l10 = w2c_j0;
   w2c_j1 = 16ull;
   w2c_i0 = (u64)((s64)w2c_j0 < (s64)w2c_j1);
   if (w2c_i0) {goto w2c_B2;}
+  w2c_i0 = w2c_p0;
+  w2c_i1 = 1u;
+  w2c_i0 &= w2c_i1;
+  if (w2c_i0) {goto w2c_B1;}
   w2c_j0 = w2c_p2;
   w2c_j1 = w2c_p3;
   w2c_i0 = w2c_j0 == w2c_j1;
-  if (w2c_i0) {goto w2c_B4;}
+  if (w2c_i0) {goto w2c_B3;}
   w2c_i0 = 5u;
-  w2c_l17 = w2c_i0;
+  w2c_p0 = w2c_i0;
   w2c_j0 = w2c_p2;
   w2c_j1 = w2c_p3;
   w2c_i0 = w2c_j0 < w2c_j1;
@@ -8220,273 +8225,171 @@ static u32 w2c_f16(module *m, u32 w2c_p0, u64 w2c_p1, u64 w2c_p2, u64 w2c_p3, u3
   w2c_j0 += w2c_j1;
   w2c_i0 = (u32)(w2c_j0);
   w2c_i0 = i32_load8_s(m, (u64)(w2c_i0));
-  w2c_i1 = 4294967231u;
-  w2c_i0 = (u32)((s32)w2c_i0 <= (s32)w2c_i1);
+  w2c_i1 = 4294967232u;
+  w2c_i0 = (u32)((s32)w2c_i0 < (s32)w2c_i1);
   if (w2c_i0) {goto w2c_B0;}
-  w2c_i0 = w2c_p0;
-  w2c_i1 = 1u;
-  w2c_i0 &= w2c_i1;
-  if (w2c_i0) {goto w2c_B3;}
-  goto w2c_B1;
-  w2c_B4:;
-  w2c_i0 = w2c_p0;
-  w2c_i1 = 1u;
-  w2c_i0 &= w2c_i1;
-  w2c_i0 = !(w2c_i0);
-  if (w2c_i0) {goto w2c_B1;}
   w2c_B3:;
-  w2c_i0 = 0u;
-  w2c_l17 = w2c_i0;
-  w2c_j0 = w2c_l9;
-  w2c_i0 = (u32)(w2c_j0);
-  w2c_i1 = 0u;
-  i32_store(m, (u64)(w2c_i0) + 122, w2c_i1);
-  w2c_j0 = w2c_l9;
-  w2c_i0 = (u32)(w2c_j0);
-  w2c_i1 = w2c_p5;
-  i32_store8(m, (u64)(w2c_i0) + 121, w2c_i1);
-  w2c_j0 = w2c_l9;
-  w2c_i0 = (u32)(w2c_j0);
-  w2c_i1 = w2c_p4;
-  i32_store8(m, (u64)(w2c_i0) + 120, w2c_i1);
-  w2c_j0 = w2c_l9;
-  w2c_i0 = (u32)(w2c_j0);
-  w2c_i1 = 0u;
-  i32_store16(m, (u64)(w2c_i0) + 126, w2c_i1);
-  w2c_j0 = 0ull;
-  w2c_l10 = w2c_j0;
-  w2c_j0 = w2c_l9;
-  w2c_i0 = (u32)(w2c_j0);
-  w2c_j1 = 0ull;
-  i64_store(m, (u64)(w2c_i0) + 64, w2c_j1);
-  w2c_j0 = w2c_l9;
-  w2c_i0 = (u32)(w2c_j0);
-  w2c_j1 = 0ull;
-  i64_store(m, (u64)(w2c_i0) + 72, w2c_j1);
-  w2c_j0 = w2c_l9;
-  w2c_i0 = (u32)(w2c_j0);
-  w2c_j1 = 0ull;
-  i64_store(m, (u64)(w2c_i0) + 80, w2c_j1);
-  w2c_j0 = w2c_l9;
-  w2c_i0 = (u32)(w2c_j0);
-  w2c_j1 = 0ull;
-  i64_store(m, (u64)(w2c_i0) + 88, w2c_j1);
-  w2c_j0 = w2c_l9;
-  w2c_i0 = (u32)(w2c_j0);
-  w2c_j1 = 0ull;
-  i64_store(m, (u64)(w2c_i0) + 96, w2c_j1);
-  w2c_j0 = w2c_l9;
-  w2c_i0 = (u32)(w2c_j0);
-  w2c_j1 = 0ull;
-  i64_store(m, (u64)(w2c_i0) + 104, w2c_j1);
-  w2c_j0 = w2c_l9;
-  w2c_i0 = (u32)(w2c_j0);
-  w2c_j1 = 0ull;
-  i64_store(m, (u64)(w2c_i0) + 112, w2c_j1);
-  w2c_j0 = w2c_l9;
-  w2c_i0 = (u32)(w2c_j0);
-  w2c_j1 = 0ull;
-  i64_store(m, (u64)(w2c_i0) + 40, w2c_j1);
-  w2c_j0 = w2c_l9;
-  w2c_i0 = (u32)(w2c_j0);
-  w2c_j1 = 0ull;
-  i64_store(m, (u64)(w2c_i0) + 48, w2c_j1);
-  w2c_j0 = w2c_l9;
-  w2c_i0 = (u32)(w2c_j0);
-  w2c_j1 = 0ull;
-  i64_store(m, (u64)(w2c_i0) + 56, w2c_j1);
-  w2c_j0 = w2c_l9;
-  w2c_i0 = (u32)(w2c_j0);
-  w2c_j1 = w2c_p2;
-  i64_store(m, (u64)(w2c_i0) + 136, w2c_j1);
-  w2c_j0 = w2c_l9;
-  w2c_i0 = (u32)(w2c_j0);
-  w2c_j1 = w2c_p2;
-  w2c_j2 = w2c_p3;
-  w2c_j1 -= w2c_j2;
-  i64_store(m, (u64)(w2c_i0) + 152, w2c_j1);
-  w2c_j0 = w2c_l9;
-  w2c_i0 = (u32)(w2c_j0);
-  w2c_j1 = w2c_p1;
-  i64_store(m, (u64)(w2c_i0) + 128, w2c_j1);
-  w2c_j0 = w2c_l9;
-  w2c_i0 = (u32)(w2c_j0);
-  w2c_j1 = w2c_p1;
-  w2c_j2 = w2c_p3;
-  w2c_j1 += w2c_j2;
-  i64_store(m, (u64)(w2c_i0) + 144, w2c_j1);
-  w2c_j0 = w2c_p7;
-  w2c_i0 = !(w2c_j0);
-  if (w2c_i0) {goto w2c_B5;}
-  w2c_j0 = w2c_l9;
-  w2c_j1 = 72ull;
-  w2c_j0 += w2c_j1;
-  w2c_p3 = w2c_j0;
-  w2c_j0 = 0ull;
-  w2c_l10 = w2c_j0;
-  w2c_L6:
-    w2c_j0 = w2c_l9;
-    w2c_j1 = 64ull;
-    w2c_j0 += w2c_j1;
-    w2c_j1 = w2c_l9;
-    w2c_j2 = 120ull;
-    w2c_j1 += w2c_j2;
-    w2c_f17(m, w2c_j0, w2c_j1);
-    w2c_j0 = w2c_l9;
-    w2c_i0 = (u32)(w2c_j0);
-    w2c_i0 = i32_load8_u(m, (u64)(w2c_i0) + 64u);
-    w2c_i1 = 1u;
-    w2c_i0 = w2c_i0 != w2c_i1;
-    if (w2c_i0) {goto w2c_B5;}
-    w2c_j0 = w2c_l9;
-    w2c_j1 = 40ull;
-    w2c_j0 += w2c_j1;
-    w2c_j1 = w2c_p3;
-    w2c_f18(m, w2c_j0, w2c_j1);
-    w2c_j0 = w2c_p6;
-    w2c_i0 = (u32)(w2c_j0);
-    w2c_j1 = w2c_l9;
-    w2c_i1 = (u32)(w2c_j1);
-    w2c_j1 = i64_load(m, (u64)(w2c_i1) + 56u);
-    i64_store(m, (u64)(w2c_i0) + 16, w2c_j1);
-    w2c_j0 = w2c_p6;
-    w2c_i0 = (u32)(w2c_j0);
-    w2c_j1 = w2c_l9;
-    w2c_i1 = (u32)(w2c_j1);
-    w2c_j1 = i64_load(m, (u64)(w2c_i1) + 48u);
-    i64_store(m, (u64)(w2c_i0) + 8, w2c_j1);
-    w2c_j0 = w2c_p6;
-    w2c_i0 = (u32)(w2c_j0);
-    w2c_j1 = w2c_l9;
-    w2c_i1 = (u32)(w2c_j1);
-    w2c_j1 = i64_load(m, (u64)(w2c_i1) + 40u);
-    i64_store(m, (u64)(w2c_i0), w2c_j1);
-    w2c_j0 = w2c_p6;
-    w2c_j1 = 24ull;
-    w2c_j0 += w2c_j1;
-    w2c_p6 = w2c_j0;
-    w2c_j0 = w2c_p7;
-    w2c_j1 = w2c_l10;
-    w2c_j2 = 1ull;
-    w2c_j1 += w2c_j2;
-    w2c_l10 = w2c_j1;
-    w2c_i0 = w2c_j0 != w2c_j1;
-    if (w2c_i0) {goto w2c_L6;}
-  w2c_j0 = w2c_p7;
-  w2c_l10 = w2c_j0;
-  w2c_B5:;
-  w2c_j0 = w2c_p8;
-  w2c_i0 = (u32)(w2c_j0);
-  w2c_j1 = w2c_l10;
-  i64_store(m, (u64)(w2c_i0), w2c_j1);
-  goto w2c_B0;
-  w2c_B2:;
-  UNREACHABLE;
-  w2c_B1:;
   w2c_j0 = 0ull;
   w2c_l11 = w2c_j0;
-  w2c_j0 = w2c_l9;
+  w2c_j0 = w2c_l10;
   w2c_i0 = (u32)(w2c_j0);
   w2c_j1 = 0ull;
   i64_store(m, (u64)(w2c_i0) + 120, w2c_j1);
-  w2c_j0 = w2c_l9;
+  w2c_j0 = w2c_l10;
   w2c_i0 = (u32)(w2c_j0);
   w2c_j1 = 0ull;
   i64_store(m, (u64)(w2c_i0) + 128, w2c_j1);
-  w2c_j0 = w2c_l9;
+  w2c_j0 = w2c_l10;
   w2c_i0 = (u32)(w2c_j0);
   w2c_j1 = 0ull;
   i64_store(m, (u64)(w2c_i0) + 136, w2c_j1);
-  w2c_j0 = w2c_l9;
+  w2c_j0 = w2c_l10;
   w2c_i0 = (u32)(w2c_j0);
   w2c_j1 = 0ull;
   i64_store(m, (u64)(w2c_i0) + 64, w2c_j1);
-  w2c_j0 = w2c_l9;
+  w2c_j0 = w2c_l10;
   w2c_i0 = (u32)(w2c_j0);
   w2c_j1 = 0ull;
   i64_store(m, (u64)(w2c_i0) + 72, w2c_j1);
-  w2c_j0 = w2c_l9;
+  w2c_j0 = w2c_l10;
   w2c_i0 = (u32)(w2c_j0);
   w2c_j1 = 0ull;
   i64_store(m, (u64)(w2c_i0) + 80, w2c_j1);
-  w2c_j0 = w2c_l9;
+  w2c_j0 = w2c_l10;
   w2c_i0 = (u32)(w2c_j0);
   w2c_j1 = 0ull;
   i64_store(m, (u64)(w2c_i0) + 88, w2c_j1);
-  w2c_j0 = w2c_l9;
+  w2c_j0 = w2c_l10;
   w2c_i0 = (u32)(w2c_j0);
   w2c_j1 = 0ull;
   i64_store(m, (u64)(w2c_i0) + 96, w2c_j1);
-  w2c_j0 = w2c_l9;
+  w2c_j0 = w2c_l10;
   w2c_i0 = (u32)(w2c_j0);
   w2c_j1 = 0ull;
   i64_store(m, (u64)(w2c_i0) + 104, w2c_j1);
-  w2c_j0 = w2c_p2;
-  w2c_j1 = w2c_p3;
-  w2c_j0 -= w2c_j1;
-  w2c_l10 = w2c_j0;
-  w2c_i0 = !(w2c_j0);
-  if (w2c_i0) {goto w2c_B7;}
   w2c_j0 = w2c_p7;
   w2c_i0 = !(w2c_j0);
-  if (w2c_i0) {goto w2c_B7;}
+  if (w2c_i0) {goto w2c_B4;}
   w2c_j0 = w2c_p1;
   w2c_j1 = w2c_p3;
   w2c_j0 += w2c_j1;
+  w2c_l12 = w2c_j0;
+  w2c_j0 = w2c_p2;
+  w2c_j1 = w2c_p3;
+  w2c_j0 -= w2c_j1;
   w2c_p3 = w2c_j0;
   w2c_j0 = 0ull;
   w2c_l11 = w2c_j0;
-  w2c_L8:
-    w2c_j0 = w2c_l10;
-    w2c_l12 = w2c_j0;
-    w2c_j0 = 1ull;
-    w2c_l13 = w2c_j0;
+  w2c_L5:
+    w2c_j0 = w2c_l12;
+    w2c_l9 = w2c_j0;
     w2c_j0 = w2c_p3;
-    w2c_l14 = w2c_j0;
+    w2c_l13 = w2c_j0;
+    w2c_j1 = 3ull;
+    w2c_i0 = w2c_j0 < w2c_j1;
+    if (w2c_i0) {goto w2c_B13;}
+    w2c_j0 = w2c_l9;
     w2c_i0 = (u32)(w2c_j0);
-    w2c_i0 = i32_load8_s(m, (u64)(w2c_i0));
-    w2c_p0 = w2c_i0;
-    w2c_i1 = 255u;
-    w2c_i0 &= w2c_i1;
+    w2c_i0 = i32_load8_u(m, (u64)(w2c_i0));
     w2c_l18 = w2c_i0;
-    w2c_l17 = w2c_i0;
-    w2c_i0 = w2c_p0;
+    w2c_i1 = 240u;
+    w2c_i0 &= w2c_i1;
+    w2c_i1 = 224u;
+    w2c_i0 = w2c_i0 != w2c_i1;
+    if (w2c_i0) {goto w2c_B12;}
+    w2c_j0 = w2c_l9;
+    w2c_i0 = (u32)(w2c_j0);
+    w2c_i0 = i32_load8_u(m, (u64)(w2c_i0) + 1u);
+    w2c_l19 = w2c_i0;
+    w2c_i1 = 8u;
+    w2c_i0 <<= (w2c_i1 & 31);
+    w2c_j1 = w2c_l9;
+    w2c_i1 = (u32)(w2c_j1);
+    w2c_i1 = i32_load8_u(m, (u64)(w2c_i1) + 2u);
+    w2c_l20 = w2c_i1;
+    w2c_i2 = 16u;
+    w2c_i1 <<= (w2c_i2 & 31);
+    w2c_i0 |= w2c_i1;
+    w2c_i1 = w2c_l18;
+    w2c_i0 |= w2c_i1;
+    w2c_p0 = w2c_i0;
+    w2c_j0 = (u64)(w2c_i0);
+    w2c_j1 = 953497ull;
+    w2c_j0 *= w2c_j1;
+    w2c_j1 = 22ull;
+    w2c_j0 >>= (w2c_j1 & 63);
+    w2c_j1 = 1016ull;
+    w2c_j0 &= w2c_j1;
+    w2c_l14 = w2c_j0;
+    w2c_j1 = 66992ull;
+    w2c_j0 += w2c_j1;
+    w2c_i0 = (u32)(w2c_j0);
+    w2c_i0 = i32_load(m, (u64)(w2c_i0));
+    w2c_i1 = w2c_p0;
+    w2c_i0 = w2c_i0 == w2c_i1;
+    if (w2c_i0) {goto w2c_B11;}
+    w2c_j0 = w2c_l13;
+    w2c_j1 = 18446744073709551613ull;
+    w2c_j0 += w2c_j1;
+    w2c_p3 = w2c_j0;
+    w2c_j0 = w2c_l9;
+    w2c_j1 = 3ull;
+    w2c_j0 += w2c_j1;
+    w2c_l12 = w2c_j0;
+    goto w2c_L5;
+    w2c_B13:;
+    w2c_j0 = w2c_l13;
+    w2c_i0 = !(w2c_j0);
+    if (w2c_i0) {goto w2c_B4;}
+    w2c_j0 = w2c_l9;
+    w2c_i0 = (u32)(w2c_j0);
+    w2c_i0 = i32_load8_u(m, (u64)(w2c_i0));
+    w2c_l18 = w2c_i0;
+    w2c_B12:;
+    w2c_j0 = 1ull;
+    w2c_l12 = w2c_j0;
+    w2c_i0 = w2c_l18;
+    w2c_i0 = (u32)(s32)(s8)(u8)(w2c_i0);
     w2c_i1 = 4294967295u;
-    w2c_i0 = (u32)((s32)w2c_i0 > (s32)w2c_i1);
-    if (w2c_i0) {goto w2c_B9;}
-    w2c_j0 = w2c_l14;
+    w2c_i0 = (u32)((s32)w2c_i0 <= (s32)w2c_i1);
+    if (w2c_i0) {goto w2c_B15;}
+    w2c_i0 = w2c_l18;
+    w2c_p0 = w2c_i0;
+    goto w2c_B14;
+    w2c_B15:;
+    w2c_j0 = w2c_l9;
     w2c_i0 = (u32)(w2c_j0);
     w2c_i0 = i32_load8_u(m, (u64)(w2c_i0) + 1u);
     w2c_i1 = 63u;
     w2c_i0 &= w2c_i1;
-    w2c_l17 = w2c_i0;
-    w2c_i0 = w2c_p0;
-    w2c_i1 = 4294967263u;
+    w2c_p0 = w2c_i0;
+    w2c_i0 = w2c_l18;
+    w2c_i1 = 223u;
     w2c_i0 = w2c_i0 > w2c_i1;
-    if (w2c_i0) {goto w2c_B10;}
+    if (w2c_i0) {goto w2c_B16;}
     w2c_i0 = w2c_l18;
     w2c_i1 = 6u;
     w2c_i0 <<= (w2c_i1 & 31);
     w2c_i1 = 1984u;
     w2c_i0 &= w2c_i1;
-    w2c_i1 = w2c_l17;
+    w2c_i1 = w2c_p0;
     w2c_i0 |= w2c_i1;
-    w2c_l17 = w2c_i0;
+    w2c_p0 = w2c_i0;
     w2c_j0 = 2ull;
-    w2c_l13 = w2c_j0;
-    goto w2c_B9;
-    w2c_B10:;
-    w2c_j0 = w2c_l14;
+    w2c_l12 = w2c_j0;
+    goto w2c_B14;
+    w2c_B16:;
+    w2c_j0 = w2c_l9;
     w2c_i0 = (u32)(w2c_j0);
     w2c_i0 = i32_load8_u(m, (u64)(w2c_i0) + 2u);
     w2c_i1 = 63u;
     w2c_i0 &= w2c_i1;
     w2c_l19 = w2c_i0;
-    w2c_i0 = w2c_p0;
-    w2c_i1 = 4294967279u;
+    w2c_i0 = w2c_l18;
+    w2c_i1 = 239u;
     w2c_i0 = w2c_i0 > w2c_i1;
-    if (w2c_i0) {goto w2c_B11;}
-    w2c_i0 = w2c_l17;
+    if (w2c_i0) {goto w2c_B17;}
+    w2c_i0 = w2c_p0;
     w2c_i1 = 6u;
     w2c_i0 <<= (w2c_i1 & 31);
     w2c_i1 = w2c_l18;
@@ -8497,15 +8400,15 @@ static u32 w2c_f16(module *m, u32 w2c_p0, u64 w2c_p1, u64 w2c_p2, u64 w2c_p3, u3
     w2c_i0 |= w2c_i1;
     w2c_i1 = w2c_l19;
     w2c_i0 |= w2c_i1;
-    w2c_l17 = w2c_i0;
+    w2c_p0 = w2c_i0;
     w2c_j0 = 3ull;
-    w2c_l13 = w2c_j0;
-    goto w2c_B9;
-    w2c_B11:;
+    w2c_l12 = w2c_j0;
+    goto w2c_B14;
+    w2c_B17:;
     w2c_i0 = w2c_l19;
     w2c_i1 = 6u;
     w2c_i0 <<= (w2c_i1 & 31);
-    w2c_i1 = w2c_l17;
+    w2c_i1 = w2c_p0;
     w2c_i2 = 12u;
     w2c_i1 <<= (w2c_i2 & 31);
     w2c_i2 = w2c_l18;
@@ -8515,40 +8418,40 @@ static u32 w2c_f16(module *m, u32 w2c_p0, u64 w2c_p1, u64 w2c_p2, u64 w2c_p3, u3
     w2c_i2 &= w2c_i3;
     w2c_i1 |= w2c_i2;
     w2c_i0 |= w2c_i1;
-    w2c_j1 = w2c_l14;
+    w2c_j1 = w2c_l9;
     w2c_i1 = (u32)(w2c_j1);
     w2c_i1 = i32_load8_u(m, (u64)(w2c_i1) + 3u);
     w2c_i2 = 63u;
     w2c_i1 &= w2c_i2;
     w2c_i0 |= w2c_i1;
-    w2c_l17 = w2c_i0;
+    w2c_p0 = w2c_i0;
     w2c_j0 = 4ull;
-    w2c_l13 = w2c_j0;
-    w2c_B9:;
-    w2c_j0 = w2c_l12;
-    w2c_j1 = w2c_l13;
+    w2c_l12 = w2c_j0;
+    w2c_B14:;
+    w2c_j0 = w2c_l13;
+    w2c_j1 = w2c_l12;
     w2c_j0 -= w2c_j1;
-    w2c_l10 = w2c_j0;
-    w2c_j0 = w2c_l14;
-    w2c_j1 = w2c_l13;
-    w2c_j0 += w2c_j1;
     w2c_p3 = w2c_j0;
-    w2c_i0 = w2c_l17;
+    w2c_j0 = w2c_l9;
+    w2c_j1 = w2c_l12;
+    w2c_j0 += w2c_j1;
+    w2c_l12 = w2c_j0;
+    w2c_i0 = w2c_p0;
     w2c_i1 = 4294965248u;
     w2c_i0 += w2c_i1;
     w2c_i1 = 63487u;
     w2c_i0 = w2c_i0 > w2c_i1;
-    if (w2c_i0) {goto w2c_B15;}
-    w2c_i0 = w2c_l17;
+    if (w2c_i0) {goto w2c_B18;}
+    w2c_i0 = w2c_p0;
     w2c_i1 = 12u;
     w2c_i0 >>= (w2c_i1 & 31);
-    w2c_i1 = w2c_l17;
+    w2c_i1 = w2c_p0;
     w2c_i2 = 2u;
     w2c_i1 <<= (w2c_i2 & 31);
     w2c_i2 = 16128u;
     w2c_i1 &= w2c_i2;
     w2c_i0 |= w2c_i1;
-    w2c_i1 = w2c_l17;
+    w2c_i1 = w2c_p0;
     w2c_i2 = 16u;
     w2c_i1 <<= (w2c_i2 & 31);
     w2c_i2 = 4128768u;
@@ -8564,348 +8467,614 @@ static u32 w2c_f16(module *m, u32 w2c_p0, u64 w2c_p1, u64 w2c_p2, u64 w2c_p3, u3
     w2c_j0 >>= (w2c_j1 & 63);
     w2c_j1 = 1016ull;
     w2c_j0 &= w2c_j1;
-    w2c_l13 = w2c_j0;
+    w2c_l14 = w2c_j0;
+    w2c_j1 = 66992ull;
+    w2c_j0 += w2c_j1;
     w2c_i0 = (u32)(w2c_j0);
-    w2c_i0 = i32_load(m, (u64)(w2c_i0) + 66992u);
+    w2c_i0 = i32_load(m, (u64)(w2c_i0));
     w2c_i1 = w2c_l19;
     w2c_i0 = w2c_i0 != w2c_i1;
-    if (w2c_i0) {goto w2c_B13;}
+    if (w2c_i0) {goto w2c_L5;}
+    goto w2c_B10;
+    w2c_B18:;
+    w2c_i0 = 0u;
+    w2c_l19 = w2c_i0;
+    w2c_i0 = w2c_p0;
+    w2c_i1 = 20236u;
+    w2c_i0 = (u32)((s32)w2c_i0 > (s32)w2c_i1);
+    if (w2c_i0) {goto w2c_B33;}
+    w2c_i0 = w2c_p0;
+    w2c_i1 = 19967u;
+    w2c_i0 = (u32)((s32)w2c_i0 > (s32)w2c_i1);
+    if (w2c_i0) {goto w2c_B34;}
+    w2c_i0 = 0u;
+    w2c_l20 = w2c_i0;
+    w2c_i0 = w2c_p0;
+    w2c_i1 = 4294967248u;
+    w2c_i0 += w2c_i1;
+    switch (w2c_i0) {
+      case 0: goto w2c_B6;
+      case 1: goto w2c_B32;
+      case 2: goto w2c_B26;
+      case 3: goto w2c_B20;
+      case 4: goto w2c_B28;
+      case 5: goto w2c_B24;
+      case 6: goto w2c_B7;
+      case 7: goto w2c_B30;
+      case 8: goto w2c_B23;
+      case 9: goto w2c_B8;
+      default: goto w2c_B35;
+    }
+    w2c_B35:;
+    w2c_i0 = w2c_p0;
+    w2c_i1 = 12295u;
+    w2c_i0 = w2c_i0 != w2c_i1;
+    if (w2c_i0) {goto w2c_B21;}
+    w2c_i0 = 0u;
+    w2c_l20 = w2c_i0;
+    goto w2c_B6;
+    w2c_B34:;
+    w2c_i0 = w2c_p0;
+    w2c_i1 = 4294947328u;
+    w2c_i0 += w2c_i1;
+    switch (w2c_i0) {
+      case 0: goto w2c_B32;
+      case 1: goto w2c_B21;
+      case 2: goto w2c_B21;
+      case 3: goto w2c_B30;
+      case 4: goto w2c_B21;
+      case 5: goto w2c_B21;
+      case 6: goto w2c_B21;
+      case 7: goto w2c_B21;
+      case 8: goto w2c_B21;
+      case 9: goto w2c_B20;
+      case 10: goto w2c_B21;
+      case 11: goto w2c_B21;
+      case 12: goto w2c_B21;
+      case 13: goto w2c_B21;
+      case 14: goto w2c_B21;
+      case 15: goto w2c_B21;
+      case 16: goto w2c_B21;
+      case 17: goto w2c_B21;
+      case 18: goto w2c_B21;
+      case 19: goto w2c_B21;
+      case 20: goto w2c_B21;
+      case 21: goto w2c_B21;
+      case 22: goto w2c_B21;
+      case 23: goto w2c_B21;
+      case 24: goto w2c_B21;
+      case 25: goto w2c_B21;
+      case 26: goto w2c_B21;
+      case 27: goto w2c_B21;
+      case 28: goto w2c_B21;
+      case 29: goto w2c_B21;
+      case 30: goto w2c_B21;
+      case 31: goto w2c_B21;
+      case 32: goto w2c_B21;
+      case 33: goto w2c_B21;
+      case 34: goto w2c_B21;
+      case 35: goto w2c_B21;
+      case 36: goto w2c_B26;
+      default: goto w2c_B36;
+    }
+    w2c_B36:;
+    w2c_i0 = w2c_p0;
+    w2c_i1 = 4294947188u;
+    w2c_i0 += w2c_i1;
+    switch (w2c_i0) {
+      case 0: goto w2c_B26;
+      case 1: goto w2c_B21;
+      case 2: goto w2c_B21;
+      case 3: goto w2c_B21;
+      case 4: goto w2c_B21;
+      case 5: goto w2c_B21;
+      case 6: goto w2c_B21;
+      case 7: goto w2c_B21;
+      case 8: goto w2c_B24;
+      default: goto w2c_B22;
+    }
+    w2c_B33:;
+    w2c_i0 = w2c_p0;
+    w2c_i1 = 29589u;
+    w2c_i0 = (u32)((s32)w2c_i0 > (s32)w2c_i1);
+    if (w2c_i0) {goto w2c_B29;}
+    w2c_i0 = w2c_p0;
+    w2c_i1 = 22234u;
+    w2c_i0 = (u32)((s32)w2c_i0 > (s32)w2c_i1);
+    if (w2c_i0) {goto w2c_B37;}
+    w2c_i0 = w2c_p0;
+    w2c_i1 = 4294946455u;
+    w2c_i0 += w2c_i1;
+    switch (w2c_i0) {
+      case 0: goto w2c_B26;
+      case 1: goto w2c_B21;
+      case 2: goto w2c_B23;
+      case 3: goto w2c_B21;
+      case 4: goto w2c_B7;
+      default: goto w2c_B25;
+    }
+    w2c_B37:;
+    w2c_i0 = w2c_p0;
+    w2c_i1 = 25419u;
+    w2c_i0 = (u32)((s32)w2c_i0 > (s32)w2c_i1);
+    if (w2c_i0) {goto w2c_B31;}
+    w2c_i0 = w2c_p0;
+    w2c_i1 = 22235u;
+    w2c_i0 = w2c_i0 == w2c_i1;
+    if (w2c_i0) {goto w2c_B28;}
+    w2c_i0 = w2c_p0;
+    w2c_i1 = 22777u;
+    w2c_i0 = w2c_i0 != w2c_i1;
+    if (w2c_i0) {goto w2c_B21;}
+    w2c_B32:;
+    w2c_i0 = 1u;
+    w2c_l20 = w2c_i0;
+    goto w2c_B6;
+    w2c_B31:;
+    w2c_i0 = w2c_p0;
+    w2c_i1 = 25420u;
+    w2c_i0 = w2c_i0 == w2c_i1;
+    if (w2c_i0) {goto w2c_B23;}
+    w2c_i0 = w2c_p0;
+    w2c_i1 = 26578u;
+    w2c_i0 = w2c_i0 != w2c_i1;
+    if (w2c_i0) {goto w2c_B21;}
+    w2c_B30:;
+    w2c_i0 = 7u;
+    w2c_l20 = w2c_i0;
+    goto w2c_B6;
+    w2c_B29:;
+    w2c_i0 = w2c_p0;
+    w2c_i1 = 36143u;
+    w2c_i0 = (u32)((s32)w2c_i0 > (s32)w2c_i1);
+    if (w2c_i0) {goto w2c_B27;}
+    w2c_i0 = w2c_p0;
+    w2c_i1 = 4294931282u;
+    w2c_i0 += w2c_i1;
+    switch (w2c_i0) {
+      case 0: goto w2c_B26;
+      case 1: goto w2c_B21;
+      case 2: goto w2c_B21;
+      case 3: goto w2c_B21;
+      case 4: goto w2c_B21;
+      case 5: goto w2c_B26;
+      default: goto w2c_B38;
+    }
+    w2c_B38:;
+    w2c_i0 = w2c_p0;
+    w2c_i1 = 29590u;
+    w2c_i0 = w2c_i0 == w2c_i1;
+    if (w2c_i0) {goto w2c_B8;}
+    w2c_i0 = w2c_p0;
+    w2c_i1 = 32902u;
+    w2c_i0 = w2c_i0 != w2c_i1;
+    if (w2c_i0) {goto w2c_B21;}
+    w2c_B28:;
+    w2c_i0 = 4u;
+    w2c_l20 = w2c_i0;
+    goto w2c_B6;
+    w2c_B27:;
+    w2c_i0 = w2c_p0;
+    w2c_i1 = 38519u;
+    w2c_i0 = (u32)((s32)w2c_i0 > (s32)w2c_i1);
+    if (w2c_i0) {goto w2c_B39;}
+    w2c_i0 = w2c_p0;
+    w2c_i1 = 36144u;
+    w2c_i0 = w2c_i0 == w2c_i1;
+    if (w2c_i0) {goto w2c_B26;}
+    w2c_i0 = w2c_p0;
+    w2c_i1 = 38470u;
+    w2c_i0 = w2c_i0 != w2c_i1;
+    if (w2c_i0) {goto w2c_B21;}
+    goto w2c_B7;
+    w2c_B39:;
+    w2c_i0 = w2c_p0;
+    w2c_i1 = 38520u;
+    w2c_i0 = w2c_i0 == w2c_i1;
+    if (w2c_i0) {goto w2c_B7;}
+    w2c_i0 = w2c_p0;
+    w2c_i1 = 38646u;
+    w2c_i0 = w2c_i0 != w2c_i1;
+    if (w2c_i0) {goto w2c_B21;}
+    w2c_i0 = 0u;
+    w2c_l20 = w2c_i0;
+    goto w2c_B6;
+    w2c_B26:;
+    w2c_i0 = 2u;
+    w2c_l20 = w2c_i0;
+    goto w2c_B6;
+    w2c_B25:;
+    w2c_i0 = w2c_p0;
+    w2c_i1 = 20237u;
+    w2c_i0 = w2c_i0 != w2c_i1;
+    if (w2c_i0) {goto w2c_B21;}
+    w2c_B24:;
+    w2c_i0 = 5u;
+    w2c_l20 = w2c_i0;
+    goto w2c_B6;
+    w2c_B23:;
+    w2c_i0 = 8u;
+    w2c_l20 = w2c_i0;
+    goto w2c_B6;
+    w2c_B22:;
+    w2c_i0 = w2c_p0;
+    w2c_i1 = 20061u;
+    w2c_i0 = w2c_i0 == w2c_i1;
+    if (w2c_i0) {goto w2c_B8;}
+    w2c_B21:;
+    w2c_i0 = w2c_p0;
+    w2c_i1 = 4294945855u;
+    w2c_i0 += w2c_i1;
+    w2c_i1 = 3u;
+    w2c_i0 = w2c_i0 > w2c_i1;
+    if (w2c_i0) {goto w2c_B19;}
+    w2c_B20:;
+    w2c_i0 = 3u;
+    w2c_l20 = w2c_i0;
+    goto w2c_B6;
+    w2c_B19:;
+    w2c_i0 = 1u;
+    w2c_l19 = w2c_i0;
+    w2c_i0 = w2c_p0;
+    w2c_i1 = 26496u;
+    w2c_i0 = (u32)((s32)w2c_i0 > (s32)w2c_i1);
+    if (w2c_i0) {goto w2c_B49;}
+    w2c_i0 = w2c_p0;
+    w2c_i1 = 20490u;
+    w2c_i0 = (u32)((s32)w2c_i0 > (s32)w2c_i1);
+    if (w2c_i0) {goto w2c_B50;}
+    w2c_i0 = w2c_p0;
+    w2c_i1 = 20139u;
+    w2c_i0 = (u32)((s32)w2c_i0 > (s32)w2c_i1);
+    if (w2c_i0) {goto w2c_B51;}
+    w2c_i0 = w2c_p0;
+    w2c_i1 = 19975u;
+    w2c_i0 = w2c_i0 == w2c_i1;
+    if (w2c_i0) {goto w2c_B48;}
+    w2c_i0 = 0u;
+    w2c_l20 = w2c_i0;
+    w2c_i0 = 1u;
+    w2c_l19 = w2c_i0;
+    w2c_i0 = w2c_p0;
+    w2c_i1 = 20010u;
+    w2c_i0 = w2c_i0 != w2c_i1;
+    if (w2c_i0) {goto w2c_L5;}
+    goto w2c_B6;
+    w2c_B51:;
+    w2c_i0 = w2c_p0;
+    w2c_i1 = 4294947156u;
+    w2c_i0 += w2c_i1;
+    switch (w2c_i0) {
+      case 0: goto w2c_B44;
+      case 1: goto w2c_L5;
+      case 2: goto w2c_L5;
+      case 3: goto w2c_L5;
+      case 4: goto w2c_L5;
+      case 5: goto w2c_L5;
+      case 6: goto w2c_L5;
+      case 7: goto w2c_L5;
+      case 8: goto w2c_L5;
+      case 9: goto w2c_L5;
+      case 10: goto w2c_L5;
+      case 11: goto w2c_L5;
+      case 12: goto w2c_L5;
+      case 13: goto w2c_L5;
+      case 14: goto w2c_L5;
+      case 15: goto w2c_L5;
+      case 16: goto w2c_L5;
+      case 17: goto w2c_L5;
+      case 18: goto w2c_L5;
+      case 19: goto w2c_B45;
+      default: goto w2c_B52;
+    }
+    w2c_B52:;
+    w2c_i0 = w2c_p0;
+    w2c_i1 = 20191u;
+    w2c_i0 = w2c_i0 == w2c_i1;
+    if (w2c_i0) {goto w2c_B46;}
+    w2c_i0 = w2c_p0;
+    w2c_i1 = 20336u;
+    w2c_i0 = w2c_i0 != w2c_i1;
+    if (w2c_i0) {goto w2c_L5;}
+    goto w2c_B9;
+    w2c_B50:;
+    w2c_i0 = w2c_p0;
+    w2c_i1 = 21312u;
+    w2c_i0 = (u32)((s32)w2c_i0 > (s32)w2c_i1);
+    if (w2c_i0) {goto w2c_B53;}
+    w2c_i0 = w2c_p0;
+    w2c_i1 = 20491u;
+    w2c_i0 = w2c_i0 != w2c_i1;
+    if (w2c_i0) {goto w2c_B54;}
+    w2c_i0 = 0u;
+    w2c_l20 = w2c_i0;
+    goto w2c_B6;
+    w2c_B54:;
+    w2c_i0 = w2c_p0;
+    w2c_i1 = 20740u;
+    w2c_i0 = w2c_i0 == w2c_i1;
+    if (w2c_i0) {goto w2c_B45;}
+    w2c_i0 = w2c_p0;
+    w2c_i1 = 20806u;
+    w2c_i0 = w2c_i0 != w2c_i1;
+    if (w2c_i0) {goto w2c_L5;}
+    w2c_i0 = 6u;
+    w2c_l20 = w2c_i0;
+    w2c_i0 = 1u;
+    w2c_l19 = w2c_i0;
+    goto w2c_B6;
+    w2c_B53:;
+    w2c_i0 = w2c_p0;
+    w2c_i1 = 4294945983u;
+    w2c_i0 += w2c_i1;
+    switch (w2c_i0) {
+      case 0: goto w2c_B55;
+      case 1: goto w2c_L5;
+      case 2: goto w2c_B46;
+      default: goto w2c_B56;
+    }
+    w2c_B56:;
+    w2c_i0 = w2c_p0;
+    w2c_i1 = 22419u;
+    w2c_i0 = w2c_i0 == w2c_i1;
+    if (w2c_i0) {goto w2c_B43;}
+    w2c_i0 = w2c_p0;
+    w2c_i1 = 25342u;
+    w2c_i0 = w2c_i0 != w2c_i1;
+    if (w2c_i0) {goto w2c_L5;}
+    w2c_B55:;
+    w2c_i0 = 1u;
+    w2c_l20 = w2c_i0;
+    w2c_i0 = 1u;
+    w2c_l19 = w2c_i0;
+    goto w2c_B6;
+    w2c_B49:;
+    w2c_i0 = w2c_p0;
+    w2c_i1 = 28566u;
+    w2c_i0 = (u32)((s32)w2c_i0 > (s32)w2c_i1);
+    if (w2c_i0) {goto w2c_B57;}
+    w2c_i0 = w2c_p0;
+    w2c_i1 = 27806u;
+    w2c_i0 = (u32)((s32)w2c_i0 > (s32)w2c_i1);
+    if (w2c_i0) {goto w2c_B58;}
+    w2c_i0 = w2c_p0;
+    w2c_i1 = 26497u;
+    w2c_i0 = w2c_i0 == w2c_i1;
+    if (w2c_i0) {goto w2c_B40;}
+    w2c_i0 = w2c_p0;
+    w2c_i1 = 26997u;
+    w2c_i0 = w2c_i0 == w2c_i1;
+    if (w2c_i0) {goto w2c_B40;}
+    w2c_i0 = w2c_p0;
+    w2c_i1 = 27491u;
+    w2c_i0 = w2c_i0 != w2c_i1;
+    if (w2c_i0) {goto w2c_L5;}
+    w2c_i0 = 13u;
+    w2c_l20 = w2c_i0;
+    w2c_i0 = 1u;
+    w2c_l19 = w2c_i0;
+    goto w2c_B6;
+    w2c_B58:;
+    w2c_i0 = w2c_p0;
+    w2c_i1 = 27807u;
+    w2c_i0 = w2c_i0 == w2c_i1;
+    if (w2c_i0) {goto w2c_B59;}
+    w2c_i0 = w2c_p0;
+    w2c_i1 = 28071u;
+    w2c_i0 = w2c_i0 == w2c_i1;
+    if (w2c_i0) {goto w2c_B41;}
+    w2c_i0 = w2c_p0;
+    w2c_i1 = 28317u;
+    w2c_i0 = w2c_i0 != w2c_i1;
+    if (w2c_i0) {goto w2c_L5;}
+    w2c_B59:;
+    w2c_i0 = 11u;
+    w2c_l20 = w2c_i0;
+    w2c_i0 = 1u;
+    w2c_l19 = w2c_i0;
+    goto w2c_B6;
+    w2c_B57:;
+    w2c_i0 = w2c_p0;
+    w2c_i1 = 31343u;
+    w2c_i0 = (u32)((s32)w2c_i0 > (s32)w2c_i1);
+    if (w2c_i0) {goto w2c_B60;}
+    w2c_i0 = w2c_p0;
+    w2c_i1 = 28567u;
+    w2c_i0 = w2c_i0 == w2c_i1;
+    if (w2c_i0) {goto w2c_B41;}
+    w2c_i0 = w2c_p0;
+    w2c_i1 = 30334u;
+    w2c_i0 = w2c_i0 == w2c_i1;
+    if (w2c_i0) {goto w2c_B9;}
+    w2c_i0 = w2c_p0;
+    w2c_i1 = 31213u;
+    w2c_i0 = w2c_i0 != w2c_i1;
+    if (w2c_i0) {goto w2c_L5;}
+    w2c_i0 = 9u;
+    w2c_l20 = w2c_i0;
+    w2c_i0 = 1u;
+    w2c_l19 = w2c_i0;
+    goto w2c_B6;
+    w2c_B60:;
+    w2c_i0 = w2c_p0;
+    w2c_i1 = 36616u;
+    w2c_i0 = (u32)((s32)w2c_i0 > (s32)w2c_i1);
+    if (w2c_i0) {goto w2c_B47;}
+    w2c_i0 = w2c_p0;
+    w2c_i1 = 31344u;
+    w2c_i0 = w2c_i0 == w2c_i1;
+    if (w2c_i0) {goto w2c_B42;}
+    w2c_i0 = w2c_p0;
+    w2c_i1 = 33836u;
+    w2c_i0 = w2c_i0 != w2c_i1;
+    if (w2c_i0) {goto w2c_L5;}
+    w2c_B48:;
+    w2c_i0 = 4u;
+    w2c_l20 = w2c_i0;
+    w2c_i0 = 1u;
+    w2c_l19 = w2c_i0;
+    goto w2c_B6;
+    w2c_B47:;
+    w2c_i0 = w2c_p0;
+    w2c_i1 = 36617u;
+    w2c_i0 = w2c_i0 == w2c_i1;
+    if (w2c_i0) {goto w2c_B61;}
+    w2c_i0 = w2c_p0;
+    w2c_i1 = 36733u;
+    w2c_i0 = w2c_i0 != w2c_i1;
+    if (w2c_i0) {goto w2c_L5;}
+    w2c_B61:;
+    w2c_i0 = 14u;
+    w2c_l20 = w2c_i0;
+    w2c_i0 = 1u;
+    w2c_l19 = w2c_i0;
+    goto w2c_B6;
+    w2c_B46:;
+    w2c_i0 = 3u;
+    w2c_l20 = w2c_i0;
+    w2c_i0 = 1u;
+    w2c_l19 = w2c_i0;
+    goto w2c_B6;
+    w2c_B45:;
+    w2c_i0 = 5u;
+    w2c_l20 = w2c_i0;
+    w2c_i0 = 1u;
+    w2c_l19 = w2c_i0;
+    goto w2c_B6;
+    w2c_B44:;
+    w2c_i0 = 7u;
+    w2c_l20 = w2c_i0;
+    w2c_i0 = 1u;
+    w2c_l19 = w2c_i0;
+    goto w2c_B6;
+    w2c_B43:;
+    w2c_i0 = 8u;
+    w2c_l20 = w2c_i0;
+    w2c_i0 = 1u;
+    w2c_l19 = w2c_i0;
+    goto w2c_B6;
+    w2c_B42:;
+    w2c_i0 = 10u;
+    w2c_l20 = w2c_i0;
+    w2c_i0 = 1u;
+    w2c_l19 = w2c_i0;
+    goto w2c_B6;
+    w2c_B41:;
+    w2c_i0 = 12u;
+    w2c_l20 = w2c_i0;
+    w2c_i0 = 1u;
+    w2c_l19 = w2c_i0;
+    goto w2c_B6;
+    w2c_B40:;
+    w2c_i0 = 15u;
+    w2c_l20 = w2c_i0;
+    w2c_i0 = 1u;
+    w2c_l19 = w2c_i0;
+    goto w2c_B6;
+    w2c_B11:;
+    w2c_i0 = w2c_l18;
+    w2c_i1 = 12u;
+    w2c_i0 <<= (w2c_i1 & 31);
+    w2c_i1 = w2c_l19;
+    w2c_i2 = 6u;
+    w2c_i1 <<= (w2c_i2 & 31);
+    w2c_i0 += w2c_i1;
+    w2c_i1 = w2c_l20;
+    w2c_i0 += w2c_i1;
+    w2c_i1 = 4294041472u;
+    w2c_i0 += w2c_i1;
+    w2c_p0 = w2c_i0;
     w2c_j0 = w2c_l13;
+    w2c_j1 = 18446744073709551613ull;
+    w2c_j0 += w2c_j1;
+    w2c_p3 = w2c_j0;
+    w2c_j0 = w2c_l9;
+    w2c_j1 = 3ull;
+    w2c_j0 += w2c_j1;
+    w2c_l12 = w2c_j0;
+    w2c_B10:;
+    w2c_j0 = w2c_l14;
     w2c_j1 = 66996ull;
     w2c_j0 += w2c_j1;
     w2c_i0 = (u32)(w2c_j0);
     w2c_i0 = i32_load8_u(m, (u64)(w2c_i0));
     w2c_l19 = w2c_i0;
-    w2c_i1 = 255u;
-    w2c_i0 &= w2c_i1;
     w2c_i1 = 2u;
     w2c_i0 = w2c_i0 == w2c_i1;
-    if (w2c_i0) {goto w2c_B13;}
-    w2c_j0 = w2c_l13;
+    if (w2c_i0) {goto w2c_L5;}
+    w2c_j0 = w2c_l14;
     w2c_j1 = 66997ull;
     w2c_j0 += w2c_j1;
     w2c_i0 = (u32)(w2c_j0);
     w2c_i0 = i32_load8_u(m, (u64)(w2c_i0));
     w2c_l20 = w2c_i0;
-    goto w2c_B14;
-    w2c_B15:;
-    w2c_i0 = 0u;
-    w2c_l19 = w2c_i0;
-    w2c_i0 = w2c_l17;
-    w2c_i1 = 20236u;
-    w2c_i0 = (u32)((s32)w2c_i0 > (s32)w2c_i1);
-    if (w2c_i0) {goto w2c_B32;}
-    w2c_i0 = w2c_l17;
-    w2c_i1 = 19967u;
-    w2c_i0 = (u32)((s32)w2c_i0 > (s32)w2c_i1);
-    if (w2c_i0) {goto w2c_B33;}
-    w2c_i0 = 0u;
-    w2c_l20 = w2c_i0;
-    w2c_i0 = w2c_l17;
-    w2c_i1 = 4294967248u;
-    w2c_i0 += w2c_i1;
-    switch (w2c_i0) {
-      case 0: goto w2c_B14;
-      case 1: goto w2c_B31;
-      case 2: goto w2c_B25;
-      case 3: goto w2c_B19;
-      case 4: goto w2c_B27;
-      case 5: goto w2c_B23;
-      case 6: goto w2c_B16;
-      case 7: goto w2c_B29;
-      case 8: goto w2c_B22;
-      case 9: goto w2c_B17;
-      default: goto w2c_B34;
-    }
-    w2c_B34:;
-    w2c_i0 = w2c_l17;
-    w2c_i1 = 12295u;
-    w2c_i0 = w2c_i0 != w2c_i1;
-    if (w2c_i0) {goto w2c_B20;}
-    w2c_i0 = 0u;
-    w2c_l20 = w2c_i0;
-    goto w2c_B14;
-    w2c_B33:;
-    w2c_i0 = w2c_l17;
-    w2c_i1 = 4294947328u;
-    w2c_i0 += w2c_i1;
-    switch (w2c_i0) {
-      case 0: goto w2c_B31;
-      case 1: goto w2c_B20;
-      case 2: goto w2c_B20;
-      case 3: goto w2c_B29;
-      case 4: goto w2c_B20;
-      case 5: goto w2c_B20;
-      case 6: goto w2c_B20;
-      case 7: goto w2c_B20;
-      case 8: goto w2c_B20;
-      case 9: goto w2c_B19;
-      case 10: goto w2c_B20;
-      case 11: goto w2c_B20;
-      case 12: goto w2c_B20;
-      case 13: goto w2c_B20;
-      case 14: goto w2c_B20;
-      case 15: goto w2c_B20;
-      case 16: goto w2c_B20;
-      case 17: goto w2c_B20;
-      case 18: goto w2c_B20;
-      case 19: goto w2c_B20;
-      case 20: goto w2c_B20;
-      case 21: goto w2c_B20;
-      case 22: goto w2c_B20;
-      case 23: goto w2c_B20;
-      case 24: goto w2c_B20;
-      case 25: goto w2c_B20;
-      case 26: goto w2c_B20;
-      case 27: goto w2c_B20;
-      case 28: goto w2c_B20;
-      case 29: goto w2c_B20;
-      case 30: goto w2c_B20;
-      case 31: goto w2c_B20;
-      case 32: goto w2c_B20;
-      case 33: goto w2c_B20;
-      case 34: goto w2c_B20;
-      case 35: goto w2c_B20;
-      case 36: goto w2c_B25;
-      default: goto w2c_B35;
-    }
-    w2c_B35:;
-    w2c_i0 = w2c_l17;
-    w2c_i1 = 4294947188u;
-    w2c_i0 += w2c_i1;
-    switch (w2c_i0) {
-      case 0: goto w2c_B25;
-      case 1: goto w2c_B20;
-      case 2: goto w2c_B20;
-      case 3: goto w2c_B20;
-      case 4: goto w2c_B20;
-      case 5: goto w2c_B20;
-      case 6: goto w2c_B20;
-      case 7: goto w2c_B20;
-      case 8: goto w2c_B23;
-      default: goto w2c_B21;
-    }
-    w2c_B32:;
-    w2c_i0 = w2c_l17;
-    w2c_i1 = 29589u;
-    w2c_i0 = (u32)((s32)w2c_i0 > (s32)w2c_i1);
-    if (w2c_i0) {goto w2c_B28;}
-    w2c_i0 = w2c_l17;
-    w2c_i1 = 22234u;
-    w2c_i0 = (u32)((s32)w2c_i0 > (s32)w2c_i1);
-    if (w2c_i0) {goto w2c_B36;}
-    w2c_i0 = w2c_l17;
-    w2c_i1 = 4294946455u;
-    w2c_i0 += w2c_i1;
-    switch (w2c_i0) {
-      case 0: goto w2c_B25;
-      case 1: goto w2c_B20;
-      case 2: goto w2c_B22;
-      case 3: goto w2c_B20;
-      case 4: goto w2c_B16;
-      default: goto w2c_B24;
-    }
-    w2c_B36:;
-    w2c_i0 = w2c_l17;
-    w2c_i1 = 25419u;
-    w2c_i0 = (u32)((s32)w2c_i0 > (s32)w2c_i1);
-    if (w2c_i0) {goto w2c_B30;}
-    w2c_i0 = w2c_l17;
-    w2c_i1 = 22235u;
-    w2c_i0 = w2c_i0 == w2c_i1;
-    if (w2c_i0) {goto w2c_B27;}
-    w2c_i0 = w2c_l17;
-    w2c_i1 = 22777u;
-    w2c_i0 = w2c_i0 != w2c_i1;
-    if (w2c_i0) {goto w2c_B20;}
-    w2c_B31:;
-    w2c_i0 = 1u;
-    w2c_l20 = w2c_i0;
-    goto w2c_B14;
-    w2c_B30:;
-    w2c_i0 = w2c_l17;
-    w2c_i1 = 25420u;
-    w2c_i0 = w2c_i0 == w2c_i1;
-    if (w2c_i0) {goto w2c_B22;}
-    w2c_i0 = w2c_l17;
-    w2c_i1 = 26578u;
-    w2c_i0 = w2c_i0 != w2c_i1;
-    if (w2c_i0) {goto w2c_B20;}
-    w2c_B29:;
-    w2c_i0 = 7u;
-    w2c_l20 = w2c_i0;
-    goto w2c_B14;
-    w2c_B28:;
-    w2c_i0 = w2c_l17;
-    w2c_i1 = 36143u;
-    w2c_i0 = (u32)((s32)w2c_i0 > (s32)w2c_i1);
-    if (w2c_i0) {goto w2c_B26;}
-    w2c_i0 = w2c_l17;
-    w2c_i1 = 4294931282u;
-    w2c_i0 += w2c_i1;
-    switch (w2c_i0) {
-      case 0: goto w2c_B25;
-      case 1: goto w2c_B20;
-      case 2: goto w2c_B20;
-      case 3: goto w2c_B20;
-      case 4: goto w2c_B20;
-      case 5: goto w2c_B25;
-      default: goto w2c_B37;
-    }
-    w2c_B37:;
-    w2c_i0 = w2c_l17;
-    w2c_i1 = 29590u;
-    w2c_i0 = w2c_i0 == w2c_i1;
-    if (w2c_i0) {goto w2c_B17;}
-    w2c_i0 = w2c_l17;
-    w2c_i1 = 32902u;
-    w2c_i0 = w2c_i0 != w2c_i1;
-    if (w2c_i0) {goto w2c_B20;}
-    w2c_B27:;
-    w2c_i0 = 4u;
-    w2c_l20 = w2c_i0;
-    goto w2c_B14;
-    w2c_B26:;
-    w2c_i0 = w2c_l17;
-    w2c_i1 = 38519u;
-    w2c_i0 = (u32)((s32)w2c_i0 > (s32)w2c_i1);
-    if (w2c_i0) {goto w2c_B38;}
-    w2c_i0 = w2c_l17;
-    w2c_i1 = 36144u;
-    w2c_i0 = w2c_i0 == w2c_i1;
-    if (w2c_i0) {goto w2c_B25;}
-    w2c_i0 = w2c_l17;
-    w2c_i1 = 38470u;
-    w2c_i0 = w2c_i0 != w2c_i1;
-    if (w2c_i0) {goto w2c_B20;}
-    goto w2c_B16;
-    w2c_B38:;
-    w2c_i0 = w2c_l17;
-    w2c_i1 = 38520u;
-    w2c_i0 = w2c_i0 == w2c_i1;
-    if (w2c_i0) {goto w2c_B16;}
-    w2c_i0 = w2c_l17;
-    w2c_i1 = 38646u;
-    w2c_i0 = w2c_i0 != w2c_i1;
-    if (w2c_i0) {goto w2c_B20;}
-    w2c_i0 = 0u;
-    w2c_l20 = w2c_i0;
-    goto w2c_B14;
-    w2c_B25:;
+    goto w2c_B6;
+    w2c_B9:;
     w2c_i0 = 2u;
     w2c_l20 = w2c_i0;
-    goto w2c_B14;
-    w2c_B24:;
-    w2c_i0 = w2c_l17;
-    w2c_i1 = 20237u;
-    w2c_i0 = w2c_i0 != w2c_i1;
-    if (w2c_i0) {goto w2c_B20;}
-    w2c_B23:;
-    w2c_i0 = 5u;
-    w2c_l20 = w2c_i0;
-    goto w2c_B14;
-    w2c_B22:;
-    w2c_i0 = 8u;
-    w2c_l20 = w2c_i0;
-    goto w2c_B14;
-    w2c_B21:;
-    w2c_i0 = w2c_l17;
-    w2c_i1 = 20061u;
-    w2c_i0 = w2c_i0 == w2c_i1;
-    if (w2c_i0) {goto w2c_B17;}
-    w2c_B20:;
-    w2c_i0 = w2c_l17;
-    w2c_i1 = 4294945855u;
-    w2c_i0 += w2c_i1;
-    w2c_i1 = 3u;
-    w2c_i0 = w2c_i0 > w2c_i1;
-    if (w2c_i0) {goto w2c_B18;}
-    w2c_B19:;
-    w2c_i0 = 3u;
-    w2c_l20 = w2c_i0;
-    goto w2c_B14;
-    w2c_B18:;
-    w2c_j0 = w2c_l9;
-    w2c_j1 = 32ull;
-    w2c_j0 += w2c_j1;
-    w2c_i1 = w2c_l17;
-    w2c_f19(m, w2c_j0, w2c_i1);
     w2c_i0 = 1u;
     w2c_l19 = w2c_i0;
-    w2c_j0 = w2c_l9;
-    w2c_i0 = (u32)(w2c_j0);
-    w2c_i0 = i32_load8_u(m, (u64)(w2c_i0) + 32u);
-    w2c_i1 = 1u;
-    w2c_i0 = w2c_i0 != w2c_i1;
-    if (w2c_i0) {goto w2c_B13;}
-    w2c_j0 = w2c_l9;
-    w2c_i0 = (u32)(w2c_j0);
-    w2c_i0 = i32_load8_u(m, (u64)(w2c_i0) + 33u);
-    w2c_l20 = w2c_i0;
-    goto w2c_B14;
-    w2c_B17:;
+    goto w2c_B6;
+    w2c_B8:;
     w2c_i0 = 9u;
     w2c_l20 = w2c_i0;
-    goto w2c_B14;
-    w2c_B16:;
+    goto w2c_B6;
+    w2c_B7:;
     w2c_i0 = 6u;
     w2c_l20 = w2c_i0;
-    w2c_B14:;
+    w2c_B6:;
     w2c_i0 = w2c_p4;
     w2c_i1 = w2c_p5;
-    w2c_i2 = w2c_l17;
+    w2c_i2 = w2c_p0;
     w2c_i3 = w2c_l19;
     w2c_i4 = w2c_l20;
-    w2c_j5 = w2c_p3;
-    w2c_j6 = w2c_l10;
-    w2c_i0 = w2c_f20(m, w2c_i0, w2c_i1, w2c_i2, w2c_i3, w2c_i4, w2c_j5, w2c_j6);
-    if (w2c_i0) {goto w2c_B12;}
-    w2c_B13:;
-    w2c_j0 = w2c_l10;
-    w2c_i0 = !(w2c_j0);
+    w2c_j5 = w2c_l12;
+    w2c_j6 = w2c_p3;
+    w2c_i0 = w2c_f17(m, w2c_i0, w2c_i1, w2c_i2, w2c_i3, w2c_i4, w2c_j5, w2c_j6);
     w2c_i0 = !(w2c_i0);
-    if (w2c_i0) {goto w2c_L8;}
-    goto w2c_B7;
-    w2c_B12:;
-    w2c_j0 = 1ull;
-    w2c_l10 = w2c_j0;
-    w2c_i0 = w2c_p0;
+    if (w2c_i0) {goto w2c_L5;}
+    w2c_i0 = w2c_l18;
+    w2c_i0 = (u32)(s32)(s8)(u8)(w2c_i0);
     w2c_i1 = 4294967295u;
-    w2c_i0 = (u32)((s32)w2c_i0 > (s32)w2c_i1);
-    if (w2c_i0) {goto w2c_B39;}
-    w2c_j0 = w2c_l14;
+    w2c_i0 = (u32)((s32)w2c_i0 <= (s32)w2c_i1);
+    if (w2c_i0) {goto w2c_B63;}
+    w2c_j0 = 1ull;
+    w2c_l12 = w2c_j0;
+    goto w2c_B62;
+    w2c_B63:;
+    w2c_j0 = w2c_l9;
     w2c_i0 = (u32)(w2c_j0);
     w2c_i0 = i32_load8_u(m, (u64)(w2c_i0) + 1u);
     w2c_i1 = 63u;
     w2c_i0 &= w2c_i1;
-    w2c_l17 = w2c_i0;
-    w2c_i0 = w2c_p0;
-    w2c_i1 = 4294967263u;
+    w2c_p0 = w2c_i0;
+    w2c_i0 = w2c_l18;
+    w2c_i1 = 223u;
     w2c_i0 = w2c_i0 > w2c_i1;
-    if (w2c_i0) {goto w2c_B40;}
+    if (w2c_i0) {goto w2c_B64;}
     w2c_i0 = w2c_l18;
     w2c_i1 = 6u;
     w2c_i0 <<= (w2c_i1 & 31);
     w2c_i1 = 1984u;
     w2c_i0 &= w2c_i1;
-    w2c_i1 = w2c_l17;
+    w2c_i1 = w2c_p0;
     w2c_i0 |= w2c_i1;
     w2c_l18 = w2c_i0;
     w2c_j0 = 2ull;
-    w2c_l10 = w2c_j0;
-    goto w2c_B39;
-    w2c_B40:;
-    w2c_j0 = w2c_l14;
+    w2c_l12 = w2c_j0;
+    goto w2c_B62;
+    w2c_B64:;
+    w2c_j0 = w2c_l9;
     w2c_i0 = (u32)(w2c_j0);
     w2c_i0 = i32_load8_u(m, (u64)(w2c_i0) + 2u);
     w2c_i1 = 63u;
     w2c_i0 &= w2c_i1;
     w2c_l19 = w2c_i0;
-    w2c_i0 = w2c_p0;
-    w2c_i1 = 4294967279u;
+    w2c_i0 = w2c_l18;
+    w2c_i1 = 239u;
     w2c_i0 = w2c_i0 > w2c_i1;
-    if (w2c_i0) {goto w2c_B41;}
-    w2c_i0 = w2c_l17;
+    if (w2c_i0) {goto w2c_B65;}
+    w2c_i0 = w2c_p0;
     w2c_i1 = 6u;
     w2c_i0 <<= (w2c_i1 & 31);
     w2c_i1 = w2c_l18;
@@ -8918,13 +9087,13 @@ static u32 w2c_f16(module *m, u32 w2c_p0, u64 w2c_p1, u64 w2c_p2, u64 w2c_p3, u3
     w2c_i0 |= w2c_i1;
     w2c_l18 = w2c_i0;
     w2c_j0 = 3ull;
-    w2c_l10 = w2c_j0;
-    goto w2c_B39;
-    w2c_B41:;
+    w2c_l12 = w2c_j0;
+    goto w2c_B62;
+    w2c_B65:;
     w2c_i0 = w2c_l19;
     w2c_i1 = 6u;
     w2c_i0 <<= (w2c_i1 & 31);
-    w2c_i1 = w2c_l17;
+    w2c_i1 = w2c_p0;
     w2c_i2 = 12u;
     w2c_i1 <<= (w2c_i2 & 31);
     w2c_i2 = w2c_l18;
@@ -8934,7 +9103,7 @@ static u32 w2c_f16(module *m, u32 w2c_p0, u64 w2c_p1, u64 w2c_p2, u64 w2c_p3, u3
     w2c_i2 &= w2c_i3;
     w2c_i1 |= w2c_i2;
     w2c_i0 |= w2c_i1;
-    w2c_j1 = w2c_l14;
+    w2c_j1 = w2c_l9;
     w2c_i1 = (u32)(w2c_j1);
     w2c_i1 = i32_load8_u(m, (u64)(w2c_i1) + 3u);
     w2c_i2 = 63u;
@@ -8942,135 +9111,53 @@ static u32 w2c_f16(module *m, u32 w2c_p0, u64 w2c_p1, u64 w2c_p2, u64 w2c_p3, u3
     w2c_i0 |= w2c_i1;
     w2c_l18 = w2c_i0;
     w2c_j0 = 4ull;
-    w2c_l10 = w2c_j0;
-    w2c_B39:;
+    w2c_l12 = w2c_j0;
+    w2c_B62:;
     w2c_j0 = w2c_p2;
-    w2c_j1 = w2c_l12;
+    w2c_j1 = w2c_l13;
     w2c_j0 -= w2c_j1;
     w2c_l15 = w2c_j0;
-    w2c_j0 = w2c_l12;
-    w2c_j1 = w2c_l10;
+    w2c_j0 = w2c_l13;
+    w2c_j1 = w2c_l12;
     w2c_j0 -= w2c_j1;
-    w2c_l13 = w2c_j0;
-    w2c_j0 = w2c_l14;
-    w2c_j1 = w2c_l10;
+    w2c_l14 = w2c_j0;
+    w2c_j0 = w2c_l9;
+    w2c_j1 = w2c_l12;
     w2c_j0 += w2c_j1;
     w2c_l16 = w2c_j0;
-    w2c_L43:
+    w2c_L67:
       w2c_j0 = w2c_l16;
+      w2c_l12 = w2c_j0;
+      w2c_j0 = w2c_l14;
       w2c_p3 = w2c_j0;
-      w2c_j0 = w2c_l13;
-      w2c_l10 = w2c_j0;
-      w2c_i0 = !(w2c_j0);
-      if (w2c_i0) {goto w2c_B42;}
-      w2c_j0 = w2c_p3;
+      w2c_j1 = 3ull;
+      w2c_i0 = w2c_j0 < w2c_j1;
+      if (w2c_i0) {goto w2c_B72;}
+      w2c_j0 = w2c_l12;
       w2c_i0 = (u32)(w2c_j0);
-      w2c_i0 = i32_load8_s(m, (u64)(w2c_i0));
+      w2c_i0 = i32_load8_u(m, (u64)(w2c_i0));
       w2c_p0 = w2c_i0;
-      w2c_i1 = 255u;
+      w2c_i1 = 240u;
       w2c_i0 &= w2c_i1;
-      w2c_l17 = w2c_i0;
-      w2c_j0 = 1ull;
-      w2c_l13 = w2c_j0;
-      w2c_i0 = w2c_p0;
-      w2c_i1 = 4294967295u;
-      w2c_i0 = (u32)((s32)w2c_i0 > (s32)w2c_i1);
-      if (w2c_i0) {goto w2c_B44;}
-      w2c_j0 = w2c_p3;
+      w2c_i1 = 224u;
+      w2c_i0 = w2c_i0 != w2c_i1;
+      if (w2c_i0) {goto w2c_B71;}
+      w2c_j0 = w2c_l12;
       w2c_i0 = (u32)(w2c_j0);
       w2c_i0 = i32_load8_u(m, (u64)(w2c_i0) + 1u);
-      w2c_i1 = 63u;
-      w2c_i0 &= w2c_i1;
-      w2c_l19 = w2c_i0;
-      w2c_i0 = w2c_p0;
-      w2c_i1 = 4294967263u;
-      w2c_i0 = w2c_i0 > w2c_i1;
-      if (w2c_i0) {goto w2c_B45;}
-      w2c_i0 = w2c_l17;
-      w2c_i1 = 6u;
-      w2c_i0 <<= (w2c_i1 & 31);
-      w2c_i1 = 1984u;
-      w2c_i0 &= w2c_i1;
-      w2c_i1 = w2c_l19;
-      w2c_i0 |= w2c_i1;
-      w2c_l17 = w2c_i0;
-      w2c_j0 = 2ull;
-      w2c_l13 = w2c_j0;
-      goto w2c_B44;
-      w2c_B45:;
-      w2c_j0 = w2c_p3;
-      w2c_i0 = (u32)(w2c_j0);
-      w2c_i0 = i32_load8_u(m, (u64)(w2c_i0) + 2u);
-      w2c_i1 = 63u;
-      w2c_i0 &= w2c_i1;
       w2c_l20 = w2c_i0;
-      w2c_i0 = w2c_p0;
-      w2c_i1 = 4294967279u;
-      w2c_i0 = w2c_i0 > w2c_i1;
-      if (w2c_i0) {goto w2c_B46;}
-      w2c_i0 = w2c_l19;
-      w2c_i1 = 6u;
+      w2c_i1 = 8u;
       w2c_i0 <<= (w2c_i1 & 31);
-      w2c_i1 = w2c_l17;
-      w2c_i2 = 12u;
-      w2c_i1 <<= (w2c_i2 & 31);
-      w2c_i2 = 61440u;
-      w2c_i1 &= w2c_i2;
-      w2c_i0 |= w2c_i1;
-      w2c_i1 = w2c_l20;
-      w2c_i0 |= w2c_i1;
-      w2c_l17 = w2c_i0;
-      w2c_j0 = 3ull;
-      w2c_l13 = w2c_j0;
-      goto w2c_B44;
-      w2c_B46:;
-      w2c_i0 = w2c_l20;
-      w2c_i1 = 6u;
-      w2c_i0 <<= (w2c_i1 & 31);
-      w2c_i1 = w2c_l19;
-      w2c_i2 = 12u;
-      w2c_i1 <<= (w2c_i2 & 31);
-      w2c_i2 = w2c_l17;
-      w2c_i3 = 18u;
-      w2c_i2 <<= (w2c_i3 & 31);
-      w2c_i3 = 1835008u;
-      w2c_i2 &= w2c_i3;
-      w2c_i1 |= w2c_i2;
-      w2c_i0 |= w2c_i1;
-      w2c_j1 = w2c_p3;
+      w2c_j1 = w2c_l12;
       w2c_i1 = (u32)(w2c_j1);
-      w2c_i1 = i32_load8_u(m, (u64)(w2c_i1) + 3u);
-      w2c_i2 = 63u;
-      w2c_i1 &= w2c_i2;
-      w2c_i0 |= w2c_i1;
-      w2c_l17 = w2c_i0;
-      w2c_j0 = 4ull;
-      w2c_l13 = w2c_j0;
-      w2c_B44:;
-      w2c_i0 = w2c_l17;
-      w2c_i1 = 4294965248u;
-      w2c_i0 += w2c_i1;
-      w2c_i1 = 63487u;
-      w2c_i0 = w2c_i0 > w2c_i1;
-      if (w2c_i0) {goto w2c_B48;}
-      w2c_i0 = w2c_l17;
-      w2c_i1 = 12u;
-      w2c_i0 >>= (w2c_i1 & 31);
-      w2c_i1 = w2c_l17;
-      w2c_i2 = 2u;
-      w2c_i1 <<= (w2c_i2 & 31);
-      w2c_i2 = 16128u;
-      w2c_i1 &= w2c_i2;
-      w2c_i0 |= w2c_i1;
-      w2c_i1 = w2c_l17;
+      w2c_i1 = i32_load8_u(m, (u64)(w2c_i1) + 2u);
+      w2c_l21 = w2c_i1;
       w2c_i2 = 16u;
       w2c_i1 <<= (w2c_i2 & 31);
-      w2c_i2 = 4128768u;
-      w2c_i1 &= w2c_i2;
       w2c_i0 |= w2c_i1;
-      w2c_i1 = 8421600u;
+      w2c_i1 = w2c_p0;
       w2c_i0 |= w2c_i1;
-      w2c_p0 = w2c_i0;
+      w2c_l19 = w2c_i0;
       w2c_j0 = (u64)(w2c_i0);
       w2c_j1 = 953497ull;
       w2c_j0 *= w2c_j1;
@@ -9078,195 +9165,347 @@ static u32 w2c_f16(module *m, u32 w2c_p0, u64 w2c_p1, u64 w2c_p2, u64 w2c_p3, u3
       w2c_j0 >>= (w2c_j1 & 63);
       w2c_j1 = 1016ull;
       w2c_j0 &= w2c_j1;
-      w2c_l16 = w2c_j0;
+      w2c_l17 = w2c_j0;
+      w2c_j1 = 66992ull;
+      w2c_j0 += w2c_j1;
       w2c_i0 = (u32)(w2c_j0);
-      w2c_i0 = i32_load(m, (u64)(w2c_i0) + 66992u);
-      w2c_i1 = w2c_p0;
+      w2c_i0 = i32_load(m, (u64)(w2c_i0));
+      w2c_i1 = w2c_l19;
       w2c_i0 = w2c_i0 != w2c_i1;
-      if (w2c_i0) {goto w2c_B42;}
-      w2c_j0 = w2c_l16;
+      if (w2c_i0) {goto w2c_B66;}
+      w2c_i0 = w2c_p0;
+      w2c_i1 = 12u;
+      w2c_i0 <<= (w2c_i1 & 31);
+      w2c_i1 = w2c_l20;
+      w2c_i2 = 6u;
+      w2c_i1 <<= (w2c_i2 & 31);
+      w2c_i0 += w2c_i1;
+      w2c_i1 = w2c_l21;
+      w2c_i0 += w2c_i1;
+      w2c_i1 = 4294041472u;
+      w2c_i0 += w2c_i1;
+      w2c_p0 = w2c_i0;
+      w2c_j0 = w2c_p3;
+      w2c_j1 = 18446744073709551613ull;
+      w2c_j0 += w2c_j1;
+      w2c_l14 = w2c_j0;
+      w2c_j0 = w2c_l12;
+      w2c_j1 = 3ull;
+      w2c_j0 += w2c_j1;
+      w2c_l16 = w2c_j0;
+      goto w2c_B70;
+      w2c_B72:;
+      w2c_j0 = w2c_p3;
+      w2c_i0 = !(w2c_j0);
+      if (w2c_i0) {goto w2c_B66;}
+      w2c_j0 = w2c_l12;
+      w2c_i0 = (u32)(w2c_j0);
+      w2c_i0 = i32_load8_u(m, (u64)(w2c_i0));
+      w2c_p0 = w2c_i0;
+      w2c_B71:;
+      w2c_j0 = 1ull;
+      w2c_l16 = w2c_j0;
+      w2c_i0 = w2c_p0;
+      w2c_i0 = (u32)(s32)(s8)(u8)(w2c_i0);
+      w2c_i1 = 4294967295u;
+      w2c_i0 = (u32)((s32)w2c_i0 > (s32)w2c_i1);
+      if (w2c_i0) {goto w2c_B73;}
+      w2c_j0 = w2c_l12;
+      w2c_i0 = (u32)(w2c_j0);
+      w2c_i0 = i32_load8_u(m, (u64)(w2c_i0) + 1u);
+      w2c_i1 = 63u;
+      w2c_i0 &= w2c_i1;
+      w2c_l19 = w2c_i0;
+      w2c_i0 = w2c_p0;
+      w2c_i1 = 223u;
+      w2c_i0 = w2c_i0 > w2c_i1;
+      if (w2c_i0) {goto w2c_B74;}
+      w2c_i0 = w2c_p0;
+      w2c_i1 = 6u;
+      w2c_i0 <<= (w2c_i1 & 31);
+      w2c_i1 = 1984u;
+      w2c_i0 &= w2c_i1;
+      w2c_i1 = w2c_l19;
+      w2c_i0 |= w2c_i1;
+      w2c_p0 = w2c_i0;
+      w2c_j0 = 2ull;
+      w2c_l16 = w2c_j0;
+      goto w2c_B73;
+      w2c_B74:;
+      w2c_j0 = w2c_l12;
+      w2c_i0 = (u32)(w2c_j0);
+      w2c_i0 = i32_load8_u(m, (u64)(w2c_i0) + 2u);
+      w2c_i1 = 63u;
+      w2c_i0 &= w2c_i1;
+      w2c_l20 = w2c_i0;
+      w2c_i0 = w2c_p0;
+      w2c_i1 = 239u;
+      w2c_i0 = w2c_i0 > w2c_i1;
+      if (w2c_i0) {goto w2c_B75;}
+      w2c_i0 = w2c_l19;
+      w2c_i1 = 6u;
+      w2c_i0 <<= (w2c_i1 & 31);
+      w2c_i1 = w2c_p0;
+      w2c_i2 = 12u;
+      w2c_i1 <<= (w2c_i2 & 31);
+      w2c_i2 = 61440u;
+      w2c_i1 &= w2c_i2;
+      w2c_i0 |= w2c_i1;
+      w2c_i1 = w2c_l20;
+      w2c_i0 |= w2c_i1;
+      w2c_p0 = w2c_i0;
+      w2c_j0 = 3ull;
+      w2c_l16 = w2c_j0;
+      goto w2c_B73;
+      w2c_B75:;
+      w2c_i0 = w2c_l20;
+      w2c_i1 = 6u;
+      w2c_i0 <<= (w2c_i1 & 31);
+      w2c_i1 = w2c_l19;
+      w2c_i2 = 12u;
+      w2c_i1 <<= (w2c_i2 & 31);
+      w2c_i2 = w2c_p0;
+      w2c_i3 = 18u;
+      w2c_i2 <<= (w2c_i3 & 31);
+      w2c_i3 = 1835008u;
+      w2c_i2 &= w2c_i3;
+      w2c_i1 |= w2c_i2;
+      w2c_i0 |= w2c_i1;
+      w2c_j1 = w2c_l12;
+      w2c_i1 = (u32)(w2c_j1);
+      w2c_i1 = i32_load8_u(m, (u64)(w2c_i1) + 3u);
+      w2c_i2 = 63u;
+      w2c_i1 &= w2c_i2;
+      w2c_i0 |= w2c_i1;
+      w2c_p0 = w2c_i0;
+      w2c_j0 = 4ull;
+      w2c_l16 = w2c_j0;
+      w2c_B73:;
+      w2c_j0 = w2c_p3;
+      w2c_j1 = w2c_l16;
+      w2c_j0 -= w2c_j1;
+      w2c_l14 = w2c_j0;
+      w2c_j0 = w2c_l12;
+      w2c_j1 = w2c_l16;
+      w2c_j0 += w2c_j1;
+      w2c_l16 = w2c_j0;
+      w2c_i0 = w2c_p0;
+      w2c_i1 = 4294965248u;
+      w2c_i0 += w2c_i1;
+      w2c_i1 = 63487u;
+      w2c_i0 = w2c_i0 > w2c_i1;
+      if (w2c_i0) {goto w2c_B69;}
+      w2c_i0 = w2c_p0;
+      w2c_i1 = 12u;
+      w2c_i0 >>= (w2c_i1 & 31);
+      w2c_i1 = w2c_p0;
+      w2c_i2 = 2u;
+      w2c_i1 <<= (w2c_i2 & 31);
+      w2c_i2 = 16128u;
+      w2c_i1 &= w2c_i2;
+      w2c_i0 |= w2c_i1;
+      w2c_i1 = w2c_p0;
+      w2c_i2 = 16u;
+      w2c_i1 <<= (w2c_i2 & 31);
+      w2c_i2 = 4128768u;
+      w2c_i1 &= w2c_i2;
+      w2c_i0 |= w2c_i1;
+      w2c_i1 = 8421600u;
+      w2c_i0 |= w2c_i1;
+      w2c_l19 = w2c_i0;
+      w2c_j0 = (u64)(w2c_i0);
+      w2c_j1 = 953497ull;
+      w2c_j0 *= w2c_j1;
+      w2c_j1 = 22ull;
+      w2c_j0 >>= (w2c_j1 & 63);
+      w2c_j1 = 1016ull;
+      w2c_j0 &= w2c_j1;
+      w2c_l17 = w2c_j0;
+      w2c_j1 = 66992ull;
+      w2c_j0 += w2c_j1;
+      w2c_i0 = (u32)(w2c_j0);
+      w2c_i0 = i32_load(m, (u64)(w2c_i0));
+      w2c_i1 = w2c_l19;
+      w2c_i0 = w2c_i0 != w2c_i1;
+      if (w2c_i0) {goto w2c_B66;}
+      w2c_B70:;
+      w2c_j0 = w2c_l17;
       w2c_j1 = 66996ull;
       w2c_j0 += w2c_j1;
       w2c_i0 = (u32)(w2c_j0);
       w2c_i0 = i32_load8_u(m, (u64)(w2c_i0));
-      w2c_p0 = w2c_i0;
-      w2c_i1 = 255u;
-      w2c_i0 &= w2c_i1;
+      w2c_l19 = w2c_i0;
       w2c_i1 = 2u;
       w2c_i0 = w2c_i0 == w2c_i1;
-      if (w2c_i0) {goto w2c_B42;}
-      w2c_j0 = w2c_l16;
+      if (w2c_i0) {goto w2c_B66;}
+      w2c_j0 = w2c_l17;
       w2c_j1 = 66997ull;
       w2c_j0 += w2c_j1;
       w2c_i0 = (u32)(w2c_j0);
       w2c_i0 = i32_load8_u(m, (u64)(w2c_i0));
+      w2c_l20 = w2c_i0;
+      goto w2c_B68;
+      w2c_B69:;
+      w2c_j0 = w2c_l10;
+      w2c_j1 = 32ull;
+      w2c_j0 += w2c_j1;
+      w2c_i1 = w2c_p0;
+      w2c_f18(m, w2c_j0, w2c_i1);
+      w2c_i0 = 1u;
       w2c_l19 = w2c_i0;
-      goto w2c_B47;
-      w2c_B48:;
-      w2c_j0 = w2c_l9;
+      w2c_j0 = w2c_l10;
+      w2c_i0 = (u32)(w2c_j0);
+      w2c_i0 = i32_load8_u(m, (u64)(w2c_i0) + 32u);
+      w2c_i1 = 1u;
+      w2c_i0 = w2c_i0 != w2c_i1;
+      if (w2c_i0) {goto w2c_B76;}
+      w2c_j0 = w2c_l10;
+      w2c_i0 = (u32)(w2c_j0);
+      w2c_i0 = i32_load8_u(m, (u64)(w2c_i0) + 33u);
+      w2c_l20 = w2c_i0;
+      w2c_i0 = 0u;
+      w2c_l19 = w2c_i0;
+      goto w2c_B68;
+      w2c_B76:;
+      w2c_j0 = w2c_l10;
       w2c_j1 = 24ull;
       w2c_j0 += w2c_j1;
-      w2c_i1 = w2c_l17;
-      w2c_f21(m, w2c_j0, w2c_i1);
-      w2c_i0 = 1u;
-      w2c_p0 = w2c_i0;
-      w2c_j0 = w2c_l9;
+      w2c_i1 = w2c_p0;
+      w2c_f19(m, w2c_j0, w2c_i1);
+      w2c_j0 = w2c_l10;
       w2c_i0 = (u32)(w2c_j0);
       w2c_i0 = i32_load8_u(m, (u64)(w2c_i0) + 24u);
       w2c_i1 = 1u;
       w2c_i0 = w2c_i0 != w2c_i1;
-      if (w2c_i0) {goto w2c_B49;}
-      w2c_j0 = w2c_l9;
+      if (w2c_i0) {goto w2c_B66;}
+      w2c_j0 = w2c_l10;
       w2c_i0 = (u32)(w2c_j0);
       w2c_i0 = i32_load8_u(m, (u64)(w2c_i0) + 25u);
-      w2c_l19 = w2c_i0;
-      w2c_i0 = 0u;
-      w2c_p0 = w2c_i0;
-      goto w2c_B47;
-      w2c_B49:;
-      w2c_j0 = w2c_l9;
-      w2c_j1 = 16ull;
-      w2c_j0 += w2c_j1;
-      w2c_i1 = w2c_l17;
-      w2c_f19(m, w2c_j0, w2c_i1);
-      w2c_j0 = w2c_l9;
-      w2c_i0 = (u32)(w2c_j0);
-      w2c_i0 = i32_load8_u(m, (u64)(w2c_i0) + 16u);
-      w2c_i1 = 1u;
-      w2c_i0 = w2c_i0 != w2c_i1;
-      if (w2c_i0) {goto w2c_B42;}
-      w2c_j0 = w2c_l9;
-      w2c_i0 = (u32)(w2c_j0);
-      w2c_i0 = i32_load8_u(m, (u64)(w2c_i0) + 17u);
-      w2c_l19 = w2c_i0;
-      w2c_B47:;
+      w2c_l20 = w2c_i0;
+      w2c_B68:;
       w2c_i0 = w2c_p4;
       w2c_i1 = w2c_p5;
-      w2c_i2 = w2c_l17;
-      w2c_i3 = w2c_p0;
-      w2c_i4 = w2c_l19;
-      w2c_j5 = w2c_p3;
-      w2c_j6 = w2c_l13;
-      w2c_j5 += w2c_j6;
-      w2c_l16 = w2c_j5;
-      w2c_j6 = w2c_l10;
-      w2c_j7 = w2c_l13;
-      w2c_j6 -= w2c_j7;
-      w2c_l13 = w2c_j6;
-      w2c_i0 = w2c_f20(m, w2c_i0, w2c_i1, w2c_i2, w2c_i3, w2c_i4, w2c_j5, w2c_j6);
+      w2c_i2 = w2c_p0;
+      w2c_i3 = w2c_l19;
+      w2c_i4 = w2c_l20;
+      w2c_j5 = w2c_l16;
+      w2c_j6 = w2c_l14;
+      w2c_i0 = w2c_f17(m, w2c_i0, w2c_i1, w2c_i2, w2c_i3, w2c_i4, w2c_j5, w2c_j6);
       w2c_i0 = !(w2c_i0);
-      if (w2c_i0) {goto w2c_B42;}
+      if (w2c_i0) {goto w2c_B66;}
       w2c_i0 = w2c_l18;
       w2c_i1 = 4294967248u;
       w2c_i0 += w2c_i1;
       w2c_i1 = 9u;
       w2c_i0 = w2c_i0 > w2c_i1;
-      if (w2c_i0) {goto w2c_B50;}
-      w2c_j0 = w2c_l9;
-      w2c_j1 = 8ull;
+      if (w2c_i0) {goto w2c_B77;}
+      w2c_j0 = w2c_l10;
+      w2c_j1 = 16ull;
       w2c_j0 += w2c_j1;
-      w2c_i1 = w2c_l17;
-      w2c_f21(m, w2c_j0, w2c_i1);
-      w2c_i0 = w2c_l17;
+      w2c_i1 = w2c_p0;
+      w2c_f18(m, w2c_j0, w2c_i1);
+      w2c_i0 = w2c_p0;
       w2c_i1 = 4294967238u;
       w2c_i0 += w2c_i1;
       w2c_i1 = 4294967285u;
       w2c_i0 = w2c_i0 > w2c_i1;
-      if (w2c_i0) {goto w2c_B50;}
-      w2c_j0 = w2c_l9;
+      if (w2c_i0) {goto w2c_B77;}
+      w2c_j0 = w2c_l10;
+      w2c_i0 = (u32)(w2c_j0);
+      w2c_i0 = i32_load8_u(m, (u64)(w2c_i0) + 16u);
+      w2c_i1 = 255u;
+      w2c_i0 &= w2c_i1;
+      w2c_i1 = 1u;
+      w2c_i0 = w2c_i0 == w2c_i1;
+      if (w2c_i0) {goto w2c_B66;}
+      w2c_B77:;
+      w2c_j0 = w2c_l10;
+      w2c_j1 = 8ull;
+      w2c_j0 += w2c_j1;
+      w2c_i1 = w2c_l18;
+      w2c_f18(m, w2c_j0, w2c_i1);
+      w2c_i0 = w2c_l18;
+      w2c_i1 = 4294967238u;
+      w2c_i0 += w2c_i1;
+      w2c_l19 = w2c_i0;
+      w2c_i0 = w2c_p0;
+      w2c_l18 = w2c_i0;
+      w2c_i0 = w2c_l19;
+      w2c_i1 = 4294967285u;
+      w2c_i0 = w2c_i0 > w2c_i1;
+      if (w2c_i0) {goto w2c_L67;}
+      w2c_i0 = w2c_p0;
+      w2c_l18 = w2c_i0;
+      w2c_j0 = w2c_l10;
       w2c_i0 = (u32)(w2c_j0);
       w2c_i0 = i32_load8_u(m, (u64)(w2c_i0) + 8u);
       w2c_i1 = 255u;
       w2c_i0 &= w2c_i1;
       w2c_i1 = 1u;
-      w2c_i0 = w2c_i0 == w2c_i1;
-      if (w2c_i0) {goto w2c_B42;}
-      w2c_B50:;
-      w2c_j0 = w2c_l9;
-      w2c_i1 = w2c_l18;
-      w2c_f21(m, w2c_j0, w2c_i1);
-      w2c_i0 = w2c_l18;
-      w2c_i1 = 4294967238u;
-      w2c_i0 += w2c_i1;
-      w2c_p0 = w2c_i0;
-      w2c_i0 = w2c_l17;
+      w2c_i0 = w2c_i0 != w2c_i1;
+      if (w2c_i0) {goto w2c_L67;}
+      w2c_i0 = w2c_p0;
       w2c_l18 = w2c_i0;
       w2c_i0 = w2c_p0;
-      w2c_i1 = 4294967285u;
-      w2c_i0 = w2c_i0 > w2c_i1;
-      if (w2c_i0) {goto w2c_L43;}
-      w2c_i0 = w2c_l17;
-      w2c_l18 = w2c_i0;
-      w2c_j0 = w2c_l9;
-      w2c_i0 = (u32)(w2c_j0);
-      w2c_i0 = i32_load8_u(m, (u64)(w2c_i0));
-      w2c_i1 = 255u;
-      w2c_i0 &= w2c_i1;
-      w2c_i1 = 1u;
-      w2c_i0 = w2c_i0 != w2c_i1;
-      if (w2c_i0) {goto w2c_L43;}
-      w2c_i0 = w2c_l17;
-      w2c_l18 = w2c_i0;
-      w2c_i0 = w2c_l17;
       w2c_i1 = 4294967248u;
       w2c_i0 += w2c_i1;
       w2c_i1 = 9u;
       w2c_i0 = w2c_i0 > w2c_i1;
-      if (w2c_i0) {goto w2c_L43;}
-    w2c_B42:;
-    w2c_j0 = w2c_l9;
+      if (w2c_i0) {goto w2c_L67;}
+    w2c_B66:;
+    w2c_j0 = w2c_l10;
     w2c_i0 = (u32)(w2c_j0);
-    w2c_j1 = w2c_p3;
+    w2c_j1 = w2c_l12;
     i64_store(m, (u64)(w2c_i0) + 96, w2c_j1);
-    w2c_j0 = w2c_l9;
+    w2c_j0 = w2c_l10;
     w2c_i0 = (u32)(w2c_j0);
-    w2c_j1 = w2c_l14;
+    w2c_j1 = w2c_l9;
     i64_store(m, (u64)(w2c_i0) + 80, w2c_j1);
-    w2c_j0 = w2c_l9;
+    w2c_j0 = w2c_l10;
     w2c_i0 = (u32)(w2c_j0);
     w2c_j1 = w2c_l15;
     i64_store(m, (u64)(w2c_i0) + 72, w2c_j1);
-    w2c_j0 = w2c_l9;
+    w2c_j0 = w2c_l10;
     w2c_i0 = (u32)(w2c_j0);
     w2c_j1 = w2c_p1;
     i64_store(m, (u64)(w2c_i0) + 64, w2c_j1);
-    w2c_j0 = w2c_l9;
+    w2c_j0 = w2c_l10;
     w2c_i0 = (u32)(w2c_j0);
-    w2c_j1 = w2c_l10;
+    w2c_j1 = w2c_p3;
     i64_store(m, (u64)(w2c_i0) + 104, w2c_j1);
-    w2c_j0 = w2c_l9;
+    w2c_j0 = w2c_l10;
     w2c_i0 = (u32)(w2c_j0);
-    w2c_j1 = w2c_l12;
-    w2c_j2 = w2c_l10;
+    w2c_j1 = w2c_l13;
+    w2c_j2 = w2c_p3;
     w2c_j1 -= w2c_j2;
     i64_store(m, (u64)(w2c_i0) + 88, w2c_j1);
-    w2c_j0 = w2c_l9;
+    w2c_j0 = w2c_l10;
     w2c_j1 = 120ull;
     w2c_j0 += w2c_j1;
-    w2c_j1 = w2c_l9;
+    w2c_j1 = w2c_l10;
     w2c_j2 = 64ull;
     w2c_j1 += w2c_j2;
-    w2c_f18(m, w2c_j0, w2c_j1);
+    w2c_f20(m, w2c_j0, w2c_j1);
     w2c_j0 = w2c_p6;
     w2c_j1 = w2c_l11;
     w2c_j2 = 24ull;
     w2c_j1 *= w2c_j2;
     w2c_j0 += w2c_j1;
-    w2c_l13 = w2c_j0;
+    w2c_l9 = w2c_j0;
     w2c_i0 = (u32)(w2c_j0);
-    w2c_j1 = w2c_l9;
+    w2c_j1 = w2c_l10;
     w2c_i1 = (u32)(w2c_j1);
     w2c_j1 = i64_load(m, (u64)(w2c_i1) + 136u);
     i64_store(m, (u64)(w2c_i0) + 16, w2c_j1);
-    w2c_j0 = w2c_l13;
+    w2c_j0 = w2c_l9;
     w2c_i0 = (u32)(w2c_j0);
-    w2c_j1 = w2c_l9;
+    w2c_j1 = w2c_l10;
     w2c_i1 = (u32)(w2c_j1);
     w2c_j1 = i64_load(m, (u64)(w2c_i1) + 128u);
     i64_store(m, (u64)(w2c_i0) + 8, w2c_j1);
-    w2c_j0 = w2c_l13;
+    w2c_j0 = w2c_l9;
     w2c_i0 = (u32)(w2c_j0);
-    w2c_j1 = w2c_l9;
+    w2c_j1 = w2c_l10;
     w2c_i1 = (u32)(w2c_j1);
     w2c_j1 = i64_load(m, (u64)(w2c_i1) + 120u);
     i64_store(m, (u64)(w2c_i0), w2c_j1);
@@ -9275,2563 +9514,194 @@ static u32 w2c_f16(module *m, u32 w2c_p0, u64 w2c_p1, u64 w2c_p2, u64 w2c_p3, u3
     w2c_j0 += w2c_j1;
     w2c_l11 = w2c_j0;
     w2c_j1 = w2c_p7;
-    w2c_i0 = w2c_j0 >= w2c_j1;
-    if (w2c_i0) {goto w2c_B7;}
-    w2c_j0 = w2c_l10;
-    w2c_j1 = 0ull;
     w2c_i0 = w2c_j0 != w2c_j1;
-    if (w2c_i0) {goto w2c_L8;}
-  w2c_B7:;
+    if (w2c_i0) {goto w2c_L5;}
+  w2c_j0 = w2c_p7;
+  w2c_l11 = w2c_j0;
+  w2c_B4:;
   w2c_j0 = w2c_p8;
   w2c_i0 = (u32)(w2c_j0);
   w2c_j1 = w2c_l11;
   i64_store(m, (u64)(w2c_i0), w2c_j1);
   w2c_i0 = 0u;
-  w2c_l17 = w2c_i0;
+  w2c_p0 = w2c_i0;
+  goto w2c_B0;
+  w2c_B2:;
+  UNREACHABLE;
+  w2c_B1:;
+  w2c_j0 = w2c_p2;
+  w2c_j1 = w2c_p3;
+  w2c_i0 = w2c_j0 == w2c_j1;
+  if (w2c_i0) {goto w2c_B78;}
+  w2c_i0 = 5u;
+  w2c_p0 = w2c_i0;
+  w2c_j0 = w2c_p2;
+  w2c_j1 = w2c_p3;
+  w2c_i0 = w2c_j0 < w2c_j1;
+  if (w2c_i0) {goto w2c_B0;}
+  w2c_j0 = w2c_p1;
+  w2c_j1 = w2c_p3;
+  w2c_j0 += w2c_j1;
+  w2c_i0 = (u32)(w2c_j0);
+  w2c_i0 = i32_load8_s(m, (u64)(w2c_i0));
+  w2c_i1 = 4294967232u;
+  w2c_i0 = (u32)((s32)w2c_i0 < (s32)w2c_i1);
+  if (w2c_i0) {goto w2c_B0;}
+  w2c_B78:;
+  w2c_i0 = 0u;
+  w2c_p0 = w2c_i0;
+  w2c_j0 = w2c_l10;
+  w2c_i0 = (u32)(w2c_j0);
+  w2c_i1 = 0u;
+  i32_store(m, (u64)(w2c_i0) + 122, w2c_i1);
+  w2c_j0 = w2c_l10;
+  w2c_i0 = (u32)(w2c_j0);
+  w2c_i1 = w2c_p5;
+  i32_store8(m, (u64)(w2c_i0) + 121, w2c_i1);
+  w2c_j0 = w2c_l10;
+  w2c_i0 = (u32)(w2c_j0);
+  w2c_i1 = w2c_p4;
+  i32_store8(m, (u64)(w2c_i0) + 120, w2c_i1);
+  w2c_j0 = w2c_l10;
+  w2c_i0 = (u32)(w2c_j0);
+  w2c_i1 = 0u;
+  i32_store16(m, (u64)(w2c_i0) + 126, w2c_i1);
+  w2c_j0 = 0ull;
+  w2c_l9 = w2c_j0;
+  w2c_j0 = w2c_l10;
+  w2c_i0 = (u32)(w2c_j0);
+  w2c_j1 = 0ull;
+  i64_store(m, (u64)(w2c_i0) + 64, w2c_j1);
+  w2c_j0 = w2c_l10;
+  w2c_i0 = (u32)(w2c_j0);
+  w2c_j1 = 0ull;
+  i64_store(m, (u64)(w2c_i0) + 72, w2c_j1);
+  w2c_j0 = w2c_l10;
+  w2c_i0 = (u32)(w2c_j0);
+  w2c_j1 = 0ull;
+  i64_store(m, (u64)(w2c_i0) + 80, w2c_j1);
+  w2c_j0 = w2c_l10;
+  w2c_i0 = (u32)(w2c_j0);
+  w2c_j1 = 0ull;
+  i64_store(m, (u64)(w2c_i0) + 88, w2c_j1);
+  w2c_j0 = w2c_l10;
+  w2c_i0 = (u32)(w2c_j0);
+  w2c_j1 = 0ull;
+  i64_store(m, (u64)(w2c_i0) + 96, w2c_j1);
+  w2c_j0 = w2c_l10;
+  w2c_i0 = (u32)(w2c_j0);
+  w2c_j1 = 0ull;
+  i64_store(m, (u64)(w2c_i0) + 104, w2c_j1);
+  w2c_j0 = w2c_l10;
+  w2c_i0 = (u32)(w2c_j0);
+  w2c_j1 = 0ull;
+  i64_store(m, (u64)(w2c_i0) + 112, w2c_j1);
+  w2c_j0 = w2c_l10;
+  w2c_i0 = (u32)(w2c_j0);
+  w2c_j1 = 0ull;
+  i64_store(m, (u64)(w2c_i0) + 40, w2c_j1);
+  w2c_j0 = w2c_l10;
+  w2c_i0 = (u32)(w2c_j0);
+  w2c_j1 = 0ull;
+  i64_store(m, (u64)(w2c_i0) + 48, w2c_j1);
+  w2c_j0 = w2c_l10;
+  w2c_i0 = (u32)(w2c_j0);
+  w2c_j1 = 0ull;
+  i64_store(m, (u64)(w2c_i0) + 56, w2c_j1);
+  w2c_j0 = w2c_l10;
+  w2c_i0 = (u32)(w2c_j0);
+  w2c_j1 = w2c_p2;
+  i64_store(m, (u64)(w2c_i0) + 136, w2c_j1);
+  w2c_j0 = w2c_l10;
+  w2c_i0 = (u32)(w2c_j0);
+  w2c_j1 = w2c_p2;
+  w2c_j2 = w2c_p3;
+  w2c_j1 -= w2c_j2;
+  i64_store(m, (u64)(w2c_i0) + 152, w2c_j1);
+  w2c_j0 = w2c_l10;
+  w2c_i0 = (u32)(w2c_j0);
+  w2c_j1 = w2c_p1;
+  i64_store(m, (u64)(w2c_i0) + 128, w2c_j1);
+  w2c_j0 = w2c_l10;
+  w2c_i0 = (u32)(w2c_j0);
+  w2c_j1 = w2c_p1;
+  w2c_j2 = w2c_p3;
+  w2c_j1 += w2c_j2;
+  i64_store(m, (u64)(w2c_i0) + 144, w2c_j1);
+  w2c_j0 = w2c_p7;
+  w2c_i0 = !(w2c_j0);
+  if (w2c_i0) {goto w2c_B79;}
+  w2c_j0 = w2c_l10;
+  w2c_j1 = 72ull;
+  w2c_j0 += w2c_j1;
+  w2c_l12 = w2c_j0;
+  w2c_j0 = 0ull;
+  w2c_l9 = w2c_j0;
+  w2c_L80:
+    w2c_j0 = w2c_l10;
+    w2c_j1 = 64ull;
+    w2c_j0 += w2c_j1;
+    w2c_j1 = w2c_l10;
+    w2c_j2 = 120ull;
+    w2c_j1 += w2c_j2;
+    w2c_f21(m, w2c_j0, w2c_j1);
+    w2c_j0 = w2c_l10;
+    w2c_i0 = (u32)(w2c_j0);
+    w2c_i0 = i32_load8_u(m, (u64)(w2c_i0) + 64u);
+    w2c_i1 = 1u;
+    w2c_i0 = w2c_i0 != w2c_i1;
+    if (w2c_i0) {goto w2c_B79;}
+    w2c_j0 = w2c_l10;
+    w2c_j1 = 40ull;
+    w2c_j0 += w2c_j1;
+    w2c_j1 = w2c_l12;
+    w2c_f20(m, w2c_j0, w2c_j1);
+    w2c_j0 = w2c_p6;
+    w2c_i0 = (u32)(w2c_j0);
+    w2c_j1 = w2c_l10;
+    w2c_i1 = (u32)(w2c_j1);
+    w2c_j1 = i64_load(m, (u64)(w2c_i1) + 56u);
+    i64_store(m, (u64)(w2c_i0) + 16, w2c_j1);
+    w2c_j0 = w2c_p6;
+    w2c_i0 = (u32)(w2c_j0);
+    w2c_j1 = w2c_l10;
+    w2c_i1 = (u32)(w2c_j1);
+    w2c_j1 = i64_load(m, (u64)(w2c_i1) + 48u);
+    i64_store(m, (u64)(w2c_i0) + 8, w2c_j1);
+    w2c_j0 = w2c_p6;
+    w2c_i0 = (u32)(w2c_j0);
+    w2c_j1 = w2c_l10;
+    w2c_i1 = (u32)(w2c_j1);
+    w2c_j1 = i64_load(m, (u64)(w2c_i1) + 40u);
+    i64_store(m, (u64)(w2c_i0), w2c_j1);
+    w2c_j0 = w2c_p6;
+    w2c_j1 = 24ull;
+    w2c_j0 += w2c_j1;
+    w2c_p6 = w2c_j0;
+    w2c_j0 = w2c_p7;
+    w2c_j1 = w2c_l9;
+    w2c_j2 = 1ull;
+    w2c_j1 += w2c_j2;
+    w2c_l9 = w2c_j1;
+    w2c_i0 = w2c_j0 != w2c_j1;
+    if (w2c_i0) {goto w2c_L80;}
+  w2c_j0 = w2c_p7;
+  w2c_l9 = w2c_j0;
+  w2c_B79:;
+  w2c_j0 = w2c_p8;
+  w2c_i0 = (u32)(w2c_j0);
+  w2c_j1 = w2c_l9;
+  i64_store(m, (u64)(w2c_i0), w2c_j1);
   w2c_B0:;
-  w2c_j0 = w2c_l9;
+  w2c_j0 = w2c_l10;
   w2c_j1 = 160ull;
   w2c_j0 += w2c_j1;
   m->w2c_g0 = w2c_j0;
-  w2c_i0 = w2c_l17;
+  w2c_i0 = w2c_p0;
   return w2c_i0;
 }
 
-static void w2c_f17(module *m, u64 w2c_p0, u64 w2c_p1) {
-  u32 w2c_l13 = 0, w2c_l14 = 0, w2c_l15 = 0, w2c_l16 = 0, w2c_l17 = 0, w2c_l18 = 0, w2c_l19 = 0, w2c_l20 = 0;
-  u64 w2c_l2 = 0, w2c_l3 = 0, w2c_l4 = 0, w2c_l5 = 0, w2c_l6 = 0, w2c_l7 = 0, w2c_l8 = 0, w2c_l9 = 0, w2c_l10 = 0, w2c_l11 = 0, w2c_l12 = 0;
-  u32 w2c_i0, w2c_i1, w2c_i2, w2c_i3, w2c_i4;
-  u64 w2c_j0, w2c_j1, w2c_j2, w2c_j3, w2c_j4, w2c_j5, w2c_j6;
-  w2c_j0 = m->w2c_g0;
-  w2c_j1 = 48ull;
-  w2c_j0 -= w2c_j1;
-  w2c_l2 = w2c_j0;
-  m->w2c_g0 = w2c_j0;
-  w2c_j0 = w2c_l2;
-  w2c_l2 = w2c_j0;
-  w2c_j1 = 16ull;
-  w2c_i0 = (u64)((s64)w2c_j0 < (s64)w2c_j1);
-  if (w2c_i0) {goto w2c_B3;}
-  w2c_j0 = 66332ull;
-  w2c_l3 = w2c_j0;
-  w2c_j0 = w2c_p1;
-  w2c_j1 = 32ull;
-  w2c_j0 += w2c_j1;
-  w2c_l4 = w2c_j0;
-  w2c_i0 = (u32)(w2c_j0);
-  w2c_j0 = i64_load(m, (u64)(w2c_i0));
-  w2c_l5 = w2c_j0;
-  w2c_i0 = !(w2c_j0);
-  w2c_i0 = !(w2c_i0);
-  if (w2c_i0) {goto w2c_B4;}
-  w2c_j0 = 0ull;
-  w2c_l6 = w2c_j0;
-  w2c_j0 = 0ull;
-  w2c_l7 = w2c_j0;
-  w2c_j0 = 0ull;
-  w2c_l8 = w2c_j0;
-  w2c_j0 = 0ull;
-  w2c_l9 = w2c_j0;
-  goto w2c_B1;
-  w2c_B4:;
-  w2c_j0 = w2c_p1;
-  w2c_j1 = 16ull;
-  w2c_j0 += w2c_j1;
-  w2c_i0 = (u32)(w2c_j0);
-  w2c_j0 = i64_load(m, (u64)(w2c_i0));
-  w2c_l10 = w2c_j0;
-  w2c_j0 = w2c_p1;
-  w2c_j1 = 8ull;
-  w2c_j0 += w2c_j1;
-  w2c_i0 = (u32)(w2c_j0);
-  w2c_j0 = i64_load(m, (u64)(w2c_i0));
-  w2c_l7 = w2c_j0;
-  w2c_j0 = w2c_p1;
-  w2c_i0 = (u32)(w2c_j0);
-  w2c_i0 = i32_load8_u(m, (u64)(w2c_i0) + 1u);
-  w2c_l13 = w2c_i0;
-  w2c_j0 = w2c_p1;
-  w2c_i0 = (u32)(w2c_j0);
-  w2c_i0 = i32_load8_u(m, (u64)(w2c_i0));
-  w2c_l14 = w2c_i0;
-  w2c_j0 = w2c_p1;
-  w2c_j1 = 24ull;
-  w2c_j0 += w2c_j1;
-  w2c_i0 = (u32)(w2c_j0);
-  w2c_j0 = i64_load(m, (u64)(w2c_i0));
-  w2c_l11 = w2c_j0;
-  w2c_L5:
-    w2c_j0 = w2c_l5;
-    w2c_l12 = w2c_j0;
-    w2c_j0 = 1ull;
-    w2c_l6 = w2c_j0;
-    w2c_j0 = w2c_l11;
-    w2c_l9 = w2c_j0;
-    w2c_i0 = (u32)(w2c_j0);
-    w2c_i0 = i32_load8_s(m, (u64)(w2c_i0));
-    w2c_l15 = w2c_i0;
-    w2c_i1 = 255u;
-    w2c_i0 &= w2c_i1;
-    w2c_l16 = w2c_i0;
-    w2c_l17 = w2c_i0;
-    w2c_i0 = w2c_l15;
-    w2c_i1 = 4294967295u;
-    w2c_i0 = (u32)((s32)w2c_i0 > (s32)w2c_i1);
-    if (w2c_i0) {goto w2c_B6;}
-    w2c_j0 = w2c_l9;
-    w2c_i0 = (u32)(w2c_j0);
-    w2c_i0 = i32_load8_u(m, (u64)(w2c_i0) + 1u);
-    w2c_i1 = 63u;
-    w2c_i0 &= w2c_i1;
-    w2c_l17 = w2c_i0;
-    w2c_i0 = w2c_l15;
-    w2c_i1 = 4294967263u;
-    w2c_i0 = w2c_i0 > w2c_i1;
-    if (w2c_i0) {goto w2c_B7;}
-    w2c_i0 = w2c_l16;
-    w2c_i1 = 6u;
-    w2c_i0 <<= (w2c_i1 & 31);
-    w2c_i1 = 1984u;
-    w2c_i0 &= w2c_i1;
-    w2c_i1 = w2c_l17;
-    w2c_i0 |= w2c_i1;
-    w2c_l17 = w2c_i0;
-    w2c_j0 = 2ull;
-    w2c_l6 = w2c_j0;
-    goto w2c_B6;
-    w2c_B7:;
-    w2c_j0 = w2c_l9;
-    w2c_i0 = (u32)(w2c_j0);
-    w2c_i0 = i32_load8_u(m, (u64)(w2c_i0) + 2u);
-    w2c_i1 = 63u;
-    w2c_i0 &= w2c_i1;
-    w2c_l18 = w2c_i0;
-    w2c_i0 = w2c_l15;
-    w2c_i1 = 4294967279u;
-    w2c_i0 = w2c_i0 > w2c_i1;
-    if (w2c_i0) {goto w2c_B8;}
-    w2c_i0 = w2c_l17;
-    w2c_i1 = 6u;
-    w2c_i0 <<= (w2c_i1 & 31);
-    w2c_i1 = w2c_l16;
-    w2c_i2 = 12u;
-    w2c_i1 <<= (w2c_i2 & 31);
-    w2c_i2 = 61440u;
-    w2c_i1 &= w2c_i2;
-    w2c_i0 |= w2c_i1;
-    w2c_i1 = w2c_l18;
-    w2c_i0 |= w2c_i1;
-    w2c_l17 = w2c_i0;
-    w2c_j0 = 3ull;
-    w2c_l6 = w2c_j0;
-    goto w2c_B6;
-    w2c_B8:;
-    w2c_i0 = w2c_l18;
-    w2c_i1 = 6u;
-    w2c_i0 <<= (w2c_i1 & 31);
-    w2c_i1 = w2c_l17;
-    w2c_i2 = 12u;
-    w2c_i1 <<= (w2c_i2 & 31);
-    w2c_i2 = w2c_l16;
-    w2c_i3 = 18u;
-    w2c_i2 <<= (w2c_i3 & 31);
-    w2c_i3 = 1835008u;
-    w2c_i2 &= w2c_i3;
-    w2c_i1 |= w2c_i2;
-    w2c_i0 |= w2c_i1;
-    w2c_j1 = w2c_l9;
-    w2c_i1 = (u32)(w2c_j1);
-    w2c_i1 = i32_load8_u(m, (u64)(w2c_i1) + 3u);
-    w2c_i2 = 63u;
-    w2c_i1 &= w2c_i2;
-    w2c_i0 |= w2c_i1;
-    w2c_l17 = w2c_i0;
-    w2c_j0 = 4ull;
-    w2c_l6 = w2c_j0;
-    w2c_B6:;
-    w2c_i0 = w2c_l17;
-    w2c_i1 = 4294965248u;
-    w2c_i0 += w2c_i1;
-    w2c_i1 = 63487u;
-    w2c_i0 = w2c_i0 > w2c_i1;
-    if (w2c_i0) {goto w2c_B10;}
-    w2c_i0 = w2c_l17;
-    w2c_i1 = 12u;
-    w2c_i0 >>= (w2c_i1 & 31);
-    w2c_i1 = w2c_l17;
-    w2c_i2 = 2u;
-    w2c_i1 <<= (w2c_i2 & 31);
-    w2c_i2 = 16128u;
-    w2c_i1 &= w2c_i2;
-    w2c_i0 |= w2c_i1;
-    w2c_i1 = w2c_l17;
-    w2c_i2 = 16u;
-    w2c_i1 <<= (w2c_i2 & 31);
-    w2c_i2 = 4128768u;
-    w2c_i1 &= w2c_i2;
-    w2c_i0 |= w2c_i1;
-    w2c_i1 = 8421600u;
-    w2c_i0 |= w2c_i1;
-    w2c_l18 = w2c_i0;
-    w2c_j0 = (u64)(w2c_i0);
-    w2c_j1 = 953497ull;
-    w2c_j0 *= w2c_j1;
-    w2c_j1 = 22ull;
-    w2c_j0 >>= (w2c_j1 & 63);
-    w2c_j1 = 1016ull;
-    w2c_j0 &= w2c_j1;
-    w2c_l5 = w2c_j0;
-    w2c_j1 = 66997ull;
-    w2c_j0 += w2c_j1;
-    w2c_i0 = (u32)(w2c_j0);
-    w2c_i0 = i32_load8_u(m, (u64)(w2c_i0));
-    w2c_i1 = 0u;
-    w2c_j2 = w2c_l5;
-    w2c_i2 = (u32)(w2c_j2);
-    w2c_i2 = i32_load(m, (u64)(w2c_i2) + 66992u);
-    w2c_i3 = w2c_l18;
-    w2c_i2 = w2c_i2 == w2c_i3;
-    w2c_l18 = w2c_i2;
-    w2c_i0 = w2c_i2 ? w2c_i0 : w2c_i1;
-    w2c_l19 = w2c_i0;
-    w2c_j0 = w2c_l5;
-    w2c_j1 = 66996ull;
-    w2c_j0 += w2c_j1;
-    w2c_i0 = (u32)(w2c_j0);
-    w2c_i0 = i32_load8_u(m, (u64)(w2c_i0));
-    w2c_i1 = 2u;
-    w2c_i2 = w2c_l18;
-    w2c_i0 = w2c_i2 ? w2c_i0 : w2c_i1;
-    w2c_l20 = w2c_i0;
-    goto w2c_B9;
-    w2c_B10:;
-    w2c_j0 = w2c_l2;
-    w2c_j1 = 40ull;
-    w2c_j0 += w2c_j1;
-    w2c_i1 = w2c_l17;
-    w2c_f21(m, w2c_j0, w2c_i1);
-    w2c_j0 = w2c_l2;
-    w2c_i0 = (u32)(w2c_j0);
-    w2c_i0 = i32_load8_u(m, (u64)(w2c_i0) + 40u);
-    w2c_i1 = 1u;
-    w2c_i0 = w2c_i0 != w2c_i1;
-    if (w2c_i0) {goto w2c_B11;}
-    w2c_j0 = w2c_l2;
-    w2c_i0 = (u32)(w2c_j0);
-    w2c_i0 = i32_load8_u(m, (u64)(w2c_i0) + 41u);
-    w2c_l19 = w2c_i0;
-    w2c_i0 = 0u;
-    w2c_l20 = w2c_i0;
-    goto w2c_B9;
-    w2c_B11:;
-    w2c_j0 = w2c_l2;
-    w2c_j1 = 32ull;
-    w2c_j0 += w2c_j1;
-    w2c_i1 = w2c_l17;
-    w2c_f19(m, w2c_j0, w2c_i1);
-    w2c_j0 = w2c_l2;
-    w2c_i0 = (u32)(w2c_j0);
-    w2c_i0 = i32_load8_u(m, (u64)(w2c_i0) + 33u);
-    w2c_i1 = 0u;
-    w2c_j2 = w2c_l2;
-    w2c_i2 = (u32)(w2c_j2);
-    w2c_i2 = i32_load8_u(m, (u64)(w2c_i2) + 32u);
-    w2c_i3 = 1u;
-    w2c_i2 = w2c_i2 == w2c_i3;
-    w2c_l18 = w2c_i2;
-    w2c_i0 = w2c_i2 ? w2c_i0 : w2c_i1;
-    w2c_l19 = w2c_i0;
-    w2c_i0 = 1u;
-    w2c_i1 = 2u;
-    w2c_i2 = w2c_l18;
-    w2c_i0 = w2c_i2 ? w2c_i0 : w2c_i1;
-    w2c_l20 = w2c_i0;
-    w2c_B9:;
-    w2c_j0 = w2c_l10;
-    w2c_j1 = w2c_l12;
-    w2c_j0 -= w2c_j1;
-    w2c_l8 = w2c_j0;
-    w2c_i0 = w2c_l17;
-    w2c_i1 = 21317u;
-    w2c_i0 = w2c_i0 == w2c_i1;
-    if (w2c_i0) {goto w2c_B2;}
-    w2c_i0 = w2c_l17;
-    w2c_i1 = 24319u;
-    w2c_i0 = w2c_i0 == w2c_i1;
-    if (w2c_i0) {goto w2c_B2;}
-    w2c_j0 = w2c_l12;
-    w2c_j1 = w2c_l6;
-    w2c_j0 -= w2c_j1;
-    w2c_l5 = w2c_j0;
-    w2c_j0 = w2c_l9;
-    w2c_j1 = w2c_l6;
-    w2c_j0 += w2c_j1;
-    w2c_l11 = w2c_j0;
-    w2c_i0 = w2c_l17;
-    w2c_i1 = 4294902000u;
-    w2c_i0 += w2c_i1;
-    w2c_l18 = w2c_i0;
-    w2c_i1 = 10u;
-    w2c_i0 = w2c_i0 < w2c_i1;
-    if (w2c_i0) {goto w2c_B15;}
-    w2c_i0 = w2c_l17;
-    w2c_i1 = 28856u;
-    w2c_i0 = (u32)((s32)w2c_i0 > (s32)w2c_i1);
-    if (w2c_i0) {goto w2c_B17;}
-    w2c_i0 = w2c_l17;
-    w2c_i1 = 20042u;
-    w2c_i0 = (u32)((s32)w2c_i0 > (s32)w2c_i1);
-    if (w2c_i0) {goto w2c_B18;}
-    w2c_i0 = w2c_l17;
-    w2c_i1 = 4294967264u;
-    w2c_i0 += w2c_i1;
-    switch (w2c_i0) {
-      case 0: goto w2c_B14;
-      case 1: goto w2c_B16;
-      case 2: goto w2c_B16;
-      case 3: goto w2c_B16;
-      case 4: goto w2c_B16;
-      case 5: goto w2c_B14;
-      default: goto w2c_B19;
-    }
-    w2c_B19:;
-    w2c_i0 = w2c_l17;
-    w2c_i1 = 8722u;
-    w2c_i0 = w2c_i0 != w2c_i1;
-    if (w2c_i0) {goto w2c_B16;}
-    goto w2c_B14;
-    w2c_B18:;
-    w2c_i0 = w2c_l17;
-    w2c_i1 = 20043u;
-    w2c_i0 = w2c_i0 == w2c_i1;
-    if (w2c_i0) {goto w2c_B14;}
-    w2c_i0 = w2c_l17;
-    w2c_i1 = 20998u;
-    w2c_i0 = w2c_i0 != w2c_i1;
-    if (w2c_i0) {goto w2c_B16;}
-    goto w2c_B14;
-    w2c_B17:;
-    w2c_i0 = w2c_l17;
-    w2c_i1 = 36126u;
-    w2c_i0 = (u32)((s32)w2c_i0 > (s32)w2c_i1);
-    if (w2c_i0) {goto w2c_B20;}
-    w2c_i0 = w2c_l17;
-    w2c_i1 = 28857u;
-    w2c_i0 = w2c_i0 == w2c_i1;
-    if (w2c_i0) {goto w2c_B14;}
-    w2c_i0 = w2c_l17;
-    w2c_i1 = 36000u;
-    w2c_i0 = w2c_i0 != w2c_i1;
-    if (w2c_i0) {goto w2c_B16;}
-    goto w2c_B14;
-    w2c_B20:;
-    w2c_i0 = w2c_l17;
-    w2c_i1 = 36127u;
-    w2c_i0 = w2c_i0 == w2c_i1;
-    if (w2c_i0) {goto w2c_B14;}
-    w2c_i0 = w2c_l17;
-    w2c_i1 = 40670u;
-    w2c_i0 = w2c_i0 == w2c_i1;
-    if (w2c_i0) {goto w2c_B14;}
-    w2c_i0 = w2c_l17;
-    w2c_i1 = 65285u;
-    w2c_i0 = w2c_i0 == w2c_i1;
-    if (w2c_i0) {goto w2c_B14;}
-    w2c_B16:;
-    w2c_i0 = w2c_l17;
-    w2c_i1 = 44u;
-    w2c_i0 = w2c_i0 < w2c_i1;
-    if (w2c_i0) {goto w2c_B13;}
-    w2c_i0 = w2c_l17;
-    w2c_i1 = 47u;
-    w2c_i0 = w2c_i0 < w2c_i1;
-    if (w2c_i0) {goto w2c_B15;}
-    w2c_i0 = w2c_l17;
-    w2c_i1 = 4294902003u;
-    w2c_i0 += w2c_i1;
-    w2c_i1 = 1u;
-    w2c_i0 = w2c_i0 > w2c_i1;
-    if (w2c_i0) {goto w2c_B13;}
-    w2c_B15:;
-    w2c_i0 = w2c_l17;
-    w2c_i1 = 21317u;
-    w2c_i0 = w2c_i0 == w2c_i1;
-    if (w2c_i0) {goto w2c_B2;}
-    w2c_i0 = w2c_l17;
-    w2c_i1 = 24319u;
-    w2c_i0 = w2c_i0 == w2c_i1;
-    if (w2c_i0) {goto w2c_B2;}
-    w2c_i0 = w2c_l18;
-    w2c_i1 = 10u;
-    w2c_i0 = w2c_i0 < w2c_i1;
-    if (w2c_i0) {goto w2c_B2;}
-    w2c_B14:;
-    w2c_i0 = w2c_l14;
-    w2c_i1 = w2c_l13;
-    w2c_j2 = w2c_l7;
-    w2c_j3 = w2c_l8;
-    w2c_i4 = w2c_l17;
-    w2c_j5 = w2c_l11;
-    w2c_j6 = w2c_l5;
-    w2c_i0 = w2c_f27(m, w2c_i0, w2c_i1, w2c_j2, w2c_j3, w2c_i4, w2c_j5, w2c_j6);
-    w2c_i0 = !(w2c_i0);
-    if (w2c_i0) {goto w2c_B12;}
-    goto w2c_B2;
-    w2c_B13:;
-    w2c_i0 = w2c_l20;
-    w2c_i1 = 255u;
-    w2c_i0 &= w2c_i1;
-    w2c_i1 = 2u;
-    w2c_i0 = w2c_i0 == w2c_i1;
-    if (w2c_i0) {goto w2c_B12;}
-    w2c_i0 = w2c_l14;
-    w2c_i1 = w2c_l13;
-    w2c_i2 = w2c_l17;
-    w2c_i3 = w2c_l20;
-    w2c_i4 = w2c_l19;
-    w2c_j5 = w2c_l11;
-    w2c_j6 = w2c_l5;
-    w2c_i0 = w2c_f20(m, w2c_i0, w2c_i1, w2c_i2, w2c_i3, w2c_i4, w2c_j5, w2c_j6);
-    if (w2c_i0) {goto w2c_B2;}
-    w2c_B12:;
-    w2c_j0 = w2c_l5;
-    w2c_i0 = !(w2c_j0);
-    w2c_i0 = !(w2c_i0);
-    if (w2c_i0) {goto w2c_L5;}
-  w2c_j0 = 0ull;
-  w2c_l9 = w2c_j0;
-  w2c_j0 = 0ull;
-  w2c_l6 = w2c_j0;
-  w2c_j0 = 0ull;
-  w2c_l7 = w2c_j0;
-  w2c_j0 = 0ull;
-  w2c_l8 = w2c_j0;
-  goto w2c_B1;
-  w2c_B3:;
-  UNREACHABLE;
-  w2c_B2:;
-  w2c_j0 = 1ull;
-  w2c_l5 = w2c_j0;
-  w2c_i0 = w2c_l15;
-  w2c_i1 = 4294967295u;
-  w2c_i0 = (u32)((s32)w2c_i0 > (s32)w2c_i1);
-  if (w2c_i0) {goto w2c_B21;}
-  w2c_j0 = w2c_l9;
-  w2c_i0 = (u32)(w2c_j0);
-  w2c_i0 = i32_load8_u(m, (u64)(w2c_i0) + 1u);
-  w2c_i1 = 63u;
-  w2c_i0 &= w2c_i1;
-  w2c_l17 = w2c_i0;
-  w2c_i0 = w2c_l15;
-  w2c_i1 = 4294967263u;
-  w2c_i0 = w2c_i0 > w2c_i1;
-  if (w2c_i0) {goto w2c_B22;}
-  w2c_i0 = w2c_l16;
-  w2c_i1 = 6u;
-  w2c_i0 <<= (w2c_i1 & 31);
-  w2c_i1 = 1984u;
-  w2c_i0 &= w2c_i1;
-  w2c_i1 = w2c_l17;
-  w2c_i0 |= w2c_i1;
-  w2c_l16 = w2c_i0;
-  w2c_j0 = 2ull;
-  w2c_l5 = w2c_j0;
-  goto w2c_B21;
-  w2c_B22:;
-  w2c_j0 = w2c_l9;
-  w2c_i0 = (u32)(w2c_j0);
-  w2c_i0 = i32_load8_u(m, (u64)(w2c_i0) + 2u);
-  w2c_i1 = 63u;
-  w2c_i0 &= w2c_i1;
-  w2c_l18 = w2c_i0;
-  w2c_i0 = w2c_l15;
-  w2c_i1 = 4294967279u;
-  w2c_i0 = w2c_i0 > w2c_i1;
-  if (w2c_i0) {goto w2c_B23;}
-  w2c_i0 = w2c_l17;
-  w2c_i1 = 6u;
-  w2c_i0 <<= (w2c_i1 & 31);
-  w2c_i1 = w2c_l16;
-  w2c_i2 = 12u;
-  w2c_i1 <<= (w2c_i2 & 31);
-  w2c_i2 = 61440u;
-  w2c_i1 &= w2c_i2;
-  w2c_i0 |= w2c_i1;
-  w2c_i1 = w2c_l18;
-  w2c_i0 |= w2c_i1;
-  w2c_l16 = w2c_i0;
-  w2c_j0 = 3ull;
-  w2c_l5 = w2c_j0;
-  goto w2c_B21;
-  w2c_B23:;
-  w2c_i0 = w2c_l18;
-  w2c_i1 = 6u;
-  w2c_i0 <<= (w2c_i1 & 31);
-  w2c_i1 = w2c_l17;
-  w2c_i2 = 12u;
-  w2c_i1 <<= (w2c_i2 & 31);
-  w2c_i2 = w2c_l16;
-  w2c_i3 = 18u;
-  w2c_i2 <<= (w2c_i3 & 31);
-  w2c_i3 = 1835008u;
-  w2c_i2 &= w2c_i3;
-  w2c_i1 |= w2c_i2;
-  w2c_i0 |= w2c_i1;
-  w2c_j1 = w2c_l9;
-  w2c_i1 = (u32)(w2c_j1);
-  w2c_i1 = i32_load8_u(m, (u64)(w2c_i1) + 3u);
-  w2c_i2 = 63u;
-  w2c_i1 &= w2c_i2;
-  w2c_i0 |= w2c_i1;
-  w2c_l16 = w2c_i0;
-  w2c_j0 = 4ull;
-  w2c_l5 = w2c_j0;
-  w2c_B21:;
-  w2c_j0 = w2c_l9;
-  w2c_j1 = w2c_l5;
-  w2c_j0 += w2c_j1;
-  w2c_l3 = w2c_j0;
-  w2c_j0 = w2c_l12;
-  w2c_j1 = w2c_l5;
-  w2c_j0 -= w2c_j1;
-  w2c_l11 = w2c_j0;
-  w2c_i0 = !(w2c_j0);
-  w2c_i0 = !(w2c_i0);
-  if (w2c_i0) {goto w2c_B25;}
-  w2c_j0 = 0ull;
-  w2c_l5 = w2c_j0;
-  goto w2c_B24;
-  w2c_B25:;
-  w2c_j0 = w2c_l3;
-  w2c_l6 = w2c_j0;
-  w2c_L26:
-    w2c_i0 = w2c_l16;
-    w2c_l17 = w2c_i0;
-    w2c_j0 = w2c_l11;
-    w2c_l5 = w2c_j0;
-    w2c_j0 = w2c_l6;
-    w2c_l3 = w2c_j0;
-    w2c_i0 = (u32)(w2c_j0);
-    w2c_i0 = i32_load8_s(m, (u64)(w2c_i0));
-    w2c_l15 = w2c_i0;
-    w2c_i1 = 255u;
-    w2c_i0 &= w2c_i1;
-    w2c_l16 = w2c_i0;
-    w2c_j0 = 1ull;
-    w2c_l6 = w2c_j0;
-    w2c_i0 = w2c_l15;
-    w2c_i1 = 4294967295u;
-    w2c_i0 = (u32)((s32)w2c_i0 > (s32)w2c_i1);
-    if (w2c_i0) {goto w2c_B27;}
-    w2c_j0 = w2c_l3;
-    w2c_i0 = (u32)(w2c_j0);
-    w2c_i0 = i32_load8_u(m, (u64)(w2c_i0) + 1u);
-    w2c_i1 = 63u;
-    w2c_i0 &= w2c_i1;
-    w2c_l18 = w2c_i0;
-    w2c_i0 = w2c_l15;
-    w2c_i1 = 4294967263u;
-    w2c_i0 = w2c_i0 > w2c_i1;
-    if (w2c_i0) {goto w2c_B28;}
-    w2c_i0 = w2c_l16;
-    w2c_i1 = 6u;
-    w2c_i0 <<= (w2c_i1 & 31);
-    w2c_i1 = 1984u;
-    w2c_i0 &= w2c_i1;
-    w2c_i1 = w2c_l18;
-    w2c_i0 |= w2c_i1;
-    w2c_l16 = w2c_i0;
-    w2c_j0 = 2ull;
-    w2c_l6 = w2c_j0;
-    goto w2c_B27;
-    w2c_B28:;
-    w2c_j0 = w2c_l3;
-    w2c_i0 = (u32)(w2c_j0);
-    w2c_i0 = i32_load8_u(m, (u64)(w2c_i0) + 2u);
-    w2c_i1 = 63u;
-    w2c_i0 &= w2c_i1;
-    w2c_l20 = w2c_i0;
-    w2c_i0 = w2c_l15;
-    w2c_i1 = 4294967279u;
-    w2c_i0 = w2c_i0 > w2c_i1;
-    if (w2c_i0) {goto w2c_B29;}
-    w2c_i0 = w2c_l18;
-    w2c_i1 = 6u;
-    w2c_i0 <<= (w2c_i1 & 31);
-    w2c_i1 = w2c_l16;
-    w2c_i2 = 12u;
-    w2c_i1 <<= (w2c_i2 & 31);
-    w2c_i2 = 61440u;
-    w2c_i1 &= w2c_i2;
-    w2c_i0 |= w2c_i1;
-    w2c_i1 = w2c_l20;
-    w2c_i0 |= w2c_i1;
-    w2c_l16 = w2c_i0;
-    w2c_j0 = 3ull;
-    w2c_l6 = w2c_j0;
-    goto w2c_B27;
-    w2c_B29:;
-    w2c_i0 = w2c_l20;
-    w2c_i1 = 6u;
-    w2c_i0 <<= (w2c_i1 & 31);
-    w2c_i1 = w2c_l18;
-    w2c_i2 = 12u;
-    w2c_i1 <<= (w2c_i2 & 31);
-    w2c_i2 = w2c_l16;
-    w2c_i3 = 18u;
-    w2c_i2 <<= (w2c_i3 & 31);
-    w2c_i3 = 1835008u;
-    w2c_i2 &= w2c_i3;
-    w2c_i1 |= w2c_i2;
-    w2c_i0 |= w2c_i1;
-    w2c_j1 = w2c_l3;
-    w2c_i1 = (u32)(w2c_j1);
-    w2c_i1 = i32_load8_u(m, (u64)(w2c_i1) + 3u);
-    w2c_i2 = 63u;
-    w2c_i1 &= w2c_i2;
-    w2c_i0 |= w2c_i1;
-    w2c_l16 = w2c_i0;
-    w2c_j0 = 4ull;
-    w2c_l6 = w2c_j0;
-    w2c_B27:;
-    w2c_i0 = w2c_l16;
-    w2c_i1 = 4294965248u;
-    w2c_i0 += w2c_i1;
-    w2c_i1 = 63487u;
-    w2c_i0 = w2c_i0 > w2c_i1;
-    if (w2c_i0) {goto w2c_B31;}
-    w2c_i0 = w2c_l16;
-    w2c_i1 = 12u;
-    w2c_i0 >>= (w2c_i1 & 31);
-    w2c_i1 = w2c_l16;
-    w2c_i2 = 2u;
-    w2c_i1 <<= (w2c_i2 & 31);
-    w2c_i2 = 16128u;
-    w2c_i1 &= w2c_i2;
-    w2c_i0 |= w2c_i1;
-    w2c_i1 = w2c_l16;
-    w2c_i2 = 16u;
-    w2c_i1 <<= (w2c_i2 & 31);
-    w2c_i2 = 4128768u;
-    w2c_i1 &= w2c_i2;
-    w2c_i0 |= w2c_i1;
-    w2c_i1 = 8421600u;
-    w2c_i0 |= w2c_i1;
-    w2c_l15 = w2c_i0;
-    w2c_j0 = (u64)(w2c_i0);
-    w2c_j1 = 953497ull;
-    w2c_j0 *= w2c_j1;
-    w2c_j1 = 22ull;
-    w2c_j0 >>= (w2c_j1 & 63);
-    w2c_j1 = 1016ull;
-    w2c_j0 &= w2c_j1;
-    w2c_l11 = w2c_j0;
-    w2c_j1 = 66997ull;
-    w2c_j0 += w2c_j1;
-    w2c_i0 = (u32)(w2c_j0);
-    w2c_i0 = i32_load8_u(m, (u64)(w2c_i0));
-    w2c_i1 = 0u;
-    w2c_j2 = w2c_l11;
-    w2c_i2 = (u32)(w2c_j2);
-    w2c_i2 = i32_load(m, (u64)(w2c_i2) + 66992u);
-    w2c_i3 = w2c_l15;
-    w2c_i2 = w2c_i2 == w2c_i3;
-    w2c_l15 = w2c_i2;
-    w2c_i0 = w2c_i2 ? w2c_i0 : w2c_i1;
-    w2c_l18 = w2c_i0;
-    w2c_j0 = w2c_l11;
-    w2c_j1 = 66996ull;
-    w2c_j0 += w2c_j1;
-    w2c_i0 = (u32)(w2c_j0);
-    w2c_i0 = i32_load8_u(m, (u64)(w2c_i0));
-    w2c_i1 = 2u;
-    w2c_i2 = w2c_l15;
-    w2c_i0 = w2c_i2 ? w2c_i0 : w2c_i1;
-    w2c_l15 = w2c_i0;
-    goto w2c_B30;
-    w2c_B31:;
-    w2c_j0 = w2c_l2;
-    w2c_j1 = 24ull;
-    w2c_j0 += w2c_j1;
-    w2c_i1 = w2c_l16;
-    w2c_f21(m, w2c_j0, w2c_i1);
-    w2c_j0 = w2c_l2;
-    w2c_i0 = (u32)(w2c_j0);
-    w2c_i0 = i32_load8_u(m, (u64)(w2c_i0) + 24u);
-    w2c_i1 = 1u;
-    w2c_i0 = w2c_i0 != w2c_i1;
-    if (w2c_i0) {goto w2c_B32;}
-    w2c_j0 = w2c_l2;
-    w2c_i0 = (u32)(w2c_j0);
-    w2c_i0 = i32_load8_u(m, (u64)(w2c_i0) + 25u);
-    w2c_l18 = w2c_i0;
-    w2c_i0 = 0u;
-    w2c_l15 = w2c_i0;
-    goto w2c_B30;
-    w2c_B32:;
-    w2c_j0 = w2c_l2;
-    w2c_j1 = 16ull;
-    w2c_j0 += w2c_j1;
-    w2c_i1 = w2c_l16;
-    w2c_f19(m, w2c_j0, w2c_i1);
-    w2c_j0 = w2c_l2;
-    w2c_i0 = (u32)(w2c_j0);
-    w2c_i0 = i32_load8_u(m, (u64)(w2c_i0) + 17u);
-    w2c_i1 = 0u;
-    w2c_j2 = w2c_l2;
-    w2c_i2 = (u32)(w2c_j2);
-    w2c_i2 = i32_load8_u(m, (u64)(w2c_i2) + 16u);
-    w2c_i3 = 1u;
-    w2c_i2 = w2c_i2 == w2c_i3;
-    w2c_l15 = w2c_i2;
-    w2c_i0 = w2c_i2 ? w2c_i0 : w2c_i1;
-    w2c_l18 = w2c_i0;
-    w2c_i0 = 1u;
-    w2c_i1 = 2u;
-    w2c_i2 = w2c_l15;
-    w2c_i0 = w2c_i2 ? w2c_i0 : w2c_i1;
-    w2c_l15 = w2c_i0;
-    w2c_B30:;
-    w2c_j0 = w2c_l5;
-    w2c_j1 = w2c_l6;
-    w2c_j0 -= w2c_j1;
-    w2c_l11 = w2c_j0;
-    w2c_j0 = w2c_l3;
-    w2c_j1 = w2c_l6;
-    w2c_j0 += w2c_j1;
-    w2c_l6 = w2c_j0;
-    w2c_i0 = w2c_l16;
-    w2c_i1 = 21317u;
-    w2c_i0 = w2c_i0 == w2c_i1;
-    if (w2c_i0) {goto w2c_B33;}
-    w2c_i0 = w2c_l16;
-    w2c_i1 = 24319u;
-    w2c_i0 = w2c_i0 == w2c_i1;
-    if (w2c_i0) {goto w2c_B33;}
-    w2c_i0 = w2c_l16;
-    w2c_i1 = 4294902000u;
-    w2c_i0 += w2c_i1;
-    w2c_l20 = w2c_i0;
-    w2c_i1 = 10u;
-    w2c_i0 = w2c_i0 < w2c_i1;
-    if (w2c_i0) {goto w2c_B36;}
-    w2c_i0 = w2c_l16;
-    w2c_i1 = 28856u;
-    w2c_i0 = (u32)((s32)w2c_i0 > (s32)w2c_i1);
-    if (w2c_i0) {goto w2c_B39;}
-    w2c_i0 = w2c_l16;
-    w2c_i1 = 20042u;
-    w2c_i0 = (u32)((s32)w2c_i0 > (s32)w2c_i1);
-    if (w2c_i0) {goto w2c_B40;}
-    w2c_i0 = w2c_l16;
-    w2c_i1 = 4294967264u;
-    w2c_i0 += w2c_i1;
-    switch (w2c_i0) {
-      case 0: goto w2c_B34;
-      case 1: goto w2c_B37;
-      case 2: goto w2c_B37;
-      case 3: goto w2c_B37;
-      case 4: goto w2c_B37;
-      case 5: goto w2c_B34;
-      default: goto w2c_B38;
-    }
-    w2c_B40:;
-    w2c_i0 = w2c_l16;
-    w2c_i1 = 20043u;
-    w2c_i0 = w2c_i0 == w2c_i1;
-    if (w2c_i0) {goto w2c_B34;}
-    w2c_i0 = w2c_l16;
-    w2c_i1 = 20998u;
-    w2c_i0 = w2c_i0 != w2c_i1;
-    if (w2c_i0) {goto w2c_B37;}
-    goto w2c_B34;
-    w2c_B39:;
-    w2c_i0 = w2c_l16;
-    w2c_i1 = 36126u;
-    w2c_i0 = (u32)((s32)w2c_i0 > (s32)w2c_i1);
-    if (w2c_i0) {goto w2c_B41;}
-    w2c_i0 = w2c_l16;
-    w2c_i1 = 28857u;
-    w2c_i0 = w2c_i0 == w2c_i1;
-    if (w2c_i0) {goto w2c_B34;}
-    w2c_i0 = w2c_l16;
-    w2c_i1 = 36000u;
-    w2c_i0 = w2c_i0 != w2c_i1;
-    if (w2c_i0) {goto w2c_B37;}
-    goto w2c_B34;
-    w2c_B41:;
-    w2c_i0 = w2c_l16;
-    w2c_i1 = 36127u;
-    w2c_i0 = w2c_i0 == w2c_i1;
-    if (w2c_i0) {goto w2c_B34;}
-    w2c_i0 = w2c_l16;
-    w2c_i1 = 40670u;
-    w2c_i0 = w2c_i0 == w2c_i1;
-    if (w2c_i0) {goto w2c_B34;}
-    w2c_i0 = w2c_l16;
-    w2c_i1 = 65285u;
-    w2c_i0 = w2c_i0 == w2c_i1;
-    if (w2c_i0) {goto w2c_B34;}
-    goto w2c_B37;
-    w2c_B38:;
-    w2c_i0 = w2c_l16;
-    w2c_i1 = 8722u;
-    w2c_i0 = w2c_i0 == w2c_i1;
-    if (w2c_i0) {goto w2c_B34;}
-    w2c_B37:;
-    w2c_i0 = w2c_l16;
-    w2c_i1 = 44u;
-    w2c_i0 = w2c_i0 < w2c_i1;
-    if (w2c_i0) {goto w2c_B35;}
-    w2c_i0 = w2c_l16;
-    w2c_i1 = 47u;
-    w2c_i0 = w2c_i0 < w2c_i1;
-    if (w2c_i0) {goto w2c_B36;}
-    w2c_i0 = w2c_l16;
-    w2c_i1 = 4294902003u;
-    w2c_i0 += w2c_i1;
-    w2c_i1 = 1u;
-    w2c_i0 = w2c_i0 > w2c_i1;
-    if (w2c_i0) {goto w2c_B35;}
-    w2c_B36:;
-    w2c_i0 = w2c_l16;
-    w2c_i1 = 21317u;
-    w2c_i0 = w2c_i0 == w2c_i1;
-    if (w2c_i0) {goto w2c_B33;}
-    w2c_i0 = w2c_l16;
-    w2c_i1 = 24319u;
-    w2c_i0 = w2c_i0 == w2c_i1;
-    if (w2c_i0) {goto w2c_B33;}
-    w2c_i0 = w2c_l20;
-    w2c_i1 = 10u;
-    w2c_i0 = w2c_i0 >= w2c_i1;
-    if (w2c_i0) {goto w2c_B34;}
-    goto w2c_B33;
-    w2c_B35:;
-    w2c_i0 = w2c_l15;
-    w2c_i1 = 255u;
-    w2c_i0 &= w2c_i1;
-    w2c_i1 = 2u;
-    w2c_i0 = w2c_i0 == w2c_i1;
-    if (w2c_i0) {goto w2c_B24;}
-    w2c_i0 = w2c_l14;
-    w2c_i1 = w2c_l13;
-    w2c_i2 = w2c_l16;
-    w2c_i3 = w2c_l15;
-    w2c_i4 = w2c_l18;
-    w2c_j5 = w2c_l6;
-    w2c_j6 = w2c_l11;
-    w2c_i0 = w2c_f20(m, w2c_i0, w2c_i1, w2c_i2, w2c_i3, w2c_i4, w2c_j5, w2c_j6);
-    if (w2c_i0) {goto w2c_B33;}
-    goto w2c_B24;
-    w2c_B34:;
-    w2c_i0 = w2c_l14;
-    w2c_i1 = w2c_l13;
-    w2c_j2 = w2c_l7;
-    w2c_j3 = w2c_l10;
-    w2c_j4 = w2c_l5;
-    w2c_j3 -= w2c_j4;
-    w2c_i4 = w2c_l16;
-    w2c_j5 = w2c_l6;
-    w2c_j6 = w2c_l11;
-    w2c_i0 = w2c_f27(m, w2c_i0, w2c_i1, w2c_j2, w2c_j3, w2c_i4, w2c_j5, w2c_j6);
-    w2c_i0 = !(w2c_i0);
-    if (w2c_i0) {goto w2c_B24;}
-    w2c_B33:;
-    w2c_i0 = w2c_l17;
-    w2c_i1 = 4294967248u;
-    w2c_i0 += w2c_i1;
-    w2c_i1 = 10u;
-    w2c_i0 = w2c_i0 < w2c_i1;
-    if (w2c_i0) {goto w2c_B43;}
-    w2c_i0 = w2c_l17;
-    w2c_i1 = 4294902000u;
-    w2c_i0 += w2c_i1;
-    w2c_i1 = 9u;
-    w2c_i0 = w2c_i0 > w2c_i1;
-    if (w2c_i0) {goto w2c_B42;}
-    w2c_B43:;
-    w2c_j0 = w2c_l2;
-    w2c_j1 = 8ull;
-    w2c_j0 += w2c_j1;
-    w2c_i1 = w2c_l16;
-    w2c_f21(m, w2c_j0, w2c_i1);
-    w2c_i0 = w2c_l16;
-    w2c_i1 = 4294967238u;
-    w2c_i0 += w2c_i1;
-    w2c_i1 = 4294967285u;
-    w2c_i0 = w2c_i0 > w2c_i1;
-    if (w2c_i0) {goto w2c_B44;}
-    w2c_j0 = w2c_l2;
-    w2c_i0 = (u32)(w2c_j0);
-    w2c_i0 = i32_load8_u(m, (u64)(w2c_i0) + 8u);
-    w2c_i1 = 255u;
-    w2c_i0 &= w2c_i1;
-    w2c_i1 = 1u;
-    w2c_i0 = w2c_i0 == w2c_i1;
-    if (w2c_i0) {goto w2c_B24;}
-    w2c_B44:;
-    w2c_i0 = w2c_l16;
-    w2c_i1 = 21317u;
-    w2c_i0 = w2c_i0 == w2c_i1;
-    if (w2c_i0) {goto w2c_B24;}
-    w2c_i0 = w2c_l16;
-    w2c_i1 = 24319u;
-    w2c_i0 = w2c_i0 == w2c_i1;
-    if (w2c_i0) {goto w2c_B24;}
-    w2c_B42:;
-    w2c_j0 = w2c_l2;
-    w2c_i1 = w2c_l17;
-    w2c_f21(m, w2c_j0, w2c_i1);
-    w2c_i0 = w2c_l17;
-    w2c_i1 = 4294967238u;
-    w2c_i0 += w2c_i1;
-    w2c_i1 = 4294967285u;
-    w2c_i0 = w2c_i0 > w2c_i1;
-    if (w2c_i0) {goto w2c_B47;}
-    w2c_j0 = w2c_l2;
-    w2c_i0 = (u32)(w2c_j0);
-    w2c_i0 = i32_load8_u(m, (u64)(w2c_i0));
-    w2c_i1 = 255u;
-    w2c_i0 &= w2c_i1;
-    w2c_i1 = 1u;
-    w2c_i0 = w2c_i0 == w2c_i1;
-    if (w2c_i0) {goto w2c_B46;}
-    w2c_B47:;
-    w2c_i0 = w2c_l17;
-    w2c_i1 = 24318u;
-    w2c_i0 = (u32)((s32)w2c_i0 > (s32)w2c_i1);
-    if (w2c_i0) {goto w2c_B48;}
-    w2c_i0 = w2c_l17;
-    w2c_i1 = 21317u;
-    w2c_i0 = w2c_i0 == w2c_i1;
-    if (w2c_i0) {goto w2c_B46;}
-    w2c_i0 = w2c_l17;
-    w2c_i1 = 37u;
-    w2c_i0 = w2c_i0 != w2c_i1;
-    if (w2c_i0) {goto w2c_B45;}
-    goto w2c_B24;
-    w2c_B48:;
-    w2c_i0 = w2c_l17;
-    w2c_i1 = 24319u;
-    w2c_i0 = w2c_i0 == w2c_i1;
-    if (w2c_i0) {goto w2c_B46;}
-    w2c_i0 = w2c_l17;
-    w2c_i1 = 65285u;
-    w2c_i0 = w2c_i0 != w2c_i1;
-    if (w2c_i0) {goto w2c_B45;}
-    goto w2c_B24;
-    w2c_B46:;
-    w2c_i0 = w2c_l16;
-    w2c_i1 = 4294967248u;
-    w2c_i0 += w2c_i1;
-    w2c_i1 = 10u;
-    w2c_i0 = w2c_i0 < w2c_i1;
-    if (w2c_i0) {goto w2c_B24;}
-    w2c_i0 = w2c_l16;
-    w2c_i1 = 4294902000u;
-    w2c_i0 += w2c_i1;
-    w2c_i1 = 10u;
-    w2c_i0 = w2c_i0 < w2c_i1;
-    if (w2c_i0) {goto w2c_B24;}
-    w2c_i0 = w2c_l17;
-    w2c_i1 = 37u;
-    w2c_i0 = w2c_i0 == w2c_i1;
-    if (w2c_i0) {goto w2c_B24;}
-    w2c_i0 = w2c_l17;
-    w2c_i1 = 65285u;
-    w2c_i0 = w2c_i0 == w2c_i1;
-    if (w2c_i0) {goto w2c_B24;}
-    w2c_B45:;
-    w2c_j0 = 0ull;
-    w2c_l5 = w2c_j0;
-    w2c_j0 = w2c_l6;
-    w2c_l3 = w2c_j0;
-    w2c_j0 = w2c_l11;
-    w2c_j1 = 0ull;
-    w2c_i0 = w2c_j0 != w2c_j1;
-    if (w2c_i0) {goto w2c_L26;}
-  w2c_B24:;
-  w2c_j0 = w2c_l12;
-  w2c_j1 = w2c_l5;
-  w2c_j0 -= w2c_j1;
-  w2c_l12 = w2c_j0;
-  w2c_j0 = 1ull;
-  w2c_l6 = w2c_j0;
-  w2c_j0 = w2c_l3;
-  w2c_l11 = w2c_j0;
-  goto w2c_B0;
-  w2c_B1:;
-  w2c_j0 = 0ull;
-  w2c_l12 = w2c_j0;
-  w2c_j0 = 0ull;
-  w2c_l11 = w2c_j0;
-  w2c_j0 = 0ull;
-  w2c_l5 = w2c_j0;
-  w2c_B0:;
-  w2c_j0 = w2c_l4;
-  w2c_i0 = (u32)(w2c_j0);
-  w2c_j1 = w2c_l5;
-  i64_store(m, (u64)(w2c_i0), w2c_j1);
-  w2c_j0 = w2c_p1;
-  w2c_j1 = 24ull;
-  w2c_j0 += w2c_j1;
-  w2c_i0 = (u32)(w2c_j0);
-  w2c_j1 = w2c_l3;
-  i64_store(m, (u64)(w2c_i0), w2c_j1);
-  w2c_j0 = w2c_p0;
-  w2c_j1 = 48ull;
-  w2c_j0 += w2c_j1;
-  w2c_i0 = (u32)(w2c_j0);
-  w2c_j1 = w2c_l5;
-  i64_store(m, (u64)(w2c_i0), w2c_j1);
-  w2c_j0 = w2c_p0;
-  w2c_j1 = 40ull;
-  w2c_j0 += w2c_j1;
-  w2c_i0 = (u32)(w2c_j0);
-  w2c_j1 = w2c_l11;
-  i64_store(m, (u64)(w2c_i0), w2c_j1);
-  w2c_j0 = w2c_p0;
-  w2c_j1 = 32ull;
-  w2c_j0 += w2c_j1;
-  w2c_i0 = (u32)(w2c_j0);
-  w2c_j1 = w2c_l12;
-  i64_store(m, (u64)(w2c_i0), w2c_j1);
-  w2c_j0 = w2c_p0;
-  w2c_j1 = 24ull;
-  w2c_j0 += w2c_j1;
-  w2c_i0 = (u32)(w2c_j0);
-  w2c_j1 = w2c_l9;
-  i64_store(m, (u64)(w2c_i0), w2c_j1);
-  w2c_j0 = w2c_p0;
-  w2c_j1 = 16ull;
-  w2c_j0 += w2c_j1;
-  w2c_i0 = (u32)(w2c_j0);
-  w2c_j1 = w2c_l8;
-  i64_store(m, (u64)(w2c_i0), w2c_j1);
-  w2c_j0 = w2c_p0;
-  w2c_j1 = 8ull;
-  w2c_j0 += w2c_j1;
-  w2c_i0 = (u32)(w2c_j0);
-  w2c_j1 = w2c_l7;
-  i64_store(m, (u64)(w2c_i0), w2c_j1);
-  w2c_j0 = w2c_p0;
-  w2c_i0 = (u32)(w2c_j0);
-  w2c_j1 = w2c_l6;
-  i64_store(m, (u64)(w2c_i0), w2c_j1);
-  w2c_j0 = w2c_l2;
-  w2c_j1 = 48ull;
-  w2c_j0 += w2c_j1;
-  m->w2c_g0 = w2c_j0;
-}
-
-static void w2c_f18(module *m, u64 w2c_p0, u64 w2c_p1) {
-  u32 w2c_l11 = 0, w2c_l12 = 0, w2c_l13 = 0, w2c_l14 = 0, w2c_l15 = 0, w2c_l16 = 0, w2c_l17 = 0, w2c_l18 = 0;
-  u64 w2c_l2 = 0, w2c_l3 = 0, w2c_l4 = 0, w2c_l5 = 0, w2c_l6 = 0, w2c_l7 = 0, w2c_l8 = 0, w2c_l9 = 0, w2c_l10 = 0;
-  u32 w2c_i0, w2c_i1, w2c_i2, w2c_i3, w2c_i4;
-  u64 w2c_j0, w2c_j1, w2c_j2, w2c_j3;
-  w2c_j0 = m->w2c_g0;
-  w2c_j1 = 48ull;
-  w2c_j0 -= w2c_j1;
-  w2c_l2 = w2c_j0;
-  m->w2c_g0 = w2c_j0;
-  w2c_j0 = w2c_l2;
-  w2c_l3 = w2c_j0;
-  w2c_j1 = 16ull;
-  w2c_i0 = (u64)((s64)w2c_j0 < (s64)w2c_j1);
-  if (w2c_i0) {goto w2c_B3;}
-  w2c_j0 = w2c_p1;
-  w2c_i0 = (u32)(w2c_j0);
-  w2c_j0 = i64_load(m, (u64)(w2c_i0) + 40u);
-  w2c_l4 = w2c_j0;
-  w2c_j0 = w2c_p1;
-  w2c_i0 = (u32)(w2c_j0);
-  w2c_j0 = i64_load(m, (u64)(w2c_i0) + 32u);
-  w2c_l2 = w2c_j0;
-  w2c_j0 = w2c_p1;
-  w2c_i0 = (u32)(w2c_j0);
-  w2c_j0 = i64_load(m, (u64)(w2c_i0) + 24u);
-  w2c_l5 = w2c_j0;
-  w2c_j0 = w2c_p1;
-  w2c_i0 = (u32)(w2c_j0);
-  w2c_j0 = i64_load(m, (u64)(w2c_i0) + 16u);
-  w2c_l6 = w2c_j0;
-  w2c_i0 = 0u;
-  w2c_l11 = w2c_i0;
-  w2c_j0 = w2c_p1;
-  w2c_i0 = (u32)(w2c_j0);
-  w2c_j0 = i64_load(m, (u64)(w2c_i0) + 8u);
-  w2c_l7 = w2c_j0;
-  w2c_i0 = !(w2c_j0);
-  w2c_i0 = !(w2c_i0);
-  if (w2c_i0) {goto w2c_B4;}
-  w2c_i0 = 0u;
-  w2c_l12 = w2c_i0;
-  w2c_i0 = 0u;
-  w2c_l13 = w2c_i0;
-  goto w2c_B0;
-  w2c_B4:;
-  w2c_j0 = w2c_p1;
-  w2c_i0 = (u32)(w2c_j0);
-  w2c_j0 = i64_load(m, (u64)(w2c_i0));
-  w2c_p1 = w2c_j0;
-  w2c_j1 = w2c_l7;
-  w2c_j2 = 18446744073709551615ull;
-  w2c_j1 += w2c_j2;
-  w2c_l8 = w2c_j1;
-  w2c_j0 += w2c_j1;
-  w2c_i0 = (u32)(w2c_j0);
-  w2c_i0 = i32_load8_s(m, (u64)(w2c_i0));
-  w2c_l14 = w2c_i0;
-  w2c_i1 = 0u;
-  w2c_i0 = (u32)((s32)w2c_i0 >= (s32)w2c_i1);
-  if (w2c_i0) {goto w2c_B5;}
-  w2c_j0 = 18446744073709551614ull;
-  w2c_l8 = w2c_j0;
-  w2c_j0 = w2c_p1;
-  w2c_j1 = w2c_l7;
-  w2c_j0 += w2c_j1;
-  w2c_l9 = w2c_j0;
-  w2c_j1 = 18446744073709551614ull;
-  w2c_j0 += w2c_j1;
-  w2c_i0 = (u32)(w2c_j0);
-  w2c_i0 = i32_load8_u(m, (u64)(w2c_i0));
-  w2c_i1 = 191u;
-  w2c_i0 = w2c_i0 > w2c_i1;
-  if (w2c_i0) {goto w2c_B6;}
-  w2c_j0 = 18446744073709551613ull;
-  w2c_j1 = 18446744073709551612ull;
-  w2c_j2 = w2c_l9;
-  w2c_j3 = 18446744073709551613ull;
-  w2c_j2 += w2c_j3;
-  w2c_i2 = (u32)(w2c_j2);
-  w2c_i2 = i32_load8_u(m, (u64)(w2c_i2));
-  w2c_i3 = 191u;
-  w2c_i2 = w2c_i2 > w2c_i3;
-  w2c_j0 = w2c_i2 ? w2c_j0 : w2c_j1;
-  w2c_l8 = w2c_j0;
-  w2c_B6:;
-  w2c_j0 = w2c_p1;
-  w2c_j1 = w2c_l8;
-  w2c_j2 = w2c_l7;
-  w2c_j1 += w2c_j2;
-  w2c_l8 = w2c_j1;
-  w2c_j0 += w2c_j1;
-  w2c_l9 = w2c_j0;
-  w2c_i0 = (u32)(w2c_j0);
-  w2c_i0 = i32_load8_s(m, (u64)(w2c_i0));
-  w2c_l15 = w2c_i0;
-  w2c_i1 = 255u;
-  w2c_i0 &= w2c_i1;
-  w2c_l14 = w2c_i0;
-  w2c_i0 = w2c_l15;
-  w2c_i1 = 4294967295u;
-  w2c_i0 = (u32)((s32)w2c_i0 > (s32)w2c_i1);
-  if (w2c_i0) {goto w2c_B5;}
-  w2c_j0 = w2c_l9;
-  w2c_i0 = (u32)(w2c_j0);
-  w2c_i0 = i32_load8_u(m, (u64)(w2c_i0) + 1u);
-  w2c_i1 = 63u;
-  w2c_i0 &= w2c_i1;
-  w2c_l16 = w2c_i0;
-  w2c_i0 = w2c_l15;
-  w2c_i1 = 4294967263u;
-  w2c_i0 = w2c_i0 > w2c_i1;
-  if (w2c_i0) {goto w2c_B7;}
-  w2c_i0 = w2c_l14;
-  w2c_i1 = 6u;
-  w2c_i0 <<= (w2c_i1 & 31);
-  w2c_i1 = 1984u;
-  w2c_i0 &= w2c_i1;
-  w2c_i1 = w2c_l16;
-  w2c_i0 |= w2c_i1;
-  w2c_l14 = w2c_i0;
-  goto w2c_B5;
-  w2c_B7:;
-  w2c_j0 = w2c_l9;
-  w2c_i0 = (u32)(w2c_j0);
-  w2c_i0 = i32_load8_u(m, (u64)(w2c_i0) + 2u);
-  w2c_i1 = 63u;
-  w2c_i0 &= w2c_i1;
-  w2c_l13 = w2c_i0;
-  w2c_i0 = w2c_l15;
-  w2c_i1 = 4294967279u;
-  w2c_i0 = w2c_i0 > w2c_i1;
-  if (w2c_i0) {goto w2c_B8;}
-  w2c_i0 = w2c_l16;
-  w2c_i1 = 6u;
-  w2c_i0 <<= (w2c_i1 & 31);
-  w2c_i1 = w2c_l14;
-  w2c_i2 = 12u;
-  w2c_i1 <<= (w2c_i2 & 31);
-  w2c_i2 = 61440u;
-  w2c_i1 &= w2c_i2;
-  w2c_i0 |= w2c_i1;
-  w2c_i1 = w2c_l13;
-  w2c_i0 |= w2c_i1;
-  w2c_l14 = w2c_i0;
-  goto w2c_B5;
-  w2c_B8:;
-  w2c_i0 = w2c_l13;
-  w2c_i1 = 6u;
-  w2c_i0 <<= (w2c_i1 & 31);
-  w2c_i1 = w2c_l16;
-  w2c_i2 = 12u;
-  w2c_i1 <<= (w2c_i2 & 31);
-  w2c_i2 = w2c_l14;
-  w2c_i3 = 18u;
-  w2c_i2 <<= (w2c_i3 & 31);
-  w2c_i3 = 1835008u;
-  w2c_i2 &= w2c_i3;
-  w2c_i1 |= w2c_i2;
-  w2c_i0 |= w2c_i1;
-  w2c_j1 = w2c_l9;
-  w2c_i1 = (u32)(w2c_j1);
-  w2c_i1 = i32_load8_u(m, (u64)(w2c_i1) + 3u);
-  w2c_i2 = 63u;
-  w2c_i1 &= w2c_i2;
-  w2c_i0 |= w2c_i1;
-  w2c_l14 = w2c_i0;
-  w2c_B5:;
-  w2c_i0 = 1u;
-  w2c_l12 = w2c_i0;
-  w2c_i0 = 1u;
-  w2c_l13 = w2c_i0;
-  w2c_i0 = w2c_l14;
-  w2c_i1 = 4294967248u;
-  w2c_i0 += w2c_i1;
-  w2c_i1 = 10u;
-  w2c_i0 = w2c_i0 < w2c_i1;
-  if (w2c_i0) {goto w2c_B1;}
-  w2c_i0 = 1u;
-  w2c_l13 = w2c_i0;
-  w2c_i0 = w2c_l14;
-  w2c_i1 = 4294967263u;
-  w2c_i0 &= w2c_i1;
-  w2c_i1 = 4294967231u;
-  w2c_i0 += w2c_i1;
-  w2c_i1 = 26u;
-  w2c_i0 = w2c_i0 < w2c_i1;
-  if (w2c_i0) {goto w2c_B1;}
-  w2c_i0 = 1u;
-  w2c_l13 = w2c_i0;
-  w2c_i0 = w2c_l14;
-  w2c_i1 = 4294902000u;
-  w2c_i0 += w2c_i1;
-  w2c_i1 = 10u;
-  w2c_i0 = w2c_i0 < w2c_i1;
-  if (w2c_i0) {goto w2c_B1;}
-  w2c_i0 = w2c_l14;
-  w2c_i1 = 4294965248u;
-  w2c_i0 += w2c_i1;
-  w2c_i1 = 63487u;
-  w2c_i0 = w2c_i0 > w2c_i1;
-  if (w2c_i0) {goto w2c_B10;}
-  w2c_i0 = w2c_l14;
-  w2c_i1 = 12u;
-  w2c_i0 >>= (w2c_i1 & 31);
-  w2c_i1 = w2c_l14;
-  w2c_i2 = 2u;
-  w2c_i1 <<= (w2c_i2 & 31);
-  w2c_i2 = 16128u;
-  w2c_i1 &= w2c_i2;
-  w2c_i0 |= w2c_i1;
-  w2c_i1 = w2c_l14;
-  w2c_i2 = 16u;
-  w2c_i1 <<= (w2c_i2 & 31);
-  w2c_i2 = 4128768u;
-  w2c_i1 &= w2c_i2;
-  w2c_i0 |= w2c_i1;
-  w2c_i1 = 8421600u;
-  w2c_i0 |= w2c_i1;
-  w2c_l15 = w2c_i0;
-  w2c_j0 = (u64)(w2c_i0);
-  w2c_j1 = 953497ull;
-  w2c_j0 *= w2c_j1;
-  w2c_j1 = 22ull;
-  w2c_j0 >>= (w2c_j1 & 63);
-  w2c_j1 = 1016ull;
-  w2c_j0 &= w2c_j1;
-  w2c_l9 = w2c_j0;
-  w2c_i0 = (u32)(w2c_j0);
-  w2c_i0 = i32_load(m, (u64)(w2c_i0) + 66992u);
-  w2c_i1 = w2c_l15;
-  w2c_i0 = w2c_i0 != w2c_i1;
-  if (w2c_i0) {goto w2c_B9;}
-  w2c_i0 = 1u;
-  w2c_l13 = w2c_i0;
-  w2c_j0 = w2c_l9;
-  w2c_j1 = 66996ull;
-  w2c_j0 += w2c_j1;
-  w2c_i0 = (u32)(w2c_j0);
-  w2c_i0 = i32_load8_u(m, (u64)(w2c_i0));
-  w2c_i1 = 255u;
-  w2c_i0 &= w2c_i1;
-  if (w2c_i0) {goto w2c_B9;}
-  goto w2c_B1;
-  w2c_B10:;
-  w2c_j0 = w2c_l3;
-  w2c_j1 = 40ull;
-  w2c_j0 += w2c_j1;
-  w2c_i1 = w2c_l14;
-  w2c_f21(m, w2c_j0, w2c_i1);
-  w2c_i0 = 1u;
-  w2c_l13 = w2c_i0;
-  w2c_j0 = w2c_l3;
-  w2c_i0 = (u32)(w2c_j0);
-  w2c_i0 = i32_load8_u(m, (u64)(w2c_i0) + 40u);
-  w2c_i1 = 1u;
-  w2c_i0 = w2c_i0 == w2c_i1;
-  if (w2c_i0) {goto w2c_B1;}
-  w2c_j0 = w2c_l3;
-  w2c_j1 = 32ull;
-  w2c_j0 += w2c_j1;
-  w2c_i1 = w2c_l14;
-  w2c_f19(m, w2c_j0, w2c_i1);
-  w2c_B9:;
-  w2c_i0 = w2c_l14;
-  w2c_i1 = 24318u;
-  w2c_i0 = (u32)((s32)w2c_i0 > (s32)w2c_i1);
-  if (w2c_i0) {goto w2c_B13;}
-  w2c_i0 = 1u;
-  w2c_l13 = w2c_i0;
-  w2c_i0 = w2c_l14;
-  w2c_i1 = 4294945979u;
-  w2c_i0 += w2c_i1;
-  switch (w2c_i0) {
-    case 0: goto w2c_B1;
-    case 1: goto w2c_B12;
-    case 2: goto w2c_B12;
-    case 3: goto w2c_B12;
-    case 4: goto w2c_B12;
-    case 5: goto w2c_B12;
-    case 6: goto w2c_B12;
-    case 7: goto w2c_B1;
-    default: goto w2c_B14;
-  }
-  w2c_B14:;
-  w2c_i0 = 1u;
-  w2c_l13 = w2c_i0;
-  w2c_i0 = w2c_l14;
-  w2c_i1 = 95u;
-  w2c_i0 = w2c_i0 == w2c_i1;
-  if (w2c_i0) {goto w2c_B1;}
-  w2c_i0 = 1u;
-  w2c_l13 = w2c_i0;
-  w2c_i0 = w2c_l14;
-  w2c_i1 = 24186u;
-  w2c_i0 = w2c_i0 != w2c_i1;
-  if (w2c_i0) {goto w2c_B12;}
-  goto w2c_B1;
-  w2c_B13:;
-  w2c_i0 = 1u;
-  w2c_l13 = w2c_i0;
-  w2c_i0 = w2c_l14;
-  w2c_i1 = 24319u;
-  w2c_i0 = w2c_i0 == w2c_i1;
-  if (w2c_i0) {goto w2c_B1;}
-  w2c_i0 = w2c_l14;
-  w2c_i1 = 28857u;
-  w2c_i0 = w2c_i0 == w2c_i1;
-  if (w2c_i0) {goto w2c_B11;}
-  w2c_i0 = w2c_l14;
-  w2c_i1 = 40670u;
-  w2c_i0 = w2c_i0 == w2c_i1;
-  if (w2c_i0) {goto w2c_B11;}
-  w2c_B12:;
-  w2c_i0 = 0u;
-  w2c_l13 = w2c_i0;
-  w2c_i0 = w2c_l14;
-  w2c_i1 = 4294967249u;
-  w2c_i0 += w2c_i1;
-  w2c_i1 = 4294967293u;
-  w2c_i0 = w2c_i0 < w2c_i1;
-  if (w2c_i0) {goto w2c_B1;}
-  w2c_j0 = w2c_l8;
-  w2c_i0 = !(w2c_j0);
-  if (w2c_i0) {goto w2c_B1;}
-  goto w2c_B2;
-  w2c_B11:;
-  w2c_j0 = w2c_l8;
-  w2c_i0 = !(w2c_j0);
-  w2c_i0 = !(w2c_i0);
-  if (w2c_i0) {goto w2c_B2;}
-  w2c_i0 = 0u;
-  w2c_l13 = w2c_i0;
-  goto w2c_B1;
-  w2c_B3:;
-  UNREACHABLE;
-  w2c_B2:;
-  w2c_j0 = w2c_p1;
-  w2c_j1 = w2c_l8;
-  w2c_j0 += w2c_j1;
-  w2c_l9 = w2c_j0;
-  w2c_j1 = 18446744073709551615ull;
-  w2c_j0 += w2c_j1;
-  w2c_i0 = (u32)(w2c_j0);
-  w2c_i0 = i32_load8_s(m, (u64)(w2c_i0));
-  w2c_l15 = w2c_i0;
-  w2c_i1 = 0u;
-  w2c_i0 = (u32)((s32)w2c_i0 >= (s32)w2c_i1);
-  if (w2c_i0) {goto w2c_B15;}
-  w2c_j0 = 18446744073709551614ull;
-  w2c_l10 = w2c_j0;
-  w2c_j0 = w2c_l9;
-  w2c_j1 = 18446744073709551614ull;
-  w2c_j0 += w2c_j1;
-  w2c_i0 = (u32)(w2c_j0);
-  w2c_i0 = i32_load8_u(m, (u64)(w2c_i0));
-  w2c_i1 = 191u;
-  w2c_i0 = w2c_i0 > w2c_i1;
-  if (w2c_i0) {goto w2c_B16;}
-  w2c_j0 = 18446744073709551613ull;
-  w2c_j1 = 18446744073709551612ull;
-  w2c_j2 = w2c_l9;
-  w2c_j3 = 18446744073709551613ull;
-  w2c_j2 += w2c_j3;
-  w2c_i2 = (u32)(w2c_j2);
-  w2c_i2 = i32_load8_u(m, (u64)(w2c_i2));
-  w2c_i3 = 191u;
-  w2c_i2 = w2c_i2 > w2c_i3;
-  w2c_j0 = w2c_i2 ? w2c_j0 : w2c_j1;
-  w2c_l10 = w2c_j0;
-  w2c_B16:;
-  w2c_j0 = w2c_p1;
-  w2c_j1 = w2c_l10;
-  w2c_j0 += w2c_j1;
-  w2c_j1 = w2c_l8;
-  w2c_j0 += w2c_j1;
-  w2c_p1 = w2c_j0;
-  w2c_i0 = (u32)(w2c_j0);
-  w2c_i0 = i32_load8_s(m, (u64)(w2c_i0));
-  w2c_l16 = w2c_i0;
-  w2c_i1 = 255u;
-  w2c_i0 &= w2c_i1;
-  w2c_l15 = w2c_i0;
-  w2c_i0 = w2c_l16;
-  w2c_i1 = 4294967295u;
-  w2c_i0 = (u32)((s32)w2c_i0 > (s32)w2c_i1);
-  if (w2c_i0) {goto w2c_B15;}
-  w2c_j0 = w2c_p1;
-  w2c_i0 = (u32)(w2c_j0);
-  w2c_i0 = i32_load8_u(m, (u64)(w2c_i0) + 1u);
-  w2c_i1 = 63u;
-  w2c_i0 &= w2c_i1;
-  w2c_l13 = w2c_i0;
-  w2c_i0 = w2c_l16;
-  w2c_i1 = 4294967263u;
-  w2c_i0 = w2c_i0 > w2c_i1;
-  if (w2c_i0) {goto w2c_B17;}
-  w2c_i0 = w2c_l15;
-  w2c_i1 = 6u;
-  w2c_i0 <<= (w2c_i1 & 31);
-  w2c_i1 = 1984u;
-  w2c_i0 &= w2c_i1;
-  w2c_i1 = w2c_l13;
-  w2c_i0 |= w2c_i1;
-  w2c_l15 = w2c_i0;
-  goto w2c_B15;
-  w2c_B17:;
-  w2c_j0 = w2c_p1;
-  w2c_i0 = (u32)(w2c_j0);
-  w2c_i0 = i32_load8_u(m, (u64)(w2c_i0) + 2u);
-  w2c_i1 = 63u;
-  w2c_i0 &= w2c_i1;
-  w2c_l17 = w2c_i0;
-  w2c_i0 = w2c_l16;
-  w2c_i1 = 4294967279u;
-  w2c_i0 = w2c_i0 > w2c_i1;
-  if (w2c_i0) {goto w2c_B18;}
-  w2c_i0 = w2c_l13;
-  w2c_i1 = 6u;
-  w2c_i0 <<= (w2c_i1 & 31);
-  w2c_i1 = w2c_l15;
-  w2c_i2 = 12u;
-  w2c_i1 <<= (w2c_i2 & 31);
-  w2c_i2 = 61440u;
-  w2c_i1 &= w2c_i2;
-  w2c_i0 |= w2c_i1;
-  w2c_i1 = w2c_l17;
-  w2c_i0 |= w2c_i1;
-  w2c_l15 = w2c_i0;
-  goto w2c_B15;
-  w2c_B18:;
-  w2c_i0 = w2c_l17;
-  w2c_i1 = 6u;
-  w2c_i0 <<= (w2c_i1 & 31);
-  w2c_i1 = w2c_l13;
-  w2c_i2 = 12u;
-  w2c_i1 <<= (w2c_i2 & 31);
-  w2c_i2 = w2c_l15;
-  w2c_i3 = 18u;
-  w2c_i2 <<= (w2c_i3 & 31);
-  w2c_i3 = 1835008u;
-  w2c_i2 &= w2c_i3;
-  w2c_i1 |= w2c_i2;
-  w2c_i0 |= w2c_i1;
-  w2c_j1 = w2c_p1;
-  w2c_i1 = (u32)(w2c_j1);
-  w2c_i1 = i32_load8_u(m, (u64)(w2c_i1) + 3u);
-  w2c_i2 = 63u;
-  w2c_i1 &= w2c_i2;
-  w2c_i0 |= w2c_i1;
-  w2c_l15 = w2c_i0;
-  w2c_B15:;
-  w2c_i0 = w2c_l15;
-  w2c_i0 = w2c_f24(m, w2c_i0);
-  w2c_l13 = w2c_i0;
-  w2c_B1:;
-  w2c_i0 = w2c_l14;
-  w2c_i1 = 4294941328u;
-  w2c_i0 += w2c_i1;
-  switch (w2c_i0) {
-    case 0: goto w2c_B0;
-    case 1: goto w2c_B19;
-    case 2: goto w2c_B19;
-    case 3: goto w2c_B19;
-    case 4: goto w2c_B19;
-    case 5: goto w2c_B19;
-    case 6: goto w2c_B19;
-    case 7: goto w2c_B19;
-    case 8: goto w2c_B0;
-    default: goto w2c_B20;
-  }
-  w2c_B20:;
-  w2c_i0 = w2c_l14;
-  w2c_i1 = 20960u;
-  w2c_i0 = w2c_i0 == w2c_i1;
-  if (w2c_i0) {goto w2c_B0;}
-  w2c_i0 = w2c_l14;
-  w2c_i1 = 24190u;
-  w2c_i0 = w2c_i0 == w2c_i1;
-  if (w2c_i0) {goto w2c_B0;}
-  w2c_B19:;
-  w2c_i0 = 0u;
-  w2c_l12 = w2c_i0;
-  w2c_B0:;
-  w2c_j0 = w2c_l4;
-  w2c_i0 = !(w2c_j0);
-  if (w2c_i0) {goto w2c_B21;}
-  w2c_j0 = w2c_l2;
-  w2c_i0 = (u32)(w2c_j0);
-  w2c_i0 = i32_load8_s(m, (u64)(w2c_i0));
-  w2c_l15 = w2c_i0;
-  w2c_i1 = 255u;
-  w2c_i0 &= w2c_i1;
-  w2c_l14 = w2c_i0;
-  w2c_j0 = 1ull;
-  w2c_p1 = w2c_j0;
-  w2c_i0 = w2c_l15;
-  w2c_i1 = 4294967295u;
-  w2c_i0 = (u32)((s32)w2c_i0 > (s32)w2c_i1);
-  if (w2c_i0) {goto w2c_B22;}
-  w2c_j0 = w2c_l2;
-  w2c_i0 = (u32)(w2c_j0);
-  w2c_i0 = i32_load8_u(m, (u64)(w2c_i0) + 1u);
-  w2c_i1 = 63u;
-  w2c_i0 &= w2c_i1;
-  w2c_l16 = w2c_i0;
-  w2c_i0 = w2c_l15;
-  w2c_i1 = 4294967263u;
-  w2c_i0 = w2c_i0 > w2c_i1;
-  if (w2c_i0) {goto w2c_B23;}
-  w2c_i0 = w2c_l14;
-  w2c_i1 = 6u;
-  w2c_i0 <<= (w2c_i1 & 31);
-  w2c_i1 = 1984u;
-  w2c_i0 &= w2c_i1;
-  w2c_i1 = w2c_l16;
-  w2c_i0 |= w2c_i1;
-  w2c_l14 = w2c_i0;
-  w2c_j0 = 2ull;
-  w2c_p1 = w2c_j0;
-  goto w2c_B22;
-  w2c_B23:;
-  w2c_j0 = w2c_l2;
-  w2c_i0 = (u32)(w2c_j0);
-  w2c_i0 = i32_load8_u(m, (u64)(w2c_i0) + 2u);
-  w2c_i1 = 63u;
-  w2c_i0 &= w2c_i1;
-  w2c_l11 = w2c_i0;
-  w2c_i0 = w2c_l15;
-  w2c_i1 = 4294967279u;
-  w2c_i0 = w2c_i0 > w2c_i1;
-  if (w2c_i0) {goto w2c_B24;}
-  w2c_i0 = w2c_l16;
-  w2c_i1 = 6u;
-  w2c_i0 <<= (w2c_i1 & 31);
-  w2c_i1 = w2c_l14;
-  w2c_i2 = 12u;
-  w2c_i1 <<= (w2c_i2 & 31);
-  w2c_i2 = 61440u;
-  w2c_i1 &= w2c_i2;
-  w2c_i0 |= w2c_i1;
-  w2c_i1 = w2c_l11;
-  w2c_i0 |= w2c_i1;
-  w2c_l14 = w2c_i0;
-  w2c_j0 = 3ull;
-  w2c_p1 = w2c_j0;
-  goto w2c_B22;
-  w2c_B24:;
-  w2c_i0 = w2c_l11;
-  w2c_i1 = 6u;
-  w2c_i0 <<= (w2c_i1 & 31);
-  w2c_i1 = w2c_l16;
-  w2c_i2 = 12u;
-  w2c_i1 <<= (w2c_i2 & 31);
-  w2c_i2 = w2c_l14;
-  w2c_i3 = 18u;
-  w2c_i2 <<= (w2c_i3 & 31);
-  w2c_i3 = 1835008u;
-  w2c_i2 &= w2c_i3;
-  w2c_i1 |= w2c_i2;
-  w2c_i0 |= w2c_i1;
-  w2c_j1 = w2c_l2;
-  w2c_i1 = (u32)(w2c_j1);
-  w2c_i1 = i32_load8_u(m, (u64)(w2c_i1) + 3u);
-  w2c_i2 = 63u;
-  w2c_i1 &= w2c_i2;
-  w2c_i0 |= w2c_i1;
-  w2c_l14 = w2c_i0;
-  w2c_j0 = 4ull;
-  w2c_p1 = w2c_j0;
-  w2c_B22:;
-  w2c_i0 = 1u;
-  w2c_l11 = w2c_i0;
-  w2c_i0 = 1u;
-  w2c_l15 = w2c_i0;
-  w2c_i0 = w2c_l14;
-  w2c_i1 = 4294967248u;
-  w2c_i0 += w2c_i1;
-  w2c_i1 = 10u;
-  w2c_i0 = w2c_i0 < w2c_i1;
-  if (w2c_i0) {goto w2c_B25;}
-  w2c_i0 = 1u;
-  w2c_l15 = w2c_i0;
-  w2c_i0 = w2c_l14;
-  w2c_i1 = 2097119u;
-  w2c_i0 &= w2c_i1;
-  w2c_i1 = 4294967231u;
-  w2c_i0 += w2c_i1;
-  w2c_i1 = 26u;
-  w2c_i0 = w2c_i0 < w2c_i1;
-  if (w2c_i0) {goto w2c_B25;}
-  w2c_i0 = 1u;
-  w2c_l15 = w2c_i0;
-  w2c_i0 = w2c_l14;
-  w2c_i1 = 4294902000u;
-  w2c_i0 += w2c_i1;
-  w2c_i1 = 10u;
-  w2c_i0 = w2c_i0 < w2c_i1;
-  if (w2c_i0) {goto w2c_B25;}
-  w2c_i0 = w2c_l14;
-  w2c_i1 = 4294965248u;
-  w2c_i0 += w2c_i1;
-  w2c_i1 = 63487u;
-  w2c_i0 = w2c_i0 > w2c_i1;
-  if (w2c_i0) {goto w2c_B27;}
-  w2c_i0 = w2c_l14;
-  w2c_i1 = 12u;
-  w2c_i0 >>= (w2c_i1 & 31);
-  w2c_i1 = w2c_l14;
-  w2c_i2 = 2u;
-  w2c_i1 <<= (w2c_i2 & 31);
-  w2c_i2 = 16128u;
-  w2c_i1 &= w2c_i2;
-  w2c_i0 |= w2c_i1;
-  w2c_i1 = w2c_l14;
-  w2c_i2 = 16u;
-  w2c_i1 <<= (w2c_i2 & 31);
-  w2c_i2 = 4128768u;
-  w2c_i1 &= w2c_i2;
-  w2c_i0 |= w2c_i1;
-  w2c_i1 = 8421600u;
-  w2c_i0 |= w2c_i1;
-  w2c_l15 = w2c_i0;
-  w2c_j0 = (u64)(w2c_i0);
-  w2c_j1 = 953497ull;
-  w2c_j0 *= w2c_j1;
-  w2c_j1 = 22ull;
-  w2c_j0 >>= (w2c_j1 & 63);
-  w2c_j1 = 1016ull;
-  w2c_j0 &= w2c_j1;
-  w2c_l8 = w2c_j0;
-  w2c_i0 = (u32)(w2c_j0);
-  w2c_i0 = i32_load(m, (u64)(w2c_i0) + 66992u);
-  w2c_i1 = w2c_l15;
-  w2c_i0 = w2c_i0 != w2c_i1;
-  if (w2c_i0) {goto w2c_B26;}
-  w2c_i0 = 1u;
-  w2c_l15 = w2c_i0;
-  w2c_j0 = w2c_l8;
-  w2c_j1 = 66996ull;
-  w2c_j0 += w2c_j1;
-  w2c_i0 = (u32)(w2c_j0);
-  w2c_i0 = i32_load8_u(m, (u64)(w2c_i0));
-  w2c_i1 = 255u;
-  w2c_i0 &= w2c_i1;
-  if (w2c_i0) {goto w2c_B26;}
-  goto w2c_B25;
-  w2c_B27:;
-  w2c_j0 = w2c_l3;
-  w2c_j1 = 24ull;
-  w2c_j0 += w2c_j1;
-  w2c_i1 = w2c_l14;
-  w2c_f21(m, w2c_j0, w2c_i1);
-  w2c_i0 = 1u;
-  w2c_l15 = w2c_i0;
-  w2c_j0 = w2c_l3;
-  w2c_i0 = (u32)(w2c_j0);
-  w2c_i0 = i32_load8_u(m, (u64)(w2c_i0) + 24u);
-  w2c_i1 = 1u;
-  w2c_i0 = w2c_i0 == w2c_i1;
-  if (w2c_i0) {goto w2c_B25;}
-  w2c_j0 = w2c_l3;
-  w2c_j1 = 16ull;
-  w2c_j0 += w2c_j1;
-  w2c_i1 = w2c_l14;
-  w2c_f19(m, w2c_j0, w2c_i1);
-  w2c_B26:;
-  w2c_i0 = w2c_l14;
-  w2c_i1 = 24318u;
-  w2c_i0 = (u32)((s32)w2c_i0 > (s32)w2c_i1);
-  if (w2c_i0) {goto w2c_B31;}
-  w2c_i0 = 1u;
-  w2c_l15 = w2c_i0;
-  w2c_i0 = w2c_l14;
-  w2c_i1 = 4294945979u;
-  w2c_i0 += w2c_i1;
-  switch (w2c_i0) {
-    case 0: goto w2c_B25;
-    case 1: goto w2c_B30;
-    case 2: goto w2c_B30;
-    case 3: goto w2c_B30;
-    case 4: goto w2c_B30;
-    case 5: goto w2c_B30;
-    case 6: goto w2c_B30;
-    case 7: goto w2c_B25;
-    default: goto w2c_B32;
-  }
-  w2c_B32:;
-  w2c_i0 = 1u;
-  w2c_l15 = w2c_i0;
-  w2c_i0 = w2c_l14;
-  w2c_i1 = 95u;
-  w2c_i0 = w2c_i0 == w2c_i1;
-  if (w2c_i0) {goto w2c_B25;}
-  w2c_i0 = 1u;
-  w2c_l15 = w2c_i0;
-  w2c_i0 = w2c_l14;
-  w2c_i1 = 24186u;
-  w2c_i0 = w2c_i0 != w2c_i1;
-  if (w2c_i0) {goto w2c_B30;}
-  goto w2c_B25;
-  w2c_B31:;
-  w2c_i0 = 1u;
-  w2c_l15 = w2c_i0;
-  w2c_i0 = w2c_l14;
-  w2c_i1 = 24319u;
-  w2c_i0 = w2c_i0 == w2c_i1;
-  if (w2c_i0) {goto w2c_B25;}
-  w2c_i0 = w2c_l14;
-  w2c_i1 = 28857u;
-  w2c_i0 = w2c_i0 == w2c_i1;
-  if (w2c_i0) {goto w2c_B29;}
-  w2c_i0 = w2c_l14;
-  w2c_i1 = 40670u;
-  w2c_i0 = w2c_i0 == w2c_i1;
-  if (w2c_i0) {goto w2c_B29;}
-  w2c_B30:;
-  w2c_i0 = 0u;
-  w2c_l15 = w2c_i0;
-  w2c_j0 = w2c_l4;
-  w2c_j1 = w2c_p1;
-  w2c_i0 = w2c_j0 == w2c_j1;
-  if (w2c_i0) {goto w2c_B25;}
-  w2c_i0 = w2c_l14;
-  w2c_i1 = 4294967249u;
-  w2c_i0 += w2c_i1;
-  w2c_i1 = 4294967293u;
-  w2c_i0 = w2c_i0 >= w2c_i1;
-  if (w2c_i0) {goto w2c_B28;}
-  goto w2c_B25;
-  w2c_B29:;
-  w2c_i0 = 0u;
-  w2c_l15 = w2c_i0;
-  w2c_j0 = w2c_l4;
-  w2c_j1 = w2c_p1;
-  w2c_i0 = w2c_j0 == w2c_j1;
-  if (w2c_i0) {goto w2c_B25;}
-  w2c_B28:;
-  w2c_j0 = w2c_l2;
-  w2c_j1 = w2c_p1;
-  w2c_j0 += w2c_j1;
-  w2c_p1 = w2c_j0;
-  w2c_i0 = (u32)(w2c_j0);
-  w2c_i0 = i32_load8_s(m, (u64)(w2c_i0));
-  w2c_l16 = w2c_i0;
-  w2c_i1 = 255u;
-  w2c_i0 &= w2c_i1;
-  w2c_l15 = w2c_i0;
-  w2c_i0 = w2c_l16;
-  w2c_i1 = 4294967295u;
-  w2c_i0 = (u32)((s32)w2c_i0 > (s32)w2c_i1);
-  if (w2c_i0) {goto w2c_B33;}
-  w2c_j0 = w2c_p1;
-  w2c_i0 = (u32)(w2c_j0);
-  w2c_i0 = i32_load8_u(m, (u64)(w2c_i0) + 1u);
-  w2c_i1 = 63u;
-  w2c_i0 &= w2c_i1;
-  w2c_l17 = w2c_i0;
-  w2c_i0 = w2c_l16;
-  w2c_i1 = 4294967263u;
-  w2c_i0 = w2c_i0 > w2c_i1;
-  if (w2c_i0) {goto w2c_B34;}
-  w2c_i0 = w2c_l15;
-  w2c_i1 = 6u;
-  w2c_i0 <<= (w2c_i1 & 31);
-  w2c_i1 = 1984u;
-  w2c_i0 &= w2c_i1;
-  w2c_i1 = w2c_l17;
-  w2c_i0 |= w2c_i1;
-  w2c_l15 = w2c_i0;
-  goto w2c_B33;
-  w2c_B34:;
-  w2c_j0 = w2c_p1;
-  w2c_i0 = (u32)(w2c_j0);
-  w2c_i0 = i32_load8_u(m, (u64)(w2c_i0) + 2u);
-  w2c_i1 = 63u;
-  w2c_i0 &= w2c_i1;
-  w2c_l18 = w2c_i0;
-  w2c_i0 = w2c_l16;
-  w2c_i1 = 4294967279u;
-  w2c_i0 = w2c_i0 > w2c_i1;
-  if (w2c_i0) {goto w2c_B35;}
-  w2c_i0 = w2c_l17;
-  w2c_i1 = 6u;
-  w2c_i0 <<= (w2c_i1 & 31);
-  w2c_i1 = w2c_l15;
-  w2c_i2 = 12u;
-  w2c_i1 <<= (w2c_i2 & 31);
-  w2c_i2 = 61440u;
-  w2c_i1 &= w2c_i2;
-  w2c_i0 |= w2c_i1;
-  w2c_i1 = w2c_l18;
-  w2c_i0 |= w2c_i1;
-  w2c_l15 = w2c_i0;
-  goto w2c_B33;
-  w2c_B35:;
-  w2c_i0 = w2c_l18;
-  w2c_i1 = 6u;
-  w2c_i0 <<= (w2c_i1 & 31);
-  w2c_i1 = w2c_l17;
-  w2c_i2 = 12u;
-  w2c_i1 <<= (w2c_i2 & 31);
-  w2c_i2 = w2c_l15;
-  w2c_i3 = 18u;
-  w2c_i2 <<= (w2c_i3 & 31);
-  w2c_i3 = 1835008u;
-  w2c_i2 &= w2c_i3;
-  w2c_i1 |= w2c_i2;
-  w2c_i0 |= w2c_i1;
-  w2c_j1 = w2c_p1;
-  w2c_i1 = (u32)(w2c_j1);
-  w2c_i1 = i32_load8_u(m, (u64)(w2c_i1) + 3u);
-  w2c_i2 = 63u;
-  w2c_i1 &= w2c_i2;
-  w2c_i0 |= w2c_i1;
-  w2c_l15 = w2c_i0;
-  w2c_B33:;
-  w2c_i0 = w2c_l15;
-  w2c_i0 = w2c_f24(m, w2c_i0);
-  w2c_l15 = w2c_i0;
-  w2c_B25:;
-  w2c_i0 = w2c_l14;
-  w2c_i1 = 22809u;
-  w2c_i0 = (u32)((s32)w2c_i0 > (s32)w2c_i1);
-  if (w2c_i0) {goto w2c_B38;}
-  w2c_i0 = w2c_l14;
-  w2c_i1 = 20313u;
-  w2c_i0 = w2c_i0 == w2c_i1;
-  if (w2c_i0) {goto w2c_B36;}
-  w2c_i0 = w2c_l14;
-  w2c_i1 = 20358u;
-  w2c_i0 = w2c_i0 == w2c_i1;
-  if (w2c_i0) {goto w2c_B36;}
-  w2c_i0 = w2c_l14;
-  w2c_i1 = 20960u;
-  w2c_i0 = w2c_i0 != w2c_i1;
-  if (w2c_i0) {goto w2c_B37;}
-  goto w2c_B36;
-  w2c_B38:;
-  w2c_i0 = w2c_l14;
-  w2c_i1 = 26468u;
-  w2c_i0 = (u32)((s32)w2c_i0 > (s32)w2c_i1);
-  if (w2c_i0) {goto w2c_B39;}
-  w2c_i0 = w2c_l14;
-  w2c_i1 = 22810u;
-  w2c_i0 = w2c_i0 == w2c_i1;
-  if (w2c_i0) {goto w2c_B36;}
-  w2c_i0 = w2c_l14;
-  w2c_i1 = 24190u;
-  w2c_i0 = w2c_i0 != w2c_i1;
-  if (w2c_i0) {goto w2c_B37;}
-  goto w2c_B36;
-  w2c_B39:;
-  w2c_i0 = w2c_l14;
-  w2c_i1 = 26469u;
-  w2c_i0 = w2c_i0 == w2c_i1;
-  if (w2c_i0) {goto w2c_B36;}
-  w2c_i0 = w2c_l14;
-  w2c_i1 = 39192u;
-  w2c_i0 = w2c_i0 == w2c_i1;
-  if (w2c_i0) {goto w2c_B36;}
-  w2c_B37:;
-  w2c_i0 = 0u;
-  w2c_l11 = w2c_i0;
-  w2c_B36:;
-  w2c_i0 = w2c_l13;
-  w2c_i1 = w2c_l15;
-  w2c_i0 |= w2c_i1;
-  w2c_l13 = w2c_i0;
-  w2c_B21:;
-  w2c_j0 = w2c_l6;
-  w2c_p1 = w2c_j0;
-  w2c_j0 = w2c_l5;
-  w2c_l2 = w2c_j0;
-  w2c_L42:
-    w2c_j0 = w2c_l2;
-    w2c_j1 = 3ull;
-    w2c_i0 = w2c_j0 < w2c_j1;
-    if (w2c_i0) {goto w2c_B44;}
-    w2c_j0 = w2c_p1;
-    w2c_i0 = (u32)(w2c_j0);
-    w2c_i0 = i32_load8_u(m, (u64)(w2c_i0) + 1u);
-    w2c_i1 = 8u;
-    w2c_i0 <<= (w2c_i1 & 31);
-    w2c_j1 = w2c_p1;
-    w2c_i1 = (u32)(w2c_j1);
-    w2c_i1 = i32_load8_u(m, (u64)(w2c_i1) + 2u);
-    w2c_i2 = 16u;
-    w2c_i1 <<= (w2c_i2 & 31);
-    w2c_i0 |= w2c_i1;
-    w2c_j1 = w2c_p1;
-    w2c_i1 = (u32)(w2c_j1);
-    w2c_i1 = i32_load8_u(m, (u64)(w2c_i1));
-    w2c_l14 = w2c_i1;
-    w2c_i0 |= w2c_i1;
-    w2c_l15 = w2c_i0;
-    w2c_j0 = (u64)(w2c_i0);
-    w2c_j1 = 953497ull;
-    w2c_j0 *= w2c_j1;
-    w2c_j1 = 22ull;
-    w2c_j0 >>= (w2c_j1 & 63);
-    w2c_j1 = 1016ull;
-    w2c_j0 &= w2c_j1;
-    w2c_l4 = w2c_j0;
-    w2c_j1 = 66992ull;
-    w2c_j0 += w2c_j1;
-    w2c_i0 = (u32)(w2c_j0);
-    w2c_i0 = i32_load(m, (u64)(w2c_i0));
-    w2c_i1 = w2c_l15;
-    w2c_i0 = w2c_i0 != w2c_i1;
-    if (w2c_i0) {goto w2c_B43;}
-    w2c_j0 = w2c_l2;
-    w2c_j1 = 18446744073709551613ull;
-    w2c_j0 += w2c_j1;
-    w2c_l2 = w2c_j0;
-    w2c_j0 = w2c_p1;
-    w2c_j1 = 3ull;
-    w2c_j0 += w2c_j1;
-    w2c_p1 = w2c_j0;
-    w2c_j0 = w2c_l4;
-    w2c_j1 = 66996ull;
-    w2c_j0 += w2c_j1;
-    w2c_i0 = (u32)(w2c_j0);
-    w2c_i0 = i32_load8_u(m, (u64)(w2c_i0));
-    w2c_i0 = !(w2c_i0);
-    if (w2c_i0) {goto w2c_L42;}
-    goto w2c_B41;
-    w2c_B44:;
-    w2c_j0 = w2c_l2;
-    w2c_i0 = !(w2c_j0);
-    w2c_i0 = !(w2c_i0);
-    if (w2c_i0) {goto w2c_B45;}
-    w2c_i0 = 1u;
-    w2c_l15 = w2c_i0;
-    goto w2c_B40;
-    w2c_B45:;
-    w2c_j0 = w2c_p1;
-    w2c_i0 = (u32)(w2c_j0);
-    w2c_i0 = i32_load8_u(m, (u64)(w2c_i0));
-    w2c_l14 = w2c_i0;
-    w2c_B43:;
-    w2c_j0 = 1ull;
-    w2c_l4 = w2c_j0;
-    w2c_i0 = w2c_l14;
-    w2c_i0 = (u32)(s32)(s8)(u8)(w2c_i0);
-    w2c_i1 = 4294967295u;
-    w2c_i0 = (u32)((s32)w2c_i0 > (s32)w2c_i1);
-    if (w2c_i0) {goto w2c_B46;}
-    w2c_j0 = w2c_p1;
-    w2c_i0 = (u32)(w2c_j0);
-    w2c_i0 = i32_load8_u(m, (u64)(w2c_i0) + 1u);
-    w2c_i1 = 63u;
-    w2c_i0 &= w2c_i1;
-    w2c_l15 = w2c_i0;
-    w2c_i0 = w2c_l14;
-    w2c_i1 = 223u;
-    w2c_i0 = w2c_i0 > w2c_i1;
-    if (w2c_i0) {goto w2c_B47;}
-    w2c_i0 = w2c_l14;
-    w2c_i1 = 6u;
-    w2c_i0 <<= (w2c_i1 & 31);
-    w2c_i1 = 1984u;
-    w2c_i0 &= w2c_i1;
-    w2c_i1 = w2c_l15;
-    w2c_i0 |= w2c_i1;
-    w2c_l14 = w2c_i0;
-    w2c_j0 = 2ull;
-    w2c_l4 = w2c_j0;
-    goto w2c_B46;
-    w2c_B47:;
-    w2c_j0 = w2c_p1;
-    w2c_i0 = (u32)(w2c_j0);
-    w2c_i0 = i32_load8_u(m, (u64)(w2c_i0) + 2u);
-    w2c_i1 = 63u;
-    w2c_i0 &= w2c_i1;
-    w2c_l16 = w2c_i0;
-    w2c_i0 = w2c_l14;
-    w2c_i1 = 239u;
-    w2c_i0 = w2c_i0 > w2c_i1;
-    if (w2c_i0) {goto w2c_B48;}
-    w2c_i0 = w2c_l15;
-    w2c_i1 = 6u;
-    w2c_i0 <<= (w2c_i1 & 31);
-    w2c_i1 = w2c_l14;
-    w2c_i2 = 12u;
-    w2c_i1 <<= (w2c_i2 & 31);
-    w2c_i2 = 61440u;
-    w2c_i1 &= w2c_i2;
-    w2c_i0 |= w2c_i1;
-    w2c_i1 = w2c_l16;
-    w2c_i0 |= w2c_i1;
-    w2c_l14 = w2c_i0;
-    w2c_j0 = 3ull;
-    w2c_l4 = w2c_j0;
-    goto w2c_B46;
-    w2c_B48:;
-    w2c_i0 = w2c_l16;
-    w2c_i1 = 6u;
-    w2c_i0 <<= (w2c_i1 & 31);
-    w2c_i1 = w2c_l15;
-    w2c_i2 = 12u;
-    w2c_i1 <<= (w2c_i2 & 31);
-    w2c_i2 = w2c_l14;
-    w2c_i3 = 18u;
-    w2c_i2 <<= (w2c_i3 & 31);
-    w2c_i3 = 1835008u;
-    w2c_i2 &= w2c_i3;
-    w2c_i1 |= w2c_i2;
-    w2c_i0 |= w2c_i1;
-    w2c_j1 = w2c_p1;
-    w2c_i1 = (u32)(w2c_j1);
-    w2c_i1 = i32_load8_u(m, (u64)(w2c_i1) + 3u);
-    w2c_i2 = 63u;
-    w2c_i1 &= w2c_i2;
-    w2c_i0 |= w2c_i1;
-    w2c_l14 = w2c_i0;
-    w2c_j0 = 4ull;
-    w2c_l4 = w2c_j0;
-    w2c_B46:;
-    w2c_j0 = w2c_l2;
-    w2c_j1 = w2c_l4;
-    w2c_j0 -= w2c_j1;
-    w2c_l2 = w2c_j0;
-    w2c_j0 = w2c_p1;
-    w2c_j1 = w2c_l4;
-    w2c_j0 += w2c_j1;
-    w2c_p1 = w2c_j0;
-    w2c_i0 = w2c_l14;
-    w2c_i1 = 4294965248u;
-    w2c_i0 += w2c_i1;
-    w2c_i1 = 63487u;
-    w2c_i0 = w2c_i0 > w2c_i1;
-    if (w2c_i0) {goto w2c_B49;}
-    w2c_i0 = 0u;
-    w2c_l15 = w2c_i0;
-    w2c_i0 = w2c_l14;
-    w2c_i1 = 12u;
-    w2c_i0 >>= (w2c_i1 & 31);
-    w2c_i1 = w2c_l14;
-    w2c_i2 = 2u;
-    w2c_i1 <<= (w2c_i2 & 31);
-    w2c_i2 = 16128u;
-    w2c_i1 &= w2c_i2;
-    w2c_i0 |= w2c_i1;
-    w2c_i1 = w2c_l14;
-    w2c_i2 = 16u;
-    w2c_i1 <<= (w2c_i2 & 31);
-    w2c_i2 = 4128768u;
-    w2c_i1 &= w2c_i2;
-    w2c_i0 |= w2c_i1;
-    w2c_i1 = 8421600u;
-    w2c_i0 |= w2c_i1;
-    w2c_l14 = w2c_i0;
-    w2c_j0 = (u64)(w2c_i0);
-    w2c_j1 = 953497ull;
-    w2c_j0 *= w2c_j1;
-    w2c_j1 = 22ull;
-    w2c_j0 >>= (w2c_j1 & 63);
-    w2c_j1 = 1016ull;
-    w2c_j0 &= w2c_j1;
-    w2c_l4 = w2c_j0;
-    w2c_i0 = (u32)(w2c_j0);
-    w2c_i0 = i32_load(m, (u64)(w2c_i0) + 66992u);
-    w2c_i1 = w2c_l14;
-    w2c_i0 = w2c_i0 != w2c_i1;
-    if (w2c_i0) {goto w2c_B40;}
-    w2c_j0 = w2c_l4;
-    w2c_j1 = 66996ull;
-    w2c_j0 += w2c_j1;
-    w2c_i0 = (u32)(w2c_j0);
-    w2c_i0 = i32_load8_u(m, (u64)(w2c_i0));
-    w2c_i1 = 255u;
-    w2c_i0 &= w2c_i1;
-    w2c_i0 = !(w2c_i0);
-    if (w2c_i0) {goto w2c_L42;}
-    goto w2c_B40;
-    w2c_B49:;
-    w2c_j0 = w2c_l3;
-    w2c_j1 = 8ull;
-    w2c_j0 += w2c_j1;
-    w2c_i1 = w2c_l14;
-    w2c_f21(m, w2c_j0, w2c_i1);
-    w2c_j0 = w2c_l3;
-    w2c_i0 = (u32)(w2c_j0);
-    w2c_i0 = i32_load8_u(m, (u64)(w2c_i0) + 8u);
-    w2c_i1 = 1u;
-    w2c_i0 = w2c_i0 == w2c_i1;
-    if (w2c_i0) {goto w2c_L42;}
-  w2c_j0 = w2c_l3;
-  w2c_i1 = w2c_l14;
-  w2c_f19(m, w2c_j0, w2c_i1);
-  w2c_B41:;
-  w2c_i0 = 0u;
-  w2c_l15 = w2c_i0;
-  w2c_B40:;
-  w2c_i0 = w2c_l12;
-  w2c_j1 = w2c_l6;
-  w2c_j2 = w2c_l5;
-  w2c_i3 = w2c_l11;
-  w2c_i0 = w2c_f25(m, w2c_i0, w2c_j1, w2c_j2, w2c_i3);
-  w2c_l16 = w2c_i0;
-  w2c_i0 = 0u;
-  w2c_l14 = w2c_i0;
-  w2c_j0 = w2c_l5;
-  w2c_i0 = !(w2c_j0);
-  if (w2c_i0) {goto w2c_B50;}
-  w2c_j0 = w2c_l6;
-  w2c_i0 = (u32)(w2c_j0);
-  w2c_i0 = i32_load8_s(m, (u64)(w2c_i0));
-  w2c_l14 = w2c_i0;
-  w2c_i1 = 255u;
-  w2c_i0 &= w2c_i1;
-  w2c_l11 = w2c_i0;
-  w2c_j0 = 1ull;
-  w2c_p1 = w2c_j0;
-  w2c_i0 = w2c_l14;
-  w2c_i1 = 4294967295u;
-  w2c_i0 = (u32)((s32)w2c_i0 > (s32)w2c_i1);
-  if (w2c_i0) {goto w2c_B51;}
-  w2c_j0 = w2c_l6;
-  w2c_i0 = (u32)(w2c_j0);
-  w2c_i0 = i32_load8_u(m, (u64)(w2c_i0) + 1u);
-  w2c_i1 = 63u;
-  w2c_i0 &= w2c_i1;
-  w2c_l12 = w2c_i0;
-  w2c_i0 = w2c_l14;
-  w2c_i1 = 4294967263u;
-  w2c_i0 = w2c_i0 > w2c_i1;
-  if (w2c_i0) {goto w2c_B52;}
-  w2c_i0 = w2c_l11;
-  w2c_i1 = 6u;
-  w2c_i0 <<= (w2c_i1 & 31);
-  w2c_i1 = 1984u;
-  w2c_i0 &= w2c_i1;
-  w2c_i1 = w2c_l12;
-  w2c_i0 |= w2c_i1;
-  w2c_l11 = w2c_i0;
-  w2c_j0 = 2ull;
-  w2c_p1 = w2c_j0;
-  goto w2c_B51;
-  w2c_B52:;
-  w2c_j0 = w2c_l6;
-  w2c_i0 = (u32)(w2c_j0);
-  w2c_i0 = i32_load8_u(m, (u64)(w2c_i0) + 2u);
-  w2c_i1 = 63u;
-  w2c_i0 &= w2c_i1;
-  w2c_l17 = w2c_i0;
-  w2c_i0 = w2c_l14;
-  w2c_i1 = 4294967279u;
-  w2c_i0 = w2c_i0 > w2c_i1;
-  if (w2c_i0) {goto w2c_B53;}
-  w2c_i0 = w2c_l12;
-  w2c_i1 = 6u;
-  w2c_i0 <<= (w2c_i1 & 31);
-  w2c_i1 = w2c_l11;
-  w2c_i2 = 12u;
-  w2c_i1 <<= (w2c_i2 & 31);
-  w2c_i2 = 61440u;
-  w2c_i1 &= w2c_i2;
-  w2c_i0 |= w2c_i1;
-  w2c_i1 = w2c_l17;
-  w2c_i0 |= w2c_i1;
-  w2c_l11 = w2c_i0;
-  w2c_j0 = 3ull;
-  w2c_p1 = w2c_j0;
-  goto w2c_B51;
-  w2c_B53:;
-  w2c_i0 = w2c_l17;
-  w2c_i1 = 6u;
-  w2c_i0 <<= (w2c_i1 & 31);
-  w2c_i1 = w2c_l12;
-  w2c_i2 = 12u;
-  w2c_i1 <<= (w2c_i2 & 31);
-  w2c_i2 = w2c_l11;
-  w2c_i3 = 18u;
-  w2c_i2 <<= (w2c_i3 & 31);
-  w2c_i3 = 1835008u;
-  w2c_i2 &= w2c_i3;
-  w2c_i1 |= w2c_i2;
-  w2c_i0 |= w2c_i1;
-  w2c_j1 = w2c_l6;
-  w2c_i1 = (u32)(w2c_j1);
-  w2c_i1 = i32_load8_u(m, (u64)(w2c_i1) + 3u);
-  w2c_i2 = 63u;
-  w2c_i1 &= w2c_i2;
-  w2c_i0 |= w2c_i1;
-  w2c_l11 = w2c_i0;
-  w2c_j0 = 4ull;
-  w2c_p1 = w2c_j0;
-  w2c_B51:;
-  w2c_i0 = 0u;
-  w2c_l14 = w2c_i0;
-  w2c_j0 = w2c_l5;
-  w2c_j1 = w2c_p1;
-  w2c_i0 = w2c_j0 != w2c_j1;
-  if (w2c_i0) {goto w2c_B50;}
-  w2c_i0 = 0u;
-  w2c_l14 = w2c_i0;
-  w2c_i0 = w2c_l11;
-  w2c_i1 = 4294967238u;
-  w2c_i0 += w2c_i1;
-  w2c_i1 = 4294967285u;
-  w2c_i0 = w2c_i0 > w2c_i1;
-  if (w2c_i0) {goto w2c_B50;}
-  w2c_i0 = 8u;
-  w2c_i1 = 0u;
-  w2c_i2 = w2c_l11;
-  w2c_i3 = 4294901990u;
-  w2c_i2 += w2c_i3;
-  w2c_i3 = 4294967286u;
-  w2c_i2 = w2c_i2 < w2c_i3;
-  w2c_i0 = w2c_i2 ? w2c_i0 : w2c_i1;
-  w2c_l14 = w2c_i0;
-  w2c_B50:;
-  w2c_j0 = w2c_p0;
-  w2c_i0 = (u32)(w2c_j0);
-  w2c_i1 = 0u;
-  i32_store(m, (u64)(w2c_i0) + 20, w2c_i1);
-  w2c_j0 = w2c_p0;
-  w2c_i0 = (u32)(w2c_j0);
-  w2c_j1 = w2c_l7;
-  i64_store(m, (u64)(w2c_i0), w2c_j1);
-  w2c_j0 = w2c_p0;
-  w2c_i0 = (u32)(w2c_j0);
-  w2c_j1 = w2c_l5;
-  w2c_j2 = w2c_l7;
-  w2c_j1 += w2c_j2;
-  i64_store(m, (u64)(w2c_i0) + 8, w2c_j1);
-  w2c_j0 = w2c_p0;
-  w2c_i0 = (u32)(w2c_j0);
-  w2c_i1 = w2c_l15;
-  w2c_i2 = 0u;
-  w2c_i3 = 2u;
-  w2c_i4 = w2c_l13;
-  w2c_i2 = w2c_i4 ? w2c_i2 : w2c_i3;
-  w2c_i1 |= w2c_i2;
-  w2c_i2 = 4u;
-  w2c_i3 = 0u;
-  w2c_i4 = w2c_l16;
-  w2c_i2 = w2c_i4 ? w2c_i2 : w2c_i3;
-  w2c_i1 |= w2c_i2;
-  w2c_i2 = w2c_l14;
-  w2c_i1 |= w2c_i2;
-  i32_store(m, (u64)(w2c_i0) + 16, w2c_i1);
-  w2c_j0 = w2c_l3;
-  w2c_j1 = 48ull;
-  w2c_j0 += w2c_j1;
-  m->w2c_g0 = w2c_j0;
-}
-
-static void w2c_f19(module *m, u64 w2c_p0, u32 w2c_p1) {
-  u32 w2c_l2 = 0, w2c_l3 = 0;
-  u32 w2c_i0, w2c_i1;
-  u64 w2c_j0, w2c_j1;
-  w2c_j0 = m->w2c_g0;
-  w2c_j1 = 16ull;
-  w2c_i0 = (u64)((s64)w2c_j0 < (s64)w2c_j1);
-  if (w2c_i0) {goto w2c_B3;}
-  w2c_i0 = 1u;
-  w2c_l2 = w2c_i0;
-  w2c_i0 = w2c_p1;
-  w2c_i1 = 26496u;
-  w2c_i0 = (u32)((s32)w2c_i0 > (s32)w2c_i1);
-  if (w2c_i0) {goto w2c_B13;}
-  w2c_i0 = 0u;
-  w2c_l3 = w2c_i0;
-  w2c_i0 = w2c_p1;
-  w2c_i1 = 20490u;
-  w2c_i0 = (u32)((s32)w2c_i0 > (s32)w2c_i1);
-  if (w2c_i0) {goto w2c_B14;}
-  w2c_i0 = w2c_p1;
-  w2c_i1 = 20139u;
-  w2c_i0 = (u32)((s32)w2c_i0 > (s32)w2c_i1);
-  if (w2c_i0) {goto w2c_B15;}
-  w2c_i0 = w2c_p1;
-  w2c_i1 = 19975u;
-  w2c_i0 = w2c_i0 == w2c_i1;
-  if (w2c_i0) {goto w2c_B12;}
-  w2c_i0 = w2c_p1;
-  w2c_i1 = 20010u;
-  w2c_i0 = w2c_i0 == w2c_i1;
-  if (w2c_i0) {goto w2c_B0;}
-  goto w2c_B1;
-  w2c_B15:;
-  w2c_i0 = w2c_p1;
-  w2c_i1 = 4294947156u;
-  w2c_i0 += w2c_i1;
-  switch (w2c_i0) {
-    case 0: goto w2c_B8;
-    case 1: goto w2c_B1;
-    case 2: goto w2c_B1;
-    case 3: goto w2c_B1;
-    case 4: goto w2c_B1;
-    case 5: goto w2c_B1;
-    case 6: goto w2c_B1;
-    case 7: goto w2c_B1;
-    case 8: goto w2c_B1;
-    case 9: goto w2c_B1;
-    case 10: goto w2c_B1;
-    case 11: goto w2c_B1;
-    case 12: goto w2c_B1;
-    case 13: goto w2c_B1;
-    case 14: goto w2c_B1;
-    case 15: goto w2c_B1;
-    case 16: goto w2c_B1;
-    case 17: goto w2c_B1;
-    case 18: goto w2c_B1;
-    case 19: goto w2c_B9;
-    default: goto w2c_B16;
-  }
-  w2c_B16:;
-  w2c_i0 = w2c_p1;
-  w2c_i1 = 20191u;
-  w2c_i0 = w2c_i0 == w2c_i1;
-  if (w2c_i0) {goto w2c_B10;}
-  w2c_i0 = w2c_p1;
-  w2c_i1 = 20336u;
-  w2c_i0 = w2c_i0 != w2c_i1;
-  if (w2c_i0) {goto w2c_B1;}
-  goto w2c_B2;
-  w2c_B14:;
-  w2c_i0 = w2c_p1;
-  w2c_i1 = 21312u;
-  w2c_i0 = (u32)((s32)w2c_i0 > (s32)w2c_i1);
-  if (w2c_i0) {goto w2c_B17;}
-  w2c_i0 = w2c_p1;
-  w2c_i1 = 20491u;
-  w2c_i0 = w2c_i0 == w2c_i1;
-  if (w2c_i0) {goto w2c_B0;}
-  w2c_i0 = w2c_p1;
-  w2c_i1 = 20740u;
-  w2c_i0 = w2c_i0 == w2c_i1;
-  if (w2c_i0) {goto w2c_B9;}
-  w2c_i0 = w2c_p1;
-  w2c_i1 = 20806u;
-  w2c_i0 = w2c_i0 != w2c_i1;
-  if (w2c_i0) {goto w2c_B1;}
-  w2c_i0 = 6u;
-  w2c_l3 = w2c_i0;
-  goto w2c_B0;
-  w2c_B17:;
-  w2c_i0 = w2c_p1;
-  w2c_i1 = 4294945983u;
-  w2c_i0 += w2c_i1;
-  switch (w2c_i0) {
-    case 0: goto w2c_B18;
-    case 1: goto w2c_B1;
-    case 2: goto w2c_B10;
-    default: goto w2c_B19;
-  }
-  w2c_B19:;
-  w2c_i0 = w2c_p1;
-  w2c_i1 = 22419u;
-  w2c_i0 = w2c_i0 == w2c_i1;
-  if (w2c_i0) {goto w2c_B7;}
-  w2c_i0 = w2c_p1;
-  w2c_i1 = 25342u;
-  w2c_i0 = w2c_i0 != w2c_i1;
-  if (w2c_i0) {goto w2c_B1;}
-  w2c_B18:;
-  w2c_i0 = 1u;
-  w2c_l3 = w2c_i0;
-  w2c_i0 = 1u;
-  w2c_l2 = w2c_i0;
-  goto w2c_B0;
-  w2c_B13:;
-  w2c_i0 = w2c_p1;
-  w2c_i1 = 28566u;
-  w2c_i0 = (u32)((s32)w2c_i0 > (s32)w2c_i1);
-  if (w2c_i0) {goto w2c_B20;}
-  w2c_i0 = w2c_p1;
-  w2c_i1 = 27806u;
-  w2c_i0 = (u32)((s32)w2c_i0 > (s32)w2c_i1);
-  if (w2c_i0) {goto w2c_B21;}
-  w2c_i0 = w2c_p1;
-  w2c_i1 = 26497u;
-  w2c_i0 = w2c_i0 == w2c_i1;
-  if (w2c_i0) {goto w2c_B4;}
-  w2c_i0 = w2c_p1;
-  w2c_i1 = 26997u;
-  w2c_i0 = w2c_i0 == w2c_i1;
-  if (w2c_i0) {goto w2c_B4;}
-  w2c_i0 = w2c_p1;
-  w2c_i1 = 27491u;
-  w2c_i0 = w2c_i0 != w2c_i1;
-  if (w2c_i0) {goto w2c_B1;}
-  w2c_i0 = 13u;
-  w2c_l3 = w2c_i0;
-  goto w2c_B0;
-  w2c_B21:;
-  w2c_i0 = w2c_p1;
-  w2c_i1 = 27807u;
-  w2c_i0 = w2c_i0 == w2c_i1;
-  if (w2c_i0) {goto w2c_B22;}
-  w2c_i0 = w2c_p1;
-  w2c_i1 = 28071u;
-  w2c_i0 = w2c_i0 == w2c_i1;
-  if (w2c_i0) {goto w2c_B5;}
-  w2c_i0 = w2c_p1;
-  w2c_i1 = 28317u;
-  w2c_i0 = w2c_i0 != w2c_i1;
-  if (w2c_i0) {goto w2c_B1;}
-  w2c_B22:;
-  w2c_i0 = 11u;
-  w2c_l3 = w2c_i0;
-  goto w2c_B0;
-  w2c_B20:;
-  w2c_i0 = w2c_p1;
-  w2c_i1 = 31343u;
-  w2c_i0 = (u32)((s32)w2c_i0 > (s32)w2c_i1);
-  if (w2c_i0) {goto w2c_B23;}
-  w2c_i0 = w2c_p1;
-  w2c_i1 = 28567u;
-  w2c_i0 = w2c_i0 == w2c_i1;
-  if (w2c_i0) {goto w2c_B5;}
-  w2c_i0 = w2c_p1;
-  w2c_i1 = 30334u;
-  w2c_i0 = w2c_i0 == w2c_i1;
-  if (w2c_i0) {goto w2c_B2;}
-  w2c_i0 = w2c_p1;
-  w2c_i1 = 31213u;
-  w2c_i0 = w2c_i0 != w2c_i1;
-  if (w2c_i0) {goto w2c_B1;}
-  w2c_i0 = 9u;
-  w2c_l3 = w2c_i0;
-  goto w2c_B0;
-  w2c_B23:;
-  w2c_i0 = w2c_p1;
-  w2c_i1 = 36616u;
-  w2c_i0 = (u32)((s32)w2c_i0 > (s32)w2c_i1);
-  if (w2c_i0) {goto w2c_B11;}
-  w2c_i0 = w2c_p1;
-  w2c_i1 = 31344u;
-  w2c_i0 = w2c_i0 == w2c_i1;
-  if (w2c_i0) {goto w2c_B6;}
-  w2c_i0 = w2c_p1;
-  w2c_i1 = 33836u;
-  w2c_i0 = w2c_i0 != w2c_i1;
-  if (w2c_i0) {goto w2c_B1;}
-  w2c_B12:;
-  w2c_i0 = 4u;
-  w2c_l3 = w2c_i0;
-  goto w2c_B0;
-  w2c_B11:;
-  w2c_i0 = w2c_p1;
-  w2c_i1 = 36617u;
-  w2c_i0 = w2c_i0 == w2c_i1;
-  if (w2c_i0) {goto w2c_B24;}
-  w2c_i0 = w2c_p1;
-  w2c_i1 = 36733u;
-  w2c_i0 = w2c_i0 != w2c_i1;
-  if (w2c_i0) {goto w2c_B1;}
-  w2c_B24:;
-  w2c_i0 = 14u;
-  w2c_l3 = w2c_i0;
-  goto w2c_B0;
-  w2c_B10:;
-  w2c_i0 = 3u;
-  w2c_l3 = w2c_i0;
-  goto w2c_B0;
-  w2c_B9:;
-  w2c_i0 = 5u;
-  w2c_l3 = w2c_i0;
-  goto w2c_B0;
-  w2c_B8:;
-  w2c_i0 = 7u;
-  w2c_l3 = w2c_i0;
-  goto w2c_B0;
-  w2c_B7:;
-  w2c_i0 = 8u;
-  w2c_l3 = w2c_i0;
-  goto w2c_B0;
-  w2c_B6:;
-  w2c_i0 = 10u;
-  w2c_l3 = w2c_i0;
-  goto w2c_B0;
-  w2c_B5:;
-  w2c_i0 = 12u;
-  w2c_l3 = w2c_i0;
-  goto w2c_B0;
-  w2c_B4:;
-  w2c_i0 = 15u;
-  w2c_l3 = w2c_i0;
-  goto w2c_B0;
-  w2c_B3:;
-  UNREACHABLE;
-  w2c_B2:;
-  w2c_i0 = 2u;
-  w2c_l3 = w2c_i0;
-  goto w2c_B0;
-  w2c_B1:;
-  w2c_i0 = 0u;
-  w2c_l2 = w2c_i0;
-  w2c_i0 = 0u;
-  w2c_l3 = w2c_i0;
-  w2c_B0:;
-  w2c_j0 = w2c_p0;
-  w2c_i0 = (u32)(w2c_j0);
-  w2c_i1 = w2c_l3;
-  i32_store8(m, (u64)(w2c_i0) + 1, w2c_i1);
-  w2c_j0 = w2c_p0;
-  w2c_i0 = (u32)(w2c_j0);
-  w2c_i1 = w2c_l2;
-  i32_store8(m, (u64)(w2c_i0), w2c_i1);
-}
-
-static u32 w2c_f20(module *m, u32 w2c_p0, u32 w2c_p1, u32 w2c_p2, u32 w2c_p3, u32 w2c_p4, u64 w2c_p5, u64 w2c_p6) {
+static u32 w2c_f17(module *m, u32 w2c_p0, u32 w2c_p1, u32 w2c_p2, u32 w2c_p3, u32 w2c_p4, u64 w2c_p5, u64 w2c_p6) {
   u32 w2c_l8 = 0;
   u64 w2c_l7 = 0;
   u32 w2c_i0, w2c_i1, w2c_i2;
@@ -12015,7 +9885,7 @@ static u32 w2c_f20(module *m, u32 w2c_p0, u32 w2c_p1, u32 w2c_p2, u32 w2c_p3, u3
   return w2c_i0;
 }
 
-static void w2c_f21(module *m, u64 w2c_p0, u32 w2c_p1) {
+static void w2c_f18(module *m, u64 w2c_p0, u32 w2c_p1) {
   u32 w2c_l2 = 0, w2c_l3 = 0;
   u32 w2c_i0, w2c_i1;
   u64 w2c_j0, w2c_j1;
@@ -12281,6 +10151,2562 @@ static void w2c_f21(module *m, u64 w2c_p0, u32 w2c_p1) {
   w2c_i0 = (u32)(w2c_j0);
   w2c_i1 = w2c_l3;
   i32_store8(m, (u64)(w2c_i0), w2c_i1);
+}
+
+static void w2c_f19(module *m, u64 w2c_p0, u32 w2c_p1) {
+  u32 w2c_l2 = 0, w2c_l3 = 0;
+  u32 w2c_i0, w2c_i1;
+  u64 w2c_j0, w2c_j1;
+  w2c_j0 = m->w2c_g0;
+  w2c_j1 = 16ull;
+  w2c_i0 = (u64)((s64)w2c_j0 < (s64)w2c_j1);
+  if (w2c_i0) {goto w2c_B3;}
+  w2c_i0 = 1u;
+  w2c_l2 = w2c_i0;
+  w2c_i0 = w2c_p1;
+  w2c_i1 = 26496u;
+  w2c_i0 = (u32)((s32)w2c_i0 > (s32)w2c_i1);
+  if (w2c_i0) {goto w2c_B13;}
+  w2c_i0 = 0u;
+  w2c_l3 = w2c_i0;
+  w2c_i0 = w2c_p1;
+  w2c_i1 = 20490u;
+  w2c_i0 = (u32)((s32)w2c_i0 > (s32)w2c_i1);
+  if (w2c_i0) {goto w2c_B14;}
+  w2c_i0 = w2c_p1;
+  w2c_i1 = 20139u;
+  w2c_i0 = (u32)((s32)w2c_i0 > (s32)w2c_i1);
+  if (w2c_i0) {goto w2c_B15;}
+  w2c_i0 = w2c_p1;
+  w2c_i1 = 19975u;
+  w2c_i0 = w2c_i0 == w2c_i1;
+  if (w2c_i0) {goto w2c_B12;}
+  w2c_i0 = w2c_p1;
+  w2c_i1 = 20010u;
+  w2c_i0 = w2c_i0 == w2c_i1;
+  if (w2c_i0) {goto w2c_B0;}
+  goto w2c_B1;
+  w2c_B15:;
+  w2c_i0 = w2c_p1;
+  w2c_i1 = 4294947156u;
+  w2c_i0 += w2c_i1;
+  switch (w2c_i0) {
+    case 0: goto w2c_B8;
+    case 1: goto w2c_B1;
+    case 2: goto w2c_B1;
+    case 3: goto w2c_B1;
+    case 4: goto w2c_B1;
+    case 5: goto w2c_B1;
+    case 6: goto w2c_B1;
+    case 7: goto w2c_B1;
+    case 8: goto w2c_B1;
+    case 9: goto w2c_B1;
+    case 10: goto w2c_B1;
+    case 11: goto w2c_B1;
+    case 12: goto w2c_B1;
+    case 13: goto w2c_B1;
+    case 14: goto w2c_B1;
+    case 15: goto w2c_B1;
+    case 16: goto w2c_B1;
+    case 17: goto w2c_B1;
+    case 18: goto w2c_B1;
+    case 19: goto w2c_B9;
+    default: goto w2c_B16;
+  }
+  w2c_B16:;
+  w2c_i0 = w2c_p1;
+  w2c_i1 = 20191u;
+  w2c_i0 = w2c_i0 == w2c_i1;
+  if (w2c_i0) {goto w2c_B10;}
+  w2c_i0 = w2c_p1;
+  w2c_i1 = 20336u;
+  w2c_i0 = w2c_i0 != w2c_i1;
+  if (w2c_i0) {goto w2c_B1;}
+  goto w2c_B2;
+  w2c_B14:;
+  w2c_i0 = w2c_p1;
+  w2c_i1 = 21312u;
+  w2c_i0 = (u32)((s32)w2c_i0 > (s32)w2c_i1);
+  if (w2c_i0) {goto w2c_B17;}
+  w2c_i0 = w2c_p1;
+  w2c_i1 = 20491u;
+  w2c_i0 = w2c_i0 == w2c_i1;
+  if (w2c_i0) {goto w2c_B0;}
+  w2c_i0 = w2c_p1;
+  w2c_i1 = 20740u;
+  w2c_i0 = w2c_i0 == w2c_i1;
+  if (w2c_i0) {goto w2c_B9;}
+  w2c_i0 = w2c_p1;
+  w2c_i1 = 20806u;
+  w2c_i0 = w2c_i0 != w2c_i1;
+  if (w2c_i0) {goto w2c_B1;}
+  w2c_i0 = 6u;
+  w2c_l3 = w2c_i0;
+  goto w2c_B0;
+  w2c_B17:;
+  w2c_i0 = w2c_p1;
+  w2c_i1 = 4294945983u;
+  w2c_i0 += w2c_i1;
+  switch (w2c_i0) {
+    case 0: goto w2c_B18;
+    case 1: goto w2c_B1;
+    case 2: goto w2c_B10;
+    default: goto w2c_B19;
+  }
+  w2c_B19:;
+  w2c_i0 = w2c_p1;
+  w2c_i1 = 22419u;
+  w2c_i0 = w2c_i0 == w2c_i1;
+  if (w2c_i0) {goto w2c_B7;}
+  w2c_i0 = w2c_p1;
+  w2c_i1 = 25342u;
+  w2c_i0 = w2c_i0 != w2c_i1;
+  if (w2c_i0) {goto w2c_B1;}
+  w2c_B18:;
+  w2c_i0 = 1u;
+  w2c_l3 = w2c_i0;
+  w2c_i0 = 1u;
+  w2c_l2 = w2c_i0;
+  goto w2c_B0;
+  w2c_B13:;
+  w2c_i0 = w2c_p1;
+  w2c_i1 = 28566u;
+  w2c_i0 = (u32)((s32)w2c_i0 > (s32)w2c_i1);
+  if (w2c_i0) {goto w2c_B20;}
+  w2c_i0 = w2c_p1;
+  w2c_i1 = 27806u;
+  w2c_i0 = (u32)((s32)w2c_i0 > (s32)w2c_i1);
+  if (w2c_i0) {goto w2c_B21;}
+  w2c_i0 = w2c_p1;
+  w2c_i1 = 26497u;
+  w2c_i0 = w2c_i0 == w2c_i1;
+  if (w2c_i0) {goto w2c_B4;}
+  w2c_i0 = w2c_p1;
+  w2c_i1 = 26997u;
+  w2c_i0 = w2c_i0 == w2c_i1;
+  if (w2c_i0) {goto w2c_B4;}
+  w2c_i0 = w2c_p1;
+  w2c_i1 = 27491u;
+  w2c_i0 = w2c_i0 != w2c_i1;
+  if (w2c_i0) {goto w2c_B1;}
+  w2c_i0 = 13u;
+  w2c_l3 = w2c_i0;
+  goto w2c_B0;
+  w2c_B21:;
+  w2c_i0 = w2c_p1;
+  w2c_i1 = 27807u;
+  w2c_i0 = w2c_i0 == w2c_i1;
+  if (w2c_i0) {goto w2c_B22;}
+  w2c_i0 = w2c_p1;
+  w2c_i1 = 28071u;
+  w2c_i0 = w2c_i0 == w2c_i1;
+  if (w2c_i0) {goto w2c_B5;}
+  w2c_i0 = w2c_p1;
+  w2c_i1 = 28317u;
+  w2c_i0 = w2c_i0 != w2c_i1;
+  if (w2c_i0) {goto w2c_B1;}
+  w2c_B22:;
+  w2c_i0 = 11u;
+  w2c_l3 = w2c_i0;
+  goto w2c_B0;
+  w2c_B20:;
+  w2c_i0 = w2c_p1;
+  w2c_i1 = 31343u;
+  w2c_i0 = (u32)((s32)w2c_i0 > (s32)w2c_i1);
+  if (w2c_i0) {goto w2c_B23;}
+  w2c_i0 = w2c_p1;
+  w2c_i1 = 28567u;
+  w2c_i0 = w2c_i0 == w2c_i1;
+  if (w2c_i0) {goto w2c_B5;}
+  w2c_i0 = w2c_p1;
+  w2c_i1 = 30334u;
+  w2c_i0 = w2c_i0 == w2c_i1;
+  if (w2c_i0) {goto w2c_B2;}
+  w2c_i0 = w2c_p1;
+  w2c_i1 = 31213u;
+  w2c_i0 = w2c_i0 != w2c_i1;
+  if (w2c_i0) {goto w2c_B1;}
+  w2c_i0 = 9u;
+  w2c_l3 = w2c_i0;
+  goto w2c_B0;
+  w2c_B23:;
+  w2c_i0 = w2c_p1;
+  w2c_i1 = 36616u;
+  w2c_i0 = (u32)((s32)w2c_i0 > (s32)w2c_i1);
+  if (w2c_i0) {goto w2c_B11;}
+  w2c_i0 = w2c_p1;
+  w2c_i1 = 31344u;
+  w2c_i0 = w2c_i0 == w2c_i1;
+  if (w2c_i0) {goto w2c_B6;}
+  w2c_i0 = w2c_p1;
+  w2c_i1 = 33836u;
+  w2c_i0 = w2c_i0 != w2c_i1;
+  if (w2c_i0) {goto w2c_B1;}
+  w2c_B12:;
+  w2c_i0 = 4u;
+  w2c_l3 = w2c_i0;
+  goto w2c_B0;
+  w2c_B11:;
+  w2c_i0 = w2c_p1;
+  w2c_i1 = 36617u;
+  w2c_i0 = w2c_i0 == w2c_i1;
+  if (w2c_i0) {goto w2c_B24;}
+  w2c_i0 = w2c_p1;
+  w2c_i1 = 36733u;
+  w2c_i0 = w2c_i0 != w2c_i1;
+  if (w2c_i0) {goto w2c_B1;}
+  w2c_B24:;
+  w2c_i0 = 14u;
+  w2c_l3 = w2c_i0;
+  goto w2c_B0;
+  w2c_B10:;
+  w2c_i0 = 3u;
+  w2c_l3 = w2c_i0;
+  goto w2c_B0;
+  w2c_B9:;
+  w2c_i0 = 5u;
+  w2c_l3 = w2c_i0;
+  goto w2c_B0;
+  w2c_B8:;
+  w2c_i0 = 7u;
+  w2c_l3 = w2c_i0;
+  goto w2c_B0;
+  w2c_B7:;
+  w2c_i0 = 8u;
+  w2c_l3 = w2c_i0;
+  goto w2c_B0;
+  w2c_B6:;
+  w2c_i0 = 10u;
+  w2c_l3 = w2c_i0;
+  goto w2c_B0;
+  w2c_B5:;
+  w2c_i0 = 12u;
+  w2c_l3 = w2c_i0;
+  goto w2c_B0;
+  w2c_B4:;
+  w2c_i0 = 15u;
+  w2c_l3 = w2c_i0;
+  goto w2c_B0;
+  w2c_B3:;
+  UNREACHABLE;
+  w2c_B2:;
+  w2c_i0 = 2u;
+  w2c_l3 = w2c_i0;
+  goto w2c_B0;
+  w2c_B1:;
+  w2c_i0 = 0u;
+  w2c_l2 = w2c_i0;
+  w2c_i0 = 0u;
+  w2c_l3 = w2c_i0;
+  w2c_B0:;
+  w2c_j0 = w2c_p0;
+  w2c_i0 = (u32)(w2c_j0);
+  w2c_i1 = w2c_l3;
+  i32_store8(m, (u64)(w2c_i0) + 1, w2c_i1);
+  w2c_j0 = w2c_p0;
+  w2c_i0 = (u32)(w2c_j0);
+  w2c_i1 = w2c_l2;
+  i32_store8(m, (u64)(w2c_i0), w2c_i1);
+}
+
+static void w2c_f20(module *m, u64 w2c_p0, u64 w2c_p1) {
+  u32 w2c_l10 = 0, w2c_l11 = 0, w2c_l12 = 0, w2c_l13 = 0, w2c_l14 = 0, w2c_l15 = 0, w2c_l16 = 0, w2c_l17 = 0;
+  u64 w2c_l2 = 0, w2c_l3 = 0, w2c_l4 = 0, w2c_l5 = 0, w2c_l6 = 0, w2c_l7 = 0, w2c_l8 = 0, w2c_l9 = 0;
+  u32 w2c_i0, w2c_i1, w2c_i2, w2c_i3, w2c_i4, w2c_i5;
+  u64 w2c_j0, w2c_j1, w2c_j2, w2c_j3;
+  w2c_j0 = m->w2c_g0;
+  w2c_j1 = 64ull;
+  w2c_j0 -= w2c_j1;
+  w2c_l2 = w2c_j0;
+  m->w2c_g0 = w2c_j0;
+  w2c_j0 = w2c_l2;
+  w2c_l3 = w2c_j0;
+  w2c_j1 = 16ull;
+  w2c_i0 = (u64)((s64)w2c_j0 < (s64)w2c_j1);
+  if (w2c_i0) {goto w2c_B5;}
+  w2c_j0 = w2c_p1;
+  w2c_i0 = (u32)(w2c_j0);
+  w2c_j0 = i64_load(m, (u64)(w2c_i0) + 40u);
+  w2c_l4 = w2c_j0;
+  w2c_j0 = w2c_p1;
+  w2c_i0 = (u32)(w2c_j0);
+  w2c_j0 = i64_load(m, (u64)(w2c_i0) + 32u);
+  w2c_l2 = w2c_j0;
+  w2c_j0 = w2c_p1;
+  w2c_i0 = (u32)(w2c_j0);
+  w2c_j0 = i64_load(m, (u64)(w2c_i0) + 24u);
+  w2c_l5 = w2c_j0;
+  w2c_j0 = w2c_p1;
+  w2c_i0 = (u32)(w2c_j0);
+  w2c_j0 = i64_load(m, (u64)(w2c_i0) + 16u);
+  w2c_l6 = w2c_j0;
+  w2c_i0 = 1u;
+  w2c_l10 = w2c_i0;
+  w2c_j0 = w2c_p1;
+  w2c_i0 = (u32)(w2c_j0);
+  w2c_j0 = i64_load(m, (u64)(w2c_i0) + 8u);
+  w2c_l7 = w2c_j0;
+  w2c_i0 = !(w2c_j0);
+  w2c_i0 = !(w2c_i0);
+  if (w2c_i0) {goto w2c_B6;}
+  w2c_i0 = 0u;
+  w2c_l11 = w2c_i0;
+  goto w2c_B0;
+  w2c_B6:;
+  w2c_j0 = w2c_p1;
+  w2c_i0 = (u32)(w2c_j0);
+  w2c_j0 = i64_load(m, (u64)(w2c_i0));
+  w2c_p1 = w2c_j0;
+  w2c_j1 = w2c_l7;
+  w2c_j2 = 18446744073709551615ull;
+  w2c_j1 += w2c_j2;
+  w2c_l8 = w2c_j1;
+  w2c_j0 += w2c_j1;
+  w2c_i0 = (u32)(w2c_j0);
+  w2c_i0 = i32_load8_s(m, (u64)(w2c_i0));
+  w2c_l12 = w2c_i0;
+  w2c_i1 = 0u;
+  w2c_i0 = (u32)((s32)w2c_i0 >= (s32)w2c_i1);
+  if (w2c_i0) {goto w2c_B9;}
+  w2c_j0 = 18446744073709551614ull;
+  w2c_l8 = w2c_j0;
+  w2c_j0 = w2c_p1;
+  w2c_j1 = w2c_l7;
+  w2c_j0 += w2c_j1;
+  w2c_l9 = w2c_j0;
+  w2c_j1 = 18446744073709551614ull;
+  w2c_j0 += w2c_j1;
+  w2c_i0 = (u32)(w2c_j0);
+  w2c_i0 = i32_load8_u(m, (u64)(w2c_i0));
+  w2c_i1 = 191u;
+  w2c_i0 = w2c_i0 > w2c_i1;
+  if (w2c_i0) {goto w2c_B10;}
+  w2c_j0 = 18446744073709551613ull;
+  w2c_j1 = 18446744073709551612ull;
+  w2c_j2 = w2c_l9;
+  w2c_j3 = 18446744073709551613ull;
+  w2c_j2 += w2c_j3;
+  w2c_i2 = (u32)(w2c_j2);
+  w2c_i2 = i32_load8_u(m, (u64)(w2c_i2));
+  w2c_i3 = 191u;
+  w2c_i2 = w2c_i2 > w2c_i3;
+  w2c_j0 = w2c_i2 ? w2c_j0 : w2c_j1;
+  w2c_l8 = w2c_j0;
+  w2c_B10:;
+  w2c_j0 = w2c_p1;
+  w2c_j1 = w2c_l8;
+  w2c_j2 = w2c_l7;
+  w2c_j1 += w2c_j2;
+  w2c_l8 = w2c_j1;
+  w2c_j0 += w2c_j1;
+  w2c_l9 = w2c_j0;
+  w2c_i0 = (u32)(w2c_j0);
+  w2c_i0 = i32_load8_s(m, (u64)(w2c_i0));
+  w2c_l13 = w2c_i0;
+  w2c_i1 = 255u;
+  w2c_i0 &= w2c_i1;
+  w2c_l12 = w2c_i0;
+  w2c_i0 = w2c_l13;
+  w2c_i1 = 4294967295u;
+  w2c_i0 = (u32)((s32)w2c_i0 > (s32)w2c_i1);
+  if (w2c_i0) {goto w2c_B9;}
+  w2c_j0 = w2c_l9;
+  w2c_i0 = (u32)(w2c_j0);
+  w2c_i0 = i32_load8_u(m, (u64)(w2c_i0) + 1u);
+  w2c_i1 = 63u;
+  w2c_i0 &= w2c_i1;
+  w2c_l14 = w2c_i0;
+  w2c_i0 = w2c_l13;
+  w2c_i1 = 4294967263u;
+  w2c_i0 = w2c_i0 > w2c_i1;
+  if (w2c_i0) {goto w2c_B11;}
+  w2c_i0 = w2c_l12;
+  w2c_i1 = 6u;
+  w2c_i0 <<= (w2c_i1 & 31);
+  w2c_i1 = 1984u;
+  w2c_i0 &= w2c_i1;
+  w2c_i1 = w2c_l14;
+  w2c_i0 |= w2c_i1;
+  w2c_l12 = w2c_i0;
+  goto w2c_B9;
+  w2c_B11:;
+  w2c_j0 = w2c_l9;
+  w2c_i0 = (u32)(w2c_j0);
+  w2c_i0 = i32_load8_u(m, (u64)(w2c_i0) + 2u);
+  w2c_i1 = 63u;
+  w2c_i0 &= w2c_i1;
+  w2c_l10 = w2c_i0;
+  w2c_i0 = w2c_l13;
+  w2c_i1 = 4294967279u;
+  w2c_i0 = w2c_i0 > w2c_i1;
+  if (w2c_i0) {goto w2c_B13;}
+  w2c_i0 = w2c_l14;
+  w2c_i1 = 6u;
+  w2c_i0 <<= (w2c_i1 & 31);
+  w2c_i1 = w2c_l12;
+  w2c_i2 = 12u;
+  w2c_i1 <<= (w2c_i2 & 31);
+  w2c_i2 = 61440u;
+  w2c_i1 &= w2c_i2;
+  w2c_i0 |= w2c_i1;
+  w2c_i1 = w2c_l10;
+  w2c_i0 |= w2c_i1;
+  w2c_l12 = w2c_i0;
+  goto w2c_B12;
+  w2c_B13:;
+  w2c_i0 = w2c_l10;
+  w2c_i1 = 6u;
+  w2c_i0 <<= (w2c_i1 & 31);
+  w2c_i1 = w2c_l14;
+  w2c_i2 = 12u;
+  w2c_i1 <<= (w2c_i2 & 31);
+  w2c_i2 = w2c_l12;
+  w2c_i3 = 18u;
+  w2c_i2 <<= (w2c_i3 & 31);
+  w2c_i3 = 1835008u;
+  w2c_i2 &= w2c_i3;
+  w2c_i1 |= w2c_i2;
+  w2c_i0 |= w2c_i1;
+  w2c_j1 = w2c_l9;
+  w2c_i1 = (u32)(w2c_j1);
+  w2c_i1 = i32_load8_u(m, (u64)(w2c_i1) + 3u);
+  w2c_i2 = 63u;
+  w2c_i1 &= w2c_i2;
+  w2c_i0 |= w2c_i1;
+  w2c_l12 = w2c_i0;
+  w2c_B12:;
+  w2c_i0 = w2c_l12;
+  w2c_i1 = 4294965248u;
+  w2c_i0 += w2c_i1;
+  w2c_i1 = 63488u;
+  w2c_i0 = w2c_i0 < w2c_i1;
+  if (w2c_i0) {goto w2c_B8;}
+  w2c_B9:;
+  w2c_j0 = w2c_l3;
+  w2c_j1 = 56ull;
+  w2c_j0 += w2c_j1;
+  w2c_i1 = w2c_l12;
+  w2c_f18(m, w2c_j0, w2c_i1);
+  w2c_i0 = 1u;
+  w2c_l11 = w2c_i0;
+  w2c_j0 = w2c_l3;
+  w2c_i0 = (u32)(w2c_j0);
+  w2c_i0 = i32_load8_u(m, (u64)(w2c_i0) + 56u);
+  w2c_i1 = 1u;
+  w2c_i0 = w2c_i0 == w2c_i1;
+  if (w2c_i0) {goto w2c_B1;}
+  w2c_j0 = w2c_l3;
+  w2c_j1 = 48ull;
+  w2c_j0 += w2c_j1;
+  w2c_i1 = w2c_l12;
+  w2c_f19(m, w2c_j0, w2c_i1);
+  w2c_i0 = w2c_l12;
+  w2c_i1 = 128u;
+  w2c_i0 = w2c_i0 < w2c_i1;
+  if (w2c_i0) {goto w2c_B7;}
+  goto w2c_B4;
+  w2c_B8:;
+  w2c_i0 = w2c_l12;
+  w2c_i1 = 12u;
+  w2c_i0 >>= (w2c_i1 & 31);
+  w2c_i1 = w2c_l12;
+  w2c_i2 = 2u;
+  w2c_i1 <<= (w2c_i2 & 31);
+  w2c_i2 = 16128u;
+  w2c_i1 &= w2c_i2;
+  w2c_i0 |= w2c_i1;
+  w2c_i1 = w2c_l12;
+  w2c_i2 = 16u;
+  w2c_i1 <<= (w2c_i2 & 31);
+  w2c_i2 = 4128768u;
+  w2c_i1 &= w2c_i2;
+  w2c_i0 |= w2c_i1;
+  w2c_i1 = 8421600u;
+  w2c_i0 |= w2c_i1;
+  w2c_l13 = w2c_i0;
+  w2c_j0 = (u64)(w2c_i0);
+  w2c_j1 = 953497ull;
+  w2c_j0 *= w2c_j1;
+  w2c_j1 = 22ull;
+  w2c_j0 >>= (w2c_j1 & 63);
+  w2c_j1 = 1016ull;
+  w2c_j0 &= w2c_j1;
+  w2c_l9 = w2c_j0;
+  w2c_i0 = (u32)(w2c_j0);
+  w2c_i0 = i32_load(m, (u64)(w2c_i0) + 66992u);
+  w2c_i1 = w2c_l13;
+  w2c_i0 = w2c_i0 != w2c_i1;
+  if (w2c_i0) {goto w2c_B4;}
+  w2c_j0 = w2c_l9;
+  w2c_j1 = 66996ull;
+  w2c_j0 += w2c_j1;
+  w2c_i0 = (u32)(w2c_j0);
+  w2c_i0 = i32_load8_u(m, (u64)(w2c_i0));
+  w2c_i1 = 255u;
+  w2c_i0 &= w2c_i1;
+  if (w2c_i0) {goto w2c_B4;}
+  w2c_i0 = 1u;
+  w2c_l11 = w2c_i0;
+  goto w2c_B1;
+  w2c_B7:;
+  w2c_i0 = w2c_l12;
+  w2c_i1 = 95u;
+  w2c_i0 = w2c_i0 == w2c_i1;
+  if (w2c_i0) {goto w2c_B1;}
+  w2c_i0 = w2c_l12;
+  w2c_i1 = 4294967248u;
+  w2c_i0 += w2c_i1;
+  w2c_i1 = 10u;
+  w2c_i0 = w2c_i0 < w2c_i1;
+  if (w2c_i0) {goto w2c_B1;}
+  w2c_i0 = w2c_l12;
+  w2c_i1 = 95u;
+  w2c_i0 &= w2c_i1;
+  w2c_i1 = 4294967231u;
+  w2c_i0 += w2c_i1;
+  w2c_i1 = 26u;
+  w2c_i0 = w2c_i0 < w2c_i1;
+  if (w2c_i0) {goto w2c_B1;}
+  goto w2c_B3;
+  w2c_B5:;
+  UNREACHABLE;
+  w2c_B4:;
+  w2c_i0 = 1u;
+  w2c_l11 = w2c_i0;
+  w2c_i0 = w2c_l12;
+  w2c_i1 = 4294902000u;
+  w2c_i0 += w2c_i1;
+  w2c_i1 = 10u;
+  w2c_i0 = w2c_i0 < w2c_i1;
+  if (w2c_i0) {goto w2c_B1;}
+  w2c_i0 = w2c_l12;
+  w2c_i1 = 24318u;
+  w2c_i0 = (u32)((s32)w2c_i0 > (s32)w2c_i1);
+  if (w2c_i0) {goto w2c_B14;}
+  w2c_i0 = w2c_l12;
+  w2c_i1 = 4294945979u;
+  w2c_i0 += w2c_i1;
+  switch (w2c_i0) {
+    case 0: goto w2c_B1;
+    case 1: goto w2c_B3;
+    case 2: goto w2c_B3;
+    case 3: goto w2c_B3;
+    case 4: goto w2c_B3;
+    case 5: goto w2c_B3;
+    case 6: goto w2c_B3;
+    case 7: goto w2c_B1;
+    default: goto w2c_B15;
+  }
+  w2c_B15:;
+  w2c_i0 = w2c_l12;
+  w2c_i1 = 24186u;
+  w2c_i0 = w2c_i0 != w2c_i1;
+  if (w2c_i0) {goto w2c_B3;}
+  goto w2c_B1;
+  w2c_B14:;
+  w2c_i0 = w2c_l12;
+  w2c_i1 = 24319u;
+  w2c_i0 = w2c_i0 == w2c_i1;
+  if (w2c_i0) {goto w2c_B1;}
+  w2c_i0 = w2c_l12;
+  w2c_i1 = 28857u;
+  w2c_i0 = w2c_i0 == w2c_i1;
+  if (w2c_i0) {goto w2c_B2;}
+  w2c_i0 = w2c_l12;
+  w2c_i1 = 40670u;
+  w2c_i0 = w2c_i0 == w2c_i1;
+  if (w2c_i0) {goto w2c_B2;}
+  w2c_B3:;
+  w2c_i0 = w2c_l12;
+  w2c_i1 = 4294967252u;
+  w2c_i0 += w2c_i1;
+  w2c_i1 = 2u;
+  w2c_i0 = w2c_i0 <= w2c_i1;
+  if (w2c_i0) {goto w2c_B2;}
+  w2c_i0 = 0u;
+  w2c_l11 = w2c_i0;
+  goto w2c_B1;
+  w2c_B2:;
+  w2c_j0 = w2c_p1;
+  w2c_j1 = w2c_l8;
+  w2c_i0 = w2c_f24(m, w2c_j0, w2c_j1);
+  w2c_l11 = w2c_i0;
+  w2c_B1:;
+  w2c_i0 = 0u;
+  w2c_l10 = w2c_i0;
+  w2c_i0 = w2c_l12;
+  w2c_i1 = 4294941328u;
+  w2c_i0 += w2c_i1;
+  switch (w2c_i0) {
+    case 0: goto w2c_B0;
+    case 1: goto w2c_B16;
+    case 2: goto w2c_B16;
+    case 3: goto w2c_B16;
+    case 4: goto w2c_B16;
+    case 5: goto w2c_B16;
+    case 6: goto w2c_B16;
+    case 7: goto w2c_B16;
+    case 8: goto w2c_B0;
+    default: goto w2c_B17;
+  }
+  w2c_B17:;
+  w2c_i0 = w2c_l12;
+  w2c_i1 = 20960u;
+  w2c_i0 = w2c_i0 == w2c_i1;
+  if (w2c_i0) {goto w2c_B0;}
+  w2c_i0 = w2c_l12;
+  w2c_i1 = 24190u;
+  w2c_i0 = w2c_i0 == w2c_i1;
+  if (w2c_i0) {goto w2c_B0;}
+  w2c_B16:;
+  w2c_i0 = 1u;
+  w2c_l10 = w2c_i0;
+  w2c_B0:;
+  w2c_j0 = w2c_l4;
+  w2c_j1 = 3ull;
+  w2c_i0 = w2c_j0 < w2c_j1;
+  if (w2c_i0) {goto w2c_B27;}
+  w2c_j0 = w2c_l2;
+  w2c_i0 = (u32)(w2c_j0);
+  w2c_i0 = i32_load8_u(m, (u64)(w2c_i0));
+  w2c_l12 = w2c_i0;
+  w2c_i1 = 240u;
+  w2c_i0 &= w2c_i1;
+  w2c_i1 = 224u;
+  w2c_i0 = w2c_i0 != w2c_i1;
+  if (w2c_i0) {goto w2c_B26;}
+  w2c_j0 = w2c_l2;
+  w2c_i0 = (u32)(w2c_j0);
+  w2c_i0 = i32_load8_u(m, (u64)(w2c_i0) + 1u);
+  w2c_l14 = w2c_i0;
+  w2c_i1 = 8u;
+  w2c_i0 <<= (w2c_i1 & 31);
+  w2c_j1 = w2c_l2;
+  w2c_i1 = (u32)(w2c_j1);
+  w2c_i1 = i32_load8_u(m, (u64)(w2c_i1) + 2u);
+  w2c_l15 = w2c_i1;
+  w2c_i2 = 16u;
+  w2c_i1 <<= (w2c_i2 & 31);
+  w2c_i0 |= w2c_i1;
+  w2c_i1 = w2c_l12;
+  w2c_i0 |= w2c_i1;
+  w2c_l13 = w2c_i0;
+  w2c_i0 = w2c_l12;
+  w2c_i1 = 12u;
+  w2c_i0 <<= (w2c_i1 & 31);
+  w2c_i1 = w2c_l14;
+  w2c_i2 = 6u;
+  w2c_i1 <<= (w2c_i2 & 31);
+  w2c_i0 += w2c_i1;
+  w2c_i1 = w2c_l15;
+  w2c_i0 += w2c_i1;
+  w2c_i1 = 4294041472u;
+  w2c_i0 += w2c_i1;
+  w2c_l12 = w2c_i0;
+  w2c_j0 = w2c_l4;
+  w2c_j1 = 18446744073709551613ull;
+  w2c_j0 += w2c_j1;
+  w2c_l4 = w2c_j0;
+  w2c_j0 = w2c_l2;
+  w2c_j1 = 3ull;
+  w2c_j0 += w2c_j1;
+  w2c_p1 = w2c_j0;
+  w2c_i0 = w2c_l13;
+  w2c_i1 = w2c_l13;
+  w2c_j1 = (u64)(w2c_i1);
+  w2c_j2 = 953497ull;
+  w2c_j1 *= w2c_j2;
+  w2c_j2 = 22ull;
+  w2c_j1 >>= (w2c_j2 & 63);
+  w2c_j2 = 1016ull;
+  w2c_j1 &= w2c_j2;
+  w2c_l2 = w2c_j1;
+  w2c_j2 = 66992ull;
+  w2c_j1 += w2c_j2;
+  w2c_i1 = (u32)(w2c_j1);
+  w2c_i1 = i32_load(m, (u64)(w2c_i1));
+  w2c_i0 = w2c_i0 != w2c_i1;
+  if (w2c_i0) {goto w2c_B24;}
+  goto w2c_B25;
+  w2c_B27:;
+  w2c_j0 = w2c_l4;
+  w2c_i0 = !(w2c_j0);
+  w2c_i0 = !(w2c_i0);
+  if (w2c_i0) {goto w2c_B28;}
+  w2c_i0 = 0u;
+  w2c_l16 = w2c_i0;
+  w2c_i0 = 0u;
+  w2c_l15 = w2c_i0;
+  goto w2c_B18;
+  w2c_B28:;
+  w2c_j0 = w2c_l2;
+  w2c_i0 = (u32)(w2c_j0);
+  w2c_i0 = i32_load8_u(m, (u64)(w2c_i0));
+  w2c_l12 = w2c_i0;
+  w2c_B26:;
+  w2c_j0 = 1ull;
+  w2c_p1 = w2c_j0;
+  w2c_i0 = w2c_l12;
+  w2c_i0 = (u32)(s32)(s8)(u8)(w2c_i0);
+  w2c_i1 = 4294967295u;
+  w2c_i0 = (u32)((s32)w2c_i0 > (s32)w2c_i1);
+  if (w2c_i0) {goto w2c_B29;}
+  w2c_j0 = w2c_l2;
+  w2c_i0 = (u32)(w2c_j0);
+  w2c_i0 = i32_load8_u(m, (u64)(w2c_i0) + 1u);
+  w2c_i1 = 63u;
+  w2c_i0 &= w2c_i1;
+  w2c_l13 = w2c_i0;
+  w2c_i0 = w2c_l12;
+  w2c_i1 = 223u;
+  w2c_i0 = w2c_i0 > w2c_i1;
+  if (w2c_i0) {goto w2c_B30;}
+  w2c_i0 = w2c_l12;
+  w2c_i1 = 6u;
+  w2c_i0 <<= (w2c_i1 & 31);
+  w2c_i1 = 1984u;
+  w2c_i0 &= w2c_i1;
+  w2c_i1 = w2c_l13;
+  w2c_i0 |= w2c_i1;
+  w2c_l12 = w2c_i0;
+  w2c_j0 = 2ull;
+  w2c_p1 = w2c_j0;
+  goto w2c_B29;
+  w2c_B30:;
+  w2c_j0 = w2c_l2;
+  w2c_i0 = (u32)(w2c_j0);
+  w2c_i0 = i32_load8_u(m, (u64)(w2c_i0) + 2u);
+  w2c_i1 = 63u;
+  w2c_i0 &= w2c_i1;
+  w2c_l14 = w2c_i0;
+  w2c_i0 = w2c_l12;
+  w2c_i1 = 239u;
+  w2c_i0 = w2c_i0 > w2c_i1;
+  if (w2c_i0) {goto w2c_B31;}
+  w2c_i0 = w2c_l13;
+  w2c_i1 = 6u;
+  w2c_i0 <<= (w2c_i1 & 31);
+  w2c_i1 = w2c_l12;
+  w2c_i2 = 12u;
+  w2c_i1 <<= (w2c_i2 & 31);
+  w2c_i2 = 61440u;
+  w2c_i1 &= w2c_i2;
+  w2c_i0 |= w2c_i1;
+  w2c_i1 = w2c_l14;
+  w2c_i0 |= w2c_i1;
+  w2c_l12 = w2c_i0;
+  w2c_j0 = 3ull;
+  w2c_p1 = w2c_j0;
+  goto w2c_B29;
+  w2c_B31:;
+  w2c_i0 = w2c_l14;
+  w2c_i1 = 6u;
+  w2c_i0 <<= (w2c_i1 & 31);
+  w2c_i1 = w2c_l13;
+  w2c_i2 = 12u;
+  w2c_i1 <<= (w2c_i2 & 31);
+  w2c_i2 = w2c_l12;
+  w2c_i3 = 18u;
+  w2c_i2 <<= (w2c_i3 & 31);
+  w2c_i3 = 1835008u;
+  w2c_i2 &= w2c_i3;
+  w2c_i1 |= w2c_i2;
+  w2c_i0 |= w2c_i1;
+  w2c_j1 = w2c_l2;
+  w2c_i1 = (u32)(w2c_j1);
+  w2c_i1 = i32_load8_u(m, (u64)(w2c_i1) + 3u);
+  w2c_i2 = 63u;
+  w2c_i1 &= w2c_i2;
+  w2c_i0 |= w2c_i1;
+  w2c_l12 = w2c_i0;
+  w2c_j0 = 4ull;
+  w2c_p1 = w2c_j0;
+  w2c_B29:;
+  w2c_j0 = w2c_l4;
+  w2c_j1 = w2c_p1;
+  w2c_j0 -= w2c_j1;
+  w2c_l4 = w2c_j0;
+  w2c_j0 = w2c_l2;
+  w2c_j1 = w2c_p1;
+  w2c_j0 += w2c_j1;
+  w2c_p1 = w2c_j0;
+  w2c_i0 = w2c_l12;
+  w2c_i1 = 4294965248u;
+  w2c_i0 += w2c_i1;
+  w2c_i1 = 63487u;
+  w2c_i0 = w2c_i0 > w2c_i1;
+  if (w2c_i0) {goto w2c_B32;}
+  w2c_i0 = w2c_l12;
+  w2c_i1 = 12u;
+  w2c_i0 >>= (w2c_i1 & 31);
+  w2c_i1 = w2c_l12;
+  w2c_i2 = 2u;
+  w2c_i1 <<= (w2c_i2 & 31);
+  w2c_i2 = 16128u;
+  w2c_i1 &= w2c_i2;
+  w2c_i0 |= w2c_i1;
+  w2c_i1 = w2c_l12;
+  w2c_i2 = 16u;
+  w2c_i1 <<= (w2c_i2 & 31);
+  w2c_i2 = 4128768u;
+  w2c_i1 &= w2c_i2;
+  w2c_i0 |= w2c_i1;
+  w2c_i1 = 8421600u;
+  w2c_i0 |= w2c_i1;
+  w2c_l13 = w2c_i0;
+  w2c_j0 = (u64)(w2c_i0);
+  w2c_j1 = 953497ull;
+  w2c_j0 *= w2c_j1;
+  w2c_j1 = 22ull;
+  w2c_j0 >>= (w2c_j1 & 63);
+  w2c_j1 = 1016ull;
+  w2c_j0 &= w2c_j1;
+  w2c_l2 = w2c_j0;
+  w2c_j1 = 66992ull;
+  w2c_j0 += w2c_j1;
+  w2c_i0 = (u32)(w2c_j0);
+  w2c_i0 = i32_load(m, (u64)(w2c_i0));
+  w2c_i1 = w2c_l13;
+  w2c_i0 = w2c_i0 == w2c_i1;
+  if (w2c_i0) {goto w2c_B25;}
+  goto w2c_B23;
+  w2c_B32:;
+  w2c_j0 = w2c_l3;
+  w2c_j1 = 40ull;
+  w2c_j0 += w2c_j1;
+  w2c_i1 = w2c_l12;
+  w2c_f18(m, w2c_j0, w2c_i1);
+  w2c_i0 = 1u;
+  w2c_l15 = w2c_i0;
+  w2c_j0 = w2c_l3;
+  w2c_i0 = (u32)(w2c_j0);
+  w2c_i0 = i32_load8_u(m, (u64)(w2c_i0) + 40u);
+  w2c_i1 = 1u;
+  w2c_i0 = w2c_i0 == w2c_i1;
+  if (w2c_i0) {goto w2c_B19;}
+  w2c_j0 = w2c_l3;
+  w2c_j1 = 32ull;
+  w2c_j0 += w2c_j1;
+  w2c_i1 = w2c_l12;
+  w2c_f19(m, w2c_j0, w2c_i1);
+  goto w2c_B24;
+  w2c_B25:;
+  w2c_j0 = w2c_l2;
+  w2c_j1 = 66996ull;
+  w2c_j0 += w2c_j1;
+  w2c_i0 = (u32)(w2c_j0);
+  w2c_i0 = i32_load8_u(m, (u64)(w2c_i0));
+  if (w2c_i0) {goto w2c_B24;}
+  w2c_i0 = 1u;
+  w2c_l15 = w2c_i0;
+  goto w2c_B19;
+  w2c_B24:;
+  w2c_i0 = w2c_l12;
+  w2c_i1 = 128u;
+  w2c_i0 = w2c_i0 < w2c_i1;
+  if (w2c_i0) {goto w2c_B22;}
+  w2c_B23:;
+  w2c_i0 = 1u;
+  w2c_l15 = w2c_i0;
+  w2c_i0 = w2c_l12;
+  w2c_i1 = 4294902000u;
+  w2c_i0 += w2c_i1;
+  w2c_i1 = 10u;
+  w2c_i0 = w2c_i0 < w2c_i1;
+  if (w2c_i0) {goto w2c_B19;}
+  w2c_i0 = w2c_l12;
+  w2c_i1 = 24318u;
+  w2c_i0 = (u32)((s32)w2c_i0 > (s32)w2c_i1);
+  if (w2c_i0) {goto w2c_B33;}
+  w2c_i0 = w2c_l12;
+  w2c_i1 = 4294945979u;
+  w2c_i0 += w2c_i1;
+  switch (w2c_i0) {
+    case 0: goto w2c_B19;
+    case 1: goto w2c_B21;
+    case 2: goto w2c_B21;
+    case 3: goto w2c_B21;
+    case 4: goto w2c_B21;
+    case 5: goto w2c_B21;
+    case 6: goto w2c_B21;
+    case 7: goto w2c_B19;
+    default: goto w2c_B34;
+  }
+  w2c_B34:;
+  w2c_i0 = w2c_l12;
+  w2c_i1 = 24186u;
+  w2c_i0 = w2c_i0 != w2c_i1;
+  if (w2c_i0) {goto w2c_B21;}
+  goto w2c_B19;
+  w2c_B33:;
+  w2c_i0 = w2c_l12;
+  w2c_i1 = 24319u;
+  w2c_i0 = w2c_i0 == w2c_i1;
+  if (w2c_i0) {goto w2c_B19;}
+  w2c_i0 = w2c_l12;
+  w2c_i1 = 28857u;
+  w2c_i0 = w2c_i0 == w2c_i1;
+  if (w2c_i0) {goto w2c_B20;}
+  w2c_i0 = w2c_l12;
+  w2c_i1 = 40670u;
+  w2c_i0 = w2c_i0 != w2c_i1;
+  if (w2c_i0) {goto w2c_B21;}
+  goto w2c_B20;
+  w2c_B22:;
+  w2c_i0 = 1u;
+  w2c_l15 = w2c_i0;
+  w2c_i0 = w2c_l12;
+  w2c_i1 = 95u;
+  w2c_i0 = w2c_i0 == w2c_i1;
+  if (w2c_i0) {goto w2c_B19;}
+  w2c_i0 = w2c_l12;
+  w2c_i1 = 4294967248u;
+  w2c_i0 += w2c_i1;
+  w2c_i1 = 10u;
+  w2c_i0 = w2c_i0 < w2c_i1;
+  if (w2c_i0) {goto w2c_B19;}
+  w2c_i0 = w2c_l12;
+  w2c_i1 = 95u;
+  w2c_i0 &= w2c_i1;
+  w2c_i1 = 4294967231u;
+  w2c_i0 += w2c_i1;
+  w2c_i1 = 26u;
+  w2c_i0 = w2c_i0 < w2c_i1;
+  if (w2c_i0) {goto w2c_B19;}
+  w2c_B21:;
+  w2c_i0 = w2c_l12;
+  w2c_i1 = 4294967252u;
+  w2c_i0 += w2c_i1;
+  w2c_i1 = 2u;
+  w2c_i0 = w2c_i0 <= w2c_i1;
+  if (w2c_i0) {goto w2c_B20;}
+  w2c_i0 = 0u;
+  w2c_l15 = w2c_i0;
+  goto w2c_B19;
+  w2c_B20:;
+  w2c_j0 = w2c_p1;
+  w2c_j1 = w2c_l4;
+  w2c_i0 = w2c_f25(m, w2c_j0, w2c_j1);
+  w2c_l15 = w2c_i0;
+  w2c_B19:;
+  w2c_i0 = 1u;
+  w2c_l16 = w2c_i0;
+  w2c_i0 = w2c_l12;
+  w2c_i1 = 22809u;
+  w2c_i0 = (u32)((s32)w2c_i0 > (s32)w2c_i1);
+  if (w2c_i0) {goto w2c_B36;}
+  w2c_i0 = w2c_l12;
+  w2c_i1 = 20313u;
+  w2c_i0 = w2c_i0 == w2c_i1;
+  if (w2c_i0) {goto w2c_B18;}
+  w2c_i0 = w2c_l12;
+  w2c_i1 = 20358u;
+  w2c_i0 = w2c_i0 == w2c_i1;
+  if (w2c_i0) {goto w2c_B18;}
+  w2c_i0 = w2c_l12;
+  w2c_i1 = 20960u;
+  w2c_i0 = w2c_i0 != w2c_i1;
+  if (w2c_i0) {goto w2c_B35;}
+  goto w2c_B18;
+  w2c_B36:;
+  w2c_i0 = w2c_l12;
+  w2c_i1 = 26468u;
+  w2c_i0 = (u32)((s32)w2c_i0 > (s32)w2c_i1);
+  if (w2c_i0) {goto w2c_B37;}
+  w2c_i0 = w2c_l12;
+  w2c_i1 = 22810u;
+  w2c_i0 = w2c_i0 == w2c_i1;
+  if (w2c_i0) {goto w2c_B18;}
+  w2c_i0 = w2c_l12;
+  w2c_i1 = 24190u;
+  w2c_i0 = w2c_i0 != w2c_i1;
+  if (w2c_i0) {goto w2c_B35;}
+  goto w2c_B18;
+  w2c_B37:;
+  w2c_i0 = w2c_l12;
+  w2c_i1 = 26469u;
+  w2c_i0 = w2c_i0 == w2c_i1;
+  if (w2c_i0) {goto w2c_B18;}
+  w2c_i0 = w2c_l12;
+  w2c_i1 = 39192u;
+  w2c_i0 = w2c_i0 == w2c_i1;
+  if (w2c_i0) {goto w2c_B18;}
+  w2c_B35:;
+  w2c_i0 = 0u;
+  w2c_l16 = w2c_i0;
+  w2c_B18:;
+  w2c_j0 = w2c_l6;
+  w2c_p1 = w2c_j0;
+  w2c_j0 = w2c_l5;
+  w2c_l2 = w2c_j0;
+  w2c_L40:
+    w2c_j0 = w2c_l2;
+    w2c_j1 = 3ull;
+    w2c_i0 = w2c_j0 < w2c_j1;
+    if (w2c_i0) {goto w2c_B43;}
+    w2c_j0 = w2c_p1;
+    w2c_i0 = (u32)(w2c_j0);
+    w2c_i0 = i32_load8_u(m, (u64)(w2c_i0));
+    w2c_l12 = w2c_i0;
+    w2c_i1 = 240u;
+    w2c_i0 &= w2c_i1;
+    w2c_i1 = 224u;
+    w2c_i0 = w2c_i0 != w2c_i1;
+    if (w2c_i0) {goto w2c_B42;}
+    w2c_j0 = w2c_p1;
+    w2c_i0 = (u32)(w2c_j0);
+    w2c_i0 = i32_load8_u(m, (u64)(w2c_i0) + 1u);
+    w2c_i1 = 8u;
+    w2c_i0 <<= (w2c_i1 & 31);
+    w2c_j1 = w2c_p1;
+    w2c_i1 = (u32)(w2c_j1);
+    w2c_i1 = i32_load8_u(m, (u64)(w2c_i1) + 2u);
+    w2c_i2 = 16u;
+    w2c_i1 <<= (w2c_i2 & 31);
+    w2c_i0 |= w2c_i1;
+    w2c_i1 = w2c_l12;
+    w2c_i0 |= w2c_i1;
+    w2c_l12 = w2c_i0;
+    w2c_j0 = (u64)(w2c_i0);
+    w2c_j1 = 953497ull;
+    w2c_j0 *= w2c_j1;
+    w2c_j1 = 22ull;
+    w2c_j0 >>= (w2c_j1 & 63);
+    w2c_j1 = 1016ull;
+    w2c_j0 &= w2c_j1;
+    w2c_l4 = w2c_j0;
+    w2c_i0 = (u32)(w2c_j0);
+    w2c_i0 = i32_load(m, (u64)(w2c_i0) + 66992u);
+    w2c_i1 = w2c_l12;
+    w2c_i0 = w2c_i0 != w2c_i1;
+    if (w2c_i0) {goto w2c_B39;}
+    w2c_j0 = w2c_l4;
+    w2c_j1 = 66996ull;
+    w2c_j0 += w2c_j1;
+    w2c_i0 = (u32)(w2c_j0);
+    w2c_i0 = i32_load8_u(m, (u64)(w2c_i0));
+    w2c_l13 = w2c_i0;
+    w2c_j0 = w2c_l2;
+    w2c_j1 = 18446744073709551613ull;
+    w2c_j0 += w2c_j1;
+    w2c_l2 = w2c_j0;
+    w2c_j0 = w2c_p1;
+    w2c_j1 = 3ull;
+    w2c_j0 += w2c_j1;
+    w2c_p1 = w2c_j0;
+    goto w2c_B41;
+    w2c_B43:;
+    w2c_j0 = w2c_l2;
+    w2c_i0 = !(w2c_j0);
+    w2c_i0 = !(w2c_i0);
+    if (w2c_i0) {goto w2c_B44;}
+    w2c_i0 = 1u;
+    w2c_l12 = w2c_i0;
+    goto w2c_B38;
+    w2c_B44:;
+    w2c_j0 = w2c_p1;
+    w2c_i0 = (u32)(w2c_j0);
+    w2c_i0 = i32_load8_u(m, (u64)(w2c_i0));
+    w2c_l12 = w2c_i0;
+    w2c_B42:;
+    w2c_j0 = 1ull;
+    w2c_l4 = w2c_j0;
+    w2c_i0 = w2c_l12;
+    w2c_i0 = (u32)(s32)(s8)(u8)(w2c_i0);
+    w2c_i1 = 4294967295u;
+    w2c_i0 = (u32)((s32)w2c_i0 > (s32)w2c_i1);
+    if (w2c_i0) {goto w2c_B45;}
+    w2c_j0 = w2c_p1;
+    w2c_i0 = (u32)(w2c_j0);
+    w2c_i0 = i32_load8_u(m, (u64)(w2c_i0) + 1u);
+    w2c_i1 = 63u;
+    w2c_i0 &= w2c_i1;
+    w2c_l13 = w2c_i0;
+    w2c_i0 = w2c_l12;
+    w2c_i1 = 223u;
+    w2c_i0 = w2c_i0 > w2c_i1;
+    if (w2c_i0) {goto w2c_B46;}
+    w2c_i0 = w2c_l12;
+    w2c_i1 = 6u;
+    w2c_i0 <<= (w2c_i1 & 31);
+    w2c_i1 = 1984u;
+    w2c_i0 &= w2c_i1;
+    w2c_i1 = w2c_l13;
+    w2c_i0 |= w2c_i1;
+    w2c_l12 = w2c_i0;
+    w2c_j0 = 2ull;
+    w2c_l4 = w2c_j0;
+    goto w2c_B45;
+    w2c_B46:;
+    w2c_j0 = w2c_p1;
+    w2c_i0 = (u32)(w2c_j0);
+    w2c_i0 = i32_load8_u(m, (u64)(w2c_i0) + 2u);
+    w2c_i1 = 63u;
+    w2c_i0 &= w2c_i1;
+    w2c_l14 = w2c_i0;
+    w2c_i0 = w2c_l12;
+    w2c_i1 = 239u;
+    w2c_i0 = w2c_i0 > w2c_i1;
+    if (w2c_i0) {goto w2c_B47;}
+    w2c_i0 = w2c_l13;
+    w2c_i1 = 6u;
+    w2c_i0 <<= (w2c_i1 & 31);
+    w2c_i1 = w2c_l12;
+    w2c_i2 = 12u;
+    w2c_i1 <<= (w2c_i2 & 31);
+    w2c_i2 = 61440u;
+    w2c_i1 &= w2c_i2;
+    w2c_i0 |= w2c_i1;
+    w2c_i1 = w2c_l14;
+    w2c_i0 |= w2c_i1;
+    w2c_l12 = w2c_i0;
+    w2c_j0 = 3ull;
+    w2c_l4 = w2c_j0;
+    goto w2c_B45;
+    w2c_B47:;
+    w2c_i0 = w2c_l14;
+    w2c_i1 = 6u;
+    w2c_i0 <<= (w2c_i1 & 31);
+    w2c_i1 = w2c_l13;
+    w2c_i2 = 12u;
+    w2c_i1 <<= (w2c_i2 & 31);
+    w2c_i2 = w2c_l12;
+    w2c_i3 = 18u;
+    w2c_i2 <<= (w2c_i3 & 31);
+    w2c_i3 = 1835008u;
+    w2c_i2 &= w2c_i3;
+    w2c_i1 |= w2c_i2;
+    w2c_i0 |= w2c_i1;
+    w2c_j1 = w2c_p1;
+    w2c_i1 = (u32)(w2c_j1);
+    w2c_i1 = i32_load8_u(m, (u64)(w2c_i1) + 3u);
+    w2c_i2 = 63u;
+    w2c_i1 &= w2c_i2;
+    w2c_i0 |= w2c_i1;
+    w2c_l12 = w2c_i0;
+    w2c_j0 = 4ull;
+    w2c_l4 = w2c_j0;
+    w2c_B45:;
+    w2c_j0 = w2c_l2;
+    w2c_j1 = w2c_l4;
+    w2c_j0 -= w2c_j1;
+    w2c_l2 = w2c_j0;
+    w2c_j0 = w2c_p1;
+    w2c_j1 = w2c_l4;
+    w2c_j0 += w2c_j1;
+    w2c_p1 = w2c_j0;
+    w2c_i0 = w2c_l12;
+    w2c_i1 = 4294965248u;
+    w2c_i0 += w2c_i1;
+    w2c_i1 = 63487u;
+    w2c_i0 = w2c_i0 > w2c_i1;
+    if (w2c_i0) {goto w2c_B48;}
+    w2c_i0 = w2c_l12;
+    w2c_i1 = 12u;
+    w2c_i0 >>= (w2c_i1 & 31);
+    w2c_i1 = w2c_l12;
+    w2c_i2 = 2u;
+    w2c_i1 <<= (w2c_i2 & 31);
+    w2c_i2 = 16128u;
+    w2c_i1 &= w2c_i2;
+    w2c_i0 |= w2c_i1;
+    w2c_i1 = w2c_l12;
+    w2c_i2 = 16u;
+    w2c_i1 <<= (w2c_i2 & 31);
+    w2c_i2 = 4128768u;
+    w2c_i1 &= w2c_i2;
+    w2c_i0 |= w2c_i1;
+    w2c_i1 = 8421600u;
+    w2c_i0 |= w2c_i1;
+    w2c_l12 = w2c_i0;
+    w2c_j0 = (u64)(w2c_i0);
+    w2c_j1 = 953497ull;
+    w2c_j0 *= w2c_j1;
+    w2c_j1 = 22ull;
+    w2c_j0 >>= (w2c_j1 & 63);
+    w2c_j1 = 1016ull;
+    w2c_j0 &= w2c_j1;
+    w2c_l4 = w2c_j0;
+    w2c_i0 = (u32)(w2c_j0);
+    w2c_i0 = i32_load(m, (u64)(w2c_i0) + 66992u);
+    w2c_i1 = w2c_l12;
+    w2c_i0 = w2c_i0 != w2c_i1;
+    if (w2c_i0) {goto w2c_B39;}
+    w2c_j0 = w2c_l4;
+    w2c_j1 = 66996ull;
+    w2c_j0 += w2c_j1;
+    w2c_i0 = (u32)(w2c_j0);
+    w2c_i0 = i32_load8_u(m, (u64)(w2c_i0));
+    w2c_l13 = w2c_i0;
+    goto w2c_B41;
+    w2c_B48:;
+    w2c_j0 = w2c_l3;
+    w2c_j1 = 24ull;
+    w2c_j0 += w2c_j1;
+    w2c_i1 = w2c_l12;
+    w2c_f18(m, w2c_j0, w2c_i1);
+    w2c_i0 = 0u;
+    w2c_l13 = w2c_i0;
+    w2c_j0 = w2c_l3;
+    w2c_i0 = (u32)(w2c_j0);
+    w2c_i0 = i32_load8_u(m, (u64)(w2c_i0) + 24u);
+    w2c_i1 = 1u;
+    w2c_i0 = w2c_i0 == w2c_i1;
+    if (w2c_i0) {goto w2c_B41;}
+    w2c_j0 = w2c_l3;
+    w2c_j1 = 16ull;
+    w2c_j0 += w2c_j1;
+    w2c_i1 = w2c_l12;
+    w2c_f19(m, w2c_j0, w2c_i1);
+    goto w2c_B39;
+    w2c_B41:;
+    w2c_i0 = w2c_l13;
+    w2c_i1 = 255u;
+    w2c_i0 &= w2c_i1;
+    w2c_i0 = !(w2c_i0);
+    if (w2c_i0) {goto w2c_L40;}
+  w2c_B39:;
+  w2c_i0 = 0u;
+  w2c_l12 = w2c_i0;
+  w2c_B38:;
+  w2c_j0 = w2c_l5;
+  w2c_i0 = !(w2c_j0);
+  w2c_i1 = w2c_l10;
+  w2c_i0 |= w2c_i1;
+  if (w2c_i0) {goto w2c_B53;}
+  w2c_j0 = w2c_l6;
+  w2c_i0 = (u32)(w2c_j0);
+  w2c_i0 = i32_load8_s(m, (u64)(w2c_i0));
+  w2c_l14 = w2c_i0;
+  w2c_i1 = 255u;
+  w2c_i0 &= w2c_i1;
+  w2c_l13 = w2c_i0;
+  w2c_i0 = w2c_l14;
+  w2c_i1 = 4294967295u;
+  w2c_i0 = (u32)((s32)w2c_i0 > (s32)w2c_i1);
+  if (w2c_i0) {goto w2c_B51;}
+  w2c_j0 = w2c_l6;
+  w2c_i0 = (u32)(w2c_j0);
+  w2c_i0 = i32_load8_u(m, (u64)(w2c_i0) + 1u);
+  w2c_i1 = 63u;
+  w2c_i0 &= w2c_i1;
+  w2c_l10 = w2c_i0;
+  w2c_i0 = w2c_l14;
+  w2c_i1 = 4294967263u;
+  w2c_i0 = w2c_i0 > w2c_i1;
+  if (w2c_i0) {goto w2c_B54;}
+  w2c_i0 = w2c_l13;
+  w2c_i1 = 6u;
+  w2c_i0 <<= (w2c_i1 & 31);
+  w2c_i1 = 1984u;
+  w2c_i0 &= w2c_i1;
+  w2c_i1 = w2c_l10;
+  w2c_i0 |= w2c_i1;
+  w2c_l13 = w2c_i0;
+  goto w2c_B51;
+  w2c_B54:;
+  w2c_j0 = w2c_l6;
+  w2c_i0 = (u32)(w2c_j0);
+  w2c_i0 = i32_load8_u(m, (u64)(w2c_i0) + 2u);
+  w2c_i1 = 63u;
+  w2c_i0 &= w2c_i1;
+  w2c_l17 = w2c_i0;
+  w2c_i0 = w2c_l14;
+  w2c_i1 = 4294967279u;
+  w2c_i0 = w2c_i0 > w2c_i1;
+  if (w2c_i0) {goto w2c_B52;}
+  w2c_i0 = w2c_l10;
+  w2c_i1 = 6u;
+  w2c_i0 <<= (w2c_i1 & 31);
+  w2c_i1 = w2c_l13;
+  w2c_i2 = 12u;
+  w2c_i1 <<= (w2c_i2 & 31);
+  w2c_i2 = 61440u;
+  w2c_i1 &= w2c_i2;
+  w2c_i0 |= w2c_i1;
+  w2c_i1 = w2c_l17;
+  w2c_i0 |= w2c_i1;
+  w2c_l13 = w2c_i0;
+  goto w2c_B51;
+  w2c_B53:;
+  w2c_i0 = w2c_l16;
+  w2c_i0 = !(w2c_i0);
+  if (w2c_i0) {goto w2c_B50;}
+  w2c_i0 = 4u;
+  w2c_l13 = w2c_i0;
+  goto w2c_B49;
+  w2c_B52:;
+  w2c_i0 = w2c_l17;
+  w2c_i1 = 6u;
+  w2c_i0 <<= (w2c_i1 & 31);
+  w2c_i1 = w2c_l10;
+  w2c_i2 = 12u;
+  w2c_i1 <<= (w2c_i2 & 31);
+  w2c_i2 = w2c_l13;
+  w2c_i3 = 18u;
+  w2c_i2 <<= (w2c_i3 & 31);
+  w2c_i3 = 1835008u;
+  w2c_i2 &= w2c_i3;
+  w2c_i1 |= w2c_i2;
+  w2c_i0 |= w2c_i1;
+  w2c_j1 = w2c_l6;
+  w2c_i1 = (u32)(w2c_j1);
+  w2c_i1 = i32_load8_u(m, (u64)(w2c_i1) + 3u);
+  w2c_i2 = 63u;
+  w2c_i1 &= w2c_i2;
+  w2c_i0 |= w2c_i1;
+  w2c_l13 = w2c_i0;
+  w2c_B51:;
+  w2c_j0 = w2c_l3;
+  w2c_j1 = 8ull;
+  w2c_j0 += w2c_j1;
+  w2c_i1 = w2c_l13;
+  w2c_f19(m, w2c_j0, w2c_i1);
+  w2c_i0 = w2c_l16;
+  w2c_j1 = w2c_l3;
+  w2c_i1 = (u32)(w2c_j1);
+  w2c_i1 = i32_load8_u(m, (u64)(w2c_i1) + 8u);
+  w2c_i2 = 255u;
+  w2c_i1 &= w2c_i2;
+  w2c_i2 = 1u;
+  w2c_i1 = w2c_i1 == w2c_i2;
+  w2c_i0 |= w2c_i1;
+  w2c_i0 = !(w2c_i0);
+  if (w2c_i0) {goto w2c_B50;}
+  w2c_i0 = 4u;
+  w2c_l13 = w2c_i0;
+  goto w2c_B49;
+  w2c_B50:;
+  w2c_i0 = 4u;
+  w2c_i1 = 0u;
+  w2c_j2 = w2c_l6;
+  w2c_j3 = w2c_l5;
+  w2c_i2 = w2c_f26(m, w2c_j2, w2c_j3);
+  w2c_i0 = w2c_i2 ? w2c_i0 : w2c_i1;
+  w2c_l13 = w2c_i0;
+  w2c_B49:;
+  w2c_j0 = w2c_l6;
+  w2c_j1 = w2c_l5;
+  w2c_i0 = w2c_f27(m, w2c_j0, w2c_j1);
+  w2c_l14 = w2c_i0;
+  w2c_j0 = w2c_p0;
+  w2c_i0 = (u32)(w2c_j0);
+  w2c_i1 = 0u;
+  i32_store(m, (u64)(w2c_i0) + 20, w2c_i1);
+  w2c_j0 = w2c_p0;
+  w2c_i0 = (u32)(w2c_j0);
+  w2c_j1 = w2c_l5;
+  w2c_j2 = w2c_l7;
+  w2c_j1 += w2c_j2;
+  i64_store(m, (u64)(w2c_i0) + 8, w2c_j1);
+  w2c_j0 = w2c_p0;
+  w2c_i0 = (u32)(w2c_j0);
+  w2c_j1 = w2c_l7;
+  i64_store(m, (u64)(w2c_i0), w2c_j1);
+  w2c_j0 = w2c_p0;
+  w2c_i0 = (u32)(w2c_j0);
+  w2c_i1 = w2c_l12;
+  w2c_i2 = 0u;
+  w2c_i3 = 0u;
+  w2c_i4 = 2u;
+  w2c_i5 = w2c_l15;
+  w2c_i3 = w2c_i5 ? w2c_i3 : w2c_i4;
+  w2c_i4 = w2c_l11;
+  w2c_i2 = w2c_i4 ? w2c_i2 : w2c_i3;
+  w2c_i1 |= w2c_i2;
+  w2c_i2 = w2c_l13;
+  w2c_i1 |= w2c_i2;
+  w2c_i2 = 8u;
+  w2c_i3 = 0u;
+  w2c_i4 = w2c_l14;
+  w2c_i2 = w2c_i4 ? w2c_i2 : w2c_i3;
+  w2c_i1 |= w2c_i2;
+  i32_store(m, (u64)(w2c_i0) + 16, w2c_i1);
+  w2c_j0 = w2c_l3;
+  w2c_j1 = 64ull;
+  w2c_j0 += w2c_j1;
+  m->w2c_g0 = w2c_j0;
+}
+
+static void w2c_f21(module *m, u64 w2c_p0, u64 w2c_p1) {
+  u32 w2c_l13 = 0, w2c_l14 = 0, w2c_l15 = 0, w2c_l16 = 0, w2c_l17 = 0, w2c_l18 = 0, w2c_l19 = 0, w2c_l20 = 0;
+  u64 w2c_l2 = 0, w2c_l3 = 0, w2c_l4 = 0, w2c_l5 = 0, w2c_l6 = 0, w2c_l7 = 0, w2c_l8 = 0, w2c_l9 = 0, w2c_l10 = 0, w2c_l11 = 0, w2c_l12 = 0;
+  u32 w2c_i0, w2c_i1, w2c_i2, w2c_i3, w2c_i4;
+  u64 w2c_j0, w2c_j1, w2c_j2, w2c_j3, w2c_j4, w2c_j5, w2c_j6;
+  w2c_j0 = m->w2c_g0;
+  w2c_j1 = 48ull;
+  w2c_j0 -= w2c_j1;
+  w2c_l2 = w2c_j0;
+  m->w2c_g0 = w2c_j0;
+  w2c_j0 = w2c_l2;
+  w2c_l2 = w2c_j0;
+  w2c_j1 = 16ull;
+  w2c_i0 = (u64)((s64)w2c_j0 < (s64)w2c_j1);
+  if (w2c_i0) {goto w2c_B0;}
+  w2c_j0 = w2c_p1;
+  w2c_j1 = 32ull;
+  w2c_j0 += w2c_j1;
+  w2c_i0 = (u32)(w2c_j0);
+  w2c_j0 = i64_load(m, (u64)(w2c_i0));
+  w2c_l3 = w2c_j0;
+  w2c_j0 = w2c_p1;
+  w2c_j1 = 24ull;
+  w2c_j0 += w2c_j1;
+  w2c_i0 = (u32)(w2c_j0);
+  w2c_j0 = i64_load(m, (u64)(w2c_i0));
+  w2c_l4 = w2c_j0;
+  w2c_j0 = w2c_p1;
+  w2c_j1 = 16ull;
+  w2c_j0 += w2c_j1;
+  w2c_i0 = (u32)(w2c_j0);
+  w2c_j0 = i64_load(m, (u64)(w2c_i0));
+  w2c_l5 = w2c_j0;
+  w2c_j0 = w2c_p1;
+  w2c_j1 = 8ull;
+  w2c_j0 += w2c_j1;
+  w2c_i0 = (u32)(w2c_j0);
+  w2c_j0 = i64_load(m, (u64)(w2c_i0));
+  w2c_l6 = w2c_j0;
+  w2c_j0 = w2c_p1;
+  w2c_i0 = (u32)(w2c_j0);
+  w2c_i0 = i32_load8_u(m, (u64)(w2c_i0) + 1u);
+  w2c_l13 = w2c_i0;
+  w2c_j0 = w2c_p1;
+  w2c_i0 = (u32)(w2c_j0);
+  w2c_i0 = i32_load8_u(m, (u64)(w2c_i0));
+  w2c_l14 = w2c_i0;
+  w2c_L2:
+    w2c_j0 = w2c_l4;
+    w2c_l7 = w2c_j0;
+    w2c_j0 = w2c_l3;
+    w2c_l8 = w2c_j0;
+    w2c_j1 = 3ull;
+    w2c_i0 = w2c_j0 < w2c_j1;
+    if (w2c_i0) {goto w2c_B5;}
+    w2c_j0 = w2c_l7;
+    w2c_i0 = (u32)(w2c_j0);
+    w2c_i0 = i32_load8_u(m, (u64)(w2c_i0));
+    w2c_l15 = w2c_i0;
+    w2c_i1 = 240u;
+    w2c_i0 &= w2c_i1;
+    w2c_i1 = 224u;
+    w2c_i0 = w2c_i0 != w2c_i1;
+    if (w2c_i0) {goto w2c_B4;}
+    w2c_j0 = w2c_l7;
+    w2c_i0 = (u32)(w2c_j0);
+    w2c_i0 = i32_load8_u(m, (u64)(w2c_i0) + 1u);
+    w2c_l16 = w2c_i0;
+    w2c_i1 = 8u;
+    w2c_i0 <<= (w2c_i1 & 31);
+    w2c_j1 = w2c_l7;
+    w2c_i1 = (u32)(w2c_j1);
+    w2c_i1 = i32_load8_u(m, (u64)(w2c_i1) + 2u);
+    w2c_l17 = w2c_i1;
+    w2c_i2 = 16u;
+    w2c_i1 <<= (w2c_i2 & 31);
+    w2c_i0 |= w2c_i1;
+    w2c_i1 = w2c_l15;
+    w2c_i0 |= w2c_i1;
+    w2c_l18 = w2c_i0;
+    w2c_j0 = (u64)(w2c_i0);
+    w2c_j1 = 953497ull;
+    w2c_j0 *= w2c_j1;
+    w2c_j1 = 22ull;
+    w2c_j0 >>= (w2c_j1 & 63);
+    w2c_j1 = 1016ull;
+    w2c_j0 &= w2c_j1;
+    w2c_l3 = w2c_j0;
+    w2c_j1 = 66997ull;
+    w2c_j0 += w2c_j1;
+    w2c_i0 = (u32)(w2c_j0);
+    w2c_i0 = i32_load8_u(m, (u64)(w2c_i0));
+    w2c_i1 = 0u;
+    w2c_j2 = w2c_l3;
+    w2c_i2 = (u32)(w2c_j2);
+    w2c_i2 = i32_load(m, (u64)(w2c_i2) + 66992u);
+    w2c_i3 = w2c_l18;
+    w2c_i2 = w2c_i2 == w2c_i3;
+    w2c_l18 = w2c_i2;
+    w2c_i0 = w2c_i2 ? w2c_i0 : w2c_i1;
+    w2c_l19 = w2c_i0;
+    w2c_j0 = w2c_l3;
+    w2c_j1 = 66996ull;
+    w2c_j0 += w2c_j1;
+    w2c_i0 = (u32)(w2c_j0);
+    w2c_i0 = i32_load8_u(m, (u64)(w2c_i0));
+    w2c_i1 = 2u;
+    w2c_i2 = w2c_l18;
+    w2c_i0 = w2c_i2 ? w2c_i0 : w2c_i1;
+    w2c_l18 = w2c_i0;
+    w2c_i0 = w2c_l15;
+    w2c_i1 = 12u;
+    w2c_i0 <<= (w2c_i1 & 31);
+    w2c_i1 = w2c_l16;
+    w2c_i2 = 6u;
+    w2c_i1 <<= (w2c_i2 & 31);
+    w2c_i0 += w2c_i1;
+    w2c_i1 = w2c_l17;
+    w2c_i0 += w2c_i1;
+    w2c_i1 = 4294041472u;
+    w2c_i0 += w2c_i1;
+    w2c_l16 = w2c_i0;
+    w2c_j0 = w2c_l8;
+    w2c_j1 = 18446744073709551613ull;
+    w2c_j0 += w2c_j1;
+    w2c_l3 = w2c_j0;
+    w2c_j0 = w2c_l7;
+    w2c_j1 = 3ull;
+    w2c_j0 += w2c_j1;
+    w2c_l4 = w2c_j0;
+    goto w2c_B3;
+    w2c_B5:;
+    w2c_j0 = w2c_l8;
+    w2c_i0 = !(w2c_j0);
+    w2c_i0 = !(w2c_i0);
+    if (w2c_i0) {goto w2c_B6;}
+    w2c_j0 = 0ull;
+    w2c_l8 = w2c_j0;
+    w2c_j0 = 66332ull;
+    w2c_l3 = w2c_j0;
+    w2c_j0 = 0ull;
+    w2c_l6 = w2c_j0;
+    w2c_j0 = 0ull;
+    w2c_l9 = w2c_j0;
+    w2c_j0 = 0ull;
+    w2c_l7 = w2c_j0;
+    w2c_j0 = 0ull;
+    w2c_l10 = w2c_j0;
+    w2c_j0 = 0ull;
+    w2c_l11 = w2c_j0;
+    w2c_j0 = 0ull;
+    w2c_l4 = w2c_j0;
+    goto w2c_B1;
+    w2c_B6:;
+    w2c_j0 = w2c_l7;
+    w2c_i0 = (u32)(w2c_j0);
+    w2c_i0 = i32_load8_u(m, (u64)(w2c_i0));
+    w2c_l15 = w2c_i0;
+    w2c_B4:;
+    w2c_j0 = 1ull;
+    w2c_l4 = w2c_j0;
+    w2c_i0 = w2c_l15;
+    w2c_i0 = (u32)(s32)(s8)(u8)(w2c_i0);
+    w2c_i1 = 4294967295u;
+    w2c_i0 = (u32)((s32)w2c_i0 <= (s32)w2c_i1);
+    if (w2c_i0) {goto w2c_B8;}
+    w2c_i0 = w2c_l15;
+    w2c_l16 = w2c_i0;
+    goto w2c_B7;
+    w2c_B8:;
+    w2c_j0 = w2c_l7;
+    w2c_i0 = (u32)(w2c_j0);
+    w2c_i0 = i32_load8_u(m, (u64)(w2c_i0) + 1u);
+    w2c_i1 = 63u;
+    w2c_i0 &= w2c_i1;
+    w2c_l16 = w2c_i0;
+    w2c_i0 = w2c_l15;
+    w2c_i1 = 223u;
+    w2c_i0 = w2c_i0 > w2c_i1;
+    if (w2c_i0) {goto w2c_B9;}
+    w2c_i0 = w2c_l15;
+    w2c_i1 = 6u;
+    w2c_i0 <<= (w2c_i1 & 31);
+    w2c_i1 = 1984u;
+    w2c_i0 &= w2c_i1;
+    w2c_i1 = w2c_l16;
+    w2c_i0 |= w2c_i1;
+    w2c_l16 = w2c_i0;
+    w2c_j0 = 2ull;
+    w2c_l4 = w2c_j0;
+    goto w2c_B7;
+    w2c_B9:;
+    w2c_j0 = w2c_l7;
+    w2c_i0 = (u32)(w2c_j0);
+    w2c_i0 = i32_load8_u(m, (u64)(w2c_i0) + 2u);
+    w2c_i1 = 63u;
+    w2c_i0 &= w2c_i1;
+    w2c_l17 = w2c_i0;
+    w2c_i0 = w2c_l15;
+    w2c_i1 = 239u;
+    w2c_i0 = w2c_i0 > w2c_i1;
+    if (w2c_i0) {goto w2c_B10;}
+    w2c_i0 = w2c_l16;
+    w2c_i1 = 6u;
+    w2c_i0 <<= (w2c_i1 & 31);
+    w2c_i1 = w2c_l15;
+    w2c_i2 = 12u;
+    w2c_i1 <<= (w2c_i2 & 31);
+    w2c_i2 = 61440u;
+    w2c_i1 &= w2c_i2;
+    w2c_i0 |= w2c_i1;
+    w2c_i1 = w2c_l17;
+    w2c_i0 |= w2c_i1;
+    w2c_l16 = w2c_i0;
+    w2c_j0 = 3ull;
+    w2c_l4 = w2c_j0;
+    goto w2c_B7;
+    w2c_B10:;
+    w2c_i0 = w2c_l17;
+    w2c_i1 = 6u;
+    w2c_i0 <<= (w2c_i1 & 31);
+    w2c_i1 = w2c_l16;
+    w2c_i2 = 12u;
+    w2c_i1 <<= (w2c_i2 & 31);
+    w2c_i2 = w2c_l15;
+    w2c_i3 = 18u;
+    w2c_i2 <<= (w2c_i3 & 31);
+    w2c_i3 = 1835008u;
+    w2c_i2 &= w2c_i3;
+    w2c_i1 |= w2c_i2;
+    w2c_i0 |= w2c_i1;
+    w2c_j1 = w2c_l7;
+    w2c_i1 = (u32)(w2c_j1);
+    w2c_i1 = i32_load8_u(m, (u64)(w2c_i1) + 3u);
+    w2c_i2 = 63u;
+    w2c_i1 &= w2c_i2;
+    w2c_i0 |= w2c_i1;
+    w2c_l16 = w2c_i0;
+    w2c_j0 = 4ull;
+    w2c_l4 = w2c_j0;
+    w2c_B7:;
+    w2c_j0 = w2c_l8;
+    w2c_j1 = w2c_l4;
+    w2c_j0 -= w2c_j1;
+    w2c_l3 = w2c_j0;
+    w2c_j0 = w2c_l7;
+    w2c_j1 = w2c_l4;
+    w2c_j0 += w2c_j1;
+    w2c_l4 = w2c_j0;
+    w2c_i0 = w2c_l16;
+    w2c_i1 = 4294965248u;
+    w2c_i0 += w2c_i1;
+    w2c_i1 = 63487u;
+    w2c_i0 = w2c_i0 > w2c_i1;
+    if (w2c_i0) {goto w2c_B11;}
+    w2c_i0 = w2c_l16;
+    w2c_i1 = 12u;
+    w2c_i0 >>= (w2c_i1 & 31);
+    w2c_i1 = w2c_l16;
+    w2c_i2 = 2u;
+    w2c_i1 <<= (w2c_i2 & 31);
+    w2c_i2 = 16128u;
+    w2c_i1 &= w2c_i2;
+    w2c_i0 |= w2c_i1;
+    w2c_i1 = w2c_l16;
+    w2c_i2 = 16u;
+    w2c_i1 <<= (w2c_i2 & 31);
+    w2c_i2 = 4128768u;
+    w2c_i1 &= w2c_i2;
+    w2c_i0 |= w2c_i1;
+    w2c_i1 = 8421600u;
+    w2c_i0 |= w2c_i1;
+    w2c_l17 = w2c_i0;
+    w2c_j0 = (u64)(w2c_i0);
+    w2c_j1 = 953497ull;
+    w2c_j0 *= w2c_j1;
+    w2c_j1 = 22ull;
+    w2c_j0 >>= (w2c_j1 & 63);
+    w2c_j1 = 1016ull;
+    w2c_j0 &= w2c_j1;
+    w2c_l10 = w2c_j0;
+    w2c_j1 = 66997ull;
+    w2c_j0 += w2c_j1;
+    w2c_i0 = (u32)(w2c_j0);
+    w2c_i0 = i32_load8_u(m, (u64)(w2c_i0));
+    w2c_i1 = 0u;
+    w2c_j2 = w2c_l10;
+    w2c_i2 = (u32)(w2c_j2);
+    w2c_i2 = i32_load(m, (u64)(w2c_i2) + 66992u);
+    w2c_i3 = w2c_l17;
+    w2c_i2 = w2c_i2 == w2c_i3;
+    w2c_l17 = w2c_i2;
+    w2c_i0 = w2c_i2 ? w2c_i0 : w2c_i1;
+    w2c_l19 = w2c_i0;
+    w2c_j0 = w2c_l10;
+    w2c_j1 = 66996ull;
+    w2c_j0 += w2c_j1;
+    w2c_i0 = (u32)(w2c_j0);
+    w2c_i0 = i32_load8_u(m, (u64)(w2c_i0));
+    w2c_i1 = 2u;
+    w2c_i2 = w2c_l17;
+    w2c_i0 = w2c_i2 ? w2c_i0 : w2c_i1;
+    w2c_l18 = w2c_i0;
+    goto w2c_B3;
+    w2c_B11:;
+    w2c_j0 = w2c_l2;
+    w2c_j1 = 40ull;
+    w2c_j0 += w2c_j1;
+    w2c_i1 = w2c_l16;
+    w2c_f18(m, w2c_j0, w2c_i1);
+    w2c_j0 = w2c_l2;
+    w2c_i0 = (u32)(w2c_j0);
+    w2c_i0 = i32_load8_u(m, (u64)(w2c_i0) + 40u);
+    w2c_i1 = 1u;
+    w2c_i0 = w2c_i0 != w2c_i1;
+    if (w2c_i0) {goto w2c_B12;}
+    w2c_j0 = w2c_l2;
+    w2c_i0 = (u32)(w2c_j0);
+    w2c_i0 = i32_load8_u(m, (u64)(w2c_i0) + 41u);
+    w2c_l19 = w2c_i0;
+    w2c_i0 = 0u;
+    w2c_l18 = w2c_i0;
+    goto w2c_B3;
+    w2c_B12:;
+    w2c_j0 = w2c_l2;
+    w2c_j1 = 32ull;
+    w2c_j0 += w2c_j1;
+    w2c_i1 = w2c_l16;
+    w2c_f19(m, w2c_j0, w2c_i1);
+    w2c_j0 = w2c_l2;
+    w2c_i0 = (u32)(w2c_j0);
+    w2c_i0 = i32_load8_u(m, (u64)(w2c_i0) + 33u);
+    w2c_i1 = 0u;
+    w2c_j2 = w2c_l2;
+    w2c_i2 = (u32)(w2c_j2);
+    w2c_i2 = i32_load8_u(m, (u64)(w2c_i2) + 32u);
+    w2c_i3 = 1u;
+    w2c_i2 = w2c_i2 == w2c_i3;
+    w2c_l17 = w2c_i2;
+    w2c_i0 = w2c_i2 ? w2c_i0 : w2c_i1;
+    w2c_l19 = w2c_i0;
+    w2c_i0 = 1u;
+    w2c_i1 = 2u;
+    w2c_i2 = w2c_l17;
+    w2c_i0 = w2c_i2 ? w2c_i0 : w2c_i1;
+    w2c_l18 = w2c_i0;
+    w2c_B3:;
+    w2c_j0 = w2c_l5;
+    w2c_j1 = w2c_l8;
+    w2c_j0 -= w2c_j1;
+    w2c_l9 = w2c_j0;
+    w2c_i0 = w2c_l16;
+    w2c_i1 = 21317u;
+    w2c_i0 = w2c_i0 == w2c_i1;
+    if (w2c_i0) {goto w2c_B13;}
+    w2c_i0 = w2c_l16;
+    w2c_i1 = 24319u;
+    w2c_i0 = w2c_i0 == w2c_i1;
+    if (w2c_i0) {goto w2c_B13;}
+    w2c_i0 = w2c_l16;
+    w2c_i1 = 4294902000u;
+    w2c_i0 += w2c_i1;
+    w2c_l17 = w2c_i0;
+    w2c_i1 = 10u;
+    w2c_i0 = w2c_i0 < w2c_i1;
+    if (w2c_i0) {goto w2c_B16;}
+    w2c_i0 = w2c_l16;
+    w2c_i1 = 28856u;
+    w2c_i0 = (u32)((s32)w2c_i0 > (s32)w2c_i1);
+    if (w2c_i0) {goto w2c_B19;}
+    w2c_i0 = w2c_l16;
+    w2c_i1 = 20042u;
+    w2c_i0 = (u32)((s32)w2c_i0 > (s32)w2c_i1);
+    if (w2c_i0) {goto w2c_B20;}
+    w2c_i0 = w2c_l16;
+    w2c_i1 = 4294967264u;
+    w2c_i0 += w2c_i1;
+    switch (w2c_i0) {
+      case 0: goto w2c_B14;
+      case 1: goto w2c_B17;
+      case 2: goto w2c_B17;
+      case 3: goto w2c_B17;
+      case 4: goto w2c_B17;
+      case 5: goto w2c_B14;
+      default: goto w2c_B18;
+    }
+    w2c_B20:;
+    w2c_i0 = w2c_l16;
+    w2c_i1 = 20043u;
+    w2c_i0 = w2c_i0 == w2c_i1;
+    if (w2c_i0) {goto w2c_B14;}
+    w2c_i0 = w2c_l16;
+    w2c_i1 = 20998u;
+    w2c_i0 = w2c_i0 != w2c_i1;
+    if (w2c_i0) {goto w2c_B17;}
+    goto w2c_B14;
+    w2c_B19:;
+    w2c_i0 = w2c_l16;
+    w2c_i1 = 36126u;
+    w2c_i0 = (u32)((s32)w2c_i0 > (s32)w2c_i1);
+    if (w2c_i0) {goto w2c_B21;}
+    w2c_i0 = w2c_l16;
+    w2c_i1 = 28857u;
+    w2c_i0 = w2c_i0 == w2c_i1;
+    if (w2c_i0) {goto w2c_B14;}
+    w2c_i0 = w2c_l16;
+    w2c_i1 = 36000u;
+    w2c_i0 = w2c_i0 != w2c_i1;
+    if (w2c_i0) {goto w2c_B17;}
+    goto w2c_B14;
+    w2c_B21:;
+    w2c_i0 = w2c_l16;
+    w2c_i1 = 36127u;
+    w2c_i0 = w2c_i0 == w2c_i1;
+    if (w2c_i0) {goto w2c_B14;}
+    w2c_i0 = w2c_l16;
+    w2c_i1 = 40670u;
+    w2c_i0 = w2c_i0 == w2c_i1;
+    if (w2c_i0) {goto w2c_B14;}
+    w2c_i0 = w2c_l16;
+    w2c_i1 = 65285u;
+    w2c_i0 = w2c_i0 == w2c_i1;
+    if (w2c_i0) {goto w2c_B14;}
+    goto w2c_B17;
+    w2c_B18:;
+    w2c_i0 = w2c_l16;
+    w2c_i1 = 8722u;
+    w2c_i0 = w2c_i0 == w2c_i1;
+    if (w2c_i0) {goto w2c_B14;}
+    w2c_B17:;
+    w2c_i0 = w2c_l16;
+    w2c_i1 = 44u;
+    w2c_i0 = w2c_i0 < w2c_i1;
+    if (w2c_i0) {goto w2c_B15;}
+    w2c_i0 = w2c_l16;
+    w2c_i1 = 47u;
+    w2c_i0 = w2c_i0 < w2c_i1;
+    if (w2c_i0) {goto w2c_B16;}
+    w2c_i0 = w2c_l16;
+    w2c_i1 = 4294902003u;
+    w2c_i0 += w2c_i1;
+    w2c_i1 = 1u;
+    w2c_i0 = w2c_i0 > w2c_i1;
+    if (w2c_i0) {goto w2c_B15;}
+    w2c_B16:;
+    w2c_i0 = w2c_l16;
+    w2c_i1 = 21317u;
+    w2c_i0 = w2c_i0 == w2c_i1;
+    if (w2c_i0) {goto w2c_B13;}
+    w2c_i0 = w2c_l16;
+    w2c_i1 = 24319u;
+    w2c_i0 = w2c_i0 == w2c_i1;
+    if (w2c_i0) {goto w2c_B13;}
+    w2c_i0 = w2c_l17;
+    w2c_i1 = 10u;
+    w2c_i0 = w2c_i0 >= w2c_i1;
+    if (w2c_i0) {goto w2c_B14;}
+    goto w2c_B13;
+    w2c_B15:;
+    w2c_i0 = w2c_l18;
+    w2c_i1 = 255u;
+    w2c_i0 &= w2c_i1;
+    w2c_i1 = 2u;
+    w2c_i0 = w2c_i0 == w2c_i1;
+    if (w2c_i0) {goto w2c_L2;}
+    w2c_i0 = w2c_l14;
+    w2c_i1 = w2c_l13;
+    w2c_i2 = w2c_l16;
+    w2c_i3 = w2c_l18;
+    w2c_i4 = w2c_l19;
+    w2c_j5 = w2c_l4;
+    w2c_j6 = w2c_l3;
+    w2c_i0 = w2c_f17(m, w2c_i0, w2c_i1, w2c_i2, w2c_i3, w2c_i4, w2c_j5, w2c_j6);
+    w2c_i0 = !(w2c_i0);
+    if (w2c_i0) {goto w2c_L2;}
+    goto w2c_B13;
+    w2c_B14:;
+    w2c_i0 = w2c_l14;
+    w2c_i1 = w2c_l13;
+    w2c_j2 = w2c_l6;
+    w2c_j3 = w2c_l9;
+    w2c_i4 = w2c_l16;
+    w2c_j5 = w2c_l4;
+    w2c_j6 = w2c_l3;
+    w2c_i0 = w2c_f28(m, w2c_i0, w2c_i1, w2c_j2, w2c_j3, w2c_i4, w2c_j5, w2c_j6);
+    w2c_i0 = !(w2c_i0);
+    if (w2c_i0) {goto w2c_L2;}
+    w2c_B13:;
+  w2c_i0 = w2c_l15;
+  w2c_i0 = (u32)(s32)(s8)(u8)(w2c_i0);
+  w2c_i1 = 4294967295u;
+  w2c_i0 = (u32)((s32)w2c_i0 <= (s32)w2c_i1);
+  if (w2c_i0) {goto w2c_B23;}
+  w2c_j0 = 1ull;
+  w2c_l3 = w2c_j0;
+  goto w2c_B22;
+  w2c_B23:;
+  w2c_j0 = w2c_l7;
+  w2c_i0 = (u32)(w2c_j0);
+  w2c_i0 = i32_load8_u(m, (u64)(w2c_i0) + 1u);
+  w2c_i1 = 63u;
+  w2c_i0 &= w2c_i1;
+  w2c_l16 = w2c_i0;
+  w2c_i0 = w2c_l15;
+  w2c_i1 = 223u;
+  w2c_i0 = w2c_i0 > w2c_i1;
+  if (w2c_i0) {goto w2c_B24;}
+  w2c_i0 = w2c_l15;
+  w2c_i1 = 6u;
+  w2c_i0 <<= (w2c_i1 & 31);
+  w2c_i1 = 1984u;
+  w2c_i0 &= w2c_i1;
+  w2c_i1 = w2c_l16;
+  w2c_i0 |= w2c_i1;
+  w2c_l15 = w2c_i0;
+  w2c_j0 = 2ull;
+  w2c_l3 = w2c_j0;
+  goto w2c_B22;
+  w2c_B24:;
+  w2c_j0 = w2c_l7;
+  w2c_i0 = (u32)(w2c_j0);
+  w2c_i0 = i32_load8_u(m, (u64)(w2c_i0) + 2u);
+  w2c_i1 = 63u;
+  w2c_i0 &= w2c_i1;
+  w2c_l17 = w2c_i0;
+  w2c_i0 = w2c_l15;
+  w2c_i1 = 239u;
+  w2c_i0 = w2c_i0 > w2c_i1;
+  if (w2c_i0) {goto w2c_B25;}
+  w2c_i0 = w2c_l16;
+  w2c_i1 = 6u;
+  w2c_i0 <<= (w2c_i1 & 31);
+  w2c_i1 = w2c_l15;
+  w2c_i2 = 12u;
+  w2c_i1 <<= (w2c_i2 & 31);
+  w2c_i2 = 61440u;
+  w2c_i1 &= w2c_i2;
+  w2c_i0 |= w2c_i1;
+  w2c_i1 = w2c_l17;
+  w2c_i0 |= w2c_i1;
+  w2c_l15 = w2c_i0;
+  w2c_j0 = 3ull;
+  w2c_l3 = w2c_j0;
+  goto w2c_B22;
+  w2c_B25:;
+  w2c_i0 = w2c_l17;
+  w2c_i1 = 6u;
+  w2c_i0 <<= (w2c_i1 & 31);
+  w2c_i1 = w2c_l16;
+  w2c_i2 = 12u;
+  w2c_i1 <<= (w2c_i2 & 31);
+  w2c_i2 = w2c_l15;
+  w2c_i3 = 18u;
+  w2c_i2 <<= (w2c_i3 & 31);
+  w2c_i3 = 1835008u;
+  w2c_i2 &= w2c_i3;
+  w2c_i1 |= w2c_i2;
+  w2c_i0 |= w2c_i1;
+  w2c_j1 = w2c_l7;
+  w2c_i1 = (u32)(w2c_j1);
+  w2c_i1 = i32_load8_u(m, (u64)(w2c_i1) + 3u);
+  w2c_i2 = 63u;
+  w2c_i1 &= w2c_i2;
+  w2c_i0 |= w2c_i1;
+  w2c_l15 = w2c_i0;
+  w2c_j0 = 4ull;
+  w2c_l3 = w2c_j0;
+  w2c_B22:;
+  w2c_j0 = w2c_l8;
+  w2c_j1 = w2c_l3;
+  w2c_j0 -= w2c_j1;
+  w2c_l11 = w2c_j0;
+  w2c_j0 = w2c_l7;
+  w2c_j1 = w2c_l3;
+  w2c_j0 += w2c_j1;
+  w2c_l10 = w2c_j0;
+  w2c_L27:
+    w2c_j0 = w2c_l10;
+    w2c_l3 = w2c_j0;
+    w2c_j0 = w2c_l11;
+    w2c_l4 = w2c_j0;
+    w2c_j1 = 3ull;
+    w2c_i0 = w2c_j0 < w2c_j1;
+    if (w2c_i0) {goto w2c_B30;}
+    w2c_j0 = w2c_l3;
+    w2c_i0 = (u32)(w2c_j0);
+    w2c_i0 = i32_load8_u(m, (u64)(w2c_i0));
+    w2c_l16 = w2c_i0;
+    w2c_i1 = 240u;
+    w2c_i0 &= w2c_i1;
+    w2c_i1 = 224u;
+    w2c_i0 = w2c_i0 != w2c_i1;
+    if (w2c_i0) {goto w2c_B29;}
+    w2c_j0 = w2c_l3;
+    w2c_i0 = (u32)(w2c_j0);
+    w2c_i0 = i32_load8_u(m, (u64)(w2c_i0) + 1u);
+    w2c_l19 = w2c_i0;
+    w2c_i1 = 8u;
+    w2c_i0 <<= (w2c_i1 & 31);
+    w2c_j1 = w2c_l3;
+    w2c_i1 = (u32)(w2c_j1);
+    w2c_i1 = i32_load8_u(m, (u64)(w2c_i1) + 2u);
+    w2c_l20 = w2c_i1;
+    w2c_i2 = 16u;
+    w2c_i1 <<= (w2c_i2 & 31);
+    w2c_i0 |= w2c_i1;
+    w2c_i1 = w2c_l16;
+    w2c_i0 |= w2c_i1;
+    w2c_l17 = w2c_i0;
+    w2c_j0 = (u64)(w2c_i0);
+    w2c_j1 = 953497ull;
+    w2c_j0 *= w2c_j1;
+    w2c_j1 = 22ull;
+    w2c_j0 >>= (w2c_j1 & 63);
+    w2c_j1 = 1016ull;
+    w2c_j0 &= w2c_j1;
+    w2c_l10 = w2c_j0;
+    w2c_j1 = 66997ull;
+    w2c_j0 += w2c_j1;
+    w2c_i0 = (u32)(w2c_j0);
+    w2c_i0 = i32_load8_u(m, (u64)(w2c_i0));
+    w2c_i1 = 0u;
+    w2c_j2 = w2c_l10;
+    w2c_i2 = (u32)(w2c_j2);
+    w2c_i2 = i32_load(m, (u64)(w2c_i2) + 66992u);
+    w2c_i3 = w2c_l17;
+    w2c_i2 = w2c_i2 == w2c_i3;
+    w2c_l17 = w2c_i2;
+    w2c_i0 = w2c_i2 ? w2c_i0 : w2c_i1;
+    w2c_l18 = w2c_i0;
+    w2c_j0 = w2c_l10;
+    w2c_j1 = 66996ull;
+    w2c_j0 += w2c_j1;
+    w2c_i0 = (u32)(w2c_j0);
+    w2c_i0 = i32_load8_u(m, (u64)(w2c_i0));
+    w2c_i1 = 2u;
+    w2c_i2 = w2c_l17;
+    w2c_i0 = w2c_i2 ? w2c_i0 : w2c_i1;
+    w2c_l17 = w2c_i0;
+    w2c_i0 = w2c_l16;
+    w2c_i1 = 12u;
+    w2c_i0 <<= (w2c_i1 & 31);
+    w2c_i1 = w2c_l19;
+    w2c_i2 = 6u;
+    w2c_i1 <<= (w2c_i2 & 31);
+    w2c_i0 += w2c_i1;
+    w2c_i1 = w2c_l20;
+    w2c_i0 += w2c_i1;
+    w2c_i1 = 4294041472u;
+    w2c_i0 += w2c_i1;
+    w2c_l16 = w2c_i0;
+    w2c_j0 = w2c_l4;
+    w2c_j1 = 18446744073709551613ull;
+    w2c_j0 += w2c_j1;
+    w2c_l11 = w2c_j0;
+    w2c_j0 = w2c_l3;
+    w2c_j1 = 3ull;
+    w2c_j0 += w2c_j1;
+    w2c_l10 = w2c_j0;
+    goto w2c_B28;
+    w2c_B30:;
+    w2c_j0 = w2c_l4;
+    w2c_i0 = !(w2c_j0);
+    if (w2c_i0) {goto w2c_B26;}
+    w2c_j0 = w2c_l3;
+    w2c_i0 = (u32)(w2c_j0);
+    w2c_i0 = i32_load8_u(m, (u64)(w2c_i0));
+    w2c_l16 = w2c_i0;
+    w2c_B29:;
+    w2c_j0 = 1ull;
+    w2c_l10 = w2c_j0;
+    w2c_i0 = w2c_l16;
+    w2c_i0 = (u32)(s32)(s8)(u8)(w2c_i0);
+    w2c_i1 = 4294967295u;
+    w2c_i0 = (u32)((s32)w2c_i0 > (s32)w2c_i1);
+    if (w2c_i0) {goto w2c_B31;}
+    w2c_j0 = w2c_l3;
+    w2c_i0 = (u32)(w2c_j0);
+    w2c_i0 = i32_load8_u(m, (u64)(w2c_i0) + 1u);
+    w2c_i1 = 63u;
+    w2c_i0 &= w2c_i1;
+    w2c_l17 = w2c_i0;
+    w2c_i0 = w2c_l16;
+    w2c_i1 = 223u;
+    w2c_i0 = w2c_i0 > w2c_i1;
+    if (w2c_i0) {goto w2c_B32;}
+    w2c_i0 = w2c_l16;
+    w2c_i1 = 6u;
+    w2c_i0 <<= (w2c_i1 & 31);
+    w2c_i1 = 1984u;
+    w2c_i0 &= w2c_i1;
+    w2c_i1 = w2c_l17;
+    w2c_i0 |= w2c_i1;
+    w2c_l16 = w2c_i0;
+    w2c_j0 = 2ull;
+    w2c_l10 = w2c_j0;
+    goto w2c_B31;
+    w2c_B32:;
+    w2c_j0 = w2c_l3;
+    w2c_i0 = (u32)(w2c_j0);
+    w2c_i0 = i32_load8_u(m, (u64)(w2c_i0) + 2u);
+    w2c_i1 = 63u;
+    w2c_i0 &= w2c_i1;
+    w2c_l18 = w2c_i0;
+    w2c_i0 = w2c_l16;
+    w2c_i1 = 239u;
+    w2c_i0 = w2c_i0 > w2c_i1;
+    if (w2c_i0) {goto w2c_B33;}
+    w2c_i0 = w2c_l17;
+    w2c_i1 = 6u;
+    w2c_i0 <<= (w2c_i1 & 31);
+    w2c_i1 = w2c_l16;
+    w2c_i2 = 12u;
+    w2c_i1 <<= (w2c_i2 & 31);
+    w2c_i2 = 61440u;
+    w2c_i1 &= w2c_i2;
+    w2c_i0 |= w2c_i1;
+    w2c_i1 = w2c_l18;
+    w2c_i0 |= w2c_i1;
+    w2c_l16 = w2c_i0;
+    w2c_j0 = 3ull;
+    w2c_l10 = w2c_j0;
+    goto w2c_B31;
+    w2c_B33:;
+    w2c_i0 = w2c_l18;
+    w2c_i1 = 6u;
+    w2c_i0 <<= (w2c_i1 & 31);
+    w2c_i1 = w2c_l17;
+    w2c_i2 = 12u;
+    w2c_i1 <<= (w2c_i2 & 31);
+    w2c_i2 = w2c_l16;
+    w2c_i3 = 18u;
+    w2c_i2 <<= (w2c_i3 & 31);
+    w2c_i3 = 1835008u;
+    w2c_i2 &= w2c_i3;
+    w2c_i1 |= w2c_i2;
+    w2c_i0 |= w2c_i1;
+    w2c_j1 = w2c_l3;
+    w2c_i1 = (u32)(w2c_j1);
+    w2c_i1 = i32_load8_u(m, (u64)(w2c_i1) + 3u);
+    w2c_i2 = 63u;
+    w2c_i1 &= w2c_i2;
+    w2c_i0 |= w2c_i1;
+    w2c_l16 = w2c_i0;
+    w2c_j0 = 4ull;
+    w2c_l10 = w2c_j0;
+    w2c_B31:;
+    w2c_j0 = w2c_l4;
+    w2c_j1 = w2c_l10;
+    w2c_j0 -= w2c_j1;
+    w2c_l11 = w2c_j0;
+    w2c_j0 = w2c_l3;
+    w2c_j1 = w2c_l10;
+    w2c_j0 += w2c_j1;
+    w2c_l10 = w2c_j0;
+    w2c_i0 = w2c_l16;
+    w2c_i1 = 4294965248u;
+    w2c_i0 += w2c_i1;
+    w2c_i1 = 63487u;
+    w2c_i0 = w2c_i0 > w2c_i1;
+    if (w2c_i0) {goto w2c_B34;}
+    w2c_i0 = w2c_l16;
+    w2c_i1 = 12u;
+    w2c_i0 >>= (w2c_i1 & 31);
+    w2c_i1 = w2c_l16;
+    w2c_i2 = 2u;
+    w2c_i1 <<= (w2c_i2 & 31);
+    w2c_i2 = 16128u;
+    w2c_i1 &= w2c_i2;
+    w2c_i0 |= w2c_i1;
+    w2c_i1 = w2c_l16;
+    w2c_i2 = 16u;
+    w2c_i1 <<= (w2c_i2 & 31);
+    w2c_i2 = 4128768u;
+    w2c_i1 &= w2c_i2;
+    w2c_i0 |= w2c_i1;
+    w2c_i1 = 8421600u;
+    w2c_i0 |= w2c_i1;
+    w2c_l17 = w2c_i0;
+    w2c_j0 = (u64)(w2c_i0);
+    w2c_j1 = 953497ull;
+    w2c_j0 *= w2c_j1;
+    w2c_j1 = 22ull;
+    w2c_j0 >>= (w2c_j1 & 63);
+    w2c_j1 = 1016ull;
+    w2c_j0 &= w2c_j1;
+    w2c_l12 = w2c_j0;
+    w2c_j1 = 66997ull;
+    w2c_j0 += w2c_j1;
+    w2c_i0 = (u32)(w2c_j0);
+    w2c_i0 = i32_load8_u(m, (u64)(w2c_i0));
+    w2c_i1 = 0u;
+    w2c_j2 = w2c_l12;
+    w2c_i2 = (u32)(w2c_j2);
+    w2c_i2 = i32_load(m, (u64)(w2c_i2) + 66992u);
+    w2c_i3 = w2c_l17;
+    w2c_i2 = w2c_i2 == w2c_i3;
+    w2c_l17 = w2c_i2;
+    w2c_i0 = w2c_i2 ? w2c_i0 : w2c_i1;
+    w2c_l18 = w2c_i0;
+    w2c_j0 = w2c_l12;
+    w2c_j1 = 66996ull;
+    w2c_j0 += w2c_j1;
+    w2c_i0 = (u32)(w2c_j0);
+    w2c_i0 = i32_load8_u(m, (u64)(w2c_i0));
+    w2c_i1 = 2u;
+    w2c_i2 = w2c_l17;
+    w2c_i0 = w2c_i2 ? w2c_i0 : w2c_i1;
+    w2c_l17 = w2c_i0;
+    goto w2c_B28;
+    w2c_B34:;
+    w2c_j0 = w2c_l2;
+    w2c_j1 = 24ull;
+    w2c_j0 += w2c_j1;
+    w2c_i1 = w2c_l16;
+    w2c_f18(m, w2c_j0, w2c_i1);
+    w2c_j0 = w2c_l2;
+    w2c_i0 = (u32)(w2c_j0);
+    w2c_i0 = i32_load8_u(m, (u64)(w2c_i0) + 24u);
+    w2c_i1 = 1u;
+    w2c_i0 = w2c_i0 != w2c_i1;
+    if (w2c_i0) {goto w2c_B35;}
+    w2c_j0 = w2c_l2;
+    w2c_i0 = (u32)(w2c_j0);
+    w2c_i0 = i32_load8_u(m, (u64)(w2c_i0) + 25u);
+    w2c_l18 = w2c_i0;
+    w2c_i0 = 0u;
+    w2c_l17 = w2c_i0;
+    goto w2c_B28;
+    w2c_B35:;
+    w2c_j0 = w2c_l2;
+    w2c_j1 = 16ull;
+    w2c_j0 += w2c_j1;
+    w2c_i1 = w2c_l16;
+    w2c_f19(m, w2c_j0, w2c_i1);
+    w2c_j0 = w2c_l2;
+    w2c_i0 = (u32)(w2c_j0);
+    w2c_i0 = i32_load8_u(m, (u64)(w2c_i0) + 17u);
+    w2c_i1 = 0u;
+    w2c_j2 = w2c_l2;
+    w2c_i2 = (u32)(w2c_j2);
+    w2c_i2 = i32_load8_u(m, (u64)(w2c_i2) + 16u);
+    w2c_i3 = 1u;
+    w2c_i2 = w2c_i2 == w2c_i3;
+    w2c_l17 = w2c_i2;
+    w2c_i0 = w2c_i2 ? w2c_i0 : w2c_i1;
+    w2c_l18 = w2c_i0;
+    w2c_i0 = 1u;
+    w2c_i1 = 2u;
+    w2c_i2 = w2c_l17;
+    w2c_i0 = w2c_i2 ? w2c_i0 : w2c_i1;
+    w2c_l17 = w2c_i0;
+    w2c_B28:;
+    w2c_i0 = w2c_l16;
+    w2c_i1 = 21317u;
+    w2c_i0 = w2c_i0 == w2c_i1;
+    if (w2c_i0) {goto w2c_B36;}
+    w2c_i0 = w2c_l16;
+    w2c_i1 = 24319u;
+    w2c_i0 = w2c_i0 == w2c_i1;
+    if (w2c_i0) {goto w2c_B36;}
+    w2c_i0 = w2c_l16;
+    w2c_i1 = 4294902000u;
+    w2c_i0 += w2c_i1;
+    w2c_l19 = w2c_i0;
+    w2c_i1 = 10u;
+    w2c_i0 = w2c_i0 < w2c_i1;
+    if (w2c_i0) {goto w2c_B39;}
+    w2c_i0 = w2c_l16;
+    w2c_i1 = 28856u;
+    w2c_i0 = (u32)((s32)w2c_i0 > (s32)w2c_i1);
+    if (w2c_i0) {goto w2c_B42;}
+    w2c_i0 = w2c_l16;
+    w2c_i1 = 20042u;
+    w2c_i0 = (u32)((s32)w2c_i0 > (s32)w2c_i1);
+    if (w2c_i0) {goto w2c_B43;}
+    w2c_i0 = w2c_l16;
+    w2c_i1 = 4294967264u;
+    w2c_i0 += w2c_i1;
+    switch (w2c_i0) {
+      case 0: goto w2c_B37;
+      case 1: goto w2c_B40;
+      case 2: goto w2c_B40;
+      case 3: goto w2c_B40;
+      case 4: goto w2c_B40;
+      case 5: goto w2c_B37;
+      default: goto w2c_B41;
+    }
+    w2c_B43:;
+    w2c_i0 = w2c_l16;
+    w2c_i1 = 20043u;
+    w2c_i0 = w2c_i0 == w2c_i1;
+    if (w2c_i0) {goto w2c_B37;}
+    w2c_i0 = w2c_l16;
+    w2c_i1 = 20998u;
+    w2c_i0 = w2c_i0 != w2c_i1;
+    if (w2c_i0) {goto w2c_B40;}
+    goto w2c_B37;
+    w2c_B42:;
+    w2c_i0 = w2c_l16;
+    w2c_i1 = 36126u;
+    w2c_i0 = (u32)((s32)w2c_i0 > (s32)w2c_i1);
+    if (w2c_i0) {goto w2c_B44;}
+    w2c_i0 = w2c_l16;
+    w2c_i1 = 28857u;
+    w2c_i0 = w2c_i0 == w2c_i1;
+    if (w2c_i0) {goto w2c_B37;}
+    w2c_i0 = w2c_l16;
+    w2c_i1 = 36000u;
+    w2c_i0 = w2c_i0 != w2c_i1;
+    if (w2c_i0) {goto w2c_B40;}
+    goto w2c_B37;
+    w2c_B44:;
+    w2c_i0 = w2c_l16;
+    w2c_i1 = 36127u;
+    w2c_i0 = w2c_i0 == w2c_i1;
+    if (w2c_i0) {goto w2c_B37;}
+    w2c_i0 = w2c_l16;
+    w2c_i1 = 40670u;
+    w2c_i0 = w2c_i0 == w2c_i1;
+    if (w2c_i0) {goto w2c_B37;}
+    w2c_i0 = w2c_l16;
+    w2c_i1 = 65285u;
+    w2c_i0 = w2c_i0 == w2c_i1;
+    if (w2c_i0) {goto w2c_B37;}
+    goto w2c_B40;
+    w2c_B41:;
+    w2c_i0 = w2c_l16;
+    w2c_i1 = 8722u;
+    w2c_i0 = w2c_i0 == w2c_i1;
+    if (w2c_i0) {goto w2c_B37;}
+    w2c_B40:;
+    w2c_i0 = w2c_l16;
+    w2c_i1 = 44u;
+    w2c_i0 = w2c_i0 < w2c_i1;
+    if (w2c_i0) {goto w2c_B38;}
+    w2c_i0 = w2c_l16;
+    w2c_i1 = 47u;
+    w2c_i0 = w2c_i0 < w2c_i1;
+    if (w2c_i0) {goto w2c_B39;}
+    w2c_i0 = w2c_l16;
+    w2c_i1 = 4294902003u;
+    w2c_i0 += w2c_i1;
+    w2c_i1 = 1u;
+    w2c_i0 = w2c_i0 > w2c_i1;
+    if (w2c_i0) {goto w2c_B38;}
+    w2c_B39:;
+    w2c_i0 = w2c_l16;
+    w2c_i1 = 21317u;
+    w2c_i0 = w2c_i0 == w2c_i1;
+    if (w2c_i0) {goto w2c_B36;}
+    w2c_i0 = w2c_l16;
+    w2c_i1 = 24319u;
+    w2c_i0 = w2c_i0 == w2c_i1;
+    if (w2c_i0) {goto w2c_B36;}
+    w2c_i0 = w2c_l19;
+    w2c_i1 = 10u;
+    w2c_i0 = w2c_i0 >= w2c_i1;
+    if (w2c_i0) {goto w2c_B37;}
+    goto w2c_B36;
+    w2c_B38:;
+    w2c_i0 = w2c_l17;
+    w2c_i1 = 255u;
+    w2c_i0 &= w2c_i1;
+    w2c_i1 = 2u;
+    w2c_i0 = w2c_i0 == w2c_i1;
+    if (w2c_i0) {goto w2c_B26;}
+    w2c_i0 = w2c_l14;
+    w2c_i1 = w2c_l13;
+    w2c_i2 = w2c_l16;
+    w2c_i3 = w2c_l17;
+    w2c_i4 = w2c_l18;
+    w2c_j5 = w2c_l10;
+    w2c_j6 = w2c_l11;
+    w2c_i0 = w2c_f17(m, w2c_i0, w2c_i1, w2c_i2, w2c_i3, w2c_i4, w2c_j5, w2c_j6);
+    if (w2c_i0) {goto w2c_B36;}
+    goto w2c_B26;
+    w2c_B37:;
+    w2c_i0 = w2c_l14;
+    w2c_i1 = w2c_l13;
+    w2c_j2 = w2c_l6;
+    w2c_j3 = w2c_l5;
+    w2c_j4 = w2c_l4;
+    w2c_j3 -= w2c_j4;
+    w2c_i4 = w2c_l16;
+    w2c_j5 = w2c_l10;
+    w2c_j6 = w2c_l11;
+    w2c_i0 = w2c_f28(m, w2c_i0, w2c_i1, w2c_j2, w2c_j3, w2c_i4, w2c_j5, w2c_j6);
+    w2c_i0 = !(w2c_i0);
+    if (w2c_i0) {goto w2c_B26;}
+    w2c_B36:;
+    w2c_i0 = w2c_l15;
+    w2c_i1 = 4294967248u;
+    w2c_i0 += w2c_i1;
+    w2c_i1 = 10u;
+    w2c_i0 = w2c_i0 < w2c_i1;
+    if (w2c_i0) {goto w2c_B46;}
+    w2c_i0 = w2c_l15;
+    w2c_i1 = 4294902000u;
+    w2c_i0 += w2c_i1;
+    w2c_i1 = 9u;
+    w2c_i0 = w2c_i0 > w2c_i1;
+    if (w2c_i0) {goto w2c_B45;}
+    w2c_B46:;
+    w2c_j0 = w2c_l2;
+    w2c_j1 = 8ull;
+    w2c_j0 += w2c_j1;
+    w2c_i1 = w2c_l16;
+    w2c_f18(m, w2c_j0, w2c_i1);
+    w2c_i0 = w2c_l16;
+    w2c_i1 = 4294967238u;
+    w2c_i0 += w2c_i1;
+    w2c_i1 = 4294967285u;
+    w2c_i0 = w2c_i0 > w2c_i1;
+    if (w2c_i0) {goto w2c_B47;}
+    w2c_j0 = w2c_l2;
+    w2c_i0 = (u32)(w2c_j0);
+    w2c_i0 = i32_load8_u(m, (u64)(w2c_i0) + 8u);
+    w2c_i1 = 255u;
+    w2c_i0 &= w2c_i1;
+    w2c_i1 = 1u;
+    w2c_i0 = w2c_i0 == w2c_i1;
+    if (w2c_i0) {goto w2c_B26;}
+    w2c_B47:;
+    w2c_i0 = w2c_l16;
+    w2c_i1 = 21317u;
+    w2c_i0 = w2c_i0 == w2c_i1;
+    if (w2c_i0) {goto w2c_B26;}
+    w2c_i0 = w2c_l16;
+    w2c_i1 = 24319u;
+    w2c_i0 = w2c_i0 == w2c_i1;
+    if (w2c_i0) {goto w2c_B26;}
+    w2c_B45:;
+    w2c_j0 = w2c_l2;
+    w2c_i1 = w2c_l15;
+    w2c_f18(m, w2c_j0, w2c_i1);
+    w2c_i0 = w2c_l15;
+    w2c_i1 = 4294967238u;
+    w2c_i0 += w2c_i1;
+    w2c_i1 = 4294967285u;
+    w2c_i0 = w2c_i0 > w2c_i1;
+    if (w2c_i0) {goto w2c_B49;}
+    w2c_j0 = w2c_l2;
+    w2c_i0 = (u32)(w2c_j0);
+    w2c_i0 = i32_load8_u(m, (u64)(w2c_i0));
+    w2c_i1 = 255u;
+    w2c_i0 &= w2c_i1;
+    w2c_i1 = 1u;
+    w2c_i0 = w2c_i0 == w2c_i1;
+    if (w2c_i0) {goto w2c_B48;}
+    w2c_B49:;
+    w2c_i0 = w2c_l15;
+    w2c_i1 = 24318u;
+    w2c_i0 = (u32)((s32)w2c_i0 > (s32)w2c_i1);
+    if (w2c_i0) {goto w2c_B50;}
+    w2c_i0 = w2c_l15;
+    w2c_i1 = 21317u;
+    w2c_i0 = w2c_i0 == w2c_i1;
+    if (w2c_i0) {goto w2c_B48;}
+    w2c_i0 = w2c_l15;
+    w2c_i1 = 37u;
+    w2c_i0 = w2c_i0 == w2c_i1;
+    w2c_l17 = w2c_i0;
+    w2c_i0 = w2c_l16;
+    w2c_l15 = w2c_i0;
+    w2c_i0 = w2c_l17;
+    w2c_i0 = !(w2c_i0);
+    if (w2c_i0) {goto w2c_L27;}
+    goto w2c_B26;
+    w2c_B50:;
+    w2c_i0 = w2c_l15;
+    w2c_i1 = 24319u;
+    w2c_i0 = w2c_i0 == w2c_i1;
+    if (w2c_i0) {goto w2c_B48;}
+    w2c_i0 = w2c_l15;
+    w2c_i1 = 65285u;
+    w2c_i0 = w2c_i0 == w2c_i1;
+    w2c_l17 = w2c_i0;
+    w2c_i0 = w2c_l16;
+    w2c_l15 = w2c_i0;
+    w2c_i0 = w2c_l17;
+    w2c_i0 = !(w2c_i0);
+    if (w2c_i0) {goto w2c_L27;}
+    goto w2c_B26;
+    w2c_B48:;
+    w2c_i0 = w2c_l16;
+    w2c_i1 = 4294967248u;
+    w2c_i0 += w2c_i1;
+    w2c_i1 = 10u;
+    w2c_i0 = w2c_i0 < w2c_i1;
+    if (w2c_i0) {goto w2c_B26;}
+    w2c_i0 = w2c_l16;
+    w2c_i1 = 4294902000u;
+    w2c_i0 += w2c_i1;
+    w2c_i1 = 10u;
+    w2c_i0 = w2c_i0 < w2c_i1;
+    if (w2c_i0) {goto w2c_B26;}
+    w2c_i0 = w2c_l15;
+    w2c_i1 = 65285u;
+    w2c_i0 = w2c_i0 == w2c_i1;
+    if (w2c_i0) {goto w2c_B26;}
+    w2c_i0 = w2c_l15;
+    w2c_i1 = 37u;
+    w2c_i0 = w2c_i0 != w2c_i1;
+    w2c_l17 = w2c_i0;
+    w2c_i0 = w2c_l16;
+    w2c_l15 = w2c_i0;
+    w2c_i0 = w2c_l17;
+    if (w2c_i0) {goto w2c_L27;}
+  w2c_B26:;
+  w2c_j0 = w2c_l8;
+  w2c_j1 = w2c_l4;
+  w2c_j0 -= w2c_j1;
+  w2c_l10 = w2c_j0;
+  w2c_j0 = 1ull;
+  w2c_l8 = w2c_j0;
+  w2c_j0 = w2c_l3;
+  w2c_l11 = w2c_j0;
+  w2c_B1:;
+  w2c_j0 = w2c_p1;
+  w2c_j1 = 32ull;
+  w2c_j0 += w2c_j1;
+  w2c_i0 = (u32)(w2c_j0);
+  w2c_j1 = w2c_l4;
+  i64_store(m, (u64)(w2c_i0), w2c_j1);
+  w2c_j0 = w2c_p1;
+  w2c_j1 = 24ull;
+  w2c_j0 += w2c_j1;
+  w2c_i0 = (u32)(w2c_j0);
+  w2c_j1 = w2c_l3;
+  i64_store(m, (u64)(w2c_i0), w2c_j1);
+  w2c_j0 = w2c_p0;
+  w2c_j1 = 48ull;
+  w2c_j0 += w2c_j1;
+  w2c_i0 = (u32)(w2c_j0);
+  w2c_j1 = w2c_l4;
+  i64_store(m, (u64)(w2c_i0), w2c_j1);
+  w2c_j0 = w2c_p0;
+  w2c_j1 = 40ull;
+  w2c_j0 += w2c_j1;
+  w2c_i0 = (u32)(w2c_j0);
+  w2c_j1 = w2c_l11;
+  i64_store(m, (u64)(w2c_i0), w2c_j1);
+  w2c_j0 = w2c_p0;
+  w2c_j1 = 32ull;
+  w2c_j0 += w2c_j1;
+  w2c_i0 = (u32)(w2c_j0);
+  w2c_j1 = w2c_l10;
+  i64_store(m, (u64)(w2c_i0), w2c_j1);
+  w2c_j0 = w2c_p0;
+  w2c_j1 = 24ull;
+  w2c_j0 += w2c_j1;
+  w2c_i0 = (u32)(w2c_j0);
+  w2c_j1 = w2c_l7;
+  i64_store(m, (u64)(w2c_i0), w2c_j1);
+  w2c_j0 = w2c_p0;
+  w2c_j1 = 16ull;
+  w2c_j0 += w2c_j1;
+  w2c_i0 = (u32)(w2c_j0);
+  w2c_j1 = w2c_l9;
+  i64_store(m, (u64)(w2c_i0), w2c_j1);
+  w2c_j0 = w2c_p0;
+  w2c_j1 = 8ull;
+  w2c_j0 += w2c_j1;
+  w2c_i0 = (u32)(w2c_j0);
+  w2c_j1 = w2c_l6;
+  i64_store(m, (u64)(w2c_i0), w2c_j1);
+  w2c_j0 = w2c_p0;
+  w2c_i0 = (u32)(w2c_j0);
+  w2c_j1 = w2c_l8;
+  i64_store(m, (u64)(w2c_i0), w2c_j1);
+  w2c_j0 = w2c_l2;
+  w2c_j1 = 48ull;
+  w2c_j0 += w2c_j1;
+  m->w2c_g0 = w2c_j0;
+  goto w2c_Bfunc;
+  w2c_B0:;
+  UNREACHABLE;
+  w2c_Bfunc:;
 }
 
 static u32 w2c_f22(module *m, u64 w2c_p0, u64 w2c_p1) {
@@ -12676,8 +13102,8 @@ static u32 w2c_f22(module *m, u64 w2c_p0, u64 w2c_p1) {
 }
 
 static u32 w2c_f23(module *m, u32 w2c_p0, u32 w2c_p1, u64 w2c_p2, u64 w2c_p3) {
-  u32 w2c_l7 = 0, w2c_l8 = 0, w2c_l9 = 0, w2c_l10 = 0, w2c_l11 = 0;
-  u64 w2c_l4 = 0, w2c_l5 = 0, w2c_l6 = 0;
+  u32 w2c_l6 = 0, w2c_l7 = 0, w2c_l8 = 0, w2c_l9 = 0, w2c_l10 = 0;
+  u64 w2c_l4 = 0, w2c_l5 = 0;
   u32 w2c_i0, w2c_i1, w2c_i2, w2c_i3;
   u64 w2c_j0, w2c_j1, w2c_j2;
   w2c_j0 = m->w2c_g0;
@@ -12690,79 +13116,162 @@ static u32 w2c_f23(module *m, u32 w2c_p0, u32 w2c_p1, u64 w2c_p2, u64 w2c_p3) {
   w2c_j1 = 16ull;
   w2c_i0 = (u64)((s64)w2c_j0 < (s64)w2c_j1);
   if (w2c_i0) {goto w2c_B0;}
-  w2c_i0 = 0u;
-  w2c_l7 = w2c_i0;
   w2c_j0 = w2c_p3;
-  w2c_i0 = !(w2c_j0);
-  if (w2c_i0) {goto w2c_B1;}
+  w2c_j1 = 3ull;
+  w2c_i0 = w2c_j0 < w2c_j1;
+  if (w2c_i0) {goto w2c_B4;}
   w2c_j0 = w2c_p2;
   w2c_i0 = (u32)(w2c_j0);
-  w2c_i0 = i32_load8_s(m, (u64)(w2c_i0));
-  w2c_l8 = w2c_i0;
-  w2c_i1 = 255u;
+  w2c_i0 = i32_load8_u(m, (u64)(w2c_i0));
+  w2c_l6 = w2c_i0;
+  w2c_i1 = 240u;
   w2c_i0 &= w2c_i1;
+  w2c_i1 = 224u;
+  w2c_i0 = w2c_i0 != w2c_i1;
+  if (w2c_i0) {goto w2c_B3;}
+  w2c_j0 = w2c_p2;
+  w2c_i0 = (u32)(w2c_j0);
+  w2c_i0 = i32_load8_u(m, (u64)(w2c_i0) + 1u);
+  w2c_l7 = w2c_i0;
+  w2c_i1 = 8u;
+  w2c_i0 <<= (w2c_i1 & 31);
+  w2c_j1 = w2c_p2;
+  w2c_i1 = (u32)(w2c_j1);
+  w2c_i1 = i32_load8_u(m, (u64)(w2c_i1) + 2u);
+  w2c_l8 = w2c_i1;
+  w2c_i2 = 16u;
+  w2c_i1 <<= (w2c_i2 & 31);
+  w2c_i0 |= w2c_i1;
+  w2c_i1 = w2c_l6;
+  w2c_i0 |= w2c_i1;
   w2c_l9 = w2c_i0;
+  w2c_j0 = (u64)(w2c_i0);
+  w2c_j1 = 953497ull;
+  w2c_j0 *= w2c_j1;
+  w2c_j1 = 22ull;
+  w2c_j0 >>= (w2c_j1 & 63);
+  w2c_j1 = 1016ull;
+  w2c_j0 &= w2c_j1;
+  w2c_l5 = w2c_j0;
+  w2c_j1 = 66997ull;
+  w2c_j0 += w2c_j1;
+  w2c_i0 = (u32)(w2c_j0);
+  w2c_i0 = i32_load8_u(m, (u64)(w2c_i0));
+  w2c_i1 = 0u;
+  w2c_j2 = w2c_l5;
+  w2c_i2 = (u32)(w2c_j2);
+  w2c_i2 = i32_load(m, (u64)(w2c_i2) + 66992u);
+  w2c_i3 = w2c_l9;
+  w2c_i2 = w2c_i2 == w2c_i3;
+  w2c_l10 = w2c_i2;
+  w2c_i0 = w2c_i2 ? w2c_i0 : w2c_i1;
+  w2c_l9 = w2c_i0;
+  w2c_j0 = w2c_l5;
+  w2c_j1 = 66996ull;
+  w2c_j0 += w2c_j1;
+  w2c_i0 = (u32)(w2c_j0);
+  w2c_i0 = i32_load8_u(m, (u64)(w2c_i0));
+  w2c_i1 = 2u;
+  w2c_i2 = w2c_l10;
+  w2c_i0 = w2c_i2 ? w2c_i0 : w2c_i1;
+  w2c_l10 = w2c_i0;
+  w2c_i0 = w2c_l6;
+  w2c_i1 = 12u;
+  w2c_i0 <<= (w2c_i1 & 31);
+  w2c_i1 = w2c_l7;
+  w2c_i2 = 6u;
+  w2c_i1 <<= (w2c_i2 & 31);
+  w2c_i0 += w2c_i1;
+  w2c_i1 = w2c_l8;
+  w2c_i0 += w2c_i1;
+  w2c_i1 = 4294041472u;
+  w2c_i0 += w2c_i1;
+  w2c_l6 = w2c_i0;
+  w2c_j0 = w2c_p3;
+  w2c_j1 = 18446744073709551613ull;
+  w2c_j0 += w2c_j1;
+  w2c_p3 = w2c_j0;
+  w2c_j0 = w2c_p2;
+  w2c_j1 = 3ull;
+  w2c_j0 += w2c_j1;
+  w2c_p2 = w2c_j0;
+  goto w2c_B2;
+  w2c_B4:;
+  w2c_j0 = w2c_p3;
+  w2c_i0 = !(w2c_j0);
+  w2c_i0 = !(w2c_i0);
+  if (w2c_i0) {goto w2c_B5;}
+  w2c_i0 = 0u;
+  w2c_l7 = w2c_i0;
+  goto w2c_B1;
+  w2c_B5:;
+  w2c_j0 = w2c_p2;
+  w2c_i0 = (u32)(w2c_j0);
+  w2c_i0 = i32_load8_u(m, (u64)(w2c_i0));
+  w2c_l6 = w2c_i0;
+  w2c_B3:;
   w2c_j0 = 1ull;
   w2c_l5 = w2c_j0;
-  w2c_i0 = w2c_l8;
+  w2c_i0 = w2c_l6;
+  w2c_i0 = (u32)(s32)(s8)(u8)(w2c_i0);
   w2c_i1 = 4294967295u;
   w2c_i0 = (u32)((s32)w2c_i0 > (s32)w2c_i1);
-  if (w2c_i0) {goto w2c_B2;}
+  if (w2c_i0) {goto w2c_B6;}
   w2c_j0 = w2c_p2;
   w2c_i0 = (u32)(w2c_j0);
   w2c_i0 = i32_load8_u(m, (u64)(w2c_i0) + 1u);
   w2c_i1 = 63u;
   w2c_i0 &= w2c_i1;
-  w2c_l10 = w2c_i0;
-  w2c_i0 = w2c_l8;
-  w2c_i1 = 4294967263u;
+  w2c_l7 = w2c_i0;
+  w2c_i0 = w2c_l6;
+  w2c_i1 = 223u;
   w2c_i0 = w2c_i0 > w2c_i1;
-  if (w2c_i0) {goto w2c_B3;}
-  w2c_i0 = w2c_l9;
+  if (w2c_i0) {goto w2c_B7;}
+  w2c_i0 = w2c_l6;
   w2c_i1 = 6u;
   w2c_i0 <<= (w2c_i1 & 31);
   w2c_i1 = 1984u;
   w2c_i0 &= w2c_i1;
-  w2c_i1 = w2c_l10;
+  w2c_i1 = w2c_l7;
   w2c_i0 |= w2c_i1;
-  w2c_l9 = w2c_i0;
+  w2c_l6 = w2c_i0;
   w2c_j0 = 2ull;
   w2c_l5 = w2c_j0;
-  goto w2c_B2;
-  w2c_B3:;
+  goto w2c_B6;
+  w2c_B7:;
   w2c_j0 = w2c_p2;
   w2c_i0 = (u32)(w2c_j0);
   w2c_i0 = i32_load8_u(m, (u64)(w2c_i0) + 2u);
   w2c_i1 = 63u;
   w2c_i0 &= w2c_i1;
-  w2c_l11 = w2c_i0;
-  w2c_i0 = w2c_l8;
-  w2c_i1 = 4294967279u;
+  w2c_l9 = w2c_i0;
+  w2c_i0 = w2c_l6;
+  w2c_i1 = 239u;
   w2c_i0 = w2c_i0 > w2c_i1;
-  if (w2c_i0) {goto w2c_B4;}
-  w2c_i0 = w2c_l10;
+  if (w2c_i0) {goto w2c_B8;}
+  w2c_i0 = w2c_l7;
   w2c_i1 = 6u;
   w2c_i0 <<= (w2c_i1 & 31);
-  w2c_i1 = w2c_l9;
+  w2c_i1 = w2c_l6;
   w2c_i2 = 12u;
   w2c_i1 <<= (w2c_i2 & 31);
   w2c_i2 = 61440u;
   w2c_i1 &= w2c_i2;
   w2c_i0 |= w2c_i1;
-  w2c_i1 = w2c_l11;
+  w2c_i1 = w2c_l9;
   w2c_i0 |= w2c_i1;
-  w2c_l9 = w2c_i0;
+  w2c_l6 = w2c_i0;
   w2c_j0 = 3ull;
   w2c_l5 = w2c_j0;
-  goto w2c_B2;
-  w2c_B4:;
-  w2c_i0 = w2c_l11;
+  goto w2c_B6;
+  w2c_B8:;
+  w2c_i0 = w2c_l9;
   w2c_i1 = 6u;
   w2c_i0 <<= (w2c_i1 & 31);
-  w2c_i1 = w2c_l10;
+  w2c_i1 = w2c_l7;
   w2c_i2 = 12u;
   w2c_i1 <<= (w2c_i2 & 31);
-  w2c_i2 = w2c_l9;
+  w2c_i2 = w2c_l6;
   w2c_i3 = 18u;
   w2c_i2 <<= (w2c_i3 & 31);
   w2c_i3 = 1835008u;
@@ -12775,26 +13284,34 @@ static u32 w2c_f23(module *m, u32 w2c_p0, u32 w2c_p1, u64 w2c_p2, u64 w2c_p3) {
   w2c_i2 = 63u;
   w2c_i1 &= w2c_i2;
   w2c_i0 |= w2c_i1;
-  w2c_l9 = w2c_i0;
+  w2c_l6 = w2c_i0;
   w2c_j0 = 4ull;
   w2c_l5 = w2c_j0;
-  w2c_B2:;
-  w2c_i0 = w2c_l9;
+  w2c_B6:;
+  w2c_j0 = w2c_p3;
+  w2c_j1 = w2c_l5;
+  w2c_j0 -= w2c_j1;
+  w2c_p3 = w2c_j0;
+  w2c_j0 = w2c_p2;
+  w2c_j1 = w2c_l5;
+  w2c_j0 += w2c_j1;
+  w2c_p2 = w2c_j0;
+  w2c_i0 = w2c_l6;
   w2c_i1 = 4294965248u;
   w2c_i0 += w2c_i1;
   w2c_i1 = 63487u;
   w2c_i0 = w2c_i0 > w2c_i1;
-  if (w2c_i0) {goto w2c_B6;}
-  w2c_i0 = w2c_l9;
+  if (w2c_i0) {goto w2c_B9;}
+  w2c_i0 = w2c_l6;
   w2c_i1 = 12u;
   w2c_i0 >>= (w2c_i1 & 31);
-  w2c_i1 = w2c_l9;
+  w2c_i1 = w2c_l6;
   w2c_i2 = 2u;
   w2c_i1 <<= (w2c_i2 & 31);
   w2c_i2 = 16128u;
   w2c_i1 &= w2c_i2;
   w2c_i0 |= w2c_i1;
-  w2c_i1 = w2c_l9;
+  w2c_i1 = w2c_l6;
   w2c_i2 = 16u;
   w2c_i1 <<= (w2c_i2 & 31);
   w2c_i2 = 4128768u;
@@ -12802,7 +13319,7 @@ static u32 w2c_f23(module *m, u32 w2c_p0, u32 w2c_p1, u64 w2c_p2, u64 w2c_p3) {
   w2c_i0 |= w2c_i1;
   w2c_i1 = 8421600u;
   w2c_i0 |= w2c_i1;
-  w2c_l8 = w2c_i0;
+  w2c_l7 = w2c_i0;
   w2c_j0 = (u64)(w2c_i0);
   w2c_j1 = 953497ull;
   w2c_j0 *= w2c_j1;
@@ -12810,47 +13327,48 @@ static u32 w2c_f23(module *m, u32 w2c_p0, u32 w2c_p1, u64 w2c_p2, u64 w2c_p3) {
   w2c_j0 >>= (w2c_j1 & 63);
   w2c_j1 = 1016ull;
   w2c_j0 &= w2c_j1;
-  w2c_l6 = w2c_j0;
+  w2c_l5 = w2c_j0;
   w2c_j1 = 66997ull;
   w2c_j0 += w2c_j1;
   w2c_i0 = (u32)(w2c_j0);
   w2c_i0 = i32_load8_u(m, (u64)(w2c_i0));
   w2c_i1 = 0u;
-  w2c_j2 = w2c_l6;
+  w2c_j2 = w2c_l5;
   w2c_i2 = (u32)(w2c_j2);
   w2c_i2 = i32_load(m, (u64)(w2c_i2) + 66992u);
-  w2c_i3 = w2c_l8;
+  w2c_i3 = w2c_l7;
   w2c_i2 = w2c_i2 == w2c_i3;
-  w2c_l10 = w2c_i2;
+  w2c_l7 = w2c_i2;
   w2c_i0 = w2c_i2 ? w2c_i0 : w2c_i1;
-  w2c_l8 = w2c_i0;
-  w2c_i0 = w2c_l10;
-  w2c_j1 = w2c_l6;
-  w2c_j2 = 66996ull;
-  w2c_j1 += w2c_j2;
-  w2c_i1 = (u32)(w2c_j1);
-  w2c_i1 = i32_load8_u(m, (u64)(w2c_i1));
-  w2c_i2 = 255u;
-  w2c_i1 &= w2c_i2;
-  w2c_i2 = 1u;
-  w2c_i1 = w2c_i1 == w2c_i2;
-  w2c_i0 &= w2c_i1;
+  w2c_l9 = w2c_i0;
+  w2c_j0 = w2c_l5;
+  w2c_j1 = 66996ull;
+  w2c_j0 += w2c_j1;
+  w2c_i0 = (u32)(w2c_j0);
+  w2c_i0 = i32_load8_u(m, (u64)(w2c_i0));
+  w2c_i1 = 2u;
+  w2c_i2 = w2c_l7;
+  w2c_i0 = w2c_i2 ? w2c_i0 : w2c_i1;
   w2c_l10 = w2c_i0;
-  goto w2c_B5;
-  w2c_B6:;
+  goto w2c_B2;
+  w2c_B9:;
   w2c_j0 = w2c_l4;
   w2c_j1 = 8ull;
   w2c_j0 += w2c_j1;
-  w2c_i1 = w2c_l9;
-  w2c_f21(m, w2c_j0, w2c_i1);
+  w2c_i1 = w2c_l6;
+  w2c_f18(m, w2c_j0, w2c_i1);
   w2c_j0 = w2c_l4;
   w2c_i0 = (u32)(w2c_j0);
   w2c_i0 = i32_load8_u(m, (u64)(w2c_i0) + 8u);
   w2c_i1 = 1u;
-  w2c_i0 = w2c_i0 == w2c_i1;
-  if (w2c_i0) {goto w2c_B1;}
+  w2c_i0 = w2c_i0 != w2c_i1;
+  if (w2c_i0) {goto w2c_B10;}
+  w2c_i0 = 0u;
+  w2c_l7 = w2c_i0;
+  goto w2c_B1;
+  w2c_B10:;
   w2c_j0 = w2c_l4;
-  w2c_i1 = w2c_l9;
+  w2c_i1 = w2c_l6;
   w2c_f19(m, w2c_j0, w2c_i1);
   w2c_j0 = w2c_l4;
   w2c_i0 = (u32)(w2c_j0);
@@ -12861,137 +13379,144 @@ static u32 w2c_f23(module *m, u32 w2c_p0, u32 w2c_p1, u64 w2c_p2, u64 w2c_p3) {
   w2c_i2 = i32_load8_u(m, (u64)(w2c_i2));
   w2c_i3 = 1u;
   w2c_i2 = w2c_i2 == w2c_i3;
-  w2c_l10 = w2c_i2;
+  w2c_l7 = w2c_i2;
   w2c_i0 = w2c_i2 ? w2c_i0 : w2c_i1;
-  w2c_l8 = w2c_i0;
-  w2c_B5:;
+  w2c_l9 = w2c_i0;
+  w2c_i0 = 1u;
+  w2c_i1 = 2u;
+  w2c_i2 = w2c_l7;
+  w2c_i0 = w2c_i2 ? w2c_i0 : w2c_i1;
+  w2c_l10 = w2c_i0;
+  w2c_B2:;
+  w2c_i0 = 0u;
+  w2c_l7 = w2c_i0;
   w2c_i0 = w2c_l10;
-  w2c_i0 = !(w2c_i0);
-  if (w2c_i0) {goto w2c_B1;}
-  w2c_i0 = w2c_l8;
   w2c_i1 = 255u;
   w2c_i0 &= w2c_i1;
-  w2c_l10 = w2c_i0;
+  w2c_i1 = 1u;
+  w2c_i0 = w2c_i0 != w2c_i1;
+  if (w2c_i0) {goto w2c_B1;}
+  w2c_i0 = w2c_l9;
+  w2c_i1 = 255u;
+  w2c_i0 &= w2c_i1;
   w2c_i1 = 4u;
   w2c_i0 = w2c_i0 < w2c_i1;
   if (w2c_i0) {goto w2c_B1;}
   w2c_i0 = w2c_p1;
   w2c_i1 = 255u;
   w2c_i0 &= w2c_i1;
-  w2c_i1 = w2c_l10;
+  w2c_i1 = w2c_l9;
+  w2c_i2 = 255u;
+  w2c_i1 &= w2c_i2;
   w2c_i0 = w2c_i0 < w2c_i1;
   if (w2c_i0) {goto w2c_B1;}
   w2c_i0 = w2c_p0;
   w2c_i1 = 1u;
   w2c_i0 &= w2c_i1;
-  if (w2c_i0) {goto w2c_B7;}
-  w2c_i0 = w2c_l9;
+  if (w2c_i0) {goto w2c_B11;}
+  w2c_i0 = w2c_l6;
   w2c_i1 = 29589u;
   w2c_i0 = (u32)((s32)w2c_i0 > (s32)w2c_i1);
-  if (w2c_i0) {goto w2c_B9;}
-  w2c_i0 = w2c_l9;
+  if (w2c_i0) {goto w2c_B13;}
+  w2c_i0 = w2c_l6;
   w2c_i1 = 22776u;
   w2c_i0 = (u32)((s32)w2c_i0 > (s32)w2c_i1);
-  if (w2c_i0) {goto w2c_B10;}
-  w2c_i0 = w2c_l9;
+  if (w2c_i0) {goto w2c_B14;}
+  w2c_i0 = w2c_l6;
   w2c_i1 = 20191u;
   w2c_i0 = w2c_i0 == w2c_i1;
   if (w2c_i0) {goto w2c_B1;}
-  w2c_i0 = w2c_l9;
+  w2c_i0 = w2c_l6;
   w2c_i1 = 20237u;
   w2c_i0 = w2c_i0 == w2c_i1;
   if (w2c_i0) {goto w2c_B1;}
-  w2c_i0 = w2c_l9;
+  w2c_i0 = w2c_l6;
   w2c_i1 = 20336u;
   w2c_i0 = w2c_i0 != w2c_i1;
-  if (w2c_i0) {goto w2c_B8;}
+  if (w2c_i0) {goto w2c_B12;}
   goto w2c_B1;
-  w2c_B10:;
-  w2c_i0 = w2c_l9;
+  w2c_B14:;
+  w2c_i0 = w2c_l6;
   w2c_i1 = 25419u;
   w2c_i0 = (u32)((s32)w2c_i0 > (s32)w2c_i1);
-  if (w2c_i0) {goto w2c_B11;}
-  w2c_i0 = w2c_l9;
+  if (w2c_i0) {goto w2c_B15;}
+  w2c_i0 = w2c_l6;
   w2c_i1 = 22777u;
   w2c_i0 = w2c_i0 == w2c_i1;
   if (w2c_i0) {goto w2c_B1;}
-  w2c_i0 = w2c_l9;
+  w2c_i0 = w2c_l6;
   w2c_i1 = 25342u;
   w2c_i0 = w2c_i0 != w2c_i1;
-  if (w2c_i0) {goto w2c_B8;}
+  if (w2c_i0) {goto w2c_B12;}
   goto w2c_B1;
-  w2c_B11:;
-  w2c_i0 = w2c_l9;
+  w2c_B15:;
+  w2c_i0 = w2c_l6;
   w2c_i1 = 25420u;
   w2c_i0 = w2c_i0 == w2c_i1;
   if (w2c_i0) {goto w2c_B1;}
-  w2c_i0 = w2c_l9;
+  w2c_i0 = w2c_l6;
   w2c_i1 = 26578u;
   w2c_i0 = w2c_i0 != w2c_i1;
-  if (w2c_i0) {goto w2c_B8;}
+  if (w2c_i0) {goto w2c_B12;}
   goto w2c_B1;
-  w2c_B9:;
-  w2c_i0 = w2c_l9;
+  w2c_B13:;
+  w2c_i0 = w2c_l6;
   w2c_i1 = 36143u;
   w2c_i0 = (u32)((s32)w2c_i0 > (s32)w2c_i1);
-  if (w2c_i0) {goto w2c_B12;}
-  w2c_i0 = w2c_l9;
+  if (w2c_i0) {goto w2c_B16;}
+  w2c_i0 = w2c_l6;
   w2c_i1 = 4294931282u;
   w2c_i0 += w2c_i1;
   switch (w2c_i0) {
     case 0: goto w2c_B1;
-    case 1: goto w2c_B8;
-    case 2: goto w2c_B8;
-    case 3: goto w2c_B8;
-    case 4: goto w2c_B8;
+    case 1: goto w2c_B12;
+    case 2: goto w2c_B12;
+    case 3: goto w2c_B12;
+    case 4: goto w2c_B12;
     case 5: goto w2c_B1;
-    default: goto w2c_B13;
+    default: goto w2c_B17;
   }
-  w2c_B13:;
-  w2c_i0 = w2c_l9;
+  w2c_B17:;
+  w2c_i0 = w2c_l6;
   w2c_i1 = 29590u;
   w2c_i0 = w2c_i0 == w2c_i1;
   if (w2c_i0) {goto w2c_B1;}
-  w2c_i0 = w2c_l9;
+  w2c_i0 = w2c_l6;
   w2c_i1 = 32902u;
   w2c_i0 = w2c_i0 != w2c_i1;
-  if (w2c_i0) {goto w2c_B8;}
+  if (w2c_i0) {goto w2c_B12;}
   goto w2c_B1;
-  w2c_B12:;
-  w2c_i0 = w2c_l9;
+  w2c_B16:;
+  w2c_i0 = w2c_l6;
   w2c_i1 = 36144u;
   w2c_i0 = w2c_i0 == w2c_i1;
   if (w2c_i0) {goto w2c_B1;}
-  w2c_i0 = w2c_l9;
+  w2c_i0 = w2c_l6;
   w2c_i1 = 38470u;
   w2c_i0 = w2c_i0 == w2c_i1;
   if (w2c_i0) {goto w2c_B1;}
-  w2c_i0 = w2c_l9;
+  w2c_i0 = w2c_l6;
   w2c_i1 = 38520u;
   w2c_i0 = w2c_i0 == w2c_i1;
   if (w2c_i0) {goto w2c_B1;}
-  w2c_B8:;
-  w2c_i0 = w2c_l9;
+  w2c_B12:;
+  w2c_i0 = w2c_l6;
   w2c_i1 = 4294945855u;
   w2c_i0 += w2c_i1;
   w2c_i1 = 4u;
   w2c_i0 = w2c_i0 < w2c_i1;
   if (w2c_i0) {goto w2c_B1;}
-  w2c_B7:;
+  w2c_B11:;
   w2c_i0 = 1u;
   w2c_l7 = w2c_i0;
-  w2c_i0 = w2c_l8;
+  w2c_i0 = w2c_l9;
   w2c_i1 = 255u;
   w2c_i0 &= w2c_i1;
   w2c_i1 = 6u;
   w2c_i0 = w2c_i0 != w2c_i1;
   if (w2c_i0) {goto w2c_B1;}
   w2c_j0 = w2c_p2;
-  w2c_j1 = w2c_l5;
-  w2c_j0 += w2c_j1;
   w2c_j1 = w2c_p3;
-  w2c_j2 = w2c_l5;
-  w2c_j1 -= w2c_j2;
   w2c_i0 = w2c_f22(m, w2c_j0, w2c_j1);
   w2c_i1 = 1u;
   w2c_i0 ^= w2c_i1;
@@ -13009,69 +13534,185 @@ static u32 w2c_f23(module *m, u32 w2c_p0, u32 w2c_p1, u64 w2c_p2, u64 w2c_p3) {
   return w2c_i0;
 }
 
-static u32 w2c_f24(module *m, u32 w2c_p0) {
-  u32 w2c_l3 = 0;
-  u64 w2c_l1 = 0, w2c_l2 = 0;
-  u32 w2c_i0, w2c_i1, w2c_i2;
-  u64 w2c_j0, w2c_j1;
+static u32 w2c_f24(module *m, u64 w2c_p0, u64 w2c_p1) {
+  u32 w2c_l5 = 0, w2c_l6 = 0, w2c_l7 = 0, w2c_l8 = 0;
+  u64 w2c_l2 = 0, w2c_l3 = 0, w2c_l4 = 0;
+  u32 w2c_i0, w2c_i1, w2c_i2, w2c_i3;
+  u64 w2c_j0, w2c_j1, w2c_j2, w2c_j3;
   w2c_j0 = m->w2c_g0;
   w2c_j1 = 32ull;
   w2c_j0 -= w2c_j1;
-  w2c_l1 = w2c_j0;
+  w2c_l2 = w2c_j0;
   m->w2c_g0 = w2c_j0;
-  w2c_j0 = w2c_l1;
-  w2c_l1 = w2c_j0;
+  w2c_j0 = w2c_l2;
+  w2c_l2 = w2c_j0;
   w2c_j1 = 16ull;
   w2c_i0 = (u64)((s64)w2c_j0 < (s64)w2c_j1);
-  if (w2c_i0) {goto w2c_B0;}
-  w2c_i0 = w2c_p0;
-  w2c_i1 = 4294902000u;
-  w2c_i0 += w2c_i1;
-  w2c_i1 = 10u;
-  w2c_i0 = w2c_i0 >= w2c_i1;
-  if (w2c_i0) {goto w2c_B2;}
-  w2c_i0 = 1u;
-  w2c_l3 = w2c_i0;
-  goto w2c_B1;
-  w2c_B2:;
-  w2c_i0 = w2c_p0;
-  w2c_i1 = 4294967248u;
-  w2c_i0 += w2c_i1;
-  w2c_i1 = 10u;
-  w2c_i0 = w2c_i0 >= w2c_i1;
   if (w2c_i0) {goto w2c_B3;}
-  w2c_i0 = 1u;
-  w2c_l3 = w2c_i0;
-  goto w2c_B1;
-  w2c_B3:;
-  w2c_i0 = w2c_p0;
-  w2c_i1 = 4294967263u;
-  w2c_i0 &= w2c_i1;
-  w2c_i1 = 4294967231u;
-  w2c_i0 += w2c_i1;
-  w2c_i1 = 26u;
-  w2c_i0 = w2c_i0 >= w2c_i1;
+  w2c_j0 = w2c_p1;
+  w2c_i0 = !(w2c_j0);
+  w2c_i0 = !(w2c_i0);
   if (w2c_i0) {goto w2c_B4;}
-  w2c_i0 = 1u;
-  w2c_l3 = w2c_i0;
-  goto w2c_B1;
+  w2c_i0 = 0u;
+  w2c_l5 = w2c_i0;
+  goto w2c_B0;
   w2c_B4:;
-  w2c_i0 = w2c_p0;
+  w2c_j0 = w2c_p0;
+  w2c_j1 = w2c_p1;
+  w2c_j0 += w2c_j1;
+  w2c_l3 = w2c_j0;
+  w2c_j1 = 18446744073709551615ull;
+  w2c_j0 += w2c_j1;
+  w2c_i0 = (u32)(w2c_j0);
+  w2c_i0 = i32_load8_s(m, (u64)(w2c_i0));
+  w2c_l6 = w2c_i0;
+  w2c_i1 = 0u;
+  w2c_i0 = (u32)((s32)w2c_i0 >= (s32)w2c_i1);
+  if (w2c_i0) {goto w2c_B7;}
+  w2c_j0 = 18446744073709551614ull;
+  w2c_l4 = w2c_j0;
+  w2c_j0 = w2c_l3;
+  w2c_j1 = 18446744073709551614ull;
+  w2c_j0 += w2c_j1;
+  w2c_i0 = (u32)(w2c_j0);
+  w2c_i0 = i32_load8_u(m, (u64)(w2c_i0));
+  w2c_i1 = 191u;
+  w2c_i0 = w2c_i0 > w2c_i1;
+  if (w2c_i0) {goto w2c_B8;}
+  w2c_j0 = 18446744073709551613ull;
+  w2c_j1 = 18446744073709551612ull;
+  w2c_j2 = w2c_l3;
+  w2c_j3 = 18446744073709551613ull;
+  w2c_j2 += w2c_j3;
+  w2c_i2 = (u32)(w2c_j2);
+  w2c_i2 = i32_load8_u(m, (u64)(w2c_i2));
+  w2c_i3 = 191u;
+  w2c_i2 = w2c_i2 > w2c_i3;
+  w2c_j0 = w2c_i2 ? w2c_j0 : w2c_j1;
+  w2c_l4 = w2c_j0;
+  w2c_B8:;
+  w2c_j0 = w2c_p0;
+  w2c_j1 = w2c_l4;
+  w2c_j0 += w2c_j1;
+  w2c_j1 = w2c_p1;
+  w2c_j0 += w2c_j1;
+  w2c_p1 = w2c_j0;
+  w2c_i0 = (u32)(w2c_j0);
+  w2c_i0 = i32_load8_s(m, (u64)(w2c_i0));
+  w2c_l5 = w2c_i0;
+  w2c_i1 = 255u;
+  w2c_i0 &= w2c_i1;
+  w2c_l6 = w2c_i0;
+  w2c_i0 = w2c_l5;
+  w2c_i1 = 4294967295u;
+  w2c_i0 = (u32)((s32)w2c_i0 > (s32)w2c_i1);
+  if (w2c_i0) {goto w2c_B7;}
+  w2c_j0 = w2c_p1;
+  w2c_i0 = (u32)(w2c_j0);
+  w2c_i0 = i32_load8_u(m, (u64)(w2c_i0) + 1u);
+  w2c_i1 = 63u;
+  w2c_i0 &= w2c_i1;
+  w2c_l7 = w2c_i0;
+  w2c_i0 = w2c_l5;
+  w2c_i1 = 4294967263u;
+  w2c_i0 = w2c_i0 > w2c_i1;
+  if (w2c_i0) {goto w2c_B9;}
+  w2c_i0 = w2c_l6;
+  w2c_i1 = 6u;
+  w2c_i0 <<= (w2c_i1 & 31);
+  w2c_i1 = 1984u;
+  w2c_i0 &= w2c_i1;
+  w2c_i1 = w2c_l7;
+  w2c_i0 |= w2c_i1;
+  w2c_l6 = w2c_i0;
+  goto w2c_B7;
+  w2c_B9:;
+  w2c_j0 = w2c_p1;
+  w2c_i0 = (u32)(w2c_j0);
+  w2c_i0 = i32_load8_u(m, (u64)(w2c_i0) + 2u);
+  w2c_i1 = 63u;
+  w2c_i0 &= w2c_i1;
+  w2c_l8 = w2c_i0;
+  w2c_i0 = w2c_l5;
+  w2c_i1 = 4294967279u;
+  w2c_i0 = w2c_i0 > w2c_i1;
+  if (w2c_i0) {goto w2c_B11;}
+  w2c_i0 = w2c_l7;
+  w2c_i1 = 6u;
+  w2c_i0 <<= (w2c_i1 & 31);
+  w2c_i1 = w2c_l6;
+  w2c_i2 = 12u;
+  w2c_i1 <<= (w2c_i2 & 31);
+  w2c_i2 = 61440u;
+  w2c_i1 &= w2c_i2;
+  w2c_i0 |= w2c_i1;
+  w2c_i1 = w2c_l8;
+  w2c_i0 |= w2c_i1;
+  w2c_l6 = w2c_i0;
+  goto w2c_B10;
+  w2c_B11:;
+  w2c_i0 = w2c_l8;
+  w2c_i1 = 6u;
+  w2c_i0 <<= (w2c_i1 & 31);
+  w2c_i1 = w2c_l7;
+  w2c_i2 = 12u;
+  w2c_i1 <<= (w2c_i2 & 31);
+  w2c_i2 = w2c_l6;
+  w2c_i3 = 18u;
+  w2c_i2 <<= (w2c_i3 & 31);
+  w2c_i3 = 1835008u;
+  w2c_i2 &= w2c_i3;
+  w2c_i1 |= w2c_i2;
+  w2c_i0 |= w2c_i1;
+  w2c_j1 = w2c_p1;
+  w2c_i1 = (u32)(w2c_j1);
+  w2c_i1 = i32_load8_u(m, (u64)(w2c_i1) + 3u);
+  w2c_i2 = 63u;
+  w2c_i1 &= w2c_i2;
+  w2c_i0 |= w2c_i1;
+  w2c_l6 = w2c_i0;
+  w2c_B10:;
+  w2c_i0 = w2c_l6;
   w2c_i1 = 4294965248u;
   w2c_i0 += w2c_i1;
-  w2c_i1 = 63487u;
-  w2c_i0 = w2c_i0 > w2c_i1;
+  w2c_i1 = 63488u;
+  w2c_i0 = w2c_i0 < w2c_i1;
   if (w2c_i0) {goto w2c_B6;}
-  w2c_i0 = w2c_p0;
+  w2c_B7:;
+  w2c_j0 = w2c_l2;
+  w2c_j1 = 24ull;
+  w2c_j0 += w2c_j1;
+  w2c_i1 = w2c_l6;
+  w2c_f18(m, w2c_j0, w2c_i1);
+  w2c_i0 = 1u;
+  w2c_l5 = w2c_i0;
+  w2c_j0 = w2c_l2;
+  w2c_i0 = (u32)(w2c_j0);
+  w2c_i0 = i32_load8_u(m, (u64)(w2c_i0) + 24u);
+  w2c_i1 = 1u;
+  w2c_i0 = w2c_i0 == w2c_i1;
+  if (w2c_i0) {goto w2c_B0;}
+  w2c_j0 = w2c_l2;
+  w2c_j1 = 16ull;
+  w2c_j0 += w2c_j1;
+  w2c_i1 = w2c_l6;
+  w2c_f19(m, w2c_j0, w2c_i1);
+  w2c_i0 = w2c_l6;
+  w2c_i1 = 128u;
+  w2c_i0 = w2c_i0 < w2c_i1;
+  if (w2c_i0) {goto w2c_B5;}
+  goto w2c_B2;
+  w2c_B6:;
+  w2c_i0 = w2c_l6;
   w2c_i1 = 12u;
   w2c_i0 >>= (w2c_i1 & 31);
-  w2c_i1 = w2c_p0;
+  w2c_i1 = w2c_l6;
   w2c_i2 = 2u;
   w2c_i1 <<= (w2c_i2 & 31);
   w2c_i2 = 16128u;
   w2c_i1 &= w2c_i2;
   w2c_i0 |= w2c_i1;
-  w2c_i1 = w2c_p0;
+  w2c_i1 = w2c_l6;
   w2c_i2 = 16u;
   w2c_i1 <<= (w2c_i2 & 31);
   w2c_i2 = 4128768u;
@@ -13079,7 +13720,7 @@ static u32 w2c_f24(module *m, u32 w2c_p0) {
   w2c_i0 |= w2c_i1;
   w2c_i1 = 8421600u;
   w2c_i0 |= w2c_i1;
-  w2c_l3 = w2c_i0;
+  w2c_l5 = w2c_i0;
   w2c_j0 = (u64)(w2c_i0);
   w2c_j1 = 953497ull;
   w2c_j0 *= w2c_j1;
@@ -13087,179 +13728,1658 @@ static u32 w2c_f24(module *m, u32 w2c_p0) {
   w2c_j0 >>= (w2c_j1 & 63);
   w2c_j1 = 1016ull;
   w2c_j0 &= w2c_j1;
-  w2c_l2 = w2c_j0;
+  w2c_p1 = w2c_j0;
   w2c_i0 = (u32)(w2c_j0);
   w2c_i0 = i32_load(m, (u64)(w2c_i0) + 66992u);
-  w2c_i1 = w2c_l3;
+  w2c_i1 = w2c_l5;
   w2c_i0 = w2c_i0 != w2c_i1;
-  if (w2c_i0) {goto w2c_B5;}
-  w2c_j0 = w2c_l2;
+  if (w2c_i0) {goto w2c_B2;}
+  w2c_j0 = w2c_p1;
   w2c_j1 = 66996ull;
   w2c_j0 += w2c_j1;
   w2c_i0 = (u32)(w2c_j0);
   w2c_i0 = i32_load8_u(m, (u64)(w2c_i0));
   w2c_i1 = 255u;
   w2c_i0 &= w2c_i1;
-  if (w2c_i0) {goto w2c_B5;}
+  if (w2c_i0) {goto w2c_B2;}
   w2c_i0 = 1u;
-  w2c_l3 = w2c_i0;
-  goto w2c_B1;
-  w2c_B6:;
-  w2c_j0 = w2c_l1;
-  w2c_j1 = 24ull;
-  w2c_j0 += w2c_j1;
-  w2c_i1 = w2c_p0;
-  w2c_f21(m, w2c_j0, w2c_i1);
-  w2c_i0 = 1u;
-  w2c_l3 = w2c_i0;
-  w2c_j0 = w2c_l1;
-  w2c_i0 = (u32)(w2c_j0);
-  w2c_i0 = i32_load8_u(m, (u64)(w2c_i0) + 24u);
-  w2c_i1 = 1u;
-  w2c_i0 = w2c_i0 == w2c_i1;
-  if (w2c_i0) {goto w2c_B1;}
-  w2c_j0 = w2c_l1;
-  w2c_j1 = 16ull;
-  w2c_j0 += w2c_j1;
-  w2c_i1 = w2c_p0;
-  w2c_f19(m, w2c_j0, w2c_i1);
+  w2c_l5 = w2c_i0;
+  goto w2c_B0;
   w2c_B5:;
-  w2c_i0 = w2c_p0;
-  w2c_i1 = 24185u;
-  w2c_i0 = (u32)((s32)w2c_i0 > (s32)w2c_i1);
-  if (w2c_i0) {goto w2c_B8;}
+  w2c_i0 = w2c_l6;
+  w2c_i1 = 95u;
+  w2c_i0 = w2c_i0 == w2c_i1;
+  if (w2c_i0) {goto w2c_B0;}
+  w2c_i0 = w2c_l6;
+  w2c_i1 = 4294967248u;
+  w2c_i0 += w2c_i1;
+  w2c_i1 = 10u;
+  w2c_i0 = w2c_i0 < w2c_i1;
+  if (w2c_i0) {goto w2c_B0;}
+  w2c_i0 = w2c_l6;
+  w2c_i1 = 95u;
+  w2c_i0 &= w2c_i1;
+  w2c_i1 = 4294967231u;
+  w2c_i0 += w2c_i1;
+  w2c_i1 = 26u;
+  w2c_i0 = w2c_i0 < w2c_i1;
+  if (w2c_i0) {goto w2c_B0;}
+  goto w2c_B1;
+  w2c_B3:;
+  UNREACHABLE;
+  w2c_B2:;
   w2c_i0 = 1u;
-  w2c_l3 = w2c_i0;
-  w2c_i0 = w2c_p0;
+  w2c_l5 = w2c_i0;
+  w2c_i0 = w2c_l6;
+  w2c_i1 = 4294902000u;
+  w2c_i0 += w2c_i1;
+  w2c_i1 = 10u;
+  w2c_i0 = w2c_i0 < w2c_i1;
+  if (w2c_i0) {goto w2c_B0;}
+  w2c_i0 = w2c_l6;
   w2c_i1 = 4294945979u;
   w2c_i0 += w2c_i1;
   switch (w2c_i0) {
-    case 0: goto w2c_B1;
-    case 1: goto w2c_B7;
-    case 2: goto w2c_B7;
-    case 3: goto w2c_B7;
-    case 4: goto w2c_B7;
-    case 5: goto w2c_B7;
-    case 6: goto w2c_B7;
-    case 7: goto w2c_B1;
-    default: goto w2c_B9;
+    case 0: goto w2c_B0;
+    case 1: goto w2c_B1;
+    case 2: goto w2c_B1;
+    case 3: goto w2c_B1;
+    case 4: goto w2c_B1;
+    case 5: goto w2c_B1;
+    case 6: goto w2c_B1;
+    case 7: goto w2c_B0;
+    default: goto w2c_B12;
   }
-  w2c_B9:;
-  w2c_i0 = 1u;
-  w2c_l3 = w2c_i0;
-  w2c_i0 = w2c_p0;
-  w2c_i1 = 95u;
-  w2c_i0 = w2c_i0 != w2c_i1;
-  if (w2c_i0) {goto w2c_B7;}
-  goto w2c_B1;
-  w2c_B8:;
-  w2c_i0 = w2c_p0;
+  w2c_B12:;
+  w2c_i0 = w2c_l6;
   w2c_i1 = 24186u;
-  w2c_i0 = w2c_i0 != w2c_i1;
-  if (w2c_i0) {goto w2c_B10;}
-  w2c_i0 = 1u;
-  w2c_l3 = w2c_i0;
-  goto w2c_B1;
-  w2c_B10:;
-  w2c_i0 = 1u;
-  w2c_l3 = w2c_i0;
-  w2c_i0 = w2c_p0;
+  w2c_i0 = w2c_i0 == w2c_i1;
+  if (w2c_i0) {goto w2c_B0;}
+  w2c_i0 = w2c_l6;
   w2c_i1 = 24319u;
   w2c_i0 = w2c_i0 == w2c_i1;
-  if (w2c_i0) {goto w2c_B1;}
-  w2c_B7:;
-  w2c_j0 = w2c_l1;
+  if (w2c_i0) {goto w2c_B0;}
+  w2c_B1:;
+  w2c_j0 = w2c_l2;
   w2c_j1 = 8ull;
   w2c_j0 += w2c_j1;
-  w2c_i1 = w2c_p0;
+  w2c_i1 = w2c_l6;
   w2c_f19(m, w2c_j0, w2c_i1);
-  w2c_j0 = w2c_l1;
+  w2c_j0 = w2c_l2;
   w2c_i0 = (u32)(w2c_j0);
   w2c_i0 = i32_load8_u(m, (u64)(w2c_i0) + 8u);
   w2c_i1 = 1u;
   w2c_i0 = w2c_i0 == w2c_i1;
-  w2c_l3 = w2c_i0;
-  w2c_B1:;
-  w2c_j0 = w2c_l1;
+  w2c_l5 = w2c_i0;
+  w2c_B0:;
+  w2c_j0 = w2c_l2;
   w2c_j1 = 32ull;
   w2c_j0 += w2c_j1;
   m->w2c_g0 = w2c_j0;
-  w2c_i0 = w2c_l3;
-  goto w2c_Bfunc;
-  w2c_B0:;
-  UNREACHABLE;
-  w2c_Bfunc:;
+  w2c_i0 = w2c_l5;
   return w2c_i0;
 }
 
-static u32 w2c_f25(module *m, u32 w2c_p0, u64 w2c_p1, u64 w2c_p2, u32 w2c_p3) {
-  u32 w2c_l5 = 0, w2c_l6 = 0, w2c_l7 = 0;
-  u64 w2c_l4 = 0;
+static u32 w2c_f25(module *m, u64 w2c_p0, u64 w2c_p1) {
+  u32 w2c_l3 = 0, w2c_l4 = 0, w2c_l5 = 0, w2c_l6 = 0;
+  u64 w2c_l2 = 0;
   u32 w2c_i0, w2c_i1, w2c_i2, w2c_i3;
   u64 w2c_j0, w2c_j1, w2c_j2;
   w2c_j0 = m->w2c_g0;
-  w2c_j1 = 96ull;
+  w2c_j1 = 32ull;
   w2c_j0 -= w2c_j1;
-  w2c_l4 = w2c_j0;
+  w2c_l2 = w2c_j0;
   m->w2c_g0 = w2c_j0;
-  w2c_j0 = w2c_l4;
-  w2c_l4 = w2c_j0;
+  w2c_j0 = w2c_l2;
+  w2c_l2 = w2c_j0;
   w2c_j1 = 16ull;
   w2c_i0 = (u64)((s64)w2c_j0 < (s64)w2c_j1);
-  if (w2c_i0) {goto w2c_B0;}
-  w2c_j0 = w2c_p2;
-  w2c_i0 = !(w2c_j0);
-  if (w2c_i0) {goto w2c_B5;}
-  w2c_i0 = w2c_p0;
-  w2c_i1 = 1u;
-  w2c_i0 &= w2c_i1;
-  w2c_i0 = !(w2c_i0);
-  if (w2c_i0) {goto w2c_B5;}
+  if (w2c_i0) {goto w2c_B6;}
   w2c_j0 = w2c_p1;
+  w2c_j1 = 3ull;
+  w2c_i0 = w2c_j0 < w2c_j1;
+  if (w2c_i0) {goto w2c_B8;}
+  w2c_j0 = w2c_p0;
   w2c_i0 = (u32)(w2c_j0);
-  w2c_i0 = i32_load8_s(m, (u64)(w2c_i0));
-  w2c_l5 = w2c_i0;
-  w2c_i1 = 255u;
+  w2c_i0 = i32_load8_u(m, (u64)(w2c_i0));
+  w2c_l3 = w2c_i0;
+  w2c_i1 = 240u;
   w2c_i0 &= w2c_i1;
-  w2c_p0 = w2c_i0;
-  w2c_i0 = w2c_l5;
+  w2c_i1 = 224u;
+  w2c_i0 = w2c_i0 != w2c_i1;
+  if (w2c_i0) {goto w2c_B7;}
+  w2c_j0 = w2c_p0;
+  w2c_i0 = (u32)(w2c_j0);
+  w2c_i0 = i32_load8_u(m, (u64)(w2c_i0) + 1u);
+  w2c_l4 = w2c_i0;
+  w2c_i1 = 8u;
+  w2c_i0 <<= (w2c_i1 & 31);
+  w2c_j1 = w2c_p0;
+  w2c_i1 = (u32)(w2c_j1);
+  w2c_i1 = i32_load8_u(m, (u64)(w2c_i1) + 2u);
+  w2c_l5 = w2c_i1;
+  w2c_i2 = 16u;
+  w2c_i1 <<= (w2c_i2 & 31);
+  w2c_i0 |= w2c_i1;
+  w2c_i1 = w2c_l3;
+  w2c_i0 |= w2c_i1;
+  w2c_l6 = w2c_i0;
+  w2c_i0 = w2c_l3;
+  w2c_i1 = 12u;
+  w2c_i0 <<= (w2c_i1 & 31);
+  w2c_i1 = w2c_l4;
+  w2c_i2 = 6u;
+  w2c_i1 <<= (w2c_i2 & 31);
+  w2c_i0 += w2c_i1;
+  w2c_i1 = w2c_l5;
+  w2c_i0 += w2c_i1;
+  w2c_i1 = 4294041472u;
+  w2c_i0 += w2c_i1;
+  w2c_l3 = w2c_i0;
+  w2c_i0 = w2c_l6;
+  w2c_i1 = w2c_l6;
+  w2c_j1 = (u64)(w2c_i1);
+  w2c_j2 = 953497ull;
+  w2c_j1 *= w2c_j2;
+  w2c_j2 = 22ull;
+  w2c_j1 >>= (w2c_j2 & 63);
+  w2c_j2 = 1016ull;
+  w2c_j1 &= w2c_j2;
+  w2c_p0 = w2c_j1;
+  w2c_j2 = 66992ull;
+  w2c_j1 += w2c_j2;
+  w2c_i1 = (u32)(w2c_j1);
+  w2c_i1 = i32_load(m, (u64)(w2c_i1));
+  w2c_i0 = w2c_i0 != w2c_i1;
+  if (w2c_i0) {goto w2c_B4;}
+  goto w2c_B5;
+  w2c_B8:;
+  w2c_j0 = w2c_p1;
+  w2c_i0 = !(w2c_j0);
+  w2c_i0 = !(w2c_i0);
+  if (w2c_i0) {goto w2c_B9;}
+  w2c_i0 = 0u;
+  w2c_l6 = w2c_i0;
+  goto w2c_B0;
+  w2c_B9:;
+  w2c_j0 = w2c_p0;
+  w2c_i0 = (u32)(w2c_j0);
+  w2c_i0 = i32_load8_u(m, (u64)(w2c_i0));
+  w2c_l3 = w2c_i0;
+  w2c_B7:;
+  w2c_i0 = w2c_l3;
+  w2c_i0 = (u32)(s32)(s8)(u8)(w2c_i0);
   w2c_i1 = 4294967295u;
   w2c_i0 = (u32)((s32)w2c_i0 > (s32)w2c_i1);
-  if (w2c_i0) {goto w2c_B3;}
-  w2c_j0 = w2c_p1;
+  if (w2c_i0) {goto w2c_B10;}
+  w2c_j0 = w2c_p0;
   w2c_i0 = (u32)(w2c_j0);
   w2c_i0 = i32_load8_u(m, (u64)(w2c_i0) + 1u);
   w2c_i1 = 63u;
   w2c_i0 &= w2c_i1;
   w2c_l6 = w2c_i0;
-  w2c_i0 = w2c_l5;
-  w2c_i1 = 4294967263u;
+  w2c_i0 = w2c_l3;
+  w2c_i1 = 223u;
   w2c_i0 = w2c_i0 > w2c_i1;
-  if (w2c_i0) {goto w2c_B6;}
-  w2c_i0 = w2c_p0;
+  if (w2c_i0) {goto w2c_B11;}
+  w2c_i0 = w2c_l3;
   w2c_i1 = 6u;
   w2c_i0 <<= (w2c_i1 & 31);
   w2c_i1 = 1984u;
   w2c_i0 &= w2c_i1;
   w2c_i1 = w2c_l6;
   w2c_i0 |= w2c_i1;
-  w2c_p0 = w2c_i0;
+  w2c_l3 = w2c_i0;
+  goto w2c_B10;
+  w2c_B11:;
+  w2c_j0 = w2c_p0;
+  w2c_i0 = (u32)(w2c_j0);
+  w2c_i0 = i32_load8_u(m, (u64)(w2c_i0) + 2u);
+  w2c_i1 = 63u;
+  w2c_i0 &= w2c_i1;
+  w2c_l4 = w2c_i0;
+  w2c_i0 = w2c_l3;
+  w2c_i1 = 239u;
+  w2c_i0 = w2c_i0 > w2c_i1;
+  if (w2c_i0) {goto w2c_B12;}
+  w2c_i0 = w2c_l6;
+  w2c_i1 = 6u;
+  w2c_i0 <<= (w2c_i1 & 31);
+  w2c_i1 = w2c_l3;
+  w2c_i2 = 12u;
+  w2c_i1 <<= (w2c_i2 & 31);
+  w2c_i2 = 61440u;
+  w2c_i1 &= w2c_i2;
+  w2c_i0 |= w2c_i1;
+  w2c_i1 = w2c_l4;
+  w2c_i0 |= w2c_i1;
+  w2c_l3 = w2c_i0;
+  goto w2c_B10;
+  w2c_B12:;
+  w2c_i0 = w2c_l4;
+  w2c_i1 = 6u;
+  w2c_i0 <<= (w2c_i1 & 31);
+  w2c_i1 = w2c_l6;
+  w2c_i2 = 12u;
+  w2c_i1 <<= (w2c_i2 & 31);
+  w2c_i2 = w2c_l3;
+  w2c_i3 = 18u;
+  w2c_i2 <<= (w2c_i3 & 31);
+  w2c_i3 = 1835008u;
+  w2c_i2 &= w2c_i3;
+  w2c_i1 |= w2c_i2;
+  w2c_i0 |= w2c_i1;
+  w2c_j1 = w2c_p0;
+  w2c_i1 = (u32)(w2c_j1);
+  w2c_i1 = i32_load8_u(m, (u64)(w2c_i1) + 3u);
+  w2c_i2 = 63u;
+  w2c_i1 &= w2c_i2;
+  w2c_i0 |= w2c_i1;
+  w2c_l3 = w2c_i0;
+  w2c_B10:;
+  w2c_i0 = w2c_l3;
+  w2c_i1 = 4294965248u;
+  w2c_i0 += w2c_i1;
+  w2c_i1 = 63487u;
+  w2c_i0 = w2c_i0 > w2c_i1;
+  if (w2c_i0) {goto w2c_B13;}
+  w2c_i0 = w2c_l3;
+  w2c_i1 = 12u;
+  w2c_i0 >>= (w2c_i1 & 31);
+  w2c_i1 = w2c_l3;
+  w2c_i2 = 2u;
+  w2c_i1 <<= (w2c_i2 & 31);
+  w2c_i2 = 16128u;
+  w2c_i1 &= w2c_i2;
+  w2c_i0 |= w2c_i1;
+  w2c_i1 = w2c_l3;
+  w2c_i2 = 16u;
+  w2c_i1 <<= (w2c_i2 & 31);
+  w2c_i2 = 4128768u;
+  w2c_i1 &= w2c_i2;
+  w2c_i0 |= w2c_i1;
+  w2c_i1 = 8421600u;
+  w2c_i0 |= w2c_i1;
+  w2c_l6 = w2c_i0;
+  w2c_j0 = (u64)(w2c_i0);
+  w2c_j1 = 953497ull;
+  w2c_j0 *= w2c_j1;
+  w2c_j1 = 22ull;
+  w2c_j0 >>= (w2c_j1 & 63);
+  w2c_j1 = 1016ull;
+  w2c_j0 &= w2c_j1;
+  w2c_p0 = w2c_j0;
+  w2c_j1 = 66992ull;
+  w2c_j0 += w2c_j1;
+  w2c_i0 = (u32)(w2c_j0);
+  w2c_i0 = i32_load(m, (u64)(w2c_i0));
+  w2c_i1 = w2c_l6;
+  w2c_i0 = w2c_i0 == w2c_i1;
+  if (w2c_i0) {goto w2c_B5;}
   goto w2c_B3;
+  w2c_B13:;
+  w2c_j0 = w2c_l2;
+  w2c_j1 = 24ull;
+  w2c_j0 += w2c_j1;
+  w2c_i1 = w2c_l3;
+  w2c_f18(m, w2c_j0, w2c_i1);
+  w2c_i0 = 1u;
+  w2c_l6 = w2c_i0;
+  w2c_j0 = w2c_l2;
+  w2c_i0 = (u32)(w2c_j0);
+  w2c_i0 = i32_load8_u(m, (u64)(w2c_i0) + 24u);
+  w2c_i1 = 1u;
+  w2c_i0 = w2c_i0 == w2c_i1;
+  if (w2c_i0) {goto w2c_B0;}
+  w2c_j0 = w2c_l2;
+  w2c_j1 = 16ull;
+  w2c_j0 += w2c_j1;
+  w2c_i1 = w2c_l3;
+  w2c_f19(m, w2c_j0, w2c_i1);
+  goto w2c_B4;
+  w2c_B6:;
+  UNREACHABLE;
+  w2c_B5:;
+  w2c_j0 = w2c_p0;
+  w2c_j1 = 66996ull;
+  w2c_j0 += w2c_j1;
+  w2c_i0 = (u32)(w2c_j0);
+  w2c_i0 = i32_load8_u(m, (u64)(w2c_i0));
+  if (w2c_i0) {goto w2c_B4;}
+  w2c_i0 = 1u;
+  w2c_l6 = w2c_i0;
+  goto w2c_B0;
+  w2c_B4:;
+  w2c_i0 = w2c_l3;
+  w2c_i1 = 128u;
+  w2c_i0 = w2c_i0 < w2c_i1;
+  if (w2c_i0) {goto w2c_B2;}
+  w2c_B3:;
+  w2c_i0 = 1u;
+  w2c_l6 = w2c_i0;
+  w2c_i0 = w2c_l3;
+  w2c_i1 = 4294902000u;
+  w2c_i0 += w2c_i1;
+  w2c_i1 = 10u;
+  w2c_i0 = w2c_i0 < w2c_i1;
+  if (w2c_i0) {goto w2c_B0;}
+  w2c_i0 = w2c_l3;
+  w2c_i1 = 4294945979u;
+  w2c_i0 += w2c_i1;
+  switch (w2c_i0) {
+    case 0: goto w2c_B0;
+    case 1: goto w2c_B1;
+    case 2: goto w2c_B1;
+    case 3: goto w2c_B1;
+    case 4: goto w2c_B1;
+    case 5: goto w2c_B1;
+    case 6: goto w2c_B1;
+    case 7: goto w2c_B0;
+    default: goto w2c_B14;
+  }
+  w2c_B14:;
+  w2c_i0 = w2c_l3;
+  w2c_i1 = 24186u;
+  w2c_i0 = w2c_i0 == w2c_i1;
+  if (w2c_i0) {goto w2c_B0;}
+  w2c_i0 = w2c_l3;
+  w2c_i1 = 24319u;
+  w2c_i0 = w2c_i0 != w2c_i1;
+  if (w2c_i0) {goto w2c_B1;}
+  goto w2c_B0;
+  w2c_B2:;
+  w2c_i0 = 1u;
+  w2c_l6 = w2c_i0;
+  w2c_i0 = w2c_l3;
+  w2c_i1 = 95u;
+  w2c_i0 = w2c_i0 == w2c_i1;
+  if (w2c_i0) {goto w2c_B0;}
+  w2c_i0 = w2c_l3;
+  w2c_i1 = 4294967248u;
+  w2c_i0 += w2c_i1;
+  w2c_i1 = 10u;
+  w2c_i0 = w2c_i0 < w2c_i1;
+  if (w2c_i0) {goto w2c_B0;}
+  w2c_i0 = w2c_l3;
+  w2c_i1 = 95u;
+  w2c_i0 &= w2c_i1;
+  w2c_i1 = 4294967231u;
+  w2c_i0 += w2c_i1;
+  w2c_i1 = 26u;
+  w2c_i0 = w2c_i0 < w2c_i1;
+  if (w2c_i0) {goto w2c_B0;}
+  w2c_B1:;
+  w2c_j0 = w2c_l2;
+  w2c_j1 = 8ull;
+  w2c_j0 += w2c_j1;
+  w2c_i1 = w2c_l3;
+  w2c_f19(m, w2c_j0, w2c_i1);
+  w2c_j0 = w2c_l2;
+  w2c_i0 = (u32)(w2c_j0);
+  w2c_i0 = i32_load8_u(m, (u64)(w2c_i0) + 8u);
+  w2c_i1 = 1u;
+  w2c_i0 = w2c_i0 == w2c_i1;
+  w2c_l6 = w2c_i0;
+  w2c_B0:;
+  w2c_j0 = w2c_l2;
+  w2c_j1 = 32ull;
+  w2c_j0 += w2c_j1;
+  m->w2c_g0 = w2c_j0;
+  w2c_i0 = w2c_l6;
+  return w2c_i0;
+}
+
+static u32 w2c_f26(module *m, u64 w2c_p0, u64 w2c_p1) {
+  u32 w2c_l6 = 0, w2c_l7 = 0, w2c_l8 = 0, w2c_l9 = 0, w2c_l10 = 0;
+  u64 w2c_l2 = 0, w2c_l3 = 0, w2c_l4 = 0, w2c_l5 = 0;
+  u32 w2c_i0, w2c_i1, w2c_i2, w2c_i3;
+  u64 w2c_j0, w2c_j1;
+  w2c_j0 = m->w2c_g0;
+  w2c_j1 = 80ull;
+  w2c_j0 -= w2c_j1;
+  w2c_l2 = w2c_j0;
+  m->w2c_g0 = w2c_j0;
+  w2c_j0 = w2c_l2;
+  w2c_l3 = w2c_j0;
+  w2c_j1 = 16ull;
+  w2c_i0 = (u64)((s64)w2c_j0 < (s64)w2c_j1);
+  if (w2c_i0) {goto w2c_B2;}
+  w2c_L3:
+    w2c_j0 = w2c_p1;
+    w2c_j1 = 3ull;
+    w2c_i0 = w2c_j0 < w2c_j1;
+    if (w2c_i0) {goto w2c_B8;}
+    w2c_j0 = w2c_p0;
+    w2c_i0 = (u32)(w2c_j0);
+    w2c_i0 = i32_load8_u(m, (u64)(w2c_i0));
+    w2c_l6 = w2c_i0;
+    w2c_i1 = 240u;
+    w2c_i0 &= w2c_i1;
+    w2c_i1 = 224u;
+    w2c_i0 = w2c_i0 != w2c_i1;
+    if (w2c_i0) {goto w2c_B7;}
+    w2c_j0 = w2c_p0;
+    w2c_i0 = (u32)(w2c_j0);
+    w2c_i0 = i32_load8_u(m, (u64)(w2c_i0) + 2u);
+    w2c_l7 = w2c_i0;
+    w2c_j0 = w2c_p0;
+    w2c_i0 = (u32)(w2c_j0);
+    w2c_i0 = i32_load8_u(m, (u64)(w2c_i0) + 1u);
+    w2c_l8 = w2c_i0;
+    w2c_j0 = w2c_p1;
+    w2c_j1 = 18446744073709551613ull;
+    w2c_j0 += w2c_j1;
+    w2c_p1 = w2c_j0;
+    w2c_j0 = w2c_p0;
+    w2c_j1 = 3ull;
+    w2c_j0 += w2c_j1;
+    w2c_p0 = w2c_j0;
+    w2c_i0 = w2c_l8;
+    w2c_i1 = 8u;
+    w2c_i0 <<= (w2c_i1 & 31);
+    w2c_i1 = w2c_l7;
+    w2c_i2 = 16u;
+    w2c_i1 <<= (w2c_i2 & 31);
+    w2c_i0 |= w2c_i1;
+    w2c_i1 = w2c_l6;
+    w2c_i0 |= w2c_i1;
+    w2c_l9 = w2c_i0;
+    w2c_j0 = (u64)(w2c_i0);
+    w2c_j1 = 953497ull;
+    w2c_j0 *= w2c_j1;
+    w2c_j1 = 22ull;
+    w2c_j0 >>= (w2c_j1 & 63);
+    w2c_j1 = 1016ull;
+    w2c_j0 &= w2c_j1;
+    w2c_l2 = w2c_j0;
+    w2c_j1 = 66992ull;
+    w2c_j0 += w2c_j1;
+    w2c_i0 = (u32)(w2c_j0);
+    w2c_i0 = i32_load(m, (u64)(w2c_i0));
+    w2c_i1 = w2c_l9;
+    w2c_i0 = w2c_i0 != w2c_i1;
+    if (w2c_i0) {goto w2c_L3;}
+    w2c_i0 = w2c_l6;
+    w2c_i1 = 12u;
+    w2c_i0 <<= (w2c_i1 & 31);
+    w2c_i1 = w2c_l8;
+    w2c_i2 = 6u;
+    w2c_i1 <<= (w2c_i2 & 31);
+    w2c_i0 += w2c_i1;
+    w2c_i1 = w2c_l7;
+    w2c_i0 += w2c_i1;
+    w2c_i1 = 4294041472u;
+    w2c_i0 += w2c_i1;
+    w2c_l6 = w2c_i0;
+    goto w2c_B6;
+    w2c_B8:;
+    w2c_j0 = w2c_p1;
+    w2c_i0 = !(w2c_j0);
+    w2c_i0 = !(w2c_i0);
+    if (w2c_i0) {goto w2c_B9;}
+    w2c_i0 = 0u;
+    w2c_l8 = w2c_i0;
+    goto w2c_B0;
+    w2c_B9:;
+    w2c_j0 = w2c_p0;
+    w2c_i0 = (u32)(w2c_j0);
+    w2c_i0 = i32_load8_u(m, (u64)(w2c_i0));
+    w2c_l6 = w2c_i0;
+    w2c_B7:;
+    w2c_j0 = 1ull;
+    w2c_l2 = w2c_j0;
+    w2c_i0 = w2c_l6;
+    w2c_i0 = (u32)(s32)(s8)(u8)(w2c_i0);
+    w2c_i1 = 4294967295u;
+    w2c_i0 = (u32)((s32)w2c_i0 > (s32)w2c_i1);
+    if (w2c_i0) {goto w2c_B10;}
+    w2c_j0 = w2c_p0;
+    w2c_i0 = (u32)(w2c_j0);
+    w2c_i0 = i32_load8_u(m, (u64)(w2c_i0) + 1u);
+    w2c_i1 = 63u;
+    w2c_i0 &= w2c_i1;
+    w2c_l7 = w2c_i0;
+    w2c_i0 = w2c_l6;
+    w2c_i1 = 223u;
+    w2c_i0 = w2c_i0 > w2c_i1;
+    if (w2c_i0) {goto w2c_B11;}
+    w2c_i0 = w2c_l6;
+    w2c_i1 = 6u;
+    w2c_i0 <<= (w2c_i1 & 31);
+    w2c_i1 = 1984u;
+    w2c_i0 &= w2c_i1;
+    w2c_i1 = w2c_l7;
+    w2c_i0 |= w2c_i1;
+    w2c_l6 = w2c_i0;
+    w2c_j0 = 2ull;
+    w2c_l2 = w2c_j0;
+    goto w2c_B10;
+    w2c_B11:;
+    w2c_j0 = w2c_p0;
+    w2c_i0 = (u32)(w2c_j0);
+    w2c_i0 = i32_load8_u(m, (u64)(w2c_i0) + 2u);
+    w2c_i1 = 63u;
+    w2c_i0 &= w2c_i1;
+    w2c_l8 = w2c_i0;
+    w2c_i0 = w2c_l6;
+    w2c_i1 = 239u;
+    w2c_i0 = w2c_i0 > w2c_i1;
+    if (w2c_i0) {goto w2c_B12;}
+    w2c_i0 = w2c_l7;
+    w2c_i1 = 6u;
+    w2c_i0 <<= (w2c_i1 & 31);
+    w2c_i1 = w2c_l6;
+    w2c_i2 = 12u;
+    w2c_i1 <<= (w2c_i2 & 31);
+    w2c_i2 = 61440u;
+    w2c_i1 &= w2c_i2;
+    w2c_i0 |= w2c_i1;
+    w2c_i1 = w2c_l8;
+    w2c_i0 |= w2c_i1;
+    w2c_l6 = w2c_i0;
+    w2c_j0 = 3ull;
+    w2c_l2 = w2c_j0;
+    goto w2c_B10;
+    w2c_B12:;
+    w2c_i0 = w2c_l8;
+    w2c_i1 = 6u;
+    w2c_i0 <<= (w2c_i1 & 31);
+    w2c_i1 = w2c_l7;
+    w2c_i2 = 12u;
+    w2c_i1 <<= (w2c_i2 & 31);
+    w2c_i2 = w2c_l6;
+    w2c_i3 = 18u;
+    w2c_i2 <<= (w2c_i3 & 31);
+    w2c_i3 = 1835008u;
+    w2c_i2 &= w2c_i3;
+    w2c_i1 |= w2c_i2;
+    w2c_i0 |= w2c_i1;
+    w2c_j1 = w2c_p0;
+    w2c_i1 = (u32)(w2c_j1);
+    w2c_i1 = i32_load8_u(m, (u64)(w2c_i1) + 3u);
+    w2c_i2 = 63u;
+    w2c_i1 &= w2c_i2;
+    w2c_i0 |= w2c_i1;
+    w2c_l6 = w2c_i0;
+    w2c_j0 = 4ull;
+    w2c_l2 = w2c_j0;
+    w2c_B10:;
+    w2c_j0 = w2c_p1;
+    w2c_j1 = w2c_l2;
+    w2c_j0 -= w2c_j1;
+    w2c_p1 = w2c_j0;
+    w2c_j0 = w2c_p0;
+    w2c_j1 = w2c_l2;
+    w2c_j0 += w2c_j1;
+    w2c_p0 = w2c_j0;
+    w2c_i0 = w2c_l6;
+    w2c_i1 = 4294965248u;
+    w2c_i0 += w2c_i1;
+    w2c_i1 = 63487u;
+    w2c_i0 = w2c_i0 > w2c_i1;
+    if (w2c_i0) {goto w2c_B5;}
+    w2c_i0 = w2c_l6;
+    w2c_i1 = 12u;
+    w2c_i0 >>= (w2c_i1 & 31);
+    w2c_i1 = w2c_l6;
+    w2c_i2 = 2u;
+    w2c_i1 <<= (w2c_i2 & 31);
+    w2c_i2 = 16128u;
+    w2c_i1 &= w2c_i2;
+    w2c_i0 |= w2c_i1;
+    w2c_i1 = w2c_l6;
+    w2c_i2 = 16u;
+    w2c_i1 <<= (w2c_i2 & 31);
+    w2c_i2 = 4128768u;
+    w2c_i1 &= w2c_i2;
+    w2c_i0 |= w2c_i1;
+    w2c_i1 = 8421600u;
+    w2c_i0 |= w2c_i1;
+    w2c_l7 = w2c_i0;
+    w2c_j0 = (u64)(w2c_i0);
+    w2c_j1 = 953497ull;
+    w2c_j0 *= w2c_j1;
+    w2c_j1 = 22ull;
+    w2c_j0 >>= (w2c_j1 & 63);
+    w2c_j1 = 1016ull;
+    w2c_j0 &= w2c_j1;
+    w2c_l2 = w2c_j0;
+    w2c_j1 = 66992ull;
+    w2c_j0 += w2c_j1;
+    w2c_i0 = (u32)(w2c_j0);
+    w2c_i0 = i32_load(m, (u64)(w2c_i0));
+    w2c_i1 = w2c_l7;
+    w2c_i0 = w2c_i0 != w2c_i1;
+    if (w2c_i0) {goto w2c_L3;}
+    w2c_B6:;
+    w2c_j0 = w2c_l2;
+    w2c_j1 = 66996ull;
+    w2c_j0 += w2c_j1;
+    w2c_i0 = (u32)(w2c_j0);
+    w2c_i0 = i32_load8_u(m, (u64)(w2c_i0));
+    if (w2c_i0) {goto w2c_L3;}
+    goto w2c_B4;
+    w2c_B5:;
+    w2c_j0 = w2c_l3;
+    w2c_j1 = 72ull;
+    w2c_j0 += w2c_j1;
+    w2c_i1 = w2c_l6;
+    w2c_f18(m, w2c_j0, w2c_i1);
+    w2c_j0 = w2c_l3;
+    w2c_i0 = (u32)(w2c_j0);
+    w2c_i0 = i32_load8_u(m, (u64)(w2c_i0) + 72u);
+    w2c_i1 = 1u;
+    w2c_i0 = w2c_i0 == w2c_i1;
+    if (w2c_i0) {goto w2c_B4;}
+    w2c_j0 = w2c_l3;
+    w2c_j1 = 64ull;
+    w2c_j0 += w2c_j1;
+    w2c_i1 = w2c_l6;
+    w2c_f19(m, w2c_j0, w2c_i1);
+    goto w2c_L3;
+    w2c_B4:;
+    w2c_j0 = w2c_p0;
+    w2c_l2 = w2c_j0;
+    w2c_j0 = w2c_p1;
+    w2c_l4 = w2c_j0;
+    w2c_j1 = 3ull;
+    w2c_i0 = w2c_j0 < w2c_j1;
+    if (w2c_i0) {goto w2c_B16;}
+    w2c_j0 = w2c_l2;
+    w2c_i0 = (u32)(w2c_j0);
+    w2c_i0 = i32_load8_u(m, (u64)(w2c_i0));
+    w2c_l7 = w2c_i0;
+    w2c_i1 = 240u;
+    w2c_i0 &= w2c_i1;
+    w2c_i1 = 224u;
+    w2c_i0 = w2c_i0 != w2c_i1;
+    if (w2c_i0) {goto w2c_B15;}
+    w2c_j0 = w2c_l4;
+    w2c_j1 = 18446744073709551613ull;
+    w2c_j0 += w2c_j1;
+    w2c_p1 = w2c_j0;
+    w2c_j0 = w2c_l2;
+    w2c_j1 = 3ull;
+    w2c_j0 += w2c_j1;
+    w2c_p0 = w2c_j0;
+    w2c_j0 = w2c_l2;
+    w2c_i0 = (u32)(w2c_j0);
+    w2c_i0 = i32_load8_u(m, (u64)(w2c_i0) + 1u);
+    w2c_l9 = w2c_i0;
+    w2c_i1 = 8u;
+    w2c_i0 <<= (w2c_i1 & 31);
+    w2c_j1 = w2c_l2;
+    w2c_i1 = (u32)(w2c_j1);
+    w2c_i1 = i32_load8_u(m, (u64)(w2c_i1) + 2u);
+    w2c_l10 = w2c_i1;
+    w2c_i2 = 16u;
+    w2c_i1 <<= (w2c_i2 & 31);
+    w2c_i0 |= w2c_i1;
+    w2c_i1 = w2c_l7;
+    w2c_i0 |= w2c_i1;
+    w2c_l8 = w2c_i0;
+    w2c_j0 = (u64)(w2c_i0);
+    w2c_j1 = 953497ull;
+    w2c_j0 *= w2c_j1;
+    w2c_j1 = 22ull;
+    w2c_j0 >>= (w2c_j1 & 63);
+    w2c_j1 = 1016ull;
+    w2c_j0 &= w2c_j1;
+    w2c_l5 = w2c_j0;
+    w2c_j1 = 66992ull;
+    w2c_j0 += w2c_j1;
+    w2c_i0 = (u32)(w2c_j0);
+    w2c_i0 = i32_load(m, (u64)(w2c_i0));
+    w2c_i1 = w2c_l8;
+    w2c_i0 = w2c_i0 != w2c_i1;
+    if (w2c_i0) {goto w2c_L3;}
+    w2c_i0 = w2c_l7;
+    w2c_i1 = 12u;
+    w2c_i0 <<= (w2c_i1 & 31);
+    w2c_i1 = w2c_l9;
+    w2c_i2 = 6u;
+    w2c_i1 <<= (w2c_i2 & 31);
+    w2c_i0 += w2c_i1;
+    w2c_i1 = w2c_l10;
+    w2c_i0 += w2c_i1;
+    w2c_i1 = 4294041472u;
+    w2c_i0 += w2c_i1;
+    w2c_l7 = w2c_i0;
+    goto w2c_B14;
+    w2c_B16:;
+    w2c_j0 = 0ull;
+    w2c_p1 = w2c_j0;
+    w2c_j0 = w2c_l2;
+    w2c_p0 = w2c_j0;
+    w2c_j0 = w2c_l4;
+    w2c_i0 = !(w2c_j0);
+    if (w2c_i0) {goto w2c_L3;}
+    w2c_j0 = w2c_l2;
+    w2c_i0 = (u32)(w2c_j0);
+    w2c_i0 = i32_load8_u(m, (u64)(w2c_i0));
+    w2c_l7 = w2c_i0;
+    w2c_B15:;
+    w2c_j0 = 1ull;
+    w2c_p0 = w2c_j0;
+    w2c_i0 = w2c_l7;
+    w2c_i0 = (u32)(s32)(s8)(u8)(w2c_i0);
+    w2c_i1 = 4294967295u;
+    w2c_i0 = (u32)((s32)w2c_i0 > (s32)w2c_i1);
+    if (w2c_i0) {goto w2c_B17;}
+    w2c_j0 = w2c_l2;
+    w2c_i0 = (u32)(w2c_j0);
+    w2c_i0 = i32_load8_u(m, (u64)(w2c_i0) + 1u);
+    w2c_i1 = 63u;
+    w2c_i0 &= w2c_i1;
+    w2c_l8 = w2c_i0;
+    w2c_i0 = w2c_l7;
+    w2c_i1 = 223u;
+    w2c_i0 = w2c_i0 > w2c_i1;
+    if (w2c_i0) {goto w2c_B18;}
+    w2c_i0 = w2c_l7;
+    w2c_i1 = 6u;
+    w2c_i0 <<= (w2c_i1 & 31);
+    w2c_i1 = 1984u;
+    w2c_i0 &= w2c_i1;
+    w2c_i1 = w2c_l8;
+    w2c_i0 |= w2c_i1;
+    w2c_l7 = w2c_i0;
+    w2c_j0 = 2ull;
+    w2c_p0 = w2c_j0;
+    goto w2c_B17;
+    w2c_B18:;
+    w2c_j0 = w2c_l2;
+    w2c_i0 = (u32)(w2c_j0);
+    w2c_i0 = i32_load8_u(m, (u64)(w2c_i0) + 2u);
+    w2c_i1 = 63u;
+    w2c_i0 &= w2c_i1;
+    w2c_l9 = w2c_i0;
+    w2c_i0 = w2c_l7;
+    w2c_i1 = 239u;
+    w2c_i0 = w2c_i0 > w2c_i1;
+    if (w2c_i0) {goto w2c_B19;}
+    w2c_i0 = w2c_l8;
+    w2c_i1 = 6u;
+    w2c_i0 <<= (w2c_i1 & 31);
+    w2c_i1 = w2c_l7;
+    w2c_i2 = 12u;
+    w2c_i1 <<= (w2c_i2 & 31);
+    w2c_i2 = 61440u;
+    w2c_i1 &= w2c_i2;
+    w2c_i0 |= w2c_i1;
+    w2c_i1 = w2c_l9;
+    w2c_i0 |= w2c_i1;
+    w2c_l7 = w2c_i0;
+    w2c_j0 = 3ull;
+    w2c_p0 = w2c_j0;
+    goto w2c_B17;
+    w2c_B19:;
+    w2c_i0 = w2c_l9;
+    w2c_i1 = 6u;
+    w2c_i0 <<= (w2c_i1 & 31);
+    w2c_i1 = w2c_l8;
+    w2c_i2 = 12u;
+    w2c_i1 <<= (w2c_i2 & 31);
+    w2c_i2 = w2c_l7;
+    w2c_i3 = 18u;
+    w2c_i2 <<= (w2c_i3 & 31);
+    w2c_i3 = 1835008u;
+    w2c_i2 &= w2c_i3;
+    w2c_i1 |= w2c_i2;
+    w2c_i0 |= w2c_i1;
+    w2c_j1 = w2c_l2;
+    w2c_i1 = (u32)(w2c_j1);
+    w2c_i1 = i32_load8_u(m, (u64)(w2c_i1) + 3u);
+    w2c_i2 = 63u;
+    w2c_i1 &= w2c_i2;
+    w2c_i0 |= w2c_i1;
+    w2c_l7 = w2c_i0;
+    w2c_j0 = 4ull;
+    w2c_p0 = w2c_j0;
+    w2c_B17:;
+    w2c_j0 = w2c_l4;
+    w2c_j1 = w2c_p0;
+    w2c_j0 -= w2c_j1;
+    w2c_p1 = w2c_j0;
+    w2c_j0 = w2c_l2;
+    w2c_j1 = w2c_p0;
+    w2c_j0 += w2c_j1;
+    w2c_p0 = w2c_j0;
+    w2c_i0 = w2c_l7;
+    w2c_i1 = 4294965248u;
+    w2c_i0 += w2c_i1;
+    w2c_i1 = 63487u;
+    w2c_i0 = w2c_i0 > w2c_i1;
+    if (w2c_i0) {goto w2c_B13;}
+    w2c_i0 = w2c_l7;
+    w2c_i1 = 12u;
+    w2c_i0 >>= (w2c_i1 & 31);
+    w2c_i1 = w2c_l7;
+    w2c_i2 = 2u;
+    w2c_i1 <<= (w2c_i2 & 31);
+    w2c_i2 = 16128u;
+    w2c_i1 &= w2c_i2;
+    w2c_i0 |= w2c_i1;
+    w2c_i1 = w2c_l7;
+    w2c_i2 = 16u;
+    w2c_i1 <<= (w2c_i2 & 31);
+    w2c_i2 = 4128768u;
+    w2c_i1 &= w2c_i2;
+    w2c_i0 |= w2c_i1;
+    w2c_i1 = 8421600u;
+    w2c_i0 |= w2c_i1;
+    w2c_l8 = w2c_i0;
+    w2c_j0 = (u64)(w2c_i0);
+    w2c_j1 = 953497ull;
+    w2c_j0 *= w2c_j1;
+    w2c_j1 = 22ull;
+    w2c_j0 >>= (w2c_j1 & 63);
+    w2c_j1 = 1016ull;
+    w2c_j0 &= w2c_j1;
+    w2c_l5 = w2c_j0;
+    w2c_j1 = 66992ull;
+    w2c_j0 += w2c_j1;
+    w2c_i0 = (u32)(w2c_j0);
+    w2c_i0 = i32_load(m, (u64)(w2c_i0));
+    w2c_i1 = w2c_l8;
+    w2c_i0 = w2c_i0 != w2c_i1;
+    if (w2c_i0) {goto w2c_L3;}
+    w2c_B14:;
+    w2c_j0 = w2c_l5;
+    w2c_j1 = 66996ull;
+    w2c_j0 += w2c_j1;
+    w2c_i0 = (u32)(w2c_j0);
+    w2c_i0 = i32_load8_u(m, (u64)(w2c_i0));
+    if (w2c_i0) {goto w2c_L3;}
+    goto w2c_B1;
+    w2c_B13:;
+    w2c_j0 = w2c_l3;
+    w2c_j1 = 56ull;
+    w2c_j0 += w2c_j1;
+    w2c_i1 = w2c_l7;
+    w2c_f18(m, w2c_j0, w2c_i1);
+    w2c_j0 = w2c_l3;
+    w2c_i0 = (u32)(w2c_j0);
+    w2c_i0 = i32_load8_u(m, (u64)(w2c_i0) + 56u);
+    w2c_i1 = 1u;
+    w2c_i0 = w2c_i0 == w2c_i1;
+    if (w2c_i0) {goto w2c_B1;}
+    w2c_j0 = w2c_l3;
+    w2c_j1 = 48ull;
+    w2c_j0 += w2c_j1;
+    w2c_i1 = w2c_l7;
+    w2c_f19(m, w2c_j0, w2c_i1);
+    goto w2c_L3;
+  UNREACHABLE;
+  w2c_B2:;
+  UNREACHABLE;
+  w2c_B1:;
+  w2c_i0 = 0u;
+  w2c_l8 = w2c_i0;
+  w2c_i0 = w2c_l6;
+  w2c_i1 = 4294967248u;
+  w2c_i0 += w2c_i1;
+  w2c_i1 = 10u;
+  w2c_i0 = w2c_i0 < w2c_i1;
+  if (w2c_i0) {goto w2c_B0;}
+  w2c_i0 = w2c_l7;
+  w2c_i1 = 4294967248u;
+  w2c_i0 += w2c_i1;
+  w2c_i1 = 10u;
+  w2c_i0 = w2c_i0 < w2c_i1;
+  if (w2c_i0) {goto w2c_B0;}
+  w2c_j0 = w2c_l3;
+  w2c_j1 = 40ull;
+  w2c_j0 += w2c_j1;
+  w2c_i1 = w2c_l6;
+  w2c_f18(m, w2c_j0, w2c_i1);
+  w2c_j0 = w2c_l3;
+  w2c_i0 = (u32)(w2c_j0);
+  w2c_i0 = i32_load8_u(m, (u64)(w2c_i0) + 41u);
+  w2c_l6 = w2c_i0;
+  w2c_j0 = w2c_l3;
+  w2c_i0 = (u32)(w2c_j0);
+  w2c_i0 = i32_load8_u(m, (u64)(w2c_i0) + 40u);
+  w2c_l9 = w2c_i0;
+  w2c_j0 = w2c_l3;
+  w2c_j1 = 32ull;
+  w2c_j0 += w2c_j1;
+  w2c_i1 = w2c_l7;
+  w2c_f18(m, w2c_j0, w2c_i1);
+  w2c_i0 = w2c_l9;
+  w2c_j1 = w2c_l3;
+  w2c_i1 = (u32)(w2c_j1);
+  w2c_i1 = i32_load8_u(m, (u64)(w2c_i1) + 32u);
+  w2c_i0 &= w2c_i1;
+  w2c_i1 = 255u;
+  w2c_i0 &= w2c_i1;
+  w2c_i0 = !(w2c_i0);
+  if (w2c_i0) {goto w2c_B0;}
+  w2c_i0 = w2c_l6;
+  w2c_i1 = 255u;
+  w2c_i0 &= w2c_i1;
+  w2c_i0 = !(w2c_i0);
+  if (w2c_i0) {goto w2c_B0;}
+  w2c_j0 = w2c_l3;
+  w2c_i0 = (u32)(w2c_j0);
+  w2c_i0 = i32_load8_u(m, (u64)(w2c_i0) + 33u);
+  w2c_i1 = 255u;
+  w2c_i0 &= w2c_i1;
+  w2c_l7 = w2c_i0;
+  w2c_i1 = w2c_l6;
+  w2c_i2 = 1u;
+  w2c_i1 += w2c_i2;
+  w2c_i2 = 255u;
+  w2c_i1 &= w2c_i2;
+  w2c_i0 = w2c_i0 == w2c_i1;
+  if (w2c_i0) {goto w2c_B20;}
+  w2c_i0 = w2c_l6;
+  w2c_i1 = 255u;
+  w2c_i0 &= w2c_i1;
+  w2c_i1 = 3u;
+  w2c_i0 = w2c_i0 == w2c_i1;
+  w2c_i1 = w2c_l7;
+  w2c_i2 = 5u;
+  w2c_i1 = w2c_i1 == w2c_i2;
+  w2c_i0 &= w2c_i1;
+  w2c_i0 = !(w2c_i0);
+  if (w2c_i0) {goto w2c_B0;}
+  w2c_B20:;
+  w2c_L21:
+    w2c_j0 = w2c_l4;
+    w2c_j1 = 3ull;
+    w2c_i0 = w2c_j0 < w2c_j1;
+    if (w2c_i0) {goto w2c_B25;}
+    w2c_j0 = w2c_l2;
+    w2c_i0 = (u32)(w2c_j0);
+    w2c_i0 = i32_load8_u(m, (u64)(w2c_i0));
+    w2c_l6 = w2c_i0;
+    w2c_i1 = 240u;
+    w2c_i0 &= w2c_i1;
+    w2c_i1 = 224u;
+    w2c_i0 = w2c_i0 != w2c_i1;
+    if (w2c_i0) {goto w2c_B24;}
+    w2c_j0 = w2c_l2;
+    w2c_i0 = (u32)(w2c_j0);
+    w2c_i0 = i32_load8_u(m, (u64)(w2c_i0) + 2u);
+    w2c_l7 = w2c_i0;
+    w2c_j0 = w2c_l2;
+    w2c_i0 = (u32)(w2c_j0);
+    w2c_i0 = i32_load8_u(m, (u64)(w2c_i0) + 1u);
+    w2c_l9 = w2c_i0;
+    w2c_j0 = w2c_l4;
+    w2c_j1 = 18446744073709551613ull;
+    w2c_j0 += w2c_j1;
+    w2c_l4 = w2c_j0;
+    w2c_j0 = w2c_l2;
+    w2c_j1 = 3ull;
+    w2c_j0 += w2c_j1;
+    w2c_l2 = w2c_j0;
+    w2c_i0 = w2c_l9;
+    w2c_i1 = 8u;
+    w2c_i0 <<= (w2c_i1 & 31);
+    w2c_i1 = w2c_l7;
+    w2c_i2 = 16u;
+    w2c_i1 <<= (w2c_i2 & 31);
+    w2c_i0 |= w2c_i1;
+    w2c_i1 = w2c_l6;
+    w2c_i0 |= w2c_i1;
+    w2c_l6 = w2c_i0;
+    w2c_j0 = (u64)(w2c_i0);
+    w2c_j1 = 953497ull;
+    w2c_j0 *= w2c_j1;
+    w2c_j1 = 22ull;
+    w2c_j0 >>= (w2c_j1 & 63);
+    w2c_j1 = 1016ull;
+    w2c_j0 &= w2c_j1;
+    w2c_p0 = w2c_j0;
+    w2c_j1 = 66992ull;
+    w2c_j0 += w2c_j1;
+    w2c_i0 = (u32)(w2c_j0);
+    w2c_i0 = i32_load(m, (u64)(w2c_i0));
+    w2c_i1 = w2c_l6;
+    w2c_i0 = w2c_i0 != w2c_i1;
+    if (w2c_i0) {goto w2c_L21;}
+    goto w2c_B23;
+    w2c_B25:;
+    w2c_j0 = w2c_l4;
+    w2c_i0 = !(w2c_j0);
+    w2c_i0 = !(w2c_i0);
+    if (w2c_i0) {goto w2c_B26;}
+    w2c_i0 = 1u;
+    w2c_l8 = w2c_i0;
+    goto w2c_B0;
+    w2c_B26:;
+    w2c_j0 = w2c_l2;
+    w2c_i0 = (u32)(w2c_j0);
+    w2c_i0 = i32_load8_u(m, (u64)(w2c_i0));
+    w2c_l6 = w2c_i0;
+    w2c_B24:;
+    w2c_j0 = 1ull;
+    w2c_p0 = w2c_j0;
+    w2c_i0 = w2c_l6;
+    w2c_i0 = (u32)(s32)(s8)(u8)(w2c_i0);
+    w2c_i1 = 4294967295u;
+    w2c_i0 = (u32)((s32)w2c_i0 > (s32)w2c_i1);
+    if (w2c_i0) {goto w2c_B27;}
+    w2c_j0 = w2c_l2;
+    w2c_i0 = (u32)(w2c_j0);
+    w2c_i0 = i32_load8_u(m, (u64)(w2c_i0) + 1u);
+    w2c_i1 = 63u;
+    w2c_i0 &= w2c_i1;
+    w2c_l7 = w2c_i0;
+    w2c_i0 = w2c_l6;
+    w2c_i1 = 223u;
+    w2c_i0 = w2c_i0 > w2c_i1;
+    if (w2c_i0) {goto w2c_B28;}
+    w2c_i0 = w2c_l6;
+    w2c_i1 = 6u;
+    w2c_i0 <<= (w2c_i1 & 31);
+    w2c_i1 = 1984u;
+    w2c_i0 &= w2c_i1;
+    w2c_i1 = w2c_l7;
+    w2c_i0 |= w2c_i1;
+    w2c_l6 = w2c_i0;
+    w2c_j0 = 2ull;
+    w2c_p0 = w2c_j0;
+    goto w2c_B27;
+    w2c_B28:;
+    w2c_j0 = w2c_l2;
+    w2c_i0 = (u32)(w2c_j0);
+    w2c_i0 = i32_load8_u(m, (u64)(w2c_i0) + 2u);
+    w2c_i1 = 63u;
+    w2c_i0 &= w2c_i1;
+    w2c_l9 = w2c_i0;
+    w2c_i0 = w2c_l6;
+    w2c_i1 = 239u;
+    w2c_i0 = w2c_i0 > w2c_i1;
+    if (w2c_i0) {goto w2c_B29;}
+    w2c_i0 = w2c_l7;
+    w2c_i1 = 6u;
+    w2c_i0 <<= (w2c_i1 & 31);
+    w2c_i1 = w2c_l6;
+    w2c_i2 = 12u;
+    w2c_i1 <<= (w2c_i2 & 31);
+    w2c_i2 = 61440u;
+    w2c_i1 &= w2c_i2;
+    w2c_i0 |= w2c_i1;
+    w2c_i1 = w2c_l9;
+    w2c_i0 |= w2c_i1;
+    w2c_l6 = w2c_i0;
+    w2c_j0 = 3ull;
+    w2c_p0 = w2c_j0;
+    goto w2c_B27;
+    w2c_B29:;
+    w2c_i0 = w2c_l9;
+    w2c_i1 = 6u;
+    w2c_i0 <<= (w2c_i1 & 31);
+    w2c_i1 = w2c_l7;
+    w2c_i2 = 12u;
+    w2c_i1 <<= (w2c_i2 & 31);
+    w2c_i2 = w2c_l6;
+    w2c_i3 = 18u;
+    w2c_i2 <<= (w2c_i3 & 31);
+    w2c_i3 = 1835008u;
+    w2c_i2 &= w2c_i3;
+    w2c_i1 |= w2c_i2;
+    w2c_i0 |= w2c_i1;
+    w2c_j1 = w2c_l2;
+    w2c_i1 = (u32)(w2c_j1);
+    w2c_i1 = i32_load8_u(m, (u64)(w2c_i1) + 3u);
+    w2c_i2 = 63u;
+    w2c_i1 &= w2c_i2;
+    w2c_i0 |= w2c_i1;
+    w2c_l6 = w2c_i0;
+    w2c_j0 = 4ull;
+    w2c_p0 = w2c_j0;
+    w2c_B27:;
+    w2c_j0 = w2c_l4;
+    w2c_j1 = w2c_p0;
+    w2c_j0 -= w2c_j1;
+    w2c_l4 = w2c_j0;
+    w2c_j0 = w2c_l2;
+    w2c_j1 = w2c_p0;
+    w2c_j0 += w2c_j1;
+    w2c_l2 = w2c_j0;
+    w2c_i0 = w2c_l6;
+    w2c_i1 = 4294965248u;
+    w2c_i0 += w2c_i1;
+    w2c_i1 = 63487u;
+    w2c_i0 = w2c_i0 > w2c_i1;
+    if (w2c_i0) {goto w2c_B30;}
+    w2c_i0 = w2c_l6;
+    w2c_i1 = 12u;
+    w2c_i0 >>= (w2c_i1 & 31);
+    w2c_i1 = w2c_l6;
+    w2c_i2 = 2u;
+    w2c_i1 <<= (w2c_i2 & 31);
+    w2c_i2 = 16128u;
+    w2c_i1 &= w2c_i2;
+    w2c_i0 |= w2c_i1;
+    w2c_i1 = w2c_l6;
+    w2c_i2 = 16u;
+    w2c_i1 <<= (w2c_i2 & 31);
+    w2c_i2 = 4128768u;
+    w2c_i1 &= w2c_i2;
+    w2c_i0 |= w2c_i1;
+    w2c_i1 = 8421600u;
+    w2c_i0 |= w2c_i1;
+    w2c_l6 = w2c_i0;
+    w2c_j0 = (u64)(w2c_i0);
+    w2c_j1 = 953497ull;
+    w2c_j0 *= w2c_j1;
+    w2c_j1 = 22ull;
+    w2c_j0 >>= (w2c_j1 & 63);
+    w2c_j1 = 1016ull;
+    w2c_j0 &= w2c_j1;
+    w2c_p0 = w2c_j0;
+    w2c_j1 = 66992ull;
+    w2c_j0 += w2c_j1;
+    w2c_i0 = (u32)(w2c_j0);
+    w2c_i0 = i32_load(m, (u64)(w2c_i0));
+    w2c_i1 = w2c_l6;
+    w2c_i0 = w2c_i0 != w2c_i1;
+    if (w2c_i0) {goto w2c_L21;}
+    goto w2c_B23;
+    w2c_B30:;
+    w2c_j0 = w2c_l3;
+    w2c_j1 = 24ull;
+    w2c_j0 += w2c_j1;
+    w2c_i1 = w2c_l6;
+    w2c_f18(m, w2c_j0, w2c_i1);
+    w2c_j0 = w2c_l3;
+    w2c_i0 = (u32)(w2c_j0);
+    w2c_i0 = i32_load8_u(m, (u64)(w2c_i0) + 24u);
+    w2c_i1 = 1u;
+    w2c_i0 = w2c_i0 == w2c_i1;
+    if (w2c_i0) {goto w2c_B22;}
+    w2c_j0 = w2c_l3;
+    w2c_j1 = 16ull;
+    w2c_j0 += w2c_j1;
+    w2c_i1 = w2c_l6;
+    w2c_f19(m, w2c_j0, w2c_i1);
+    goto w2c_L21;
+    w2c_B23:;
+    w2c_j0 = w2c_p0;
+    w2c_j1 = 66996ull;
+    w2c_j0 += w2c_j1;
+    w2c_i0 = (u32)(w2c_j0);
+    w2c_i0 = i32_load8_u(m, (u64)(w2c_i0));
+    if (w2c_i0) {goto w2c_L21;}
+    w2c_B22:;
+    w2c_j0 = w2c_l4;
+    w2c_p0 = w2c_j0;
+    w2c_j1 = 3ull;
+    w2c_i0 = w2c_j0 < w2c_j1;
+    if (w2c_i0) {goto w2c_B33;}
+    w2c_j0 = w2c_l2;
+    w2c_i0 = (u32)(w2c_j0);
+    w2c_i0 = i32_load8_u(m, (u64)(w2c_i0));
+    w2c_l6 = w2c_i0;
+    w2c_i1 = 240u;
+    w2c_i0 &= w2c_i1;
+    w2c_i1 = 224u;
+    w2c_i0 = w2c_i0 != w2c_i1;
+    if (w2c_i0) {goto w2c_B32;}
+    w2c_j0 = w2c_l2;
+    w2c_i0 = (u32)(w2c_j0);
+    w2c_i0 = i32_load8_u(m, (u64)(w2c_i0) + 2u);
+    w2c_l7 = w2c_i0;
+    w2c_j0 = w2c_l2;
+    w2c_i0 = (u32)(w2c_j0);
+    w2c_i0 = i32_load8_u(m, (u64)(w2c_i0) + 1u);
+    w2c_l9 = w2c_i0;
+    w2c_j0 = w2c_p0;
+    w2c_j1 = 18446744073709551613ull;
+    w2c_j0 += w2c_j1;
+    w2c_l4 = w2c_j0;
+    w2c_j0 = w2c_l2;
+    w2c_j1 = 3ull;
+    w2c_j0 += w2c_j1;
+    w2c_l2 = w2c_j0;
+    w2c_i0 = w2c_l9;
+    w2c_i1 = 8u;
+    w2c_i0 <<= (w2c_i1 & 31);
+    w2c_i1 = w2c_l7;
+    w2c_i2 = 16u;
+    w2c_i1 <<= (w2c_i2 & 31);
+    w2c_i0 |= w2c_i1;
+    w2c_i1 = w2c_l6;
+    w2c_i0 |= w2c_i1;
+    w2c_l6 = w2c_i0;
+    w2c_j0 = (u64)(w2c_i0);
+    w2c_j1 = 953497ull;
+    w2c_j0 *= w2c_j1;
+    w2c_j1 = 22ull;
+    w2c_j0 >>= (w2c_j1 & 63);
+    w2c_j1 = 1016ull;
+    w2c_j0 &= w2c_j1;
+    w2c_p0 = w2c_j0;
+    w2c_j1 = 66992ull;
+    w2c_j0 += w2c_j1;
+    w2c_i0 = (u32)(w2c_j0);
+    w2c_i0 = i32_load(m, (u64)(w2c_i0));
+    w2c_i1 = w2c_l6;
+    w2c_i0 = w2c_i0 != w2c_i1;
+    if (w2c_i0) {goto w2c_L21;}
+    goto w2c_B31;
+    w2c_B33:;
+    w2c_j0 = 0ull;
+    w2c_l4 = w2c_j0;
+    w2c_j0 = w2c_p0;
+    w2c_i0 = !(w2c_j0);
+    if (w2c_i0) {goto w2c_L21;}
+    w2c_j0 = w2c_l2;
+    w2c_i0 = (u32)(w2c_j0);
+    w2c_i0 = i32_load8_u(m, (u64)(w2c_i0));
+    w2c_l6 = w2c_i0;
+    w2c_B32:;
+    w2c_j0 = 1ull;
+    w2c_p1 = w2c_j0;
+    w2c_i0 = w2c_l6;
+    w2c_i0 = (u32)(s32)(s8)(u8)(w2c_i0);
+    w2c_i1 = 4294967295u;
+    w2c_i0 = (u32)((s32)w2c_i0 > (s32)w2c_i1);
+    if (w2c_i0) {goto w2c_B34;}
+    w2c_j0 = w2c_l2;
+    w2c_i0 = (u32)(w2c_j0);
+    w2c_i0 = i32_load8_u(m, (u64)(w2c_i0) + 1u);
+    w2c_i1 = 63u;
+    w2c_i0 &= w2c_i1;
+    w2c_l7 = w2c_i0;
+    w2c_i0 = w2c_l6;
+    w2c_i1 = 223u;
+    w2c_i0 = w2c_i0 > w2c_i1;
+    if (w2c_i0) {goto w2c_B35;}
+    w2c_i0 = w2c_l6;
+    w2c_i1 = 6u;
+    w2c_i0 <<= (w2c_i1 & 31);
+    w2c_i1 = 1984u;
+    w2c_i0 &= w2c_i1;
+    w2c_i1 = w2c_l7;
+    w2c_i0 |= w2c_i1;
+    w2c_l6 = w2c_i0;
+    w2c_j0 = 2ull;
+    w2c_p1 = w2c_j0;
+    goto w2c_B34;
+    w2c_B35:;
+    w2c_j0 = w2c_l2;
+    w2c_i0 = (u32)(w2c_j0);
+    w2c_i0 = i32_load8_u(m, (u64)(w2c_i0) + 2u);
+    w2c_i1 = 63u;
+    w2c_i0 &= w2c_i1;
+    w2c_l9 = w2c_i0;
+    w2c_i0 = w2c_l6;
+    w2c_i1 = 239u;
+    w2c_i0 = w2c_i0 > w2c_i1;
+    if (w2c_i0) {goto w2c_B36;}
+    w2c_i0 = w2c_l7;
+    w2c_i1 = 6u;
+    w2c_i0 <<= (w2c_i1 & 31);
+    w2c_i1 = w2c_l6;
+    w2c_i2 = 12u;
+    w2c_i1 <<= (w2c_i2 & 31);
+    w2c_i2 = 61440u;
+    w2c_i1 &= w2c_i2;
+    w2c_i0 |= w2c_i1;
+    w2c_i1 = w2c_l9;
+    w2c_i0 |= w2c_i1;
+    w2c_l6 = w2c_i0;
+    w2c_j0 = 3ull;
+    w2c_p1 = w2c_j0;
+    goto w2c_B34;
+    w2c_B36:;
+    w2c_i0 = w2c_l9;
+    w2c_i1 = 6u;
+    w2c_i0 <<= (w2c_i1 & 31);
+    w2c_i1 = w2c_l7;
+    w2c_i2 = 12u;
+    w2c_i1 <<= (w2c_i2 & 31);
+    w2c_i2 = w2c_l6;
+    w2c_i3 = 18u;
+    w2c_i2 <<= (w2c_i3 & 31);
+    w2c_i3 = 1835008u;
+    w2c_i2 &= w2c_i3;
+    w2c_i1 |= w2c_i2;
+    w2c_i0 |= w2c_i1;
+    w2c_j1 = w2c_l2;
+    w2c_i1 = (u32)(w2c_j1);
+    w2c_i1 = i32_load8_u(m, (u64)(w2c_i1) + 3u);
+    w2c_i2 = 63u;
+    w2c_i1 &= w2c_i2;
+    w2c_i0 |= w2c_i1;
+    w2c_l6 = w2c_i0;
+    w2c_j0 = 4ull;
+    w2c_p1 = w2c_j0;
+    w2c_B34:;
+    w2c_j0 = w2c_p0;
+    w2c_j1 = w2c_p1;
+    w2c_j0 -= w2c_j1;
+    w2c_l4 = w2c_j0;
+    w2c_j0 = w2c_l2;
+    w2c_j1 = w2c_p1;
+    w2c_j0 += w2c_j1;
+    w2c_l2 = w2c_j0;
+    w2c_i0 = w2c_l6;
+    w2c_i1 = 4294965248u;
+    w2c_i0 += w2c_i1;
+    w2c_i1 = 63487u;
+    w2c_i0 = w2c_i0 > w2c_i1;
+    if (w2c_i0) {goto w2c_B37;}
+    w2c_i0 = w2c_l6;
+    w2c_i1 = 12u;
+    w2c_i0 >>= (w2c_i1 & 31);
+    w2c_i1 = w2c_l6;
+    w2c_i2 = 2u;
+    w2c_i1 <<= (w2c_i2 & 31);
+    w2c_i2 = 16128u;
+    w2c_i1 &= w2c_i2;
+    w2c_i0 |= w2c_i1;
+    w2c_i1 = w2c_l6;
+    w2c_i2 = 16u;
+    w2c_i1 <<= (w2c_i2 & 31);
+    w2c_i2 = 4128768u;
+    w2c_i1 &= w2c_i2;
+    w2c_i0 |= w2c_i1;
+    w2c_i1 = 8421600u;
+    w2c_i0 |= w2c_i1;
+    w2c_l6 = w2c_i0;
+    w2c_j0 = (u64)(w2c_i0);
+    w2c_j1 = 953497ull;
+    w2c_j0 *= w2c_j1;
+    w2c_j1 = 22ull;
+    w2c_j0 >>= (w2c_j1 & 63);
+    w2c_j1 = 1016ull;
+    w2c_j0 &= w2c_j1;
+    w2c_p0 = w2c_j0;
+    w2c_j1 = 66992ull;
+    w2c_j0 += w2c_j1;
+    w2c_i0 = (u32)(w2c_j0);
+    w2c_i0 = i32_load(m, (u64)(w2c_i0));
+    w2c_i1 = w2c_l6;
+    w2c_i0 = w2c_i0 != w2c_i1;
+    if (w2c_i0) {goto w2c_L21;}
+    goto w2c_B31;
+    w2c_B37:;
+    w2c_j0 = w2c_l3;
+    w2c_j1 = 8ull;
+    w2c_j0 += w2c_j1;
+    w2c_i1 = w2c_l6;
+    w2c_f18(m, w2c_j0, w2c_i1);
+    w2c_j0 = w2c_l3;
+    w2c_i0 = (u32)(w2c_j0);
+    w2c_i0 = i32_load8_u(m, (u64)(w2c_i0) + 8u);
+    w2c_i1 = 1u;
+    w2c_i0 = w2c_i0 == w2c_i1;
+    if (w2c_i0) {goto w2c_B0;}
+    w2c_j0 = w2c_l3;
+    w2c_i1 = w2c_l6;
+    w2c_f19(m, w2c_j0, w2c_i1);
+    goto w2c_L21;
+    w2c_B31:;
+    w2c_j0 = w2c_p0;
+    w2c_j1 = 66996ull;
+    w2c_j0 += w2c_j1;
+    w2c_i0 = (u32)(w2c_j0);
+    w2c_i0 = i32_load8_u(m, (u64)(w2c_i0));
+    if (w2c_i0) {goto w2c_L21;}
+  w2c_B0:;
+  w2c_j0 = w2c_l3;
+  w2c_j1 = 80ull;
+  w2c_j0 += w2c_j1;
+  m->w2c_g0 = w2c_j0;
+  w2c_i0 = w2c_l8;
+  return w2c_i0;
+}
+
+static u32 w2c_f27(module *m, u64 w2c_p0, u64 w2c_p1) {
+  u32 w2c_l4 = 0, w2c_l5 = 0, w2c_l6 = 0, w2c_l7 = 0;
+  u64 w2c_l2 = 0, w2c_l3 = 0;
+  u32 w2c_i0, w2c_i1, w2c_i2, w2c_i3;
+  u64 w2c_j0, w2c_j1;
+  w2c_j0 = m->w2c_g0;
+  w2c_j1 = 32ull;
+  w2c_j0 -= w2c_j1;
+  w2c_l2 = w2c_j0;
+  m->w2c_g0 = w2c_j0;
+  w2c_j0 = w2c_l2;
+  w2c_l2 = w2c_j0;
+  w2c_j1 = 16ull;
+  w2c_i0 = (u64)((s64)w2c_j0 < (s64)w2c_j1);
+  if (w2c_i0) {goto w2c_B1;}
+  w2c_j0 = w2c_p1;
+  w2c_j1 = 3ull;
+  w2c_i0 = w2c_j0 < w2c_j1;
+  if (w2c_i0) {goto w2c_B4;}
+  w2c_j0 = w2c_p0;
+  w2c_i0 = (u32)(w2c_j0);
+  w2c_i0 = i32_load8_u(m, (u64)(w2c_i0));
+  w2c_l4 = w2c_i0;
+  w2c_i1 = 240u;
+  w2c_i0 &= w2c_i1;
+  w2c_i1 = 224u;
+  w2c_i0 = w2c_i0 != w2c_i1;
+  if (w2c_i0) {goto w2c_B3;}
+  w2c_i0 = w2c_l4;
+  w2c_i1 = 12u;
+  w2c_i0 <<= (w2c_i1 & 31);
+  w2c_j1 = w2c_p0;
+  w2c_i1 = (u32)(w2c_j1);
+  w2c_i1 = i32_load8_u(m, (u64)(w2c_i1) + 1u);
+  w2c_i2 = 6u;
+  w2c_i1 <<= (w2c_i2 & 31);
+  w2c_i0 += w2c_i1;
+  w2c_j1 = w2c_p0;
+  w2c_i1 = (u32)(w2c_j1);
+  w2c_i1 = i32_load8_u(m, (u64)(w2c_i1) + 2u);
+  w2c_i0 += w2c_i1;
+  w2c_i1 = 4294041472u;
+  w2c_i0 += w2c_i1;
+  w2c_l4 = w2c_i0;
+  w2c_j0 = w2c_p1;
+  w2c_j1 = 18446744073709551613ull;
+  w2c_j0 += w2c_j1;
+  w2c_p1 = w2c_j0;
+  w2c_j0 = w2c_p0;
+  w2c_j1 = 3ull;
+  w2c_j0 += w2c_j1;
+  w2c_p0 = w2c_j0;
+  goto w2c_B2;
+  w2c_B4:;
+  w2c_j0 = w2c_p1;
+  w2c_i0 = !(w2c_j0);
+  w2c_i0 = !(w2c_i0);
+  if (w2c_i0) {goto w2c_B5;}
+  w2c_i0 = 0u;
+  w2c_l4 = w2c_i0;
+  goto w2c_B0;
+  w2c_B5:;
+  w2c_j0 = w2c_p0;
+  w2c_i0 = (u32)(w2c_j0);
+  w2c_i0 = i32_load8_u(m, (u64)(w2c_i0));
+  w2c_l4 = w2c_i0;
+  w2c_B3:;
+  w2c_j0 = 1ull;
+  w2c_l3 = w2c_j0;
+  w2c_i0 = w2c_l4;
+  w2c_i0 = (u32)(s32)(s8)(u8)(w2c_i0);
+  w2c_i1 = 4294967295u;
+  w2c_i0 = (u32)((s32)w2c_i0 > (s32)w2c_i1);
+  if (w2c_i0) {goto w2c_B6;}
+  w2c_j0 = w2c_p0;
+  w2c_i0 = (u32)(w2c_j0);
+  w2c_i0 = i32_load8_u(m, (u64)(w2c_i0) + 1u);
+  w2c_i1 = 63u;
+  w2c_i0 &= w2c_i1;
+  w2c_l5 = w2c_i0;
+  w2c_i0 = w2c_l4;
+  w2c_i1 = 223u;
+  w2c_i0 = w2c_i0 > w2c_i1;
+  if (w2c_i0) {goto w2c_B7;}
+  w2c_i0 = w2c_l4;
+  w2c_i1 = 6u;
+  w2c_i0 <<= (w2c_i1 & 31);
+  w2c_i1 = 1984u;
+  w2c_i0 &= w2c_i1;
+  w2c_i1 = w2c_l5;
+  w2c_i0 |= w2c_i1;
+  w2c_l4 = w2c_i0;
+  w2c_j0 = 2ull;
+  w2c_l3 = w2c_j0;
+  goto w2c_B6;
+  w2c_B7:;
+  w2c_j0 = w2c_p0;
+  w2c_i0 = (u32)(w2c_j0);
+  w2c_i0 = i32_load8_u(m, (u64)(w2c_i0) + 2u);
+  w2c_i1 = 63u;
+  w2c_i0 &= w2c_i1;
+  w2c_l6 = w2c_i0;
+  w2c_i0 = w2c_l4;
+  w2c_i1 = 239u;
+  w2c_i0 = w2c_i0 > w2c_i1;
+  if (w2c_i0) {goto w2c_B8;}
+  w2c_i0 = w2c_l5;
+  w2c_i1 = 6u;
+  w2c_i0 <<= (w2c_i1 & 31);
+  w2c_i1 = w2c_l4;
+  w2c_i2 = 12u;
+  w2c_i1 <<= (w2c_i2 & 31);
+  w2c_i2 = 61440u;
+  w2c_i1 &= w2c_i2;
+  w2c_i0 |= w2c_i1;
+  w2c_i1 = w2c_l6;
+  w2c_i0 |= w2c_i1;
+  w2c_l4 = w2c_i0;
+  w2c_j0 = 3ull;
+  w2c_l3 = w2c_j0;
+  goto w2c_B6;
+  w2c_B8:;
+  w2c_i0 = w2c_l6;
+  w2c_i1 = 6u;
+  w2c_i0 <<= (w2c_i1 & 31);
+  w2c_i1 = w2c_l5;
+  w2c_i2 = 12u;
+  w2c_i1 <<= (w2c_i2 & 31);
+  w2c_i2 = w2c_l4;
+  w2c_i3 = 18u;
+  w2c_i2 <<= (w2c_i3 & 31);
+  w2c_i3 = 1835008u;
+  w2c_i2 &= w2c_i3;
+  w2c_i1 |= w2c_i2;
+  w2c_i0 |= w2c_i1;
+  w2c_j1 = w2c_p0;
+  w2c_i1 = (u32)(w2c_j1);
+  w2c_i1 = i32_load8_u(m, (u64)(w2c_i1) + 3u);
+  w2c_i2 = 63u;
+  w2c_i1 &= w2c_i2;
+  w2c_i0 |= w2c_i1;
+  w2c_l4 = w2c_i0;
+  w2c_j0 = 4ull;
+  w2c_l3 = w2c_j0;
   w2c_B6:;
   w2c_j0 = w2c_p1;
+  w2c_j1 = w2c_l3;
+  w2c_j0 -= w2c_j1;
+  w2c_p1 = w2c_j0;
+  w2c_j0 = w2c_p0;
+  w2c_j1 = w2c_l3;
+  w2c_j0 += w2c_j1;
+  w2c_p0 = w2c_j0;
+  w2c_i0 = w2c_l4;
+  w2c_i1 = 4294965248u;
+  w2c_i0 += w2c_i1;
+  w2c_i1 = 63488u;
+  w2c_i0 = w2c_i0 < w2c_i1;
+  if (w2c_i0) {goto w2c_B2;}
+  w2c_j0 = w2c_l2;
+  w2c_j1 = 24ull;
+  w2c_j0 += w2c_j1;
+  w2c_i1 = w2c_l4;
+  w2c_f18(m, w2c_j0, w2c_i1);
+  w2c_j0 = w2c_l2;
+  w2c_i0 = (u32)(w2c_j0);
+  w2c_i0 = i32_load8_u(m, (u64)(w2c_i0) + 24u);
+  w2c_i1 = 1u;
+  w2c_i0 = w2c_i0 == w2c_i1;
+  if (w2c_i0) {goto w2c_B2;}
+  w2c_j0 = w2c_l2;
+  w2c_j1 = 16ull;
+  w2c_j0 += w2c_j1;
+  w2c_i1 = w2c_l4;
+  w2c_f19(m, w2c_j0, w2c_i1);
+  w2c_B2:;
+  w2c_j0 = w2c_p1;
+  w2c_j1 = 3ull;
+  w2c_i0 = w2c_j0 < w2c_j1;
+  if (w2c_i0) {goto w2c_B11;}
+  w2c_j0 = w2c_p0;
+  w2c_i0 = (u32)(w2c_j0);
+  w2c_i0 = i32_load8_u(m, (u64)(w2c_i0));
+  w2c_l4 = w2c_i0;
+  w2c_i1 = 240u;
+  w2c_i0 &= w2c_i1;
+  w2c_i1 = 224u;
+  w2c_i0 = w2c_i0 != w2c_i1;
+  if (w2c_i0) {goto w2c_B10;}
+  w2c_i0 = 0u;
+  w2c_l4 = w2c_i0;
+  goto w2c_B0;
+  w2c_B11:;
+  w2c_j0 = w2c_p1;
+  w2c_i0 = !(w2c_j0);
+  if (w2c_i0) {goto w2c_B9;}
+  w2c_j0 = w2c_p0;
+  w2c_i0 = (u32)(w2c_j0);
+  w2c_i0 = i32_load8_u(m, (u64)(w2c_i0));
+  w2c_l4 = w2c_i0;
+  w2c_B10:;
+  w2c_i0 = w2c_l4;
+  w2c_i1 = 255u;
+  w2c_i0 &= w2c_i1;
+  w2c_l5 = w2c_i0;
+  w2c_i0 = w2c_l4;
+  w2c_i0 = (u32)(s32)(s8)(u8)(w2c_i0);
+  w2c_i1 = 4294967295u;
+  w2c_i0 = (u32)((s32)w2c_i0 > (s32)w2c_i1);
+  if (w2c_i0) {goto w2c_B12;}
+  w2c_j0 = w2c_p0;
+  w2c_i0 = (u32)(w2c_j0);
+  w2c_i0 = i32_load8_u(m, (u64)(w2c_i0) + 1u);
+  w2c_i1 = 63u;
+  w2c_i0 &= w2c_i1;
+  w2c_l6 = w2c_i0;
+  w2c_i0 = w2c_l4;
+  w2c_i1 = 255u;
+  w2c_i0 &= w2c_i1;
+  w2c_i1 = 223u;
+  w2c_i0 = w2c_i0 > w2c_i1;
+  if (w2c_i0) {goto w2c_B13;}
+  w2c_i0 = w2c_l5;
+  w2c_i1 = 6u;
+  w2c_i0 <<= (w2c_i1 & 31);
+  w2c_i1 = 1984u;
+  w2c_i0 &= w2c_i1;
+  w2c_i1 = w2c_l6;
+  w2c_i0 |= w2c_i1;
+  w2c_l5 = w2c_i0;
+  goto w2c_B12;
+  w2c_B13:;
+  w2c_j0 = w2c_p0;
   w2c_i0 = (u32)(w2c_j0);
   w2c_i0 = i32_load8_u(m, (u64)(w2c_i0) + 2u);
   w2c_i1 = 63u;
   w2c_i0 &= w2c_i1;
   w2c_l7 = w2c_i0;
-  w2c_i0 = w2c_l5;
-  w2c_i1 = 4294967279u;
+  w2c_i0 = w2c_l4;
+  w2c_i1 = 255u;
+  w2c_i0 &= w2c_i1;
+  w2c_i1 = 239u;
   w2c_i0 = w2c_i0 > w2c_i1;
-  if (w2c_i0) {goto w2c_B4;}
+  if (w2c_i0) {goto w2c_B14;}
   w2c_i0 = w2c_l6;
   w2c_i1 = 6u;
   w2c_i0 <<= (w2c_i1 & 31);
-  w2c_i1 = w2c_p0;
+  w2c_i1 = w2c_l5;
   w2c_i2 = 12u;
   w2c_i1 <<= (w2c_i2 & 31);
   w2c_i2 = 61440u;
@@ -13267,901 +15387,87 @@ static u32 w2c_f25(module *m, u32 w2c_p0, u64 w2c_p1, u64 w2c_p2, u32 w2c_p3) {
   w2c_i0 |= w2c_i1;
   w2c_i1 = w2c_l7;
   w2c_i0 |= w2c_i1;
-  w2c_p0 = w2c_i0;
-  goto w2c_B3;
-  w2c_B5:;
-  w2c_i0 = 1u;
-  w2c_p0 = w2c_i0;
-  w2c_i0 = w2c_p3;
-  w2c_i1 = 1u;
-  w2c_i0 &= w2c_i1;
-  w2c_i0 = !(w2c_i0);
-  if (w2c_i0) {goto w2c_B2;}
-  goto w2c_B1;
-  w2c_B4:;
+  w2c_l5 = w2c_i0;
+  goto w2c_B12;
+  w2c_B14:;
   w2c_i0 = w2c_l7;
   w2c_i1 = 6u;
   w2c_i0 <<= (w2c_i1 & 31);
   w2c_i1 = w2c_l6;
   w2c_i2 = 12u;
   w2c_i1 <<= (w2c_i2 & 31);
-  w2c_i2 = w2c_p0;
+  w2c_i2 = w2c_l5;
   w2c_i3 = 18u;
   w2c_i2 <<= (w2c_i3 & 31);
   w2c_i3 = 1835008u;
   w2c_i2 &= w2c_i3;
   w2c_i1 |= w2c_i2;
   w2c_i0 |= w2c_i1;
-  w2c_j1 = w2c_p1;
+  w2c_j1 = w2c_p0;
   w2c_i1 = (u32)(w2c_j1);
   w2c_i1 = i32_load8_u(m, (u64)(w2c_i1) + 3u);
   w2c_i2 = 63u;
   w2c_i1 &= w2c_i2;
   w2c_i0 |= w2c_i1;
-  w2c_p0 = w2c_i0;
-  w2c_B3:;
-  w2c_j0 = w2c_l4;
-  w2c_j1 = 24ull;
-  w2c_j0 += w2c_j1;
-  w2c_i1 = w2c_p0;
-  w2c_f19(m, w2c_j0, w2c_i1);
-  w2c_i0 = 1u;
-  w2c_p0 = w2c_i0;
-  w2c_j0 = w2c_l4;
-  w2c_i0 = (u32)(w2c_j0);
-  w2c_i0 = i32_load8_u(m, (u64)(w2c_i0) + 24u);
-  w2c_i1 = 1u;
-  w2c_i0 = w2c_i0 == w2c_i1;
-  if (w2c_i0) {goto w2c_B1;}
-  w2c_i0 = w2c_p3;
-  w2c_i1 = 1u;
-  w2c_i0 &= w2c_i1;
-  if (w2c_i0) {goto w2c_B1;}
-  w2c_B2:;
-  w2c_j0 = w2c_l4;
-  w2c_i0 = (u32)(w2c_j0);
-  w2c_j1 = 0ull;
-  i64_store(m, (u64)(w2c_i0) + 64, w2c_j1);
-  w2c_j0 = w2c_l4;
-  w2c_i0 = (u32)(w2c_j0);
-  w2c_j1 = 0ull;
-  i64_store(m, (u64)(w2c_i0) + 72, w2c_j1);
-  w2c_j0 = w2c_l4;
-  w2c_i0 = (u32)(w2c_j0);
-  w2c_j1 = 0ull;
-  i64_store(m, (u64)(w2c_i0) + 80, w2c_j1);
-  w2c_j0 = w2c_l4;
-  w2c_i0 = (u32)(w2c_j0);
-  w2c_j1 = 0ull;
-  i64_store(m, (u64)(w2c_i0) + 88, w2c_j1);
-  w2c_j0 = w2c_l4;
-  w2c_i0 = (u32)(w2c_j0);
-  w2c_j1 = 0ull;
-  i64_store(m, (u64)(w2c_i0) + 32, w2c_j1);
-  w2c_j0 = w2c_l4;
-  w2c_i0 = (u32)(w2c_j0);
-  w2c_j1 = 0ull;
-  i64_store(m, (u64)(w2c_i0) + 40, w2c_j1);
-  w2c_j0 = w2c_l4;
-  w2c_i0 = (u32)(w2c_j0);
-  w2c_j1 = 0ull;
-  i64_store(m, (u64)(w2c_i0) + 48, w2c_j1);
-  w2c_j0 = w2c_l4;
-  w2c_i0 = (u32)(w2c_j0);
-  w2c_j1 = 0ull;
-  i64_store(m, (u64)(w2c_i0) + 56, w2c_j1);
-  w2c_j0 = w2c_l4;
-  w2c_j1 = 64ull;
-  w2c_j0 += w2c_j1;
-  w2c_j1 = w2c_p1;
-  w2c_j2 = w2c_p2;
-  w2c_f26(m, w2c_j0, w2c_j1, w2c_j2);
-  w2c_i0 = 0u;
-  w2c_p0 = w2c_i0;
-  w2c_j0 = w2c_l4;
-  w2c_i0 = (u32)(w2c_j0);
-  w2c_i0 = i32_load8_u(m, (u64)(w2c_i0) + 64u);
-  w2c_i1 = 1u;
-  w2c_i0 = w2c_i0 != w2c_i1;
-  if (w2c_i0) {goto w2c_B1;}
-  w2c_j0 = w2c_l4;
-  w2c_i0 = (u32)(w2c_j0);
-  w2c_i0 = i32_load(m, (u64)(w2c_i0) + 72u);
-  w2c_p3 = w2c_i0;
-  w2c_i1 = 4294967248u;
-  w2c_i0 += w2c_i1;
-  w2c_i1 = 10u;
-  w2c_i0 = w2c_i0 < w2c_i1;
-  if (w2c_i0) {goto w2c_B1;}
-  w2c_j0 = w2c_l4;
-  w2c_i0 = (u32)(w2c_j0);
-  w2c_i0 = i32_load(m, (u64)(w2c_i0) + 76u);
   w2c_l5 = w2c_i0;
-  w2c_i1 = 4294967248u;
+  w2c_B12:;
+  w2c_i0 = 0u;
+  w2c_l4 = w2c_i0;
+  w2c_i0 = w2c_l5;
+  w2c_i1 = 4294965248u;
   w2c_i0 += w2c_i1;
-  w2c_i1 = 10u;
+  w2c_i1 = 63488u;
   w2c_i0 = w2c_i0 < w2c_i1;
-  if (w2c_i0) {goto w2c_B1;}
-  w2c_j0 = w2c_l4;
-  w2c_i0 = (u32)(w2c_j0);
-  w2c_j0 = i64_load(m, (u64)(w2c_i0) + 88u);
-  w2c_p2 = w2c_j0;
-  w2c_j0 = w2c_l4;
-  w2c_i0 = (u32)(w2c_j0);
-  w2c_j0 = i64_load(m, (u64)(w2c_i0) + 80u);
-  w2c_p1 = w2c_j0;
-  w2c_j0 = w2c_l4;
-  w2c_j1 = 16ull;
-  w2c_j0 += w2c_j1;
-  w2c_i1 = w2c_p3;
-  w2c_f21(m, w2c_j0, w2c_i1);
-  w2c_j0 = w2c_l4;
-  w2c_i0 = (u32)(w2c_j0);
-  w2c_i0 = i32_load8_u(m, (u64)(w2c_i0) + 17u);
-  w2c_p3 = w2c_i0;
-  w2c_j0 = w2c_l4;
-  w2c_i0 = (u32)(w2c_j0);
-  w2c_i0 = i32_load8_u(m, (u64)(w2c_i0) + 16u);
-  w2c_l6 = w2c_i0;
-  w2c_j0 = w2c_l4;
+  if (w2c_i0) {goto w2c_B0;}
+  w2c_j0 = w2c_l2;
   w2c_j1 = 8ull;
   w2c_j0 += w2c_j1;
   w2c_i1 = w2c_l5;
-  w2c_f21(m, w2c_j0, w2c_i1);
-  w2c_i0 = w2c_l6;
-  w2c_j1 = w2c_l4;
-  w2c_i1 = (u32)(w2c_j1);
-  w2c_i1 = i32_load8_u(m, (u64)(w2c_i1) + 8u);
-  w2c_i0 &= w2c_i1;
-  w2c_i1 = 255u;
-  w2c_i0 &= w2c_i1;
-  w2c_i0 = !(w2c_i0);
-  if (w2c_i0) {goto w2c_B1;}
-  w2c_i0 = w2c_p3;
-  w2c_i1 = 255u;
-  w2c_i0 &= w2c_i1;
-  w2c_i0 = !(w2c_i0);
-  if (w2c_i0) {goto w2c_B1;}
-  w2c_j0 = w2c_l4;
+  w2c_f18(m, w2c_j0, w2c_i1);
+  w2c_j0 = w2c_l2;
   w2c_i0 = (u32)(w2c_j0);
-  w2c_i0 = i32_load8_u(m, (u64)(w2c_i0) + 9u);
-  w2c_i1 = 255u;
-  w2c_i0 &= w2c_i1;
-  w2c_l5 = w2c_i0;
-  w2c_i1 = w2c_p3;
-  w2c_i2 = 1u;
-  w2c_i1 += w2c_i2;
-  w2c_i2 = 255u;
-  w2c_i1 &= w2c_i2;
+  w2c_i0 = i32_load8_u(m, (u64)(w2c_i0) + 8u);
+  w2c_i1 = 1u;
   w2c_i0 = w2c_i0 == w2c_i1;
-  if (w2c_i0) {goto w2c_B7;}
-  w2c_i0 = w2c_p3;
-  w2c_i1 = 255u;
-  w2c_i0 &= w2c_i1;
-  w2c_i1 = 3u;
-  w2c_i0 = w2c_i0 == w2c_i1;
+  if (w2c_i0) {goto w2c_B0;}
+  w2c_j0 = w2c_l2;
   w2c_i1 = w2c_l5;
-  w2c_i2 = 5u;
-  w2c_i1 = w2c_i1 == w2c_i2;
-  w2c_i0 &= w2c_i1;
-  w2c_i0 = !(w2c_i0);
-  if (w2c_i0) {goto w2c_B1;}
-  w2c_B7:;
-  w2c_j0 = w2c_l4;
+  w2c_f19(m, w2c_j0, w2c_i1);
+  goto w2c_B0;
+  w2c_B9:;
+  w2c_i0 = w2c_l4;
+  w2c_i1 = 4294967238u;
+  w2c_i0 += w2c_i1;
+  w2c_i1 = 4294967285u;
+  w2c_i0 = w2c_i0 <= w2c_i1;
+  if (w2c_i0) {goto w2c_B15;}
+  w2c_i0 = 0u;
+  w2c_l4 = w2c_i0;
+  goto w2c_B0;
+  w2c_B15:;
+  w2c_i0 = w2c_l4;
+  w2c_i1 = 4294901990u;
+  w2c_i0 += w2c_i1;
+  w2c_i1 = 4294967286u;
+  w2c_i0 = w2c_i0 < w2c_i1;
+  w2c_l4 = w2c_i0;
+  goto w2c_B0;
+  w2c_B1:;
+  UNREACHABLE;
+  w2c_B0:;
+  w2c_j0 = w2c_l2;
   w2c_j1 = 32ull;
   w2c_j0 += w2c_j1;
-  w2c_j1 = w2c_p1;
-  w2c_j2 = w2c_p2;
-  w2c_f26(m, w2c_j0, w2c_j1, w2c_j2);
-  w2c_j0 = w2c_l4;
-  w2c_i0 = (u32)(w2c_j0);
-  w2c_i0 = i32_load8_u(m, (u64)(w2c_i0) + 32u);
-  w2c_i1 = 1u;
-  w2c_i0 = w2c_i0 != w2c_i1;
-  w2c_p0 = w2c_i0;
-  w2c_B1:;
-  w2c_j0 = w2c_l4;
-  w2c_j1 = 96ull;
-  w2c_j0 += w2c_j1;
   m->w2c_g0 = w2c_j0;
-  w2c_i0 = w2c_p0;
-  goto w2c_Bfunc;
-  w2c_B0:;
-  UNREACHABLE;
-  w2c_Bfunc:;
+  w2c_i0 = w2c_l4;
   return w2c_i0;
 }
 
-static void w2c_f26(module *m, u64 w2c_p0, u64 w2c_p1, u64 w2c_p2) {
-  u32 w2c_l8 = 0, w2c_l9 = 0, w2c_l10 = 0, w2c_l11 = 0, w2c_l12 = 0;
-  u64 w2c_l3 = 0, w2c_l4 = 0, w2c_l5 = 0, w2c_l6 = 0, w2c_l7 = 0;
-  u32 w2c_i0, w2c_i1, w2c_i2, w2c_i3;
-  u64 w2c_j0, w2c_j1;
-  w2c_j0 = m->w2c_g0;
-  w2c_j1 = 32ull;
-  w2c_j0 -= w2c_j1;
-  w2c_l3 = w2c_j0;
-  m->w2c_g0 = w2c_j0;
-  w2c_j0 = w2c_l3;
-  w2c_l4 = w2c_j0;
-  w2c_j1 = 16ull;
-  w2c_i0 = (u64)((s64)w2c_j0 < (s64)w2c_j1);
-  if (w2c_i0) {goto w2c_B1;}
-  w2c_L3:
-    w2c_j0 = w2c_p1;
-    w2c_l3 = w2c_j0;
-    w2c_j0 = w2c_p2;
-    w2c_l5 = w2c_j0;
-    w2c_j1 = 3ull;
-    w2c_i0 = w2c_j0 < w2c_j1;
-    if (w2c_i0) {goto w2c_B6;}
-    w2c_j0 = w2c_l3;
-    w2c_i0 = (u32)(w2c_j0);
-    w2c_i0 = i32_load8_u(m, (u64)(w2c_i0) + 1u);
-    w2c_i1 = 8u;
-    w2c_i0 <<= (w2c_i1 & 31);
-    w2c_j1 = w2c_l3;
-    w2c_i1 = (u32)(w2c_j1);
-    w2c_i1 = i32_load8_u(m, (u64)(w2c_i1) + 2u);
-    w2c_i2 = 16u;
-    w2c_i1 <<= (w2c_i2 & 31);
-    w2c_i0 |= w2c_i1;
-    w2c_j1 = w2c_l3;
-    w2c_i1 = (u32)(w2c_j1);
-    w2c_i1 = i32_load8_u(m, (u64)(w2c_i1));
-    w2c_l8 = w2c_i1;
-    w2c_i0 |= w2c_i1;
-    w2c_l9 = w2c_i0;
-    w2c_j0 = (u64)(w2c_i0);
-    w2c_j1 = 953497ull;
-    w2c_j0 *= w2c_j1;
-    w2c_j1 = 22ull;
-    w2c_j0 >>= (w2c_j1 & 63);
-    w2c_j1 = 1016ull;
-    w2c_j0 &= w2c_j1;
-    w2c_l6 = w2c_j0;
-    w2c_j1 = 66992ull;
-    w2c_j0 += w2c_j1;
-    w2c_i0 = (u32)(w2c_j0);
-    w2c_i0 = i32_load(m, (u64)(w2c_i0));
-    w2c_i1 = w2c_l9;
-    w2c_i0 = w2c_i0 != w2c_i1;
-    if (w2c_i0) {goto w2c_B5;}
-    w2c_j0 = w2c_l3;
-    w2c_j1 = 3ull;
-    w2c_j0 += w2c_j1;
-    w2c_p1 = w2c_j0;
-    w2c_j0 = w2c_l5;
-    w2c_j1 = 18446744073709551613ull;
-    w2c_j0 += w2c_j1;
-    w2c_p2 = w2c_j0;
-    w2c_l7 = w2c_j0;
-    w2c_j0 = w2c_l6;
-    w2c_j1 = 66996ull;
-    w2c_j0 += w2c_j1;
-    w2c_i0 = (u32)(w2c_j0);
-    w2c_i0 = i32_load8_u(m, (u64)(w2c_i0));
-    if (w2c_i0) {goto w2c_L3;}
-    goto w2c_B4;
-    w2c_B6:;
-    w2c_j0 = w2c_l5;
-    w2c_i0 = !(w2c_j0);
-    if (w2c_i0) {goto w2c_B2;}
-    w2c_j0 = w2c_l3;
-    w2c_i0 = (u32)(w2c_j0);
-    w2c_i0 = i32_load8_u(m, (u64)(w2c_i0));
-    w2c_l8 = w2c_i0;
-    w2c_B5:;
-    w2c_j0 = 1ull;
-    w2c_p1 = w2c_j0;
-    w2c_i0 = w2c_l8;
-    w2c_i0 = (u32)(s32)(s8)(u8)(w2c_i0);
-    w2c_i1 = 4294967295u;
-    w2c_i0 = (u32)((s32)w2c_i0 <= (s32)w2c_i1);
-    if (w2c_i0) {goto w2c_B8;}
-    w2c_i0 = w2c_l8;
-    w2c_l9 = w2c_i0;
-    goto w2c_B7;
-    w2c_B8:;
-    w2c_j0 = w2c_l3;
-    w2c_i0 = (u32)(w2c_j0);
-    w2c_i0 = i32_load8_u(m, (u64)(w2c_i0) + 1u);
-    w2c_i1 = 63u;
-    w2c_i0 &= w2c_i1;
-    w2c_l9 = w2c_i0;
-    w2c_i0 = w2c_l8;
-    w2c_i1 = 223u;
-    w2c_i0 = w2c_i0 > w2c_i1;
-    if (w2c_i0) {goto w2c_B9;}
-    w2c_i0 = w2c_l8;
-    w2c_i1 = 6u;
-    w2c_i0 <<= (w2c_i1 & 31);
-    w2c_i1 = 1984u;
-    w2c_i0 &= w2c_i1;
-    w2c_i1 = w2c_l9;
-    w2c_i0 |= w2c_i1;
-    w2c_l9 = w2c_i0;
-    w2c_j0 = 2ull;
-    w2c_p1 = w2c_j0;
-    goto w2c_B7;
-    w2c_B9:;
-    w2c_j0 = w2c_l3;
-    w2c_i0 = (u32)(w2c_j0);
-    w2c_i0 = i32_load8_u(m, (u64)(w2c_i0) + 2u);
-    w2c_i1 = 63u;
-    w2c_i0 &= w2c_i1;
-    w2c_l10 = w2c_i0;
-    w2c_i0 = w2c_l8;
-    w2c_i1 = 239u;
-    w2c_i0 = w2c_i0 > w2c_i1;
-    if (w2c_i0) {goto w2c_B10;}
-    w2c_i0 = w2c_l9;
-    w2c_i1 = 6u;
-    w2c_i0 <<= (w2c_i1 & 31);
-    w2c_i1 = w2c_l8;
-    w2c_i2 = 12u;
-    w2c_i1 <<= (w2c_i2 & 31);
-    w2c_i2 = 61440u;
-    w2c_i1 &= w2c_i2;
-    w2c_i0 |= w2c_i1;
-    w2c_i1 = w2c_l10;
-    w2c_i0 |= w2c_i1;
-    w2c_l9 = w2c_i0;
-    w2c_j0 = 3ull;
-    w2c_p1 = w2c_j0;
-    goto w2c_B7;
-    w2c_B10:;
-    w2c_i0 = w2c_l10;
-    w2c_i1 = 6u;
-    w2c_i0 <<= (w2c_i1 & 31);
-    w2c_i1 = w2c_l9;
-    w2c_i2 = 12u;
-    w2c_i1 <<= (w2c_i2 & 31);
-    w2c_i2 = w2c_l8;
-    w2c_i3 = 18u;
-    w2c_i2 <<= (w2c_i3 & 31);
-    w2c_i3 = 1835008u;
-    w2c_i2 &= w2c_i3;
-    w2c_i1 |= w2c_i2;
-    w2c_i0 |= w2c_i1;
-    w2c_j1 = w2c_l3;
-    w2c_i1 = (u32)(w2c_j1);
-    w2c_i1 = i32_load8_u(m, (u64)(w2c_i1) + 3u);
-    w2c_i2 = 63u;
-    w2c_i1 &= w2c_i2;
-    w2c_i0 |= w2c_i1;
-    w2c_l9 = w2c_i0;
-    w2c_j0 = 4ull;
-    w2c_p1 = w2c_j0;
-    w2c_B7:;
-    w2c_j0 = w2c_l5;
-    w2c_j1 = w2c_p1;
-    w2c_j0 -= w2c_j1;
-    w2c_p2 = w2c_j0;
-    w2c_j0 = w2c_l3;
-    w2c_j1 = w2c_p1;
-    w2c_j0 += w2c_j1;
-    w2c_p1 = w2c_j0;
-    w2c_i0 = w2c_l9;
-    w2c_i1 = 4294965248u;
-    w2c_i0 += w2c_i1;
-    w2c_i1 = 63488u;
-    w2c_i0 = w2c_i0 < w2c_i1;
-    if (w2c_i0) {goto w2c_B11;}
-    w2c_j0 = w2c_l4;
-    w2c_j1 = 24ull;
-    w2c_j0 += w2c_j1;
-    w2c_i1 = w2c_l9;
-    w2c_f21(m, w2c_j0, w2c_i1);
-    w2c_j0 = w2c_l4;
-    w2c_i0 = (u32)(w2c_j0);
-    w2c_i0 = i32_load8_u(m, (u64)(w2c_i0) + 24u);
-    w2c_i1 = 1u;
-    w2c_i0 = w2c_i0 != w2c_i1;
-    if (w2c_i0) {goto w2c_B12;}
-    w2c_j0 = w2c_p2;
-    w2c_l7 = w2c_j0;
-    goto w2c_B4;
-    w2c_B12:;
-    w2c_j0 = w2c_l4;
-    w2c_j1 = 16ull;
-    w2c_j0 += w2c_j1;
-    w2c_i1 = w2c_l9;
-    w2c_f19(m, w2c_j0, w2c_i1);
-    goto w2c_L3;
-    w2c_B11:;
-    w2c_i0 = w2c_l9;
-    w2c_i1 = 12u;
-    w2c_i0 >>= (w2c_i1 & 31);
-    w2c_i1 = w2c_l9;
-    w2c_i2 = 2u;
-    w2c_i1 <<= (w2c_i2 & 31);
-    w2c_i2 = 16128u;
-    w2c_i1 &= w2c_i2;
-    w2c_i0 |= w2c_i1;
-    w2c_i1 = w2c_l9;
-    w2c_i2 = 16u;
-    w2c_i1 <<= (w2c_i2 & 31);
-    w2c_i2 = 4128768u;
-    w2c_i1 &= w2c_i2;
-    w2c_i0 |= w2c_i1;
-    w2c_i1 = 8421600u;
-    w2c_i0 |= w2c_i1;
-    w2c_l9 = w2c_i0;
-    w2c_j0 = (u64)(w2c_i0);
-    w2c_j1 = 953497ull;
-    w2c_j0 *= w2c_j1;
-    w2c_j1 = 22ull;
-    w2c_j0 >>= (w2c_j1 & 63);
-    w2c_j1 = 1016ull;
-    w2c_j0 &= w2c_j1;
-    w2c_l6 = w2c_j0;
-    w2c_i0 = (u32)(w2c_j0);
-    w2c_i0 = i32_load(m, (u64)(w2c_i0) + 66992u);
-    w2c_i1 = w2c_l9;
-    w2c_i0 = w2c_i0 != w2c_i1;
-    if (w2c_i0) {goto w2c_L3;}
-    w2c_j0 = w2c_p2;
-    w2c_l7 = w2c_j0;
-    w2c_j0 = w2c_l6;
-    w2c_j1 = 66996ull;
-    w2c_j0 += w2c_j1;
-    w2c_i0 = (u32)(w2c_j0);
-    w2c_i0 = i32_load8_u(m, (u64)(w2c_i0));
-    w2c_i1 = 255u;
-    w2c_i0 &= w2c_i1;
-    if (w2c_i0) {goto w2c_L3;}
-    w2c_B4:;
-    w2c_j0 = w2c_l7;
-    w2c_j1 = 3ull;
-    w2c_i0 = w2c_j0 < w2c_j1;
-    if (w2c_i0) {goto w2c_B15;}
-    w2c_j0 = w2c_p1;
-    w2c_i0 = (u32)(w2c_j0);
-    w2c_i0 = i32_load8_u(m, (u64)(w2c_i0) + 1u);
-    w2c_i1 = 8u;
-    w2c_i0 <<= (w2c_i1 & 31);
-    w2c_j1 = w2c_p1;
-    w2c_i1 = (u32)(w2c_j1);
-    w2c_i1 = i32_load8_u(m, (u64)(w2c_i1) + 2u);
-    w2c_i2 = 16u;
-    w2c_i1 <<= (w2c_i2 & 31);
-    w2c_i0 |= w2c_i1;
-    w2c_j1 = w2c_p1;
-    w2c_i1 = (u32)(w2c_j1);
-    w2c_i1 = i32_load8_u(m, (u64)(w2c_i1));
-    w2c_l9 = w2c_i1;
-    w2c_i0 |= w2c_i1;
-    w2c_l10 = w2c_i0;
-    w2c_j0 = (u64)(w2c_i0);
-    w2c_j1 = 953497ull;
-    w2c_j0 *= w2c_j1;
-    w2c_j1 = 22ull;
-    w2c_j0 >>= (w2c_j1 & 63);
-    w2c_j1 = 1016ull;
-    w2c_j0 &= w2c_j1;
-    w2c_l6 = w2c_j0;
-    w2c_j1 = 66992ull;
-    w2c_j0 += w2c_j1;
-    w2c_i0 = (u32)(w2c_j0);
-    w2c_i0 = i32_load(m, (u64)(w2c_i0));
-    w2c_i1 = w2c_l10;
-    w2c_i0 = w2c_i0 != w2c_i1;
-    if (w2c_i0) {goto w2c_B14;}
-    w2c_j0 = w2c_l7;
-    w2c_j1 = 18446744073709551613ull;
-    w2c_j0 += w2c_j1;
-    w2c_p2 = w2c_j0;
-    w2c_j0 = w2c_p1;
-    w2c_j1 = 3ull;
-    w2c_j0 += w2c_j1;
-    w2c_p1 = w2c_j0;
-    w2c_j0 = w2c_l6;
-    w2c_j1 = 66996ull;
-    w2c_j0 += w2c_j1;
-    w2c_i0 = (u32)(w2c_j0);
-    w2c_i0 = i32_load8_u(m, (u64)(w2c_i0));
-    if (w2c_i0) {goto w2c_L3;}
-    goto w2c_B13;
-    w2c_B15:;
-    w2c_j0 = 0ull;
-    w2c_p2 = w2c_j0;
-    w2c_j0 = w2c_l7;
-    w2c_i0 = !(w2c_j0);
-    if (w2c_i0) {goto w2c_L3;}
-    w2c_j0 = w2c_p1;
-    w2c_i0 = (u32)(w2c_j0);
-    w2c_i0 = i32_load8_u(m, (u64)(w2c_i0));
-    w2c_l9 = w2c_i0;
-    w2c_B14:;
-    w2c_j0 = 1ull;
-    w2c_l6 = w2c_j0;
-    w2c_i0 = w2c_l9;
-    w2c_i0 = (u32)(s32)(s8)(u8)(w2c_i0);
-    w2c_i1 = 4294967295u;
-    w2c_i0 = (u32)((s32)w2c_i0 > (s32)w2c_i1);
-    if (w2c_i0) {goto w2c_B16;}
-    w2c_j0 = w2c_p1;
-    w2c_i0 = (u32)(w2c_j0);
-    w2c_i0 = i32_load8_u(m, (u64)(w2c_i0) + 1u);
-    w2c_i1 = 63u;
-    w2c_i0 &= w2c_i1;
-    w2c_l10 = w2c_i0;
-    w2c_i0 = w2c_l9;
-    w2c_i1 = 223u;
-    w2c_i0 = w2c_i0 > w2c_i1;
-    if (w2c_i0) {goto w2c_B17;}
-    w2c_i0 = w2c_l9;
-    w2c_i1 = 6u;
-    w2c_i0 <<= (w2c_i1 & 31);
-    w2c_i1 = 1984u;
-    w2c_i0 &= w2c_i1;
-    w2c_i1 = w2c_l10;
-    w2c_i0 |= w2c_i1;
-    w2c_l9 = w2c_i0;
-    w2c_j0 = 2ull;
-    w2c_l6 = w2c_j0;
-    goto w2c_B16;
-    w2c_B17:;
-    w2c_j0 = w2c_p1;
-    w2c_i0 = (u32)(w2c_j0);
-    w2c_i0 = i32_load8_u(m, (u64)(w2c_i0) + 2u);
-    w2c_i1 = 63u;
-    w2c_i0 &= w2c_i1;
-    w2c_l11 = w2c_i0;
-    w2c_i0 = w2c_l9;
-    w2c_i1 = 239u;
-    w2c_i0 = w2c_i0 > w2c_i1;
-    if (w2c_i0) {goto w2c_B18;}
-    w2c_i0 = w2c_l10;
-    w2c_i1 = 6u;
-    w2c_i0 <<= (w2c_i1 & 31);
-    w2c_i1 = w2c_l9;
-    w2c_i2 = 12u;
-    w2c_i1 <<= (w2c_i2 & 31);
-    w2c_i2 = 61440u;
-    w2c_i1 &= w2c_i2;
-    w2c_i0 |= w2c_i1;
-    w2c_i1 = w2c_l11;
-    w2c_i0 |= w2c_i1;
-    w2c_l9 = w2c_i0;
-    w2c_j0 = 3ull;
-    w2c_l6 = w2c_j0;
-    goto w2c_B16;
-    w2c_B18:;
-    w2c_i0 = w2c_l11;
-    w2c_i1 = 6u;
-    w2c_i0 <<= (w2c_i1 & 31);
-    w2c_i1 = w2c_l10;
-    w2c_i2 = 12u;
-    w2c_i1 <<= (w2c_i2 & 31);
-    w2c_i2 = w2c_l9;
-    w2c_i3 = 18u;
-    w2c_i2 <<= (w2c_i3 & 31);
-    w2c_i3 = 1835008u;
-    w2c_i2 &= w2c_i3;
-    w2c_i1 |= w2c_i2;
-    w2c_i0 |= w2c_i1;
-    w2c_j1 = w2c_p1;
-    w2c_i1 = (u32)(w2c_j1);
-    w2c_i1 = i32_load8_u(m, (u64)(w2c_i1) + 3u);
-    w2c_i2 = 63u;
-    w2c_i1 &= w2c_i2;
-    w2c_i0 |= w2c_i1;
-    w2c_l9 = w2c_i0;
-    w2c_j0 = 4ull;
-    w2c_l6 = w2c_j0;
-    w2c_B16:;
-    w2c_j0 = w2c_l7;
-    w2c_j1 = w2c_l6;
-    w2c_j0 -= w2c_j1;
-    w2c_p2 = w2c_j0;
-    w2c_j0 = w2c_p1;
-    w2c_j1 = w2c_l6;
-    w2c_j0 += w2c_j1;
-    w2c_p1 = w2c_j0;
-    w2c_i0 = w2c_l9;
-    w2c_i1 = 4294965248u;
-    w2c_i0 += w2c_i1;
-    w2c_i1 = 63488u;
-    w2c_i0 = w2c_i0 < w2c_i1;
-    if (w2c_i0) {goto w2c_B19;}
-    w2c_j0 = w2c_l4;
-    w2c_j1 = 8ull;
-    w2c_j0 += w2c_j1;
-    w2c_i1 = w2c_l9;
-    w2c_f21(m, w2c_j0, w2c_i1);
-    w2c_j0 = w2c_l4;
-    w2c_i0 = (u32)(w2c_j0);
-    w2c_i0 = i32_load8_u(m, (u64)(w2c_i0) + 8u);
-    w2c_i1 = 1u;
-    w2c_i0 = w2c_i0 == w2c_i1;
-    if (w2c_i0) {goto w2c_B13;}
-    w2c_j0 = w2c_l4;
-    w2c_i1 = w2c_l9;
-    w2c_f19(m, w2c_j0, w2c_i1);
-    goto w2c_L3;
-    w2c_B19:;
-    w2c_i0 = w2c_l9;
-    w2c_i1 = 12u;
-    w2c_i0 >>= (w2c_i1 & 31);
-    w2c_i1 = w2c_l9;
-    w2c_i2 = 2u;
-    w2c_i1 <<= (w2c_i2 & 31);
-    w2c_i2 = 16128u;
-    w2c_i1 &= w2c_i2;
-    w2c_i0 |= w2c_i1;
-    w2c_i1 = w2c_l9;
-    w2c_i2 = 16u;
-    w2c_i1 <<= (w2c_i2 & 31);
-    w2c_i2 = 4128768u;
-    w2c_i1 &= w2c_i2;
-    w2c_i0 |= w2c_i1;
-    w2c_i1 = 8421600u;
-    w2c_i0 |= w2c_i1;
-    w2c_l9 = w2c_i0;
-    w2c_j0 = (u64)(w2c_i0);
-    w2c_j1 = 953497ull;
-    w2c_j0 *= w2c_j1;
-    w2c_j1 = 22ull;
-    w2c_j0 >>= (w2c_j1 & 63);
-    w2c_j1 = 1016ull;
-    w2c_j0 &= w2c_j1;
-    w2c_l7 = w2c_j0;
-    w2c_i0 = (u32)(w2c_j0);
-    w2c_i0 = i32_load(m, (u64)(w2c_i0) + 66992u);
-    w2c_i1 = w2c_l9;
-    w2c_i0 = w2c_i0 != w2c_i1;
-    if (w2c_i0) {goto w2c_L3;}
-    w2c_j0 = w2c_l7;
-    w2c_j1 = 66996ull;
-    w2c_j0 += w2c_j1;
-    w2c_i0 = (u32)(w2c_j0);
-    w2c_i0 = i32_load8_u(m, (u64)(w2c_i0));
-    w2c_i1 = 255u;
-    w2c_i0 &= w2c_i1;
-    if (w2c_i0) {goto w2c_L3;}
-    w2c_B13:;
-  w2c_i0 = w2c_l8;
-  w2c_i0 = (u32)(s32)(s8)(u8)(w2c_i0);
-  w2c_i1 = 4294967295u;
-  w2c_i0 = (u32)((s32)w2c_i0 <= (s32)w2c_i1);
-  if (w2c_i0) {goto w2c_B21;}
-  w2c_j0 = 1ull;
-  w2c_p1 = w2c_j0;
-  goto w2c_B20;
-  w2c_B21:;
-  w2c_j0 = w2c_l3;
-  w2c_i0 = (u32)(w2c_j0);
-  w2c_i0 = i32_load8_u(m, (u64)(w2c_i0) + 1u);
-  w2c_i1 = 63u;
-  w2c_i0 &= w2c_i1;
-  w2c_l9 = w2c_i0;
-  w2c_i0 = w2c_l8;
-  w2c_i1 = 223u;
-  w2c_i0 = w2c_i0 > w2c_i1;
-  if (w2c_i0) {goto w2c_B22;}
-  w2c_i0 = w2c_l8;
-  w2c_i1 = 6u;
-  w2c_i0 <<= (w2c_i1 & 31);
-  w2c_i1 = 1984u;
-  w2c_i0 &= w2c_i1;
-  w2c_i1 = w2c_l9;
-  w2c_i0 |= w2c_i1;
-  w2c_l8 = w2c_i0;
-  w2c_j0 = 2ull;
-  w2c_p1 = w2c_j0;
-  goto w2c_B20;
-  w2c_B22:;
-  w2c_j0 = w2c_l3;
-  w2c_i0 = (u32)(w2c_j0);
-  w2c_i0 = i32_load8_u(m, (u64)(w2c_i0) + 2u);
-  w2c_i1 = 63u;
-  w2c_i0 &= w2c_i1;
-  w2c_l10 = w2c_i0;
-  w2c_i0 = w2c_l8;
-  w2c_i1 = 239u;
-  w2c_i0 = w2c_i0 > w2c_i1;
-  if (w2c_i0) {goto w2c_B23;}
-  w2c_i0 = w2c_l9;
-  w2c_i1 = 6u;
-  w2c_i0 <<= (w2c_i1 & 31);
-  w2c_i1 = w2c_l8;
-  w2c_i2 = 12u;
-  w2c_i1 <<= (w2c_i2 & 31);
-  w2c_i2 = 61440u;
-  w2c_i1 &= w2c_i2;
-  w2c_i0 |= w2c_i1;
-  w2c_i1 = w2c_l10;
-  w2c_i0 |= w2c_i1;
-  w2c_l8 = w2c_i0;
-  w2c_j0 = 3ull;
-  w2c_p1 = w2c_j0;
-  goto w2c_B20;
-  w2c_B23:;
-  w2c_i0 = w2c_l10;
-  w2c_i1 = 6u;
-  w2c_i0 <<= (w2c_i1 & 31);
-  w2c_i1 = w2c_l9;
-  w2c_i2 = 12u;
-  w2c_i1 <<= (w2c_i2 & 31);
-  w2c_i2 = w2c_l8;
-  w2c_i3 = 18u;
-  w2c_i2 <<= (w2c_i3 & 31);
-  w2c_i3 = 1835008u;
-  w2c_i2 &= w2c_i3;
-  w2c_i1 |= w2c_i2;
-  w2c_i0 |= w2c_i1;
-  w2c_j1 = w2c_l3;
-  w2c_i1 = (u32)(w2c_j1);
-  w2c_i1 = i32_load8_u(m, (u64)(w2c_i1) + 3u);
-  w2c_i2 = 63u;
-  w2c_i1 &= w2c_i2;
-  w2c_i0 |= w2c_i1;
-  w2c_l8 = w2c_i0;
-  w2c_j0 = 4ull;
-  w2c_p1 = w2c_j0;
-  w2c_B20:;
-  w2c_j0 = w2c_l5;
-  w2c_j1 = w2c_p1;
-  w2c_j0 -= w2c_j1;
-  w2c_p2 = w2c_j0;
-  w2c_j0 = w2c_l5;
-  w2c_j1 = w2c_p1;
-  w2c_i0 = w2c_j0 != w2c_j1;
-  if (w2c_i0) {goto w2c_B25;}
-  w2c_j0 = 0ull;
-  w2c_p1 = w2c_j0;
-  w2c_i0 = 0u;
-  w2c_l8 = w2c_i0;
-  w2c_i0 = 0u;
-  w2c_l9 = w2c_i0;
-  w2c_j0 = 0ull;
-  w2c_l3 = w2c_j0;
-  goto w2c_B24;
-  w2c_B25:;
-  w2c_j0 = w2c_l3;
-  w2c_j1 = w2c_p1;
-  w2c_j0 += w2c_j1;
-  w2c_l3 = w2c_j0;
-  w2c_i0 = (u32)(w2c_j0);
-  w2c_i0 = i32_load8_s(m, (u64)(w2c_i0));
-  w2c_l10 = w2c_i0;
-  w2c_i1 = 255u;
-  w2c_i0 &= w2c_i1;
-  w2c_l9 = w2c_i0;
-  w2c_j0 = 1ull;
-  w2c_p1 = w2c_j0;
-  w2c_i0 = w2c_l10;
-  w2c_i1 = 4294967295u;
-  w2c_i0 = (u32)((s32)w2c_i0 > (s32)w2c_i1);
-  if (w2c_i0) {goto w2c_B24;}
-  w2c_j0 = w2c_l3;
-  w2c_i0 = (u32)(w2c_j0);
-  w2c_i0 = i32_load8_u(m, (u64)(w2c_i0) + 1u);
-  w2c_i1 = 63u;
-  w2c_i0 &= w2c_i1;
-  w2c_l11 = w2c_i0;
-  w2c_i0 = w2c_l10;
-  w2c_i1 = 4294967263u;
-  w2c_i0 = w2c_i0 > w2c_i1;
-  if (w2c_i0) {goto w2c_B26;}
-  w2c_i0 = w2c_l9;
-  w2c_i1 = 6u;
-  w2c_i0 <<= (w2c_i1 & 31);
-  w2c_i1 = 1984u;
-  w2c_i0 &= w2c_i1;
-  w2c_i1 = w2c_l11;
-  w2c_i0 |= w2c_i1;
-  w2c_l9 = w2c_i0;
-  goto w2c_B24;
-  w2c_B26:;
-  w2c_j0 = w2c_l3;
-  w2c_i0 = (u32)(w2c_j0);
-  w2c_i0 = i32_load8_u(m, (u64)(w2c_i0) + 2u);
-  w2c_i1 = 63u;
-  w2c_i0 &= w2c_i1;
-  w2c_l12 = w2c_i0;
-  w2c_i0 = w2c_l10;
-  w2c_i1 = 4294967279u;
-  w2c_i0 = w2c_i0 > w2c_i1;
-  if (w2c_i0) {goto w2c_B27;}
-  w2c_i0 = w2c_l11;
-  w2c_i1 = 6u;
-  w2c_i0 <<= (w2c_i1 & 31);
-  w2c_i1 = w2c_l9;
-  w2c_i2 = 12u;
-  w2c_i1 <<= (w2c_i2 & 31);
-  w2c_i2 = 61440u;
-  w2c_i1 &= w2c_i2;
-  w2c_i0 |= w2c_i1;
-  w2c_i1 = w2c_l12;
-  w2c_i0 |= w2c_i1;
-  w2c_l9 = w2c_i0;
-  goto w2c_B24;
-  w2c_B27:;
-  w2c_i0 = w2c_l12;
-  w2c_i1 = 6u;
-  w2c_i0 <<= (w2c_i1 & 31);
-  w2c_i1 = w2c_l11;
-  w2c_i2 = 12u;
-  w2c_i1 <<= (w2c_i2 & 31);
-  w2c_i2 = w2c_l9;
-  w2c_i3 = 18u;
-  w2c_i2 <<= (w2c_i3 & 31);
-  w2c_i3 = 1835008u;
-  w2c_i2 &= w2c_i3;
-  w2c_i1 |= w2c_i2;
-  w2c_i0 |= w2c_i1;
-  w2c_j1 = w2c_l3;
-  w2c_i1 = (u32)(w2c_j1);
-  w2c_i1 = i32_load8_u(m, (u64)(w2c_i1) + 3u);
-  w2c_i2 = 63u;
-  w2c_i1 &= w2c_i2;
-  w2c_i0 |= w2c_i1;
-  w2c_l9 = w2c_i0;
-  w2c_B24:;
-  w2c_j0 = w2c_p0;
-  w2c_i0 = (u32)(w2c_j0);
-  w2c_j1 = w2c_p1;
-  i64_store(m, (u64)(w2c_i0), w2c_j1);
-  w2c_j0 = w2c_p0;
-  w2c_j1 = 24ull;
-  w2c_j0 += w2c_j1;
-  w2c_i0 = (u32)(w2c_j0);
-  w2c_j1 = w2c_p2;
-  i64_store(m, (u64)(w2c_i0), w2c_j1);
-  w2c_j0 = w2c_p0;
-  w2c_j1 = 16ull;
-  w2c_j0 += w2c_j1;
-  w2c_i0 = (u32)(w2c_j0);
-  w2c_j1 = w2c_l3;
-  i64_store(m, (u64)(w2c_i0), w2c_j1);
-  w2c_j0 = w2c_p0;
-  w2c_j1 = 12ull;
-  w2c_j0 += w2c_j1;
-  w2c_i0 = (u32)(w2c_j0);
-  w2c_i1 = w2c_l9;
-  i32_store(m, (u64)(w2c_i0), w2c_i1);
-  w2c_j0 = w2c_p0;
-  w2c_j1 = 8ull;
-  w2c_j0 += w2c_j1;
-  w2c_i0 = (u32)(w2c_j0);
-  w2c_i1 = w2c_l8;
-  i32_store(m, (u64)(w2c_i0), w2c_i1);
-  goto w2c_B0;
-  w2c_B2:;
-  w2c_j0 = w2c_p0;
-  w2c_i0 = (u32)(w2c_j0);
-  w2c_j1 = 0ull;
-  i64_store(m, (u64)(w2c_i0) + 24, w2c_j1);
-  w2c_j0 = w2c_p0;
-  w2c_i0 = (u32)(w2c_j0);
-  w2c_j1 = 0ull;
-  i64_store(m, (u64)(w2c_i0) + 16, w2c_j1);
-  w2c_j0 = w2c_p0;
-  w2c_i0 = (u32)(w2c_j0);
-  w2c_j1 = 0ull;
-  i64_store(m, (u64)(w2c_i0) + 8, w2c_j1);
-  w2c_j0 = w2c_p0;
-  w2c_i0 = (u32)(w2c_j0);
-  w2c_j1 = 0ull;
-  i64_store(m, (u64)(w2c_i0), w2c_j1);
-  goto w2c_B0;
-  w2c_B1:;
-  UNREACHABLE;
-  w2c_B0:;
-  w2c_j0 = w2c_l4;
-  w2c_j1 = 32ull;
-  w2c_j0 += w2c_j1;
-  m->w2c_g0 = w2c_j0;
-}
-
-static u32 w2c_f27(module *m, u32 w2c_p0, u32 w2c_p1, u64 w2c_p2, u64 w2c_p3, u32 w2c_p4, u64 w2c_p5, u64 w2c_p6) {
+static u32 w2c_f28(module *m, u32 w2c_p0, u32 w2c_p1, u64 w2c_p2, u64 w2c_p3, u32 w2c_p4, u64 w2c_p5, u64 w2c_p6) {
   u32 w2c_l11 = 0, w2c_l12 = 0, w2c_l13 = 0, w2c_l14 = 0;
   u64 w2c_l7 = 0, w2c_l8 = 0, w2c_l9 = 0, w2c_l10 = 0;
   u32 w2c_i0, w2c_i1, w2c_i2, w2c_i3, w2c_i4;
-  u64 w2c_j0, w2c_j1, w2c_j2, w2c_j3, w2c_j4, w2c_j5, w2c_j6, w2c_j7;
+  u64 w2c_j0, w2c_j1, w2c_j2, w2c_j3, w2c_j4, w2c_j5, w2c_j6;
   w2c_j0 = m->w2c_g0;
   w2c_j1 = 48ull;
   w2c_j0 -= w2c_j1;
@@ -14472,60 +15778,138 @@ static u32 w2c_f27(module *m, u32 w2c_p0, u32 w2c_p1, u64 w2c_p2, u64 w2c_p3, u3
   w2c_i0 = w2c_p0;
   w2c_i1 = w2c_p1;
   w2c_i2 = w2c_p4;
-  w2c_i0 = w2c_f28(m, w2c_i0, w2c_i1, w2c_i2);
+  w2c_i0 = w2c_f29(m, w2c_i0, w2c_i1, w2c_i2);
+  w2c_i0 = !(w2c_i0);
+  if (w2c_i0) {goto w2c_B2;}
+  w2c_j0 = w2c_p6;
+  w2c_j1 = 3ull;
+  w2c_i0 = w2c_j0 < w2c_j1;
+  if (w2c_i0) {goto w2c_B32;}
+  w2c_j0 = w2c_p5;
+  w2c_i0 = (u32)(w2c_j0);
+  w2c_i0 = i32_load8_u(m, (u64)(w2c_i0));
   w2c_p4 = w2c_i0;
+  w2c_i1 = 240u;
+  w2c_i0 &= w2c_i1;
+  w2c_i1 = 224u;
+  w2c_i0 = w2c_i0 != w2c_i1;
+  if (w2c_i0) {goto w2c_B31;}
+  w2c_j0 = w2c_p5;
+  w2c_i0 = (u32)(w2c_j0);
+  w2c_i0 = i32_load8_u(m, (u64)(w2c_i0) + 1u);
+  w2c_l11 = w2c_i0;
+  w2c_i1 = 8u;
+  w2c_i0 <<= (w2c_i1 & 31);
+  w2c_j1 = w2c_p5;
+  w2c_i1 = (u32)(w2c_j1);
+  w2c_i1 = i32_load8_u(m, (u64)(w2c_i1) + 2u);
+  w2c_l14 = w2c_i1;
+  w2c_i2 = 16u;
+  w2c_i1 <<= (w2c_i2 & 31);
+  w2c_i0 |= w2c_i1;
+  w2c_i1 = w2c_p4;
+  w2c_i0 |= w2c_i1;
+  w2c_l12 = w2c_i0;
+  w2c_j0 = (u64)(w2c_i0);
+  w2c_j1 = 953497ull;
+  w2c_j0 *= w2c_j1;
+  w2c_j1 = 22ull;
+  w2c_j0 >>= (w2c_j1 & 63);
+  w2c_j1 = 1016ull;
+  w2c_j0 &= w2c_j1;
+  w2c_p3 = w2c_j0;
+  w2c_j1 = 66997ull;
+  w2c_j0 += w2c_j1;
+  w2c_i0 = (u32)(w2c_j0);
+  w2c_i0 = i32_load8_u(m, (u64)(w2c_i0));
+  w2c_i1 = 0u;
+  w2c_j2 = w2c_p3;
+  w2c_i2 = (u32)(w2c_j2);
+  w2c_i2 = i32_load(m, (u64)(w2c_i2) + 66992u);
+  w2c_i3 = w2c_l12;
+  w2c_i2 = w2c_i2 == w2c_i3;
+  w2c_l12 = w2c_i2;
+  w2c_i0 = w2c_i2 ? w2c_i0 : w2c_i1;
+  w2c_l13 = w2c_i0;
+  w2c_j0 = w2c_p3;
+  w2c_j1 = 66996ull;
+  w2c_j0 += w2c_j1;
+  w2c_i0 = (u32)(w2c_j0);
+  w2c_i0 = i32_load8_u(m, (u64)(w2c_i0));
+  w2c_i1 = 2u;
+  w2c_i2 = w2c_l12;
+  w2c_i0 = w2c_i2 ? w2c_i0 : w2c_i1;
+  w2c_l12 = w2c_i0;
+  w2c_i0 = w2c_p4;
+  w2c_i1 = 12u;
+  w2c_i0 <<= (w2c_i1 & 31);
+  w2c_i1 = w2c_l11;
+  w2c_i2 = 6u;
+  w2c_i1 <<= (w2c_i2 & 31);
+  w2c_i0 += w2c_i1;
+  w2c_i1 = w2c_l14;
+  w2c_i0 += w2c_i1;
+  w2c_i1 = 4294041472u;
+  w2c_i0 += w2c_i1;
+  w2c_p4 = w2c_i0;
+  w2c_j0 = w2c_p6;
+  w2c_j1 = 18446744073709551613ull;
+  w2c_j0 += w2c_j1;
+  w2c_p2 = w2c_j0;
+  w2c_j0 = w2c_p5;
+  w2c_j1 = 3ull;
+  w2c_j0 += w2c_j1;
+  w2c_p3 = w2c_j0;
+  goto w2c_B30;
+  w2c_B32:;
   w2c_j0 = w2c_p6;
   w2c_i0 = !(w2c_j0);
   if (w2c_i0) {goto w2c_B2;}
-  w2c_i0 = w2c_p4;
-  w2c_i0 = !(w2c_i0);
-  if (w2c_i0) {goto w2c_B2;}
   w2c_j0 = w2c_p5;
   w2c_i0 = (u32)(w2c_j0);
-  w2c_i0 = i32_load8_s(m, (u64)(w2c_i0));
-  w2c_l11 = w2c_i0;
-  w2c_i1 = 255u;
-  w2c_i0 &= w2c_i1;
+  w2c_i0 = i32_load8_u(m, (u64)(w2c_i0));
   w2c_p4 = w2c_i0;
+  w2c_B31:;
   w2c_j0 = 1ull;
   w2c_p3 = w2c_j0;
-  w2c_i0 = w2c_l11;
+  w2c_i0 = w2c_p4;
+  w2c_i0 = (u32)(s32)(s8)(u8)(w2c_i0);
   w2c_i1 = 4294967295u;
   w2c_i0 = (u32)((s32)w2c_i0 > (s32)w2c_i1);
-  if (w2c_i0) {goto w2c_B30;}
+  if (w2c_i0) {goto w2c_B33;}
   w2c_j0 = w2c_p5;
   w2c_i0 = (u32)(w2c_j0);
   w2c_i0 = i32_load8_u(m, (u64)(w2c_i0) + 1u);
   w2c_i1 = 63u;
   w2c_i0 &= w2c_i1;
-  w2c_l12 = w2c_i0;
-  w2c_i0 = w2c_l11;
-  w2c_i1 = 4294967263u;
+  w2c_l11 = w2c_i0;
+  w2c_i0 = w2c_p4;
+  w2c_i1 = 223u;
   w2c_i0 = w2c_i0 > w2c_i1;
-  if (w2c_i0) {goto w2c_B31;}
+  if (w2c_i0) {goto w2c_B34;}
   w2c_i0 = w2c_p4;
   w2c_i1 = 6u;
   w2c_i0 <<= (w2c_i1 & 31);
   w2c_i1 = 1984u;
   w2c_i0 &= w2c_i1;
-  w2c_i1 = w2c_l12;
+  w2c_i1 = w2c_l11;
   w2c_i0 |= w2c_i1;
   w2c_p4 = w2c_i0;
   w2c_j0 = 2ull;
   w2c_p3 = w2c_j0;
-  goto w2c_B30;
-  w2c_B31:;
+  goto w2c_B33;
+  w2c_B34:;
   w2c_j0 = w2c_p5;
   w2c_i0 = (u32)(w2c_j0);
   w2c_i0 = i32_load8_u(m, (u64)(w2c_i0) + 2u);
   w2c_i1 = 63u;
   w2c_i0 &= w2c_i1;
-  w2c_l13 = w2c_i0;
-  w2c_i0 = w2c_l11;
-  w2c_i1 = 4294967279u;
+  w2c_l12 = w2c_i0;
+  w2c_i0 = w2c_p4;
+  w2c_i1 = 239u;
   w2c_i0 = w2c_i0 > w2c_i1;
-  if (w2c_i0) {goto w2c_B32;}
-  w2c_i0 = w2c_l12;
+  if (w2c_i0) {goto w2c_B35;}
+  w2c_i0 = w2c_l11;
   w2c_i1 = 6u;
   w2c_i0 <<= (w2c_i1 & 31);
   w2c_i1 = w2c_p4;
@@ -14534,17 +15918,17 @@ static u32 w2c_f27(module *m, u32 w2c_p0, u32 w2c_p1, u64 w2c_p2, u64 w2c_p3, u3
   w2c_i2 = 61440u;
   w2c_i1 &= w2c_i2;
   w2c_i0 |= w2c_i1;
-  w2c_i1 = w2c_l13;
+  w2c_i1 = w2c_l12;
   w2c_i0 |= w2c_i1;
   w2c_p4 = w2c_i0;
   w2c_j0 = 3ull;
   w2c_p3 = w2c_j0;
-  goto w2c_B30;
-  w2c_B32:;
-  w2c_i0 = w2c_l13;
+  goto w2c_B33;
+  w2c_B35:;
+  w2c_i0 = w2c_l12;
   w2c_i1 = 6u;
   w2c_i0 <<= (w2c_i1 & 31);
-  w2c_i1 = w2c_l12;
+  w2c_i1 = w2c_l11;
   w2c_i2 = 12u;
   w2c_i1 <<= (w2c_i2 & 31);
   w2c_i2 = w2c_p4;
@@ -14563,13 +15947,21 @@ static u32 w2c_f27(module *m, u32 w2c_p0, u32 w2c_p1, u64 w2c_p2, u64 w2c_p3, u3
   w2c_p4 = w2c_i0;
   w2c_j0 = 4ull;
   w2c_p3 = w2c_j0;
-  w2c_B30:;
+  w2c_B33:;
+  w2c_j0 = w2c_p6;
+  w2c_j1 = w2c_p3;
+  w2c_j0 -= w2c_j1;
+  w2c_p2 = w2c_j0;
+  w2c_j0 = w2c_p5;
+  w2c_j1 = w2c_p3;
+  w2c_j0 += w2c_j1;
+  w2c_p3 = w2c_j0;
   w2c_i0 = w2c_p4;
   w2c_i1 = 4294965248u;
   w2c_i0 += w2c_i1;
   w2c_i1 = 63487u;
   w2c_i0 = w2c_i0 > w2c_i1;
-  if (w2c_i0) {goto w2c_B34;}
+  if (w2c_i0) {goto w2c_B36;}
   w2c_i0 = w2c_p4;
   w2c_i1 = 12u;
   w2c_i0 >>= (w2c_i1 & 31);
@@ -14595,13 +15987,13 @@ static u32 w2c_f27(module *m, u32 w2c_p0, u32 w2c_p1, u64 w2c_p2, u64 w2c_p3, u3
   w2c_j0 >>= (w2c_j1 & 63);
   w2c_j1 = 1016ull;
   w2c_j0 &= w2c_j1;
-  w2c_p2 = w2c_j0;
+  w2c_p6 = w2c_j0;
   w2c_j1 = 66997ull;
   w2c_j0 += w2c_j1;
   w2c_i0 = (u32)(w2c_j0);
   w2c_i0 = i32_load8_u(m, (u64)(w2c_i0));
   w2c_i1 = 0u;
-  w2c_j2 = w2c_p2;
+  w2c_j2 = w2c_p6;
   w2c_i2 = (u32)(w2c_j2);
   w2c_i2 = i32_load(m, (u64)(w2c_i2) + 66992u);
   w2c_i3 = w2c_l11;
@@ -14609,7 +16001,7 @@ static u32 w2c_f27(module *m, u32 w2c_p0, u32 w2c_p1, u64 w2c_p2, u64 w2c_p3, u3
   w2c_l11 = w2c_i2;
   w2c_i0 = w2c_i2 ? w2c_i0 : w2c_i1;
   w2c_l13 = w2c_i0;
-  w2c_j0 = w2c_p2;
+  w2c_j0 = w2c_p6;
   w2c_j1 = 66996ull;
   w2c_j0 += w2c_j1;
   w2c_i0 = (u32)(w2c_j0);
@@ -14618,27 +16010,27 @@ static u32 w2c_f27(module *m, u32 w2c_p0, u32 w2c_p1, u64 w2c_p2, u64 w2c_p3, u3
   w2c_i2 = w2c_l11;
   w2c_i0 = w2c_i2 ? w2c_i0 : w2c_i1;
   w2c_l12 = w2c_i0;
-  goto w2c_B33;
-  w2c_B34:;
+  goto w2c_B30;
+  w2c_B36:;
   w2c_j0 = w2c_l7;
   w2c_j1 = 24ull;
   w2c_j0 += w2c_j1;
   w2c_i1 = w2c_p4;
-  w2c_f21(m, w2c_j0, w2c_i1);
+  w2c_f18(m, w2c_j0, w2c_i1);
   w2c_j0 = w2c_l7;
   w2c_i0 = (u32)(w2c_j0);
   w2c_i0 = i32_load8_u(m, (u64)(w2c_i0) + 24u);
   w2c_i1 = 1u;
   w2c_i0 = w2c_i0 != w2c_i1;
-  if (w2c_i0) {goto w2c_B35;}
+  if (w2c_i0) {goto w2c_B37;}
   w2c_j0 = w2c_l7;
   w2c_i0 = (u32)(w2c_j0);
   w2c_i0 = i32_load8_u(m, (u64)(w2c_i0) + 25u);
   w2c_l13 = w2c_i0;
   w2c_i0 = 0u;
   w2c_l12 = w2c_i0;
-  goto w2c_B33;
-  w2c_B35:;
+  goto w2c_B30;
+  w2c_B37:;
   w2c_j0 = w2c_l7;
   w2c_j1 = 16ull;
   w2c_j0 += w2c_j1;
@@ -14661,12 +16053,12 @@ static u32 w2c_f27(module *m, u32 w2c_p0, u32 w2c_p1, u64 w2c_p2, u64 w2c_p3, u3
   w2c_i2 = w2c_l11;
   w2c_i0 = w2c_i2 ? w2c_i0 : w2c_i1;
   w2c_l12 = w2c_i0;
-  w2c_B33:;
+  w2c_B30:;
   w2c_j0 = w2c_l7;
   w2c_j1 = 8ull;
   w2c_j0 += w2c_j1;
   w2c_i1 = w2c_p4;
-  w2c_f21(m, w2c_j0, w2c_i1);
+  w2c_f18(m, w2c_j0, w2c_i1);
   w2c_i0 = w2c_p4;
   w2c_i1 = 4294967238u;
   w2c_i0 += w2c_i1;
@@ -14689,12 +16081,12 @@ static u32 w2c_f27(module *m, u32 w2c_p0, u32 w2c_p1, u64 w2c_p2, u64 w2c_p3, u3
   w2c_j0 &= w2c_j1;
   w2c_i0 = (u32)(w2c_j0);
   switch (w2c_i0) {
-    case 0: goto w2c_B36;
-    case 1: goto w2c_B37;
+    case 0: goto w2c_B38;
+    case 1: goto w2c_B39;
     case 2: goto w2c_B0;
-    default: goto w2c_B36;
+    default: goto w2c_B38;
   }
-  w2c_B37:;
+  w2c_B39:;
   w2c_i0 = w2c_p1;
   w2c_i1 = 255u;
   w2c_i0 &= w2c_i1;
@@ -14703,19 +16095,19 @@ static u32 w2c_f27(module *m, u32 w2c_p0, u32 w2c_p1, u64 w2c_p2, u64 w2c_p3, u3
   w2c_i1 &= w2c_i2;
   w2c_i0 = w2c_i0 < w2c_i1;
   if (w2c_i0) {goto w2c_B2;}
-  w2c_B36:;
+  w2c_B38:;
   w2c_i0 = w2c_p0;
   w2c_i1 = 1u;
   w2c_i0 &= w2c_i1;
-  if (w2c_i0) {goto w2c_B38;}
+  if (w2c_i0) {goto w2c_B40;}
   w2c_i0 = w2c_p4;
   w2c_i1 = 29589u;
   w2c_i0 = (u32)((s32)w2c_i0 > (s32)w2c_i1);
-  if (w2c_i0) {goto w2c_B40;}
+  if (w2c_i0) {goto w2c_B42;}
   w2c_i0 = w2c_p4;
   w2c_i1 = 22776u;
   w2c_i0 = (u32)((s32)w2c_i0 > (s32)w2c_i1);
-  if (w2c_i0) {goto w2c_B41;}
+  if (w2c_i0) {goto w2c_B43;}
   w2c_i0 = w2c_p4;
   w2c_i1 = 20191u;
   w2c_i0 = w2c_i0 == w2c_i1;
@@ -14727,13 +16119,13 @@ static u32 w2c_f27(module *m, u32 w2c_p0, u32 w2c_p1, u64 w2c_p2, u64 w2c_p3, u3
   w2c_i0 = w2c_p4;
   w2c_i1 = 20336u;
   w2c_i0 = w2c_i0 != w2c_i1;
-  if (w2c_i0) {goto w2c_B39;}
+  if (w2c_i0) {goto w2c_B41;}
   goto w2c_B2;
-  w2c_B41:;
+  w2c_B43:;
   w2c_i0 = w2c_p4;
   w2c_i1 = 25419u;
   w2c_i0 = (u32)((s32)w2c_i0 > (s32)w2c_i1);
-  if (w2c_i0) {goto w2c_B42;}
+  if (w2c_i0) {goto w2c_B44;}
   w2c_i0 = w2c_p4;
   w2c_i1 = 22777u;
   w2c_i0 = w2c_i0 == w2c_i1;
@@ -14741,9 +16133,9 @@ static u32 w2c_f27(module *m, u32 w2c_p0, u32 w2c_p1, u64 w2c_p2, u64 w2c_p3, u3
   w2c_i0 = w2c_p4;
   w2c_i1 = 25342u;
   w2c_i0 = w2c_i0 != w2c_i1;
-  if (w2c_i0) {goto w2c_B39;}
+  if (w2c_i0) {goto w2c_B41;}
   goto w2c_B2;
-  w2c_B42:;
+  w2c_B44:;
   w2c_i0 = w2c_p4;
   w2c_i1 = 25420u;
   w2c_i0 = w2c_i0 == w2c_i1;
@@ -14751,13 +16143,13 @@ static u32 w2c_f27(module *m, u32 w2c_p0, u32 w2c_p1, u64 w2c_p2, u64 w2c_p3, u3
   w2c_i0 = w2c_p4;
   w2c_i1 = 26578u;
   w2c_i0 = w2c_i0 != w2c_i1;
-  if (w2c_i0) {goto w2c_B39;}
+  if (w2c_i0) {goto w2c_B41;}
   goto w2c_B2;
-  w2c_B40:;
+  w2c_B42:;
   w2c_i0 = w2c_p4;
   w2c_i1 = 36143u;
   w2c_i0 = (u32)((s32)w2c_i0 > (s32)w2c_i1);
-  if (w2c_i0) {goto w2c_B43;}
+  if (w2c_i0) {goto w2c_B45;}
   w2c_i0 = 0u;
   w2c_l11 = w2c_i0;
   w2c_i0 = w2c_p4;
@@ -14765,14 +16157,14 @@ static u32 w2c_f27(module *m, u32 w2c_p0, u32 w2c_p1, u64 w2c_p2, u64 w2c_p3, u3
   w2c_i0 += w2c_i1;
   switch (w2c_i0) {
     case 0: goto w2c_B0;
-    case 1: goto w2c_B39;
-    case 2: goto w2c_B39;
-    case 3: goto w2c_B39;
-    case 4: goto w2c_B39;
+    case 1: goto w2c_B41;
+    case 2: goto w2c_B41;
+    case 3: goto w2c_B41;
+    case 4: goto w2c_B41;
     case 5: goto w2c_B0;
-    default: goto w2c_B44;
+    default: goto w2c_B46;
   }
-  w2c_B44:;
+  w2c_B46:;
   w2c_i0 = w2c_p4;
   w2c_i1 = 29590u;
   w2c_i0 = w2c_i0 == w2c_i1;
@@ -14780,9 +16172,9 @@ static u32 w2c_f27(module *m, u32 w2c_p0, u32 w2c_p1, u64 w2c_p2, u64 w2c_p3, u3
   w2c_i0 = w2c_p4;
   w2c_i1 = 32902u;
   w2c_i0 = w2c_i0 != w2c_i1;
-  if (w2c_i0) {goto w2c_B39;}
+  if (w2c_i0) {goto w2c_B41;}
   goto w2c_B2;
-  w2c_B43:;
+  w2c_B45:;
   w2c_i0 = w2c_p4;
   w2c_i1 = 36144u;
   w2c_i0 = w2c_i0 == w2c_i1;
@@ -14795,44 +16187,39 @@ static u32 w2c_f27(module *m, u32 w2c_p0, u32 w2c_p1, u64 w2c_p2, u64 w2c_p3, u3
   w2c_i1 = 38520u;
   w2c_i0 = w2c_i0 == w2c_i1;
   if (w2c_i0) {goto w2c_B2;}
-  w2c_B39:;
+  w2c_B41:;
   w2c_i0 = w2c_p4;
   w2c_i1 = 4294945855u;
   w2c_i0 += w2c_i1;
   w2c_i1 = 4u;
   w2c_i0 = w2c_i0 < w2c_i1;
   if (w2c_i0) {goto w2c_B2;}
-  w2c_B38:;
-  w2c_j0 = w2c_p5;
-  w2c_j1 = w2c_p3;
-  w2c_j0 += w2c_j1;
-  w2c_p2 = w2c_j0;
-  w2c_j0 = w2c_p6;
-  w2c_j1 = w2c_p3;
-  w2c_i0 = w2c_j0 == w2c_j1;
-  w2c_p0 = w2c_i0;
-  if (w2c_i0) {goto w2c_B45;}
+  w2c_B40:;
   w2c_j0 = w2c_p2;
+  w2c_i0 = !(w2c_j0);
+  w2c_p1 = w2c_i0;
+  if (w2c_i0) {goto w2c_B47;}
+  w2c_j0 = w2c_p3;
   w2c_i0 = (u32)(w2c_j0);
   w2c_i0 = i32_load8_s(m, (u64)(w2c_i0));
-  w2c_p1 = w2c_i0;
+  w2c_p0 = w2c_i0;
   w2c_i1 = 255u;
   w2c_i0 &= w2c_i1;
   w2c_l11 = w2c_i0;
-  w2c_i0 = w2c_p1;
+  w2c_i0 = w2c_p0;
   w2c_i1 = 4294967295u;
   w2c_i0 = (u32)((s32)w2c_i0 > (s32)w2c_i1);
-  if (w2c_i0) {goto w2c_B46;}
-  w2c_j0 = w2c_p2;
+  if (w2c_i0) {goto w2c_B48;}
+  w2c_j0 = w2c_p3;
   w2c_i0 = (u32)(w2c_j0);
   w2c_i0 = i32_load8_u(m, (u64)(w2c_i0) + 1u);
   w2c_i1 = 63u;
   w2c_i0 &= w2c_i1;
   w2c_l12 = w2c_i0;
-  w2c_i0 = w2c_p1;
+  w2c_i0 = w2c_p0;
   w2c_i1 = 4294967263u;
   w2c_i0 = w2c_i0 > w2c_i1;
-  if (w2c_i0) {goto w2c_B47;}
+  if (w2c_i0) {goto w2c_B49;}
   w2c_i0 = w2c_l11;
   w2c_i1 = 6u;
   w2c_i0 <<= (w2c_i1 & 31);
@@ -14841,18 +16228,18 @@ static u32 w2c_f27(module *m, u32 w2c_p0, u32 w2c_p1, u64 w2c_p2, u64 w2c_p3, u3
   w2c_i1 = w2c_l12;
   w2c_i0 |= w2c_i1;
   w2c_l11 = w2c_i0;
-  goto w2c_B46;
-  w2c_B47:;
-  w2c_j0 = w2c_p2;
+  goto w2c_B48;
+  w2c_B49:;
+  w2c_j0 = w2c_p3;
   w2c_i0 = (u32)(w2c_j0);
   w2c_i0 = i32_load8_u(m, (u64)(w2c_i0) + 2u);
   w2c_i1 = 63u;
   w2c_i0 &= w2c_i1;
   w2c_l13 = w2c_i0;
-  w2c_i0 = w2c_p1;
+  w2c_i0 = w2c_p0;
   w2c_i1 = 4294967279u;
   w2c_i0 = w2c_i0 > w2c_i1;
-  if (w2c_i0) {goto w2c_B48;}
+  if (w2c_i0) {goto w2c_B50;}
   w2c_i0 = w2c_l12;
   w2c_i1 = 6u;
   w2c_i0 <<= (w2c_i1 & 31);
@@ -14865,8 +16252,8 @@ static u32 w2c_f27(module *m, u32 w2c_p0, u32 w2c_p1, u64 w2c_p2, u64 w2c_p3, u3
   w2c_i1 = w2c_l13;
   w2c_i0 |= w2c_i1;
   w2c_l11 = w2c_i0;
-  goto w2c_B46;
-  w2c_B48:;
+  goto w2c_B48;
+  w2c_B50:;
   w2c_i0 = w2c_l13;
   w2c_i1 = 6u;
   w2c_i0 <<= (w2c_i1 & 31);
@@ -14880,18 +16267,18 @@ static u32 w2c_f27(module *m, u32 w2c_p0, u32 w2c_p1, u64 w2c_p2, u64 w2c_p3, u3
   w2c_i2 &= w2c_i3;
   w2c_i1 |= w2c_i2;
   w2c_i0 |= w2c_i1;
-  w2c_j1 = w2c_p2;
+  w2c_j1 = w2c_p3;
   w2c_i1 = (u32)(w2c_j1);
   w2c_i1 = i32_load8_u(m, (u64)(w2c_i1) + 3u);
   w2c_i2 = 63u;
   w2c_i1 &= w2c_i2;
   w2c_i0 |= w2c_i1;
   w2c_l11 = w2c_i0;
-  w2c_B46:;
+  w2c_B48:;
   w2c_i0 = w2c_l11;
   w2c_i1 = 21312u;
   w2c_i0 = (u32)((s32)w2c_i0 > (s32)w2c_i1);
-  if (w2c_i0) {goto w2c_B49;}
+  if (w2c_i0) {goto w2c_B51;}
   w2c_i0 = w2c_l11;
   w2c_i1 = 20998u;
   w2c_i0 = w2c_i0 == w2c_i1;
@@ -14899,9 +16286,9 @@ static u32 w2c_f27(module *m, u32 w2c_p0, u32 w2c_p1, u64 w2c_p2, u64 w2c_p3, u3
   w2c_i0 = w2c_l11;
   w2c_i1 = 21051u;
   w2c_i0 = w2c_i0 != w2c_i1;
-  if (w2c_i0) {goto w2c_B45;}
+  if (w2c_i0) {goto w2c_B47;}
   goto w2c_B2;
-  w2c_B49:;
+  w2c_B51:;
   w2c_i0 = w2c_l11;
   w2c_i1 = 21313u;
   w2c_i0 = w2c_i0 == w2c_i1;
@@ -14914,29 +16301,25 @@ static u32 w2c_f27(module *m, u32 w2c_p0, u32 w2c_p1, u64 w2c_p2, u64 w2c_p3, u3
   w2c_i1 = 40670u;
   w2c_i0 = w2c_i0 == w2c_i1;
   if (w2c_i0) {goto w2c_B2;}
-  w2c_B45:;
+  w2c_B47:;
   w2c_i0 = 1u;
   w2c_l11 = w2c_i0;
   w2c_i0 = w2c_p4;
   w2c_i1 = 38646u;
   w2c_i0 = w2c_i0 == w2c_i1;
-  if (w2c_i0) {goto w2c_B51;}
+  if (w2c_i0) {goto w2c_B53;}
   w2c_i0 = w2c_p4;
   w2c_i1 = 19968u;
   w2c_i0 = w2c_i0 == w2c_i1;
-  if (w2c_i0) {goto w2c_B50;}
+  if (w2c_i0) {goto w2c_B52;}
   w2c_i0 = w2c_p4;
   w2c_i1 = 12295u;
   w2c_i0 = w2c_i0 != w2c_i1;
   if (w2c_i0) {goto w2c_B0;}
-  w2c_B51:;
-  w2c_i0 = w2c_p0;
+  w2c_B53:;
+  w2c_i0 = w2c_p1;
   if (w2c_i0) {goto w2c_B0;}
-  w2c_j0 = w2c_p6;
-  w2c_j1 = w2c_p3;
-  w2c_j0 -= w2c_j1;
-  w2c_p6 = w2c_j0;
-  w2c_j0 = w2c_p2;
+  w2c_j0 = w2c_p3;
   w2c_i0 = (u32)(w2c_j0);
   w2c_i0 = i32_load8_s(m, (u64)(w2c_i0));
   w2c_l11 = w2c_i0;
@@ -14944,12 +16327,12 @@ static u32 w2c_f27(module *m, u32 w2c_p0, u32 w2c_p1, u64 w2c_p2, u64 w2c_p3, u3
   w2c_i0 &= w2c_i1;
   w2c_p4 = w2c_i0;
   w2c_j0 = 1ull;
-  w2c_p3 = w2c_j0;
+  w2c_p6 = w2c_j0;
   w2c_i0 = w2c_l11;
   w2c_i1 = 4294967295u;
   w2c_i0 = (u32)((s32)w2c_i0 > (s32)w2c_i1);
-  if (w2c_i0) {goto w2c_B52;}
-  w2c_j0 = w2c_p2;
+  if (w2c_i0) {goto w2c_B54;}
+  w2c_j0 = w2c_p3;
   w2c_i0 = (u32)(w2c_j0);
   w2c_i0 = i32_load8_u(m, (u64)(w2c_i0) + 1u);
   w2c_i1 = 63u;
@@ -14958,7 +16341,7 @@ static u32 w2c_f27(module *m, u32 w2c_p0, u32 w2c_p1, u64 w2c_p2, u64 w2c_p3, u3
   w2c_i0 = w2c_l11;
   w2c_i1 = 4294967263u;
   w2c_i0 = w2c_i0 > w2c_i1;
-  if (w2c_i0) {goto w2c_B53;}
+  if (w2c_i0) {goto w2c_B55;}
   w2c_i0 = w2c_p4;
   w2c_i1 = 6u;
   w2c_i0 <<= (w2c_i1 & 31);
@@ -14968,10 +16351,10 @@ static u32 w2c_f27(module *m, u32 w2c_p0, u32 w2c_p1, u64 w2c_p2, u64 w2c_p3, u3
   w2c_i0 |= w2c_i1;
   w2c_p4 = w2c_i0;
   w2c_j0 = 2ull;
-  w2c_p3 = w2c_j0;
-  goto w2c_B52;
-  w2c_B53:;
-  w2c_j0 = w2c_p2;
+  w2c_p6 = w2c_j0;
+  goto w2c_B54;
+  w2c_B55:;
+  w2c_j0 = w2c_p3;
   w2c_i0 = (u32)(w2c_j0);
   w2c_i0 = i32_load8_u(m, (u64)(w2c_i0) + 2u);
   w2c_i1 = 63u;
@@ -14980,7 +16363,7 @@ static u32 w2c_f27(module *m, u32 w2c_p0, u32 w2c_p1, u64 w2c_p2, u64 w2c_p3, u3
   w2c_i0 = w2c_l11;
   w2c_i1 = 4294967279u;
   w2c_i0 = w2c_i0 > w2c_i1;
-  if (w2c_i0) {goto w2c_B54;}
+  if (w2c_i0) {goto w2c_B56;}
   w2c_i0 = w2c_p0;
   w2c_i1 = 6u;
   w2c_i0 <<= (w2c_i1 & 31);
@@ -14994,9 +16377,9 @@ static u32 w2c_f27(module *m, u32 w2c_p0, u32 w2c_p1, u64 w2c_p2, u64 w2c_p3, u3
   w2c_i0 |= w2c_i1;
   w2c_p4 = w2c_i0;
   w2c_j0 = 3ull;
-  w2c_p3 = w2c_j0;
-  goto w2c_B52;
-  w2c_B54:;
+  w2c_p6 = w2c_j0;
+  goto w2c_B54;
+  w2c_B56:;
   w2c_i0 = w2c_p1;
   w2c_i1 = 6u;
   w2c_i0 <<= (w2c_i1 & 31);
@@ -15010,7 +16393,7 @@ static u32 w2c_f27(module *m, u32 w2c_p0, u32 w2c_p1, u64 w2c_p2, u64 w2c_p3, u3
   w2c_i2 &= w2c_i3;
   w2c_i1 |= w2c_i2;
   w2c_i0 |= w2c_i1;
-  w2c_j1 = w2c_p2;
+  w2c_j1 = w2c_p3;
   w2c_i1 = (u32)(w2c_j1);
   w2c_i1 = i32_load8_u(m, (u64)(w2c_i1) + 3u);
   w2c_i2 = 63u;
@@ -15018,15 +16401,15 @@ static u32 w2c_f27(module *m, u32 w2c_p0, u32 w2c_p1, u64 w2c_p2, u64 w2c_p3, u3
   w2c_i0 |= w2c_i1;
   w2c_p4 = w2c_i0;
   w2c_j0 = 4ull;
-  w2c_p3 = w2c_j0;
-  w2c_B52:;
+  w2c_p6 = w2c_j0;
+  w2c_B54:;
   w2c_j0 = w2c_l7;
   w2c_i1 = w2c_p4;
-  w2c_f21(m, w2c_j0, w2c_i1);
+  w2c_f18(m, w2c_j0, w2c_i1);
   w2c_i0 = 1u;
   w2c_l11 = w2c_i0;
-  w2c_j0 = w2c_p6;
-  w2c_j1 = w2c_p3;
+  w2c_j0 = w2c_p2;
+  w2c_j1 = w2c_p6;
   w2c_i0 = w2c_j0 == w2c_j1;
   if (w2c_i0) {goto w2c_B0;}
   w2c_j0 = w2c_l7;
@@ -15041,8 +16424,8 @@ static u32 w2c_f27(module *m, u32 w2c_p0, u32 w2c_p1, u64 w2c_p2, u64 w2c_p3, u3
   w2c_i1 = w2c_i1 < w2c_i2;
   w2c_i0 &= w2c_i1;
   if (w2c_i0) {goto w2c_B0;}
-  w2c_j0 = w2c_p2;
-  w2c_j1 = w2c_p3;
+  w2c_j0 = w2c_p3;
+  w2c_j1 = w2c_p6;
   w2c_j0 += w2c_j1;
   w2c_p3 = w2c_j0;
   w2c_i0 = (u32)(w2c_j0);
@@ -15054,7 +16437,7 @@ static u32 w2c_f27(module *m, u32 w2c_p0, u32 w2c_p1, u64 w2c_p2, u64 w2c_p3, u3
   w2c_i0 = w2c_l11;
   w2c_i1 = 4294967295u;
   w2c_i0 = (u32)((s32)w2c_i0 > (s32)w2c_i1);
-  if (w2c_i0) {goto w2c_B55;}
+  if (w2c_i0) {goto w2c_B57;}
   w2c_j0 = w2c_p3;
   w2c_i0 = (u32)(w2c_j0);
   w2c_i0 = i32_load8_u(m, (u64)(w2c_i0) + 1u);
@@ -15064,7 +16447,7 @@ static u32 w2c_f27(module *m, u32 w2c_p0, u32 w2c_p1, u64 w2c_p2, u64 w2c_p3, u3
   w2c_i0 = w2c_l11;
   w2c_i1 = 4294967263u;
   w2c_i0 = w2c_i0 > w2c_i1;
-  if (w2c_i0) {goto w2c_B56;}
+  if (w2c_i0) {goto w2c_B58;}
   w2c_i0 = w2c_p4;
   w2c_i1 = 6u;
   w2c_i0 <<= (w2c_i1 & 31);
@@ -15073,8 +16456,8 @@ static u32 w2c_f27(module *m, u32 w2c_p0, u32 w2c_p1, u64 w2c_p2, u64 w2c_p3, u3
   w2c_i1 = w2c_p0;
   w2c_i0 |= w2c_i1;
   w2c_p4 = w2c_i0;
-  goto w2c_B55;
-  w2c_B56:;
+  goto w2c_B57;
+  w2c_B58:;
   w2c_j0 = w2c_p3;
   w2c_i0 = (u32)(w2c_j0);
   w2c_i0 = i32_load8_u(m, (u64)(w2c_i0) + 2u);
@@ -15084,7 +16467,7 @@ static u32 w2c_f27(module *m, u32 w2c_p0, u32 w2c_p1, u64 w2c_p2, u64 w2c_p3, u3
   w2c_i0 = w2c_l11;
   w2c_i1 = 4294967279u;
   w2c_i0 = w2c_i0 > w2c_i1;
-  if (w2c_i0) {goto w2c_B57;}
+  if (w2c_i0) {goto w2c_B59;}
   w2c_i0 = w2c_p0;
   w2c_i1 = 6u;
   w2c_i0 <<= (w2c_i1 & 31);
@@ -15097,8 +16480,8 @@ static u32 w2c_f27(module *m, u32 w2c_p0, u32 w2c_p1, u64 w2c_p2, u64 w2c_p3, u3
   w2c_i1 = w2c_p1;
   w2c_i0 |= w2c_i1;
   w2c_p4 = w2c_i0;
-  goto w2c_B55;
-  w2c_B57:;
+  goto w2c_B57;
+  w2c_B59:;
   w2c_i0 = w2c_p1;
   w2c_i1 = 6u;
   w2c_i0 <<= (w2c_i1 & 31);
@@ -15119,11 +16502,11 @@ static u32 w2c_f27(module *m, u32 w2c_p0, u32 w2c_p1, u64 w2c_p2, u64 w2c_p3, u3
   w2c_i1 &= w2c_i2;
   w2c_i0 |= w2c_i1;
   w2c_p4 = w2c_i0;
-  w2c_B55:;
+  w2c_B57:;
   w2c_i0 = w2c_p4;
   w2c_i1 = 21312u;
   w2c_i0 = (u32)((s32)w2c_i0 > (s32)w2c_i1);
-  if (w2c_i0) {goto w2c_B59;}
+  if (w2c_i0) {goto w2c_B61;}
   w2c_i0 = w2c_p4;
   w2c_i1 = 20998u;
   w2c_i0 = w2c_i0 == w2c_i1;
@@ -15133,9 +16516,9 @@ static u32 w2c_f27(module *m, u32 w2c_p0, u32 w2c_p1, u64 w2c_p2, u64 w2c_p3, u3
   w2c_i0 = w2c_p4;
   w2c_i1 = 21051u;
   w2c_i0 = w2c_i0 != w2c_i1;
-  if (w2c_i0) {goto w2c_B58;}
+  if (w2c_i0) {goto w2c_B60;}
   goto w2c_B0;
-  w2c_B59:;
+  w2c_B61:;
   w2c_i0 = w2c_p4;
   w2c_i1 = 21313u;
   w2c_i0 = w2c_i0 == w2c_i1;
@@ -15150,14 +16533,14 @@ static u32 w2c_f27(module *m, u32 w2c_p0, u32 w2c_p1, u64 w2c_p2, u64 w2c_p3, u3
   w2c_i1 = 40670u;
   w2c_i0 = w2c_i0 == w2c_i1;
   if (w2c_i0) {goto w2c_B0;}
-  w2c_B58:;
+  w2c_B60:;
   w2c_i0 = 1u;
   w2c_l11 = w2c_i0;
   goto w2c_B0;
-  w2c_B50:;
-  w2c_i0 = w2c_p0;
+  w2c_B52:;
+  w2c_i0 = w2c_p1;
   if (w2c_i0) {goto w2c_B0;}
-  w2c_j0 = w2c_p2;
+  w2c_j0 = w2c_p3;
   w2c_i0 = (u32)(w2c_j0);
   w2c_i0 = i32_load8_s(m, (u64)(w2c_i0));
   w2c_l11 = w2c_i0;
@@ -15167,8 +16550,8 @@ static u32 w2c_f27(module *m, u32 w2c_p0, u32 w2c_p1, u64 w2c_p2, u64 w2c_p3, u3
   w2c_i0 = w2c_l11;
   w2c_i1 = 4294967295u;
   w2c_i0 = (u32)((s32)w2c_i0 > (s32)w2c_i1);
-  if (w2c_i0) {goto w2c_B60;}
-  w2c_j0 = w2c_p2;
+  if (w2c_i0) {goto w2c_B62;}
+  w2c_j0 = w2c_p3;
   w2c_i0 = (u32)(w2c_j0);
   w2c_i0 = i32_load8_u(m, (u64)(w2c_i0) + 1u);
   w2c_i1 = 63u;
@@ -15177,7 +16560,7 @@ static u32 w2c_f27(module *m, u32 w2c_p0, u32 w2c_p1, u64 w2c_p2, u64 w2c_p3, u3
   w2c_i0 = w2c_l11;
   w2c_i1 = 4294967263u;
   w2c_i0 = w2c_i0 > w2c_i1;
-  if (w2c_i0) {goto w2c_B61;}
+  if (w2c_i0) {goto w2c_B63;}
   w2c_i0 = w2c_p4;
   w2c_i1 = 6u;
   w2c_i0 <<= (w2c_i1 & 31);
@@ -15186,9 +16569,9 @@ static u32 w2c_f27(module *m, u32 w2c_p0, u32 w2c_p1, u64 w2c_p2, u64 w2c_p3, u3
   w2c_i1 = w2c_p0;
   w2c_i0 |= w2c_i1;
   w2c_p4 = w2c_i0;
-  goto w2c_B60;
-  w2c_B61:;
-  w2c_j0 = w2c_p2;
+  goto w2c_B62;
+  w2c_B63:;
+  w2c_j0 = w2c_p3;
   w2c_i0 = (u32)(w2c_j0);
   w2c_i0 = i32_load8_u(m, (u64)(w2c_i0) + 2u);
   w2c_i1 = 63u;
@@ -15197,7 +16580,7 @@ static u32 w2c_f27(module *m, u32 w2c_p0, u32 w2c_p1, u64 w2c_p2, u64 w2c_p3, u3
   w2c_i0 = w2c_l11;
   w2c_i1 = 4294967279u;
   w2c_i0 = w2c_i0 > w2c_i1;
-  if (w2c_i0) {goto w2c_B62;}
+  if (w2c_i0) {goto w2c_B64;}
   w2c_i0 = w2c_p0;
   w2c_i1 = 6u;
   w2c_i0 <<= (w2c_i1 & 31);
@@ -15210,8 +16593,8 @@ static u32 w2c_f27(module *m, u32 w2c_p0, u32 w2c_p1, u64 w2c_p2, u64 w2c_p3, u3
   w2c_i1 = w2c_p1;
   w2c_i0 |= w2c_i1;
   w2c_p4 = w2c_i0;
-  goto w2c_B60;
-  w2c_B62:;
+  goto w2c_B62;
+  w2c_B64:;
   w2c_i0 = w2c_p1;
   w2c_i1 = 6u;
   w2c_i0 <<= (w2c_i1 & 31);
@@ -15225,22 +16608,22 @@ static u32 w2c_f27(module *m, u32 w2c_p0, u32 w2c_p1, u64 w2c_p2, u64 w2c_p3, u3
   w2c_i2 &= w2c_i3;
   w2c_i1 |= w2c_i2;
   w2c_i0 |= w2c_i1;
-  w2c_j1 = w2c_p2;
+  w2c_j1 = w2c_p3;
   w2c_i1 = (u32)(w2c_j1);
   w2c_i1 = i32_load8_u(m, (u64)(w2c_i1) + 3u);
   w2c_i2 = 63u;
   w2c_i1 &= w2c_i2;
   w2c_i0 |= w2c_i1;
   w2c_p4 = w2c_i0;
-  w2c_B60:;
+  w2c_B62:;
   w2c_i0 = w2c_p4;
   w2c_i1 = 27170u;
   w2c_i0 = (u32)((s32)w2c_i0 > (s32)w2c_i1);
-  if (w2c_i0) {goto w2c_B64;}
+  if (w2c_i0) {goto w2c_B66;}
   w2c_i0 = w2c_p4;
   w2c_i1 = 20998u;
   w2c_i0 = (u32)((s32)w2c_i0 > (s32)w2c_i1);
-  if (w2c_i0) {goto w2c_B65;}
+  if (w2c_i0) {goto w2c_B67;}
   w2c_i0 = w2c_p4;
   w2c_i1 = 19979u;
   w2c_i0 = w2c_i0 == w2c_i1;
@@ -15250,9 +16633,9 @@ static u32 w2c_f27(module *m, u32 w2c_p0, u32 w2c_p1, u64 w2c_p2, u64 w2c_p3, u3
   w2c_i0 = w2c_p4;
   w2c_i1 = 20123u;
   w2c_i0 = w2c_i0 != w2c_i1;
-  if (w2c_i0) {goto w2c_B63;}
+  if (w2c_i0) {goto w2c_B65;}
   goto w2c_B0;
-  w2c_B65:;
+  w2c_B67:;
   w2c_i0 = w2c_p4;
   w2c_i1 = 20999u;
   w2c_i0 = w2c_i0 == w2c_i1;
@@ -15266,13 +16649,13 @@ static u32 w2c_f27(module *m, u32 w2c_p0, u32 w2c_p1, u64 w2c_p2, u64 w2c_p3, u3
   w2c_i0 = w2c_p4;
   w2c_i1 = 26679u;
   w2c_i0 = w2c_i0 != w2c_i1;
-  if (w2c_i0) {goto w2c_B63;}
+  if (w2c_i0) {goto w2c_B65;}
   goto w2c_B0;
-  w2c_B64:;
+  w2c_B66:;
   w2c_i0 = w2c_p4;
   w2c_i1 = 32217u;
   w2c_i0 = (u32)((s32)w2c_i0 > (s32)w2c_i1);
-  if (w2c_i0) {goto w2c_B66;}
+  if (w2c_i0) {goto w2c_B68;}
   w2c_i0 = w2c_p4;
   w2c_i1 = 27171u;
   w2c_i0 = w2c_i0 == w2c_i1;
@@ -15286,9 +16669,9 @@ static u32 w2c_f27(module *m, u32 w2c_p0, u32 w2c_p1, u64 w2c_p2, u64 w2c_p3, u3
   w2c_i0 = w2c_p4;
   w2c_i1 = 30452u;
   w2c_i0 = w2c_i0 != w2c_i1;
-  if (w2c_i0) {goto w2c_B63;}
+  if (w2c_i0) {goto w2c_B65;}
   goto w2c_B0;
-  w2c_B66:;
+  w2c_B68:;
   w2c_i0 = w2c_p4;
   w2c_i1 = 32218u;
   w2c_i0 = w2c_i0 == w2c_i1;
@@ -15303,7 +16686,7 @@ static u32 w2c_f27(module *m, u32 w2c_p0, u32 w2c_p1, u64 w2c_p2, u64 w2c_p3, u3
   w2c_i1 = 36215u;
   w2c_i0 = w2c_i0 == w2c_i1;
   if (w2c_i0) {goto w2c_B0;}
-  w2c_B63:;
+  w2c_B65:;
   w2c_i0 = 1u;
   w2c_l11 = w2c_i0;
   goto w2c_B0;
@@ -15324,7 +16707,7 @@ static u32 w2c_f27(module *m, u32 w2c_p0, u32 w2c_p1, u64 w2c_p2, u64 w2c_p3, u3
   w2c_p4 = w2c_i0;
   w2c_i1 = 0u;
   w2c_i0 = (u32)((s32)w2c_i0 >= (s32)w2c_i1);
-  if (w2c_i0) {goto w2c_B67;}
+  if (w2c_i0) {goto w2c_B69;}
   w2c_j0 = 18446744073709551614ull;
   w2c_l9 = w2c_j0;
   w2c_j0 = w2c_l8;
@@ -15334,7 +16717,7 @@ static u32 w2c_f27(module *m, u32 w2c_p0, u32 w2c_p1, u64 w2c_p2, u64 w2c_p3, u3
   w2c_i0 = i32_load8_u(m, (u64)(w2c_i0));
   w2c_i1 = 191u;
   w2c_i0 = w2c_i0 > w2c_i1;
-  if (w2c_i0) {goto w2c_B68;}
+  if (w2c_i0) {goto w2c_B70;}
   w2c_j0 = 18446744073709551613ull;
   w2c_j1 = 18446744073709551612ull;
   w2c_j2 = w2c_l8;
@@ -15346,7 +16729,7 @@ static u32 w2c_f27(module *m, u32 w2c_p0, u32 w2c_p1, u64 w2c_p2, u64 w2c_p3, u3
   w2c_i2 = w2c_i2 > w2c_i3;
   w2c_j0 = w2c_i2 ? w2c_j0 : w2c_j1;
   w2c_l9 = w2c_j0;
-  w2c_B68:;
+  w2c_B70:;
   w2c_j0 = w2c_p2;
   w2c_j1 = w2c_l9;
   w2c_j0 += w2c_j1;
@@ -15362,7 +16745,7 @@ static u32 w2c_f27(module *m, u32 w2c_p0, u32 w2c_p1, u64 w2c_p2, u64 w2c_p3, u3
   w2c_i0 = w2c_p0;
   w2c_i1 = 4294967295u;
   w2c_i0 = (u32)((s32)w2c_i0 > (s32)w2c_i1);
-  if (w2c_i0) {goto w2c_B67;}
+  if (w2c_i0) {goto w2c_B69;}
   w2c_j0 = w2c_p3;
   w2c_i0 = (u32)(w2c_j0);
   w2c_i0 = i32_load8_u(m, (u64)(w2c_i0) + 1u);
@@ -15372,7 +16755,7 @@ static u32 w2c_f27(module *m, u32 w2c_p0, u32 w2c_p1, u64 w2c_p2, u64 w2c_p3, u3
   w2c_i0 = w2c_p0;
   w2c_i1 = 4294967263u;
   w2c_i0 = w2c_i0 > w2c_i1;
-  if (w2c_i0) {goto w2c_B69;}
+  if (w2c_i0) {goto w2c_B71;}
   w2c_i0 = w2c_p4;
   w2c_i1 = 6u;
   w2c_i0 <<= (w2c_i1 & 31);
@@ -15381,8 +16764,8 @@ static u32 w2c_f27(module *m, u32 w2c_p0, u32 w2c_p1, u64 w2c_p2, u64 w2c_p3, u3
   w2c_i1 = w2c_p1;
   w2c_i0 |= w2c_i1;
   w2c_p4 = w2c_i0;
-  goto w2c_B67;
-  w2c_B69:;
+  goto w2c_B69;
+  w2c_B71:;
   w2c_j0 = w2c_p3;
   w2c_i0 = (u32)(w2c_j0);
   w2c_i0 = i32_load8_u(m, (u64)(w2c_i0) + 2u);
@@ -15392,7 +16775,7 @@ static u32 w2c_f27(module *m, u32 w2c_p0, u32 w2c_p1, u64 w2c_p2, u64 w2c_p3, u3
   w2c_i0 = w2c_p0;
   w2c_i1 = 4294967279u;
   w2c_i0 = w2c_i0 > w2c_i1;
-  if (w2c_i0) {goto w2c_B70;}
+  if (w2c_i0) {goto w2c_B72;}
   w2c_i0 = w2c_p1;
   w2c_i1 = 6u;
   w2c_i0 <<= (w2c_i1 & 31);
@@ -15405,8 +16788,8 @@ static u32 w2c_f27(module *m, u32 w2c_p0, u32 w2c_p1, u64 w2c_p2, u64 w2c_p3, u3
   w2c_i1 = w2c_l12;
   w2c_i0 |= w2c_i1;
   w2c_p4 = w2c_i0;
-  goto w2c_B67;
-  w2c_B70:;
+  goto w2c_B69;
+  w2c_B72:;
   w2c_i0 = w2c_l12;
   w2c_i1 = 6u;
   w2c_i0 <<= (w2c_i1 & 31);
@@ -15427,7 +16810,7 @@ static u32 w2c_f27(module *m, u32 w2c_p0, u32 w2c_p1, u64 w2c_p2, u64 w2c_p3, u3
   w2c_i1 &= w2c_i2;
   w2c_i0 |= w2c_i1;
   w2c_p4 = w2c_i0;
-  w2c_B67:;
+  w2c_B69:;
   w2c_j0 = w2c_p6;
   w2c_i0 = !(w2c_j0);
   if (w2c_i0) {goto w2c_B0;}
@@ -15453,7 +16836,7 @@ static u32 w2c_f27(module *m, u32 w2c_p0, u32 w2c_p1, u64 w2c_p2, u64 w2c_p3, u3
   w2c_i0 = w2c_l11;
   w2c_i1 = 4294967295u;
   w2c_i0 = (u32)((s32)w2c_i0 > (s32)w2c_i1);
-  if (w2c_i0) {goto w2c_B71;}
+  if (w2c_i0) {goto w2c_B73;}
   w2c_j0 = w2c_p5;
   w2c_i0 = (u32)(w2c_j0);
   w2c_i0 = i32_load8_u(m, (u64)(w2c_i0) + 1u);
@@ -15463,7 +16846,7 @@ static u32 w2c_f27(module *m, u32 w2c_p0, u32 w2c_p1, u64 w2c_p2, u64 w2c_p3, u3
   w2c_i0 = w2c_l11;
   w2c_i1 = 4294967263u;
   w2c_i0 = w2c_i0 > w2c_i1;
-  if (w2c_i0) {goto w2c_B72;}
+  if (w2c_i0) {goto w2c_B74;}
   w2c_i0 = w2c_p4;
   w2c_i1 = 6u;
   w2c_i0 <<= (w2c_i1 & 31);
@@ -15472,8 +16855,8 @@ static u32 w2c_f27(module *m, u32 w2c_p0, u32 w2c_p1, u64 w2c_p2, u64 w2c_p3, u3
   w2c_i1 = w2c_p0;
   w2c_i0 |= w2c_i1;
   w2c_p4 = w2c_i0;
-  goto w2c_B71;
-  w2c_B72:;
+  goto w2c_B73;
+  w2c_B74:;
   w2c_j0 = w2c_p5;
   w2c_i0 = (u32)(w2c_j0);
   w2c_i0 = i32_load8_u(m, (u64)(w2c_i0) + 2u);
@@ -15483,7 +16866,7 @@ static u32 w2c_f27(module *m, u32 w2c_p0, u32 w2c_p1, u64 w2c_p2, u64 w2c_p3, u3
   w2c_i0 = w2c_l11;
   w2c_i1 = 4294967279u;
   w2c_i0 = w2c_i0 > w2c_i1;
-  if (w2c_i0) {goto w2c_B73;}
+  if (w2c_i0) {goto w2c_B75;}
   w2c_i0 = w2c_p0;
   w2c_i1 = 6u;
   w2c_i0 <<= (w2c_i1 & 31);
@@ -15496,8 +16879,8 @@ static u32 w2c_f27(module *m, u32 w2c_p0, u32 w2c_p1, u64 w2c_p2, u64 w2c_p3, u3
   w2c_i1 = w2c_p1;
   w2c_i0 |= w2c_i1;
   w2c_p4 = w2c_i0;
-  goto w2c_B71;
-  w2c_B73:;
+  goto w2c_B73;
+  w2c_B75:;
   w2c_i0 = w2c_p1;
   w2c_i1 = 6u;
   w2c_i0 <<= (w2c_i1 & 31);
@@ -15518,7 +16901,7 @@ static u32 w2c_f27(module *m, u32 w2c_p0, u32 w2c_p1, u64 w2c_p2, u64 w2c_p3, u3
   w2c_i1 &= w2c_i2;
   w2c_i0 |= w2c_i1;
   w2c_p4 = w2c_i0;
-  w2c_B71:;
+  w2c_B73:;
   w2c_i0 = w2c_p4;
   w2c_i1 = 4294967248u;
   w2c_i0 += w2c_i1;
@@ -15547,7 +16930,7 @@ static u32 w2c_f27(module *m, u32 w2c_p0, u32 w2c_p1, u64 w2c_p2, u64 w2c_p3, u3
   w2c_p4 = w2c_i0;
   w2c_i1 = 0u;
   w2c_i0 = (u32)((s32)w2c_i0 >= (s32)w2c_i1);
-  if (w2c_i0) {goto w2c_B74;}
+  if (w2c_i0) {goto w2c_B76;}
   w2c_j0 = 18446744073709551614ull;
   w2c_l8 = w2c_j0;
   w2c_j0 = w2c_p2;
@@ -15560,7 +16943,7 @@ static u32 w2c_f27(module *m, u32 w2c_p0, u32 w2c_p1, u64 w2c_p2, u64 w2c_p3, u3
   w2c_i0 = i32_load8_u(m, (u64)(w2c_i0));
   w2c_i1 = 191u;
   w2c_i0 = w2c_i0 > w2c_i1;
-  if (w2c_i0) {goto w2c_B75;}
+  if (w2c_i0) {goto w2c_B77;}
   w2c_j0 = 18446744073709551613ull;
   w2c_j1 = 18446744073709551612ull;
   w2c_j2 = w2c_l9;
@@ -15572,7 +16955,7 @@ static u32 w2c_f27(module *m, u32 w2c_p0, u32 w2c_p1, u64 w2c_p2, u64 w2c_p3, u3
   w2c_i2 = w2c_i2 > w2c_i3;
   w2c_j0 = w2c_i2 ? w2c_j0 : w2c_j1;
   w2c_l8 = w2c_j0;
-  w2c_B75:;
+  w2c_B77:;
   w2c_j0 = w2c_p2;
   w2c_j1 = w2c_l8;
   w2c_j2 = w2c_p3;
@@ -15589,7 +16972,7 @@ static u32 w2c_f27(module *m, u32 w2c_p0, u32 w2c_p1, u64 w2c_p2, u64 w2c_p3, u3
   w2c_i0 = w2c_l11;
   w2c_i1 = 4294967295u;
   w2c_i0 = (u32)((s32)w2c_i0 > (s32)w2c_i1);
-  if (w2c_i0) {goto w2c_B74;}
+  if (w2c_i0) {goto w2c_B76;}
   w2c_j0 = w2c_l9;
   w2c_i0 = (u32)(w2c_j0);
   w2c_i0 = i32_load8_u(m, (u64)(w2c_i0) + 1u);
@@ -15599,7 +16982,7 @@ static u32 w2c_f27(module *m, u32 w2c_p0, u32 w2c_p1, u64 w2c_p2, u64 w2c_p3, u3
   w2c_i0 = w2c_l11;
   w2c_i1 = 4294967263u;
   w2c_i0 = w2c_i0 > w2c_i1;
-  if (w2c_i0) {goto w2c_B76;}
+  if (w2c_i0) {goto w2c_B78;}
   w2c_i0 = w2c_p4;
   w2c_i1 = 6u;
   w2c_i0 <<= (w2c_i1 & 31);
@@ -15608,8 +16991,8 @@ static u32 w2c_f27(module *m, u32 w2c_p0, u32 w2c_p1, u64 w2c_p2, u64 w2c_p3, u3
   w2c_i1 = w2c_p0;
   w2c_i0 |= w2c_i1;
   w2c_p4 = w2c_i0;
-  goto w2c_B74;
-  w2c_B76:;
+  goto w2c_B76;
+  w2c_B78:;
   w2c_j0 = w2c_l9;
   w2c_i0 = (u32)(w2c_j0);
   w2c_i0 = i32_load8_u(m, (u64)(w2c_i0) + 2u);
@@ -15619,7 +17002,7 @@ static u32 w2c_f27(module *m, u32 w2c_p0, u32 w2c_p1, u64 w2c_p2, u64 w2c_p3, u3
   w2c_i0 = w2c_l11;
   w2c_i1 = 4294967279u;
   w2c_i0 = w2c_i0 > w2c_i1;
-  if (w2c_i0) {goto w2c_B77;}
+  if (w2c_i0) {goto w2c_B79;}
   w2c_i0 = w2c_p0;
   w2c_i1 = 6u;
   w2c_i0 <<= (w2c_i1 & 31);
@@ -15632,8 +17015,8 @@ static u32 w2c_f27(module *m, u32 w2c_p0, u32 w2c_p1, u64 w2c_p2, u64 w2c_p3, u3
   w2c_i1 = w2c_p1;
   w2c_i0 |= w2c_i1;
   w2c_p4 = w2c_i0;
-  goto w2c_B74;
-  w2c_B77:;
+  goto w2c_B76;
+  w2c_B79:;
   w2c_i0 = w2c_p1;
   w2c_i1 = 6u;
   w2c_i0 <<= (w2c_i1 & 31);
@@ -15654,20 +17037,20 @@ static u32 w2c_f27(module *m, u32 w2c_p0, u32 w2c_p1, u64 w2c_p2, u64 w2c_p3, u3
   w2c_i1 &= w2c_i2;
   w2c_i0 |= w2c_i1;
   w2c_p4 = w2c_i0;
-  w2c_B74:;
+  w2c_B76:;
   w2c_i0 = w2c_p4;
   w2c_i1 = 4294967248u;
   w2c_i0 += w2c_i1;
   w2c_i1 = 10u;
   w2c_i0 = w2c_i0 < w2c_i1;
-  if (w2c_i0) {goto w2c_B78;}
+  if (w2c_i0) {goto w2c_B80;}
   w2c_i0 = w2c_p4;
   w2c_i1 = 4294902000u;
   w2c_i0 += w2c_i1;
   w2c_i1 = 9u;
   w2c_i0 = w2c_i0 > w2c_i1;
   if (w2c_i0) {goto w2c_B5;}
-  w2c_B78:;
+  w2c_B80:;
   w2c_i0 = w2c_p4;
   w2c_i1 = 48u;
   w2c_i0 = w2c_i0 == w2c_i1;
@@ -15701,7 +17084,7 @@ static u32 w2c_f27(module *m, u32 w2c_p0, u32 w2c_p1, u64 w2c_p2, u64 w2c_p3, u3
   w2c_p0 = w2c_i0;
   w2c_i1 = 191u;
   w2c_i0 = w2c_i0 > w2c_i1;
-  if (w2c_i0) {goto w2c_B79;}
+  if (w2c_i0) {goto w2c_B81;}
   w2c_j0 = 18446744073709551613ull;
   w2c_j1 = 18446744073709551612ull;
   w2c_j2 = w2c_l9;
@@ -15713,7 +17096,7 @@ static u32 w2c_f27(module *m, u32 w2c_p0, u32 w2c_p1, u64 w2c_p2, u64 w2c_p3, u3
   w2c_i2 = w2c_i2 > w2c_i3;
   w2c_j0 = w2c_i2 ? w2c_j0 : w2c_j1;
   w2c_l10 = w2c_j0;
-  w2c_B79:;
+  w2c_B81:;
   w2c_j0 = w2c_p2;
   w2c_j1 = w2c_l10;
   w2c_j0 += w2c_j1;
@@ -15729,7 +17112,7 @@ static u32 w2c_f27(module *m, u32 w2c_p0, u32 w2c_p1, u64 w2c_p2, u64 w2c_p3, u3
   w2c_i0 = w2c_l11;
   w2c_i1 = 4294967295u;
   w2c_i0 = (u32)((s32)w2c_i0 > (s32)w2c_i1);
-  if (w2c_i0) {goto w2c_B80;}
+  if (w2c_i0) {goto w2c_B82;}
   w2c_j0 = w2c_l10;
   w2c_i0 = (u32)(w2c_j0);
   w2c_i0 = i32_load8_u(m, (u64)(w2c_i0) + 1u);
@@ -15739,7 +17122,7 @@ static u32 w2c_f27(module *m, u32 w2c_p0, u32 w2c_p1, u64 w2c_p2, u64 w2c_p3, u3
   w2c_i0 = w2c_l11;
   w2c_i1 = 4294967263u;
   w2c_i0 = w2c_i0 > w2c_i1;
-  if (w2c_i0) {goto w2c_B81;}
+  if (w2c_i0) {goto w2c_B83;}
   w2c_i0 = w2c_p4;
   w2c_i1 = 6u;
   w2c_i0 <<= (w2c_i1 & 31);
@@ -15748,8 +17131,8 @@ static u32 w2c_f27(module *m, u32 w2c_p0, u32 w2c_p1, u64 w2c_p2, u64 w2c_p3, u3
   w2c_i1 = w2c_p1;
   w2c_i0 |= w2c_i1;
   w2c_p4 = w2c_i0;
-  goto w2c_B80;
-  w2c_B81:;
+  goto w2c_B82;
+  w2c_B83:;
   w2c_j0 = w2c_l10;
   w2c_i0 = (u32)(w2c_j0);
   w2c_i0 = i32_load8_u(m, (u64)(w2c_i0) + 2u);
@@ -15759,7 +17142,7 @@ static u32 w2c_f27(module *m, u32 w2c_p0, u32 w2c_p1, u64 w2c_p2, u64 w2c_p3, u3
   w2c_i0 = w2c_l11;
   w2c_i1 = 4294967279u;
   w2c_i0 = w2c_i0 > w2c_i1;
-  if (w2c_i0) {goto w2c_B82;}
+  if (w2c_i0) {goto w2c_B84;}
   w2c_i0 = w2c_p1;
   w2c_i1 = 6u;
   w2c_i0 <<= (w2c_i1 & 31);
@@ -15772,8 +17155,8 @@ static u32 w2c_f27(module *m, u32 w2c_p0, u32 w2c_p1, u64 w2c_p2, u64 w2c_p3, u3
   w2c_i1 = w2c_l12;
   w2c_i0 |= w2c_i1;
   w2c_p4 = w2c_i0;
-  goto w2c_B80;
-  w2c_B82:;
+  goto w2c_B82;
+  w2c_B84:;
   w2c_i0 = w2c_l12;
   w2c_i1 = 6u;
   w2c_i0 <<= (w2c_i1 & 31);
@@ -15794,7 +17177,7 @@ static u32 w2c_f27(module *m, u32 w2c_p0, u32 w2c_p1, u64 w2c_p2, u64 w2c_p3, u3
   w2c_i1 &= w2c_i2;
   w2c_i0 |= w2c_i1;
   w2c_p4 = w2c_i0;
-  w2c_B80:;
+  w2c_B82:;
   w2c_i0 = w2c_p4;
   w2c_i1 = 4294967238u;
   w2c_i0 += w2c_i1;
@@ -15812,7 +17195,7 @@ static u32 w2c_f27(module *m, u32 w2c_p0, u32 w2c_p1, u64 w2c_p2, u64 w2c_p3, u3
   w2c_i0 = w2c_p0;
   w2c_i1 = 191u;
   w2c_i0 = w2c_i0 > w2c_i1;
-  if (w2c_i0) {goto w2c_B83;}
+  if (w2c_i0) {goto w2c_B85;}
   w2c_j0 = 18446744073709551613ull;
   w2c_j1 = 18446744073709551612ull;
   w2c_j2 = w2c_l9;
@@ -15824,7 +17207,7 @@ static u32 w2c_f27(module *m, u32 w2c_p0, u32 w2c_p1, u64 w2c_p2, u64 w2c_p3, u3
   w2c_i2 = w2c_i2 > w2c_i3;
   w2c_j0 = w2c_i2 ? w2c_j0 : w2c_j1;
   w2c_l10 = w2c_j0;
-  w2c_B83:;
+  w2c_B85:;
   w2c_j0 = w2c_p2;
   w2c_j1 = w2c_l10;
   w2c_j0 += w2c_j1;
@@ -15850,7 +17233,7 @@ static u32 w2c_f27(module *m, u32 w2c_p0, u32 w2c_p1, u64 w2c_p2, u64 w2c_p3, u3
   w2c_i0 = w2c_l11;
   w2c_i1 = 4294967263u;
   w2c_i0 = w2c_i0 > w2c_i1;
-  if (w2c_i0) {goto w2c_B84;}
+  if (w2c_i0) {goto w2c_B86;}
   w2c_i0 = w2c_p4;
   w2c_i1 = 6u;
   w2c_i0 <<= (w2c_i1 & 31);
@@ -15860,7 +17243,7 @@ static u32 w2c_f27(module *m, u32 w2c_p0, u32 w2c_p1, u64 w2c_p2, u64 w2c_p3, u3
   w2c_i0 |= w2c_i1;
   w2c_p4 = w2c_i0;
   goto w2c_B7;
-  w2c_B84:;
+  w2c_B86:;
   w2c_j0 = w2c_l9;
   w2c_i0 = (u32)(w2c_j0);
   w2c_i0 = i32_load8_u(m, (u64)(w2c_i0) + 2u);
@@ -15870,7 +17253,7 @@ static u32 w2c_f27(module *m, u32 w2c_p0, u32 w2c_p1, u64 w2c_p2, u64 w2c_p3, u3
   w2c_i0 = w2c_l11;
   w2c_i1 = 4294967279u;
   w2c_i0 = w2c_i0 > w2c_i1;
-  if (w2c_i0) {goto w2c_B85;}
+  if (w2c_i0) {goto w2c_B87;}
   w2c_i0 = w2c_p0;
   w2c_i1 = 6u;
   w2c_i0 <<= (w2c_i1 & 31);
@@ -15884,7 +17267,7 @@ static u32 w2c_f27(module *m, u32 w2c_p0, u32 w2c_p1, u64 w2c_p2, u64 w2c_p3, u3
   w2c_i0 |= w2c_i1;
   w2c_p4 = w2c_i0;
   goto w2c_B7;
-  w2c_B85:;
+  w2c_B87:;
   w2c_i0 = w2c_p1;
   w2c_i1 = 6u;
   w2c_i0 <<= (w2c_i1 & 31);
@@ -15923,7 +17306,7 @@ static u32 w2c_f27(module *m, u32 w2c_p0, u32 w2c_p1, u64 w2c_p2, u64 w2c_p3, u3
   w2c_p4 = w2c_i0;
   w2c_i1 = 0u;
   w2c_i0 = (u32)((s32)w2c_i0 >= (s32)w2c_i1);
-  if (w2c_i0) {goto w2c_B86;}
+  if (w2c_i0) {goto w2c_B88;}
   w2c_j0 = 18446744073709551614ull;
   w2c_l9 = w2c_j0;
   w2c_j0 = w2c_l8;
@@ -15933,7 +17316,7 @@ static u32 w2c_f27(module *m, u32 w2c_p0, u32 w2c_p1, u64 w2c_p2, u64 w2c_p3, u3
   w2c_i0 = i32_load8_u(m, (u64)(w2c_i0));
   w2c_i1 = 191u;
   w2c_i0 = w2c_i0 > w2c_i1;
-  if (w2c_i0) {goto w2c_B87;}
+  if (w2c_i0) {goto w2c_B89;}
   w2c_j0 = 18446744073709551613ull;
   w2c_j1 = 18446744073709551612ull;
   w2c_j2 = w2c_l8;
@@ -15945,7 +17328,7 @@ static u32 w2c_f27(module *m, u32 w2c_p0, u32 w2c_p1, u64 w2c_p2, u64 w2c_p3, u3
   w2c_i2 = w2c_i2 > w2c_i3;
   w2c_j0 = w2c_i2 ? w2c_j0 : w2c_j1;
   w2c_l9 = w2c_j0;
-  w2c_B87:;
+  w2c_B89:;
   w2c_j0 = w2c_p2;
   w2c_j1 = w2c_l9;
   w2c_j0 += w2c_j1;
@@ -15961,7 +17344,7 @@ static u32 w2c_f27(module *m, u32 w2c_p0, u32 w2c_p1, u64 w2c_p2, u64 w2c_p3, u3
   w2c_i0 = w2c_l12;
   w2c_i1 = 4294967295u;
   w2c_i0 = (u32)((s32)w2c_i0 > (s32)w2c_i1);
-  if (w2c_i0) {goto w2c_B86;}
+  if (w2c_i0) {goto w2c_B88;}
   w2c_j0 = w2c_p3;
   w2c_i0 = (u32)(w2c_j0);
   w2c_i0 = i32_load8_u(m, (u64)(w2c_i0) + 1u);
@@ -15971,7 +17354,7 @@ static u32 w2c_f27(module *m, u32 w2c_p0, u32 w2c_p1, u64 w2c_p2, u64 w2c_p3, u3
   w2c_i0 = w2c_l12;
   w2c_i1 = 4294967263u;
   w2c_i0 = w2c_i0 > w2c_i1;
-  if (w2c_i0) {goto w2c_B88;}
+  if (w2c_i0) {goto w2c_B90;}
   w2c_i0 = w2c_p4;
   w2c_i1 = 6u;
   w2c_i0 <<= (w2c_i1 & 31);
@@ -15980,8 +17363,8 @@ static u32 w2c_f27(module *m, u32 w2c_p0, u32 w2c_p1, u64 w2c_p2, u64 w2c_p3, u3
   w2c_i1 = w2c_l13;
   w2c_i0 |= w2c_i1;
   w2c_p4 = w2c_i0;
-  goto w2c_B86;
-  w2c_B88:;
+  goto w2c_B88;
+  w2c_B90:;
   w2c_j0 = w2c_p3;
   w2c_i0 = (u32)(w2c_j0);
   w2c_i0 = i32_load8_u(m, (u64)(w2c_i0) + 2u);
@@ -15991,7 +17374,7 @@ static u32 w2c_f27(module *m, u32 w2c_p0, u32 w2c_p1, u64 w2c_p2, u64 w2c_p3, u3
   w2c_i0 = w2c_l12;
   w2c_i1 = 4294967279u;
   w2c_i0 = w2c_i0 > w2c_i1;
-  if (w2c_i0) {goto w2c_B89;}
+  if (w2c_i0) {goto w2c_B91;}
   w2c_i0 = w2c_l13;
   w2c_i1 = 6u;
   w2c_i0 <<= (w2c_i1 & 31);
@@ -16004,8 +17387,8 @@ static u32 w2c_f27(module *m, u32 w2c_p0, u32 w2c_p1, u64 w2c_p2, u64 w2c_p3, u3
   w2c_i1 = w2c_l14;
   w2c_i0 |= w2c_i1;
   w2c_p4 = w2c_i0;
-  goto w2c_B86;
-  w2c_B89:;
+  goto w2c_B88;
+  w2c_B91:;
   w2c_i0 = w2c_l14;
   w2c_i1 = 6u;
   w2c_i0 <<= (w2c_i1 & 31);
@@ -16026,68 +17409,149 @@ static u32 w2c_f27(module *m, u32 w2c_p0, u32 w2c_p1, u64 w2c_p2, u64 w2c_p3, u3
   w2c_i1 &= w2c_i2;
   w2c_i0 |= w2c_i1;
   w2c_p4 = w2c_i0;
-  w2c_B86:;
+  w2c_B88:;
+  w2c_i0 = w2c_p4;
+  w2c_i1 = 4294967248u;
+  w2c_i0 += w2c_i1;
+  w2c_i1 = 10u;
+  w2c_i0 = w2c_i0 < w2c_i1;
+  if (w2c_i0) {goto w2c_B92;}
+  w2c_i0 = w2c_p4;
+  w2c_i1 = 4294902000u;
+  w2c_i0 += w2c_i1;
+  w2c_i1 = 9u;
+  w2c_i0 = w2c_i0 > w2c_i1;
+  if (w2c_i0) {goto w2c_B0;}
+  w2c_B92:;
+  w2c_j0 = w2c_p6;
+  w2c_j1 = 3ull;
+  w2c_i0 = w2c_j0 < w2c_j1;
+  if (w2c_i0) {goto w2c_B96;}
+  w2c_j0 = w2c_p5;
+  w2c_i0 = (u32)(w2c_j0);
+  w2c_i0 = i32_load8_u(m, (u64)(w2c_i0));
+  w2c_p4 = w2c_i0;
+  w2c_i1 = 240u;
+  w2c_i0 &= w2c_i1;
+  w2c_i1 = 224u;
+  w2c_i0 = w2c_i0 != w2c_i1;
+  if (w2c_i0) {goto w2c_B95;}
+  w2c_j0 = w2c_p5;
+  w2c_i0 = (u32)(w2c_j0);
+  w2c_i0 = i32_load8_u(m, (u64)(w2c_i0) + 1u);
+  w2c_l13 = w2c_i0;
+  w2c_i1 = 8u;
+  w2c_i0 <<= (w2c_i1 & 31);
+  w2c_j1 = w2c_p5;
+  w2c_i1 = (u32)(w2c_j1);
+  w2c_i1 = i32_load8_u(m, (u64)(w2c_i1) + 2u);
+  w2c_l14 = w2c_i1;
+  w2c_i2 = 16u;
+  w2c_i1 <<= (w2c_i2 & 31);
+  w2c_i0 |= w2c_i1;
+  w2c_i1 = w2c_p4;
+  w2c_i0 |= w2c_i1;
+  w2c_l11 = w2c_i0;
+  w2c_j0 = (u64)(w2c_i0);
+  w2c_j1 = 953497ull;
+  w2c_j0 *= w2c_j1;
+  w2c_j1 = 22ull;
+  w2c_j0 >>= (w2c_j1 & 63);
+  w2c_j1 = 1016ull;
+  w2c_j0 &= w2c_j1;
+  w2c_p3 = w2c_j0;
+  w2c_j1 = 66997ull;
+  w2c_j0 += w2c_j1;
+  w2c_i0 = (u32)(w2c_j0);
+  w2c_i0 = i32_load8_u(m, (u64)(w2c_i0));
+  w2c_i1 = 0u;
+  w2c_j2 = w2c_p3;
+  w2c_i2 = (u32)(w2c_j2);
+  w2c_i2 = i32_load(m, (u64)(w2c_i2) + 66992u);
+  w2c_i3 = w2c_l11;
+  w2c_i2 = w2c_i2 == w2c_i3;
+  w2c_l11 = w2c_i2;
+  w2c_i0 = w2c_i2 ? w2c_i0 : w2c_i1;
+  w2c_l12 = w2c_i0;
+  w2c_j0 = w2c_p3;
+  w2c_j1 = 66996ull;
+  w2c_j0 += w2c_j1;
+  w2c_i0 = (u32)(w2c_j0);
+  w2c_i0 = i32_load8_u(m, (u64)(w2c_i0));
+  w2c_i1 = 2u;
+  w2c_i2 = w2c_l11;
+  w2c_i0 = w2c_i2 ? w2c_i0 : w2c_i1;
+  w2c_l11 = w2c_i0;
+  w2c_i0 = w2c_p4;
+  w2c_i1 = 12u;
+  w2c_i0 <<= (w2c_i1 & 31);
+  w2c_i1 = w2c_l13;
+  w2c_i2 = 6u;
+  w2c_i1 <<= (w2c_i2 & 31);
+  w2c_i0 += w2c_i1;
+  w2c_i1 = w2c_l14;
+  w2c_i0 += w2c_i1;
+  w2c_i1 = 4294041472u;
+  w2c_i0 += w2c_i1;
+  w2c_p4 = w2c_i0;
+  w2c_j0 = w2c_p6;
+  w2c_j1 = 18446744073709551613ull;
+  w2c_j0 += w2c_j1;
+  w2c_p2 = w2c_j0;
+  w2c_j0 = w2c_p5;
+  w2c_j1 = 3ull;
+  w2c_j0 += w2c_j1;
+  w2c_p3 = w2c_j0;
+  goto w2c_B94;
+  w2c_B96:;
   w2c_j0 = w2c_p6;
   w2c_i0 = !(w2c_j0);
   if (w2c_i0) {goto w2c_B0;}
-  w2c_i0 = w2c_p4;
-  w2c_i1 = 4294967238u;
-  w2c_i0 += w2c_i1;
-  w2c_i1 = 4294967286u;
-  w2c_i0 = w2c_i0 < w2c_i1;
-  w2c_i1 = w2c_p4;
-  w2c_i2 = 4294901990u;
-  w2c_i1 += w2c_i2;
-  w2c_i2 = 4294967286u;
-  w2c_i1 = w2c_i1 < w2c_i2;
-  w2c_i0 &= w2c_i1;
-  if (w2c_i0) {goto w2c_B0;}
   w2c_j0 = w2c_p5;
   w2c_i0 = (u32)(w2c_j0);
-  w2c_i0 = i32_load8_s(m, (u64)(w2c_i0));
-  w2c_l11 = w2c_i0;
-  w2c_i1 = 255u;
-  w2c_i0 &= w2c_i1;
+  w2c_i0 = i32_load8_u(m, (u64)(w2c_i0));
   w2c_p4 = w2c_i0;
+  w2c_B95:;
   w2c_j0 = 1ull;
   w2c_p3 = w2c_j0;
-  w2c_i0 = w2c_l11;
+  w2c_i0 = w2c_p4;
+  w2c_i0 = (u32)(s32)(s8)(u8)(w2c_i0);
   w2c_i1 = 4294967295u;
   w2c_i0 = (u32)((s32)w2c_i0 > (s32)w2c_i1);
-  if (w2c_i0) {goto w2c_B90;}
+  if (w2c_i0) {goto w2c_B97;}
   w2c_j0 = w2c_p5;
   w2c_i0 = (u32)(w2c_j0);
   w2c_i0 = i32_load8_u(m, (u64)(w2c_i0) + 1u);
   w2c_i1 = 63u;
   w2c_i0 &= w2c_i1;
-  w2c_l12 = w2c_i0;
-  w2c_i0 = w2c_l11;
-  w2c_i1 = 4294967263u;
+  w2c_l11 = w2c_i0;
+  w2c_i0 = w2c_p4;
+  w2c_i1 = 223u;
   w2c_i0 = w2c_i0 > w2c_i1;
-  if (w2c_i0) {goto w2c_B91;}
+  if (w2c_i0) {goto w2c_B98;}
   w2c_i0 = w2c_p4;
   w2c_i1 = 6u;
   w2c_i0 <<= (w2c_i1 & 31);
   w2c_i1 = 1984u;
   w2c_i0 &= w2c_i1;
-  w2c_i1 = w2c_l12;
+  w2c_i1 = w2c_l11;
   w2c_i0 |= w2c_i1;
   w2c_p4 = w2c_i0;
   w2c_j0 = 2ull;
   w2c_p3 = w2c_j0;
-  goto w2c_B90;
-  w2c_B91:;
+  goto w2c_B97;
+  w2c_B98:;
   w2c_j0 = w2c_p5;
   w2c_i0 = (u32)(w2c_j0);
   w2c_i0 = i32_load8_u(m, (u64)(w2c_i0) + 2u);
   w2c_i1 = 63u;
   w2c_i0 &= w2c_i1;
-  w2c_l13 = w2c_i0;
-  w2c_i0 = w2c_l11;
-  w2c_i1 = 4294967279u;
+  w2c_l12 = w2c_i0;
+  w2c_i0 = w2c_p4;
+  w2c_i1 = 239u;
   w2c_i0 = w2c_i0 > w2c_i1;
-  if (w2c_i0) {goto w2c_B92;}
-  w2c_i0 = w2c_l12;
+  if (w2c_i0) {goto w2c_B99;}
+  w2c_i0 = w2c_l11;
   w2c_i1 = 6u;
   w2c_i0 <<= (w2c_i1 & 31);
   w2c_i1 = w2c_p4;
@@ -16096,17 +17560,17 @@ static u32 w2c_f27(module *m, u32 w2c_p0, u32 w2c_p1, u64 w2c_p2, u64 w2c_p3, u3
   w2c_i2 = 61440u;
   w2c_i1 &= w2c_i2;
   w2c_i0 |= w2c_i1;
-  w2c_i1 = w2c_l13;
+  w2c_i1 = w2c_l12;
   w2c_i0 |= w2c_i1;
   w2c_p4 = w2c_i0;
   w2c_j0 = 3ull;
   w2c_p3 = w2c_j0;
-  goto w2c_B90;
-  w2c_B92:;
-  w2c_i0 = w2c_l13;
+  goto w2c_B97;
+  w2c_B99:;
+  w2c_i0 = w2c_l12;
   w2c_i1 = 6u;
   w2c_i0 <<= (w2c_i1 & 31);
-  w2c_i1 = w2c_l12;
+  w2c_i1 = w2c_l11;
   w2c_i2 = 12u;
   w2c_i1 <<= (w2c_i2 & 31);
   w2c_i2 = w2c_p4;
@@ -16125,13 +17589,21 @@ static u32 w2c_f27(module *m, u32 w2c_p0, u32 w2c_p1, u64 w2c_p2, u64 w2c_p3, u3
   w2c_p4 = w2c_i0;
   w2c_j0 = 4ull;
   w2c_p3 = w2c_j0;
-  w2c_B90:;
+  w2c_B97:;
+  w2c_j0 = w2c_p6;
+  w2c_j1 = w2c_p3;
+  w2c_j0 -= w2c_j1;
+  w2c_p2 = w2c_j0;
+  w2c_j0 = w2c_p5;
+  w2c_j1 = w2c_p3;
+  w2c_j0 += w2c_j1;
+  w2c_p3 = w2c_j0;
   w2c_i0 = w2c_p4;
   w2c_i1 = 4294965248u;
   w2c_i0 += w2c_i1;
   w2c_i1 = 63487u;
   w2c_i0 = w2c_i0 > w2c_i1;
-  if (w2c_i0) {goto w2c_B95;}
+  if (w2c_i0) {goto w2c_B100;}
   w2c_i0 = w2c_p4;
   w2c_i1 = 12u;
   w2c_i0 >>= (w2c_i1 & 31);
@@ -16157,13 +17629,13 @@ static u32 w2c_f27(module *m, u32 w2c_p0, u32 w2c_p1, u64 w2c_p2, u64 w2c_p3, u3
   w2c_j0 >>= (w2c_j1 & 63);
   w2c_j1 = 1016ull;
   w2c_j0 &= w2c_j1;
-  w2c_p2 = w2c_j0;
+  w2c_p6 = w2c_j0;
   w2c_j1 = 66997ull;
   w2c_j0 += w2c_j1;
   w2c_i0 = (u32)(w2c_j0);
   w2c_i0 = i32_load8_u(m, (u64)(w2c_i0));
   w2c_i1 = 0u;
-  w2c_j2 = w2c_p2;
+  w2c_j2 = w2c_p6;
   w2c_i2 = (u32)(w2c_j2);
   w2c_i2 = i32_load(m, (u64)(w2c_i2) + 66992u);
   w2c_i3 = w2c_l11;
@@ -16171,25 +17643,22 @@ static u32 w2c_f27(module *m, u32 w2c_p0, u32 w2c_p1, u64 w2c_p2, u64 w2c_p3, u3
   w2c_l11 = w2c_i2;
   w2c_i0 = w2c_i2 ? w2c_i0 : w2c_i1;
   w2c_l12 = w2c_i0;
-  w2c_i0 = w2c_l11;
-  w2c_j1 = w2c_p2;
-  w2c_j2 = 66996ull;
-  w2c_j1 += w2c_j2;
-  w2c_i1 = (u32)(w2c_j1);
-  w2c_i1 = i32_load8_u(m, (u64)(w2c_i1));
-  w2c_i2 = 255u;
-  w2c_i1 &= w2c_i2;
-  w2c_i2 = 1u;
-  w2c_i1 = w2c_i1 == w2c_i2;
-  w2c_i0 &= w2c_i1;
+  w2c_j0 = w2c_p6;
+  w2c_j1 = 66996ull;
+  w2c_j0 += w2c_j1;
+  w2c_i0 = (u32)(w2c_j0);
+  w2c_i0 = i32_load8_u(m, (u64)(w2c_i0));
+  w2c_i1 = 2u;
+  w2c_i2 = w2c_l11;
+  w2c_i0 = w2c_i2 ? w2c_i0 : w2c_i1;
   w2c_l11 = w2c_i0;
   goto w2c_B94;
-  w2c_B95:;
+  w2c_B100:;
   w2c_j0 = w2c_l7;
   w2c_j1 = 40ull;
   w2c_j0 += w2c_j1;
   w2c_i1 = w2c_p4;
-  w2c_f21(m, w2c_j0, w2c_i1);
+  w2c_f18(m, w2c_j0, w2c_i1);
   w2c_j0 = w2c_l7;
   w2c_i0 = (u32)(w2c_j0);
   w2c_i0 = i32_load8_u(m, (u64)(w2c_i0) + 40u);
@@ -16213,9 +17682,17 @@ static u32 w2c_f27(module *m, u32 w2c_p0, u32 w2c_p1, u64 w2c_p2, u64 w2c_p3, u3
   w2c_l11 = w2c_i2;
   w2c_i0 = w2c_i2 ? w2c_i0 : w2c_i1;
   w2c_l12 = w2c_i0;
+  w2c_i0 = 1u;
+  w2c_i1 = 2u;
+  w2c_i2 = w2c_l11;
+  w2c_i0 = w2c_i2 ? w2c_i0 : w2c_i1;
+  w2c_l11 = w2c_i0;
   w2c_B94:;
   w2c_i0 = w2c_l11;
-  w2c_i0 = !(w2c_i0);
+  w2c_i1 = 255u;
+  w2c_i0 &= w2c_i1;
+  w2c_i1 = 1u;
+  w2c_i0 = w2c_i0 != w2c_i1;
   if (w2c_i0) {goto w2c_B93;}
   w2c_i0 = w2c_l12;
   w2c_i1 = 255u;
@@ -16230,13 +17707,9 @@ static u32 w2c_f27(module *m, u32 w2c_p0, u32 w2c_p1, u64 w2c_p2, u64 w2c_p3, u3
   w2c_i2 = w2c_p4;
   w2c_i3 = 1u;
   w2c_i4 = w2c_l12;
-  w2c_j5 = w2c_p5;
-  w2c_j6 = w2c_p3;
-  w2c_j5 += w2c_j6;
-  w2c_j6 = w2c_p6;
-  w2c_j7 = w2c_p3;
-  w2c_j6 -= w2c_j7;
-  w2c_i0 = w2c_f20(m, w2c_i0, w2c_i1, w2c_i2, w2c_i3, w2c_i4, w2c_j5, w2c_j6);
+  w2c_j5 = w2c_p3;
+  w2c_j6 = w2c_p2;
+  w2c_i0 = w2c_f17(m, w2c_i0, w2c_i1, w2c_i2, w2c_i3, w2c_i4, w2c_j5, w2c_j6);
   if (w2c_i0) {goto w2c_B0;}
   w2c_B93:;
   w2c_i0 = w2c_p4;
@@ -16265,7 +17738,7 @@ static u32 w2c_f27(module *m, u32 w2c_p0, u32 w2c_p1, u64 w2c_p2, u64 w2c_p3, u3
   w2c_p4 = w2c_i0;
   w2c_i1 = 0u;
   w2c_i0 = (u32)((s32)w2c_i0 >= (s32)w2c_i1);
-  if (w2c_i0) {goto w2c_B96;}
+  if (w2c_i0) {goto w2c_B101;}
   w2c_j0 = 18446744073709551614ull;
   w2c_l9 = w2c_j0;
   w2c_j0 = w2c_l8;
@@ -16275,7 +17748,7 @@ static u32 w2c_f27(module *m, u32 w2c_p0, u32 w2c_p1, u64 w2c_p2, u64 w2c_p3, u3
   w2c_i0 = i32_load8_u(m, (u64)(w2c_i0));
   w2c_i1 = 191u;
   w2c_i0 = w2c_i0 > w2c_i1;
-  if (w2c_i0) {goto w2c_B97;}
+  if (w2c_i0) {goto w2c_B102;}
   w2c_j0 = 18446744073709551613ull;
   w2c_j1 = 18446744073709551612ull;
   w2c_j2 = w2c_l8;
@@ -16287,7 +17760,7 @@ static u32 w2c_f27(module *m, u32 w2c_p0, u32 w2c_p1, u64 w2c_p2, u64 w2c_p3, u3
   w2c_i2 = w2c_i2 > w2c_i3;
   w2c_j0 = w2c_i2 ? w2c_j0 : w2c_j1;
   w2c_l9 = w2c_j0;
-  w2c_B97:;
+  w2c_B102:;
   w2c_j0 = w2c_p2;
   w2c_j1 = w2c_l9;
   w2c_j0 += w2c_j1;
@@ -16303,7 +17776,7 @@ static u32 w2c_f27(module *m, u32 w2c_p0, u32 w2c_p1, u64 w2c_p2, u64 w2c_p3, u3
   w2c_i0 = w2c_l12;
   w2c_i1 = 4294967295u;
   w2c_i0 = (u32)((s32)w2c_i0 > (s32)w2c_i1);
-  if (w2c_i0) {goto w2c_B96;}
+  if (w2c_i0) {goto w2c_B101;}
   w2c_j0 = w2c_p3;
   w2c_i0 = (u32)(w2c_j0);
   w2c_i0 = i32_load8_u(m, (u64)(w2c_i0) + 1u);
@@ -16313,7 +17786,7 @@ static u32 w2c_f27(module *m, u32 w2c_p0, u32 w2c_p1, u64 w2c_p2, u64 w2c_p3, u3
   w2c_i0 = w2c_l12;
   w2c_i1 = 4294967263u;
   w2c_i0 = w2c_i0 > w2c_i1;
-  if (w2c_i0) {goto w2c_B98;}
+  if (w2c_i0) {goto w2c_B103;}
   w2c_i0 = w2c_p4;
   w2c_i1 = 6u;
   w2c_i0 <<= (w2c_i1 & 31);
@@ -16322,8 +17795,8 @@ static u32 w2c_f27(module *m, u32 w2c_p0, u32 w2c_p1, u64 w2c_p2, u64 w2c_p3, u3
   w2c_i1 = w2c_l13;
   w2c_i0 |= w2c_i1;
   w2c_p4 = w2c_i0;
-  goto w2c_B96;
-  w2c_B98:;
+  goto w2c_B101;
+  w2c_B103:;
   w2c_j0 = w2c_p3;
   w2c_i0 = (u32)(w2c_j0);
   w2c_i0 = i32_load8_u(m, (u64)(w2c_i0) + 2u);
@@ -16333,7 +17806,7 @@ static u32 w2c_f27(module *m, u32 w2c_p0, u32 w2c_p1, u64 w2c_p2, u64 w2c_p3, u3
   w2c_i0 = w2c_l12;
   w2c_i1 = 4294967279u;
   w2c_i0 = w2c_i0 > w2c_i1;
-  if (w2c_i0) {goto w2c_B99;}
+  if (w2c_i0) {goto w2c_B104;}
   w2c_i0 = w2c_l13;
   w2c_i1 = 6u;
   w2c_i0 <<= (w2c_i1 & 31);
@@ -16346,8 +17819,8 @@ static u32 w2c_f27(module *m, u32 w2c_p0, u32 w2c_p1, u64 w2c_p2, u64 w2c_p3, u3
   w2c_i1 = w2c_l14;
   w2c_i0 |= w2c_i1;
   w2c_p4 = w2c_i0;
-  goto w2c_B96;
-  w2c_B99:;
+  goto w2c_B101;
+  w2c_B104:;
   w2c_i0 = w2c_l14;
   w2c_i1 = 6u;
   w2c_i0 <<= (w2c_i1 & 31);
@@ -16368,11 +17841,11 @@ static u32 w2c_f27(module *m, u32 w2c_p0, u32 w2c_p1, u64 w2c_p2, u64 w2c_p3, u3
   w2c_i1 &= w2c_i2;
   w2c_i0 |= w2c_i1;
   w2c_p4 = w2c_i0;
-  w2c_B96:;
+  w2c_B101:;
   w2c_i0 = w2c_p0;
   w2c_i1 = w2c_p1;
   w2c_i2 = w2c_p4;
-  w2c_i0 = w2c_f28(m, w2c_i0, w2c_i1, w2c_i2);
+  w2c_i0 = w2c_f29(m, w2c_i0, w2c_i1, w2c_i2);
   w2c_p4 = w2c_i0;
   w2c_j0 = w2c_p6;
   w2c_i0 = !(w2c_j0);
@@ -16410,7 +17883,7 @@ static u32 w2c_f27(module *m, u32 w2c_p0, u32 w2c_p1, u64 w2c_p2, u64 w2c_p3, u3
   w2c_i0 = w2c_p4;
   w2c_i1 = 4294967279u;
   w2c_i0 = w2c_i0 > w2c_i1;
-  if (w2c_i0) {goto w2c_B101;}
+  if (w2c_i0) {goto w2c_B106;}
   w2c_i0 = w2c_l13;
   w2c_i1 = 6u;
   w2c_i0 <<= (w2c_i1 & 31);
@@ -16425,8 +17898,8 @@ static u32 w2c_f27(module *m, u32 w2c_p0, u32 w2c_p1, u64 w2c_p2, u64 w2c_p3, u3
   w2c_p4 = w2c_i0;
   w2c_j0 = 3ull;
   w2c_p3 = w2c_j0;
-  goto w2c_B100;
-  w2c_B101:;
+  goto w2c_B105;
+  w2c_B106:;
   w2c_i0 = w2c_l14;
   w2c_i1 = 6u;
   w2c_i0 <<= (w2c_i1 & 31);
@@ -16449,7 +17922,7 @@ static u32 w2c_f27(module *m, u32 w2c_p0, u32 w2c_p1, u64 w2c_p2, u64 w2c_p3, u3
   w2c_p4 = w2c_i0;
   w2c_j0 = 4ull;
   w2c_p3 = w2c_j0;
-  w2c_B100:;
+  w2c_B105:;
   w2c_i0 = w2c_p4;
   w2c_i1 = 20043u;
   w2c_i0 = w2c_i0 != w2c_i1;
@@ -16462,7 +17935,7 @@ static u32 w2c_f27(module *m, u32 w2c_p0, u32 w2c_p1, u64 w2c_p2, u64 w2c_p3, u3
   w2c_j3 = w2c_p6;
   w2c_j4 = w2c_p3;
   w2c_j3 -= w2c_j4;
-  w2c_i0 = w2c_f29(m, w2c_i0, w2c_i1, w2c_j2, w2c_j3);
+  w2c_i0 = w2c_f30(m, w2c_i0, w2c_i1, w2c_j2, w2c_j3);
   w2c_l11 = w2c_i0;
   goto w2c_B0;
   w2c_B15:;
@@ -16504,7 +17977,7 @@ static u32 w2c_f27(module *m, u32 w2c_p0, u32 w2c_p1, u64 w2c_p2, u64 w2c_p3, u3
   w2c_p4 = w2c_i0;
   w2c_i1 = 0u;
   w2c_i0 = (u32)((s32)w2c_i0 >= (s32)w2c_i1);
-  if (w2c_i0) {goto w2c_B102;}
+  if (w2c_i0) {goto w2c_B107;}
   w2c_j0 = 18446744073709551614ull;
   w2c_l9 = w2c_j0;
   w2c_j0 = w2c_p3;
@@ -16514,7 +17987,7 @@ static u32 w2c_f27(module *m, u32 w2c_p0, u32 w2c_p1, u64 w2c_p2, u64 w2c_p3, u3
   w2c_i0 = i32_load8_u(m, (u64)(w2c_i0));
   w2c_i1 = 191u;
   w2c_i0 = w2c_i0 > w2c_i1;
-  if (w2c_i0) {goto w2c_B103;}
+  if (w2c_i0) {goto w2c_B108;}
   w2c_j0 = 18446744073709551613ull;
   w2c_j1 = 18446744073709551612ull;
   w2c_j2 = w2c_p3;
@@ -16526,7 +17999,7 @@ static u32 w2c_f27(module *m, u32 w2c_p0, u32 w2c_p1, u64 w2c_p2, u64 w2c_p3, u3
   w2c_i2 = w2c_i2 > w2c_i3;
   w2c_j0 = w2c_i2 ? w2c_j0 : w2c_j1;
   w2c_l9 = w2c_j0;
-  w2c_B103:;
+  w2c_B108:;
   w2c_j0 = w2c_p2;
   w2c_j1 = w2c_l9;
   w2c_j0 += w2c_j1;
@@ -16542,7 +18015,7 @@ static u32 w2c_f27(module *m, u32 w2c_p0, u32 w2c_p1, u64 w2c_p2, u64 w2c_p3, u3
   w2c_i0 = w2c_l12;
   w2c_i1 = 4294967295u;
   w2c_i0 = (u32)((s32)w2c_i0 > (s32)w2c_i1);
-  if (w2c_i0) {goto w2c_B102;}
+  if (w2c_i0) {goto w2c_B107;}
   w2c_j0 = w2c_p3;
   w2c_i0 = (u32)(w2c_j0);
   w2c_i0 = i32_load8_u(m, (u64)(w2c_i0) + 1u);
@@ -16552,7 +18025,7 @@ static u32 w2c_f27(module *m, u32 w2c_p0, u32 w2c_p1, u64 w2c_p2, u64 w2c_p3, u3
   w2c_i0 = w2c_l12;
   w2c_i1 = 4294967263u;
   w2c_i0 = w2c_i0 > w2c_i1;
-  if (w2c_i0) {goto w2c_B104;}
+  if (w2c_i0) {goto w2c_B109;}
   w2c_i0 = w2c_p4;
   w2c_i1 = 6u;
   w2c_i0 <<= (w2c_i1 & 31);
@@ -16561,8 +18034,8 @@ static u32 w2c_f27(module *m, u32 w2c_p0, u32 w2c_p1, u64 w2c_p2, u64 w2c_p3, u3
   w2c_i1 = w2c_l13;
   w2c_i0 |= w2c_i1;
   w2c_p4 = w2c_i0;
-  goto w2c_B102;
-  w2c_B104:;
+  goto w2c_B107;
+  w2c_B109:;
   w2c_j0 = w2c_p3;
   w2c_i0 = (u32)(w2c_j0);
   w2c_i0 = i32_load8_u(m, (u64)(w2c_i0) + 2u);
@@ -16572,7 +18045,7 @@ static u32 w2c_f27(module *m, u32 w2c_p0, u32 w2c_p1, u64 w2c_p2, u64 w2c_p3, u3
   w2c_i0 = w2c_l12;
   w2c_i1 = 4294967279u;
   w2c_i0 = w2c_i0 > w2c_i1;
-  if (w2c_i0) {goto w2c_B105;}
+  if (w2c_i0) {goto w2c_B110;}
   w2c_i0 = w2c_l13;
   w2c_i1 = 6u;
   w2c_i0 <<= (w2c_i1 & 31);
@@ -16585,8 +18058,8 @@ static u32 w2c_f27(module *m, u32 w2c_p0, u32 w2c_p1, u64 w2c_p2, u64 w2c_p3, u3
   w2c_i1 = w2c_l14;
   w2c_i0 |= w2c_i1;
   w2c_p4 = w2c_i0;
-  goto w2c_B102;
-  w2c_B105:;
+  goto w2c_B107;
+  w2c_B110:;
   w2c_i0 = w2c_l14;
   w2c_i1 = 6u;
   w2c_i0 <<= (w2c_i1 & 31);
@@ -16607,18 +18080,18 @@ static u32 w2c_f27(module *m, u32 w2c_p0, u32 w2c_p1, u64 w2c_p2, u64 w2c_p3, u3
   w2c_i1 &= w2c_i2;
   w2c_i0 |= w2c_i1;
   w2c_p4 = w2c_i0;
-  w2c_B102:;
+  w2c_B107:;
   w2c_i0 = w2c_p0;
   w2c_i1 = w2c_p1;
   w2c_i2 = w2c_p4;
-  w2c_i0 = w2c_f28(m, w2c_i0, w2c_i1, w2c_i2);
+  w2c_i0 = w2c_f29(m, w2c_i0, w2c_i1, w2c_i2);
   w2c_i0 = !(w2c_i0);
   if (w2c_i0) {goto w2c_B0;}
   w2c_i0 = w2c_p0;
   w2c_i1 = w2c_p1;
   w2c_j2 = w2c_p5;
   w2c_j3 = w2c_p6;
-  w2c_i0 = w2c_f29(m, w2c_i0, w2c_i1, w2c_j2, w2c_j3);
+  w2c_i0 = w2c_f30(m, w2c_i0, w2c_i1, w2c_j2, w2c_j3);
   w2c_l11 = w2c_i0;
   goto w2c_B0;
   w2c_B13:;
@@ -16636,136 +18109,7 @@ static u32 w2c_f27(module *m, u32 w2c_p0, u32 w2c_p1, u64 w2c_p2, u64 w2c_p3, u3
   w2c_p4 = w2c_i0;
   w2c_i1 = 4294967295u;
   w2c_i0 = (u32)((s32)w2c_i0 > (s32)w2c_i1);
-  if (w2c_i0) {goto w2c_B108;}
-  w2c_j0 = 18446744073709551614ull;
-  w2c_p5 = w2c_j0;
-  w2c_j0 = w2c_p6;
-  w2c_j1 = 18446744073709551614ull;
-  w2c_j0 += w2c_j1;
-  w2c_i0 = (u32)(w2c_j0);
-  w2c_i0 = i32_load8_u(m, (u64)(w2c_i0));
-  w2c_i1 = 191u;
-  w2c_i0 = w2c_i0 > w2c_i1;
-  if (w2c_i0) {goto w2c_B109;}
-  w2c_j0 = 18446744073709551613ull;
-  w2c_j1 = 18446744073709551612ull;
-  w2c_j2 = w2c_p6;
-  w2c_j3 = 18446744073709551613ull;
-  w2c_j2 += w2c_j3;
-  w2c_i2 = (u32)(w2c_j2);
-  w2c_i2 = i32_load8_u(m, (u64)(w2c_i2));
-  w2c_i3 = 191u;
-  w2c_i2 = w2c_i2 > w2c_i3;
-  w2c_j0 = w2c_i2 ? w2c_j0 : w2c_j1;
-  w2c_p5 = w2c_j0;
-  w2c_B109:;
-  w2c_j0 = w2c_p2;
-  w2c_j1 = w2c_p5;
-  w2c_j0 += w2c_j1;
-  w2c_j1 = w2c_p3;
-  w2c_j0 += w2c_j1;
-  w2c_p5 = w2c_j0;
-  w2c_i0 = (u32)(w2c_j0);
-  w2c_i0 = i32_load8_s(m, (u64)(w2c_i0));
-  w2c_l12 = w2c_i0;
-  w2c_i1 = 255u;
-  w2c_i0 &= w2c_i1;
-  w2c_p4 = w2c_i0;
-  w2c_i0 = w2c_l12;
-  w2c_i1 = 4294967295u;
-  w2c_i0 = (u32)((s32)w2c_i0 > (s32)w2c_i1);
-  if (w2c_i0) {goto w2c_B110;}
-  w2c_j0 = w2c_p5;
-  w2c_i0 = (u32)(w2c_j0);
-  w2c_i0 = i32_load8_u(m, (u64)(w2c_i0) + 1u);
-  w2c_i1 = 63u;
-  w2c_i0 &= w2c_i1;
-  w2c_l13 = w2c_i0;
-  w2c_i0 = w2c_l12;
-  w2c_i1 = 4294967263u;
-  w2c_i0 = w2c_i0 > w2c_i1;
-  if (w2c_i0) {goto w2c_B111;}
-  w2c_i0 = w2c_p4;
-  w2c_i1 = 6u;
-  w2c_i0 <<= (w2c_i1 & 31);
-  w2c_i1 = 1984u;
-  w2c_i0 &= w2c_i1;
-  w2c_i1 = w2c_l13;
-  w2c_i0 |= w2c_i1;
-  w2c_p4 = w2c_i0;
-  goto w2c_B110;
-  w2c_B111:;
-  w2c_j0 = w2c_p5;
-  w2c_i0 = (u32)(w2c_j0);
-  w2c_i0 = i32_load8_u(m, (u64)(w2c_i0) + 2u);
-  w2c_i1 = 63u;
-  w2c_i0 &= w2c_i1;
-  w2c_l14 = w2c_i0;
-  w2c_i0 = w2c_l12;
-  w2c_i1 = 4294967279u;
-  w2c_i0 = w2c_i0 > w2c_i1;
-  if (w2c_i0) {goto w2c_B112;}
-  w2c_i0 = w2c_l13;
-  w2c_i1 = 6u;
-  w2c_i0 <<= (w2c_i1 & 31);
-  w2c_i1 = w2c_p4;
-  w2c_i2 = 12u;
-  w2c_i1 <<= (w2c_i2 & 31);
-  w2c_i2 = 61440u;
-  w2c_i1 &= w2c_i2;
-  w2c_i0 |= w2c_i1;
-  w2c_i1 = w2c_l14;
-  w2c_i0 |= w2c_i1;
-  w2c_p4 = w2c_i0;
-  goto w2c_B110;
-  w2c_B112:;
-  w2c_i0 = w2c_l14;
-  w2c_i1 = 6u;
-  w2c_i0 <<= (w2c_i1 & 31);
-  w2c_i1 = w2c_l13;
-  w2c_i2 = 12u;
-  w2c_i1 <<= (w2c_i2 & 31);
-  w2c_i2 = w2c_p4;
-  w2c_i3 = 18u;
-  w2c_i2 <<= (w2c_i3 & 31);
-  w2c_i3 = 1835008u;
-  w2c_i2 &= w2c_i3;
-  w2c_i1 |= w2c_i2;
-  w2c_i0 |= w2c_i1;
-  w2c_j1 = w2c_p5;
-  w2c_i1 = (u32)(w2c_j1);
-  w2c_i1 = i32_load8_u(m, (u64)(w2c_i1) + 3u);
-  w2c_i2 = 63u;
-  w2c_i1 &= w2c_i2;
-  w2c_i0 |= w2c_i1;
-  w2c_p4 = w2c_i0;
-  w2c_B110:;
-  w2c_i0 = w2c_p0;
-  w2c_i1 = w2c_p1;
-  w2c_i2 = w2c_p4;
-  w2c_i0 = w2c_f28(m, w2c_i0, w2c_i1, w2c_i2);
-  w2c_i0 = !(w2c_i0);
-  if (w2c_i0) {goto w2c_B107;}
-  w2c_i0 = 1u;
-  w2c_l11 = w2c_i0;
-  goto w2c_B0;
-  w2c_B108:;
-  w2c_i0 = w2c_p0;
-  w2c_i1 = w2c_p1;
-  w2c_i2 = w2c_p4;
-  w2c_i0 = w2c_f28(m, w2c_i0, w2c_i1, w2c_i2);
-  w2c_i0 = !(w2c_i0);
   if (w2c_i0) {goto w2c_B113;}
-  w2c_i0 = 1u;
-  w2c_l11 = w2c_i0;
-  goto w2c_B0;
-  w2c_B113:;
-  w2c_j0 = w2c_p3;
-  w2c_j1 = 18446744073709551615ull;
-  w2c_j0 += w2c_j1;
-  w2c_p3 = w2c_j0;
-  goto w2c_B106;
-  w2c_B107:;
   w2c_j0 = 18446744073709551614ull;
   w2c_p5 = w2c_j0;
   w2c_j0 = w2c_p6;
@@ -16790,6 +18134,135 @@ static u32 w2c_f27(module *m, u32 w2c_p0, u32 w2c_p1, u64 w2c_p2, u64 w2c_p3, u3
   w2c_B114:;
   w2c_j0 = w2c_p2;
   w2c_j1 = w2c_p5;
+  w2c_j0 += w2c_j1;
+  w2c_j1 = w2c_p3;
+  w2c_j0 += w2c_j1;
+  w2c_p5 = w2c_j0;
+  w2c_i0 = (u32)(w2c_j0);
+  w2c_i0 = i32_load8_s(m, (u64)(w2c_i0));
+  w2c_l12 = w2c_i0;
+  w2c_i1 = 255u;
+  w2c_i0 &= w2c_i1;
+  w2c_p4 = w2c_i0;
+  w2c_i0 = w2c_l12;
+  w2c_i1 = 4294967295u;
+  w2c_i0 = (u32)((s32)w2c_i0 > (s32)w2c_i1);
+  if (w2c_i0) {goto w2c_B115;}
+  w2c_j0 = w2c_p5;
+  w2c_i0 = (u32)(w2c_j0);
+  w2c_i0 = i32_load8_u(m, (u64)(w2c_i0) + 1u);
+  w2c_i1 = 63u;
+  w2c_i0 &= w2c_i1;
+  w2c_l13 = w2c_i0;
+  w2c_i0 = w2c_l12;
+  w2c_i1 = 4294967263u;
+  w2c_i0 = w2c_i0 > w2c_i1;
+  if (w2c_i0) {goto w2c_B116;}
+  w2c_i0 = w2c_p4;
+  w2c_i1 = 6u;
+  w2c_i0 <<= (w2c_i1 & 31);
+  w2c_i1 = 1984u;
+  w2c_i0 &= w2c_i1;
+  w2c_i1 = w2c_l13;
+  w2c_i0 |= w2c_i1;
+  w2c_p4 = w2c_i0;
+  goto w2c_B115;
+  w2c_B116:;
+  w2c_j0 = w2c_p5;
+  w2c_i0 = (u32)(w2c_j0);
+  w2c_i0 = i32_load8_u(m, (u64)(w2c_i0) + 2u);
+  w2c_i1 = 63u;
+  w2c_i0 &= w2c_i1;
+  w2c_l14 = w2c_i0;
+  w2c_i0 = w2c_l12;
+  w2c_i1 = 4294967279u;
+  w2c_i0 = w2c_i0 > w2c_i1;
+  if (w2c_i0) {goto w2c_B117;}
+  w2c_i0 = w2c_l13;
+  w2c_i1 = 6u;
+  w2c_i0 <<= (w2c_i1 & 31);
+  w2c_i1 = w2c_p4;
+  w2c_i2 = 12u;
+  w2c_i1 <<= (w2c_i2 & 31);
+  w2c_i2 = 61440u;
+  w2c_i1 &= w2c_i2;
+  w2c_i0 |= w2c_i1;
+  w2c_i1 = w2c_l14;
+  w2c_i0 |= w2c_i1;
+  w2c_p4 = w2c_i0;
+  goto w2c_B115;
+  w2c_B117:;
+  w2c_i0 = w2c_l14;
+  w2c_i1 = 6u;
+  w2c_i0 <<= (w2c_i1 & 31);
+  w2c_i1 = w2c_l13;
+  w2c_i2 = 12u;
+  w2c_i1 <<= (w2c_i2 & 31);
+  w2c_i2 = w2c_p4;
+  w2c_i3 = 18u;
+  w2c_i2 <<= (w2c_i3 & 31);
+  w2c_i3 = 1835008u;
+  w2c_i2 &= w2c_i3;
+  w2c_i1 |= w2c_i2;
+  w2c_i0 |= w2c_i1;
+  w2c_j1 = w2c_p5;
+  w2c_i1 = (u32)(w2c_j1);
+  w2c_i1 = i32_load8_u(m, (u64)(w2c_i1) + 3u);
+  w2c_i2 = 63u;
+  w2c_i1 &= w2c_i2;
+  w2c_i0 |= w2c_i1;
+  w2c_p4 = w2c_i0;
+  w2c_B115:;
+  w2c_i0 = w2c_p0;
+  w2c_i1 = w2c_p1;
+  w2c_i2 = w2c_p4;
+  w2c_i0 = w2c_f29(m, w2c_i0, w2c_i1, w2c_i2);
+  w2c_i0 = !(w2c_i0);
+  if (w2c_i0) {goto w2c_B112;}
+  w2c_i0 = 1u;
+  w2c_l11 = w2c_i0;
+  goto w2c_B0;
+  w2c_B113:;
+  w2c_i0 = w2c_p0;
+  w2c_i1 = w2c_p1;
+  w2c_i2 = w2c_p4;
+  w2c_i0 = w2c_f29(m, w2c_i0, w2c_i1, w2c_i2);
+  w2c_i0 = !(w2c_i0);
+  if (w2c_i0) {goto w2c_B118;}
+  w2c_i0 = 1u;
+  w2c_l11 = w2c_i0;
+  goto w2c_B0;
+  w2c_B118:;
+  w2c_j0 = w2c_p3;
+  w2c_j1 = 18446744073709551615ull;
+  w2c_j0 += w2c_j1;
+  w2c_p3 = w2c_j0;
+  goto w2c_B111;
+  w2c_B112:;
+  w2c_j0 = 18446744073709551614ull;
+  w2c_p5 = w2c_j0;
+  w2c_j0 = w2c_p6;
+  w2c_j1 = 18446744073709551614ull;
+  w2c_j0 += w2c_j1;
+  w2c_i0 = (u32)(w2c_j0);
+  w2c_i0 = i32_load8_u(m, (u64)(w2c_i0));
+  w2c_i1 = 191u;
+  w2c_i0 = w2c_i0 > w2c_i1;
+  if (w2c_i0) {goto w2c_B119;}
+  w2c_j0 = 18446744073709551613ull;
+  w2c_j1 = 18446744073709551612ull;
+  w2c_j2 = w2c_p6;
+  w2c_j3 = 18446744073709551613ull;
+  w2c_j2 += w2c_j3;
+  w2c_i2 = (u32)(w2c_j2);
+  w2c_i2 = i32_load8_u(m, (u64)(w2c_i2));
+  w2c_i3 = 191u;
+  w2c_i2 = w2c_i2 > w2c_i3;
+  w2c_j0 = w2c_i2 ? w2c_j0 : w2c_j1;
+  w2c_p5 = w2c_j0;
+  w2c_B119:;
+  w2c_j0 = w2c_p2;
+  w2c_j1 = w2c_p5;
   w2c_j2 = w2c_p3;
   w2c_j1 += w2c_j2;
   w2c_p3 = w2c_j1;
@@ -16804,7 +18277,7 @@ static u32 w2c_f27(module *m, u32 w2c_p0, u32 w2c_p1, u64 w2c_p2, u64 w2c_p3, u3
   w2c_i0 = w2c_p0;
   w2c_i1 = 4294967295u;
   w2c_i0 = (u32)((s32)w2c_i0 > (s32)w2c_i1);
-  if (w2c_i0) {goto w2c_B106;}
+  if (w2c_i0) {goto w2c_B111;}
   w2c_j0 = w2c_p6;
   w2c_i0 = (u32)(w2c_j0);
   w2c_i0 = i32_load8_u(m, (u64)(w2c_i0) + 1u);
@@ -16814,7 +18287,7 @@ static u32 w2c_f27(module *m, u32 w2c_p0, u32 w2c_p1, u64 w2c_p2, u64 w2c_p3, u3
   w2c_i0 = w2c_p0;
   w2c_i1 = 4294967263u;
   w2c_i0 = w2c_i0 > w2c_i1;
-  if (w2c_i0) {goto w2c_B115;}
+  if (w2c_i0) {goto w2c_B120;}
   w2c_i0 = w2c_p4;
   w2c_i1 = 6u;
   w2c_i0 <<= (w2c_i1 & 31);
@@ -16823,8 +18296,8 @@ static u32 w2c_f27(module *m, u32 w2c_p0, u32 w2c_p1, u64 w2c_p2, u64 w2c_p3, u3
   w2c_i1 = w2c_p1;
   w2c_i0 |= w2c_i1;
   w2c_p4 = w2c_i0;
-  goto w2c_B106;
-  w2c_B115:;
+  goto w2c_B111;
+  w2c_B120:;
   w2c_j0 = w2c_p6;
   w2c_i0 = (u32)(w2c_j0);
   w2c_i0 = i32_load8_u(m, (u64)(w2c_i0) + 2u);
@@ -16834,7 +18307,7 @@ static u32 w2c_f27(module *m, u32 w2c_p0, u32 w2c_p1, u64 w2c_p2, u64 w2c_p3, u3
   w2c_i0 = w2c_p0;
   w2c_i1 = 4294967279u;
   w2c_i0 = w2c_i0 > w2c_i1;
-  if (w2c_i0) {goto w2c_B116;}
+  if (w2c_i0) {goto w2c_B121;}
   w2c_i0 = w2c_p1;
   w2c_i1 = 6u;
   w2c_i0 <<= (w2c_i1 & 31);
@@ -16847,8 +18320,8 @@ static u32 w2c_f27(module *m, u32 w2c_p0, u32 w2c_p1, u64 w2c_p2, u64 w2c_p3, u3
   w2c_i1 = w2c_l12;
   w2c_i0 |= w2c_i1;
   w2c_p4 = w2c_i0;
-  goto w2c_B106;
-  w2c_B116:;
+  goto w2c_B111;
+  w2c_B121:;
   w2c_i0 = w2c_l12;
   w2c_i1 = 6u;
   w2c_i0 <<= (w2c_i1 & 31);
@@ -16869,7 +18342,7 @@ static u32 w2c_f27(module *m, u32 w2c_p0, u32 w2c_p1, u64 w2c_p2, u64 w2c_p3, u3
   w2c_i1 &= w2c_i2;
   w2c_i0 |= w2c_i1;
   w2c_p4 = w2c_i0;
-  w2c_B106:;
+  w2c_B111:;
   w2c_i0 = w2c_p4;
   w2c_i1 = 32u;
   w2c_i0 = w2c_i0 != w2c_i1;
@@ -16888,7 +18361,7 @@ static u32 w2c_f27(module *m, u32 w2c_p0, u32 w2c_p1, u64 w2c_p2, u64 w2c_p3, u3
   w2c_p4 = w2c_i0;
   w2c_i1 = 0u;
   w2c_i0 = (u32)((s32)w2c_i0 >= (s32)w2c_i1);
-  if (w2c_i0) {goto w2c_B117;}
+  if (w2c_i0) {goto w2c_B122;}
   w2c_j0 = 18446744073709551614ull;
   w2c_p5 = w2c_j0;
   w2c_j0 = w2c_p6;
@@ -16898,7 +18371,7 @@ static u32 w2c_f27(module *m, u32 w2c_p0, u32 w2c_p1, u64 w2c_p2, u64 w2c_p3, u3
   w2c_i0 = i32_load8_u(m, (u64)(w2c_i0));
   w2c_i1 = 191u;
   w2c_i0 = w2c_i0 > w2c_i1;
-  if (w2c_i0) {goto w2c_B118;}
+  if (w2c_i0) {goto w2c_B123;}
   w2c_j0 = 18446744073709551613ull;
   w2c_j1 = 18446744073709551612ull;
   w2c_j2 = w2c_p6;
@@ -16910,7 +18383,7 @@ static u32 w2c_f27(module *m, u32 w2c_p0, u32 w2c_p1, u64 w2c_p2, u64 w2c_p3, u3
   w2c_i2 = w2c_i2 > w2c_i3;
   w2c_j0 = w2c_i2 ? w2c_j0 : w2c_j1;
   w2c_p5 = w2c_j0;
-  w2c_B118:;
+  w2c_B123:;
   w2c_j0 = w2c_p2;
   w2c_j1 = w2c_p5;
   w2c_j0 += w2c_j1;
@@ -16926,7 +18399,7 @@ static u32 w2c_f27(module *m, u32 w2c_p0, u32 w2c_p1, u64 w2c_p2, u64 w2c_p3, u3
   w2c_i0 = w2c_l11;
   w2c_i1 = 4294967295u;
   w2c_i0 = (u32)((s32)w2c_i0 > (s32)w2c_i1);
-  if (w2c_i0) {goto w2c_B117;}
+  if (w2c_i0) {goto w2c_B122;}
   w2c_j0 = w2c_p3;
   w2c_i0 = (u32)(w2c_j0);
   w2c_i0 = i32_load8_u(m, (u64)(w2c_i0) + 1u);
@@ -16936,7 +18409,7 @@ static u32 w2c_f27(module *m, u32 w2c_p0, u32 w2c_p1, u64 w2c_p2, u64 w2c_p3, u3
   w2c_i0 = w2c_l11;
   w2c_i1 = 4294967263u;
   w2c_i0 = w2c_i0 > w2c_i1;
-  if (w2c_i0) {goto w2c_B119;}
+  if (w2c_i0) {goto w2c_B124;}
   w2c_i0 = w2c_p4;
   w2c_i1 = 6u;
   w2c_i0 <<= (w2c_i1 & 31);
@@ -16945,8 +18418,8 @@ static u32 w2c_f27(module *m, u32 w2c_p0, u32 w2c_p1, u64 w2c_p2, u64 w2c_p3, u3
   w2c_i1 = w2c_p0;
   w2c_i0 |= w2c_i1;
   w2c_p4 = w2c_i0;
-  goto w2c_B117;
-  w2c_B119:;
+  goto w2c_B122;
+  w2c_B124:;
   w2c_j0 = w2c_p3;
   w2c_i0 = (u32)(w2c_j0);
   w2c_i0 = i32_load8_u(m, (u64)(w2c_i0) + 2u);
@@ -16956,7 +18429,7 @@ static u32 w2c_f27(module *m, u32 w2c_p0, u32 w2c_p1, u64 w2c_p2, u64 w2c_p3, u3
   w2c_i0 = w2c_l11;
   w2c_i1 = 4294967279u;
   w2c_i0 = w2c_i0 > w2c_i1;
-  if (w2c_i0) {goto w2c_B120;}
+  if (w2c_i0) {goto w2c_B125;}
   w2c_i0 = w2c_p0;
   w2c_i1 = 6u;
   w2c_i0 <<= (w2c_i1 & 31);
@@ -16969,8 +18442,8 @@ static u32 w2c_f27(module *m, u32 w2c_p0, u32 w2c_p1, u64 w2c_p2, u64 w2c_p3, u3
   w2c_i1 = w2c_p1;
   w2c_i0 |= w2c_i1;
   w2c_p4 = w2c_i0;
-  goto w2c_B117;
-  w2c_B120:;
+  goto w2c_B122;
+  w2c_B125:;
   w2c_i0 = w2c_p1;
   w2c_i1 = 6u;
   w2c_i0 <<= (w2c_i1 & 31);
@@ -16991,7 +18464,7 @@ static u32 w2c_f27(module *m, u32 w2c_p0, u32 w2c_p1, u64 w2c_p2, u64 w2c_p3, u3
   w2c_i1 &= w2c_i2;
   w2c_i0 |= w2c_i1;
   w2c_p4 = w2c_i0;
-  w2c_B117:;
+  w2c_B122:;
   w2c_i0 = w2c_p4;
   w2c_i1 = 4294967248u;
   w2c_i0 += w2c_i1;
@@ -17019,7 +18492,7 @@ static u32 w2c_f27(module *m, u32 w2c_p0, u32 w2c_p1, u64 w2c_p2, u64 w2c_p3, u3
   w2c_i0 = w2c_l12;
   w2c_i1 = 4294967295u;
   w2c_i0 = (u32)((s32)w2c_i0 > (s32)w2c_i1);
-  if (w2c_i0) {goto w2c_B121;}
+  if (w2c_i0) {goto w2c_B126;}
   w2c_j0 = w2c_p5;
   w2c_i0 = (u32)(w2c_j0);
   w2c_i0 = i32_load8_u(m, (u64)(w2c_i0) + 1u);
@@ -17029,7 +18502,7 @@ static u32 w2c_f27(module *m, u32 w2c_p0, u32 w2c_p1, u64 w2c_p2, u64 w2c_p3, u3
   w2c_i0 = w2c_l12;
   w2c_i1 = 4294967263u;
   w2c_i0 = w2c_i0 > w2c_i1;
-  if (w2c_i0) {goto w2c_B122;}
+  if (w2c_i0) {goto w2c_B127;}
   w2c_i0 = w2c_p4;
   w2c_i1 = 6u;
   w2c_i0 <<= (w2c_i1 & 31);
@@ -17038,8 +18511,8 @@ static u32 w2c_f27(module *m, u32 w2c_p0, u32 w2c_p1, u64 w2c_p2, u64 w2c_p3, u3
   w2c_i1 = w2c_l13;
   w2c_i0 |= w2c_i1;
   w2c_p4 = w2c_i0;
-  goto w2c_B121;
-  w2c_B122:;
+  goto w2c_B126;
+  w2c_B127:;
   w2c_j0 = w2c_p5;
   w2c_i0 = (u32)(w2c_j0);
   w2c_i0 = i32_load8_u(m, (u64)(w2c_i0) + 2u);
@@ -17049,7 +18522,7 @@ static u32 w2c_f27(module *m, u32 w2c_p0, u32 w2c_p1, u64 w2c_p2, u64 w2c_p3, u3
   w2c_i0 = w2c_l12;
   w2c_i1 = 4294967279u;
   w2c_i0 = w2c_i0 > w2c_i1;
-  if (w2c_i0) {goto w2c_B123;}
+  if (w2c_i0) {goto w2c_B128;}
   w2c_i0 = w2c_l13;
   w2c_i1 = 6u;
   w2c_i0 <<= (w2c_i1 & 31);
@@ -17062,8 +18535,8 @@ static u32 w2c_f27(module *m, u32 w2c_p0, u32 w2c_p1, u64 w2c_p2, u64 w2c_p3, u3
   w2c_i1 = w2c_l14;
   w2c_i0 |= w2c_i1;
   w2c_p4 = w2c_i0;
-  goto w2c_B121;
-  w2c_B123:;
+  goto w2c_B126;
+  w2c_B128:;
   w2c_i0 = w2c_l14;
   w2c_i1 = 6u;
   w2c_i0 <<= (w2c_i1 & 31);
@@ -17084,28 +18557,28 @@ static u32 w2c_f27(module *m, u32 w2c_p0, u32 w2c_p1, u64 w2c_p2, u64 w2c_p3, u3
   w2c_i1 &= w2c_i2;
   w2c_i0 |= w2c_i1;
   w2c_p4 = w2c_i0;
-  w2c_B121:;
+  w2c_B126:;
   w2c_i0 = w2c_p4;
   w2c_i1 = 4294967248u;
   w2c_i0 += w2c_i1;
   w2c_i1 = 10u;
   w2c_i0 = w2c_i0 < w2c_i1;
-  if (w2c_i0) {goto w2c_B124;}
+  if (w2c_i0) {goto w2c_B129;}
   w2c_i0 = w2c_p4;
   w2c_i1 = 4294902000u;
   w2c_i0 += w2c_i1;
   w2c_i1 = 9u;
   w2c_i0 = w2c_i0 > w2c_i1;
   if (w2c_i0) {goto w2c_B0;}
-  w2c_B124:;
+  w2c_B129:;
   w2c_j0 = w2c_p3;
   w2c_i0 = !(w2c_j0);
   w2c_i0 = !(w2c_i0);
-  if (w2c_i0) {goto w2c_B125;}
+  if (w2c_i0) {goto w2c_B130;}
   w2c_i0 = 1u;
   w2c_l11 = w2c_i0;
   goto w2c_B0;
-  w2c_B125:;
+  w2c_B130:;
   w2c_j0 = w2c_p2;
   w2c_j1 = w2c_p3;
   w2c_j0 += w2c_j1;
@@ -17127,7 +18600,7 @@ static u32 w2c_f27(module *m, u32 w2c_p0, u32 w2c_p1, u64 w2c_p2, u64 w2c_p3, u3
   w2c_i0 = i32_load8_u(m, (u64)(w2c_i0));
   w2c_i1 = 191u;
   w2c_i0 = w2c_i0 > w2c_i1;
-  if (w2c_i0) {goto w2c_B126;}
+  if (w2c_i0) {goto w2c_B131;}
   w2c_j0 = 18446744073709551613ull;
   w2c_j1 = 18446744073709551612ull;
   w2c_j2 = w2c_p6;
@@ -17139,7 +18612,7 @@ static u32 w2c_f27(module *m, u32 w2c_p0, u32 w2c_p1, u64 w2c_p2, u64 w2c_p3, u3
   w2c_i2 = w2c_i2 > w2c_i3;
   w2c_j0 = w2c_i2 ? w2c_j0 : w2c_j1;
   w2c_p5 = w2c_j0;
-  w2c_B126:;
+  w2c_B131:;
   w2c_j0 = w2c_p2;
   w2c_j1 = w2c_p5;
   w2c_j0 += w2c_j1;
@@ -17155,7 +18628,7 @@ static u32 w2c_f27(module *m, u32 w2c_p0, u32 w2c_p1, u64 w2c_p2, u64 w2c_p3, u3
   w2c_i0 = w2c_l12;
   w2c_i1 = 4294967295u;
   w2c_i0 = (u32)((s32)w2c_i0 > (s32)w2c_i1);
-  if (w2c_i0) {goto w2c_B127;}
+  if (w2c_i0) {goto w2c_B132;}
   w2c_j0 = w2c_p5;
   w2c_i0 = (u32)(w2c_j0);
   w2c_i0 = i32_load8_u(m, (u64)(w2c_i0) + 1u);
@@ -17165,7 +18638,7 @@ static u32 w2c_f27(module *m, u32 w2c_p0, u32 w2c_p1, u64 w2c_p2, u64 w2c_p3, u3
   w2c_i0 = w2c_l12;
   w2c_i1 = 4294967263u;
   w2c_i0 = w2c_i0 > w2c_i1;
-  if (w2c_i0) {goto w2c_B128;}
+  if (w2c_i0) {goto w2c_B133;}
   w2c_i0 = w2c_p4;
   w2c_i1 = 6u;
   w2c_i0 <<= (w2c_i1 & 31);
@@ -17174,8 +18647,8 @@ static u32 w2c_f27(module *m, u32 w2c_p0, u32 w2c_p1, u64 w2c_p2, u64 w2c_p3, u3
   w2c_i1 = w2c_l13;
   w2c_i0 |= w2c_i1;
   w2c_p4 = w2c_i0;
-  goto w2c_B127;
-  w2c_B128:;
+  goto w2c_B132;
+  w2c_B133:;
   w2c_j0 = w2c_p5;
   w2c_i0 = (u32)(w2c_j0);
   w2c_i0 = i32_load8_u(m, (u64)(w2c_i0) + 2u);
@@ -17185,7 +18658,7 @@ static u32 w2c_f27(module *m, u32 w2c_p0, u32 w2c_p1, u64 w2c_p2, u64 w2c_p3, u3
   w2c_i0 = w2c_l12;
   w2c_i1 = 4294967279u;
   w2c_i0 = w2c_i0 > w2c_i1;
-  if (w2c_i0) {goto w2c_B129;}
+  if (w2c_i0) {goto w2c_B134;}
   w2c_i0 = w2c_l13;
   w2c_i1 = 6u;
   w2c_i0 <<= (w2c_i1 & 31);
@@ -17198,8 +18671,8 @@ static u32 w2c_f27(module *m, u32 w2c_p0, u32 w2c_p1, u64 w2c_p2, u64 w2c_p3, u3
   w2c_i1 = w2c_l14;
   w2c_i0 |= w2c_i1;
   w2c_p4 = w2c_i0;
-  goto w2c_B127;
-  w2c_B129:;
+  goto w2c_B132;
+  w2c_B134:;
   w2c_i0 = w2c_l14;
   w2c_i1 = 6u;
   w2c_i0 <<= (w2c_i1 & 31);
@@ -17220,11 +18693,11 @@ static u32 w2c_f27(module *m, u32 w2c_p0, u32 w2c_p1, u64 w2c_p2, u64 w2c_p3, u3
   w2c_i1 &= w2c_i2;
   w2c_i0 |= w2c_i1;
   w2c_p4 = w2c_i0;
-  w2c_B127:;
+  w2c_B132:;
   w2c_i0 = w2c_p0;
   w2c_i1 = w2c_p1;
   w2c_i2 = w2c_p4;
-  w2c_i0 = w2c_f28(m, w2c_i0, w2c_i1, w2c_i2);
+  w2c_i0 = w2c_f29(m, w2c_i0, w2c_i1, w2c_i2);
   if (w2c_i0) {goto w2c_B0;}
   w2c_j0 = 18446744073709551614ull;
   w2c_p5 = w2c_j0;
@@ -17235,7 +18708,7 @@ static u32 w2c_f27(module *m, u32 w2c_p0, u32 w2c_p1, u64 w2c_p2, u64 w2c_p3, u3
   w2c_i0 = i32_load8_u(m, (u64)(w2c_i0));
   w2c_i1 = 191u;
   w2c_i0 = w2c_i0 > w2c_i1;
-  if (w2c_i0) {goto w2c_B130;}
+  if (w2c_i0) {goto w2c_B135;}
   w2c_j0 = 18446744073709551613ull;
   w2c_j1 = 18446744073709551612ull;
   w2c_j2 = w2c_p6;
@@ -17247,7 +18720,7 @@ static u32 w2c_f27(module *m, u32 w2c_p0, u32 w2c_p1, u64 w2c_p2, u64 w2c_p3, u3
   w2c_i2 = w2c_i2 > w2c_i3;
   w2c_j0 = w2c_i2 ? w2c_j0 : w2c_j1;
   w2c_p5 = w2c_j0;
-  w2c_B130:;
+  w2c_B135:;
   w2c_j0 = w2c_p2;
   w2c_j1 = w2c_p5;
   w2c_j0 += w2c_j1;
@@ -17273,7 +18746,7 @@ static u32 w2c_f27(module *m, u32 w2c_p0, u32 w2c_p1, u64 w2c_p2, u64 w2c_p3, u3
   w2c_i0 = w2c_p0;
   w2c_i1 = 4294967263u;
   w2c_i0 = w2c_i0 > w2c_i1;
-  if (w2c_i0) {goto w2c_B131;}
+  if (w2c_i0) {goto w2c_B136;}
   w2c_i0 = w2c_p4;
   w2c_i1 = 6u;
   w2c_i0 <<= (w2c_i1 & 31);
@@ -17283,7 +18756,7 @@ static u32 w2c_f27(module *m, u32 w2c_p0, u32 w2c_p1, u64 w2c_p2, u64 w2c_p3, u3
   w2c_i0 |= w2c_i1;
   w2c_p4 = w2c_i0;
   goto w2c_B8;
-  w2c_B131:;
+  w2c_B136:;
   w2c_j0 = w2c_p3;
   w2c_i0 = (u32)(w2c_j0);
   w2c_i0 = i32_load8_u(m, (u64)(w2c_i0) + 2u);
@@ -17293,7 +18766,7 @@ static u32 w2c_f27(module *m, u32 w2c_p0, u32 w2c_p1, u64 w2c_p2, u64 w2c_p3, u3
   w2c_i0 = w2c_p0;
   w2c_i1 = 4294967279u;
   w2c_i0 = w2c_i0 > w2c_i1;
-  if (w2c_i0) {goto w2c_B132;}
+  if (w2c_i0) {goto w2c_B137;}
   w2c_i0 = w2c_p1;
   w2c_i1 = 6u;
   w2c_i0 <<= (w2c_i1 & 31);
@@ -17307,7 +18780,7 @@ static u32 w2c_f27(module *m, u32 w2c_p0, u32 w2c_p1, u64 w2c_p2, u64 w2c_p3, u3
   w2c_i0 |= w2c_i1;
   w2c_p4 = w2c_i0;
   goto w2c_B8;
-  w2c_B132:;
+  w2c_B137:;
   w2c_i0 = w2c_l12;
   w2c_i1 = 6u;
   w2c_i0 <<= (w2c_i1 & 31);
@@ -17345,7 +18818,7 @@ static u32 w2c_f27(module *m, u32 w2c_p0, u32 w2c_p1, u64 w2c_p2, u64 w2c_p3, u3
   w2c_i0 = w2c_p0;
   w2c_i1 = w2c_p1;
   w2c_i2 = w2c_p4;
-  w2c_i0 = w2c_f28(m, w2c_i0, w2c_i1, w2c_i2);
+  w2c_i0 = w2c_f29(m, w2c_i0, w2c_i1, w2c_i2);
   if (w2c_i0) {goto w2c_B0;}
   w2c_B8:;
   w2c_i0 = w2c_p4;
@@ -17359,19 +18832,19 @@ static u32 w2c_f27(module *m, u32 w2c_p0, u32 w2c_p1, u64 w2c_p2, u64 w2c_p3, u3
   w2c_i0 = w2c_p4;
   w2c_i1 = 8239u;
   w2c_i0 = (u32)((s32)w2c_i0 > (s32)w2c_i1);
-  if (w2c_i0) {goto w2c_B134;}
+  if (w2c_i0) {goto w2c_B139;}
   w2c_i0 = w2c_p4;
   w2c_i1 = 4294967259u;
   w2c_i0 += w2c_i1;
   switch (w2c_i0) {
     case 0: goto w2c_B2;
-    case 1: goto w2c_B133;
-    case 2: goto w2c_B133;
-    case 3: goto w2c_B133;
+    case 1: goto w2c_B138;
+    case 2: goto w2c_B138;
+    case 3: goto w2c_B138;
     case 4: goto w2c_B2;
-    default: goto w2c_B135;
+    default: goto w2c_B140;
   }
-  w2c_B135:;
+  w2c_B140:;
   w2c_i0 = w2c_p4;
   w2c_i1 = 95u;
   w2c_i0 = w2c_i0 == w2c_i1;
@@ -17379,9 +18852,9 @@ static u32 w2c_f27(module *m, u32 w2c_p0, u32 w2c_p1, u64 w2c_p2, u64 w2c_p3, u3
   w2c_i0 = w2c_p4;
   w2c_i1 = 125u;
   w2c_i0 = w2c_i0 != w2c_i1;
-  if (w2c_i0) {goto w2c_B133;}
+  if (w2c_i0) {goto w2c_B138;}
   goto w2c_B2;
-  w2c_B134:;
+  w2c_B139:;
   w2c_i0 = w2c_p4;
   w2c_i1 = 8240u;
   w2c_i0 = w2c_i0 == w2c_i1;
@@ -17394,15 +18867,15 @@ static u32 w2c_f27(module *m, u32 w2c_p0, u32 w2c_p1, u64 w2c_p2, u64 w2c_p3, u3
   w2c_i1 = 65285u;
   w2c_i0 = w2c_i0 == w2c_i1;
   if (w2c_i0) {goto w2c_B2;}
-  w2c_B133:;
+  w2c_B138:;
   w2c_i0 = w2c_p4;
   w2c_i1 = 45u;
   w2c_i0 = w2c_i0 >= w2c_i1;
-  if (w2c_i0) {goto w2c_B136;}
+  if (w2c_i0) {goto w2c_B141;}
   w2c_i0 = 1u;
   w2c_l11 = w2c_i0;
   goto w2c_B0;
-  w2c_B136:;
+  w2c_B141:;
   w2c_i0 = w2c_p4;
   w2c_i1 = 48u;
   w2c_i0 = w2c_i0 < w2c_i1;
@@ -17410,11 +18883,11 @@ static u32 w2c_f27(module *m, u32 w2c_p0, u32 w2c_p1, u64 w2c_p2, u64 w2c_p3, u3
   w2c_i0 = w2c_p4;
   w2c_i1 = 92u;
   w2c_i0 = w2c_i0 >= w2c_i1;
-  if (w2c_i0) {goto w2c_B137;}
+  if (w2c_i0) {goto w2c_B142;}
   w2c_i0 = 1u;
   w2c_l11 = w2c_i0;
   goto w2c_B0;
-  w2c_B137:;
+  w2c_B142:;
   w2c_i0 = w2c_p4;
   w2c_i1 = 94u;
   w2c_i0 = w2c_i0 < w2c_i1;
@@ -17436,9 +18909,9 @@ static u32 w2c_f27(module *m, u32 w2c_p0, u32 w2c_p1, u64 w2c_p2, u64 w2c_p3, u3
     case 0: goto w2c_B6;
     case 1: goto w2c_B4;
     case 2: goto w2c_B6;
-    default: goto w2c_B138;
+    default: goto w2c_B143;
   }
-  w2c_B138:;
+  w2c_B143:;
   w2c_i0 = w2c_p4;
   w2c_i1 = 65294u;
   w2c_i0 = w2c_i0 != w2c_i1;
@@ -17458,7 +18931,7 @@ static u32 w2c_f27(module *m, u32 w2c_p0, u32 w2c_p1, u64 w2c_p2, u64 w2c_p3, u3
   w2c_p4 = w2c_i0;
   w2c_i1 = 4294967295u;
   w2c_i0 = (u32)((s32)w2c_i0 > (s32)w2c_i1);
-  if (w2c_i0) {goto w2c_B139;}
+  if (w2c_i0) {goto w2c_B144;}
   w2c_j0 = 18446744073709551614ull;
   w2c_l9 = w2c_j0;
   w2c_j0 = w2c_p2;
@@ -17471,7 +18944,7 @@ static u32 w2c_f27(module *m, u32 w2c_p0, u32 w2c_p1, u64 w2c_p2, u64 w2c_p3, u3
   w2c_i0 = i32_load8_u(m, (u64)(w2c_i0));
   w2c_i1 = 191u;
   w2c_i0 = w2c_i0 > w2c_i1;
-  if (w2c_i0) {goto w2c_B140;}
+  if (w2c_i0) {goto w2c_B145;}
   w2c_j0 = 18446744073709551613ull;
   w2c_j1 = 18446744073709551612ull;
   w2c_j2 = w2c_l10;
@@ -17483,7 +18956,7 @@ static u32 w2c_f27(module *m, u32 w2c_p0, u32 w2c_p1, u64 w2c_p2, u64 w2c_p3, u3
   w2c_i2 = w2c_i2 > w2c_i3;
   w2c_j0 = w2c_i2 ? w2c_j0 : w2c_j1;
   w2c_l9 = w2c_j0;
-  w2c_B140:;
+  w2c_B145:;
   w2c_j0 = w2c_p2;
   w2c_j1 = w2c_l9;
   w2c_j2 = w2c_l8;
@@ -17500,7 +18973,7 @@ static u32 w2c_f27(module *m, u32 w2c_p0, u32 w2c_p1, u64 w2c_p2, u64 w2c_p3, u3
   w2c_i0 = w2c_l11;
   w2c_i1 = 4294967295u;
   w2c_i0 = (u32)((s32)w2c_i0 > (s32)w2c_i1);
-  if (w2c_i0) {goto w2c_B139;}
+  if (w2c_i0) {goto w2c_B144;}
   w2c_j0 = w2c_l8;
   w2c_i0 = (u32)(w2c_j0);
   w2c_i0 = i32_load8_u(m, (u64)(w2c_i0) + 1u);
@@ -17510,7 +18983,7 @@ static u32 w2c_f27(module *m, u32 w2c_p0, u32 w2c_p1, u64 w2c_p2, u64 w2c_p3, u3
   w2c_i0 = w2c_l11;
   w2c_i1 = 4294967264u;
   w2c_i0 = w2c_i0 < w2c_i1;
-  if (w2c_i0) {goto w2c_B141;}
+  if (w2c_i0) {goto w2c_B146;}
   w2c_j0 = w2c_l8;
   w2c_i0 = (u32)(w2c_j0);
   w2c_i0 = i32_load8_u(m, (u64)(w2c_i0) + 2u);
@@ -17520,7 +18993,7 @@ static u32 w2c_f27(module *m, u32 w2c_p0, u32 w2c_p1, u64 w2c_p2, u64 w2c_p3, u3
   w2c_i0 = w2c_l11;
   w2c_i1 = 4294967280u;
   w2c_i0 = w2c_i0 < w2c_i1;
-  if (w2c_i0) {goto w2c_B142;}
+  if (w2c_i0) {goto w2c_B147;}
   w2c_i0 = w2c_p1;
   w2c_i1 = 6u;
   w2c_i0 <<= (w2c_i1 & 31);
@@ -17541,8 +19014,8 @@ static u32 w2c_f27(module *m, u32 w2c_p0, u32 w2c_p1, u64 w2c_p2, u64 w2c_p3, u3
   w2c_i1 &= w2c_i2;
   w2c_i0 |= w2c_i1;
   w2c_p4 = w2c_i0;
-  goto w2c_B139;
-  w2c_B142:;
+  goto w2c_B144;
+  w2c_B147:;
   w2c_i0 = w2c_p0;
   w2c_i1 = 6u;
   w2c_i0 <<= (w2c_i1 & 31);
@@ -17555,8 +19028,8 @@ static u32 w2c_f27(module *m, u32 w2c_p0, u32 w2c_p1, u64 w2c_p2, u64 w2c_p3, u3
   w2c_i1 = w2c_p1;
   w2c_i0 |= w2c_i1;
   w2c_p4 = w2c_i0;
-  goto w2c_B139;
-  w2c_B141:;
+  goto w2c_B144;
+  w2c_B146:;
   w2c_i0 = w2c_p4;
   w2c_i1 = 6u;
   w2c_i0 <<= (w2c_i1 & 31);
@@ -17565,28 +19038,28 @@ static u32 w2c_f27(module *m, u32 w2c_p0, u32 w2c_p1, u64 w2c_p2, u64 w2c_p3, u3
   w2c_i1 = w2c_p0;
   w2c_i0 |= w2c_i1;
   w2c_p4 = w2c_i0;
-  w2c_B139:;
+  w2c_B144:;
   w2c_i0 = w2c_p4;
   w2c_i1 = 4294967248u;
   w2c_i0 += w2c_i1;
   w2c_i1 = 10u;
   w2c_i0 = w2c_i0 < w2c_i1;
-  if (w2c_i0) {goto w2c_B143;}
+  if (w2c_i0) {goto w2c_B148;}
   w2c_i0 = w2c_p4;
   w2c_i1 = 4294902000u;
   w2c_i0 += w2c_i1;
   w2c_i1 = 9u;
   w2c_i0 = w2c_i0 > w2c_i1;
   if (w2c_i0) {goto w2c_B5;}
-  w2c_B143:;
+  w2c_B148:;
   w2c_i0 = w2c_p4;
   w2c_i1 = 48u;
   w2c_i0 = w2c_i0 == w2c_i1;
-  if (w2c_i0) {goto w2c_B144;}
+  if (w2c_i0) {goto w2c_B149;}
   w2c_i0 = w2c_p4;
   w2c_i1 = 65296u;
   w2c_i0 = w2c_i0 == w2c_i1;
-  if (w2c_i0) {goto w2c_B144;}
+  if (w2c_i0) {goto w2c_B149;}
   w2c_j0 = w2c_l9;
   w2c_i0 = !(w2c_j0);
   if (w2c_i0) {goto w2c_B4;}
@@ -17601,7 +19074,7 @@ static u32 w2c_f27(module *m, u32 w2c_p0, u32 w2c_p1, u64 w2c_p2, u64 w2c_p3, u3
   w2c_p4 = w2c_i0;
   w2c_i1 = 4294967295u;
   w2c_i0 = (u32)((s32)w2c_i0 > (s32)w2c_i1);
-  if (w2c_i0) {goto w2c_B146;}
+  if (w2c_i0) {goto w2c_B151;}
   w2c_j0 = 18446744073709551614ull;
   w2c_l10 = w2c_j0;
   w2c_j0 = w2c_l8;
@@ -17612,7 +19085,7 @@ static u32 w2c_f27(module *m, u32 w2c_p0, u32 w2c_p1, u64 w2c_p2, u64 w2c_p3, u3
   w2c_p0 = w2c_i0;
   w2c_i1 = 191u;
   w2c_i0 = w2c_i0 > w2c_i1;
-  if (w2c_i0) {goto w2c_B147;}
+  if (w2c_i0) {goto w2c_B152;}
   w2c_j0 = 18446744073709551613ull;
   w2c_j1 = 18446744073709551612ull;
   w2c_j2 = w2c_l8;
@@ -17624,7 +19097,7 @@ static u32 w2c_f27(module *m, u32 w2c_p0, u32 w2c_p1, u64 w2c_p2, u64 w2c_p3, u3
   w2c_i2 = w2c_i2 > w2c_i3;
   w2c_j0 = w2c_i2 ? w2c_j0 : w2c_j1;
   w2c_l10 = w2c_j0;
-  w2c_B147:;
+  w2c_B152:;
   w2c_j0 = w2c_p2;
   w2c_j1 = w2c_l10;
   w2c_j0 += w2c_j1;
@@ -17640,7 +19113,7 @@ static u32 w2c_f27(module *m, u32 w2c_p0, u32 w2c_p1, u64 w2c_p2, u64 w2c_p3, u3
   w2c_i0 = w2c_l11;
   w2c_i1 = 4294967295u;
   w2c_i0 = (u32)((s32)w2c_i0 > (s32)w2c_i1);
-  if (w2c_i0) {goto w2c_B148;}
+  if (w2c_i0) {goto w2c_B153;}
   w2c_j0 = w2c_l10;
   w2c_i0 = (u32)(w2c_j0);
   w2c_i0 = i32_load8_u(m, (u64)(w2c_i0) + 1u);
@@ -17650,7 +19123,7 @@ static u32 w2c_f27(module *m, u32 w2c_p0, u32 w2c_p1, u64 w2c_p2, u64 w2c_p3, u3
   w2c_i0 = w2c_l11;
   w2c_i1 = 4294967264u;
   w2c_i0 = w2c_i0 < w2c_i1;
-  if (w2c_i0) {goto w2c_B149;}
+  if (w2c_i0) {goto w2c_B154;}
   w2c_j0 = w2c_l10;
   w2c_i0 = (u32)(w2c_j0);
   w2c_i0 = i32_load8_u(m, (u64)(w2c_i0) + 2u);
@@ -17660,7 +19133,7 @@ static u32 w2c_f27(module *m, u32 w2c_p0, u32 w2c_p1, u64 w2c_p2, u64 w2c_p3, u3
   w2c_i0 = w2c_l11;
   w2c_i1 = 4294967280u;
   w2c_i0 = w2c_i0 < w2c_i1;
-  if (w2c_i0) {goto w2c_B150;}
+  if (w2c_i0) {goto w2c_B155;}
   w2c_i0 = w2c_l12;
   w2c_i1 = 6u;
   w2c_i0 <<= (w2c_i1 & 31);
@@ -17681,8 +19154,8 @@ static u32 w2c_f27(module *m, u32 w2c_p0, u32 w2c_p1, u64 w2c_p2, u64 w2c_p3, u3
   w2c_i1 &= w2c_i2;
   w2c_i0 |= w2c_i1;
   w2c_p4 = w2c_i0;
-  goto w2c_B148;
-  w2c_B150:;
+  goto w2c_B153;
+  w2c_B155:;
   w2c_i0 = w2c_p1;
   w2c_i1 = 6u;
   w2c_i0 <<= (w2c_i1 & 31);
@@ -17695,8 +19168,8 @@ static u32 w2c_f27(module *m, u32 w2c_p0, u32 w2c_p1, u64 w2c_p2, u64 w2c_p3, u3
   w2c_i1 = w2c_l12;
   w2c_i0 |= w2c_i1;
   w2c_p4 = w2c_i0;
-  goto w2c_B148;
-  w2c_B149:;
+  goto w2c_B153;
+  w2c_B154:;
   w2c_i0 = w2c_p4;
   w2c_i1 = 6u;
   w2c_i0 <<= (w2c_i1 & 31);
@@ -17705,25 +19178,25 @@ static u32 w2c_f27(module *m, u32 w2c_p0, u32 w2c_p1, u64 w2c_p2, u64 w2c_p3, u3
   w2c_i1 = w2c_p1;
   w2c_i0 |= w2c_i1;
   w2c_p4 = w2c_i0;
-  w2c_B148:;
+  w2c_B153:;
   w2c_i0 = w2c_p4;
   w2c_i1 = 4294967238u;
   w2c_i0 += w2c_i1;
   w2c_i1 = 4294967285u;
   w2c_i0 = w2c_i0 > w2c_i1;
-  if (w2c_i0) {goto w2c_B144;}
+  if (w2c_i0) {goto w2c_B149;}
   w2c_i0 = w2c_p4;
   w2c_i1 = 4294901990u;
   w2c_i0 += w2c_i1;
   w2c_i1 = 4294967285u;
   w2c_i0 = w2c_i0 > w2c_i1;
-  if (w2c_i0) {goto w2c_B144;}
+  if (w2c_i0) {goto w2c_B149;}
   w2c_j0 = 18446744073709551614ull;
   w2c_l10 = w2c_j0;
   w2c_i0 = w2c_p0;
   w2c_i1 = 191u;
   w2c_i0 = w2c_i0 > w2c_i1;
-  if (w2c_i0) {goto w2c_B151;}
+  if (w2c_i0) {goto w2c_B156;}
   w2c_j0 = 18446744073709551613ull;
   w2c_j1 = 18446744073709551612ull;
   w2c_j2 = w2c_l8;
@@ -17735,7 +19208,7 @@ static u32 w2c_f27(module *m, u32 w2c_p0, u32 w2c_p1, u64 w2c_p2, u64 w2c_p3, u3
   w2c_i2 = w2c_i2 > w2c_i3;
   w2c_j0 = w2c_i2 ? w2c_j0 : w2c_j1;
   w2c_l10 = w2c_j0;
-  w2c_B151:;
+  w2c_B156:;
   w2c_j0 = w2c_p2;
   w2c_j1 = w2c_l10;
   w2c_j0 += w2c_j1;
@@ -17751,155 +19224,8 @@ static u32 w2c_f27(module *m, u32 w2c_p0, u32 w2c_p1, u64 w2c_p2, u64 w2c_p3, u3
   w2c_i0 = w2c_l11;
   w2c_i1 = 4294967295u;
   w2c_i0 = (u32)((s32)w2c_i0 > (s32)w2c_i1);
-  if (w2c_i0) {goto w2c_B145;}
+  if (w2c_i0) {goto w2c_B150;}
   w2c_j0 = w2c_l8;
-  w2c_i0 = (u32)(w2c_j0);
-  w2c_i0 = i32_load8_u(m, (u64)(w2c_i0) + 1u);
-  w2c_i1 = 63u;
-  w2c_i0 &= w2c_i1;
-  w2c_p0 = w2c_i0;
-  w2c_i0 = w2c_l11;
-  w2c_i1 = 4294967264u;
-  w2c_i0 = w2c_i0 < w2c_i1;
-  if (w2c_i0) {goto w2c_B152;}
-  w2c_j0 = w2c_l8;
-  w2c_i0 = (u32)(w2c_j0);
-  w2c_i0 = i32_load8_u(m, (u64)(w2c_i0) + 2u);
-  w2c_i1 = 63u;
-  w2c_i0 &= w2c_i1;
-  w2c_p1 = w2c_i0;
-  w2c_i0 = w2c_l11;
-  w2c_i1 = 4294967280u;
-  w2c_i0 = w2c_i0 < w2c_i1;
-  if (w2c_i0) {goto w2c_B153;}
-  w2c_i0 = w2c_p1;
-  w2c_i1 = 6u;
-  w2c_i0 <<= (w2c_i1 & 31);
-  w2c_i1 = w2c_p0;
-  w2c_i2 = 12u;
-  w2c_i1 <<= (w2c_i2 & 31);
-  w2c_i2 = w2c_p4;
-  w2c_i3 = 18u;
-  w2c_i2 <<= (w2c_i3 & 31);
-  w2c_i3 = 1835008u;
-  w2c_i2 &= w2c_i3;
-  w2c_i1 |= w2c_i2;
-  w2c_i0 |= w2c_i1;
-  w2c_j1 = w2c_l8;
-  w2c_i1 = (u32)(w2c_j1);
-  w2c_i1 = i32_load8_u(m, (u64)(w2c_i1) + 3u);
-  w2c_i2 = 63u;
-  w2c_i1 &= w2c_i2;
-  w2c_i0 |= w2c_i1;
-  w2c_p4 = w2c_i0;
-  goto w2c_B145;
-  w2c_B153:;
-  w2c_i0 = w2c_p0;
-  w2c_i1 = 6u;
-  w2c_i0 <<= (w2c_i1 & 31);
-  w2c_i1 = w2c_p4;
-  w2c_i2 = 12u;
-  w2c_i1 <<= (w2c_i2 & 31);
-  w2c_i2 = 61440u;
-  w2c_i1 &= w2c_i2;
-  w2c_i0 |= w2c_i1;
-  w2c_i1 = w2c_p1;
-  w2c_i0 |= w2c_i1;
-  w2c_p4 = w2c_i0;
-  goto w2c_B145;
-  w2c_B152:;
-  w2c_i0 = w2c_p4;
-  w2c_i1 = 6u;
-  w2c_i0 <<= (w2c_i1 & 31);
-  w2c_i1 = 1984u;
-  w2c_i0 &= w2c_i1;
-  w2c_i1 = w2c_p0;
-  w2c_i0 |= w2c_i1;
-  w2c_p4 = w2c_i0;
-  goto w2c_B145;
-  w2c_B146:;
-  w2c_i0 = w2c_p4;
-  w2c_i1 = 4294967238u;
-  w2c_i0 += w2c_i1;
-  w2c_i1 = 255u;
-  w2c_i0 &= w2c_i1;
-  w2c_i1 = 245u;
-  w2c_i0 = w2c_i0 > w2c_i1;
-  if (w2c_i0) {goto w2c_B144;}
-  w2c_B145:;
-  w2c_i0 = w2c_p4;
-  w2c_i1 = 4294967252u;
-  w2c_i0 += w2c_i1;
-  switch (w2c_i0) {
-    case 0: goto w2c_B144;
-    case 1: goto w2c_B4;
-    case 2: goto w2c_B144;
-    default: goto w2c_B154;
-  }
-  w2c_B154:;
-  w2c_i0 = w2c_p4;
-  w2c_i1 = 65294u;
-  w2c_i0 = w2c_i0 != w2c_i1;
-  if (w2c_i0) {goto w2c_B4;}
-  w2c_B144:;
-  w2c_j0 = w2c_l9;
-  w2c_i0 = !(w2c_j0);
-  if (w2c_i0) {goto w2c_B5;}
-  w2c_j0 = w2c_p2;
-  w2c_j1 = w2c_l9;
-  w2c_j2 = 18446744073709551615ull;
-  w2c_j1 += w2c_j2;
-  w2c_l8 = w2c_j1;
-  w2c_j0 += w2c_j1;
-  w2c_i0 = (u32)(w2c_j0);
-  w2c_i0 = i32_load8_s(m, (u64)(w2c_i0));
-  w2c_p4 = w2c_i0;
-  w2c_i1 = 4294967295u;
-  w2c_i0 = (u32)((s32)w2c_i0 > (s32)w2c_i1);
-  if (w2c_i0) {goto w2c_B155;}
-  w2c_j0 = 18446744073709551614ull;
-  w2c_l8 = w2c_j0;
-  w2c_j0 = w2c_p2;
-  w2c_j1 = w2c_l9;
-  w2c_j0 += w2c_j1;
-  w2c_l10 = w2c_j0;
-  w2c_j1 = 18446744073709551614ull;
-  w2c_j0 += w2c_j1;
-  w2c_i0 = (u32)(w2c_j0);
-  w2c_i0 = i32_load8_u(m, (u64)(w2c_i0));
-  w2c_i1 = 191u;
-  w2c_i0 = w2c_i0 > w2c_i1;
-  if (w2c_i0) {goto w2c_B156;}
-  w2c_j0 = 18446744073709551613ull;
-  w2c_j1 = 18446744073709551612ull;
-  w2c_j2 = w2c_l10;
-  w2c_j3 = 18446744073709551613ull;
-  w2c_j2 += w2c_j3;
-  w2c_i2 = (u32)(w2c_j2);
-  w2c_i2 = i32_load8_u(m, (u64)(w2c_i2));
-  w2c_i3 = 191u;
-  w2c_i2 = w2c_i2 > w2c_i3;
-  w2c_j0 = w2c_i2 ? w2c_j0 : w2c_j1;
-  w2c_l8 = w2c_j0;
-  w2c_B156:;
-  w2c_j0 = w2c_p2;
-  w2c_j1 = w2c_l8;
-  w2c_j2 = w2c_l9;
-  w2c_j1 += w2c_j2;
-  w2c_l8 = w2c_j1;
-  w2c_j0 += w2c_j1;
-  w2c_l9 = w2c_j0;
-  w2c_i0 = (u32)(w2c_j0);
-  w2c_i0 = i32_load8_s(m, (u64)(w2c_i0));
-  w2c_l11 = w2c_i0;
-  w2c_i1 = 255u;
-  w2c_i0 &= w2c_i1;
-  w2c_p4 = w2c_i0;
-  w2c_i0 = w2c_l11;
-  w2c_i1 = 4294967295u;
-  w2c_i0 = (u32)((s32)w2c_i0 > (s32)w2c_i1);
-  if (w2c_i0) {goto w2c_B155;}
-  w2c_j0 = w2c_l9;
   w2c_i0 = (u32)(w2c_j0);
   w2c_i0 = i32_load8_u(m, (u64)(w2c_i0) + 1u);
   w2c_i1 = 63u;
@@ -17909,7 +19235,7 @@ static u32 w2c_f27(module *m, u32 w2c_p0, u32 w2c_p1, u64 w2c_p2, u64 w2c_p3, u3
   w2c_i1 = 4294967264u;
   w2c_i0 = w2c_i0 < w2c_i1;
   if (w2c_i0) {goto w2c_B157;}
-  w2c_j0 = w2c_l9;
+  w2c_j0 = w2c_l8;
   w2c_i0 = (u32)(w2c_j0);
   w2c_i0 = i32_load8_u(m, (u64)(w2c_i0) + 2u);
   w2c_i1 = 63u;
@@ -17932,14 +19258,14 @@ static u32 w2c_f27(module *m, u32 w2c_p0, u32 w2c_p1, u64 w2c_p2, u64 w2c_p3, u3
   w2c_i2 &= w2c_i3;
   w2c_i1 |= w2c_i2;
   w2c_i0 |= w2c_i1;
-  w2c_j1 = w2c_l9;
+  w2c_j1 = w2c_l8;
   w2c_i1 = (u32)(w2c_j1);
   w2c_i1 = i32_load8_u(m, (u64)(w2c_i1) + 3u);
   w2c_i2 = 63u;
   w2c_i1 &= w2c_i2;
   w2c_i0 |= w2c_i1;
   w2c_p4 = w2c_i0;
-  goto w2c_B155;
+  goto w2c_B150;
   w2c_B158:;
   w2c_i0 = w2c_p0;
   w2c_i1 = 6u;
@@ -17953,7 +19279,7 @@ static u32 w2c_f27(module *m, u32 w2c_p0, u32 w2c_p1, u64 w2c_p2, u64 w2c_p3, u3
   w2c_i1 = w2c_p1;
   w2c_i0 |= w2c_i1;
   w2c_p4 = w2c_i0;
-  goto w2c_B155;
+  goto w2c_B150;
   w2c_B157:;
   w2c_i0 = w2c_p4;
   w2c_i1 = 6u;
@@ -17963,20 +19289,167 @@ static u32 w2c_f27(module *m, u32 w2c_p0, u32 w2c_p1, u64 w2c_p2, u64 w2c_p3, u3
   w2c_i1 = w2c_p0;
   w2c_i0 |= w2c_i1;
   w2c_p4 = w2c_i0;
-  w2c_B155:;
+  goto w2c_B150;
+  w2c_B151:;
+  w2c_i0 = w2c_p4;
+  w2c_i1 = 4294967238u;
+  w2c_i0 += w2c_i1;
+  w2c_i1 = 255u;
+  w2c_i0 &= w2c_i1;
+  w2c_i1 = 245u;
+  w2c_i0 = w2c_i0 > w2c_i1;
+  if (w2c_i0) {goto w2c_B149;}
+  w2c_B150:;
+  w2c_i0 = w2c_p4;
+  w2c_i1 = 4294967252u;
+  w2c_i0 += w2c_i1;
+  switch (w2c_i0) {
+    case 0: goto w2c_B149;
+    case 1: goto w2c_B4;
+    case 2: goto w2c_B149;
+    default: goto w2c_B159;
+  }
+  w2c_B159:;
+  w2c_i0 = w2c_p4;
+  w2c_i1 = 65294u;
+  w2c_i0 = w2c_i0 != w2c_i1;
+  if (w2c_i0) {goto w2c_B4;}
+  w2c_B149:;
+  w2c_j0 = w2c_l9;
+  w2c_i0 = !(w2c_j0);
+  if (w2c_i0) {goto w2c_B5;}
+  w2c_j0 = w2c_p2;
+  w2c_j1 = w2c_l9;
+  w2c_j2 = 18446744073709551615ull;
+  w2c_j1 += w2c_j2;
+  w2c_l8 = w2c_j1;
+  w2c_j0 += w2c_j1;
+  w2c_i0 = (u32)(w2c_j0);
+  w2c_i0 = i32_load8_s(m, (u64)(w2c_i0));
+  w2c_p4 = w2c_i0;
+  w2c_i1 = 4294967295u;
+  w2c_i0 = (u32)((s32)w2c_i0 > (s32)w2c_i1);
+  if (w2c_i0) {goto w2c_B160;}
+  w2c_j0 = 18446744073709551614ull;
+  w2c_l8 = w2c_j0;
+  w2c_j0 = w2c_p2;
+  w2c_j1 = w2c_l9;
+  w2c_j0 += w2c_j1;
+  w2c_l10 = w2c_j0;
+  w2c_j1 = 18446744073709551614ull;
+  w2c_j0 += w2c_j1;
+  w2c_i0 = (u32)(w2c_j0);
+  w2c_i0 = i32_load8_u(m, (u64)(w2c_i0));
+  w2c_i1 = 191u;
+  w2c_i0 = w2c_i0 > w2c_i1;
+  if (w2c_i0) {goto w2c_B161;}
+  w2c_j0 = 18446744073709551613ull;
+  w2c_j1 = 18446744073709551612ull;
+  w2c_j2 = w2c_l10;
+  w2c_j3 = 18446744073709551613ull;
+  w2c_j2 += w2c_j3;
+  w2c_i2 = (u32)(w2c_j2);
+  w2c_i2 = i32_load8_u(m, (u64)(w2c_i2));
+  w2c_i3 = 191u;
+  w2c_i2 = w2c_i2 > w2c_i3;
+  w2c_j0 = w2c_i2 ? w2c_j0 : w2c_j1;
+  w2c_l8 = w2c_j0;
+  w2c_B161:;
+  w2c_j0 = w2c_p2;
+  w2c_j1 = w2c_l8;
+  w2c_j2 = w2c_l9;
+  w2c_j1 += w2c_j2;
+  w2c_l8 = w2c_j1;
+  w2c_j0 += w2c_j1;
+  w2c_l9 = w2c_j0;
+  w2c_i0 = (u32)(w2c_j0);
+  w2c_i0 = i32_load8_s(m, (u64)(w2c_i0));
+  w2c_l11 = w2c_i0;
+  w2c_i1 = 255u;
+  w2c_i0 &= w2c_i1;
+  w2c_p4 = w2c_i0;
+  w2c_i0 = w2c_l11;
+  w2c_i1 = 4294967295u;
+  w2c_i0 = (u32)((s32)w2c_i0 > (s32)w2c_i1);
+  if (w2c_i0) {goto w2c_B160;}
+  w2c_j0 = w2c_l9;
+  w2c_i0 = (u32)(w2c_j0);
+  w2c_i0 = i32_load8_u(m, (u64)(w2c_i0) + 1u);
+  w2c_i1 = 63u;
+  w2c_i0 &= w2c_i1;
+  w2c_p0 = w2c_i0;
+  w2c_i0 = w2c_l11;
+  w2c_i1 = 4294967264u;
+  w2c_i0 = w2c_i0 < w2c_i1;
+  if (w2c_i0) {goto w2c_B162;}
+  w2c_j0 = w2c_l9;
+  w2c_i0 = (u32)(w2c_j0);
+  w2c_i0 = i32_load8_u(m, (u64)(w2c_i0) + 2u);
+  w2c_i1 = 63u;
+  w2c_i0 &= w2c_i1;
+  w2c_p1 = w2c_i0;
+  w2c_i0 = w2c_l11;
+  w2c_i1 = 4294967280u;
+  w2c_i0 = w2c_i0 < w2c_i1;
+  if (w2c_i0) {goto w2c_B163;}
+  w2c_i0 = w2c_p1;
+  w2c_i1 = 6u;
+  w2c_i0 <<= (w2c_i1 & 31);
+  w2c_i1 = w2c_p0;
+  w2c_i2 = 12u;
+  w2c_i1 <<= (w2c_i2 & 31);
+  w2c_i2 = w2c_p4;
+  w2c_i3 = 18u;
+  w2c_i2 <<= (w2c_i3 & 31);
+  w2c_i3 = 1835008u;
+  w2c_i2 &= w2c_i3;
+  w2c_i1 |= w2c_i2;
+  w2c_i0 |= w2c_i1;
+  w2c_j1 = w2c_l9;
+  w2c_i1 = (u32)(w2c_j1);
+  w2c_i1 = i32_load8_u(m, (u64)(w2c_i1) + 3u);
+  w2c_i2 = 63u;
+  w2c_i1 &= w2c_i2;
+  w2c_i0 |= w2c_i1;
+  w2c_p4 = w2c_i0;
+  goto w2c_B160;
+  w2c_B163:;
+  w2c_i0 = w2c_p0;
+  w2c_i1 = 6u;
+  w2c_i0 <<= (w2c_i1 & 31);
+  w2c_i1 = w2c_p4;
+  w2c_i2 = 12u;
+  w2c_i1 <<= (w2c_i2 & 31);
+  w2c_i2 = 61440u;
+  w2c_i1 &= w2c_i2;
+  w2c_i0 |= w2c_i1;
+  w2c_i1 = w2c_p1;
+  w2c_i0 |= w2c_i1;
+  w2c_p4 = w2c_i0;
+  goto w2c_B160;
+  w2c_B162:;
+  w2c_i0 = w2c_p4;
+  w2c_i1 = 6u;
+  w2c_i0 <<= (w2c_i1 & 31);
+  w2c_i1 = 1984u;
+  w2c_i0 &= w2c_i1;
+  w2c_i1 = w2c_p0;
+  w2c_i0 |= w2c_i1;
+  w2c_p4 = w2c_i0;
+  w2c_B160:;
   w2c_i0 = w2c_p4;
   w2c_i1 = 4294967248u;
   w2c_i0 += w2c_i1;
   w2c_i1 = 10u;
   w2c_i0 = w2c_i0 < w2c_i1;
-  if (w2c_i0) {goto w2c_B159;}
+  if (w2c_i0) {goto w2c_B164;}
   w2c_i0 = w2c_p4;
   w2c_i1 = 4294902000u;
   w2c_i0 += w2c_i1;
   w2c_i1 = 9u;
   w2c_i0 = w2c_i0 > w2c_i1;
   if (w2c_i0) {goto w2c_B5;}
-  w2c_B159:;
+  w2c_B164:;
   w2c_i0 = w2c_p4;
   w2c_i1 = 48u;
   w2c_i0 = w2c_i0 == w2c_i1;
@@ -17999,7 +19472,7 @@ static u32 w2c_f27(module *m, u32 w2c_p0, u32 w2c_p1, u64 w2c_p2, u64 w2c_p3, u3
   w2c_p4 = w2c_i0;
   w2c_i1 = 4294967295u;
   w2c_i0 = (u32)((s32)w2c_i0 > (s32)w2c_i1);
-  if (w2c_i0) {goto w2c_B161;}
+  if (w2c_i0) {goto w2c_B166;}
   w2c_j0 = 18446744073709551614ull;
   w2c_l10 = w2c_j0;
   w2c_j0 = w2c_l9;
@@ -18010,7 +19483,7 @@ static u32 w2c_f27(module *m, u32 w2c_p0, u32 w2c_p1, u64 w2c_p2, u64 w2c_p3, u3
   w2c_p0 = w2c_i0;
   w2c_i1 = 191u;
   w2c_i0 = w2c_i0 > w2c_i1;
-  if (w2c_i0) {goto w2c_B162;}
+  if (w2c_i0) {goto w2c_B167;}
   w2c_j0 = 18446744073709551613ull;
   w2c_j1 = 18446744073709551612ull;
   w2c_j2 = w2c_l9;
@@ -18022,7 +19495,7 @@ static u32 w2c_f27(module *m, u32 w2c_p0, u32 w2c_p1, u64 w2c_p2, u64 w2c_p3, u3
   w2c_i2 = w2c_i2 > w2c_i3;
   w2c_j0 = w2c_i2 ? w2c_j0 : w2c_j1;
   w2c_l10 = w2c_j0;
-  w2c_B162:;
+  w2c_B167:;
   w2c_j0 = w2c_p2;
   w2c_j1 = w2c_l10;
   w2c_j0 += w2c_j1;
@@ -18038,7 +19511,7 @@ static u32 w2c_f27(module *m, u32 w2c_p0, u32 w2c_p1, u64 w2c_p2, u64 w2c_p3, u3
   w2c_i0 = w2c_l11;
   w2c_i1 = 4294967295u;
   w2c_i0 = (u32)((s32)w2c_i0 > (s32)w2c_i1);
-  if (w2c_i0) {goto w2c_B163;}
+  if (w2c_i0) {goto w2c_B168;}
   w2c_j0 = w2c_l10;
   w2c_i0 = (u32)(w2c_j0);
   w2c_i0 = i32_load8_u(m, (u64)(w2c_i0) + 1u);
@@ -18048,7 +19521,7 @@ static u32 w2c_f27(module *m, u32 w2c_p0, u32 w2c_p1, u64 w2c_p2, u64 w2c_p3, u3
   w2c_i0 = w2c_l11;
   w2c_i1 = 4294967264u;
   w2c_i0 = w2c_i0 < w2c_i1;
-  if (w2c_i0) {goto w2c_B164;}
+  if (w2c_i0) {goto w2c_B169;}
   w2c_j0 = w2c_l10;
   w2c_i0 = (u32)(w2c_j0);
   w2c_i0 = i32_load8_u(m, (u64)(w2c_i0) + 2u);
@@ -18058,7 +19531,7 @@ static u32 w2c_f27(module *m, u32 w2c_p0, u32 w2c_p1, u64 w2c_p2, u64 w2c_p3, u3
   w2c_i0 = w2c_l11;
   w2c_i1 = 4294967280u;
   w2c_i0 = w2c_i0 < w2c_i1;
-  if (w2c_i0) {goto w2c_B165;}
+  if (w2c_i0) {goto w2c_B170;}
   w2c_i0 = w2c_l12;
   w2c_i1 = 6u;
   w2c_i0 <<= (w2c_i1 & 31);
@@ -18079,8 +19552,8 @@ static u32 w2c_f27(module *m, u32 w2c_p0, u32 w2c_p1, u64 w2c_p2, u64 w2c_p3, u3
   w2c_i1 &= w2c_i2;
   w2c_i0 |= w2c_i1;
   w2c_p4 = w2c_i0;
-  goto w2c_B163;
-  w2c_B165:;
+  goto w2c_B168;
+  w2c_B170:;
   w2c_i0 = w2c_p1;
   w2c_i1 = 6u;
   w2c_i0 <<= (w2c_i1 & 31);
@@ -18093,8 +19566,8 @@ static u32 w2c_f27(module *m, u32 w2c_p0, u32 w2c_p1, u64 w2c_p2, u64 w2c_p3, u3
   w2c_i1 = w2c_l12;
   w2c_i0 |= w2c_i1;
   w2c_p4 = w2c_i0;
-  goto w2c_B163;
-  w2c_B164:;
+  goto w2c_B168;
+  w2c_B169:;
   w2c_i0 = w2c_p4;
   w2c_i1 = 6u;
   w2c_i0 <<= (w2c_i1 & 31);
@@ -18103,7 +19576,7 @@ static u32 w2c_f27(module *m, u32 w2c_p0, u32 w2c_p1, u64 w2c_p2, u64 w2c_p3, u3
   w2c_i1 = w2c_p1;
   w2c_i0 |= w2c_i1;
   w2c_p4 = w2c_i0;
-  w2c_B163:;
+  w2c_B168:;
   w2c_i0 = w2c_p4;
   w2c_i1 = 4294967238u;
   w2c_i0 += w2c_i1;
@@ -18121,7 +19594,7 @@ static u32 w2c_f27(module *m, u32 w2c_p0, u32 w2c_p1, u64 w2c_p2, u64 w2c_p3, u3
   w2c_i0 = w2c_p0;
   w2c_i1 = 191u;
   w2c_i0 = w2c_i0 > w2c_i1;
-  if (w2c_i0) {goto w2c_B166;}
+  if (w2c_i0) {goto w2c_B171;}
   w2c_j0 = 18446744073709551613ull;
   w2c_j1 = 18446744073709551612ull;
   w2c_j2 = w2c_l9;
@@ -18133,7 +19606,7 @@ static u32 w2c_f27(module *m, u32 w2c_p0, u32 w2c_p1, u64 w2c_p2, u64 w2c_p3, u3
   w2c_i2 = w2c_i2 > w2c_i3;
   w2c_j0 = w2c_i2 ? w2c_j0 : w2c_j1;
   w2c_l10 = w2c_j0;
-  w2c_B166:;
+  w2c_B171:;
   w2c_j0 = w2c_p2;
   w2c_j1 = w2c_l10;
   w2c_j0 += w2c_j1;
@@ -18149,7 +19622,7 @@ static u32 w2c_f27(module *m, u32 w2c_p0, u32 w2c_p1, u64 w2c_p2, u64 w2c_p3, u3
   w2c_i0 = w2c_l11;
   w2c_i1 = 4294967295u;
   w2c_i0 = (u32)((s32)w2c_i0 > (s32)w2c_i1);
-  if (w2c_i0) {goto w2c_B160;}
+  if (w2c_i0) {goto w2c_B165;}
   w2c_j0 = w2c_l8;
   w2c_i0 = (u32)(w2c_j0);
   w2c_i0 = i32_load8_u(m, (u64)(w2c_i0) + 1u);
@@ -18159,7 +19632,7 @@ static u32 w2c_f27(module *m, u32 w2c_p0, u32 w2c_p1, u64 w2c_p2, u64 w2c_p3, u3
   w2c_i0 = w2c_l11;
   w2c_i1 = 4294967264u;
   w2c_i0 = w2c_i0 < w2c_i1;
-  if (w2c_i0) {goto w2c_B167;}
+  if (w2c_i0) {goto w2c_B172;}
   w2c_j0 = w2c_l8;
   w2c_i0 = (u32)(w2c_j0);
   w2c_i0 = i32_load8_u(m, (u64)(w2c_i0) + 2u);
@@ -18169,7 +19642,7 @@ static u32 w2c_f27(module *m, u32 w2c_p0, u32 w2c_p1, u64 w2c_p2, u64 w2c_p3, u3
   w2c_i0 = w2c_l11;
   w2c_i1 = 4294967280u;
   w2c_i0 = w2c_i0 < w2c_i1;
-  if (w2c_i0) {goto w2c_B168;}
+  if (w2c_i0) {goto w2c_B173;}
   w2c_i0 = w2c_p1;
   w2c_i1 = 6u;
   w2c_i0 <<= (w2c_i1 & 31);
@@ -18190,8 +19663,8 @@ static u32 w2c_f27(module *m, u32 w2c_p0, u32 w2c_p1, u64 w2c_p2, u64 w2c_p3, u3
   w2c_i1 &= w2c_i2;
   w2c_i0 |= w2c_i1;
   w2c_p4 = w2c_i0;
-  goto w2c_B160;
-  w2c_B168:;
+  goto w2c_B165;
+  w2c_B173:;
   w2c_i0 = w2c_p0;
   w2c_i1 = 6u;
   w2c_i0 <<= (w2c_i1 & 31);
@@ -18204,8 +19677,8 @@ static u32 w2c_f27(module *m, u32 w2c_p0, u32 w2c_p1, u64 w2c_p2, u64 w2c_p3, u3
   w2c_i1 = w2c_p1;
   w2c_i0 |= w2c_i1;
   w2c_p4 = w2c_i0;
-  goto w2c_B160;
-  w2c_B167:;
+  goto w2c_B165;
+  w2c_B172:;
   w2c_i0 = w2c_p4;
   w2c_i1 = 6u;
   w2c_i0 <<= (w2c_i1 & 31);
@@ -18214,8 +19687,8 @@ static u32 w2c_f27(module *m, u32 w2c_p0, u32 w2c_p1, u64 w2c_p2, u64 w2c_p3, u3
   w2c_i1 = w2c_p0;
   w2c_i0 |= w2c_i1;
   w2c_p4 = w2c_i0;
-  goto w2c_B160;
-  w2c_B161:;
+  goto w2c_B165;
+  w2c_B166:;
   w2c_i0 = w2c_p4;
   w2c_i1 = 4294967238u;
   w2c_i0 += w2c_i1;
@@ -18224,7 +19697,7 @@ static u32 w2c_f27(module *m, u32 w2c_p0, u32 w2c_p1, u64 w2c_p2, u64 w2c_p3, u3
   w2c_i1 = 245u;
   w2c_i0 = w2c_i0 > w2c_i1;
   if (w2c_i0) {goto w2c_B5;}
-  w2c_B160:;
+  w2c_B165:;
   w2c_i0 = w2c_p4;
   w2c_i1 = 4294967252u;
   w2c_i0 += w2c_i1;
@@ -18232,9 +19705,9 @@ static u32 w2c_f27(module *m, u32 w2c_p0, u32 w2c_p1, u64 w2c_p2, u64 w2c_p3, u3
     case 0: goto w2c_B5;
     case 1: goto w2c_B4;
     case 2: goto w2c_B5;
-    default: goto w2c_B169;
+    default: goto w2c_B174;
   }
-  w2c_B169:;
+  w2c_B174:;
   w2c_i0 = w2c_p4;
   w2c_i1 = 65294u;
   w2c_i0 = w2c_i0 != w2c_i1;
@@ -18253,7 +19726,7 @@ static u32 w2c_f27(module *m, u32 w2c_p0, u32 w2c_p1, u64 w2c_p2, u64 w2c_p3, u3
   w2c_p4 = w2c_i0;
   w2c_i1 = 0u;
   w2c_i0 = (u32)((s32)w2c_i0 >= (s32)w2c_i1);
-  if (w2c_i0) {goto w2c_B170;}
+  if (w2c_i0) {goto w2c_B175;}
   w2c_j0 = 18446744073709551614ull;
   w2c_l8 = w2c_j0;
   w2c_j0 = w2c_p2;
@@ -18266,7 +19739,7 @@ static u32 w2c_f27(module *m, u32 w2c_p0, u32 w2c_p1, u64 w2c_p2, u64 w2c_p3, u3
   w2c_i0 = i32_load8_u(m, (u64)(w2c_i0));
   w2c_i1 = 191u;
   w2c_i0 = w2c_i0 > w2c_i1;
-  if (w2c_i0) {goto w2c_B171;}
+  if (w2c_i0) {goto w2c_B176;}
   w2c_j0 = 18446744073709551613ull;
   w2c_j1 = 18446744073709551612ull;
   w2c_j2 = w2c_l9;
@@ -18278,7 +19751,7 @@ static u32 w2c_f27(module *m, u32 w2c_p0, u32 w2c_p1, u64 w2c_p2, u64 w2c_p3, u3
   w2c_i2 = w2c_i2 > w2c_i3;
   w2c_j0 = w2c_i2 ? w2c_j0 : w2c_j1;
   w2c_l8 = w2c_j0;
-  w2c_B171:;
+  w2c_B176:;
   w2c_j0 = w2c_p2;
   w2c_j1 = w2c_l8;
   w2c_j2 = w2c_p3;
@@ -18295,7 +19768,7 @@ static u32 w2c_f27(module *m, u32 w2c_p0, u32 w2c_p1, u64 w2c_p2, u64 w2c_p3, u3
   w2c_i0 = w2c_p0;
   w2c_i1 = 4294967295u;
   w2c_i0 = (u32)((s32)w2c_i0 > (s32)w2c_i1);
-  if (w2c_i0) {goto w2c_B170;}
+  if (w2c_i0) {goto w2c_B175;}
   w2c_j0 = w2c_p3;
   w2c_i0 = (u32)(w2c_j0);
   w2c_i0 = i32_load8_u(m, (u64)(w2c_i0) + 1u);
@@ -18305,7 +19778,7 @@ static u32 w2c_f27(module *m, u32 w2c_p0, u32 w2c_p1, u64 w2c_p2, u64 w2c_p3, u3
   w2c_i0 = w2c_p0;
   w2c_i1 = 4294967263u;
   w2c_i0 = w2c_i0 > w2c_i1;
-  if (w2c_i0) {goto w2c_B172;}
+  if (w2c_i0) {goto w2c_B177;}
   w2c_i0 = w2c_p4;
   w2c_i1 = 6u;
   w2c_i0 <<= (w2c_i1 & 31);
@@ -18314,8 +19787,8 @@ static u32 w2c_f27(module *m, u32 w2c_p0, u32 w2c_p1, u64 w2c_p2, u64 w2c_p3, u3
   w2c_i1 = w2c_p1;
   w2c_i0 |= w2c_i1;
   w2c_p4 = w2c_i0;
-  goto w2c_B170;
-  w2c_B172:;
+  goto w2c_B175;
+  w2c_B177:;
   w2c_j0 = w2c_p3;
   w2c_i0 = (u32)(w2c_j0);
   w2c_i0 = i32_load8_u(m, (u64)(w2c_i0) + 2u);
@@ -18325,7 +19798,7 @@ static u32 w2c_f27(module *m, u32 w2c_p0, u32 w2c_p1, u64 w2c_p2, u64 w2c_p3, u3
   w2c_i0 = w2c_p0;
   w2c_i1 = 4294967279u;
   w2c_i0 = w2c_i0 > w2c_i1;
-  if (w2c_i0) {goto w2c_B173;}
+  if (w2c_i0) {goto w2c_B178;}
   w2c_i0 = w2c_p1;
   w2c_i1 = 6u;
   w2c_i0 <<= (w2c_i1 & 31);
@@ -18338,8 +19811,8 @@ static u32 w2c_f27(module *m, u32 w2c_p0, u32 w2c_p1, u64 w2c_p2, u64 w2c_p3, u3
   w2c_i1 = w2c_l12;
   w2c_i0 |= w2c_i1;
   w2c_p4 = w2c_i0;
-  goto w2c_B170;
-  w2c_B173:;
+  goto w2c_B175;
+  w2c_B178:;
   w2c_i0 = w2c_l12;
   w2c_i1 = 6u;
   w2c_i0 <<= (w2c_i1 & 31);
@@ -18360,7 +19833,7 @@ static u32 w2c_f27(module *m, u32 w2c_p0, u32 w2c_p1, u64 w2c_p2, u64 w2c_p3, u3
   w2c_i1 &= w2c_i2;
   w2c_i0 |= w2c_i1;
   w2c_p4 = w2c_i0;
-  w2c_B170:;
+  w2c_B175:;
   w2c_j0 = w2c_l8;
   w2c_i0 = !(w2c_j0);
   if (w2c_i0) {goto w2c_B0;}
@@ -18377,7 +19850,7 @@ static u32 w2c_f27(module *m, u32 w2c_p0, u32 w2c_p1, u64 w2c_p2, u64 w2c_p3, u3
   w2c_p0 = w2c_i0;
   w2c_i1 = 0u;
   w2c_i0 = (u32)((s32)w2c_i0 >= (s32)w2c_i1);
-  if (w2c_i0) {goto w2c_B174;}
+  if (w2c_i0) {goto w2c_B179;}
   w2c_j0 = 18446744073709551614ull;
   w2c_p3 = w2c_j0;
   w2c_j0 = w2c_p2;
@@ -18390,7 +19863,7 @@ static u32 w2c_f27(module *m, u32 w2c_p0, u32 w2c_p1, u64 w2c_p2, u64 w2c_p3, u3
   w2c_i0 = i32_load8_u(m, (u64)(w2c_i0));
   w2c_i1 = 191u;
   w2c_i0 = w2c_i0 > w2c_i1;
-  if (w2c_i0) {goto w2c_B175;}
+  if (w2c_i0) {goto w2c_B180;}
   w2c_j0 = 18446744073709551613ull;
   w2c_j1 = 18446744073709551612ull;
   w2c_j2 = w2c_l9;
@@ -18402,7 +19875,7 @@ static u32 w2c_f27(module *m, u32 w2c_p0, u32 w2c_p1, u64 w2c_p2, u64 w2c_p3, u3
   w2c_i2 = w2c_i2 > w2c_i3;
   w2c_j0 = w2c_i2 ? w2c_j0 : w2c_j1;
   w2c_p3 = w2c_j0;
-  w2c_B175:;
+  w2c_B180:;
   w2c_j0 = w2c_p2;
   w2c_j1 = w2c_p3;
   w2c_j2 = w2c_l8;
@@ -18419,7 +19892,7 @@ static u32 w2c_f27(module *m, u32 w2c_p0, u32 w2c_p1, u64 w2c_p2, u64 w2c_p3, u3
   w2c_i0 = w2c_p1;
   w2c_i1 = 4294967295u;
   w2c_i0 = (u32)((s32)w2c_i0 > (s32)w2c_i1);
-  if (w2c_i0) {goto w2c_B174;}
+  if (w2c_i0) {goto w2c_B179;}
   w2c_j0 = w2c_l8;
   w2c_i0 = (u32)(w2c_j0);
   w2c_i0 = i32_load8_u(m, (u64)(w2c_i0) + 1u);
@@ -18429,7 +19902,7 @@ static u32 w2c_f27(module *m, u32 w2c_p0, u32 w2c_p1, u64 w2c_p2, u64 w2c_p3, u3
   w2c_i0 = w2c_p1;
   w2c_i1 = 4294967263u;
   w2c_i0 = w2c_i0 > w2c_i1;
-  if (w2c_i0) {goto w2c_B176;}
+  if (w2c_i0) {goto w2c_B181;}
   w2c_i0 = w2c_p0;
   w2c_i1 = 6u;
   w2c_i0 <<= (w2c_i1 & 31);
@@ -18438,8 +19911,8 @@ static u32 w2c_f27(module *m, u32 w2c_p0, u32 w2c_p1, u64 w2c_p2, u64 w2c_p3, u3
   w2c_i1 = w2c_l12;
   w2c_i0 |= w2c_i1;
   w2c_p0 = w2c_i0;
-  goto w2c_B174;
-  w2c_B176:;
+  goto w2c_B179;
+  w2c_B181:;
   w2c_j0 = w2c_l8;
   w2c_i0 = (u32)(w2c_j0);
   w2c_i0 = i32_load8_u(m, (u64)(w2c_i0) + 2u);
@@ -18449,7 +19922,7 @@ static u32 w2c_f27(module *m, u32 w2c_p0, u32 w2c_p1, u64 w2c_p2, u64 w2c_p3, u3
   w2c_i0 = w2c_p1;
   w2c_i1 = 4294967279u;
   w2c_i0 = w2c_i0 > w2c_i1;
-  if (w2c_i0) {goto w2c_B177;}
+  if (w2c_i0) {goto w2c_B182;}
   w2c_i0 = w2c_l12;
   w2c_i1 = 6u;
   w2c_i0 <<= (w2c_i1 & 31);
@@ -18462,8 +19935,8 @@ static u32 w2c_f27(module *m, u32 w2c_p0, u32 w2c_p1, u64 w2c_p2, u64 w2c_p3, u3
   w2c_i1 = w2c_l13;
   w2c_i0 |= w2c_i1;
   w2c_p0 = w2c_i0;
-  goto w2c_B174;
-  w2c_B177:;
+  goto w2c_B179;
+  w2c_B182:;
   w2c_i0 = w2c_l13;
   w2c_i1 = 6u;
   w2c_i0 <<= (w2c_i1 & 31);
@@ -18484,7 +19957,7 @@ static u32 w2c_f27(module *m, u32 w2c_p0, u32 w2c_p1, u64 w2c_p2, u64 w2c_p3, u3
   w2c_i1 &= w2c_i2;
   w2c_i0 |= w2c_i1;
   w2c_p0 = w2c_i0;
-  w2c_B174:;
+  w2c_B179:;
   w2c_j0 = w2c_p3;
   w2c_i0 = !(w2c_j0);
   if (w2c_i0) {goto w2c_B0;}
@@ -18501,7 +19974,7 @@ static u32 w2c_f27(module *m, u32 w2c_p0, u32 w2c_p1, u64 w2c_p2, u64 w2c_p3, u3
   w2c_p1 = w2c_i0;
   w2c_i1 = 0u;
   w2c_i0 = (u32)((s32)w2c_i0 >= (s32)w2c_i1);
-  if (w2c_i0) {goto w2c_B178;}
+  if (w2c_i0) {goto w2c_B183;}
   w2c_j0 = 18446744073709551614ull;
   w2c_l8 = w2c_j0;
   w2c_j0 = w2c_p2;
@@ -18514,7 +19987,7 @@ static u32 w2c_f27(module *m, u32 w2c_p0, u32 w2c_p1, u64 w2c_p2, u64 w2c_p3, u3
   w2c_i0 = i32_load8_u(m, (u64)(w2c_i0));
   w2c_i1 = 191u;
   w2c_i0 = w2c_i0 > w2c_i1;
-  if (w2c_i0) {goto w2c_B179;}
+  if (w2c_i0) {goto w2c_B184;}
   w2c_j0 = 18446744073709551613ull;
   w2c_j1 = 18446744073709551612ull;
   w2c_j2 = w2c_l9;
@@ -18526,7 +19999,7 @@ static u32 w2c_f27(module *m, u32 w2c_p0, u32 w2c_p1, u64 w2c_p2, u64 w2c_p3, u3
   w2c_i2 = w2c_i2 > w2c_i3;
   w2c_j0 = w2c_i2 ? w2c_j0 : w2c_j1;
   w2c_l8 = w2c_j0;
-  w2c_B179:;
+  w2c_B184:;
   w2c_j0 = w2c_p2;
   w2c_j1 = w2c_l8;
   w2c_j2 = w2c_p3;
@@ -18543,7 +20016,7 @@ static u32 w2c_f27(module *m, u32 w2c_p0, u32 w2c_p1, u64 w2c_p2, u64 w2c_p3, u3
   w2c_i0 = w2c_l12;
   w2c_i1 = 4294967295u;
   w2c_i0 = (u32)((s32)w2c_i0 > (s32)w2c_i1);
-  if (w2c_i0) {goto w2c_B178;}
+  if (w2c_i0) {goto w2c_B183;}
   w2c_j0 = w2c_p3;
   w2c_i0 = (u32)(w2c_j0);
   w2c_i0 = i32_load8_u(m, (u64)(w2c_i0) + 1u);
@@ -18553,7 +20026,7 @@ static u32 w2c_f27(module *m, u32 w2c_p0, u32 w2c_p1, u64 w2c_p2, u64 w2c_p3, u3
   w2c_i0 = w2c_l12;
   w2c_i1 = 4294967263u;
   w2c_i0 = w2c_i0 > w2c_i1;
-  if (w2c_i0) {goto w2c_B180;}
+  if (w2c_i0) {goto w2c_B185;}
   w2c_i0 = w2c_p1;
   w2c_i1 = 6u;
   w2c_i0 <<= (w2c_i1 & 31);
@@ -18562,8 +20035,8 @@ static u32 w2c_f27(module *m, u32 w2c_p0, u32 w2c_p1, u64 w2c_p2, u64 w2c_p3, u3
   w2c_i1 = w2c_l13;
   w2c_i0 |= w2c_i1;
   w2c_p1 = w2c_i0;
-  goto w2c_B178;
-  w2c_B180:;
+  goto w2c_B183;
+  w2c_B185:;
   w2c_j0 = w2c_p3;
   w2c_i0 = (u32)(w2c_j0);
   w2c_i0 = i32_load8_u(m, (u64)(w2c_i0) + 2u);
@@ -18573,7 +20046,7 @@ static u32 w2c_f27(module *m, u32 w2c_p0, u32 w2c_p1, u64 w2c_p2, u64 w2c_p3, u3
   w2c_i0 = w2c_l12;
   w2c_i1 = 4294967279u;
   w2c_i0 = w2c_i0 > w2c_i1;
-  if (w2c_i0) {goto w2c_B181;}
+  if (w2c_i0) {goto w2c_B186;}
   w2c_i0 = w2c_l13;
   w2c_i1 = 6u;
   w2c_i0 <<= (w2c_i1 & 31);
@@ -18586,8 +20059,8 @@ static u32 w2c_f27(module *m, u32 w2c_p0, u32 w2c_p1, u64 w2c_p2, u64 w2c_p3, u3
   w2c_i1 = w2c_l14;
   w2c_i0 |= w2c_i1;
   w2c_p1 = w2c_i0;
-  goto w2c_B178;
-  w2c_B181:;
+  goto w2c_B183;
+  w2c_B186:;
   w2c_i0 = w2c_l14;
   w2c_i1 = 6u;
   w2c_i0 <<= (w2c_i1 & 31);
@@ -18608,33 +20081,33 @@ static u32 w2c_f27(module *m, u32 w2c_p0, u32 w2c_p1, u64 w2c_p2, u64 w2c_p3, u3
   w2c_i1 &= w2c_i2;
   w2c_i0 |= w2c_i1;
   w2c_p1 = w2c_i0;
-  w2c_B178:;
-  w2c_i0 = w2c_p4;
-  w2c_i1 = 4294967248u;
-  w2c_i0 += w2c_i1;
-  w2c_i1 = 10u;
-  w2c_i0 = w2c_i0 < w2c_i1;
-  if (w2c_i0) {goto w2c_B182;}
-  w2c_i0 = w2c_p4;
-  w2c_i1 = 4294902000u;
-  w2c_i0 += w2c_i1;
-  w2c_i1 = 9u;
-  w2c_i0 = w2c_i0 > w2c_i1;
-  if (w2c_i0) {goto w2c_B0;}
-  w2c_B182:;
-  w2c_i0 = w2c_p0;
-  w2c_i1 = 4294967248u;
-  w2c_i0 += w2c_i1;
-  w2c_i1 = 10u;
-  w2c_i0 = w2c_i0 < w2c_i1;
-  if (w2c_i0) {goto w2c_B183;}
-  w2c_i0 = w2c_p0;
-  w2c_i1 = 4294902000u;
-  w2c_i0 += w2c_i1;
-  w2c_i1 = 9u;
-  w2c_i0 = w2c_i0 > w2c_i1;
-  if (w2c_i0) {goto w2c_B0;}
   w2c_B183:;
+  w2c_i0 = w2c_p4;
+  w2c_i1 = 4294967248u;
+  w2c_i0 += w2c_i1;
+  w2c_i1 = 10u;
+  w2c_i0 = w2c_i0 < w2c_i1;
+  if (w2c_i0) {goto w2c_B187;}
+  w2c_i0 = w2c_p4;
+  w2c_i1 = 4294902000u;
+  w2c_i0 += w2c_i1;
+  w2c_i1 = 9u;
+  w2c_i0 = w2c_i0 > w2c_i1;
+  if (w2c_i0) {goto w2c_B0;}
+  w2c_B187:;
+  w2c_i0 = w2c_p0;
+  w2c_i1 = 4294967248u;
+  w2c_i0 += w2c_i1;
+  w2c_i1 = 10u;
+  w2c_i0 = w2c_i0 < w2c_i1;
+  if (w2c_i0) {goto w2c_B188;}
+  w2c_i0 = w2c_p0;
+  w2c_i1 = 4294902000u;
+  w2c_i0 += w2c_i1;
+  w2c_i1 = 9u;
+  w2c_i0 = w2c_i0 > w2c_i1;
+  if (w2c_i0) {goto w2c_B0;}
+  w2c_B188:;
   w2c_j0 = w2c_l8;
   w2c_i0 = !(w2c_j0);
   if (w2c_i0) {goto w2c_B0;}
@@ -18664,7 +20137,7 @@ static u32 w2c_f27(module *m, u32 w2c_p0, u32 w2c_p1, u64 w2c_p2, u64 w2c_p3, u3
   w2c_p4 = w2c_i0;
   w2c_i1 = 0u;
   w2c_i0 = (u32)((s32)w2c_i0 >= (s32)w2c_i1);
-  if (w2c_i0) {goto w2c_B184;}
+  if (w2c_i0) {goto w2c_B189;}
   w2c_j0 = 18446744073709551614ull;
   w2c_l9 = w2c_j0;
   w2c_j0 = w2c_p3;
@@ -18674,7 +20147,7 @@ static u32 w2c_f27(module *m, u32 w2c_p0, u32 w2c_p1, u64 w2c_p2, u64 w2c_p3, u3
   w2c_i0 = i32_load8_u(m, (u64)(w2c_i0));
   w2c_i1 = 191u;
   w2c_i0 = w2c_i0 > w2c_i1;
-  if (w2c_i0) {goto w2c_B185;}
+  if (w2c_i0) {goto w2c_B190;}
   w2c_j0 = 18446744073709551613ull;
   w2c_j1 = 18446744073709551612ull;
   w2c_j2 = w2c_p3;
@@ -18686,7 +20159,7 @@ static u32 w2c_f27(module *m, u32 w2c_p0, u32 w2c_p1, u64 w2c_p2, u64 w2c_p3, u3
   w2c_i2 = w2c_i2 > w2c_i3;
   w2c_j0 = w2c_i2 ? w2c_j0 : w2c_j1;
   w2c_l9 = w2c_j0;
-  w2c_B185:;
+  w2c_B190:;
   w2c_j0 = w2c_p2;
   w2c_j1 = w2c_l9;
   w2c_j0 += w2c_j1;
@@ -18702,7 +20175,7 @@ static u32 w2c_f27(module *m, u32 w2c_p0, u32 w2c_p1, u64 w2c_p2, u64 w2c_p3, u3
   w2c_i0 = w2c_p0;
   w2c_i1 = 4294967295u;
   w2c_i0 = (u32)((s32)w2c_i0 > (s32)w2c_i1);
-  if (w2c_i0) {goto w2c_B184;}
+  if (w2c_i0) {goto w2c_B189;}
   w2c_j0 = w2c_p3;
   w2c_i0 = (u32)(w2c_j0);
   w2c_i0 = i32_load8_u(m, (u64)(w2c_i0) + 1u);
@@ -18712,7 +20185,7 @@ static u32 w2c_f27(module *m, u32 w2c_p0, u32 w2c_p1, u64 w2c_p2, u64 w2c_p3, u3
   w2c_i0 = w2c_p0;
   w2c_i1 = 4294967263u;
   w2c_i0 = w2c_i0 > w2c_i1;
-  if (w2c_i0) {goto w2c_B186;}
+  if (w2c_i0) {goto w2c_B191;}
   w2c_i0 = w2c_p4;
   w2c_i1 = 6u;
   w2c_i0 <<= (w2c_i1 & 31);
@@ -18721,8 +20194,8 @@ static u32 w2c_f27(module *m, u32 w2c_p0, u32 w2c_p1, u64 w2c_p2, u64 w2c_p3, u3
   w2c_i1 = w2c_p1;
   w2c_i0 |= w2c_i1;
   w2c_p4 = w2c_i0;
-  goto w2c_B184;
-  w2c_B186:;
+  goto w2c_B189;
+  w2c_B191:;
   w2c_j0 = w2c_p3;
   w2c_i0 = (u32)(w2c_j0);
   w2c_i0 = i32_load8_u(m, (u64)(w2c_i0) + 2u);
@@ -18732,7 +20205,7 @@ static u32 w2c_f27(module *m, u32 w2c_p0, u32 w2c_p1, u64 w2c_p2, u64 w2c_p3, u3
   w2c_i0 = w2c_p0;
   w2c_i1 = 4294967279u;
   w2c_i0 = w2c_i0 > w2c_i1;
-  if (w2c_i0) {goto w2c_B187;}
+  if (w2c_i0) {goto w2c_B192;}
   w2c_i0 = w2c_p1;
   w2c_i1 = 6u;
   w2c_i0 <<= (w2c_i1 & 31);
@@ -18745,8 +20218,8 @@ static u32 w2c_f27(module *m, u32 w2c_p0, u32 w2c_p1, u64 w2c_p2, u64 w2c_p3, u3
   w2c_i1 = w2c_l12;
   w2c_i0 |= w2c_i1;
   w2c_p4 = w2c_i0;
-  goto w2c_B184;
-  w2c_B187:;
+  goto w2c_B189;
+  w2c_B192:;
   w2c_i0 = w2c_l12;
   w2c_i1 = 6u;
   w2c_i0 <<= (w2c_i1 & 31);
@@ -18767,7 +20240,7 @@ static u32 w2c_f27(module *m, u32 w2c_p0, u32 w2c_p1, u64 w2c_p2, u64 w2c_p3, u3
   w2c_i1 &= w2c_i2;
   w2c_i0 |= w2c_i1;
   w2c_p4 = w2c_i0;
-  w2c_B184:;
+  w2c_B189:;
   w2c_j0 = w2c_p6;
   w2c_i0 = !(w2c_j0);
   if (w2c_i0) {goto w2c_B0;}
@@ -18793,7 +20266,7 @@ static u32 w2c_f27(module *m, u32 w2c_p0, u32 w2c_p1, u64 w2c_p2, u64 w2c_p3, u3
   w2c_i0 = w2c_p4;
   w2c_i1 = 4294967295u;
   w2c_i0 = (u32)((s32)w2c_i0 > (s32)w2c_i1);
-  if (w2c_i0) {goto w2c_B188;}
+  if (w2c_i0) {goto w2c_B193;}
   w2c_j0 = w2c_p5;
   w2c_i0 = (u32)(w2c_j0);
   w2c_i0 = i32_load8_u(m, (u64)(w2c_i0) + 1u);
@@ -18803,7 +20276,7 @@ static u32 w2c_f27(module *m, u32 w2c_p0, u32 w2c_p1, u64 w2c_p2, u64 w2c_p3, u3
   w2c_i0 = w2c_p4;
   w2c_i1 = 4294967263u;
   w2c_i0 = w2c_i0 > w2c_i1;
-  if (w2c_i0) {goto w2c_B189;}
+  if (w2c_i0) {goto w2c_B194;}
   w2c_i0 = w2c_p0;
   w2c_i1 = 6u;
   w2c_i0 <<= (w2c_i1 & 31);
@@ -18814,8 +20287,8 @@ static u32 w2c_f27(module *m, u32 w2c_p0, u32 w2c_p1, u64 w2c_p2, u64 w2c_p3, u3
   w2c_p0 = w2c_i0;
   w2c_j0 = 2ull;
   w2c_p3 = w2c_j0;
-  goto w2c_B188;
-  w2c_B189:;
+  goto w2c_B193;
+  w2c_B194:;
   w2c_j0 = w2c_p5;
   w2c_i0 = (u32)(w2c_j0);
   w2c_i0 = i32_load8_u(m, (u64)(w2c_i0) + 2u);
@@ -18825,7 +20298,7 @@ static u32 w2c_f27(module *m, u32 w2c_p0, u32 w2c_p1, u64 w2c_p2, u64 w2c_p3, u3
   w2c_i0 = w2c_p4;
   w2c_i1 = 4294967279u;
   w2c_i0 = w2c_i0 > w2c_i1;
-  if (w2c_i0) {goto w2c_B190;}
+  if (w2c_i0) {goto w2c_B195;}
   w2c_i0 = w2c_l11;
   w2c_i1 = 6u;
   w2c_i0 <<= (w2c_i1 & 31);
@@ -18840,8 +20313,8 @@ static u32 w2c_f27(module *m, u32 w2c_p0, u32 w2c_p1, u64 w2c_p2, u64 w2c_p3, u3
   w2c_p0 = w2c_i0;
   w2c_j0 = 3ull;
   w2c_p3 = w2c_j0;
-  goto w2c_B188;
-  w2c_B190:;
+  goto w2c_B193;
+  w2c_B195:;
   w2c_i0 = w2c_p1;
   w2c_i1 = 6u;
   w2c_i0 <<= (w2c_i1 & 31);
@@ -18864,7 +20337,7 @@ static u32 w2c_f27(module *m, u32 w2c_p0, u32 w2c_p1, u64 w2c_p2, u64 w2c_p3, u3
   w2c_p0 = w2c_i0;
   w2c_j0 = 4ull;
   w2c_p3 = w2c_j0;
-  w2c_B188:;
+  w2c_B193:;
   w2c_i0 = 0u;
   w2c_l11 = w2c_i0;
   w2c_j0 = w2c_p6;
@@ -18886,7 +20359,7 @@ static u32 w2c_f27(module *m, u32 w2c_p0, u32 w2c_p1, u64 w2c_p2, u64 w2c_p3, u3
   w2c_i0 = w2c_p4;
   w2c_i1 = 4294967295u;
   w2c_i0 = (u32)((s32)w2c_i0 > (s32)w2c_i1);
-  if (w2c_i0) {goto w2c_B191;}
+  if (w2c_i0) {goto w2c_B196;}
   w2c_j0 = w2c_p5;
   w2c_i0 = (u32)(w2c_j0);
   w2c_i0 = i32_load8_u(m, (u64)(w2c_i0) + 1u);
@@ -18896,7 +20369,7 @@ static u32 w2c_f27(module *m, u32 w2c_p0, u32 w2c_p1, u64 w2c_p2, u64 w2c_p3, u3
   w2c_i0 = w2c_p4;
   w2c_i1 = 4294967263u;
   w2c_i0 = w2c_i0 > w2c_i1;
-  if (w2c_i0) {goto w2c_B192;}
+  if (w2c_i0) {goto w2c_B197;}
   w2c_i0 = w2c_p1;
   w2c_i1 = 6u;
   w2c_i0 <<= (w2c_i1 & 31);
@@ -18907,8 +20380,8 @@ static u32 w2c_f27(module *m, u32 w2c_p0, u32 w2c_p1, u64 w2c_p2, u64 w2c_p3, u3
   w2c_p1 = w2c_i0;
   w2c_j0 = 2ull;
   w2c_p2 = w2c_j0;
-  goto w2c_B191;
-  w2c_B192:;
+  goto w2c_B196;
+  w2c_B197:;
   w2c_j0 = w2c_p5;
   w2c_i0 = (u32)(w2c_j0);
   w2c_i0 = i32_load8_u(m, (u64)(w2c_i0) + 2u);
@@ -18918,7 +20391,7 @@ static u32 w2c_f27(module *m, u32 w2c_p0, u32 w2c_p1, u64 w2c_p2, u64 w2c_p3, u3
   w2c_i0 = w2c_p4;
   w2c_i1 = 4294967279u;
   w2c_i0 = w2c_i0 > w2c_i1;
-  if (w2c_i0) {goto w2c_B193;}
+  if (w2c_i0) {goto w2c_B198;}
   w2c_i0 = w2c_l12;
   w2c_i1 = 6u;
   w2c_i0 <<= (w2c_i1 & 31);
@@ -18933,8 +20406,8 @@ static u32 w2c_f27(module *m, u32 w2c_p0, u32 w2c_p1, u64 w2c_p2, u64 w2c_p3, u3
   w2c_p1 = w2c_i0;
   w2c_j0 = 3ull;
   w2c_p2 = w2c_j0;
-  goto w2c_B191;
-  w2c_B193:;
+  goto w2c_B196;
+  w2c_B198:;
   w2c_i0 = w2c_l13;
   w2c_i1 = 6u;
   w2c_i0 <<= (w2c_i1 & 31);
@@ -18957,7 +20430,7 @@ static u32 w2c_f27(module *m, u32 w2c_p0, u32 w2c_p1, u64 w2c_p2, u64 w2c_p3, u3
   w2c_p1 = w2c_i0;
   w2c_j0 = 4ull;
   w2c_p2 = w2c_j0;
-  w2c_B191:;
+  w2c_B196:;
   w2c_j0 = w2c_p6;
   w2c_j1 = w2c_p2;
   w2c_j2 = w2c_p3;
@@ -18980,7 +20453,7 @@ static u32 w2c_f27(module *m, u32 w2c_p0, u32 w2c_p1, u64 w2c_p2, u64 w2c_p3, u3
   w2c_i0 = w2c_p4;
   w2c_i1 = 4294967295u;
   w2c_i0 = (u32)((s32)w2c_i0 > (s32)w2c_i1);
-  if (w2c_i0) {goto w2c_B194;}
+  if (w2c_i0) {goto w2c_B199;}
   w2c_j0 = w2c_p2;
   w2c_i0 = (u32)(w2c_j0);
   w2c_i0 = i32_load8_u(m, (u64)(w2c_i0) + 1u);
@@ -18990,7 +20463,7 @@ static u32 w2c_f27(module *m, u32 w2c_p0, u32 w2c_p1, u64 w2c_p2, u64 w2c_p3, u3
   w2c_i0 = w2c_p4;
   w2c_i1 = 4294967263u;
   w2c_i0 = w2c_i0 > w2c_i1;
-  if (w2c_i0) {goto w2c_B195;}
+  if (w2c_i0) {goto w2c_B200;}
   w2c_i0 = w2c_l12;
   w2c_i1 = 6u;
   w2c_i0 <<= (w2c_i1 & 31);
@@ -19001,8 +20474,8 @@ static u32 w2c_f27(module *m, u32 w2c_p0, u32 w2c_p1, u64 w2c_p2, u64 w2c_p3, u3
   w2c_l12 = w2c_i0;
   w2c_j0 = 2ull;
   w2c_p5 = w2c_j0;
-  goto w2c_B194;
-  w2c_B195:;
+  goto w2c_B199;
+  w2c_B200:;
   w2c_j0 = w2c_p2;
   w2c_i0 = (u32)(w2c_j0);
   w2c_i0 = i32_load8_u(m, (u64)(w2c_i0) + 2u);
@@ -19012,7 +20485,7 @@ static u32 w2c_f27(module *m, u32 w2c_p0, u32 w2c_p1, u64 w2c_p2, u64 w2c_p3, u3
   w2c_i0 = w2c_p4;
   w2c_i1 = 4294967279u;
   w2c_i0 = w2c_i0 > w2c_i1;
-  if (w2c_i0) {goto w2c_B196;}
+  if (w2c_i0) {goto w2c_B201;}
   w2c_i0 = w2c_l13;
   w2c_i1 = 6u;
   w2c_i0 <<= (w2c_i1 & 31);
@@ -19027,8 +20500,8 @@ static u32 w2c_f27(module *m, u32 w2c_p0, u32 w2c_p1, u64 w2c_p2, u64 w2c_p3, u3
   w2c_l12 = w2c_i0;
   w2c_j0 = 3ull;
   w2c_p5 = w2c_j0;
-  goto w2c_B194;
-  w2c_B196:;
+  goto w2c_B199;
+  w2c_B201:;
   w2c_i0 = w2c_l14;
   w2c_i1 = 6u;
   w2c_i0 <<= (w2c_i1 & 31);
@@ -19051,56 +20524,56 @@ static u32 w2c_f27(module *m, u32 w2c_p0, u32 w2c_p1, u64 w2c_p2, u64 w2c_p3, u3
   w2c_l12 = w2c_i0;
   w2c_j0 = 4ull;
   w2c_p5 = w2c_j0;
-  w2c_B194:;
-  w2c_i0 = w2c_p0;
-  w2c_i1 = 4294967248u;
-  w2c_i0 += w2c_i1;
-  w2c_i1 = 10u;
-  w2c_i0 = w2c_i0 < w2c_i1;
-  if (w2c_i0) {goto w2c_B197;}
-  w2c_i0 = w2c_p0;
-  w2c_i1 = 4294902000u;
-  w2c_i0 += w2c_i1;
-  w2c_i1 = 9u;
-  w2c_i0 = w2c_i0 > w2c_i1;
-  if (w2c_i0) {goto w2c_B0;}
-  w2c_B197:;
-  w2c_i0 = w2c_p1;
-  w2c_i1 = 4294967248u;
-  w2c_i0 += w2c_i1;
-  w2c_i1 = 10u;
-  w2c_i0 = w2c_i0 < w2c_i1;
-  if (w2c_i0) {goto w2c_B198;}
-  w2c_i0 = w2c_p1;
-  w2c_i1 = 4294902000u;
-  w2c_i0 += w2c_i1;
-  w2c_i1 = 9u;
-  w2c_i0 = w2c_i0 > w2c_i1;
-  if (w2c_i0) {goto w2c_B0;}
-  w2c_B198:;
-  w2c_i0 = w2c_l12;
-  w2c_i1 = 4294967248u;
-  w2c_i0 += w2c_i1;
-  w2c_i1 = 10u;
-  w2c_i0 = w2c_i0 < w2c_i1;
-  if (w2c_i0) {goto w2c_B199;}
-  w2c_i0 = w2c_l12;
-  w2c_i1 = 4294902000u;
-  w2c_i0 += w2c_i1;
-  w2c_i1 = 9u;
-  w2c_i0 = w2c_i0 > w2c_i1;
-  if (w2c_i0) {goto w2c_B0;}
   w2c_B199:;
+  w2c_i0 = w2c_p0;
+  w2c_i1 = 4294967248u;
+  w2c_i0 += w2c_i1;
+  w2c_i1 = 10u;
+  w2c_i0 = w2c_i0 < w2c_i1;
+  if (w2c_i0) {goto w2c_B202;}
+  w2c_i0 = w2c_p0;
+  w2c_i1 = 4294902000u;
+  w2c_i0 += w2c_i1;
+  w2c_i1 = 9u;
+  w2c_i0 = w2c_i0 > w2c_i1;
+  if (w2c_i0) {goto w2c_B0;}
+  w2c_B202:;
+  w2c_i0 = w2c_p1;
+  w2c_i1 = 4294967248u;
+  w2c_i0 += w2c_i1;
+  w2c_i1 = 10u;
+  w2c_i0 = w2c_i0 < w2c_i1;
+  if (w2c_i0) {goto w2c_B203;}
+  w2c_i0 = w2c_p1;
+  w2c_i1 = 4294902000u;
+  w2c_i0 += w2c_i1;
+  w2c_i1 = 9u;
+  w2c_i0 = w2c_i0 > w2c_i1;
+  if (w2c_i0) {goto w2c_B0;}
+  w2c_B203:;
+  w2c_i0 = w2c_l12;
+  w2c_i1 = 4294967248u;
+  w2c_i0 += w2c_i1;
+  w2c_i1 = 10u;
+  w2c_i0 = w2c_i0 < w2c_i1;
+  if (w2c_i0) {goto w2c_B204;}
+  w2c_i0 = w2c_l12;
+  w2c_i1 = 4294902000u;
+  w2c_i0 += w2c_i1;
+  w2c_i1 = 9u;
+  w2c_i0 = w2c_i0 > w2c_i1;
+  if (w2c_i0) {goto w2c_B0;}
+  w2c_B204:;
   w2c_j0 = w2c_p6;
   w2c_j1 = w2c_p5;
   w2c_j2 = w2c_p3;
   w2c_j1 += w2c_j2;
   w2c_i0 = w2c_j0 != w2c_j1;
-  if (w2c_i0) {goto w2c_B200;}
+  if (w2c_i0) {goto w2c_B205;}
   w2c_i0 = 1u;
   w2c_l11 = w2c_i0;
   goto w2c_B0;
-  w2c_B200:;
+  w2c_B205:;
   w2c_j0 = w2c_p2;
   w2c_j1 = w2c_p5;
   w2c_j0 += w2c_j1;
@@ -19114,7 +20587,7 @@ static u32 w2c_f27(module *m, u32 w2c_p0, u32 w2c_p1, u64 w2c_p2, u64 w2c_p3, u3
   w2c_i0 = w2c_l11;
   w2c_i1 = 4294967295u;
   w2c_i0 = (u32)((s32)w2c_i0 > (s32)w2c_i1);
-  if (w2c_i0) {goto w2c_B201;}
+  if (w2c_i0) {goto w2c_B206;}
   w2c_j0 = w2c_p3;
   w2c_i0 = (u32)(w2c_j0);
   w2c_i0 = i32_load8_u(m, (u64)(w2c_i0) + 1u);
@@ -19124,7 +20597,7 @@ static u32 w2c_f27(module *m, u32 w2c_p0, u32 w2c_p1, u64 w2c_p2, u64 w2c_p3, u3
   w2c_i0 = w2c_l11;
   w2c_i1 = 4294967263u;
   w2c_i0 = w2c_i0 > w2c_i1;
-  if (w2c_i0) {goto w2c_B202;}
+  if (w2c_i0) {goto w2c_B207;}
   w2c_i0 = w2c_p4;
   w2c_i1 = 6u;
   w2c_i0 <<= (w2c_i1 & 31);
@@ -19133,8 +20606,8 @@ static u32 w2c_f27(module *m, u32 w2c_p0, u32 w2c_p1, u64 w2c_p2, u64 w2c_p3, u3
   w2c_i1 = w2c_p0;
   w2c_i0 |= w2c_i1;
   w2c_p4 = w2c_i0;
-  goto w2c_B201;
-  w2c_B202:;
+  goto w2c_B206;
+  w2c_B207:;
   w2c_j0 = w2c_p3;
   w2c_i0 = (u32)(w2c_j0);
   w2c_i0 = i32_load8_u(m, (u64)(w2c_i0) + 2u);
@@ -19144,7 +20617,7 @@ static u32 w2c_f27(module *m, u32 w2c_p0, u32 w2c_p1, u64 w2c_p2, u64 w2c_p3, u3
   w2c_i0 = w2c_l11;
   w2c_i1 = 4294967279u;
   w2c_i0 = w2c_i0 > w2c_i1;
-  if (w2c_i0) {goto w2c_B203;}
+  if (w2c_i0) {goto w2c_B208;}
   w2c_i0 = w2c_p0;
   w2c_i1 = 6u;
   w2c_i0 <<= (w2c_i1 & 31);
@@ -19157,8 +20630,8 @@ static u32 w2c_f27(module *m, u32 w2c_p0, u32 w2c_p1, u64 w2c_p2, u64 w2c_p3, u3
   w2c_i1 = w2c_p1;
   w2c_i0 |= w2c_i1;
   w2c_p4 = w2c_i0;
-  goto w2c_B201;
-  w2c_B203:;
+  goto w2c_B206;
+  w2c_B208:;
   w2c_i0 = w2c_p1;
   w2c_i1 = 6u;
   w2c_i0 <<= (w2c_i1 & 31);
@@ -19179,7 +20652,7 @@ static u32 w2c_f27(module *m, u32 w2c_p0, u32 w2c_p1, u64 w2c_p2, u64 w2c_p3, u3
   w2c_i1 &= w2c_i2;
   w2c_i0 |= w2c_i1;
   w2c_p4 = w2c_i0;
-  w2c_B201:;
+  w2c_B206:;
   w2c_i0 = w2c_p4;
   w2c_i1 = 4294967238u;
   w2c_i0 += w2c_i1;
@@ -19202,17 +20675,17 @@ static u32 w2c_f27(module *m, u32 w2c_p0, u32 w2c_p1, u64 w2c_p2, u64 w2c_p3, u3
   w2c_i1 = w2c_p1;
   w2c_j2 = w2c_p5;
   w2c_j3 = w2c_p6;
-  w2c_i0 = w2c_f29(m, w2c_i0, w2c_i1, w2c_j2, w2c_j3);
+  w2c_i0 = w2c_f30(m, w2c_i0, w2c_i1, w2c_j2, w2c_j3);
   w2c_i0 = !(w2c_i0);
   if (w2c_i0) {goto w2c_B0;}
   w2c_j0 = w2c_p3;
   w2c_i0 = !(w2c_j0);
   w2c_i0 = !(w2c_i0);
-  if (w2c_i0) {goto w2c_B204;}
+  if (w2c_i0) {goto w2c_B209;}
   w2c_i0 = 1u;
   w2c_l11 = w2c_i0;
   goto w2c_B0;
-  w2c_B204:;
+  w2c_B209:;
   w2c_j0 = w2c_p2;
   w2c_j1 = w2c_p3;
   w2c_j0 += w2c_j1;
@@ -19224,7 +20697,7 @@ static u32 w2c_f27(module *m, u32 w2c_p0, u32 w2c_p1, u64 w2c_p2, u64 w2c_p3, u3
   w2c_p4 = w2c_i0;
   w2c_i1 = 4294967295u;
   w2c_i0 = (u32)((s32)w2c_i0 > (s32)w2c_i1);
-  if (w2c_i0) {goto w2c_B206;}
+  if (w2c_i0) {goto w2c_B211;}
   w2c_j0 = 18446744073709551614ull;
   w2c_p5 = w2c_j0;
   w2c_j0 = w2c_p6;
@@ -19234,7 +20707,7 @@ static u32 w2c_f27(module *m, u32 w2c_p0, u32 w2c_p1, u64 w2c_p2, u64 w2c_p3, u3
   w2c_i0 = i32_load8_u(m, (u64)(w2c_i0));
   w2c_i1 = 191u;
   w2c_i0 = w2c_i0 > w2c_i1;
-  if (w2c_i0) {goto w2c_B207;}
+  if (w2c_i0) {goto w2c_B212;}
   w2c_j0 = 18446744073709551613ull;
   w2c_j1 = 18446744073709551612ull;
   w2c_j2 = w2c_p6;
@@ -19246,7 +20719,7 @@ static u32 w2c_f27(module *m, u32 w2c_p0, u32 w2c_p1, u64 w2c_p2, u64 w2c_p3, u3
   w2c_i2 = w2c_i2 > w2c_i3;
   w2c_j0 = w2c_i2 ? w2c_j0 : w2c_j1;
   w2c_p5 = w2c_j0;
-  w2c_B207:;
+  w2c_B212:;
   w2c_j0 = w2c_p2;
   w2c_j1 = w2c_p5;
   w2c_j0 += w2c_j1;
@@ -19262,7 +20735,7 @@ static u32 w2c_f27(module *m, u32 w2c_p0, u32 w2c_p1, u64 w2c_p2, u64 w2c_p3, u3
   w2c_i0 = w2c_l12;
   w2c_i1 = 4294967295u;
   w2c_i0 = (u32)((s32)w2c_i0 > (s32)w2c_i1);
-  if (w2c_i0) {goto w2c_B208;}
+  if (w2c_i0) {goto w2c_B213;}
   w2c_j0 = w2c_p5;
   w2c_i0 = (u32)(w2c_j0);
   w2c_i0 = i32_load8_u(m, (u64)(w2c_i0) + 1u);
@@ -19272,7 +20745,7 @@ static u32 w2c_f27(module *m, u32 w2c_p0, u32 w2c_p1, u64 w2c_p2, u64 w2c_p3, u3
   w2c_i0 = w2c_l12;
   w2c_i1 = 4294967263u;
   w2c_i0 = w2c_i0 > w2c_i1;
-  if (w2c_i0) {goto w2c_B209;}
+  if (w2c_i0) {goto w2c_B214;}
   w2c_i0 = w2c_p4;
   w2c_i1 = 6u;
   w2c_i0 <<= (w2c_i1 & 31);
@@ -19281,8 +20754,8 @@ static u32 w2c_f27(module *m, u32 w2c_p0, u32 w2c_p1, u64 w2c_p2, u64 w2c_p3, u3
   w2c_i1 = w2c_l13;
   w2c_i0 |= w2c_i1;
   w2c_p4 = w2c_i0;
-  goto w2c_B208;
-  w2c_B209:;
+  goto w2c_B213;
+  w2c_B214:;
   w2c_j0 = w2c_p5;
   w2c_i0 = (u32)(w2c_j0);
   w2c_i0 = i32_load8_u(m, (u64)(w2c_i0) + 2u);
@@ -19292,7 +20765,7 @@ static u32 w2c_f27(module *m, u32 w2c_p0, u32 w2c_p1, u64 w2c_p2, u64 w2c_p3, u3
   w2c_i0 = w2c_l12;
   w2c_i1 = 4294967279u;
   w2c_i0 = w2c_i0 > w2c_i1;
-  if (w2c_i0) {goto w2c_B210;}
+  if (w2c_i0) {goto w2c_B215;}
   w2c_i0 = w2c_l13;
   w2c_i1 = 6u;
   w2c_i0 <<= (w2c_i1 & 31);
@@ -19305,8 +20778,8 @@ static u32 w2c_f27(module *m, u32 w2c_p0, u32 w2c_p1, u64 w2c_p2, u64 w2c_p3, u3
   w2c_i1 = w2c_l14;
   w2c_i0 |= w2c_i1;
   w2c_p4 = w2c_i0;
-  goto w2c_B208;
-  w2c_B210:;
+  goto w2c_B213;
+  w2c_B215:;
   w2c_i0 = w2c_l14;
   w2c_i1 = 6u;
   w2c_i0 <<= (w2c_i1 & 31);
@@ -19327,11 +20800,11 @@ static u32 w2c_f27(module *m, u32 w2c_p0, u32 w2c_p1, u64 w2c_p2, u64 w2c_p3, u3
   w2c_i1 &= w2c_i2;
   w2c_i0 |= w2c_i1;
   w2c_p4 = w2c_i0;
-  w2c_B208:;
+  w2c_B213:;
   w2c_i0 = w2c_p0;
   w2c_i1 = w2c_p1;
   w2c_i2 = w2c_p4;
-  w2c_i0 = w2c_f28(m, w2c_i0, w2c_i1, w2c_i2);
+  w2c_i0 = w2c_f29(m, w2c_i0, w2c_i1, w2c_i2);
   if (w2c_i0) {goto w2c_B0;}
   w2c_j0 = 18446744073709551614ull;
   w2c_p5 = w2c_j0;
@@ -19342,7 +20815,7 @@ static u32 w2c_f27(module *m, u32 w2c_p0, u32 w2c_p1, u64 w2c_p2, u64 w2c_p3, u3
   w2c_i0 = i32_load8_u(m, (u64)(w2c_i0));
   w2c_i1 = 191u;
   w2c_i0 = w2c_i0 > w2c_i1;
-  if (w2c_i0) {goto w2c_B211;}
+  if (w2c_i0) {goto w2c_B216;}
   w2c_j0 = 18446744073709551613ull;
   w2c_j1 = 18446744073709551612ull;
   w2c_j2 = w2c_p6;
@@ -19354,7 +20827,7 @@ static u32 w2c_f27(module *m, u32 w2c_p0, u32 w2c_p1, u64 w2c_p2, u64 w2c_p3, u3
   w2c_i2 = w2c_i2 > w2c_i3;
   w2c_j0 = w2c_i2 ? w2c_j0 : w2c_j1;
   w2c_p5 = w2c_j0;
-  w2c_B211:;
+  w2c_B216:;
   w2c_j0 = w2c_p2;
   w2c_j1 = w2c_p5;
   w2c_j0 += w2c_j1;
@@ -19370,7 +20843,7 @@ static u32 w2c_f27(module *m, u32 w2c_p0, u32 w2c_p1, u64 w2c_p2, u64 w2c_p3, u3
   w2c_i0 = w2c_p0;
   w2c_i1 = 4294967295u;
   w2c_i0 = (u32)((s32)w2c_i0 > (s32)w2c_i1);
-  if (w2c_i0) {goto w2c_B205;}
+  if (w2c_i0) {goto w2c_B210;}
   w2c_j0 = w2c_p3;
   w2c_i0 = (u32)(w2c_j0);
   w2c_i0 = i32_load8_u(m, (u64)(w2c_i0) + 1u);
@@ -19380,7 +20853,7 @@ static u32 w2c_f27(module *m, u32 w2c_p0, u32 w2c_p1, u64 w2c_p2, u64 w2c_p3, u3
   w2c_i0 = w2c_p0;
   w2c_i1 = 4294967263u;
   w2c_i0 = w2c_i0 > w2c_i1;
-  if (w2c_i0) {goto w2c_B212;}
+  if (w2c_i0) {goto w2c_B217;}
   w2c_i0 = w2c_p4;
   w2c_i1 = 6u;
   w2c_i0 <<= (w2c_i1 & 31);
@@ -19389,8 +20862,8 @@ static u32 w2c_f27(module *m, u32 w2c_p0, u32 w2c_p1, u64 w2c_p2, u64 w2c_p3, u3
   w2c_i1 = w2c_p1;
   w2c_i0 |= w2c_i1;
   w2c_p4 = w2c_i0;
-  goto w2c_B205;
-  w2c_B212:;
+  goto w2c_B210;
+  w2c_B217:;
   w2c_j0 = w2c_p3;
   w2c_i0 = (u32)(w2c_j0);
   w2c_i0 = i32_load8_u(m, (u64)(w2c_i0) + 2u);
@@ -19400,7 +20873,7 @@ static u32 w2c_f27(module *m, u32 w2c_p0, u32 w2c_p1, u64 w2c_p2, u64 w2c_p3, u3
   w2c_i0 = w2c_p0;
   w2c_i1 = 4294967279u;
   w2c_i0 = w2c_i0 > w2c_i1;
-  if (w2c_i0) {goto w2c_B213;}
+  if (w2c_i0) {goto w2c_B218;}
   w2c_i0 = w2c_p1;
   w2c_i1 = 6u;
   w2c_i0 <<= (w2c_i1 & 31);
@@ -19413,8 +20886,8 @@ static u32 w2c_f27(module *m, u32 w2c_p0, u32 w2c_p1, u64 w2c_p2, u64 w2c_p3, u3
   w2c_i1 = w2c_l12;
   w2c_i0 |= w2c_i1;
   w2c_p4 = w2c_i0;
-  goto w2c_B205;
-  w2c_B213:;
+  goto w2c_B210;
+  w2c_B218:;
   w2c_i0 = w2c_l12;
   w2c_i1 = 6u;
   w2c_i0 <<= (w2c_i1 & 31);
@@ -19435,22 +20908,22 @@ static u32 w2c_f27(module *m, u32 w2c_p0, u32 w2c_p1, u64 w2c_p2, u64 w2c_p3, u3
   w2c_i1 &= w2c_i2;
   w2c_i0 |= w2c_i1;
   w2c_p4 = w2c_i0;
-  goto w2c_B205;
-  w2c_B206:;
+  goto w2c_B210;
+  w2c_B211:;
   w2c_i0 = w2c_p0;
   w2c_i1 = w2c_p1;
   w2c_i2 = w2c_p4;
-  w2c_i0 = w2c_f28(m, w2c_i0, w2c_i1, w2c_i2);
+  w2c_i0 = w2c_f29(m, w2c_i0, w2c_i1, w2c_i2);
   if (w2c_i0) {goto w2c_B0;}
-  w2c_B205:;
+  w2c_B210:;
   w2c_i0 = w2c_p4;
   w2c_i1 = 27490u;
   w2c_i0 = (u32)((s32)w2c_i0 > (s32)w2c_i1);
-  if (w2c_i0) {goto w2c_B215;}
+  if (w2c_i0) {goto w2c_B220;}
   w2c_i0 = w2c_p4;
   w2c_i1 = 25284u;
   w2c_i0 = (u32)((s32)w2c_i0 > (s32)w2c_i1);
-  if (w2c_i0) {goto w2c_B216;}
+  if (w2c_i0) {goto w2c_B221;}
   w2c_i0 = w2c_p4;
   w2c_i1 = 19981u;
   w2c_i0 = w2c_i0 == w2c_i1;
@@ -19462,13 +20935,13 @@ static u32 w2c_f27(module *m, u32 w2c_p0, u32 w2c_p1, u64 w2c_p2, u64 w2c_p3, u3
   w2c_i0 = w2c_p4;
   w2c_i1 = 25265u;
   w2c_i0 = w2c_i0 != w2c_i1;
-  if (w2c_i0) {goto w2c_B214;}
+  if (w2c_i0) {goto w2c_B219;}
   goto w2c_B0;
-  w2c_B216:;
+  w2c_B221:;
   w2c_i0 = w2c_p4;
   w2c_i1 = 25811u;
   w2c_i0 = (u32)((s32)w2c_i0 > (s32)w2c_i1);
-  if (w2c_i0) {goto w2c_B217;}
+  if (w2c_i0) {goto w2c_B222;}
   w2c_i0 = w2c_p4;
   w2c_i1 = 25285u;
   w2c_i0 = w2c_i0 == w2c_i1;
@@ -19476,9 +20949,9 @@ static u32 w2c_f27(module *m, u32 w2c_p0, u32 w2c_p1, u64 w2c_p2, u64 w2c_p3, u3
   w2c_i0 = w2c_p4;
   w2c_i1 = 25593u;
   w2c_i0 = w2c_i0 != w2c_i1;
-  if (w2c_i0) {goto w2c_B214;}
+  if (w2c_i0) {goto w2c_B219;}
   goto w2c_B0;
-  w2c_B217:;
+  w2c_B222:;
   w2c_i0 = w2c_p4;
   w2c_i1 = 25812u;
   w2c_i0 = w2c_i0 == w2c_i1;
@@ -19486,37 +20959,37 @@ static u32 w2c_f27(module *m, u32 w2c_p0, u32 w2c_p1, u64 w2c_p2, u64 w2c_p3, u3
   w2c_i0 = w2c_p4;
   w2c_i1 = 27450u;
   w2c_i0 = w2c_i0 != w2c_i1;
-  if (w2c_i0) {goto w2c_B214;}
+  if (w2c_i0) {goto w2c_B219;}
   goto w2c_B0;
-  w2c_B215:;
+  w2c_B220:;
   w2c_i0 = w2c_p4;
   w2c_i1 = 33257u;
   w2c_i0 = (u32)((s32)w2c_i0 > (s32)w2c_i1);
-  if (w2c_i0) {goto w2c_B218;}
+  if (w2c_i0) {goto w2c_B223;}
   w2c_i0 = w2c_p4;
   w2c_i1 = 4294934324u;
   w2c_i0 += w2c_i1;
   switch (w2c_i0) {
     case 0: goto w2c_B0;
-    case 1: goto w2c_B214;
-    case 2: goto w2c_B214;
-    case 3: goto w2c_B214;
-    case 4: goto w2c_B214;
-    case 5: goto w2c_B214;
-    case 6: goto w2c_B214;
-    case 7: goto w2c_B214;
-    case 8: goto w2c_B214;
-    case 9: goto w2c_B214;
-    case 10: goto w2c_B214;
-    case 11: goto w2c_B214;
-    case 12: goto w2c_B214;
-    case 13: goto w2c_B214;
-    case 14: goto w2c_B214;
-    case 15: goto w2c_B214;
+    case 1: goto w2c_B219;
+    case 2: goto w2c_B219;
+    case 3: goto w2c_B219;
+    case 4: goto w2c_B219;
+    case 5: goto w2c_B219;
+    case 6: goto w2c_B219;
+    case 7: goto w2c_B219;
+    case 8: goto w2c_B219;
+    case 9: goto w2c_B219;
+    case 10: goto w2c_B219;
+    case 11: goto w2c_B219;
+    case 12: goto w2c_B219;
+    case 13: goto w2c_B219;
+    case 14: goto w2c_B219;
+    case 15: goto w2c_B219;
     case 16: goto w2c_B0;
-    default: goto w2c_B219;
+    default: goto w2c_B224;
   }
-  w2c_B219:;
+  w2c_B224:;
   w2c_i0 = w2c_p4;
   w2c_i1 = 27491u;
   w2c_i0 = w2c_i0 == w2c_i1;
@@ -19524,9 +20997,9 @@ static u32 w2c_f27(module *m, u32 w2c_p0, u32 w2c_p1, u64 w2c_p2, u64 w2c_p3, u3
   w2c_i0 = w2c_p4;
   w2c_i1 = 32937u;
   w2c_i0 = w2c_i0 != w2c_i1;
-  if (w2c_i0) {goto w2c_B214;}
+  if (w2c_i0) {goto w2c_B219;}
   goto w2c_B0;
-  w2c_B218:;
+  w2c_B223:;
   w2c_i0 = w2c_p4;
   w2c_i1 = 33258u;
   w2c_i0 = w2c_i0 == w2c_i1;
@@ -19539,7 +21012,7 @@ static u32 w2c_f27(module *m, u32 w2c_p0, u32 w2c_p1, u64 w2c_p2, u64 w2c_p3, u3
   w2c_i1 = 38750u;
   w2c_i0 = w2c_i0 == w2c_i1;
   if (w2c_i0) {goto w2c_B0;}
-  w2c_B214:;
+  w2c_B219:;
   w2c_i0 = 1u;
   w2c_l11 = w2c_i0;
   w2c_B0:;
@@ -19551,7 +21024,7 @@ static u32 w2c_f27(module *m, u32 w2c_p0, u32 w2c_p1, u64 w2c_p2, u64 w2c_p3, u3
   return w2c_i0;
 }
 
-static u32 w2c_f28(module *m, u32 w2c_p0, u32 w2c_p1, u32 w2c_p2) {
+static u32 w2c_f29(module *m, u32 w2c_p0, u32 w2c_p1, u32 w2c_p2) {
   u32 w2c_l5 = 0, w2c_l6 = 0, w2c_l7 = 0;
   u64 w2c_l3 = 0, w2c_l4 = 0;
   u32 w2c_i0, w2c_i1, w2c_i2, w2c_i3, w2c_i4;
@@ -19626,7 +21099,7 @@ static u32 w2c_f28(module *m, u32 w2c_p0, u32 w2c_p1, u32 w2c_p2) {
   w2c_j1 = 8ull;
   w2c_j0 += w2c_j1;
   w2c_i1 = w2c_p2;
-  w2c_f21(m, w2c_j0, w2c_i1);
+  w2c_f18(m, w2c_j0, w2c_i1);
   w2c_i0 = 1u;
   w2c_l6 = w2c_i0;
   w2c_j0 = w2c_l3;
@@ -19666,7 +21139,7 @@ static u32 w2c_f28(module *m, u32 w2c_p0, u32 w2c_p1, u32 w2c_p2) {
   w2c_i4 = w2c_l7;
   w2c_j5 = 66332ull;
   w2c_j6 = 0ull;
-  w2c_i0 = w2c_f20(m, w2c_i0, w2c_i1, w2c_i2, w2c_i3, w2c_i4, w2c_j5, w2c_j6);
+  w2c_i0 = w2c_f17(m, w2c_i0, w2c_i1, w2c_i2, w2c_i3, w2c_i4, w2c_j5, w2c_j6);
   if (w2c_i0) {goto w2c_B1;}
   w2c_B2:;
   w2c_i0 = 1u;
@@ -19698,11 +21171,11 @@ static u32 w2c_f28(module *m, u32 w2c_p0, u32 w2c_p1, u32 w2c_p2) {
   return w2c_i0;
 }
 
-static u32 w2c_f29(module *m, u32 w2c_p0, u32 w2c_p1, u64 w2c_p2, u64 w2c_p3) {
-  u32 w2c_l7 = 0, w2c_l8 = 0, w2c_l9 = 0, w2c_l10 = 0;
-  u64 w2c_l4 = 0, w2c_l5 = 0, w2c_l6 = 0;
+static u32 w2c_f30(module *m, u32 w2c_p0, u32 w2c_p1, u64 w2c_p2, u64 w2c_p3) {
+  u32 w2c_l6 = 0, w2c_l7 = 0, w2c_l8 = 0, w2c_l9 = 0;
+  u64 w2c_l4 = 0, w2c_l5 = 0;
   u32 w2c_i0, w2c_i1, w2c_i2, w2c_i3, w2c_i4;
-  u64 w2c_j0, w2c_j1, w2c_j5, w2c_j6, w2c_j7;
+  u64 w2c_j0, w2c_j1, w2c_j2, w2c_j5, w2c_j6;
   w2c_j0 = m->w2c_g0;
   w2c_j1 = 16ull;
   w2c_j0 -= w2c_j1;
@@ -19714,81 +21187,147 @@ static u32 w2c_f29(module *m, u32 w2c_p0, u32 w2c_p1, u64 w2c_p2, u64 w2c_p3) {
   w2c_i0 = (u64)((s64)w2c_j0 < (s64)w2c_j1);
   if (w2c_i0) {goto w2c_B0;}
   w2c_j0 = w2c_p3;
-  w2c_i0 = !(w2c_j0);
-  w2c_i0 = !(w2c_i0);
-  if (w2c_i0) {goto w2c_B2;}
-  w2c_i0 = 0u;
-  w2c_l7 = w2c_i0;
-  goto w2c_B1;
-  w2c_B2:;
+  w2c_j1 = 3ull;
+  w2c_i0 = w2c_j0 < w2c_j1;
+  if (w2c_i0) {goto w2c_B7;}
   w2c_j0 = w2c_p2;
   w2c_i0 = (u32)(w2c_j0);
-  w2c_i0 = i32_load8_s(m, (u64)(w2c_i0));
-  w2c_l7 = w2c_i0;
-  w2c_i1 = 255u;
+  w2c_i0 = i32_load8_u(m, (u64)(w2c_i0));
+  w2c_l6 = w2c_i0;
+  w2c_i1 = 240u;
   w2c_i0 &= w2c_i1;
-  w2c_l8 = w2c_i0;
+  w2c_i1 = 224u;
+  w2c_i0 = w2c_i0 != w2c_i1;
+  if (w2c_i0) {goto w2c_B6;}
+  w2c_j0 = w2c_p2;
+  w2c_i0 = (u32)(w2c_j0);
+  w2c_i0 = i32_load8_u(m, (u64)(w2c_i0) + 1u);
+  w2c_l7 = w2c_i0;
+  w2c_i1 = 8u;
+  w2c_i0 <<= (w2c_i1 & 31);
+  w2c_j1 = w2c_p2;
+  w2c_i1 = (u32)(w2c_j1);
+  w2c_i1 = i32_load8_u(m, (u64)(w2c_i1) + 2u);
+  w2c_l8 = w2c_i1;
+  w2c_i2 = 16u;
+  w2c_i1 <<= (w2c_i2 & 31);
+  w2c_i0 |= w2c_i1;
+  w2c_i1 = w2c_l6;
+  w2c_i0 |= w2c_i1;
+  w2c_l9 = w2c_i0;
+  w2c_i0 = w2c_l6;
+  w2c_i1 = 12u;
+  w2c_i0 <<= (w2c_i1 & 31);
+  w2c_i1 = w2c_l7;
+  w2c_i2 = 6u;
+  w2c_i1 <<= (w2c_i2 & 31);
+  w2c_i0 += w2c_i1;
+  w2c_i1 = w2c_l8;
+  w2c_i0 += w2c_i1;
+  w2c_i1 = 4294041472u;
+  w2c_i0 += w2c_i1;
+  w2c_l6 = w2c_i0;
+  w2c_i0 = w2c_l9;
+  w2c_i1 = w2c_l9;
+  w2c_j1 = (u64)(w2c_i1);
+  w2c_j2 = 953497ull;
+  w2c_j1 *= w2c_j2;
+  w2c_j2 = 22ull;
+  w2c_j1 >>= (w2c_j2 & 63);
+  w2c_j2 = 1016ull;
+  w2c_j1 &= w2c_j2;
+  w2c_l5 = w2c_j1;
+  w2c_j2 = 66992ull;
+  w2c_j1 += w2c_j2;
+  w2c_i1 = (u32)(w2c_j1);
+  w2c_i1 = i32_load(m, (u64)(w2c_i1));
+  w2c_i0 = w2c_i0 != w2c_i1;
+  if (w2c_i0) {goto w2c_B2;}
+  w2c_j0 = w2c_p3;
+  w2c_j1 = 18446744073709551613ull;
+  w2c_j0 += w2c_j1;
+  w2c_p3 = w2c_j0;
+  w2c_j0 = w2c_p2;
+  w2c_j1 = 3ull;
+  w2c_j0 += w2c_j1;
+  w2c_p2 = w2c_j0;
+  goto w2c_B5;
+  w2c_B7:;
+  w2c_j0 = w2c_p3;
+  w2c_i0 = !(w2c_j0);
+  w2c_i0 = !(w2c_i0);
+  if (w2c_i0) {goto w2c_B8;}
+  w2c_i0 = 0u;
+  w2c_p1 = w2c_i0;
+  goto w2c_B1;
+  w2c_B8:;
+  w2c_j0 = w2c_p2;
+  w2c_i0 = (u32)(w2c_j0);
+  w2c_i0 = i32_load8_u(m, (u64)(w2c_i0));
+  w2c_l6 = w2c_i0;
+  w2c_B6:;
   w2c_j0 = 1ull;
   w2c_l5 = w2c_j0;
-  w2c_i0 = w2c_l7;
+  w2c_i0 = w2c_l6;
+  w2c_i0 = (u32)(s32)(s8)(u8)(w2c_i0);
   w2c_i1 = 4294967295u;
   w2c_i0 = (u32)((s32)w2c_i0 > (s32)w2c_i1);
-  if (w2c_i0) {goto w2c_B3;}
+  if (w2c_i0) {goto w2c_B9;}
   w2c_j0 = w2c_p2;
   w2c_i0 = (u32)(w2c_j0);
   w2c_i0 = i32_load8_u(m, (u64)(w2c_i0) + 1u);
   w2c_i1 = 63u;
   w2c_i0 &= w2c_i1;
   w2c_l9 = w2c_i0;
-  w2c_i0 = w2c_l7;
-  w2c_i1 = 4294967263u;
+  w2c_i0 = w2c_l6;
+  w2c_i1 = 223u;
   w2c_i0 = w2c_i0 > w2c_i1;
-  if (w2c_i0) {goto w2c_B4;}
-  w2c_i0 = w2c_l8;
+  if (w2c_i0) {goto w2c_B10;}
+  w2c_i0 = w2c_l6;
   w2c_i1 = 6u;
   w2c_i0 <<= (w2c_i1 & 31);
   w2c_i1 = 1984u;
   w2c_i0 &= w2c_i1;
   w2c_i1 = w2c_l9;
   w2c_i0 |= w2c_i1;
-  w2c_l8 = w2c_i0;
+  w2c_l6 = w2c_i0;
   w2c_j0 = 2ull;
   w2c_l5 = w2c_j0;
-  goto w2c_B3;
-  w2c_B4:;
+  goto w2c_B9;
+  w2c_B10:;
   w2c_j0 = w2c_p2;
   w2c_i0 = (u32)(w2c_j0);
   w2c_i0 = i32_load8_u(m, (u64)(w2c_i0) + 2u);
   w2c_i1 = 63u;
   w2c_i0 &= w2c_i1;
-  w2c_l10 = w2c_i0;
-  w2c_i0 = w2c_l7;
-  w2c_i1 = 4294967279u;
+  w2c_l7 = w2c_i0;
+  w2c_i0 = w2c_l6;
+  w2c_i1 = 239u;
   w2c_i0 = w2c_i0 > w2c_i1;
-  if (w2c_i0) {goto w2c_B5;}
+  if (w2c_i0) {goto w2c_B11;}
   w2c_i0 = w2c_l9;
   w2c_i1 = 6u;
   w2c_i0 <<= (w2c_i1 & 31);
-  w2c_i1 = w2c_l8;
+  w2c_i1 = w2c_l6;
   w2c_i2 = 12u;
   w2c_i1 <<= (w2c_i2 & 31);
   w2c_i2 = 61440u;
   w2c_i1 &= w2c_i2;
   w2c_i0 |= w2c_i1;
-  w2c_i1 = w2c_l10;
+  w2c_i1 = w2c_l7;
   w2c_i0 |= w2c_i1;
-  w2c_l8 = w2c_i0;
+  w2c_l6 = w2c_i0;
   w2c_j0 = 3ull;
   w2c_l5 = w2c_j0;
-  goto w2c_B3;
-  w2c_B5:;
-  w2c_i0 = w2c_l10;
+  goto w2c_B9;
+  w2c_B11:;
+  w2c_i0 = w2c_l7;
   w2c_i1 = 6u;
   w2c_i0 <<= (w2c_i1 & 31);
   w2c_i1 = w2c_l9;
   w2c_i2 = 12u;
   w2c_i1 <<= (w2c_i2 & 31);
-  w2c_i2 = w2c_l8;
+  w2c_i2 = w2c_l6;
   w2c_i3 = 18u;
   w2c_i2 <<= (w2c_i3 & 31);
   w2c_i3 = 1835008u;
@@ -19801,26 +21340,34 @@ static u32 w2c_f29(module *m, u32 w2c_p0, u32 w2c_p1, u64 w2c_p2, u64 w2c_p3) {
   w2c_i2 = 63u;
   w2c_i1 &= w2c_i2;
   w2c_i0 |= w2c_i1;
-  w2c_l8 = w2c_i0;
+  w2c_l6 = w2c_i0;
   w2c_j0 = 4ull;
   w2c_l5 = w2c_j0;
-  w2c_B3:;
-  w2c_i0 = w2c_l8;
+  w2c_B9:;
+  w2c_j0 = w2c_p3;
+  w2c_j1 = w2c_l5;
+  w2c_j0 -= w2c_j1;
+  w2c_p3 = w2c_j0;
+  w2c_j0 = w2c_p2;
+  w2c_j1 = w2c_l5;
+  w2c_j0 += w2c_j1;
+  w2c_p2 = w2c_j0;
+  w2c_i0 = w2c_l6;
   w2c_i1 = 4294965248u;
   w2c_i0 += w2c_i1;
   w2c_i1 = 63487u;
   w2c_i0 = w2c_i0 > w2c_i1;
-  if (w2c_i0) {goto w2c_B8;}
-  w2c_i0 = w2c_l8;
+  if (w2c_i0) {goto w2c_B4;}
+  w2c_i0 = w2c_l6;
   w2c_i1 = 12u;
   w2c_i0 >>= (w2c_i1 & 31);
-  w2c_i1 = w2c_l8;
+  w2c_i1 = w2c_l6;
   w2c_i2 = 2u;
   w2c_i1 <<= (w2c_i2 & 31);
   w2c_i2 = 16128u;
   w2c_i1 &= w2c_i2;
   w2c_i0 |= w2c_i1;
-  w2c_i1 = w2c_l8;
+  w2c_i1 = w2c_l6;
   w2c_i2 = 16u;
   w2c_i1 <<= (w2c_i2 & 31);
   w2c_i2 = 4128768u;
@@ -19828,7 +21375,7 @@ static u32 w2c_f29(module *m, u32 w2c_p0, u32 w2c_p1, u64 w2c_p2, u64 w2c_p3) {
   w2c_i0 |= w2c_i1;
   w2c_i1 = 8421600u;
   w2c_i0 |= w2c_i1;
-  w2c_l7 = w2c_i0;
+  w2c_l9 = w2c_i0;
   w2c_j0 = (u64)(w2c_i0);
   w2c_j1 = 953497ull;
   w2c_j0 *= w2c_j1;
@@ -19836,106 +21383,103 @@ static u32 w2c_f29(module *m, u32 w2c_p0, u32 w2c_p1, u64 w2c_p2, u64 w2c_p3) {
   w2c_j0 >>= (w2c_j1 & 63);
   w2c_j1 = 1016ull;
   w2c_j0 &= w2c_j1;
-  w2c_l6 = w2c_j0;
+  w2c_l5 = w2c_j0;
+  w2c_j1 = 66992ull;
+  w2c_j0 += w2c_j1;
   w2c_i0 = (u32)(w2c_j0);
-  w2c_i0 = i32_load(m, (u64)(w2c_i0) + 66992u);
-  w2c_i1 = w2c_l7;
+  w2c_i0 = i32_load(m, (u64)(w2c_i0));
+  w2c_i1 = w2c_l9;
   w2c_i0 = w2c_i0 != w2c_i1;
-  if (w2c_i0) {goto w2c_B6;}
-  w2c_j0 = w2c_l6;
+  if (w2c_i0) {goto w2c_B2;}
+  w2c_B5:;
+  w2c_j0 = w2c_l5;
   w2c_j1 = 66996ull;
   w2c_j0 += w2c_j1;
   w2c_i0 = (u32)(w2c_j0);
   w2c_i0 = i32_load8_u(m, (u64)(w2c_i0));
-  w2c_l7 = w2c_i0;
-  w2c_i1 = 255u;
-  w2c_i0 &= w2c_i1;
+  w2c_l9 = w2c_i0;
   w2c_i1 = 2u;
   w2c_i0 = w2c_i0 == w2c_i1;
-  if (w2c_i0) {goto w2c_B6;}
-  w2c_j0 = w2c_l6;
+  if (w2c_i0) {goto w2c_B2;}
+  w2c_j0 = w2c_l5;
   w2c_j1 = 66997ull;
   w2c_j0 += w2c_j1;
   w2c_i0 = (u32)(w2c_j0);
   w2c_i0 = i32_load8_u(m, (u64)(w2c_i0));
-  w2c_l9 = w2c_i0;
-  goto w2c_B7;
-  w2c_B8:;
+  w2c_l7 = w2c_i0;
+  goto w2c_B3;
+  w2c_B4:;
   w2c_j0 = w2c_l4;
   w2c_j1 = 8ull;
   w2c_j0 += w2c_j1;
-  w2c_i1 = w2c_l8;
-  w2c_f21(m, w2c_j0, w2c_i1);
+  w2c_i1 = w2c_l6;
+  w2c_f18(m, w2c_j0, w2c_i1);
   w2c_i0 = 1u;
-  w2c_l7 = w2c_i0;
+  w2c_l9 = w2c_i0;
   w2c_j0 = w2c_l4;
   w2c_i0 = (u32)(w2c_j0);
   w2c_i0 = i32_load8_u(m, (u64)(w2c_i0) + 8u);
   w2c_i1 = 1u;
   w2c_i0 = w2c_i0 != w2c_i1;
-  if (w2c_i0) {goto w2c_B9;}
+  if (w2c_i0) {goto w2c_B12;}
   w2c_j0 = w2c_l4;
   w2c_i0 = (u32)(w2c_j0);
   w2c_i0 = i32_load8_u(m, (u64)(w2c_i0) + 9u);
-  w2c_l9 = w2c_i0;
-  w2c_i0 = 0u;
   w2c_l7 = w2c_i0;
-  goto w2c_B7;
-  w2c_B9:;
+  w2c_i0 = 0u;
+  w2c_l9 = w2c_i0;
+  goto w2c_B3;
+  w2c_B12:;
   w2c_j0 = w2c_l4;
-  w2c_i1 = w2c_l8;
+  w2c_i1 = w2c_l6;
   w2c_f19(m, w2c_j0, w2c_i1);
   w2c_j0 = w2c_l4;
   w2c_i0 = (u32)(w2c_j0);
   w2c_i0 = i32_load8_u(m, (u64)(w2c_i0));
   w2c_i1 = 1u;
   w2c_i0 = w2c_i0 != w2c_i1;
-  if (w2c_i0) {goto w2c_B6;}
+  if (w2c_i0) {goto w2c_B2;}
   w2c_j0 = w2c_l4;
   w2c_i0 = (u32)(w2c_j0);
   w2c_i0 = i32_load8_u(m, (u64)(w2c_i0) + 1u);
-  w2c_l9 = w2c_i0;
-  w2c_B7:;
+  w2c_l7 = w2c_i0;
+  w2c_B3:;
   w2c_i0 = w2c_p0;
   w2c_i1 = w2c_p1;
-  w2c_i2 = w2c_l8;
-  w2c_i3 = w2c_l7;
-  w2c_i4 = w2c_l9;
+  w2c_i2 = w2c_l6;
+  w2c_i3 = w2c_l9;
+  w2c_i4 = w2c_l7;
   w2c_j5 = w2c_p2;
-  w2c_j6 = w2c_l5;
-  w2c_j5 += w2c_j6;
   w2c_j6 = w2c_p3;
-  w2c_j7 = w2c_l5;
-  w2c_j6 -= w2c_j7;
-  w2c_i0 = w2c_f20(m, w2c_i0, w2c_i1, w2c_i2, w2c_i3, w2c_i4, w2c_j5, w2c_j6);
+  w2c_i0 = w2c_f17(m, w2c_i0, w2c_i1, w2c_i2, w2c_i3, w2c_i4, w2c_j5, w2c_j6);
   w2c_i0 = !(w2c_i0);
-  if (w2c_i0) {goto w2c_B6;}
+  if (w2c_i0) {goto w2c_B2;}
   w2c_i0 = 1u;
-  w2c_l7 = w2c_i0;
+  w2c_p1 = w2c_i0;
   goto w2c_B1;
-  w2c_B6:;
+  w2c_B2:;
   w2c_i0 = 1u;
-  w2c_l7 = w2c_i0;
-  w2c_i0 = w2c_l8;
+  w2c_p1 = w2c_i0;
+  w2c_i0 = w2c_l6;
   w2c_i1 = 21317u;
   w2c_i0 = w2c_i0 == w2c_i1;
   if (w2c_i0) {goto w2c_B1;}
-  w2c_i0 = w2c_l8;
+  w2c_i0 = w2c_l6;
   w2c_i1 = 24319u;
   w2c_i0 = w2c_i0 == w2c_i1;
   if (w2c_i0) {goto w2c_B1;}
-  w2c_i0 = w2c_l8;
+  w2c_i0 = w2c_l6;
   w2c_i1 = 4294902000u;
   w2c_i0 += w2c_i1;
   w2c_i1 = 10u;
   w2c_i0 = w2c_i0 < w2c_i1;
-  w2c_l7 = w2c_i0;
+  w2c_p1 = w2c_i0;
   w2c_B1:;
   w2c_j0 = w2c_l4;
   w2c_j1 = 16ull;
   w2c_j0 += w2c_j1;
   m->w2c_g0 = w2c_j0;
-  w2c_i0 = w2c_l7;
+  w2c_i0 = w2c_p1;
   goto w2c_Bfunc;
   w2c_B0:;
   UNREACHABLE;
@@ -19943,7 +21487,7 @@ static u32 w2c_f29(module *m, u32 w2c_p0, u32 w2c_p1, u64 w2c_p2, u64 w2c_p3) {
   return w2c_i0;
 }
 
-static u64 w2c_f30(module *m, u64 w2c_p0, u64 w2c_p1, u32 w2c_p2, u32 w2c_p3, u64 w2c_p4, u64 w2c_p5) {
+static u64 w2c_f31(module *m, u64 w2c_p0, u64 w2c_p1, u32 w2c_p2, u32 w2c_p3, u64 w2c_p4, u64 w2c_p5) {
   u32 w2c_l16 = 0, w2c_l17 = 0, w2c_l18 = 0, w2c_l19 = 0, w2c_l20 = 0, w2c_l21 = 0;
   u64 w2c_l6 = 0, w2c_l7 = 0, w2c_l8 = 0, w2c_l9 = 0, w2c_l10 = 0, w2c_l11 = 0, w2c_l12 = 0, w2c_l13 = 0, w2c_l14 = 0, w2c_l15 = 0;
   u32 w2c_i0, w2c_i1, w2c_i2, w2c_i3, w2c_i4, w2c_i5, w2c_i6;
@@ -24866,7 +26410,7 @@ static u64 w2c_f30(module *m, u64 w2c_p0, u64 w2c_p1, u32 w2c_p2, u32 w2c_p3, u6
   return w2c_j0;
 }
 
-static void w2c_f31(module *m, u64 w2c_p0, u64 w2c_p1, u64 w2c_p2, u32 w2c_p3) {
+static void w2c_f32(module *m, u64 w2c_p0, u64 w2c_p1, u64 w2c_p2, u32 w2c_p3) {
   u32 w2c_l12 = 0, w2c_l13 = 0, w2c_l14 = 0;
   u64 w2c_l4 = 0, w2c_l5 = 0, w2c_l6 = 0, w2c_l7 = 0, w2c_l8 = 0, w2c_l9 = 0, w2c_l10 = 0, w2c_l11 = 0;
   u32 w2c_i0, w2c_i1, w2c_i2, w2c_i3, w2c_i4;
@@ -24914,7 +26458,7 @@ static void w2c_f31(module *m, u64 w2c_p0, u64 w2c_p1, u64 w2c_p2, u32 w2c_p3) {
   w2c_j0 += w2c_j1;
   w2c_j1 = w2c_p1;
   w2c_j2 = w2c_p2;
-  w2c_f32(m, w2c_j0, w2c_j1, w2c_j2);
+  w2c_f33(m, w2c_j0, w2c_j1, w2c_j2);
   w2c_i0 = 0u;
   w2c_l12 = w2c_i0;
   w2c_j0 = w2c_l4;
@@ -25104,7 +26648,7 @@ static void w2c_f31(module *m, u64 w2c_p0, u64 w2c_p1, u64 w2c_p2, u32 w2c_p3) {
   w2c_j0 += w2c_j1;
   w2c_j1 = w2c_p1;
   w2c_j2 = w2c_p2;
-  w2c_f32(m, w2c_j0, w2c_j1, w2c_j2);
+  w2c_f33(m, w2c_j0, w2c_j1, w2c_j2);
   w2c_j0 = w2c_l4;
   w2c_i0 = (u32)(w2c_j0);
   w2c_i0 = i32_load8_u(m, (u64)(w2c_i0) + 256u);
@@ -25155,7 +26699,7 @@ static void w2c_f31(module *m, u64 w2c_p0, u64 w2c_p1, u64 w2c_p2, u32 w2c_p3) {
     w2c_j0 += w2c_j1;
     w2c_j1 = w2c_l7;
     w2c_j2 = w2c_l6;
-    w2c_f32(m, w2c_j0, w2c_j1, w2c_j2);
+    w2c_f33(m, w2c_j0, w2c_j1, w2c_j2);
     w2c_j0 = w2c_l4;
     w2c_i0 = (u32)(w2c_j0);
     w2c_i0 = i32_load8_u(m, (u64)(w2c_i0) + 256u);
@@ -25194,7 +26738,7 @@ static void w2c_f31(module *m, u64 w2c_p0, u64 w2c_p1, u64 w2c_p2, u32 w2c_p3) {
     w2c_j0 += w2c_j1;
     w2c_j1 = w2c_l7;
     w2c_j2 = w2c_l6;
-    w2c_f32(m, w2c_j0, w2c_j1, w2c_j2);
+    w2c_f33(m, w2c_j0, w2c_j1, w2c_j2);
     w2c_j0 = w2c_l4;
     w2c_i0 = (u32)(w2c_j0);
     w2c_i0 = i32_load8_u(m, (u64)(w2c_i0) + 256u);
@@ -25215,41 +26759,40 @@ static void w2c_f31(module *m, u64 w2c_p0, u64 w2c_p1, u64 w2c_p2, u32 w2c_p3) {
   w2c_i1 = (u32)(w2c_j1);
   w2c_j1 = i64_load(m, (u64)(w2c_i1) + 288u);
   w2c_l10 = w2c_j1;
+  w2c_i0 = w2c_j0 == w2c_j1;
+  if (w2c_i0) {goto w2c_B17;}
+  w2c_j0 = w2c_p2;
+  w2c_j1 = w2c_l10;
   w2c_j0 -= w2c_j1;
   w2c_l8 = w2c_j0;
-  w2c_i0 = !(w2c_j0);
-  if (w2c_i0) {goto w2c_B17;}
-  w2c_j0 = w2c_p1;
-  w2c_l6 = w2c_j0;
   w2c_j0 = 0ull;
   w2c_l7 = w2c_j0;
+  w2c_j0 = 0ull;
+  w2c_l6 = w2c_j0;
   w2c_L18:
     w2c_j0 = w2c_l7;
     w2c_j1 = 1ull;
     w2c_j0 += w2c_j1;
     w2c_l7 = w2c_j0;
-    w2c_j0 = w2c_l6;
+    w2c_j0 = w2c_p1;
     w2c_j1 = w2c_l6;
-    w2c_i1 = (u32)(w2c_j1);
-    w2c_i1 = i32_load8_u(m, (u64)(w2c_i1));
-    w2c_i2 = 1u;
-    w2c_i1 >>= (w2c_i2 & 31);
-    w2c_j1 = (u64)(w2c_i1);
-    w2c_j2 = 120ull;
-    w2c_j1 &= w2c_j2;
-    w2c_j2 = 66848ull;
-    w2c_j1 += w2c_j2;
-    w2c_i1 = (u32)(w2c_j1);
-    w2c_j1 = i64_load(m, (u64)(w2c_i1));
-    w2c_l11 = w2c_j1;
+    w2c_j0 += w2c_j1;
+    w2c_i0 = (u32)(w2c_j0);
+    w2c_i0 = i32_load8_u(m, (u64)(w2c_i0));
+    w2c_i1 = 1u;
+    w2c_i0 >>= (w2c_i1 & 31);
+    w2c_j0 = (u64)(w2c_i0);
+    w2c_j1 = 120ull;
+    w2c_j0 &= w2c_j1;
+    w2c_j1 = 66848ull;
+    w2c_j0 += w2c_j1;
+    w2c_i0 = (u32)(w2c_j0);
+    w2c_j0 = i64_load(m, (u64)(w2c_i0));
+    w2c_j1 = w2c_l6;
     w2c_j0 += w2c_j1;
     w2c_l6 = w2c_j0;
-    w2c_j0 = w2c_l8;
-    w2c_j1 = w2c_l11;
-    w2c_j0 -= w2c_j1;
-    w2c_l8 = w2c_j0;
-    w2c_j1 = 0ull;
-    w2c_i0 = w2c_j0 != w2c_j1;
+    w2c_j1 = w2c_l8;
+    w2c_i0 = w2c_j0 < w2c_j1;
     if (w2c_i0) {goto w2c_L18;}
   w2c_B17:;
   w2c_j0 = w2c_l4;
@@ -25281,7 +26824,7 @@ static void w2c_f31(module *m, u64 w2c_p0, u64 w2c_p1, u64 w2c_p2, u32 w2c_p3) {
   w2c_j0 += w2c_j1;
   w2c_j1 = w2c_p1;
   w2c_j2 = w2c_l9;
-  w2c_f32(m, w2c_j0, w2c_j1, w2c_j2);
+  w2c_f33(m, w2c_j0, w2c_j1, w2c_j2);
   w2c_j0 = w2c_l4;
   w2c_i0 = (u32)(w2c_j0);
   w2c_i0 = i32_load8_u(m, (u64)(w2c_i0) + 256u);
@@ -25315,7 +26858,7 @@ static void w2c_f31(module *m, u64 w2c_p0, u64 w2c_p1, u64 w2c_p2, u32 w2c_p3) {
   w2c_j0 += w2c_j1;
   w2c_j1 = w2c_l6;
   w2c_j2 = w2c_l10;
-  w2c_f32(m, w2c_j0, w2c_j1, w2c_j2);
+  w2c_f33(m, w2c_j0, w2c_j1, w2c_j2);
   w2c_j0 = w2c_l4;
   w2c_i0 = (u32)(w2c_j0);
   w2c_i0 = i32_load8_u(m, (u64)(w2c_i0) + 256u);
@@ -25371,7 +26914,7 @@ static void w2c_f31(module *m, u64 w2c_p0, u64 w2c_p1, u64 w2c_p2, u32 w2c_p3) {
   w2c_j0 += w2c_j1;
   w2c_j1 = w2c_p1;
   w2c_j2 = w2c_l9;
-  w2c_f32(m, w2c_j0, w2c_j1, w2c_j2);
+  w2c_f33(m, w2c_j0, w2c_j1, w2c_j2);
   w2c_i0 = 0u;
   w2c_l13 = w2c_i0;
   w2c_j0 = w2c_l4;
@@ -25391,7 +26934,7 @@ static void w2c_f31(module *m, u64 w2c_p0, u64 w2c_p1, u64 w2c_p2, u32 w2c_p3) {
   w2c_j2 = w2c_l5;
   w2c_j3 = w2c_p1;
   w2c_j4 = w2c_l9;
-  w2c_f33(m, w2c_j0, w2c_i1, w2c_j2, w2c_j3, w2c_j4);
+  w2c_f34(m, w2c_j0, w2c_i1, w2c_j2, w2c_j3, w2c_j4);
   w2c_j0 = w2c_l4;
   w2c_i0 = (u32)(w2c_j0);
   w2c_j0 = i64_load(m, (u64)(w2c_i0) + 272u);
@@ -25415,7 +26958,7 @@ static void w2c_f31(module *m, u64 w2c_p0, u64 w2c_p1, u64 w2c_p2, u32 w2c_p3) {
   w2c_j3 = w2c_l4;
   w2c_i3 = (u32)(w2c_j3);
   w2c_j3 = i64_load(m, (u64)(w2c_i3) + 280u);
-  w2c_p2 = w2c_j3;
+  w2c_p1 = w2c_j3;
   w2c_j2 |= w2c_j3;
   w2c_i2 = !(w2c_j2);
   w2c_j3 = w2c_l4;
@@ -25445,7 +26988,7 @@ static void w2c_f31(module *m, u64 w2c_p0, u64 w2c_p1, u64 w2c_p2, u32 w2c_p3) {
   w2c_j2 += w2c_j3;
   w2c_j3 = w2c_l6;
   w2c_j4 = w2c_l10;
-  w2c_f33(m, w2c_j0, w2c_i1, w2c_j2, w2c_j3, w2c_j4);
+  w2c_f34(m, w2c_j0, w2c_i1, w2c_j2, w2c_j3, w2c_j4);
   w2c_j0 = w2c_l4;
   w2c_i0 = (u32)(w2c_j0);
   w2c_j0 = i64_load(m, (u64)(w2c_i0) + 224u);
@@ -25457,7 +27000,7 @@ static void w2c_f31(module *m, u64 w2c_p0, u64 w2c_p1, u64 w2c_p2, u32 w2c_p3) {
   w2c_j0 = w2c_l4;
   w2c_i0 = (u32)(w2c_j0);
   w2c_j0 = i64_load(m, (u64)(w2c_i0) + 240u);
-  w2c_p1 = w2c_j0;
+  w2c_p2 = w2c_j0;
   w2c_j1 = 38ull;
   w2c_i0 = w2c_j0 > w2c_j1;
   if (w2c_i0) {goto w2c_B4;}
@@ -25468,10 +27011,10 @@ static void w2c_f31(module *m, u64 w2c_p0, u64 w2c_p1, u64 w2c_p2, u32 w2c_p3) {
   w2c_j0 = w2c_l4;
   w2c_j1 = 16ull;
   w2c_j0 += w2c_j1;
-  w2c_j1 = w2c_p1;
+  w2c_j1 = w2c_p2;
   w2c_j2 = 4ull;
   w2c_j1 <<= (w2c_j2 & 63);
-  w2c_p1 = w2c_j1;
+  w2c_p2 = w2c_j1;
   w2c_j2 = 68624ull;
   w2c_j1 += w2c_j2;
   w2c_i1 = (u32)(w2c_j1);
@@ -25482,12 +27025,12 @@ static void w2c_f31(module *m, u64 w2c_p0, u64 w2c_p1, u64 w2c_p2, u32 w2c_p3) {
   w2c_j4 = 0ull;
   w2c_f3(m, w2c_j0, w2c_j1, w2c_j2, w2c_j3, w2c_j4);
   w2c_j0 = w2c_l4;
-  w2c_j1 = w2c_p1;
+  w2c_j1 = w2c_p2;
   w2c_j2 = 68632ull;
   w2c_j1 += w2c_j2;
   w2c_i1 = (u32)(w2c_j1);
   w2c_j1 = i64_load(m, (u64)(w2c_i1));
-  w2c_p1 = w2c_j1;
+  w2c_p2 = w2c_j1;
   w2c_j2 = 0ull;
   w2c_j3 = w2c_l8;
   w2c_j4 = 0ull;
@@ -25497,15 +27040,15 @@ static void w2c_f31(module *m, u64 w2c_p0, u64 w2c_p1, u64 w2c_p2, u32 w2c_p3) {
   w2c_j0 += w2c_j1;
   w2c_j1 = w2c_l5;
   w2c_j2 = 0ull;
-  w2c_j3 = w2c_p2;
+  w2c_j3 = w2c_p1;
   w2c_j4 = 0ull;
   w2c_f3(m, w2c_j0, w2c_j1, w2c_j2, w2c_j3, w2c_j4);
   w2c_j0 = w2c_l4;
   w2c_j1 = 48ull;
   w2c_j0 += w2c_j1;
-  w2c_j1 = w2c_p1;
+  w2c_j1 = w2c_p2;
   w2c_j2 = 0ull;
-  w2c_j3 = w2c_p2;
+  w2c_j3 = w2c_p1;
   w2c_j4 = 0ull;
   w2c_f3(m, w2c_j0, w2c_j1, w2c_j2, w2c_j3, w2c_j4);
   w2c_j0 = w2c_l4;
@@ -25519,25 +27062,25 @@ static void w2c_f31(module *m, u64 w2c_p0, u64 w2c_p1, u64 w2c_p2, u32 w2c_p3) {
   w2c_i2 = (u32)(w2c_j2);
   w2c_j2 = i64_load(m, (u64)(w2c_i2));
   w2c_j1 += w2c_j2;
-  w2c_p1 = w2c_j1;
+  w2c_p2 = w2c_j1;
   w2c_j2 = w2c_l4;
   w2c_i2 = (u32)(w2c_j2);
   w2c_j2 = i64_load(m, (u64)(w2c_i2) + 32u);
   w2c_j1 += w2c_j2;
   w2c_l8 = w2c_j1;
-  w2c_j2 = w2c_p1;
+  w2c_j2 = w2c_p2;
   w2c_i1 = w2c_j1 < w2c_j2;
   w2c_j1 = (u64)(w2c_i1);
   w2c_j0 += w2c_j1;
   w2c_j1 = w2c_l4;
   w2c_i1 = (u32)(w2c_j1);
   w2c_j1 = i64_load(m, (u64)(w2c_i1) + 8u);
-  w2c_j2 = w2c_p1;
+  w2c_j2 = w2c_p2;
   w2c_j3 = w2c_l5;
   w2c_i2 = w2c_j2 < w2c_j3;
   w2c_j2 = (u64)(w2c_i2);
   w2c_j1 += w2c_j2;
-  w2c_p1 = w2c_j1;
+  w2c_p2 = w2c_j1;
   w2c_j2 = w2c_l4;
   w2c_i2 = (u32)(w2c_j2);
   w2c_j2 = i64_load(m, (u64)(w2c_i2) + 48u);
@@ -25548,7 +27091,7 @@ static void w2c_f31(module *m, u64 w2c_p0, u64 w2c_p1, u64 w2c_p2, u32 w2c_p3) {
   w2c_i1 = (u32)(w2c_j1);
   w2c_j1 = i64_load(m, (u64)(w2c_i1) + 56u);
   w2c_j2 = w2c_l5;
-  w2c_j3 = w2c_p1;
+  w2c_j3 = w2c_p2;
   w2c_i2 = w2c_j2 < w2c_j3;
   w2c_j2 = (u64)(w2c_i2);
   w2c_j1 += w2c_j2;
@@ -25561,7 +27104,7 @@ static void w2c_f31(module *m, u64 w2c_p0, u64 w2c_p1, u64 w2c_p2, u32 w2c_p3) {
   w2c_j2 = w2c_l11;
   w2c_j3 = 100ull;
   w2c_j2 ^= w2c_j3;
-  w2c_j3 = w2c_p2;
+  w2c_j3 = w2c_p1;
   w2c_j2 |= w2c_j3;
   w2c_i2 = !(w2c_j2);
   w2c_i0 = w2c_i2 ? w2c_i0 : w2c_i1;
@@ -25569,7 +27112,7 @@ static void w2c_f31(module *m, u64 w2c_p0, u64 w2c_p1, u64 w2c_p2, u32 w2c_p3) {
   w2c_j0 = w2c_l4;
   w2c_i0 = (u32)(w2c_j0);
   w2c_j0 = i64_load(m, (u64)(w2c_i0) + 16u);
-  w2c_p2 = w2c_j0;
+  w2c_p1 = w2c_j0;
   goto w2c_B2;
   w2c_B21:;
   w2c_j0 = w2c_l4;
@@ -25603,7 +27146,7 @@ static void w2c_f31(module *m, u64 w2c_p0, u64 w2c_p1, u64 w2c_p2, u32 w2c_p3) {
   w2c_j0 += w2c_j1;
   w2c_j1 = w2c_p1;
   w2c_j2 = w2c_p2;
-  w2c_f34(m, w2c_j0, w2c_j1, w2c_j2);
+  w2c_f35(m, w2c_j0, w2c_j1, w2c_j2);
   w2c_j0 = w2c_l4;
   w2c_i0 = (u32)(w2c_j0);
   w2c_i0 = i32_load8_u(m, (u64)(w2c_i0) + 256u);
@@ -25647,7 +27190,7 @@ static void w2c_f31(module *m, u64 w2c_p0, u64 w2c_p1, u64 w2c_p2, u32 w2c_p3) {
   w2c_j0 += w2c_j1;
   w2c_j1 = w2c_l7;
   w2c_j2 = w2c_l6;
-  w2c_f32(m, w2c_j0, w2c_j1, w2c_j2);
+  w2c_f33(m, w2c_j0, w2c_j1, w2c_j2);
   w2c_j0 = w2c_l4;
   w2c_i0 = (u32)(w2c_j0);
   w2c_i0 = i32_load8_u(m, (u64)(w2c_i0) + 256u);
@@ -25670,7 +27213,7 @@ static void w2c_f31(module *m, u64 w2c_p0, u64 w2c_p1, u64 w2c_p2, u32 w2c_p3) {
   w2c_j2 = w2c_l5;
   w2c_j3 = w2c_l7;
   w2c_j4 = w2c_l6;
-  w2c_f35(m, w2c_j0, w2c_i1, w2c_j2, w2c_j3, w2c_j4);
+  w2c_f36(m, w2c_j0, w2c_i1, w2c_j2, w2c_j3, w2c_j4);
   w2c_j0 = w2c_l4;
   w2c_i0 = (u32)(w2c_j0);
   w2c_j0 = i64_load(m, (u64)(w2c_i0) + 176u);
@@ -25723,13 +27266,13 @@ static void w2c_f31(module *m, u64 w2c_p0, u64 w2c_p1, u64 w2c_p2, u32 w2c_p3) {
   w2c_j1 = w2c_l4;
   w2c_i1 = (u32)(w2c_j1);
   w2c_j1 = i64_load(m, (u64)(w2c_i1) + 72u);
-  w2c_p2 = w2c_j1;
+  w2c_p1 = w2c_j1;
   w2c_j2 = w2c_l4;
   w2c_i2 = (u32)(w2c_j2);
   w2c_j2 = i64_load(m, (u64)(w2c_i2) + 80u);
   w2c_j1 += w2c_j2;
   w2c_l8 = w2c_j1;
-  w2c_j2 = w2c_p2;
+  w2c_j2 = w2c_p1;
   w2c_i1 = w2c_j1 < w2c_j2;
   w2c_j1 = (u64)(w2c_i1);
   w2c_j0 += w2c_j1;
@@ -25741,7 +27284,7 @@ static void w2c_f31(module *m, u64 w2c_p0, u64 w2c_p1, u64 w2c_p2, u32 w2c_p3) {
   w2c_j0 = i64_load(m, (u64)(w2c_i0) + 64u);
   w2c_j1 = 18446744073709551612ull;
   w2c_j0 &= w2c_j1;
-  w2c_p2 = w2c_j0;
+  w2c_p1 = w2c_j0;
   w2c_i0 = 2u;
   w2c_l13 = w2c_i0;
   goto w2c_B2;
@@ -25761,7 +27304,7 @@ static void w2c_f31(module *m, u64 w2c_p0, u64 w2c_p1, u64 w2c_p2, u32 w2c_p3) {
   w2c_j2 = w2c_l5;
   w2c_j3 = w2c_p1;
   w2c_j4 = w2c_p2;
-  w2c_f35(m, w2c_j0, w2c_i1, w2c_j2, w2c_j3, w2c_j4);
+  w2c_f36(m, w2c_j0, w2c_i1, w2c_j2, w2c_j3, w2c_j4);
   w2c_j0 = w2c_l4;
   w2c_i0 = (u32)(w2c_j0);
   w2c_j0 = i64_load(m, (u64)(w2c_i0) + 128u);
@@ -25795,7 +27338,7 @@ static void w2c_f31(module *m, u64 w2c_p0, u64 w2c_p1, u64 w2c_p2, u32 w2c_p3) {
   w2c_j0 += w2c_j1;
   w2c_i0 = (u32)(w2c_j0);
   w2c_j0 = i64_load(m, (u64)(w2c_i0));
-  w2c_p2 = w2c_j0;
+  w2c_p1 = w2c_j0;
   w2c_j0 = w2c_l4;
   w2c_i0 = (u32)(w2c_j0);
   w2c_j0 = i64_load(m, (u64)(w2c_i0) + 136u);
@@ -25837,7 +27380,7 @@ static void w2c_f31(module *m, u64 w2c_p0, u64 w2c_p1, u64 w2c_p2, u32 w2c_p3) {
   w2c_i0 = 0u;
   w2c_l13 = w2c_i0;
   w2c_j0 = 1ull;
-  w2c_p1 = w2c_j0;
+  w2c_p2 = w2c_j0;
   goto w2c_B1;
   w2c_B2:;
   w2c_i0 = w2c_l12;
@@ -25877,7 +27420,7 @@ static void w2c_f31(module *m, u64 w2c_p0, u64 w2c_p1, u64 w2c_p2, u32 w2c_p3) {
   w2c_i0 = 0u;
   w2c_l13 = w2c_i0;
   w2c_j0 = 1ull;
-  w2c_p1 = w2c_j0;
+  w2c_p2 = w2c_j0;
   w2c_j0 = 0ull;
   w2c_l7 = w2c_j0;
   goto w2c_B1;
@@ -25897,7 +27440,7 @@ static void w2c_f31(module *m, u64 w2c_p0, u64 w2c_p1, u64 w2c_p2, u32 w2c_p3) {
   w2c_l6 = w2c_j0;
   w2c_B26:;
   w2c_j0 = 0ull;
-  w2c_p1 = w2c_j0;
+  w2c_p2 = w2c_j0;
   w2c_j0 = w2c_l4;
   w2c_i0 = (u32)(w2c_j0);
   w2c_j1 = 0ull;
@@ -25911,13 +27454,13 @@ static void w2c_f31(module *m, u64 w2c_p0, u64 w2c_p1, u64 w2c_p2, u32 w2c_p3) {
   goto w2c_B0;
   w2c_B1:;
   w2c_j0 = 0ull;
-  w2c_p2 = w2c_j0;
+  w2c_p1 = w2c_j0;
   w2c_j0 = 0ull;
   w2c_l8 = w2c_j0;
   w2c_B0:;
   w2c_j0 = w2c_p0;
   w2c_i0 = (u32)(w2c_j0);
-  w2c_j1 = w2c_p1;
+  w2c_j1 = w2c_p2;
   i64_store(m, (u64)(w2c_i0), w2c_j1);
   w2c_j0 = w2c_p0;
   w2c_j1 = 40ull;
@@ -25929,7 +27472,7 @@ static void w2c_f31(module *m, u64 w2c_p0, u64 w2c_p1, u64 w2c_p2, u32 w2c_p3) {
   w2c_j1 = 32ull;
   w2c_j0 += w2c_j1;
   w2c_i0 = (u32)(w2c_j0);
-  w2c_j1 = w2c_p2;
+  w2c_j1 = w2c_p1;
   i64_store(m, (u64)(w2c_i0), w2c_j1);
   w2c_j0 = w2c_p0;
   w2c_j1 = 24ull;
@@ -25980,7 +27523,7 @@ static void w2c_f31(module *m, u64 w2c_p0, u64 w2c_p1, u64 w2c_p2, u32 w2c_p3) {
   m->w2c_g0 = w2c_j0;
 }
 
-static void w2c_f32(module *m, u64 w2c_p0, u64 w2c_p1, u64 w2c_p2) {
+static void w2c_f33(module *m, u64 w2c_p0, u64 w2c_p1, u64 w2c_p2) {
   u32 w2c_l5 = 0, w2c_l6 = 0, w2c_l7 = 0, w2c_l8 = 0;
   u64 w2c_l3 = 0, w2c_l4 = 0;
   u32 w2c_i0, w2c_i1, w2c_i2, w2c_i3;
@@ -26231,7 +27774,7 @@ static void w2c_f32(module *m, u64 w2c_p0, u64 w2c_p1, u64 w2c_p2) {
   w2c_Bfunc:;
 }
 
-static void w2c_f33(module *m, u64 w2c_p0, u32 w2c_p1, u64 w2c_p2, u64 w2c_p3, u64 w2c_p4) {
+static void w2c_f34(module *m, u64 w2c_p0, u32 w2c_p1, u64 w2c_p2, u64 w2c_p3, u64 w2c_p4) {
   u32 w2c_l9 = 0, w2c_l10 = 0, w2c_l11 = 0;
   u64 w2c_l5 = 0, w2c_l6 = 0, w2c_l7 = 0, w2c_l8 = 0;
   u32 w2c_i0, w2c_i1, w2c_i2;
@@ -26311,7 +27854,7 @@ static void w2c_f33(module *m, u64 w2c_p0, u32 w2c_p1, u64 w2c_p2, u64 w2c_p3, u
   w2c_j0 += w2c_j1;
   w2c_j1 = w2c_p3;
   w2c_j2 = w2c_p4;
-  w2c_f32(m, w2c_j0, w2c_j1, w2c_j2);
+  w2c_f33(m, w2c_j0, w2c_j1, w2c_j2);
   w2c_i0 = 1u;
   w2c_l9 = w2c_i0;
   w2c_j0 = w2c_l5;
@@ -26352,7 +27895,7 @@ static void w2c_f33(module *m, u64 w2c_p0, u32 w2c_p1, u64 w2c_p2, u64 w2c_p3, u
     w2c_j0 += w2c_j1;
     w2c_j1 = w2c_l6;
     w2c_j2 = w2c_l7;
-    w2c_f32(m, w2c_j0, w2c_j1, w2c_j2);
+    w2c_f33(m, w2c_j0, w2c_j1, w2c_j2);
     w2c_i0 = 1u;
     w2c_l10 = w2c_i0;
     w2c_j0 = w2c_l5;
@@ -26405,7 +27948,7 @@ static void w2c_f33(module *m, u64 w2c_p0, u32 w2c_p1, u64 w2c_p2, u64 w2c_p3, u
   w2c_j2 = w2c_p2;
   w2c_j3 = w2c_p3;
   w2c_j4 = w2c_p4;
-  w2c_f35(m, w2c_j0, w2c_i1, w2c_j2, w2c_j3, w2c_j4);
+  w2c_f36(m, w2c_j0, w2c_i1, w2c_j2, w2c_j3, w2c_j4);
   w2c_j0 = w2c_l5;
   w2c_i0 = (u32)(w2c_j0);
   w2c_i0 = i32_load8_u(m, (u64)(w2c_i0) + 56u);
@@ -26424,7 +27967,7 @@ static void w2c_f33(module *m, u64 w2c_p0, u32 w2c_p1, u64 w2c_p2, u64 w2c_p3, u
   w2c_j3 = 0ull;
   w2c_j4 = w2c_p3;
   w2c_j5 = w2c_p4;
-  w2c_f36(m, w2c_j0, w2c_i1, w2c_j2, w2c_j3, w2c_j4, w2c_j5);
+  w2c_f37(m, w2c_j0, w2c_i1, w2c_j2, w2c_j3, w2c_j4, w2c_j5);
   w2c_i0 = 2u;
   w2c_l9 = w2c_i0;
   w2c_j0 = 0ull;
@@ -26523,7 +28066,7 @@ static void w2c_f33(module *m, u64 w2c_p0, u32 w2c_p1, u64 w2c_p2, u64 w2c_p3, u
   w2c_Bfunc:;
 }
 
-static void w2c_f34(module *m, u64 w2c_p0, u64 w2c_p1, u64 w2c_p2) {
+static void w2c_f35(module *m, u64 w2c_p0, u64 w2c_p1, u64 w2c_p2) {
   u32 w2c_l5 = 0, w2c_l6 = 0, w2c_l7 = 0, w2c_l8 = 0;
   u64 w2c_l3 = 0, w2c_l4 = 0;
   u32 w2c_i0, w2c_i1, w2c_i2, w2c_i3;
@@ -26784,7 +28327,7 @@ static void w2c_f34(module *m, u64 w2c_p0, u64 w2c_p1, u64 w2c_p2) {
   w2c_Bfunc:;
 }
 
-static void w2c_f35(module *m, u64 w2c_p0, u32 w2c_p1, u64 w2c_p2, u64 w2c_p3, u64 w2c_p4) {
+static void w2c_f36(module *m, u64 w2c_p0, u32 w2c_p1, u64 w2c_p2, u64 w2c_p3, u64 w2c_p4) {
   u32 w2c_l14 = 0, w2c_l15 = 0;
   u64 w2c_l5 = 0, w2c_l6 = 0, w2c_l7 = 0, w2c_l8 = 0, w2c_l9 = 0, w2c_l10 = 0, w2c_l11 = 0, w2c_l12 = 0, w2c_l13 = 0;
   u32 w2c_i0, w2c_i1, w2c_i2, w2c_i3, w2c_i4;
@@ -26858,7 +28401,7 @@ static void w2c_f35(module *m, u64 w2c_p0, u32 w2c_p1, u64 w2c_p2, u64 w2c_p3, u
   w2c_j0 += w2c_j1;
   w2c_j1 = w2c_p3;
   w2c_j2 = w2c_p4;
-  w2c_f32(m, w2c_j0, w2c_j1, w2c_j2);
+  w2c_f33(m, w2c_j0, w2c_j1, w2c_j2);
   w2c_j0 = w2c_p3;
   w2c_l7 = w2c_j0;
   w2c_j0 = w2c_p4;
@@ -26884,7 +28427,7 @@ static void w2c_f35(module *m, u64 w2c_p0, u32 w2c_p1, u64 w2c_p2, u64 w2c_p3, u
   w2c_j2 = w2c_l5;
   w2c_i2 = (u32)(w2c_j2);
   w2c_i2 = i32_load(m, (u64)(w2c_i2) + 288u);
-  w2c_f37(m, w2c_j0, w2c_i1, w2c_i2);
+  w2c_f38(m, w2c_j0, w2c_i1, w2c_i2);
   w2c_j0 = w2c_l5;
   w2c_i0 = (u32)(w2c_j0);
   w2c_i0 = i32_load8_u(m, (u64)(w2c_i0) + 168u);
@@ -26921,7 +28464,7 @@ static void w2c_f35(module *m, u64 w2c_p0, u32 w2c_p1, u64 w2c_p2, u64 w2c_p3, u
     w2c_l7 = w2c_j1;
     w2c_j2 = w2c_l9;
     w2c_l8 = w2c_j2;
-    w2c_f32(m, w2c_j0, w2c_j1, w2c_j2);
+    w2c_f33(m, w2c_j0, w2c_j1, w2c_j2);
     w2c_j0 = w2c_l5;
     w2c_i0 = (u32)(w2c_j0);
     w2c_i0 = i32_load8_u(m, (u64)(w2c_i0) + 280u);
@@ -26943,7 +28486,7 @@ static void w2c_f35(module *m, u64 w2c_p0, u32 w2c_p1, u64 w2c_p2, u64 w2c_p3, u
     w2c_j2 = w2c_l5;
     w2c_i2 = (u32)(w2c_j2);
     w2c_i2 = i32_load(m, (u64)(w2c_i2) + 288u);
-    w2c_f37(m, w2c_j0, w2c_i1, w2c_i2);
+    w2c_f38(m, w2c_j0, w2c_i1, w2c_i2);
     w2c_j0 = w2c_l6;
     w2c_j1 = 1ull;
     w2c_j0 += w2c_j1;
@@ -26992,7 +28535,7 @@ static void w2c_f35(module *m, u64 w2c_p0, u32 w2c_p1, u64 w2c_p2, u64 w2c_p3, u
   w2c_j0 += w2c_j1;
   w2c_j1 = w2c_p3;
   w2c_j2 = w2c_p4;
-  w2c_f32(m, w2c_j0, w2c_j1, w2c_j2);
+  w2c_f33(m, w2c_j0, w2c_j1, w2c_j2);
   w2c_j0 = w2c_l5;
   w2c_i0 = (u32)(w2c_j0);
   w2c_i0 = i32_load8_u(m, (u64)(w2c_i0) + 280u);
@@ -27006,7 +28549,7 @@ static void w2c_f35(module *m, u64 w2c_p0, u32 w2c_p1, u64 w2c_p2, u64 w2c_p3, u
   w2c_j2 = w2c_l5;
   w2c_i2 = (u32)(w2c_j2);
   w2c_i2 = i32_load(m, (u64)(w2c_i2) + 288u);
-  w2c_f37(m, w2c_j0, w2c_i1, w2c_i2);
+  w2c_f38(m, w2c_j0, w2c_i1, w2c_i2);
   w2c_j0 = w2c_l5;
   w2c_i0 = (u32)(w2c_j0);
   w2c_i0 = i32_load8_u(m, (u64)(w2c_i0) + 152u);
@@ -27052,7 +28595,7 @@ static void w2c_f35(module *m, u64 w2c_p0, u32 w2c_p1, u64 w2c_p2, u64 w2c_p3, u
     w2c_l10 = w2c_j1;
     w2c_j2 = w2c_l8;
     w2c_l11 = w2c_j2;
-    w2c_f32(m, w2c_j0, w2c_j1, w2c_j2);
+    w2c_f33(m, w2c_j0, w2c_j1, w2c_j2);
     w2c_j0 = w2c_l5;
     w2c_i0 = (u32)(w2c_j0);
     w2c_i0 = i32_load8_u(m, (u64)(w2c_i0) + 280u);
@@ -27098,7 +28641,7 @@ static void w2c_f35(module *m, u64 w2c_p0, u32 w2c_p1, u64 w2c_p2, u64 w2c_p3, u
     w2c_j0 += w2c_j1;
     w2c_j1 = w2c_l9;
     w2c_j2 = w2c_l6;
-    w2c_f32(m, w2c_j0, w2c_j1, w2c_j2);
+    w2c_f33(m, w2c_j0, w2c_j1, w2c_j2);
     w2c_j0 = w2c_l5;
     w2c_i0 = (u32)(w2c_j0);
     w2c_i0 = i32_load8_u(m, (u64)(w2c_i0) + 280u);
@@ -27120,7 +28663,7 @@ static void w2c_f35(module *m, u64 w2c_p0, u32 w2c_p1, u64 w2c_p2, u64 w2c_p3, u
     w2c_j2 = w2c_l5;
     w2c_i2 = (u32)(w2c_j2);
     w2c_i2 = i32_load(m, (u64)(w2c_i2) + 288u);
-    w2c_f37(m, w2c_j0, w2c_i1, w2c_i2);
+    w2c_f38(m, w2c_j0, w2c_i1, w2c_i2);
     w2c_j0 = w2c_l5;
     w2c_i0 = (u32)(w2c_j0);
     w2c_i0 = i32_load8_u(m, (u64)(w2c_i0) + 128u);
@@ -27152,7 +28695,7 @@ static void w2c_f35(module *m, u64 w2c_p0, u32 w2c_p1, u64 w2c_p2, u64 w2c_p3, u
     w2c_j0 += w2c_j1;
     w2c_j1 = w2c_l9;
     w2c_j2 = w2c_l6;
-    w2c_f32(m, w2c_j0, w2c_j1, w2c_j2);
+    w2c_f33(m, w2c_j0, w2c_j1, w2c_j2);
     w2c_j0 = w2c_l5;
     w2c_i0 = (u32)(w2c_j0);
     w2c_i0 = i32_load8_u(m, (u64)(w2c_i0) + 280u);
@@ -27174,7 +28717,7 @@ static void w2c_f35(module *m, u64 w2c_p0, u32 w2c_p1, u64 w2c_p2, u64 w2c_p3, u
     w2c_j2 = w2c_l5;
     w2c_i2 = (u32)(w2c_j2);
     w2c_i2 = i32_load(m, (u64)(w2c_i2) + 288u);
-    w2c_f37(m, w2c_j0, w2c_i1, w2c_i2);
+    w2c_f38(m, w2c_j0, w2c_i1, w2c_i2);
     w2c_j0 = w2c_l5;
     w2c_i0 = (u32)(w2c_j0);
     w2c_i0 = i32_load8_u(m, (u64)(w2c_i0) + 120u);
@@ -27206,7 +28749,7 @@ static void w2c_f35(module *m, u64 w2c_p0, u32 w2c_p1, u64 w2c_p2, u64 w2c_p3, u
     w2c_j0 += w2c_j1;
     w2c_j1 = w2c_l9;
     w2c_j2 = w2c_l6;
-    w2c_f32(m, w2c_j0, w2c_j1, w2c_j2);
+    w2c_f33(m, w2c_j0, w2c_j1, w2c_j2);
     w2c_j0 = w2c_l5;
     w2c_i0 = (u32)(w2c_j0);
     w2c_i0 = i32_load8_u(m, (u64)(w2c_i0) + 280u);
@@ -27228,7 +28771,7 @@ static void w2c_f35(module *m, u64 w2c_p0, u32 w2c_p1, u64 w2c_p2, u64 w2c_p3, u
     w2c_j2 = w2c_l5;
     w2c_i2 = (u32)(w2c_j2);
     w2c_i2 = i32_load(m, (u64)(w2c_i2) + 288u);
-    w2c_f37(m, w2c_j0, w2c_i1, w2c_i2);
+    w2c_f38(m, w2c_j0, w2c_i1, w2c_i2);
     w2c_j0 = w2c_l5;
     w2c_i0 = (u32)(w2c_j0);
     w2c_i0 = i32_load8_u(m, (u64)(w2c_i0) + 112u);
@@ -27241,7 +28784,7 @@ static void w2c_f35(module *m, u64 w2c_p0, u32 w2c_p1, u64 w2c_p2, u64 w2c_p3, u
   w2c_j0 += w2c_j1;
   w2c_j1 = w2c_l10;
   w2c_j2 = w2c_l11;
-  w2c_f38(m, w2c_j0, w2c_j1, w2c_j2);
+  w2c_f39(m, w2c_j0, w2c_j1, w2c_j2);
   w2c_j0 = w2c_l5;
   w2c_i0 = (u32)(w2c_j0);
   w2c_j0 = i64_load(m, (u64)(w2c_i0) + 104u);
@@ -27257,7 +28800,7 @@ static void w2c_f35(module *m, u64 w2c_p0, u32 w2c_p1, u64 w2c_p2, u64 w2c_p3, u
   w2c_j0 += w2c_j1;
   w2c_j1 = w2c_l7;
   w2c_j2 = w2c_l8;
-  w2c_f38(m, w2c_j0, w2c_j1, w2c_j2);
+  w2c_f39(m, w2c_j0, w2c_j1, w2c_j2);
   w2c_j0 = w2c_l5;
   w2c_i0 = (u32)(w2c_j0);
   w2c_j0 = i64_load(m, (u64)(w2c_i0) + 144u);
@@ -27282,7 +28825,7 @@ static void w2c_f35(module *m, u64 w2c_p0, u32 w2c_p1, u64 w2c_p2, u64 w2c_p3, u
   w2c_j4 = 0ull;
   w2c_j5 = w2c_p3;
   w2c_j6 = w2c_p4;
-  w2c_f39(m, w2c_j0, w2c_i1, w2c_i2, w2c_j3, w2c_j4, w2c_j5, w2c_j6);
+  w2c_f40(m, w2c_j0, w2c_i1, w2c_i2, w2c_j3, w2c_j4, w2c_j5, w2c_j6);
   w2c_j0 = w2c_l5;
   w2c_i0 = (u32)(w2c_j0);
   w2c_i0 = i32_load8_u(m, (u64)(w2c_i0) + 208u);
@@ -27381,7 +28924,7 @@ static void w2c_f35(module *m, u64 w2c_p0, u32 w2c_p1, u64 w2c_p2, u64 w2c_p3, u
     w2c_j1 = w2c_l6;
     w2c_j2 = w2c_l9;
     w2c_l10 = w2c_j2;
-    w2c_f32(m, w2c_j0, w2c_j1, w2c_j2);
+    w2c_f33(m, w2c_j0, w2c_j1, w2c_j2);
     w2c_j0 = w2c_l5;
     w2c_i0 = (u32)(w2c_j0);
     w2c_i0 = i32_load8_u(m, (u64)(w2c_i0) + 280u);
@@ -27436,7 +28979,7 @@ static void w2c_f35(module *m, u64 w2c_p0, u32 w2c_p1, u64 w2c_p2, u64 w2c_p3, u
   w2c_j3 = w2c_l10;
   w2c_j2 -= w2c_j3;
   w2c_l8 = w2c_j2;
-  w2c_f32(m, w2c_j0, w2c_j1, w2c_j2);
+  w2c_f33(m, w2c_j0, w2c_j1, w2c_j2);
   w2c_j0 = w2c_l5;
   w2c_i0 = (u32)(w2c_j0);
   w2c_i0 = i32_load8_u(m, (u64)(w2c_i0) + 280u);
@@ -27449,7 +28992,7 @@ static void w2c_f35(module *m, u64 w2c_p0, u32 w2c_p1, u64 w2c_p2, u64 w2c_p3, u
   w2c_i1 = 1u;
   w2c_j2 = w2c_l6;
   w2c_j3 = w2c_l9;
-  w2c_f40(m, w2c_j0, w2c_i1, w2c_j2, w2c_j3);
+  w2c_f41(m, w2c_j0, w2c_i1, w2c_j2, w2c_j3);
   w2c_j0 = w2c_l5;
   w2c_i0 = (u32)(w2c_j0);
   w2c_i0 = i32_load8_u(m, (u64)(w2c_i0) + 80u);
@@ -27486,7 +29029,7 @@ static void w2c_f35(module *m, u64 w2c_p0, u32 w2c_p1, u64 w2c_p2, u64 w2c_p3, u
   w2c_j0 += w2c_j1;
   w2c_j1 = w2c_l6;
   w2c_j2 = w2c_l9;
-  w2c_f32(m, w2c_j0, w2c_j1, w2c_j2);
+  w2c_f33(m, w2c_j0, w2c_j1, w2c_j2);
   w2c_j0 = w2c_l6;
   w2c_l10 = w2c_j0;
   w2c_j0 = w2c_l9;
@@ -27522,7 +29065,7 @@ static void w2c_f35(module *m, u64 w2c_p0, u32 w2c_p1, u64 w2c_p2, u64 w2c_p3, u
   w2c_j1 = 72ull;
   w2c_j0 += w2c_j1;
   w2c_i1 = w2c_l15;
-  w2c_f21(m, w2c_j0, w2c_i1);
+  w2c_f18(m, w2c_j0, w2c_i1);
   w2c_j0 = w2c_l6;
   w2c_l10 = w2c_j0;
   w2c_j0 = w2c_l9;
@@ -27561,7 +29104,7 @@ static void w2c_f35(module *m, u64 w2c_p0, u32 w2c_p1, u64 w2c_p2, u64 w2c_p3, u
     w2c_l10 = w2c_j1;
     w2c_j2 = w2c_l11;
     w2c_l7 = w2c_j2;
-    w2c_f32(m, w2c_j0, w2c_j1, w2c_j2);
+    w2c_f33(m, w2c_j0, w2c_j1, w2c_j2);
     w2c_j0 = w2c_l5;
     w2c_i0 = (u32)(w2c_j0);
     w2c_i0 = i32_load8_u(m, (u64)(w2c_i0) + 280u);
@@ -27589,7 +29132,7 @@ static void w2c_f35(module *m, u64 w2c_p0, u32 w2c_p1, u64 w2c_p2, u64 w2c_p3, u
     w2c_j1 = 64ull;
     w2c_j0 += w2c_j1;
     w2c_i1 = w2c_l15;
-    w2c_f21(m, w2c_j0, w2c_i1);
+    w2c_f18(m, w2c_j0, w2c_i1);
     w2c_j0 = w2c_l5;
     w2c_i0 = (u32)(w2c_j0);
     w2c_i0 = i32_load8_u(m, (u64)(w2c_i0) + 64u);
@@ -27618,7 +29161,7 @@ static void w2c_f35(module *m, u64 w2c_p0, u32 w2c_p1, u64 w2c_p2, u64 w2c_p3, u
   w2c_j0 += w2c_j1;
   w2c_j1 = w2c_p3;
   w2c_j2 = w2c_l8;
-  w2c_f34(m, w2c_j0, w2c_j1, w2c_j2);
+  w2c_f35(m, w2c_j0, w2c_j1, w2c_j2);
   w2c_j0 = w2c_l5;
   w2c_i0 = (u32)(w2c_j0);
   w2c_i0 = i32_load8_u(m, (u64)(w2c_i0) + 280u);
@@ -27658,7 +29201,7 @@ static void w2c_f35(module *m, u64 w2c_p0, u32 w2c_p1, u64 w2c_p2, u64 w2c_p3, u
   w2c_j0 += w2c_j1;
   w2c_j1 = w2c_l13;
   w2c_j2 = w2c_l11;
-  w2c_f34(m, w2c_j0, w2c_j1, w2c_j2);
+  w2c_f35(m, w2c_j0, w2c_j1, w2c_j2);
   w2c_j0 = w2c_l5;
   w2c_i0 = (u32)(w2c_j0);
   w2c_i0 = i32_load8_u(m, (u64)(w2c_i0) + 280u);
@@ -27690,7 +29233,7 @@ static void w2c_f35(module *m, u64 w2c_p0, u32 w2c_p1, u64 w2c_p2, u64 w2c_p3, u
   w2c_j1 = 48ull;
   w2c_j0 += w2c_j1;
   w2c_i1 = w2c_l15;
-  w2c_f21(m, w2c_j0, w2c_i1);
+  w2c_f18(m, w2c_j0, w2c_i1);
   w2c_j0 = w2c_l5;
   w2c_i0 = (u32)(w2c_j0);
   w2c_i0 = i32_load8_u(m, (u64)(w2c_i0) + 48u);
@@ -27723,7 +29266,7 @@ static void w2c_f35(module *m, u64 w2c_p0, u32 w2c_p1, u64 w2c_p2, u64 w2c_p3, u
   w2c_j0 += w2c_j1;
   w2c_j1 = w2c_l10;
   w2c_j2 = w2c_l7;
-  w2c_f32(m, w2c_j0, w2c_j1, w2c_j2);
+  w2c_f33(m, w2c_j0, w2c_j1, w2c_j2);
   w2c_j0 = w2c_l5;
   w2c_i0 = (u32)(w2c_j0);
   w2c_i0 = i32_load8_u(m, (u64)(w2c_i0) + 280u);
@@ -27778,7 +29321,7 @@ static void w2c_f35(module *m, u64 w2c_p0, u32 w2c_p1, u64 w2c_p2, u64 w2c_p3, u
     w2c_j0 += w2c_j1;
     w2c_j1 = w2c_l10;
     w2c_j2 = w2c_l7;
-    w2c_f32(m, w2c_j0, w2c_j1, w2c_j2);
+    w2c_f33(m, w2c_j0, w2c_j1, w2c_j2);
     w2c_j0 = w2c_l5;
     w2c_i0 = (u32)(w2c_j0);
     w2c_i0 = i32_load8_u(m, (u64)(w2c_i0) + 280u);
@@ -27842,7 +29385,7 @@ static void w2c_f35(module *m, u64 w2c_p0, u32 w2c_p1, u64 w2c_p2, u64 w2c_p3, u
   w2c_j0 += w2c_j1;
   w2c_j1 = w2c_p3;
   w2c_j2 = w2c_p4;
-  w2c_f32(m, w2c_j0, w2c_j1, w2c_j2);
+  w2c_f33(m, w2c_j0, w2c_j1, w2c_j2);
   w2c_j0 = w2c_l5;
   w2c_i0 = (u32)(w2c_j0);
   w2c_i0 = i32_load8_u(m, (u64)(w2c_i0) + 280u);
@@ -27921,7 +29464,7 @@ static void w2c_f35(module *m, u64 w2c_p0, u32 w2c_p1, u64 w2c_p2, u64 w2c_p3, u
     w2c_j0 += w2c_j1;
     w2c_j1 = w2c_l10;
     w2c_j2 = w2c_p4;
-    w2c_f32(m, w2c_j0, w2c_j1, w2c_j2);
+    w2c_f33(m, w2c_j0, w2c_j1, w2c_j2);
     w2c_j0 = w2c_l5;
     w2c_i0 = (u32)(w2c_j0);
     w2c_i0 = i32_load8_u(m, (u64)(w2c_i0) + 280u);
@@ -27942,7 +29485,7 @@ static void w2c_f35(module *m, u64 w2c_p0, u32 w2c_p1, u64 w2c_p2, u64 w2c_p3, u
     w2c_j1 = w2c_l5;
     w2c_i1 = (u32)(w2c_j1);
     w2c_i1 = i32_load(m, (u64)(w2c_i1) + 288u);
-    w2c_f21(m, w2c_j0, w2c_i1);
+    w2c_f18(m, w2c_j0, w2c_i1);
     w2c_j0 = w2c_l5;
     w2c_i0 = (u32)(w2c_j0);
     w2c_i0 = i32_load8_u(m, (u64)(w2c_i0) + 32u);
@@ -27956,7 +29499,7 @@ static void w2c_f35(module *m, u64 w2c_p0, u32 w2c_p1, u64 w2c_p2, u64 w2c_p3, u
   w2c_j2 = w2c_p2;
   w2c_j3 = w2c_p3;
   w2c_j4 = w2c_l8;
-  w2c_f41(m, w2c_j0, w2c_i1, w2c_j2, w2c_j3, w2c_j4);
+  w2c_f42(m, w2c_j0, w2c_i1, w2c_j2, w2c_j3, w2c_j4);
   goto w2c_B12;
   w2c_B18:;
   w2c_i0 = w2c_l14;
@@ -27991,7 +29534,7 @@ static void w2c_f35(module *m, u64 w2c_p0, u32 w2c_p1, u64 w2c_p2, u64 w2c_p3, u
   w2c_j0 += w2c_j1;
   w2c_j1 = w2c_l9;
   w2c_j2 = w2c_l6;
-  w2c_f32(m, w2c_j0, w2c_j1, w2c_j2);
+  w2c_f33(m, w2c_j0, w2c_j1, w2c_j2);
   w2c_j0 = w2c_l5;
   w2c_i0 = (u32)(w2c_j0);
   w2c_i0 = i32_load8_u(m, (u64)(w2c_i0) + 280u);
@@ -28035,7 +29578,7 @@ static void w2c_f35(module *m, u64 w2c_p0, u32 w2c_p1, u64 w2c_p2, u64 w2c_p3, u
   w2c_j0 += w2c_j1;
   w2c_j1 = w2c_l9;
   w2c_j2 = w2c_l6;
-  w2c_f32(m, w2c_j0, w2c_j1, w2c_j2);
+  w2c_f33(m, w2c_j0, w2c_j1, w2c_j2);
   w2c_j0 = w2c_l5;
   w2c_i0 = (u32)(w2c_j0);
   w2c_i0 = i32_load8_u(m, (u64)(w2c_i0) + 280u);
@@ -28052,7 +29595,7 @@ static void w2c_f35(module *m, u64 w2c_p0, u32 w2c_p1, u64 w2c_p2, u64 w2c_p3, u
   w2c_j1 = 16ull;
   w2c_j0 += w2c_j1;
   w2c_i1 = w2c_l14;
-  w2c_f21(m, w2c_j0, w2c_i1);
+  w2c_f18(m, w2c_j0, w2c_i1);
   w2c_j0 = w2c_l5;
   w2c_i0 = (u32)(w2c_j0);
   w2c_i0 = i32_load8_u(m, (u64)(w2c_i0) + 16u);
@@ -28150,7 +29693,7 @@ static void w2c_f35(module *m, u64 w2c_p0, u32 w2c_p1, u64 w2c_p2, u64 w2c_p3, u
     w2c_j0 += w2c_j1;
     w2c_j1 = w2c_l6;
     w2c_j2 = w2c_l9;
-    w2c_f32(m, w2c_j0, w2c_j1, w2c_j2);
+    w2c_f33(m, w2c_j0, w2c_j1, w2c_j2);
     w2c_j0 = w2c_l5;
     w2c_i0 = (u32)(w2c_j0);
     w2c_i0 = i32_load8_u(m, (u64)(w2c_i0) + 280u);
@@ -28171,7 +29714,7 @@ static void w2c_f35(module *m, u64 w2c_p0, u32 w2c_p1, u64 w2c_p2, u64 w2c_p3, u
     w2c_j1 = w2c_l5;
     w2c_i1 = (u32)(w2c_j1);
     w2c_i1 = i32_load(m, (u64)(w2c_i1) + 288u);
-    w2c_f21(m, w2c_j0, w2c_i1);
+    w2c_f18(m, w2c_j0, w2c_i1);
     w2c_j0 = w2c_l5;
     w2c_i0 = (u32)(w2c_j0);
     w2c_i0 = i32_load8_u(m, (u64)(w2c_i0) + 8u);
@@ -28185,7 +29728,7 @@ static void w2c_f35(module *m, u64 w2c_p0, u32 w2c_p1, u64 w2c_p2, u64 w2c_p3, u
   w2c_j2 = w2c_p2;
   w2c_j3 = w2c_p3;
   w2c_j4 = w2c_p4;
-  w2c_f41(m, w2c_j0, w2c_i1, w2c_j2, w2c_j3, w2c_j4);
+  w2c_f42(m, w2c_j0, w2c_i1, w2c_j2, w2c_j3, w2c_j4);
   goto w2c_B13;
   w2c_B15:;
   w2c_j0 = w2c_l5;
@@ -28194,7 +29737,7 @@ static void w2c_f35(module *m, u64 w2c_p0, u32 w2c_p1, u64 w2c_p2, u64 w2c_p3, u
   w2c_j1 = w2c_p2;
   w2c_j2 = w2c_p3;
   w2c_j3 = w2c_l8;
-  w2c_f42(m, w2c_j0, w2c_j1, w2c_j2, w2c_j3);
+  w2c_f43(m, w2c_j0, w2c_j1, w2c_j2, w2c_j3);
   goto w2c_B12;
   w2c_B14:;
   w2c_j0 = w2c_l5;
@@ -28203,7 +29746,7 @@ static void w2c_f35(module *m, u64 w2c_p0, u32 w2c_p1, u64 w2c_p2, u64 w2c_p3, u
   w2c_j1 = w2c_p2;
   w2c_j2 = w2c_p3;
   w2c_j3 = w2c_p4;
-  w2c_f42(m, w2c_j0, w2c_j1, w2c_j2, w2c_j3);
+  w2c_f43(m, w2c_j0, w2c_j1, w2c_j2, w2c_j3);
   w2c_B13:;
   w2c_j0 = w2c_l5;
   w2c_i0 = (u32)(w2c_j0);
@@ -28310,7 +29853,7 @@ static void w2c_f35(module *m, u64 w2c_p0, u32 w2c_p1, u64 w2c_p2, u64 w2c_p3, u
   w2c_j4 = i64_load(m, (u64)(w2c_i4) + 264u);
   w2c_j5 = w2c_l6;
   w2c_j6 = w2c_l9;
-  w2c_f39(m, w2c_j0, w2c_i1, w2c_i2, w2c_j3, w2c_j4, w2c_j5, w2c_j6);
+  w2c_f40(m, w2c_j0, w2c_i1, w2c_i2, w2c_j3, w2c_j4, w2c_j5, w2c_j6);
   w2c_j0 = w2c_l5;
   w2c_i0 = (u32)(w2c_j0);
   w2c_i0 = i32_load8_u(m, (u64)(w2c_i0) + 176u);
@@ -28423,7 +29966,7 @@ static void w2c_f35(module *m, u64 w2c_p0, u32 w2c_p1, u64 w2c_p2, u64 w2c_p3, u
   m->w2c_g0 = w2c_j0;
 }
 
-static void w2c_f36(module *m, u64 w2c_p0, u32 w2c_p1, u64 w2c_p2, u64 w2c_p3, u64 w2c_p4, u64 w2c_p5) {
+static void w2c_f37(module *m, u64 w2c_p0, u32 w2c_p1, u64 w2c_p2, u64 w2c_p3, u64 w2c_p4, u64 w2c_p5) {
   u64 w2c_l6 = 0, w2c_l7 = 0, w2c_l8 = 0, w2c_l9 = 0;
   u32 w2c_i0, w2c_i1, w2c_i2;
   u64 w2c_j0, w2c_j1, w2c_j2, w2c_j3, w2c_j4;
@@ -28462,7 +30005,7 @@ static void w2c_f36(module *m, u64 w2c_p0, u32 w2c_p1, u64 w2c_p2, u64 w2c_p3, u
   w2c_j0 += w2c_j1;
   w2c_j1 = w2c_p4;
   w2c_j2 = w2c_p5;
-  w2c_f32(m, w2c_j0, w2c_j1, w2c_j2);
+  w2c_f33(m, w2c_j0, w2c_j1, w2c_j2);
   w2c_j0 = w2c_l6;
   w2c_i0 = (u32)(w2c_j0);
   w2c_i0 = i32_load8_u(m, (u64)(w2c_i0) + 72u);
@@ -28637,7 +30180,7 @@ static void w2c_f36(module *m, u64 w2c_p0, u32 w2c_p1, u64 w2c_p2, u64 w2c_p3, u
     w2c_j0 += w2c_j1;
     w2c_j1 = w2c_p4;
     w2c_j2 = w2c_p5;
-    w2c_f32(m, w2c_j0, w2c_j1, w2c_j2);
+    w2c_f33(m, w2c_j0, w2c_j1, w2c_j2);
     w2c_j0 = w2c_l6;
     w2c_i0 = (u32)(w2c_j0);
     w2c_i0 = i32_load8_u(m, (u64)(w2c_i0) + 72u);
@@ -28694,7 +30237,7 @@ static void w2c_f36(module *m, u64 w2c_p0, u32 w2c_p1, u64 w2c_p2, u64 w2c_p3, u
   w2c_Bfunc:;
 }
 
-static void w2c_f37(module *m, u64 w2c_p0, u32 w2c_p1, u32 w2c_p2) {
+static void w2c_f38(module *m, u64 w2c_p0, u32 w2c_p1, u32 w2c_p2) {
   u32 w2c_l4 = 0;
   u64 w2c_l3 = 0;
   u32 w2c_i0, w2c_i1;
@@ -28809,7 +30352,7 @@ static void w2c_f37(module *m, u64 w2c_p0, u32 w2c_p1, u32 w2c_p2) {
   w2c_j1 = 8ull;
   w2c_j0 += w2c_j1;
   w2c_i1 = w2c_p2;
-  w2c_f21(m, w2c_j0, w2c_i1);
+  w2c_f18(m, w2c_j0, w2c_i1);
   w2c_j0 = w2c_l3;
   w2c_i0 = (u32)(w2c_j0);
   w2c_i0 = i32_load8_u(m, (u64)(w2c_i0) + 9u);
@@ -28837,7 +30380,7 @@ static void w2c_f37(module *m, u64 w2c_p0, u32 w2c_p1, u32 w2c_p2) {
   w2c_Bfunc:;
 }
 
-static void w2c_f38(module *m, u64 w2c_p0, u64 w2c_p1, u64 w2c_p2) {
+static void w2c_f39(module *m, u64 w2c_p0, u64 w2c_p1, u64 w2c_p2) {
   u32 w2c_l6 = 0, w2c_l7 = 0, w2c_l8 = 0, w2c_l9 = 0;
   u64 w2c_l3 = 0, w2c_l4 = 0, w2c_l5 = 0;
   u32 w2c_i0, w2c_i1, w2c_i2;
@@ -28879,7 +30422,7 @@ static void w2c_f38(module *m, u64 w2c_p0, u64 w2c_p1, u64 w2c_p2) {
   w2c_j0 += w2c_j1;
   w2c_j1 = w2c_p1;
   w2c_j2 = w2c_p2;
-  w2c_f32(m, w2c_j0, w2c_j1, w2c_j2);
+  w2c_f33(m, w2c_j0, w2c_j1, w2c_j2);
   w2c_i0 = 1u;
   w2c_l6 = w2c_i0;
   w2c_j0 = w2c_l3;
@@ -28914,7 +30457,7 @@ static void w2c_f38(module *m, u64 w2c_p0, u64 w2c_p1, u64 w2c_p2) {
   w2c_i1 = 0u;
   w2c_j2 = w2c_l5;
   w2c_j3 = w2c_l4;
-  w2c_f40(m, w2c_j0, w2c_i1, w2c_j2, w2c_j3);
+  w2c_f41(m, w2c_j0, w2c_i1, w2c_j2, w2c_j3);
   w2c_j0 = w2c_l3;
   w2c_i0 = (u32)(w2c_j0);
   w2c_j0 = i64_load(m, (u64)(w2c_i0) + 16u);
@@ -28953,7 +30496,7 @@ static void w2c_f38(module *m, u64 w2c_p0, u64 w2c_p1, u64 w2c_p2) {
     w2c_j0 += w2c_j1;
     w2c_j1 = w2c_p1;
     w2c_j2 = w2c_p2;
-    w2c_f32(m, w2c_j0, w2c_j1, w2c_j2);
+    w2c_f33(m, w2c_j0, w2c_j1, w2c_j2);
     w2c_j0 = w2c_l3;
     w2c_i0 = (u32)(w2c_j0);
     w2c_i0 = i32_load8_u(m, (u64)(w2c_i0) + 24u);
@@ -29021,7 +30564,7 @@ static void w2c_f38(module *m, u64 w2c_p0, u64 w2c_p1, u64 w2c_p2) {
   w2c_Bfunc:;
 }
 
-static void w2c_f39(module *m, u64 w2c_p0, u32 w2c_p1, u32 w2c_p2, u64 w2c_p3, u64 w2c_p4, u64 w2c_p5, u64 w2c_p6) {
+static void w2c_f40(module *m, u64 w2c_p0, u32 w2c_p1, u32 w2c_p2, u64 w2c_p3, u64 w2c_p4, u64 w2c_p5, u64 w2c_p6) {
   u32 w2c_l11 = 0;
   u64 w2c_l7 = 0, w2c_l8 = 0, w2c_l9 = 0, w2c_l10 = 0;
   u32 w2c_i0, w2c_i1, w2c_i2;
@@ -29077,7 +30620,7 @@ static void w2c_f39(module *m, u64 w2c_p0, u32 w2c_p1, u32 w2c_p2, u64 w2c_p3, u
   w2c_j0 += w2c_j1;
   w2c_j1 = w2c_p5;
   w2c_j2 = w2c_p6;
-  w2c_f32(m, w2c_j0, w2c_j1, w2c_j2);
+  w2c_f33(m, w2c_j0, w2c_j1, w2c_j2);
   w2c_j0 = w2c_l7;
   w2c_i0 = (u32)(w2c_j0);
   w2c_i0 = i32_load8_u(m, (u64)(w2c_i0) + 88u);
@@ -29100,7 +30643,7 @@ static void w2c_f39(module *m, u64 w2c_p0, u32 w2c_p1, u32 w2c_p2, u64 w2c_p3, u
     w2c_j2 = w2c_l7;
     w2c_i2 = (u32)(w2c_j2);
     w2c_i2 = i32_load(m, (u64)(w2c_i2) + 96u);
-    w2c_f37(m, w2c_j0, w2c_i1, w2c_i2);
+    w2c_f38(m, w2c_j0, w2c_i1, w2c_i2);
     w2c_j0 = w2c_l7;
     w2c_i0 = (u32)(w2c_j0);
     w2c_i0 = i32_load8_u(m, (u64)(w2c_i0) + 40u);
@@ -29200,7 +30743,7 @@ static void w2c_f39(module *m, u64 w2c_p0, u32 w2c_p1, u32 w2c_p2, u64 w2c_p3, u
     w2c_j0 += w2c_j1;
     w2c_j1 = w2c_l9;
     w2c_j2 = w2c_l8;
-    w2c_f32(m, w2c_j0, w2c_j1, w2c_j2);
+    w2c_f33(m, w2c_j0, w2c_j1, w2c_j2);
     w2c_j0 = w2c_l7;
     w2c_i0 = (u32)(w2c_j0);
     w2c_i0 = i32_load8_u(m, (u64)(w2c_i0) + 88u);
@@ -29216,7 +30759,7 @@ static void w2c_f39(module *m, u64 w2c_p0, u32 w2c_p1, u32 w2c_p2, u64 w2c_p3, u
   w2c_j3 = w2c_p4;
   w2c_j4 = w2c_p5;
   w2c_j5 = w2c_p6;
-  w2c_f36(m, w2c_j0, w2c_i1, w2c_j2, w2c_j3, w2c_j4, w2c_j5);
+  w2c_f37(m, w2c_j0, w2c_i1, w2c_j2, w2c_j3, w2c_j4, w2c_j5);
   w2c_j0 = w2c_p0;
   w2c_i0 = (u32)(w2c_j0);
   w2c_j1 = 0ull;
@@ -29271,7 +30814,7 @@ static void w2c_f39(module *m, u64 w2c_p0, u32 w2c_p1, u32 w2c_p2, u64 w2c_p3, u
   m->w2c_g0 = w2c_j0;
 }
 
-static void w2c_f40(module *m, u64 w2c_p0, u32 w2c_p1, u64 w2c_p2, u64 w2c_p3) {
+static void w2c_f41(module *m, u64 w2c_p0, u32 w2c_p1, u64 w2c_p2, u64 w2c_p3) {
   u32 w2c_l8 = 0, w2c_l9 = 0, w2c_l10 = 0;
   u64 w2c_l4 = 0, w2c_l5 = 0, w2c_l6 = 0, w2c_l7 = 0;
   u32 w2c_i0, w2c_i1, w2c_i2;
@@ -29313,7 +30856,7 @@ static void w2c_f40(module *m, u64 w2c_p0, u32 w2c_p1, u64 w2c_p2, u64 w2c_p3) {
   w2c_j0 += w2c_j1;
   w2c_j1 = w2c_p2;
   w2c_j2 = w2c_p3;
-  w2c_f32(m, w2c_j0, w2c_j1, w2c_j2);
+  w2c_f33(m, w2c_j0, w2c_j1, w2c_j2);
   w2c_j0 = w2c_l4;
   w2c_i0 = (u32)(w2c_j0);
   w2c_i0 = i32_load8_u(m, (u64)(w2c_i0) + 24u);
@@ -29335,7 +30878,7 @@ static void w2c_f40(module *m, u64 w2c_p0, u32 w2c_p1, u64 w2c_p2, u64 w2c_p3) {
   w2c_j2 = w2c_l4;
   w2c_i2 = (u32)(w2c_j2);
   w2c_i2 = i32_load(m, (u64)(w2c_i2) + 32u);
-  w2c_f37(m, w2c_j0, w2c_i1, w2c_i2);
+  w2c_f38(m, w2c_j0, w2c_i1, w2c_i2);
   w2c_j0 = w2c_l4;
   w2c_i0 = (u32)(w2c_j0);
   w2c_i0 = i32_load8_u(m, (u64)(w2c_i0) + 16u);
@@ -29378,7 +30921,7 @@ static void w2c_f40(module *m, u64 w2c_p0, u32 w2c_p1, u64 w2c_p2, u64 w2c_p3) {
     w2c_p2 = w2c_j1;
     w2c_j2 = w2c_l6;
     w2c_p3 = w2c_j2;
-    w2c_f32(m, w2c_j0, w2c_j1, w2c_j2);
+    w2c_f33(m, w2c_j0, w2c_j1, w2c_j2);
     w2c_j0 = w2c_l4;
     w2c_i0 = (u32)(w2c_j0);
     w2c_i0 = i32_load8_u(m, (u64)(w2c_i0) + 24u);
@@ -29400,7 +30943,7 @@ static void w2c_f40(module *m, u64 w2c_p0, u32 w2c_p1, u64 w2c_p2, u64 w2c_p3) {
     w2c_j2 = w2c_l4;
     w2c_i2 = (u32)(w2c_j2);
     w2c_i2 = i32_load(m, (u64)(w2c_i2) + 32u);
-    w2c_f37(m, w2c_j0, w2c_i1, w2c_i2);
+    w2c_f38(m, w2c_j0, w2c_i1, w2c_i2);
     w2c_j0 = w2c_l5;
     w2c_j1 = 1ull;
     w2c_j0 += w2c_j1;
@@ -29454,7 +30997,7 @@ static void w2c_f40(module *m, u64 w2c_p0, u32 w2c_p1, u64 w2c_p2, u64 w2c_p3) {
     w2c_j0 += w2c_j1;
     w2c_j1 = w2c_p2;
     w2c_j2 = w2c_p3;
-    w2c_f32(m, w2c_j0, w2c_j1, w2c_j2);
+    w2c_f33(m, w2c_j0, w2c_j1, w2c_j2);
     w2c_j0 = w2c_l4;
     w2c_i0 = (u32)(w2c_j0);
     w2c_i0 = i32_load8_u(m, (u64)(w2c_i0) + 24u);
@@ -29517,7 +31060,7 @@ static void w2c_f40(module *m, u64 w2c_p0, u32 w2c_p1, u64 w2c_p2, u64 w2c_p3) {
   m->w2c_g0 = w2c_j0;
 }
 
-static void w2c_f41(module *m, u64 w2c_p0, u32 w2c_p1, u64 w2c_p2, u64 w2c_p3, u64 w2c_p4) {
+static void w2c_f42(module *m, u64 w2c_p0, u32 w2c_p1, u64 w2c_p2, u64 w2c_p3, u64 w2c_p4) {
   u32 w2c_l17 = 0, w2c_l18 = 0, w2c_l19 = 0, w2c_l20 = 0, w2c_l21 = 0;
   u64 w2c_l5 = 0, w2c_l6 = 0, w2c_l7 = 0, w2c_l8 = 0, w2c_l9 = 0, w2c_l10 = 0, w2c_l11 = 0, w2c_l12 = 0, w2c_l13 = 0, w2c_l14 = 0, w2c_l15 = 0, w2c_l16 = 0;
   u32 w2c_i0, w2c_i1, w2c_i2, w2c_i3, w2c_i4, w2c_i5, w2c_i6;
@@ -29589,7 +31132,7 @@ static void w2c_f41(module *m, u64 w2c_p0, u32 w2c_p1, u64 w2c_p2, u64 w2c_p3, u
   w2c_j0 += w2c_j1;
   w2c_j1 = w2c_p3;
   w2c_j2 = w2c_p4;
-  w2c_f32(m, w2c_j0, w2c_j1, w2c_j2);
+  w2c_f33(m, w2c_j0, w2c_j1, w2c_j2);
   w2c_j0 = w2c_l5;
   w2c_i0 = (u32)(w2c_j0);
   w2c_i0 = i32_load8_u(m, (u64)(w2c_i0) + 88u);
@@ -29724,7 +31267,7 @@ static void w2c_f41(module *m, u64 w2c_p0, u32 w2c_p1, u64 w2c_p2, u64 w2c_p3, u
   w2c_j0 += w2c_j1;
   w2c_j1 = w2c_p3;
   w2c_j2 = w2c_p4;
-  w2c_f43(m, w2c_j0, w2c_j1, w2c_j2);
+  w2c_f44(m, w2c_j0, w2c_j1, w2c_j2);
   w2c_j0 = w2c_l5;
   w2c_i0 = (u32)(w2c_j0);
   w2c_i0 = i32_load8_u(m, (u64)(w2c_i0) + 160u);
@@ -29878,7 +31421,7 @@ static void w2c_f41(module *m, u64 w2c_p0, u32 w2c_p1, u64 w2c_p2, u64 w2c_p3, u
   w2c_j0 += w2c_j1;
   w2c_j1 = w2c_l6;
   w2c_j2 = w2c_p2;
-  w2c_f43(m, w2c_j0, w2c_j1, w2c_j2);
+  w2c_f44(m, w2c_j0, w2c_j1, w2c_j2);
   w2c_j0 = w2c_l5;
   w2c_i0 = (u32)(w2c_j0);
   w2c_i0 = i32_load8_u(m, (u64)(w2c_i0) + 160u);
@@ -29927,7 +31470,7 @@ static void w2c_f41(module *m, u64 w2c_p0, u32 w2c_p1, u64 w2c_p2, u64 w2c_p3, u
   w2c_i3 = w2c_l17;
   w2c_j4 = w2c_l6;
   w2c_j5 = w2c_p2;
-  w2c_f44(m, w2c_j0, w2c_i1, w2c_j2, w2c_i3, w2c_j4, w2c_j5);
+  w2c_f45(m, w2c_j0, w2c_i1, w2c_j2, w2c_i3, w2c_j4, w2c_j5);
   w2c_j0 = w2c_l5;
   w2c_i0 = (u32)(w2c_j0);
   w2c_j0 = i64_load(m, (u64)(w2c_i0) + 64u);
@@ -29972,7 +31515,7 @@ static void w2c_f41(module *m, u64 w2c_p0, u32 w2c_p1, u64 w2c_p2, u64 w2c_p3, u
   w2c_i3 = w2c_l17;
   w2c_j4 = w2c_p3;
   w2c_j5 = w2c_p4;
-  w2c_f44(m, w2c_j0, w2c_i1, w2c_j2, w2c_i3, w2c_j4, w2c_j5);
+  w2c_f45(m, w2c_j0, w2c_i1, w2c_j2, w2c_i3, w2c_j4, w2c_j5);
   w2c_j0 = w2c_p0;
   w2c_i0 = (u32)(w2c_j0);
   w2c_j1 = w2c_l5;
@@ -30253,44 +31796,38 @@ static void w2c_f41(module *m, u64 w2c_p0, u32 w2c_p1, u64 w2c_p2, u64 w2c_p3, u
   w2c_j1 = 1ull;
   w2c_j0 += w2c_j1;
   w2c_l7 = w2c_j0;
+  w2c_j0 = 0ull;
+  w2c_p3 = w2c_j0;
   w2c_j0 = w2c_p2;
   w2c_i0 = !(w2c_j0);
-  w2c_i0 = !(w2c_i0);
-  if (w2c_i0) {goto w2c_B20;}
+  if (w2c_i0) {goto w2c_B19;}
   w2c_j0 = 0ull;
   w2c_p4 = w2c_j0;
-  goto w2c_B19;
-  w2c_B20:;
-  w2c_j0 = 0ull;
-  w2c_p4 = w2c_j0;
-  w2c_L21:
-    w2c_j0 = w2c_p4;
+  w2c_L20:
+    w2c_j0 = w2c_p3;
     w2c_j1 = 1ull;
     w2c_j0 += w2c_j1;
-    w2c_p4 = w2c_j0;
+    w2c_p3 = w2c_j0;
     w2c_j0 = w2c_l6;
-    w2c_j1 = w2c_l6;
-    w2c_i1 = (u32)(w2c_j1);
-    w2c_i1 = i32_load8_u(m, (u64)(w2c_i1));
-    w2c_i2 = 1u;
-    w2c_i1 >>= (w2c_i2 & 31);
-    w2c_j1 = (u64)(w2c_i1);
-    w2c_j2 = 120ull;
-    w2c_j1 &= w2c_j2;
-    w2c_j2 = 66848ull;
-    w2c_j1 += w2c_j2;
-    w2c_i1 = (u32)(w2c_j1);
-    w2c_j1 = i64_load(m, (u64)(w2c_i1));
-    w2c_p3 = w2c_j1;
+    w2c_j1 = w2c_p4;
     w2c_j0 += w2c_j1;
-    w2c_l6 = w2c_j0;
-    w2c_j0 = w2c_p2;
-    w2c_j1 = w2c_p3;
-    w2c_j0 -= w2c_j1;
-    w2c_p2 = w2c_j0;
-    w2c_j1 = 0ull;
-    w2c_i0 = w2c_j0 != w2c_j1;
-    if (w2c_i0) {goto w2c_L21;}
+    w2c_i0 = (u32)(w2c_j0);
+    w2c_i0 = i32_load8_u(m, (u64)(w2c_i0));
+    w2c_i1 = 1u;
+    w2c_i0 >>= (w2c_i1 & 31);
+    w2c_j0 = (u64)(w2c_i0);
+    w2c_j1 = 120ull;
+    w2c_j0 &= w2c_j1;
+    w2c_j1 = 66848ull;
+    w2c_j0 += w2c_j1;
+    w2c_i0 = (u32)(w2c_j0);
+    w2c_j0 = i64_load(m, (u64)(w2c_i0));
+    w2c_j1 = w2c_p4;
+    w2c_j0 += w2c_j1;
+    w2c_p4 = w2c_j0;
+    w2c_j1 = w2c_p2;
+    w2c_i0 = w2c_j0 < w2c_j1;
+    if (w2c_i0) {goto w2c_L20;}
   w2c_B19:;
   w2c_j0 = w2c_p0;
   w2c_i0 = (u32)(w2c_j0);
@@ -30307,7 +31844,7 @@ static void w2c_f41(module *m, u64 w2c_p0, u32 w2c_p1, u64 w2c_p2, u64 w2c_p3, u
   w2c_j0 += w2c_j1;
   w2c_i0 = (u32)(w2c_j0);
   w2c_j1 = w2c_l7;
-  w2c_j2 = w2c_p4;
+  w2c_j2 = w2c_p3;
   w2c_j1 += w2c_j2;
   w2c_p4 = w2c_j1;
   i64_store(m, (u64)(w2c_i0), w2c_j1);
@@ -30432,7 +31969,7 @@ static void w2c_f41(module *m, u64 w2c_p0, u32 w2c_p1, u64 w2c_p2, u64 w2c_p3, u
   m->w2c_g0 = w2c_j0;
 }
 
-static void w2c_f42(module *m, u64 w2c_p0, u64 w2c_p1, u64 w2c_p2, u64 w2c_p3) {
+static void w2c_f43(module *m, u64 w2c_p0, u64 w2c_p1, u64 w2c_p2, u64 w2c_p3) {
   u32 w2c_l15 = 0, w2c_l16 = 0, w2c_l17 = 0, w2c_l18 = 0, w2c_l19 = 0;
   u64 w2c_l4 = 0, w2c_l5 = 0, w2c_l6 = 0, w2c_l7 = 0, w2c_l8 = 0, w2c_l9 = 0, w2c_l10 = 0, w2c_l11 = 0, w2c_l12 = 0, w2c_l13 = 0, w2c_l14 = 0;
   u32 w2c_i0, w2c_i1, w2c_i2, w2c_i3, w2c_i4;
@@ -30728,7 +32265,7 @@ static void w2c_f42(module *m, u64 w2c_p0, u64 w2c_p1, u64 w2c_p2, u64 w2c_p3) {
     w2c_j1 = 56ull;
     w2c_j0 += w2c_j1;
     w2c_i1 = w2c_l16;
-    w2c_f21(m, w2c_j0, w2c_i1);
+    w2c_f18(m, w2c_j0, w2c_i1);
     w2c_j0 = w2c_l5;
     w2c_i0 = (u32)(w2c_j0);
     w2c_i0 = i32_load8_u(m, (u64)(w2c_i0) + 56u);
@@ -31029,7 +32566,7 @@ static void w2c_f42(module *m, u64 w2c_p0, u64 w2c_p1, u64 w2c_p2, u64 w2c_p3) {
   w2c_Bfunc:;
 }
 
-static void w2c_f43(module *m, u64 w2c_p0, u64 w2c_p1, u64 w2c_p2) {
+static void w2c_f44(module *m, u64 w2c_p0, u64 w2c_p1, u64 w2c_p2) {
   u32 w2c_l5 = 0, w2c_l6 = 0;
   u64 w2c_l3 = 0, w2c_l4 = 0;
   u32 w2c_i0, w2c_i1, w2c_i2, w2c_i3;
@@ -31077,7 +32614,7 @@ static void w2c_f43(module *m, u64 w2c_p0, u64 w2c_p1, u64 w2c_p2) {
   w2c_j0 += w2c_j1;
   w2c_j1 = w2c_p1;
   w2c_j2 = w2c_p2;
-  w2c_f34(m, w2c_j0, w2c_j1, w2c_j2);
+  w2c_f35(m, w2c_j0, w2c_j1, w2c_j2);
   w2c_i0 = 0u;
   w2c_l5 = w2c_i0;
   w2c_i0 = 0u;
@@ -31156,7 +32693,7 @@ static void w2c_f43(module *m, u64 w2c_p0, u64 w2c_p1, u64 w2c_p2) {
   w2c_j1 = 16ull;
   w2c_j0 += w2c_j1;
   w2c_i1 = w2c_l5;
-  w2c_f21(m, w2c_j0, w2c_i1);
+  w2c_f18(m, w2c_j0, w2c_i1);
   w2c_j0 = w2c_l3;
   w2c_i0 = (u32)(w2c_j0);
   w2c_i0 = i32_load8_u(m, (u64)(w2c_i0) + 16u);
@@ -31249,7 +32786,7 @@ static void w2c_f43(module *m, u64 w2c_p0, u64 w2c_p1, u64 w2c_p2) {
   w2c_Bfunc:;
 }
 
-static void w2c_f44(module *m, u64 w2c_p0, u32 w2c_p1, u64 w2c_p2, u32 w2c_p3, u64 w2c_p4, u64 w2c_p5) {
+static void w2c_f45(module *m, u64 w2c_p0, u32 w2c_p1, u64 w2c_p2, u32 w2c_p3, u64 w2c_p4, u64 w2c_p5) {
   u32 w2c_l19 = 0, w2c_l20 = 0, w2c_l21 = 0, w2c_l22 = 0, w2c_l23 = 0;
   u64 w2c_l6 = 0, w2c_l7 = 0, w2c_l8 = 0, w2c_l9 = 0, w2c_l10 = 0, w2c_l11 = 0, w2c_l12 = 0, w2c_l13 = 0, w2c_l14 = 0, w2c_l15 = 0, w2c_l16 = 0, w2c_l17 = 0, w2c_l18 = 0;
   u32 w2c_i0, w2c_i1, w2c_i2, w2c_i3, w2c_i4;
@@ -31406,7 +32943,7 @@ static void w2c_f44(module *m, u64 w2c_p0, u32 w2c_p1, u64 w2c_p2, u32 w2c_p3, u
     w2c_j0 += w2c_j1;
     w2c_j1 = w2c_p4;
     w2c_j2 = w2c_p5;
-    w2c_f43(m, w2c_j0, w2c_j1, w2c_j2);
+    w2c_f44(m, w2c_j0, w2c_j1, w2c_j2);
     w2c_j0 = w2c_l6;
     w2c_i0 = (u32)(w2c_j0);
     w2c_i0 = i32_load8_u(m, (u64)(w2c_i0) + 960u);
@@ -31855,47 +33392,41 @@ static void w2c_f44(module *m, u64 w2c_p0, u32 w2c_p1, u64 w2c_p2, u32 w2c_p3, u
     w2c_l21 = w2c_i0;
     goto w2c_B2;
     w2c_B10:;
+    w2c_j0 = 0ull;
+    w2c_l14 = w2c_j0;
     w2c_j0 = w2c_p5;
     w2c_i0 = !(w2c_j0);
-    w2c_i0 = !(w2c_i0);
-    if (w2c_i0) {goto w2c_B25;}
+    if (w2c_i0) {goto w2c_B24;}
     w2c_j0 = 0ull;
     w2c_l11 = w2c_j0;
-    goto w2c_B24;
-    w2c_B25:;
-    w2c_j0 = 0ull;
-    w2c_l11 = w2c_j0;
-    w2c_L26:
-      w2c_j0 = w2c_l11;
+    w2c_L25:
+      w2c_j0 = w2c_l14;
       w2c_j1 = 1ull;
       w2c_j0 += w2c_j1;
-      w2c_l11 = w2c_j0;
+      w2c_l14 = w2c_j0;
       w2c_j0 = w2c_p4;
-      w2c_j1 = w2c_p4;
-      w2c_i1 = (u32)(w2c_j1);
-      w2c_i1 = i32_load8_u(m, (u64)(w2c_i1));
-      w2c_i2 = 1u;
-      w2c_i1 >>= (w2c_i2 & 31);
-      w2c_j1 = (u64)(w2c_i1);
-      w2c_j2 = 120ull;
-      w2c_j1 &= w2c_j2;
-      w2c_j2 = 66848ull;
-      w2c_j1 += w2c_j2;
-      w2c_i1 = (u32)(w2c_j1);
-      w2c_j1 = i64_load(m, (u64)(w2c_i1));
-      w2c_l14 = w2c_j1;
+      w2c_j1 = w2c_l11;
       w2c_j0 += w2c_j1;
-      w2c_p4 = w2c_j0;
-      w2c_j0 = w2c_p5;
-      w2c_j1 = w2c_l14;
-      w2c_j0 -= w2c_j1;
-      w2c_p5 = w2c_j0;
-      w2c_j1 = 0ull;
-      w2c_i0 = w2c_j0 != w2c_j1;
-      if (w2c_i0) {goto w2c_L26;}
+      w2c_i0 = (u32)(w2c_j0);
+      w2c_i0 = i32_load8_u(m, (u64)(w2c_i0));
+      w2c_i1 = 1u;
+      w2c_i0 >>= (w2c_i1 & 31);
+      w2c_j0 = (u64)(w2c_i0);
+      w2c_j1 = 120ull;
+      w2c_j0 &= w2c_j1;
+      w2c_j1 = 66848ull;
+      w2c_j0 += w2c_j1;
+      w2c_i0 = (u32)(w2c_j0);
+      w2c_j0 = i64_load(m, (u64)(w2c_i0));
+      w2c_j1 = w2c_l11;
+      w2c_j0 += w2c_j1;
+      w2c_l11 = w2c_j0;
+      w2c_j1 = w2c_p5;
+      w2c_i0 = w2c_j0 < w2c_j1;
+      if (w2c_i0) {goto w2c_L25;}
     w2c_B24:;
     w2c_j0 = w2c_l7;
-    w2c_j1 = w2c_l11;
+    w2c_j1 = w2c_l14;
     w2c_j0 += w2c_j1;
     w2c_l16 = w2c_j0;
     w2c_j0 = 1ull;
@@ -31930,7 +33461,7 @@ static void w2c_f44(module *m, u64 w2c_p0, u32 w2c_p1, u64 w2c_p2, u32 w2c_p3, u
     w2c_i0 += w2c_i1;
     w2c_i1 = 63487u;
     w2c_i0 = w2c_i0 > w2c_i1;
-    if (w2c_i0) {goto w2c_B32;}
+    if (w2c_i0) {goto w2c_B31;}
     w2c_i0 = w2c_p3;
     w2c_i1 = 12u;
     w2c_i0 >>= (w2c_i1 & 31);
@@ -31963,7 +33494,7 @@ static void w2c_f44(module *m, u64 w2c_p0, u32 w2c_p1, u64 w2c_p2, u32 w2c_p3, u
     w2c_i0 = i32_load(m, (u64)(w2c_i0));
     w2c_i1 = w2c_p1;
     w2c_i0 = w2c_i0 != w2c_i1;
-    if (w2c_i0) {goto w2c_B27;}
+    if (w2c_i0) {goto w2c_B26;}
     w2c_j0 = w2c_l11;
     w2c_j1 = 66997ull;
     w2c_j0 += w2c_j1;
@@ -31977,28 +33508,28 @@ static void w2c_f44(module *m, u64 w2c_p0, u32 w2c_p1, u64 w2c_p2, u32 w2c_p3, u
     w2c_j0 = i64_load8_u(m, (u64)(w2c_i0));
     w2c_i0 = (u32)(w2c_j0);
     switch (w2c_i0) {
-      case 0: goto w2c_B31;
-      case 1: goto w2c_B29;
-      case 2: goto w2c_B27;
-      default: goto w2c_B31;
+      case 0: goto w2c_B30;
+      case 1: goto w2c_B28;
+      case 2: goto w2c_B26;
+      default: goto w2c_B30;
     }
-    w2c_B32:;
+    w2c_B31:;
     w2c_j0 = w2c_l6;
     w2c_j1 = 168ull;
     w2c_j0 += w2c_j1;
     w2c_i1 = w2c_p3;
-    w2c_f21(m, w2c_j0, w2c_i1);
+    w2c_f18(m, w2c_j0, w2c_i1);
     w2c_j0 = w2c_l6;
     w2c_i0 = (u32)(w2c_j0);
     w2c_i0 = i32_load8_u(m, (u64)(w2c_i0) + 168u);
     w2c_i1 = 1u;
     w2c_i0 = w2c_i0 != w2c_i1;
-    if (w2c_i0) {goto w2c_B30;}
+    if (w2c_i0) {goto w2c_B29;}
     w2c_j0 = w2c_l6;
     w2c_i0 = (u32)(w2c_j0);
     w2c_i0 = i32_load8_u(m, (u64)(w2c_i0) + 169u);
     w2c_p1 = w2c_i0;
-    w2c_B31:;
+    w2c_B30:;
     w2c_i0 = 0u;
     w2c_i1 = w2c_p1;
     w2c_i2 = w2c_l21;
@@ -32013,14 +33544,14 @@ static void w2c_f44(module *m, u64 w2c_p0, u32 w2c_p1, u64 w2c_p2, u32 w2c_p3, u
     w2c_i0 = w2c_l19;
     w2c_i1 = 1u;
     w2c_i0 = w2c_i0 != w2c_i1;
-    if (w2c_i0) {goto w2c_B28;}
+    if (w2c_i0) {goto w2c_B27;}
     w2c_i0 = w2c_p1;
     w2c_i1 = 255u;
     w2c_i0 &= w2c_i1;
     w2c_i0 = !(w2c_i0);
-    if (w2c_i0) {goto w2c_B28;}
-    goto w2c_B27;
-    w2c_B30:;
+    if (w2c_i0) {goto w2c_B27;}
+    goto w2c_B26;
+    w2c_B29:;
     w2c_j0 = w2c_l6;
     w2c_j1 = 160ull;
     w2c_j0 += w2c_j1;
@@ -32031,12 +33562,12 @@ static void w2c_f44(module *m, u64 w2c_p0, u32 w2c_p1, u64 w2c_p2, u32 w2c_p3, u
     w2c_i0 = i32_load8_u(m, (u64)(w2c_i0) + 160u);
     w2c_i1 = 1u;
     w2c_i0 = w2c_i0 != w2c_i1;
-    if (w2c_i0) {goto w2c_B27;}
+    if (w2c_i0) {goto w2c_B26;}
     w2c_j0 = w2c_l6;
     w2c_i0 = (u32)(w2c_j0);
     w2c_i0 = i32_load8_u(m, (u64)(w2c_i0) + 161u);
     w2c_p1 = w2c_i0;
-    w2c_B29:;
+    w2c_B28:;
     w2c_i0 = 10u;
     w2c_l23 = w2c_i0;
     w2c_i0 = w2c_p1;
@@ -32044,8 +33575,8 @@ static void w2c_f44(module *m, u64 w2c_p0, u32 w2c_p1, u64 w2c_p2, u32 w2c_p3, u
     w2c_i0 &= w2c_i1;
     w2c_i1 = 1u;
     w2c_i0 = w2c_i0 != w2c_i1;
-    if (w2c_i0) {goto w2c_B27;}
-    w2c_B28:;
+    if (w2c_i0) {goto w2c_B26;}
+    w2c_B27:;
     w2c_i0 = w2c_l23;
     w2c_j0 = (u64)(w2c_i0);
     w2c_j1 = 255ull;
@@ -32063,7 +33594,7 @@ static void w2c_f44(module *m, u64 w2c_p0, u32 w2c_p1, u64 w2c_p2, u32 w2c_p3, u
     w2c_j0 = i64_load(m, (u64)(w2c_i0) + 944u);
     w2c_l11 = w2c_j0;
     w2c_i0 = !(w2c_j0);
-    if (w2c_i0) {goto w2c_B35;}
+    if (w2c_i0) {goto w2c_B34;}
     w2c_j0 = w2c_l11;
     w2c_j1 = 18446744073709551615ull;
     w2c_j0 += w2c_j1;
@@ -32078,7 +33609,7 @@ static void w2c_f44(module *m, u64 w2c_p0, u32 w2c_p1, u64 w2c_p2, u32 w2c_p3, u
     w2c_j1 = 18446744073709551584ull;
     w2c_j0 += w2c_j1;
     w2c_l11 = w2c_j0;
-    w2c_L36:
+    w2c_L35:
       w2c_j0 = w2c_l11;
       w2c_j1 = 16ull;
       w2c_j0 += w2c_j1;
@@ -32107,7 +33638,7 @@ static void w2c_f44(module *m, u64 w2c_p0, u32 w2c_p1, u64 w2c_p2, u32 w2c_p3, u
       w2c_j0 |= w2c_j1;
       w2c_j1 = 0ull;
       w2c_i0 = w2c_j0 != w2c_j1;
-      if (w2c_i0) {goto w2c_B38;}
+      if (w2c_i0) {goto w2c_B37;}
       w2c_j0 = w2c_l6;
       w2c_j1 = 80ull;
       w2c_j0 += w2c_j1;
@@ -32137,7 +33668,7 @@ static void w2c_f44(module *m, u64 w2c_p0, u32 w2c_p1, u64 w2c_p2, u32 w2c_p3, u
       w2c_j3 = w2c_l17;
       w2c_i2 = w2c_j2 == w2c_j3;
       w2c_i0 = w2c_i2 ? w2c_i0 : w2c_i1;
-      if (w2c_i0) {goto w2c_B39;}
+      if (w2c_i0) {goto w2c_B38;}
       w2c_j0 = w2c_l10;
       w2c_j1 = w2c_l14;
       w2c_j0 += w2c_j1;
@@ -32150,8 +33681,8 @@ static void w2c_f44(module *m, u64 w2c_p0, u32 w2c_p1, u64 w2c_p2, u32 w2c_p3, u
       w2c_j1 = (u64)(w2c_i1);
       w2c_j0 += w2c_j1;
       w2c_l14 = w2c_j0;
-      goto w2c_B37;
-      w2c_B39:;
+      goto w2c_B36;
+      w2c_B38:;
       w2c_j0 = 0ull;
       w2c_l17 = w2c_j0;
       w2c_j0 = 1ull;
@@ -32160,8 +33691,8 @@ static void w2c_f44(module *m, u64 w2c_p0, u32 w2c_p1, u64 w2c_p2, u32 w2c_p3, u
       w2c_p5 = w2c_j0;
       w2c_j0 = 0ull;
       w2c_l14 = w2c_j0;
-      goto w2c_B33;
-      w2c_B38:;
+      goto w2c_B32;
+      w2c_B37:;
       w2c_j0 = w2c_l6;
       w2c_j1 = 112ull;
       w2c_j0 += w2c_j1;
@@ -32245,13 +33776,13 @@ static void w2c_f44(module *m, u64 w2c_p0, u32 w2c_p1, u64 w2c_p2, u32 w2c_p3, u
       w2c_j0 |= w2c_j1;
       w2c_j1 = 0ull;
       w2c_i0 = w2c_j0 == w2c_j1;
-      if (w2c_i0) {goto w2c_B40;}
+      if (w2c_i0) {goto w2c_B39;}
       w2c_j0 = 0ull;
       w2c_l17 = w2c_j0;
       w2c_j0 = 0ull;
       w2c_l14 = w2c_j0;
-      goto w2c_B33;
-      w2c_B40:;
+      goto w2c_B32;
+      w2c_B39:;
       w2c_j0 = w2c_l6;
       w2c_i0 = (u32)(w2c_j0);
       w2c_j0 = i64_load(m, (u64)(w2c_i0) + 112u);
@@ -32270,7 +33801,7 @@ static void w2c_f44(module *m, u64 w2c_p0, u32 w2c_p1, u64 w2c_p2, u32 w2c_p3, u
       w2c_j3 = w2c_l17;
       w2c_i2 = w2c_j2 == w2c_j3;
       w2c_i0 = w2c_i2 ? w2c_i0 : w2c_i1;
-      if (w2c_i0) {goto w2c_B34;}
+      if (w2c_i0) {goto w2c_B33;}
       w2c_j0 = w2c_l14;
       w2c_j1 = w2c_l10;
       w2c_j0 += w2c_j1;
@@ -32283,7 +33814,7 @@ static void w2c_f44(module *m, u64 w2c_p0, u32 w2c_p1, u64 w2c_p2, u32 w2c_p3, u
       w2c_j1 = (u64)(w2c_i1);
       w2c_j0 += w2c_j1;
       w2c_l14 = w2c_j0;
-      w2c_B37:;
+      w2c_B36:;
       w2c_j0 = w2c_l11;
       w2c_j1 = 18446744073709551568ull;
       w2c_j0 += w2c_j1;
@@ -32294,19 +33825,19 @@ static void w2c_f44(module *m, u64 w2c_p0, u32 w2c_p1, u64 w2c_p2, u32 w2c_p3, u
       w2c_l12 = w2c_j0;
       w2c_j1 = 18446744073709551615ull;
       w2c_i0 = w2c_j0 != w2c_j1;
-      if (w2c_i0) {goto w2c_L36;}
-    w2c_B35:;
+      if (w2c_i0) {goto w2c_L35;}
+    w2c_B34:;
     w2c_j0 = 0ull;
     w2c_p5 = w2c_j0;
     w2c_j0 = 0ull;
     w2c_l18 = w2c_j0;
-    goto w2c_B33;
-    w2c_B34:;
+    goto w2c_B32;
+    w2c_B33:;
     w2c_j0 = 0ull;
     w2c_l14 = w2c_j0;
     w2c_j0 = 0ull;
     w2c_l17 = w2c_j0;
-    w2c_B33:;
+    w2c_B32:;
     w2c_j0 = w2c_p0;
     w2c_i0 = (u32)(w2c_j0);
     w2c_j1 = w2c_l18;
@@ -32330,7 +33861,7 @@ static void w2c_f44(module *m, u64 w2c_p0, u32 w2c_p1, u64 w2c_p2, u32 w2c_p3, u
     w2c_j1 = w2c_p5;
     i64_store(m, (u64)(w2c_i0), w2c_j1);
     goto w2c_B3;
-    w2c_B27:;
+    w2c_B26:;
     w2c_j0 = w2c_p0;
     w2c_i0 = (u32)(w2c_j0);
     w2c_j1 = 1ull;
@@ -32371,15 +33902,17 @@ static void w2c_f44(module *m, u64 w2c_p0, u32 w2c_p1, u64 w2c_p2, u32 w2c_p3, u
   w2c_Bfunc:;
 }
 
-static u32 w2c_f45(module *m, u64 w2c_p0, u64 w2c_p1, u32 w2c_p2, u64 w2c_p3, u64 w2c_p4, u64 w2c_p5) {
-  u32 w2c_l6 = 0;
-  u64 w2c_l7 = 0;
-  u32 w2c_i0, w2c_i1, w2c_i2;
-  u64 w2c_j0, w2c_j1, w2c_j2;
+static u32 w2c_f46(module *m, u64 w2c_p0, u64 w2c_p1, u32 w2c_p2, u64 w2c_p3, u64 w2c_p4, u64 w2c_p5) {
+  u32 w2c_l7 = 0;
+  u64 w2c_l6 = 0;
+  u32 w2c_i0, w2c_i1;
+  u64 w2c_j0, w2c_j1;
   w2c_j0 = m->w2c_g0;
   w2c_j1 = 16ull;
   w2c_i0 = (u64)((s64)w2c_j0 < (s64)w2c_j1);
   if (w2c_i0) {goto w2c_B0;}
+  w2c_j0 = 0ull;
+  w2c_l6 = w2c_j0;
   w2c_j0 = w2c_p4;
   w2c_i0 = (u32)(w2c_j0);
   w2c_j1 = 0ull;
@@ -32389,7 +33922,7 @@ static u32 w2c_f45(module *m, u64 w2c_p0, u64 w2c_p1, u32 w2c_p2, u64 w2c_p3, u6
   w2c_j1 = 0ull;
   i64_store(m, (u64)(w2c_i0), w2c_j1);
   w2c_i0 = 1u;
-  w2c_l6 = w2c_i0;
+  w2c_l7 = w2c_i0;
   w2c_i0 = w2c_p2;
   w2c_j0 = (u64)(w2c_i0);
   w2c_j1 = 255ull;
@@ -32408,52 +33941,49 @@ static u32 w2c_f45(module *m, u64 w2c_p0, u64 w2c_p1, u32 w2c_p2, u64 w2c_p3, u6
   w2c_j1 = w2c_p3;
   i64_store(m, (u64)(w2c_i0), w2c_j1);
   w2c_j0 = w2c_p1;
-  w2c_p4 = w2c_j0;
+  w2c_i0 = !(w2c_j0);
+  if (w2c_i0) {goto w2c_B5;}
   w2c_j0 = w2c_p3;
   w2c_i0 = !(w2c_j0);
-  if (w2c_i0) {goto w2c_B6;}
-  w2c_j0 = w2c_p1;
+  if (w2c_i0) {goto w2c_B5;}
+  w2c_j0 = 0ull;
+  w2c_l6 = w2c_j0;
+  w2c_j0 = 1ull;
   w2c_p4 = w2c_j0;
-  w2c_L7:
+  w2c_L6:
+    w2c_j0 = w2c_p0;
+    w2c_j1 = w2c_l6;
+    w2c_j0 += w2c_j1;
+    w2c_i0 = (u32)(w2c_j0);
+    w2c_i0 = i32_load8_u(m, (u64)(w2c_i0));
+    w2c_i1 = 1u;
+    w2c_i0 >>= (w2c_i1 & 31);
+    w2c_j0 = (u64)(w2c_i0);
+    w2c_j1 = 120ull;
+    w2c_j0 &= w2c_j1;
+    w2c_j1 = 66848ull;
+    w2c_j0 += w2c_j1;
+    w2c_i0 = (u32)(w2c_j0);
+    w2c_j0 = i64_load(m, (u64)(w2c_i0));
+    w2c_j1 = w2c_l6;
+    w2c_j0 += w2c_j1;
+    w2c_l6 = w2c_j0;
     w2c_j0 = w2c_p4;
-    w2c_i0 = !(w2c_j0);
+    w2c_j1 = w2c_p3;
+    w2c_i0 = w2c_j0 >= w2c_j1;
     if (w2c_i0) {goto w2c_B5;}
     w2c_j0 = w2c_p4;
-    w2c_j1 = w2c_p0;
-    w2c_i1 = (u32)(w2c_j1);
-    w2c_i1 = i32_load8_u(m, (u64)(w2c_i1));
-    w2c_i2 = 1u;
-    w2c_i1 >>= (w2c_i2 & 31);
-    w2c_j1 = (u64)(w2c_i1);
-    w2c_j2 = 120ull;
-    w2c_j1 &= w2c_j2;
-    w2c_j2 = 66848ull;
-    w2c_j1 += w2c_j2;
-    w2c_i1 = (u32)(w2c_j1);
-    w2c_j1 = i64_load(m, (u64)(w2c_i1));
-    w2c_l7 = w2c_j1;
-    w2c_j0 -= w2c_j1;
+    w2c_j1 = 1ull;
+    w2c_j0 += w2c_j1;
     w2c_p4 = w2c_j0;
-    w2c_j0 = w2c_p0;
-    w2c_j1 = w2c_l7;
-    w2c_j0 += w2c_j1;
-    w2c_p0 = w2c_j0;
-    w2c_j0 = w2c_p3;
-    w2c_j1 = 18446744073709551615ull;
-    w2c_j0 += w2c_j1;
-    w2c_p3 = w2c_j0;
-    w2c_j1 = 0ull;
-    w2c_i0 = w2c_j0 != w2c_j1;
-    if (w2c_i0) {goto w2c_L7;}
-  w2c_B6:;
-  w2c_j0 = w2c_p1;
-  w2c_j1 = w2c_p4;
-  w2c_j0 -= w2c_j1;
-  w2c_p1 = w2c_j0;
+    w2c_j0 = w2c_p1;
+    w2c_j1 = w2c_l6;
+    w2c_i0 = w2c_j0 > w2c_j1;
+    if (w2c_i0) {goto w2c_L6;}
   w2c_B5:;
   w2c_j0 = w2c_p5;
   w2c_i0 = (u32)(w2c_j0);
-  w2c_j1 = w2c_p1;
+  w2c_j1 = w2c_l6;
   i64_store(m, (u64)(w2c_i0), w2c_j1);
   w2c_i0 = 2u;
   goto w2c_Bfunc;
@@ -32462,9 +33992,9 @@ static u32 w2c_f45(module *m, u64 w2c_p0, u64 w2c_p1, u32 w2c_p2, u64 w2c_p3, u6
   goto w2c_Bfunc;
   w2c_B2:;
   w2c_i0 = 4u;
-  w2c_l6 = w2c_i0;
+  w2c_l7 = w2c_i0;
   w2c_B1:;
-  w2c_i0 = w2c_l6;
+  w2c_i0 = w2c_l7;
   goto w2c_Bfunc;
   w2c_B0:;
   UNREACHABLE;
@@ -32472,7 +34002,7 @@ static u32 w2c_f45(module *m, u64 w2c_p0, u64 w2c_p1, u32 w2c_p2, u64 w2c_p3, u6
   return w2c_i0;
 }
 
-static void w2c_f46(module *m, u64 w2c_p0, u32 w2c_p1, u64 w2c_p2, u64 w2c_p3) {
+static void w2c_f47(module *m, u64 w2c_p0, u32 w2c_p1, u64 w2c_p2, u64 w2c_p3) {
   u32 w2c_l7 = 0, w2c_l8 = 0, w2c_l9 = 0, w2c_l10 = 0;
   u64 w2c_l4 = 0, w2c_l5 = 0, w2c_l6 = 0;
   u32 w2c_i0, w2c_i1, w2c_i2, w2c_i3;
@@ -32518,7 +34048,7 @@ static void w2c_f46(module *m, u64 w2c_p0, u32 w2c_p1, u64 w2c_p2, u64 w2c_p3) {
   w2c_j0 += w2c_j1;
   w2c_j1 = w2c_p2;
   w2c_j2 = w2c_p3;
-  w2c_f32(m, w2c_j0, w2c_j1, w2c_j2);
+  w2c_f33(m, w2c_j0, w2c_j1, w2c_j2);
   w2c_j0 = w2c_l5;
   w2c_i0 = (u32)(w2c_j0);
   w2c_i0 = i32_load8_u(m, (u64)(w2c_i0) + 8u);
@@ -32646,7 +34176,7 @@ static void w2c_f46(module *m, u64 w2c_p0, u32 w2c_p1, u64 w2c_p2, u64 w2c_p3) {
     w2c_B5:;
     w2c_j0 = w2c_l5;
     w2c_i1 = w2c_p1;
-    w2c_f21(m, w2c_j0, w2c_i1);
+    w2c_f18(m, w2c_j0, w2c_i1);
     w2c_j0 = w2c_l5;
     w2c_i0 = (u32)(w2c_j0);
     w2c_i0 = i32_load8_u(m, (u64)(w2c_i0));
@@ -32741,7 +34271,7 @@ static void w2c_f46(module *m, u64 w2c_p0, u32 w2c_p1, u64 w2c_p2, u64 w2c_p3) {
   w2c_Bfunc:;
 }
 
-static void w2c_f47(module *m, u64 w2c_p0, u32 w2c_p1, u64 w2c_p2, u64 w2c_p3, u64 w2c_p4) {
+static void w2c_f48(module *m, u64 w2c_p0, u32 w2c_p1, u64 w2c_p2, u64 w2c_p3, u64 w2c_p4) {
   u32 w2c_l18 = 0, w2c_l19 = 0, w2c_l20 = 0, w2c_l21 = 0, w2c_l22 = 0;
   u64 w2c_l5 = 0, w2c_l6 = 0, w2c_l7 = 0, w2c_l8 = 0, w2c_l9 = 0, w2c_l10 = 0, w2c_l11 = 0, w2c_l12 = 0, w2c_l13 = 0, w2c_l14 = 0, w2c_l15 = 0, w2c_l16 = 0, w2c_l17 = 0;
   u32 w2c_i0, w2c_i1, w2c_i2;
@@ -34074,14 +35604,26 @@ static void w2c_f47(module *m, u64 w2c_p0, u32 w2c_p1, u64 w2c_p2, u64 w2c_p3, u
   w2c_i0 = w2c_i2 ? w2c_i0 : w2c_i1;
   if (w2c_i0) {goto w2c_B1;}
   w2c_B47:;
-  w2c_j0 = w2c_l5;
+  w2c_j0 = w2c_p0;
+  w2c_i0 = (u32)(w2c_j0);
+  w2c_j1 = 0ull;
+  i64_store(m, (u64)(w2c_i0), w2c_j1);
+  w2c_j0 = w2c_p0;
+  w2c_i0 = (u32)(w2c_j0);
+  w2c_j1 = 0ull;
+  i64_store(m, (u64)(w2c_i0) + 8, w2c_j1);
+  w2c_j0 = w2c_p0;
+  w2c_j1 = 16ull;
+  w2c_j0 += w2c_j1;
   w2c_i0 = (u32)(w2c_j0);
   w2c_j1 = w2c_l6;
   w2c_j2 = w2c_l13;
   w2c_j1 += w2c_j2;
   w2c_p3 = w2c_j1;
-  i64_store(m, (u64)(w2c_i0) + 112, w2c_j1);
-  w2c_j0 = w2c_l5;
+  i64_store(m, (u64)(w2c_i0), w2c_j1);
+  w2c_j0 = w2c_p0;
+  w2c_j1 = 24ull;
+  w2c_j0 += w2c_j1;
   w2c_i0 = (u32)(w2c_j0);
   w2c_j1 = w2c_l12;
   w2c_j2 = w2c_l14;
@@ -34091,11 +35633,16 @@ static void w2c_f47(module *m, u64 w2c_p0, u32 w2c_p1, u64 w2c_p2, u64 w2c_p3, u
   w2c_i2 = w2c_j2 < w2c_j3;
   w2c_j2 = (u64)(w2c_i2);
   w2c_j1 += w2c_j2;
+  w2c_l6 = w2c_j1;
+  i64_store(m, (u64)(w2c_i0), w2c_j1);
+  w2c_j0 = w2c_l5;
+  w2c_i0 = (u32)(w2c_j0);
+  w2c_j1 = w2c_p3;
+  i64_store(m, (u64)(w2c_i0) + 112, w2c_j1);
+  w2c_j0 = w2c_l5;
+  w2c_i0 = (u32)(w2c_j0);
+  w2c_j1 = w2c_l6;
   i64_store(m, (u64)(w2c_i0) + 120, w2c_j1);
-  w2c_j0 = 0ull;
-  w2c_l6 = w2c_j0;
-  w2c_j0 = 0ull;
-  w2c_l12 = w2c_j0;
   goto w2c_B0;
   w2c_B2:;
   UNREACHABLE;
@@ -34107,25 +35654,20 @@ static void w2c_f47(module *m, u64 w2c_p0, u32 w2c_p1, u64 w2c_p2, u64 w2c_p3, u
   w2c_j2 = w2c_p2;
   w2c_j3 = w2c_p3;
   w2c_j4 = w2c_p4;
-  w2c_f41(m, w2c_j0, w2c_i1, w2c_j2, w2c_j3, w2c_j4);
-  w2c_j0 = w2c_l5;
-  w2c_i0 = (u32)(w2c_j0);
-  w2c_j0 = i64_load8_u(m, (u64)(w2c_i0) + 104u);
-  w2c_l6 = w2c_j0;
-  w2c_j0 = w2c_l5;
-  w2c_i0 = (u32)(w2c_j0);
-  w2c_j0 = i64_load8_u(m, (u64)(w2c_i0) + 96u);
-  w2c_l12 = w2c_j0;
-  w2c_B0:;
+  w2c_f42(m, w2c_j0, w2c_i1, w2c_j2, w2c_j3, w2c_j4);
   w2c_j0 = w2c_p0;
   w2c_i0 = (u32)(w2c_j0);
-  w2c_j1 = w2c_l12;
+  w2c_j1 = w2c_l5;
+  w2c_i1 = (u32)(w2c_j1);
+  w2c_j1 = i64_load8_u(m, (u64)(w2c_i1) + 96u);
   i64_store(m, (u64)(w2c_i0), w2c_j1);
   w2c_j0 = w2c_p0;
   w2c_j1 = 8ull;
   w2c_j0 += w2c_j1;
   w2c_i0 = (u32)(w2c_j0);
-  w2c_j1 = w2c_l6;
+  w2c_j1 = w2c_l5;
+  w2c_i1 = (u32)(w2c_j1);
+  w2c_j1 = i64_load8_u(m, (u64)(w2c_i1) + 104u);
   i64_store(m, (u64)(w2c_i0), w2c_j1);
   w2c_j0 = w2c_p0;
   w2c_j1 = 16ull;
@@ -34143,6 +35685,7 @@ static void w2c_f47(module *m, u64 w2c_p0, u32 w2c_p1, u64 w2c_p2, u64 w2c_p3, u
   w2c_i1 = (u32)(w2c_j1);
   w2c_j1 = i64_load(m, (u64)(w2c_i1) + 120u);
   i64_store(m, (u64)(w2c_i0), w2c_j1);
+  w2c_B0:;
   w2c_j0 = w2c_l5;
   w2c_j1 = 176ull;
   w2c_j0 += w2c_j1;
@@ -34157,13 +35700,13 @@ static u32 w2c_chinese_number_version(module *m) {
   w2c_f2(m);
   UNREACHABLE;
   w2c_B0:;
-  w2c_f49(m);
+  w2c_f50(m);
   w2c_f1(m);
   w2c_i0 = 1000u;
   return w2c_i0;
 }
 
-static void w2c_f49(module *m) {
+static void w2c_f50(module *m) {
   u32 w2c_i0;
   u64 w2c_j0, w2c_j1;
   w2c_j0 = m->w2c_g0;
@@ -34189,14 +35732,14 @@ static u32 w2c_chinese_amount_print(module *m, u64 w2c_p0, u32 w2c_p1, u32 w2c_p
   w2c_j3 = w2c_p3;
   w2c_j4 = w2c_p4;
   w2c_j5 = w2c_p5;
-  w2c_i0 = w2c_f51(m, w2c_j0, w2c_i1, w2c_i2, w2c_j3, w2c_j4, w2c_j5);
+  w2c_i0 = w2c_f52(m, w2c_j0, w2c_i1, w2c_i2, w2c_j3, w2c_j4, w2c_j5);
   w2c_p2 = w2c_i0;
   w2c_f1(m);
   w2c_i0 = w2c_p2;
   return w2c_i0;
 }
 
-static u32 w2c_f51(module *m, u64 w2c_p0, u32 w2c_p1, u32 w2c_p2, u64 w2c_p3, u64 w2c_p4, u64 w2c_p5) {
+static u32 w2c_f52(module *m, u64 w2c_p0, u32 w2c_p1, u32 w2c_p2, u64 w2c_p3, u64 w2c_p4, u64 w2c_p5) {
   u32 w2c_l8 = 0;
   u64 w2c_l6 = 0, w2c_l7 = 0;
   u32 w2c_i0, w2c_i1, w2c_i2, w2c_i3, w2c_i4;
@@ -34382,14 +35925,14 @@ static u32 w2c_chinese_date_print(module *m, u32 w2c_p0, u32 w2c_p1, u32 w2c_p2,
   w2c_j4 = w2c_p4;
   w2c_j5 = w2c_p5;
   w2c_j6 = w2c_p6;
-  w2c_i0 = w2c_f53(m, w2c_i0, w2c_i1, w2c_i2, w2c_i3, w2c_j4, w2c_j5, w2c_j6);
+  w2c_i0 = w2c_f54(m, w2c_i0, w2c_i1, w2c_i2, w2c_i3, w2c_j4, w2c_j5, w2c_j6);
   w2c_p3 = w2c_i0;
   w2c_f1(m);
   w2c_i0 = w2c_p3;
   return w2c_i0;
 }
 
-static u32 w2c_f53(module *m, u32 w2c_p0, u32 w2c_p1, u32 w2c_p2, u32 w2c_p3, u64 w2c_p4, u64 w2c_p5, u64 w2c_p6) {
+static u32 w2c_f54(module *m, u32 w2c_p0, u32 w2c_p1, u32 w2c_p2, u32 w2c_p3, u64 w2c_p4, u64 w2c_p5, u64 w2c_p6) {
   u32 w2c_l11 = 0, w2c_l12 = 0, w2c_l13 = 0;
   u64 w2c_l7 = 0, w2c_l8 = 0, w2c_l9 = 0, w2c_l10 = 0;
   u32 w2c_i0, w2c_i1, w2c_i2, w2c_i3, w2c_i4;
@@ -34804,14 +36347,14 @@ static u32 w2c_chinese_signed_amount_print(module *m, u64 w2c_p0, u32 w2c_p1, u3
   w2c_j3 = w2c_p3;
   w2c_j4 = w2c_p4;
   w2c_j5 = w2c_p5;
-  w2c_i0 = w2c_f55(m, w2c_j0, w2c_i1, w2c_i2, w2c_j3, w2c_j4, w2c_j5);
+  w2c_i0 = w2c_f56(m, w2c_j0, w2c_i1, w2c_i2, w2c_j3, w2c_j4, w2c_j5);
   w2c_p2 = w2c_i0;
   w2c_f1(m);
   w2c_i0 = w2c_p2;
   return w2c_i0;
 }
 
-static u32 w2c_f55(module *m, u64 w2c_p0, u32 w2c_p1, u32 w2c_p2, u64 w2c_p3, u64 w2c_p4, u64 w2c_p5) {
+static u32 w2c_f56(module *m, u64 w2c_p0, u32 w2c_p1, u32 w2c_p2, u64 w2c_p3, u64 w2c_p4, u64 w2c_p5) {
   u32 w2c_l9 = 0, w2c_l10 = 0;
   u64 w2c_l6 = 0, w2c_l7 = 0, w2c_l8 = 0;
   u32 w2c_i0, w2c_i1, w2c_i2, w2c_i3, w2c_i4;
@@ -35043,14 +36586,14 @@ static u32 w2c_chinese_quantity_figures(module *m, u64 w2c_p0, u64 w2c_p1, u64 w
   w2c_j1 = w2c_p1;
   w2c_j2 = w2c_p2;
   w2c_j3 = w2c_p3;
-  w2c_i0 = w2c_f57(m, w2c_j0, w2c_j1, w2c_j2, w2c_j3);
+  w2c_i0 = w2c_f58(m, w2c_j0, w2c_j1, w2c_j2, w2c_j3);
   w2c_l4 = w2c_i0;
   w2c_f1(m);
   w2c_i0 = w2c_l4;
   return w2c_i0;
 }
 
-static u32 w2c_f57(module *m, u64 w2c_p0, u64 w2c_p1, u64 w2c_p2, u64 w2c_p3) {
+static u32 w2c_f58(module *m, u64 w2c_p0, u64 w2c_p1, u64 w2c_p2, u64 w2c_p3) {
   u32 w2c_l10 = 0;
   u64 w2c_l4 = 0, w2c_l5 = 0, w2c_l6 = 0, w2c_l7 = 0, w2c_l8 = 0, w2c_l9 = 0;
   u32 w2c_i0, w2c_i1, w2c_i2, w2c_i3;
@@ -35316,14 +36859,14 @@ static u32 w2c_chinese_amount_read(module *m, u64 w2c_p0, u64 w2c_p1, u64 w2c_p2
   w2c_j0 = w2c_p0;
   w2c_j1 = w2c_p1;
   w2c_j2 = w2c_p2;
-  w2c_i0 = w2c_f59(m, w2c_j0, w2c_j1, w2c_j2);
+  w2c_i0 = w2c_f60(m, w2c_j0, w2c_j1, w2c_j2);
   w2c_l3 = w2c_i0;
   w2c_f1(m);
   w2c_i0 = w2c_l3;
   return w2c_i0;
 }
 
-static u32 w2c_f59(module *m, u64 w2c_p0, u64 w2c_p1, u64 w2c_p2) {
+static u32 w2c_f60(module *m, u64 w2c_p0, u64 w2c_p1, u64 w2c_p2) {
   u32 w2c_l15 = 0, w2c_l16 = 0, w2c_l17 = 0, w2c_l18 = 0, w2c_l19 = 0, w2c_l20 = 0, w2c_l21 = 0, w2c_l22 = 0;
   u64 w2c_l3 = 0, w2c_l4 = 0, w2c_l5 = 0, w2c_l6 = 0, w2c_l7 = 0, w2c_l8 = 0, w2c_l9 = 0, w2c_l10 = 0, w2c_l11 = 0, w2c_l12 = 0, w2c_l13 = 0, w2c_l14 = 0;
   u32 w2c_i0, w2c_i1, w2c_i2, w2c_i3;
@@ -35493,13 +37036,13 @@ static u32 w2c_f59(module *m, u64 w2c_p0, u64 w2c_p1, u64 w2c_p2) {
   w2c_i0 = 0u;
   w2c_l16 = w2c_i0;
   w2c_j0 = 0ull;
-  w2c_l3 = w2c_j0;
-  w2c_j0 = w2c_p1;
   w2c_l8 = w2c_j0;
-  w2c_j0 = w2c_l6;
-  w2c_l5 = w2c_j0;
-  w2c_j0 = 0ull;
+  w2c_j0 = w2c_p1;
   w2c_l9 = w2c_j0;
+  w2c_j0 = w2c_l6;
+  w2c_p0 = w2c_j0;
+  w2c_j0 = 0ull;
+  w2c_l5 = w2c_j0;
   w2c_j0 = 0ull;
   w2c_l10 = w2c_j0;
   w2c_j0 = 0ull;
@@ -35513,7 +37056,7 @@ static u32 w2c_f59(module *m, u64 w2c_p0, u64 w2c_p1, u64 w2c_p2) {
   w2c_L9:
     w2c_i0 = w2c_l17;
     w2c_l19 = w2c_i0;
-    w2c_j0 = w2c_l5;
+    w2c_j0 = w2c_p0;
     w2c_i0 = (u32)(w2c_j0);
     w2c_i0 = i32_load8_s(m, (u64)(w2c_i0));
     w2c_l17 = w2c_i0;
@@ -35526,7 +37069,7 @@ static u32 w2c_f59(module *m, u64 w2c_p0, u64 w2c_p1, u64 w2c_p2) {
     w2c_i1 = 4294967295u;
     w2c_i0 = (u32)((s32)w2c_i0 > (s32)w2c_i1);
     if (w2c_i0) {goto w2c_B10;}
-    w2c_j0 = w2c_l5;
+    w2c_j0 = w2c_p0;
     w2c_i0 = (u32)(w2c_j0);
     w2c_i0 = i32_load8_u(m, (u64)(w2c_i0) + 1u);
     w2c_i1 = 63u;
@@ -35548,7 +37091,7 @@ static u32 w2c_f59(module *m, u64 w2c_p0, u64 w2c_p1, u64 w2c_p2) {
     w2c_l13 = w2c_j0;
     goto w2c_B10;
     w2c_B11:;
-    w2c_j0 = w2c_l5;
+    w2c_j0 = w2c_p0;
     w2c_i0 = (u32)(w2c_j0);
     w2c_i0 = i32_load8_u(m, (u64)(w2c_i0) + 2u);
     w2c_i1 = 63u;
@@ -35587,7 +37130,7 @@ static u32 w2c_f59(module *m, u64 w2c_p0, u64 w2c_p1, u64 w2c_p2) {
     w2c_i2 &= w2c_i3;
     w2c_i1 |= w2c_i2;
     w2c_i0 |= w2c_i1;
-    w2c_j1 = w2c_l5;
+    w2c_j1 = w2c_p0;
     w2c_i1 = (u32)(w2c_j1);
     w2c_i1 = i32_load8_u(m, (u64)(w2c_i1) + 3u);
     w2c_i2 = 63u;
@@ -35605,13 +37148,13 @@ static u32 w2c_f59(module *m, u64 w2c_p0, u64 w2c_p1, u64 w2c_p2) {
     w2c_j0 = (u64)(w2c_i0);
     w2c_j1 = 504ull;
     w2c_j0 &= w2c_j1;
-    w2c_p0 = w2c_j0;
+    w2c_l3 = w2c_j0;
     w2c_i0 = (u32)(w2c_j0);
     w2c_i0 = i32_load(m, (u64)(w2c_i0) + 66332u);
     w2c_i1 = w2c_l15;
     w2c_i0 = w2c_i0 != w2c_i1;
     if (w2c_i0) {goto w2c_B20;}
-    w2c_j0 = w2c_p0;
+    w2c_j0 = w2c_l3;
     w2c_j1 = 66336ull;
     w2c_j0 += w2c_j1;
     w2c_i0 = (u32)(w2c_j0);
@@ -35621,13 +37164,13 @@ static u32 w2c_f59(module *m, u64 w2c_p0, u64 w2c_p1, u64 w2c_p2) {
     w2c_i1 = 1u;
     w2c_i0 = w2c_i0 != w2c_i1;
     if (w2c_i0) {goto w2c_B20;}
-    w2c_j0 = w2c_p0;
+    w2c_j0 = w2c_l3;
     w2c_j1 = 66338ull;
     w2c_j0 += w2c_j1;
     w2c_i0 = (u32)(w2c_j0);
     w2c_j0 = i64_load8_u(m, (u64)(w2c_i0));
     w2c_l14 = w2c_j0;
-    w2c_j0 = w2c_p0;
+    w2c_j0 = w2c_l3;
     w2c_j1 = 66337ull;
     w2c_j0 += w2c_j1;
     w2c_i0 = (u32)(w2c_j0);
@@ -36915,7 +38458,7 @@ static u32 w2c_f59(module *m, u64 w2c_p0, u64 w2c_p1, u64 w2c_p2) {
     w2c_i0 = w2c_l21;
     w2c_l16 = w2c_i0;
     w2c_j0 = w2c_l14;
-    w2c_l9 = w2c_j0;
+    w2c_l8 = w2c_j0;
     goto w2c_B13;
     w2c_B34:;
     w2c_i0 = w2c_l19;
@@ -36946,14 +38489,14 @@ static u32 w2c_f59(module *m, u64 w2c_p0, u64 w2c_p1, u64 w2c_p2) {
     w2c_i0 = w2c_i0 != w2c_i1;
     if (w2c_i0) {goto w2c_B20;}
     w2c_B31:;
-    w2c_j0 = w2c_l9;
+    w2c_j0 = w2c_l8;
     w2c_j1 = 10ull;
     w2c_j0 *= w2c_j1;
     w2c_j1 = w2c_l10;
     w2c_j0 += w2c_j1;
     w2c_l10 = w2c_j0;
     w2c_j0 = 0ull;
-    w2c_l9 = w2c_j0;
+    w2c_l8 = w2c_j0;
     w2c_i0 = 1u;
     w2c_l16 = w2c_i0;
     w2c_i0 = 12u;
@@ -36967,14 +38510,14 @@ static u32 w2c_f59(module *m, u64 w2c_p0, u64 w2c_p1, u64 w2c_p2) {
     w2c_i0 = w2c_i0 != w2c_i1;
     if (w2c_i0) {goto w2c_B20;}
     w2c_B29:;
-    w2c_j0 = w2c_l9;
+    w2c_j0 = w2c_l8;
     w2c_j1 = 100ull;
     w2c_j0 *= w2c_j1;
     w2c_j1 = w2c_l10;
     w2c_j0 += w2c_j1;
     w2c_l10 = w2c_j0;
     w2c_j0 = 0ull;
-    w2c_l9 = w2c_j0;
+    w2c_l8 = w2c_j0;
     w2c_i0 = 2u;
     w2c_l16 = w2c_i0;
     w2c_i0 = 12u;
@@ -36993,7 +38536,7 @@ static u32 w2c_f59(module *m, u64 w2c_p0, u64 w2c_p1, u64 w2c_p2) {
     goto w2c_B19;
     w2c_B27:;
     w2c_j0 = w2c_l10;
-    w2c_j1 = w2c_l9;
+    w2c_j1 = w2c_l8;
     w2c_j0 += w2c_j1;
     w2c_j1 = w2c_l11;
     w2c_j0 += w2c_j1;
@@ -37007,7 +38550,7 @@ static u32 w2c_f59(module *m, u64 w2c_p0, u64 w2c_p1, u64 w2c_p2) {
     w2c_i0 = 7u;
     w2c_l18 = w2c_i0;
     w2c_j0 = 0ull;
-    w2c_l9 = w2c_j0;
+    w2c_l8 = w2c_j0;
     goto w2c_B13;
     w2c_B26:;
     w2c_i0 = w2c_l15;
@@ -37016,13 +38559,13 @@ static u32 w2c_f59(module *m, u64 w2c_p0, u64 w2c_p1, u64 w2c_p2) {
     if (w2c_i0) {goto w2c_B20;}
     w2c_B25:;
     w2c_j0 = w2c_l12;
-    w2c_j1 = w2c_l9;
+    w2c_j1 = w2c_l8;
     w2c_j2 = 10ull;
     w2c_j1 *= w2c_j2;
     w2c_j0 += w2c_j1;
     w2c_l12 = w2c_j0;
     w2c_j0 = 0ull;
-    w2c_l9 = w2c_j0;
+    w2c_l8 = w2c_j0;
     w2c_i0 = 0u;
     w2c_l17 = w2c_i0;
     w2c_i0 = 17u;
@@ -37035,11 +38578,11 @@ static u32 w2c_f59(module *m, u64 w2c_p0, u64 w2c_p1, u64 w2c_p2) {
     if (w2c_i0) {goto w2c_B20;}
     w2c_B23:;
     w2c_j0 = w2c_l12;
-    w2c_j1 = w2c_l9;
+    w2c_j1 = w2c_l8;
     w2c_j0 += w2c_j1;
     w2c_l12 = w2c_j0;
     w2c_j0 = 0ull;
-    w2c_l9 = w2c_j0;
+    w2c_l8 = w2c_j0;
     w2c_i0 = 0u;
     w2c_l17 = w2c_i0;
     w2c_i0 = 19u;
@@ -37056,6 +38599,8 @@ static u32 w2c_f59(module *m, u64 w2c_p0, u64 w2c_p1, u64 w2c_p2) {
     w2c_i0 = w2c_i0 == w2c_i1;
     if (w2c_i0) {goto w2c_B19;}
     w2c_B20:;
+    w2c_j0 = 0ull;
+    w2c_l3 = w2c_j0;
     w2c_j0 = w2c_p2;
     w2c_i0 = (u32)(w2c_j0);
     w2c_j1 = 0ull;
@@ -37066,68 +38611,62 @@ static u32 w2c_f59(module *m, u64 w2c_p0, u64 w2c_p1, u64 w2c_p2) {
     i64_store(m, (u64)(w2c_i0), w2c_j1);
     w2c_j0 = w2c_p2;
     w2c_i0 = (u32)(w2c_j0);
-    w2c_j1 = w2c_l3;
+    w2c_j1 = w2c_l5;
     i64_store(m, (u64)(w2c_i0) + 8, w2c_j1);
-    w2c_j0 = w2c_p1;
-    w2c_p0 = w2c_j0;
-    w2c_j0 = w2c_l3;
+    w2c_j0 = w2c_l5;
     w2c_i0 = !(w2c_j0);
-    if (w2c_i0) {goto w2c_B123;}
-    w2c_j0 = w2c_p1;
+    if (w2c_i0) {goto w2c_B122;}
+    w2c_j0 = 0ull;
+    w2c_l3 = w2c_j0;
+    w2c_j0 = 1ull;
     w2c_p0 = w2c_j0;
-    w2c_L124:
-      w2c_j0 = w2c_p0;
-      w2c_i0 = !(w2c_j0);
-      if (w2c_i0) {goto w2c_B122;}
-      w2c_j0 = w2c_p0;
-      w2c_j1 = w2c_l6;
-      w2c_i1 = (u32)(w2c_j1);
-      w2c_i1 = i32_load8_u(m, (u64)(w2c_i1));
-      w2c_i2 = 1u;
-      w2c_i1 >>= (w2c_i2 & 31);
-      w2c_j1 = (u64)(w2c_i1);
-      w2c_j2 = 120ull;
-      w2c_j1 &= w2c_j2;
-      w2c_j2 = 66848ull;
-      w2c_j1 += w2c_j2;
-      w2c_i1 = (u32)(w2c_j1);
-      w2c_j1 = i64_load(m, (u64)(w2c_i1));
-      w2c_l5 = w2c_j1;
-      w2c_j0 -= w2c_j1;
-      w2c_p0 = w2c_j0;
+    w2c_L123:
       w2c_j0 = w2c_l6;
-      w2c_j1 = w2c_l5;
+      w2c_j1 = w2c_l3;
       w2c_j0 += w2c_j1;
-      w2c_l6 = w2c_j0;
-      w2c_j0 = w2c_l3;
-      w2c_j1 = 18446744073709551615ull;
+      w2c_i0 = (u32)(w2c_j0);
+      w2c_i0 = i32_load8_u(m, (u64)(w2c_i0));
+      w2c_i1 = 1u;
+      w2c_i0 >>= (w2c_i1 & 31);
+      w2c_j0 = (u64)(w2c_i0);
+      w2c_j1 = 120ull;
+      w2c_j0 &= w2c_j1;
+      w2c_j1 = 66848ull;
+      w2c_j0 += w2c_j1;
+      w2c_i0 = (u32)(w2c_j0);
+      w2c_j0 = i64_load(m, (u64)(w2c_i0));
+      w2c_j1 = w2c_l3;
       w2c_j0 += w2c_j1;
       w2c_l3 = w2c_j0;
-      w2c_j1 = 0ull;
-      w2c_i0 = w2c_j0 != w2c_j1;
-      if (w2c_i0) {goto w2c_L124;}
-    w2c_B123:;
-    w2c_j0 = w2c_p1;
-    w2c_j1 = w2c_p0;
-    w2c_j0 -= w2c_j1;
-    w2c_p1 = w2c_j0;
+      w2c_j0 = w2c_p0;
+      w2c_j1 = w2c_l5;
+      w2c_i0 = w2c_j0 >= w2c_j1;
+      if (w2c_i0) {goto w2c_B122;}
+      w2c_j0 = w2c_p0;
+      w2c_j1 = 1ull;
+      w2c_j0 += w2c_j1;
+      w2c_p0 = w2c_j0;
+      w2c_j0 = w2c_p1;
+      w2c_j1 = w2c_l3;
+      w2c_i0 = w2c_j0 > w2c_j1;
+      if (w2c_i0) {goto w2c_L123;}
     w2c_B122:;
     w2c_j0 = w2c_p2;
     w2c_i0 = (u32)(w2c_j0);
-    w2c_j1 = w2c_p1;
+    w2c_j1 = w2c_l3;
     i64_store(m, (u64)(w2c_i0) + 16, w2c_j1);
     w2c_i0 = 2u;
     w2c_l15 = w2c_i0;
     goto w2c_B1;
     w2c_B19:;
-    w2c_j0 = w2c_l9;
+    w2c_j0 = w2c_l8;
     w2c_j1 = 1000ull;
     w2c_j0 *= w2c_j1;
     w2c_j1 = w2c_l10;
     w2c_j0 += w2c_j1;
     w2c_l10 = w2c_j0;
     w2c_j0 = 0ull;
-    w2c_l9 = w2c_j0;
+    w2c_l8 = w2c_j0;
     w2c_i0 = 3u;
     w2c_l16 = w2c_i0;
     w2c_i0 = 12u;
@@ -37135,7 +38674,7 @@ static u32 w2c_f59(module *m, u64 w2c_p0, u64 w2c_p1, u64 w2c_p2) {
     goto w2c_B13;
     w2c_B18:;
     w2c_j0 = w2c_l10;
-    w2c_j1 = w2c_l9;
+    w2c_j1 = w2c_l8;
     w2c_j0 += w2c_j1;
     w2c_j1 = w2c_l11;
     w2c_j0 += w2c_j1;
@@ -37153,7 +38692,7 @@ static u32 w2c_f59(module *m, u64 w2c_p0, u64 w2c_p1, u64 w2c_p2) {
     w2c_j0 = 0ull;
     w2c_l10 = w2c_j0;
     w2c_j0 = 0ull;
-    w2c_l9 = w2c_j0;
+    w2c_l8 = w2c_j0;
     goto w2c_B13;
     w2c_B17:;
     w2c_i0 = 1u;
@@ -37167,7 +38706,7 @@ static u32 w2c_f59(module *m, u64 w2c_p0, u64 w2c_p1, u64 w2c_p2) {
     w2c_l18 = w2c_i0;
     w2c_B14:;
     w2c_j0 = w2c_l10;
-    w2c_j1 = w2c_l9;
+    w2c_j1 = w2c_l8;
     w2c_j0 += w2c_j1;
     w2c_j1 = 10000ull;
     w2c_j0 *= w2c_j1;
@@ -37179,20 +38718,20 @@ static u32 w2c_f59(module *m, u64 w2c_p0, u64 w2c_p1, u64 w2c_p2) {
     w2c_i0 = 0u;
     w2c_l16 = w2c_i0;
     w2c_j0 = 0ull;
-    w2c_l9 = w2c_j0;
+    w2c_l8 = w2c_j0;
     w2c_B13:;
-    w2c_j0 = w2c_l5;
+    w2c_j0 = w2c_p0;
     w2c_j1 = w2c_l13;
     w2c_j0 += w2c_j1;
-    w2c_l5 = w2c_j0;
-    w2c_j0 = w2c_l3;
+    w2c_p0 = w2c_j0;
+    w2c_j0 = w2c_l5;
     w2c_j1 = 1ull;
     w2c_j0 += w2c_j1;
-    w2c_l3 = w2c_j0;
-    w2c_j0 = w2c_l8;
+    w2c_l5 = w2c_j0;
+    w2c_j0 = w2c_l9;
     w2c_j1 = w2c_l13;
     w2c_j0 -= w2c_j1;
-    w2c_l8 = w2c_j0;
+    w2c_l9 = w2c_j0;
     w2c_j1 = 0ull;
     w2c_i0 = w2c_j0 != w2c_j1;
     if (w2c_i0) {goto w2c_L9;}
@@ -37268,14 +38807,14 @@ static u32 w2c_chinese_typed_amount_read(module *m, u64 w2c_p0, u64 w2c_p1, u64 
   w2c_j0 = w2c_p0;
   w2c_j1 = w2c_p1;
   w2c_j2 = w2c_p2;
-  w2c_i0 = w2c_f61(m, w2c_j0, w2c_j1, w2c_j2);
+  w2c_i0 = w2c_f62(m, w2c_j0, w2c_j1, w2c_j2);
   w2c_l3 = w2c_i0;
   w2c_f1(m);
   w2c_i0 = w2c_l3;
   return w2c_i0;
 }
 
-static u32 w2c_f61(module *m, u64 w2c_p0, u64 w2c_p1, u64 w2c_p2) {
+static u32 w2c_f62(module *m, u64 w2c_p0, u64 w2c_p1, u64 w2c_p2) {
   u32 w2c_l14 = 0, w2c_l15 = 0, w2c_l16 = 0, w2c_l17 = 0, w2c_l18 = 0, w2c_l19 = 0, w2c_l20 = 0, w2c_l21 = 0, w2c_l22 = 0;
   u64 w2c_l3 = 0, w2c_l4 = 0, w2c_l5 = 0, w2c_l6 = 0, w2c_l7 = 0, w2c_l8 = 0, w2c_l9 = 0, w2c_l10 = 0, w2c_l11 = 0, w2c_l12 = 0, w2c_l13 = 0;
   u32 w2c_i0, w2c_i1, w2c_i2, w2c_i3, w2c_i4;
@@ -37459,13 +38998,13 @@ static u32 w2c_f61(module *m, u64 w2c_p0, u64 w2c_p1, u64 w2c_p2) {
   w2c_j0 += w2c_j1;
   w2c_l7 = w2c_j0;
   w2c_j0 = 0ull;
-  w2c_l4 = w2c_j0;
+  w2c_l8 = w2c_j0;
   w2c_j0 = w2c_p1;
   w2c_p0 = w2c_j0;
   w2c_j0 = w2c_l5;
   w2c_l6 = w2c_j0;
   w2c_j0 = 0ull;
-  w2c_l8 = w2c_j0;
+  w2c_l4 = w2c_j0;
   w2c_j0 = 0ull;
   w2c_l9 = w2c_j0;
   w2c_j0 = 0ull;
@@ -39207,6 +40746,8 @@ static u32 w2c_f61(module *m, u64 w2c_p0, u64 w2c_p1, u64 w2c_p2) {
     w2c_i0 = w2c_i0 == w2c_i1;
     if (w2c_i0) {goto w2c_B34;}
     w2c_B35:;
+    w2c_j0 = 0ull;
+    w2c_l6 = w2c_j0;
     w2c_j0 = w2c_p2;
     w2c_i0 = (u32)(w2c_j0);
     w2c_j1 = 0ull;
@@ -39219,53 +40760,47 @@ static u32 w2c_f61(module *m, u64 w2c_p0, u64 w2c_p1, u64 w2c_p2) {
     w2c_i0 = (u32)(w2c_j0);
     w2c_j1 = w2c_l4;
     i64_store(m, (u64)(w2c_i0) + 8, w2c_j1);
-    w2c_j0 = w2c_p1;
-    w2c_l6 = w2c_j0;
     w2c_j0 = w2c_l4;
     w2c_i0 = !(w2c_j0);
-    if (w2c_i0) {goto w2c_B138;}
-    w2c_j0 = w2c_p1;
+    if (w2c_i0) {goto w2c_B137;}
+    w2c_j0 = 0ull;
     w2c_l6 = w2c_j0;
-    w2c_L139:
-      w2c_j0 = w2c_l6;
-      w2c_i0 = !(w2c_j0);
-      if (w2c_i0) {goto w2c_B137;}
-      w2c_j0 = w2c_l6;
-      w2c_j1 = w2c_l5;
-      w2c_i1 = (u32)(w2c_j1);
-      w2c_i1 = i32_load8_u(m, (u64)(w2c_i1));
-      w2c_i2 = 1u;
-      w2c_i1 >>= (w2c_i2 & 31);
-      w2c_j1 = (u64)(w2c_i1);
-      w2c_j2 = 120ull;
-      w2c_j1 &= w2c_j2;
-      w2c_j2 = 66848ull;
-      w2c_j1 += w2c_j2;
-      w2c_i1 = (u32)(w2c_j1);
-      w2c_j1 = i64_load(m, (u64)(w2c_i1));
-      w2c_p0 = w2c_j1;
-      w2c_j0 -= w2c_j1;
-      w2c_l6 = w2c_j0;
+    w2c_j0 = 1ull;
+    w2c_p0 = w2c_j0;
+    w2c_L138:
       w2c_j0 = w2c_l5;
-      w2c_j1 = w2c_p0;
+      w2c_j1 = w2c_l6;
       w2c_j0 += w2c_j1;
-      w2c_l5 = w2c_j0;
-      w2c_j0 = w2c_l4;
-      w2c_j1 = 18446744073709551615ull;
+      w2c_i0 = (u32)(w2c_j0);
+      w2c_i0 = i32_load8_u(m, (u64)(w2c_i0));
+      w2c_i1 = 1u;
+      w2c_i0 >>= (w2c_i1 & 31);
+      w2c_j0 = (u64)(w2c_i0);
+      w2c_j1 = 120ull;
+      w2c_j0 &= w2c_j1;
+      w2c_j1 = 66848ull;
       w2c_j0 += w2c_j1;
-      w2c_l4 = w2c_j0;
-      w2c_j1 = 0ull;
-      w2c_i0 = w2c_j0 != w2c_j1;
-      if (w2c_i0) {goto w2c_L139;}
-    w2c_B138:;
-    w2c_j0 = w2c_p1;
-    w2c_j1 = w2c_l6;
-    w2c_j0 -= w2c_j1;
-    w2c_p1 = w2c_j0;
+      w2c_i0 = (u32)(w2c_j0);
+      w2c_j0 = i64_load(m, (u64)(w2c_i0));
+      w2c_j1 = w2c_l6;
+      w2c_j0 += w2c_j1;
+      w2c_l6 = w2c_j0;
+      w2c_j0 = w2c_p0;
+      w2c_j1 = w2c_l4;
+      w2c_i0 = w2c_j0 >= w2c_j1;
+      if (w2c_i0) {goto w2c_B137;}
+      w2c_j0 = w2c_p0;
+      w2c_j1 = 1ull;
+      w2c_j0 += w2c_j1;
+      w2c_p0 = w2c_j0;
+      w2c_j0 = w2c_p1;
+      w2c_j1 = w2c_l6;
+      w2c_i0 = w2c_j0 > w2c_j1;
+      if (w2c_i0) {goto w2c_L138;}
     w2c_B137:;
     w2c_j0 = w2c_p2;
     w2c_i0 = (u32)(w2c_j0);
-    w2c_j1 = w2c_p1;
+    w2c_j1 = w2c_l6;
     i64_store(m, (u64)(w2c_i0) + 16, w2c_j1);
     w2c_i0 = 2u;
     w2c_l14 = w2c_i0;
@@ -39372,12 +40907,12 @@ static u32 w2c_f61(module *m, u64 w2c_p0, u64 w2c_p1, u64 w2c_p2) {
   w2c_i1 = 4294967279u;
   w2c_i0 += w2c_i1;
   switch (w2c_i0) {
-    case 0: goto w2c_B140;
+    case 0: goto w2c_B139;
     case 1: goto w2c_B7;
-    case 2: goto w2c_B140;
-    default: goto w2c_B140;
+    case 2: goto w2c_B139;
+    default: goto w2c_B139;
   }
-  w2c_B140:;
+  w2c_B139:;
   w2c_j0 = w2c_l7;
   w2c_i0 = (u32)(w2c_j0);
   w2c_j1 = 0ull;
@@ -39434,14 +40969,14 @@ static u32 w2c_chinese_date_read(module *m, u64 w2c_p0, u64 w2c_p1, u64 w2c_p2) 
   w2c_j0 = w2c_p0;
   w2c_j1 = w2c_p1;
   w2c_j2 = w2c_p2;
-  w2c_i0 = w2c_f63(m, w2c_j0, w2c_j1, w2c_j2);
+  w2c_i0 = w2c_f64(m, w2c_j0, w2c_j1, w2c_j2);
   w2c_l3 = w2c_i0;
   w2c_f1(m);
   w2c_i0 = w2c_l3;
   return w2c_i0;
 }
 
-static u32 w2c_f63(module *m, u64 w2c_p0, u64 w2c_p1, u64 w2c_p2) {
+static u32 w2c_f64(module *m, u64 w2c_p0, u64 w2c_p1, u64 w2c_p2) {
   u32 w2c_l9 = 0, w2c_l10 = 0, w2c_l11 = 0, w2c_l12 = 0, w2c_l13 = 0, w2c_l14 = 0, w2c_l15 = 0, w2c_l16 = 0, w2c_l17 = 0, w2c_l18 = 0, w2c_l19 = 0, w2c_l20 = 0, w2c_l21 = 0, w2c_l22 = 0, w2c_l23 = 0;
   u64 w2c_l3 = 0, w2c_l4 = 0, w2c_l5 = 0, w2c_l6 = 0, w2c_l7 = 0, w2c_l8 = 0;
   u32 w2c_i0, w2c_i1, w2c_i2, w2c_i3, w2c_i4;
@@ -39613,11 +41148,11 @@ static u32 w2c_f63(module *m, u64 w2c_p0, u64 w2c_p1, u64 w2c_p2) {
   w2c_i0 = 0u;
   w2c_l10 = w2c_i0;
   w2c_j0 = 0ull;
-  w2c_l3 = w2c_j0;
+  w2c_l5 = w2c_j0;
   w2c_j0 = w2c_p1;
   w2c_l7 = w2c_j0;
   w2c_j0 = w2c_l6;
-  w2c_p0 = w2c_j0;
+  w2c_l3 = w2c_j0;
   w2c_i0 = 0u;
   w2c_l11 = w2c_i0;
   w2c_i0 = 0u;
@@ -39627,7 +41162,7 @@ static u32 w2c_f63(module *m, u64 w2c_p0, u64 w2c_p1, u64 w2c_p2) {
   w2c_i0 = 0u;
   w2c_l14 = w2c_i0;
   w2c_L11:
-    w2c_j0 = w2c_p0;
+    w2c_j0 = w2c_l3;
     w2c_i0 = (u32)(w2c_j0);
     w2c_i0 = i32_load8_s(m, (u64)(w2c_i0));
     w2c_l15 = w2c_i0;
@@ -39635,12 +41170,12 @@ static u32 w2c_f63(module *m, u64 w2c_p0, u64 w2c_p1, u64 w2c_p2) {
     w2c_i0 &= w2c_i1;
     w2c_l9 = w2c_i0;
     w2c_j0 = 1ull;
-    w2c_l5 = w2c_j0;
+    w2c_p0 = w2c_j0;
     w2c_i0 = w2c_l15;
     w2c_i1 = 4294967295u;
     w2c_i0 = (u32)((s32)w2c_i0 > (s32)w2c_i1);
     if (w2c_i0) {goto w2c_B12;}
-    w2c_j0 = w2c_p0;
+    w2c_j0 = w2c_l3;
     w2c_i0 = (u32)(w2c_j0);
     w2c_i0 = i32_load8_u(m, (u64)(w2c_i0) + 1u);
     w2c_i1 = 63u;
@@ -39659,10 +41194,10 @@ static u32 w2c_f63(module *m, u64 w2c_p0, u64 w2c_p1, u64 w2c_p2) {
     w2c_i0 |= w2c_i1;
     w2c_l9 = w2c_i0;
     w2c_j0 = 2ull;
-    w2c_l5 = w2c_j0;
+    w2c_p0 = w2c_j0;
     goto w2c_B12;
     w2c_B13:;
-    w2c_j0 = w2c_p0;
+    w2c_j0 = w2c_l3;
     w2c_i0 = (u32)(w2c_j0);
     w2c_i0 = i32_load8_u(m, (u64)(w2c_i0) + 2u);
     w2c_i1 = 63u;
@@ -39685,7 +41220,7 @@ static u32 w2c_f63(module *m, u64 w2c_p0, u64 w2c_p1, u64 w2c_p2) {
     w2c_i0 |= w2c_i1;
     w2c_l9 = w2c_i0;
     w2c_j0 = 3ull;
-    w2c_l5 = w2c_j0;
+    w2c_p0 = w2c_j0;
     goto w2c_B12;
     w2c_B14:;
     w2c_i0 = w2c_l17;
@@ -39701,7 +41236,7 @@ static u32 w2c_f63(module *m, u64 w2c_p0, u64 w2c_p1, u64 w2c_p2) {
     w2c_i2 &= w2c_i3;
     w2c_i1 |= w2c_i2;
     w2c_i0 |= w2c_i1;
-    w2c_j1 = w2c_p0;
+    w2c_j1 = w2c_l3;
     w2c_i1 = (u32)(w2c_j1);
     w2c_i1 = i32_load8_u(m, (u64)(w2c_i1) + 3u);
     w2c_i2 = 63u;
@@ -39709,7 +41244,7 @@ static u32 w2c_f63(module *m, u64 w2c_p0, u64 w2c_p1, u64 w2c_p2) {
     w2c_i0 |= w2c_i1;
     w2c_l9 = w2c_i0;
     w2c_j0 = 4ull;
-    w2c_l5 = w2c_j0;
+    w2c_p0 = w2c_j0;
     w2c_B12:;
     w2c_i0 = 1u;
     w2c_l16 = w2c_i0;
@@ -40545,10 +42080,10 @@ static u32 w2c_f63(module *m, u64 w2c_p0, u64 w2c_p1, u64 w2c_p2) {
     w2c_i0 = !(w2c_i0);
     if (w2c_i0) {goto w2c_B10;}
     w2c_B36:;
-    w2c_j0 = w2c_p0;
-    w2c_j1 = w2c_l5;
+    w2c_j0 = w2c_l3;
+    w2c_j1 = w2c_p0;
     w2c_j0 += w2c_j1;
-    w2c_p0 = w2c_j0;
+    w2c_l3 = w2c_j0;
     w2c_i0 = w2c_l9;
     w2c_i1 = 16u;
     w2c_i0 <<= (w2c_i1 & 31);
@@ -40558,12 +42093,12 @@ static u32 w2c_f63(module *m, u64 w2c_p0, u64 w2c_p1, u64 w2c_p2) {
     w2c_l15 = w2c_i1;
     w2c_i0 |= w2c_i1;
     w2c_l13 = w2c_i0;
-    w2c_j0 = w2c_l3;
+    w2c_j0 = w2c_l5;
     w2c_j1 = 1ull;
     w2c_j0 += w2c_j1;
-    w2c_l3 = w2c_j0;
+    w2c_l5 = w2c_j0;
     w2c_j0 = w2c_l7;
-    w2c_j1 = w2c_l5;
+    w2c_j1 = w2c_p0;
     w2c_j0 -= w2c_j1;
     w2c_l7 = w2c_j0;
     w2c_j1 = 0ull;
@@ -40593,6 +42128,8 @@ static u32 w2c_f63(module *m, u64 w2c_p0, u64 w2c_p1, u64 w2c_p2) {
   w2c_l9 = w2c_i0;
   goto w2c_B0;
   w2c_B10:;
+  w2c_j0 = 0ull;
+  w2c_l3 = w2c_j0;
   w2c_j0 = w2c_p2;
   w2c_i0 = (u32)(w2c_j0);
   w2c_j1 = 0ull;
@@ -40607,55 +42144,49 @@ static u32 w2c_f63(module *m, u64 w2c_p0, u64 w2c_p1, u64 w2c_p2) {
   i64_store(m, (u64)(w2c_i0), w2c_j1);
   w2c_j0 = w2c_p2;
   w2c_i0 = (u32)(w2c_j0);
-  w2c_j1 = w2c_l3;
+  w2c_j1 = w2c_l5;
   i64_store(m, (u64)(w2c_i0) + 16, w2c_j1);
-  w2c_j0 = w2c_p1;
-  w2c_p0 = w2c_j0;
-  w2c_j0 = w2c_l3;
+  w2c_j0 = w2c_l5;
   w2c_i0 = !(w2c_j0);
-  if (w2c_i0) {goto w2c_B78;}
-  w2c_j0 = w2c_p1;
+  if (w2c_i0) {goto w2c_B77;}
+  w2c_j0 = 0ull;
+  w2c_l3 = w2c_j0;
+  w2c_j0 = 1ull;
   w2c_p0 = w2c_j0;
-  w2c_L79:
-    w2c_j0 = w2c_p0;
-    w2c_i0 = !(w2c_j0);
-    if (w2c_i0) {goto w2c_B77;}
-    w2c_j0 = w2c_p0;
-    w2c_j1 = w2c_l6;
-    w2c_i1 = (u32)(w2c_j1);
-    w2c_i1 = i32_load8_u(m, (u64)(w2c_i1));
-    w2c_i2 = 1u;
-    w2c_i1 >>= (w2c_i2 & 31);
-    w2c_j1 = (u64)(w2c_i1);
-    w2c_j2 = 120ull;
-    w2c_j1 &= w2c_j2;
-    w2c_j2 = 66848ull;
-    w2c_j1 += w2c_j2;
-    w2c_i1 = (u32)(w2c_j1);
-    w2c_j1 = i64_load(m, (u64)(w2c_i1));
-    w2c_l5 = w2c_j1;
-    w2c_j0 -= w2c_j1;
-    w2c_p0 = w2c_j0;
+  w2c_L78:
     w2c_j0 = w2c_l6;
-    w2c_j1 = w2c_l5;
+    w2c_j1 = w2c_l3;
     w2c_j0 += w2c_j1;
-    w2c_l6 = w2c_j0;
-    w2c_j0 = w2c_l3;
-    w2c_j1 = 18446744073709551615ull;
+    w2c_i0 = (u32)(w2c_j0);
+    w2c_i0 = i32_load8_u(m, (u64)(w2c_i0));
+    w2c_i1 = 1u;
+    w2c_i0 >>= (w2c_i1 & 31);
+    w2c_j0 = (u64)(w2c_i0);
+    w2c_j1 = 120ull;
+    w2c_j0 &= w2c_j1;
+    w2c_j1 = 66848ull;
+    w2c_j0 += w2c_j1;
+    w2c_i0 = (u32)(w2c_j0);
+    w2c_j0 = i64_load(m, (u64)(w2c_i0));
+    w2c_j1 = w2c_l3;
     w2c_j0 += w2c_j1;
     w2c_l3 = w2c_j0;
-    w2c_j1 = 0ull;
-    w2c_i0 = w2c_j0 != w2c_j1;
-    if (w2c_i0) {goto w2c_L79;}
-  w2c_B78:;
-  w2c_j0 = w2c_p1;
-  w2c_j1 = w2c_p0;
-  w2c_j0 -= w2c_j1;
-  w2c_p1 = w2c_j0;
+    w2c_j0 = w2c_p0;
+    w2c_j1 = w2c_l5;
+    w2c_i0 = w2c_j0 >= w2c_j1;
+    if (w2c_i0) {goto w2c_B77;}
+    w2c_j0 = w2c_p0;
+    w2c_j1 = 1ull;
+    w2c_j0 += w2c_j1;
+    w2c_p0 = w2c_j0;
+    w2c_j0 = w2c_p1;
+    w2c_j1 = w2c_l3;
+    w2c_i0 = w2c_j0 > w2c_j1;
+    if (w2c_i0) {goto w2c_L78;}
   w2c_B77:;
   w2c_j0 = w2c_p2;
   w2c_i0 = (u32)(w2c_j0);
-  w2c_j1 = w2c_p1;
+  w2c_j1 = w2c_l3;
   i64_store(m, (u64)(w2c_i0) + 24, w2c_j1);
   w2c_i0 = 2u;
   w2c_l9 = w2c_i0;
@@ -40723,16 +42254,16 @@ static u32 w2c_chinese_figures_read(module *m, u64 w2c_p0, u64 w2c_p1, u64 w2c_p
   w2c_j0 = w2c_p0;
   w2c_j1 = w2c_p1;
   w2c_j2 = w2c_p2;
-  w2c_i0 = w2c_f65(m, w2c_j0, w2c_j1, w2c_j2);
+  w2c_i0 = w2c_f66(m, w2c_j0, w2c_j1, w2c_j2);
   w2c_l3 = w2c_i0;
   w2c_f1(m);
   w2c_i0 = w2c_l3;
   return w2c_i0;
 }
 
-static u32 w2c_f65(module *m, u64 w2c_p0, u64 w2c_p1, u64 w2c_p2) {
-  u32 w2c_l8 = 0, w2c_l9 = 0, w2c_l10 = 0, w2c_l11 = 0;
-  u64 w2c_l3 = 0, w2c_l4 = 0, w2c_l5 = 0, w2c_l6 = 0, w2c_l7 = 0;
+static u32 w2c_f66(module *m, u64 w2c_p0, u64 w2c_p1, u64 w2c_p2) {
+  u32 w2c_l7 = 0, w2c_l8 = 0, w2c_l9 = 0, w2c_l10 = 0, w2c_l11 = 0;
+  u64 w2c_l3 = 0, w2c_l4 = 0, w2c_l5 = 0, w2c_l6 = 0;
   u32 w2c_i0, w2c_i1, w2c_i2, w2c_i3;
   u64 w2c_j0, w2c_j1, w2c_j2, w2c_j3;
   w2c_j0 = m->w2c_g0;
@@ -40798,13 +42329,13 @@ static u32 w2c_f65(module *m, u64 w2c_p0, u64 w2c_p1, u64 w2c_p2) {
     w2c_j0 += w2c_j1;
     w2c_i0 = (u32)(w2c_j0);
     w2c_i0 = i32_load(m, (u64)(w2c_i0));
-    w2c_l8 = w2c_i0;
+    w2c_l7 = w2c_i0;
     w2c_i1 = 3233808384u;
     w2c_i0 &= w2c_i1;
     w2c_i1 = 2155872256u;
     w2c_i0 = w2c_i0 != w2c_i1;
     if (w2c_i0) {goto w2c_B5;}
-    w2c_i0 = w2c_l8;
+    w2c_i0 = w2c_l7;
     w2c_i1 = 8u;
     w2c_i0 >>= (w2c_i1 & 31);
     w2c_i1 = 255u;
@@ -40880,7 +42411,7 @@ static u32 w2c_f65(module *m, u64 w2c_p0, u64 w2c_p1, u64 w2c_p2) {
   w2c_i0 = w2c_i0 == w2c_i1;
   if (w2c_i0) {goto w2c_B9;}
   w2c_i0 = 5u;
-  w2c_l8 = w2c_i0;
+  w2c_l7 = w2c_i0;
   goto w2c_B0;
   w2c_B9:;
   w2c_j0 = w2c_l4;
@@ -40918,6 +42449,7 @@ static u32 w2c_f65(module *m, u64 w2c_p0, u64 w2c_p1, u64 w2c_p2) {
   i64_store(m, (u64)(w2c_i0) + 16, w2c_j1);
   w2c_j0 = w2c_p1;
   w2c_i0 = !(w2c_j0);
+  w2c_l8 = w2c_i0;
   if (w2c_i0) {goto w2c_B12;}
   w2c_j0 = w2c_l6;
   w2c_i0 = (u32)(w2c_j0);
@@ -40925,7 +42457,7 @@ static u32 w2c_f65(module *m, u64 w2c_p0, u64 w2c_p1, u64 w2c_p2) {
   w2c_l9 = w2c_i0;
   w2c_i1 = 255u;
   w2c_i0 &= w2c_i1;
-  w2c_l8 = w2c_i0;
+  w2c_l7 = w2c_i0;
   w2c_j0 = 1ull;
   w2c_l3 = w2c_j0;
   w2c_i0 = w2c_l9;
@@ -40942,14 +42474,14 @@ static u32 w2c_f65(module *m, u64 w2c_p0, u64 w2c_p1, u64 w2c_p2) {
   w2c_i1 = 4294967263u;
   w2c_i0 = w2c_i0 > w2c_i1;
   if (w2c_i0) {goto w2c_B14;}
-  w2c_i0 = w2c_l8;
+  w2c_i0 = w2c_l7;
   w2c_i1 = 6u;
   w2c_i0 <<= (w2c_i1 & 31);
   w2c_i1 = 1984u;
   w2c_i0 &= w2c_i1;
   w2c_i1 = w2c_l10;
   w2c_i0 |= w2c_i1;
-  w2c_l8 = w2c_i0;
+  w2c_l7 = w2c_i0;
   w2c_j0 = 2ull;
   w2c_l3 = w2c_j0;
   goto w2c_B13;
@@ -40967,7 +42499,7 @@ static u32 w2c_f65(module *m, u64 w2c_p0, u64 w2c_p1, u64 w2c_p2) {
   w2c_i0 = w2c_l10;
   w2c_i1 = 6u;
   w2c_i0 <<= (w2c_i1 & 31);
-  w2c_i1 = w2c_l8;
+  w2c_i1 = w2c_l7;
   w2c_i2 = 12u;
   w2c_i1 <<= (w2c_i2 & 31);
   w2c_i2 = 61440u;
@@ -40975,7 +42507,7 @@ static u32 w2c_f65(module *m, u64 w2c_p0, u64 w2c_p1, u64 w2c_p2) {
   w2c_i0 |= w2c_i1;
   w2c_i1 = w2c_l11;
   w2c_i0 |= w2c_i1;
-  w2c_l8 = w2c_i0;
+  w2c_l7 = w2c_i0;
   w2c_j0 = 3ull;
   w2c_l3 = w2c_j0;
   goto w2c_B13;
@@ -40986,7 +42518,7 @@ static u32 w2c_f65(module *m, u64 w2c_p0, u64 w2c_p1, u64 w2c_p2) {
   w2c_i1 = w2c_l10;
   w2c_i2 = 12u;
   w2c_i1 <<= (w2c_i2 & 31);
-  w2c_i2 = w2c_l8;
+  w2c_i2 = w2c_l7;
   w2c_i3 = 18u;
   w2c_i2 <<= (w2c_i3 & 31);
   w2c_i3 = 1835008u;
@@ -40999,15 +42531,15 @@ static u32 w2c_f65(module *m, u64 w2c_p0, u64 w2c_p1, u64 w2c_p2) {
   w2c_i2 = 63u;
   w2c_i1 &= w2c_i2;
   w2c_i0 |= w2c_i1;
-  w2c_l8 = w2c_i0;
+  w2c_l7 = w2c_i0;
   w2c_j0 = 4ull;
   w2c_l3 = w2c_j0;
   w2c_B13:;
-  w2c_i0 = w2c_l8;
+  w2c_i0 = w2c_l7;
   w2c_i1 = 8722u;
   w2c_i0 = w2c_i0 == w2c_i1;
   if (w2c_i0) {goto w2c_B16;}
-  w2c_i0 = w2c_l8;
+  w2c_i0 = w2c_l7;
   w2c_i1 = 45u;
   w2c_i0 = w2c_i0 != w2c_i1;
   if (w2c_i0) {goto w2c_B12;}
@@ -41054,11 +42586,11 @@ static u32 w2c_f65(module *m, u64 w2c_p0, u64 w2c_p1, u64 w2c_p2) {
   w2c_j0 = w2c_l4;
   w2c_i0 = (u32)(w2c_j0);
   w2c_j0 = i64_load(m, (u64)(w2c_i0) + 40u);
-  w2c_l7 = w2c_j0;
+  w2c_l5 = w2c_j0;
   w2c_j0 = w2c_l4;
   w2c_i0 = (u32)(w2c_j0);
   w2c_i0 = i32_load8_u(m, (u64)(w2c_i0) + 24u);
-  w2c_l8 = w2c_i0;
+  w2c_l7 = w2c_i0;
   w2c_j0 = w2c_l4;
   w2c_i0 = (u32)(w2c_j0);
   w2c_j0 = i64_load(m, (u64)(w2c_i0) + 32u);
@@ -41075,7 +42607,7 @@ static u32 w2c_f65(module *m, u64 w2c_p0, u64 w2c_p1, u64 w2c_p2) {
   w2c_i0 = (u32)(w2c_j0);
   w2c_j1 = 0ull;
   i64_store(m, (u64)(w2c_i0), w2c_j1);
-  w2c_i0 = w2c_l8;
+  w2c_i0 = w2c_l7;
   w2c_i0 = !(w2c_i0);
   if (w2c_i0) {goto w2c_B1;}
   w2c_j0 = w2c_l3;
@@ -41111,10 +42643,10 @@ static u32 w2c_f65(module *m, u64 w2c_p0, u64 w2c_p1, u64 w2c_p2) {
   w2c_i3 = 1u;
   w2c_i2 = w2c_i2 == w2c_i3;
   w2c_j0 = w2c_i2 ? w2c_j0 : w2c_j1;
-  w2c_l7 = w2c_j0;
+  w2c_l5 = w2c_j0;
   w2c_B10:;
   w2c_i0 = 9u;
-  w2c_l8 = w2c_i0;
+  w2c_l7 = w2c_i0;
   w2c_i0 = w2c_l9;
   w2c_j0 = (u64)(w2c_i0);
   w2c_j1 = 255ull;
@@ -41127,68 +42659,64 @@ static u32 w2c_f65(module *m, u64 w2c_p0, u64 w2c_p1, u64 w2c_p2) {
     default: goto w2c_B0;
   }
   w2c_B17:;
-  w2c_j0 = w2c_p1;
+  w2c_j0 = 0ull;
   w2c_l3 = w2c_j0;
-  w2c_j0 = w2c_l7;
+  w2c_i0 = w2c_l8;
+  if (w2c_i0) {goto w2c_B18;}
+  w2c_j0 = w2c_l5;
   w2c_i0 = !(w2c_j0);
-  if (w2c_i0) {goto w2c_B19;}
-  w2c_j0 = w2c_l7;
-  w2c_p0 = w2c_j0;
-  w2c_j0 = w2c_p1;
+  if (w2c_i0) {goto w2c_B18;}
+  w2c_j0 = 0ull;
   w2c_l3 = w2c_j0;
-  w2c_L20:
-    w2c_j0 = w2c_l3;
-    w2c_i0 = !(w2c_j0);
-    if (w2c_i0) {goto w2c_B18;}
-    w2c_j0 = w2c_l3;
-    w2c_j1 = w2c_l6;
-    w2c_i1 = (u32)(w2c_j1);
-    w2c_i1 = i32_load8_u(m, (u64)(w2c_i1));
-    w2c_i2 = 1u;
-    w2c_i1 >>= (w2c_i2 & 31);
-    w2c_j1 = (u64)(w2c_i1);
-    w2c_j2 = 120ull;
-    w2c_j1 &= w2c_j2;
-    w2c_j2 = 66848ull;
-    w2c_j1 += w2c_j2;
-    w2c_i1 = (u32)(w2c_j1);
-    w2c_j1 = i64_load(m, (u64)(w2c_i1));
-    w2c_l5 = w2c_j1;
-    w2c_j0 -= w2c_j1;
-    w2c_l3 = w2c_j0;
+  w2c_j0 = 1ull;
+  w2c_p0 = w2c_j0;
+  w2c_L19:
     w2c_j0 = w2c_l6;
-    w2c_j1 = w2c_l5;
+    w2c_j1 = w2c_l3;
     w2c_j0 += w2c_j1;
-    w2c_l6 = w2c_j0;
+    w2c_i0 = (u32)(w2c_j0);
+    w2c_i0 = i32_load8_u(m, (u64)(w2c_i0));
+    w2c_i1 = 1u;
+    w2c_i0 >>= (w2c_i1 & 31);
+    w2c_j0 = (u64)(w2c_i0);
+    w2c_j1 = 120ull;
+    w2c_j0 &= w2c_j1;
+    w2c_j1 = 66848ull;
+    w2c_j0 += w2c_j1;
+    w2c_i0 = (u32)(w2c_j0);
+    w2c_j0 = i64_load(m, (u64)(w2c_i0));
+    w2c_j1 = w2c_l3;
+    w2c_j0 += w2c_j1;
+    w2c_l3 = w2c_j0;
     w2c_j0 = w2c_p0;
-    w2c_j1 = 18446744073709551615ull;
+    w2c_j1 = w2c_l5;
+    w2c_i0 = w2c_j0 >= w2c_j1;
+    if (w2c_i0) {goto w2c_B18;}
+    w2c_j0 = w2c_p0;
+    w2c_j1 = 1ull;
     w2c_j0 += w2c_j1;
     w2c_p0 = w2c_j0;
-    w2c_j1 = 0ull;
-    w2c_i0 = w2c_j0 != w2c_j1;
-    if (w2c_i0) {goto w2c_L20;}
-  w2c_B19:;
-  w2c_j0 = w2c_p1;
-  w2c_j1 = w2c_l3;
-  w2c_j0 -= w2c_j1;
-  w2c_p1 = w2c_j0;
+    w2c_j0 = w2c_p1;
+    w2c_j1 = w2c_l3;
+    w2c_i0 = w2c_j0 > w2c_j1;
+    if (w2c_i0) {goto w2c_L19;}
   w2c_B18:;
   w2c_j0 = w2c_p2;
   w2c_i0 = (u32)(w2c_j0);
-  w2c_j1 = w2c_p1;
+  w2c_j1 = w2c_l3;
   i64_store(m, (u64)(w2c_i0) + 16, w2c_j1);
   w2c_j0 = w2c_p2;
   w2c_i0 = (u32)(w2c_j0);
-  w2c_j1 = w2c_l7;
+  w2c_j1 = w2c_l5;
   i64_store(m, (u64)(w2c_i0) + 8, w2c_j1);
   w2c_i0 = 2u;
-  w2c_l8 = w2c_i0;
+  w2c_l7 = w2c_i0;
   goto w2c_B0;
   w2c_B3:;
   UNREACHABLE;
   w2c_B2:;
   w2c_i0 = 3u;
-  w2c_l8 = w2c_i0;
+  w2c_l7 = w2c_i0;
   goto w2c_B0;
   w2c_B1:;
   w2c_j0 = w2c_p2;
@@ -41196,13 +42724,13 @@ static u32 w2c_f65(module *m, u64 w2c_p0, u64 w2c_p1, u64 w2c_p2) {
   w2c_j1 = w2c_l3;
   i64_store(m, (u64)(w2c_i0), w2c_j1);
   w2c_i0 = 0u;
-  w2c_l8 = w2c_i0;
+  w2c_l7 = w2c_i0;
   w2c_B0:;
   w2c_j0 = w2c_l4;
   w2c_j1 = 48ull;
   w2c_j0 += w2c_j1;
   m->w2c_g0 = w2c_j0;
-  w2c_i0 = w2c_l8;
+  w2c_i0 = w2c_l7;
   return w2c_i0;
 }
 
@@ -41219,14 +42747,14 @@ static u32 w2c_chinese_signed_amount_read(module *m, u64 w2c_p0, u64 w2c_p1, u64
   w2c_j0 = w2c_p0;
   w2c_j1 = w2c_p1;
   w2c_j2 = w2c_p2;
-  w2c_i0 = w2c_f67(m, w2c_j0, w2c_j1, w2c_j2);
+  w2c_i0 = w2c_f68(m, w2c_j0, w2c_j1, w2c_j2);
   w2c_l3 = w2c_i0;
   w2c_f1(m);
   w2c_i0 = w2c_l3;
   return w2c_i0;
 }
 
-static u32 w2c_f67(module *m, u64 w2c_p0, u64 w2c_p1, u64 w2c_p2) {
+static u32 w2c_f68(module *m, u64 w2c_p0, u64 w2c_p1, u64 w2c_p2) {
   u32 w2c_l15 = 0, w2c_l16 = 0, w2c_l17 = 0, w2c_l18 = 0, w2c_l19 = 0, w2c_l20 = 0, w2c_l21 = 0, w2c_l22 = 0, w2c_l23 = 0;
   u64 w2c_l3 = 0, w2c_l4 = 0, w2c_l5 = 0, w2c_l6 = 0, w2c_l7 = 0, w2c_l8 = 0, w2c_l9 = 0, w2c_l10 = 0, w2c_l11 = 0, w2c_l12 = 0, w2c_l13 = 0, w2c_l14 = 0;
   u32 w2c_i0, w2c_i1, w2c_i2, w2c_i3, w2c_i4;
@@ -41396,13 +42924,13 @@ static u32 w2c_f67(module *m, u64 w2c_p0, u64 w2c_p1, u64 w2c_p2) {
   w2c_i0 = 0u;
   w2c_l16 = w2c_i0;
   w2c_j0 = 0ull;
-  w2c_l5 = w2c_j0;
-  w2c_j0 = w2c_p1;
   w2c_l8 = w2c_j0;
+  w2c_j0 = w2c_p1;
+  w2c_l9 = w2c_j0;
   w2c_j0 = w2c_l6;
   w2c_l3 = w2c_j0;
   w2c_j0 = 0ull;
-  w2c_l9 = w2c_j0;
+  w2c_l5 = w2c_j0;
   w2c_j0 = 0ull;
   w2c_l10 = w2c_j0;
   w2c_j0 = 0ull;
@@ -42855,7 +44383,7 @@ static u32 w2c_f67(module *m, u64 w2c_p0, u64 w2c_p1, u64 w2c_p2) {
     w2c_i0 = w2c_l22;
     w2c_l16 = w2c_i0;
     w2c_j0 = w2c_l14;
-    w2c_l9 = w2c_j0;
+    w2c_l8 = w2c_j0;
     goto w2c_B13;
     w2c_B35:;
     w2c_i0 = w2c_l19;
@@ -42886,14 +44414,14 @@ static u32 w2c_f67(module *m, u64 w2c_p0, u64 w2c_p1, u64 w2c_p2) {
     w2c_i0 = w2c_i0 != w2c_i1;
     if (w2c_i0) {goto w2c_B21;}
     w2c_B32:;
-    w2c_j0 = w2c_l9;
+    w2c_j0 = w2c_l8;
     w2c_j1 = 10ull;
     w2c_j0 *= w2c_j1;
     w2c_j1 = w2c_l10;
     w2c_j0 += w2c_j1;
     w2c_l10 = w2c_j0;
     w2c_j0 = 0ull;
-    w2c_l9 = w2c_j0;
+    w2c_l8 = w2c_j0;
     w2c_i0 = 1u;
     w2c_l16 = w2c_i0;
     w2c_i0 = 12u;
@@ -42907,14 +44435,14 @@ static u32 w2c_f67(module *m, u64 w2c_p0, u64 w2c_p1, u64 w2c_p2) {
     w2c_i0 = w2c_i0 != w2c_i1;
     if (w2c_i0) {goto w2c_B21;}
     w2c_B30:;
-    w2c_j0 = w2c_l9;
+    w2c_j0 = w2c_l8;
     w2c_j1 = 100ull;
     w2c_j0 *= w2c_j1;
     w2c_j1 = w2c_l10;
     w2c_j0 += w2c_j1;
     w2c_l10 = w2c_j0;
     w2c_j0 = 0ull;
-    w2c_l9 = w2c_j0;
+    w2c_l8 = w2c_j0;
     w2c_i0 = 2u;
     w2c_l16 = w2c_i0;
     w2c_i0 = 12u;
@@ -42933,7 +44461,7 @@ static u32 w2c_f67(module *m, u64 w2c_p0, u64 w2c_p1, u64 w2c_p2) {
     goto w2c_B20;
     w2c_B28:;
     w2c_j0 = w2c_l10;
-    w2c_j1 = w2c_l9;
+    w2c_j1 = w2c_l8;
     w2c_j0 += w2c_j1;
     w2c_j1 = w2c_l11;
     w2c_j0 += w2c_j1;
@@ -42947,7 +44475,7 @@ static u32 w2c_f67(module *m, u64 w2c_p0, u64 w2c_p1, u64 w2c_p2) {
     w2c_i0 = 7u;
     w2c_l17 = w2c_i0;
     w2c_j0 = 0ull;
-    w2c_l9 = w2c_j0;
+    w2c_l8 = w2c_j0;
     goto w2c_B13;
     w2c_B27:;
     w2c_i0 = w2c_l20;
@@ -42956,13 +44484,13 @@ static u32 w2c_f67(module *m, u64 w2c_p0, u64 w2c_p1, u64 w2c_p2) {
     if (w2c_i0) {goto w2c_B21;}
     w2c_B26:;
     w2c_j0 = w2c_l12;
-    w2c_j1 = w2c_l9;
+    w2c_j1 = w2c_l8;
     w2c_j2 = 10ull;
     w2c_j1 *= w2c_j2;
     w2c_j0 += w2c_j1;
     w2c_l12 = w2c_j0;
     w2c_j0 = 0ull;
-    w2c_l9 = w2c_j0;
+    w2c_l8 = w2c_j0;
     w2c_i0 = 0u;
     w2c_l15 = w2c_i0;
     w2c_i0 = 17u;
@@ -42975,11 +44503,11 @@ static u32 w2c_f67(module *m, u64 w2c_p0, u64 w2c_p1, u64 w2c_p2) {
     if (w2c_i0) {goto w2c_B21;}
     w2c_B24:;
     w2c_j0 = w2c_l12;
-    w2c_j1 = w2c_l9;
+    w2c_j1 = w2c_l8;
     w2c_j0 += w2c_j1;
     w2c_l12 = w2c_j0;
     w2c_j0 = 0ull;
-    w2c_l9 = w2c_j0;
+    w2c_l8 = w2c_j0;
     w2c_i0 = 0u;
     w2c_l15 = w2c_i0;
     w2c_i0 = 19u;
@@ -42996,6 +44524,8 @@ static u32 w2c_f67(module *m, u64 w2c_p0, u64 w2c_p1, u64 w2c_p2) {
     w2c_i0 = w2c_i0 == w2c_i1;
     if (w2c_i0) {goto w2c_B20;}
     w2c_B21:;
+    w2c_j0 = 0ull;
+    w2c_l3 = w2c_j0;
     w2c_j0 = w2c_p2;
     w2c_i0 = (u32)(w2c_j0);
     w2c_j1 = 0ull;
@@ -43008,55 +44538,47 @@ static u32 w2c_f67(module *m, u64 w2c_p0, u64 w2c_p1, u64 w2c_p2) {
     w2c_i0 = (u32)(w2c_j0);
     w2c_j1 = 0ull;
     i64_store(m, (u64)(w2c_i0), w2c_j1);
-    w2c_j0 = w2c_p1;
-    w2c_l3 = w2c_j0;
     w2c_j0 = w2c_l5;
     w2c_i0 = !(w2c_j0);
-    if (w2c_i0) {goto w2c_B124;}
-    w2c_j0 = w2c_l5;
-    w2c_p0 = w2c_j0;
-    w2c_j0 = w2c_p1;
+    if (w2c_i0) {goto w2c_B123;}
+    w2c_j0 = 0ull;
     w2c_l3 = w2c_j0;
-    w2c_L125:
-      w2c_j0 = w2c_l3;
-      w2c_i0 = !(w2c_j0);
-      if (w2c_i0) {goto w2c_B123;}
-      w2c_j0 = w2c_l3;
-      w2c_j1 = w2c_l6;
-      w2c_i1 = (u32)(w2c_j1);
-      w2c_i1 = i32_load8_u(m, (u64)(w2c_i1));
-      w2c_i2 = 1u;
-      w2c_i1 >>= (w2c_i2 & 31);
-      w2c_j1 = (u64)(w2c_i1);
-      w2c_j2 = 120ull;
-      w2c_j1 &= w2c_j2;
-      w2c_j2 = 66848ull;
-      w2c_j1 += w2c_j2;
-      w2c_i1 = (u32)(w2c_j1);
-      w2c_j1 = i64_load(m, (u64)(w2c_i1));
-      w2c_l8 = w2c_j1;
-      w2c_j0 -= w2c_j1;
-      w2c_l3 = w2c_j0;
+    w2c_j0 = 1ull;
+    w2c_p0 = w2c_j0;
+    w2c_L124:
       w2c_j0 = w2c_l6;
-      w2c_j1 = w2c_l8;
+      w2c_j1 = w2c_l3;
       w2c_j0 += w2c_j1;
-      w2c_l6 = w2c_j0;
+      w2c_i0 = (u32)(w2c_j0);
+      w2c_i0 = i32_load8_u(m, (u64)(w2c_i0));
+      w2c_i1 = 1u;
+      w2c_i0 >>= (w2c_i1 & 31);
+      w2c_j0 = (u64)(w2c_i0);
+      w2c_j1 = 120ull;
+      w2c_j0 &= w2c_j1;
+      w2c_j1 = 66848ull;
+      w2c_j0 += w2c_j1;
+      w2c_i0 = (u32)(w2c_j0);
+      w2c_j0 = i64_load(m, (u64)(w2c_i0));
+      w2c_j1 = w2c_l3;
+      w2c_j0 += w2c_j1;
+      w2c_l3 = w2c_j0;
       w2c_j0 = w2c_p0;
-      w2c_j1 = 18446744073709551615ull;
+      w2c_j1 = w2c_l5;
+      w2c_i0 = w2c_j0 >= w2c_j1;
+      if (w2c_i0) {goto w2c_B123;}
+      w2c_j0 = w2c_p0;
+      w2c_j1 = 1ull;
       w2c_j0 += w2c_j1;
       w2c_p0 = w2c_j0;
-      w2c_j1 = 0ull;
-      w2c_i0 = w2c_j0 != w2c_j1;
-      if (w2c_i0) {goto w2c_L125;}
-    w2c_B124:;
-    w2c_j0 = w2c_p1;
-    w2c_j1 = w2c_l3;
-    w2c_j0 -= w2c_j1;
-    w2c_p1 = w2c_j0;
+      w2c_j0 = w2c_p1;
+      w2c_j1 = w2c_l3;
+      w2c_i0 = w2c_j0 > w2c_j1;
+      if (w2c_i0) {goto w2c_L124;}
     w2c_B123:;
     w2c_j0 = w2c_p2;
     w2c_i0 = (u32)(w2c_j0);
-    w2c_j1 = w2c_p1;
+    w2c_j1 = w2c_l3;
     i64_store(m, (u64)(w2c_i0) + 16, w2c_j1);
     w2c_j0 = w2c_p2;
     w2c_i0 = (u32)(w2c_j0);
@@ -43066,14 +44588,14 @@ static u32 w2c_f67(module *m, u64 w2c_p0, u64 w2c_p1, u64 w2c_p2) {
     w2c_l15 = w2c_i0;
     goto w2c_B1;
     w2c_B20:;
-    w2c_j0 = w2c_l9;
+    w2c_j0 = w2c_l8;
     w2c_j1 = 1000ull;
     w2c_j0 *= w2c_j1;
     w2c_j1 = w2c_l10;
     w2c_j0 += w2c_j1;
     w2c_l10 = w2c_j0;
     w2c_j0 = 0ull;
-    w2c_l9 = w2c_j0;
+    w2c_l8 = w2c_j0;
     w2c_i0 = 3u;
     w2c_l16 = w2c_i0;
     w2c_i0 = 12u;
@@ -43081,7 +44603,7 @@ static u32 w2c_f67(module *m, u64 w2c_p0, u64 w2c_p1, u64 w2c_p2) {
     goto w2c_B13;
     w2c_B19:;
     w2c_j0 = w2c_l10;
-    w2c_j1 = w2c_l9;
+    w2c_j1 = w2c_l8;
     w2c_j0 += w2c_j1;
     w2c_j1 = w2c_l11;
     w2c_j0 += w2c_j1;
@@ -43099,7 +44621,7 @@ static u32 w2c_f67(module *m, u64 w2c_p0, u64 w2c_p1, u64 w2c_p2) {
     w2c_j0 = 0ull;
     w2c_l10 = w2c_j0;
     w2c_j0 = 0ull;
-    w2c_l9 = w2c_j0;
+    w2c_l8 = w2c_j0;
     goto w2c_B13;
     w2c_B18:;
     w2c_i0 = 1u;
@@ -43113,7 +44635,7 @@ static u32 w2c_f67(module *m, u64 w2c_p0, u64 w2c_p1, u64 w2c_p2) {
     w2c_l17 = w2c_i0;
     w2c_B15:;
     w2c_j0 = w2c_l10;
-    w2c_j1 = w2c_l9;
+    w2c_j1 = w2c_l8;
     w2c_j0 += w2c_j1;
     w2c_j1 = 10000ull;
     w2c_j0 *= w2c_j1;
@@ -43125,7 +44647,7 @@ static u32 w2c_f67(module *m, u64 w2c_p0, u64 w2c_p1, u64 w2c_p2) {
     w2c_i0 = 0u;
     w2c_l16 = w2c_i0;
     w2c_j0 = 0ull;
-    w2c_l9 = w2c_j0;
+    w2c_l8 = w2c_j0;
     w2c_B13:;
     w2c_j0 = w2c_l3;
     w2c_j1 = w2c_p0;
@@ -43135,10 +44657,10 @@ static u32 w2c_f67(module *m, u64 w2c_p0, u64 w2c_p1, u64 w2c_p2) {
     w2c_j1 = 1ull;
     w2c_j0 += w2c_j1;
     w2c_l5 = w2c_j0;
-    w2c_j0 = w2c_l8;
+    w2c_j0 = w2c_l9;
     w2c_j1 = w2c_p0;
     w2c_j0 -= w2c_j1;
-    w2c_l8 = w2c_j0;
+    w2c_l9 = w2c_j0;
     w2c_j1 = 0ull;
     w2c_i0 = w2c_j0 != w2c_j1;
     if (w2c_i0) {goto w2c_L9;}
@@ -43228,14 +44750,14 @@ static u32 w2c_chinese_number_find(module *m, u64 w2c_p0, u64 w2c_p1, u64 w2c_p2
   w2c_j5 = w2c_p5;
   w2c_j6 = w2c_p6;
   w2c_j7 = w2c_p7;
-  w2c_i0 = w2c_f69(m, w2c_j0, w2c_j1, w2c_j2, w2c_i3, w2c_i4, w2c_j5, w2c_j6, w2c_j7);
+  w2c_i0 = w2c_f70(m, w2c_j0, w2c_j1, w2c_j2, w2c_i3, w2c_i4, w2c_j5, w2c_j6, w2c_j7);
   w2c_p4 = w2c_i0;
   w2c_f1(m);
   w2c_i0 = w2c_p4;
   return w2c_i0;
 }
 
-static u32 w2c_f69(module *m, u64 w2c_p0, u64 w2c_p1, u64 w2c_p2, u32 w2c_p3, u32 w2c_p4, u64 w2c_p5, u64 w2c_p6, u64 w2c_p7) {
+static u32 w2c_f70(module *m, u64 w2c_p0, u64 w2c_p1, u64 w2c_p2, u32 w2c_p3, u32 w2c_p4, u64 w2c_p5, u64 w2c_p6, u64 w2c_p7) {
   u64 w2c_l8 = 0;
   u32 w2c_i0, w2c_i4, w2c_i5, w2c_i9;
   u64 w2c_j0, w2c_j1, w2c_j2, w2c_j3, w2c_j4, w2c_j6, w2c_j7, w2c_j8, w2c_j9;
@@ -43292,14 +44814,14 @@ static u32 w2c_chinese_quantity_find(module *m, u64 w2c_p0, u64 w2c_p1, u64 w2c_
   w2c_j5 = w2c_p5;
   w2c_j6 = w2c_p6;
   w2c_j7 = w2c_p7;
-  w2c_i0 = w2c_f71(m, w2c_j0, w2c_j1, w2c_j2, w2c_i3, w2c_i4, w2c_j5, w2c_j6, w2c_j7);
+  w2c_i0 = w2c_f72(m, w2c_j0, w2c_j1, w2c_j2, w2c_i3, w2c_i4, w2c_j5, w2c_j6, w2c_j7);
   w2c_p4 = w2c_i0;
   w2c_f1(m);
   w2c_i0 = w2c_p4;
   return w2c_i0;
 }
 
-static u32 w2c_f71(module *m, u64 w2c_p0, u64 w2c_p1, u64 w2c_p2, u32 w2c_p3, u32 w2c_p4, u64 w2c_p5, u64 w2c_p6, u64 w2c_p7) {
+static u32 w2c_f72(module *m, u64 w2c_p0, u64 w2c_p1, u64 w2c_p2, u32 w2c_p3, u32 w2c_p4, u64 w2c_p5, u64 w2c_p6, u64 w2c_p7) {
   u64 w2c_l8 = 0;
   u32 w2c_i0, w2c_i4, w2c_i5, w2c_i9;
   u64 w2c_j0, w2c_j1, w2c_j2, w2c_j3, w2c_j4, w2c_j6, w2c_j7, w2c_j8, w2c_j9;
@@ -43356,14 +44878,14 @@ static u32 w2c_chinese_number_find_utf8(module *m, u64 w2c_p0, u64 w2c_p1, u64 w
   w2c_j5 = w2c_p5;
   w2c_j6 = w2c_p6;
   w2c_j7 = w2c_p7;
-  w2c_i0 = w2c_f73(m, w2c_j0, w2c_j1, w2c_j2, w2c_i3, w2c_i4, w2c_j5, w2c_j6, w2c_j7);
+  w2c_i0 = w2c_f74(m, w2c_j0, w2c_j1, w2c_j2, w2c_i3, w2c_i4, w2c_j5, w2c_j6, w2c_j7);
   w2c_p4 = w2c_i0;
   w2c_f1(m);
   w2c_i0 = w2c_p4;
   return w2c_i0;
 }
 
-static u32 w2c_f73(module *m, u64 w2c_p0, u64 w2c_p1, u64 w2c_p2, u32 w2c_p3, u32 w2c_p4, u64 w2c_p5, u64 w2c_p6, u64 w2c_p7) {
+static u32 w2c_f74(module *m, u64 w2c_p0, u64 w2c_p1, u64 w2c_p2, u32 w2c_p3, u32 w2c_p4, u64 w2c_p5, u64 w2c_p6, u64 w2c_p7) {
   u32 w2c_l9 = 0, w2c_l10 = 0;
   u64 w2c_l8 = 0;
   u32 w2c_i0, w2c_i1, w2c_i4, w2c_i5, w2c_i9;
@@ -43451,14 +44973,14 @@ static u32 w2c_chinese_quantity_find_utf8(module *m, u64 w2c_p0, u64 w2c_p1, u64
   w2c_j5 = w2c_p5;
   w2c_j6 = w2c_p6;
   w2c_j7 = w2c_p7;
-  w2c_i0 = w2c_f75(m, w2c_j0, w2c_j1, w2c_j2, w2c_i3, w2c_i4, w2c_j5, w2c_j6, w2c_j7);
+  w2c_i0 = w2c_f76(m, w2c_j0, w2c_j1, w2c_j2, w2c_i3, w2c_i4, w2c_j5, w2c_j6, w2c_j7);
   w2c_p4 = w2c_i0;
   w2c_f1(m);
   w2c_i0 = w2c_p4;
   return w2c_i0;
 }
 
-static u32 w2c_f75(module *m, u64 w2c_p0, u64 w2c_p1, u64 w2c_p2, u32 w2c_p3, u32 w2c_p4, u64 w2c_p5, u64 w2c_p6, u64 w2c_p7) {
+static u32 w2c_f76(module *m, u64 w2c_p0, u64 w2c_p1, u64 w2c_p2, u32 w2c_p3, u32 w2c_p4, u64 w2c_p5, u64 w2c_p6, u64 w2c_p7) {
   u32 w2c_l10 = 0, w2c_l11 = 0;
   u64 w2c_l8 = 0, w2c_l9 = 0;
   u32 w2c_i0, w2c_i1, w2c_i3;
@@ -43633,7 +45155,7 @@ static u32 w2c_f75(module *m, u64 w2c_p0, u64 w2c_p1, u64 w2c_p2, u32 w2c_p3, u3
     w2c_j1 = w2c_l8;
     w2c_j2 = 88ull;
     w2c_j1 += w2c_j2;
-    w2c_f17(m, w2c_j0, w2c_j1);
+    w2c_f21(m, w2c_j0, w2c_j1);
     w2c_j0 = w2c_l8;
     w2c_i0 = (u32)(w2c_j0);
     w2c_i0 = i32_load8_u(m, (u64)(w2c_i0) + 32u);
@@ -43644,7 +45166,7 @@ static u32 w2c_f75(module *m, u64 w2c_p0, u64 w2c_p1, u64 w2c_p2, u32 w2c_p3, u3
     w2c_j1 = 8ull;
     w2c_j0 += w2c_j1;
     w2c_j1 = w2c_p1;
-    w2c_f18(m, w2c_j0, w2c_j1);
+    w2c_f20(m, w2c_j0, w2c_j1);
     w2c_j0 = w2c_p2;
     w2c_i0 = (u32)(w2c_j0);
     w2c_j1 = w2c_l8;
@@ -43712,14 +45234,14 @@ static u32 w2c_chinese_number_print(module *m, u64 w2c_p0, u64 w2c_p1, u32 w2c_p
   w2c_j6 = w2c_p6;
   w2c_j7 = w2c_p7;
   w2c_j8 = w2c_p8;
-  w2c_i0 = w2c_f77(m, w2c_j0, w2c_j1, w2c_i2, w2c_i3, w2c_i4, w2c_i5, w2c_j6, w2c_j7, w2c_j8);
+  w2c_i0 = w2c_f78(m, w2c_j0, w2c_j1, w2c_i2, w2c_i3, w2c_i4, w2c_i5, w2c_j6, w2c_j7, w2c_j8);
   w2c_p5 = w2c_i0;
   w2c_f1(m);
   w2c_i0 = w2c_p5;
   return w2c_i0;
 }
 
-static u32 w2c_f77(module *m, u64 w2c_p0, u64 w2c_p1, u32 w2c_p2, u32 w2c_p3, u32 w2c_p4, u32 w2c_p5, u64 w2c_p6, u64 w2c_p7, u64 w2c_p8) {
+static u32 w2c_f78(module *m, u64 w2c_p0, u64 w2c_p1, u32 w2c_p2, u32 w2c_p3, u32 w2c_p4, u32 w2c_p5, u64 w2c_p6, u64 w2c_p7, u64 w2c_p8) {
   u32 w2c_l18 = 0, w2c_l19 = 0, w2c_l20 = 0, w2c_l21 = 0;
   u64 w2c_l9 = 0, w2c_l10 = 0, w2c_l11 = 0, w2c_l12 = 0, w2c_l13 = 0, w2c_l14 = 0, w2c_l15 = 0, w2c_l16 = 0, w2c_l17 = 0;
   u32 w2c_i0, w2c_i1, w2c_i2, w2c_i3, w2c_i4;
@@ -44314,7 +45836,7 @@ static u32 w2c_f77(module *m, u64 w2c_p0, u64 w2c_p1, u32 w2c_p2, u32 w2c_p3, u3
   w2c_i3 = w2c_l21;
   w2c_j4 = w2c_p6;
   w2c_j5 = w2c_p0;
-  w2c_j0 = w2c_f30(m, w2c_j0, w2c_j1, w2c_i2, w2c_i3, w2c_j4, w2c_j5);
+  w2c_j0 = w2c_f31(m, w2c_j0, w2c_j1, w2c_i2, w2c_i3, w2c_j4, w2c_j5);
   w2c_p0 = w2c_j0;
   goto w2c_B2;
   w2c_B16:;
@@ -44815,7 +46337,7 @@ static u32 w2c_f77(module *m, u64 w2c_p0, u64 w2c_p1, u32 w2c_p2, u32 w2c_p3, u3
   w2c_i3 = 0u;
   w2c_j4 = w2c_p0;
   w2c_j5 = w2c_p1;
-  w2c_j0 = w2c_f30(m, w2c_j0, w2c_j1, w2c_i2, w2c_i3, w2c_j4, w2c_j5);
+  w2c_j0 = w2c_f31(m, w2c_j0, w2c_j1, w2c_i2, w2c_i3, w2c_j4, w2c_j5);
   w2c_p1 = w2c_j0;
   goto w2c_B4;
   w2c_B6:;
@@ -45072,20 +46594,20 @@ static u32 w2c_chinese_quantities_to_figures(module *m, u64 w2c_p0, u64 w2c_p1, 
   w2c_j6 = w2c_p6;
   w2c_j7 = w2c_p7;
   w2c_j8 = w2c_p8;
-  w2c_i0 = w2c_f79(m, w2c_j0, w2c_j1, w2c_i2, w2c_i3, w2c_i4, w2c_i5, w2c_j6, w2c_j7, w2c_j8);
+  w2c_i0 = w2c_f80(m, w2c_j0, w2c_j1, w2c_i2, w2c_i3, w2c_i4, w2c_i5, w2c_j6, w2c_j7, w2c_j8);
   w2c_p5 = w2c_i0;
   w2c_f1(m);
   w2c_i0 = w2c_p5;
   return w2c_i0;
 }
 
-static u32 w2c_f79(module *m, u64 w2c_p0, u64 w2c_p1, u32 w2c_p2, u32 w2c_p3, u32 w2c_p4, u32 w2c_p5, u64 w2c_p6, u64 w2c_p7, u64 w2c_p8) {
+static u32 w2c_f80(module *m, u64 w2c_p0, u64 w2c_p1, u32 w2c_p2, u32 w2c_p3, u32 w2c_p4, u32 w2c_p5, u64 w2c_p6, u64 w2c_p7, u64 w2c_p8) {
   u32 w2c_l30 = 0, w2c_l31 = 0, w2c_l32 = 0, w2c_l33 = 0;
   u64 w2c_l9 = 0, w2c_l10 = 0, w2c_l11 = 0, w2c_l12 = 0, w2c_l13 = 0, w2c_l14 = 0, w2c_l15 = 0, w2c_l16 = 0, w2c_l17 = 0, w2c_l18 = 0, w2c_l19 = 0, w2c_l20 = 0, w2c_l21 = 0, w2c_l22 = 0, w2c_l23 = 0, w2c_l24 = 0, w2c_l25 = 0, w2c_l26 = 0, w2c_l27 = 0, w2c_l28 = 0, w2c_l29 = 0;
   u32 w2c_i0, w2c_i1, w2c_i2, w2c_i3, w2c_i4;
   u64 w2c_j0, w2c_j1, w2c_j2, w2c_j3, w2c_j4, w2c_j5;
   w2c_j0 = m->w2c_g0;
-  w2c_j1 = 336ull;
+  w2c_j1 = 352ull;
   w2c_j0 -= w2c_j1;
   w2c_l9 = w2c_j0;
   m->w2c_g0 = w2c_j0;
@@ -45174,15 +46696,15 @@ static u32 w2c_f79(module *m, u64 w2c_p0, u64 w2c_p1, u32 w2c_p2, u32 w2c_p3, u3
   w2c_j0 = w2c_l9;
   w2c_i0 = (u32)(w2c_j0);
   w2c_j1 = 0ull;
+  i64_store(m, (u64)(w2c_i0) + 224, w2c_j1);
+  w2c_j0 = w2c_l9;
+  w2c_i0 = (u32)(w2c_j0);
+  w2c_j1 = 0ull;
+  i64_store(m, (u64)(w2c_i0) + 216, w2c_j1);
+  w2c_j0 = w2c_l9;
+  w2c_i0 = (u32)(w2c_j0);
+  w2c_j1 = 0ull;
   i64_store(m, (u64)(w2c_i0) + 208, w2c_j1);
-  w2c_j0 = w2c_l9;
-  w2c_i0 = (u32)(w2c_j0);
-  w2c_j1 = 0ull;
-  i64_store(m, (u64)(w2c_i0) + 200, w2c_j1);
-  w2c_j0 = w2c_l9;
-  w2c_i0 = (u32)(w2c_j0);
-  w2c_j1 = 0ull;
-  i64_store(m, (u64)(w2c_i0) + 192, w2c_j1);
   w2c_j0 = w2c_p1;
   w2c_l10 = w2c_j0;
   w2c_j0 = w2c_p1;
@@ -45273,7 +46795,7 @@ static u32 w2c_f79(module *m, u64 w2c_p0, u64 w2c_p1, u32 w2c_p2, u32 w2c_p3, u3
   if (w2c_i0) {goto w2c_B5;}
   w2c_B6:;
   w2c_j0 = w2c_l9;
-  w2c_j1 = 192ull;
+  w2c_j1 = 208ull;
   w2c_j0 += w2c_j1;
   w2c_j1 = w2c_l12;
   w2c_j2 = w2c_p1;
@@ -45282,17 +46804,17 @@ static u32 w2c_f79(module *m, u64 w2c_p0, u64 w2c_p1, u32 w2c_p2, u32 w2c_p3, u3
   w2c_l31 = w2c_i0;
   w2c_j0 = w2c_l9;
   w2c_i0 = (u32)(w2c_j0);
-  w2c_i0 = i32_load8_u(m, (u64)(w2c_i0) + 192u);
+  w2c_i0 = i32_load8_u(m, (u64)(w2c_i0) + 208u);
   w2c_i1 = 1u;
   w2c_i0 = w2c_i0 != w2c_i1;
   if (w2c_i0) {goto w2c_B1;}
   w2c_j0 = w2c_l9;
   w2c_i0 = (u32)(w2c_j0);
-  w2c_j0 = i64_load(m, (u64)(w2c_i0) + 208u);
+  w2c_j0 = i64_load(m, (u64)(w2c_i0) + 224u);
   w2c_p1 = w2c_j0;
   w2c_j0 = w2c_l9;
   w2c_i0 = (u32)(w2c_j0);
-  w2c_j0 = i64_load(m, (u64)(w2c_i0) + 200u);
+  w2c_j0 = i64_load(m, (u64)(w2c_i0) + 216u);
   w2c_l12 = w2c_j0;
   w2c_B5:;
   w2c_j0 = w2c_p6;
@@ -45307,19 +46829,27 @@ static u32 w2c_f79(module *m, u64 w2c_p0, u64 w2c_p1, u32 w2c_p2, u32 w2c_p3, u3
   w2c_j0 = w2c_l9;
   w2c_i0 = (u32)(w2c_j0);
   w2c_i1 = 0u;
-  i32_store(m, (u64)(w2c_i0) + 106, w2c_i1);
+  i32_store(m, (u64)(w2c_i0) + 122, w2c_i1);
   w2c_j0 = w2c_l9;
   w2c_i0 = (u32)(w2c_j0);
   w2c_i1 = w2c_p3;
-  i32_store8(m, (u64)(w2c_i0) + 105, w2c_i1);
+  i32_store8(m, (u64)(w2c_i0) + 121, w2c_i1);
   w2c_j0 = w2c_l9;
   w2c_i0 = (u32)(w2c_j0);
   w2c_i1 = w2c_l30;
-  i32_store8(m, (u64)(w2c_i0) + 104, w2c_i1);
+  i32_store8(m, (u64)(w2c_i0) + 120, w2c_i1);
   w2c_j0 = w2c_l9;
   w2c_i0 = (u32)(w2c_j0);
   w2c_i1 = 0u;
-  i32_store16(m, (u64)(w2c_i0) + 110, w2c_i1);
+  i32_store16(m, (u64)(w2c_i0) + 126, w2c_i1);
+  w2c_j0 = w2c_l9;
+  w2c_i0 = (u32)(w2c_j0);
+  w2c_j1 = w2c_p1;
+  i64_store(m, (u64)(w2c_i0) + 152, w2c_j1);
+  w2c_j0 = w2c_l9;
+  w2c_i0 = (u32)(w2c_j0);
+  w2c_j1 = w2c_l12;
+  i64_store(m, (u64)(w2c_i0) + 144, w2c_j1);
   w2c_j0 = w2c_l9;
   w2c_i0 = (u32)(w2c_j0);
   w2c_j1 = w2c_p1;
@@ -45328,16 +46858,16 @@ static u32 w2c_f79(module *m, u64 w2c_p0, u64 w2c_p1, u32 w2c_p2, u32 w2c_p3, u3
   w2c_i0 = (u32)(w2c_j0);
   w2c_j1 = w2c_l12;
   i64_store(m, (u64)(w2c_i0) + 128, w2c_j1);
-  w2c_j0 = w2c_l9;
-  w2c_i0 = (u32)(w2c_j0);
-  w2c_j1 = w2c_p1;
-  i64_store(m, (u64)(w2c_i0) + 120, w2c_j1);
-  w2c_j0 = w2c_l9;
-  w2c_i0 = (u32)(w2c_j0);
-  w2c_j1 = w2c_l12;
-  i64_store(m, (u64)(w2c_i0) + 112, w2c_j1);
   w2c_j0 = 0ull;
   w2c_l15 = w2c_j0;
+  w2c_j0 = w2c_l9;
+  w2c_i0 = (u32)(w2c_j0);
+  w2c_j1 = 0ull;
+  i64_store(m, (u64)(w2c_i0) + 112, w2c_j1);
+  w2c_j0 = w2c_l9;
+  w2c_i0 = (u32)(w2c_j0);
+  w2c_j1 = 0ull;
+  i64_store(m, (u64)(w2c_i0) + 104, w2c_j1);
   w2c_j0 = w2c_l9;
   w2c_i0 = (u32)(w2c_j0);
   w2c_j1 = 0ull;
@@ -45359,30 +46889,22 @@ static u32 w2c_f79(module *m, u64 w2c_p0, u64 w2c_p1, u32 w2c_p2, u32 w2c_p3, u3
   w2c_j1 = 0ull;
   i64_store(m, (u64)(w2c_i0) + 64, w2c_j1);
   w2c_j0 = w2c_l9;
-  w2c_i0 = (u32)(w2c_j0);
-  w2c_j1 = 0ull;
-  i64_store(m, (u64)(w2c_i0) + 56, w2c_j1);
-  w2c_j0 = w2c_l9;
-  w2c_i0 = (u32)(w2c_j0);
-  w2c_j1 = 0ull;
-  i64_store(m, (u64)(w2c_i0) + 48, w2c_j1);
-  w2c_j0 = w2c_l9;
-  w2c_j1 = 48ull;
+  w2c_j1 = 64ull;
   w2c_j0 += w2c_j1;
   w2c_j1 = w2c_l9;
-  w2c_j2 = 104ull;
+  w2c_j2 = 120ull;
   w2c_j1 += w2c_j2;
-  w2c_f17(m, w2c_j0, w2c_j1);
+  w2c_f21(m, w2c_j0, w2c_j1);
   w2c_j0 = 0ull;
   w2c_l16 = w2c_j0;
   w2c_j0 = w2c_l9;
   w2c_i0 = (u32)(w2c_j0);
-  w2c_i0 = i32_load8_u(m, (u64)(w2c_i0) + 48u);
+  w2c_i0 = i32_load8_u(m, (u64)(w2c_i0) + 64u);
   w2c_i1 = 1u;
   w2c_i0 = w2c_i0 != w2c_i1;
   if (w2c_i0) {goto w2c_B10;}
   w2c_j0 = w2c_l9;
-  w2c_j1 = 288ull;
+  w2c_j1 = 304ull;
   w2c_j0 += w2c_j1;
   w2c_l17 = w2c_j0;
   w2c_j0 = 0ull;
@@ -45392,28 +46914,28 @@ static u32 w2c_f79(module *m, u64 w2c_p0, u64 w2c_p1, u32 w2c_p2, u32 w2c_p3, u3
   w2c_L11:
     w2c_j0 = w2c_l9;
     w2c_i0 = (u32)(w2c_j0);
-    w2c_j0 = i64_load(m, (u64)(w2c_i0) + 56u);
+    w2c_j0 = i64_load(m, (u64)(w2c_i0) + 72u);
     w2c_l18 = w2c_j0;
     w2c_j0 = w2c_l9;
     w2c_i0 = (u32)(w2c_j0);
-    w2c_j0 = i64_load(m, (u64)(w2c_i0) + 96u);
+    w2c_j0 = i64_load(m, (u64)(w2c_i0) + 112u);
     w2c_l19 = w2c_j0;
     w2c_j0 = w2c_l9;
     w2c_i0 = (u32)(w2c_j0);
-    w2c_j0 = i64_load(m, (u64)(w2c_i0) + 88u);
+    w2c_j0 = i64_load(m, (u64)(w2c_i0) + 104u);
     w2c_l20 = w2c_j0;
     w2c_j0 = w2c_l9;
     w2c_i0 = (u32)(w2c_j0);
-    w2c_j0 = i64_load(m, (u64)(w2c_i0) + 80u);
+    w2c_j0 = i64_load(m, (u64)(w2c_i0) + 96u);
     w2c_l21 = w2c_j0;
     w2c_j0 = w2c_l9;
     w2c_i0 = (u32)(w2c_j0);
-    w2c_j0 = i64_load(m, (u64)(w2c_i0) + 72u);
+    w2c_j0 = i64_load(m, (u64)(w2c_i0) + 88u);
     w2c_l22 = w2c_j0;
     w2c_j0 = 18446744073709551615ull;
     w2c_j1 = w2c_l9;
     w2c_i1 = (u32)(w2c_j1);
-    w2c_j1 = i64_load(m, (u64)(w2c_i1) + 64u);
+    w2c_j1 = i64_load(m, (u64)(w2c_i1) + 80u);
     w2c_l23 = w2c_j1;
     w2c_j2 = w2c_l16;
     w2c_j1 -= w2c_j2;
@@ -45566,121 +47088,20 @@ static u32 w2c_f79(module *m, u64 w2c_p0, u64 w2c_p1, u32 w2c_p2, u32 w2c_p3, u3
     w2c_i1 = 1u;
     w2c_i0 = w2c_i0 > w2c_i1;
     if (w2c_i0) {goto w2c_B19;}
-    w2c_j0 = w2c_l21;
-    w2c_i0 = !(w2c_j0);
-    if (w2c_i0) {goto w2c_B19;}
     w2c_j0 = w2c_l22;
-    w2c_i0 = (u32)(w2c_j0);
-    w2c_i0 = i32_load8_s(m, (u64)(w2c_i0));
-    w2c_p3 = w2c_i0;
-    w2c_i1 = 255u;
-    w2c_i0 &= w2c_i1;
-    w2c_l31 = w2c_i0;
-    w2c_j0 = 1ull;
-    w2c_l10 = w2c_j0;
-    w2c_i0 = w2c_p3;
-    w2c_i1 = 4294967295u;
-    w2c_i0 = (u32)((s32)w2c_i0 > (s32)w2c_i1);
-    if (w2c_i0) {goto w2c_B20;}
-    w2c_j0 = w2c_l22;
-    w2c_i0 = (u32)(w2c_j0);
-    w2c_i0 = i32_load8_u(m, (u64)(w2c_i0) + 1u);
-    w2c_i1 = 63u;
-    w2c_i0 &= w2c_i1;
-    w2c_p4 = w2c_i0;
-    w2c_i0 = w2c_p3;
-    w2c_i1 = 4294967263u;
-    w2c_i0 = w2c_i0 > w2c_i1;
-    if (w2c_i0) {goto w2c_B21;}
-    w2c_i0 = w2c_l31;
-    w2c_i1 = 6u;
-    w2c_i0 <<= (w2c_i1 & 31);
-    w2c_i1 = 1984u;
-    w2c_i0 &= w2c_i1;
-    w2c_i1 = w2c_p4;
-    w2c_i0 |= w2c_i1;
-    w2c_l31 = w2c_i0;
-    w2c_j0 = 2ull;
-    w2c_l10 = w2c_j0;
-    goto w2c_B20;
-    w2c_B21:;
-    w2c_j0 = w2c_l22;
-    w2c_i0 = (u32)(w2c_j0);
-    w2c_i0 = i32_load8_u(m, (u64)(w2c_i0) + 2u);
-    w2c_i1 = 63u;
-    w2c_i0 &= w2c_i1;
-    w2c_l30 = w2c_i0;
-    w2c_i0 = w2c_p3;
-    w2c_i1 = 4294967279u;
-    w2c_i0 = w2c_i0 > w2c_i1;
-    if (w2c_i0) {goto w2c_B22;}
-    w2c_i0 = w2c_p4;
-    w2c_i1 = 6u;
-    w2c_i0 <<= (w2c_i1 & 31);
-    w2c_i1 = w2c_l31;
-    w2c_i2 = 12u;
-    w2c_i1 <<= (w2c_i2 & 31);
-    w2c_i2 = 61440u;
-    w2c_i1 &= w2c_i2;
-    w2c_i0 |= w2c_i1;
-    w2c_i1 = w2c_l30;
-    w2c_i0 |= w2c_i1;
-    w2c_l31 = w2c_i0;
-    w2c_j0 = 3ull;
-    w2c_l10 = w2c_j0;
-    goto w2c_B20;
-    w2c_B22:;
-    w2c_i0 = w2c_l30;
-    w2c_i1 = 6u;
-    w2c_i0 <<= (w2c_i1 & 31);
-    w2c_i1 = w2c_p4;
-    w2c_i2 = 12u;
-    w2c_i1 <<= (w2c_i2 & 31);
-    w2c_i2 = w2c_l31;
-    w2c_i3 = 18u;
-    w2c_i2 <<= (w2c_i3 & 31);
-    w2c_i3 = 1835008u;
-    w2c_i2 &= w2c_i3;
-    w2c_i1 |= w2c_i2;
-    w2c_i0 |= w2c_i1;
-    w2c_j1 = w2c_l22;
-    w2c_i1 = (u32)(w2c_j1);
-    w2c_i1 = i32_load8_u(m, (u64)(w2c_i1) + 3u);
-    w2c_i2 = 63u;
-    w2c_i1 &= w2c_i2;
-    w2c_i0 |= w2c_i1;
-    w2c_l31 = w2c_i0;
-    w2c_j0 = 4ull;
-    w2c_l10 = w2c_j0;
-    w2c_B20:;
-    w2c_j0 = w2c_l21;
-    w2c_j1 = w2c_l10;
-    w2c_i0 = w2c_j0 != w2c_j1;
-    if (w2c_i0) {goto w2c_B19;}
-    w2c_i0 = w2c_l31;
-    w2c_i1 = 4294967248u;
-    w2c_i0 += w2c_i1;
-    w2c_i1 = 10u;
-    w2c_i0 = w2c_i0 < w2c_i1;
-    if (w2c_i0) {goto w2c_B19;}
-    w2c_i0 = w2c_l31;
-    w2c_i1 = 4294902000u;
-    w2c_i0 += w2c_i1;
-    w2c_i1 = 9u;
-    w2c_i0 = w2c_i0 > w2c_i1;
+    w2c_j1 = w2c_l21;
+    w2c_i0 = w2c_f27(m, w2c_j0, w2c_j1);
     if (w2c_i0) {goto w2c_B18;}
     w2c_B19:;
     w2c_i0 = w2c_p2;
     w2c_i1 = 1u;
     w2c_i0 &= w2c_i1;
-    if (w2c_i0) {goto w2c_B23;}
-    w2c_i0 = 0u;
-    w2c_p4 = w2c_i0;
-    w2c_i0 = 0u;
+    if (w2c_i0) {goto w2c_B20;}
+    w2c_i0 = 1u;
     w2c_p3 = w2c_i0;
     w2c_j0 = w2c_l23;
     w2c_i0 = !(w2c_j0);
-    if (w2c_i0) {goto w2c_B24;}
+    if (w2c_i0) {goto w2c_B21;}
     w2c_j0 = w2c_l18;
     w2c_j1 = w2c_l23;
     w2c_j2 = 18446744073709551615ull;
@@ -45692,7 +47113,7 @@ static u32 w2c_f79(module *m, u64 w2c_p0, u64 w2c_p1, u32 w2c_p2, u32 w2c_p3, u3
     w2c_l31 = w2c_i0;
     w2c_i1 = 0u;
     w2c_i0 = (u32)((s32)w2c_i0 >= (s32)w2c_i1);
-    if (w2c_i0) {goto w2c_B25;}
+    if (w2c_i0) {goto w2c_B28;}
     w2c_j0 = 18446744073709551614ull;
     w2c_l10 = w2c_j0;
     w2c_j0 = w2c_l18;
@@ -45705,7 +47126,7 @@ static u32 w2c_f79(module *m, u64 w2c_p0, u64 w2c_p1, u32 w2c_p2, u32 w2c_p3, u3
     w2c_i0 = i32_load8_u(m, (u64)(w2c_i0));
     w2c_i1 = 191u;
     w2c_i0 = w2c_i0 > w2c_i1;
-    if (w2c_i0) {goto w2c_B26;}
+    if (w2c_i0) {goto w2c_B29;}
     w2c_j0 = 18446744073709551613ull;
     w2c_j1 = 18446744073709551612ull;
     w2c_j2 = w2c_p0;
@@ -45717,7 +47138,7 @@ static u32 w2c_f79(module *m, u64 w2c_p0, u64 w2c_p1, u32 w2c_p2, u32 w2c_p3, u3
     w2c_i2 = w2c_i2 > w2c_i3;
     w2c_j0 = w2c_i2 ? w2c_j0 : w2c_j1;
     w2c_l10 = w2c_j0;
-    w2c_B26:;
+    w2c_B29:;
     w2c_j0 = w2c_l18;
     w2c_j1 = w2c_l10;
     w2c_j2 = w2c_l23;
@@ -45734,38 +47155,38 @@ static u32 w2c_f79(module *m, u64 w2c_p0, u64 w2c_p1, u32 w2c_p2, u32 w2c_p3, u3
     w2c_i0 = w2c_p3;
     w2c_i1 = 4294967295u;
     w2c_i0 = (u32)((s32)w2c_i0 > (s32)w2c_i1);
-    if (w2c_i0) {goto w2c_B25;}
+    if (w2c_i0) {goto w2c_B28;}
     w2c_j0 = w2c_p0;
     w2c_i0 = (u32)(w2c_j0);
     w2c_i0 = i32_load8_u(m, (u64)(w2c_i0) + 1u);
     w2c_i1 = 63u;
     w2c_i0 &= w2c_i1;
-    w2c_l30 = w2c_i0;
+    w2c_p4 = w2c_i0;
     w2c_i0 = w2c_p3;
     w2c_i1 = 4294967263u;
     w2c_i0 = w2c_i0 > w2c_i1;
-    if (w2c_i0) {goto w2c_B27;}
+    if (w2c_i0) {goto w2c_B30;}
     w2c_i0 = w2c_l31;
     w2c_i1 = 6u;
     w2c_i0 <<= (w2c_i1 & 31);
     w2c_i1 = 1984u;
     w2c_i0 &= w2c_i1;
-    w2c_i1 = w2c_l30;
+    w2c_i1 = w2c_p4;
     w2c_i0 |= w2c_i1;
     w2c_l31 = w2c_i0;
-    goto w2c_B25;
-    w2c_B27:;
+    goto w2c_B28;
+    w2c_B30:;
     w2c_j0 = w2c_p0;
     w2c_i0 = (u32)(w2c_j0);
     w2c_i0 = i32_load8_u(m, (u64)(w2c_i0) + 2u);
     w2c_i1 = 63u;
     w2c_i0 &= w2c_i1;
-    w2c_p5 = w2c_i0;
+    w2c_l30 = w2c_i0;
     w2c_i0 = w2c_p3;
     w2c_i1 = 4294967279u;
     w2c_i0 = w2c_i0 > w2c_i1;
-    if (w2c_i0) {goto w2c_B28;}
-    w2c_i0 = w2c_l30;
+    if (w2c_i0) {goto w2c_B32;}
+    w2c_i0 = w2c_p4;
     w2c_i1 = 6u;
     w2c_i0 <<= (w2c_i1 & 31);
     w2c_i1 = w2c_l31;
@@ -45774,15 +47195,15 @@ static u32 w2c_f79(module *m, u64 w2c_p0, u64 w2c_p1, u32 w2c_p2, u32 w2c_p3, u3
     w2c_i2 = 61440u;
     w2c_i1 &= w2c_i2;
     w2c_i0 |= w2c_i1;
-    w2c_i1 = w2c_p5;
+    w2c_i1 = w2c_l30;
     w2c_i0 |= w2c_i1;
     w2c_l31 = w2c_i0;
-    goto w2c_B25;
-    w2c_B28:;
-    w2c_i0 = w2c_p5;
+    goto w2c_B31;
+    w2c_B32:;
+    w2c_i0 = w2c_l30;
     w2c_i1 = 6u;
     w2c_i0 <<= (w2c_i1 & 31);
-    w2c_i1 = w2c_l30;
+    w2c_i1 = w2c_p4;
     w2c_i2 = 12u;
     w2c_i1 <<= (w2c_i2 & 31);
     w2c_i2 = w2c_l31;
@@ -45799,33 +47220,54 @@ static u32 w2c_f79(module *m, u64 w2c_p0, u64 w2c_p1, u32 w2c_p2, u32 w2c_p3, u3
     w2c_i1 &= w2c_i2;
     w2c_i0 |= w2c_i1;
     w2c_l31 = w2c_i0;
-    w2c_B25:;
+    w2c_B31:;
+    w2c_i0 = w2c_l31;
+    w2c_i1 = 4294965248u;
+    w2c_i0 += w2c_i1;
+    w2c_i1 = 63488u;
+    w2c_i0 = w2c_i0 < w2c_i1;
+    if (w2c_i0) {goto w2c_B27;}
+    w2c_B28:;
+    w2c_j0 = w2c_l9;
+    w2c_j1 = 56ull;
+    w2c_j0 += w2c_j1;
+    w2c_i1 = w2c_l31;
+    w2c_f18(m, w2c_j0, w2c_i1);
+    w2c_j0 = w2c_l9;
+    w2c_i0 = (u32)(w2c_j0);
+    w2c_i0 = i32_load8_u(m, (u64)(w2c_i0) + 56u);
+    w2c_i1 = 1u;
+    w2c_i0 = w2c_i0 == w2c_i1;
+    if (w2c_i0) {goto w2c_B23;}
+    w2c_j0 = w2c_l9;
+    w2c_j1 = 48ull;
+    w2c_j0 += w2c_j1;
+    w2c_i1 = w2c_l31;
+    w2c_f19(m, w2c_j0, w2c_i1);
+    w2c_i0 = w2c_l31;
+    w2c_i1 = 128u;
+    w2c_i0 = w2c_i0 >= w2c_i1;
+    if (w2c_i0) {goto w2c_B26;}
+    w2c_i0 = w2c_l31;
+    w2c_i1 = 95u;
+    w2c_i0 = w2c_i0 == w2c_i1;
+    if (w2c_i0) {goto w2c_B23;}
     w2c_i0 = w2c_l31;
     w2c_i1 = 4294967248u;
     w2c_i0 += w2c_i1;
     w2c_i1 = 10u;
     w2c_i0 = w2c_i0 < w2c_i1;
-    if (w2c_i0) {goto w2c_B30;}
+    if (w2c_i0) {goto w2c_B23;}
     w2c_i0 = w2c_l31;
-    w2c_i1 = 4294967263u;
+    w2c_i1 = 95u;
     w2c_i0 &= w2c_i1;
     w2c_i1 = 4294967231u;
     w2c_i0 += w2c_i1;
     w2c_i1 = 26u;
-    w2c_i0 = w2c_i0 < w2c_i1;
-    if (w2c_i0) {goto w2c_B30;}
-    w2c_i0 = w2c_l31;
-    w2c_i1 = 4294902000u;
-    w2c_i0 += w2c_i1;
-    w2c_i1 = 10u;
-    w2c_i0 = w2c_i0 < w2c_i1;
-    if (w2c_i0) {goto w2c_B30;}
-    w2c_i0 = w2c_l31;
-    w2c_i1 = 4294965248u;
-    w2c_i0 += w2c_i1;
-    w2c_i1 = 63487u;
-    w2c_i0 = w2c_i0 > w2c_i1;
-    if (w2c_i0) {goto w2c_B32;}
+    w2c_i0 = w2c_i0 >= w2c_i1;
+    if (w2c_i0) {goto w2c_B25;}
+    goto w2c_B23;
+    w2c_B27:;
     w2c_i0 = w2c_l31;
     w2c_i1 = 12u;
     w2c_i0 >>= (w2c_i1 & 31);
@@ -45856,7 +47298,7 @@ static u32 w2c_f79(module *m, u64 w2c_p0, u64 w2c_p1, u32 w2c_p2, u32 w2c_p3, u3
     w2c_i0 = i32_load(m, (u64)(w2c_i0) + 66992u);
     w2c_i1 = w2c_p3;
     w2c_i0 = w2c_i0 != w2c_i1;
-    if (w2c_i0) {goto w2c_B31;}
+    if (w2c_i0) {goto w2c_B26;}
     w2c_j0 = w2c_p0;
     w2c_j1 = 66996ull;
     w2c_j0 += w2c_j1;
@@ -45864,281 +47306,209 @@ static u32 w2c_f79(module *m, u64 w2c_p0, u64 w2c_p1, u32 w2c_p2, u32 w2c_p3, u3
     w2c_i0 = i32_load8_u(m, (u64)(w2c_i0));
     w2c_i1 = 255u;
     w2c_i0 &= w2c_i1;
-    if (w2c_i0) {goto w2c_B31;}
-    goto w2c_B30;
-    w2c_B32:;
-    w2c_j0 = w2c_l9;
-    w2c_j1 = 40ull;
-    w2c_j0 += w2c_j1;
-    w2c_i1 = w2c_l31;
-    w2c_f21(m, w2c_j0, w2c_i1);
-    w2c_j0 = w2c_l9;
-    w2c_i0 = (u32)(w2c_j0);
-    w2c_i0 = i32_load8_u(m, (u64)(w2c_i0) + 40u);
-    w2c_i1 = 1u;
-    w2c_i0 = w2c_i0 == w2c_i1;
-    if (w2c_i0) {goto w2c_B30;}
-    w2c_j0 = w2c_l9;
-    w2c_j1 = 32ull;
-    w2c_j0 += w2c_j1;
-    w2c_i1 = w2c_l31;
-    w2c_f19(m, w2c_j0, w2c_i1);
-    w2c_B31:;
+    w2c_i0 = !(w2c_i0);
+    if (w2c_i0) {goto w2c_B23;}
+    w2c_B26:;
+    w2c_i0 = w2c_l31;
+    w2c_i1 = 4294902000u;
+    w2c_i0 += w2c_i1;
+    w2c_i1 = 10u;
+    w2c_i0 = w2c_i0 < w2c_i1;
+    if (w2c_i0) {goto w2c_B23;}
     w2c_i0 = w2c_l31;
     w2c_i1 = 24318u;
     w2c_i0 = (u32)((s32)w2c_i0 > (s32)w2c_i1);
-    if (w2c_i0) {goto w2c_B36;}
+    if (w2c_i0) {goto w2c_B33;}
     w2c_i0 = w2c_l31;
     w2c_i1 = 4294945979u;
     w2c_i0 += w2c_i1;
     switch (w2c_i0) {
-      case 0: goto w2c_B29;
-      case 1: goto w2c_B35;
-      case 2: goto w2c_B35;
-      case 3: goto w2c_B35;
-      case 4: goto w2c_B35;
-      case 5: goto w2c_B35;
-      case 6: goto w2c_B35;
-      case 7: goto w2c_B29;
-      default: goto w2c_B37;
+      case 0: goto w2c_B22;
+      case 1: goto w2c_B25;
+      case 2: goto w2c_B25;
+      case 3: goto w2c_B25;
+      case 4: goto w2c_B25;
+      case 5: goto w2c_B25;
+      case 6: goto w2c_B25;
+      case 7: goto w2c_B22;
+      default: goto w2c_B34;
     }
-    w2c_B37:;
-    w2c_i0 = w2c_l31;
-    w2c_i1 = 95u;
-    w2c_i0 = w2c_i0 == w2c_i1;
-    if (w2c_i0) {goto w2c_B29;}
+    w2c_B34:;
     w2c_i0 = w2c_l31;
     w2c_i1 = 24186u;
     w2c_i0 = w2c_i0 != w2c_i1;
-    if (w2c_i0) {goto w2c_B35;}
-    goto w2c_B29;
-    w2c_B36:;
+    if (w2c_i0) {goto w2c_B25;}
+    goto w2c_B22;
+    w2c_B33:;
     w2c_i0 = w2c_l31;
     w2c_i1 = 24319u;
     w2c_i0 = w2c_i0 == w2c_i1;
-    if (w2c_i0) {goto w2c_B29;}
+    if (w2c_i0) {goto w2c_B22;}
     w2c_i0 = w2c_l31;
     w2c_i1 = 28857u;
     w2c_i0 = w2c_i0 == w2c_i1;
-    if (w2c_i0) {goto w2c_B34;}
+    if (w2c_i0) {goto w2c_B24;}
     w2c_i0 = w2c_l31;
     w2c_i1 = 40670u;
     w2c_i0 = w2c_i0 == w2c_i1;
-    if (w2c_i0) {goto w2c_B34;}
-    w2c_B35:;
+    if (w2c_i0) {goto w2c_B24;}
+    w2c_B25:;
     w2c_i0 = w2c_l31;
-    w2c_i1 = 4294967249u;
+    w2c_i1 = 4294967252u;
     w2c_i0 += w2c_i1;
-    w2c_i1 = 4294967293u;
-    w2c_i0 = w2c_i0 < w2c_i1;
-    if (w2c_i0) {goto w2c_B30;}
-    w2c_j0 = w2c_l10;
-    w2c_i0 = !(w2c_j0);
-    w2c_i0 = !(w2c_i0);
-    if (w2c_i0) {goto w2c_B33;}
-    goto w2c_B30;
-    w2c_B34:;
-    w2c_j0 = w2c_l10;
-    w2c_i0 = !(w2c_j0);
-    if (w2c_i0) {goto w2c_B30;}
-    w2c_B33:;
+    w2c_i1 = 2u;
+    w2c_i0 = w2c_i0 > w2c_i1;
+    if (w2c_i0) {goto w2c_B23;}
+    w2c_B24:;
     w2c_j0 = w2c_l18;
     w2c_j1 = w2c_l10;
-    w2c_j0 += w2c_j1;
-    w2c_p0 = w2c_j0;
-    w2c_j1 = 18446744073709551615ull;
-    w2c_j0 += w2c_j1;
-    w2c_i0 = (u32)(w2c_j0);
-    w2c_i0 = i32_load8_s(m, (u64)(w2c_i0));
-    w2c_p3 = w2c_i0;
-    w2c_i1 = 0u;
-    w2c_i0 = (u32)((s32)w2c_i0 >= (s32)w2c_i1);
-    if (w2c_i0) {goto w2c_B38;}
-    w2c_j0 = 18446744073709551614ull;
-    w2c_l11 = w2c_j0;
-    w2c_j0 = w2c_p0;
-    w2c_j1 = 18446744073709551614ull;
-    w2c_j0 += w2c_j1;
-    w2c_i0 = (u32)(w2c_j0);
-    w2c_i0 = i32_load8_u(m, (u64)(w2c_i0));
-    w2c_i1 = 191u;
-    w2c_i0 = w2c_i0 > w2c_i1;
-    if (w2c_i0) {goto w2c_B39;}
-    w2c_j0 = 18446744073709551613ull;
-    w2c_j1 = 18446744073709551612ull;
-    w2c_j2 = w2c_p0;
-    w2c_j3 = 18446744073709551613ull;
-    w2c_j2 += w2c_j3;
-    w2c_i2 = (u32)(w2c_j2);
-    w2c_i2 = i32_load8_u(m, (u64)(w2c_i2));
-    w2c_i3 = 191u;
-    w2c_i2 = w2c_i2 > w2c_i3;
-    w2c_j0 = w2c_i2 ? w2c_j0 : w2c_j1;
-    w2c_l11 = w2c_j0;
-    w2c_B39:;
-    w2c_j0 = w2c_l18;
-    w2c_j1 = w2c_l11;
-    w2c_j0 += w2c_j1;
-    w2c_j1 = w2c_l10;
-    w2c_j0 += w2c_j1;
-    w2c_l10 = w2c_j0;
-    w2c_i0 = (u32)(w2c_j0);
-    w2c_i0 = i32_load8_s(m, (u64)(w2c_i0));
-    w2c_l30 = w2c_i0;
-    w2c_i1 = 255u;
-    w2c_i0 &= w2c_i1;
-    w2c_p3 = w2c_i0;
-    w2c_i0 = w2c_l30;
-    w2c_i1 = 4294967295u;
-    w2c_i0 = (u32)((s32)w2c_i0 > (s32)w2c_i1);
-    if (w2c_i0) {goto w2c_B38;}
-    w2c_j0 = w2c_l10;
-    w2c_i0 = (u32)(w2c_j0);
-    w2c_i0 = i32_load8_u(m, (u64)(w2c_i0) + 1u);
-    w2c_i1 = 63u;
-    w2c_i0 &= w2c_i1;
-    w2c_p5 = w2c_i0;
-    w2c_i0 = w2c_l30;
-    w2c_i1 = 4294967263u;
-    w2c_i0 = w2c_i0 > w2c_i1;
-    if (w2c_i0) {goto w2c_B40;}
-    w2c_i0 = w2c_p3;
-    w2c_i1 = 6u;
-    w2c_i0 <<= (w2c_i1 & 31);
-    w2c_i1 = 1984u;
-    w2c_i0 &= w2c_i1;
-    w2c_i1 = w2c_p5;
-    w2c_i0 |= w2c_i1;
-    w2c_p3 = w2c_i0;
-    goto w2c_B38;
-    w2c_B40:;
-    w2c_j0 = w2c_l10;
-    w2c_i0 = (u32)(w2c_j0);
-    w2c_i0 = i32_load8_u(m, (u64)(w2c_i0) + 2u);
-    w2c_i1 = 63u;
-    w2c_i0 &= w2c_i1;
-    w2c_l32 = w2c_i0;
-    w2c_i0 = w2c_l30;
-    w2c_i1 = 4294967279u;
-    w2c_i0 = w2c_i0 > w2c_i1;
-    if (w2c_i0) {goto w2c_B41;}
-    w2c_i0 = w2c_p5;
-    w2c_i1 = 6u;
-    w2c_i0 <<= (w2c_i1 & 31);
-    w2c_i1 = w2c_p3;
-    w2c_i2 = 12u;
-    w2c_i1 <<= (w2c_i2 & 31);
-    w2c_i2 = 61440u;
-    w2c_i1 &= w2c_i2;
-    w2c_i0 |= w2c_i1;
-    w2c_i1 = w2c_l32;
-    w2c_i0 |= w2c_i1;
-    w2c_p3 = w2c_i0;
-    goto w2c_B38;
-    w2c_B41:;
-    w2c_i0 = w2c_l32;
-    w2c_i1 = 6u;
-    w2c_i0 <<= (w2c_i1 & 31);
-    w2c_i1 = w2c_p5;
-    w2c_i2 = 12u;
-    w2c_i1 <<= (w2c_i2 & 31);
-    w2c_i2 = w2c_p3;
-    w2c_i3 = 18u;
-    w2c_i2 <<= (w2c_i3 & 31);
-    w2c_i3 = 1835008u;
-    w2c_i2 &= w2c_i3;
-    w2c_i1 |= w2c_i2;
-    w2c_i0 |= w2c_i1;
-    w2c_j1 = w2c_l10;
-    w2c_i1 = (u32)(w2c_j1);
-    w2c_i1 = i32_load8_u(m, (u64)(w2c_i1) + 3u);
-    w2c_i2 = 63u;
-    w2c_i1 &= w2c_i2;
-    w2c_i0 |= w2c_i1;
-    w2c_p3 = w2c_i0;
-    w2c_B38:;
-    w2c_i0 = w2c_p3;
-    w2c_i0 = w2c_f24(m, w2c_i0);
-    w2c_B30:;
-    w2c_i0 = 1u;
+    w2c_i0 = w2c_f24(m, w2c_j0, w2c_j1);
+    w2c_B23:;
+    w2c_i0 = 0u;
     w2c_p3 = w2c_i0;
     w2c_i0 = w2c_l31;
     w2c_i1 = 4294941328u;
     w2c_i0 += w2c_i1;
     switch (w2c_i0) {
-      case 0: goto w2c_B24;
-      case 1: goto w2c_B29;
-      case 2: goto w2c_B29;
-      case 3: goto w2c_B29;
-      case 4: goto w2c_B29;
-      case 5: goto w2c_B29;
-      case 6: goto w2c_B29;
-      case 7: goto w2c_B29;
-      case 8: goto w2c_B24;
-      default: goto w2c_B42;
+      case 0: goto w2c_B21;
+      case 1: goto w2c_B22;
+      case 2: goto w2c_B22;
+      case 3: goto w2c_B22;
+      case 4: goto w2c_B22;
+      case 5: goto w2c_B22;
+      case 6: goto w2c_B22;
+      case 7: goto w2c_B22;
+      case 8: goto w2c_B21;
+      default: goto w2c_B35;
     }
-    w2c_B42:;
+    w2c_B35:;
     w2c_i0 = w2c_l31;
     w2c_i1 = 20960u;
     w2c_i0 = w2c_i0 == w2c_i1;
-    if (w2c_i0) {goto w2c_B24;}
+    if (w2c_i0) {goto w2c_B21;}
     w2c_i0 = w2c_l31;
     w2c_i1 = 24190u;
     w2c_i0 = w2c_i0 == w2c_i1;
-    if (w2c_i0) {goto w2c_B24;}
-    w2c_B29:;
-    w2c_i0 = 0u;
+    if (w2c_i0) {goto w2c_B21;}
+    w2c_B22:;
+    w2c_i0 = 1u;
     w2c_p3 = w2c_i0;
-    w2c_B24:;
+    w2c_B21:;
     w2c_j0 = w2c_l19;
-    w2c_i0 = !(w2c_j0);
-    if (w2c_i0) {goto w2c_B43;}
+    w2c_j1 = 3ull;
+    w2c_i0 = w2c_j0 < w2c_j1;
+    if (w2c_i0) {goto w2c_B46;}
     w2c_j0 = w2c_l20;
     w2c_i0 = (u32)(w2c_j0);
-    w2c_i0 = i32_load8_s(m, (u64)(w2c_i0));
-    w2c_p4 = w2c_i0;
-    w2c_i1 = 255u;
-    w2c_i0 &= w2c_i1;
+    w2c_i0 = i32_load8_u(m, (u64)(w2c_i0));
     w2c_l31 = w2c_i0;
-    w2c_j0 = 1ull;
+    w2c_i1 = 240u;
+    w2c_i0 &= w2c_i1;
+    w2c_i1 = 224u;
+    w2c_i0 = w2c_i0 != w2c_i1;
+    if (w2c_i0) {goto w2c_B45;}
+    w2c_j0 = w2c_l20;
+    w2c_i0 = (u32)(w2c_j0);
+    w2c_i0 = i32_load8_u(m, (u64)(w2c_i0) + 1u);
+    w2c_l30 = w2c_i0;
+    w2c_i1 = 8u;
+    w2c_i0 <<= (w2c_i1 & 31);
+    w2c_j1 = w2c_l20;
+    w2c_i1 = (u32)(w2c_j1);
+    w2c_i1 = i32_load8_u(m, (u64)(w2c_i1) + 2u);
+    w2c_p5 = w2c_i1;
+    w2c_i2 = 16u;
+    w2c_i1 <<= (w2c_i2 & 31);
+    w2c_i0 |= w2c_i1;
+    w2c_i1 = w2c_l31;
+    w2c_i0 |= w2c_i1;
+    w2c_p4 = w2c_i0;
+    w2c_i0 = w2c_l31;
+    w2c_i1 = 12u;
+    w2c_i0 <<= (w2c_i1 & 31);
+    w2c_i1 = w2c_l30;
+    w2c_i2 = 6u;
+    w2c_i1 <<= (w2c_i2 & 31);
+    w2c_i0 += w2c_i1;
+    w2c_i1 = w2c_p5;
+    w2c_i0 += w2c_i1;
+    w2c_i1 = 4294041472u;
+    w2c_i0 += w2c_i1;
+    w2c_l31 = w2c_i0;
+    w2c_j0 = w2c_l19;
+    w2c_j1 = 18446744073709551613ull;
+    w2c_j0 += w2c_j1;
+    w2c_p0 = w2c_j0;
+    w2c_j0 = w2c_l20;
+    w2c_j1 = 3ull;
+    w2c_j0 += w2c_j1;
     w2c_l10 = w2c_j0;
     w2c_i0 = w2c_p4;
+    w2c_i1 = w2c_p4;
+    w2c_j1 = (u64)(w2c_i1);
+    w2c_j2 = 953497ull;
+    w2c_j1 *= w2c_j2;
+    w2c_j2 = 22ull;
+    w2c_j1 >>= (w2c_j2 & 63);
+    w2c_j2 = 1016ull;
+    w2c_j1 &= w2c_j2;
+    w2c_l11 = w2c_j1;
+    w2c_j2 = 66992ull;
+    w2c_j1 += w2c_j2;
+    w2c_i1 = (u32)(w2c_j1);
+    w2c_i1 = i32_load(m, (u64)(w2c_i1));
+    w2c_i0 = w2c_i0 != w2c_i1;
+    if (w2c_i0) {goto w2c_B43;}
+    goto w2c_B44;
+    w2c_B46:;
+    w2c_j0 = w2c_l19;
+    w2c_i0 = !(w2c_j0);
+    if (w2c_i0) {goto w2c_B37;}
+    w2c_j0 = w2c_l20;
+    w2c_i0 = (u32)(w2c_j0);
+    w2c_i0 = i32_load8_u(m, (u64)(w2c_i0));
+    w2c_l31 = w2c_i0;
+    w2c_B45:;
+    w2c_j0 = 1ull;
+    w2c_l10 = w2c_j0;
+    w2c_i0 = w2c_l31;
+    w2c_i0 = (u32)(s32)(s8)(u8)(w2c_i0);
     w2c_i1 = 4294967295u;
     w2c_i0 = (u32)((s32)w2c_i0 > (s32)w2c_i1);
-    if (w2c_i0) {goto w2c_B44;}
+    if (w2c_i0) {goto w2c_B47;}
     w2c_j0 = w2c_l20;
     w2c_i0 = (u32)(w2c_j0);
     w2c_i0 = i32_load8_u(m, (u64)(w2c_i0) + 1u);
     w2c_i1 = 63u;
     w2c_i0 &= w2c_i1;
-    w2c_l30 = w2c_i0;
-    w2c_i0 = w2c_p4;
-    w2c_i1 = 4294967263u;
+    w2c_p4 = w2c_i0;
+    w2c_i0 = w2c_l31;
+    w2c_i1 = 223u;
     w2c_i0 = w2c_i0 > w2c_i1;
-    if (w2c_i0) {goto w2c_B45;}
+    if (w2c_i0) {goto w2c_B48;}
     w2c_i0 = w2c_l31;
     w2c_i1 = 6u;
     w2c_i0 <<= (w2c_i1 & 31);
     w2c_i1 = 1984u;
     w2c_i0 &= w2c_i1;
-    w2c_i1 = w2c_l30;
+    w2c_i1 = w2c_p4;
     w2c_i0 |= w2c_i1;
     w2c_l31 = w2c_i0;
     w2c_j0 = 2ull;
     w2c_l10 = w2c_j0;
-    goto w2c_B44;
-    w2c_B45:;
+    goto w2c_B47;
+    w2c_B48:;
     w2c_j0 = w2c_l20;
     w2c_i0 = (u32)(w2c_j0);
     w2c_i0 = i32_load8_u(m, (u64)(w2c_i0) + 2u);
     w2c_i1 = 63u;
     w2c_i0 &= w2c_i1;
-    w2c_p5 = w2c_i0;
-    w2c_i0 = w2c_p4;
-    w2c_i1 = 4294967279u;
+    w2c_l30 = w2c_i0;
+    w2c_i0 = w2c_l31;
+    w2c_i1 = 239u;
     w2c_i0 = w2c_i0 > w2c_i1;
-    if (w2c_i0) {goto w2c_B46;}
-    w2c_i0 = w2c_l30;
+    if (w2c_i0) {goto w2c_B49;}
+    w2c_i0 = w2c_p4;
     w2c_i1 = 6u;
     w2c_i0 <<= (w2c_i1 & 31);
     w2c_i1 = w2c_l31;
@@ -46147,17 +47517,17 @@ static u32 w2c_f79(module *m, u64 w2c_p0, u64 w2c_p1, u32 w2c_p2, u32 w2c_p3, u3
     w2c_i2 = 61440u;
     w2c_i1 &= w2c_i2;
     w2c_i0 |= w2c_i1;
-    w2c_i1 = w2c_p5;
+    w2c_i1 = w2c_l30;
     w2c_i0 |= w2c_i1;
     w2c_l31 = w2c_i0;
     w2c_j0 = 3ull;
     w2c_l10 = w2c_j0;
-    goto w2c_B44;
-    w2c_B46:;
-    w2c_i0 = w2c_p5;
+    goto w2c_B47;
+    w2c_B49:;
+    w2c_i0 = w2c_l30;
     w2c_i1 = 6u;
     w2c_i0 <<= (w2c_i1 & 31);
-    w2c_i1 = w2c_l30;
+    w2c_i1 = w2c_p4;
     w2c_i2 = 12u;
     w2c_i1 <<= (w2c_i2 & 31);
     w2c_i2 = w2c_l31;
@@ -46176,27 +47546,15 @@ static u32 w2c_f79(module *m, u64 w2c_p0, u64 w2c_p1, u32 w2c_p2, u32 w2c_p3, u3
     w2c_l31 = w2c_i0;
     w2c_j0 = 4ull;
     w2c_l10 = w2c_j0;
-    w2c_B44:;
-    w2c_i0 = w2c_l31;
-    w2c_i1 = 4294967248u;
-    w2c_i0 += w2c_i1;
-    w2c_i1 = 10u;
-    w2c_i0 = w2c_i0 < w2c_i1;
-    if (w2c_i0) {goto w2c_B48;}
-    w2c_i0 = w2c_l31;
-    w2c_i1 = 2097119u;
-    w2c_i0 &= w2c_i1;
-    w2c_i1 = 4294967231u;
-    w2c_i0 += w2c_i1;
-    w2c_i1 = 26u;
-    w2c_i0 = w2c_i0 < w2c_i1;
-    if (w2c_i0) {goto w2c_B48;}
-    w2c_i0 = w2c_l31;
-    w2c_i1 = 4294902000u;
-    w2c_i0 += w2c_i1;
-    w2c_i1 = 10u;
-    w2c_i0 = w2c_i0 < w2c_i1;
-    if (w2c_i0) {goto w2c_B48;}
+    w2c_B47:;
+    w2c_j0 = w2c_l19;
+    w2c_j1 = w2c_l10;
+    w2c_j0 -= w2c_j1;
+    w2c_p0 = w2c_j0;
+    w2c_j0 = w2c_l20;
+    w2c_j1 = w2c_l10;
+    w2c_j0 += w2c_j1;
+    w2c_l10 = w2c_j0;
     w2c_i0 = w2c_l31;
     w2c_i1 = 4294965248u;
     w2c_i0 += w2c_i1;
@@ -46228,233 +47586,282 @@ static u32 w2c_f79(module *m, u64 w2c_p0, u64 w2c_p1, u32 w2c_p2, u32 w2c_p3, u3
     w2c_j0 >>= (w2c_j1 & 63);
     w2c_j1 = 1016ull;
     w2c_j0 &= w2c_j1;
-    w2c_p0 = w2c_j0;
+    w2c_l11 = w2c_j0;
+    w2c_j1 = 66992ull;
+    w2c_j0 += w2c_j1;
     w2c_i0 = (u32)(w2c_j0);
-    w2c_i0 = i32_load(m, (u64)(w2c_i0) + 66992u);
+    w2c_i0 = i32_load(m, (u64)(w2c_i0));
     w2c_i1 = w2c_p4;
-    w2c_i0 = w2c_i0 != w2c_i1;
-    if (w2c_i0) {goto w2c_B49;}
-    w2c_j0 = w2c_p0;
+    w2c_i0 = w2c_i0 == w2c_i1;
+    if (w2c_i0) {goto w2c_B44;}
+    goto w2c_B42;
+    w2c_B50:;
+    w2c_j0 = w2c_l9;
+    w2c_j1 = 40ull;
+    w2c_j0 += w2c_j1;
+    w2c_i1 = w2c_l31;
+    w2c_f18(m, w2c_j0, w2c_i1);
+    w2c_j0 = w2c_l9;
+    w2c_i0 = (u32)(w2c_j0);
+    w2c_i0 = i32_load8_u(m, (u64)(w2c_i0) + 40u);
+    w2c_i1 = 1u;
+    w2c_i0 = w2c_i0 == w2c_i1;
+    if (w2c_i0) {goto w2c_B38;}
+    w2c_j0 = w2c_l9;
+    w2c_j1 = 32ull;
+    w2c_j0 += w2c_j1;
+    w2c_i1 = w2c_l31;
+    w2c_f19(m, w2c_j0, w2c_i1);
+    goto w2c_B43;
+    w2c_B44:;
+    w2c_j0 = w2c_l11;
     w2c_j1 = 66996ull;
     w2c_j0 += w2c_j1;
     w2c_i0 = (u32)(w2c_j0);
     w2c_i0 = i32_load8_u(m, (u64)(w2c_i0));
-    w2c_i1 = 255u;
-    w2c_i0 &= w2c_i1;
-    if (w2c_i0) {goto w2c_B49;}
-    goto w2c_B48;
-    w2c_B50:;
-    w2c_j0 = w2c_l9;
-    w2c_j1 = 24ull;
-    w2c_j0 += w2c_j1;
-    w2c_i1 = w2c_l31;
-    w2c_f21(m, w2c_j0, w2c_i1);
-    w2c_j0 = w2c_l9;
-    w2c_i0 = (u32)(w2c_j0);
-    w2c_i0 = i32_load8_u(m, (u64)(w2c_i0) + 24u);
-    w2c_i1 = 1u;
-    w2c_i0 = w2c_i0 == w2c_i1;
-    if (w2c_i0) {goto w2c_B48;}
-    w2c_j0 = w2c_l9;
-    w2c_j1 = 16ull;
-    w2c_j0 += w2c_j1;
-    w2c_i1 = w2c_l31;
-    w2c_f19(m, w2c_j0, w2c_i1);
-    w2c_B49:;
+    w2c_i0 = !(w2c_i0);
+    if (w2c_i0) {goto w2c_B38;}
+    w2c_B43:;
+    w2c_i0 = w2c_l31;
+    w2c_i1 = 128u;
+    w2c_i0 = w2c_i0 < w2c_i1;
+    if (w2c_i0) {goto w2c_B41;}
+    w2c_B42:;
+    w2c_i0 = w2c_l31;
+    w2c_i1 = 4294902000u;
+    w2c_i0 += w2c_i1;
+    w2c_i1 = 10u;
+    w2c_i0 = w2c_i0 < w2c_i1;
+    if (w2c_i0) {goto w2c_B38;}
     w2c_i0 = w2c_l31;
     w2c_i1 = 24318u;
     w2c_i0 = (u32)((s32)w2c_i0 > (s32)w2c_i1);
-    if (w2c_i0) {goto w2c_B54;}
+    if (w2c_i0) {goto w2c_B51;}
     w2c_i0 = w2c_l31;
     w2c_i1 = 4294945979u;
     w2c_i0 += w2c_i1;
     switch (w2c_i0) {
-      case 0: goto w2c_B47;
-      case 1: goto w2c_B53;
-      case 2: goto w2c_B53;
-      case 3: goto w2c_B53;
-      case 4: goto w2c_B53;
-      case 5: goto w2c_B53;
-      case 6: goto w2c_B53;
-      case 7: goto w2c_B47;
-      default: goto w2c_B55;
+      case 0: goto w2c_B37;
+      case 1: goto w2c_B40;
+      case 2: goto w2c_B40;
+      case 3: goto w2c_B40;
+      case 4: goto w2c_B40;
+      case 5: goto w2c_B40;
+      case 6: goto w2c_B40;
+      case 7: goto w2c_B37;
+      default: goto w2c_B52;
     }
-    w2c_B55:;
-    w2c_i0 = w2c_l31;
-    w2c_i1 = 95u;
-    w2c_i0 = w2c_i0 == w2c_i1;
-    if (w2c_i0) {goto w2c_B47;}
+    w2c_B52:;
     w2c_i0 = w2c_l31;
     w2c_i1 = 24186u;
     w2c_i0 = w2c_i0 != w2c_i1;
-    if (w2c_i0) {goto w2c_B53;}
-    goto w2c_B47;
-    w2c_B54:;
+    if (w2c_i0) {goto w2c_B40;}
+    goto w2c_B37;
+    w2c_B51:;
     w2c_i0 = w2c_l31;
     w2c_i1 = 24319u;
     w2c_i0 = w2c_i0 == w2c_i1;
-    if (w2c_i0) {goto w2c_B47;}
+    if (w2c_i0) {goto w2c_B37;}
     w2c_i0 = w2c_l31;
     w2c_i1 = 28857u;
     w2c_i0 = w2c_i0 == w2c_i1;
-    if (w2c_i0) {goto w2c_B52;}
+    if (w2c_i0) {goto w2c_B39;}
     w2c_i0 = w2c_l31;
     w2c_i1 = 40670u;
-    w2c_i0 = w2c_i0 == w2c_i1;
-    if (w2c_i0) {goto w2c_B52;}
-    w2c_B53:;
-    w2c_j0 = w2c_l19;
-    w2c_j1 = w2c_l10;
-    w2c_i0 = w2c_j0 == w2c_j1;
-    if (w2c_i0) {goto w2c_B48;}
+    w2c_i0 = w2c_i0 != w2c_i1;
+    if (w2c_i0) {goto w2c_B40;}
+    goto w2c_B39;
+    w2c_B41:;
     w2c_i0 = w2c_l31;
-    w2c_i1 = 4294967249u;
+    w2c_i1 = 95u;
+    w2c_i0 = w2c_i0 == w2c_i1;
+    if (w2c_i0) {goto w2c_B38;}
+    w2c_i0 = w2c_l31;
+    w2c_i1 = 4294967248u;
     w2c_i0 += w2c_i1;
-    w2c_i1 = 4294967293u;
-    w2c_i0 = w2c_i0 >= w2c_i1;
-    if (w2c_i0) {goto w2c_B51;}
-    goto w2c_B48;
-    w2c_B52:;
-    w2c_j0 = w2c_l19;
-    w2c_j1 = w2c_l10;
-    w2c_i0 = w2c_j0 == w2c_j1;
-    if (w2c_i0) {goto w2c_B48;}
-    w2c_B51:;
-    w2c_j0 = w2c_l20;
-    w2c_j1 = w2c_l10;
-    w2c_j0 += w2c_j1;
-    w2c_l10 = w2c_j0;
+    w2c_i1 = 10u;
+    w2c_i0 = w2c_i0 < w2c_i1;
+    if (w2c_i0) {goto w2c_B38;}
+    w2c_i0 = w2c_l31;
+    w2c_i1 = 95u;
+    w2c_i0 &= w2c_i1;
+    w2c_i1 = 4294967231u;
+    w2c_i0 += w2c_i1;
+    w2c_i1 = 26u;
+    w2c_i0 = w2c_i0 < w2c_i1;
+    if (w2c_i0) {goto w2c_B38;}
+    w2c_B40:;
+    w2c_i0 = w2c_l31;
+    w2c_i1 = 4294967252u;
+    w2c_i0 += w2c_i1;
+    w2c_i1 = 2u;
+    w2c_i0 = w2c_i0 > w2c_i1;
+    if (w2c_i0) {goto w2c_B38;}
+    w2c_B39:;
+    w2c_j0 = w2c_l10;
+    w2c_j1 = w2c_p0;
+    w2c_i0 = w2c_f25(m, w2c_j0, w2c_j1);
+    w2c_B38:;
+    w2c_i0 = 1u;
+    w2c_p4 = w2c_i0;
+    w2c_i0 = w2c_l31;
+    w2c_i1 = 22809u;
+    w2c_i0 = (u32)((s32)w2c_i0 > (s32)w2c_i1);
+    if (w2c_i0) {goto w2c_B53;}
+    w2c_i0 = w2c_l31;
+    w2c_i1 = 20313u;
+    w2c_i0 = w2c_i0 == w2c_i1;
+    if (w2c_i0) {goto w2c_B36;}
+    w2c_i0 = w2c_l31;
+    w2c_i1 = 20358u;
+    w2c_i0 = w2c_i0 == w2c_i1;
+    if (w2c_i0) {goto w2c_B36;}
+    w2c_i0 = w2c_l31;
+    w2c_i1 = 20960u;
+    w2c_i0 = w2c_i0 != w2c_i1;
+    if (w2c_i0) {goto w2c_B37;}
+    goto w2c_B36;
+    w2c_B53:;
+    w2c_i0 = w2c_l31;
+    w2c_i1 = 26468u;
+    w2c_i0 = (u32)((s32)w2c_i0 > (s32)w2c_i1);
+    if (w2c_i0) {goto w2c_B54;}
+    w2c_i0 = w2c_l31;
+    w2c_i1 = 22810u;
+    w2c_i0 = w2c_i0 == w2c_i1;
+    if (w2c_i0) {goto w2c_B36;}
+    w2c_i0 = w2c_l31;
+    w2c_i1 = 24190u;
+    w2c_i0 = w2c_i0 != w2c_i1;
+    if (w2c_i0) {goto w2c_B37;}
+    goto w2c_B36;
+    w2c_B54:;
+    w2c_i0 = w2c_l31;
+    w2c_i1 = 26469u;
+    w2c_i0 = w2c_i0 == w2c_i1;
+    if (w2c_i0) {goto w2c_B36;}
+    w2c_i0 = w2c_l31;
+    w2c_i1 = 39192u;
+    w2c_i0 = w2c_i0 == w2c_i1;
+    if (w2c_i0) {goto w2c_B36;}
+    w2c_B37:;
+    w2c_i0 = 0u;
+    w2c_p4 = w2c_i0;
+    w2c_B36:;
+    w2c_j0 = w2c_l21;
+    w2c_i0 = !(w2c_j0);
+    w2c_i1 = w2c_p3;
+    w2c_i0 |= w2c_i1;
+    if (w2c_i0) {goto w2c_B56;}
+    w2c_j0 = w2c_l22;
     w2c_i0 = (u32)(w2c_j0);
     w2c_i0 = i32_load8_s(m, (u64)(w2c_i0));
-    w2c_l30 = w2c_i0;
+    w2c_p3 = w2c_i0;
     w2c_i1 = 255u;
     w2c_i0 &= w2c_i1;
-    w2c_p4 = w2c_i0;
-    w2c_i0 = w2c_l30;
+    w2c_l31 = w2c_i0;
+    w2c_i0 = w2c_p3;
     w2c_i1 = 4294967295u;
     w2c_i0 = (u32)((s32)w2c_i0 > (s32)w2c_i1);
-    if (w2c_i0) {goto w2c_B56;}
-    w2c_j0 = w2c_l10;
+    if (w2c_i0) {goto w2c_B57;}
+    w2c_j0 = w2c_l22;
     w2c_i0 = (u32)(w2c_j0);
     w2c_i0 = i32_load8_u(m, (u64)(w2c_i0) + 1u);
     w2c_i1 = 63u;
     w2c_i0 &= w2c_i1;
-    w2c_p5 = w2c_i0;
-    w2c_i0 = w2c_l30;
+    w2c_l30 = w2c_i0;
+    w2c_i0 = w2c_p3;
     w2c_i1 = 4294967263u;
     w2c_i0 = w2c_i0 > w2c_i1;
-    if (w2c_i0) {goto w2c_B57;}
-    w2c_i0 = w2c_p4;
+    if (w2c_i0) {goto w2c_B58;}
+    w2c_i0 = w2c_l31;
     w2c_i1 = 6u;
     w2c_i0 <<= (w2c_i1 & 31);
     w2c_i1 = 1984u;
     w2c_i0 &= w2c_i1;
-    w2c_i1 = w2c_p5;
+    w2c_i1 = w2c_l30;
     w2c_i0 |= w2c_i1;
-    w2c_p4 = w2c_i0;
-    goto w2c_B56;
-    w2c_B57:;
-    w2c_j0 = w2c_l10;
+    w2c_l31 = w2c_i0;
+    goto w2c_B57;
+    w2c_B58:;
+    w2c_j0 = w2c_l22;
     w2c_i0 = (u32)(w2c_j0);
     w2c_i0 = i32_load8_u(m, (u64)(w2c_i0) + 2u);
     w2c_i1 = 63u;
     w2c_i0 &= w2c_i1;
-    w2c_l32 = w2c_i0;
-    w2c_i0 = w2c_l30;
+    w2c_p5 = w2c_i0;
+    w2c_i0 = w2c_p3;
     w2c_i1 = 4294967279u;
     w2c_i0 = w2c_i0 > w2c_i1;
-    if (w2c_i0) {goto w2c_B58;}
-    w2c_i0 = w2c_p5;
+    if (w2c_i0) {goto w2c_B59;}
+    w2c_i0 = w2c_l30;
     w2c_i1 = 6u;
     w2c_i0 <<= (w2c_i1 & 31);
-    w2c_i1 = w2c_p4;
+    w2c_i1 = w2c_l31;
     w2c_i2 = 12u;
     w2c_i1 <<= (w2c_i2 & 31);
     w2c_i2 = 61440u;
     w2c_i1 &= w2c_i2;
     w2c_i0 |= w2c_i1;
-    w2c_i1 = w2c_l32;
+    w2c_i1 = w2c_p5;
     w2c_i0 |= w2c_i1;
-    w2c_p4 = w2c_i0;
-    goto w2c_B56;
-    w2c_B58:;
-    w2c_i0 = w2c_l32;
+    w2c_l31 = w2c_i0;
+    goto w2c_B57;
+    w2c_B59:;
+    w2c_i0 = w2c_p5;
     w2c_i1 = 6u;
     w2c_i0 <<= (w2c_i1 & 31);
-    w2c_i1 = w2c_p5;
+    w2c_i1 = w2c_l30;
     w2c_i2 = 12u;
     w2c_i1 <<= (w2c_i2 & 31);
-    w2c_i2 = w2c_p4;
+    w2c_i2 = w2c_l31;
     w2c_i3 = 18u;
     w2c_i2 <<= (w2c_i3 & 31);
     w2c_i3 = 1835008u;
     w2c_i2 &= w2c_i3;
     w2c_i1 |= w2c_i2;
     w2c_i0 |= w2c_i1;
-    w2c_j1 = w2c_l10;
+    w2c_j1 = w2c_l22;
     w2c_i1 = (u32)(w2c_j1);
     w2c_i1 = i32_load8_u(m, (u64)(w2c_i1) + 3u);
     w2c_i2 = 63u;
     w2c_i1 &= w2c_i2;
     w2c_i0 |= w2c_i1;
-    w2c_p4 = w2c_i0;
+    w2c_l31 = w2c_i0;
+    w2c_B57:;
+    w2c_j0 = w2c_l9;
+    w2c_j1 = 24ull;
+    w2c_j0 += w2c_j1;
+    w2c_i1 = w2c_l31;
+    w2c_f19(m, w2c_j0, w2c_i1);
+    w2c_i0 = w2c_p4;
+    w2c_j1 = w2c_l9;
+    w2c_i1 = (u32)(w2c_j1);
+    w2c_i1 = i32_load8_u(m, (u64)(w2c_i1) + 24u);
+    w2c_i2 = 255u;
+    w2c_i1 &= w2c_i2;
+    w2c_i2 = 1u;
+    w2c_i1 = w2c_i1 == w2c_i2;
+    w2c_i0 |= w2c_i1;
+    if (w2c_i0) {goto w2c_B18;}
+    goto w2c_B55;
     w2c_B56:;
     w2c_i0 = w2c_p4;
-    w2c_i0 = w2c_f24(m, w2c_i0);
-    w2c_B48:;
-    w2c_i0 = 1u;
-    w2c_p4 = w2c_i0;
-    w2c_i0 = w2c_l31;
-    w2c_i1 = 22809u;
-    w2c_i0 = (u32)((s32)w2c_i0 > (s32)w2c_i1);
-    if (w2c_i0) {goto w2c_B59;}
-    w2c_i0 = w2c_l31;
-    w2c_i1 = 20313u;
-    w2c_i0 = w2c_i0 == w2c_i1;
-    if (w2c_i0) {goto w2c_B43;}
-    w2c_i0 = w2c_l31;
-    w2c_i1 = 20358u;
-    w2c_i0 = w2c_i0 == w2c_i1;
-    if (w2c_i0) {goto w2c_B43;}
-    w2c_i0 = w2c_l31;
-    w2c_i1 = 20960u;
-    w2c_i0 = w2c_i0 != w2c_i1;
-    if (w2c_i0) {goto w2c_B47;}
-    goto w2c_B43;
-    w2c_B59:;
-    w2c_i0 = w2c_l31;
-    w2c_i1 = 26468u;
-    w2c_i0 = (u32)((s32)w2c_i0 > (s32)w2c_i1);
-    if (w2c_i0) {goto w2c_B60;}
-    w2c_i0 = w2c_l31;
-    w2c_i1 = 22810u;
-    w2c_i0 = w2c_i0 == w2c_i1;
-    if (w2c_i0) {goto w2c_B43;}
-    w2c_i0 = w2c_l31;
-    w2c_i1 = 24190u;
-    w2c_i0 = w2c_i0 != w2c_i1;
-    if (w2c_i0) {goto w2c_B47;}
-    goto w2c_B43;
-    w2c_B60:;
-    w2c_i0 = w2c_l31;
-    w2c_i1 = 26469u;
-    w2c_i0 = w2c_i0 == w2c_i1;
-    if (w2c_i0) {goto w2c_B43;}
-    w2c_i0 = w2c_l31;
-    w2c_i1 = 39192u;
-    w2c_i0 = w2c_i0 == w2c_i1;
-    if (w2c_i0) {goto w2c_B43;}
-    w2c_B47:;
-    w2c_i0 = 0u;
-    w2c_p4 = w2c_i0;
-    w2c_B43:;
-    w2c_i0 = w2c_p3;
-    w2c_j1 = w2c_l22;
-    w2c_j2 = w2c_l21;
-    w2c_i3 = w2c_p4;
-    w2c_i0 = w2c_f25(m, w2c_i0, w2c_j1, w2c_j2, w2c_i3);
     if (w2c_i0) {goto w2c_B18;}
-    w2c_B23:;
+    w2c_B55:;
+    w2c_j0 = w2c_l22;
+    w2c_j1 = w2c_l21;
+    w2c_i0 = w2c_f26(m, w2c_j0, w2c_j1);
+    if (w2c_i0) {goto w2c_B18;}
+    w2c_B20:;
+    w2c_j0 = w2c_l9;
+    w2c_i0 = (u32)(w2c_j0);
+    w2c_j1 = 0ull;
+    i64_store(m, (u64)(w2c_i0) + 344, w2c_j1);
+    w2c_j0 = w2c_l9;
+    w2c_i0 = (u32)(w2c_j0);
+    w2c_j1 = 0ull;
+    i64_store(m, (u64)(w2c_i0) + 336, w2c_j1);
     w2c_j0 = w2c_l9;
     w2c_i0 = (u32)(w2c_j0);
     w2c_j1 = 0ull;
@@ -46480,62 +47887,54 @@ static u32 w2c_f79(module *m, u64 w2c_p0, u64 w2c_p1, u32 w2c_p2, u32 w2c_p3, u3
     w2c_j1 = 0ull;
     i64_store(m, (u64)(w2c_i0) + 288, w2c_j1);
     w2c_j0 = w2c_l9;
-    w2c_i0 = (u32)(w2c_j0);
-    w2c_j1 = 0ull;
-    i64_store(m, (u64)(w2c_i0) + 280, w2c_j1);
-    w2c_j0 = w2c_l9;
-    w2c_i0 = (u32)(w2c_j0);
-    w2c_j1 = 0ull;
-    i64_store(m, (u64)(w2c_i0) + 272, w2c_j1);
-    w2c_j0 = w2c_l9;
-    w2c_j1 = 272ull;
+    w2c_j1 = 288ull;
     w2c_j0 += w2c_j1;
     w2c_j1 = w2c_l22;
     w2c_j2 = w2c_l21;
     w2c_i3 = w2c_l33;
-    w2c_f31(m, w2c_j0, w2c_j1, w2c_j2, w2c_i3);
+    w2c_f32(m, w2c_j0, w2c_j1, w2c_j2, w2c_i3);
     w2c_j0 = w2c_l9;
     w2c_i0 = (u32)(w2c_j0);
     w2c_j1 = w2c_l17;
     w2c_i1 = (u32)(w2c_j1);
     w2c_j1 = i64_load(m, (u64)(w2c_i1));
-    i64_store(m, (u64)(w2c_i0) + 144, w2c_j1);
-    w2c_j0 = w2c_l9;
-    w2c_i0 = (u32)(w2c_j0);
-    w2c_j1 = w2c_l17;
-    w2c_i1 = (u32)(w2c_j1);
-    w2c_j1 = i64_load(m, (u64)(w2c_i1) + 8u);
-    i64_store(m, (u64)(w2c_i0) + 152, w2c_j1);
-    w2c_j0 = w2c_l9;
-    w2c_i0 = (u32)(w2c_j0);
-    w2c_j1 = w2c_l17;
-    w2c_i1 = (u32)(w2c_j1);
-    w2c_j1 = i64_load(m, (u64)(w2c_i1) + 16u);
     i64_store(m, (u64)(w2c_i0) + 160, w2c_j1);
     w2c_j0 = w2c_l9;
     w2c_i0 = (u32)(w2c_j0);
     w2c_j1 = w2c_l17;
     w2c_i1 = (u32)(w2c_j1);
-    w2c_j1 = i64_load(m, (u64)(w2c_i1) + 24u);
+    w2c_j1 = i64_load(m, (u64)(w2c_i1) + 8u);
     i64_store(m, (u64)(w2c_i0) + 168, w2c_j1);
     w2c_j0 = w2c_l9;
     w2c_i0 = (u32)(w2c_j0);
     w2c_j1 = w2c_l17;
     w2c_i1 = (u32)(w2c_j1);
-    w2c_j1 = i64_load(m, (u64)(w2c_i1) + 32u);
+    w2c_j1 = i64_load(m, (u64)(w2c_i1) + 16u);
     i64_store(m, (u64)(w2c_i0) + 176, w2c_j1);
     w2c_j0 = w2c_l9;
     w2c_i0 = (u32)(w2c_j0);
     w2c_j1 = w2c_l17;
     w2c_i1 = (u32)(w2c_j1);
-    w2c_j1 = i64_load(m, (u64)(w2c_i1) + 40u);
+    w2c_j1 = i64_load(m, (u64)(w2c_i1) + 24u);
     i64_store(m, (u64)(w2c_i0) + 184, w2c_j1);
     w2c_j0 = w2c_l9;
     w2c_i0 = (u32)(w2c_j0);
-    w2c_i0 = i32_load8_u(m, (u64)(w2c_i0) + 272u);
+    w2c_j1 = w2c_l17;
+    w2c_i1 = (u32)(w2c_j1);
+    w2c_j1 = i64_load(m, (u64)(w2c_i1) + 32u);
+    i64_store(m, (u64)(w2c_i0) + 192, w2c_j1);
+    w2c_j0 = w2c_l9;
+    w2c_i0 = (u32)(w2c_j0);
+    w2c_j1 = w2c_l17;
+    w2c_i1 = (u32)(w2c_j1);
+    w2c_j1 = i64_load(m, (u64)(w2c_i1) + 40u);
+    i64_store(m, (u64)(w2c_i0) + 200, w2c_j1);
+    w2c_j0 = w2c_l9;
+    w2c_i0 = (u32)(w2c_j0);
+    w2c_i0 = i32_load8_u(m, (u64)(w2c_i0) + 288u);
     if (w2c_i0) {goto w2c_B18;}
     w2c_j0 = w2c_l9;
-    w2c_j1 = 192ull;
+    w2c_j1 = 208ull;
     w2c_j0 += w2c_j1;
     w2c_i0 = (u32)(w2c_j0);
     w2c_i1 = 0u;
@@ -46543,17 +47942,19 @@ static u32 w2c_f79(module *m, u64 w2c_p0, u64 w2c_p1, u32 w2c_p2, u32 w2c_p3, u3
     w2c_i2 = (u32)(w2c_j2);
     memory_fill(m, w2c_i0, w2c_i1, w2c_i2);
     w2c_j0 = w2c_l9;
+    w2c_j1 = 8ull;
+    w2c_j0 += w2c_j1;
     w2c_j1 = w2c_l9;
-    w2c_j2 = 192ull;
+    w2c_j2 = 208ull;
     w2c_j1 += w2c_j2;
     w2c_j2 = w2c_l9;
-    w2c_j3 = 144ull;
+    w2c_j3 = 160ull;
     w2c_j2 += w2c_j3;
     w2c_f11(m, w2c_j0, w2c_j1, w2c_j2);
     w2c_j0 = 18446744073709551615ull;
     w2c_j1 = w2c_l9;
     w2c_i1 = (u32)(w2c_j1);
-    w2c_j1 = i64_load(m, (u64)(w2c_i1) + 8u);
+    w2c_j1 = i64_load(m, (u64)(w2c_i1) + 16u);
     w2c_l10 = w2c_j1;
     w2c_j2 = w2c_l26;
     w2c_j1 += w2c_j2;
@@ -46572,12 +47973,12 @@ static u32 w2c_f79(module *m, u64 w2c_p0, u64 w2c_p1, u32 w2c_p2, u32 w2c_p3, u3
     w2c_l27 = w2c_j0;
     w2c_j1 = w2c_l9;
     w2c_i1 = (u32)(w2c_j1);
-    w2c_j1 = i64_load(m, (u64)(w2c_i1));
+    w2c_j1 = i64_load(m, (u64)(w2c_i1) + 8u);
     w2c_l22 = w2c_j1;
     w2c_j0 -= w2c_j1;
     w2c_j1 = w2c_l10;
     w2c_i0 = w2c_j0 >= w2c_j1;
-    if (w2c_i0) {goto w2c_B61;}
+    if (w2c_i0) {goto w2c_B60;}
     w2c_j0 = w2c_l10;
     w2c_j1 = 3ull;
     w2c_j0 &= w2c_j1;
@@ -46587,14 +47988,14 @@ static u32 w2c_f79(module *m, u64 w2c_p0, u64 w2c_p1, u32 w2c_p2, u32 w2c_p3, u3
     w2c_j0 = w2c_l10;
     w2c_j1 = 4ull;
     w2c_i0 = w2c_j0 < w2c_j1;
-    if (w2c_i0) {goto w2c_B62;}
+    if (w2c_i0) {goto w2c_B61;}
     w2c_j0 = w2c_l10;
     w2c_j1 = 18446744073709551612ull;
     w2c_j0 &= w2c_j1;
     w2c_l28 = w2c_j0;
     w2c_j0 = 0ull;
     w2c_p0 = w2c_j0;
-    w2c_L63:
+    w2c_L62:
       w2c_j0 = w2c_l27;
       w2c_j1 = w2c_p0;
       w2c_j0 += w2c_j1;
@@ -46643,11 +48044,11 @@ static u32 w2c_f79(module *m, u64 w2c_p0, u64 w2c_p1, u32 w2c_p2, u32 w2c_p3, u3
       w2c_j1 += w2c_j2;
       w2c_p0 = w2c_j1;
       w2c_i0 = w2c_j0 != w2c_j1;
-      if (w2c_i0) {goto w2c_L63;}
+      if (w2c_i0) {goto w2c_L62;}
     w2c_j0 = w2c_l29;
     w2c_i0 = !(w2c_j0);
     if (w2c_i0) {goto w2c_B17;}
-    w2c_B62:;
+    w2c_B61:;
     w2c_j0 = w2c_l14;
     w2c_j1 = w2c_l25;
     w2c_j2 = w2c_p0;
@@ -46668,7 +48069,7 @@ static u32 w2c_f79(module *m, u64 w2c_p0, u64 w2c_p1, u32 w2c_p2, u32 w2c_p3, u3
     w2c_j1 = w2c_p0;
     w2c_j0 += w2c_j1;
     w2c_p0 = w2c_j0;
-    w2c_L64:
+    w2c_L63:
       w2c_j0 = w2c_l10;
       w2c_i0 = (u32)(w2c_j0);
       w2c_j1 = w2c_p0;
@@ -46689,10 +48090,10 @@ static u32 w2c_f79(module *m, u64 w2c_p0, u64 w2c_p1, u32 w2c_p2, u32 w2c_p3, u3
       w2c_l29 = w2c_j0;
       w2c_j1 = 0ull;
       w2c_i0 = w2c_j0 != w2c_j1;
-      if (w2c_i0) {goto w2c_L64;}
+      if (w2c_i0) {goto w2c_L63;}
       goto w2c_B17;
     UNREACHABLE;
-    w2c_B61:;
+    w2c_B60:;
     w2c_j0 = w2c_l10;
     w2c_i0 = !(w2c_j0);
     if (w2c_i0) {goto w2c_B17;}
@@ -46726,7 +48127,7 @@ static u32 w2c_f79(module *m, u64 w2c_p0, u64 w2c_p1, u32 w2c_p2, u32 w2c_p3, u3
     w2c_j0 -= w2c_j1;
     w2c_j1 = w2c_l21;
     w2c_i0 = w2c_j0 >= w2c_j1;
-    if (w2c_i0) {goto w2c_B65;}
+    if (w2c_i0) {goto w2c_B64;}
     w2c_j0 = w2c_l21;
     w2c_j1 = 3ull;
     w2c_j0 &= w2c_j1;
@@ -46736,14 +48137,14 @@ static u32 w2c_f79(module *m, u64 w2c_p0, u64 w2c_p1, u32 w2c_p2, u32 w2c_p3, u3
     w2c_j0 = w2c_l21;
     w2c_j1 = 4ull;
     w2c_i0 = w2c_j0 < w2c_j1;
-    if (w2c_i0) {goto w2c_B66;}
+    if (w2c_i0) {goto w2c_B65;}
     w2c_j0 = w2c_l21;
     w2c_j1 = 18446744073709551612ull;
     w2c_j0 &= w2c_j1;
     w2c_l28 = w2c_j0;
     w2c_j0 = 0ull;
     w2c_p0 = w2c_j0;
-    w2c_L67:
+    w2c_L66:
       w2c_j0 = w2c_l27;
       w2c_j1 = w2c_p0;
       w2c_j0 += w2c_j1;
@@ -46792,11 +48193,11 @@ static u32 w2c_f79(module *m, u64 w2c_p0, u64 w2c_p1, u32 w2c_p2, u32 w2c_p3, u3
       w2c_j1 += w2c_j2;
       w2c_p0 = w2c_j1;
       w2c_i0 = w2c_j0 != w2c_j1;
-      if (w2c_i0) {goto w2c_L67;}
+      if (w2c_i0) {goto w2c_L66;}
     w2c_j0 = w2c_l29;
     w2c_i0 = !(w2c_j0);
     if (w2c_i0) {goto w2c_B17;}
-    w2c_B66:;
+    w2c_B65:;
     w2c_j0 = w2c_l14;
     w2c_j1 = w2c_l25;
     w2c_j2 = w2c_p0;
@@ -46817,7 +48218,7 @@ static u32 w2c_f79(module *m, u64 w2c_p0, u64 w2c_p1, u32 w2c_p2, u32 w2c_p3, u3
     w2c_j1 = w2c_p0;
     w2c_j0 += w2c_j1;
     w2c_p0 = w2c_j0;
-    w2c_L68:
+    w2c_L67:
       w2c_j0 = w2c_l10;
       w2c_i0 = (u32)(w2c_j0);
       w2c_j1 = w2c_p0;
@@ -46838,10 +48239,10 @@ static u32 w2c_f79(module *m, u64 w2c_p0, u64 w2c_p1, u32 w2c_p2, u32 w2c_p3, u3
       w2c_l29 = w2c_j0;
       w2c_j1 = 0ull;
       w2c_i0 = w2c_j0 != w2c_j1;
-      if (w2c_i0) {goto w2c_L68;}
+      if (w2c_i0) {goto w2c_L67;}
       goto w2c_B17;
     UNREACHABLE;
-    w2c_B65:;
+    w2c_B64:;
     w2c_j0 = w2c_l21;
     w2c_i0 = !(w2c_j0);
     if (w2c_i0) {goto w2c_B17;}
@@ -46858,15 +48259,15 @@ static u32 w2c_f79(module *m, u64 w2c_p0, u64 w2c_p1, u32 w2c_p2, u32 w2c_p3, u3
     w2c_j0 += w2c_j1;
     w2c_l16 = w2c_j0;
     w2c_j0 = w2c_l9;
-    w2c_j1 = 48ull;
+    w2c_j1 = 64ull;
     w2c_j0 += w2c_j1;
     w2c_j1 = w2c_l9;
-    w2c_j2 = 104ull;
+    w2c_j2 = 120ull;
     w2c_j1 += w2c_j2;
-    w2c_f17(m, w2c_j0, w2c_j1);
+    w2c_f21(m, w2c_j0, w2c_j1);
     w2c_j0 = w2c_l9;
     w2c_i0 = (u32)(w2c_j0);
-    w2c_i0 = i32_load8_u(m, (u64)(w2c_i0) + 48u);
+    w2c_i0 = i32_load8_u(m, (u64)(w2c_i0) + 64u);
     w2c_i1 = 1u;
     w2c_i0 = w2c_i0 == w2c_i1;
     if (w2c_i0) {goto w2c_L11;}
@@ -46886,23 +48287,23 @@ static u32 w2c_f79(module *m, u64 w2c_p0, u64 w2c_p1, u32 w2c_p2, u32 w2c_p3, u3
   w2c_l28 = w2c_j0;
   w2c_j1 = w2c_p7;
   w2c_i0 = w2c_j0 <= w2c_j1;
-  if (w2c_i0) {goto w2c_B70;}
+  if (w2c_i0) {goto w2c_B69;}
   w2c_i0 = 6u;
   w2c_l31 = w2c_i0;
-  goto w2c_B69;
-  w2c_B70:;
+  goto w2c_B68;
+  w2c_B69:;
   w2c_j0 = w2c_l14;
   w2c_j1 = w2c_l15;
   w2c_j0 += w2c_j1;
-  w2c_l21 = w2c_j0;
+  w2c_l22 = w2c_j0;
   w2c_j1 = w2c_l12;
   w2c_j2 = w2c_l16;
   w2c_j1 += w2c_j2;
-  w2c_l22 = w2c_j1;
+  w2c_l21 = w2c_j1;
   w2c_j0 -= w2c_j1;
   w2c_j1 = w2c_l10;
   w2c_i0 = w2c_j0 >= w2c_j1;
-  if (w2c_i0) {goto w2c_B72;}
+  if (w2c_i0) {goto w2c_B71;}
   w2c_j0 = w2c_l10;
   w2c_j1 = 3ull;
   w2c_j0 &= w2c_j1;
@@ -46914,20 +48315,20 @@ static u32 w2c_f79(module *m, u64 w2c_p0, u64 w2c_p1, u32 w2c_p2, u32 w2c_p3, u3
   w2c_j0 -= w2c_j1;
   w2c_j1 = 18446744073709551612ull;
   w2c_i0 = w2c_j0 > w2c_j1;
-  if (w2c_i0) {goto w2c_B73;}
+  if (w2c_i0) {goto w2c_B72;}
   w2c_j0 = w2c_l10;
   w2c_j1 = 18446744073709551612ull;
   w2c_j0 &= w2c_j1;
   w2c_l27 = w2c_j0;
   w2c_j0 = 0ull;
   w2c_p0 = w2c_j0;
-  w2c_L74:
-    w2c_j0 = w2c_l21;
+  w2c_L73:
+    w2c_j0 = w2c_l22;
     w2c_j1 = w2c_p0;
     w2c_j0 += w2c_j1;
     w2c_l10 = w2c_j0;
     w2c_i0 = (u32)(w2c_j0);
-    w2c_j1 = w2c_l22;
+    w2c_j1 = w2c_l21;
     w2c_j2 = w2c_p0;
     w2c_j1 += w2c_j2;
     w2c_l11 = w2c_j1;
@@ -46970,11 +48371,11 @@ static u32 w2c_f79(module *m, u64 w2c_p0, u64 w2c_p1, u32 w2c_p2, u32 w2c_p3, u3
     w2c_j1 += w2c_j2;
     w2c_p0 = w2c_j1;
     w2c_i0 = w2c_j0 != w2c_j1;
-    if (w2c_i0) {goto w2c_L74;}
+    if (w2c_i0) {goto w2c_L73;}
   w2c_j0 = w2c_l29;
   w2c_i0 = !(w2c_j0);
-  if (w2c_i0) {goto w2c_B71;}
-  w2c_B73:;
+  if (w2c_i0) {goto w2c_B70;}
+  w2c_B72:;
   w2c_j0 = w2c_l12;
   w2c_j1 = w2c_l16;
   w2c_j2 = w2c_p0;
@@ -46989,7 +48390,7 @@ static u32 w2c_f79(module *m, u64 w2c_p0, u64 w2c_p1, u32 w2c_p2, u32 w2c_p3, u3
   w2c_j1 += w2c_j2;
   w2c_j0 += w2c_j1;
   w2c_p0 = w2c_j0;
-  w2c_L75:
+  w2c_L74:
     w2c_j0 = w2c_p0;
     w2c_i0 = (u32)(w2c_j0);
     w2c_j1 = w2c_l10;
@@ -47010,31 +48411,31 @@ static u32 w2c_f79(module *m, u64 w2c_p0, u64 w2c_p1, u32 w2c_p2, u32 w2c_p3, u3
     w2c_l29 = w2c_j0;
     w2c_j1 = 0ull;
     w2c_i0 = w2c_j0 != w2c_j1;
-    if (w2c_i0) {goto w2c_L75;}
-    goto w2c_B71;
+    if (w2c_i0) {goto w2c_L74;}
+    goto w2c_B70;
   UNREACHABLE;
-  w2c_B72:;
+  w2c_B71:;
   w2c_j0 = w2c_l10;
   w2c_i0 = !(w2c_j0);
-  if (w2c_i0) {goto w2c_B71;}
-  w2c_j0 = w2c_l21;
+  if (w2c_i0) {goto w2c_B70;}
+  w2c_j0 = w2c_l22;
   w2c_i0 = (u32)(w2c_j0);
-  w2c_j1 = w2c_l22;
+  w2c_j1 = w2c_l21;
   w2c_i1 = (u32)(w2c_j1);
   w2c_j2 = w2c_l10;
   w2c_i2 = (u32)(w2c_j2);
   memory_copy(m, w2c_i0, w2c_i1, w2c_i2);
-  w2c_B71:;
+  w2c_B70:;
   w2c_i0 = 0u;
   w2c_l31 = w2c_i0;
-  w2c_B69:;
+  w2c_B68:;
   w2c_j0 = w2c_p8;
   w2c_i0 = (u32)(w2c_j0);
   w2c_j1 = w2c_l28;
   i64_store(m, (u64)(w2c_i0), w2c_j1);
   w2c_B1:;
   w2c_j0 = w2c_l9;
-  w2c_j1 = 336ull;
+  w2c_j1 = 352ull;
   w2c_j0 += w2c_j1;
   m->w2c_g0 = w2c_j0;
   w2c_i0 = w2c_l31;
@@ -47061,14 +48462,14 @@ static u32 w2c_chinese_quantity_print(module *m, u64 w2c_p0, u32 w2c_p1, u32 w2c
   w2c_j4 = w2c_p4;
   w2c_j5 = w2c_p5;
   w2c_j6 = w2c_p6;
-  w2c_i0 = w2c_f81(m, w2c_j0, w2c_i1, w2c_i2, w2c_i3, w2c_j4, w2c_j5, w2c_j6);
+  w2c_i0 = w2c_f82(m, w2c_j0, w2c_i1, w2c_i2, w2c_i3, w2c_j4, w2c_j5, w2c_j6);
   w2c_p3 = w2c_i0;
   w2c_f1(m);
   w2c_i0 = w2c_p3;
   return w2c_i0;
 }
 
-static u32 w2c_f81(module *m, u64 w2c_p0, u32 w2c_p1, u32 w2c_p2, u32 w2c_p3, u64 w2c_p4, u64 w2c_p5, u64 w2c_p6) {
+static u32 w2c_f82(module *m, u64 w2c_p0, u32 w2c_p1, u32 w2c_p2, u32 w2c_p3, u64 w2c_p4, u64 w2c_p5, u64 w2c_p6) {
   u32 w2c_l27 = 0, w2c_l28 = 0, w2c_l29 = 0, w2c_l30 = 0, w2c_l31 = 0;
   u64 w2c_l7 = 0, w2c_l8 = 0, w2c_l9 = 0, w2c_l10 = 0, w2c_l11 = 0, w2c_l12 = 0, w2c_l13 = 0, w2c_l14 = 0, w2c_l15 = 0, w2c_l16 = 0, w2c_l17 = 0, w2c_l18 = 0, w2c_l19 = 0, w2c_l20 = 0, w2c_l21 = 0, w2c_l22 = 0, w2c_l23 = 0, w2c_l24 = 0, w2c_l25 = 0, w2c_l26 = 0;
   u32 w2c_i0, w2c_i1, w2c_i2, w2c_i3, w2c_i4, w2c_i5, w2c_i6;
@@ -48239,7 +49640,7 @@ static u32 w2c_f81(module *m, u64 w2c_p0, u32 w2c_p1, u32 w2c_p2, u32 w2c_p3, u6
   w2c_i4 = 0u;
   w2c_j5 = w2c_l14;
   w2c_j6 = w2c_l15;
-  w2c_j1 = w2c_f30(m, w2c_j1, w2c_j2, w2c_i3, w2c_i4, w2c_j5, w2c_j6);
+  w2c_j1 = w2c_f31(m, w2c_j1, w2c_j2, w2c_i3, w2c_i4, w2c_j5, w2c_j6);
   w2c_p0 = w2c_j1;
   w2c_j0 -= w2c_j1;
   w2c_l11 = w2c_j0;
@@ -48352,7 +49753,7 @@ static u32 w2c_f81(module *m, u64 w2c_p0, u32 w2c_p1, u32 w2c_p2, u32 w2c_p3, u6
   w2c_i3 = 0u;
   w2c_j4 = w2c_l7;
   w2c_j5 = w2c_l10;
-  w2c_j0 = w2c_f30(m, w2c_j0, w2c_j1, w2c_i2, w2c_i3, w2c_j4, w2c_j5);
+  w2c_j0 = w2c_f31(m, w2c_j0, w2c_j1, w2c_i2, w2c_i3, w2c_j4, w2c_j5);
   w2c_l10 = w2c_j0;
   w2c_j0 = w2c_l12;
   w2c_i0 = (u32)(w2c_j0);
@@ -48498,7 +49899,7 @@ static u32 w2c_f81(module *m, u64 w2c_p0, u32 w2c_p1, u32 w2c_p2, u32 w2c_p3, u6
   w2c_j3 = w2c_l11;
   w2c_j2 -= w2c_j3;
   w2c_l22 = w2c_j2;
-  w2c_f32(m, w2c_j0, w2c_j1, w2c_j2);
+  w2c_f33(m, w2c_j0, w2c_j1, w2c_j2);
   w2c_j0 = w2c_l8;
   w2c_i0 = (u32)(w2c_j0);
   w2c_i0 = i32_load8_u(m, (u64)(w2c_i0) + 984u);
@@ -48558,7 +49959,7 @@ static u32 w2c_f81(module *m, u64 w2c_p0, u32 w2c_p1, u32 w2c_p2, u32 w2c_p3, u6
     w2c_j0 += w2c_j1;
     w2c_j1 = w2c_l10;
     w2c_j2 = w2c_l11;
-    w2c_f32(m, w2c_j0, w2c_j1, w2c_j2);
+    w2c_f33(m, w2c_j0, w2c_j1, w2c_j2);
     w2c_j0 = w2c_l8;
     w2c_i0 = (u32)(w2c_j0);
     w2c_i0 = i32_load8_u(m, (u64)(w2c_i0) + 984u);
@@ -48728,7 +50129,7 @@ static u32 w2c_f81(module *m, u64 w2c_p0, u32 w2c_p1, u32 w2c_p2, u32 w2c_p3, u6
   w2c_i6 = 0u;
   w2c_j7 = w2c_p0;
   w2c_j8 = w2c_l7;
-  w2c_j3 = w2c_f30(m, w2c_j3, w2c_j4, w2c_i5, w2c_i6, w2c_j7, w2c_j8);
+  w2c_j3 = w2c_f31(m, w2c_j3, w2c_j4, w2c_i5, w2c_i6, w2c_j7, w2c_j8);
   w2c_l12 = w2c_j3;
   w2c_j2 -= w2c_j3;
   w2c_l7 = w2c_j2;
@@ -48951,14 +50352,14 @@ static u32 w2c_chinese_quantity_read(module *m, u64 w2c_p0, u64 w2c_p1, u32 w2c_
   w2c_j1 = w2c_p1;
   w2c_i2 = w2c_p2;
   w2c_j3 = w2c_p3;
-  w2c_i0 = w2c_f83(m, w2c_j0, w2c_j1, w2c_i2, w2c_j3);
+  w2c_i0 = w2c_f84(m, w2c_j0, w2c_j1, w2c_i2, w2c_j3);
   w2c_p2 = w2c_i0;
   w2c_f1(m);
   w2c_i0 = w2c_p2;
   return w2c_i0;
 }
 
-static u32 w2c_f83(module *m, u64 w2c_p0, u64 w2c_p1, u32 w2c_p2, u64 w2c_p3) {
+static u32 w2c_f84(module *m, u64 w2c_p0, u64 w2c_p1, u32 w2c_p2, u64 w2c_p3) {
   u32 w2c_l8 = 0, w2c_l9 = 0, w2c_l10 = 0;
   u64 w2c_l4 = 0, w2c_l5 = 0, w2c_l6 = 0, w2c_l7 = 0;
   u32 w2c_i0, w2c_i1, w2c_i2, w2c_i3, w2c_i4, w2c_i5;
@@ -49197,7 +50598,7 @@ static u32 w2c_f83(module *m, u64 w2c_p0, u64 w2c_p1, u32 w2c_p2, u64 w2c_p3) {
   w2c_i4 = w2c_l10;
   w2c_i5 = w2c_l9;
   w2c_i3 = w2c_i5 ? w2c_i3 : w2c_i4;
-  w2c_f31(m, w2c_j0, w2c_j1, w2c_j2, w2c_i3);
+  w2c_f32(m, w2c_j0, w2c_j1, w2c_j2, w2c_i3);
   w2c_j0 = w2c_p3;
   w2c_i0 = (u32)(w2c_j0);
   w2c_j1 = 0ull;
@@ -49321,7 +50722,7 @@ static u32 w2c_f83(module *m, u64 w2c_p0, u64 w2c_p1, u32 w2c_p2, u64 w2c_p3) {
   w2c_j5 = w2c_p3;
   w2c_j6 = 48ull;
   w2c_j5 += w2c_j6;
-  w2c_i0 = w2c_f45(m, w2c_j0, w2c_j1, w2c_i2, w2c_j3, w2c_j4, w2c_j5);
+  w2c_i0 = w2c_f46(m, w2c_j0, w2c_j1, w2c_i2, w2c_j3, w2c_j4, w2c_j5);
   w2c_l8 = w2c_i0;
   w2c_B0:;
   w2c_j0 = w2c_l4;
@@ -49346,14 +50747,14 @@ static u32 w2c_chinese_number_read(module *m, u64 w2c_p0, u64 w2c_p1, u32 w2c_p2
   w2c_i2 = w2c_p2;
   w2c_i3 = w2c_p3;
   w2c_j4 = w2c_p4;
-  w2c_i0 = w2c_f85(m, w2c_j0, w2c_j1, w2c_i2, w2c_i3, w2c_j4);
+  w2c_i0 = w2c_f86(m, w2c_j0, w2c_j1, w2c_i2, w2c_i3, w2c_j4);
   w2c_p3 = w2c_i0;
   w2c_f1(m);
   w2c_i0 = w2c_p3;
   return w2c_i0;
 }
 
-static u32 w2c_f85(module *m, u64 w2c_p0, u64 w2c_p1, u32 w2c_p2, u32 w2c_p3, u64 w2c_p4) {
+static u32 w2c_f86(module *m, u64 w2c_p0, u64 w2c_p1, u32 w2c_p2, u32 w2c_p3, u64 w2c_p4) {
   u32 w2c_l10 = 0, w2c_l11 = 0, w2c_l12 = 0, w2c_l13 = 0;
   u64 w2c_l5 = 0, w2c_l6 = 0, w2c_l7 = 0, w2c_l8 = 0, w2c_l9 = 0;
   u32 w2c_i0, w2c_i1, w2c_i2, w2c_i3, w2c_i4;
@@ -49574,7 +50975,7 @@ static u32 w2c_f85(module *m, u64 w2c_p0, u64 w2c_p1, u32 w2c_p2, u32 w2c_p3, u6
   w2c_i1 = w2c_l11;
   w2c_j2 = w2c_l8;
   w2c_j3 = w2c_p1;
-  w2c_f46(m, w2c_j0, w2c_i1, w2c_j2, w2c_j3);
+  w2c_f47(m, w2c_j0, w2c_i1, w2c_j2, w2c_j3);
   w2c_j0 = w2c_l6;
   w2c_i0 = (u32)(w2c_j0);
   w2c_i0 = i32_load8_u(m, (u64)(w2c_i0) + 9u);
@@ -49637,7 +51038,7 @@ static u32 w2c_f85(module *m, u64 w2c_p0, u64 w2c_p1, u32 w2c_p2, u32 w2c_p3, u6
   w2c_j0 += w2c_j1;
   w2c_j1 = w2c_l8;
   w2c_j2 = w2c_p1;
-  w2c_f32(m, w2c_j0, w2c_j1, w2c_j2);
+  w2c_f33(m, w2c_j0, w2c_j1, w2c_j2);
   w2c_j0 = w2c_l6;
   w2c_i0 = (u32)(w2c_j0);
   w2c_i0 = i32_load8_u(m, (u64)(w2c_i0) + 56u);
@@ -49678,7 +51079,7 @@ static u32 w2c_f85(module *m, u64 w2c_p0, u64 w2c_p1, u32 w2c_p2, u32 w2c_p3, u6
   w2c_j1 = 0ull;
   w2c_j2 = w2c_l8;
   w2c_j3 = w2c_p1;
-  w2c_f42(m, w2c_j0, w2c_j1, w2c_j2, w2c_j3);
+  w2c_f43(m, w2c_j0, w2c_j1, w2c_j2, w2c_j3);
   goto w2c_B8;
   w2c_B22:;
   w2c_j0 = w2c_l6;
@@ -49689,7 +51090,7 @@ static u32 w2c_f85(module *m, u64 w2c_p0, u64 w2c_p1, u32 w2c_p2, u32 w2c_p3, u6
   w2c_j1 += w2c_j2;
   w2c_j2 = w2c_p0;
   w2c_j3 = w2c_l5;
-  w2c_f42(m, w2c_j0, w2c_j1, w2c_j2, w2c_j3);
+  w2c_f43(m, w2c_j0, w2c_j1, w2c_j2, w2c_j3);
   goto w2c_B8;
   w2c_B21:;
   w2c_j0 = w2c_l6;
@@ -49700,7 +51101,7 @@ static u32 w2c_f85(module *m, u64 w2c_p0, u64 w2c_p1, u32 w2c_p2, u32 w2c_p3, u6
   w2c_j1 += w2c_j2;
   w2c_j2 = w2c_p0;
   w2c_j3 = w2c_l5;
-  w2c_f42(m, w2c_j0, w2c_j1, w2c_j2, w2c_j3);
+  w2c_f43(m, w2c_j0, w2c_j1, w2c_j2, w2c_j3);
   w2c_i0 = 3u;
   w2c_l10 = w2c_i0;
   w2c_i0 = 1u;
@@ -49752,7 +51153,7 @@ static u32 w2c_f85(module *m, u64 w2c_p0, u64 w2c_p1, u32 w2c_p2, u32 w2c_p3, u6
   w2c_j0 += w2c_j1;
   w2c_j1 = w2c_l8;
   w2c_j2 = w2c_p1;
-  w2c_f32(m, w2c_j0, w2c_j1, w2c_j2);
+  w2c_f33(m, w2c_j0, w2c_j1, w2c_j2);
   w2c_j0 = w2c_l6;
   w2c_i0 = (u32)(w2c_j0);
   w2c_i0 = i32_load8_u(m, (u64)(w2c_i0) + 56u);
@@ -49794,7 +51195,7 @@ static u32 w2c_f85(module *m, u64 w2c_p0, u64 w2c_p1, u32 w2c_p2, u32 w2c_p3, u6
   w2c_j2 = 0ull;
   w2c_j3 = w2c_l8;
   w2c_j4 = w2c_p1;
-  w2c_f47(m, w2c_j0, w2c_i1, w2c_j2, w2c_j3, w2c_j4);
+  w2c_f48(m, w2c_j0, w2c_i1, w2c_j2, w2c_j3, w2c_j4);
   goto w2c_B10;
   w2c_B25:;
   w2c_j0 = w2c_l6;
@@ -49806,7 +51207,7 @@ static u32 w2c_f85(module *m, u64 w2c_p0, u64 w2c_p1, u32 w2c_p2, u32 w2c_p3, u6
   w2c_j2 += w2c_j3;
   w2c_j3 = w2c_p0;
   w2c_j4 = w2c_l5;
-  w2c_f47(m, w2c_j0, w2c_i1, w2c_j2, w2c_j3, w2c_j4);
+  w2c_f48(m, w2c_j0, w2c_i1, w2c_j2, w2c_j3, w2c_j4);
   goto w2c_B10;
   w2c_B24:;
   w2c_j0 = w2c_l6;
@@ -49818,7 +51219,7 @@ static u32 w2c_f85(module *m, u64 w2c_p0, u64 w2c_p1, u32 w2c_p2, u32 w2c_p3, u6
   w2c_j2 += w2c_j3;
   w2c_j3 = w2c_p0;
   w2c_j4 = w2c_l5;
-  w2c_f47(m, w2c_j0, w2c_i1, w2c_j2, w2c_j3, w2c_j4);
+  w2c_f48(m, w2c_j0, w2c_i1, w2c_j2, w2c_j3, w2c_j4);
   w2c_i0 = 3u;
   w2c_l10 = w2c_i0;
   w2c_i0 = 1u;
@@ -50023,7 +51424,7 @@ static u32 w2c_f85(module *m, u64 w2c_p0, u64 w2c_p1, u32 w2c_p2, u32 w2c_p3, u6
   w2c_j5 = w2c_p4;
   w2c_j6 = 24ull;
   w2c_j5 += w2c_j6;
-  w2c_i0 = w2c_f45(m, w2c_j0, w2c_j1, w2c_i2, w2c_j3, w2c_j4, w2c_j5);
+  w2c_i0 = w2c_f46(m, w2c_j0, w2c_j1, w2c_i2, w2c_j3, w2c_j4, w2c_j5);
   w2c_l10 = w2c_i0;
   w2c_B0:;
   w2c_j0 = w2c_l6;
@@ -50048,14 +51449,14 @@ static u32 w2c_chinese_number_read_utf8(module *m, u64 w2c_p0, u64 w2c_p1, u32 w
   w2c_i2 = w2c_p2;
   w2c_i3 = w2c_p3;
   w2c_j4 = w2c_p4;
-  w2c_i0 = w2c_f87(m, w2c_j0, w2c_j1, w2c_i2, w2c_i3, w2c_j4);
+  w2c_i0 = w2c_f88(m, w2c_j0, w2c_j1, w2c_i2, w2c_i3, w2c_j4);
   w2c_p3 = w2c_i0;
   w2c_f1(m);
   w2c_i0 = w2c_p3;
   return w2c_i0;
 }
 
-static u32 w2c_f87(module *m, u64 w2c_p0, u64 w2c_p1, u32 w2c_p2, u32 w2c_p3, u64 w2c_p4) {
+static u32 w2c_f88(module *m, u64 w2c_p0, u64 w2c_p1, u32 w2c_p2, u32 w2c_p3, u64 w2c_p4) {
   u32 w2c_l10 = 0, w2c_l11 = 0;
   u64 w2c_l5 = 0, w2c_l6 = 0, w2c_l7 = 0, w2c_l8 = 0, w2c_l9 = 0;
   u32 w2c_i0, w2c_i1, w2c_i2, w2c_i3, w2c_i4;
@@ -50121,7 +51522,7 @@ static u32 w2c_f87(module *m, u64 w2c_p0, u64 w2c_p1, u32 w2c_p2, u32 w2c_p3, u6
   w2c_i1 = w2c_l11;
   w2c_j2 = w2c_l6;
   w2c_j3 = w2c_p1;
-  w2c_f46(m, w2c_j0, w2c_i1, w2c_j2, w2c_j3);
+  w2c_f47(m, w2c_j0, w2c_i1, w2c_j2, w2c_j3);
   w2c_j0 = w2c_l5;
   w2c_i0 = (u32)(w2c_j0);
   w2c_i0 = i32_load8_u(m, (u64)(w2c_i0) + 9u);
@@ -50205,7 +51606,7 @@ static u32 w2c_f87(module *m, u64 w2c_p0, u64 w2c_p1, u32 w2c_p2, u32 w2c_p3, u6
   w2c_j0 += w2c_j1;
   w2c_j1 = w2c_l6;
   w2c_j2 = w2c_p1;
-  w2c_f32(m, w2c_j0, w2c_j1, w2c_j2);
+  w2c_f33(m, w2c_j0, w2c_j1, w2c_j2);
   w2c_j0 = w2c_l5;
   w2c_i0 = (u32)(w2c_j0);
   w2c_i0 = i32_load8_u(m, (u64)(w2c_i0) + 56u);
@@ -50246,7 +51647,7 @@ static u32 w2c_f87(module *m, u64 w2c_p0, u64 w2c_p1, u32 w2c_p2, u32 w2c_p3, u6
   w2c_j1 = 0ull;
   w2c_j2 = w2c_l6;
   w2c_j3 = w2c_p1;
-  w2c_f42(m, w2c_j0, w2c_j1, w2c_j2, w2c_j3);
+  w2c_f43(m, w2c_j0, w2c_j1, w2c_j2, w2c_j3);
   goto w2c_B11;
   w2c_B14:;
   w2c_j0 = w2c_l5;
@@ -50257,7 +51658,7 @@ static u32 w2c_f87(module *m, u64 w2c_p0, u64 w2c_p1, u32 w2c_p2, u32 w2c_p3, u6
   w2c_j1 += w2c_j2;
   w2c_j2 = w2c_l8;
   w2c_j3 = w2c_p0;
-  w2c_f42(m, w2c_j0, w2c_j1, w2c_j2, w2c_j3);
+  w2c_f43(m, w2c_j0, w2c_j1, w2c_j2, w2c_j3);
   goto w2c_B11;
   w2c_B13:;
   w2c_j0 = w2c_l5;
@@ -50268,7 +51669,7 @@ static u32 w2c_f87(module *m, u64 w2c_p0, u64 w2c_p1, u32 w2c_p2, u32 w2c_p3, u6
   w2c_j1 += w2c_j2;
   w2c_j2 = w2c_l8;
   w2c_j3 = w2c_p0;
-  w2c_f42(m, w2c_j0, w2c_j1, w2c_j2, w2c_j3);
+  w2c_f43(m, w2c_j0, w2c_j1, w2c_j2, w2c_j3);
   w2c_i0 = 3u;
   w2c_p2 = w2c_i0;
   w2c_i0 = 1u;
@@ -50320,7 +51721,7 @@ static u32 w2c_f87(module *m, u64 w2c_p0, u64 w2c_p1, u32 w2c_p2, u32 w2c_p3, u6
   w2c_j0 += w2c_j1;
   w2c_j1 = w2c_l6;
   w2c_j2 = w2c_p1;
-  w2c_f32(m, w2c_j0, w2c_j1, w2c_j2);
+  w2c_f33(m, w2c_j0, w2c_j1, w2c_j2);
   w2c_j0 = w2c_l5;
   w2c_i0 = (u32)(w2c_j0);
   w2c_i0 = i32_load8_u(m, (u64)(w2c_i0) + 56u);
@@ -50362,7 +51763,7 @@ static u32 w2c_f87(module *m, u64 w2c_p0, u64 w2c_p1, u32 w2c_p2, u32 w2c_p3, u6
   w2c_j2 = 0ull;
   w2c_j3 = w2c_l6;
   w2c_j4 = w2c_p1;
-  w2c_f47(m, w2c_j0, w2c_i1, w2c_j2, w2c_j3, w2c_j4);
+  w2c_f48(m, w2c_j0, w2c_i1, w2c_j2, w2c_j3, w2c_j4);
   goto w2c_B17;
   w2c_B19:;
   w2c_j0 = w2c_l5;
@@ -50374,7 +51775,7 @@ static u32 w2c_f87(module *m, u64 w2c_p0, u64 w2c_p1, u32 w2c_p2, u32 w2c_p3, u6
   w2c_j2 += w2c_j3;
   w2c_j3 = w2c_l8;
   w2c_j4 = w2c_p0;
-  w2c_f47(m, w2c_j0, w2c_i1, w2c_j2, w2c_j3, w2c_j4);
+  w2c_f48(m, w2c_j0, w2c_i1, w2c_j2, w2c_j3, w2c_j4);
   goto w2c_B17;
   w2c_B18:;
   w2c_j0 = w2c_l5;
@@ -50386,7 +51787,7 @@ static u32 w2c_f87(module *m, u64 w2c_p0, u64 w2c_p1, u32 w2c_p2, u32 w2c_p3, u6
   w2c_j2 += w2c_j3;
   w2c_j3 = w2c_l8;
   w2c_j4 = w2c_p0;
-  w2c_f47(m, w2c_j0, w2c_i1, w2c_j2, w2c_j3, w2c_j4);
+  w2c_f48(m, w2c_j0, w2c_i1, w2c_j2, w2c_j3, w2c_j4);
   w2c_i0 = 3u;
   w2c_p2 = w2c_i0;
   w2c_i0 = 1u;
@@ -50589,7 +51990,7 @@ static u32 w2c_f87(module *m, u64 w2c_p0, u64 w2c_p1, u32 w2c_p2, u32 w2c_p3, u6
   w2c_j5 = w2c_p4;
   w2c_j6 = 24ull;
   w2c_j5 += w2c_j6;
-  w2c_i0 = w2c_f45(m, w2c_j0, w2c_j1, w2c_i2, w2c_j3, w2c_j4, w2c_j5);
+  w2c_i0 = w2c_f46(m, w2c_j0, w2c_j1, w2c_i2, w2c_j3, w2c_j4, w2c_j5);
   w2c_l10 = w2c_i0;
   w2c_B0:;
   w2c_j0 = w2c_l5;
