@@ -189,11 +189,15 @@ def judged(crate, planted, level, ran):
         for path, (kind, words) in found.items()
         if path not in owned and kind not in (PROVED, WAITING)
     ]
+    # A lemma may fail for a constant, whichever function stands on it.
+    is_lemma = not is_alone and any(kind == BY_LEMMA for kind, _ in found.values())
     for plant in planted:
         verdicts = [found[it] for it in plant.owners if it in found]
         nothing = (UNCLEAR if plant.item.kind == "fn" else PROVED, "nothing cites it")
         kind, words = min(verdicts, key=lambda it: KINDS.index(it.kind), default=nothing)
-        if kind in (PROVED, WAITING) and others:
+        if is_lemma and (kind == BY_LEMMA or kind == PROVED and plant.item.kind != "fn"):
+            kind, words = None, ALONE
+        elif kind in (PROVED, WAITING) and others:
             kind, words = (REFUSED, others[0]) if is_alone else (None, ALONE)
         elif kind == WAITING:
             kind, words = (UNCLEAR, words) if is_alone else (None, min(level + 1, ALONE))

@@ -268,7 +268,8 @@ def mutants_of(crate):
     for item in items:
         body, names, found, tables = item.text[item.begin : item.end], [], [], {}
         for kind, begin, end, new in turned(item, variants, parameters):
-            is_table = item.kind != "fn" and body.count("\n") > 2 or is_entry(kind, body, begin)
+            is_long = body.count("\n") > 2 or body.count(",") > 8
+            is_table = item.kind != "fn" and is_long or is_entry(kind, body, begin)
             is_up = kind == "number" and int(new, 0) > int(body[begin:end], 0)
             entries = tables.setdefault((kind, is_up), []) if is_table else found
             entries.append((begin, end, new))
