@@ -1,6 +1,7 @@
 // Reading.
 ghost use Rattle.std.specs.Prelude.{◌≡◌, IsUtf8};
 ghost use Rattle.chinese_number.specs.Answer.{refusal_of};
+ghost use Rattle.cn_c.specs.declared.codes.ReadingWay.TheVariants.{By};
 ghost use Rattle.cn_c.specs.Reads.{ReadsInto, TellsRefusal, IsRead, no_number, way_meant};
 ghost use Rattle.cn_faces.specs.IntegerTypes.{the_kind};
 
@@ -65,13 +66,20 @@ fn way_meant(integer: IntegerType, way: ReadingWay, text: &str) -> Way
 
 // Reads a text as a number of a type, and tells it to C.
 #[inline(always)]
-fn read_text(integer: IntegerType, way: ReadingWay, text: &str, reading: &mut Reading) -> u32
-    requires { reading.old ≡ no_number 0 0 }
-    ensures { ReadsInto (the_kind integer) way text.now result reading.new }
+fn read_text_as(
+    integer: IntegerType,
+    signed: bool,
+    way: Way,
+    text: &str,
+    reading: &mut Reading,
+) -> u32
+    requires signed { signed ≡ (the_kind integer).signed }
+    requires fresh { reading.old ≡ no_number 0 0 }
+    ensures { ReadsInto (the_kind integer) (By way) text.now result reading.new }
 {
-    match read_as(integer, way_meant(integer, way, text), text) {
+    match read_as(integer, signed, way, text) {
         Ok(number) => {
-            reading.number = halves(number);
+            reading.number = halves(signed, number);
             DONE
         }
         Err(error) => tell_refusal(
@@ -80,6 +88,20 @@ fn read_text(integer: IntegerType, way: ReadingWay, text: &str, reading: &mut Re
             &mut reading.char_index,
             &mut reading.byte_index,
         ),
+    }
+}
+
+// The same in any way. An unsigned type has code of its own, which takes 12 instructions fewer.
+#[inline(always)]
+fn read_text(integer: IntegerType, way: ReadingWay, text: &str, reading: &mut Reading) -> u32
+    requires { reading.old ≡ no_number 0 0 }
+    ensures { ReadsInto (the_kind integer) way text.now result reading.new }
+{
+    let way = way_meant(integer, way, text);
+    if integer.is_signed() {
+        read_text_as(integer, true, way, text, reading)
+    } else {
+        read_text_as(integer, false, way, text, reading)
     }
 }
 

@@ -19,7 +19,7 @@ three_bytes c low high =
     rw (a, b, d) refl
 
 -- bytes in these ranges are a character
-pub IsUtf8-three : (x y z : ℕ) → IsInRange 0xE1 0xEC x → IsInRange 0x80 0xBF y
+pub IsUtf8-three : (x y z : ℕ) → IsInRange 0xE3 0xEA x → IsInRange 0x80 0xBF y
     → IsInRange 0x80 0xBF z → IsUtf8 (x ∷ y ∷ z ∷ [])
 IsUtf8-three x y z first second third =
     let c = (x - 224) * 4096 + (y - 128) * 64 + (z - 128) in
@@ -53,7 +53,7 @@ IsUtf8After bytes rest = (after : List ℕ) × (bytes ≡ rest ++ after) × IsUt
 pub one_more_character : (bytes rest : List ℕ) (start key : ℕ) → IsUtf8After bytes rest
     → length rest ≡ start + 3
     → HasBytes key (get_or rest start 0) (get_or rest (start + 1) 0) (get_or rest (start + 2) 0)
-    → IsInRange 0xE1 0xEC (key % 256) → IsInRange 0x80 0xBF (key / 256 % 256)
+    → IsInRange 0xE3 0xEA (key % 256) → IsInRange 0x80 0xBF (key / 256 % 256)
     → IsInRange 0x80 0xBF (key / 65536) → IsUtf8After bytes (take start rest)
 one_more_character bytes rest start key behind long has first second third =
     let size : length (drop start rest) ≡ 3 = omega (arith, length-drop start rest, long) in

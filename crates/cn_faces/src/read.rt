@@ -48,11 +48,16 @@ fn signed_answer(
 
 // Reads plain digits.
 #[inline(always)]
-fn read_naive(integer: IntegerType, text: &str) -> Result<SignedMagnitude, ChineseToNumberError>
+fn read_naive(
+    integer: IntegerType,
+    signed: bool,
+    text: &str,
+) -> Result<SignedMagnitude, ChineseToNumberError>
+    requires { signed ≡ (the_kind integer).signed }
     ensures answer { answer_of stands_for result ≡ naive_reading (the_kind integer) text.now }
     ensures held { IfOk result (λ n. IsTrue (holds (the_kind integer) (stands_for n))) }
 {
-    let after = split_sign(integer.is_signed(), text);
+    let after = split_sign(signed, text);
     signed_answer(integer, after.sign, judge_naive(after.skipped, after.rest))
 }
 
@@ -60,29 +65,35 @@ fn read_naive(integer: IntegerType, text: &str) -> Result<SignedMagnitude, Chine
 #[inline(always)]
 fn read_units(
     integer: IntegerType,
+    signed: bool,
     method: ChineseCountMethod,
     text: &str,
 ) -> Result<SignedMagnitude, ChineseToNumberError>
+    requires { signed ≡ (the_kind integer).signed }
     ensures answer { Reads (the_kind integer) method text.now (answer_of stands_for result) }
     ensures held { IfOk result (λ n. IsTrue (holds (the_kind integer) (stands_for n))) }
 {
-    let after = split_sign(integer.is_signed(), text);
+    let after = split_sign(signed, text);
     let judged = judge_quickly(method, after.skipped, after.rest);
     signed_answer(integer, after.sign, judged)
 }
 
 /// Reads a text in a way as a number of an integer type, as `read_by` does: one body for all types.
+/// Where the caller tells as a constant whether the type is signed, an unsigned number is read
+/// without what a sign takes.
 #[inline(always)]
 pub fn read_as(
     integer: IntegerType,
+    signed: bool,
     way: Way,
     text: &str,
 ) -> Result<SignedMagnitude, ChineseToNumberError>
+    requires { signed ≡ (the_kind integer).signed }
     ensures answer { ReadsBy (the_kind integer) way text.now (answer_of stands_for result) }
     ensures held { IfOk result (λ n. IsTrue (holds (the_kind integer) (stands_for n))) }
 {
     match way {
-        Way::Digits => read_naive(integer, text),
-        Way::Units(method) => read_units(integer, method, text),
+        Way::Digits => read_naive(integer, signed, text),
+        Way::Units(method) => read_units(integer, signed, method, text),
     }
 }

@@ -1,22 +1,21 @@
 // Bytes that are text.
-ghost use Rattle.std.specs.Prelude.{◌≡◌, ◌/◌, ◌%◌, true, false, IsTrue, IsUtf8, MatchOption};
+ghost use Rattle.std.specs.Prelude.{◌≡◌, ◌/◌, ◌%◌, ◌<◌, true, false, IsTrue, IsUtf8, MatchOption};
 ghost use Rattle.std.specs.Int.{IsInRange};
 ghost use Rattle.std.specs.Str.{is_utf8};
 
 use std::str;
 
-// Whether three bytes, of which the first is the lowest of the key, are a character from U+1000 to
-// U+CFFF, as most in numerals are. No test waits for the one before it.
+// Whether three bytes, of which the first is the lowest of the key, are a character from U+3000 to
+// U+AFFF, as most in numerals are. By what the subtraction leaves of the first byte, all is one test.
 #[inline(always)]
 fn is_common(key: u32) -> bool
-    ensures first { IsTrue result → IsInRange 0xE1 0xEC (key % 256) }
+    requires { key < 16777216 }
+    ensures first { IsTrue result → IsInRange 0xE3 0xEA (key % 256) }
     ensures second { IsTrue result → IsInRange 0x80 0xBF (key / 256 % 256) }
     ensures third { IsTrue result → IsInRange 0x80 0xBF (key / 65536) }
 {
-    let first = key % 256;
-    let second = key / 256 % 256;
-    let third = key / 65_536;
-    (first >= 0xE1) & (first <= 0xEC) & (second / 64 == 2) & (third / 64 == 2)
+    let above = key.wrapping_sub(0xE3);
+    (above % 256 / 8 == 0) & (above / 256 % 256 / 64 == 2) & (above / 65_536 % 256 / 64 == 2)
 }
 
 // Whether all of these bytes are such characters, from the last to the first. The three bytes of
@@ -41,17 +40,23 @@ fn are_common(bytes: &[u8]) -> bool
     }
 }
 
-// The text of any bytes, if they are UTF-8. It stands by itself, so that the short test is short
-// where it is inlined.
+// Whether any bytes are UTF-8. It stands by itself, so that the short test is short where it is
+// inlined.
 #[inline(never)]
-fn tested_text(bytes: &[u8]) -> Option<&str>
-    ensures { MatchOption result (is_utf8 bytes.now ≡ false)
-        (λ text. (is_utf8 bytes.now ≡ true) × (text.now ≡ bytes.now)) }
+fn are_utf8_at_all(bytes: &[u8]) -> bool
+    ensures { result ≡ is_utf8 bytes.now }
 {
     match str::from_utf8(bytes) {
-        Ok(text) => Some(text),
-        Err(_) => None,
+        Ok(_) => true,
+        Err(_) => false,
     }
+}
+
+#[inline(always)]
+fn are_utf8(bytes: &[u8]) -> bool
+    ensures { result ≡ is_utf8 bytes.now }
+{
+    are_common(bytes) || are_utf8_at_all(bytes)
 }
 
 /// The text of these bytes, if they are UTF-8.
@@ -60,8 +65,9 @@ pub fn utf8_text(bytes: &[u8]) -> Option<&str>
     ensures { MatchOption result (is_utf8 bytes.now ≡ false)
         (λ text. (is_utf8 bytes.now ≡ true) × (text.now ≡ bytes.now)) }
 {
-    if are_common(bytes) {
-        return Some(unsafe { str::from_utf8_unchecked(bytes) });
+    if are_utf8(bytes) {
+        Some(unsafe { str::from_utf8_unchecked(bytes) })
+    } else {
+        None
     }
-    tested_text(bytes)
 }

@@ -22,7 +22,7 @@ pub trait SearchRule: Copy {
 
     /// What stands behind the first character, where it is soon told that this belongs nowhere: so a
     /// search for numbers passes each other character of three bytes in 24 instructions, and else in
-    /// 37.
+    /// 37. `None` says nothing of a text.
     fn skip_outsider(self, ahead: &str) -> Option<&str>
         ensures outsider { IfSome result (λ after. (c : ℕ) × (chars ahead.now ≡ c ∷ chars after.now)
             × ((front : List ℕ) → (rule self).belongs front c (chars after.now) ≡ false)) }

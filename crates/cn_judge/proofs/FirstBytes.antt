@@ -18,7 +18,7 @@ len_low b p = grind (arith, nat_tests)
 len_two : (b : ℕ) → 127 < b → b < 224 → len_by b ≡ 2
 len_two b p q = grind (arith, nat_tests)
 
-len_three : (b : ℕ) → 223 < b → b < 240 → len_by b ≡ 3
+pub len_three : (b : ℕ) → 223 < b → b < 240 → len_by b ≡ 3
 len_three b p q = grind (arith, nat_tests)
 
 len_four : (b : ℕ) → 239 < b → len_by b ≡ 4

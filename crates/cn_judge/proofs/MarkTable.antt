@@ -15,7 +15,7 @@ use Rattle.cn_judge.specs.declared.mark.TheConstants.{MARKS}
 use Rattle.cn_judge.specs.Marked.{IsKnown, IsUnknown, key_of, marked}
 use Rattle.cn_judge.proofs.Walking.{outside-mark}
 
-all_at : {X : Type 0} (p : X → Bool) (xs : List X) (i : ℕ) (d : X) → list_all p xs ≡ true
+pub all_at : {X : Type 0} (p : X → Bool) (xs : List X) (i : ℕ) (d : X) → list_all p xs ≡ true
     → i < length xs → p (get_or xs i d) ≡ true
 all_at p [] i d h low = absurd (omega (arith, low))
 all_at p (x ∷ xs) zero d h low = and-left (p x) _ h

@@ -1,12 +1,15 @@
 -- Characters that are passed over, each by its first byte.
-use Rattle.std.proofs.Common.{◌≡◌, ℕ, zero, suc, ◌+◌, ◌<◌, ◌≤◌, List, [], ◌∷◌, ◌++◌, length, get_or, take, drop, chars, encode_utf8_all, IsUtf8, refl, sym, ap, subst, ◌∙◌, arith, length-append, length-drop, get_or-drop, drop-drop}
+use Rattle.std.proofs.Common.{◌≡◌, ◌-◌, ◌%◌, ℕ, zero, suc, ◌+◌, ◌/◌, ◌<◌, ◌≤◌, List, [], ◌∷◌, ◌++◌, length, get_or, take, drop, chars, encode_utf8_all, IsUtf8, refl, sym, ap, subst, ◌∙◌, arith, length-append, length-drop, get_or-drop, drop-drop}
+use Rattle.std.specs.Array.{IsFirstChunk}
+use Rattle.std.specs.Int.{w64, from_le_bytes}
 use Rattle.std.specs.Str.{continuation_len}
-use Rattle.std.proofs.lemmas.List.{take_all}
+use Rattle.std.proofs.lemmas.List.{get_or-take, take_all}
 use Rattle.std.proofs.lemmas.Str.{encodes-append, encodes-chars}
 use lib.Utf8.{encode}
 use Rattle.cn_core.proofs.Chars.{chars-from_empty}
 use Rattle.cn_judge.specs.ByteIndex.{byte_index}
-use Rattle.cn_judge.proofs.FirstBytes.{starts}
+use Rattle.cn_judge.specs.Private.FirstKey.{BeginsThreeThrees}
+use Rattle.cn_judge.proofs.FirstBytes.{len_three, starts}
 
 -- this byte stands behind so many characters
 pub record Passed (text : List ℕ) (count at : ℕ) : Type 0 where
@@ -74,6 +77,63 @@ Passed-next text count at len before more size =
       counted = omega (arith, before.counted, ap length first.parts, ap (λ l. length (chars l)) cut);
     } in
     subst (λ n. Passed text n (at + len)) (omega arith) passed
+
+-- by the number that the next eight bytes are, the first of them lowest
+pub word-threes : (bytes eight : List ℕ) (at word : ℕ) → ((i : ℕ) → get_or bytes i 0 < 256)
+    → at ≤ length bytes → IsFirstChunk (take (length bytes - at) (drop at bytes)) eight 8
+    → word ≡ from_le_bytes w64 eight → word % 256 / 16 ≡ 14 → word / 16777216 % 256 / 16 ≡ 14
+    → word / 281474976710656 % 256 / 16 ≡ 14 → BeginsThreeThrees bytes at
+word-threes bytes eight at word below inside chunk is first second third =
+    let left = length-drop at bytes in
+    let all = take_all (length bytes - at) (drop at bytes) (omega (arith, left)) in
+    let enough = ap length all in
+    let have = chunk.enough in
+    let b0 = by 0 (omega arith) in
+    let b1 = by 1 (omega arith) in
+    let b2 = by 2 (omega arith) in
+    let b3 = by 3 (omega arith) in
+    let b4 = by 4 (omega arith) in
+    let b5 = by 5 (omega arith) in
+    let b6 = by 6 (omega arith) in
+    let b7 = by 7 (omega arith) in
+    let l0 = below (at + 0) in
+    let l1 = below (at + 1) in
+    let l2 = below (at + 2) in
+    let l3 = below (at + 3) in
+    let l4 = below (at + 4) in
+    let l5 = below (at + 5) in
+    let l6 = below (at + 6) in
+    let l7 = below (at + 7) in
+    let none : at + 0 ≡ at = omega arith in
+    let start = ap (λ i. get_or bytes i 0) none in
+    record {
+      within = omega (arith, enough, have, left, inside);
+      first = omega (arith, is, first, b0, b1, b2, b3, b4, b5, b6, b7, l0, l1, l2, l3, l4, l5, l6, start);
+      second = omega (arith, is, second, b0, b1, b2, b3, b4, b5, b6, b7, l0, l1, l2, l3, l4, l5, l6);
+      third = omega (arith, is, third, b0, b1, b2, b3, b4, b5, b6, b7, l0, l1, l2, l3, l4, l5, l6);
+    } where
+      by : (i : ℕ) → i < 8 → get_or eight i 0 ≡ get_or bytes (at + i) 0
+      by i low = ap (λ l. get_or l i 0) chunk.same ∙ get_or-take 8 (take (length bytes - at) (drop at bytes)) i 0 low
+          ∙ ap (λ l. get_or l i 0) (take_all (length bytes - at) (drop at bytes) (let left = length-drop at bytes in omega (arith, left)))
+          ∙ get_or-drop at bytes i 0
+
+three-long : (first : ℕ) → first / 16 ≡ 14 → 3 ≡ continuation_len first + 1
+three-long first is = sym (len_three first (omega (arith, is)) (omega (arith, is)))
+
+pub Passed-threes : (text : List ℕ) (count at : ℕ) → Passed text count at
+    → BeginsThreeThrees text at → Passed text (count + 3) (at + 9)
+Passed-threes text count at before three =
+    let long = three.within in
+    let six : at + 6 ≡ at + 3 + 3 = omega arith in
+    let one = Passed-next text count at 3 before (omega (arith, long)) (three-long _ three.first) in
+    let two = Passed-next text (count + 1) (at + 3) 3 one (omega (arith, long))
+    (three-long _ three.second) in
+    let all = Passed-next text (count + 1 + 1) (at + 3 + 3) 3 two (omega (arith, long))
+    (three-long _ (subst (λ i. get_or text i 0 / 16 ≡ 14) six three.third)) in
+    let chars : count + 1 + 1 + 1 ≡ count + 3 = omega arith in
+    let bytes : at + 3 + 3 + 3 ≡ at + 9 = omega arith in
+    subst (λ n. Passed text n (at + 9)) chars
+    (subst (λ n. Passed text (count + 1 + 1 + 1) n) bytes all)
 
 none-left : (text : List ℕ) (at : ℕ) → length text ≤ at → length (chars (drop at text)) ≡ 0
 none-left text at end =

@@ -18,7 +18,7 @@ ghost use Rattle.cn_judge.specs.Private.Walk.{digit_next, walked_answer, HasNoTa
 use crate::ChineseToNumberError;
 use crate::mark::{Mark, mark_of};
 use crate::open_units::OpenUnits;
-use crate::text::{count_chars, split_first, split_last_mark};
+use crate::text::{count_chars, split_first, split_first_slowly, split_last_mark};
 use crate::walk::{is_at_digit, separates_digits, walk};
 use cn_core::{ChineseCountMethod, Sign, Unit, Whole, scale, sign_of};
 
@@ -38,7 +38,7 @@ pub fn split_sign(signed: bool, text: &str) -> AfterSign<'_>
     ensures within { result.skipped + length result.rest.now ≤ length text.now }
 {
     if signed {
-        if let Some(first) = split_first(text) {
+        if let Some(first) = split_first_slowly(text) {
             if let Some(sign) = sign_of(first.character) {
                 return AfterSign {
                     sign: Some(sign),
@@ -160,6 +160,9 @@ pub fn judge_text(
     requires { skipped + length text.now < 2 ^ 64 }
     ensures { JudgesAt method skipped text.now (answer_of (λ n. n) result) }
 {
+    if text.is_empty() {
+        return Err(ChineseToNumberError::ChineseNumberEmpty);
+    }
     let Some(first) = split_first(text) else {
         return Err(ChineseToNumberError::ChineseNumberEmpty);
     };

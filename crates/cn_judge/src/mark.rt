@@ -3,7 +3,7 @@ ghost use Rattle.std.specs.Prelude.{◌≡◌, ℕ, ◌*◌, ◌/◌, ◌%◌, �
 ghost use Rattle.cn_core.specs.Mark.{mark_of};
 ghost use Rattle.cn_judge.specs.Marked.{IsKnown, IsUnknown, key_of, marked};
 
-use cn_core::{Unit, digit_of, unit_of};
+use cn_core::Unit;
 
 /// A digit by its value, a unit, or any other character.
 #[derive(Copy, Clone)]
@@ -184,7 +184,7 @@ fn three_byte_mark(c: char) -> Mark
     mark_of_key(first + second * 256 + third * 65_536)
 }
 
-/// What the character is.
+/// What the character is. Each digit or unit but an ASCII digit takes three bytes.
 #[inline(always)]
 pub fn mark_of(c: char) -> Mark
     ensures { marked result ≡ mark_of c }
@@ -193,11 +193,9 @@ pub fn mark_of(c: char) -> Mark
     if 2048 <= code && code < 65_536 {
         return three_byte_mark(c);
     }
-    if let Some(value) = digit_of(c) {
-        return Mark::Digit(value);
-    }
-    match unit_of(c) {
-        Some(unit) => Mark::Unit(unit),
-        None => Mark::Other,
+    if c.is_ascii_digit() {
+        Mark::Digit((code - 48) as u8)
+    } else {
+        Mark::Other
     }
 }

@@ -1,18 +1,20 @@
 // Plain decimal digits, read from left to right.
 ghost use Rattle.std.specs.Prelude.{◌≡◌, ◌+◌, ◌<◌, ◌≤◌, ◌^◌, [], length, chars, IfSome, MatchOption};
+ghost use Rattle.cn_core.specs.Mark.{mark_of};
 ghost use Rattle.cn_core.specs.Text.{text_of, marks_of};
 ghost use Rattle.cn_core.specs.Naive.{naive_answer};
 ghost use Rattle.cn_core.specs.Reading.{naive_reading};
 ghost use Rattle.cn_judge.specs.Answer.{answer_of};
+ghost use Rattle.cn_judge.specs.Marked.{marked};
 ghost use Rattle.cn_judge.specs.Piece.{answer_at};
 ghost use Rattle.cn_judge.specs.Private.PlainPiece.{IsPiece, IsDigitRun, StartsWith, piece_len};
 
 use crate::ChineseToNumberError;
 use crate::judge::{signed_answer, split_sign};
-use crate::mark::{Mark, mark_of};
+use crate::mark::Mark;
 use crate::open_units::multiply_add;
-use crate::text::split_first_digit;
-use cn_core::{Whole, split_first_char};
+use crate::text::{split_first_digit, split_first_mark};
+use cn_core::Whole;
 
 // Digits that stand side by side: how many, the power of ten that they make room for, and their
 // number.
@@ -57,11 +59,13 @@ enum Piece {
     Wrong,
 }
 
-// What a character is, whatever it is.
-fn piece_of(c: char) -> Piece
+// What a character with its mark is, whatever it is.
+#[inline(always)]
+fn piece_of(c: char, mark: Mark) -> Piece
+    requires { marked mark ≡ mark_of c }
     ensures { IsPiece result c }
 {
-    match mark_of(c) {
+    match mark {
         Mark::Digit(digit) => Piece::Digits(DigitRun {
             count: 1,
             weight: 10,
@@ -90,8 +94,8 @@ fn split_first_piece(text: &str) -> Option<(Piece, &str)>
     if run.count > 0 {
         return Some((Piece::Digits(run), after));
     }
-    let (c, after) = split_first_char(text)?;
-    Some((piece_of(c), after))
+    let (c, mark, after) = split_first_mark(text)?;
+    Some((piece_of(c, mark), after))
 }
 
 /// The answer to plain digits without sign, which stand after so many characters of the caller's

@@ -1,6 +1,6 @@
 // Walking a text: its characters from either end, and those that are no white space. Their marks
 // too: of characters of three bytes quickly, of any other as it comes.
-ghost use Rattle.std.specs.Prelude.{◌≡◌, ℕ, ◌+◌, ◌*◌, ◌<◌, ◌≤◌, [], ◌∷◌, ◌++◌, length, chars, false, IfSome, IfNone, MatchOption};
+ghost use Rattle.std.specs.Prelude.{◌≡◌, ℕ, ◌+◌, ◌*◌, ◌<◌, ◌≤◌, [], ◌∷◌, ◌++◌, length, chars, false, IfSome, IfNone, IsTrue, MatchOption};
 ghost use Rattle.std.specs.Char.{is_whitespace};
 ghost use Rattle.std.specs.Str.{continuation_len};
 ghost use Rattle.cn_core.specs.Mark.{digit, mark_of, other};
@@ -8,7 +8,7 @@ ghost use Rattle.cn_core.specs.Text.{text_of};
 ghost use Rattle.cn_judge.specs.ByteIndex.{byte_index};
 ghost use Rattle.cn_judge.specs.Marked.{marked};
 ghost use Rattle.cn_judge.specs.Piece.{StandsAt, EndsWith};
-ghost use Rattle.cn_judge.specs.Private.FirstKey.{StartsWithKey};
+ghost use Rattle.cn_judge.specs.Private.FirstKey.{BeginsThreeThrees, StartsWithKey};
 
 use crate::mark::{Mark, known_mark, mark_of, mark_of_key};
 use cn_core::split_first_char;
@@ -47,7 +47,7 @@ fn split_first_three(text: &str) -> Option<(char, Mark, &str)>
 }
 
 /// What stands behind the first character, where that takes three bytes and is neither digit nor
-/// unit.
+/// unit. `None` says nothing of a text.
 #[inline(always)]
 pub fn split_first_other(text: &str) -> Option<&str>
     ensures parts { IfSome result (λ after. (c : ℕ) × (chars text.now ≡ c ∷ chars after.now)
@@ -76,6 +76,21 @@ pub fn split_first_mark(text: &str) -> Option<(char, Mark, &str)>
     Some((c, mark_of(c), after))
 }
 
+// The first character where it is a digit or a unit of three bytes, and so no white space, and what
+// stands after it. By decoding it a refusal takes 20 instructions more.
+#[inline(always)]
+fn split_first_dark(text: &str) -> Option<(char, &str)>
+    ensures parts { IfSome result (λ r. chars text.now ≡ r.0 ∷ chars r.1.now) }
+    ensures dark { IfSome result (λ r. is_whitespace r.0 ≡ false) }
+    ensures shorter { IfSome result (λ r. length r.1.now < length text.now) }
+{
+    let (c, mark, after) = split_first_three(text)?;
+    match mark {
+        Mark::Other => None,
+        _ => Some((c, after)),
+    }
+}
+
 /// The first character of a text that is no white space.
 #[derive(Copy, Clone)]
 pub struct First<'a> {
@@ -86,8 +101,10 @@ pub struct First<'a> {
     pub rest: &'a str,
 }
 
-/// The first character that is no white space.
-pub fn split_first(text: &str) -> Option<First<'_>>
+/// The first character that is no white space, by decoding. It stands by itself, so that what calls it is
+/// short: a sign is neither digit nor unit, but for 正.
+#[inline(never)]
+pub(crate) fn split_first_slowly(text: &str) -> Option<First<'_>>
     ensures parts { MatchOption result (text_of text.now ≡ [])
         (λ first. StandsAt text.now (first.character ∷ chars first.rest.now) first.skipped 0) }
     ensures dark { IfSome result (λ first. is_whitespace first.character ≡ false) }
@@ -108,6 +125,25 @@ pub fn split_first(text: &str) -> Option<First<'_>>
         rest = after;
     }
     None
+}
+
+/// The first character that is no white space.
+#[inline(always)]
+pub fn split_first(text: &str) -> Option<First<'_>>
+    ensures parts { MatchOption result (text_of text.now ≡ [])
+        (λ first. StandsAt text.now (first.character ∷ chars first.rest.now) first.skipped 0) }
+    ensures dark { IfSome result (λ first. is_whitespace first.character ≡ false) }
+    ensures within { IfSome result
+        (λ first. first.skipped + length first.rest.now < length text.now) }
+{
+    match split_first_dark(text) {
+        Some((character, rest)) => Some(First {
+            character,
+            skipped: 0,
+            rest,
+        }),
+        None => split_first_slowly(text),
+    }
 }
 
 /// The last character, and what stands before it.
@@ -151,6 +187,23 @@ fn char_len(first: u8) -> usize
     CHAR_LENS[(first / 16) as usize]
 }
 
+// Whether three characters of three bytes begin here, as most do in numerals, by the first byte of each.
+// So each is passed in 4 instructions, and alone in 7.
+#[inline(always)]
+fn begins_three_threes(bytes: &[u8], passed: usize) -> bool
+    requires { passed ≤ length bytes.now }
+    ensures { IsTrue result → BeginsThreeThrees bytes.now passed }
+{
+    let Some(eight) = bytes[passed..].first_chunk::<8>() else {
+        return false;
+    };
+    let word = u64::from_le_bytes(*eight);
+    let first = word % 256;
+    let fourth = word / 16_777_216 % 256;
+    let seventh = word / 281_474_976_710_656 % 256;
+    (first / 16 == 14) & (fourth / 16 == 14) & (seventh / 16 == 14)
+}
+
 /// How many characters a text has. Each is passed by its first byte.
 pub fn count_chars(text: &str) -> usize
     ensures count { result ≡ length (chars text.now) }
@@ -159,6 +212,10 @@ pub fn count_chars(text: &str) -> usize
     let bytes = text.as_bytes();
     let mut passed = 0;
     let mut count = 0;
+    'threes: while begins_three_threes(bytes, passed) {
+        passed += 9;
+        count += 3;
+    }
     'counting: while passed < bytes.len() {
         passed += char_len(bytes[passed]);
         count += 1;
@@ -172,11 +229,20 @@ pub fn byte_index(text: &str, char_index: usize) -> usize
 {
     let bytes = text.as_bytes();
     let mut passed = 0;
-    'passing: for _count in 0..char_index {
+    let mut index = 0;
+    'threes: while char_index - index >= 3 {
+        if !begins_three_threes(bytes, passed) {
+            break;
+        }
+        passed += 9;
+        index += 3;
+    }
+    'passing: while index < char_index {
         if passed >= bytes.len() {
             return passed;
         }
         passed += char_len(bytes[passed]);
+        index += 1;
     }
     passed
 }

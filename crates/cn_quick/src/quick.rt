@@ -65,10 +65,10 @@ pub fn judge_quickly(
     requires { skipped + length text.now < 2 ^ 64 }
     ensures { JudgesAt method skipped text.now (answer_of (λ n. n) result) }
 {
-    if let Some(number) = read_quickly(method, text) {
-        return Ok(number);
+    match read_quickly(method, text) {
+        Some(number) => Ok(number),
+        None => judge_text(method, skipped, text),
     }
-    judge_text(method, skipped, text)
 }
 
 /// The number of a numeral after at most one sign.

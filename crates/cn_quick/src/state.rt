@@ -19,15 +19,34 @@ pub(crate) struct QuickState {
     pub(crate) at_digit: bool,
 }
 
+// The numbers that units of a section stand for, by rank: by `Low` each unit is one of a section. By
+// `power_of_ten` each digit takes an instruction more.
+static SECTION_SCALES: [u64; 16] = [
+    1,
+    10,
+    100,
+    1_000,
+    10_000,
+    100_000,
+    1_000_000,
+    10_000_000,
+    100_000_000,
+    1_000_000_000,
+    10_000_000_000,
+    100_000_000_000,
+    1_000_000_000_000,
+    10_000_000_000_000,
+    100_000_000_000_000,
+    1_000_000_000_000_000,
+];
+
 // The number that a unit of a section stands for.
+#[inline(always)]
 fn section_scale(unit: Unit) -> u64
     ensures value { result ≡ 10 ^ rank unit }
     ensures most { result ≤ 10 ^ 15 }
 {
-    let Some(power) = power_of_ten(unit as usize) else {
-        unreachable!()
-    };
-    power as u64
+    SECTION_SCALES[unit as usize]
 }
 
 /// The section's sum with one more digit, if it fits.

@@ -1,5 +1,5 @@
 -- What a text starts with, by the bytes of its first character.
-use Rattle.std.specs.Prelude.{◌≡◌, ℕ, ◌+◌, ◌*◌, ◌/◌, ◌%◌, ◌<◌, ◌≤◌, List, ◌∷◌, length, drop, chars, IsCharBoundary}
+use Rattle.std.specs.Prelude.{◌≡◌, ℕ, ◌+◌, ◌*◌, ◌/◌, ◌%◌, ◌<◌, ◌≤◌, List, ◌∷◌, length, get_or, drop, chars, IsCharBoundary}
 use Rattle.std.specs.Char.{IsScalar}
 use Rattle.cn_judge.specs.Marked.{key_of}
 
@@ -14,3 +14,10 @@ pub record StartsWithKey (text : List ℕ) (key : ℕ) : Type 0 where
   pub long : 3 ≤ length text
   pub boundary : IsCharBoundary text 3
   pub parts : chars text ≡ code ∷ chars (drop 3 text)
+
+-- three characters of three bytes begin at this byte, by the first byte of each
+pub record BeginsThreeThrees (bytes : List ℕ) (at : ℕ) : Type 0 where
+  pub within : at + 8 ≤ length bytes
+  pub first : get_or bytes at 0 / 16 ≡ 14
+  pub second : get_or bytes (at + 3) 0 / 16 ≡ 14
+  pub third : get_or bytes (at + 6) 0 / 16 ≡ 14

@@ -1,7 +1,9 @@
-use Rattle.std.proofs.Common.{◌+◌, length, sym, ap, ◌∙◌}
+use Rattle.std.proofs.Common.{◌+◌, ◌≡◌, rules, filter, length, sym, ap, ◌∙◌}
+use Rattle.std.specs.Char.{is_not_whitespace}
 use Rattle.cn_core.specs.Characters.{rank}
 use Rattle.cn_core.specs.Mark.{mark_of}
 use Rattle.cn_core.specs.Text.{text_of}
+use Rattle.cn_core.proofs.Chars.{chars-from_empty}
 use Rattle.cn_judge.specs.Answer.{answer_of}
 use Rattle.cn_judge.specs.Judged.{after_first}
 use Rattle.cn_judge.specs.Marked.{marked}
@@ -10,6 +12,12 @@ use Rattle.cn_judge.proofs.Endings.{tail-stops, tail-fits, err-same, number_answ
 use Rattle.cn_judge.proofs.Judgements.{JudgesAt-empty, JudgesAt-plain, JudgesAt-tail, front-same, front-number, tail-refused, last-wrong, last-adds, not-digit}
 use Rattle.cn_judge.proofs.WalkSteps.{digit-low}
 use Rattle.cn_judge.proofs.judge.judge_text.Goals as goal
+
+pub returns-then-is_empty : goal.returns-then-is_empty
+returns-then-is_empty c =
+    let none : length c.args.text.now ≡ 0 = search rules in
+    JudgesAt-empty c.args.method _ _
+    (ap (filter is_not_whitespace) (chars-from_empty c.args.text.now none))
 
 pub returns-in_default : goal.returns-in_default
 returns-in_default c = JudgesAt-empty c.args.method _ _ c.in_default.ensures.parts

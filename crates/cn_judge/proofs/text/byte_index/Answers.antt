@@ -1,10 +1,22 @@
-use Rattle.std.proofs.Common.{ap, ◌∙◌, ◌+◌, get_or, arith}
+use Rattle.std.proofs.Common.{ap, subst, ◌∙◌, ◌+◌, get_or, arith}
 use Rattle.std.specs.Str.{continuation_len}
-use Rattle.cn_judge.proofs.Passing.{Passed-none, Passed-next, Passed-end}
+use Rattle.cn_judge.specs.Private.FirstKey.{BeginsThreeThrees}
+use Rattle.cn_judge.proofs.Passing.{Passed-none, Passed-next, Passed-threes, Passed-end}
 use Rattle.cn_judge.proofs.text.byte_index.Goals as goal
 
-pub passing-init : goal.passing-init
-passing-init c = record { passed = Passed-none _ c.utf8.text }
+pub threes-init : goal.threes-init
+threes-init c = record {
+  passed = Passed-none _ c.utf8.text;
+  few = omega arith;
+}
+
+pub threes-preserved : goal.threes-preserved
+threes-preserved c = record {
+  passed = Passed-threes _ _ _ c.threes.invariant.passed
+      (subst (λ l. BeginsThreeThrees l c.threes.passed) c.as_bytes-bytes.ensures.value
+      (c.begins_three_threes.ensures c.if-not-begins_three_threes.false));
+  few = omega (arith, c.threes-test.true, c.threes.invariant.few);
+}
 
 pub passing-preserved : goal.passing-preserved
 passing-preserved c = record {
@@ -12,10 +24,11 @@ passing-preserved c = record {
       (omega (arith, c.if-passed-bytes.false, c.as_bytes-bytes.ensures.len))
       (c.char_len-passed.ensures
       ∙ ap (λ l. continuation_len (get_or l c.passing.passed 0) + 1) c.as_bytes-bytes.ensures.value);
+  few = omega (arith, c.passing-test.true);
 }
 
 pub returns-then-passed-bytes : goal.returns-then-passed-bytes
 returns-then-passed-bytes c =
     Passed-end _ _ _ _ c.passing.invariant.passed c.utf8.text
     (omega (arith, c.if-passed-bytes.true, c.as_bytes-bytes.ensures.len))
-    (omega (arith, c.passing.auto._count-end))
+    c.passing.invariant.few

@@ -1,5 +1,21 @@
+use Rattle.std.proofs.Common.{◌-◌, ◌≤◌, length}
 use Rattle.cn_judge.proofs.Passing.{Passed}
 use Rattle.cn_judge.proofs.text.byte_index.Given as goal
 
+abbrev pub invariant-threes : goal.invariant-threes
+invariant-threes l = record {
+  passed : Passed l.fn.text l.index l.passed;
+  few : l.index ≤ l.fn.char_index;
+}
+
+abbrev pub decreases-threes : goal.decreases-threes
+decreases-threes l = length l.fn.text - l.passed
+
 abbrev pub invariant-passing : goal.invariant-passing
-invariant-passing l = record { passed : Passed l.text l._count l.passed }
+invariant-passing l = record {
+  passed : Passed l.fn.text l.index l.passed;
+  few : l.index ≤ l.fn.char_index;
+}
+
+abbrev pub decreases-passing : goal.decreases-passing
+decreases-passing l = length l.fn.text - l.passed

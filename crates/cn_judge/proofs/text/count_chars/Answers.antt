@@ -1,10 +1,18 @@
-use Rattle.std.proofs.Common.{ap, ◌∙◌, ◌+◌, get_or, arith}
+use Rattle.std.proofs.Common.{ap, subst, ◌∙◌, ◌+◌, get_or, arith}
 use Rattle.std.specs.Str.{continuation_len}
-use Rattle.cn_judge.proofs.Passing.{Passed-none, Passed-next, Passed-all}
+use Rattle.cn_judge.proofs.Passing.{Passed-none, Passed-next, Passed-threes, Passed-all}
+use Rattle.cn_judge.specs.Private.FirstKey.{BeginsThreeThrees}
 use Rattle.cn_judge.proofs.text.count_chars.Goals as goal
 
-pub counting-init : goal.counting-init
-counting-init c = record { passed = Passed-none _ c.utf8.text }
+pub threes-init : goal.threes-init
+threes-init c = record { passed = Passed-none _ c.utf8.text }
+
+pub threes-preserved : goal.threes-preserved
+threes-preserved c = record {
+  passed = Passed-threes _ _ _ c.threes.invariant.passed
+      (subst (λ l. BeginsThreeThrees l c.threes.passed) c.as_bytes-bytes.ensures.value
+      (c.begins_three_threes.ensures c.threes-test.true));
+}
 
 pub counting-preserved : goal.counting-preserved
 counting-preserved c = record {

@@ -2,7 +2,7 @@ use Rattle.std.proofs.Common.{◌+◌, ◌≤◌, length, chars}
 use denote.Shadow.{shadow}
 use denote.Text.{Utf8}
 use Rattle.cn_judge.specs.Piece.{StandsAt}
-use Rattle.cn_judge.proofs.text.split_first.Given as goal
+use Rattle.cn_judge.proofs.text.split_first_slowly.Given as goal
 
 abbrev pub invariant-skipping : goal.invariant-skipping
 invariant-skipping l = record {

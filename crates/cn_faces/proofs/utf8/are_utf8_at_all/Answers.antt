@@ -1,6 +1,6 @@
 use Rattle.std.proofs.Common.{rules}
 use Rattle.std.proofs.lemmas.Str.{IsUtf8-from_is_utf8, is_utf8-from_IsUtf8}
-use Rattle.cn_faces.proofs.utf8.tested_text.Goals as goal
+use Rattle.cn_faces.proofs.utf8.are_utf8_at_all.Goals as goal
 
 pub returns-in-Ok : goal.returns-in-Ok
 returns-in-Ok c = search (rules, is_utf8-from_IsUtf8)

@@ -1,6 +1,6 @@
 use Rattle.std.proofs.Common.{arith, rules}
 use Rattle.cn_judge.proofs.Pieces.{StandsAt-white}
-use Rattle.cn_judge.proofs.text.split_first.Goals as goal
+use Rattle.cn_judge.proofs.text.split_first_slowly.Goals as goal
 
 pub skipping-preserved : goal.skipping-preserved
 skipping-preserved c = record {
