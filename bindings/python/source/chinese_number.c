@@ -60,7 +60,7 @@ typedef int64_t s64;
  * - behind it, for the one call that writes a text as long as any, the caller's room, where it is.
  *
  * An access outside, or a write to its constants or the text, ends the program by abort(). */
-#define STACK_BYTES UINT64_C(2432)
+#define STACK_BYTES UINT64_C(2288)
 #define LENT_BYTES UINT64_C(544)
 #define OWN_BYTES (STACK_BYTES + LENT_BYTES)
 #define FIRST_CONSTANT UINT64_C(65536)
@@ -397,7 +397,18 @@ static const u8 constants[] = {
   0x15, 0x07, 0xc9, 0x7b, 0xce, 0x97, 0xc0, 0x00, 0x00, 0x00, 0x00, 0x00,
   0xa0, 0x36, 0xf4, 0x00, 0xd9, 0x46, 0xda, 0xd5, 0x10, 0xee, 0x85, 0x07,
   0x00, 0x00, 0x00, 0x00, 0x40, 0x22, 0x8a, 0x09, 0x7a, 0xc4, 0x86, 0x5a,
-  0xa8, 0x4c, 0x3b, 0x4b, 0xe5, 0x88, 0x86, 0xe4, 0xb9, 0x8b,
+  0xa8, 0x4c, 0x3b, 0x4b, 0xe5, 0x88, 0x86, 0xe4, 0xb9, 0x8b, 0x00, 0x00,
+  0x01, 0x00, 0x00, 0x00, 0x00, 0x00, 0x00, 0x00, 0x0a, 0x00, 0x00, 0x00,
+  0x00, 0x00, 0x00, 0x00, 0x64, 0x00, 0x00, 0x00, 0x00, 0x00, 0x00, 0x00,
+  0xe8, 0x03, 0x00, 0x00, 0x00, 0x00, 0x00, 0x00, 0x10, 0x27, 0x00, 0x00,
+  0x00, 0x00, 0x00, 0x00, 0xa0, 0x86, 0x01, 0x00, 0x00, 0x00, 0x00, 0x00,
+  0x40, 0x42, 0x0f, 0x00, 0x00, 0x00, 0x00, 0x00, 0x80, 0x96, 0x98, 0x00,
+  0x00, 0x00, 0x00, 0x00, 0x00, 0xe1, 0xf5, 0x05, 0x00, 0x00, 0x00, 0x00,
+  0x00, 0xca, 0x9a, 0x3b, 0x00, 0x00, 0x00, 0x00, 0x00, 0xe4, 0x0b, 0x54,
+  0x02, 0x00, 0x00, 0x00, 0x00, 0xe8, 0x76, 0x48, 0x17, 0x00, 0x00, 0x00,
+  0x00, 0x10, 0xa5, 0xd4, 0xe8, 0x00, 0x00, 0x00, 0x00, 0xa0, 0x72, 0x4e,
+  0x18, 0x09, 0x00, 0x00, 0x00, 0x40, 0x7a, 0x10, 0xf3, 0x5a, 0x00, 0x00,
+  0x00, 0x80, 0xc6, 0xa4, 0x7e, 0x8d, 0x03, 0x00,
 };
 
 /* Each access has its test where it stands, and what one call alone needs stands apart: then a call
@@ -580,27 +591,27 @@ static void w2c_f8(module *, u64, u32, u64);
 static void w2c_f9(module *, u64, u32);
 static void w2c_f10(module *, u64, u32);
 static void w2c_f11(module *, u64, u64, u64);
-static void w2c_f12(module *, u64, u64, u64);
+static u32 w2c_f12(module *, u64, u64);
 static u64 w2c_f13(module *, u64, u64, u64);
 static void w2c_f14(module *, u64, u64, u64);
 static u32 w2c_f15(module *, u32, u64, u64, u64, u32, u32, u64, u64, u64);
 static u32 w2c_f16(module *, u32, u64, u64, u64, u32, u32, u64, u64, u64);
 static u32 w2c_f17(module *, u32, u32, u32, u32, u32, u64, u64);
 static void w2c_f18(module *, u64, u32);
-static void w2c_f19(module *, u64, u32);
+static void w2c_f19(module *, u64, u64);
 static void w2c_f20(module *, u64, u64);
-static void w2c_f21(module *, u64, u64);
-static u32 w2c_f22(module *, u64, u64);
-static u32 w2c_f23(module *, u32, u32, u64, u64);
+static u32 w2c_f21(module *, u64, u64);
+static u32 w2c_f22(module *, u32, u32, u64, u64);
+static u32 w2c_f23(module *, u64, u64);
 static u32 w2c_f24(module *, u64, u64);
-static u32 w2c_f25(module *, u64, u64);
+static void w2c_f25(module *, u64, u32);
 static u32 w2c_f26(module *, u64, u64);
-static u32 w2c_f27(module *, u64, u64);
-static u32 w2c_f28(module *, u32, u32, u64, u64, u32, u64, u64);
-static u32 w2c_f29(module *, u32, u32, u32);
-static u32 w2c_f30(module *, u32, u32, u64, u64);
-static u64 w2c_f31(module *, u64, u64, u32, u32, u64, u64);
-static void w2c_f32(module *, u64, u64, u64, u32);
+static u32 w2c_f27(module *, u32, u32, u64, u64, u32, u64, u64);
+static u32 w2c_f28(module *, u32, u32, u64, u64);
+static u32 w2c_f29(module *, u32, u32, u64, u64);
+static u64 w2c_f30(module *, u64, u64, u32, u32, u64, u64);
+static void w2c_f31(module *, u64, u64, u64, u32);
+static void w2c_f32(module *, u64, u64, u64);
 static void w2c_f33(module *, u64, u64, u64);
 static void w2c_f34(module *, u64, u32, u64, u64, u64);
 static void w2c_f35(module *, u64, u64, u64);
@@ -612,8 +623,8 @@ static void w2c_f40(module *, u64, u32, u32, u64, u64, u64, u64);
 static void w2c_f41(module *, u64, u32, u64, u64);
 static void w2c_f42(module *, u64, u32, u64, u64, u64);
 static void w2c_f43(module *, u64, u64, u64, u64);
-static void w2c_f44(module *, u64, u64, u64);
-static void w2c_f45(module *, u64, u32, u64, u32, u64, u64);
+static void w2c_f44(module *, u64, u32, u64, u32, u64, u64);
+static void w2c_f45(module *, u64, u32, u64, u64, u32, u32);
 static u32 w2c_f46(module *, u64, u64, u32, u64, u64, u64);
 static void w2c_f47(module *, u64, u32, u64, u64);
 static void w2c_f48(module *, u64, u32, u64, u64, u64);
@@ -6806,225 +6817,256 @@ static void w2c_f11(module *m, u64 w2c_p0, u64 w2c_p1, u64 w2c_p2) {
   m->w2c_g0 = w2c_j0;
 }
 
-static void w2c_f12(module *m, u64 w2c_p0, u64 w2c_p1, u64 w2c_p2) {
-  u32 w2c_l10 = 0, w2c_l11 = 0;
-  u64 w2c_l3 = 0, w2c_l4 = 0, w2c_l5 = 0, w2c_l6 = 0, w2c_l7 = 0, w2c_l8 = 0, w2c_l9 = 0;
+static u32 w2c_f12(module *m, u64 w2c_p0, u64 w2c_p1) {
+  u32 w2c_l9 = 0, w2c_l10 = 0, w2c_l11 = 0;
+  u64 w2c_l2 = 0, w2c_l3 = 0, w2c_l4 = 0, w2c_l5 = 0, w2c_l6 = 0, w2c_l7 = 0, w2c_l8 = 0;
   u32 w2c_i0, w2c_i1, w2c_i2, w2c_i3;
   u64 w2c_j0, w2c_j1, w2c_j2, w2c_j3;
   w2c_j0 = m->w2c_g0;
   w2c_j1 = 16ull;
   w2c_j0 -= w2c_j1;
-  w2c_l3 = w2c_j0;
+  w2c_l2 = w2c_j0;
   m->w2c_g0 = w2c_j0;
-  w2c_j0 = w2c_l3;
-  w2c_l4 = w2c_j0;
+  w2c_j0 = w2c_l2;
+  w2c_l3 = w2c_j0;
   w2c_j1 = 16ull;
   w2c_i0 = (u64)((s64)w2c_j0 < (s64)w2c_j1);
-  if (w2c_i0) {goto w2c_B2;}
-  w2c_j0 = w2c_p2;
-  w2c_i0 = !(w2c_j0);
-  if (w2c_i0) {goto w2c_B1;}
+  if (w2c_i0) {goto w2c_B0;}
   w2c_j0 = w2c_p1;
-  w2c_j1 = w2c_p2;
+  w2c_i0 = !(w2c_j0);
+  w2c_i0 = !(w2c_i0);
+  if (w2c_i0) {goto w2c_B2;}
+  w2c_i0 = 1u;
+  w2c_l9 = w2c_i0;
+  goto w2c_B1;
+  w2c_B2:;
+  w2c_j0 = w2c_p0;
+  w2c_j1 = w2c_p1;
   w2c_j2 = 18446744073709551608ull;
   w2c_j1 += w2c_j2;
-  w2c_l5 = w2c_j1;
+  w2c_l4 = w2c_j1;
   w2c_j0 += w2c_j1;
-  w2c_l6 = w2c_j0;
+  w2c_l5 = w2c_j0;
   w2c_j0 = 0ull;
-  w2c_l3 = w2c_j0;
+  w2c_l2 = w2c_j0;
   w2c_L3:
-    w2c_j0 = w2c_p1;
-    w2c_j1 = w2c_l3;
-    w2c_l7 = w2c_j1;
+    w2c_j0 = w2c_p0;
+    w2c_j1 = w2c_l2;
+    w2c_l6 = w2c_j1;
     w2c_j0 += w2c_j1;
-    w2c_l3 = w2c_j0;
+    w2c_l2 = w2c_j0;
     w2c_i0 = (u32)(w2c_j0);
     w2c_i0 = i32_load8_u(m, (u64)(w2c_i0));
     w2c_l10 = w2c_i0;
-    w2c_j0 = w2c_p2;
-    w2c_j1 = w2c_l7;
+    w2c_j0 = w2c_p1;
+    w2c_j1 = w2c_l6;
     w2c_j0 -= w2c_j1;
-    w2c_l8 = w2c_j0;
+    w2c_l7 = w2c_j0;
     w2c_j1 = 2ull;
     w2c_i0 = w2c_j0 < w2c_j1;
-    if (w2c_i0) {goto w2c_B8;}
+    if (w2c_i0) {goto w2c_B7;}
     w2c_i0 = w2c_l10;
     w2c_i0 = (u32)(s32)(s8)(u8)(w2c_i0);
     w2c_i1 = 0u;
     w2c_i0 = (u32)((s32)w2c_i0 < (s32)w2c_i1);
-    if (w2c_i0) {goto w2c_B8;}
+    if (w2c_i0) {goto w2c_B7;}
     w2c_j0 = 1ull;
-    w2c_l9 = w2c_j0;
-    w2c_j0 = w2c_l3;
+    w2c_l8 = w2c_j0;
+    w2c_j0 = w2c_l2;
     w2c_j1 = 1ull;
     w2c_j0 += w2c_j1;
     w2c_i0 = (u32)(w2c_j0);
     w2c_i0 = i32_load8_s(m, (u64)(w2c_i0));
     w2c_i1 = 0u;
     w2c_i0 = (u32)((s32)w2c_i0 < (s32)w2c_i1);
-    if (w2c_i0) {goto w2c_B7;}
-    w2c_j0 = w2c_l4;
-    w2c_i0 = (u32)(w2c_j0);
-    w2c_j1 = w2c_p2;
-    i64_store(m, (u64)(w2c_i0) + 8, w2c_j1);
-    w2c_j0 = w2c_l4;
+    if (w2c_i0) {goto w2c_B6;}
+    w2c_j0 = w2c_l3;
     w2c_i0 = (u32)(w2c_j0);
     w2c_j1 = w2c_p1;
+    i64_store(m, (u64)(w2c_i0) + 8, w2c_j1);
+    w2c_j0 = w2c_l3;
+    w2c_i0 = (u32)(w2c_j0);
+    w2c_j1 = w2c_p0;
     i64_store(m, (u64)(w2c_i0), w2c_j1);
-    w2c_j0 = w2c_l8;
+    w2c_j0 = w2c_l7;
     w2c_j1 = 7ull;
     w2c_i0 = w2c_j0 > w2c_j1;
-    if (w2c_i0) {goto w2c_B9;}
-    w2c_j0 = w2c_l3;
+    if (w2c_i0) {goto w2c_B8;}
+    w2c_j0 = w2c_l2;
     w2c_i0 = (u32)(w2c_j0);
     w2c_i0 = i32_load8_s(m, (u64)(w2c_i0));
     w2c_i1 = 0u;
     w2c_i0 = (u32)((s32)w2c_i0 >= (s32)w2c_i1);
-    if (w2c_i0) {goto w2c_B10;}
-    w2c_j0 = w2c_l7;
-    w2c_l3 = w2c_j0;
+    if (w2c_i0) {goto w2c_B9;}
+    w2c_j0 = w2c_l6;
+    w2c_l2 = w2c_j0;
     goto w2c_B4;
-    w2c_B10:;
-    w2c_j0 = w2c_l7;
+    w2c_B9:;
+    w2c_j0 = w2c_l6;
     w2c_j1 = 1ull;
     w2c_j0 += w2c_j1;
-    w2c_l3 = w2c_j0;
-    w2c_j1 = w2c_p2;
-    w2c_i0 = w2c_j0 == w2c_j1;
-    if (w2c_i0) {goto w2c_B1;}
-    w2c_j0 = w2c_p1;
-    w2c_j1 = w2c_l3;
+    w2c_l2 = w2c_j0;
+    w2c_j1 = w2c_p1;
+    w2c_i0 = w2c_j0 != w2c_j1;
+    if (w2c_i0) {goto w2c_B10;}
+    w2c_i0 = 1u;
+    w2c_l9 = w2c_i0;
+    goto w2c_B1;
+    w2c_B10:;
+    w2c_j0 = w2c_p0;
+    w2c_j1 = w2c_l2;
     w2c_j0 += w2c_j1;
     w2c_i0 = (u32)(w2c_j0);
     w2c_i0 = i32_load8_s(m, (u64)(w2c_i0));
     w2c_i1 = 0u;
     w2c_i0 = (u32)((s32)w2c_i0 < (s32)w2c_i1);
     if (w2c_i0) {goto w2c_B4;}
-    w2c_j0 = w2c_l7;
+    w2c_j0 = w2c_l6;
     w2c_j1 = 2ull;
     w2c_j0 += w2c_j1;
-    w2c_l3 = w2c_j0;
-    w2c_j1 = w2c_p2;
-    w2c_i0 = w2c_j0 == w2c_j1;
-    if (w2c_i0) {goto w2c_B1;}
-    w2c_j0 = w2c_p1;
-    w2c_j1 = w2c_l3;
+    w2c_l2 = w2c_j0;
+    w2c_j1 = w2c_p1;
+    w2c_i0 = w2c_j0 != w2c_j1;
+    if (w2c_i0) {goto w2c_B11;}
+    w2c_i0 = 1u;
+    w2c_l9 = w2c_i0;
+    goto w2c_B1;
+    w2c_B11:;
+    w2c_j0 = w2c_p0;
+    w2c_j1 = w2c_l2;
     w2c_j0 += w2c_j1;
     w2c_i0 = (u32)(w2c_j0);
     w2c_i0 = i32_load8_s(m, (u64)(w2c_i0));
     w2c_i1 = 0u;
     w2c_i0 = (u32)((s32)w2c_i0 < (s32)w2c_i1);
     if (w2c_i0) {goto w2c_B4;}
-    w2c_j0 = w2c_l7;
+    w2c_j0 = w2c_l6;
     w2c_j1 = 3ull;
     w2c_j0 += w2c_j1;
-    w2c_l3 = w2c_j0;
-    w2c_j1 = w2c_p2;
-    w2c_i0 = w2c_j0 == w2c_j1;
-    if (w2c_i0) {goto w2c_B1;}
-    w2c_j0 = w2c_p1;
-    w2c_j1 = w2c_l3;
+    w2c_l2 = w2c_j0;
+    w2c_j1 = w2c_p1;
+    w2c_i0 = w2c_j0 != w2c_j1;
+    if (w2c_i0) {goto w2c_B12;}
+    w2c_i0 = 1u;
+    w2c_l9 = w2c_i0;
+    goto w2c_B1;
+    w2c_B12:;
+    w2c_j0 = w2c_p0;
+    w2c_j1 = w2c_l2;
     w2c_j0 += w2c_j1;
     w2c_i0 = (u32)(w2c_j0);
     w2c_i0 = i32_load8_s(m, (u64)(w2c_i0));
     w2c_i1 = 0u;
     w2c_i0 = (u32)((s32)w2c_i0 < (s32)w2c_i1);
     if (w2c_i0) {goto w2c_B4;}
-    w2c_j0 = w2c_l7;
+    w2c_j0 = w2c_l6;
     w2c_j1 = 4ull;
     w2c_j0 += w2c_j1;
-    w2c_l3 = w2c_j0;
-    w2c_j1 = w2c_p2;
-    w2c_i0 = w2c_j0 == w2c_j1;
-    if (w2c_i0) {goto w2c_B1;}
-    w2c_j0 = w2c_p1;
-    w2c_j1 = w2c_l3;
+    w2c_l2 = w2c_j0;
+    w2c_j1 = w2c_p1;
+    w2c_i0 = w2c_j0 != w2c_j1;
+    if (w2c_i0) {goto w2c_B13;}
+    w2c_i0 = 1u;
+    w2c_l9 = w2c_i0;
+    goto w2c_B1;
+    w2c_B13:;
+    w2c_j0 = w2c_p0;
+    w2c_j1 = w2c_l2;
     w2c_j0 += w2c_j1;
     w2c_i0 = (u32)(w2c_j0);
     w2c_i0 = i32_load8_s(m, (u64)(w2c_i0));
     w2c_i1 = 0u;
     w2c_i0 = (u32)((s32)w2c_i0 < (s32)w2c_i1);
     if (w2c_i0) {goto w2c_B4;}
-    w2c_j0 = w2c_l7;
+    w2c_j0 = w2c_l6;
     w2c_j1 = 5ull;
     w2c_j0 += w2c_j1;
-    w2c_l3 = w2c_j0;
-    w2c_j1 = w2c_p2;
-    w2c_i0 = w2c_j0 == w2c_j1;
-    if (w2c_i0) {goto w2c_B1;}
-    w2c_j0 = w2c_p1;
-    w2c_j1 = w2c_l3;
+    w2c_l2 = w2c_j0;
+    w2c_j1 = w2c_p1;
+    w2c_i0 = w2c_j0 != w2c_j1;
+    if (w2c_i0) {goto w2c_B14;}
+    w2c_i0 = 1u;
+    w2c_l9 = w2c_i0;
+    goto w2c_B1;
+    w2c_B14:;
+    w2c_j0 = w2c_p0;
+    w2c_j1 = w2c_l2;
     w2c_j0 += w2c_j1;
     w2c_i0 = (u32)(w2c_j0);
     w2c_i0 = i32_load8_s(m, (u64)(w2c_i0));
     w2c_i1 = 0u;
     w2c_i0 = (u32)((s32)w2c_i0 < (s32)w2c_i1);
     if (w2c_i0) {goto w2c_B4;}
-    w2c_j0 = w2c_l7;
+    w2c_j0 = w2c_l6;
     w2c_j1 = 6ull;
     w2c_j0 += w2c_j1;
-    w2c_l3 = w2c_j0;
-    w2c_j1 = w2c_p2;
-    w2c_i0 = w2c_j0 == w2c_j1;
-    if (w2c_i0) {goto w2c_B1;}
-    w2c_j0 = w2c_p1;
-    w2c_j1 = w2c_l3;
+    w2c_l2 = w2c_j0;
+    w2c_j1 = w2c_p1;
+    w2c_i0 = w2c_j0 != w2c_j1;
+    if (w2c_i0) {goto w2c_B15;}
+    w2c_i0 = 1u;
+    w2c_l9 = w2c_i0;
+    goto w2c_B1;
+    w2c_B15:;
+    w2c_j0 = w2c_p0;
+    w2c_j1 = w2c_l2;
     w2c_j0 += w2c_j1;
     w2c_i0 = (u32)(w2c_j0);
     w2c_i0 = i32_load8_s(m, (u64)(w2c_i0));
     w2c_i1 = 0u;
     w2c_i0 = (u32)((s32)w2c_i0 < (s32)w2c_i1);
     if (w2c_i0) {goto w2c_B4;}
+    w2c_i0 = 1u;
+    w2c_l9 = w2c_i0;
     goto w2c_B1;
-    w2c_B9:;
+    w2c_B8:;
     w2c_j0 = 8ull;
-    w2c_j1 = w2c_l3;
+    w2c_j1 = w2c_l2;
     w2c_i1 = (u32)(w2c_j1);
     w2c_j1 = i64_load(m, (u64)(w2c_i1));
     w2c_j2 = 9259542123273814144ull;
     w2c_j1 &= w2c_j2;
-    w2c_l3 = w2c_j1;
+    w2c_l2 = w2c_j1;
     w2c_j1 = I64_CTZ(w2c_j1);
     w2c_j2 = 3ull;
     w2c_j1 >>= (w2c_j2 & 63);
-    w2c_j2 = w2c_l3;
+    w2c_j2 = w2c_l2;
     w2c_i2 = !(w2c_j2);
     w2c_j0 = w2c_i2 ? w2c_j0 : w2c_j1;
-    w2c_j1 = w2c_l7;
+    w2c_j1 = w2c_l6;
     w2c_j0 += w2c_j1;
-    w2c_l3 = w2c_j0;
-    w2c_j1 = w2c_l7;
+    w2c_l2 = w2c_j0;
+    w2c_j1 = w2c_l6;
     w2c_j2 = 8ull;
     w2c_j1 += w2c_j2;
     w2c_i0 = w2c_j0 < w2c_j1;
     if (w2c_i0) {goto w2c_B4;}
-    w2c_j0 = w2c_p2;
-    w2c_j1 = w2c_l3;
+    w2c_j0 = w2c_p1;
+    w2c_j1 = w2c_l2;
     w2c_j0 -= w2c_j1;
     w2c_j1 = 32ull;
     w2c_i0 = w2c_j0 < w2c_j1;
-    if (w2c_i0) {goto w2c_B11;}
-    w2c_L12:
-      w2c_j0 = w2c_p1;
-      w2c_j1 = w2c_l3;
+    if (w2c_i0) {goto w2c_B16;}
+    w2c_L17:
+      w2c_j0 = w2c_p0;
+      w2c_j1 = w2c_l2;
       w2c_j0 += w2c_j1;
-      w2c_l7 = w2c_j0;
+      w2c_l6 = w2c_j0;
       w2c_j1 = 8ull;
       w2c_j0 += w2c_j1;
       w2c_i0 = (u32)(w2c_j0);
       w2c_j0 = i64_load(m, (u64)(w2c_i0));
-      w2c_j1 = w2c_l7;
+      w2c_j1 = w2c_l6;
       w2c_i1 = (u32)(w2c_j1);
       w2c_j1 = i64_load(m, (u64)(w2c_i1));
       w2c_j0 |= w2c_j1;
-      w2c_j1 = w2c_l7;
+      w2c_j1 = w2c_l6;
       w2c_j2 = 16ull;
       w2c_j1 += w2c_j2;
       w2c_i1 = (u32)(w2c_j1);
       w2c_j1 = i64_load(m, (u64)(w2c_i1));
       w2c_j0 |= w2c_j1;
-      w2c_j1 = w2c_l7;
+      w2c_j1 = w2c_l6;
       w2c_j2 = 24ull;
       w2c_j1 += w2c_j2;
       w2c_i1 = (u32)(w2c_j1);
@@ -7034,105 +7076,107 @@ static void w2c_f12(module *m, u64 w2c_p0, u64 w2c_p1, u64 w2c_p2) {
       w2c_j0 &= w2c_j1;
       w2c_j1 = 0ull;
       w2c_i0 = w2c_j0 != w2c_j1;
-      if (w2c_i0) {goto w2c_B11;}
-      w2c_j0 = w2c_p2;
-      w2c_j1 = w2c_l4;
-      w2c_j2 = w2c_l3;
+      if (w2c_i0) {goto w2c_B16;}
+      w2c_j0 = w2c_p1;
+      w2c_j1 = w2c_l3;
+      w2c_j2 = w2c_l2;
       w2c_j3 = 32ull;
       w2c_j2 += w2c_j3;
-      w2c_j3 = w2c_p2;
+      w2c_j3 = w2c_p1;
       w2c_j1 = w2c_f13(m, w2c_j1, w2c_j2, w2c_j3);
-      w2c_l3 = w2c_j1;
+      w2c_l2 = w2c_j1;
       w2c_j0 -= w2c_j1;
       w2c_j1 = 31ull;
       w2c_i0 = w2c_j0 > w2c_j1;
-      if (w2c_i0) {goto w2c_L12;}
-    w2c_B11:;
-    w2c_j0 = w2c_p2;
-    w2c_j1 = w2c_l3;
+      if (w2c_i0) {goto w2c_L17;}
+    w2c_B16:;
+    w2c_j0 = w2c_p1;
+    w2c_j1 = w2c_l2;
     w2c_j0 -= w2c_j1;
-    w2c_l7 = w2c_j0;
-    w2c_L13:
-      w2c_j0 = w2c_l7;
+    w2c_l6 = w2c_j0;
+    w2c_L18:
+      w2c_j0 = w2c_l6;
       w2c_j1 = 9ull;
       w2c_i0 = w2c_j0 < w2c_j1;
-      if (w2c_i0) {goto w2c_B6;}
-      w2c_j0 = w2c_l7;
+      if (w2c_i0) {goto w2c_B5;}
+      w2c_j0 = w2c_l6;
       w2c_j1 = 18446744073709551608ull;
       w2c_j0 += w2c_j1;
-      w2c_l7 = w2c_j0;
+      w2c_l6 = w2c_j0;
       w2c_j0 = 8ull;
-      w2c_j1 = w2c_p1;
-      w2c_j2 = w2c_l3;
+      w2c_j1 = w2c_p0;
+      w2c_j2 = w2c_l2;
       w2c_j1 += w2c_j2;
       w2c_i1 = (u32)(w2c_j1);
       w2c_j1 = i64_load(m, (u64)(w2c_i1));
       w2c_j2 = 9259542123273814144ull;
       w2c_j1 &= w2c_j2;
-      w2c_l9 = w2c_j1;
+      w2c_l8 = w2c_j1;
       w2c_j1 = I64_CTZ(w2c_j1);
       w2c_j2 = 3ull;
       w2c_j1 >>= (w2c_j2 & 63);
-      w2c_j2 = w2c_l9;
+      w2c_j2 = w2c_l8;
       w2c_i2 = !(w2c_j2);
       w2c_j0 = w2c_i2 ? w2c_j0 : w2c_j1;
-      w2c_l9 = w2c_j0;
-      w2c_j1 = w2c_l3;
+      w2c_l8 = w2c_j0;
+      w2c_j1 = w2c_l2;
       w2c_j0 += w2c_j1;
-      w2c_j1 = w2c_l3;
+      w2c_j1 = w2c_l2;
       w2c_j2 = 8ull;
       w2c_j1 += w2c_j2;
-      w2c_l3 = w2c_j1;
+      w2c_l2 = w2c_j1;
       w2c_i0 = w2c_j0 >= w2c_j1;
-      if (w2c_i0) {goto w2c_L13;}
-    w2c_j0 = w2c_l9;
-    w2c_j1 = w2c_l3;
+      if (w2c_i0) {goto w2c_L18;}
+    w2c_j0 = w2c_l8;
+    w2c_j1 = w2c_l2;
     w2c_j0 += w2c_j1;
     w2c_j1 = 18446744073709551608ull;
     w2c_j0 += w2c_j1;
-    w2c_l3 = w2c_j0;
+    w2c_l2 = w2c_j0;
     goto w2c_B4;
-    w2c_B8:;
+    w2c_B7:;
     w2c_j0 = 1ull;
-    w2c_l9 = w2c_j0;
+    w2c_l8 = w2c_j0;
     w2c_i0 = w2c_l10;
     w2c_i0 = (u32)(s32)(s8)(u8)(w2c_i0);
     w2c_i1 = 4294967295u;
     w2c_i0 = (u32)((s32)w2c_i0 > (s32)w2c_i1);
-    if (w2c_i0) {goto w2c_B7;}
+    if (w2c_i0) {goto w2c_B6;}
+    w2c_i0 = 0u;
+    w2c_l9 = w2c_i0;
     w2c_i0 = w2c_l10;
     w2c_i1 = 194u;
     w2c_i0 = w2c_i0 < w2c_i1;
-    if (w2c_i0) {goto w2c_B5;}
+    if (w2c_i0) {goto w2c_B1;}
     w2c_i0 = w2c_l10;
     w2c_i1 = 223u;
     w2c_i0 = w2c_i0 > w2c_i1;
-    if (w2c_i0) {goto w2c_B14;}
+    if (w2c_i0) {goto w2c_B19;}
     w2c_j0 = 2ull;
-    w2c_l9 = w2c_j0;
-    w2c_j0 = w2c_l8;
+    w2c_l8 = w2c_j0;
+    w2c_j0 = w2c_l7;
     w2c_j1 = 2ull;
     w2c_i0 = w2c_j0 < w2c_j1;
-    if (w2c_i0) {goto w2c_B5;}
-    w2c_j0 = w2c_l3;
+    if (w2c_i0) {goto w2c_B1;}
+    w2c_j0 = w2c_l2;
     w2c_j1 = 1ull;
     w2c_j0 += w2c_j1;
     w2c_i0 = (u32)(w2c_j0);
     w2c_i0 = i32_load8_s(m, (u64)(w2c_i0));
     w2c_i1 = 4294967231u;
     w2c_i0 = (u32)((s32)w2c_i0 <= (s32)w2c_i1);
-    if (w2c_i0) {goto w2c_B7;}
-    goto w2c_B5;
-    w2c_B14:;
+    if (w2c_i0) {goto w2c_B6;}
+    goto w2c_B1;
+    w2c_B19:;
     w2c_i0 = w2c_l10;
     w2c_i1 = 239u;
     w2c_i0 = w2c_i0 > w2c_i1;
-    if (w2c_i0) {goto w2c_B16;}
-    w2c_j0 = w2c_l8;
+    if (w2c_i0) {goto w2c_B21;}
+    w2c_j0 = w2c_l7;
     w2c_j1 = 3ull;
     w2c_i0 = w2c_j0 < w2c_j1;
-    if (w2c_i0) {goto w2c_B5;}
-    w2c_j0 = w2c_l3;
+    if (w2c_i0) {goto w2c_B1;}
+    w2c_j0 = w2c_l2;
     w2c_j1 = 1ull;
     w2c_j0 += w2c_j1;
     w2c_i0 = (u32)(w2c_j0);
@@ -7140,15 +7184,15 @@ static void w2c_f12(module *m, u64 w2c_p0, u64 w2c_p1, u64 w2c_p2) {
     w2c_l11 = w2c_i0;
     w2c_i1 = 4294967231u;
     w2c_i0 = (u32)((s32)w2c_i0 > (s32)w2c_i1);
-    if (w2c_i0) {goto w2c_B5;}
-    w2c_j0 = w2c_l3;
+    if (w2c_i0) {goto w2c_B1;}
+    w2c_j0 = w2c_l2;
     w2c_j1 = 2ull;
     w2c_j0 += w2c_j1;
     w2c_i0 = (u32)(w2c_j0);
     w2c_i0 = i32_load8_s(m, (u64)(w2c_i0));
     w2c_i1 = 4294967231u;
     w2c_i0 = (u32)((s32)w2c_i0 > (s32)w2c_i1);
-    if (w2c_i0) {goto w2c_B5;}
+    if (w2c_i0) {goto w2c_B1;}
     w2c_i0 = w2c_l10;
     w2c_i1 = 6u;
     w2c_i0 <<= (w2c_i1 & 31);
@@ -7161,27 +7205,27 @@ static void w2c_f12(module *m, u64 w2c_p0, u64 w2c_p1, u64 w2c_p2) {
     w2c_l10 = w2c_i0;
     w2c_i1 = 32u;
     w2c_i0 = w2c_i0 < w2c_i1;
-    if (w2c_i0) {goto w2c_B5;}
+    if (w2c_i0) {goto w2c_B1;}
     w2c_j0 = 3ull;
-    w2c_l9 = w2c_j0;
+    w2c_l8 = w2c_j0;
     w2c_i0 = w2c_l10;
     w2c_i1 = 864u;
     w2c_i0 = w2c_i0 < w2c_i1;
-    if (w2c_i0) {goto w2c_B7;}
+    if (w2c_i0) {goto w2c_B6;}
     w2c_j0 = 0ull;
     w2c_j1 = 3ull;
     w2c_i2 = w2c_l10;
     w2c_i3 = 896u;
     w2c_i2 = w2c_i2 < w2c_i3;
     w2c_j0 = w2c_i2 ? w2c_j0 : w2c_j1;
-    w2c_l9 = w2c_j0;
-    goto w2c_B15;
-    w2c_B16:;
-    w2c_j0 = w2c_l8;
+    w2c_l8 = w2c_j0;
+    goto w2c_B20;
+    w2c_B21:;
+    w2c_j0 = w2c_l7;
     w2c_j1 = 4ull;
     w2c_i0 = w2c_j0 < w2c_j1;
-    if (w2c_i0) {goto w2c_B5;}
-    w2c_j0 = w2c_l3;
+    if (w2c_i0) {goto w2c_B1;}
+    w2c_j0 = w2c_l2;
     w2c_j1 = 1ull;
     w2c_j0 += w2c_j1;
     w2c_i0 = (u32)(w2c_j0);
@@ -7189,23 +7233,23 @@ static void w2c_f12(module *m, u64 w2c_p0, u64 w2c_p1, u64 w2c_p2) {
     w2c_l11 = w2c_i0;
     w2c_i1 = 4294967231u;
     w2c_i0 = (u32)((s32)w2c_i0 > (s32)w2c_i1);
-    if (w2c_i0) {goto w2c_B5;}
-    w2c_j0 = w2c_l3;
+    if (w2c_i0) {goto w2c_B1;}
+    w2c_j0 = w2c_l2;
     w2c_j1 = 2ull;
     w2c_j0 += w2c_j1;
     w2c_i0 = (u32)(w2c_j0);
     w2c_i0 = i32_load8_s(m, (u64)(w2c_i0));
     w2c_i1 = 4294967231u;
     w2c_i0 = (u32)((s32)w2c_i0 > (s32)w2c_i1);
-    if (w2c_i0) {goto w2c_B5;}
-    w2c_j0 = w2c_l3;
+    if (w2c_i0) {goto w2c_B1;}
+    w2c_j0 = w2c_l2;
     w2c_j1 = 3ull;
     w2c_j0 += w2c_j1;
     w2c_i0 = (u32)(w2c_j0);
     w2c_i0 = i32_load8_s(m, (u64)(w2c_i0));
     w2c_i1 = 4294967231u;
     w2c_i0 = (u32)((s32)w2c_i0 > (s32)w2c_i1);
-    if (w2c_i0) {goto w2c_B5;}
+    if (w2c_i0) {goto w2c_B1;}
     w2c_i0 = w2c_l10;
     w2c_i1 = 6u;
     w2c_i0 <<= (w2c_i1 & 31);
@@ -7218,83 +7262,59 @@ static void w2c_f12(module *m, u64 w2c_p0, u64 w2c_p1, u64 w2c_p2) {
     w2c_l10 = w2c_i0;
     w2c_i1 = 16u;
     w2c_i0 = w2c_i0 < w2c_i1;
-    if (w2c_i0) {goto w2c_B5;}
+    if (w2c_i0) {goto w2c_B1;}
     w2c_j0 = 4ull;
     w2c_j1 = 0ull;
     w2c_i2 = w2c_l10;
     w2c_i3 = 272u;
     w2c_i2 = w2c_i2 < w2c_i3;
     w2c_j0 = w2c_i2 ? w2c_j0 : w2c_j1;
-    w2c_l9 = w2c_j0;
-    w2c_B15:;
-    w2c_j0 = w2c_l9;
+    w2c_l8 = w2c_j0;
+    w2c_B20:;
+    w2c_j0 = w2c_l8;
     w2c_i0 = !(w2c_j0);
-    if (w2c_i0) {goto w2c_B5;}
-    w2c_B7:;
-    w2c_j0 = w2c_l9;
-    w2c_j1 = w2c_l7;
-    w2c_j0 += w2c_j1;
-    w2c_l3 = w2c_j0;
-    goto w2c_B4;
+    if (w2c_i0) {goto w2c_B1;}
     w2c_B6:;
-    w2c_j0 = 8ull;
+    w2c_j0 = w2c_l8;
     w2c_j1 = w2c_l6;
+    w2c_j0 += w2c_j1;
+    w2c_l2 = w2c_j0;
+    goto w2c_B4;
+    w2c_B5:;
+    w2c_j0 = 8ull;
+    w2c_j1 = w2c_l5;
     w2c_i1 = (u32)(w2c_j1);
     w2c_j1 = i64_load(m, (u64)(w2c_i1));
     w2c_j2 = 9259542123273814144ull;
     w2c_j1 &= w2c_j2;
-    w2c_l3 = w2c_j1;
+    w2c_l2 = w2c_j1;
     w2c_j1 = I64_CTZ(w2c_j1);
     w2c_j2 = 3ull;
     w2c_j1 >>= (w2c_j2 & 63);
-    w2c_j2 = w2c_l3;
+    w2c_j2 = w2c_l2;
     w2c_i2 = !(w2c_j2);
     w2c_j0 = w2c_i2 ? w2c_j0 : w2c_j1;
-    w2c_j1 = w2c_l5;
+    w2c_j1 = w2c_l4;
     w2c_j0 += w2c_j1;
-    w2c_l3 = w2c_j0;
-    goto w2c_B4;
-    w2c_B5:;
-    w2c_j0 = 0ull;
-    w2c_p1 = w2c_j0;
-    w2c_j0 = 0ull;
-    w2c_p2 = w2c_j0;
-    w2c_j0 = 0ull;
-    w2c_l3 = w2c_j0;
-    goto w2c_B0;
+    w2c_l2 = w2c_j0;
     w2c_B4:;
-    w2c_j0 = w2c_l3;
-    w2c_j1 = w2c_p2;
+    w2c_j0 = w2c_l2;
+    w2c_j1 = w2c_p1;
     w2c_i0 = w2c_j0 < w2c_j1;
     if (w2c_i0) {goto w2c_L3;}
-    goto w2c_B1;
-  UNREACHABLE;
-  w2c_B2:;
-  UNREACHABLE;
+  w2c_i0 = 1u;
+  w2c_l9 = w2c_i0;
   w2c_B1:;
-  w2c_j0 = 1ull;
-  w2c_l3 = w2c_j0;
-  w2c_B0:;
-  w2c_j0 = w2c_p0;
-  w2c_i0 = (u32)(w2c_j0);
-  w2c_j1 = w2c_l3;
-  i64_store(m, (u64)(w2c_i0), w2c_j1);
-  w2c_j0 = w2c_p0;
-  w2c_j1 = 16ull;
-  w2c_j0 += w2c_j1;
-  w2c_i0 = (u32)(w2c_j0);
-  w2c_j1 = w2c_p2;
-  i64_store(m, (u64)(w2c_i0), w2c_j1);
-  w2c_j0 = w2c_p0;
-  w2c_j1 = 8ull;
-  w2c_j0 += w2c_j1;
-  w2c_i0 = (u32)(w2c_j0);
-  w2c_j1 = w2c_p1;
-  i64_store(m, (u64)(w2c_i0), w2c_j1);
-  w2c_j0 = w2c_l4;
+  w2c_j0 = w2c_l3;
   w2c_j1 = 16ull;
   w2c_j0 += w2c_j1;
   m->w2c_g0 = w2c_j0;
+  w2c_i0 = w2c_l9;
+  goto w2c_Bfunc;
+  w2c_B0:;
+  UNREACHABLE;
+  w2c_Bfunc:;
+  return w2c_i0;
 }
 
 static u64 w2c_f13(module *m, u64 w2c_p0, u64 w2c_p1, u64 w2c_p2) {
@@ -8007,12 +8027,7 @@ static u32 w2c_f15(module *m, u32 w2c_p0, u64 w2c_p1, u64 w2c_p2, u64 w2c_p3, u3
   u32 w2c_i0, w2c_i1, w2c_i2, w2c_i4, w2c_i5;
   u64 w2c_j0, w2c_j1, w2c_j2, w2c_j3, w2c_j6, w2c_j7, w2c_j8;
   w2c_j0 = m->w2c_g0;
-  w2c_j1 = 32ull;
-  w2c_j0 -= w2c_j1;
   w2c_l9 = w2c_j0;
-  m->w2c_g0 = w2c_j0;
-  w2c_j0 = w2c_l9;
-  w2c_l10 = w2c_j0;
   w2c_j1 = 16ull;
   w2c_i0 = (u64)((s64)w2c_j0 < (s64)w2c_j1);
   if (w2c_i0) {goto w2c_B0;}
@@ -8038,18 +8053,6 @@ static u32 w2c_f15(module *m, u32 w2c_p0, u64 w2c_p1, u64 w2c_p2, u64 w2c_p3, u3
   w2c_i1 = 15u;
   w2c_i0 = w2c_i0 > w2c_i1;
   if (w2c_i0) {goto w2c_B1;}
-  w2c_j0 = w2c_l10;
-  w2c_i0 = (u32)(w2c_j0);
-  w2c_j1 = 0ull;
-  i64_store(m, (u64)(w2c_i0) + 24, w2c_j1);
-  w2c_j0 = w2c_l10;
-  w2c_i0 = (u32)(w2c_j0);
-  w2c_j1 = 0ull;
-  i64_store(m, (u64)(w2c_i0) + 16, w2c_j1);
-  w2c_j0 = w2c_l10;
-  w2c_i0 = (u32)(w2c_j0);
-  w2c_j1 = 0ull;
-  i64_store(m, (u64)(w2c_i0) + 8, w2c_j1);
   w2c_i0 = w2c_p5;
   w2c_j0 = (u64)(w2c_i0);
   w2c_j1 = 66976ull;
@@ -8058,7 +8061,7 @@ static u32 w2c_f15(module *m, u32 w2c_p0, u64 w2c_p1, u64 w2c_p2, u64 w2c_p3, u3
   w2c_i0 = i32_load8_u(m, (u64)(w2c_i0));
   w2c_p5 = w2c_i0;
   w2c_j0 = w2c_p2;
-  w2c_l9 = w2c_j0;
+  w2c_l10 = w2c_j0;
   w2c_j0 = w2c_p2;
   w2c_j1 = 4ull;
   w2c_i0 = w2c_j0 < w2c_j1;
@@ -8068,42 +8071,35 @@ static u32 w2c_f15(module *m, u32 w2c_p0, u64 w2c_p1, u64 w2c_p2, u64 w2c_p3, u3
   w2c_j0 += w2c_j1;
   w2c_l11 = w2c_j0;
   w2c_j0 = w2c_p2;
-  w2c_l9 = w2c_j0;
+  w2c_l10 = w2c_j0;
   w2c_L7:
     w2c_j0 = w2c_l11;
-    w2c_j1 = w2c_l9;
+    w2c_j1 = w2c_l10;
     w2c_j0 += w2c_j1;
     w2c_i0 = (u32)(w2c_j0);
     w2c_i0 = i32_load(m, (u64)(w2c_i0));
-    w2c_l13 = w2c_i0;
-    w2c_i1 = 3233808384u;
-    w2c_i0 &= w2c_i1;
-    w2c_i1 = 2155872256u;
-    w2c_i0 = w2c_i0 != w2c_i1;
-    if (w2c_i0) {goto w2c_B5;}
-    w2c_i0 = w2c_l13;
     w2c_i1 = 8u;
     w2c_i0 >>= (w2c_i1 & 31);
-    w2c_i1 = 255u;
-    w2c_i0 &= w2c_i1;
-    w2c_i1 = 4294967071u;
+    w2c_i1 = 16776989u;
     w2c_i0 += w2c_i1;
-    w2c_i1 = 11u;
-    w2c_i0 = w2c_i0 > w2c_i1;
+    w2c_i1 = 12632312u;
+    w2c_i0 &= w2c_i1;
+    w2c_i1 = 8421376u;
+    w2c_i0 = w2c_i0 != w2c_i1;
     if (w2c_i0) {goto w2c_B5;}
-    w2c_j0 = w2c_l9;
+    w2c_j0 = w2c_l10;
     w2c_j1 = 18446744073709551613ull;
     w2c_j0 += w2c_j1;
-    w2c_l9 = w2c_j0;
+    w2c_l10 = w2c_j0;
     w2c_j1 = 3ull;
     w2c_i0 = w2c_j0 > w2c_j1;
     if (w2c_i0) {goto w2c_L7;}
   w2c_B6:;
-  w2c_j0 = w2c_l9;
+  w2c_j0 = w2c_l10;
   w2c_j1 = 3ull;
   w2c_i0 = w2c_j0 > w2c_j1;
   if (w2c_i0) {goto w2c_B5;}
-  w2c_j0 = w2c_l9;
+  w2c_j0 = w2c_l10;
   w2c_i0 = (u32)(w2c_j0);
   switch (w2c_i0) {
     case 0: goto w2c_B4;
@@ -8115,57 +8111,30 @@ static u32 w2c_f15(module *m, u32 w2c_p0, u64 w2c_p1, u64 w2c_p2, u64 w2c_p3, u3
   w2c_B8:;
   w2c_j0 = w2c_p1;
   w2c_i0 = (u32)(w2c_j0);
-  w2c_i0 = i32_load8_u(m, (u64)(w2c_i0));
-  w2c_i1 = 31u;
-  w2c_i0 += w2c_i1;
-  w2c_i1 = 255u;
-  w2c_i0 &= w2c_i1;
-  w2c_i1 = 11u;
-  w2c_i0 = w2c_i0 > w2c_i1;
-  if (w2c_i0) {goto w2c_B5;}
-  w2c_j0 = w2c_p1;
-  w2c_j1 = 2ull;
-  w2c_j0 += w2c_j1;
-  w2c_i0 = (u32)(w2c_j0);
-  w2c_i0 = i32_load8_u(m, (u64)(w2c_i0));
-  w2c_i1 = 16u;
-  w2c_i0 <<= (w2c_i1 & 31);
+  w2c_i0 = i32_load16_u(m, (u64)(w2c_i0));
   w2c_j1 = w2c_p1;
-  w2c_j2 = 1ull;
+  w2c_j2 = 2ull;
   w2c_j1 += w2c_j2;
   w2c_i1 = (u32)(w2c_j1);
   w2c_i1 = i32_load8_u(m, (u64)(w2c_i1));
-  w2c_i2 = 8u;
+  w2c_i2 = 16u;
   w2c_i1 <<= (w2c_i2 & 31);
   w2c_i0 |= w2c_i1;
-  w2c_i1 = 12632064u;
+  w2c_i1 = 16776989u;
+  w2c_i0 += w2c_i1;
+  w2c_i1 = 12632312u;
   w2c_i0 &= w2c_i1;
   w2c_i1 = 8421376u;
   w2c_i0 = w2c_i0 == w2c_i1;
   if (w2c_i0) {goto w2c_B4;}
   w2c_B5:;
-  w2c_j0 = w2c_l10;
-  w2c_j1 = 8ull;
-  w2c_j0 += w2c_j1;
-  w2c_j1 = w2c_p1;
-  w2c_j2 = w2c_p2;
-  w2c_f12(m, w2c_j0, w2c_j1, w2c_j2);
   w2c_i0 = 5u;
   w2c_l13 = w2c_i0;
-  w2c_j0 = w2c_l10;
-  w2c_i0 = (u32)(w2c_j0);
-  w2c_i0 = i32_load8_u(m, (u64)(w2c_i0) + 8u);
-  w2c_i1 = 1u;
-  w2c_i0 = w2c_i0 != w2c_i1;
+  w2c_j0 = w2c_p1;
+  w2c_j1 = w2c_p2;
+  w2c_i0 = w2c_f12(m, w2c_j0, w2c_j1);
+  w2c_i0 = !(w2c_i0);
   if (w2c_i0) {goto w2c_B1;}
-  w2c_j0 = w2c_l10;
-  w2c_i0 = (u32)(w2c_j0);
-  w2c_j0 = i64_load(m, (u64)(w2c_i0) + 24u);
-  w2c_p2 = w2c_j0;
-  w2c_j0 = w2c_l10;
-  w2c_i0 = (u32)(w2c_j0);
-  w2c_j0 = i64_load(m, (u64)(w2c_i0) + 16u);
-  w2c_p1 = w2c_j0;
   w2c_B4:;
   w2c_i0 = w2c_p0;
   w2c_j1 = w2c_p1;
@@ -8179,9 +8148,7 @@ static u32 w2c_f15(module *m, u32 w2c_p0, u64 w2c_p1, u64 w2c_p2, u64 w2c_p3, u3
   w2c_i0 = w2c_f16(m, w2c_i0, w2c_j1, w2c_j2, w2c_j3, w2c_i4, w2c_i5, w2c_j6, w2c_j7, w2c_j8);
   w2c_l13 = w2c_i0;
   w2c_B1:;
-  w2c_j0 = w2c_l10;
-  w2c_j1 = 32ull;
-  w2c_j0 += w2c_j1;
+  w2c_j0 = w2c_l9;
   m->w2c_g0 = w2c_j0;
   w2c_i0 = w2c_l13;
   goto w2c_Bfunc;
@@ -8197,7 +8164,7 @@ static u32 w2c_f16(module *m, u32 w2c_p0, u64 w2c_p1, u64 w2c_p2, u64 w2c_p3, u3
   u32 w2c_i0, w2c_i1, w2c_i2, w2c_i3, w2c_i4;
   u64 w2c_j0, w2c_j1, w2c_j2, w2c_j5, w2c_j6;
   w2c_j0 = m->w2c_g0;
-  w2c_j1 = 160ull;
+  w2c_j1 = 144ull;
   w2c_j0 -= w2c_j1;
   w2c_l9 = w2c_j0;
   m->w2c_g0 = w2c_j0;
@@ -8234,15 +8201,23 @@ static u32 w2c_f16(module *m, u32 w2c_p0, u64 w2c_p1, u64 w2c_p2, u64 w2c_p3, u3
   w2c_j0 = w2c_l10;
   w2c_i0 = (u32)(w2c_j0);
   w2c_j1 = 0ull;
+  i64_store(m, (u64)(w2c_i0) + 104, w2c_j1);
+  w2c_j0 = w2c_l10;
+  w2c_i0 = (u32)(w2c_j0);
+  w2c_j1 = 0ull;
+  i64_store(m, (u64)(w2c_i0) + 112, w2c_j1);
+  w2c_j0 = w2c_l10;
+  w2c_i0 = (u32)(w2c_j0);
+  w2c_j1 = 0ull;
   i64_store(m, (u64)(w2c_i0) + 120, w2c_j1);
   w2c_j0 = w2c_l10;
   w2c_i0 = (u32)(w2c_j0);
   w2c_j1 = 0ull;
-  i64_store(m, (u64)(w2c_i0) + 128, w2c_j1);
+  i64_store(m, (u64)(w2c_i0) + 48, w2c_j1);
   w2c_j0 = w2c_l10;
   w2c_i0 = (u32)(w2c_j0);
   w2c_j1 = 0ull;
-  i64_store(m, (u64)(w2c_i0) + 136, w2c_j1);
+  i64_store(m, (u64)(w2c_i0) + 56, w2c_j1);
   w2c_j0 = w2c_l10;
   w2c_i0 = (u32)(w2c_j0);
   w2c_j1 = 0ull;
@@ -8259,14 +8234,6 @@ static u32 w2c_f16(module *m, u32 w2c_p0, u64 w2c_p1, u64 w2c_p2, u64 w2c_p3, u3
   w2c_i0 = (u32)(w2c_j0);
   w2c_j1 = 0ull;
   i64_store(m, (u64)(w2c_i0) + 88, w2c_j1);
-  w2c_j0 = w2c_l10;
-  w2c_i0 = (u32)(w2c_j0);
-  w2c_j1 = 0ull;
-  i64_store(m, (u64)(w2c_i0) + 96, w2c_j1);
-  w2c_j0 = w2c_l10;
-  w2c_i0 = (u32)(w2c_j0);
-  w2c_j1 = 0ull;
-  i64_store(m, (u64)(w2c_i0) + 104, w2c_j1);
   w2c_j0 = w2c_p7;
   w2c_i0 = !(w2c_j0);
   if (w2c_i0) {goto w2c_B4;}
@@ -8287,32 +8254,32 @@ static u32 w2c_f16(module *m, u32 w2c_p0, u64 w2c_p1, u64 w2c_p2, u64 w2c_p3, u3
     w2c_l13 = w2c_j0;
     w2c_j1 = 3ull;
     w2c_i0 = w2c_j0 < w2c_j1;
-    if (w2c_i0) {goto w2c_B13;}
+    if (w2c_i0) {goto w2c_B10;}
     w2c_j0 = w2c_l9;
     w2c_i0 = (u32)(w2c_j0);
     w2c_i0 = i32_load8_u(m, (u64)(w2c_i0));
-    w2c_l18 = w2c_i0;
+    w2c_p0 = w2c_i0;
     w2c_i1 = 240u;
     w2c_i0 &= w2c_i1;
     w2c_i1 = 224u;
     w2c_i0 = w2c_i0 != w2c_i1;
-    if (w2c_i0) {goto w2c_B12;}
+    if (w2c_i0) {goto w2c_B9;}
     w2c_j0 = w2c_l9;
     w2c_i0 = (u32)(w2c_j0);
     w2c_i0 = i32_load8_u(m, (u64)(w2c_i0) + 1u);
-    w2c_l19 = w2c_i0;
+    w2c_l18 = w2c_i0;
     w2c_i1 = 8u;
     w2c_i0 <<= (w2c_i1 & 31);
     w2c_j1 = w2c_l9;
     w2c_i1 = (u32)(w2c_j1);
     w2c_i1 = i32_load8_u(m, (u64)(w2c_i1) + 2u);
-    w2c_l20 = w2c_i1;
+    w2c_l19 = w2c_i1;
     w2c_i2 = 16u;
     w2c_i1 <<= (w2c_i2 & 31);
     w2c_i0 |= w2c_i1;
-    w2c_i1 = w2c_l18;
+    w2c_i1 = w2c_p0;
     w2c_i0 |= w2c_i1;
-    w2c_p0 = w2c_i0;
+    w2c_l20 = w2c_i0;
     w2c_j0 = (u64)(w2c_i0);
     w2c_j1 = 953497ull;
     w2c_j0 *= w2c_j1;
@@ -8325,9 +8292,9 @@ static u32 w2c_f16(module *m, u32 w2c_p0, u64 w2c_p1, u64 w2c_p2, u64 w2c_p3, u3
     w2c_j0 += w2c_j1;
     w2c_i0 = (u32)(w2c_j0);
     w2c_i0 = i32_load(m, (u64)(w2c_i0));
-    w2c_i1 = w2c_p0;
+    w2c_i1 = w2c_l20;
     w2c_i0 = w2c_i0 == w2c_i1;
-    if (w2c_i0) {goto w2c_B11;}
+    if (w2c_i0) {goto w2c_B8;}
     w2c_j0 = w2c_l13;
     w2c_j1 = 18446744073709551613ull;
     w2c_j0 += w2c_j1;
@@ -8337,81 +8304,81 @@ static u32 w2c_f16(module *m, u32 w2c_p0, u64 w2c_p1, u64 w2c_p2, u64 w2c_p3, u3
     w2c_j0 += w2c_j1;
     w2c_l12 = w2c_j0;
     goto w2c_L5;
-    w2c_B13:;
+    w2c_B10:;
     w2c_j0 = w2c_l13;
     w2c_i0 = !(w2c_j0);
     if (w2c_i0) {goto w2c_B4;}
     w2c_j0 = w2c_l9;
     w2c_i0 = (u32)(w2c_j0);
     w2c_i0 = i32_load8_u(m, (u64)(w2c_i0));
-    w2c_l18 = w2c_i0;
-    w2c_B12:;
+    w2c_p0 = w2c_i0;
+    w2c_B9:;
     w2c_j0 = 1ull;
     w2c_l12 = w2c_j0;
-    w2c_i0 = w2c_l18;
+    w2c_i0 = w2c_p0;
     w2c_i0 = (u32)(s32)(s8)(u8)(w2c_i0);
     w2c_i1 = 4294967295u;
     w2c_i0 = (u32)((s32)w2c_i0 <= (s32)w2c_i1);
-    if (w2c_i0) {goto w2c_B15;}
-    w2c_i0 = w2c_l18;
-    w2c_p0 = w2c_i0;
-    goto w2c_B14;
-    w2c_B15:;
+    if (w2c_i0) {goto w2c_B12;}
+    w2c_i0 = w2c_p0;
+    w2c_l20 = w2c_i0;
+    goto w2c_B11;
+    w2c_B12:;
     w2c_j0 = w2c_l9;
     w2c_i0 = (u32)(w2c_j0);
     w2c_i0 = i32_load8_u(m, (u64)(w2c_i0) + 1u);
     w2c_i1 = 63u;
     w2c_i0 &= w2c_i1;
-    w2c_p0 = w2c_i0;
-    w2c_i0 = w2c_l18;
+    w2c_l20 = w2c_i0;
+    w2c_i0 = w2c_p0;
     w2c_i1 = 223u;
     w2c_i0 = w2c_i0 > w2c_i1;
-    if (w2c_i0) {goto w2c_B16;}
-    w2c_i0 = w2c_l18;
+    if (w2c_i0) {goto w2c_B13;}
+    w2c_i0 = w2c_p0;
     w2c_i1 = 6u;
     w2c_i0 <<= (w2c_i1 & 31);
     w2c_i1 = 1984u;
     w2c_i0 &= w2c_i1;
-    w2c_i1 = w2c_p0;
+    w2c_i1 = w2c_l20;
     w2c_i0 |= w2c_i1;
-    w2c_p0 = w2c_i0;
+    w2c_l20 = w2c_i0;
     w2c_j0 = 2ull;
     w2c_l12 = w2c_j0;
-    goto w2c_B14;
-    w2c_B16:;
+    goto w2c_B11;
+    w2c_B13:;
     w2c_j0 = w2c_l9;
     w2c_i0 = (u32)(w2c_j0);
     w2c_i0 = i32_load8_u(m, (u64)(w2c_i0) + 2u);
     w2c_i1 = 63u;
     w2c_i0 &= w2c_i1;
-    w2c_l19 = w2c_i0;
-    w2c_i0 = w2c_l18;
+    w2c_l18 = w2c_i0;
+    w2c_i0 = w2c_p0;
     w2c_i1 = 239u;
     w2c_i0 = w2c_i0 > w2c_i1;
-    if (w2c_i0) {goto w2c_B17;}
-    w2c_i0 = w2c_p0;
-    w2c_i1 = 6u;
-    w2c_i0 <<= (w2c_i1 & 31);
-    w2c_i1 = w2c_l18;
-    w2c_i2 = 12u;
-    w2c_i1 <<= (w2c_i2 & 31);
-    w2c_i2 = 61440u;
-    w2c_i1 &= w2c_i2;
-    w2c_i0 |= w2c_i1;
-    w2c_i1 = w2c_l19;
-    w2c_i0 |= w2c_i1;
-    w2c_p0 = w2c_i0;
-    w2c_j0 = 3ull;
-    w2c_l12 = w2c_j0;
-    goto w2c_B14;
-    w2c_B17:;
-    w2c_i0 = w2c_l19;
+    if (w2c_i0) {goto w2c_B14;}
+    w2c_i0 = w2c_l20;
     w2c_i1 = 6u;
     w2c_i0 <<= (w2c_i1 & 31);
     w2c_i1 = w2c_p0;
     w2c_i2 = 12u;
     w2c_i1 <<= (w2c_i2 & 31);
-    w2c_i2 = w2c_l18;
+    w2c_i2 = 61440u;
+    w2c_i1 &= w2c_i2;
+    w2c_i0 |= w2c_i1;
+    w2c_i1 = w2c_l18;
+    w2c_i0 |= w2c_i1;
+    w2c_l20 = w2c_i0;
+    w2c_j0 = 3ull;
+    w2c_l12 = w2c_j0;
+    goto w2c_B11;
+    w2c_B14:;
+    w2c_i0 = w2c_l18;
+    w2c_i1 = 6u;
+    w2c_i0 <<= (w2c_i1 & 31);
+    w2c_i1 = w2c_l20;
+    w2c_i2 = 12u;
+    w2c_i1 <<= (w2c_i2 & 31);
+    w2c_i2 = w2c_p0;
     w2c_i3 = 18u;
     w2c_i2 <<= (w2c_i3 & 31);
     w2c_i3 = 1835008u;
@@ -8424,10 +8391,10 @@ static u32 w2c_f16(module *m, u32 w2c_p0, u64 w2c_p1, u64 w2c_p2, u64 w2c_p3, u3
     w2c_i2 = 63u;
     w2c_i1 &= w2c_i2;
     w2c_i0 |= w2c_i1;
-    w2c_p0 = w2c_i0;
+    w2c_l20 = w2c_i0;
     w2c_j0 = 4ull;
     w2c_l12 = w2c_j0;
-    w2c_B14:;
+    w2c_B11:;
     w2c_j0 = w2c_l13;
     w2c_j1 = w2c_l12;
     w2c_j0 -= w2c_j1;
@@ -8436,22 +8403,22 @@ static u32 w2c_f16(module *m, u32 w2c_p0, u64 w2c_p1, u64 w2c_p2, u64 w2c_p3, u3
     w2c_j1 = w2c_l12;
     w2c_j0 += w2c_j1;
     w2c_l12 = w2c_j0;
-    w2c_i0 = w2c_p0;
+    w2c_i0 = w2c_l20;
     w2c_i1 = 4294965248u;
     w2c_i0 += w2c_i1;
     w2c_i1 = 63487u;
     w2c_i0 = w2c_i0 > w2c_i1;
-    if (w2c_i0) {goto w2c_B18;}
-    w2c_i0 = w2c_p0;
+    if (w2c_i0) {goto w2c_B15;}
+    w2c_i0 = w2c_l20;
     w2c_i1 = 12u;
     w2c_i0 >>= (w2c_i1 & 31);
-    w2c_i1 = w2c_p0;
+    w2c_i1 = w2c_l20;
     w2c_i2 = 2u;
     w2c_i1 <<= (w2c_i2 & 31);
     w2c_i2 = 16128u;
     w2c_i1 &= w2c_i2;
     w2c_i0 |= w2c_i1;
-    w2c_i1 = w2c_p0;
+    w2c_i1 = w2c_l20;
     w2c_i2 = 16u;
     w2c_i1 <<= (w2c_i2 & 31);
     w2c_i2 = 4128768u;
@@ -8459,7 +8426,7 @@ static u32 w2c_f16(module *m, u32 w2c_p0, u64 w2c_p1, u64 w2c_p2, u64 w2c_p3, u3
     w2c_i0 |= w2c_i1;
     w2c_i1 = 8421600u;
     w2c_i0 |= w2c_i1;
-    w2c_l19 = w2c_i0;
+    w2c_l18 = w2c_i0;
     w2c_j0 = (u64)(w2c_i0);
     w2c_j1 = 953497ull;
     w2c_j0 *= w2c_j1;
@@ -8472,518 +8439,34 @@ static u32 w2c_f16(module *m, u32 w2c_p0, u64 w2c_p1, u64 w2c_p2, u64 w2c_p3, u3
     w2c_j0 += w2c_j1;
     w2c_i0 = (u32)(w2c_j0);
     w2c_i0 = i32_load(m, (u64)(w2c_i0));
-    w2c_i1 = w2c_l19;
+    w2c_i1 = w2c_l18;
     w2c_i0 = w2c_i0 != w2c_i1;
     if (w2c_i0) {goto w2c_L5;}
-    goto w2c_B10;
-    w2c_B18:;
+    goto w2c_B7;
+    w2c_B15:;
     w2c_i0 = 0u;
-    w2c_l19 = w2c_i0;
-    w2c_i0 = w2c_p0;
-    w2c_i1 = 20236u;
-    w2c_i0 = (u32)((s32)w2c_i0 > (s32)w2c_i1);
-    if (w2c_i0) {goto w2c_B33;}
-    w2c_i0 = w2c_p0;
-    w2c_i1 = 19967u;
-    w2c_i0 = (u32)((s32)w2c_i0 > (s32)w2c_i1);
-    if (w2c_i0) {goto w2c_B34;}
-    w2c_i0 = 0u;
-    w2c_l20 = w2c_i0;
-    w2c_i0 = w2c_p0;
+    w2c_l18 = w2c_i0;
+    w2c_i0 = w2c_l20;
     w2c_i1 = 4294967248u;
     w2c_i0 += w2c_i1;
-    switch (w2c_i0) {
-      case 0: goto w2c_B6;
-      case 1: goto w2c_B32;
-      case 2: goto w2c_B26;
-      case 3: goto w2c_B20;
-      case 4: goto w2c_B28;
-      case 5: goto w2c_B24;
-      case 6: goto w2c_B7;
-      case 7: goto w2c_B30;
-      case 8: goto w2c_B23;
-      case 9: goto w2c_B8;
-      default: goto w2c_B35;
-    }
-    w2c_B35:;
-    w2c_i0 = w2c_p0;
-    w2c_i1 = 12295u;
-    w2c_i0 = w2c_i0 != w2c_i1;
-    if (w2c_i0) {goto w2c_B21;}
-    w2c_i0 = 0u;
-    w2c_l20 = w2c_i0;
-    goto w2c_B6;
-    w2c_B34:;
-    w2c_i0 = w2c_p0;
-    w2c_i1 = 4294947328u;
-    w2c_i0 += w2c_i1;
-    switch (w2c_i0) {
-      case 0: goto w2c_B32;
-      case 1: goto w2c_B21;
-      case 2: goto w2c_B21;
-      case 3: goto w2c_B30;
-      case 4: goto w2c_B21;
-      case 5: goto w2c_B21;
-      case 6: goto w2c_B21;
-      case 7: goto w2c_B21;
-      case 8: goto w2c_B21;
-      case 9: goto w2c_B20;
-      case 10: goto w2c_B21;
-      case 11: goto w2c_B21;
-      case 12: goto w2c_B21;
-      case 13: goto w2c_B21;
-      case 14: goto w2c_B21;
-      case 15: goto w2c_B21;
-      case 16: goto w2c_B21;
-      case 17: goto w2c_B21;
-      case 18: goto w2c_B21;
-      case 19: goto w2c_B21;
-      case 20: goto w2c_B21;
-      case 21: goto w2c_B21;
-      case 22: goto w2c_B21;
-      case 23: goto w2c_B21;
-      case 24: goto w2c_B21;
-      case 25: goto w2c_B21;
-      case 26: goto w2c_B21;
-      case 27: goto w2c_B21;
-      case 28: goto w2c_B21;
-      case 29: goto w2c_B21;
-      case 30: goto w2c_B21;
-      case 31: goto w2c_B21;
-      case 32: goto w2c_B21;
-      case 33: goto w2c_B21;
-      case 34: goto w2c_B21;
-      case 35: goto w2c_B21;
-      case 36: goto w2c_B26;
-      default: goto w2c_B36;
-    }
-    w2c_B36:;
-    w2c_i0 = w2c_p0;
-    w2c_i1 = 4294947188u;
-    w2c_i0 += w2c_i1;
-    switch (w2c_i0) {
-      case 0: goto w2c_B26;
-      case 1: goto w2c_B21;
-      case 2: goto w2c_B21;
-      case 3: goto w2c_B21;
-      case 4: goto w2c_B21;
-      case 5: goto w2c_B21;
-      case 6: goto w2c_B21;
-      case 7: goto w2c_B21;
-      case 8: goto w2c_B24;
-      default: goto w2c_B22;
-    }
-    w2c_B33:;
-    w2c_i0 = w2c_p0;
-    w2c_i1 = 29589u;
-    w2c_i0 = (u32)((s32)w2c_i0 > (s32)w2c_i1);
-    if (w2c_i0) {goto w2c_B29;}
-    w2c_i0 = w2c_p0;
-    w2c_i1 = 22234u;
-    w2c_i0 = (u32)((s32)w2c_i0 > (s32)w2c_i1);
-    if (w2c_i0) {goto w2c_B37;}
-    w2c_i0 = w2c_p0;
-    w2c_i1 = 4294946455u;
-    w2c_i0 += w2c_i1;
-    switch (w2c_i0) {
-      case 0: goto w2c_B26;
-      case 1: goto w2c_B21;
-      case 2: goto w2c_B23;
-      case 3: goto w2c_B21;
-      case 4: goto w2c_B7;
-      default: goto w2c_B25;
-    }
-    w2c_B37:;
-    w2c_i0 = w2c_p0;
-    w2c_i1 = 25419u;
-    w2c_i0 = (u32)((s32)w2c_i0 > (s32)w2c_i1);
-    if (w2c_i0) {goto w2c_B31;}
-    w2c_i0 = w2c_p0;
-    w2c_i1 = 22235u;
-    w2c_i0 = w2c_i0 == w2c_i1;
-    if (w2c_i0) {goto w2c_B28;}
-    w2c_i0 = w2c_p0;
-    w2c_i1 = 22777u;
-    w2c_i0 = w2c_i0 != w2c_i1;
-    if (w2c_i0) {goto w2c_B21;}
-    w2c_B32:;
-    w2c_i0 = 1u;
-    w2c_l20 = w2c_i0;
-    goto w2c_B6;
-    w2c_B31:;
-    w2c_i0 = w2c_p0;
-    w2c_i1 = 25420u;
-    w2c_i0 = w2c_i0 == w2c_i1;
-    if (w2c_i0) {goto w2c_B23;}
-    w2c_i0 = w2c_p0;
-    w2c_i1 = 26578u;
-    w2c_i0 = w2c_i0 != w2c_i1;
-    if (w2c_i0) {goto w2c_B21;}
-    w2c_B30:;
-    w2c_i0 = 7u;
-    w2c_l20 = w2c_i0;
-    goto w2c_B6;
-    w2c_B29:;
-    w2c_i0 = w2c_p0;
-    w2c_i1 = 36143u;
-    w2c_i0 = (u32)((s32)w2c_i0 > (s32)w2c_i1);
-    if (w2c_i0) {goto w2c_B27;}
-    w2c_i0 = w2c_p0;
-    w2c_i1 = 4294931282u;
-    w2c_i0 += w2c_i1;
-    switch (w2c_i0) {
-      case 0: goto w2c_B26;
-      case 1: goto w2c_B21;
-      case 2: goto w2c_B21;
-      case 3: goto w2c_B21;
-      case 4: goto w2c_B21;
-      case 5: goto w2c_B26;
-      default: goto w2c_B38;
-    }
-    w2c_B38:;
-    w2c_i0 = w2c_p0;
-    w2c_i1 = 29590u;
-    w2c_i0 = w2c_i0 == w2c_i1;
-    if (w2c_i0) {goto w2c_B8;}
-    w2c_i0 = w2c_p0;
-    w2c_i1 = 32902u;
-    w2c_i0 = w2c_i0 != w2c_i1;
-    if (w2c_i0) {goto w2c_B21;}
-    w2c_B28:;
-    w2c_i0 = 4u;
-    w2c_l20 = w2c_i0;
-    goto w2c_B6;
-    w2c_B27:;
-    w2c_i0 = w2c_p0;
-    w2c_i1 = 38519u;
-    w2c_i0 = (u32)((s32)w2c_i0 > (s32)w2c_i1);
-    if (w2c_i0) {goto w2c_B39;}
-    w2c_i0 = w2c_p0;
-    w2c_i1 = 36144u;
-    w2c_i0 = w2c_i0 == w2c_i1;
-    if (w2c_i0) {goto w2c_B26;}
-    w2c_i0 = w2c_p0;
-    w2c_i1 = 38470u;
-    w2c_i0 = w2c_i0 != w2c_i1;
-    if (w2c_i0) {goto w2c_B21;}
-    goto w2c_B7;
-    w2c_B39:;
-    w2c_i0 = w2c_p0;
-    w2c_i1 = 38520u;
-    w2c_i0 = w2c_i0 == w2c_i1;
-    if (w2c_i0) {goto w2c_B7;}
-    w2c_i0 = w2c_p0;
-    w2c_i1 = 38646u;
-    w2c_i0 = w2c_i0 != w2c_i1;
-    if (w2c_i0) {goto w2c_B21;}
-    w2c_i0 = 0u;
-    w2c_l20 = w2c_i0;
-    goto w2c_B6;
-    w2c_B26:;
-    w2c_i0 = 2u;
-    w2c_l20 = w2c_i0;
-    goto w2c_B6;
-    w2c_B25:;
-    w2c_i0 = w2c_p0;
-    w2c_i1 = 20237u;
-    w2c_i0 = w2c_i0 != w2c_i1;
-    if (w2c_i0) {goto w2c_B21;}
-    w2c_B24:;
-    w2c_i0 = 5u;
-    w2c_l20 = w2c_i0;
-    goto w2c_B6;
-    w2c_B23:;
-    w2c_i0 = 8u;
-    w2c_l20 = w2c_i0;
-    goto w2c_B6;
-    w2c_B22:;
-    w2c_i0 = w2c_p0;
-    w2c_i1 = 20061u;
-    w2c_i0 = w2c_i0 == w2c_i1;
-    if (w2c_i0) {goto w2c_B8;}
-    w2c_B21:;
-    w2c_i0 = w2c_p0;
-    w2c_i1 = 4294945855u;
-    w2c_i0 += w2c_i1;
-    w2c_i1 = 3u;
-    w2c_i0 = w2c_i0 > w2c_i1;
-    if (w2c_i0) {goto w2c_B19;}
-    w2c_B20:;
-    w2c_i0 = 3u;
-    w2c_l20 = w2c_i0;
-    goto w2c_B6;
-    w2c_B19:;
-    w2c_i0 = 1u;
     w2c_l19 = w2c_i0;
-    w2c_i0 = w2c_p0;
-    w2c_i1 = 26496u;
-    w2c_i0 = (u32)((s32)w2c_i0 > (s32)w2c_i1);
-    if (w2c_i0) {goto w2c_B49;}
-    w2c_i0 = w2c_p0;
-    w2c_i1 = 20490u;
-    w2c_i0 = (u32)((s32)w2c_i0 > (s32)w2c_i1);
-    if (w2c_i0) {goto w2c_B50;}
-    w2c_i0 = w2c_p0;
-    w2c_i1 = 20139u;
-    w2c_i0 = (u32)((s32)w2c_i0 > (s32)w2c_i1);
-    if (w2c_i0) {goto w2c_B51;}
-    w2c_i0 = w2c_p0;
-    w2c_i1 = 19975u;
-    w2c_i0 = w2c_i0 == w2c_i1;
-    if (w2c_i0) {goto w2c_B48;}
-    w2c_i0 = 0u;
-    w2c_l20 = w2c_i0;
-    w2c_i0 = 1u;
-    w2c_l19 = w2c_i0;
-    w2c_i0 = w2c_p0;
-    w2c_i1 = 20010u;
-    w2c_i0 = w2c_i0 != w2c_i1;
+    w2c_i1 = 10u;
+    w2c_i0 = w2c_i0 >= w2c_i1;
     if (w2c_i0) {goto w2c_L5;}
     goto w2c_B6;
-    w2c_B51:;
+    w2c_B8:;
     w2c_i0 = w2c_p0;
-    w2c_i1 = 4294947156u;
-    w2c_i0 += w2c_i1;
-    switch (w2c_i0) {
-      case 0: goto w2c_B44;
-      case 1: goto w2c_L5;
-      case 2: goto w2c_L5;
-      case 3: goto w2c_L5;
-      case 4: goto w2c_L5;
-      case 5: goto w2c_L5;
-      case 6: goto w2c_L5;
-      case 7: goto w2c_L5;
-      case 8: goto w2c_L5;
-      case 9: goto w2c_L5;
-      case 10: goto w2c_L5;
-      case 11: goto w2c_L5;
-      case 12: goto w2c_L5;
-      case 13: goto w2c_L5;
-      case 14: goto w2c_L5;
-      case 15: goto w2c_L5;
-      case 16: goto w2c_L5;
-      case 17: goto w2c_L5;
-      case 18: goto w2c_L5;
-      case 19: goto w2c_B45;
-      default: goto w2c_B52;
-    }
-    w2c_B52:;
-    w2c_i0 = w2c_p0;
-    w2c_i1 = 20191u;
-    w2c_i0 = w2c_i0 == w2c_i1;
-    if (w2c_i0) {goto w2c_B46;}
-    w2c_i0 = w2c_p0;
-    w2c_i1 = 20336u;
-    w2c_i0 = w2c_i0 != w2c_i1;
-    if (w2c_i0) {goto w2c_L5;}
-    goto w2c_B9;
-    w2c_B50:;
-    w2c_i0 = w2c_p0;
-    w2c_i1 = 21312u;
-    w2c_i0 = (u32)((s32)w2c_i0 > (s32)w2c_i1);
-    if (w2c_i0) {goto w2c_B53;}
-    w2c_i0 = w2c_p0;
-    w2c_i1 = 20491u;
-    w2c_i0 = w2c_i0 != w2c_i1;
-    if (w2c_i0) {goto w2c_B54;}
-    w2c_i0 = 0u;
-    w2c_l20 = w2c_i0;
-    goto w2c_B6;
-    w2c_B54:;
-    w2c_i0 = w2c_p0;
-    w2c_i1 = 20740u;
-    w2c_i0 = w2c_i0 == w2c_i1;
-    if (w2c_i0) {goto w2c_B45;}
-    w2c_i0 = w2c_p0;
-    w2c_i1 = 20806u;
-    w2c_i0 = w2c_i0 != w2c_i1;
-    if (w2c_i0) {goto w2c_L5;}
-    w2c_i0 = 6u;
-    w2c_l20 = w2c_i0;
-    w2c_i0 = 1u;
-    w2c_l19 = w2c_i0;
-    goto w2c_B6;
-    w2c_B53:;
-    w2c_i0 = w2c_p0;
-    w2c_i1 = 4294945983u;
-    w2c_i0 += w2c_i1;
-    switch (w2c_i0) {
-      case 0: goto w2c_B55;
-      case 1: goto w2c_L5;
-      case 2: goto w2c_B46;
-      default: goto w2c_B56;
-    }
-    w2c_B56:;
-    w2c_i0 = w2c_p0;
-    w2c_i1 = 22419u;
-    w2c_i0 = w2c_i0 == w2c_i1;
-    if (w2c_i0) {goto w2c_B43;}
-    w2c_i0 = w2c_p0;
-    w2c_i1 = 25342u;
-    w2c_i0 = w2c_i0 != w2c_i1;
-    if (w2c_i0) {goto w2c_L5;}
-    w2c_B55:;
-    w2c_i0 = 1u;
-    w2c_l20 = w2c_i0;
-    w2c_i0 = 1u;
-    w2c_l19 = w2c_i0;
-    goto w2c_B6;
-    w2c_B49:;
-    w2c_i0 = w2c_p0;
-    w2c_i1 = 28566u;
-    w2c_i0 = (u32)((s32)w2c_i0 > (s32)w2c_i1);
-    if (w2c_i0) {goto w2c_B57;}
-    w2c_i0 = w2c_p0;
-    w2c_i1 = 27806u;
-    w2c_i0 = (u32)((s32)w2c_i0 > (s32)w2c_i1);
-    if (w2c_i0) {goto w2c_B58;}
-    w2c_i0 = w2c_p0;
-    w2c_i1 = 26497u;
-    w2c_i0 = w2c_i0 == w2c_i1;
-    if (w2c_i0) {goto w2c_B40;}
-    w2c_i0 = w2c_p0;
-    w2c_i1 = 26997u;
-    w2c_i0 = w2c_i0 == w2c_i1;
-    if (w2c_i0) {goto w2c_B40;}
-    w2c_i0 = w2c_p0;
-    w2c_i1 = 27491u;
-    w2c_i0 = w2c_i0 != w2c_i1;
-    if (w2c_i0) {goto w2c_L5;}
-    w2c_i0 = 13u;
-    w2c_l20 = w2c_i0;
-    w2c_i0 = 1u;
-    w2c_l19 = w2c_i0;
-    goto w2c_B6;
-    w2c_B58:;
-    w2c_i0 = w2c_p0;
-    w2c_i1 = 27807u;
-    w2c_i0 = w2c_i0 == w2c_i1;
-    if (w2c_i0) {goto w2c_B59;}
-    w2c_i0 = w2c_p0;
-    w2c_i1 = 28071u;
-    w2c_i0 = w2c_i0 == w2c_i1;
-    if (w2c_i0) {goto w2c_B41;}
-    w2c_i0 = w2c_p0;
-    w2c_i1 = 28317u;
-    w2c_i0 = w2c_i0 != w2c_i1;
-    if (w2c_i0) {goto w2c_L5;}
-    w2c_B59:;
-    w2c_i0 = 11u;
-    w2c_l20 = w2c_i0;
-    w2c_i0 = 1u;
-    w2c_l19 = w2c_i0;
-    goto w2c_B6;
-    w2c_B57:;
-    w2c_i0 = w2c_p0;
-    w2c_i1 = 31343u;
-    w2c_i0 = (u32)((s32)w2c_i0 > (s32)w2c_i1);
-    if (w2c_i0) {goto w2c_B60;}
-    w2c_i0 = w2c_p0;
-    w2c_i1 = 28567u;
-    w2c_i0 = w2c_i0 == w2c_i1;
-    if (w2c_i0) {goto w2c_B41;}
-    w2c_i0 = w2c_p0;
-    w2c_i1 = 30334u;
-    w2c_i0 = w2c_i0 == w2c_i1;
-    if (w2c_i0) {goto w2c_B9;}
-    w2c_i0 = w2c_p0;
-    w2c_i1 = 31213u;
-    w2c_i0 = w2c_i0 != w2c_i1;
-    if (w2c_i0) {goto w2c_L5;}
-    w2c_i0 = 9u;
-    w2c_l20 = w2c_i0;
-    w2c_i0 = 1u;
-    w2c_l19 = w2c_i0;
-    goto w2c_B6;
-    w2c_B60:;
-    w2c_i0 = w2c_p0;
-    w2c_i1 = 36616u;
-    w2c_i0 = (u32)((s32)w2c_i0 > (s32)w2c_i1);
-    if (w2c_i0) {goto w2c_B47;}
-    w2c_i0 = w2c_p0;
-    w2c_i1 = 31344u;
-    w2c_i0 = w2c_i0 == w2c_i1;
-    if (w2c_i0) {goto w2c_B42;}
-    w2c_i0 = w2c_p0;
-    w2c_i1 = 33836u;
-    w2c_i0 = w2c_i0 != w2c_i1;
-    if (w2c_i0) {goto w2c_L5;}
-    w2c_B48:;
-    w2c_i0 = 4u;
-    w2c_l20 = w2c_i0;
-    w2c_i0 = 1u;
-    w2c_l19 = w2c_i0;
-    goto w2c_B6;
-    w2c_B47:;
-    w2c_i0 = w2c_p0;
-    w2c_i1 = 36617u;
-    w2c_i0 = w2c_i0 == w2c_i1;
-    if (w2c_i0) {goto w2c_B61;}
-    w2c_i0 = w2c_p0;
-    w2c_i1 = 36733u;
-    w2c_i0 = w2c_i0 != w2c_i1;
-    if (w2c_i0) {goto w2c_L5;}
-    w2c_B61:;
-    w2c_i0 = 14u;
-    w2c_l20 = w2c_i0;
-    w2c_i0 = 1u;
-    w2c_l19 = w2c_i0;
-    goto w2c_B6;
-    w2c_B46:;
-    w2c_i0 = 3u;
-    w2c_l20 = w2c_i0;
-    w2c_i0 = 1u;
-    w2c_l19 = w2c_i0;
-    goto w2c_B6;
-    w2c_B45:;
-    w2c_i0 = 5u;
-    w2c_l20 = w2c_i0;
-    w2c_i0 = 1u;
-    w2c_l19 = w2c_i0;
-    goto w2c_B6;
-    w2c_B44:;
-    w2c_i0 = 7u;
-    w2c_l20 = w2c_i0;
-    w2c_i0 = 1u;
-    w2c_l19 = w2c_i0;
-    goto w2c_B6;
-    w2c_B43:;
-    w2c_i0 = 8u;
-    w2c_l20 = w2c_i0;
-    w2c_i0 = 1u;
-    w2c_l19 = w2c_i0;
-    goto w2c_B6;
-    w2c_B42:;
-    w2c_i0 = 10u;
-    w2c_l20 = w2c_i0;
-    w2c_i0 = 1u;
-    w2c_l19 = w2c_i0;
-    goto w2c_B6;
-    w2c_B41:;
-    w2c_i0 = 12u;
-    w2c_l20 = w2c_i0;
-    w2c_i0 = 1u;
-    w2c_l19 = w2c_i0;
-    goto w2c_B6;
-    w2c_B40:;
-    w2c_i0 = 15u;
-    w2c_l20 = w2c_i0;
-    w2c_i0 = 1u;
-    w2c_l19 = w2c_i0;
-    goto w2c_B6;
-    w2c_B11:;
-    w2c_i0 = w2c_l18;
     w2c_i1 = 12u;
     w2c_i0 <<= (w2c_i1 & 31);
-    w2c_i1 = w2c_l19;
+    w2c_i1 = w2c_l18;
     w2c_i2 = 6u;
     w2c_i1 <<= (w2c_i2 & 31);
     w2c_i0 += w2c_i1;
-    w2c_i1 = w2c_l20;
+    w2c_i1 = w2c_l19;
     w2c_i0 += w2c_i1;
     w2c_i1 = 4294041472u;
     w2c_i0 += w2c_i1;
-    w2c_p0 = w2c_i0;
+    w2c_l20 = w2c_i0;
     w2c_j0 = w2c_l13;
     w2c_j1 = 18446744073709551613ull;
     w2c_j0 += w2c_j1;
@@ -8992,13 +8475,13 @@ static u32 w2c_f16(module *m, u32 w2c_p0, u64 w2c_p1, u64 w2c_p2, u64 w2c_p3, u3
     w2c_j1 = 3ull;
     w2c_j0 += w2c_j1;
     w2c_l12 = w2c_j0;
-    w2c_B10:;
+    w2c_B7:;
     w2c_j0 = w2c_l14;
     w2c_j1 = 66996ull;
     w2c_j0 += w2c_j1;
     w2c_i0 = (u32)(w2c_j0);
     w2c_i0 = i32_load8_u(m, (u64)(w2c_i0));
-    w2c_l19 = w2c_i0;
+    w2c_l18 = w2c_i0;
     w2c_i1 = 2u;
     w2c_i0 = w2c_i0 == w2c_i1;
     if (w2c_i0) {goto w2c_L5;}
@@ -9007,96 +8490,82 @@ static u32 w2c_f16(module *m, u32 w2c_p0, u64 w2c_p1, u64 w2c_p2, u64 w2c_p3, u3
     w2c_j0 += w2c_j1;
     w2c_i0 = (u32)(w2c_j0);
     w2c_i0 = i32_load8_u(m, (u64)(w2c_i0));
-    w2c_l20 = w2c_i0;
-    goto w2c_B6;
-    w2c_B9:;
-    w2c_i0 = 2u;
-    w2c_l20 = w2c_i0;
-    w2c_i0 = 1u;
     w2c_l19 = w2c_i0;
-    goto w2c_B6;
-    w2c_B8:;
-    w2c_i0 = 9u;
-    w2c_l20 = w2c_i0;
-    goto w2c_B6;
-    w2c_B7:;
-    w2c_i0 = 6u;
-    w2c_l20 = w2c_i0;
     w2c_B6:;
     w2c_i0 = w2c_p4;
     w2c_i1 = w2c_p5;
-    w2c_i2 = w2c_p0;
-    w2c_i3 = w2c_l19;
-    w2c_i4 = w2c_l20;
+    w2c_i2 = w2c_l20;
+    w2c_i3 = w2c_l18;
+    w2c_i4 = w2c_l19;
     w2c_j5 = w2c_l12;
     w2c_j6 = w2c_p3;
     w2c_i0 = w2c_f17(m, w2c_i0, w2c_i1, w2c_i2, w2c_i3, w2c_i4, w2c_j5, w2c_j6);
     w2c_i0 = !(w2c_i0);
     if (w2c_i0) {goto w2c_L5;}
-    w2c_i0 = w2c_l18;
+    w2c_i0 = w2c_p0;
     w2c_i0 = (u32)(s32)(s8)(u8)(w2c_i0);
     w2c_i1 = 4294967295u;
     w2c_i0 = (u32)((s32)w2c_i0 <= (s32)w2c_i1);
-    if (w2c_i0) {goto w2c_B63;}
+    if (w2c_i0) {goto w2c_B17;}
     w2c_j0 = 1ull;
     w2c_l12 = w2c_j0;
-    goto w2c_B62;
-    w2c_B63:;
+    goto w2c_B16;
+    w2c_B17:;
     w2c_j0 = w2c_l9;
     w2c_i0 = (u32)(w2c_j0);
     w2c_i0 = i32_load8_u(m, (u64)(w2c_i0) + 1u);
     w2c_i1 = 63u;
     w2c_i0 &= w2c_i1;
-    w2c_p0 = w2c_i0;
-    w2c_i0 = w2c_l18;
+    w2c_l20 = w2c_i0;
+    w2c_i0 = w2c_p0;
     w2c_i1 = 223u;
     w2c_i0 = w2c_i0 > w2c_i1;
-    if (w2c_i0) {goto w2c_B64;}
-    w2c_i0 = w2c_l18;
+    if (w2c_i0) {goto w2c_B18;}
+    w2c_i0 = w2c_p0;
     w2c_i1 = 6u;
     w2c_i0 <<= (w2c_i1 & 31);
     w2c_i1 = 1984u;
     w2c_i0 &= w2c_i1;
-    w2c_i1 = w2c_p0;
+    w2c_i1 = w2c_l20;
     w2c_i0 |= w2c_i1;
-    w2c_l18 = w2c_i0;
+    w2c_p0 = w2c_i0;
     w2c_j0 = 2ull;
     w2c_l12 = w2c_j0;
-    goto w2c_B62;
-    w2c_B64:;
+    goto w2c_B16;
+    w2c_B18:;
     w2c_j0 = w2c_l9;
     w2c_i0 = (u32)(w2c_j0);
     w2c_i0 = i32_load8_u(m, (u64)(w2c_i0) + 2u);
     w2c_i1 = 63u;
     w2c_i0 &= w2c_i1;
-    w2c_l19 = w2c_i0;
-    w2c_i0 = w2c_l18;
+    w2c_l18 = w2c_i0;
+    w2c_i0 = w2c_p0;
     w2c_i1 = 239u;
     w2c_i0 = w2c_i0 > w2c_i1;
-    if (w2c_i0) {goto w2c_B65;}
-    w2c_i0 = w2c_p0;
-    w2c_i1 = 6u;
-    w2c_i0 <<= (w2c_i1 & 31);
-    w2c_i1 = w2c_l18;
-    w2c_i2 = 12u;
-    w2c_i1 <<= (w2c_i2 & 31);
-    w2c_i2 = 61440u;
-    w2c_i1 &= w2c_i2;
-    w2c_i0 |= w2c_i1;
-    w2c_i1 = w2c_l19;
-    w2c_i0 |= w2c_i1;
-    w2c_l18 = w2c_i0;
-    w2c_j0 = 3ull;
-    w2c_l12 = w2c_j0;
-    goto w2c_B62;
-    w2c_B65:;
-    w2c_i0 = w2c_l19;
+    if (w2c_i0) {goto w2c_B19;}
+    w2c_i0 = w2c_l20;
     w2c_i1 = 6u;
     w2c_i0 <<= (w2c_i1 & 31);
     w2c_i1 = w2c_p0;
     w2c_i2 = 12u;
     w2c_i1 <<= (w2c_i2 & 31);
-    w2c_i2 = w2c_l18;
+    w2c_i2 = 61440u;
+    w2c_i1 &= w2c_i2;
+    w2c_i0 |= w2c_i1;
+    w2c_i1 = w2c_l18;
+    w2c_i0 |= w2c_i1;
+    w2c_p0 = w2c_i0;
+    w2c_j0 = 3ull;
+    w2c_l12 = w2c_j0;
+    goto w2c_B16;
+    w2c_B19:;
+    w2c_i0 = w2c_l18;
+    w2c_i1 = 6u;
+    w2c_i0 <<= (w2c_i1 & 31);
+    w2c_i1 = w2c_l20;
+    w2c_i2 = 12u;
+    w2c_i1 <<= (w2c_i2 & 31);
+    w2c_i2 = w2c_p0;
     w2c_i3 = 18u;
     w2c_i2 <<= (w2c_i3 & 31);
     w2c_i3 = 1835008u;
@@ -9109,10 +8578,10 @@ static u32 w2c_f16(module *m, u32 w2c_p0, u64 w2c_p1, u64 w2c_p2, u64 w2c_p3, u3
     w2c_i2 = 63u;
     w2c_i1 &= w2c_i2;
     w2c_i0 |= w2c_i1;
-    w2c_l18 = w2c_i0;
+    w2c_p0 = w2c_i0;
     w2c_j0 = 4ull;
     w2c_l12 = w2c_j0;
-    w2c_B62:;
+    w2c_B16:;
     w2c_j0 = w2c_p2;
     w2c_j1 = w2c_l13;
     w2c_j0 -= w2c_j1;
@@ -9125,27 +8594,27 @@ static u32 w2c_f16(module *m, u32 w2c_p0, u64 w2c_p1, u64 w2c_p2, u64 w2c_p3, u3
     w2c_j1 = w2c_l12;
     w2c_j0 += w2c_j1;
     w2c_l16 = w2c_j0;
-    w2c_L67:
+    w2c_L21:
       w2c_j0 = w2c_l16;
       w2c_l12 = w2c_j0;
       w2c_j0 = w2c_l14;
       w2c_p3 = w2c_j0;
       w2c_j1 = 3ull;
       w2c_i0 = w2c_j0 < w2c_j1;
-      if (w2c_i0) {goto w2c_B72;}
+      if (w2c_i0) {goto w2c_B26;}
       w2c_j0 = w2c_l12;
       w2c_i0 = (u32)(w2c_j0);
       w2c_i0 = i32_load8_u(m, (u64)(w2c_i0));
-      w2c_p0 = w2c_i0;
+      w2c_l20 = w2c_i0;
       w2c_i1 = 240u;
       w2c_i0 &= w2c_i1;
       w2c_i1 = 224u;
       w2c_i0 = w2c_i0 != w2c_i1;
-      if (w2c_i0) {goto w2c_B71;}
+      if (w2c_i0) {goto w2c_B25;}
       w2c_j0 = w2c_l12;
       w2c_i0 = (u32)(w2c_j0);
       w2c_i0 = i32_load8_u(m, (u64)(w2c_i0) + 1u);
-      w2c_l20 = w2c_i0;
+      w2c_l19 = w2c_i0;
       w2c_i1 = 8u;
       w2c_i0 <<= (w2c_i1 & 31);
       w2c_j1 = w2c_l12;
@@ -9155,9 +8624,9 @@ static u32 w2c_f16(module *m, u32 w2c_p0, u64 w2c_p1, u64 w2c_p2, u64 w2c_p3, u3
       w2c_i2 = 16u;
       w2c_i1 <<= (w2c_i2 & 31);
       w2c_i0 |= w2c_i1;
-      w2c_i1 = w2c_p0;
+      w2c_i1 = w2c_l20;
       w2c_i0 |= w2c_i1;
-      w2c_l19 = w2c_i0;
+      w2c_l18 = w2c_i0;
       w2c_j0 = (u64)(w2c_i0);
       w2c_j1 = 953497ull;
       w2c_j0 *= w2c_j1;
@@ -9170,13 +8639,13 @@ static u32 w2c_f16(module *m, u32 w2c_p0, u64 w2c_p1, u64 w2c_p2, u64 w2c_p3, u3
       w2c_j0 += w2c_j1;
       w2c_i0 = (u32)(w2c_j0);
       w2c_i0 = i32_load(m, (u64)(w2c_i0));
-      w2c_i1 = w2c_l19;
+      w2c_i1 = w2c_l18;
       w2c_i0 = w2c_i0 != w2c_i1;
-      if (w2c_i0) {goto w2c_B66;}
-      w2c_i0 = w2c_p0;
+      if (w2c_i0) {goto w2c_B20;}
+      w2c_i0 = w2c_l20;
       w2c_i1 = 12u;
       w2c_i0 <<= (w2c_i1 & 31);
-      w2c_i1 = w2c_l20;
+      w2c_i1 = w2c_l19;
       w2c_i2 = 6u;
       w2c_i1 <<= (w2c_i2 & 31);
       w2c_i0 += w2c_i1;
@@ -9184,7 +8653,7 @@ static u32 w2c_f16(module *m, u32 w2c_p0, u64 w2c_p1, u64 w2c_p2, u64 w2c_p3, u3
       w2c_i0 += w2c_i1;
       w2c_i1 = 4294041472u;
       w2c_i0 += w2c_i1;
-      w2c_p0 = w2c_i0;
+      w2c_l20 = w2c_i0;
       w2c_j0 = w2c_p3;
       w2c_j1 = 18446744073709551613ull;
       w2c_j0 += w2c_j1;
@@ -9193,78 +8662,78 @@ static u32 w2c_f16(module *m, u32 w2c_p0, u64 w2c_p1, u64 w2c_p2, u64 w2c_p3, u3
       w2c_j1 = 3ull;
       w2c_j0 += w2c_j1;
       w2c_l16 = w2c_j0;
-      goto w2c_B70;
-      w2c_B72:;
+      goto w2c_B24;
+      w2c_B26:;
       w2c_j0 = w2c_p3;
       w2c_i0 = !(w2c_j0);
-      if (w2c_i0) {goto w2c_B66;}
+      if (w2c_i0) {goto w2c_B20;}
       w2c_j0 = w2c_l12;
       w2c_i0 = (u32)(w2c_j0);
       w2c_i0 = i32_load8_u(m, (u64)(w2c_i0));
-      w2c_p0 = w2c_i0;
-      w2c_B71:;
+      w2c_l20 = w2c_i0;
+      w2c_B25:;
       w2c_j0 = 1ull;
       w2c_l16 = w2c_j0;
-      w2c_i0 = w2c_p0;
+      w2c_i0 = w2c_l20;
       w2c_i0 = (u32)(s32)(s8)(u8)(w2c_i0);
       w2c_i1 = 4294967295u;
       w2c_i0 = (u32)((s32)w2c_i0 > (s32)w2c_i1);
-      if (w2c_i0) {goto w2c_B73;}
+      if (w2c_i0) {goto w2c_B27;}
       w2c_j0 = w2c_l12;
       w2c_i0 = (u32)(w2c_j0);
       w2c_i0 = i32_load8_u(m, (u64)(w2c_i0) + 1u);
       w2c_i1 = 63u;
       w2c_i0 &= w2c_i1;
-      w2c_l19 = w2c_i0;
-      w2c_i0 = w2c_p0;
+      w2c_l18 = w2c_i0;
+      w2c_i0 = w2c_l20;
       w2c_i1 = 223u;
       w2c_i0 = w2c_i0 > w2c_i1;
-      if (w2c_i0) {goto w2c_B74;}
-      w2c_i0 = w2c_p0;
+      if (w2c_i0) {goto w2c_B28;}
+      w2c_i0 = w2c_l20;
       w2c_i1 = 6u;
       w2c_i0 <<= (w2c_i1 & 31);
       w2c_i1 = 1984u;
       w2c_i0 &= w2c_i1;
-      w2c_i1 = w2c_l19;
+      w2c_i1 = w2c_l18;
       w2c_i0 |= w2c_i1;
-      w2c_p0 = w2c_i0;
+      w2c_l20 = w2c_i0;
       w2c_j0 = 2ull;
       w2c_l16 = w2c_j0;
-      goto w2c_B73;
-      w2c_B74:;
+      goto w2c_B27;
+      w2c_B28:;
       w2c_j0 = w2c_l12;
       w2c_i0 = (u32)(w2c_j0);
       w2c_i0 = i32_load8_u(m, (u64)(w2c_i0) + 2u);
       w2c_i1 = 63u;
       w2c_i0 &= w2c_i1;
-      w2c_l20 = w2c_i0;
-      w2c_i0 = w2c_p0;
+      w2c_l19 = w2c_i0;
+      w2c_i0 = w2c_l20;
       w2c_i1 = 239u;
       w2c_i0 = w2c_i0 > w2c_i1;
-      if (w2c_i0) {goto w2c_B75;}
-      w2c_i0 = w2c_l19;
+      if (w2c_i0) {goto w2c_B29;}
+      w2c_i0 = w2c_l18;
       w2c_i1 = 6u;
       w2c_i0 <<= (w2c_i1 & 31);
-      w2c_i1 = w2c_p0;
+      w2c_i1 = w2c_l20;
       w2c_i2 = 12u;
       w2c_i1 <<= (w2c_i2 & 31);
       w2c_i2 = 61440u;
       w2c_i1 &= w2c_i2;
       w2c_i0 |= w2c_i1;
-      w2c_i1 = w2c_l20;
+      w2c_i1 = w2c_l19;
       w2c_i0 |= w2c_i1;
-      w2c_p0 = w2c_i0;
+      w2c_l20 = w2c_i0;
       w2c_j0 = 3ull;
       w2c_l16 = w2c_j0;
-      goto w2c_B73;
-      w2c_B75:;
-      w2c_i0 = w2c_l20;
+      goto w2c_B27;
+      w2c_B29:;
+      w2c_i0 = w2c_l19;
       w2c_i1 = 6u;
       w2c_i0 <<= (w2c_i1 & 31);
-      w2c_i1 = w2c_l19;
+      w2c_i1 = w2c_l18;
       w2c_i2 = 12u;
       w2c_i1 <<= (w2c_i2 & 31);
-      w2c_i2 = w2c_p0;
+      w2c_i2 = w2c_l20;
       w2c_i3 = 18u;
       w2c_i2 <<= (w2c_i3 & 31);
       w2c_i3 = 1835008u;
@@ -9277,10 +8746,10 @@ static u32 w2c_f16(module *m, u32 w2c_p0, u64 w2c_p1, u64 w2c_p2, u64 w2c_p3, u3
       w2c_i2 = 63u;
       w2c_i1 &= w2c_i2;
       w2c_i0 |= w2c_i1;
-      w2c_p0 = w2c_i0;
+      w2c_l20 = w2c_i0;
       w2c_j0 = 4ull;
       w2c_l16 = w2c_j0;
-      w2c_B73:;
+      w2c_B27:;
       w2c_j0 = w2c_p3;
       w2c_j1 = w2c_l16;
       w2c_j0 -= w2c_j1;
@@ -9289,22 +8758,22 @@ static u32 w2c_f16(module *m, u32 w2c_p0, u64 w2c_p1, u64 w2c_p2, u64 w2c_p3, u3
       w2c_j1 = w2c_l16;
       w2c_j0 += w2c_j1;
       w2c_l16 = w2c_j0;
-      w2c_i0 = w2c_p0;
+      w2c_i0 = w2c_l20;
       w2c_i1 = 4294965248u;
       w2c_i0 += w2c_i1;
       w2c_i1 = 63487u;
       w2c_i0 = w2c_i0 > w2c_i1;
-      if (w2c_i0) {goto w2c_B69;}
-      w2c_i0 = w2c_p0;
+      if (w2c_i0) {goto w2c_B23;}
+      w2c_i0 = w2c_l20;
       w2c_i1 = 12u;
       w2c_i0 >>= (w2c_i1 & 31);
-      w2c_i1 = w2c_p0;
+      w2c_i1 = w2c_l20;
       w2c_i2 = 2u;
       w2c_i1 <<= (w2c_i2 & 31);
       w2c_i2 = 16128u;
       w2c_i1 &= w2c_i2;
       w2c_i0 |= w2c_i1;
-      w2c_i1 = w2c_p0;
+      w2c_i1 = w2c_l20;
       w2c_i2 = 16u;
       w2c_i1 <<= (w2c_i2 & 31);
       w2c_i2 = 4128768u;
@@ -9312,7 +8781,7 @@ static u32 w2c_f16(module *m, u32 w2c_p0, u64 w2c_p1, u64 w2c_p2, u64 w2c_p3, u3
       w2c_i0 |= w2c_i1;
       w2c_i1 = 8421600u;
       w2c_i0 |= w2c_i1;
-      w2c_l19 = w2c_i0;
+      w2c_l18 = w2c_i0;
       w2c_j0 = (u64)(w2c_i0);
       w2c_j1 = 953497ull;
       w2c_j0 *= w2c_j1;
@@ -9325,91 +8794,64 @@ static u32 w2c_f16(module *m, u32 w2c_p0, u64 w2c_p1, u64 w2c_p2, u64 w2c_p3, u3
       w2c_j0 += w2c_j1;
       w2c_i0 = (u32)(w2c_j0);
       w2c_i0 = i32_load(m, (u64)(w2c_i0));
-      w2c_i1 = w2c_l19;
+      w2c_i1 = w2c_l18;
       w2c_i0 = w2c_i0 != w2c_i1;
-      if (w2c_i0) {goto w2c_B66;}
-      w2c_B70:;
+      if (w2c_i0) {goto w2c_B20;}
+      w2c_B24:;
       w2c_j0 = w2c_l17;
       w2c_j1 = 66996ull;
       w2c_j0 += w2c_j1;
       w2c_i0 = (u32)(w2c_j0);
       w2c_i0 = i32_load8_u(m, (u64)(w2c_i0));
-      w2c_l19 = w2c_i0;
+      w2c_l18 = w2c_i0;
       w2c_i1 = 2u;
       w2c_i0 = w2c_i0 == w2c_i1;
-      if (w2c_i0) {goto w2c_B66;}
+      if (w2c_i0) {goto w2c_B20;}
       w2c_j0 = w2c_l17;
       w2c_j1 = 66997ull;
       w2c_j0 += w2c_j1;
       w2c_i0 = (u32)(w2c_j0);
       w2c_i0 = i32_load8_u(m, (u64)(w2c_i0));
-      w2c_l20 = w2c_i0;
-      goto w2c_B68;
-      w2c_B69:;
-      w2c_j0 = w2c_l10;
-      w2c_j1 = 32ull;
-      w2c_j0 += w2c_j1;
-      w2c_i1 = w2c_p0;
-      w2c_f18(m, w2c_j0, w2c_i1);
-      w2c_i0 = 1u;
       w2c_l19 = w2c_i0;
-      w2c_j0 = w2c_l10;
-      w2c_i0 = (u32)(w2c_j0);
-      w2c_i0 = i32_load8_u(m, (u64)(w2c_i0) + 32u);
-      w2c_i1 = 1u;
-      w2c_i0 = w2c_i0 != w2c_i1;
-      if (w2c_i0) {goto w2c_B76;}
-      w2c_j0 = w2c_l10;
-      w2c_i0 = (u32)(w2c_j0);
-      w2c_i0 = i32_load8_u(m, (u64)(w2c_i0) + 33u);
-      w2c_l20 = w2c_i0;
+      goto w2c_B22;
+      w2c_B23:;
       w2c_i0 = 0u;
+      w2c_l18 = w2c_i0;
+      w2c_i0 = w2c_l20;
+      w2c_i1 = 4294967248u;
+      w2c_i0 += w2c_i1;
       w2c_l19 = w2c_i0;
-      goto w2c_B68;
-      w2c_B76:;
-      w2c_j0 = w2c_l10;
-      w2c_j1 = 24ull;
-      w2c_j0 += w2c_j1;
-      w2c_i1 = w2c_p0;
-      w2c_f19(m, w2c_j0, w2c_i1);
-      w2c_j0 = w2c_l10;
-      w2c_i0 = (u32)(w2c_j0);
-      w2c_i0 = i32_load8_u(m, (u64)(w2c_i0) + 24u);
-      w2c_i1 = 1u;
-      w2c_i0 = w2c_i0 != w2c_i1;
-      if (w2c_i0) {goto w2c_B66;}
-      w2c_j0 = w2c_l10;
-      w2c_i0 = (u32)(w2c_j0);
-      w2c_i0 = i32_load8_u(m, (u64)(w2c_i0) + 25u);
-      w2c_l20 = w2c_i0;
-      w2c_B68:;
+      w2c_i1 = 10u;
+      w2c_i0 = w2c_i0 >= w2c_i1;
+      if (w2c_i0) {goto w2c_B20;}
+      w2c_B22:;
       w2c_i0 = w2c_p4;
       w2c_i1 = w2c_p5;
-      w2c_i2 = w2c_p0;
-      w2c_i3 = w2c_l19;
-      w2c_i4 = w2c_l20;
+      w2c_i2 = w2c_l20;
+      w2c_i3 = w2c_l18;
+      w2c_i4 = w2c_l19;
       w2c_j5 = w2c_l16;
       w2c_j6 = w2c_l14;
       w2c_i0 = w2c_f17(m, w2c_i0, w2c_i1, w2c_i2, w2c_i3, w2c_i4, w2c_j5, w2c_j6);
       w2c_i0 = !(w2c_i0);
-      if (w2c_i0) {goto w2c_B66;}
-      w2c_i0 = w2c_l18;
+      if (w2c_i0) {goto w2c_B20;}
+      w2c_i0 = w2c_p0;
       w2c_i1 = 4294967248u;
       w2c_i0 += w2c_i1;
       w2c_i1 = 9u;
       w2c_i0 = w2c_i0 > w2c_i1;
-      if (w2c_i0) {goto w2c_B77;}
+      if (w2c_i0) {goto w2c_B30;}
       w2c_j0 = w2c_l10;
       w2c_j1 = 16ull;
       w2c_j0 += w2c_j1;
-      w2c_i1 = w2c_p0;
+      w2c_i1 = w2c_l20;
       w2c_f18(m, w2c_j0, w2c_i1);
-      w2c_i0 = w2c_p0;
+      w2c_i0 = w2c_l20;
       w2c_i1 = 4294967238u;
       w2c_i0 += w2c_i1;
       w2c_i1 = 4294967285u;
       w2c_i0 = w2c_i0 > w2c_i1;
-      if (w2c_i0) {goto w2c_B77;}
+      if (w2c_i0) {goto w2c_B30;}
       w2c_j0 = w2c_l10;
       w2c_i0 = (u32)(w2c_j0);
       w2c_i0 = i32_load8_u(m, (u64)(w2c_i0) + 16u);
@@ -9417,25 +8859,25 @@ static u32 w2c_f16(module *m, u32 w2c_p0, u64 w2c_p1, u64 w2c_p2, u64 w2c_p3, u3
       w2c_i0 &= w2c_i1;
       w2c_i1 = 1u;
       w2c_i0 = w2c_i0 == w2c_i1;
-      if (w2c_i0) {goto w2c_B66;}
-      w2c_B77:;
+      if (w2c_i0) {goto w2c_B20;}
+      w2c_B30:;
       w2c_j0 = w2c_l10;
       w2c_j1 = 8ull;
       w2c_j0 += w2c_j1;
-      w2c_i1 = w2c_l18;
+      w2c_i1 = w2c_p0;
       w2c_f18(m, w2c_j0, w2c_i1);
-      w2c_i0 = w2c_l18;
+      w2c_i0 = w2c_p0;
       w2c_i1 = 4294967238u;
       w2c_i0 += w2c_i1;
-      w2c_l19 = w2c_i0;
-      w2c_i0 = w2c_p0;
       w2c_l18 = w2c_i0;
-      w2c_i0 = w2c_l19;
+      w2c_i0 = w2c_l20;
+      w2c_p0 = w2c_i0;
+      w2c_i0 = w2c_l18;
       w2c_i1 = 4294967285u;
       w2c_i0 = w2c_i0 > w2c_i1;
-      if (w2c_i0) {goto w2c_L67;}
-      w2c_i0 = w2c_p0;
-      w2c_l18 = w2c_i0;
+      if (w2c_i0) {goto w2c_L21;}
+      w2c_i0 = w2c_l20;
+      w2c_p0 = w2c_i0;
       w2c_j0 = w2c_l10;
       w2c_i0 = (u32)(w2c_j0);
       w2c_i0 = i32_load8_u(m, (u64)(w2c_i0) + 8u);
@@ -9443,49 +8885,49 @@ static u32 w2c_f16(module *m, u32 w2c_p0, u64 w2c_p1, u64 w2c_p2, u64 w2c_p3, u3
       w2c_i0 &= w2c_i1;
       w2c_i1 = 1u;
       w2c_i0 = w2c_i0 != w2c_i1;
-      if (w2c_i0) {goto w2c_L67;}
-      w2c_i0 = w2c_p0;
-      w2c_l18 = w2c_i0;
-      w2c_i0 = w2c_p0;
+      if (w2c_i0) {goto w2c_L21;}
+      w2c_i0 = w2c_l20;
+      w2c_p0 = w2c_i0;
+      w2c_i0 = w2c_l20;
       w2c_i1 = 4294967248u;
       w2c_i0 += w2c_i1;
       w2c_i1 = 9u;
       w2c_i0 = w2c_i0 > w2c_i1;
-      if (w2c_i0) {goto w2c_L67;}
-    w2c_B66:;
+      if (w2c_i0) {goto w2c_L21;}
+    w2c_B20:;
     w2c_j0 = w2c_l10;
     w2c_i0 = (u32)(w2c_j0);
     w2c_j1 = w2c_l12;
-    i64_store(m, (u64)(w2c_i0) + 96, w2c_j1);
-    w2c_j0 = w2c_l10;
-    w2c_i0 = (u32)(w2c_j0);
-    w2c_j1 = w2c_l9;
     i64_store(m, (u64)(w2c_i0) + 80, w2c_j1);
     w2c_j0 = w2c_l10;
     w2c_i0 = (u32)(w2c_j0);
-    w2c_j1 = w2c_l15;
-    i64_store(m, (u64)(w2c_i0) + 72, w2c_j1);
-    w2c_j0 = w2c_l10;
-    w2c_i0 = (u32)(w2c_j0);
-    w2c_j1 = w2c_p1;
+    w2c_j1 = w2c_l9;
     i64_store(m, (u64)(w2c_i0) + 64, w2c_j1);
     w2c_j0 = w2c_l10;
     w2c_i0 = (u32)(w2c_j0);
+    w2c_j1 = w2c_l15;
+    i64_store(m, (u64)(w2c_i0) + 56, w2c_j1);
+    w2c_j0 = w2c_l10;
+    w2c_i0 = (u32)(w2c_j0);
+    w2c_j1 = w2c_p1;
+    i64_store(m, (u64)(w2c_i0) + 48, w2c_j1);
+    w2c_j0 = w2c_l10;
+    w2c_i0 = (u32)(w2c_j0);
     w2c_j1 = w2c_p3;
-    i64_store(m, (u64)(w2c_i0) + 104, w2c_j1);
+    i64_store(m, (u64)(w2c_i0) + 88, w2c_j1);
     w2c_j0 = w2c_l10;
     w2c_i0 = (u32)(w2c_j0);
     w2c_j1 = w2c_l13;
     w2c_j2 = w2c_p3;
     w2c_j1 -= w2c_j2;
-    i64_store(m, (u64)(w2c_i0) + 88, w2c_j1);
+    i64_store(m, (u64)(w2c_i0) + 72, w2c_j1);
     w2c_j0 = w2c_l10;
-    w2c_j1 = 120ull;
+    w2c_j1 = 104ull;
     w2c_j0 += w2c_j1;
     w2c_j1 = w2c_l10;
-    w2c_j2 = 64ull;
+    w2c_j2 = 48ull;
     w2c_j1 += w2c_j2;
-    w2c_f20(m, w2c_j0, w2c_j1);
+    w2c_f19(m, w2c_j0, w2c_j1);
     w2c_j0 = w2c_p6;
     w2c_j1 = w2c_l11;
     w2c_j2 = 24ull;
@@ -9495,19 +8937,19 @@ static u32 w2c_f16(module *m, u32 w2c_p0, u64 w2c_p1, u64 w2c_p2, u64 w2c_p3, u3
     w2c_i0 = (u32)(w2c_j0);
     w2c_j1 = w2c_l10;
     w2c_i1 = (u32)(w2c_j1);
-    w2c_j1 = i64_load(m, (u64)(w2c_i1) + 136u);
+    w2c_j1 = i64_load(m, (u64)(w2c_i1) + 120u);
     i64_store(m, (u64)(w2c_i0) + 16, w2c_j1);
     w2c_j0 = w2c_l9;
     w2c_i0 = (u32)(w2c_j0);
     w2c_j1 = w2c_l10;
     w2c_i1 = (u32)(w2c_j1);
-    w2c_j1 = i64_load(m, (u64)(w2c_i1) + 128u);
+    w2c_j1 = i64_load(m, (u64)(w2c_i1) + 112u);
     i64_store(m, (u64)(w2c_i0) + 8, w2c_j1);
     w2c_j0 = w2c_l9;
     w2c_i0 = (u32)(w2c_j0);
     w2c_j1 = w2c_l10;
     w2c_i1 = (u32)(w2c_j1);
-    w2c_j1 = i64_load(m, (u64)(w2c_i1) + 120u);
+    w2c_j1 = i64_load(m, (u64)(w2c_i1) + 104u);
     i64_store(m, (u64)(w2c_i0), w2c_j1);
     w2c_j0 = w2c_l11;
     w2c_j1 = 1ull;
@@ -9532,7 +8974,7 @@ static u32 w2c_f16(module *m, u32 w2c_p0, u64 w2c_p1, u64 w2c_p2, u64 w2c_p3, u3
   w2c_j0 = w2c_p2;
   w2c_j1 = w2c_p3;
   w2c_i0 = w2c_j0 == w2c_j1;
-  if (w2c_i0) {goto w2c_B78;}
+  if (w2c_i0) {goto w2c_B31;}
   w2c_i0 = 5u;
   w2c_p0 = w2c_i0;
   w2c_j0 = w2c_p2;
@@ -9547,27 +8989,35 @@ static u32 w2c_f16(module *m, u32 w2c_p0, u64 w2c_p1, u64 w2c_p2, u64 w2c_p3, u3
   w2c_i1 = 4294967232u;
   w2c_i0 = (u32)((s32)w2c_i0 < (s32)w2c_i1);
   if (w2c_i0) {goto w2c_B0;}
-  w2c_B78:;
+  w2c_B31:;
   w2c_i0 = 0u;
   w2c_p0 = w2c_i0;
   w2c_j0 = w2c_l10;
   w2c_i0 = (u32)(w2c_j0);
   w2c_i1 = 0u;
-  i32_store(m, (u64)(w2c_i0) + 122, w2c_i1);
+  i32_store(m, (u64)(w2c_i0) + 106, w2c_i1);
   w2c_j0 = w2c_l10;
   w2c_i0 = (u32)(w2c_j0);
   w2c_i1 = w2c_p5;
-  i32_store8(m, (u64)(w2c_i0) + 121, w2c_i1);
+  i32_store8(m, (u64)(w2c_i0) + 105, w2c_i1);
   w2c_j0 = w2c_l10;
   w2c_i0 = (u32)(w2c_j0);
   w2c_i1 = w2c_p4;
-  i32_store8(m, (u64)(w2c_i0) + 120, w2c_i1);
+  i32_store8(m, (u64)(w2c_i0) + 104, w2c_i1);
   w2c_j0 = w2c_l10;
   w2c_i0 = (u32)(w2c_j0);
   w2c_i1 = 0u;
-  i32_store16(m, (u64)(w2c_i0) + 126, w2c_i1);
+  i32_store16(m, (u64)(w2c_i0) + 110, w2c_i1);
   w2c_j0 = 0ull;
   w2c_l9 = w2c_j0;
+  w2c_j0 = w2c_l10;
+  w2c_i0 = (u32)(w2c_j0);
+  w2c_j1 = 0ull;
+  i64_store(m, (u64)(w2c_i0) + 48, w2c_j1);
+  w2c_j0 = w2c_l10;
+  w2c_i0 = (u32)(w2c_j0);
+  w2c_j1 = 0ull;
+  i64_store(m, (u64)(w2c_i0) + 56, w2c_j1);
   w2c_j0 = w2c_l10;
   w2c_i0 = (u32)(w2c_j0);
   w2c_j1 = 0ull;
@@ -9591,88 +9041,80 @@ static u32 w2c_f16(module *m, u32 w2c_p0, u64 w2c_p1, u64 w2c_p2, u64 w2c_p3, u3
   w2c_j0 = w2c_l10;
   w2c_i0 = (u32)(w2c_j0);
   w2c_j1 = 0ull;
-  i64_store(m, (u64)(w2c_i0) + 104, w2c_j1);
+  i64_store(m, (u64)(w2c_i0) + 24, w2c_j1);
   w2c_j0 = w2c_l10;
   w2c_i0 = (u32)(w2c_j0);
   w2c_j1 = 0ull;
-  i64_store(m, (u64)(w2c_i0) + 112, w2c_j1);
+  i64_store(m, (u64)(w2c_i0) + 32, w2c_j1);
   w2c_j0 = w2c_l10;
   w2c_i0 = (u32)(w2c_j0);
   w2c_j1 = 0ull;
   i64_store(m, (u64)(w2c_i0) + 40, w2c_j1);
   w2c_j0 = w2c_l10;
   w2c_i0 = (u32)(w2c_j0);
-  w2c_j1 = 0ull;
-  i64_store(m, (u64)(w2c_i0) + 48, w2c_j1);
-  w2c_j0 = w2c_l10;
-  w2c_i0 = (u32)(w2c_j0);
-  w2c_j1 = 0ull;
-  i64_store(m, (u64)(w2c_i0) + 56, w2c_j1);
-  w2c_j0 = w2c_l10;
-  w2c_i0 = (u32)(w2c_j0);
   w2c_j1 = w2c_p2;
-  i64_store(m, (u64)(w2c_i0) + 136, w2c_j1);
+  i64_store(m, (u64)(w2c_i0) + 120, w2c_j1);
   w2c_j0 = w2c_l10;
   w2c_i0 = (u32)(w2c_j0);
   w2c_j1 = w2c_p2;
   w2c_j2 = w2c_p3;
   w2c_j1 -= w2c_j2;
-  i64_store(m, (u64)(w2c_i0) + 152, w2c_j1);
+  i64_store(m, (u64)(w2c_i0) + 136, w2c_j1);
   w2c_j0 = w2c_l10;
   w2c_i0 = (u32)(w2c_j0);
   w2c_j1 = w2c_p1;
-  i64_store(m, (u64)(w2c_i0) + 128, w2c_j1);
+  i64_store(m, (u64)(w2c_i0) + 112, w2c_j1);
   w2c_j0 = w2c_l10;
   w2c_i0 = (u32)(w2c_j0);
   w2c_j1 = w2c_p1;
   w2c_j2 = w2c_p3;
   w2c_j1 += w2c_j2;
-  i64_store(m, (u64)(w2c_i0) + 144, w2c_j1);
+  i64_store(m, (u64)(w2c_i0) + 128, w2c_j1);
   w2c_j0 = w2c_p7;
   w2c_i0 = !(w2c_j0);
-  if (w2c_i0) {goto w2c_B79;}
+  if (w2c_i0) {goto w2c_B32;}
   w2c_j0 = w2c_l10;
-  w2c_j1 = 72ull;
+  w2c_j1 = 56ull;
   w2c_j0 += w2c_j1;
   w2c_l12 = w2c_j0;
   w2c_j0 = 0ull;
   w2c_l9 = w2c_j0;
-  w2c_L80:
+  w2c_L33:
     w2c_j0 = w2c_l10;
-    w2c_j1 = 64ull;
+    w2c_j1 = 48ull;
     w2c_j0 += w2c_j1;
     w2c_j1 = w2c_l10;
-    w2c_j2 = 120ull;
+    w2c_j2 = 104ull;
     w2c_j1 += w2c_j2;
-    w2c_f21(m, w2c_j0, w2c_j1);
+    w2c_f20(m, w2c_j0, w2c_j1);
     w2c_j0 = w2c_l10;
     w2c_i0 = (u32)(w2c_j0);
-    w2c_i0 = i32_load8_u(m, (u64)(w2c_i0) + 64u);
+    w2c_i0 = i32_load8_u(m, (u64)(w2c_i0) + 48u);
     w2c_i1 = 1u;
     w2c_i0 = w2c_i0 != w2c_i1;
-    if (w2c_i0) {goto w2c_B79;}
+    if (w2c_i0) {goto w2c_B32;}
     w2c_j0 = w2c_l10;
-    w2c_j1 = 40ull;
+    w2c_j1 = 24ull;
     w2c_j0 += w2c_j1;
     w2c_j1 = w2c_l12;
-    w2c_f20(m, w2c_j0, w2c_j1);
-    w2c_j0 = w2c_p6;
-    w2c_i0 = (u32)(w2c_j0);
-    w2c_j1 = w2c_l10;
-    w2c_i1 = (u32)(w2c_j1);
-    w2c_j1 = i64_load(m, (u64)(w2c_i1) + 56u);
-    i64_store(m, (u64)(w2c_i0) + 16, w2c_j1);
-    w2c_j0 = w2c_p6;
-    w2c_i0 = (u32)(w2c_j0);
-    w2c_j1 = w2c_l10;
-    w2c_i1 = (u32)(w2c_j1);
-    w2c_j1 = i64_load(m, (u64)(w2c_i1) + 48u);
-    i64_store(m, (u64)(w2c_i0) + 8, w2c_j1);
+    w2c_f19(m, w2c_j0, w2c_j1);
     w2c_j0 = w2c_p6;
     w2c_i0 = (u32)(w2c_j0);
     w2c_j1 = w2c_l10;
     w2c_i1 = (u32)(w2c_j1);
     w2c_j1 = i64_load(m, (u64)(w2c_i1) + 40u);
+    i64_store(m, (u64)(w2c_i0) + 16, w2c_j1);
+    w2c_j0 = w2c_p6;
+    w2c_i0 = (u32)(w2c_j0);
+    w2c_j1 = w2c_l10;
+    w2c_i1 = (u32)(w2c_j1);
+    w2c_j1 = i64_load(m, (u64)(w2c_i1) + 32u);
+    i64_store(m, (u64)(w2c_i0) + 8, w2c_j1);
+    w2c_j0 = w2c_p6;
+    w2c_i0 = (u32)(w2c_j0);
+    w2c_j1 = w2c_l10;
+    w2c_i1 = (u32)(w2c_j1);
+    w2c_j1 = i64_load(m, (u64)(w2c_i1) + 24u);
     i64_store(m, (u64)(w2c_i0), w2c_j1);
     w2c_j0 = w2c_p6;
     w2c_j1 = 24ull;
@@ -9684,17 +9126,17 @@ static u32 w2c_f16(module *m, u32 w2c_p0, u64 w2c_p1, u64 w2c_p2, u64 w2c_p3, u3
     w2c_j1 += w2c_j2;
     w2c_l9 = w2c_j1;
     w2c_i0 = w2c_j0 != w2c_j1;
-    if (w2c_i0) {goto w2c_L80;}
+    if (w2c_i0) {goto w2c_L33;}
   w2c_j0 = w2c_p7;
   w2c_l9 = w2c_j0;
-  w2c_B79:;
+  w2c_B32:;
   w2c_j0 = w2c_p8;
   w2c_i0 = (u32)(w2c_j0);
   w2c_j1 = w2c_l9;
   i64_store(m, (u64)(w2c_i0), w2c_j1);
   w2c_B0:;
   w2c_j0 = w2c_l10;
-  w2c_j1 = 160ull;
+  w2c_j1 = 144ull;
   w2c_j0 += w2c_j1;
   m->w2c_g0 = w2c_j0;
   w2c_i0 = w2c_p0;
@@ -9860,7 +9302,7 @@ static u32 w2c_f17(module *m, u32 w2c_p0, u32 w2c_p1, u32 w2c_p2, u32 w2c_p3, u3
   w2c_B13:;
   w2c_j0 = w2c_p5;
   w2c_j1 = w2c_p6;
-  w2c_i0 = w2c_f22(m, w2c_j0, w2c_j1);
+  w2c_i0 = w2c_f21(m, w2c_j0, w2c_j1);
   w2c_p3 = w2c_i0;
   w2c_j0 = w2c_l7;
   m->w2c_g0 = w2c_j0;
@@ -9875,7 +9317,7 @@ static u32 w2c_f17(module *m, u32 w2c_p0, u32 w2c_p1, u32 w2c_p2, u32 w2c_p3, u3
   w2c_i1 = w2c_p1;
   w2c_j2 = w2c_p5;
   w2c_j3 = w2c_p6;
-  w2c_i0 = w2c_f23(m, w2c_i0, w2c_i1, w2c_j2, w2c_j3);
+  w2c_i0 = w2c_f22(m, w2c_i0, w2c_i1, w2c_j2, w2c_j3);
   w2c_l8 = w2c_i0;
   w2c_B0:;
   w2c_j0 = w2c_l7;
@@ -10153,269 +9595,13 @@ static void w2c_f18(module *m, u64 w2c_p0, u32 w2c_p1) {
   i32_store8(m, (u64)(w2c_i0), w2c_i1);
 }
 
-static void w2c_f19(module *m, u64 w2c_p0, u32 w2c_p1) {
-  u32 w2c_l2 = 0, w2c_l3 = 0;
-  u32 w2c_i0, w2c_i1;
-  u64 w2c_j0, w2c_j1;
-  w2c_j0 = m->w2c_g0;
-  w2c_j1 = 16ull;
-  w2c_i0 = (u64)((s64)w2c_j0 < (s64)w2c_j1);
-  if (w2c_i0) {goto w2c_B3;}
-  w2c_i0 = 1u;
-  w2c_l2 = w2c_i0;
-  w2c_i0 = w2c_p1;
-  w2c_i1 = 26496u;
-  w2c_i0 = (u32)((s32)w2c_i0 > (s32)w2c_i1);
-  if (w2c_i0) {goto w2c_B13;}
-  w2c_i0 = 0u;
-  w2c_l3 = w2c_i0;
-  w2c_i0 = w2c_p1;
-  w2c_i1 = 20490u;
-  w2c_i0 = (u32)((s32)w2c_i0 > (s32)w2c_i1);
-  if (w2c_i0) {goto w2c_B14;}
-  w2c_i0 = w2c_p1;
-  w2c_i1 = 20139u;
-  w2c_i0 = (u32)((s32)w2c_i0 > (s32)w2c_i1);
-  if (w2c_i0) {goto w2c_B15;}
-  w2c_i0 = w2c_p1;
-  w2c_i1 = 19975u;
-  w2c_i0 = w2c_i0 == w2c_i1;
-  if (w2c_i0) {goto w2c_B12;}
-  w2c_i0 = w2c_p1;
-  w2c_i1 = 20010u;
-  w2c_i0 = w2c_i0 == w2c_i1;
-  if (w2c_i0) {goto w2c_B0;}
-  goto w2c_B1;
-  w2c_B15:;
-  w2c_i0 = w2c_p1;
-  w2c_i1 = 4294947156u;
-  w2c_i0 += w2c_i1;
-  switch (w2c_i0) {
-    case 0: goto w2c_B8;
-    case 1: goto w2c_B1;
-    case 2: goto w2c_B1;
-    case 3: goto w2c_B1;
-    case 4: goto w2c_B1;
-    case 5: goto w2c_B1;
-    case 6: goto w2c_B1;
-    case 7: goto w2c_B1;
-    case 8: goto w2c_B1;
-    case 9: goto w2c_B1;
-    case 10: goto w2c_B1;
-    case 11: goto w2c_B1;
-    case 12: goto w2c_B1;
-    case 13: goto w2c_B1;
-    case 14: goto w2c_B1;
-    case 15: goto w2c_B1;
-    case 16: goto w2c_B1;
-    case 17: goto w2c_B1;
-    case 18: goto w2c_B1;
-    case 19: goto w2c_B9;
-    default: goto w2c_B16;
-  }
-  w2c_B16:;
-  w2c_i0 = w2c_p1;
-  w2c_i1 = 20191u;
-  w2c_i0 = w2c_i0 == w2c_i1;
-  if (w2c_i0) {goto w2c_B10;}
-  w2c_i0 = w2c_p1;
-  w2c_i1 = 20336u;
-  w2c_i0 = w2c_i0 != w2c_i1;
-  if (w2c_i0) {goto w2c_B1;}
-  goto w2c_B2;
-  w2c_B14:;
-  w2c_i0 = w2c_p1;
-  w2c_i1 = 21312u;
-  w2c_i0 = (u32)((s32)w2c_i0 > (s32)w2c_i1);
-  if (w2c_i0) {goto w2c_B17;}
-  w2c_i0 = w2c_p1;
-  w2c_i1 = 20491u;
-  w2c_i0 = w2c_i0 == w2c_i1;
-  if (w2c_i0) {goto w2c_B0;}
-  w2c_i0 = w2c_p1;
-  w2c_i1 = 20740u;
-  w2c_i0 = w2c_i0 == w2c_i1;
-  if (w2c_i0) {goto w2c_B9;}
-  w2c_i0 = w2c_p1;
-  w2c_i1 = 20806u;
-  w2c_i0 = w2c_i0 != w2c_i1;
-  if (w2c_i0) {goto w2c_B1;}
-  w2c_i0 = 6u;
-  w2c_l3 = w2c_i0;
-  goto w2c_B0;
-  w2c_B17:;
-  w2c_i0 = w2c_p1;
-  w2c_i1 = 4294945983u;
-  w2c_i0 += w2c_i1;
-  switch (w2c_i0) {
-    case 0: goto w2c_B18;
-    case 1: goto w2c_B1;
-    case 2: goto w2c_B10;
-    default: goto w2c_B19;
-  }
-  w2c_B19:;
-  w2c_i0 = w2c_p1;
-  w2c_i1 = 22419u;
-  w2c_i0 = w2c_i0 == w2c_i1;
-  if (w2c_i0) {goto w2c_B7;}
-  w2c_i0 = w2c_p1;
-  w2c_i1 = 25342u;
-  w2c_i0 = w2c_i0 != w2c_i1;
-  if (w2c_i0) {goto w2c_B1;}
-  w2c_B18:;
-  w2c_i0 = 1u;
-  w2c_l3 = w2c_i0;
-  w2c_i0 = 1u;
-  w2c_l2 = w2c_i0;
-  goto w2c_B0;
-  w2c_B13:;
-  w2c_i0 = w2c_p1;
-  w2c_i1 = 28566u;
-  w2c_i0 = (u32)((s32)w2c_i0 > (s32)w2c_i1);
-  if (w2c_i0) {goto w2c_B20;}
-  w2c_i0 = w2c_p1;
-  w2c_i1 = 27806u;
-  w2c_i0 = (u32)((s32)w2c_i0 > (s32)w2c_i1);
-  if (w2c_i0) {goto w2c_B21;}
-  w2c_i0 = w2c_p1;
-  w2c_i1 = 26497u;
-  w2c_i0 = w2c_i0 == w2c_i1;
-  if (w2c_i0) {goto w2c_B4;}
-  w2c_i0 = w2c_p1;
-  w2c_i1 = 26997u;
-  w2c_i0 = w2c_i0 == w2c_i1;
-  if (w2c_i0) {goto w2c_B4;}
-  w2c_i0 = w2c_p1;
-  w2c_i1 = 27491u;
-  w2c_i0 = w2c_i0 != w2c_i1;
-  if (w2c_i0) {goto w2c_B1;}
-  w2c_i0 = 13u;
-  w2c_l3 = w2c_i0;
-  goto w2c_B0;
-  w2c_B21:;
-  w2c_i0 = w2c_p1;
-  w2c_i1 = 27807u;
-  w2c_i0 = w2c_i0 == w2c_i1;
-  if (w2c_i0) {goto w2c_B22;}
-  w2c_i0 = w2c_p1;
-  w2c_i1 = 28071u;
-  w2c_i0 = w2c_i0 == w2c_i1;
-  if (w2c_i0) {goto w2c_B5;}
-  w2c_i0 = w2c_p1;
-  w2c_i1 = 28317u;
-  w2c_i0 = w2c_i0 != w2c_i1;
-  if (w2c_i0) {goto w2c_B1;}
-  w2c_B22:;
-  w2c_i0 = 11u;
-  w2c_l3 = w2c_i0;
-  goto w2c_B0;
-  w2c_B20:;
-  w2c_i0 = w2c_p1;
-  w2c_i1 = 31343u;
-  w2c_i0 = (u32)((s32)w2c_i0 > (s32)w2c_i1);
-  if (w2c_i0) {goto w2c_B23;}
-  w2c_i0 = w2c_p1;
-  w2c_i1 = 28567u;
-  w2c_i0 = w2c_i0 == w2c_i1;
-  if (w2c_i0) {goto w2c_B5;}
-  w2c_i0 = w2c_p1;
-  w2c_i1 = 30334u;
-  w2c_i0 = w2c_i0 == w2c_i1;
-  if (w2c_i0) {goto w2c_B2;}
-  w2c_i0 = w2c_p1;
-  w2c_i1 = 31213u;
-  w2c_i0 = w2c_i0 != w2c_i1;
-  if (w2c_i0) {goto w2c_B1;}
-  w2c_i0 = 9u;
-  w2c_l3 = w2c_i0;
-  goto w2c_B0;
-  w2c_B23:;
-  w2c_i0 = w2c_p1;
-  w2c_i1 = 36616u;
-  w2c_i0 = (u32)((s32)w2c_i0 > (s32)w2c_i1);
-  if (w2c_i0) {goto w2c_B11;}
-  w2c_i0 = w2c_p1;
-  w2c_i1 = 31344u;
-  w2c_i0 = w2c_i0 == w2c_i1;
-  if (w2c_i0) {goto w2c_B6;}
-  w2c_i0 = w2c_p1;
-  w2c_i1 = 33836u;
-  w2c_i0 = w2c_i0 != w2c_i1;
-  if (w2c_i0) {goto w2c_B1;}
-  w2c_B12:;
-  w2c_i0 = 4u;
-  w2c_l3 = w2c_i0;
-  goto w2c_B0;
-  w2c_B11:;
-  w2c_i0 = w2c_p1;
-  w2c_i1 = 36617u;
-  w2c_i0 = w2c_i0 == w2c_i1;
-  if (w2c_i0) {goto w2c_B24;}
-  w2c_i0 = w2c_p1;
-  w2c_i1 = 36733u;
-  w2c_i0 = w2c_i0 != w2c_i1;
-  if (w2c_i0) {goto w2c_B1;}
-  w2c_B24:;
-  w2c_i0 = 14u;
-  w2c_l3 = w2c_i0;
-  goto w2c_B0;
-  w2c_B10:;
-  w2c_i0 = 3u;
-  w2c_l3 = w2c_i0;
-  goto w2c_B0;
-  w2c_B9:;
-  w2c_i0 = 5u;
-  w2c_l3 = w2c_i0;
-  goto w2c_B0;
-  w2c_B8:;
-  w2c_i0 = 7u;
-  w2c_l3 = w2c_i0;
-  goto w2c_B0;
-  w2c_B7:;
-  w2c_i0 = 8u;
-  w2c_l3 = w2c_i0;
-  goto w2c_B0;
-  w2c_B6:;
-  w2c_i0 = 10u;
-  w2c_l3 = w2c_i0;
-  goto w2c_B0;
-  w2c_B5:;
-  w2c_i0 = 12u;
-  w2c_l3 = w2c_i0;
-  goto w2c_B0;
-  w2c_B4:;
-  w2c_i0 = 15u;
-  w2c_l3 = w2c_i0;
-  goto w2c_B0;
-  w2c_B3:;
-  UNREACHABLE;
-  w2c_B2:;
-  w2c_i0 = 2u;
-  w2c_l3 = w2c_i0;
-  goto w2c_B0;
-  w2c_B1:;
-  w2c_i0 = 0u;
-  w2c_l2 = w2c_i0;
-  w2c_i0 = 0u;
-  w2c_l3 = w2c_i0;
-  w2c_B0:;
-  w2c_j0 = w2c_p0;
-  w2c_i0 = (u32)(w2c_j0);
-  w2c_i1 = w2c_l3;
-  i32_store8(m, (u64)(w2c_i0) + 1, w2c_i1);
-  w2c_j0 = w2c_p0;
-  w2c_i0 = (u32)(w2c_j0);
-  w2c_i1 = w2c_l2;
-  i32_store8(m, (u64)(w2c_i0), w2c_i1);
-}
-
-static void w2c_f20(module *m, u64 w2c_p0, u64 w2c_p1) {
+static void w2c_f19(module *m, u64 w2c_p0, u64 w2c_p1) {
   u32 w2c_l10 = 0, w2c_l11 = 0, w2c_l12 = 0, w2c_l13 = 0, w2c_l14 = 0, w2c_l15 = 0, w2c_l16 = 0, w2c_l17 = 0;
   u64 w2c_l2 = 0, w2c_l3 = 0, w2c_l4 = 0, w2c_l5 = 0, w2c_l6 = 0, w2c_l7 = 0, w2c_l8 = 0, w2c_l9 = 0;
-  u32 w2c_i0, w2c_i1, w2c_i2, w2c_i3, w2c_i4, w2c_i5;
+  u32 w2c_i0, w2c_i1, w2c_i2, w2c_i3, w2c_i4;
   u64 w2c_j0, w2c_j1, w2c_j2, w2c_j3;
   w2c_j0 = m->w2c_g0;
-  w2c_j1 = 64ull;
+  w2c_j1 = 16ull;
   w2c_j0 -= w2c_j1;
   w2c_l2 = w2c_j0;
   m->w2c_g0 = w2c_j0;
@@ -10423,7 +9609,7 @@ static void w2c_f20(module *m, u64 w2c_p0, u64 w2c_p1) {
   w2c_l3 = w2c_j0;
   w2c_j1 = 16ull;
   w2c_i0 = (u64)((s64)w2c_j0 < (s64)w2c_j1);
-  if (w2c_i0) {goto w2c_B5;}
+  if (w2c_i0) {goto w2c_B8;}
   w2c_j0 = w2c_p1;
   w2c_i0 = (u32)(w2c_j0);
   w2c_j0 = i64_load(m, (u64)(w2c_i0) + 40u);
@@ -10440,19 +9626,17 @@ static void w2c_f20(module *m, u64 w2c_p0, u64 w2c_p1) {
   w2c_i0 = (u32)(w2c_j0);
   w2c_j0 = i64_load(m, (u64)(w2c_i0) + 16u);
   w2c_l6 = w2c_j0;
-  w2c_i0 = 1u;
-  w2c_l10 = w2c_i0;
   w2c_j0 = w2c_p1;
   w2c_i0 = (u32)(w2c_j0);
   w2c_j0 = i64_load(m, (u64)(w2c_i0) + 8u);
   w2c_l7 = w2c_j0;
   w2c_i0 = !(w2c_j0);
   w2c_i0 = !(w2c_i0);
-  if (w2c_i0) {goto w2c_B6;}
+  if (w2c_i0) {goto w2c_B9;}
   w2c_i0 = 0u;
-  w2c_l11 = w2c_i0;
-  goto w2c_B0;
-  w2c_B6:;
+  w2c_l10 = w2c_i0;
+  goto w2c_B1;
+  w2c_B9:;
   w2c_j0 = w2c_p1;
   w2c_i0 = (u32)(w2c_j0);
   w2c_j0 = i64_load(m, (u64)(w2c_i0));
@@ -10464,10 +9648,10 @@ static void w2c_f20(module *m, u64 w2c_p0, u64 w2c_p1) {
   w2c_j0 += w2c_j1;
   w2c_i0 = (u32)(w2c_j0);
   w2c_i0 = i32_load8_s(m, (u64)(w2c_i0));
-  w2c_l12 = w2c_i0;
+  w2c_l11 = w2c_i0;
   w2c_i1 = 0u;
   w2c_i0 = (u32)((s32)w2c_i0 >= (s32)w2c_i1);
-  if (w2c_i0) {goto w2c_B9;}
+  if (w2c_i0) {goto w2c_B7;}
   w2c_j0 = 18446744073709551614ull;
   w2c_l8 = w2c_j0;
   w2c_j0 = w2c_p1;
@@ -10502,65 +9686,65 @@ static void w2c_f20(module *m, u64 w2c_p0, u64 w2c_p1) {
   w2c_l9 = w2c_j0;
   w2c_i0 = (u32)(w2c_j0);
   w2c_i0 = i32_load8_s(m, (u64)(w2c_i0));
-  w2c_l13 = w2c_i0;
+  w2c_l12 = w2c_i0;
   w2c_i1 = 255u;
   w2c_i0 &= w2c_i1;
-  w2c_l12 = w2c_i0;
-  w2c_i0 = w2c_l13;
+  w2c_l11 = w2c_i0;
+  w2c_i0 = w2c_l12;
   w2c_i1 = 4294967295u;
   w2c_i0 = (u32)((s32)w2c_i0 > (s32)w2c_i1);
-  if (w2c_i0) {goto w2c_B9;}
+  if (w2c_i0) {goto w2c_B7;}
   w2c_j0 = w2c_l9;
   w2c_i0 = (u32)(w2c_j0);
   w2c_i0 = i32_load8_u(m, (u64)(w2c_i0) + 1u);
   w2c_i1 = 63u;
   w2c_i0 &= w2c_i1;
-  w2c_l14 = w2c_i0;
-  w2c_i0 = w2c_l13;
+  w2c_l13 = w2c_i0;
+  w2c_i0 = w2c_l12;
   w2c_i1 = 4294967263u;
   w2c_i0 = w2c_i0 > w2c_i1;
   if (w2c_i0) {goto w2c_B11;}
-  w2c_i0 = w2c_l12;
+  w2c_i0 = w2c_l11;
   w2c_i1 = 6u;
   w2c_i0 <<= (w2c_i1 & 31);
   w2c_i1 = 1984u;
   w2c_i0 &= w2c_i1;
-  w2c_i1 = w2c_l14;
+  w2c_i1 = w2c_l13;
   w2c_i0 |= w2c_i1;
-  w2c_l12 = w2c_i0;
-  goto w2c_B9;
+  w2c_l11 = w2c_i0;
+  goto w2c_B7;
   w2c_B11:;
   w2c_j0 = w2c_l9;
   w2c_i0 = (u32)(w2c_j0);
   w2c_i0 = i32_load8_u(m, (u64)(w2c_i0) + 2u);
   w2c_i1 = 63u;
   w2c_i0 &= w2c_i1;
-  w2c_l10 = w2c_i0;
-  w2c_i0 = w2c_l13;
+  w2c_l14 = w2c_i0;
+  w2c_i0 = w2c_l12;
   w2c_i1 = 4294967279u;
   w2c_i0 = w2c_i0 > w2c_i1;
   if (w2c_i0) {goto w2c_B13;}
-  w2c_i0 = w2c_l14;
+  w2c_i0 = w2c_l13;
   w2c_i1 = 6u;
   w2c_i0 <<= (w2c_i1 & 31);
-  w2c_i1 = w2c_l12;
+  w2c_i1 = w2c_l11;
   w2c_i2 = 12u;
   w2c_i1 <<= (w2c_i2 & 31);
   w2c_i2 = 61440u;
   w2c_i1 &= w2c_i2;
   w2c_i0 |= w2c_i1;
-  w2c_i1 = w2c_l10;
+  w2c_i1 = w2c_l14;
   w2c_i0 |= w2c_i1;
-  w2c_l12 = w2c_i0;
+  w2c_l11 = w2c_i0;
   goto w2c_B12;
   w2c_B13:;
-  w2c_i0 = w2c_l10;
+  w2c_i0 = w2c_l14;
   w2c_i1 = 6u;
   w2c_i0 <<= (w2c_i1 & 31);
-  w2c_i1 = w2c_l14;
+  w2c_i1 = w2c_l13;
   w2c_i2 = 12u;
   w2c_i1 <<= (w2c_i2 & 31);
-  w2c_i2 = w2c_l12;
+  w2c_i2 = w2c_l11;
   w2c_i3 = 18u;
   w2c_i2 <<= (w2c_i3 & 31);
   w2c_i3 = 1835008u;
@@ -10573,49 +9757,24 @@ static void w2c_f20(module *m, u64 w2c_p0, u64 w2c_p1) {
   w2c_i2 = 63u;
   w2c_i1 &= w2c_i2;
   w2c_i0 |= w2c_i1;
-  w2c_l12 = w2c_i0;
+  w2c_l11 = w2c_i0;
   w2c_B12:;
-  w2c_i0 = w2c_l12;
+  w2c_i0 = w2c_l11;
   w2c_i1 = 4294965248u;
   w2c_i0 += w2c_i1;
-  w2c_i1 = 63488u;
-  w2c_i0 = w2c_i0 < w2c_i1;
-  if (w2c_i0) {goto w2c_B8;}
-  w2c_B9:;
-  w2c_j0 = w2c_l3;
-  w2c_j1 = 56ull;
-  w2c_j0 += w2c_j1;
-  w2c_i1 = w2c_l12;
-  w2c_f18(m, w2c_j0, w2c_i1);
-  w2c_i0 = 1u;
-  w2c_l11 = w2c_i0;
-  w2c_j0 = w2c_l3;
-  w2c_i0 = (u32)(w2c_j0);
-  w2c_i0 = i32_load8_u(m, (u64)(w2c_i0) + 56u);
-  w2c_i1 = 1u;
-  w2c_i0 = w2c_i0 == w2c_i1;
-  if (w2c_i0) {goto w2c_B1;}
-  w2c_j0 = w2c_l3;
-  w2c_j1 = 48ull;
-  w2c_j0 += w2c_j1;
-  w2c_i1 = w2c_l12;
-  w2c_f19(m, w2c_j0, w2c_i1);
-  w2c_i0 = w2c_l12;
-  w2c_i1 = 128u;
-  w2c_i0 = w2c_i0 < w2c_i1;
+  w2c_i1 = 63487u;
+  w2c_i0 = w2c_i0 > w2c_i1;
   if (w2c_i0) {goto w2c_B7;}
-  goto w2c_B4;
-  w2c_B8:;
-  w2c_i0 = w2c_l12;
+  w2c_i0 = w2c_l11;
   w2c_i1 = 12u;
   w2c_i0 >>= (w2c_i1 & 31);
-  w2c_i1 = w2c_l12;
+  w2c_i1 = w2c_l11;
   w2c_i2 = 2u;
   w2c_i1 <<= (w2c_i2 & 31);
   w2c_i2 = 16128u;
   w2c_i1 &= w2c_i2;
   w2c_i0 |= w2c_i1;
-  w2c_i1 = w2c_l12;
+  w2c_i1 = w2c_l11;
   w2c_i2 = 16u;
   w2c_i1 <<= (w2c_i2 & 31);
   w2c_i2 = 4128768u;
@@ -10623,7 +9782,7 @@ static void w2c_f20(module *m, u64 w2c_p0, u64 w2c_p1) {
   w2c_i0 |= w2c_i1;
   w2c_i1 = 8421600u;
   w2c_i0 |= w2c_i1;
-  w2c_l13 = w2c_i0;
+  w2c_l12 = w2c_i0;
   w2c_j0 = (u64)(w2c_i0);
   w2c_j1 = 953497ull;
   w2c_j0 *= w2c_j1;
@@ -10634,9 +9793,9 @@ static void w2c_f20(module *m, u64 w2c_p0, u64 w2c_p1) {
   w2c_l9 = w2c_j0;
   w2c_i0 = (u32)(w2c_j0);
   w2c_i0 = i32_load(m, (u64)(w2c_i0) + 66992u);
-  w2c_i1 = w2c_l13;
+  w2c_i1 = w2c_l12;
   w2c_i0 = w2c_i0 != w2c_i1;
-  if (w2c_i0) {goto w2c_B4;}
+  if (w2c_i0) {goto w2c_B6;}
   w2c_j0 = w2c_l9;
   w2c_j1 = 66996ull;
   w2c_j0 += w2c_j1;
@@ -10644,165 +9803,172 @@ static void w2c_f20(module *m, u64 w2c_p0, u64 w2c_p1) {
   w2c_i0 = i32_load8_u(m, (u64)(w2c_i0));
   w2c_i1 = 255u;
   w2c_i0 &= w2c_i1;
-  if (w2c_i0) {goto w2c_B4;}
+  if (w2c_i0) {goto w2c_B6;}
   w2c_i0 = 1u;
-  w2c_l11 = w2c_i0;
-  goto w2c_B1;
+  w2c_l10 = w2c_i0;
+  goto w2c_B2;
+  w2c_B8:;
+  UNREACHABLE;
   w2c_B7:;
-  w2c_i0 = w2c_l12;
-  w2c_i1 = 95u;
-  w2c_i0 = w2c_i0 == w2c_i1;
-  if (w2c_i0) {goto w2c_B1;}
-  w2c_i0 = w2c_l12;
+  w2c_i0 = 1u;
+  w2c_l10 = w2c_i0;
+  w2c_i0 = w2c_l11;
   w2c_i1 = 4294967248u;
   w2c_i0 += w2c_i1;
   w2c_i1 = 10u;
   w2c_i0 = w2c_i0 < w2c_i1;
-  if (w2c_i0) {goto w2c_B1;}
-  w2c_i0 = w2c_l12;
+  if (w2c_i0) {goto w2c_B2;}
+  w2c_i0 = w2c_l11;
+  w2c_i1 = 128u;
+  w2c_i0 = w2c_i0 < w2c_i1;
+  if (w2c_i0) {goto w2c_B5;}
+  w2c_B6:;
+  w2c_i0 = 1u;
+  w2c_l10 = w2c_i0;
+  w2c_i0 = w2c_l11;
+  w2c_i1 = 4294902000u;
+  w2c_i0 += w2c_i1;
+  w2c_i1 = 10u;
+  w2c_i0 = w2c_i0 < w2c_i1;
+  if (w2c_i0) {goto w2c_B2;}
+  w2c_i0 = w2c_l11;
+  w2c_i1 = 24318u;
+  w2c_i0 = (u32)((s32)w2c_i0 > (s32)w2c_i1);
+  if (w2c_i0) {goto w2c_B14;}
+  w2c_i0 = w2c_l11;
+  w2c_i1 = 4294945979u;
+  w2c_i0 += w2c_i1;
+  switch (w2c_i0) {
+    case 0: goto w2c_B2;
+    case 1: goto w2c_B4;
+    case 2: goto w2c_B4;
+    case 3: goto w2c_B4;
+    case 4: goto w2c_B4;
+    case 5: goto w2c_B4;
+    case 6: goto w2c_B4;
+    case 7: goto w2c_B2;
+    default: goto w2c_B15;
+  }
+  w2c_B15:;
+  w2c_i0 = w2c_l11;
+  w2c_i1 = 24186u;
+  w2c_i0 = w2c_i0 != w2c_i1;
+  if (w2c_i0) {goto w2c_B4;}
+  goto w2c_B2;
+  w2c_B14:;
+  w2c_i0 = w2c_l11;
+  w2c_i1 = 24319u;
+  w2c_i0 = w2c_i0 == w2c_i1;
+  if (w2c_i0) {goto w2c_B2;}
+  w2c_i0 = w2c_l11;
+  w2c_i1 = 28857u;
+  w2c_i0 = w2c_i0 == w2c_i1;
+  if (w2c_i0) {goto w2c_B3;}
+  w2c_i0 = w2c_l11;
+  w2c_i1 = 40670u;
+  w2c_i0 = w2c_i0 != w2c_i1;
+  if (w2c_i0) {goto w2c_B4;}
+  goto w2c_B3;
+  w2c_B5:;
+  w2c_i0 = w2c_l11;
+  w2c_i1 = 95u;
+  w2c_i0 = w2c_i0 == w2c_i1;
+  if (w2c_i0) {goto w2c_B2;}
+  w2c_i0 = w2c_l11;
   w2c_i1 = 95u;
   w2c_i0 &= w2c_i1;
   w2c_i1 = 4294967231u;
   w2c_i0 += w2c_i1;
   w2c_i1 = 26u;
   w2c_i0 = w2c_i0 < w2c_i1;
-  if (w2c_i0) {goto w2c_B1;}
-  goto w2c_B3;
-  w2c_B5:;
-  UNREACHABLE;
+  if (w2c_i0) {goto w2c_B2;}
   w2c_B4:;
-  w2c_i0 = 1u;
-  w2c_l11 = w2c_i0;
-  w2c_i0 = w2c_l12;
-  w2c_i1 = 4294902000u;
-  w2c_i0 += w2c_i1;
-  w2c_i1 = 10u;
-  w2c_i0 = w2c_i0 < w2c_i1;
-  if (w2c_i0) {goto w2c_B1;}
-  w2c_i0 = w2c_l12;
-  w2c_i1 = 24318u;
-  w2c_i0 = (u32)((s32)w2c_i0 > (s32)w2c_i1);
-  if (w2c_i0) {goto w2c_B14;}
-  w2c_i0 = w2c_l12;
-  w2c_i1 = 4294945979u;
-  w2c_i0 += w2c_i1;
-  switch (w2c_i0) {
-    case 0: goto w2c_B1;
-    case 1: goto w2c_B3;
-    case 2: goto w2c_B3;
-    case 3: goto w2c_B3;
-    case 4: goto w2c_B3;
-    case 5: goto w2c_B3;
-    case 6: goto w2c_B3;
-    case 7: goto w2c_B1;
-    default: goto w2c_B15;
-  }
-  w2c_B15:;
-  w2c_i0 = w2c_l12;
-  w2c_i1 = 24186u;
-  w2c_i0 = w2c_i0 != w2c_i1;
-  if (w2c_i0) {goto w2c_B3;}
-  goto w2c_B1;
-  w2c_B14:;
-  w2c_i0 = w2c_l12;
-  w2c_i1 = 24319u;
-  w2c_i0 = w2c_i0 == w2c_i1;
-  if (w2c_i0) {goto w2c_B1;}
-  w2c_i0 = w2c_l12;
-  w2c_i1 = 28857u;
-  w2c_i0 = w2c_i0 == w2c_i1;
-  if (w2c_i0) {goto w2c_B2;}
-  w2c_i0 = w2c_l12;
-  w2c_i1 = 40670u;
-  w2c_i0 = w2c_i0 == w2c_i1;
-  if (w2c_i0) {goto w2c_B2;}
-  w2c_B3:;
-  w2c_i0 = w2c_l12;
+  w2c_i0 = w2c_l11;
   w2c_i1 = 4294967252u;
   w2c_i0 += w2c_i1;
   w2c_i1 = 2u;
   w2c_i0 = w2c_i0 <= w2c_i1;
-  if (w2c_i0) {goto w2c_B2;}
-  w2c_i0 = 0u;
-  w2c_l11 = w2c_i0;
-  goto w2c_B1;
-  w2c_B2:;
-  w2c_j0 = w2c_p1;
-  w2c_j1 = w2c_l8;
-  w2c_i0 = w2c_f24(m, w2c_j0, w2c_j1);
-  w2c_l11 = w2c_i0;
-  w2c_B1:;
+  if (w2c_i0) {goto w2c_B3;}
   w2c_i0 = 0u;
   w2c_l10 = w2c_i0;
-  w2c_i0 = w2c_l12;
+  goto w2c_B2;
+  w2c_B3:;
+  w2c_j0 = w2c_p1;
+  w2c_j1 = w2c_l8;
+  w2c_i0 = w2c_f23(m, w2c_j0, w2c_j1);
+  w2c_l10 = w2c_i0;
+  w2c_B2:;
+  w2c_i0 = 1u;
+  w2c_l15 = w2c_i0;
+  w2c_i0 = w2c_l11;
   w2c_i1 = 4294941328u;
   w2c_i0 += w2c_i1;
   switch (w2c_i0) {
     case 0: goto w2c_B0;
-    case 1: goto w2c_B16;
-    case 2: goto w2c_B16;
-    case 3: goto w2c_B16;
-    case 4: goto w2c_B16;
-    case 5: goto w2c_B16;
-    case 6: goto w2c_B16;
-    case 7: goto w2c_B16;
+    case 1: goto w2c_B1;
+    case 2: goto w2c_B1;
+    case 3: goto w2c_B1;
+    case 4: goto w2c_B1;
+    case 5: goto w2c_B1;
+    case 6: goto w2c_B1;
+    case 7: goto w2c_B1;
     case 8: goto w2c_B0;
-    default: goto w2c_B17;
+    default: goto w2c_B16;
   }
-  w2c_B17:;
-  w2c_i0 = w2c_l12;
+  w2c_B16:;
+  w2c_i0 = w2c_l11;
   w2c_i1 = 20960u;
   w2c_i0 = w2c_i0 == w2c_i1;
   if (w2c_i0) {goto w2c_B0;}
-  w2c_i0 = w2c_l12;
+  w2c_i0 = w2c_l11;
   w2c_i1 = 24190u;
   w2c_i0 = w2c_i0 == w2c_i1;
   if (w2c_i0) {goto w2c_B0;}
-  w2c_B16:;
-  w2c_i0 = 1u;
-  w2c_l10 = w2c_i0;
+  w2c_B1:;
+  w2c_i0 = 0u;
+  w2c_l15 = w2c_i0;
   w2c_B0:;
   w2c_j0 = w2c_l4;
   w2c_j1 = 3ull;
   w2c_i0 = w2c_j0 < w2c_j1;
-  if (w2c_i0) {goto w2c_B27;}
+  if (w2c_i0) {goto w2c_B26;}
   w2c_j0 = w2c_l2;
   w2c_i0 = (u32)(w2c_j0);
   w2c_i0 = i32_load8_u(m, (u64)(w2c_i0));
-  w2c_l12 = w2c_i0;
+  w2c_l11 = w2c_i0;
   w2c_i1 = 240u;
   w2c_i0 &= w2c_i1;
   w2c_i1 = 224u;
   w2c_i0 = w2c_i0 != w2c_i1;
-  if (w2c_i0) {goto w2c_B26;}
+  if (w2c_i0) {goto w2c_B25;}
   w2c_j0 = w2c_l2;
   w2c_i0 = (u32)(w2c_j0);
   w2c_i0 = i32_load8_u(m, (u64)(w2c_i0) + 1u);
-  w2c_l14 = w2c_i0;
+  w2c_l13 = w2c_i0;
   w2c_i1 = 8u;
   w2c_i0 <<= (w2c_i1 & 31);
   w2c_j1 = w2c_l2;
   w2c_i1 = (u32)(w2c_j1);
   w2c_i1 = i32_load8_u(m, (u64)(w2c_i1) + 2u);
-  w2c_l15 = w2c_i1;
+  w2c_l14 = w2c_i1;
   w2c_i2 = 16u;
   w2c_i1 <<= (w2c_i2 & 31);
   w2c_i0 |= w2c_i1;
-  w2c_i1 = w2c_l12;
+  w2c_i1 = w2c_l11;
   w2c_i0 |= w2c_i1;
-  w2c_l13 = w2c_i0;
-  w2c_i0 = w2c_l12;
+  w2c_l12 = w2c_i0;
+  w2c_i0 = w2c_l11;
   w2c_i1 = 12u;
   w2c_i0 <<= (w2c_i1 & 31);
-  w2c_i1 = w2c_l14;
+  w2c_i1 = w2c_l13;
   w2c_i2 = 6u;
   w2c_i1 <<= (w2c_i2 & 31);
   w2c_i0 += w2c_i1;
-  w2c_i1 = w2c_l15;
+  w2c_i1 = w2c_l14;
   w2c_i0 += w2c_i1;
   w2c_i1 = 4294041472u;
   w2c_i0 += w2c_i1;
-  w2c_l12 = w2c_i0;
+  w2c_l11 = w2c_i0;
   w2c_j0 = w2c_l4;
   w2c_j1 = 18446744073709551613ull;
   w2c_j0 += w2c_j1;
@@ -10811,8 +9977,8 @@ static void w2c_f20(module *m, u64 w2c_p0, u64 w2c_p1) {
   w2c_j1 = 3ull;
   w2c_j0 += w2c_j1;
   w2c_p1 = w2c_j0;
-  w2c_i0 = w2c_l13;
-  w2c_i1 = w2c_l13;
+  w2c_i0 = w2c_l12;
+  w2c_i1 = w2c_l12;
   w2c_j1 = (u64)(w2c_i1);
   w2c_j2 = 953497ull;
   w2c_j1 *= w2c_j2;
@@ -10826,86 +9992,86 @@ static void w2c_f20(module *m, u64 w2c_p0, u64 w2c_p1) {
   w2c_i1 = (u32)(w2c_j1);
   w2c_i1 = i32_load(m, (u64)(w2c_i1));
   w2c_i0 = w2c_i0 != w2c_i1;
-  if (w2c_i0) {goto w2c_B24;}
-  goto w2c_B25;
-  w2c_B27:;
+  if (w2c_i0) {goto w2c_B23;}
+  goto w2c_B24;
+  w2c_B26:;
   w2c_j0 = w2c_l4;
   w2c_i0 = !(w2c_j0);
   w2c_i0 = !(w2c_i0);
-  if (w2c_i0) {goto w2c_B28;}
+  if (w2c_i0) {goto w2c_B27;}
+  w2c_i0 = 0u;
+  w2c_l14 = w2c_i0;
   w2c_i0 = 0u;
   w2c_l16 = w2c_i0;
-  w2c_i0 = 0u;
-  w2c_l15 = w2c_i0;
-  goto w2c_B18;
-  w2c_B28:;
+  goto w2c_B17;
+  w2c_B27:;
   w2c_j0 = w2c_l2;
   w2c_i0 = (u32)(w2c_j0);
   w2c_i0 = i32_load8_u(m, (u64)(w2c_i0));
-  w2c_l12 = w2c_i0;
-  w2c_B26:;
+  w2c_l11 = w2c_i0;
+  w2c_B25:;
   w2c_j0 = 1ull;
   w2c_p1 = w2c_j0;
-  w2c_i0 = w2c_l12;
+  w2c_i0 = w2c_l11;
   w2c_i0 = (u32)(s32)(s8)(u8)(w2c_i0);
   w2c_i1 = 4294967295u;
   w2c_i0 = (u32)((s32)w2c_i0 > (s32)w2c_i1);
-  if (w2c_i0) {goto w2c_B29;}
+  if (w2c_i0) {goto w2c_B28;}
   w2c_j0 = w2c_l2;
   w2c_i0 = (u32)(w2c_j0);
   w2c_i0 = i32_load8_u(m, (u64)(w2c_i0) + 1u);
   w2c_i1 = 63u;
   w2c_i0 &= w2c_i1;
-  w2c_l13 = w2c_i0;
-  w2c_i0 = w2c_l12;
+  w2c_l12 = w2c_i0;
+  w2c_i0 = w2c_l11;
   w2c_i1 = 223u;
   w2c_i0 = w2c_i0 > w2c_i1;
-  if (w2c_i0) {goto w2c_B30;}
-  w2c_i0 = w2c_l12;
+  if (w2c_i0) {goto w2c_B29;}
+  w2c_i0 = w2c_l11;
   w2c_i1 = 6u;
   w2c_i0 <<= (w2c_i1 & 31);
   w2c_i1 = 1984u;
   w2c_i0 &= w2c_i1;
-  w2c_i1 = w2c_l13;
+  w2c_i1 = w2c_l12;
   w2c_i0 |= w2c_i1;
-  w2c_l12 = w2c_i0;
+  w2c_l11 = w2c_i0;
   w2c_j0 = 2ull;
   w2c_p1 = w2c_j0;
-  goto w2c_B29;
-  w2c_B30:;
+  goto w2c_B28;
+  w2c_B29:;
   w2c_j0 = w2c_l2;
   w2c_i0 = (u32)(w2c_j0);
   w2c_i0 = i32_load8_u(m, (u64)(w2c_i0) + 2u);
   w2c_i1 = 63u;
   w2c_i0 &= w2c_i1;
-  w2c_l14 = w2c_i0;
-  w2c_i0 = w2c_l12;
+  w2c_l13 = w2c_i0;
+  w2c_i0 = w2c_l11;
   w2c_i1 = 239u;
   w2c_i0 = w2c_i0 > w2c_i1;
-  if (w2c_i0) {goto w2c_B31;}
+  if (w2c_i0) {goto w2c_B30;}
+  w2c_i0 = w2c_l12;
+  w2c_i1 = 6u;
+  w2c_i0 <<= (w2c_i1 & 31);
+  w2c_i1 = w2c_l11;
+  w2c_i2 = 12u;
+  w2c_i1 <<= (w2c_i2 & 31);
+  w2c_i2 = 61440u;
+  w2c_i1 &= w2c_i2;
+  w2c_i0 |= w2c_i1;
+  w2c_i1 = w2c_l13;
+  w2c_i0 |= w2c_i1;
+  w2c_l11 = w2c_i0;
+  w2c_j0 = 3ull;
+  w2c_p1 = w2c_j0;
+  goto w2c_B28;
+  w2c_B30:;
   w2c_i0 = w2c_l13;
   w2c_i1 = 6u;
   w2c_i0 <<= (w2c_i1 & 31);
   w2c_i1 = w2c_l12;
   w2c_i2 = 12u;
   w2c_i1 <<= (w2c_i2 & 31);
-  w2c_i2 = 61440u;
-  w2c_i1 &= w2c_i2;
-  w2c_i0 |= w2c_i1;
-  w2c_i1 = w2c_l14;
-  w2c_i0 |= w2c_i1;
-  w2c_l12 = w2c_i0;
-  w2c_j0 = 3ull;
-  w2c_p1 = w2c_j0;
-  goto w2c_B29;
-  w2c_B31:;
-  w2c_i0 = w2c_l14;
-  w2c_i1 = 6u;
-  w2c_i0 <<= (w2c_i1 & 31);
-  w2c_i1 = w2c_l13;
-  w2c_i2 = 12u;
-  w2c_i1 <<= (w2c_i2 & 31);
-  w2c_i2 = w2c_l12;
+  w2c_i2 = w2c_l11;
   w2c_i3 = 18u;
   w2c_i2 <<= (w2c_i3 & 31);
   w2c_i3 = 1835008u;
@@ -10918,10 +10084,10 @@ static void w2c_f20(module *m, u64 w2c_p0, u64 w2c_p1) {
   w2c_i2 = 63u;
   w2c_i1 &= w2c_i2;
   w2c_i0 |= w2c_i1;
-  w2c_l12 = w2c_i0;
+  w2c_l11 = w2c_i0;
   w2c_j0 = 4ull;
   w2c_p1 = w2c_j0;
-  w2c_B29:;
+  w2c_B28:;
   w2c_j0 = w2c_l4;
   w2c_j1 = w2c_p1;
   w2c_j0 -= w2c_j1;
@@ -10930,22 +10096,22 @@ static void w2c_f20(module *m, u64 w2c_p0, u64 w2c_p1) {
   w2c_j1 = w2c_p1;
   w2c_j0 += w2c_j1;
   w2c_p1 = w2c_j0;
-  w2c_i0 = w2c_l12;
+  w2c_i0 = w2c_l11;
   w2c_i1 = 4294965248u;
   w2c_i0 += w2c_i1;
   w2c_i1 = 63487u;
   w2c_i0 = w2c_i0 > w2c_i1;
-  if (w2c_i0) {goto w2c_B32;}
-  w2c_i0 = w2c_l12;
+  if (w2c_i0) {goto w2c_B31;}
+  w2c_i0 = w2c_l11;
   w2c_i1 = 12u;
   w2c_i0 >>= (w2c_i1 & 31);
-  w2c_i1 = w2c_l12;
+  w2c_i1 = w2c_l11;
   w2c_i2 = 2u;
   w2c_i1 <<= (w2c_i2 & 31);
   w2c_i2 = 16128u;
   w2c_i1 &= w2c_i2;
   w2c_i0 |= w2c_i1;
-  w2c_i1 = w2c_l12;
+  w2c_i1 = w2c_l11;
   w2c_i2 = 16u;
   w2c_i1 <<= (w2c_i2 & 31);
   w2c_i2 = 4128768u;
@@ -10953,7 +10119,7 @@ static void w2c_f20(module *m, u64 w2c_p0, u64 w2c_p1) {
   w2c_i0 |= w2c_i1;
   w2c_i1 = 8421600u;
   w2c_i0 |= w2c_i1;
-  w2c_l13 = w2c_i0;
+  w2c_l12 = w2c_i0;
   w2c_j0 = (u64)(w2c_i0);
   w2c_j1 = 953497ull;
   w2c_j0 *= w2c_j1;
@@ -10966,483 +10132,303 @@ static void w2c_f20(module *m, u64 w2c_p0, u64 w2c_p1) {
   w2c_j0 += w2c_j1;
   w2c_i0 = (u32)(w2c_j0);
   w2c_i0 = i32_load(m, (u64)(w2c_i0));
-  w2c_i1 = w2c_l13;
-  w2c_i0 = w2c_i0 == w2c_i1;
-  if (w2c_i0) {goto w2c_B25;}
-  goto w2c_B23;
-  w2c_B32:;
-  w2c_j0 = w2c_l3;
-  w2c_j1 = 40ull;
-  w2c_j0 += w2c_j1;
   w2c_i1 = w2c_l12;
-  w2c_f18(m, w2c_j0, w2c_i1);
+  w2c_i0 = w2c_i0 == w2c_i1;
+  if (w2c_i0) {goto w2c_B24;}
+  goto w2c_B22;
+  w2c_B31:;
+  w2c_i0 = w2c_l11;
+  w2c_i1 = 4294967248u;
+  w2c_i0 += w2c_i1;
+  w2c_i1 = 10u;
+  w2c_i0 = w2c_i0 >= w2c_i1;
+  if (w2c_i0) {goto w2c_B23;}
   w2c_i0 = 1u;
-  w2c_l15 = w2c_i0;
-  w2c_j0 = w2c_l3;
-  w2c_i0 = (u32)(w2c_j0);
-  w2c_i0 = i32_load8_u(m, (u64)(w2c_i0) + 40u);
-  w2c_i1 = 1u;
-  w2c_i0 = w2c_i0 == w2c_i1;
-  if (w2c_i0) {goto w2c_B19;}
-  w2c_j0 = w2c_l3;
-  w2c_j1 = 32ull;
-  w2c_j0 += w2c_j1;
-  w2c_i1 = w2c_l12;
-  w2c_f19(m, w2c_j0, w2c_i1);
-  goto w2c_B24;
-  w2c_B25:;
+  w2c_l16 = w2c_i0;
+  goto w2c_B18;
+  w2c_B24:;
   w2c_j0 = w2c_l2;
   w2c_j1 = 66996ull;
   w2c_j0 += w2c_j1;
   w2c_i0 = (u32)(w2c_j0);
   w2c_i0 = i32_load8_u(m, (u64)(w2c_i0));
-  if (w2c_i0) {goto w2c_B24;}
+  if (w2c_i0) {goto w2c_B23;}
   w2c_i0 = 1u;
-  w2c_l15 = w2c_i0;
-  goto w2c_B19;
-  w2c_B24:;
-  w2c_i0 = w2c_l12;
+  w2c_l16 = w2c_i0;
+  goto w2c_B18;
+  w2c_B23:;
+  w2c_i0 = w2c_l11;
   w2c_i1 = 128u;
   w2c_i0 = w2c_i0 < w2c_i1;
-  if (w2c_i0) {goto w2c_B22;}
-  w2c_B23:;
+  if (w2c_i0) {goto w2c_B21;}
+  w2c_B22:;
   w2c_i0 = 1u;
-  w2c_l15 = w2c_i0;
-  w2c_i0 = w2c_l12;
+  w2c_l16 = w2c_i0;
+  w2c_i0 = w2c_l11;
   w2c_i1 = 4294902000u;
   w2c_i0 += w2c_i1;
   w2c_i1 = 10u;
   w2c_i0 = w2c_i0 < w2c_i1;
-  if (w2c_i0) {goto w2c_B19;}
-  w2c_i0 = w2c_l12;
+  if (w2c_i0) {goto w2c_B18;}
+  w2c_i0 = w2c_l11;
   w2c_i1 = 24318u;
   w2c_i0 = (u32)((s32)w2c_i0 > (s32)w2c_i1);
-  if (w2c_i0) {goto w2c_B33;}
-  w2c_i0 = w2c_l12;
+  if (w2c_i0) {goto w2c_B32;}
+  w2c_i0 = w2c_l11;
   w2c_i1 = 4294945979u;
   w2c_i0 += w2c_i1;
   switch (w2c_i0) {
-    case 0: goto w2c_B19;
-    case 1: goto w2c_B21;
-    case 2: goto w2c_B21;
-    case 3: goto w2c_B21;
-    case 4: goto w2c_B21;
-    case 5: goto w2c_B21;
-    case 6: goto w2c_B21;
-    case 7: goto w2c_B19;
-    default: goto w2c_B34;
+    case 0: goto w2c_B18;
+    case 1: goto w2c_B20;
+    case 2: goto w2c_B20;
+    case 3: goto w2c_B20;
+    case 4: goto w2c_B20;
+    case 5: goto w2c_B20;
+    case 6: goto w2c_B20;
+    case 7: goto w2c_B18;
+    default: goto w2c_B33;
   }
-  w2c_B34:;
-  w2c_i0 = w2c_l12;
+  w2c_B33:;
+  w2c_i0 = w2c_l11;
   w2c_i1 = 24186u;
   w2c_i0 = w2c_i0 != w2c_i1;
-  if (w2c_i0) {goto w2c_B21;}
-  goto w2c_B19;
-  w2c_B33:;
-  w2c_i0 = w2c_l12;
+  if (w2c_i0) {goto w2c_B20;}
+  goto w2c_B18;
+  w2c_B32:;
+  w2c_i0 = w2c_l11;
   w2c_i1 = 24319u;
   w2c_i0 = w2c_i0 == w2c_i1;
-  if (w2c_i0) {goto w2c_B19;}
-  w2c_i0 = w2c_l12;
+  if (w2c_i0) {goto w2c_B18;}
+  w2c_i0 = w2c_l11;
   w2c_i1 = 28857u;
   w2c_i0 = w2c_i0 == w2c_i1;
-  if (w2c_i0) {goto w2c_B20;}
-  w2c_i0 = w2c_l12;
+  if (w2c_i0) {goto w2c_B19;}
+  w2c_i0 = w2c_l11;
   w2c_i1 = 40670u;
   w2c_i0 = w2c_i0 != w2c_i1;
-  if (w2c_i0) {goto w2c_B21;}
-  goto w2c_B20;
-  w2c_B22:;
+  if (w2c_i0) {goto w2c_B20;}
+  goto w2c_B19;
+  w2c_B21:;
   w2c_i0 = 1u;
-  w2c_l15 = w2c_i0;
-  w2c_i0 = w2c_l12;
+  w2c_l16 = w2c_i0;
+  w2c_i0 = w2c_l11;
   w2c_i1 = 95u;
   w2c_i0 = w2c_i0 == w2c_i1;
-  if (w2c_i0) {goto w2c_B19;}
-  w2c_i0 = w2c_l12;
+  if (w2c_i0) {goto w2c_B18;}
+  w2c_i0 = w2c_l11;
   w2c_i1 = 4294967248u;
   w2c_i0 += w2c_i1;
   w2c_i1 = 10u;
   w2c_i0 = w2c_i0 < w2c_i1;
-  if (w2c_i0) {goto w2c_B19;}
-  w2c_i0 = w2c_l12;
+  if (w2c_i0) {goto w2c_B18;}
+  w2c_i0 = w2c_l11;
   w2c_i1 = 95u;
   w2c_i0 &= w2c_i1;
   w2c_i1 = 4294967231u;
   w2c_i0 += w2c_i1;
   w2c_i1 = 26u;
   w2c_i0 = w2c_i0 < w2c_i1;
-  if (w2c_i0) {goto w2c_B19;}
-  w2c_B21:;
-  w2c_i0 = w2c_l12;
+  if (w2c_i0) {goto w2c_B18;}
+  w2c_B20:;
+  w2c_i0 = w2c_l11;
   w2c_i1 = 4294967252u;
   w2c_i0 += w2c_i1;
   w2c_i1 = 2u;
   w2c_i0 = w2c_i0 <= w2c_i1;
-  if (w2c_i0) {goto w2c_B20;}
+  if (w2c_i0) {goto w2c_B19;}
   w2c_i0 = 0u;
-  w2c_l15 = w2c_i0;
-  goto w2c_B19;
-  w2c_B20:;
+  w2c_l16 = w2c_i0;
+  goto w2c_B18;
+  w2c_B19:;
   w2c_j0 = w2c_p1;
   w2c_j1 = w2c_l4;
-  w2c_i0 = w2c_f25(m, w2c_j0, w2c_j1);
-  w2c_l15 = w2c_i0;
-  w2c_B19:;
-  w2c_i0 = 1u;
-  w2c_l16 = w2c_i0;
-  w2c_i0 = w2c_l12;
-  w2c_i1 = 22809u;
-  w2c_i0 = (u32)((s32)w2c_i0 > (s32)w2c_i1);
-  if (w2c_i0) {goto w2c_B36;}
-  w2c_i0 = w2c_l12;
-  w2c_i1 = 20313u;
-  w2c_i0 = w2c_i0 == w2c_i1;
-  if (w2c_i0) {goto w2c_B18;}
-  w2c_i0 = w2c_l12;
-  w2c_i1 = 20358u;
-  w2c_i0 = w2c_i0 == w2c_i1;
-  if (w2c_i0) {goto w2c_B18;}
-  w2c_i0 = w2c_l12;
-  w2c_i1 = 20960u;
-  w2c_i0 = w2c_i0 != w2c_i1;
-  if (w2c_i0) {goto w2c_B35;}
-  goto w2c_B18;
-  w2c_B36:;
-  w2c_i0 = w2c_l12;
-  w2c_i1 = 26468u;
-  w2c_i0 = (u32)((s32)w2c_i0 > (s32)w2c_i1);
-  if (w2c_i0) {goto w2c_B37;}
-  w2c_i0 = w2c_l12;
-  w2c_i1 = 22810u;
-  w2c_i0 = w2c_i0 == w2c_i1;
-  if (w2c_i0) {goto w2c_B18;}
-  w2c_i0 = w2c_l12;
-  w2c_i1 = 24190u;
-  w2c_i0 = w2c_i0 != w2c_i1;
-  if (w2c_i0) {goto w2c_B35;}
-  goto w2c_B18;
-  w2c_B37:;
-  w2c_i0 = w2c_l12;
-  w2c_i1 = 26469u;
-  w2c_i0 = w2c_i0 == w2c_i1;
-  if (w2c_i0) {goto w2c_B18;}
-  w2c_i0 = w2c_l12;
-  w2c_i1 = 39192u;
-  w2c_i0 = w2c_i0 == w2c_i1;
-  if (w2c_i0) {goto w2c_B18;}
-  w2c_B35:;
-  w2c_i0 = 0u;
+  w2c_i0 = w2c_f24(m, w2c_j0, w2c_j1);
   w2c_l16 = w2c_i0;
   w2c_B18:;
-  w2c_j0 = w2c_l6;
-  w2c_p1 = w2c_j0;
-  w2c_j0 = w2c_l5;
-  w2c_l2 = w2c_j0;
-  w2c_L40:
-    w2c_j0 = w2c_l2;
-    w2c_j1 = 3ull;
-    w2c_i0 = w2c_j0 < w2c_j1;
-    if (w2c_i0) {goto w2c_B43;}
-    w2c_j0 = w2c_p1;
-    w2c_i0 = (u32)(w2c_j0);
-    w2c_i0 = i32_load8_u(m, (u64)(w2c_i0));
-    w2c_l12 = w2c_i0;
-    w2c_i1 = 240u;
-    w2c_i0 &= w2c_i1;
-    w2c_i1 = 224u;
-    w2c_i0 = w2c_i0 != w2c_i1;
-    if (w2c_i0) {goto w2c_B42;}
-    w2c_j0 = w2c_p1;
-    w2c_i0 = (u32)(w2c_j0);
-    w2c_i0 = i32_load8_u(m, (u64)(w2c_i0) + 1u);
-    w2c_i1 = 8u;
-    w2c_i0 <<= (w2c_i1 & 31);
-    w2c_j1 = w2c_p1;
-    w2c_i1 = (u32)(w2c_j1);
-    w2c_i1 = i32_load8_u(m, (u64)(w2c_i1) + 2u);
-    w2c_i2 = 16u;
-    w2c_i1 <<= (w2c_i2 & 31);
-    w2c_i0 |= w2c_i1;
-    w2c_i1 = w2c_l12;
-    w2c_i0 |= w2c_i1;
-    w2c_l12 = w2c_i0;
-    w2c_j0 = (u64)(w2c_i0);
-    w2c_j1 = 953497ull;
-    w2c_j0 *= w2c_j1;
-    w2c_j1 = 22ull;
-    w2c_j0 >>= (w2c_j1 & 63);
-    w2c_j1 = 1016ull;
-    w2c_j0 &= w2c_j1;
-    w2c_l4 = w2c_j0;
-    w2c_i0 = (u32)(w2c_j0);
-    w2c_i0 = i32_load(m, (u64)(w2c_i0) + 66992u);
-    w2c_i1 = w2c_l12;
-    w2c_i0 = w2c_i0 != w2c_i1;
-    if (w2c_i0) {goto w2c_B39;}
-    w2c_j0 = w2c_l4;
-    w2c_j1 = 66996ull;
-    w2c_j0 += w2c_j1;
-    w2c_i0 = (u32)(w2c_j0);
-    w2c_i0 = i32_load8_u(m, (u64)(w2c_i0));
-    w2c_l13 = w2c_i0;
-    w2c_j0 = w2c_l2;
-    w2c_j1 = 18446744073709551613ull;
-    w2c_j0 += w2c_j1;
-    w2c_l2 = w2c_j0;
-    w2c_j0 = w2c_p1;
-    w2c_j1 = 3ull;
-    w2c_j0 += w2c_j1;
-    w2c_p1 = w2c_j0;
-    goto w2c_B41;
-    w2c_B43:;
-    w2c_j0 = w2c_l2;
-    w2c_i0 = !(w2c_j0);
-    w2c_i0 = !(w2c_i0);
-    if (w2c_i0) {goto w2c_B44;}
-    w2c_i0 = 1u;
-    w2c_l12 = w2c_i0;
-    goto w2c_B38;
-    w2c_B44:;
-    w2c_j0 = w2c_p1;
-    w2c_i0 = (u32)(w2c_j0);
-    w2c_i0 = i32_load8_u(m, (u64)(w2c_i0));
-    w2c_l12 = w2c_i0;
-    w2c_B42:;
-    w2c_j0 = 1ull;
-    w2c_l4 = w2c_j0;
-    w2c_i0 = w2c_l12;
-    w2c_i0 = (u32)(s32)(s8)(u8)(w2c_i0);
-    w2c_i1 = 4294967295u;
-    w2c_i0 = (u32)((s32)w2c_i0 > (s32)w2c_i1);
-    if (w2c_i0) {goto w2c_B45;}
-    w2c_j0 = w2c_p1;
-    w2c_i0 = (u32)(w2c_j0);
-    w2c_i0 = i32_load8_u(m, (u64)(w2c_i0) + 1u);
-    w2c_i1 = 63u;
-    w2c_i0 &= w2c_i1;
-    w2c_l13 = w2c_i0;
-    w2c_i0 = w2c_l12;
-    w2c_i1 = 223u;
-    w2c_i0 = w2c_i0 > w2c_i1;
-    if (w2c_i0) {goto w2c_B46;}
-    w2c_i0 = w2c_l12;
-    w2c_i1 = 6u;
-    w2c_i0 <<= (w2c_i1 & 31);
-    w2c_i1 = 1984u;
-    w2c_i0 &= w2c_i1;
-    w2c_i1 = w2c_l13;
-    w2c_i0 |= w2c_i1;
-    w2c_l12 = w2c_i0;
-    w2c_j0 = 2ull;
-    w2c_l4 = w2c_j0;
-    goto w2c_B45;
-    w2c_B46:;
-    w2c_j0 = w2c_p1;
-    w2c_i0 = (u32)(w2c_j0);
-    w2c_i0 = i32_load8_u(m, (u64)(w2c_i0) + 2u);
-    w2c_i1 = 63u;
-    w2c_i0 &= w2c_i1;
-    w2c_l14 = w2c_i0;
-    w2c_i0 = w2c_l12;
-    w2c_i1 = 239u;
-    w2c_i0 = w2c_i0 > w2c_i1;
-    if (w2c_i0) {goto w2c_B47;}
-    w2c_i0 = w2c_l13;
-    w2c_i1 = 6u;
-    w2c_i0 <<= (w2c_i1 & 31);
-    w2c_i1 = w2c_l12;
-    w2c_i2 = 12u;
-    w2c_i1 <<= (w2c_i2 & 31);
-    w2c_i2 = 61440u;
-    w2c_i1 &= w2c_i2;
-    w2c_i0 |= w2c_i1;
-    w2c_i1 = w2c_l14;
-    w2c_i0 |= w2c_i1;
-    w2c_l12 = w2c_i0;
-    w2c_j0 = 3ull;
-    w2c_l4 = w2c_j0;
-    goto w2c_B45;
-    w2c_B47:;
-    w2c_i0 = w2c_l14;
-    w2c_i1 = 6u;
-    w2c_i0 <<= (w2c_i1 & 31);
-    w2c_i1 = w2c_l13;
-    w2c_i2 = 12u;
-    w2c_i1 <<= (w2c_i2 & 31);
-    w2c_i2 = w2c_l12;
-    w2c_i3 = 18u;
-    w2c_i2 <<= (w2c_i3 & 31);
-    w2c_i3 = 1835008u;
-    w2c_i2 &= w2c_i3;
-    w2c_i1 |= w2c_i2;
-    w2c_i0 |= w2c_i1;
-    w2c_j1 = w2c_p1;
-    w2c_i1 = (u32)(w2c_j1);
-    w2c_i1 = i32_load8_u(m, (u64)(w2c_i1) + 3u);
-    w2c_i2 = 63u;
-    w2c_i1 &= w2c_i2;
-    w2c_i0 |= w2c_i1;
-    w2c_l12 = w2c_i0;
-    w2c_j0 = 4ull;
-    w2c_l4 = w2c_j0;
-    w2c_B45:;
-    w2c_j0 = w2c_l2;
-    w2c_j1 = w2c_l4;
-    w2c_j0 -= w2c_j1;
-    w2c_l2 = w2c_j0;
-    w2c_j0 = w2c_p1;
-    w2c_j1 = w2c_l4;
-    w2c_j0 += w2c_j1;
-    w2c_p1 = w2c_j0;
-    w2c_i0 = w2c_l12;
-    w2c_i1 = 4294965248u;
-    w2c_i0 += w2c_i1;
-    w2c_i1 = 63487u;
-    w2c_i0 = w2c_i0 > w2c_i1;
-    if (w2c_i0) {goto w2c_B48;}
-    w2c_i0 = w2c_l12;
-    w2c_i1 = 12u;
-    w2c_i0 >>= (w2c_i1 & 31);
-    w2c_i1 = w2c_l12;
-    w2c_i2 = 2u;
-    w2c_i1 <<= (w2c_i2 & 31);
-    w2c_i2 = 16128u;
-    w2c_i1 &= w2c_i2;
-    w2c_i0 |= w2c_i1;
-    w2c_i1 = w2c_l12;
-    w2c_i2 = 16u;
-    w2c_i1 <<= (w2c_i2 & 31);
-    w2c_i2 = 4128768u;
-    w2c_i1 &= w2c_i2;
-    w2c_i0 |= w2c_i1;
-    w2c_i1 = 8421600u;
-    w2c_i0 |= w2c_i1;
-    w2c_l12 = w2c_i0;
-    w2c_j0 = (u64)(w2c_i0);
-    w2c_j1 = 953497ull;
-    w2c_j0 *= w2c_j1;
-    w2c_j1 = 22ull;
-    w2c_j0 >>= (w2c_j1 & 63);
-    w2c_j1 = 1016ull;
-    w2c_j0 &= w2c_j1;
-    w2c_l4 = w2c_j0;
-    w2c_i0 = (u32)(w2c_j0);
-    w2c_i0 = i32_load(m, (u64)(w2c_i0) + 66992u);
-    w2c_i1 = w2c_l12;
-    w2c_i0 = w2c_i0 != w2c_i1;
-    if (w2c_i0) {goto w2c_B39;}
-    w2c_j0 = w2c_l4;
-    w2c_j1 = 66996ull;
-    w2c_j0 += w2c_j1;
-    w2c_i0 = (u32)(w2c_j0);
-    w2c_i0 = i32_load8_u(m, (u64)(w2c_i0));
-    w2c_l13 = w2c_i0;
-    goto w2c_B41;
-    w2c_B48:;
-    w2c_j0 = w2c_l3;
-    w2c_j1 = 24ull;
-    w2c_j0 += w2c_j1;
-    w2c_i1 = w2c_l12;
-    w2c_f18(m, w2c_j0, w2c_i1);
-    w2c_i0 = 0u;
-    w2c_l13 = w2c_i0;
-    w2c_j0 = w2c_l3;
-    w2c_i0 = (u32)(w2c_j0);
-    w2c_i0 = i32_load8_u(m, (u64)(w2c_i0) + 24u);
-    w2c_i1 = 1u;
-    w2c_i0 = w2c_i0 == w2c_i1;
-    if (w2c_i0) {goto w2c_B41;}
-    w2c_j0 = w2c_l3;
-    w2c_j1 = 16ull;
-    w2c_j0 += w2c_j1;
-    w2c_i1 = w2c_l12;
-    w2c_f19(m, w2c_j0, w2c_i1);
-    goto w2c_B39;
-    w2c_B41:;
-    w2c_i0 = w2c_l13;
-    w2c_i1 = 255u;
-    w2c_i0 &= w2c_i1;
-    w2c_i0 = !(w2c_i0);
-    if (w2c_i0) {goto w2c_L40;}
-  w2c_B39:;
+  w2c_i0 = 1u;
+  w2c_l14 = w2c_i0;
+  w2c_i0 = w2c_l11;
+  w2c_i1 = 22809u;
+  w2c_i0 = (u32)((s32)w2c_i0 > (s32)w2c_i1);
+  if (w2c_i0) {goto w2c_B35;}
+  w2c_i0 = w2c_l11;
+  w2c_i1 = 20313u;
+  w2c_i0 = w2c_i0 == w2c_i1;
+  if (w2c_i0) {goto w2c_B17;}
+  w2c_i0 = w2c_l11;
+  w2c_i1 = 20358u;
+  w2c_i0 = w2c_i0 == w2c_i1;
+  if (w2c_i0) {goto w2c_B17;}
+  w2c_i0 = w2c_l11;
+  w2c_i1 = 20960u;
+  w2c_i0 = w2c_i0 != w2c_i1;
+  if (w2c_i0) {goto w2c_B34;}
+  goto w2c_B17;
+  w2c_B35:;
+  w2c_i0 = w2c_l11;
+  w2c_i1 = 26468u;
+  w2c_i0 = (u32)((s32)w2c_i0 > (s32)w2c_i1);
+  if (w2c_i0) {goto w2c_B36;}
+  w2c_i0 = w2c_l11;
+  w2c_i1 = 22810u;
+  w2c_i0 = w2c_i0 == w2c_i1;
+  if (w2c_i0) {goto w2c_B17;}
+  w2c_i0 = w2c_l11;
+  w2c_i1 = 24190u;
+  w2c_i0 = w2c_i0 != w2c_i1;
+  if (w2c_i0) {goto w2c_B34;}
+  goto w2c_B17;
+  w2c_B36:;
+  w2c_i0 = w2c_l11;
+  w2c_i1 = 26469u;
+  w2c_i0 = w2c_i0 == w2c_i1;
+  if (w2c_i0) {goto w2c_B17;}
+  w2c_i0 = w2c_l11;
+  w2c_i1 = 39192u;
+  w2c_i0 = w2c_i0 == w2c_i1;
+  if (w2c_i0) {goto w2c_B17;}
+  w2c_B34:;
   w2c_i0 = 0u;
-  w2c_l12 = w2c_i0;
-  w2c_B38:;
+  w2c_l14 = w2c_i0;
+  w2c_B17:;
   w2c_j0 = w2c_l5;
-  w2c_i0 = !(w2c_j0);
-  w2c_i1 = w2c_l10;
-  w2c_i0 |= w2c_i1;
-  if (w2c_i0) {goto w2c_B53;}
+  w2c_j1 = 3ull;
+  w2c_i0 = w2c_j0 < w2c_j1;
+  if (w2c_i0) {goto w2c_B42;}
   w2c_j0 = w2c_l6;
   w2c_i0 = (u32)(w2c_j0);
-  w2c_i0 = i32_load8_s(m, (u64)(w2c_i0));
-  w2c_l14 = w2c_i0;
-  w2c_i1 = 255u;
+  w2c_i0 = i32_load8_u(m, (u64)(w2c_i0));
+  w2c_l11 = w2c_i0;
+  w2c_i1 = 240u;
   w2c_i0 &= w2c_i1;
+  w2c_i1 = 224u;
+  w2c_i0 = w2c_i0 != w2c_i1;
+  if (w2c_i0) {goto w2c_B41;}
+  w2c_j0 = w2c_l6;
+  w2c_i0 = (u32)(w2c_j0);
+  w2c_i0 = i32_load8_u(m, (u64)(w2c_i0) + 1u);
   w2c_l13 = w2c_i0;
-  w2c_i0 = w2c_l14;
+  w2c_i1 = 8u;
+  w2c_i0 <<= (w2c_i1 & 31);
+  w2c_j1 = w2c_l6;
+  w2c_i1 = (u32)(w2c_j1);
+  w2c_i1 = i32_load8_u(m, (u64)(w2c_i1) + 2u);
+  w2c_l17 = w2c_i1;
+  w2c_i2 = 16u;
+  w2c_i1 <<= (w2c_i2 & 31);
+  w2c_i0 |= w2c_i1;
+  w2c_i1 = w2c_l11;
+  w2c_i0 |= w2c_i1;
+  w2c_l12 = w2c_i0;
+  w2c_j0 = (u64)(w2c_i0);
+  w2c_j1 = 953497ull;
+  w2c_j0 *= w2c_j1;
+  w2c_j1 = 22ull;
+  w2c_j0 >>= (w2c_j1 & 63);
+  w2c_j1 = 1016ull;
+  w2c_j0 &= w2c_j1;
+  w2c_p1 = w2c_j0;
+  w2c_j1 = 66996ull;
+  w2c_j0 += w2c_j1;
+  w2c_i0 = (u32)(w2c_j0);
+  w2c_i0 = i32_load8_u(m, (u64)(w2c_i0));
+  w2c_i1 = 2u;
+  w2c_j2 = w2c_p1;
+  w2c_i2 = (u32)(w2c_j2);
+  w2c_i2 = i32_load(m, (u64)(w2c_i2) + 66992u);
+  w2c_i3 = w2c_l12;
+  w2c_i2 = w2c_i2 == w2c_i3;
+  w2c_i0 = w2c_i2 ? w2c_i0 : w2c_i1;
+  w2c_l12 = w2c_i0;
+  w2c_i0 = w2c_l11;
+  w2c_i1 = 12u;
+  w2c_i0 <<= (w2c_i1 & 31);
+  w2c_i1 = w2c_l13;
+  w2c_i2 = 6u;
+  w2c_i1 <<= (w2c_i2 & 31);
+  w2c_i0 += w2c_i1;
+  w2c_i1 = w2c_l17;
+  w2c_i0 += w2c_i1;
+  w2c_i1 = 4294041472u;
+  w2c_i0 += w2c_i1;
+  w2c_l11 = w2c_i0;
+  w2c_j0 = w2c_l5;
+  w2c_j1 = 18446744073709551613ull;
+  w2c_j0 += w2c_j1;
+  w2c_p1 = w2c_j0;
+  goto w2c_B40;
+  w2c_B42:;
+  w2c_j0 = w2c_l5;
+  w2c_j1 = 0ull;
+  w2c_i0 = w2c_j0 == w2c_j1;
+  if (w2c_i0) {goto w2c_B39;}
+  w2c_j0 = w2c_l6;
+  w2c_i0 = (u32)(w2c_j0);
+  w2c_i0 = i32_load8_u(m, (u64)(w2c_i0));
+  w2c_l11 = w2c_i0;
+  w2c_B41:;
+  w2c_j0 = 18446744073709551615ull;
+  w2c_p1 = w2c_j0;
+  w2c_i0 = w2c_l11;
+  w2c_i0 = (u32)(s32)(s8)(u8)(w2c_i0);
   w2c_i1 = 4294967295u;
   w2c_i0 = (u32)((s32)w2c_i0 > (s32)w2c_i1);
-  if (w2c_i0) {goto w2c_B51;}
+  if (w2c_i0) {goto w2c_B43;}
   w2c_j0 = w2c_l6;
   w2c_i0 = (u32)(w2c_j0);
   w2c_i0 = i32_load8_u(m, (u64)(w2c_i0) + 1u);
   w2c_i1 = 63u;
   w2c_i0 &= w2c_i1;
-  w2c_l10 = w2c_i0;
-  w2c_i0 = w2c_l14;
-  w2c_i1 = 4294967263u;
+  w2c_l12 = w2c_i0;
+  w2c_i0 = w2c_l11;
+  w2c_i1 = 223u;
   w2c_i0 = w2c_i0 > w2c_i1;
-  if (w2c_i0) {goto w2c_B54;}
-  w2c_i0 = w2c_l13;
+  if (w2c_i0) {goto w2c_B44;}
+  w2c_i0 = w2c_l11;
   w2c_i1 = 6u;
   w2c_i0 <<= (w2c_i1 & 31);
   w2c_i1 = 1984u;
   w2c_i0 &= w2c_i1;
-  w2c_i1 = w2c_l10;
+  w2c_i1 = w2c_l12;
   w2c_i0 |= w2c_i1;
-  w2c_l13 = w2c_i0;
-  goto w2c_B51;
-  w2c_B54:;
+  w2c_l11 = w2c_i0;
+  w2c_j0 = 18446744073709551614ull;
+  w2c_p1 = w2c_j0;
+  goto w2c_B43;
+  w2c_B44:;
   w2c_j0 = w2c_l6;
   w2c_i0 = (u32)(w2c_j0);
   w2c_i0 = i32_load8_u(m, (u64)(w2c_i0) + 2u);
   w2c_i1 = 63u;
   w2c_i0 &= w2c_i1;
-  w2c_l17 = w2c_i0;
-  w2c_i0 = w2c_l14;
-  w2c_i1 = 4294967279u;
+  w2c_l13 = w2c_i0;
+  w2c_i0 = w2c_l11;
+  w2c_i1 = 239u;
   w2c_i0 = w2c_i0 > w2c_i1;
-  if (w2c_i0) {goto w2c_B52;}
-  w2c_i0 = w2c_l10;
+  if (w2c_i0) {goto w2c_B45;}
+  w2c_i0 = w2c_l12;
   w2c_i1 = 6u;
   w2c_i0 <<= (w2c_i1 & 31);
-  w2c_i1 = w2c_l13;
+  w2c_i1 = w2c_l11;
   w2c_i2 = 12u;
   w2c_i1 <<= (w2c_i2 & 31);
   w2c_i2 = 61440u;
   w2c_i1 &= w2c_i2;
   w2c_i0 |= w2c_i1;
-  w2c_i1 = w2c_l17;
+  w2c_i1 = w2c_l13;
   w2c_i0 |= w2c_i1;
-  w2c_l13 = w2c_i0;
-  goto w2c_B51;
-  w2c_B53:;
-  w2c_i0 = w2c_l16;
-  w2c_i0 = !(w2c_i0);
-  if (w2c_i0) {goto w2c_B50;}
-  w2c_i0 = 4u;
-  w2c_l13 = w2c_i0;
-  goto w2c_B49;
-  w2c_B52:;
-  w2c_i0 = w2c_l17;
+  w2c_l11 = w2c_i0;
+  w2c_j0 = 18446744073709551613ull;
+  w2c_p1 = w2c_j0;
+  goto w2c_B43;
+  w2c_B45:;
+  w2c_i0 = w2c_l13;
   w2c_i1 = 6u;
   w2c_i0 <<= (w2c_i1 & 31);
-  w2c_i1 = w2c_l10;
+  w2c_i1 = w2c_l12;
   w2c_i2 = 12u;
   w2c_i1 <<= (w2c_i2 & 31);
-  w2c_i2 = w2c_l13;
+  w2c_i2 = w2c_l11;
   w2c_i3 = 18u;
   w2c_i2 <<= (w2c_i3 & 31);
   w2c_i3 = 1835008u;
@@ -11455,14 +10441,83 @@ static void w2c_f20(module *m, u64 w2c_p0, u64 w2c_p1) {
   w2c_i2 = 63u;
   w2c_i1 &= w2c_i2;
   w2c_i0 |= w2c_i1;
-  w2c_l13 = w2c_i0;
-  w2c_B51:;
+  w2c_l11 = w2c_i0;
+  w2c_j0 = 18446744073709551612ull;
+  w2c_p1 = w2c_j0;
+  w2c_B43:;
+  w2c_j0 = w2c_p1;
+  w2c_j1 = w2c_l5;
+  w2c_j0 += w2c_j1;
+  w2c_p1 = w2c_j0;
+  w2c_i0 = w2c_l11;
+  w2c_i1 = 4294965248u;
+  w2c_i0 += w2c_i1;
+  w2c_i1 = 63487u;
+  w2c_i0 = w2c_i0 > w2c_i1;
+  if (w2c_i0) {goto w2c_B46;}
+  w2c_i0 = w2c_l11;
+  w2c_i1 = 12u;
+  w2c_i0 >>= (w2c_i1 & 31);
+  w2c_i1 = w2c_l11;
+  w2c_i2 = 2u;
+  w2c_i1 <<= (w2c_i2 & 31);
+  w2c_i2 = 16128u;
+  w2c_i1 &= w2c_i2;
+  w2c_i0 |= w2c_i1;
+  w2c_i1 = w2c_l11;
+  w2c_i2 = 16u;
+  w2c_i1 <<= (w2c_i2 & 31);
+  w2c_i2 = 4128768u;
+  w2c_i1 &= w2c_i2;
+  w2c_i0 |= w2c_i1;
+  w2c_i1 = 8421600u;
+  w2c_i0 |= w2c_i1;
+  w2c_l12 = w2c_i0;
+  w2c_j0 = (u64)(w2c_i0);
+  w2c_j1 = 953497ull;
+  w2c_j0 *= w2c_j1;
+  w2c_j1 = 22ull;
+  w2c_j0 >>= (w2c_j1 & 63);
+  w2c_j1 = 1016ull;
+  w2c_j0 &= w2c_j1;
+  w2c_l2 = w2c_j0;
+  w2c_j1 = 66996ull;
+  w2c_j0 += w2c_j1;
+  w2c_i0 = (u32)(w2c_j0);
+  w2c_i0 = i32_load8_u(m, (u64)(w2c_i0));
+  w2c_i1 = 2u;
+  w2c_j2 = w2c_l2;
+  w2c_i2 = (u32)(w2c_j2);
+  w2c_i2 = i32_load(m, (u64)(w2c_i2) + 66992u);
+  w2c_i3 = w2c_l12;
+  w2c_i2 = w2c_i2 == w2c_i3;
+  w2c_i0 = w2c_i2 ? w2c_i0 : w2c_i1;
+  w2c_l12 = w2c_i0;
+  goto w2c_B40;
+  w2c_B46:;
+  w2c_i0 = 0u;
+  w2c_i1 = 2u;
+  w2c_i2 = w2c_l11;
+  w2c_i3 = 4294967248u;
+  w2c_i2 += w2c_i3;
+  w2c_i3 = 10u;
+  w2c_i2 = w2c_i2 < w2c_i3;
+  w2c_i0 = w2c_i2 ? w2c_i0 : w2c_i1;
+  w2c_l12 = w2c_i0;
+  w2c_B40:;
+  w2c_j0 = w2c_p1;
+  w2c_j1 = 0ull;
+  w2c_i0 = w2c_j0 != w2c_j1;
+  if (w2c_i0) {goto w2c_B39;}
+  w2c_i0 = w2c_l15;
+  w2c_i0 = !(w2c_i0);
+  if (w2c_i0) {goto w2c_B47;}
   w2c_j0 = w2c_l3;
   w2c_j1 = 8ull;
   w2c_j0 += w2c_j1;
-  w2c_i1 = w2c_l13;
-  w2c_f19(m, w2c_j0, w2c_i1);
-  w2c_i0 = w2c_l16;
+  w2c_i1 = w2c_l11;
+  w2c_f25(m, w2c_j0, w2c_i1);
+  w2c_i0 = w2c_l14;
   w2c_j1 = w2c_l3;
   w2c_i1 = (u32)(w2c_j1);
   w2c_i1 = i32_load8_u(m, (u64)(w2c_i1) + 8u);
@@ -11471,75 +10526,442 @@ static void w2c_f20(module *m, u64 w2c_p0, u64 w2c_p1) {
   w2c_i2 = 1u;
   w2c_i1 = w2c_i1 == w2c_i2;
   w2c_i0 |= w2c_i1;
-  w2c_i0 = !(w2c_i0);
-  if (w2c_i0) {goto w2c_B50;}
-  w2c_i0 = 4u;
-  w2c_l13 = w2c_i0;
-  goto w2c_B49;
-  w2c_B50:;
-  w2c_i0 = 4u;
+  w2c_l14 = w2c_i0;
+  w2c_B47:;
+  w2c_i0 = 8u;
   w2c_i1 = 0u;
-  w2c_j2 = w2c_l6;
-  w2c_j3 = w2c_l5;
-  w2c_i2 = w2c_f26(m, w2c_j2, w2c_j3);
+  w2c_i2 = w2c_l11;
+  w2c_i3 = 4294901990u;
+  w2c_i2 += w2c_i3;
+  w2c_i3 = 4294967286u;
+  w2c_i2 = w2c_i2 < w2c_i3;
+  w2c_i0 = w2c_i2 ? w2c_i0 : w2c_i1;
+  w2c_i1 = 0u;
+  w2c_i2 = w2c_l11;
+  w2c_i3 = 4294967238u;
+  w2c_i2 += w2c_i3;
+  w2c_i3 = 4294967286u;
+  w2c_i2 = w2c_i2 < w2c_i3;
   w2c_i0 = w2c_i2 ? w2c_i0 : w2c_i1;
   w2c_l13 = w2c_i0;
+  w2c_i0 = 0u;
+  w2c_i1 = 0u;
+  w2c_i2 = 2u;
+  w2c_i3 = w2c_l16;
+  w2c_i1 = w2c_i3 ? w2c_i1 : w2c_i2;
+  w2c_i2 = w2c_l10;
+  w2c_i0 = w2c_i2 ? w2c_i0 : w2c_i1;
+  w2c_i1 = w2c_l12;
+  w2c_i2 = 255u;
+  w2c_i1 &= w2c_i2;
+  w2c_i1 = !(w2c_i1);
+  w2c_i0 |= w2c_i1;
+  w2c_l11 = w2c_i0;
+  w2c_i0 = w2c_l14;
+  if (w2c_i0) {goto w2c_B38;}
+  goto w2c_B37;
+  w2c_B39:;
+  w2c_j0 = w2c_l6;
+  w2c_p1 = w2c_j0;
+  w2c_j0 = w2c_l5;
+  w2c_l2 = w2c_j0;
+  w2c_L50:
+    w2c_j0 = w2c_l2;
+    w2c_j1 = 3ull;
+    w2c_i0 = w2c_j0 < w2c_j1;
+    if (w2c_i0) {goto w2c_B53;}
+    w2c_j0 = w2c_p1;
+    w2c_i0 = (u32)(w2c_j0);
+    w2c_i0 = i32_load8_u(m, (u64)(w2c_i0));
+    w2c_l11 = w2c_i0;
+    w2c_i1 = 240u;
+    w2c_i0 &= w2c_i1;
+    w2c_i1 = 224u;
+    w2c_i0 = w2c_i0 != w2c_i1;
+    if (w2c_i0) {goto w2c_B52;}
+    w2c_j0 = w2c_p1;
+    w2c_i0 = (u32)(w2c_j0);
+    w2c_i0 = i32_load8_u(m, (u64)(w2c_i0) + 1u);
+    w2c_i1 = 8u;
+    w2c_i0 <<= (w2c_i1 & 31);
+    w2c_j1 = w2c_p1;
+    w2c_i1 = (u32)(w2c_j1);
+    w2c_i1 = i32_load8_u(m, (u64)(w2c_i1) + 2u);
+    w2c_i2 = 16u;
+    w2c_i1 <<= (w2c_i2 & 31);
+    w2c_i0 |= w2c_i1;
+    w2c_i1 = w2c_l11;
+    w2c_i0 |= w2c_i1;
+    w2c_l11 = w2c_i0;
+    w2c_j0 = (u64)(w2c_i0);
+    w2c_j1 = 953497ull;
+    w2c_j0 *= w2c_j1;
+    w2c_j1 = 22ull;
+    w2c_j0 >>= (w2c_j1 & 63);
+    w2c_j1 = 1016ull;
+    w2c_j0 &= w2c_j1;
+    w2c_l4 = w2c_j0;
+    w2c_i0 = (u32)(w2c_j0);
+    w2c_i0 = i32_load(m, (u64)(w2c_i0) + 66992u);
+    w2c_i1 = w2c_l11;
+    w2c_i0 = w2c_i0 != w2c_i1;
+    if (w2c_i0) {goto w2c_B49;}
+    w2c_j0 = w2c_l4;
+    w2c_j1 = 66996ull;
+    w2c_j0 += w2c_j1;
+    w2c_i0 = (u32)(w2c_j0);
+    w2c_i0 = i32_load8_u(m, (u64)(w2c_i0));
+    w2c_l12 = w2c_i0;
+    w2c_j0 = w2c_l2;
+    w2c_j1 = 18446744073709551613ull;
+    w2c_j0 += w2c_j1;
+    w2c_l2 = w2c_j0;
+    w2c_j0 = w2c_p1;
+    w2c_j1 = 3ull;
+    w2c_j0 += w2c_j1;
+    w2c_p1 = w2c_j0;
+    goto w2c_B51;
+    w2c_B53:;
+    w2c_j0 = w2c_l2;
+    w2c_i0 = !(w2c_j0);
+    w2c_i0 = !(w2c_i0);
+    if (w2c_i0) {goto w2c_B54;}
+    w2c_i0 = 1u;
+    w2c_l12 = w2c_i0;
+    goto w2c_B48;
+    w2c_B54:;
+    w2c_j0 = w2c_p1;
+    w2c_i0 = (u32)(w2c_j0);
+    w2c_i0 = i32_load8_u(m, (u64)(w2c_i0));
+    w2c_l11 = w2c_i0;
+    w2c_B52:;
+    w2c_j0 = 1ull;
+    w2c_l4 = w2c_j0;
+    w2c_i0 = w2c_l11;
+    w2c_i0 = (u32)(s32)(s8)(u8)(w2c_i0);
+    w2c_i1 = 4294967295u;
+    w2c_i0 = (u32)((s32)w2c_i0 > (s32)w2c_i1);
+    if (w2c_i0) {goto w2c_B55;}
+    w2c_j0 = w2c_p1;
+    w2c_i0 = (u32)(w2c_j0);
+    w2c_i0 = i32_load8_u(m, (u64)(w2c_i0) + 1u);
+    w2c_i1 = 63u;
+    w2c_i0 &= w2c_i1;
+    w2c_l12 = w2c_i0;
+    w2c_i0 = w2c_l11;
+    w2c_i1 = 223u;
+    w2c_i0 = w2c_i0 > w2c_i1;
+    if (w2c_i0) {goto w2c_B56;}
+    w2c_i0 = w2c_l11;
+    w2c_i1 = 6u;
+    w2c_i0 <<= (w2c_i1 & 31);
+    w2c_i1 = 1984u;
+    w2c_i0 &= w2c_i1;
+    w2c_i1 = w2c_l12;
+    w2c_i0 |= w2c_i1;
+    w2c_l11 = w2c_i0;
+    w2c_j0 = 2ull;
+    w2c_l4 = w2c_j0;
+    goto w2c_B55;
+    w2c_B56:;
+    w2c_j0 = w2c_p1;
+    w2c_i0 = (u32)(w2c_j0);
+    w2c_i0 = i32_load8_u(m, (u64)(w2c_i0) + 2u);
+    w2c_i1 = 63u;
+    w2c_i0 &= w2c_i1;
+    w2c_l13 = w2c_i0;
+    w2c_i0 = w2c_l11;
+    w2c_i1 = 239u;
+    w2c_i0 = w2c_i0 > w2c_i1;
+    if (w2c_i0) {goto w2c_B57;}
+    w2c_i0 = w2c_l12;
+    w2c_i1 = 6u;
+    w2c_i0 <<= (w2c_i1 & 31);
+    w2c_i1 = w2c_l11;
+    w2c_i2 = 12u;
+    w2c_i1 <<= (w2c_i2 & 31);
+    w2c_i2 = 61440u;
+    w2c_i1 &= w2c_i2;
+    w2c_i0 |= w2c_i1;
+    w2c_i1 = w2c_l13;
+    w2c_i0 |= w2c_i1;
+    w2c_l11 = w2c_i0;
+    w2c_j0 = 3ull;
+    w2c_l4 = w2c_j0;
+    goto w2c_B55;
+    w2c_B57:;
+    w2c_i0 = w2c_l13;
+    w2c_i1 = 6u;
+    w2c_i0 <<= (w2c_i1 & 31);
+    w2c_i1 = w2c_l12;
+    w2c_i2 = 12u;
+    w2c_i1 <<= (w2c_i2 & 31);
+    w2c_i2 = w2c_l11;
+    w2c_i3 = 18u;
+    w2c_i2 <<= (w2c_i3 & 31);
+    w2c_i3 = 1835008u;
+    w2c_i2 &= w2c_i3;
+    w2c_i1 |= w2c_i2;
+    w2c_i0 |= w2c_i1;
+    w2c_j1 = w2c_p1;
+    w2c_i1 = (u32)(w2c_j1);
+    w2c_i1 = i32_load8_u(m, (u64)(w2c_i1) + 3u);
+    w2c_i2 = 63u;
+    w2c_i1 &= w2c_i2;
+    w2c_i0 |= w2c_i1;
+    w2c_l11 = w2c_i0;
+    w2c_j0 = 4ull;
+    w2c_l4 = w2c_j0;
+    w2c_B55:;
+    w2c_j0 = w2c_l2;
+    w2c_j1 = w2c_l4;
+    w2c_j0 -= w2c_j1;
+    w2c_l2 = w2c_j0;
+    w2c_j0 = w2c_p1;
+    w2c_j1 = w2c_l4;
+    w2c_j0 += w2c_j1;
+    w2c_p1 = w2c_j0;
+    w2c_i0 = w2c_l11;
+    w2c_i1 = 4294965248u;
+    w2c_i0 += w2c_i1;
+    w2c_i1 = 63487u;
+    w2c_i0 = w2c_i0 > w2c_i1;
+    if (w2c_i0) {goto w2c_B58;}
+    w2c_i0 = w2c_l11;
+    w2c_i1 = 12u;
+    w2c_i0 >>= (w2c_i1 & 31);
+    w2c_i1 = w2c_l11;
+    w2c_i2 = 2u;
+    w2c_i1 <<= (w2c_i2 & 31);
+    w2c_i2 = 16128u;
+    w2c_i1 &= w2c_i2;
+    w2c_i0 |= w2c_i1;
+    w2c_i1 = w2c_l11;
+    w2c_i2 = 16u;
+    w2c_i1 <<= (w2c_i2 & 31);
+    w2c_i2 = 4128768u;
+    w2c_i1 &= w2c_i2;
+    w2c_i0 |= w2c_i1;
+    w2c_i1 = 8421600u;
+    w2c_i0 |= w2c_i1;
+    w2c_l11 = w2c_i0;
+    w2c_j0 = (u64)(w2c_i0);
+    w2c_j1 = 953497ull;
+    w2c_j0 *= w2c_j1;
+    w2c_j1 = 22ull;
+    w2c_j0 >>= (w2c_j1 & 63);
+    w2c_j1 = 1016ull;
+    w2c_j0 &= w2c_j1;
+    w2c_l4 = w2c_j0;
+    w2c_i0 = (u32)(w2c_j0);
+    w2c_i0 = i32_load(m, (u64)(w2c_i0) + 66992u);
+    w2c_i1 = w2c_l11;
+    w2c_i0 = w2c_i0 != w2c_i1;
+    if (w2c_i0) {goto w2c_B49;}
+    w2c_j0 = w2c_l4;
+    w2c_j1 = 66996ull;
+    w2c_j0 += w2c_j1;
+    w2c_i0 = (u32)(w2c_j0);
+    w2c_i0 = i32_load8_u(m, (u64)(w2c_i0));
+    w2c_l12 = w2c_i0;
+    goto w2c_B51;
+    w2c_B58:;
+    w2c_i0 = 0u;
+    w2c_l12 = w2c_i0;
+    w2c_i0 = w2c_l11;
+    w2c_i1 = 4294967248u;
+    w2c_i0 += w2c_i1;
+    w2c_i1 = 9u;
+    w2c_i0 = w2c_i0 > w2c_i1;
+    if (w2c_i0) {goto w2c_B48;}
+    w2c_B51:;
+    w2c_i0 = w2c_l12;
+    w2c_i1 = 255u;
+    w2c_i0 &= w2c_i1;
+    w2c_i0 = !(w2c_i0);
+    if (w2c_i0) {goto w2c_L50;}
   w2c_B49:;
+  w2c_i0 = 0u;
+  w2c_l12 = w2c_i0;
+  w2c_B48:;
+  w2c_j0 = w2c_l5;
+  w2c_i0 = !(w2c_j0);
+  w2c_i1 = w2c_l15;
+  w2c_i2 = 1u;
+  w2c_i1 ^= w2c_i2;
+  w2c_i0 |= w2c_i1;
+  if (w2c_i0) {goto w2c_B61;}
+  w2c_j0 = w2c_l6;
+  w2c_i0 = (u32)(w2c_j0);
+  w2c_i0 = i32_load8_s(m, (u64)(w2c_i0));
+  w2c_l13 = w2c_i0;
+  w2c_i1 = 255u;
+  w2c_i0 &= w2c_i1;
+  w2c_l11 = w2c_i0;
+  w2c_i0 = w2c_l13;
+  w2c_i1 = 4294967295u;
+  w2c_i0 = (u32)((s32)w2c_i0 > (s32)w2c_i1);
+  if (w2c_i0) {goto w2c_B62;}
+  w2c_j0 = w2c_l6;
+  w2c_i0 = (u32)(w2c_j0);
+  w2c_i0 = i32_load8_u(m, (u64)(w2c_i0) + 1u);
+  w2c_i1 = 63u;
+  w2c_i0 &= w2c_i1;
+  w2c_l15 = w2c_i0;
+  w2c_i0 = w2c_l13;
+  w2c_i1 = 4294967263u;
+  w2c_i0 = w2c_i0 > w2c_i1;
+  if (w2c_i0) {goto w2c_B63;}
+  w2c_i0 = w2c_l11;
+  w2c_i1 = 6u;
+  w2c_i0 <<= (w2c_i1 & 31);
+  w2c_i1 = 1984u;
+  w2c_i0 &= w2c_i1;
+  w2c_i1 = w2c_l15;
+  w2c_i0 |= w2c_i1;
+  w2c_l11 = w2c_i0;
+  goto w2c_B62;
+  w2c_B63:;
+  w2c_j0 = w2c_l6;
+  w2c_i0 = (u32)(w2c_j0);
+  w2c_i0 = i32_load8_u(m, (u64)(w2c_i0) + 2u);
+  w2c_i1 = 63u;
+  w2c_i0 &= w2c_i1;
+  w2c_l17 = w2c_i0;
+  w2c_i0 = w2c_l13;
+  w2c_i1 = 4294967279u;
+  w2c_i0 = w2c_i0 > w2c_i1;
+  if (w2c_i0) {goto w2c_B64;}
+  w2c_i0 = w2c_l15;
+  w2c_i1 = 6u;
+  w2c_i0 <<= (w2c_i1 & 31);
+  w2c_i1 = w2c_l11;
+  w2c_i2 = 12u;
+  w2c_i1 <<= (w2c_i2 & 31);
+  w2c_i2 = 61440u;
+  w2c_i1 &= w2c_i2;
+  w2c_i0 |= w2c_i1;
+  w2c_i1 = w2c_l17;
+  w2c_i0 |= w2c_i1;
+  w2c_l11 = w2c_i0;
+  goto w2c_B62;
+  w2c_B64:;
+  w2c_i0 = w2c_l17;
+  w2c_i1 = 6u;
+  w2c_i0 <<= (w2c_i1 & 31);
+  w2c_i1 = w2c_l15;
+  w2c_i2 = 12u;
+  w2c_i1 <<= (w2c_i2 & 31);
+  w2c_i2 = w2c_l11;
+  w2c_i3 = 18u;
+  w2c_i2 <<= (w2c_i3 & 31);
+  w2c_i3 = 1835008u;
+  w2c_i2 &= w2c_i3;
+  w2c_i1 |= w2c_i2;
+  w2c_i0 |= w2c_i1;
+  w2c_j1 = w2c_l6;
+  w2c_i1 = (u32)(w2c_j1);
+  w2c_i1 = i32_load8_u(m, (u64)(w2c_i1) + 3u);
+  w2c_i2 = 63u;
+  w2c_i1 &= w2c_i2;
+  w2c_i0 |= w2c_i1;
+  w2c_l11 = w2c_i0;
+  w2c_B62:;
+  w2c_j0 = w2c_l3;
+  w2c_i1 = w2c_l11;
+  w2c_f25(m, w2c_j0, w2c_i1);
+  w2c_i0 = w2c_l14;
+  w2c_i1 = 4294967295u;
+  w2c_i0 ^= w2c_i1;
+  w2c_j1 = w2c_l3;
+  w2c_i1 = (u32)(w2c_j1);
+  w2c_i1 = i32_load8_u(m, (u64)(w2c_i1));
+  w2c_i2 = 255u;
+  w2c_i1 &= w2c_i2;
+  w2c_i2 = 1u;
+  w2c_i1 = w2c_i1 != w2c_i2;
+  w2c_i0 &= w2c_i1;
+  if (w2c_i0) {goto w2c_B60;}
+  goto w2c_B59;
+  w2c_B61:;
+  w2c_i0 = w2c_l14;
+  if (w2c_i0) {goto w2c_B59;}
+  w2c_B60:;
+  w2c_i0 = 0u;
+  w2c_l13 = w2c_i0;
+  w2c_i0 = w2c_l12;
+  w2c_i1 = 0u;
+  w2c_i2 = 0u;
+  w2c_i3 = 2u;
+  w2c_i4 = w2c_l16;
+  w2c_i2 = w2c_i4 ? w2c_i2 : w2c_i3;
+  w2c_i3 = w2c_l10;
+  w2c_i1 = w2c_i3 ? w2c_i1 : w2c_i2;
+  w2c_i0 |= w2c_i1;
+  w2c_l11 = w2c_i0;
   w2c_j0 = w2c_l6;
   w2c_j1 = w2c_l5;
-  w2c_i0 = w2c_f27(m, w2c_j0, w2c_j1);
-  w2c_l14 = w2c_i0;
+  w2c_i0 = w2c_f26(m, w2c_j0, w2c_j1);
+  w2c_i0 = !(w2c_i0);
+  if (w2c_i0) {goto w2c_B37;}
+  goto w2c_B38;
+  w2c_B59:;
+  w2c_i0 = 0u;
+  w2c_l13 = w2c_i0;
+  w2c_i0 = w2c_l12;
+  w2c_i1 = 0u;
+  w2c_i2 = 0u;
+  w2c_i3 = 2u;
+  w2c_i4 = w2c_l16;
+  w2c_i2 = w2c_i4 ? w2c_i2 : w2c_i3;
+  w2c_i3 = w2c_l10;
+  w2c_i1 = w2c_i3 ? w2c_i1 : w2c_i2;
+  w2c_i0 |= w2c_i1;
+  w2c_l11 = w2c_i0;
+  w2c_B38:;
+  w2c_i0 = w2c_l11;
+  w2c_i1 = 4u;
+  w2c_i0 |= w2c_i1;
+  w2c_l11 = w2c_i0;
+  w2c_B37:;
   w2c_j0 = w2c_p0;
   w2c_i0 = (u32)(w2c_j0);
   w2c_i1 = 0u;
   i32_store(m, (u64)(w2c_i0) + 20, w2c_i1);
   w2c_j0 = w2c_p0;
   w2c_i0 = (u32)(w2c_j0);
-  w2c_j1 = w2c_l5;
-  w2c_j2 = w2c_l7;
-  w2c_j1 += w2c_j2;
-  i64_store(m, (u64)(w2c_i0) + 8, w2c_j1);
-  w2c_j0 = w2c_p0;
-  w2c_i0 = (u32)(w2c_j0);
   w2c_j1 = w2c_l7;
   i64_store(m, (u64)(w2c_i0), w2c_j1);
   w2c_j0 = w2c_p0;
   w2c_i0 = (u32)(w2c_j0);
-  w2c_i1 = w2c_l12;
-  w2c_i2 = 0u;
-  w2c_i3 = 0u;
-  w2c_i4 = 2u;
-  w2c_i5 = w2c_l15;
-  w2c_i3 = w2c_i5 ? w2c_i3 : w2c_i4;
-  w2c_i4 = w2c_l11;
-  w2c_i2 = w2c_i4 ? w2c_i2 : w2c_i3;
-  w2c_i1 |= w2c_i2;
-  w2c_i2 = w2c_l13;
-  w2c_i1 |= w2c_i2;
-  w2c_i2 = 8u;
-  w2c_i3 = 0u;
-  w2c_i4 = w2c_l14;
-  w2c_i2 = w2c_i4 ? w2c_i2 : w2c_i3;
+  w2c_i1 = w2c_l13;
+  w2c_i2 = w2c_l11;
   w2c_i1 |= w2c_i2;
   i32_store(m, (u64)(w2c_i0) + 16, w2c_i1);
+  w2c_j0 = w2c_p0;
+  w2c_i0 = (u32)(w2c_j0);
+  w2c_j1 = w2c_l5;
+  w2c_j2 = w2c_l7;
+  w2c_j1 += w2c_j2;
+  i64_store(m, (u64)(w2c_i0) + 8, w2c_j1);
   w2c_j0 = w2c_l3;
-  w2c_j1 = 64ull;
+  w2c_j1 = 16ull;
   w2c_j0 += w2c_j1;
   m->w2c_g0 = w2c_j0;
 }
 
-static void w2c_f21(module *m, u64 w2c_p0, u64 w2c_p1) {
+static void w2c_f20(module *m, u64 w2c_p0, u64 w2c_p1) {
   u32 w2c_l13 = 0, w2c_l14 = 0, w2c_l15 = 0, w2c_l16 = 0, w2c_l17 = 0, w2c_l18 = 0, w2c_l19 = 0, w2c_l20 = 0;
   u64 w2c_l2 = 0, w2c_l3 = 0, w2c_l4 = 0, w2c_l5 = 0, w2c_l6 = 0, w2c_l7 = 0, w2c_l8 = 0, w2c_l9 = 0, w2c_l10 = 0, w2c_l11 = 0, w2c_l12 = 0;
   u32 w2c_i0, w2c_i1, w2c_i2, w2c_i3, w2c_i4;
   u64 w2c_j0, w2c_j1, w2c_j2, w2c_j3, w2c_j4, w2c_j5, w2c_j6;
   w2c_j0 = m->w2c_g0;
-  w2c_j1 = 48ull;
+  w2c_j1 = 16ull;
   w2c_j0 -= w2c_j1;
   w2c_l2 = w2c_j0;
   m->w2c_g0 = w2c_j0;
   w2c_j0 = w2c_l2;
-  w2c_l2 = w2c_j0;
+  w2c_l3 = w2c_j0;
   w2c_j1 = 16ull;
   w2c_i0 = (u64)((s64)w2c_j0 < (s64)w2c_j1);
   if (w2c_i0) {goto w2c_B0;}
@@ -11548,25 +10970,25 @@ static void w2c_f21(module *m, u64 w2c_p0, u64 w2c_p1) {
   w2c_j0 += w2c_j1;
   w2c_i0 = (u32)(w2c_j0);
   w2c_j0 = i64_load(m, (u64)(w2c_i0));
-  w2c_l3 = w2c_j0;
+  w2c_l4 = w2c_j0;
   w2c_j0 = w2c_p1;
   w2c_j1 = 24ull;
   w2c_j0 += w2c_j1;
   w2c_i0 = (u32)(w2c_j0);
   w2c_j0 = i64_load(m, (u64)(w2c_i0));
-  w2c_l4 = w2c_j0;
+  w2c_l5 = w2c_j0;
   w2c_j0 = w2c_p1;
   w2c_j1 = 16ull;
   w2c_j0 += w2c_j1;
   w2c_i0 = (u32)(w2c_j0);
   w2c_j0 = i64_load(m, (u64)(w2c_i0));
-  w2c_l5 = w2c_j0;
+  w2c_l6 = w2c_j0;
   w2c_j0 = w2c_p1;
   w2c_j1 = 8ull;
   w2c_j0 += w2c_j1;
   w2c_i0 = (u32)(w2c_j0);
   w2c_j0 = i64_load(m, (u64)(w2c_i0));
-  w2c_l6 = w2c_j0;
+  w2c_l7 = w2c_j0;
   w2c_j0 = w2c_p1;
   w2c_i0 = (u32)(w2c_j0);
   w2c_i0 = i32_load8_u(m, (u64)(w2c_i0) + 1u);
@@ -11576,14 +10998,14 @@ static void w2c_f21(module *m, u64 w2c_p0, u64 w2c_p1) {
   w2c_i0 = i32_load8_u(m, (u64)(w2c_i0));
   w2c_l14 = w2c_i0;
   w2c_L2:
+    w2c_j0 = w2c_l5;
+    w2c_l2 = w2c_j0;
     w2c_j0 = w2c_l4;
-    w2c_l7 = w2c_j0;
-    w2c_j0 = w2c_l3;
     w2c_l8 = w2c_j0;
     w2c_j1 = 3ull;
     w2c_i0 = w2c_j0 < w2c_j1;
     if (w2c_i0) {goto w2c_B5;}
-    w2c_j0 = w2c_l7;
+    w2c_j0 = w2c_l2;
     w2c_i0 = (u32)(w2c_j0);
     w2c_i0 = i32_load8_u(m, (u64)(w2c_i0));
     w2c_l15 = w2c_i0;
@@ -11592,13 +11014,13 @@ static void w2c_f21(module *m, u64 w2c_p0, u64 w2c_p1) {
     w2c_i1 = 224u;
     w2c_i0 = w2c_i0 != w2c_i1;
     if (w2c_i0) {goto w2c_B4;}
-    w2c_j0 = w2c_l7;
+    w2c_j0 = w2c_l2;
     w2c_i0 = (u32)(w2c_j0);
     w2c_i0 = i32_load8_u(m, (u64)(w2c_i0) + 1u);
     w2c_l16 = w2c_i0;
     w2c_i1 = 8u;
     w2c_i0 <<= (w2c_i1 & 31);
-    w2c_j1 = w2c_l7;
+    w2c_j1 = w2c_l2;
     w2c_i1 = (u32)(w2c_j1);
     w2c_i1 = i32_load8_u(m, (u64)(w2c_i1) + 2u);
     w2c_l17 = w2c_i1;
@@ -11615,13 +11037,13 @@ static void w2c_f21(module *m, u64 w2c_p0, u64 w2c_p1) {
     w2c_j0 >>= (w2c_j1 & 63);
     w2c_j1 = 1016ull;
     w2c_j0 &= w2c_j1;
-    w2c_l3 = w2c_j0;
+    w2c_l4 = w2c_j0;
     w2c_j1 = 66997ull;
     w2c_j0 += w2c_j1;
     w2c_i0 = (u32)(w2c_j0);
     w2c_i0 = i32_load8_u(m, (u64)(w2c_i0));
     w2c_i1 = 0u;
-    w2c_j2 = w2c_l3;
+    w2c_j2 = w2c_l4;
     w2c_i2 = (u32)(w2c_j2);
     w2c_i2 = i32_load(m, (u64)(w2c_i2) + 66992u);
     w2c_i3 = w2c_l18;
@@ -11629,7 +11051,7 @@ static void w2c_f21(module *m, u64 w2c_p0, u64 w2c_p1) {
     w2c_l18 = w2c_i2;
     w2c_i0 = w2c_i2 ? w2c_i0 : w2c_i1;
     w2c_l19 = w2c_i0;
-    w2c_j0 = w2c_l3;
+    w2c_j0 = w2c_l4;
     w2c_j1 = 66996ull;
     w2c_j0 += w2c_j1;
     w2c_i0 = (u32)(w2c_j0);
@@ -11653,11 +11075,11 @@ static void w2c_f21(module *m, u64 w2c_p0, u64 w2c_p1) {
     w2c_j0 = w2c_l8;
     w2c_j1 = 18446744073709551613ull;
     w2c_j0 += w2c_j1;
-    w2c_l3 = w2c_j0;
-    w2c_j0 = w2c_l7;
+    w2c_l4 = w2c_j0;
+    w2c_j0 = w2c_l2;
     w2c_j1 = 3ull;
     w2c_j0 += w2c_j1;
-    w2c_l4 = w2c_j0;
+    w2c_l5 = w2c_j0;
     goto w2c_B3;
     w2c_B5:;
     w2c_j0 = w2c_l8;
@@ -11667,28 +11089,28 @@ static void w2c_f21(module *m, u64 w2c_p0, u64 w2c_p1) {
     w2c_j0 = 0ull;
     w2c_l8 = w2c_j0;
     w2c_j0 = 66332ull;
-    w2c_l3 = w2c_j0;
+    w2c_l4 = w2c_j0;
     w2c_j0 = 0ull;
-    w2c_l6 = w2c_j0;
+    w2c_l7 = w2c_j0;
     w2c_j0 = 0ull;
     w2c_l9 = w2c_j0;
     w2c_j0 = 0ull;
-    w2c_l7 = w2c_j0;
+    w2c_l2 = w2c_j0;
     w2c_j0 = 0ull;
     w2c_l10 = w2c_j0;
     w2c_j0 = 0ull;
     w2c_l11 = w2c_j0;
     w2c_j0 = 0ull;
-    w2c_l4 = w2c_j0;
+    w2c_l5 = w2c_j0;
     goto w2c_B1;
     w2c_B6:;
-    w2c_j0 = w2c_l7;
+    w2c_j0 = w2c_l2;
     w2c_i0 = (u32)(w2c_j0);
     w2c_i0 = i32_load8_u(m, (u64)(w2c_i0));
     w2c_l15 = w2c_i0;
     w2c_B4:;
     w2c_j0 = 1ull;
-    w2c_l4 = w2c_j0;
+    w2c_l5 = w2c_j0;
     w2c_i0 = w2c_l15;
     w2c_i0 = (u32)(s32)(s8)(u8)(w2c_i0);
     w2c_i1 = 4294967295u;
@@ -11698,7 +11120,7 @@ static void w2c_f21(module *m, u64 w2c_p0, u64 w2c_p1) {
     w2c_l16 = w2c_i0;
     goto w2c_B7;
     w2c_B8:;
-    w2c_j0 = w2c_l7;
+    w2c_j0 = w2c_l2;
     w2c_i0 = (u32)(w2c_j0);
     w2c_i0 = i32_load8_u(m, (u64)(w2c_i0) + 1u);
     w2c_i1 = 63u;
@@ -11717,10 +11139,10 @@ static void w2c_f21(module *m, u64 w2c_p0, u64 w2c_p1) {
     w2c_i0 |= w2c_i1;
     w2c_l16 = w2c_i0;
     w2c_j0 = 2ull;
-    w2c_l4 = w2c_j0;
+    w2c_l5 = w2c_j0;
     goto w2c_B7;
     w2c_B9:;
-    w2c_j0 = w2c_l7;
+    w2c_j0 = w2c_l2;
     w2c_i0 = (u32)(w2c_j0);
     w2c_i0 = i32_load8_u(m, (u64)(w2c_i0) + 2u);
     w2c_i1 = 63u;
@@ -11743,7 +11165,7 @@ static void w2c_f21(module *m, u64 w2c_p0, u64 w2c_p1) {
     w2c_i0 |= w2c_i1;
     w2c_l16 = w2c_i0;
     w2c_j0 = 3ull;
-    w2c_l4 = w2c_j0;
+    w2c_l5 = w2c_j0;
     goto w2c_B7;
     w2c_B10:;
     w2c_i0 = w2c_l17;
@@ -11759,7 +11181,7 @@ static void w2c_f21(module *m, u64 w2c_p0, u64 w2c_p1) {
     w2c_i2 &= w2c_i3;
     w2c_i1 |= w2c_i2;
     w2c_i0 |= w2c_i1;
-    w2c_j1 = w2c_l7;
+    w2c_j1 = w2c_l2;
     w2c_i1 = (u32)(w2c_j1);
     w2c_i1 = i32_load8_u(m, (u64)(w2c_i1) + 3u);
     w2c_i2 = 63u;
@@ -11767,16 +11189,16 @@ static void w2c_f21(module *m, u64 w2c_p0, u64 w2c_p1) {
     w2c_i0 |= w2c_i1;
     w2c_l16 = w2c_i0;
     w2c_j0 = 4ull;
-    w2c_l4 = w2c_j0;
+    w2c_l5 = w2c_j0;
     w2c_B7:;
     w2c_j0 = w2c_l8;
-    w2c_j1 = w2c_l4;
+    w2c_j1 = w2c_l5;
     w2c_j0 -= w2c_j1;
-    w2c_l3 = w2c_j0;
-    w2c_j0 = w2c_l7;
-    w2c_j1 = w2c_l4;
-    w2c_j0 += w2c_j1;
     w2c_l4 = w2c_j0;
+    w2c_j0 = w2c_l2;
+    w2c_j1 = w2c_l5;
+    w2c_j0 += w2c_j1;
+    w2c_l5 = w2c_j0;
     w2c_i0 = w2c_l16;
     w2c_i1 = 4294965248u;
     w2c_i0 += w2c_i1;
@@ -11833,160 +11255,135 @@ static void w2c_f21(module *m, u64 w2c_p0, u64 w2c_p1) {
     w2c_l18 = w2c_i0;
     goto w2c_B3;
     w2c_B11:;
-    w2c_j0 = w2c_l2;
-    w2c_j1 = 40ull;
-    w2c_j0 += w2c_j1;
-    w2c_i1 = w2c_l16;
-    w2c_f18(m, w2c_j0, w2c_i1);
-    w2c_j0 = w2c_l2;
-    w2c_i0 = (u32)(w2c_j0);
-    w2c_i0 = i32_load8_u(m, (u64)(w2c_i0) + 40u);
-    w2c_i1 = 1u;
-    w2c_i0 = w2c_i0 != w2c_i1;
-    if (w2c_i0) {goto w2c_B12;}
-    w2c_j0 = w2c_l2;
-    w2c_i0 = (u32)(w2c_j0);
-    w2c_i0 = i32_load8_u(m, (u64)(w2c_i0) + 41u);
-    w2c_l19 = w2c_i0;
-    w2c_i0 = 0u;
-    w2c_l18 = w2c_i0;
-    goto w2c_B3;
-    w2c_B12:;
-    w2c_j0 = w2c_l2;
-    w2c_j1 = 32ull;
-    w2c_j0 += w2c_j1;
-    w2c_i1 = w2c_l16;
-    w2c_f19(m, w2c_j0, w2c_i1);
-    w2c_j0 = w2c_l2;
-    w2c_i0 = (u32)(w2c_j0);
-    w2c_i0 = i32_load8_u(m, (u64)(w2c_i0) + 33u);
+    w2c_i0 = w2c_l16;
+    w2c_i1 = 4294967248u;
+    w2c_i0 += w2c_i1;
+    w2c_l17 = w2c_i0;
     w2c_i1 = 0u;
-    w2c_j2 = w2c_l2;
-    w2c_i2 = (u32)(w2c_j2);
-    w2c_i2 = i32_load8_u(m, (u64)(w2c_i2) + 32u);
-    w2c_i3 = 1u;
-    w2c_i2 = w2c_i2 == w2c_i3;
+    w2c_i2 = w2c_l17;
+    w2c_i3 = 10u;
+    w2c_i2 = w2c_i2 < w2c_i3;
     w2c_l17 = w2c_i2;
     w2c_i0 = w2c_i2 ? w2c_i0 : w2c_i1;
     w2c_l19 = w2c_i0;
-    w2c_i0 = 1u;
+    w2c_i0 = 0u;
     w2c_i1 = 2u;
     w2c_i2 = w2c_l17;
     w2c_i0 = w2c_i2 ? w2c_i0 : w2c_i1;
     w2c_l18 = w2c_i0;
     w2c_B3:;
-    w2c_j0 = w2c_l5;
+    w2c_j0 = w2c_l6;
     w2c_j1 = w2c_l8;
     w2c_j0 -= w2c_j1;
     w2c_l9 = w2c_j0;
     w2c_i0 = w2c_l16;
     w2c_i1 = 21317u;
     w2c_i0 = w2c_i0 == w2c_i1;
-    if (w2c_i0) {goto w2c_B13;}
+    if (w2c_i0) {goto w2c_B12;}
     w2c_i0 = w2c_l16;
     w2c_i1 = 24319u;
     w2c_i0 = w2c_i0 == w2c_i1;
-    if (w2c_i0) {goto w2c_B13;}
+    if (w2c_i0) {goto w2c_B12;}
     w2c_i0 = w2c_l16;
     w2c_i1 = 4294902000u;
     w2c_i0 += w2c_i1;
     w2c_l17 = w2c_i0;
     w2c_i1 = 10u;
     w2c_i0 = w2c_i0 < w2c_i1;
-    if (w2c_i0) {goto w2c_B16;}
+    if (w2c_i0) {goto w2c_B15;}
     w2c_i0 = w2c_l16;
     w2c_i1 = 28856u;
     w2c_i0 = (u32)((s32)w2c_i0 > (s32)w2c_i1);
-    if (w2c_i0) {goto w2c_B19;}
+    if (w2c_i0) {goto w2c_B18;}
     w2c_i0 = w2c_l16;
     w2c_i1 = 20042u;
     w2c_i0 = (u32)((s32)w2c_i0 > (s32)w2c_i1);
-    if (w2c_i0) {goto w2c_B20;}
+    if (w2c_i0) {goto w2c_B19;}
     w2c_i0 = w2c_l16;
     w2c_i1 = 4294967264u;
     w2c_i0 += w2c_i1;
     switch (w2c_i0) {
-      case 0: goto w2c_B14;
-      case 1: goto w2c_B17;
-      case 2: goto w2c_B17;
-      case 3: goto w2c_B17;
-      case 4: goto w2c_B17;
-      case 5: goto w2c_B14;
-      default: goto w2c_B18;
+      case 0: goto w2c_B13;
+      case 1: goto w2c_B16;
+      case 2: goto w2c_B16;
+      case 3: goto w2c_B16;
+      case 4: goto w2c_B16;
+      case 5: goto w2c_B13;
+      default: goto w2c_B17;
     }
-    w2c_B20:;
+    w2c_B19:;
     w2c_i0 = w2c_l16;
     w2c_i1 = 20043u;
     w2c_i0 = w2c_i0 == w2c_i1;
-    if (w2c_i0) {goto w2c_B14;}
+    if (w2c_i0) {goto w2c_B13;}
     w2c_i0 = w2c_l16;
     w2c_i1 = 20998u;
     w2c_i0 = w2c_i0 != w2c_i1;
-    if (w2c_i0) {goto w2c_B17;}
-    goto w2c_B14;
-    w2c_B19:;
+    if (w2c_i0) {goto w2c_B16;}
+    goto w2c_B13;
+    w2c_B18:;
     w2c_i0 = w2c_l16;
     w2c_i1 = 36126u;
     w2c_i0 = (u32)((s32)w2c_i0 > (s32)w2c_i1);
-    if (w2c_i0) {goto w2c_B21;}
+    if (w2c_i0) {goto w2c_B20;}
     w2c_i0 = w2c_l16;
     w2c_i1 = 28857u;
     w2c_i0 = w2c_i0 == w2c_i1;
-    if (w2c_i0) {goto w2c_B14;}
+    if (w2c_i0) {goto w2c_B13;}
     w2c_i0 = w2c_l16;
     w2c_i1 = 36000u;
     w2c_i0 = w2c_i0 != w2c_i1;
-    if (w2c_i0) {goto w2c_B17;}
-    goto w2c_B14;
-    w2c_B21:;
+    if (w2c_i0) {goto w2c_B16;}
+    goto w2c_B13;
+    w2c_B20:;
     w2c_i0 = w2c_l16;
     w2c_i1 = 36127u;
     w2c_i0 = w2c_i0 == w2c_i1;
-    if (w2c_i0) {goto w2c_B14;}
+    if (w2c_i0) {goto w2c_B13;}
     w2c_i0 = w2c_l16;
     w2c_i1 = 40670u;
     w2c_i0 = w2c_i0 == w2c_i1;
-    if (w2c_i0) {goto w2c_B14;}
+    if (w2c_i0) {goto w2c_B13;}
     w2c_i0 = w2c_l16;
     w2c_i1 = 65285u;
     w2c_i0 = w2c_i0 == w2c_i1;
-    if (w2c_i0) {goto w2c_B14;}
-    goto w2c_B17;
-    w2c_B18:;
+    if (w2c_i0) {goto w2c_B13;}
+    goto w2c_B16;
+    w2c_B17:;
     w2c_i0 = w2c_l16;
     w2c_i1 = 8722u;
     w2c_i0 = w2c_i0 == w2c_i1;
-    if (w2c_i0) {goto w2c_B14;}
-    w2c_B17:;
+    if (w2c_i0) {goto w2c_B13;}
+    w2c_B16:;
     w2c_i0 = w2c_l16;
     w2c_i1 = 44u;
     w2c_i0 = w2c_i0 < w2c_i1;
-    if (w2c_i0) {goto w2c_B15;}
+    if (w2c_i0) {goto w2c_B14;}
     w2c_i0 = w2c_l16;
     w2c_i1 = 47u;
     w2c_i0 = w2c_i0 < w2c_i1;
-    if (w2c_i0) {goto w2c_B16;}
+    if (w2c_i0) {goto w2c_B15;}
     w2c_i0 = w2c_l16;
     w2c_i1 = 4294902003u;
     w2c_i0 += w2c_i1;
     w2c_i1 = 1u;
     w2c_i0 = w2c_i0 > w2c_i1;
-    if (w2c_i0) {goto w2c_B15;}
-    w2c_B16:;
+    if (w2c_i0) {goto w2c_B14;}
+    w2c_B15:;
     w2c_i0 = w2c_l16;
     w2c_i1 = 21317u;
     w2c_i0 = w2c_i0 == w2c_i1;
-    if (w2c_i0) {goto w2c_B13;}
+    if (w2c_i0) {goto w2c_B12;}
     w2c_i0 = w2c_l16;
     w2c_i1 = 24319u;
     w2c_i0 = w2c_i0 == w2c_i1;
-    if (w2c_i0) {goto w2c_B13;}
+    if (w2c_i0) {goto w2c_B12;}
     w2c_i0 = w2c_l17;
     w2c_i1 = 10u;
     w2c_i0 = w2c_i0 >= w2c_i1;
-    if (w2c_i0) {goto w2c_B14;}
-    goto w2c_B13;
-    w2c_B15:;
+    if (w2c_i0) {goto w2c_B13;}
+    goto w2c_B12;
+    w2c_B14:;
     w2c_i0 = w2c_l18;
     w2c_i1 = 255u;
     w2c_i0 &= w2c_i1;
@@ -11998,34 +11395,34 @@ static void w2c_f21(module *m, u64 w2c_p0, u64 w2c_p1) {
     w2c_i2 = w2c_l16;
     w2c_i3 = w2c_l18;
     w2c_i4 = w2c_l19;
-    w2c_j5 = w2c_l4;
-    w2c_j6 = w2c_l3;
+    w2c_j5 = w2c_l5;
+    w2c_j6 = w2c_l4;
     w2c_i0 = w2c_f17(m, w2c_i0, w2c_i1, w2c_i2, w2c_i3, w2c_i4, w2c_j5, w2c_j6);
     w2c_i0 = !(w2c_i0);
     if (w2c_i0) {goto w2c_L2;}
-    goto w2c_B13;
-    w2c_B14:;
+    goto w2c_B12;
+    w2c_B13:;
     w2c_i0 = w2c_l14;
     w2c_i1 = w2c_l13;
-    w2c_j2 = w2c_l6;
+    w2c_j2 = w2c_l7;
     w2c_j3 = w2c_l9;
     w2c_i4 = w2c_l16;
-    w2c_j5 = w2c_l4;
-    w2c_j6 = w2c_l3;
-    w2c_i0 = w2c_f28(m, w2c_i0, w2c_i1, w2c_j2, w2c_j3, w2c_i4, w2c_j5, w2c_j6);
+    w2c_j5 = w2c_l5;
+    w2c_j6 = w2c_l4;
+    w2c_i0 = w2c_f27(m, w2c_i0, w2c_i1, w2c_j2, w2c_j3, w2c_i4, w2c_j5, w2c_j6);
     w2c_i0 = !(w2c_i0);
     if (w2c_i0) {goto w2c_L2;}
-    w2c_B13:;
+    w2c_B12:;
   w2c_i0 = w2c_l15;
   w2c_i0 = (u32)(s32)(s8)(u8)(w2c_i0);
   w2c_i1 = 4294967295u;
   w2c_i0 = (u32)((s32)w2c_i0 <= (s32)w2c_i1);
-  if (w2c_i0) {goto w2c_B23;}
+  if (w2c_i0) {goto w2c_B22;}
   w2c_j0 = 1ull;
-  w2c_l3 = w2c_j0;
-  goto w2c_B22;
-  w2c_B23:;
-  w2c_j0 = w2c_l7;
+  w2c_l4 = w2c_j0;
+  goto w2c_B21;
+  w2c_B22:;
+  w2c_j0 = w2c_l2;
   w2c_i0 = (u32)(w2c_j0);
   w2c_i0 = i32_load8_u(m, (u64)(w2c_i0) + 1u);
   w2c_i1 = 63u;
@@ -12034,7 +11431,7 @@ static void w2c_f21(module *m, u64 w2c_p0, u64 w2c_p1) {
   w2c_i0 = w2c_l15;
   w2c_i1 = 223u;
   w2c_i0 = w2c_i0 > w2c_i1;
-  if (w2c_i0) {goto w2c_B24;}
+  if (w2c_i0) {goto w2c_B23;}
   w2c_i0 = w2c_l15;
   w2c_i1 = 6u;
   w2c_i0 <<= (w2c_i1 & 31);
@@ -12044,10 +11441,10 @@ static void w2c_f21(module *m, u64 w2c_p0, u64 w2c_p1) {
   w2c_i0 |= w2c_i1;
   w2c_l15 = w2c_i0;
   w2c_j0 = 2ull;
-  w2c_l3 = w2c_j0;
-  goto w2c_B22;
-  w2c_B24:;
-  w2c_j0 = w2c_l7;
+  w2c_l4 = w2c_j0;
+  goto w2c_B21;
+  w2c_B23:;
+  w2c_j0 = w2c_l2;
   w2c_i0 = (u32)(w2c_j0);
   w2c_i0 = i32_load8_u(m, (u64)(w2c_i0) + 2u);
   w2c_i1 = 63u;
@@ -12056,7 +11453,7 @@ static void w2c_f21(module *m, u64 w2c_p0, u64 w2c_p1) {
   w2c_i0 = w2c_l15;
   w2c_i1 = 239u;
   w2c_i0 = w2c_i0 > w2c_i1;
-  if (w2c_i0) {goto w2c_B25;}
+  if (w2c_i0) {goto w2c_B24;}
   w2c_i0 = w2c_l16;
   w2c_i1 = 6u;
   w2c_i0 <<= (w2c_i1 & 31);
@@ -12070,9 +11467,9 @@ static void w2c_f21(module *m, u64 w2c_p0, u64 w2c_p1) {
   w2c_i0 |= w2c_i1;
   w2c_l15 = w2c_i0;
   w2c_j0 = 3ull;
-  w2c_l3 = w2c_j0;
-  goto w2c_B22;
-  w2c_B25:;
+  w2c_l4 = w2c_j0;
+  goto w2c_B21;
+  w2c_B24:;
   w2c_i0 = w2c_l17;
   w2c_i1 = 6u;
   w2c_i0 <<= (w2c_i1 & 31);
@@ -12086,7 +11483,7 @@ static void w2c_f21(module *m, u64 w2c_p0, u64 w2c_p1) {
   w2c_i2 &= w2c_i3;
   w2c_i1 |= w2c_i2;
   w2c_i0 |= w2c_i1;
-  w2c_j1 = w2c_l7;
+  w2c_j1 = w2c_l2;
   w2c_i1 = (u32)(w2c_j1);
   w2c_i1 = i32_load8_u(m, (u64)(w2c_i1) + 3u);
   w2c_i2 = 63u;
@@ -12094,25 +11491,25 @@ static void w2c_f21(module *m, u64 w2c_p0, u64 w2c_p1) {
   w2c_i0 |= w2c_i1;
   w2c_l15 = w2c_i0;
   w2c_j0 = 4ull;
-  w2c_l3 = w2c_j0;
-  w2c_B22:;
+  w2c_l4 = w2c_j0;
+  w2c_B21:;
   w2c_j0 = w2c_l8;
-  w2c_j1 = w2c_l3;
+  w2c_j1 = w2c_l4;
   w2c_j0 -= w2c_j1;
   w2c_l11 = w2c_j0;
-  w2c_j0 = w2c_l7;
-  w2c_j1 = w2c_l3;
+  w2c_j0 = w2c_l2;
+  w2c_j1 = w2c_l4;
   w2c_j0 += w2c_j1;
   w2c_l10 = w2c_j0;
-  w2c_L27:
+  w2c_L26:
     w2c_j0 = w2c_l10;
-    w2c_l3 = w2c_j0;
-    w2c_j0 = w2c_l11;
     w2c_l4 = w2c_j0;
+    w2c_j0 = w2c_l11;
+    w2c_l5 = w2c_j0;
     w2c_j1 = 3ull;
     w2c_i0 = w2c_j0 < w2c_j1;
-    if (w2c_i0) {goto w2c_B30;}
-    w2c_j0 = w2c_l3;
+    if (w2c_i0) {goto w2c_B29;}
+    w2c_j0 = w2c_l4;
     w2c_i0 = (u32)(w2c_j0);
     w2c_i0 = i32_load8_u(m, (u64)(w2c_i0));
     w2c_l16 = w2c_i0;
@@ -12120,14 +11517,14 @@ static void w2c_f21(module *m, u64 w2c_p0, u64 w2c_p1) {
     w2c_i0 &= w2c_i1;
     w2c_i1 = 224u;
     w2c_i0 = w2c_i0 != w2c_i1;
-    if (w2c_i0) {goto w2c_B29;}
-    w2c_j0 = w2c_l3;
+    if (w2c_i0) {goto w2c_B28;}
+    w2c_j0 = w2c_l4;
     w2c_i0 = (u32)(w2c_j0);
     w2c_i0 = i32_load8_u(m, (u64)(w2c_i0) + 1u);
     w2c_l19 = w2c_i0;
     w2c_i1 = 8u;
     w2c_i0 <<= (w2c_i1 & 31);
-    w2c_j1 = w2c_l3;
+    w2c_j1 = w2c_l4;
     w2c_i1 = (u32)(w2c_j1);
     w2c_i1 = i32_load8_u(m, (u64)(w2c_i1) + 2u);
     w2c_l20 = w2c_i1;
@@ -12179,32 +11576,32 @@ static void w2c_f21(module *m, u64 w2c_p0, u64 w2c_p1) {
     w2c_i1 = 4294041472u;
     w2c_i0 += w2c_i1;
     w2c_l16 = w2c_i0;
-    w2c_j0 = w2c_l4;
+    w2c_j0 = w2c_l5;
     w2c_j1 = 18446744073709551613ull;
     w2c_j0 += w2c_j1;
     w2c_l11 = w2c_j0;
-    w2c_j0 = w2c_l3;
+    w2c_j0 = w2c_l4;
     w2c_j1 = 3ull;
     w2c_j0 += w2c_j1;
     w2c_l10 = w2c_j0;
-    goto w2c_B28;
-    w2c_B30:;
-    w2c_j0 = w2c_l4;
+    goto w2c_B27;
+    w2c_B29:;
+    w2c_j0 = w2c_l5;
     w2c_i0 = !(w2c_j0);
-    if (w2c_i0) {goto w2c_B26;}
-    w2c_j0 = w2c_l3;
+    if (w2c_i0) {goto w2c_B25;}
+    w2c_j0 = w2c_l4;
     w2c_i0 = (u32)(w2c_j0);
     w2c_i0 = i32_load8_u(m, (u64)(w2c_i0));
     w2c_l16 = w2c_i0;
-    w2c_B29:;
+    w2c_B28:;
     w2c_j0 = 1ull;
     w2c_l10 = w2c_j0;
     w2c_i0 = w2c_l16;
     w2c_i0 = (u32)(s32)(s8)(u8)(w2c_i0);
     w2c_i1 = 4294967295u;
     w2c_i0 = (u32)((s32)w2c_i0 > (s32)w2c_i1);
-    if (w2c_i0) {goto w2c_B31;}
-    w2c_j0 = w2c_l3;
+    if (w2c_i0) {goto w2c_B30;}
+    w2c_j0 = w2c_l4;
     w2c_i0 = (u32)(w2c_j0);
     w2c_i0 = i32_load8_u(m, (u64)(w2c_i0) + 1u);
     w2c_i1 = 63u;
@@ -12213,7 +11610,7 @@ static void w2c_f21(module *m, u64 w2c_p0, u64 w2c_p1) {
     w2c_i0 = w2c_l16;
     w2c_i1 = 223u;
     w2c_i0 = w2c_i0 > w2c_i1;
-    if (w2c_i0) {goto w2c_B32;}
+    if (w2c_i0) {goto w2c_B31;}
     w2c_i0 = w2c_l16;
     w2c_i1 = 6u;
     w2c_i0 <<= (w2c_i1 & 31);
@@ -12224,9 +11621,9 @@ static void w2c_f21(module *m, u64 w2c_p0, u64 w2c_p1) {
     w2c_l16 = w2c_i0;
     w2c_j0 = 2ull;
     w2c_l10 = w2c_j0;
-    goto w2c_B31;
-    w2c_B32:;
-    w2c_j0 = w2c_l3;
+    goto w2c_B30;
+    w2c_B31:;
+    w2c_j0 = w2c_l4;
     w2c_i0 = (u32)(w2c_j0);
     w2c_i0 = i32_load8_u(m, (u64)(w2c_i0) + 2u);
     w2c_i1 = 63u;
@@ -12235,7 +11632,7 @@ static void w2c_f21(module *m, u64 w2c_p0, u64 w2c_p1) {
     w2c_i0 = w2c_l16;
     w2c_i1 = 239u;
     w2c_i0 = w2c_i0 > w2c_i1;
-    if (w2c_i0) {goto w2c_B33;}
+    if (w2c_i0) {goto w2c_B32;}
     w2c_i0 = w2c_l17;
     w2c_i1 = 6u;
     w2c_i0 <<= (w2c_i1 & 31);
@@ -12250,8 +11647,8 @@ static void w2c_f21(module *m, u64 w2c_p0, u64 w2c_p1) {
     w2c_l16 = w2c_i0;
     w2c_j0 = 3ull;
     w2c_l10 = w2c_j0;
-    goto w2c_B31;
-    w2c_B33:;
+    goto w2c_B30;
+    w2c_B32:;
     w2c_i0 = w2c_l18;
     w2c_i1 = 6u;
     w2c_i0 <<= (w2c_i1 & 31);
@@ -12265,7 +11662,7 @@ static void w2c_f21(module *m, u64 w2c_p0, u64 w2c_p1) {
     w2c_i2 &= w2c_i3;
     w2c_i1 |= w2c_i2;
     w2c_i0 |= w2c_i1;
-    w2c_j1 = w2c_l3;
+    w2c_j1 = w2c_l4;
     w2c_i1 = (u32)(w2c_j1);
     w2c_i1 = i32_load8_u(m, (u64)(w2c_i1) + 3u);
     w2c_i2 = 63u;
@@ -12274,12 +11671,12 @@ static void w2c_f21(module *m, u64 w2c_p0, u64 w2c_p1) {
     w2c_l16 = w2c_i0;
     w2c_j0 = 4ull;
     w2c_l10 = w2c_j0;
-    w2c_B31:;
-    w2c_j0 = w2c_l4;
+    w2c_B30:;
+    w2c_j0 = w2c_l5;
     w2c_j1 = w2c_l10;
     w2c_j0 -= w2c_j1;
     w2c_l11 = w2c_j0;
-    w2c_j0 = w2c_l3;
+    w2c_j0 = w2c_l4;
     w2c_j1 = w2c_l10;
     w2c_j0 += w2c_j1;
     w2c_l10 = w2c_j0;
@@ -12288,7 +11685,7 @@ static void w2c_f21(module *m, u64 w2c_p0, u64 w2c_p1) {
     w2c_i0 += w2c_i1;
     w2c_i1 = 63487u;
     w2c_i0 = w2c_i0 > w2c_i1;
-    if (w2c_i0) {goto w2c_B34;}
+    if (w2c_i0) {goto w2c_B33;}
     w2c_i0 = w2c_l16;
     w2c_i1 = 12u;
     w2c_i0 >>= (w2c_i1 & 31);
@@ -12337,164 +11734,139 @@ static void w2c_f21(module *m, u64 w2c_p0, u64 w2c_p1) {
     w2c_i2 = w2c_l17;
     w2c_i0 = w2c_i2 ? w2c_i0 : w2c_i1;
     w2c_l17 = w2c_i0;
-    goto w2c_B28;
-    w2c_B34:;
-    w2c_j0 = w2c_l2;
-    w2c_j1 = 24ull;
-    w2c_j0 += w2c_j1;
-    w2c_i1 = w2c_l16;
-    w2c_f18(m, w2c_j0, w2c_i1);
-    w2c_j0 = w2c_l2;
-    w2c_i0 = (u32)(w2c_j0);
-    w2c_i0 = i32_load8_u(m, (u64)(w2c_i0) + 24u);
-    w2c_i1 = 1u;
-    w2c_i0 = w2c_i0 != w2c_i1;
-    if (w2c_i0) {goto w2c_B35;}
-    w2c_j0 = w2c_l2;
-    w2c_i0 = (u32)(w2c_j0);
-    w2c_i0 = i32_load8_u(m, (u64)(w2c_i0) + 25u);
-    w2c_l18 = w2c_i0;
-    w2c_i0 = 0u;
+    goto w2c_B27;
+    w2c_B33:;
+    w2c_i0 = w2c_l16;
+    w2c_i1 = 4294967248u;
+    w2c_i0 += w2c_i1;
     w2c_l17 = w2c_i0;
-    goto w2c_B28;
-    w2c_B35:;
-    w2c_j0 = w2c_l2;
-    w2c_j1 = 16ull;
-    w2c_j0 += w2c_j1;
-    w2c_i1 = w2c_l16;
-    w2c_f19(m, w2c_j0, w2c_i1);
-    w2c_j0 = w2c_l2;
-    w2c_i0 = (u32)(w2c_j0);
-    w2c_i0 = i32_load8_u(m, (u64)(w2c_i0) + 17u);
     w2c_i1 = 0u;
-    w2c_j2 = w2c_l2;
-    w2c_i2 = (u32)(w2c_j2);
-    w2c_i2 = i32_load8_u(m, (u64)(w2c_i2) + 16u);
-    w2c_i3 = 1u;
-    w2c_i2 = w2c_i2 == w2c_i3;
+    w2c_i2 = w2c_l17;
+    w2c_i3 = 10u;
+    w2c_i2 = w2c_i2 < w2c_i3;
     w2c_l17 = w2c_i2;
     w2c_i0 = w2c_i2 ? w2c_i0 : w2c_i1;
     w2c_l18 = w2c_i0;
-    w2c_i0 = 1u;
+    w2c_i0 = 0u;
     w2c_i1 = 2u;
     w2c_i2 = w2c_l17;
     w2c_i0 = w2c_i2 ? w2c_i0 : w2c_i1;
     w2c_l17 = w2c_i0;
-    w2c_B28:;
+    w2c_B27:;
     w2c_i0 = w2c_l16;
     w2c_i1 = 21317u;
     w2c_i0 = w2c_i0 == w2c_i1;
-    if (w2c_i0) {goto w2c_B36;}
+    if (w2c_i0) {goto w2c_B34;}
     w2c_i0 = w2c_l16;
     w2c_i1 = 24319u;
     w2c_i0 = w2c_i0 == w2c_i1;
-    if (w2c_i0) {goto w2c_B36;}
+    if (w2c_i0) {goto w2c_B34;}
     w2c_i0 = w2c_l16;
     w2c_i1 = 4294902000u;
     w2c_i0 += w2c_i1;
     w2c_l19 = w2c_i0;
     w2c_i1 = 10u;
     w2c_i0 = w2c_i0 < w2c_i1;
-    if (w2c_i0) {goto w2c_B39;}
+    if (w2c_i0) {goto w2c_B37;}
     w2c_i0 = w2c_l16;
     w2c_i1 = 28856u;
     w2c_i0 = (u32)((s32)w2c_i0 > (s32)w2c_i1);
-    if (w2c_i0) {goto w2c_B42;}
+    if (w2c_i0) {goto w2c_B40;}
     w2c_i0 = w2c_l16;
     w2c_i1 = 20042u;
     w2c_i0 = (u32)((s32)w2c_i0 > (s32)w2c_i1);
-    if (w2c_i0) {goto w2c_B43;}
+    if (w2c_i0) {goto w2c_B41;}
     w2c_i0 = w2c_l16;
     w2c_i1 = 4294967264u;
     w2c_i0 += w2c_i1;
     switch (w2c_i0) {
-      case 0: goto w2c_B37;
-      case 1: goto w2c_B40;
-      case 2: goto w2c_B40;
-      case 3: goto w2c_B40;
-      case 4: goto w2c_B40;
-      case 5: goto w2c_B37;
-      default: goto w2c_B41;
+      case 0: goto w2c_B35;
+      case 1: goto w2c_B38;
+      case 2: goto w2c_B38;
+      case 3: goto w2c_B38;
+      case 4: goto w2c_B38;
+      case 5: goto w2c_B35;
+      default: goto w2c_B39;
     }
-    w2c_B43:;
+    w2c_B41:;
     w2c_i0 = w2c_l16;
     w2c_i1 = 20043u;
     w2c_i0 = w2c_i0 == w2c_i1;
-    if (w2c_i0) {goto w2c_B37;}
+    if (w2c_i0) {goto w2c_B35;}
     w2c_i0 = w2c_l16;
     w2c_i1 = 20998u;
     w2c_i0 = w2c_i0 != w2c_i1;
-    if (w2c_i0) {goto w2c_B40;}
-    goto w2c_B37;
-    w2c_B42:;
+    if (w2c_i0) {goto w2c_B38;}
+    goto w2c_B35;
+    w2c_B40:;
     w2c_i0 = w2c_l16;
     w2c_i1 = 36126u;
     w2c_i0 = (u32)((s32)w2c_i0 > (s32)w2c_i1);
-    if (w2c_i0) {goto w2c_B44;}
+    if (w2c_i0) {goto w2c_B42;}
     w2c_i0 = w2c_l16;
     w2c_i1 = 28857u;
     w2c_i0 = w2c_i0 == w2c_i1;
-    if (w2c_i0) {goto w2c_B37;}
+    if (w2c_i0) {goto w2c_B35;}
     w2c_i0 = w2c_l16;
     w2c_i1 = 36000u;
     w2c_i0 = w2c_i0 != w2c_i1;
-    if (w2c_i0) {goto w2c_B40;}
-    goto w2c_B37;
-    w2c_B44:;
+    if (w2c_i0) {goto w2c_B38;}
+    goto w2c_B35;
+    w2c_B42:;
     w2c_i0 = w2c_l16;
     w2c_i1 = 36127u;
     w2c_i0 = w2c_i0 == w2c_i1;
-    if (w2c_i0) {goto w2c_B37;}
+    if (w2c_i0) {goto w2c_B35;}
     w2c_i0 = w2c_l16;
     w2c_i1 = 40670u;
     w2c_i0 = w2c_i0 == w2c_i1;
-    if (w2c_i0) {goto w2c_B37;}
+    if (w2c_i0) {goto w2c_B35;}
     w2c_i0 = w2c_l16;
     w2c_i1 = 65285u;
     w2c_i0 = w2c_i0 == w2c_i1;
-    if (w2c_i0) {goto w2c_B37;}
-    goto w2c_B40;
-    w2c_B41:;
+    if (w2c_i0) {goto w2c_B35;}
+    goto w2c_B38;
+    w2c_B39:;
     w2c_i0 = w2c_l16;
     w2c_i1 = 8722u;
     w2c_i0 = w2c_i0 == w2c_i1;
-    if (w2c_i0) {goto w2c_B37;}
-    w2c_B40:;
+    if (w2c_i0) {goto w2c_B35;}
+    w2c_B38:;
     w2c_i0 = w2c_l16;
     w2c_i1 = 44u;
     w2c_i0 = w2c_i0 < w2c_i1;
-    if (w2c_i0) {goto w2c_B38;}
+    if (w2c_i0) {goto w2c_B36;}
     w2c_i0 = w2c_l16;
     w2c_i1 = 47u;
     w2c_i0 = w2c_i0 < w2c_i1;
-    if (w2c_i0) {goto w2c_B39;}
+    if (w2c_i0) {goto w2c_B37;}
     w2c_i0 = w2c_l16;
     w2c_i1 = 4294902003u;
     w2c_i0 += w2c_i1;
     w2c_i1 = 1u;
     w2c_i0 = w2c_i0 > w2c_i1;
-    if (w2c_i0) {goto w2c_B38;}
-    w2c_B39:;
+    if (w2c_i0) {goto w2c_B36;}
+    w2c_B37:;
     w2c_i0 = w2c_l16;
     w2c_i1 = 21317u;
     w2c_i0 = w2c_i0 == w2c_i1;
-    if (w2c_i0) {goto w2c_B36;}
+    if (w2c_i0) {goto w2c_B34;}
     w2c_i0 = w2c_l16;
     w2c_i1 = 24319u;
     w2c_i0 = w2c_i0 == w2c_i1;
-    if (w2c_i0) {goto w2c_B36;}
+    if (w2c_i0) {goto w2c_B34;}
     w2c_i0 = w2c_l19;
     w2c_i1 = 10u;
     w2c_i0 = w2c_i0 >= w2c_i1;
-    if (w2c_i0) {goto w2c_B37;}
-    goto w2c_B36;
-    w2c_B38:;
+    if (w2c_i0) {goto w2c_B35;}
+    goto w2c_B34;
+    w2c_B36:;
     w2c_i0 = w2c_l17;
     w2c_i1 = 255u;
     w2c_i0 &= w2c_i1;
     w2c_i1 = 2u;
     w2c_i0 = w2c_i0 == w2c_i1;
-    if (w2c_i0) {goto w2c_B26;}
+    if (w2c_i0) {goto w2c_B25;}
     w2c_i0 = w2c_l14;
     w2c_i1 = w2c_l13;
     w2c_i2 = w2c_l16;
@@ -12503,36 +11875,36 @@ static void w2c_f21(module *m, u64 w2c_p0, u64 w2c_p1) {
     w2c_j5 = w2c_l10;
     w2c_j6 = w2c_l11;
     w2c_i0 = w2c_f17(m, w2c_i0, w2c_i1, w2c_i2, w2c_i3, w2c_i4, w2c_j5, w2c_j6);
-    if (w2c_i0) {goto w2c_B36;}
-    goto w2c_B26;
-    w2c_B37:;
+    if (w2c_i0) {goto w2c_B34;}
+    goto w2c_B25;
+    w2c_B35:;
     w2c_i0 = w2c_l14;
     w2c_i1 = w2c_l13;
-    w2c_j2 = w2c_l6;
-    w2c_j3 = w2c_l5;
-    w2c_j4 = w2c_l4;
+    w2c_j2 = w2c_l7;
+    w2c_j3 = w2c_l6;
+    w2c_j4 = w2c_l5;
     w2c_j3 -= w2c_j4;
     w2c_i4 = w2c_l16;
     w2c_j5 = w2c_l10;
     w2c_j6 = w2c_l11;
-    w2c_i0 = w2c_f28(m, w2c_i0, w2c_i1, w2c_j2, w2c_j3, w2c_i4, w2c_j5, w2c_j6);
+    w2c_i0 = w2c_f27(m, w2c_i0, w2c_i1, w2c_j2, w2c_j3, w2c_i4, w2c_j5, w2c_j6);
     w2c_i0 = !(w2c_i0);
-    if (w2c_i0) {goto w2c_B26;}
-    w2c_B36:;
+    if (w2c_i0) {goto w2c_B25;}
+    w2c_B34:;
     w2c_i0 = w2c_l15;
     w2c_i1 = 4294967248u;
     w2c_i0 += w2c_i1;
     w2c_i1 = 10u;
     w2c_i0 = w2c_i0 < w2c_i1;
-    if (w2c_i0) {goto w2c_B46;}
+    if (w2c_i0) {goto w2c_B44;}
     w2c_i0 = w2c_l15;
     w2c_i1 = 4294902000u;
     w2c_i0 += w2c_i1;
     w2c_i1 = 9u;
     w2c_i0 = w2c_i0 > w2c_i1;
-    if (w2c_i0) {goto w2c_B45;}
-    w2c_B46:;
-    w2c_j0 = w2c_l2;
+    if (w2c_i0) {goto w2c_B43;}
+    w2c_B44:;
+    w2c_j0 = w2c_l3;
     w2c_j1 = 8ull;
     w2c_j0 += w2c_j1;
     w2c_i1 = w2c_l16;
@@ -12542,26 +11914,26 @@ static void w2c_f21(module *m, u64 w2c_p0, u64 w2c_p1) {
     w2c_i0 += w2c_i1;
     w2c_i1 = 4294967285u;
     w2c_i0 = w2c_i0 > w2c_i1;
-    if (w2c_i0) {goto w2c_B47;}
-    w2c_j0 = w2c_l2;
+    if (w2c_i0) {goto w2c_B45;}
+    w2c_j0 = w2c_l3;
     w2c_i0 = (u32)(w2c_j0);
     w2c_i0 = i32_load8_u(m, (u64)(w2c_i0) + 8u);
     w2c_i1 = 255u;
     w2c_i0 &= w2c_i1;
     w2c_i1 = 1u;
     w2c_i0 = w2c_i0 == w2c_i1;
-    if (w2c_i0) {goto w2c_B26;}
-    w2c_B47:;
+    if (w2c_i0) {goto w2c_B25;}
+    w2c_B45:;
     w2c_i0 = w2c_l16;
     w2c_i1 = 21317u;
     w2c_i0 = w2c_i0 == w2c_i1;
-    if (w2c_i0) {goto w2c_B26;}
+    if (w2c_i0) {goto w2c_B25;}
     w2c_i0 = w2c_l16;
     w2c_i1 = 24319u;
     w2c_i0 = w2c_i0 == w2c_i1;
-    if (w2c_i0) {goto w2c_B26;}
-    w2c_B45:;
-    w2c_j0 = w2c_l2;
+    if (w2c_i0) {goto w2c_B25;}
+    w2c_B43:;
+    w2c_j0 = w2c_l3;
     w2c_i1 = w2c_l15;
     w2c_f18(m, w2c_j0, w2c_i1);
     w2c_i0 = w2c_l15;
@@ -12569,24 +11941,24 @@ static void w2c_f21(module *m, u64 w2c_p0, u64 w2c_p1) {
     w2c_i0 += w2c_i1;
     w2c_i1 = 4294967285u;
     w2c_i0 = w2c_i0 > w2c_i1;
-    if (w2c_i0) {goto w2c_B49;}
-    w2c_j0 = w2c_l2;
+    if (w2c_i0) {goto w2c_B47;}
+    w2c_j0 = w2c_l3;
     w2c_i0 = (u32)(w2c_j0);
     w2c_i0 = i32_load8_u(m, (u64)(w2c_i0));
     w2c_i1 = 255u;
     w2c_i0 &= w2c_i1;
     w2c_i1 = 1u;
     w2c_i0 = w2c_i0 == w2c_i1;
-    if (w2c_i0) {goto w2c_B48;}
-    w2c_B49:;
+    if (w2c_i0) {goto w2c_B46;}
+    w2c_B47:;
     w2c_i0 = w2c_l15;
     w2c_i1 = 24318u;
     w2c_i0 = (u32)((s32)w2c_i0 > (s32)w2c_i1);
-    if (w2c_i0) {goto w2c_B50;}
+    if (w2c_i0) {goto w2c_B48;}
     w2c_i0 = w2c_l15;
     w2c_i1 = 21317u;
     w2c_i0 = w2c_i0 == w2c_i1;
-    if (w2c_i0) {goto w2c_B48;}
+    if (w2c_i0) {goto w2c_B46;}
     w2c_i0 = w2c_l15;
     w2c_i1 = 37u;
     w2c_i0 = w2c_i0 == w2c_i1;
@@ -12595,13 +11967,13 @@ static void w2c_f21(module *m, u64 w2c_p0, u64 w2c_p1) {
     w2c_l15 = w2c_i0;
     w2c_i0 = w2c_l17;
     w2c_i0 = !(w2c_i0);
-    if (w2c_i0) {goto w2c_L27;}
-    goto w2c_B26;
-    w2c_B50:;
+    if (w2c_i0) {goto w2c_L26;}
+    goto w2c_B25;
+    w2c_B48:;
     w2c_i0 = w2c_l15;
     w2c_i1 = 24319u;
     w2c_i0 = w2c_i0 == w2c_i1;
-    if (w2c_i0) {goto w2c_B48;}
+    if (w2c_i0) {goto w2c_B46;}
     w2c_i0 = w2c_l15;
     w2c_i1 = 65285u;
     w2c_i0 = w2c_i0 == w2c_i1;
@@ -12610,25 +11982,25 @@ static void w2c_f21(module *m, u64 w2c_p0, u64 w2c_p1) {
     w2c_l15 = w2c_i0;
     w2c_i0 = w2c_l17;
     w2c_i0 = !(w2c_i0);
-    if (w2c_i0) {goto w2c_L27;}
-    goto w2c_B26;
-    w2c_B48:;
+    if (w2c_i0) {goto w2c_L26;}
+    goto w2c_B25;
+    w2c_B46:;
     w2c_i0 = w2c_l16;
     w2c_i1 = 4294967248u;
     w2c_i0 += w2c_i1;
     w2c_i1 = 10u;
     w2c_i0 = w2c_i0 < w2c_i1;
-    if (w2c_i0) {goto w2c_B26;}
+    if (w2c_i0) {goto w2c_B25;}
     w2c_i0 = w2c_l16;
     w2c_i1 = 4294902000u;
     w2c_i0 += w2c_i1;
     w2c_i1 = 10u;
     w2c_i0 = w2c_i0 < w2c_i1;
-    if (w2c_i0) {goto w2c_B26;}
+    if (w2c_i0) {goto w2c_B25;}
     w2c_i0 = w2c_l15;
     w2c_i1 = 65285u;
     w2c_i0 = w2c_i0 == w2c_i1;
-    if (w2c_i0) {goto w2c_B26;}
+    if (w2c_i0) {goto w2c_B25;}
     w2c_i0 = w2c_l15;
     w2c_i1 = 37u;
     w2c_i0 = w2c_i0 != w2c_i1;
@@ -12636,34 +12008,34 @@ static void w2c_f21(module *m, u64 w2c_p0, u64 w2c_p1) {
     w2c_i0 = w2c_l16;
     w2c_l15 = w2c_i0;
     w2c_i0 = w2c_l17;
-    if (w2c_i0) {goto w2c_L27;}
-  w2c_B26:;
+    if (w2c_i0) {goto w2c_L26;}
+  w2c_B25:;
   w2c_j0 = w2c_l8;
-  w2c_j1 = w2c_l4;
+  w2c_j1 = w2c_l5;
   w2c_j0 -= w2c_j1;
   w2c_l10 = w2c_j0;
   w2c_j0 = 1ull;
   w2c_l8 = w2c_j0;
-  w2c_j0 = w2c_l3;
+  w2c_j0 = w2c_l4;
   w2c_l11 = w2c_j0;
   w2c_B1:;
   w2c_j0 = w2c_p1;
   w2c_j1 = 32ull;
   w2c_j0 += w2c_j1;
   w2c_i0 = (u32)(w2c_j0);
-  w2c_j1 = w2c_l4;
+  w2c_j1 = w2c_l5;
   i64_store(m, (u64)(w2c_i0), w2c_j1);
   w2c_j0 = w2c_p1;
   w2c_j1 = 24ull;
   w2c_j0 += w2c_j1;
   w2c_i0 = (u32)(w2c_j0);
-  w2c_j1 = w2c_l3;
+  w2c_j1 = w2c_l4;
   i64_store(m, (u64)(w2c_i0), w2c_j1);
   w2c_j0 = w2c_p0;
   w2c_j1 = 48ull;
   w2c_j0 += w2c_j1;
   w2c_i0 = (u32)(w2c_j0);
-  w2c_j1 = w2c_l4;
+  w2c_j1 = w2c_l5;
   i64_store(m, (u64)(w2c_i0), w2c_j1);
   w2c_j0 = w2c_p0;
   w2c_j1 = 40ull;
@@ -12681,7 +12053,7 @@ static void w2c_f21(module *m, u64 w2c_p0, u64 w2c_p1) {
   w2c_j1 = 24ull;
   w2c_j0 += w2c_j1;
   w2c_i0 = (u32)(w2c_j0);
-  w2c_j1 = w2c_l7;
+  w2c_j1 = w2c_l2;
   i64_store(m, (u64)(w2c_i0), w2c_j1);
   w2c_j0 = w2c_p0;
   w2c_j1 = 16ull;
@@ -12693,14 +12065,14 @@ static void w2c_f21(module *m, u64 w2c_p0, u64 w2c_p1) {
   w2c_j1 = 8ull;
   w2c_j0 += w2c_j1;
   w2c_i0 = (u32)(w2c_j0);
-  w2c_j1 = w2c_l6;
+  w2c_j1 = w2c_l7;
   i64_store(m, (u64)(w2c_i0), w2c_j1);
   w2c_j0 = w2c_p0;
   w2c_i0 = (u32)(w2c_j0);
   w2c_j1 = w2c_l8;
   i64_store(m, (u64)(w2c_i0), w2c_j1);
-  w2c_j0 = w2c_l2;
-  w2c_j1 = 48ull;
+  w2c_j0 = w2c_l3;
+  w2c_j1 = 16ull;
   w2c_j0 += w2c_j1;
   m->w2c_g0 = w2c_j0;
   goto w2c_Bfunc;
@@ -12709,7 +12081,7 @@ static void w2c_f21(module *m, u64 w2c_p0, u64 w2c_p1) {
   w2c_Bfunc:;
 }
 
-static u32 w2c_f22(module *m, u64 w2c_p0, u64 w2c_p1) {
+static u32 w2c_f21(module *m, u64 w2c_p0, u64 w2c_p1) {
   u32 w2c_l2 = 0, w2c_l3 = 0, w2c_l4 = 0, w2c_l5 = 0, w2c_l6 = 0;
   u64 w2c_l7 = 0;
   u32 w2c_i0, w2c_i1, w2c_i2, w2c_i3;
@@ -13101,17 +12473,12 @@ static u32 w2c_f22(module *m, u64 w2c_p0, u64 w2c_p1) {
   return w2c_i0;
 }
 
-static u32 w2c_f23(module *m, u32 w2c_p0, u32 w2c_p1, u64 w2c_p2, u64 w2c_p3) {
-  u32 w2c_l6 = 0, w2c_l7 = 0, w2c_l8 = 0, w2c_l9 = 0, w2c_l10 = 0;
-  u64 w2c_l4 = 0, w2c_l5 = 0;
+static u32 w2c_f22(module *m, u32 w2c_p0, u32 w2c_p1, u64 w2c_p2, u64 w2c_p3) {
+  u32 w2c_l7 = 0, w2c_l8 = 0, w2c_l9 = 0, w2c_l10 = 0, w2c_l11 = 0;
+  u64 w2c_l4 = 0, w2c_l5 = 0, w2c_l6 = 0;
   u32 w2c_i0, w2c_i1, w2c_i2, w2c_i3;
   u64 w2c_j0, w2c_j1, w2c_j2;
   w2c_j0 = m->w2c_g0;
-  w2c_j1 = 16ull;
-  w2c_j0 -= w2c_j1;
-  w2c_l4 = w2c_j0;
-  m->w2c_g0 = w2c_j0;
-  w2c_j0 = w2c_l4;
   w2c_l4 = w2c_j0;
   w2c_j1 = 16ull;
   w2c_i0 = (u64)((s64)w2c_j0 < (s64)w2c_j1);
@@ -13119,32 +12486,32 @@ static u32 w2c_f23(module *m, u32 w2c_p0, u32 w2c_p1, u64 w2c_p2, u64 w2c_p3) {
   w2c_j0 = w2c_p3;
   w2c_j1 = 3ull;
   w2c_i0 = w2c_j0 < w2c_j1;
-  if (w2c_i0) {goto w2c_B4;}
+  if (w2c_i0) {goto w2c_B3;}
   w2c_j0 = w2c_p2;
   w2c_i0 = (u32)(w2c_j0);
   w2c_i0 = i32_load8_u(m, (u64)(w2c_i0));
-  w2c_l6 = w2c_i0;
+  w2c_l7 = w2c_i0;
   w2c_i1 = 240u;
   w2c_i0 &= w2c_i1;
   w2c_i1 = 224u;
   w2c_i0 = w2c_i0 != w2c_i1;
-  if (w2c_i0) {goto w2c_B3;}
+  if (w2c_i0) {goto w2c_B2;}
   w2c_j0 = w2c_p2;
   w2c_i0 = (u32)(w2c_j0);
   w2c_i0 = i32_load8_u(m, (u64)(w2c_i0) + 1u);
-  w2c_l7 = w2c_i0;
+  w2c_l8 = w2c_i0;
   w2c_i1 = 8u;
   w2c_i0 <<= (w2c_i1 & 31);
   w2c_j1 = w2c_p2;
   w2c_i1 = (u32)(w2c_j1);
   w2c_i1 = i32_load8_u(m, (u64)(w2c_i1) + 2u);
-  w2c_l8 = w2c_i1;
+  w2c_l9 = w2c_i1;
   w2c_i2 = 16u;
   w2c_i1 <<= (w2c_i2 & 31);
   w2c_i0 |= w2c_i1;
-  w2c_i1 = w2c_l6;
+  w2c_i1 = w2c_l7;
   w2c_i0 |= w2c_i1;
-  w2c_l9 = w2c_i0;
+  w2c_l10 = w2c_i0;
   w2c_j0 = (u64)(w2c_i0);
   w2c_j1 = 953497ull;
   w2c_j0 *= w2c_j1;
@@ -13161,32 +12528,32 @@ static u32 w2c_f23(module *m, u32 w2c_p0, u32 w2c_p1, u64 w2c_p2, u64 w2c_p3) {
   w2c_j2 = w2c_l5;
   w2c_i2 = (u32)(w2c_j2);
   w2c_i2 = i32_load(m, (u64)(w2c_i2) + 66992u);
-  w2c_i3 = w2c_l9;
+  w2c_i3 = w2c_l10;
   w2c_i2 = w2c_i2 == w2c_i3;
-  w2c_l10 = w2c_i2;
+  w2c_l11 = w2c_i2;
   w2c_i0 = w2c_i2 ? w2c_i0 : w2c_i1;
-  w2c_l9 = w2c_i0;
+  w2c_l10 = w2c_i0;
   w2c_j0 = w2c_l5;
   w2c_j1 = 66996ull;
   w2c_j0 += w2c_j1;
   w2c_i0 = (u32)(w2c_j0);
   w2c_i0 = i32_load8_u(m, (u64)(w2c_i0));
   w2c_i1 = 2u;
-  w2c_i2 = w2c_l10;
+  w2c_i2 = w2c_l11;
   w2c_i0 = w2c_i2 ? w2c_i0 : w2c_i1;
-  w2c_l10 = w2c_i0;
-  w2c_i0 = w2c_l6;
+  w2c_l11 = w2c_i0;
+  w2c_i0 = w2c_l7;
   w2c_i1 = 12u;
   w2c_i0 <<= (w2c_i1 & 31);
-  w2c_i1 = w2c_l7;
+  w2c_i1 = w2c_l8;
   w2c_i2 = 6u;
   w2c_i1 <<= (w2c_i2 & 31);
   w2c_i0 += w2c_i1;
-  w2c_i1 = w2c_l8;
+  w2c_i1 = w2c_l9;
   w2c_i0 += w2c_i1;
   w2c_i1 = 4294041472u;
   w2c_i0 += w2c_i1;
-  w2c_l6 = w2c_i0;
+  w2c_l7 = w2c_i0;
   w2c_j0 = w2c_p3;
   w2c_j1 = 18446744073709551613ull;
   w2c_j0 += w2c_j1;
@@ -13195,83 +12562,84 @@ static u32 w2c_f23(module *m, u32 w2c_p0, u32 w2c_p1, u64 w2c_p2, u64 w2c_p3) {
   w2c_j1 = 3ull;
   w2c_j0 += w2c_j1;
   w2c_p2 = w2c_j0;
-  goto w2c_B2;
-  w2c_B4:;
+  goto w2c_B1;
+  w2c_B3:;
   w2c_j0 = w2c_p3;
   w2c_i0 = !(w2c_j0);
   w2c_i0 = !(w2c_i0);
-  if (w2c_i0) {goto w2c_B5;}
+  if (w2c_i0) {goto w2c_B4;}
+  w2c_j0 = w2c_l4;
+  m->w2c_g0 = w2c_j0;
   w2c_i0 = 0u;
-  w2c_l7 = w2c_i0;
-  goto w2c_B1;
-  w2c_B5:;
+  goto w2c_Bfunc;
+  w2c_B4:;
   w2c_j0 = w2c_p2;
   w2c_i0 = (u32)(w2c_j0);
   w2c_i0 = i32_load8_u(m, (u64)(w2c_i0));
-  w2c_l6 = w2c_i0;
-  w2c_B3:;
+  w2c_l7 = w2c_i0;
+  w2c_B2:;
   w2c_j0 = 1ull;
   w2c_l5 = w2c_j0;
-  w2c_i0 = w2c_l6;
+  w2c_i0 = w2c_l7;
   w2c_i0 = (u32)(s32)(s8)(u8)(w2c_i0);
   w2c_i1 = 4294967295u;
   w2c_i0 = (u32)((s32)w2c_i0 > (s32)w2c_i1);
-  if (w2c_i0) {goto w2c_B6;}
+  if (w2c_i0) {goto w2c_B5;}
   w2c_j0 = w2c_p2;
   w2c_i0 = (u32)(w2c_j0);
   w2c_i0 = i32_load8_u(m, (u64)(w2c_i0) + 1u);
   w2c_i1 = 63u;
   w2c_i0 &= w2c_i1;
-  w2c_l7 = w2c_i0;
-  w2c_i0 = w2c_l6;
+  w2c_l10 = w2c_i0;
+  w2c_i0 = w2c_l7;
   w2c_i1 = 223u;
   w2c_i0 = w2c_i0 > w2c_i1;
-  if (w2c_i0) {goto w2c_B7;}
-  w2c_i0 = w2c_l6;
+  if (w2c_i0) {goto w2c_B6;}
+  w2c_i0 = w2c_l7;
   w2c_i1 = 6u;
   w2c_i0 <<= (w2c_i1 & 31);
   w2c_i1 = 1984u;
   w2c_i0 &= w2c_i1;
-  w2c_i1 = w2c_l7;
+  w2c_i1 = w2c_l10;
   w2c_i0 |= w2c_i1;
-  w2c_l6 = w2c_i0;
+  w2c_l7 = w2c_i0;
   w2c_j0 = 2ull;
   w2c_l5 = w2c_j0;
-  goto w2c_B6;
-  w2c_B7:;
+  goto w2c_B5;
+  w2c_B6:;
   w2c_j0 = w2c_p2;
   w2c_i0 = (u32)(w2c_j0);
   w2c_i0 = i32_load8_u(m, (u64)(w2c_i0) + 2u);
   w2c_i1 = 63u;
   w2c_i0 &= w2c_i1;
-  w2c_l9 = w2c_i0;
-  w2c_i0 = w2c_l6;
+  w2c_l8 = w2c_i0;
+  w2c_i0 = w2c_l7;
   w2c_i1 = 239u;
   w2c_i0 = w2c_i0 > w2c_i1;
-  if (w2c_i0) {goto w2c_B8;}
-  w2c_i0 = w2c_l7;
-  w2c_i1 = 6u;
-  w2c_i0 <<= (w2c_i1 & 31);
-  w2c_i1 = w2c_l6;
-  w2c_i2 = 12u;
-  w2c_i1 <<= (w2c_i2 & 31);
-  w2c_i2 = 61440u;
-  w2c_i1 &= w2c_i2;
-  w2c_i0 |= w2c_i1;
-  w2c_i1 = w2c_l9;
-  w2c_i0 |= w2c_i1;
-  w2c_l6 = w2c_i0;
-  w2c_j0 = 3ull;
-  w2c_l5 = w2c_j0;
-  goto w2c_B6;
-  w2c_B8:;
-  w2c_i0 = w2c_l9;
+  if (w2c_i0) {goto w2c_B7;}
+  w2c_i0 = w2c_l10;
   w2c_i1 = 6u;
   w2c_i0 <<= (w2c_i1 & 31);
   w2c_i1 = w2c_l7;
   w2c_i2 = 12u;
   w2c_i1 <<= (w2c_i2 & 31);
-  w2c_i2 = w2c_l6;
+  w2c_i2 = 61440u;
+  w2c_i1 &= w2c_i2;
+  w2c_i0 |= w2c_i1;
+  w2c_i1 = w2c_l8;
+  w2c_i0 |= w2c_i1;
+  w2c_l7 = w2c_i0;
+  w2c_j0 = 3ull;
+  w2c_l5 = w2c_j0;
+  goto w2c_B5;
+  w2c_B7:;
+  w2c_i0 = w2c_l8;
+  w2c_i1 = 6u;
+  w2c_i0 <<= (w2c_i1 & 31);
+  w2c_i1 = w2c_l10;
+  w2c_i2 = 12u;
+  w2c_i1 <<= (w2c_i2 & 31);
+  w2c_i2 = w2c_l7;
   w2c_i3 = 18u;
   w2c_i2 <<= (w2c_i3 & 31);
   w2c_i3 = 1835008u;
@@ -13284,34 +12652,31 @@ static u32 w2c_f23(module *m, u32 w2c_p0, u32 w2c_p1, u64 w2c_p2, u64 w2c_p3) {
   w2c_i2 = 63u;
   w2c_i1 &= w2c_i2;
   w2c_i0 |= w2c_i1;
-  w2c_l6 = w2c_i0;
+  w2c_l7 = w2c_i0;
   w2c_j0 = 4ull;
   w2c_l5 = w2c_j0;
-  w2c_B6:;
-  w2c_j0 = w2c_p3;
-  w2c_j1 = w2c_l5;
-  w2c_j0 -= w2c_j1;
-  w2c_p3 = w2c_j0;
-  w2c_j0 = w2c_p2;
-  w2c_j1 = w2c_l5;
-  w2c_j0 += w2c_j1;
-  w2c_p2 = w2c_j0;
-  w2c_i0 = w2c_l6;
+  w2c_B5:;
+  w2c_i0 = w2c_l7;
   w2c_i1 = 4294965248u;
   w2c_i0 += w2c_i1;
   w2c_i1 = 63487u;
-  w2c_i0 = w2c_i0 > w2c_i1;
-  if (w2c_i0) {goto w2c_B9;}
-  w2c_i0 = w2c_l6;
+  w2c_i0 = w2c_i0 <= w2c_i1;
+  if (w2c_i0) {goto w2c_B8;}
+  w2c_j0 = w2c_l4;
+  m->w2c_g0 = w2c_j0;
+  w2c_i0 = 0u;
+  goto w2c_Bfunc;
+  w2c_B8:;
+  w2c_i0 = w2c_l7;
   w2c_i1 = 12u;
   w2c_i0 >>= (w2c_i1 & 31);
-  w2c_i1 = w2c_l6;
+  w2c_i1 = w2c_l7;
   w2c_i2 = 2u;
   w2c_i1 <<= (w2c_i2 & 31);
   w2c_i2 = 16128u;
   w2c_i1 &= w2c_i2;
   w2c_i0 |= w2c_i1;
-  w2c_i1 = w2c_l6;
+  w2c_i1 = w2c_l7;
   w2c_i2 = 16u;
   w2c_i1 <<= (w2c_i2 & 31);
   w2c_i2 = 4128768u;
@@ -13319,7 +12684,7 @@ static u32 w2c_f23(module *m, u32 w2c_p0, u32 w2c_p1, u64 w2c_p2, u64 w2c_p3) {
   w2c_i0 |= w2c_i1;
   w2c_i1 = 8421600u;
   w2c_i0 |= w2c_i1;
-  w2c_l7 = w2c_i0;
+  w2c_l10 = w2c_i0;
   w2c_j0 = (u64)(w2c_i0);
   w2c_j1 = 953497ull;
   w2c_j0 *= w2c_j1;
@@ -13327,206 +12692,175 @@ static u32 w2c_f23(module *m, u32 w2c_p0, u32 w2c_p1, u64 w2c_p2, u64 w2c_p3) {
   w2c_j0 >>= (w2c_j1 & 63);
   w2c_j1 = 1016ull;
   w2c_j0 &= w2c_j1;
-  w2c_l5 = w2c_j0;
+  w2c_l6 = w2c_j0;
   w2c_j1 = 66997ull;
   w2c_j0 += w2c_j1;
   w2c_i0 = (u32)(w2c_j0);
   w2c_i0 = i32_load8_u(m, (u64)(w2c_i0));
   w2c_i1 = 0u;
-  w2c_j2 = w2c_l5;
+  w2c_j2 = w2c_l6;
   w2c_i2 = (u32)(w2c_j2);
   w2c_i2 = i32_load(m, (u64)(w2c_i2) + 66992u);
-  w2c_i3 = w2c_l7;
+  w2c_i3 = w2c_l10;
   w2c_i2 = w2c_i2 == w2c_i3;
-  w2c_l7 = w2c_i2;
+  w2c_l8 = w2c_i2;
   w2c_i0 = w2c_i2 ? w2c_i0 : w2c_i1;
-  w2c_l9 = w2c_i0;
-  w2c_j0 = w2c_l5;
+  w2c_l10 = w2c_i0;
+  w2c_j0 = w2c_l6;
   w2c_j1 = 66996ull;
   w2c_j0 += w2c_j1;
   w2c_i0 = (u32)(w2c_j0);
   w2c_i0 = i32_load8_u(m, (u64)(w2c_i0));
   w2c_i1 = 2u;
-  w2c_i2 = w2c_l7;
+  w2c_i2 = w2c_l8;
   w2c_i0 = w2c_i2 ? w2c_i0 : w2c_i1;
-  w2c_l10 = w2c_i0;
-  goto w2c_B2;
-  w2c_B9:;
-  w2c_j0 = w2c_l4;
-  w2c_j1 = 8ull;
+  w2c_l11 = w2c_i0;
+  w2c_j0 = w2c_p2;
+  w2c_j1 = w2c_l5;
   w2c_j0 += w2c_j1;
-  w2c_i1 = w2c_l6;
-  w2c_f18(m, w2c_j0, w2c_i1);
-  w2c_j0 = w2c_l4;
-  w2c_i0 = (u32)(w2c_j0);
-  w2c_i0 = i32_load8_u(m, (u64)(w2c_i0) + 8u);
-  w2c_i1 = 1u;
-  w2c_i0 = w2c_i0 != w2c_i1;
-  if (w2c_i0) {goto w2c_B10;}
+  w2c_p2 = w2c_j0;
+  w2c_j0 = w2c_p3;
+  w2c_j1 = w2c_l5;
+  w2c_j0 -= w2c_j1;
+  w2c_p3 = w2c_j0;
+  w2c_B1:;
   w2c_i0 = 0u;
-  w2c_l7 = w2c_i0;
-  goto w2c_B1;
-  w2c_B10:;
-  w2c_j0 = w2c_l4;
-  w2c_i1 = w2c_l6;
-  w2c_f19(m, w2c_j0, w2c_i1);
-  w2c_j0 = w2c_l4;
-  w2c_i0 = (u32)(w2c_j0);
-  w2c_i0 = i32_load8_u(m, (u64)(w2c_i0) + 1u);
-  w2c_i1 = 0u;
-  w2c_j2 = w2c_l4;
-  w2c_i2 = (u32)(w2c_j2);
-  w2c_i2 = i32_load8_u(m, (u64)(w2c_i2));
-  w2c_i3 = 1u;
-  w2c_i2 = w2c_i2 == w2c_i3;
-  w2c_l7 = w2c_i2;
-  w2c_i0 = w2c_i2 ? w2c_i0 : w2c_i1;
-  w2c_l9 = w2c_i0;
-  w2c_i0 = 1u;
-  w2c_i1 = 2u;
-  w2c_i2 = w2c_l7;
-  w2c_i0 = w2c_i2 ? w2c_i0 : w2c_i1;
-  w2c_l10 = w2c_i0;
-  w2c_B2:;
-  w2c_i0 = 0u;
-  w2c_l7 = w2c_i0;
-  w2c_i0 = w2c_l10;
+  w2c_l8 = w2c_i0;
+  w2c_i0 = w2c_l11;
   w2c_i1 = 255u;
   w2c_i0 &= w2c_i1;
   w2c_i1 = 1u;
   w2c_i0 = w2c_i0 != w2c_i1;
-  if (w2c_i0) {goto w2c_B1;}
-  w2c_i0 = w2c_l9;
+  if (w2c_i0) {goto w2c_B9;}
+  w2c_i0 = w2c_l10;
   w2c_i1 = 255u;
   w2c_i0 &= w2c_i1;
   w2c_i1 = 4u;
   w2c_i0 = w2c_i0 < w2c_i1;
-  if (w2c_i0) {goto w2c_B1;}
+  if (w2c_i0) {goto w2c_B9;}
   w2c_i0 = w2c_p1;
   w2c_i1 = 255u;
   w2c_i0 &= w2c_i1;
-  w2c_i1 = w2c_l9;
+  w2c_i1 = w2c_l10;
   w2c_i2 = 255u;
   w2c_i1 &= w2c_i2;
   w2c_i0 = w2c_i0 < w2c_i1;
-  if (w2c_i0) {goto w2c_B1;}
+  if (w2c_i0) {goto w2c_B9;}
   w2c_i0 = w2c_p0;
   w2c_i1 = 1u;
   w2c_i0 &= w2c_i1;
-  if (w2c_i0) {goto w2c_B11;}
-  w2c_i0 = w2c_l6;
+  if (w2c_i0) {goto w2c_B10;}
+  w2c_i0 = w2c_l7;
   w2c_i1 = 29589u;
   w2c_i0 = (u32)((s32)w2c_i0 > (s32)w2c_i1);
-  if (w2c_i0) {goto w2c_B13;}
-  w2c_i0 = w2c_l6;
+  if (w2c_i0) {goto w2c_B12;}
+  w2c_i0 = w2c_l7;
   w2c_i1 = 22776u;
   w2c_i0 = (u32)((s32)w2c_i0 > (s32)w2c_i1);
-  if (w2c_i0) {goto w2c_B14;}
-  w2c_i0 = w2c_l6;
+  if (w2c_i0) {goto w2c_B13;}
+  w2c_i0 = w2c_l7;
   w2c_i1 = 20191u;
   w2c_i0 = w2c_i0 == w2c_i1;
-  if (w2c_i0) {goto w2c_B1;}
-  w2c_i0 = w2c_l6;
+  if (w2c_i0) {goto w2c_B9;}
+  w2c_i0 = w2c_l7;
   w2c_i1 = 20237u;
   w2c_i0 = w2c_i0 == w2c_i1;
-  if (w2c_i0) {goto w2c_B1;}
-  w2c_i0 = w2c_l6;
+  if (w2c_i0) {goto w2c_B9;}
+  w2c_i0 = w2c_l7;
   w2c_i1 = 20336u;
   w2c_i0 = w2c_i0 != w2c_i1;
-  if (w2c_i0) {goto w2c_B12;}
-  goto w2c_B1;
-  w2c_B14:;
-  w2c_i0 = w2c_l6;
+  if (w2c_i0) {goto w2c_B11;}
+  goto w2c_B9;
+  w2c_B13:;
+  w2c_i0 = w2c_l7;
   w2c_i1 = 25419u;
   w2c_i0 = (u32)((s32)w2c_i0 > (s32)w2c_i1);
-  if (w2c_i0) {goto w2c_B15;}
-  w2c_i0 = w2c_l6;
+  if (w2c_i0) {goto w2c_B14;}
+  w2c_i0 = w2c_l7;
   w2c_i1 = 22777u;
   w2c_i0 = w2c_i0 == w2c_i1;
-  if (w2c_i0) {goto w2c_B1;}
-  w2c_i0 = w2c_l6;
+  if (w2c_i0) {goto w2c_B9;}
+  w2c_i0 = w2c_l7;
   w2c_i1 = 25342u;
   w2c_i0 = w2c_i0 != w2c_i1;
-  if (w2c_i0) {goto w2c_B12;}
-  goto w2c_B1;
-  w2c_B15:;
-  w2c_i0 = w2c_l6;
+  if (w2c_i0) {goto w2c_B11;}
+  goto w2c_B9;
+  w2c_B14:;
+  w2c_i0 = w2c_l7;
   w2c_i1 = 25420u;
   w2c_i0 = w2c_i0 == w2c_i1;
-  if (w2c_i0) {goto w2c_B1;}
-  w2c_i0 = w2c_l6;
+  if (w2c_i0) {goto w2c_B9;}
+  w2c_i0 = w2c_l7;
   w2c_i1 = 26578u;
   w2c_i0 = w2c_i0 != w2c_i1;
-  if (w2c_i0) {goto w2c_B12;}
-  goto w2c_B1;
-  w2c_B13:;
-  w2c_i0 = w2c_l6;
+  if (w2c_i0) {goto w2c_B11;}
+  goto w2c_B9;
+  w2c_B12:;
+  w2c_i0 = w2c_l7;
   w2c_i1 = 36143u;
   w2c_i0 = (u32)((s32)w2c_i0 > (s32)w2c_i1);
-  if (w2c_i0) {goto w2c_B16;}
-  w2c_i0 = w2c_l6;
+  if (w2c_i0) {goto w2c_B15;}
+  w2c_i0 = w2c_l7;
   w2c_i1 = 4294931282u;
   w2c_i0 += w2c_i1;
   switch (w2c_i0) {
-    case 0: goto w2c_B1;
-    case 1: goto w2c_B12;
-    case 2: goto w2c_B12;
-    case 3: goto w2c_B12;
-    case 4: goto w2c_B12;
-    case 5: goto w2c_B1;
-    default: goto w2c_B17;
+    case 0: goto w2c_B9;
+    case 1: goto w2c_B11;
+    case 2: goto w2c_B11;
+    case 3: goto w2c_B11;
+    case 4: goto w2c_B11;
+    case 5: goto w2c_B9;
+    default: goto w2c_B16;
   }
-  w2c_B17:;
-  w2c_i0 = w2c_l6;
+  w2c_B16:;
+  w2c_i0 = w2c_l7;
   w2c_i1 = 29590u;
   w2c_i0 = w2c_i0 == w2c_i1;
-  if (w2c_i0) {goto w2c_B1;}
-  w2c_i0 = w2c_l6;
+  if (w2c_i0) {goto w2c_B9;}
+  w2c_i0 = w2c_l7;
   w2c_i1 = 32902u;
   w2c_i0 = w2c_i0 != w2c_i1;
-  if (w2c_i0) {goto w2c_B12;}
-  goto w2c_B1;
-  w2c_B16:;
-  w2c_i0 = w2c_l6;
+  if (w2c_i0) {goto w2c_B11;}
+  goto w2c_B9;
+  w2c_B15:;
+  w2c_i0 = w2c_l7;
   w2c_i1 = 36144u;
   w2c_i0 = w2c_i0 == w2c_i1;
-  if (w2c_i0) {goto w2c_B1;}
-  w2c_i0 = w2c_l6;
+  if (w2c_i0) {goto w2c_B9;}
+  w2c_i0 = w2c_l7;
   w2c_i1 = 38470u;
   w2c_i0 = w2c_i0 == w2c_i1;
-  if (w2c_i0) {goto w2c_B1;}
-  w2c_i0 = w2c_l6;
+  if (w2c_i0) {goto w2c_B9;}
+  w2c_i0 = w2c_l7;
   w2c_i1 = 38520u;
   w2c_i0 = w2c_i0 == w2c_i1;
-  if (w2c_i0) {goto w2c_B1;}
-  w2c_B12:;
-  w2c_i0 = w2c_l6;
+  if (w2c_i0) {goto w2c_B9;}
+  w2c_B11:;
+  w2c_i0 = w2c_l7;
   w2c_i1 = 4294945855u;
   w2c_i0 += w2c_i1;
   w2c_i1 = 4u;
   w2c_i0 = w2c_i0 < w2c_i1;
-  if (w2c_i0) {goto w2c_B1;}
-  w2c_B11:;
+  if (w2c_i0) {goto w2c_B9;}
+  w2c_B10:;
   w2c_i0 = 1u;
-  w2c_l7 = w2c_i0;
-  w2c_i0 = w2c_l9;
+  w2c_l8 = w2c_i0;
+  w2c_i0 = w2c_l10;
   w2c_i1 = 255u;
   w2c_i0 &= w2c_i1;
   w2c_i1 = 6u;
   w2c_i0 = w2c_i0 != w2c_i1;
-  if (w2c_i0) {goto w2c_B1;}
+  if (w2c_i0) {goto w2c_B9;}
   w2c_j0 = w2c_p2;
   w2c_j1 = w2c_p3;
-  w2c_i0 = w2c_f22(m, w2c_j0, w2c_j1);
+  w2c_i0 = w2c_f21(m, w2c_j0, w2c_j1);
   w2c_i1 = 1u;
   w2c_i0 ^= w2c_i1;
-  w2c_l7 = w2c_i0;
-  w2c_B1:;
+  w2c_l8 = w2c_i0;
+  w2c_B9:;
   w2c_j0 = w2c_l4;
-  w2c_j1 = 16ull;
-  w2c_j0 += w2c_j1;
   m->w2c_g0 = w2c_j0;
-  w2c_i0 = w2c_l7;
+  w2c_i0 = w2c_l8;
   goto w2c_Bfunc;
   w2c_B0:;
   UNREACHABLE;
@@ -13534,13 +12868,13 @@ static u32 w2c_f23(module *m, u32 w2c_p0, u32 w2c_p1, u64 w2c_p2, u64 w2c_p3) {
   return w2c_i0;
 }
 
-static u32 w2c_f24(module *m, u64 w2c_p0, u64 w2c_p1) {
+static u32 w2c_f23(module *m, u64 w2c_p0, u64 w2c_p1) {
   u32 w2c_l5 = 0, w2c_l6 = 0, w2c_l7 = 0, w2c_l8 = 0;
   u64 w2c_l2 = 0, w2c_l3 = 0, w2c_l4 = 0;
   u32 w2c_i0, w2c_i1, w2c_i2, w2c_i3;
   u64 w2c_j0, w2c_j1, w2c_j2, w2c_j3;
   w2c_j0 = m->w2c_g0;
-  w2c_j1 = 32ull;
+  w2c_j1 = 16ull;
   w2c_j0 -= w2c_j1;
   w2c_l2 = w2c_j0;
   m->w2c_g0 = w2c_j0;
@@ -13548,15 +12882,15 @@ static u32 w2c_f24(module *m, u64 w2c_p0, u64 w2c_p1) {
   w2c_l2 = w2c_j0;
   w2c_j1 = 16ull;
   w2c_i0 = (u64)((s64)w2c_j0 < (s64)w2c_j1);
-  if (w2c_i0) {goto w2c_B3;}
+  if (w2c_i0) {goto w2c_B5;}
   w2c_j0 = w2c_p1;
   w2c_i0 = !(w2c_j0);
   w2c_i0 = !(w2c_i0);
-  if (w2c_i0) {goto w2c_B4;}
+  if (w2c_i0) {goto w2c_B6;}
   w2c_i0 = 0u;
   w2c_l5 = w2c_i0;
   goto w2c_B0;
-  w2c_B4:;
+  w2c_B6:;
   w2c_j0 = w2c_p0;
   w2c_j1 = w2c_p1;
   w2c_j0 += w2c_j1;
@@ -13568,7 +12902,7 @@ static u32 w2c_f24(module *m, u64 w2c_p0, u64 w2c_p1) {
   w2c_l6 = w2c_i0;
   w2c_i1 = 0u;
   w2c_i0 = (u32)((s32)w2c_i0 >= (s32)w2c_i1);
-  if (w2c_i0) {goto w2c_B7;}
+  if (w2c_i0) {goto w2c_B4;}
   w2c_j0 = 18446744073709551614ull;
   w2c_l4 = w2c_j0;
   w2c_j0 = w2c_l3;
@@ -13578,7 +12912,7 @@ static u32 w2c_f24(module *m, u64 w2c_p0, u64 w2c_p1) {
   w2c_i0 = i32_load8_u(m, (u64)(w2c_i0));
   w2c_i1 = 191u;
   w2c_i0 = w2c_i0 > w2c_i1;
-  if (w2c_i0) {goto w2c_B8;}
+  if (w2c_i0) {goto w2c_B7;}
   w2c_j0 = 18446744073709551613ull;
   w2c_j1 = 18446744073709551612ull;
   w2c_j2 = w2c_l3;
@@ -13590,7 +12924,7 @@ static u32 w2c_f24(module *m, u64 w2c_p0, u64 w2c_p1) {
   w2c_i2 = w2c_i2 > w2c_i3;
   w2c_j0 = w2c_i2 ? w2c_j0 : w2c_j1;
   w2c_l4 = w2c_j0;
-  w2c_B8:;
+  w2c_B7:;
   w2c_j0 = w2c_p0;
   w2c_j1 = w2c_l4;
   w2c_j0 += w2c_j1;
@@ -13606,7 +12940,7 @@ static u32 w2c_f24(module *m, u64 w2c_p0, u64 w2c_p1) {
   w2c_i0 = w2c_l5;
   w2c_i1 = 4294967295u;
   w2c_i0 = (u32)((s32)w2c_i0 > (s32)w2c_i1);
-  if (w2c_i0) {goto w2c_B7;}
+  if (w2c_i0) {goto w2c_B4;}
   w2c_j0 = w2c_p1;
   w2c_i0 = (u32)(w2c_j0);
   w2c_i0 = i32_load8_u(m, (u64)(w2c_i0) + 1u);
@@ -13616,7 +12950,7 @@ static u32 w2c_f24(module *m, u64 w2c_p0, u64 w2c_p1) {
   w2c_i0 = w2c_l5;
   w2c_i1 = 4294967263u;
   w2c_i0 = w2c_i0 > w2c_i1;
-  if (w2c_i0) {goto w2c_B9;}
+  if (w2c_i0) {goto w2c_B8;}
   w2c_i0 = w2c_l6;
   w2c_i1 = 6u;
   w2c_i0 <<= (w2c_i1 & 31);
@@ -13625,8 +12959,8 @@ static u32 w2c_f24(module *m, u64 w2c_p0, u64 w2c_p1) {
   w2c_i1 = w2c_l7;
   w2c_i0 |= w2c_i1;
   w2c_l6 = w2c_i0;
-  goto w2c_B7;
-  w2c_B9:;
+  goto w2c_B4;
+  w2c_B8:;
   w2c_j0 = w2c_p1;
   w2c_i0 = (u32)(w2c_j0);
   w2c_i0 = i32_load8_u(m, (u64)(w2c_i0) + 2u);
@@ -13636,7 +12970,7 @@ static u32 w2c_f24(module *m, u64 w2c_p0, u64 w2c_p1) {
   w2c_i0 = w2c_l5;
   w2c_i1 = 4294967279u;
   w2c_i0 = w2c_i0 > w2c_i1;
-  if (w2c_i0) {goto w2c_B11;}
+  if (w2c_i0) {goto w2c_B10;}
   w2c_i0 = w2c_l7;
   w2c_i1 = 6u;
   w2c_i0 <<= (w2c_i1 & 31);
@@ -13649,8 +12983,8 @@ static u32 w2c_f24(module *m, u64 w2c_p0, u64 w2c_p1) {
   w2c_i1 = w2c_l8;
   w2c_i0 |= w2c_i1;
   w2c_l6 = w2c_i0;
-  goto w2c_B10;
-  w2c_B11:;
+  goto w2c_B9;
+  w2c_B10:;
   w2c_i0 = w2c_l8;
   w2c_i1 = 6u;
   w2c_i0 <<= (w2c_i1 & 31);
@@ -13671,38 +13005,13 @@ static u32 w2c_f24(module *m, u64 w2c_p0, u64 w2c_p1) {
   w2c_i1 &= w2c_i2;
   w2c_i0 |= w2c_i1;
   w2c_l6 = w2c_i0;
-  w2c_B10:;
+  w2c_B9:;
   w2c_i0 = w2c_l6;
   w2c_i1 = 4294965248u;
   w2c_i0 += w2c_i1;
-  w2c_i1 = 63488u;
-  w2c_i0 = w2c_i0 < w2c_i1;
-  if (w2c_i0) {goto w2c_B6;}
-  w2c_B7:;
-  w2c_j0 = w2c_l2;
-  w2c_j1 = 24ull;
-  w2c_j0 += w2c_j1;
-  w2c_i1 = w2c_l6;
-  w2c_f18(m, w2c_j0, w2c_i1);
-  w2c_i0 = 1u;
-  w2c_l5 = w2c_i0;
-  w2c_j0 = w2c_l2;
-  w2c_i0 = (u32)(w2c_j0);
-  w2c_i0 = i32_load8_u(m, (u64)(w2c_i0) + 24u);
-  w2c_i1 = 1u;
-  w2c_i0 = w2c_i0 == w2c_i1;
-  if (w2c_i0) {goto w2c_B0;}
-  w2c_j0 = w2c_l2;
-  w2c_j1 = 16ull;
-  w2c_j0 += w2c_j1;
-  w2c_i1 = w2c_l6;
-  w2c_f19(m, w2c_j0, w2c_i1);
-  w2c_i0 = w2c_l6;
-  w2c_i1 = 128u;
-  w2c_i0 = w2c_i0 < w2c_i1;
-  if (w2c_i0) {goto w2c_B5;}
-  goto w2c_B2;
-  w2c_B6:;
+  w2c_i1 = 63487u;
+  w2c_i0 = w2c_i0 > w2c_i1;
+  if (w2c_i0) {goto w2c_B4;}
   w2c_i0 = w2c_l6;
   w2c_i1 = 12u;
   w2c_i0 >>= (w2c_i1 & 31);
@@ -13733,7 +13042,7 @@ static u32 w2c_f24(module *m, u64 w2c_p0, u64 w2c_p1) {
   w2c_i0 = i32_load(m, (u64)(w2c_i0) + 66992u);
   w2c_i1 = w2c_l5;
   w2c_i0 = w2c_i0 != w2c_i1;
-  if (w2c_i0) {goto w2c_B2;}
+  if (w2c_i0) {goto w2c_B3;}
   w2c_j0 = w2c_p1;
   w2c_j1 = 66996ull;
   w2c_j0 += w2c_j1;
@@ -13741,15 +13050,15 @@ static u32 w2c_f24(module *m, u64 w2c_p0, u64 w2c_p1) {
   w2c_i0 = i32_load8_u(m, (u64)(w2c_i0));
   w2c_i1 = 255u;
   w2c_i0 &= w2c_i1;
-  if (w2c_i0) {goto w2c_B2;}
+  if (w2c_i0) {goto w2c_B3;}
   w2c_i0 = 1u;
   w2c_l5 = w2c_i0;
   goto w2c_B0;
   w2c_B5:;
-  w2c_i0 = w2c_l6;
-  w2c_i1 = 95u;
-  w2c_i0 = w2c_i0 == w2c_i1;
-  if (w2c_i0) {goto w2c_B0;}
+  UNREACHABLE;
+  w2c_B4:;
+  w2c_i0 = 1u;
+  w2c_l5 = w2c_i0;
   w2c_i0 = w2c_l6;
   w2c_i1 = 4294967248u;
   w2c_i0 += w2c_i1;
@@ -13757,17 +13066,10 @@ static u32 w2c_f24(module *m, u64 w2c_p0, u64 w2c_p1) {
   w2c_i0 = w2c_i0 < w2c_i1;
   if (w2c_i0) {goto w2c_B0;}
   w2c_i0 = w2c_l6;
-  w2c_i1 = 95u;
-  w2c_i0 &= w2c_i1;
-  w2c_i1 = 4294967231u;
-  w2c_i0 += w2c_i1;
-  w2c_i1 = 26u;
+  w2c_i1 = 128u;
   w2c_i0 = w2c_i0 < w2c_i1;
-  if (w2c_i0) {goto w2c_B0;}
-  goto w2c_B1;
+  if (w2c_i0) {goto w2c_B2;}
   w2c_B3:;
-  UNREACHABLE;
-  w2c_B2:;
   w2c_i0 = 1u;
   w2c_l5 = w2c_i0;
   w2c_i0 = w2c_l6;
@@ -13788,23 +13090,43 @@ static u32 w2c_f24(module *m, u64 w2c_p0, u64 w2c_p1) {
     case 5: goto w2c_B1;
     case 6: goto w2c_B1;
     case 7: goto w2c_B0;
-    default: goto w2c_B12;
+    default: goto w2c_B11;
   }
-  w2c_B12:;
+  w2c_B11:;
   w2c_i0 = w2c_l6;
   w2c_i1 = 24186u;
   w2c_i0 = w2c_i0 == w2c_i1;
   if (w2c_i0) {goto w2c_B0;}
   w2c_i0 = w2c_l6;
   w2c_i1 = 24319u;
+  w2c_i0 = w2c_i0 != w2c_i1;
+  if (w2c_i0) {goto w2c_B1;}
+  goto w2c_B0;
+  w2c_B2:;
+  w2c_i0 = w2c_l6;
+  w2c_i1 = 95u;
   w2c_i0 = w2c_i0 == w2c_i1;
+  if (w2c_i0) {goto w2c_B0;}
+  w2c_i0 = w2c_l6;
+  w2c_i1 = 4294967248u;
+  w2c_i0 += w2c_i1;
+  w2c_i1 = 10u;
+  w2c_i0 = w2c_i0 < w2c_i1;
+  if (w2c_i0) {goto w2c_B0;}
+  w2c_i0 = w2c_l6;
+  w2c_i1 = 95u;
+  w2c_i0 &= w2c_i1;
+  w2c_i1 = 4294967231u;
+  w2c_i0 += w2c_i1;
+  w2c_i1 = 26u;
+  w2c_i0 = w2c_i0 < w2c_i1;
   if (w2c_i0) {goto w2c_B0;}
   w2c_B1:;
   w2c_j0 = w2c_l2;
   w2c_j1 = 8ull;
   w2c_j0 += w2c_j1;
   w2c_i1 = w2c_l6;
-  w2c_f19(m, w2c_j0, w2c_i1);
+  w2c_f25(m, w2c_j0, w2c_i1);
   w2c_j0 = w2c_l2;
   w2c_i0 = (u32)(w2c_j0);
   w2c_i0 = i32_load8_u(m, (u64)(w2c_i0) + 8u);
@@ -13813,20 +13135,20 @@ static u32 w2c_f24(module *m, u64 w2c_p0, u64 w2c_p1) {
   w2c_l5 = w2c_i0;
   w2c_B0:;
   w2c_j0 = w2c_l2;
-  w2c_j1 = 32ull;
+  w2c_j1 = 16ull;
   w2c_j0 += w2c_j1;
   m->w2c_g0 = w2c_j0;
   w2c_i0 = w2c_l5;
   return w2c_i0;
 }
 
-static u32 w2c_f25(module *m, u64 w2c_p0, u64 w2c_p1) {
+static u32 w2c_f24(module *m, u64 w2c_p0, u64 w2c_p1) {
   u32 w2c_l3 = 0, w2c_l4 = 0, w2c_l5 = 0, w2c_l6 = 0;
   u64 w2c_l2 = 0;
   u32 w2c_i0, w2c_i1, w2c_i2, w2c_i3;
   u64 w2c_j0, w2c_j1, w2c_j2;
   w2c_j0 = m->w2c_g0;
-  w2c_j1 = 32ull;
+  w2c_j1 = 16ull;
   w2c_j0 -= w2c_j1;
   w2c_l2 = w2c_j0;
   m->w2c_g0 = w2c_j0;
@@ -14018,25 +13340,15 @@ static u32 w2c_f25(module *m, u64 w2c_p0, u64 w2c_p1) {
   if (w2c_i0) {goto w2c_B5;}
   goto w2c_B3;
   w2c_B13:;
-  w2c_j0 = w2c_l2;
-  w2c_j1 = 24ull;
-  w2c_j0 += w2c_j1;
-  w2c_i1 = w2c_l3;
-  w2c_f18(m, w2c_j0, w2c_i1);
+  w2c_i0 = w2c_l3;
+  w2c_i1 = 4294967248u;
+  w2c_i0 += w2c_i1;
+  w2c_i1 = 10u;
+  w2c_i0 = w2c_i0 >= w2c_i1;
+  if (w2c_i0) {goto w2c_B4;}
   w2c_i0 = 1u;
   w2c_l6 = w2c_i0;
-  w2c_j0 = w2c_l2;
-  w2c_i0 = (u32)(w2c_j0);
-  w2c_i0 = i32_load8_u(m, (u64)(w2c_i0) + 24u);
-  w2c_i1 = 1u;
-  w2c_i0 = w2c_i0 == w2c_i1;
-  if (w2c_i0) {goto w2c_B0;}
-  w2c_j0 = w2c_l2;
-  w2c_j1 = 16ull;
-  w2c_j0 += w2c_j1;
-  w2c_i1 = w2c_l3;
-  w2c_f19(m, w2c_j0, w2c_i1);
-  goto w2c_B4;
+  goto w2c_B0;
   w2c_B6:;
   UNREACHABLE;
   w2c_B5:;
@@ -14113,7 +13425,7 @@ static u32 w2c_f25(module *m, u64 w2c_p0, u64 w2c_p1) {
   w2c_j1 = 8ull;
   w2c_j0 += w2c_j1;
   w2c_i1 = w2c_l3;
-  w2c_f19(m, w2c_j0, w2c_i1);
+  w2c_f25(m, w2c_j0, w2c_i1);
   w2c_j0 = w2c_l2;
   w2c_i0 = (u32)(w2c_j0);
   w2c_i0 = i32_load8_u(m, (u64)(w2c_i0) + 8u);
@@ -14122,11 +13434,267 @@ static u32 w2c_f25(module *m, u64 w2c_p0, u64 w2c_p1) {
   w2c_l6 = w2c_i0;
   w2c_B0:;
   w2c_j0 = w2c_l2;
-  w2c_j1 = 32ull;
+  w2c_j1 = 16ull;
   w2c_j0 += w2c_j1;
   m->w2c_g0 = w2c_j0;
   w2c_i0 = w2c_l6;
   return w2c_i0;
+}
+
+static void w2c_f25(module *m, u64 w2c_p0, u32 w2c_p1) {
+  u32 w2c_l2 = 0, w2c_l3 = 0;
+  u32 w2c_i0, w2c_i1;
+  u64 w2c_j0, w2c_j1;
+  w2c_j0 = m->w2c_g0;
+  w2c_j1 = 16ull;
+  w2c_i0 = (u64)((s64)w2c_j0 < (s64)w2c_j1);
+  if (w2c_i0) {goto w2c_B3;}
+  w2c_i0 = 1u;
+  w2c_l2 = w2c_i0;
+  w2c_i0 = w2c_p1;
+  w2c_i1 = 26496u;
+  w2c_i0 = (u32)((s32)w2c_i0 > (s32)w2c_i1);
+  if (w2c_i0) {goto w2c_B13;}
+  w2c_i0 = 0u;
+  w2c_l3 = w2c_i0;
+  w2c_i0 = w2c_p1;
+  w2c_i1 = 20490u;
+  w2c_i0 = (u32)((s32)w2c_i0 > (s32)w2c_i1);
+  if (w2c_i0) {goto w2c_B14;}
+  w2c_i0 = w2c_p1;
+  w2c_i1 = 20139u;
+  w2c_i0 = (u32)((s32)w2c_i0 > (s32)w2c_i1);
+  if (w2c_i0) {goto w2c_B15;}
+  w2c_i0 = w2c_p1;
+  w2c_i1 = 19975u;
+  w2c_i0 = w2c_i0 == w2c_i1;
+  if (w2c_i0) {goto w2c_B12;}
+  w2c_i0 = w2c_p1;
+  w2c_i1 = 20010u;
+  w2c_i0 = w2c_i0 == w2c_i1;
+  if (w2c_i0) {goto w2c_B0;}
+  goto w2c_B1;
+  w2c_B15:;
+  w2c_i0 = w2c_p1;
+  w2c_i1 = 4294947156u;
+  w2c_i0 += w2c_i1;
+  switch (w2c_i0) {
+    case 0: goto w2c_B8;
+    case 1: goto w2c_B1;
+    case 2: goto w2c_B1;
+    case 3: goto w2c_B1;
+    case 4: goto w2c_B1;
+    case 5: goto w2c_B1;
+    case 6: goto w2c_B1;
+    case 7: goto w2c_B1;
+    case 8: goto w2c_B1;
+    case 9: goto w2c_B1;
+    case 10: goto w2c_B1;
+    case 11: goto w2c_B1;
+    case 12: goto w2c_B1;
+    case 13: goto w2c_B1;
+    case 14: goto w2c_B1;
+    case 15: goto w2c_B1;
+    case 16: goto w2c_B1;
+    case 17: goto w2c_B1;
+    case 18: goto w2c_B1;
+    case 19: goto w2c_B9;
+    default: goto w2c_B16;
+  }
+  w2c_B16:;
+  w2c_i0 = w2c_p1;
+  w2c_i1 = 20191u;
+  w2c_i0 = w2c_i0 == w2c_i1;
+  if (w2c_i0) {goto w2c_B10;}
+  w2c_i0 = w2c_p1;
+  w2c_i1 = 20336u;
+  w2c_i0 = w2c_i0 != w2c_i1;
+  if (w2c_i0) {goto w2c_B1;}
+  goto w2c_B2;
+  w2c_B14:;
+  w2c_i0 = w2c_p1;
+  w2c_i1 = 21312u;
+  w2c_i0 = (u32)((s32)w2c_i0 > (s32)w2c_i1);
+  if (w2c_i0) {goto w2c_B17;}
+  w2c_i0 = w2c_p1;
+  w2c_i1 = 20491u;
+  w2c_i0 = w2c_i0 == w2c_i1;
+  if (w2c_i0) {goto w2c_B0;}
+  w2c_i0 = w2c_p1;
+  w2c_i1 = 20740u;
+  w2c_i0 = w2c_i0 == w2c_i1;
+  if (w2c_i0) {goto w2c_B9;}
+  w2c_i0 = w2c_p1;
+  w2c_i1 = 20806u;
+  w2c_i0 = w2c_i0 != w2c_i1;
+  if (w2c_i0) {goto w2c_B1;}
+  w2c_i0 = 6u;
+  w2c_l3 = w2c_i0;
+  goto w2c_B0;
+  w2c_B17:;
+  w2c_i0 = w2c_p1;
+  w2c_i1 = 4294945983u;
+  w2c_i0 += w2c_i1;
+  switch (w2c_i0) {
+    case 0: goto w2c_B18;
+    case 1: goto w2c_B1;
+    case 2: goto w2c_B10;
+    default: goto w2c_B19;
+  }
+  w2c_B19:;
+  w2c_i0 = w2c_p1;
+  w2c_i1 = 22419u;
+  w2c_i0 = w2c_i0 == w2c_i1;
+  if (w2c_i0) {goto w2c_B7;}
+  w2c_i0 = w2c_p1;
+  w2c_i1 = 25342u;
+  w2c_i0 = w2c_i0 != w2c_i1;
+  if (w2c_i0) {goto w2c_B1;}
+  w2c_B18:;
+  w2c_i0 = 1u;
+  w2c_l3 = w2c_i0;
+  w2c_i0 = 1u;
+  w2c_l2 = w2c_i0;
+  goto w2c_B0;
+  w2c_B13:;
+  w2c_i0 = w2c_p1;
+  w2c_i1 = 28566u;
+  w2c_i0 = (u32)((s32)w2c_i0 > (s32)w2c_i1);
+  if (w2c_i0) {goto w2c_B20;}
+  w2c_i0 = w2c_p1;
+  w2c_i1 = 27806u;
+  w2c_i0 = (u32)((s32)w2c_i0 > (s32)w2c_i1);
+  if (w2c_i0) {goto w2c_B21;}
+  w2c_i0 = w2c_p1;
+  w2c_i1 = 26497u;
+  w2c_i0 = w2c_i0 == w2c_i1;
+  if (w2c_i0) {goto w2c_B4;}
+  w2c_i0 = w2c_p1;
+  w2c_i1 = 26997u;
+  w2c_i0 = w2c_i0 == w2c_i1;
+  if (w2c_i0) {goto w2c_B4;}
+  w2c_i0 = w2c_p1;
+  w2c_i1 = 27491u;
+  w2c_i0 = w2c_i0 != w2c_i1;
+  if (w2c_i0) {goto w2c_B1;}
+  w2c_i0 = 13u;
+  w2c_l3 = w2c_i0;
+  goto w2c_B0;
+  w2c_B21:;
+  w2c_i0 = w2c_p1;
+  w2c_i1 = 27807u;
+  w2c_i0 = w2c_i0 == w2c_i1;
+  if (w2c_i0) {goto w2c_B22;}
+  w2c_i0 = w2c_p1;
+  w2c_i1 = 28071u;
+  w2c_i0 = w2c_i0 == w2c_i1;
+  if (w2c_i0) {goto w2c_B5;}
+  w2c_i0 = w2c_p1;
+  w2c_i1 = 28317u;
+  w2c_i0 = w2c_i0 != w2c_i1;
+  if (w2c_i0) {goto w2c_B1;}
+  w2c_B22:;
+  w2c_i0 = 11u;
+  w2c_l3 = w2c_i0;
+  goto w2c_B0;
+  w2c_B20:;
+  w2c_i0 = w2c_p1;
+  w2c_i1 = 31343u;
+  w2c_i0 = (u32)((s32)w2c_i0 > (s32)w2c_i1);
+  if (w2c_i0) {goto w2c_B23;}
+  w2c_i0 = w2c_p1;
+  w2c_i1 = 28567u;
+  w2c_i0 = w2c_i0 == w2c_i1;
+  if (w2c_i0) {goto w2c_B5;}
+  w2c_i0 = w2c_p1;
+  w2c_i1 = 30334u;
+  w2c_i0 = w2c_i0 == w2c_i1;
+  if (w2c_i0) {goto w2c_B2;}
+  w2c_i0 = w2c_p1;
+  w2c_i1 = 31213u;
+  w2c_i0 = w2c_i0 != w2c_i1;
+  if (w2c_i0) {goto w2c_B1;}
+  w2c_i0 = 9u;
+  w2c_l3 = w2c_i0;
+  goto w2c_B0;
+  w2c_B23:;
+  w2c_i0 = w2c_p1;
+  w2c_i1 = 36616u;
+  w2c_i0 = (u32)((s32)w2c_i0 > (s32)w2c_i1);
+  if (w2c_i0) {goto w2c_B11;}
+  w2c_i0 = w2c_p1;
+  w2c_i1 = 31344u;
+  w2c_i0 = w2c_i0 == w2c_i1;
+  if (w2c_i0) {goto w2c_B6;}
+  w2c_i0 = w2c_p1;
+  w2c_i1 = 33836u;
+  w2c_i0 = w2c_i0 != w2c_i1;
+  if (w2c_i0) {goto w2c_B1;}
+  w2c_B12:;
+  w2c_i0 = 4u;
+  w2c_l3 = w2c_i0;
+  goto w2c_B0;
+  w2c_B11:;
+  w2c_i0 = w2c_p1;
+  w2c_i1 = 36617u;
+  w2c_i0 = w2c_i0 == w2c_i1;
+  if (w2c_i0) {goto w2c_B24;}
+  w2c_i0 = w2c_p1;
+  w2c_i1 = 36733u;
+  w2c_i0 = w2c_i0 != w2c_i1;
+  if (w2c_i0) {goto w2c_B1;}
+  w2c_B24:;
+  w2c_i0 = 14u;
+  w2c_l3 = w2c_i0;
+  goto w2c_B0;
+  w2c_B10:;
+  w2c_i0 = 3u;
+  w2c_l3 = w2c_i0;
+  goto w2c_B0;
+  w2c_B9:;
+  w2c_i0 = 5u;
+  w2c_l3 = w2c_i0;
+  goto w2c_B0;
+  w2c_B8:;
+  w2c_i0 = 7u;
+  w2c_l3 = w2c_i0;
+  goto w2c_B0;
+  w2c_B7:;
+  w2c_i0 = 8u;
+  w2c_l3 = w2c_i0;
+  goto w2c_B0;
+  w2c_B6:;
+  w2c_i0 = 10u;
+  w2c_l3 = w2c_i0;
+  goto w2c_B0;
+  w2c_B5:;
+  w2c_i0 = 12u;
+  w2c_l3 = w2c_i0;
+  goto w2c_B0;
+  w2c_B4:;
+  w2c_i0 = 15u;
+  w2c_l3 = w2c_i0;
+  goto w2c_B0;
+  w2c_B3:;
+  UNREACHABLE;
+  w2c_B2:;
+  w2c_i0 = 2u;
+  w2c_l3 = w2c_i0;
+  goto w2c_B0;
+  w2c_B1:;
+  w2c_i0 = 0u;
+  w2c_l2 = w2c_i0;
+  w2c_i0 = 0u;
+  w2c_l3 = w2c_i0;
+  w2c_B0:;
+  w2c_j0 = w2c_p0;
+  w2c_i0 = (u32)(w2c_j0);
+  w2c_i1 = w2c_l3;
+  i32_store8(m, (u64)(w2c_i0) + 1, w2c_i1);
+  w2c_j0 = w2c_p0;
+  w2c_i0 = (u32)(w2c_j0);
+  w2c_i1 = w2c_l2;
+  i32_store8(m, (u64)(w2c_i0), w2c_i1);
 }
 
 static u32 w2c_f26(module *m, u64 w2c_p0, u64 w2c_p1) {
@@ -14135,7 +13703,7 @@ static u32 w2c_f26(module *m, u64 w2c_p0, u64 w2c_p1) {
   u32 w2c_i0, w2c_i1, w2c_i2, w2c_i3;
   u64 w2c_j0, w2c_j1;
   w2c_j0 = m->w2c_g0;
-  w2c_j1 = 80ull;
+  w2c_j1 = 16ull;
   w2c_j0 -= w2c_j1;
   w2c_l2 = w2c_j0;
   m->w2c_g0 = w2c_j0;
@@ -14360,23 +13928,12 @@ static u32 w2c_f26(module *m, u64 w2c_p0, u64 w2c_p1) {
     if (w2c_i0) {goto w2c_L3;}
     goto w2c_B4;
     w2c_B5:;
-    w2c_j0 = w2c_l3;
-    w2c_j1 = 72ull;
-    w2c_j0 += w2c_j1;
-    w2c_i1 = w2c_l6;
-    w2c_f18(m, w2c_j0, w2c_i1);
-    w2c_j0 = w2c_l3;
-    w2c_i0 = (u32)(w2c_j0);
-    w2c_i0 = i32_load8_u(m, (u64)(w2c_i0) + 72u);
-    w2c_i1 = 1u;
-    w2c_i0 = w2c_i0 == w2c_i1;
-    if (w2c_i0) {goto w2c_B4;}
-    w2c_j0 = w2c_l3;
-    w2c_j1 = 64ull;
-    w2c_j0 += w2c_j1;
-    w2c_i1 = w2c_l6;
-    w2c_f19(m, w2c_j0, w2c_i1);
-    goto w2c_L3;
+    w2c_i0 = w2c_l6;
+    w2c_i1 = 4294967248u;
+    w2c_i0 += w2c_i1;
+    w2c_i1 = 10u;
+    w2c_i0 = w2c_i0 >= w2c_i1;
+    if (w2c_i0) {goto w2c_L3;}
     w2c_B4:;
     w2c_j0 = w2c_p0;
     w2c_l2 = w2c_j0;
@@ -14593,23 +14150,13 @@ static u32 w2c_f26(module *m, u64 w2c_p0, u64 w2c_p1) {
     if (w2c_i0) {goto w2c_L3;}
     goto w2c_B1;
     w2c_B13:;
-    w2c_j0 = w2c_l3;
-    w2c_j1 = 56ull;
-    w2c_j0 += w2c_j1;
-    w2c_i1 = w2c_l7;
-    w2c_f18(m, w2c_j0, w2c_i1);
-    w2c_j0 = w2c_l3;
-    w2c_i0 = (u32)(w2c_j0);
-    w2c_i0 = i32_load8_u(m, (u64)(w2c_i0) + 56u);
-    w2c_i1 = 1u;
-    w2c_i0 = w2c_i0 == w2c_i1;
-    if (w2c_i0) {goto w2c_B1;}
-    w2c_j0 = w2c_l3;
-    w2c_j1 = 48ull;
-    w2c_j0 += w2c_j1;
-    w2c_i1 = w2c_l7;
-    w2c_f19(m, w2c_j0, w2c_i1);
-    goto w2c_L3;
+    w2c_i0 = w2c_l7;
+    w2c_i1 = 4294967248u;
+    w2c_i0 += w2c_i1;
+    w2c_i1 = 10u;
+    w2c_i0 = w2c_i0 >= w2c_i1;
+    if (w2c_i0) {goto w2c_L3;}
+    goto w2c_B1;
   UNREACHABLE;
   w2c_B2:;
   UNREACHABLE;
@@ -14629,27 +14176,25 @@ static u32 w2c_f26(module *m, u64 w2c_p0, u64 w2c_p1) {
   w2c_i0 = w2c_i0 < w2c_i1;
   if (w2c_i0) {goto w2c_B0;}
   w2c_j0 = w2c_l3;
-  w2c_j1 = 40ull;
+  w2c_j1 = 8ull;
   w2c_j0 += w2c_j1;
   w2c_i1 = w2c_l6;
   w2c_f18(m, w2c_j0, w2c_i1);
   w2c_j0 = w2c_l3;
   w2c_i0 = (u32)(w2c_j0);
-  w2c_i0 = i32_load8_u(m, (u64)(w2c_i0) + 41u);
+  w2c_i0 = i32_load8_u(m, (u64)(w2c_i0) + 9u);
   w2c_l6 = w2c_i0;
   w2c_j0 = w2c_l3;
   w2c_i0 = (u32)(w2c_j0);
-  w2c_i0 = i32_load8_u(m, (u64)(w2c_i0) + 40u);
+  w2c_i0 = i32_load8_u(m, (u64)(w2c_i0) + 8u);
   w2c_l9 = w2c_i0;
   w2c_j0 = w2c_l3;
-  w2c_j1 = 32ull;
-  w2c_j0 += w2c_j1;
   w2c_i1 = w2c_l7;
   w2c_f18(m, w2c_j0, w2c_i1);
   w2c_i0 = w2c_l9;
   w2c_j1 = w2c_l3;
   w2c_i1 = (u32)(w2c_j1);
-  w2c_i1 = i32_load8_u(m, (u64)(w2c_i1) + 32u);
+  w2c_i1 = i32_load8_u(m, (u64)(w2c_i1));
   w2c_i0 &= w2c_i1;
   w2c_i1 = 255u;
   w2c_i0 &= w2c_i1;
@@ -14662,7 +14207,7 @@ static u32 w2c_f26(module *m, u64 w2c_p0, u64 w2c_p1) {
   if (w2c_i0) {goto w2c_B0;}
   w2c_j0 = w2c_l3;
   w2c_i0 = (u32)(w2c_j0);
-  w2c_i0 = i32_load8_u(m, (u64)(w2c_i0) + 33u);
+  w2c_i0 = i32_load8_u(m, (u64)(w2c_i0) + 1u);
   w2c_i1 = 255u;
   w2c_i0 &= w2c_i1;
   w2c_l7 = w2c_i0;
@@ -14689,7 +14234,7 @@ static u32 w2c_f26(module *m, u64 w2c_p0, u64 w2c_p1) {
     w2c_j0 = w2c_l4;
     w2c_j1 = 3ull;
     w2c_i0 = w2c_j0 < w2c_j1;
-    if (w2c_i0) {goto w2c_B25;}
+    if (w2c_i0) {goto w2c_B26;}
     w2c_j0 = w2c_l2;
     w2c_i0 = (u32)(w2c_j0);
     w2c_i0 = i32_load8_u(m, (u64)(w2c_i0));
@@ -14698,7 +14243,7 @@ static u32 w2c_f26(module *m, u64 w2c_p0, u64 w2c_p1) {
     w2c_i0 &= w2c_i1;
     w2c_i1 = 224u;
     w2c_i0 = w2c_i0 != w2c_i1;
-    if (w2c_i0) {goto w2c_B24;}
+    if (w2c_i0) {goto w2c_B25;}
     w2c_j0 = w2c_l2;
     w2c_i0 = (u32)(w2c_j0);
     w2c_i0 = i32_load8_u(m, (u64)(w2c_i0) + 2u);
@@ -14740,28 +14285,28 @@ static u32 w2c_f26(module *m, u64 w2c_p0, u64 w2c_p1) {
     w2c_i1 = w2c_l6;
     w2c_i0 = w2c_i0 != w2c_i1;
     if (w2c_i0) {goto w2c_L21;}
-    goto w2c_B23;
-    w2c_B25:;
+    goto w2c_B24;
+    w2c_B26:;
     w2c_j0 = w2c_l4;
     w2c_i0 = !(w2c_j0);
     w2c_i0 = !(w2c_i0);
-    if (w2c_i0) {goto w2c_B26;}
+    if (w2c_i0) {goto w2c_B27;}
     w2c_i0 = 1u;
     w2c_l8 = w2c_i0;
     goto w2c_B0;
-    w2c_B26:;
+    w2c_B27:;
     w2c_j0 = w2c_l2;
     w2c_i0 = (u32)(w2c_j0);
     w2c_i0 = i32_load8_u(m, (u64)(w2c_i0));
     w2c_l6 = w2c_i0;
-    w2c_B24:;
+    w2c_B25:;
     w2c_j0 = 1ull;
     w2c_p0 = w2c_j0;
     w2c_i0 = w2c_l6;
     w2c_i0 = (u32)(s32)(s8)(u8)(w2c_i0);
     w2c_i1 = 4294967295u;
     w2c_i0 = (u32)((s32)w2c_i0 > (s32)w2c_i1);
-    if (w2c_i0) {goto w2c_B27;}
+    if (w2c_i0) {goto w2c_B28;}
     w2c_j0 = w2c_l2;
     w2c_i0 = (u32)(w2c_j0);
     w2c_i0 = i32_load8_u(m, (u64)(w2c_i0) + 1u);
@@ -14771,7 +14316,7 @@ static u32 w2c_f26(module *m, u64 w2c_p0, u64 w2c_p1) {
     w2c_i0 = w2c_l6;
     w2c_i1 = 223u;
     w2c_i0 = w2c_i0 > w2c_i1;
-    if (w2c_i0) {goto w2c_B28;}
+    if (w2c_i0) {goto w2c_B29;}
     w2c_i0 = w2c_l6;
     w2c_i1 = 6u;
     w2c_i0 <<= (w2c_i1 & 31);
@@ -14782,8 +14327,8 @@ static u32 w2c_f26(module *m, u64 w2c_p0, u64 w2c_p1) {
     w2c_l6 = w2c_i0;
     w2c_j0 = 2ull;
     w2c_p0 = w2c_j0;
-    goto w2c_B27;
-    w2c_B28:;
+    goto w2c_B28;
+    w2c_B29:;
     w2c_j0 = w2c_l2;
     w2c_i0 = (u32)(w2c_j0);
     w2c_i0 = i32_load8_u(m, (u64)(w2c_i0) + 2u);
@@ -14793,7 +14338,7 @@ static u32 w2c_f26(module *m, u64 w2c_p0, u64 w2c_p1) {
     w2c_i0 = w2c_l6;
     w2c_i1 = 239u;
     w2c_i0 = w2c_i0 > w2c_i1;
-    if (w2c_i0) {goto w2c_B29;}
+    if (w2c_i0) {goto w2c_B30;}
     w2c_i0 = w2c_l7;
     w2c_i1 = 6u;
     w2c_i0 <<= (w2c_i1 & 31);
@@ -14808,8 +14353,8 @@ static u32 w2c_f26(module *m, u64 w2c_p0, u64 w2c_p1) {
     w2c_l6 = w2c_i0;
     w2c_j0 = 3ull;
     w2c_p0 = w2c_j0;
-    goto w2c_B27;
-    w2c_B29:;
+    goto w2c_B28;
+    w2c_B30:;
     w2c_i0 = w2c_l9;
     w2c_i1 = 6u;
     w2c_i0 <<= (w2c_i1 & 31);
@@ -14832,7 +14377,7 @@ static u32 w2c_f26(module *m, u64 w2c_p0, u64 w2c_p1) {
     w2c_l6 = w2c_i0;
     w2c_j0 = 4ull;
     w2c_p0 = w2c_j0;
-    w2c_B27:;
+    w2c_B28:;
     w2c_j0 = w2c_l4;
     w2c_j1 = w2c_p0;
     w2c_j0 -= w2c_j1;
@@ -14846,7 +14391,7 @@ static u32 w2c_f26(module *m, u64 w2c_p0, u64 w2c_p1) {
     w2c_i0 += w2c_i1;
     w2c_i1 = 63487u;
     w2c_i0 = w2c_i0 > w2c_i1;
-    if (w2c_i0) {goto w2c_B30;}
+    if (w2c_i0) {goto w2c_B23;}
     w2c_i0 = w2c_l6;
     w2c_i1 = 12u;
     w2c_i0 >>= (w2c_i1 & 31);
@@ -14880,31 +14425,20 @@ static u32 w2c_f26(module *m, u64 w2c_p0, u64 w2c_p1) {
     w2c_i1 = w2c_l6;
     w2c_i0 = w2c_i0 != w2c_i1;
     if (w2c_i0) {goto w2c_L21;}
-    goto w2c_B23;
-    w2c_B30:;
-    w2c_j0 = w2c_l3;
-    w2c_j1 = 24ull;
-    w2c_j0 += w2c_j1;
-    w2c_i1 = w2c_l6;
-    w2c_f18(m, w2c_j0, w2c_i1);
-    w2c_j0 = w2c_l3;
-    w2c_i0 = (u32)(w2c_j0);
-    w2c_i0 = i32_load8_u(m, (u64)(w2c_i0) + 24u);
-    w2c_i1 = 1u;
-    w2c_i0 = w2c_i0 == w2c_i1;
-    if (w2c_i0) {goto w2c_B22;}
-    w2c_j0 = w2c_l3;
-    w2c_j1 = 16ull;
-    w2c_j0 += w2c_j1;
-    w2c_i1 = w2c_l6;
-    w2c_f19(m, w2c_j0, w2c_i1);
-    goto w2c_L21;
-    w2c_B23:;
+    w2c_B24:;
     w2c_j0 = w2c_p0;
     w2c_j1 = 66996ull;
     w2c_j0 += w2c_j1;
     w2c_i0 = (u32)(w2c_j0);
     w2c_i0 = i32_load8_u(m, (u64)(w2c_i0));
+    if (w2c_i0) {goto w2c_L21;}
+    goto w2c_B22;
+    w2c_B23:;
+    w2c_i0 = w2c_l6;
+    w2c_i1 = 4294967248u;
+    w2c_i0 += w2c_i1;
+    w2c_i1 = 10u;
+    w2c_i0 = w2c_i0 >= w2c_i1;
     if (w2c_i0) {goto w2c_L21;}
     w2c_B22:;
     w2c_j0 = w2c_l4;
@@ -15101,21 +14635,13 @@ static u32 w2c_f26(module *m, u64 w2c_p0, u64 w2c_p1) {
     if (w2c_i0) {goto w2c_L21;}
     goto w2c_B31;
     w2c_B37:;
-    w2c_j0 = w2c_l3;
-    w2c_j1 = 8ull;
-    w2c_j0 += w2c_j1;
-    w2c_i1 = w2c_l6;
-    w2c_f18(m, w2c_j0, w2c_i1);
-    w2c_j0 = w2c_l3;
-    w2c_i0 = (u32)(w2c_j0);
-    w2c_i0 = i32_load8_u(m, (u64)(w2c_i0) + 8u);
-    w2c_i1 = 1u;
-    w2c_i0 = w2c_i0 == w2c_i1;
-    if (w2c_i0) {goto w2c_B0;}
-    w2c_j0 = w2c_l3;
-    w2c_i1 = w2c_l6;
-    w2c_f19(m, w2c_j0, w2c_i1);
-    goto w2c_L21;
+    w2c_i0 = w2c_l6;
+    w2c_i1 = 4294967248u;
+    w2c_i0 += w2c_i1;
+    w2c_i1 = 10u;
+    w2c_i0 = w2c_i0 >= w2c_i1;
+    if (w2c_i0) {goto w2c_L21;}
+    goto w2c_B0;
     w2c_B31:;
     w2c_j0 = w2c_p0;
     w2c_j1 = 66996ull;
@@ -15125,351 +14651,20 @@ static u32 w2c_f26(module *m, u64 w2c_p0, u64 w2c_p1) {
     if (w2c_i0) {goto w2c_L21;}
   w2c_B0:;
   w2c_j0 = w2c_l3;
-  w2c_j1 = 80ull;
+  w2c_j1 = 16ull;
   w2c_j0 += w2c_j1;
   m->w2c_g0 = w2c_j0;
   w2c_i0 = w2c_l8;
   return w2c_i0;
 }
 
-static u32 w2c_f27(module *m, u64 w2c_p0, u64 w2c_p1) {
-  u32 w2c_l4 = 0, w2c_l5 = 0, w2c_l6 = 0, w2c_l7 = 0;
-  u64 w2c_l2 = 0, w2c_l3 = 0;
-  u32 w2c_i0, w2c_i1, w2c_i2, w2c_i3;
-  u64 w2c_j0, w2c_j1;
-  w2c_j0 = m->w2c_g0;
-  w2c_j1 = 32ull;
-  w2c_j0 -= w2c_j1;
-  w2c_l2 = w2c_j0;
-  m->w2c_g0 = w2c_j0;
-  w2c_j0 = w2c_l2;
-  w2c_l2 = w2c_j0;
-  w2c_j1 = 16ull;
-  w2c_i0 = (u64)((s64)w2c_j0 < (s64)w2c_j1);
-  if (w2c_i0) {goto w2c_B1;}
-  w2c_j0 = w2c_p1;
-  w2c_j1 = 3ull;
-  w2c_i0 = w2c_j0 < w2c_j1;
-  if (w2c_i0) {goto w2c_B4;}
-  w2c_j0 = w2c_p0;
-  w2c_i0 = (u32)(w2c_j0);
-  w2c_i0 = i32_load8_u(m, (u64)(w2c_i0));
-  w2c_l4 = w2c_i0;
-  w2c_i1 = 240u;
-  w2c_i0 &= w2c_i1;
-  w2c_i1 = 224u;
-  w2c_i0 = w2c_i0 != w2c_i1;
-  if (w2c_i0) {goto w2c_B3;}
-  w2c_i0 = w2c_l4;
-  w2c_i1 = 12u;
-  w2c_i0 <<= (w2c_i1 & 31);
-  w2c_j1 = w2c_p0;
-  w2c_i1 = (u32)(w2c_j1);
-  w2c_i1 = i32_load8_u(m, (u64)(w2c_i1) + 1u);
-  w2c_i2 = 6u;
-  w2c_i1 <<= (w2c_i2 & 31);
-  w2c_i0 += w2c_i1;
-  w2c_j1 = w2c_p0;
-  w2c_i1 = (u32)(w2c_j1);
-  w2c_i1 = i32_load8_u(m, (u64)(w2c_i1) + 2u);
-  w2c_i0 += w2c_i1;
-  w2c_i1 = 4294041472u;
-  w2c_i0 += w2c_i1;
-  w2c_l4 = w2c_i0;
-  w2c_j0 = w2c_p1;
-  w2c_j1 = 18446744073709551613ull;
-  w2c_j0 += w2c_j1;
-  w2c_p1 = w2c_j0;
-  w2c_j0 = w2c_p0;
-  w2c_j1 = 3ull;
-  w2c_j0 += w2c_j1;
-  w2c_p0 = w2c_j0;
-  goto w2c_B2;
-  w2c_B4:;
-  w2c_j0 = w2c_p1;
-  w2c_i0 = !(w2c_j0);
-  w2c_i0 = !(w2c_i0);
-  if (w2c_i0) {goto w2c_B5;}
-  w2c_i0 = 0u;
-  w2c_l4 = w2c_i0;
-  goto w2c_B0;
-  w2c_B5:;
-  w2c_j0 = w2c_p0;
-  w2c_i0 = (u32)(w2c_j0);
-  w2c_i0 = i32_load8_u(m, (u64)(w2c_i0));
-  w2c_l4 = w2c_i0;
-  w2c_B3:;
-  w2c_j0 = 1ull;
-  w2c_l3 = w2c_j0;
-  w2c_i0 = w2c_l4;
-  w2c_i0 = (u32)(s32)(s8)(u8)(w2c_i0);
-  w2c_i1 = 4294967295u;
-  w2c_i0 = (u32)((s32)w2c_i0 > (s32)w2c_i1);
-  if (w2c_i0) {goto w2c_B6;}
-  w2c_j0 = w2c_p0;
-  w2c_i0 = (u32)(w2c_j0);
-  w2c_i0 = i32_load8_u(m, (u64)(w2c_i0) + 1u);
-  w2c_i1 = 63u;
-  w2c_i0 &= w2c_i1;
-  w2c_l5 = w2c_i0;
-  w2c_i0 = w2c_l4;
-  w2c_i1 = 223u;
-  w2c_i0 = w2c_i0 > w2c_i1;
-  if (w2c_i0) {goto w2c_B7;}
-  w2c_i0 = w2c_l4;
-  w2c_i1 = 6u;
-  w2c_i0 <<= (w2c_i1 & 31);
-  w2c_i1 = 1984u;
-  w2c_i0 &= w2c_i1;
-  w2c_i1 = w2c_l5;
-  w2c_i0 |= w2c_i1;
-  w2c_l4 = w2c_i0;
-  w2c_j0 = 2ull;
-  w2c_l3 = w2c_j0;
-  goto w2c_B6;
-  w2c_B7:;
-  w2c_j0 = w2c_p0;
-  w2c_i0 = (u32)(w2c_j0);
-  w2c_i0 = i32_load8_u(m, (u64)(w2c_i0) + 2u);
-  w2c_i1 = 63u;
-  w2c_i0 &= w2c_i1;
-  w2c_l6 = w2c_i0;
-  w2c_i0 = w2c_l4;
-  w2c_i1 = 239u;
-  w2c_i0 = w2c_i0 > w2c_i1;
-  if (w2c_i0) {goto w2c_B8;}
-  w2c_i0 = w2c_l5;
-  w2c_i1 = 6u;
-  w2c_i0 <<= (w2c_i1 & 31);
-  w2c_i1 = w2c_l4;
-  w2c_i2 = 12u;
-  w2c_i1 <<= (w2c_i2 & 31);
-  w2c_i2 = 61440u;
-  w2c_i1 &= w2c_i2;
-  w2c_i0 |= w2c_i1;
-  w2c_i1 = w2c_l6;
-  w2c_i0 |= w2c_i1;
-  w2c_l4 = w2c_i0;
-  w2c_j0 = 3ull;
-  w2c_l3 = w2c_j0;
-  goto w2c_B6;
-  w2c_B8:;
-  w2c_i0 = w2c_l6;
-  w2c_i1 = 6u;
-  w2c_i0 <<= (w2c_i1 & 31);
-  w2c_i1 = w2c_l5;
-  w2c_i2 = 12u;
-  w2c_i1 <<= (w2c_i2 & 31);
-  w2c_i2 = w2c_l4;
-  w2c_i3 = 18u;
-  w2c_i2 <<= (w2c_i3 & 31);
-  w2c_i3 = 1835008u;
-  w2c_i2 &= w2c_i3;
-  w2c_i1 |= w2c_i2;
-  w2c_i0 |= w2c_i1;
-  w2c_j1 = w2c_p0;
-  w2c_i1 = (u32)(w2c_j1);
-  w2c_i1 = i32_load8_u(m, (u64)(w2c_i1) + 3u);
-  w2c_i2 = 63u;
-  w2c_i1 &= w2c_i2;
-  w2c_i0 |= w2c_i1;
-  w2c_l4 = w2c_i0;
-  w2c_j0 = 4ull;
-  w2c_l3 = w2c_j0;
-  w2c_B6:;
-  w2c_j0 = w2c_p1;
-  w2c_j1 = w2c_l3;
-  w2c_j0 -= w2c_j1;
-  w2c_p1 = w2c_j0;
-  w2c_j0 = w2c_p0;
-  w2c_j1 = w2c_l3;
-  w2c_j0 += w2c_j1;
-  w2c_p0 = w2c_j0;
-  w2c_i0 = w2c_l4;
-  w2c_i1 = 4294965248u;
-  w2c_i0 += w2c_i1;
-  w2c_i1 = 63488u;
-  w2c_i0 = w2c_i0 < w2c_i1;
-  if (w2c_i0) {goto w2c_B2;}
-  w2c_j0 = w2c_l2;
-  w2c_j1 = 24ull;
-  w2c_j0 += w2c_j1;
-  w2c_i1 = w2c_l4;
-  w2c_f18(m, w2c_j0, w2c_i1);
-  w2c_j0 = w2c_l2;
-  w2c_i0 = (u32)(w2c_j0);
-  w2c_i0 = i32_load8_u(m, (u64)(w2c_i0) + 24u);
-  w2c_i1 = 1u;
-  w2c_i0 = w2c_i0 == w2c_i1;
-  if (w2c_i0) {goto w2c_B2;}
-  w2c_j0 = w2c_l2;
-  w2c_j1 = 16ull;
-  w2c_j0 += w2c_j1;
-  w2c_i1 = w2c_l4;
-  w2c_f19(m, w2c_j0, w2c_i1);
-  w2c_B2:;
-  w2c_j0 = w2c_p1;
-  w2c_j1 = 3ull;
-  w2c_i0 = w2c_j0 < w2c_j1;
-  if (w2c_i0) {goto w2c_B11;}
-  w2c_j0 = w2c_p0;
-  w2c_i0 = (u32)(w2c_j0);
-  w2c_i0 = i32_load8_u(m, (u64)(w2c_i0));
-  w2c_l4 = w2c_i0;
-  w2c_i1 = 240u;
-  w2c_i0 &= w2c_i1;
-  w2c_i1 = 224u;
-  w2c_i0 = w2c_i0 != w2c_i1;
-  if (w2c_i0) {goto w2c_B10;}
-  w2c_i0 = 0u;
-  w2c_l4 = w2c_i0;
-  goto w2c_B0;
-  w2c_B11:;
-  w2c_j0 = w2c_p1;
-  w2c_i0 = !(w2c_j0);
-  if (w2c_i0) {goto w2c_B9;}
-  w2c_j0 = w2c_p0;
-  w2c_i0 = (u32)(w2c_j0);
-  w2c_i0 = i32_load8_u(m, (u64)(w2c_i0));
-  w2c_l4 = w2c_i0;
-  w2c_B10:;
-  w2c_i0 = w2c_l4;
-  w2c_i1 = 255u;
-  w2c_i0 &= w2c_i1;
-  w2c_l5 = w2c_i0;
-  w2c_i0 = w2c_l4;
-  w2c_i0 = (u32)(s32)(s8)(u8)(w2c_i0);
-  w2c_i1 = 4294967295u;
-  w2c_i0 = (u32)((s32)w2c_i0 > (s32)w2c_i1);
-  if (w2c_i0) {goto w2c_B12;}
-  w2c_j0 = w2c_p0;
-  w2c_i0 = (u32)(w2c_j0);
-  w2c_i0 = i32_load8_u(m, (u64)(w2c_i0) + 1u);
-  w2c_i1 = 63u;
-  w2c_i0 &= w2c_i1;
-  w2c_l6 = w2c_i0;
-  w2c_i0 = w2c_l4;
-  w2c_i1 = 255u;
-  w2c_i0 &= w2c_i1;
-  w2c_i1 = 223u;
-  w2c_i0 = w2c_i0 > w2c_i1;
-  if (w2c_i0) {goto w2c_B13;}
-  w2c_i0 = w2c_l5;
-  w2c_i1 = 6u;
-  w2c_i0 <<= (w2c_i1 & 31);
-  w2c_i1 = 1984u;
-  w2c_i0 &= w2c_i1;
-  w2c_i1 = w2c_l6;
-  w2c_i0 |= w2c_i1;
-  w2c_l5 = w2c_i0;
-  goto w2c_B12;
-  w2c_B13:;
-  w2c_j0 = w2c_p0;
-  w2c_i0 = (u32)(w2c_j0);
-  w2c_i0 = i32_load8_u(m, (u64)(w2c_i0) + 2u);
-  w2c_i1 = 63u;
-  w2c_i0 &= w2c_i1;
-  w2c_l7 = w2c_i0;
-  w2c_i0 = w2c_l4;
-  w2c_i1 = 255u;
-  w2c_i0 &= w2c_i1;
-  w2c_i1 = 239u;
-  w2c_i0 = w2c_i0 > w2c_i1;
-  if (w2c_i0) {goto w2c_B14;}
-  w2c_i0 = w2c_l6;
-  w2c_i1 = 6u;
-  w2c_i0 <<= (w2c_i1 & 31);
-  w2c_i1 = w2c_l5;
-  w2c_i2 = 12u;
-  w2c_i1 <<= (w2c_i2 & 31);
-  w2c_i2 = 61440u;
-  w2c_i1 &= w2c_i2;
-  w2c_i0 |= w2c_i1;
-  w2c_i1 = w2c_l7;
-  w2c_i0 |= w2c_i1;
-  w2c_l5 = w2c_i0;
-  goto w2c_B12;
-  w2c_B14:;
-  w2c_i0 = w2c_l7;
-  w2c_i1 = 6u;
-  w2c_i0 <<= (w2c_i1 & 31);
-  w2c_i1 = w2c_l6;
-  w2c_i2 = 12u;
-  w2c_i1 <<= (w2c_i2 & 31);
-  w2c_i2 = w2c_l5;
-  w2c_i3 = 18u;
-  w2c_i2 <<= (w2c_i3 & 31);
-  w2c_i3 = 1835008u;
-  w2c_i2 &= w2c_i3;
-  w2c_i1 |= w2c_i2;
-  w2c_i0 |= w2c_i1;
-  w2c_j1 = w2c_p0;
-  w2c_i1 = (u32)(w2c_j1);
-  w2c_i1 = i32_load8_u(m, (u64)(w2c_i1) + 3u);
-  w2c_i2 = 63u;
-  w2c_i1 &= w2c_i2;
-  w2c_i0 |= w2c_i1;
-  w2c_l5 = w2c_i0;
-  w2c_B12:;
-  w2c_i0 = 0u;
-  w2c_l4 = w2c_i0;
-  w2c_i0 = w2c_l5;
-  w2c_i1 = 4294965248u;
-  w2c_i0 += w2c_i1;
-  w2c_i1 = 63488u;
-  w2c_i0 = w2c_i0 < w2c_i1;
-  if (w2c_i0) {goto w2c_B0;}
-  w2c_j0 = w2c_l2;
-  w2c_j1 = 8ull;
-  w2c_j0 += w2c_j1;
-  w2c_i1 = w2c_l5;
-  w2c_f18(m, w2c_j0, w2c_i1);
-  w2c_j0 = w2c_l2;
-  w2c_i0 = (u32)(w2c_j0);
-  w2c_i0 = i32_load8_u(m, (u64)(w2c_i0) + 8u);
-  w2c_i1 = 1u;
-  w2c_i0 = w2c_i0 == w2c_i1;
-  if (w2c_i0) {goto w2c_B0;}
-  w2c_j0 = w2c_l2;
-  w2c_i1 = w2c_l5;
-  w2c_f19(m, w2c_j0, w2c_i1);
-  goto w2c_B0;
-  w2c_B9:;
-  w2c_i0 = w2c_l4;
-  w2c_i1 = 4294967238u;
-  w2c_i0 += w2c_i1;
-  w2c_i1 = 4294967285u;
-  w2c_i0 = w2c_i0 <= w2c_i1;
-  if (w2c_i0) {goto w2c_B15;}
-  w2c_i0 = 0u;
-  w2c_l4 = w2c_i0;
-  goto w2c_B0;
-  w2c_B15:;
-  w2c_i0 = w2c_l4;
-  w2c_i1 = 4294901990u;
-  w2c_i0 += w2c_i1;
-  w2c_i1 = 4294967286u;
-  w2c_i0 = w2c_i0 < w2c_i1;
-  w2c_l4 = w2c_i0;
-  goto w2c_B0;
-  w2c_B1:;
-  UNREACHABLE;
-  w2c_B0:;
-  w2c_j0 = w2c_l2;
-  w2c_j1 = 32ull;
-  w2c_j0 += w2c_j1;
-  m->w2c_g0 = w2c_j0;
-  w2c_i0 = w2c_l4;
-  return w2c_i0;
-}
-
-static u32 w2c_f28(module *m, u32 w2c_p0, u32 w2c_p1, u64 w2c_p2, u64 w2c_p3, u32 w2c_p4, u64 w2c_p5, u64 w2c_p6) {
+static u32 w2c_f27(module *m, u32 w2c_p0, u32 w2c_p1, u64 w2c_p2, u64 w2c_p3, u32 w2c_p4, u64 w2c_p5, u64 w2c_p6) {
   u32 w2c_l11 = 0, w2c_l12 = 0, w2c_l13 = 0, w2c_l14 = 0;
   u64 w2c_l7 = 0, w2c_l8 = 0, w2c_l9 = 0, w2c_l10 = 0;
   u32 w2c_i0, w2c_i1, w2c_i2, w2c_i3, w2c_i4;
   u64 w2c_j0, w2c_j1, w2c_j2, w2c_j3, w2c_j4, w2c_j5, w2c_j6;
   w2c_j0 = m->w2c_g0;
-  w2c_j1 = 48ull;
+  w2c_j1 = 16ull;
   w2c_j0 -= w2c_j1;
   w2c_l7 = w2c_j0;
   m->w2c_g0 = w2c_j0;
@@ -15477,39 +14672,39 @@ static u32 w2c_f28(module *m, u32 w2c_p0, u32 w2c_p1, u64 w2c_p2, u64 w2c_p3, u3
   w2c_l7 = w2c_j0;
   w2c_j1 = 16ull;
   w2c_i0 = (u64)((s64)w2c_j0 < (s64)w2c_j1);
-  if (w2c_i0) {goto w2c_B11;}
+  if (w2c_i0) {goto w2c_B9;}
   w2c_i0 = 0u;
   w2c_l11 = w2c_i0;
   w2c_i0 = w2c_p4;
   w2c_i1 = 20997u;
   w2c_i0 = (u32)((s32)w2c_i0 > (s32)w2c_i1);
-  if (w2c_i0) {goto w2c_B20;}
+  if (w2c_i0) {goto w2c_B18;}
   w2c_i0 = w2c_p4;
   w2c_i1 = 4294967264u;
   w2c_i0 += w2c_i1;
   switch (w2c_i0) {
-    case 0: goto w2c_B17;
+    case 0: goto w2c_B15;
     case 1: goto w2c_B0;
     case 2: goto w2c_B0;
     case 3: goto w2c_B0;
     case 4: goto w2c_B0;
-    case 5: goto w2c_B13;
+    case 5: goto w2c_B11;
     case 6: goto w2c_B0;
     case 7: goto w2c_B0;
     case 8: goto w2c_B0;
     case 9: goto w2c_B0;
     case 10: goto w2c_B0;
     case 11: goto w2c_B0;
-    case 12: goto w2c_B18;
-    case 13: goto w2c_B12;
-    case 14: goto w2c_B19;
-    default: goto w2c_B21;
+    case 12: goto w2c_B16;
+    case 13: goto w2c_B10;
+    case 14: goto w2c_B17;
+    default: goto w2c_B19;
   }
-  w2c_B21:;
+  w2c_B19:;
   w2c_i0 = w2c_p4;
   w2c_i1 = 8722u;
   w2c_i0 = w2c_i0 == w2c_i1;
-  if (w2c_i0) {goto w2c_B12;}
+  if (w2c_i0) {goto w2c_B10;}
   w2c_i0 = w2c_p4;
   w2c_i1 = 20043u;
   w2c_i0 = w2c_i0 != w2c_i1;
@@ -15537,7 +14732,7 @@ static u32 w2c_f28(module *m, u32 w2c_p0, u32 w2c_p1, u64 w2c_p2, u64 w2c_p3, u3
   w2c_i0 = i32_load8_u(m, (u64)(w2c_i0));
   w2c_i1 = 191u;
   w2c_i0 = w2c_i0 > w2c_i1;
-  if (w2c_i0) {goto w2c_B22;}
+  if (w2c_i0) {goto w2c_B20;}
   w2c_j0 = 18446744073709551613ull;
   w2c_j1 = 18446744073709551612ull;
   w2c_j2 = w2c_l8;
@@ -15549,7 +14744,7 @@ static u32 w2c_f28(module *m, u32 w2c_p0, u32 w2c_p1, u64 w2c_p2, u64 w2c_p3, u3
   w2c_i2 = w2c_i2 > w2c_i3;
   w2c_j0 = w2c_i2 ? w2c_j0 : w2c_j1;
   w2c_l9 = w2c_j0;
-  w2c_B22:;
+  w2c_B20:;
   w2c_j0 = w2c_p2;
   w2c_j1 = w2c_l9;
   w2c_j2 = w2c_p3;
@@ -15586,7 +14781,7 @@ static u32 w2c_f28(module *m, u32 w2c_p0, u32 w2c_p1, u64 w2c_p2, u64 w2c_p3, u3
   w2c_i0 = w2c_p4;
   w2c_i1 = 4294967279u;
   w2c_i0 = w2c_i0 > w2c_i1;
-  if (w2c_i0) {goto w2c_B15;}
+  if (w2c_i0) {goto w2c_B13;}
   w2c_i0 = w2c_l13;
   w2c_i1 = 6u;
   w2c_i0 <<= (w2c_i1 & 31);
@@ -15599,31 +14794,31 @@ static u32 w2c_f28(module *m, u32 w2c_p0, u32 w2c_p1, u64 w2c_p2, u64 w2c_p3, u3
   w2c_i1 = w2c_l14;
   w2c_i0 |= w2c_i1;
   w2c_p4 = w2c_i0;
-  goto w2c_B14;
-  w2c_B20:;
+  goto w2c_B12;
+  w2c_B18:;
   w2c_i0 = w2c_p4;
   w2c_i1 = 36126u;
   w2c_i0 = (u32)((s32)w2c_i0 > (s32)w2c_i1);
-  if (w2c_i0) {goto w2c_B24;}
+  if (w2c_i0) {goto w2c_B22;}
   w2c_i0 = w2c_p4;
   w2c_i1 = 20998u;
   w2c_i0 = w2c_i0 == w2c_i1;
-  if (w2c_i0) {goto w2c_B16;}
+  if (w2c_i0) {goto w2c_B14;}
   w2c_i0 = w2c_p4;
   w2c_i1 = 28857u;
   w2c_i0 = w2c_i0 == w2c_i1;
-  if (w2c_i0) {goto w2c_B23;}
+  if (w2c_i0) {goto w2c_B21;}
   w2c_i0 = w2c_p4;
   w2c_i1 = 36000u;
   w2c_i0 = w2c_i0 != w2c_i1;
   if (w2c_i0) {goto w2c_B0;}
   goto w2c_B1;
-  w2c_B24:;
+  w2c_B22:;
   w2c_i0 = w2c_p4;
   w2c_i1 = 4294902011u;
   w2c_i0 += w2c_i1;
   switch (w2c_i0) {
-    case 0: goto w2c_B13;
+    case 0: goto w2c_B11;
     case 1: goto w2c_B0;
     case 2: goto w2c_B0;
     case 3: goto w2c_B0;
@@ -15631,11 +14826,11 @@ static u32 w2c_f28(module *m, u32 w2c_p0, u32 w2c_p1, u64 w2c_p2, u64 w2c_p3, u3
     case 5: goto w2c_B0;
     case 6: goto w2c_B0;
     case 7: goto w2c_B0;
-    case 8: goto w2c_B12;
-    case 9: goto w2c_B19;
-    default: goto w2c_B25;
+    case 8: goto w2c_B10;
+    case 9: goto w2c_B17;
+    default: goto w2c_B23;
   }
-  w2c_B25:;
+  w2c_B23:;
   w2c_i0 = w2c_p4;
   w2c_i1 = 36127u;
   w2c_i0 = w2c_i0 == w2c_i1;
@@ -15644,7 +14839,7 @@ static u32 w2c_f28(module *m, u32 w2c_p0, u32 w2c_p1, u64 w2c_p2, u64 w2c_p3, u3
   w2c_i1 = 40670u;
   w2c_i0 = w2c_i0 != w2c_i1;
   if (w2c_i0) {goto w2c_B0;}
-  w2c_B23:;
+  w2c_B21:;
   w2c_j0 = w2c_p3;
   w2c_i0 = !(w2c_j0);
   if (w2c_i0) {goto w2c_B0;}
@@ -15659,7 +14854,7 @@ static u32 w2c_f28(module *m, u32 w2c_p0, u32 w2c_p1, u64 w2c_p2, u64 w2c_p3, u3
   w2c_p4 = w2c_i0;
   w2c_i1 = 0u;
   w2c_i0 = (u32)((s32)w2c_i0 >= (s32)w2c_i1);
-  if (w2c_i0) {goto w2c_B26;}
+  if (w2c_i0) {goto w2c_B24;}
   w2c_j0 = 18446744073709551614ull;
   w2c_l9 = w2c_j0;
   w2c_j0 = w2c_l8;
@@ -15669,7 +14864,7 @@ static u32 w2c_f28(module *m, u32 w2c_p0, u32 w2c_p1, u64 w2c_p2, u64 w2c_p3, u3
   w2c_i0 = i32_load8_u(m, (u64)(w2c_i0));
   w2c_i1 = 191u;
   w2c_i0 = w2c_i0 > w2c_i1;
-  if (w2c_i0) {goto w2c_B27;}
+  if (w2c_i0) {goto w2c_B25;}
   w2c_j0 = 18446744073709551613ull;
   w2c_j1 = 18446744073709551612ull;
   w2c_j2 = w2c_l8;
@@ -15681,7 +14876,7 @@ static u32 w2c_f28(module *m, u32 w2c_p0, u32 w2c_p1, u64 w2c_p2, u64 w2c_p3, u3
   w2c_i2 = w2c_i2 > w2c_i3;
   w2c_j0 = w2c_i2 ? w2c_j0 : w2c_j1;
   w2c_l9 = w2c_j0;
-  w2c_B27:;
+  w2c_B25:;
   w2c_j0 = w2c_p2;
   w2c_j1 = w2c_l9;
   w2c_j0 += w2c_j1;
@@ -15697,7 +14892,7 @@ static u32 w2c_f28(module *m, u32 w2c_p0, u32 w2c_p1, u64 w2c_p2, u64 w2c_p3, u3
   w2c_i0 = w2c_l11;
   w2c_i1 = 4294967295u;
   w2c_i0 = (u32)((s32)w2c_i0 > (s32)w2c_i1);
-  if (w2c_i0) {goto w2c_B26;}
+  if (w2c_i0) {goto w2c_B24;}
   w2c_j0 = w2c_p3;
   w2c_i0 = (u32)(w2c_j0);
   w2c_i0 = i32_load8_u(m, (u64)(w2c_i0) + 1u);
@@ -15707,7 +14902,7 @@ static u32 w2c_f28(module *m, u32 w2c_p0, u32 w2c_p1, u64 w2c_p2, u64 w2c_p3, u3
   w2c_i0 = w2c_l11;
   w2c_i1 = 4294967263u;
   w2c_i0 = w2c_i0 > w2c_i1;
-  if (w2c_i0) {goto w2c_B28;}
+  if (w2c_i0) {goto w2c_B26;}
   w2c_i0 = w2c_p4;
   w2c_i1 = 6u;
   w2c_i0 <<= (w2c_i1 & 31);
@@ -15716,8 +14911,8 @@ static u32 w2c_f28(module *m, u32 w2c_p0, u32 w2c_p1, u64 w2c_p2, u64 w2c_p3, u3
   w2c_i1 = w2c_l12;
   w2c_i0 |= w2c_i1;
   w2c_p4 = w2c_i0;
-  goto w2c_B26;
-  w2c_B28:;
+  goto w2c_B24;
+  w2c_B26:;
   w2c_j0 = w2c_p3;
   w2c_i0 = (u32)(w2c_j0);
   w2c_i0 = i32_load8_u(m, (u64)(w2c_i0) + 2u);
@@ -15727,7 +14922,7 @@ static u32 w2c_f28(module *m, u32 w2c_p0, u32 w2c_p1, u64 w2c_p2, u64 w2c_p3, u3
   w2c_i0 = w2c_l11;
   w2c_i1 = 4294967279u;
   w2c_i0 = w2c_i0 > w2c_i1;
-  if (w2c_i0) {goto w2c_B29;}
+  if (w2c_i0) {goto w2c_B27;}
   w2c_i0 = w2c_l12;
   w2c_i1 = 6u;
   w2c_i0 <<= (w2c_i1 & 31);
@@ -15740,8 +14935,8 @@ static u32 w2c_f28(module *m, u32 w2c_p0, u32 w2c_p1, u64 w2c_p2, u64 w2c_p3, u3
   w2c_i1 = w2c_l13;
   w2c_i0 |= w2c_i1;
   w2c_p4 = w2c_i0;
-  goto w2c_B26;
-  w2c_B29:;
+  goto w2c_B24;
+  w2c_B27:;
   w2c_i0 = w2c_l13;
   w2c_i1 = 6u;
   w2c_i0 <<= (w2c_i1 & 31);
@@ -15762,7 +14957,7 @@ static u32 w2c_f28(module *m, u32 w2c_p0, u32 w2c_p1, u64 w2c_p2, u64 w2c_p3, u3
   w2c_i1 &= w2c_i2;
   w2c_i0 |= w2c_i1;
   w2c_p4 = w2c_i0;
-  w2c_B26:;
+  w2c_B24:;
   w2c_i0 = w2c_p4;
   w2c_i1 = 4294967248u;
   w2c_i0 += w2c_i1;
@@ -15775,12 +14970,77 @@ static u32 w2c_f28(module *m, u32 w2c_p0, u32 w2c_p1, u64 w2c_p2, u64 w2c_p3, u3
   w2c_i1 = 10u;
   w2c_i0 = w2c_i0 < w2c_i1;
   if (w2c_i0) {goto w2c_B2;}
+  w2c_i0 = w2c_p4;
+  w2c_i1 = 4294965248u;
+  w2c_i0 += w2c_i1;
+  w2c_i1 = 63487u;
+  w2c_i0 = w2c_i0 > w2c_i1;
+  if (w2c_i0) {goto w2c_B29;}
+  w2c_i0 = w2c_p4;
+  w2c_i1 = 12u;
+  w2c_i0 >>= (w2c_i1 & 31);
+  w2c_i1 = w2c_p4;
+  w2c_i2 = 2u;
+  w2c_i1 <<= (w2c_i2 & 31);
+  w2c_i2 = 16128u;
+  w2c_i1 &= w2c_i2;
+  w2c_i0 |= w2c_i1;
+  w2c_i1 = w2c_p4;
+  w2c_i2 = 16u;
+  w2c_i1 <<= (w2c_i2 & 31);
+  w2c_i2 = 4128768u;
+  w2c_i1 &= w2c_i2;
+  w2c_i0 |= w2c_i1;
+  w2c_i1 = 8421600u;
+  w2c_i0 |= w2c_i1;
+  w2c_l11 = w2c_i0;
+  w2c_j0 = (u64)(w2c_i0);
+  w2c_j1 = 953497ull;
+  w2c_j0 *= w2c_j1;
+  w2c_j1 = 22ull;
+  w2c_j0 >>= (w2c_j1 & 63);
+  w2c_j1 = 1016ull;
+  w2c_j0 &= w2c_j1;
+  w2c_p3 = w2c_j0;
+  w2c_i0 = (u32)(w2c_j0);
+  w2c_i0 = i32_load(m, (u64)(w2c_i0) + 66992u);
+  w2c_i1 = w2c_l11;
+  w2c_i0 = w2c_i0 != w2c_i1;
+  if (w2c_i0) {goto w2c_B29;}
+  w2c_j0 = w2c_p3;
+  w2c_j1 = 66996ull;
+  w2c_j0 += w2c_j1;
+  w2c_i0 = (u32)(w2c_j0);
+  w2c_i0 = i32_load8_u(m, (u64)(w2c_i0));
+  w2c_l11 = w2c_i0;
+  w2c_i1 = 255u;
+  w2c_i0 &= w2c_i1;
+  w2c_i1 = 2u;
+  w2c_i0 = w2c_i0 == w2c_i1;
+  if (w2c_i0) {goto w2c_B29;}
   w2c_i0 = w2c_p0;
   w2c_i1 = w2c_p1;
   w2c_i2 = w2c_p4;
-  w2c_i0 = w2c_f29(m, w2c_i0, w2c_i1, w2c_i2);
-  w2c_i0 = !(w2c_i0);
+  w2c_i3 = w2c_l11;
+  w2c_j4 = w2c_p3;
+  w2c_j5 = 66997ull;
+  w2c_j4 += w2c_j5;
+  w2c_i4 = (u32)(w2c_j4);
+  w2c_i4 = i32_load8_u(m, (u64)(w2c_i4));
+  w2c_j5 = 66332ull;
+  w2c_j6 = 0ull;
+  w2c_i0 = w2c_f17(m, w2c_i0, w2c_i1, w2c_i2, w2c_i3, w2c_i4, w2c_j5, w2c_j6);
+  if (w2c_i0) {goto w2c_B28;}
+  w2c_B29:;
+  w2c_i0 = w2c_p4;
+  w2c_i1 = 24319u;
+  w2c_i0 = w2c_i0 == w2c_i1;
+  if (w2c_i0) {goto w2c_B28;}
+  w2c_i0 = w2c_p4;
+  w2c_i1 = 21317u;
+  w2c_i0 = w2c_i0 != w2c_i1;
   if (w2c_i0) {goto w2c_B2;}
+  w2c_B28:;
   w2c_j0 = w2c_p6;
   w2c_j1 = 3ull;
   w2c_i0 = w2c_j0 < w2c_j1;
@@ -16012,43 +15272,18 @@ static u32 w2c_f28(module *m, u32 w2c_p0, u32 w2c_p1, u64 w2c_p2, u64 w2c_p3, u3
   w2c_l12 = w2c_i0;
   goto w2c_B30;
   w2c_B36:;
-  w2c_j0 = w2c_l7;
-  w2c_j1 = 24ull;
-  w2c_j0 += w2c_j1;
-  w2c_i1 = w2c_p4;
-  w2c_f18(m, w2c_j0, w2c_i1);
-  w2c_j0 = w2c_l7;
-  w2c_i0 = (u32)(w2c_j0);
-  w2c_i0 = i32_load8_u(m, (u64)(w2c_i0) + 24u);
-  w2c_i1 = 1u;
-  w2c_i0 = w2c_i0 != w2c_i1;
-  if (w2c_i0) {goto w2c_B37;}
-  w2c_j0 = w2c_l7;
-  w2c_i0 = (u32)(w2c_j0);
-  w2c_i0 = i32_load8_u(m, (u64)(w2c_i0) + 25u);
-  w2c_l13 = w2c_i0;
-  w2c_i0 = 0u;
-  w2c_l12 = w2c_i0;
-  goto w2c_B30;
-  w2c_B37:;
-  w2c_j0 = w2c_l7;
-  w2c_j1 = 16ull;
-  w2c_j0 += w2c_j1;
-  w2c_i1 = w2c_p4;
-  w2c_f19(m, w2c_j0, w2c_i1);
-  w2c_j0 = w2c_l7;
-  w2c_i0 = (u32)(w2c_j0);
-  w2c_i0 = i32_load8_u(m, (u64)(w2c_i0) + 17u);
+  w2c_i0 = w2c_p4;
+  w2c_i1 = 4294967248u;
+  w2c_i0 += w2c_i1;
+  w2c_l11 = w2c_i0;
   w2c_i1 = 0u;
-  w2c_j2 = w2c_l7;
-  w2c_i2 = (u32)(w2c_j2);
-  w2c_i2 = i32_load8_u(m, (u64)(w2c_i2) + 16u);
-  w2c_i3 = 1u;
-  w2c_i2 = w2c_i2 == w2c_i3;
+  w2c_i2 = w2c_l11;
+  w2c_i3 = 10u;
+  w2c_i2 = w2c_i2 < w2c_i3;
   w2c_l11 = w2c_i2;
   w2c_i0 = w2c_i2 ? w2c_i0 : w2c_i1;
   w2c_l13 = w2c_i0;
-  w2c_i0 = 1u;
+  w2c_i0 = 0u;
   w2c_i1 = 2u;
   w2c_i2 = w2c_l11;
   w2c_i0 = w2c_i2 ? w2c_i0 : w2c_i1;
@@ -16081,12 +15316,12 @@ static u32 w2c_f28(module *m, u32 w2c_p0, u32 w2c_p1, u64 w2c_p2, u64 w2c_p3, u3
   w2c_j0 &= w2c_j1;
   w2c_i0 = (u32)(w2c_j0);
   switch (w2c_i0) {
-    case 0: goto w2c_B38;
-    case 1: goto w2c_B39;
+    case 0: goto w2c_B37;
+    case 1: goto w2c_B38;
     case 2: goto w2c_B0;
-    default: goto w2c_B38;
+    default: goto w2c_B37;
   }
-  w2c_B39:;
+  w2c_B38:;
   w2c_i0 = w2c_p1;
   w2c_i1 = 255u;
   w2c_i0 &= w2c_i1;
@@ -16095,19 +15330,19 @@ static u32 w2c_f28(module *m, u32 w2c_p0, u32 w2c_p1, u64 w2c_p2, u64 w2c_p3, u3
   w2c_i1 &= w2c_i2;
   w2c_i0 = w2c_i0 < w2c_i1;
   if (w2c_i0) {goto w2c_B2;}
-  w2c_B38:;
+  w2c_B37:;
   w2c_i0 = w2c_p0;
   w2c_i1 = 1u;
   w2c_i0 &= w2c_i1;
-  if (w2c_i0) {goto w2c_B40;}
+  if (w2c_i0) {goto w2c_B39;}
   w2c_i0 = w2c_p4;
   w2c_i1 = 29589u;
   w2c_i0 = (u32)((s32)w2c_i0 > (s32)w2c_i1);
-  if (w2c_i0) {goto w2c_B42;}
+  if (w2c_i0) {goto w2c_B41;}
   w2c_i0 = w2c_p4;
   w2c_i1 = 22776u;
   w2c_i0 = (u32)((s32)w2c_i0 > (s32)w2c_i1);
-  if (w2c_i0) {goto w2c_B43;}
+  if (w2c_i0) {goto w2c_B42;}
   w2c_i0 = w2c_p4;
   w2c_i1 = 20191u;
   w2c_i0 = w2c_i0 == w2c_i1;
@@ -16119,13 +15354,13 @@ static u32 w2c_f28(module *m, u32 w2c_p0, u32 w2c_p1, u64 w2c_p2, u64 w2c_p3, u3
   w2c_i0 = w2c_p4;
   w2c_i1 = 20336u;
   w2c_i0 = w2c_i0 != w2c_i1;
-  if (w2c_i0) {goto w2c_B41;}
+  if (w2c_i0) {goto w2c_B40;}
   goto w2c_B2;
-  w2c_B43:;
+  w2c_B42:;
   w2c_i0 = w2c_p4;
   w2c_i1 = 25419u;
   w2c_i0 = (u32)((s32)w2c_i0 > (s32)w2c_i1);
-  if (w2c_i0) {goto w2c_B44;}
+  if (w2c_i0) {goto w2c_B43;}
   w2c_i0 = w2c_p4;
   w2c_i1 = 22777u;
   w2c_i0 = w2c_i0 == w2c_i1;
@@ -16133,9 +15368,9 @@ static u32 w2c_f28(module *m, u32 w2c_p0, u32 w2c_p1, u64 w2c_p2, u64 w2c_p3, u3
   w2c_i0 = w2c_p4;
   w2c_i1 = 25342u;
   w2c_i0 = w2c_i0 != w2c_i1;
-  if (w2c_i0) {goto w2c_B41;}
+  if (w2c_i0) {goto w2c_B40;}
   goto w2c_B2;
-  w2c_B44:;
+  w2c_B43:;
   w2c_i0 = w2c_p4;
   w2c_i1 = 25420u;
   w2c_i0 = w2c_i0 == w2c_i1;
@@ -16143,13 +15378,13 @@ static u32 w2c_f28(module *m, u32 w2c_p0, u32 w2c_p1, u64 w2c_p2, u64 w2c_p3, u3
   w2c_i0 = w2c_p4;
   w2c_i1 = 26578u;
   w2c_i0 = w2c_i0 != w2c_i1;
-  if (w2c_i0) {goto w2c_B41;}
+  if (w2c_i0) {goto w2c_B40;}
   goto w2c_B2;
-  w2c_B42:;
+  w2c_B41:;
   w2c_i0 = w2c_p4;
   w2c_i1 = 36143u;
   w2c_i0 = (u32)((s32)w2c_i0 > (s32)w2c_i1);
-  if (w2c_i0) {goto w2c_B45;}
+  if (w2c_i0) {goto w2c_B44;}
   w2c_i0 = 0u;
   w2c_l11 = w2c_i0;
   w2c_i0 = w2c_p4;
@@ -16157,14 +15392,14 @@ static u32 w2c_f28(module *m, u32 w2c_p0, u32 w2c_p1, u64 w2c_p2, u64 w2c_p3, u3
   w2c_i0 += w2c_i1;
   switch (w2c_i0) {
     case 0: goto w2c_B0;
-    case 1: goto w2c_B41;
-    case 2: goto w2c_B41;
-    case 3: goto w2c_B41;
-    case 4: goto w2c_B41;
+    case 1: goto w2c_B40;
+    case 2: goto w2c_B40;
+    case 3: goto w2c_B40;
+    case 4: goto w2c_B40;
     case 5: goto w2c_B0;
-    default: goto w2c_B46;
+    default: goto w2c_B45;
   }
-  w2c_B46:;
+  w2c_B45:;
   w2c_i0 = w2c_p4;
   w2c_i1 = 29590u;
   w2c_i0 = w2c_i0 == w2c_i1;
@@ -16172,9 +15407,9 @@ static u32 w2c_f28(module *m, u32 w2c_p0, u32 w2c_p1, u64 w2c_p2, u64 w2c_p3, u3
   w2c_i0 = w2c_p4;
   w2c_i1 = 32902u;
   w2c_i0 = w2c_i0 != w2c_i1;
-  if (w2c_i0) {goto w2c_B41;}
+  if (w2c_i0) {goto w2c_B40;}
   goto w2c_B2;
-  w2c_B45:;
+  w2c_B44:;
   w2c_i0 = w2c_p4;
   w2c_i1 = 36144u;
   w2c_i0 = w2c_i0 == w2c_i1;
@@ -16187,18 +15422,18 @@ static u32 w2c_f28(module *m, u32 w2c_p0, u32 w2c_p1, u64 w2c_p2, u64 w2c_p3, u3
   w2c_i1 = 38520u;
   w2c_i0 = w2c_i0 == w2c_i1;
   if (w2c_i0) {goto w2c_B2;}
-  w2c_B41:;
+  w2c_B40:;
   w2c_i0 = w2c_p4;
   w2c_i1 = 4294945855u;
   w2c_i0 += w2c_i1;
   w2c_i1 = 4u;
   w2c_i0 = w2c_i0 < w2c_i1;
   if (w2c_i0) {goto w2c_B2;}
-  w2c_B40:;
+  w2c_B39:;
   w2c_j0 = w2c_p2;
   w2c_i0 = !(w2c_j0);
   w2c_p1 = w2c_i0;
-  if (w2c_i0) {goto w2c_B47;}
+  if (w2c_i0) {goto w2c_B46;}
   w2c_j0 = w2c_p3;
   w2c_i0 = (u32)(w2c_j0);
   w2c_i0 = i32_load8_s(m, (u64)(w2c_i0));
@@ -16209,7 +15444,7 @@ static u32 w2c_f28(module *m, u32 w2c_p0, u32 w2c_p1, u64 w2c_p2, u64 w2c_p3, u3
   w2c_i0 = w2c_p0;
   w2c_i1 = 4294967295u;
   w2c_i0 = (u32)((s32)w2c_i0 > (s32)w2c_i1);
-  if (w2c_i0) {goto w2c_B48;}
+  if (w2c_i0) {goto w2c_B47;}
   w2c_j0 = w2c_p3;
   w2c_i0 = (u32)(w2c_j0);
   w2c_i0 = i32_load8_u(m, (u64)(w2c_i0) + 1u);
@@ -16219,7 +15454,7 @@ static u32 w2c_f28(module *m, u32 w2c_p0, u32 w2c_p1, u64 w2c_p2, u64 w2c_p3, u3
   w2c_i0 = w2c_p0;
   w2c_i1 = 4294967263u;
   w2c_i0 = w2c_i0 > w2c_i1;
-  if (w2c_i0) {goto w2c_B49;}
+  if (w2c_i0) {goto w2c_B48;}
   w2c_i0 = w2c_l11;
   w2c_i1 = 6u;
   w2c_i0 <<= (w2c_i1 & 31);
@@ -16228,8 +15463,8 @@ static u32 w2c_f28(module *m, u32 w2c_p0, u32 w2c_p1, u64 w2c_p2, u64 w2c_p3, u3
   w2c_i1 = w2c_l12;
   w2c_i0 |= w2c_i1;
   w2c_l11 = w2c_i0;
-  goto w2c_B48;
-  w2c_B49:;
+  goto w2c_B47;
+  w2c_B48:;
   w2c_j0 = w2c_p3;
   w2c_i0 = (u32)(w2c_j0);
   w2c_i0 = i32_load8_u(m, (u64)(w2c_i0) + 2u);
@@ -16239,7 +15474,7 @@ static u32 w2c_f28(module *m, u32 w2c_p0, u32 w2c_p1, u64 w2c_p2, u64 w2c_p3, u3
   w2c_i0 = w2c_p0;
   w2c_i1 = 4294967279u;
   w2c_i0 = w2c_i0 > w2c_i1;
-  if (w2c_i0) {goto w2c_B50;}
+  if (w2c_i0) {goto w2c_B49;}
   w2c_i0 = w2c_l12;
   w2c_i1 = 6u;
   w2c_i0 <<= (w2c_i1 & 31);
@@ -16252,8 +15487,8 @@ static u32 w2c_f28(module *m, u32 w2c_p0, u32 w2c_p1, u64 w2c_p2, u64 w2c_p3, u3
   w2c_i1 = w2c_l13;
   w2c_i0 |= w2c_i1;
   w2c_l11 = w2c_i0;
-  goto w2c_B48;
-  w2c_B50:;
+  goto w2c_B47;
+  w2c_B49:;
   w2c_i0 = w2c_l13;
   w2c_i1 = 6u;
   w2c_i0 <<= (w2c_i1 & 31);
@@ -16274,11 +15509,11 @@ static u32 w2c_f28(module *m, u32 w2c_p0, u32 w2c_p1, u64 w2c_p2, u64 w2c_p3, u3
   w2c_i1 &= w2c_i2;
   w2c_i0 |= w2c_i1;
   w2c_l11 = w2c_i0;
-  w2c_B48:;
+  w2c_B47:;
   w2c_i0 = w2c_l11;
   w2c_i1 = 21312u;
   w2c_i0 = (u32)((s32)w2c_i0 > (s32)w2c_i1);
-  if (w2c_i0) {goto w2c_B51;}
+  if (w2c_i0) {goto w2c_B50;}
   w2c_i0 = w2c_l11;
   w2c_i1 = 20998u;
   w2c_i0 = w2c_i0 == w2c_i1;
@@ -16286,9 +15521,9 @@ static u32 w2c_f28(module *m, u32 w2c_p0, u32 w2c_p1, u64 w2c_p2, u64 w2c_p3, u3
   w2c_i0 = w2c_l11;
   w2c_i1 = 21051u;
   w2c_i0 = w2c_i0 != w2c_i1;
-  if (w2c_i0) {goto w2c_B47;}
+  if (w2c_i0) {goto w2c_B46;}
   goto w2c_B2;
-  w2c_B51:;
+  w2c_B50:;
   w2c_i0 = w2c_l11;
   w2c_i1 = 21313u;
   w2c_i0 = w2c_i0 == w2c_i1;
@@ -16301,22 +15536,22 @@ static u32 w2c_f28(module *m, u32 w2c_p0, u32 w2c_p1, u64 w2c_p2, u64 w2c_p3, u3
   w2c_i1 = 40670u;
   w2c_i0 = w2c_i0 == w2c_i1;
   if (w2c_i0) {goto w2c_B2;}
-  w2c_B47:;
+  w2c_B46:;
   w2c_i0 = 1u;
   w2c_l11 = w2c_i0;
   w2c_i0 = w2c_p4;
   w2c_i1 = 38646u;
   w2c_i0 = w2c_i0 == w2c_i1;
-  if (w2c_i0) {goto w2c_B53;}
+  if (w2c_i0) {goto w2c_B52;}
   w2c_i0 = w2c_p4;
   w2c_i1 = 19968u;
   w2c_i0 = w2c_i0 == w2c_i1;
-  if (w2c_i0) {goto w2c_B52;}
+  if (w2c_i0) {goto w2c_B51;}
   w2c_i0 = w2c_p4;
   w2c_i1 = 12295u;
   w2c_i0 = w2c_i0 != w2c_i1;
   if (w2c_i0) {goto w2c_B0;}
-  w2c_B53:;
+  w2c_B52:;
   w2c_i0 = w2c_p1;
   if (w2c_i0) {goto w2c_B0;}
   w2c_j0 = w2c_p3;
@@ -16331,7 +15566,7 @@ static u32 w2c_f28(module *m, u32 w2c_p0, u32 w2c_p1, u64 w2c_p2, u64 w2c_p3, u3
   w2c_i0 = w2c_l11;
   w2c_i1 = 4294967295u;
   w2c_i0 = (u32)((s32)w2c_i0 > (s32)w2c_i1);
-  if (w2c_i0) {goto w2c_B54;}
+  if (w2c_i0) {goto w2c_B53;}
   w2c_j0 = w2c_p3;
   w2c_i0 = (u32)(w2c_j0);
   w2c_i0 = i32_load8_u(m, (u64)(w2c_i0) + 1u);
@@ -16341,7 +15576,7 @@ static u32 w2c_f28(module *m, u32 w2c_p0, u32 w2c_p1, u64 w2c_p2, u64 w2c_p3, u3
   w2c_i0 = w2c_l11;
   w2c_i1 = 4294967263u;
   w2c_i0 = w2c_i0 > w2c_i1;
-  if (w2c_i0) {goto w2c_B55;}
+  if (w2c_i0) {goto w2c_B54;}
   w2c_i0 = w2c_p4;
   w2c_i1 = 6u;
   w2c_i0 <<= (w2c_i1 & 31);
@@ -16352,8 +15587,8 @@ static u32 w2c_f28(module *m, u32 w2c_p0, u32 w2c_p1, u64 w2c_p2, u64 w2c_p3, u3
   w2c_p4 = w2c_i0;
   w2c_j0 = 2ull;
   w2c_p6 = w2c_j0;
-  goto w2c_B54;
-  w2c_B55:;
+  goto w2c_B53;
+  w2c_B54:;
   w2c_j0 = w2c_p3;
   w2c_i0 = (u32)(w2c_j0);
   w2c_i0 = i32_load8_u(m, (u64)(w2c_i0) + 2u);
@@ -16363,7 +15598,7 @@ static u32 w2c_f28(module *m, u32 w2c_p0, u32 w2c_p1, u64 w2c_p2, u64 w2c_p3, u3
   w2c_i0 = w2c_l11;
   w2c_i1 = 4294967279u;
   w2c_i0 = w2c_i0 > w2c_i1;
-  if (w2c_i0) {goto w2c_B56;}
+  if (w2c_i0) {goto w2c_B55;}
   w2c_i0 = w2c_p0;
   w2c_i1 = 6u;
   w2c_i0 <<= (w2c_i1 & 31);
@@ -16378,8 +15613,8 @@ static u32 w2c_f28(module *m, u32 w2c_p0, u32 w2c_p1, u64 w2c_p2, u64 w2c_p3, u3
   w2c_p4 = w2c_i0;
   w2c_j0 = 3ull;
   w2c_p6 = w2c_j0;
-  goto w2c_B54;
-  w2c_B56:;
+  goto w2c_B53;
+  w2c_B55:;
   w2c_i0 = w2c_p1;
   w2c_i1 = 6u;
   w2c_i0 <<= (w2c_i1 & 31);
@@ -16402,7 +15637,7 @@ static u32 w2c_f28(module *m, u32 w2c_p0, u32 w2c_p1, u64 w2c_p2, u64 w2c_p3, u3
   w2c_p4 = w2c_i0;
   w2c_j0 = 4ull;
   w2c_p6 = w2c_j0;
-  w2c_B54:;
+  w2c_B53:;
   w2c_j0 = w2c_l7;
   w2c_i1 = w2c_p4;
   w2c_f18(m, w2c_j0, w2c_i1);
@@ -16437,7 +15672,7 @@ static u32 w2c_f28(module *m, u32 w2c_p0, u32 w2c_p1, u64 w2c_p2, u64 w2c_p3, u3
   w2c_i0 = w2c_l11;
   w2c_i1 = 4294967295u;
   w2c_i0 = (u32)((s32)w2c_i0 > (s32)w2c_i1);
-  if (w2c_i0) {goto w2c_B57;}
+  if (w2c_i0) {goto w2c_B56;}
   w2c_j0 = w2c_p3;
   w2c_i0 = (u32)(w2c_j0);
   w2c_i0 = i32_load8_u(m, (u64)(w2c_i0) + 1u);
@@ -16447,7 +15682,7 @@ static u32 w2c_f28(module *m, u32 w2c_p0, u32 w2c_p1, u64 w2c_p2, u64 w2c_p3, u3
   w2c_i0 = w2c_l11;
   w2c_i1 = 4294967263u;
   w2c_i0 = w2c_i0 > w2c_i1;
-  if (w2c_i0) {goto w2c_B58;}
+  if (w2c_i0) {goto w2c_B57;}
   w2c_i0 = w2c_p4;
   w2c_i1 = 6u;
   w2c_i0 <<= (w2c_i1 & 31);
@@ -16456,8 +15691,8 @@ static u32 w2c_f28(module *m, u32 w2c_p0, u32 w2c_p1, u64 w2c_p2, u64 w2c_p3, u3
   w2c_i1 = w2c_p0;
   w2c_i0 |= w2c_i1;
   w2c_p4 = w2c_i0;
-  goto w2c_B57;
-  w2c_B58:;
+  goto w2c_B56;
+  w2c_B57:;
   w2c_j0 = w2c_p3;
   w2c_i0 = (u32)(w2c_j0);
   w2c_i0 = i32_load8_u(m, (u64)(w2c_i0) + 2u);
@@ -16467,7 +15702,7 @@ static u32 w2c_f28(module *m, u32 w2c_p0, u32 w2c_p1, u64 w2c_p2, u64 w2c_p3, u3
   w2c_i0 = w2c_l11;
   w2c_i1 = 4294967279u;
   w2c_i0 = w2c_i0 > w2c_i1;
-  if (w2c_i0) {goto w2c_B59;}
+  if (w2c_i0) {goto w2c_B58;}
   w2c_i0 = w2c_p0;
   w2c_i1 = 6u;
   w2c_i0 <<= (w2c_i1 & 31);
@@ -16480,8 +15715,8 @@ static u32 w2c_f28(module *m, u32 w2c_p0, u32 w2c_p1, u64 w2c_p2, u64 w2c_p3, u3
   w2c_i1 = w2c_p1;
   w2c_i0 |= w2c_i1;
   w2c_p4 = w2c_i0;
-  goto w2c_B57;
-  w2c_B59:;
+  goto w2c_B56;
+  w2c_B58:;
   w2c_i0 = w2c_p1;
   w2c_i1 = 6u;
   w2c_i0 <<= (w2c_i1 & 31);
@@ -16502,11 +15737,11 @@ static u32 w2c_f28(module *m, u32 w2c_p0, u32 w2c_p1, u64 w2c_p2, u64 w2c_p3, u3
   w2c_i1 &= w2c_i2;
   w2c_i0 |= w2c_i1;
   w2c_p4 = w2c_i0;
-  w2c_B57:;
+  w2c_B56:;
   w2c_i0 = w2c_p4;
   w2c_i1 = 21312u;
   w2c_i0 = (u32)((s32)w2c_i0 > (s32)w2c_i1);
-  if (w2c_i0) {goto w2c_B61;}
+  if (w2c_i0) {goto w2c_B60;}
   w2c_i0 = w2c_p4;
   w2c_i1 = 20998u;
   w2c_i0 = w2c_i0 == w2c_i1;
@@ -16516,9 +15751,9 @@ static u32 w2c_f28(module *m, u32 w2c_p0, u32 w2c_p1, u64 w2c_p2, u64 w2c_p3, u3
   w2c_i0 = w2c_p4;
   w2c_i1 = 21051u;
   w2c_i0 = w2c_i0 != w2c_i1;
-  if (w2c_i0) {goto w2c_B60;}
+  if (w2c_i0) {goto w2c_B59;}
   goto w2c_B0;
-  w2c_B61:;
+  w2c_B60:;
   w2c_i0 = w2c_p4;
   w2c_i1 = 21313u;
   w2c_i0 = w2c_i0 == w2c_i1;
@@ -16533,11 +15768,11 @@ static u32 w2c_f28(module *m, u32 w2c_p0, u32 w2c_p1, u64 w2c_p2, u64 w2c_p3, u3
   w2c_i1 = 40670u;
   w2c_i0 = w2c_i0 == w2c_i1;
   if (w2c_i0) {goto w2c_B0;}
-  w2c_B60:;
+  w2c_B59:;
   w2c_i0 = 1u;
   w2c_l11 = w2c_i0;
   goto w2c_B0;
-  w2c_B52:;
+  w2c_B51:;
   w2c_i0 = w2c_p1;
   if (w2c_i0) {goto w2c_B0;}
   w2c_j0 = w2c_p3;
@@ -16550,7 +15785,7 @@ static u32 w2c_f28(module *m, u32 w2c_p0, u32 w2c_p1, u64 w2c_p2, u64 w2c_p3, u3
   w2c_i0 = w2c_l11;
   w2c_i1 = 4294967295u;
   w2c_i0 = (u32)((s32)w2c_i0 > (s32)w2c_i1);
-  if (w2c_i0) {goto w2c_B62;}
+  if (w2c_i0) {goto w2c_B61;}
   w2c_j0 = w2c_p3;
   w2c_i0 = (u32)(w2c_j0);
   w2c_i0 = i32_load8_u(m, (u64)(w2c_i0) + 1u);
@@ -16560,7 +15795,7 @@ static u32 w2c_f28(module *m, u32 w2c_p0, u32 w2c_p1, u64 w2c_p2, u64 w2c_p3, u3
   w2c_i0 = w2c_l11;
   w2c_i1 = 4294967263u;
   w2c_i0 = w2c_i0 > w2c_i1;
-  if (w2c_i0) {goto w2c_B63;}
+  if (w2c_i0) {goto w2c_B62;}
   w2c_i0 = w2c_p4;
   w2c_i1 = 6u;
   w2c_i0 <<= (w2c_i1 & 31);
@@ -16569,8 +15804,8 @@ static u32 w2c_f28(module *m, u32 w2c_p0, u32 w2c_p1, u64 w2c_p2, u64 w2c_p3, u3
   w2c_i1 = w2c_p0;
   w2c_i0 |= w2c_i1;
   w2c_p4 = w2c_i0;
-  goto w2c_B62;
-  w2c_B63:;
+  goto w2c_B61;
+  w2c_B62:;
   w2c_j0 = w2c_p3;
   w2c_i0 = (u32)(w2c_j0);
   w2c_i0 = i32_load8_u(m, (u64)(w2c_i0) + 2u);
@@ -16580,7 +15815,7 @@ static u32 w2c_f28(module *m, u32 w2c_p0, u32 w2c_p1, u64 w2c_p2, u64 w2c_p3, u3
   w2c_i0 = w2c_l11;
   w2c_i1 = 4294967279u;
   w2c_i0 = w2c_i0 > w2c_i1;
-  if (w2c_i0) {goto w2c_B64;}
+  if (w2c_i0) {goto w2c_B63;}
   w2c_i0 = w2c_p0;
   w2c_i1 = 6u;
   w2c_i0 <<= (w2c_i1 & 31);
@@ -16593,8 +15828,8 @@ static u32 w2c_f28(module *m, u32 w2c_p0, u32 w2c_p1, u64 w2c_p2, u64 w2c_p3, u3
   w2c_i1 = w2c_p1;
   w2c_i0 |= w2c_i1;
   w2c_p4 = w2c_i0;
-  goto w2c_B62;
-  w2c_B64:;
+  goto w2c_B61;
+  w2c_B63:;
   w2c_i0 = w2c_p1;
   w2c_i1 = 6u;
   w2c_i0 <<= (w2c_i1 & 31);
@@ -16615,15 +15850,15 @@ static u32 w2c_f28(module *m, u32 w2c_p0, u32 w2c_p1, u64 w2c_p2, u64 w2c_p3, u3
   w2c_i1 &= w2c_i2;
   w2c_i0 |= w2c_i1;
   w2c_p4 = w2c_i0;
-  w2c_B62:;
+  w2c_B61:;
   w2c_i0 = w2c_p4;
   w2c_i1 = 27170u;
   w2c_i0 = (u32)((s32)w2c_i0 > (s32)w2c_i1);
-  if (w2c_i0) {goto w2c_B66;}
+  if (w2c_i0) {goto w2c_B65;}
   w2c_i0 = w2c_p4;
   w2c_i1 = 20998u;
   w2c_i0 = (u32)((s32)w2c_i0 > (s32)w2c_i1);
-  if (w2c_i0) {goto w2c_B67;}
+  if (w2c_i0) {goto w2c_B66;}
   w2c_i0 = w2c_p4;
   w2c_i1 = 19979u;
   w2c_i0 = w2c_i0 == w2c_i1;
@@ -16633,9 +15868,9 @@ static u32 w2c_f28(module *m, u32 w2c_p0, u32 w2c_p1, u64 w2c_p2, u64 w2c_p3, u3
   w2c_i0 = w2c_p4;
   w2c_i1 = 20123u;
   w2c_i0 = w2c_i0 != w2c_i1;
-  if (w2c_i0) {goto w2c_B65;}
+  if (w2c_i0) {goto w2c_B64;}
   goto w2c_B0;
-  w2c_B67:;
+  w2c_B66:;
   w2c_i0 = w2c_p4;
   w2c_i1 = 20999u;
   w2c_i0 = w2c_i0 == w2c_i1;
@@ -16649,13 +15884,13 @@ static u32 w2c_f28(module *m, u32 w2c_p0, u32 w2c_p1, u64 w2c_p2, u64 w2c_p3, u3
   w2c_i0 = w2c_p4;
   w2c_i1 = 26679u;
   w2c_i0 = w2c_i0 != w2c_i1;
-  if (w2c_i0) {goto w2c_B65;}
+  if (w2c_i0) {goto w2c_B64;}
   goto w2c_B0;
-  w2c_B66:;
+  w2c_B65:;
   w2c_i0 = w2c_p4;
   w2c_i1 = 32217u;
   w2c_i0 = (u32)((s32)w2c_i0 > (s32)w2c_i1);
-  if (w2c_i0) {goto w2c_B68;}
+  if (w2c_i0) {goto w2c_B67;}
   w2c_i0 = w2c_p4;
   w2c_i1 = 27171u;
   w2c_i0 = w2c_i0 == w2c_i1;
@@ -16669,9 +15904,9 @@ static u32 w2c_f28(module *m, u32 w2c_p0, u32 w2c_p1, u64 w2c_p2, u64 w2c_p3, u3
   w2c_i0 = w2c_p4;
   w2c_i1 = 30452u;
   w2c_i0 = w2c_i0 != w2c_i1;
-  if (w2c_i0) {goto w2c_B65;}
+  if (w2c_i0) {goto w2c_B64;}
   goto w2c_B0;
-  w2c_B68:;
+  w2c_B67:;
   w2c_i0 = w2c_p4;
   w2c_i1 = 32218u;
   w2c_i0 = w2c_i0 == w2c_i1;
@@ -16686,11 +15921,11 @@ static u32 w2c_f28(module *m, u32 w2c_p0, u32 w2c_p1, u64 w2c_p2, u64 w2c_p3, u3
   w2c_i1 = 36215u;
   w2c_i0 = w2c_i0 == w2c_i1;
   if (w2c_i0) {goto w2c_B0;}
-  w2c_B65:;
+  w2c_B64:;
   w2c_i0 = 1u;
   w2c_l11 = w2c_i0;
   goto w2c_B0;
-  w2c_B19:;
+  w2c_B17:;
   w2c_j0 = w2c_p3;
   w2c_i0 = !(w2c_j0);
   if (w2c_i0) {goto w2c_B0;}
@@ -16707,7 +15942,7 @@ static u32 w2c_f28(module *m, u32 w2c_p0, u32 w2c_p1, u64 w2c_p2, u64 w2c_p3, u3
   w2c_p4 = w2c_i0;
   w2c_i1 = 0u;
   w2c_i0 = (u32)((s32)w2c_i0 >= (s32)w2c_i1);
-  if (w2c_i0) {goto w2c_B69;}
+  if (w2c_i0) {goto w2c_B68;}
   w2c_j0 = 18446744073709551614ull;
   w2c_l9 = w2c_j0;
   w2c_j0 = w2c_l8;
@@ -16717,7 +15952,7 @@ static u32 w2c_f28(module *m, u32 w2c_p0, u32 w2c_p1, u64 w2c_p2, u64 w2c_p3, u3
   w2c_i0 = i32_load8_u(m, (u64)(w2c_i0));
   w2c_i1 = 191u;
   w2c_i0 = w2c_i0 > w2c_i1;
-  if (w2c_i0) {goto w2c_B70;}
+  if (w2c_i0) {goto w2c_B69;}
   w2c_j0 = 18446744073709551613ull;
   w2c_j1 = 18446744073709551612ull;
   w2c_j2 = w2c_l8;
@@ -16729,7 +15964,7 @@ static u32 w2c_f28(module *m, u32 w2c_p0, u32 w2c_p1, u64 w2c_p2, u64 w2c_p3, u3
   w2c_i2 = w2c_i2 > w2c_i3;
   w2c_j0 = w2c_i2 ? w2c_j0 : w2c_j1;
   w2c_l9 = w2c_j0;
-  w2c_B70:;
+  w2c_B69:;
   w2c_j0 = w2c_p2;
   w2c_j1 = w2c_l9;
   w2c_j0 += w2c_j1;
@@ -16745,7 +15980,7 @@ static u32 w2c_f28(module *m, u32 w2c_p0, u32 w2c_p1, u64 w2c_p2, u64 w2c_p3, u3
   w2c_i0 = w2c_p0;
   w2c_i1 = 4294967295u;
   w2c_i0 = (u32)((s32)w2c_i0 > (s32)w2c_i1);
-  if (w2c_i0) {goto w2c_B69;}
+  if (w2c_i0) {goto w2c_B68;}
   w2c_j0 = w2c_p3;
   w2c_i0 = (u32)(w2c_j0);
   w2c_i0 = i32_load8_u(m, (u64)(w2c_i0) + 1u);
@@ -16755,7 +15990,7 @@ static u32 w2c_f28(module *m, u32 w2c_p0, u32 w2c_p1, u64 w2c_p2, u64 w2c_p3, u3
   w2c_i0 = w2c_p0;
   w2c_i1 = 4294967263u;
   w2c_i0 = w2c_i0 > w2c_i1;
-  if (w2c_i0) {goto w2c_B71;}
+  if (w2c_i0) {goto w2c_B70;}
   w2c_i0 = w2c_p4;
   w2c_i1 = 6u;
   w2c_i0 <<= (w2c_i1 & 31);
@@ -16764,8 +15999,8 @@ static u32 w2c_f28(module *m, u32 w2c_p0, u32 w2c_p1, u64 w2c_p2, u64 w2c_p3, u3
   w2c_i1 = w2c_p1;
   w2c_i0 |= w2c_i1;
   w2c_p4 = w2c_i0;
-  goto w2c_B69;
-  w2c_B71:;
+  goto w2c_B68;
+  w2c_B70:;
   w2c_j0 = w2c_p3;
   w2c_i0 = (u32)(w2c_j0);
   w2c_i0 = i32_load8_u(m, (u64)(w2c_i0) + 2u);
@@ -16775,7 +16010,7 @@ static u32 w2c_f28(module *m, u32 w2c_p0, u32 w2c_p1, u64 w2c_p2, u64 w2c_p3, u3
   w2c_i0 = w2c_p0;
   w2c_i1 = 4294967279u;
   w2c_i0 = w2c_i0 > w2c_i1;
-  if (w2c_i0) {goto w2c_B72;}
+  if (w2c_i0) {goto w2c_B71;}
   w2c_i0 = w2c_p1;
   w2c_i1 = 6u;
   w2c_i0 <<= (w2c_i1 & 31);
@@ -16788,8 +16023,8 @@ static u32 w2c_f28(module *m, u32 w2c_p0, u32 w2c_p1, u64 w2c_p2, u64 w2c_p3, u3
   w2c_i1 = w2c_l12;
   w2c_i0 |= w2c_i1;
   w2c_p4 = w2c_i0;
-  goto w2c_B69;
-  w2c_B72:;
+  goto w2c_B68;
+  w2c_B71:;
   w2c_i0 = w2c_l12;
   w2c_i1 = 6u;
   w2c_i0 <<= (w2c_i1 & 31);
@@ -16810,7 +16045,7 @@ static u32 w2c_f28(module *m, u32 w2c_p0, u32 w2c_p1, u64 w2c_p2, u64 w2c_p3, u3
   w2c_i1 &= w2c_i2;
   w2c_i0 |= w2c_i1;
   w2c_p4 = w2c_i0;
-  w2c_B69:;
+  w2c_B68:;
   w2c_j0 = w2c_p6;
   w2c_i0 = !(w2c_j0);
   if (w2c_i0) {goto w2c_B0;}
@@ -16836,7 +16071,7 @@ static u32 w2c_f28(module *m, u32 w2c_p0, u32 w2c_p1, u64 w2c_p2, u64 w2c_p3, u3
   w2c_i0 = w2c_l11;
   w2c_i1 = 4294967295u;
   w2c_i0 = (u32)((s32)w2c_i0 > (s32)w2c_i1);
-  if (w2c_i0) {goto w2c_B73;}
+  if (w2c_i0) {goto w2c_B72;}
   w2c_j0 = w2c_p5;
   w2c_i0 = (u32)(w2c_j0);
   w2c_i0 = i32_load8_u(m, (u64)(w2c_i0) + 1u);
@@ -16846,7 +16081,7 @@ static u32 w2c_f28(module *m, u32 w2c_p0, u32 w2c_p1, u64 w2c_p2, u64 w2c_p3, u3
   w2c_i0 = w2c_l11;
   w2c_i1 = 4294967263u;
   w2c_i0 = w2c_i0 > w2c_i1;
-  if (w2c_i0) {goto w2c_B74;}
+  if (w2c_i0) {goto w2c_B73;}
   w2c_i0 = w2c_p4;
   w2c_i1 = 6u;
   w2c_i0 <<= (w2c_i1 & 31);
@@ -16855,8 +16090,8 @@ static u32 w2c_f28(module *m, u32 w2c_p0, u32 w2c_p1, u64 w2c_p2, u64 w2c_p3, u3
   w2c_i1 = w2c_p0;
   w2c_i0 |= w2c_i1;
   w2c_p4 = w2c_i0;
-  goto w2c_B73;
-  w2c_B74:;
+  goto w2c_B72;
+  w2c_B73:;
   w2c_j0 = w2c_p5;
   w2c_i0 = (u32)(w2c_j0);
   w2c_i0 = i32_load8_u(m, (u64)(w2c_i0) + 2u);
@@ -16866,7 +16101,7 @@ static u32 w2c_f28(module *m, u32 w2c_p0, u32 w2c_p1, u64 w2c_p2, u64 w2c_p3, u3
   w2c_i0 = w2c_l11;
   w2c_i1 = 4294967279u;
   w2c_i0 = w2c_i0 > w2c_i1;
-  if (w2c_i0) {goto w2c_B75;}
+  if (w2c_i0) {goto w2c_B74;}
   w2c_i0 = w2c_p0;
   w2c_i1 = 6u;
   w2c_i0 <<= (w2c_i1 & 31);
@@ -16879,8 +16114,8 @@ static u32 w2c_f28(module *m, u32 w2c_p0, u32 w2c_p1, u64 w2c_p2, u64 w2c_p3, u3
   w2c_i1 = w2c_p1;
   w2c_i0 |= w2c_i1;
   w2c_p4 = w2c_i0;
-  goto w2c_B73;
-  w2c_B75:;
+  goto w2c_B72;
+  w2c_B74:;
   w2c_i0 = w2c_p1;
   w2c_i1 = 6u;
   w2c_i0 <<= (w2c_i1 & 31);
@@ -16901,7 +16136,7 @@ static u32 w2c_f28(module *m, u32 w2c_p0, u32 w2c_p1, u64 w2c_p2, u64 w2c_p3, u3
   w2c_i1 &= w2c_i2;
   w2c_i0 |= w2c_i1;
   w2c_p4 = w2c_i0;
-  w2c_B73:;
+  w2c_B72:;
   w2c_i0 = w2c_p4;
   w2c_i1 = 4294967248u;
   w2c_i0 += w2c_i1;
@@ -16915,7 +16150,7 @@ static u32 w2c_f28(module *m, u32 w2c_p0, u32 w2c_p1, u64 w2c_p2, u64 w2c_p3, u3
   w2c_i0 |= w2c_i1;
   w2c_l11 = w2c_i0;
   goto w2c_B0;
-  w2c_B18:;
+  w2c_B16:;
   w2c_j0 = w2c_p3;
   w2c_i0 = !(w2c_j0);
   if (w2c_i0) {goto w2c_B0;}
@@ -16930,7 +16165,7 @@ static u32 w2c_f28(module *m, u32 w2c_p0, u32 w2c_p1, u64 w2c_p2, u64 w2c_p3, u3
   w2c_p4 = w2c_i0;
   w2c_i1 = 0u;
   w2c_i0 = (u32)((s32)w2c_i0 >= (s32)w2c_i1);
-  if (w2c_i0) {goto w2c_B76;}
+  if (w2c_i0) {goto w2c_B75;}
   w2c_j0 = 18446744073709551614ull;
   w2c_l8 = w2c_j0;
   w2c_j0 = w2c_p2;
@@ -16943,7 +16178,7 @@ static u32 w2c_f28(module *m, u32 w2c_p0, u32 w2c_p1, u64 w2c_p2, u64 w2c_p3, u3
   w2c_i0 = i32_load8_u(m, (u64)(w2c_i0));
   w2c_i1 = 191u;
   w2c_i0 = w2c_i0 > w2c_i1;
-  if (w2c_i0) {goto w2c_B77;}
+  if (w2c_i0) {goto w2c_B76;}
   w2c_j0 = 18446744073709551613ull;
   w2c_j1 = 18446744073709551612ull;
   w2c_j2 = w2c_l9;
@@ -16955,7 +16190,7 @@ static u32 w2c_f28(module *m, u32 w2c_p0, u32 w2c_p1, u64 w2c_p2, u64 w2c_p3, u3
   w2c_i2 = w2c_i2 > w2c_i3;
   w2c_j0 = w2c_i2 ? w2c_j0 : w2c_j1;
   w2c_l8 = w2c_j0;
-  w2c_B77:;
+  w2c_B76:;
   w2c_j0 = w2c_p2;
   w2c_j1 = w2c_l8;
   w2c_j2 = w2c_p3;
@@ -16972,7 +16207,7 @@ static u32 w2c_f28(module *m, u32 w2c_p0, u32 w2c_p1, u64 w2c_p2, u64 w2c_p3, u3
   w2c_i0 = w2c_l11;
   w2c_i1 = 4294967295u;
   w2c_i0 = (u32)((s32)w2c_i0 > (s32)w2c_i1);
-  if (w2c_i0) {goto w2c_B76;}
+  if (w2c_i0) {goto w2c_B75;}
   w2c_j0 = w2c_l9;
   w2c_i0 = (u32)(w2c_j0);
   w2c_i0 = i32_load8_u(m, (u64)(w2c_i0) + 1u);
@@ -16982,7 +16217,7 @@ static u32 w2c_f28(module *m, u32 w2c_p0, u32 w2c_p1, u64 w2c_p2, u64 w2c_p3, u3
   w2c_i0 = w2c_l11;
   w2c_i1 = 4294967263u;
   w2c_i0 = w2c_i0 > w2c_i1;
-  if (w2c_i0) {goto w2c_B78;}
+  if (w2c_i0) {goto w2c_B77;}
   w2c_i0 = w2c_p4;
   w2c_i1 = 6u;
   w2c_i0 <<= (w2c_i1 & 31);
@@ -16991,8 +16226,8 @@ static u32 w2c_f28(module *m, u32 w2c_p0, u32 w2c_p1, u64 w2c_p2, u64 w2c_p3, u3
   w2c_i1 = w2c_p0;
   w2c_i0 |= w2c_i1;
   w2c_p4 = w2c_i0;
-  goto w2c_B76;
-  w2c_B78:;
+  goto w2c_B75;
+  w2c_B77:;
   w2c_j0 = w2c_l9;
   w2c_i0 = (u32)(w2c_j0);
   w2c_i0 = i32_load8_u(m, (u64)(w2c_i0) + 2u);
@@ -17002,7 +16237,7 @@ static u32 w2c_f28(module *m, u32 w2c_p0, u32 w2c_p1, u64 w2c_p2, u64 w2c_p3, u3
   w2c_i0 = w2c_l11;
   w2c_i1 = 4294967279u;
   w2c_i0 = w2c_i0 > w2c_i1;
-  if (w2c_i0) {goto w2c_B79;}
+  if (w2c_i0) {goto w2c_B78;}
   w2c_i0 = w2c_p0;
   w2c_i1 = 6u;
   w2c_i0 <<= (w2c_i1 & 31);
@@ -17015,8 +16250,8 @@ static u32 w2c_f28(module *m, u32 w2c_p0, u32 w2c_p1, u64 w2c_p2, u64 w2c_p3, u3
   w2c_i1 = w2c_p1;
   w2c_i0 |= w2c_i1;
   w2c_p4 = w2c_i0;
-  goto w2c_B76;
-  w2c_B79:;
+  goto w2c_B75;
+  w2c_B78:;
   w2c_i0 = w2c_p1;
   w2c_i1 = 6u;
   w2c_i0 <<= (w2c_i1 & 31);
@@ -17037,20 +16272,20 @@ static u32 w2c_f28(module *m, u32 w2c_p0, u32 w2c_p1, u64 w2c_p2, u64 w2c_p3, u3
   w2c_i1 &= w2c_i2;
   w2c_i0 |= w2c_i1;
   w2c_p4 = w2c_i0;
-  w2c_B76:;
+  w2c_B75:;
   w2c_i0 = w2c_p4;
   w2c_i1 = 4294967248u;
   w2c_i0 += w2c_i1;
   w2c_i1 = 10u;
   w2c_i0 = w2c_i0 < w2c_i1;
-  if (w2c_i0) {goto w2c_B80;}
+  if (w2c_i0) {goto w2c_B79;}
   w2c_i0 = w2c_p4;
   w2c_i1 = 4294902000u;
   w2c_i0 += w2c_i1;
   w2c_i1 = 9u;
   w2c_i0 = w2c_i0 > w2c_i1;
   if (w2c_i0) {goto w2c_B5;}
-  w2c_B80:;
+  w2c_B79:;
   w2c_i0 = w2c_p4;
   w2c_i1 = 48u;
   w2c_i0 = w2c_i0 == w2c_i1;
@@ -17073,7 +16308,7 @@ static u32 w2c_f28(module *m, u32 w2c_p0, u32 w2c_p1, u64 w2c_p2, u64 w2c_p3, u3
   w2c_p4 = w2c_i0;
   w2c_i1 = 4294967295u;
   w2c_i0 = (u32)((s32)w2c_i0 > (s32)w2c_i1);
-  if (w2c_i0) {goto w2c_B10;}
+  if (w2c_i0) {goto w2c_B8;}
   w2c_j0 = 18446744073709551614ull;
   w2c_l10 = w2c_j0;
   w2c_j0 = w2c_l9;
@@ -17084,7 +16319,7 @@ static u32 w2c_f28(module *m, u32 w2c_p0, u32 w2c_p1, u64 w2c_p2, u64 w2c_p3, u3
   w2c_p0 = w2c_i0;
   w2c_i1 = 191u;
   w2c_i0 = w2c_i0 > w2c_i1;
-  if (w2c_i0) {goto w2c_B81;}
+  if (w2c_i0) {goto w2c_B80;}
   w2c_j0 = 18446744073709551613ull;
   w2c_j1 = 18446744073709551612ull;
   w2c_j2 = w2c_l9;
@@ -17096,7 +16331,7 @@ static u32 w2c_f28(module *m, u32 w2c_p0, u32 w2c_p1, u64 w2c_p2, u64 w2c_p3, u3
   w2c_i2 = w2c_i2 > w2c_i3;
   w2c_j0 = w2c_i2 ? w2c_j0 : w2c_j1;
   w2c_l10 = w2c_j0;
-  w2c_B81:;
+  w2c_B80:;
   w2c_j0 = w2c_p2;
   w2c_j1 = w2c_l10;
   w2c_j0 += w2c_j1;
@@ -17112,7 +16347,7 @@ static u32 w2c_f28(module *m, u32 w2c_p0, u32 w2c_p1, u64 w2c_p2, u64 w2c_p3, u3
   w2c_i0 = w2c_l11;
   w2c_i1 = 4294967295u;
   w2c_i0 = (u32)((s32)w2c_i0 > (s32)w2c_i1);
-  if (w2c_i0) {goto w2c_B82;}
+  if (w2c_i0) {goto w2c_B81;}
   w2c_j0 = w2c_l10;
   w2c_i0 = (u32)(w2c_j0);
   w2c_i0 = i32_load8_u(m, (u64)(w2c_i0) + 1u);
@@ -17122,7 +16357,7 @@ static u32 w2c_f28(module *m, u32 w2c_p0, u32 w2c_p1, u64 w2c_p2, u64 w2c_p3, u3
   w2c_i0 = w2c_l11;
   w2c_i1 = 4294967263u;
   w2c_i0 = w2c_i0 > w2c_i1;
-  if (w2c_i0) {goto w2c_B83;}
+  if (w2c_i0) {goto w2c_B82;}
   w2c_i0 = w2c_p4;
   w2c_i1 = 6u;
   w2c_i0 <<= (w2c_i1 & 31);
@@ -17131,8 +16366,8 @@ static u32 w2c_f28(module *m, u32 w2c_p0, u32 w2c_p1, u64 w2c_p2, u64 w2c_p3, u3
   w2c_i1 = w2c_p1;
   w2c_i0 |= w2c_i1;
   w2c_p4 = w2c_i0;
-  goto w2c_B82;
-  w2c_B83:;
+  goto w2c_B81;
+  w2c_B82:;
   w2c_j0 = w2c_l10;
   w2c_i0 = (u32)(w2c_j0);
   w2c_i0 = i32_load8_u(m, (u64)(w2c_i0) + 2u);
@@ -17142,7 +16377,7 @@ static u32 w2c_f28(module *m, u32 w2c_p0, u32 w2c_p1, u64 w2c_p2, u64 w2c_p3, u3
   w2c_i0 = w2c_l11;
   w2c_i1 = 4294967279u;
   w2c_i0 = w2c_i0 > w2c_i1;
-  if (w2c_i0) {goto w2c_B84;}
+  if (w2c_i0) {goto w2c_B83;}
   w2c_i0 = w2c_p1;
   w2c_i1 = 6u;
   w2c_i0 <<= (w2c_i1 & 31);
@@ -17155,8 +16390,8 @@ static u32 w2c_f28(module *m, u32 w2c_p0, u32 w2c_p1, u64 w2c_p2, u64 w2c_p3, u3
   w2c_i1 = w2c_l12;
   w2c_i0 |= w2c_i1;
   w2c_p4 = w2c_i0;
-  goto w2c_B82;
-  w2c_B84:;
+  goto w2c_B81;
+  w2c_B83:;
   w2c_i0 = w2c_l12;
   w2c_i1 = 6u;
   w2c_i0 <<= (w2c_i1 & 31);
@@ -17177,7 +16412,7 @@ static u32 w2c_f28(module *m, u32 w2c_p0, u32 w2c_p1, u64 w2c_p2, u64 w2c_p3, u3
   w2c_i1 &= w2c_i2;
   w2c_i0 |= w2c_i1;
   w2c_p4 = w2c_i0;
-  w2c_B82:;
+  w2c_B81:;
   w2c_i0 = w2c_p4;
   w2c_i1 = 4294967238u;
   w2c_i0 += w2c_i1;
@@ -17195,7 +16430,7 @@ static u32 w2c_f28(module *m, u32 w2c_p0, u32 w2c_p1, u64 w2c_p2, u64 w2c_p3, u3
   w2c_i0 = w2c_p0;
   w2c_i1 = 191u;
   w2c_i0 = w2c_i0 > w2c_i1;
-  if (w2c_i0) {goto w2c_B85;}
+  if (w2c_i0) {goto w2c_B84;}
   w2c_j0 = 18446744073709551613ull;
   w2c_j1 = 18446744073709551612ull;
   w2c_j2 = w2c_l9;
@@ -17207,7 +16442,7 @@ static u32 w2c_f28(module *m, u32 w2c_p0, u32 w2c_p1, u64 w2c_p2, u64 w2c_p3, u3
   w2c_i2 = w2c_i2 > w2c_i3;
   w2c_j0 = w2c_i2 ? w2c_j0 : w2c_j1;
   w2c_l10 = w2c_j0;
-  w2c_B85:;
+  w2c_B84:;
   w2c_j0 = w2c_p2;
   w2c_j1 = w2c_l10;
   w2c_j0 += w2c_j1;
@@ -17233,7 +16468,7 @@ static u32 w2c_f28(module *m, u32 w2c_p0, u32 w2c_p1, u64 w2c_p2, u64 w2c_p3, u3
   w2c_i0 = w2c_l11;
   w2c_i1 = 4294967263u;
   w2c_i0 = w2c_i0 > w2c_i1;
-  if (w2c_i0) {goto w2c_B86;}
+  if (w2c_i0) {goto w2c_B85;}
   w2c_i0 = w2c_p4;
   w2c_i1 = 6u;
   w2c_i0 <<= (w2c_i1 & 31);
@@ -17243,7 +16478,7 @@ static u32 w2c_f28(module *m, u32 w2c_p0, u32 w2c_p1, u64 w2c_p2, u64 w2c_p3, u3
   w2c_i0 |= w2c_i1;
   w2c_p4 = w2c_i0;
   goto w2c_B7;
-  w2c_B86:;
+  w2c_B85:;
   w2c_j0 = w2c_l9;
   w2c_i0 = (u32)(w2c_j0);
   w2c_i0 = i32_load8_u(m, (u64)(w2c_i0) + 2u);
@@ -17253,7 +16488,7 @@ static u32 w2c_f28(module *m, u32 w2c_p0, u32 w2c_p1, u64 w2c_p2, u64 w2c_p3, u3
   w2c_i0 = w2c_l11;
   w2c_i1 = 4294967279u;
   w2c_i0 = w2c_i0 > w2c_i1;
-  if (w2c_i0) {goto w2c_B87;}
+  if (w2c_i0) {goto w2c_B86;}
   w2c_i0 = w2c_p0;
   w2c_i1 = 6u;
   w2c_i0 <<= (w2c_i1 & 31);
@@ -17267,7 +16502,7 @@ static u32 w2c_f28(module *m, u32 w2c_p0, u32 w2c_p1, u64 w2c_p2, u64 w2c_p3, u3
   w2c_i0 |= w2c_i1;
   w2c_p4 = w2c_i0;
   goto w2c_B7;
-  w2c_B87:;
+  w2c_B86:;
   w2c_i0 = w2c_p1;
   w2c_i1 = 6u;
   w2c_i0 <<= (w2c_i1 & 31);
@@ -17289,7 +16524,7 @@ static u32 w2c_f28(module *m, u32 w2c_p0, u32 w2c_p1, u64 w2c_p2, u64 w2c_p3, u3
   w2c_i0 |= w2c_i1;
   w2c_p4 = w2c_i0;
   goto w2c_B7;
-  w2c_B17:;
+  w2c_B15:;
   w2c_j0 = w2c_p3;
   w2c_i0 = !(w2c_j0);
   if (w2c_i0) {goto w2c_B0;}
@@ -17306,7 +16541,7 @@ static u32 w2c_f28(module *m, u32 w2c_p0, u32 w2c_p1, u64 w2c_p2, u64 w2c_p3, u3
   w2c_p4 = w2c_i0;
   w2c_i1 = 0u;
   w2c_i0 = (u32)((s32)w2c_i0 >= (s32)w2c_i1);
-  if (w2c_i0) {goto w2c_B88;}
+  if (w2c_i0) {goto w2c_B87;}
   w2c_j0 = 18446744073709551614ull;
   w2c_l9 = w2c_j0;
   w2c_j0 = w2c_l8;
@@ -17316,7 +16551,7 @@ static u32 w2c_f28(module *m, u32 w2c_p0, u32 w2c_p1, u64 w2c_p2, u64 w2c_p3, u3
   w2c_i0 = i32_load8_u(m, (u64)(w2c_i0));
   w2c_i1 = 191u;
   w2c_i0 = w2c_i0 > w2c_i1;
-  if (w2c_i0) {goto w2c_B89;}
+  if (w2c_i0) {goto w2c_B88;}
   w2c_j0 = 18446744073709551613ull;
   w2c_j1 = 18446744073709551612ull;
   w2c_j2 = w2c_l8;
@@ -17328,7 +16563,7 @@ static u32 w2c_f28(module *m, u32 w2c_p0, u32 w2c_p1, u64 w2c_p2, u64 w2c_p3, u3
   w2c_i2 = w2c_i2 > w2c_i3;
   w2c_j0 = w2c_i2 ? w2c_j0 : w2c_j1;
   w2c_l9 = w2c_j0;
-  w2c_B89:;
+  w2c_B88:;
   w2c_j0 = w2c_p2;
   w2c_j1 = w2c_l9;
   w2c_j0 += w2c_j1;
@@ -17344,7 +16579,7 @@ static u32 w2c_f28(module *m, u32 w2c_p0, u32 w2c_p1, u64 w2c_p2, u64 w2c_p3, u3
   w2c_i0 = w2c_l12;
   w2c_i1 = 4294967295u;
   w2c_i0 = (u32)((s32)w2c_i0 > (s32)w2c_i1);
-  if (w2c_i0) {goto w2c_B88;}
+  if (w2c_i0) {goto w2c_B87;}
   w2c_j0 = w2c_p3;
   w2c_i0 = (u32)(w2c_j0);
   w2c_i0 = i32_load8_u(m, (u64)(w2c_i0) + 1u);
@@ -17354,7 +16589,7 @@ static u32 w2c_f28(module *m, u32 w2c_p0, u32 w2c_p1, u64 w2c_p2, u64 w2c_p3, u3
   w2c_i0 = w2c_l12;
   w2c_i1 = 4294967263u;
   w2c_i0 = w2c_i0 > w2c_i1;
-  if (w2c_i0) {goto w2c_B90;}
+  if (w2c_i0) {goto w2c_B89;}
   w2c_i0 = w2c_p4;
   w2c_i1 = 6u;
   w2c_i0 <<= (w2c_i1 & 31);
@@ -17363,8 +16598,8 @@ static u32 w2c_f28(module *m, u32 w2c_p0, u32 w2c_p1, u64 w2c_p2, u64 w2c_p3, u3
   w2c_i1 = w2c_l13;
   w2c_i0 |= w2c_i1;
   w2c_p4 = w2c_i0;
-  goto w2c_B88;
-  w2c_B90:;
+  goto w2c_B87;
+  w2c_B89:;
   w2c_j0 = w2c_p3;
   w2c_i0 = (u32)(w2c_j0);
   w2c_i0 = i32_load8_u(m, (u64)(w2c_i0) + 2u);
@@ -17374,7 +16609,7 @@ static u32 w2c_f28(module *m, u32 w2c_p0, u32 w2c_p1, u64 w2c_p2, u64 w2c_p3, u3
   w2c_i0 = w2c_l12;
   w2c_i1 = 4294967279u;
   w2c_i0 = w2c_i0 > w2c_i1;
-  if (w2c_i0) {goto w2c_B91;}
+  if (w2c_i0) {goto w2c_B90;}
   w2c_i0 = w2c_l13;
   w2c_i1 = 6u;
   w2c_i0 <<= (w2c_i1 & 31);
@@ -17387,8 +16622,8 @@ static u32 w2c_f28(module *m, u32 w2c_p0, u32 w2c_p1, u64 w2c_p2, u64 w2c_p3, u3
   w2c_i1 = w2c_l14;
   w2c_i0 |= w2c_i1;
   w2c_p4 = w2c_i0;
-  goto w2c_B88;
-  w2c_B91:;
+  goto w2c_B87;
+  w2c_B90:;
   w2c_i0 = w2c_l14;
   w2c_i1 = 6u;
   w2c_i0 <<= (w2c_i1 & 31);
@@ -17409,24 +16644,24 @@ static u32 w2c_f28(module *m, u32 w2c_p0, u32 w2c_p1, u64 w2c_p2, u64 w2c_p3, u3
   w2c_i1 &= w2c_i2;
   w2c_i0 |= w2c_i1;
   w2c_p4 = w2c_i0;
-  w2c_B88:;
+  w2c_B87:;
   w2c_i0 = w2c_p4;
   w2c_i1 = 4294967248u;
   w2c_i0 += w2c_i1;
   w2c_i1 = 10u;
   w2c_i0 = w2c_i0 < w2c_i1;
-  if (w2c_i0) {goto w2c_B92;}
+  if (w2c_i0) {goto w2c_B91;}
   w2c_i0 = w2c_p4;
   w2c_i1 = 4294902000u;
   w2c_i0 += w2c_i1;
   w2c_i1 = 9u;
   w2c_i0 = w2c_i0 > w2c_i1;
   if (w2c_i0) {goto w2c_B0;}
-  w2c_B92:;
+  w2c_B91:;
   w2c_j0 = w2c_p6;
   w2c_j1 = 3ull;
   w2c_i0 = w2c_j0 < w2c_j1;
-  if (w2c_i0) {goto w2c_B96;}
+  if (w2c_i0) {goto w2c_B95;}
   w2c_j0 = w2c_p5;
   w2c_i0 = (u32)(w2c_j0);
   w2c_i0 = i32_load8_u(m, (u64)(w2c_i0));
@@ -17435,7 +16670,7 @@ static u32 w2c_f28(module *m, u32 w2c_p0, u32 w2c_p1, u64 w2c_p2, u64 w2c_p3, u3
   w2c_i0 &= w2c_i1;
   w2c_i1 = 224u;
   w2c_i0 = w2c_i0 != w2c_i1;
-  if (w2c_i0) {goto w2c_B95;}
+  if (w2c_i0) {goto w2c_B94;}
   w2c_j0 = w2c_p5;
   w2c_i0 = (u32)(w2c_j0);
   w2c_i0 = i32_load8_u(m, (u64)(w2c_i0) + 1u);
@@ -17497,13 +16732,13 @@ static u32 w2c_f28(module *m, u32 w2c_p0, u32 w2c_p1, u64 w2c_p2, u64 w2c_p3, u3
   w2c_j0 = w2c_p6;
   w2c_j1 = 18446744073709551613ull;
   w2c_j0 += w2c_j1;
-  w2c_p2 = w2c_j0;
+  w2c_p3 = w2c_j0;
   w2c_j0 = w2c_p5;
   w2c_j1 = 3ull;
   w2c_j0 += w2c_j1;
-  w2c_p3 = w2c_j0;
-  goto w2c_B94;
-  w2c_B96:;
+  w2c_p2 = w2c_j0;
+  goto w2c_B93;
+  w2c_B95:;
   w2c_j0 = w2c_p6;
   w2c_i0 = !(w2c_j0);
   if (w2c_i0) {goto w2c_B0;}
@@ -17511,14 +16746,14 @@ static u32 w2c_f28(module *m, u32 w2c_p0, u32 w2c_p1, u64 w2c_p2, u64 w2c_p3, u3
   w2c_i0 = (u32)(w2c_j0);
   w2c_i0 = i32_load8_u(m, (u64)(w2c_i0));
   w2c_p4 = w2c_i0;
-  w2c_B95:;
+  w2c_B94:;
   w2c_j0 = 1ull;
   w2c_p3 = w2c_j0;
   w2c_i0 = w2c_p4;
   w2c_i0 = (u32)(s32)(s8)(u8)(w2c_i0);
   w2c_i1 = 4294967295u;
   w2c_i0 = (u32)((s32)w2c_i0 > (s32)w2c_i1);
-  if (w2c_i0) {goto w2c_B97;}
+  if (w2c_i0) {goto w2c_B96;}
   w2c_j0 = w2c_p5;
   w2c_i0 = (u32)(w2c_j0);
   w2c_i0 = i32_load8_u(m, (u64)(w2c_i0) + 1u);
@@ -17528,7 +16763,7 @@ static u32 w2c_f28(module *m, u32 w2c_p0, u32 w2c_p1, u64 w2c_p2, u64 w2c_p3, u3
   w2c_i0 = w2c_p4;
   w2c_i1 = 223u;
   w2c_i0 = w2c_i0 > w2c_i1;
-  if (w2c_i0) {goto w2c_B98;}
+  if (w2c_i0) {goto w2c_B97;}
   w2c_i0 = w2c_p4;
   w2c_i1 = 6u;
   w2c_i0 <<= (w2c_i1 & 31);
@@ -17539,8 +16774,8 @@ static u32 w2c_f28(module *m, u32 w2c_p0, u32 w2c_p1, u64 w2c_p2, u64 w2c_p3, u3
   w2c_p4 = w2c_i0;
   w2c_j0 = 2ull;
   w2c_p3 = w2c_j0;
-  goto w2c_B97;
-  w2c_B98:;
+  goto w2c_B96;
+  w2c_B97:;
   w2c_j0 = w2c_p5;
   w2c_i0 = (u32)(w2c_j0);
   w2c_i0 = i32_load8_u(m, (u64)(w2c_i0) + 2u);
@@ -17550,7 +16785,7 @@ static u32 w2c_f28(module *m, u32 w2c_p0, u32 w2c_p1, u64 w2c_p2, u64 w2c_p3, u3
   w2c_i0 = w2c_p4;
   w2c_i1 = 239u;
   w2c_i0 = w2c_i0 > w2c_i1;
-  if (w2c_i0) {goto w2c_B99;}
+  if (w2c_i0) {goto w2c_B98;}
   w2c_i0 = w2c_l11;
   w2c_i1 = 6u;
   w2c_i0 <<= (w2c_i1 & 31);
@@ -17565,8 +16800,8 @@ static u32 w2c_f28(module *m, u32 w2c_p0, u32 w2c_p1, u64 w2c_p2, u64 w2c_p3, u3
   w2c_p4 = w2c_i0;
   w2c_j0 = 3ull;
   w2c_p3 = w2c_j0;
-  goto w2c_B97;
-  w2c_B99:;
+  goto w2c_B96;
+  w2c_B98:;
   w2c_i0 = w2c_l12;
   w2c_i1 = 6u;
   w2c_i0 <<= (w2c_i1 & 31);
@@ -17589,21 +16824,13 @@ static u32 w2c_f28(module *m, u32 w2c_p0, u32 w2c_p1, u64 w2c_p2, u64 w2c_p3, u3
   w2c_p4 = w2c_i0;
   w2c_j0 = 4ull;
   w2c_p3 = w2c_j0;
-  w2c_B97:;
-  w2c_j0 = w2c_p6;
-  w2c_j1 = w2c_p3;
-  w2c_j0 -= w2c_j1;
-  w2c_p2 = w2c_j0;
-  w2c_j0 = w2c_p5;
-  w2c_j1 = w2c_p3;
-  w2c_j0 += w2c_j1;
-  w2c_p3 = w2c_j0;
+  w2c_B96:;
   w2c_i0 = w2c_p4;
   w2c_i1 = 4294965248u;
   w2c_i0 += w2c_i1;
   w2c_i1 = 63487u;
   w2c_i0 = w2c_i0 > w2c_i1;
-  if (w2c_i0) {goto w2c_B100;}
+  if (w2c_i0) {goto w2c_B92;}
   w2c_i0 = w2c_p4;
   w2c_i1 = 12u;
   w2c_i0 >>= (w2c_i1 & 31);
@@ -17629,13 +16856,13 @@ static u32 w2c_f28(module *m, u32 w2c_p0, u32 w2c_p1, u64 w2c_p2, u64 w2c_p3, u3
   w2c_j0 >>= (w2c_j1 & 63);
   w2c_j1 = 1016ull;
   w2c_j0 &= w2c_j1;
-  w2c_p6 = w2c_j0;
+  w2c_p2 = w2c_j0;
   w2c_j1 = 66997ull;
   w2c_j0 += w2c_j1;
   w2c_i0 = (u32)(w2c_j0);
   w2c_i0 = i32_load8_u(m, (u64)(w2c_i0));
   w2c_i1 = 0u;
-  w2c_j2 = w2c_p6;
+  w2c_j2 = w2c_p2;
   w2c_i2 = (u32)(w2c_j2);
   w2c_i2 = i32_load(m, (u64)(w2c_i2) + 66992u);
   w2c_i3 = w2c_l11;
@@ -17643,7 +16870,7 @@ static u32 w2c_f28(module *m, u32 w2c_p0, u32 w2c_p1, u64 w2c_p2, u64 w2c_p3, u3
   w2c_l11 = w2c_i2;
   w2c_i0 = w2c_i2 ? w2c_i0 : w2c_i1;
   w2c_l12 = w2c_i0;
-  w2c_j0 = w2c_p6;
+  w2c_j0 = w2c_p2;
   w2c_j1 = 66996ull;
   w2c_j0 += w2c_j1;
   w2c_i0 = (u32)(w2c_j0);
@@ -17652,54 +16879,27 @@ static u32 w2c_f28(module *m, u32 w2c_p0, u32 w2c_p1, u64 w2c_p2, u64 w2c_p3, u3
   w2c_i2 = w2c_l11;
   w2c_i0 = w2c_i2 ? w2c_i0 : w2c_i1;
   w2c_l11 = w2c_i0;
-  goto w2c_B94;
-  w2c_B100:;
-  w2c_j0 = w2c_l7;
-  w2c_j1 = 40ull;
+  w2c_j0 = w2c_p5;
+  w2c_j1 = w2c_p3;
   w2c_j0 += w2c_j1;
-  w2c_i1 = w2c_p4;
-  w2c_f18(m, w2c_j0, w2c_i1);
-  w2c_j0 = w2c_l7;
-  w2c_i0 = (u32)(w2c_j0);
-  w2c_i0 = i32_load8_u(m, (u64)(w2c_i0) + 40u);
-  w2c_i1 = 1u;
-  w2c_i0 = w2c_i0 == w2c_i1;
-  if (w2c_i0) {goto w2c_B93;}
-  w2c_j0 = w2c_l7;
-  w2c_j1 = 32ull;
-  w2c_j0 += w2c_j1;
-  w2c_i1 = w2c_p4;
-  w2c_f19(m, w2c_j0, w2c_i1);
-  w2c_j0 = w2c_l7;
-  w2c_i0 = (u32)(w2c_j0);
-  w2c_i0 = i32_load8_u(m, (u64)(w2c_i0) + 33u);
-  w2c_i1 = 0u;
-  w2c_j2 = w2c_l7;
-  w2c_i2 = (u32)(w2c_j2);
-  w2c_i2 = i32_load8_u(m, (u64)(w2c_i2) + 32u);
-  w2c_i3 = 1u;
-  w2c_i2 = w2c_i2 == w2c_i3;
-  w2c_l11 = w2c_i2;
-  w2c_i0 = w2c_i2 ? w2c_i0 : w2c_i1;
-  w2c_l12 = w2c_i0;
-  w2c_i0 = 1u;
-  w2c_i1 = 2u;
-  w2c_i2 = w2c_l11;
-  w2c_i0 = w2c_i2 ? w2c_i0 : w2c_i1;
-  w2c_l11 = w2c_i0;
-  w2c_B94:;
+  w2c_p2 = w2c_j0;
+  w2c_j0 = w2c_p6;
+  w2c_j1 = w2c_p3;
+  w2c_j0 -= w2c_j1;
+  w2c_p3 = w2c_j0;
+  w2c_B93:;
   w2c_i0 = w2c_l11;
   w2c_i1 = 255u;
   w2c_i0 &= w2c_i1;
   w2c_i1 = 1u;
   w2c_i0 = w2c_i0 != w2c_i1;
-  if (w2c_i0) {goto w2c_B93;}
+  if (w2c_i0) {goto w2c_B92;}
   w2c_i0 = w2c_l12;
   w2c_i1 = 255u;
   w2c_i0 &= w2c_i1;
   w2c_i1 = 2u;
   w2c_i0 = w2c_i0 < w2c_i1;
-  if (w2c_i0) {goto w2c_B93;}
+  if (w2c_i0) {goto w2c_B92;}
   w2c_i0 = 1u;
   w2c_l11 = w2c_i0;
   w2c_i0 = w2c_p0;
@@ -17707,11 +16907,11 @@ static u32 w2c_f28(module *m, u32 w2c_p0, u32 w2c_p1, u64 w2c_p2, u64 w2c_p3, u3
   w2c_i2 = w2c_p4;
   w2c_i3 = 1u;
   w2c_i4 = w2c_l12;
-  w2c_j5 = w2c_p3;
-  w2c_j6 = w2c_p2;
+  w2c_j5 = w2c_p2;
+  w2c_j6 = w2c_p3;
   w2c_i0 = w2c_f17(m, w2c_i0, w2c_i1, w2c_i2, w2c_i3, w2c_i4, w2c_j5, w2c_j6);
   if (w2c_i0) {goto w2c_B0;}
-  w2c_B93:;
+  w2c_B92:;
   w2c_i0 = w2c_p4;
   w2c_i1 = 37u;
   w2c_i0 = w2c_i0 == w2c_i1;
@@ -17721,131 +16921,12 @@ static u32 w2c_f28(module *m, u32 w2c_p0, u32 w2c_p1, u64 w2c_p2, u64 w2c_p3, u3
   w2c_i0 |= w2c_i1;
   w2c_l11 = w2c_i0;
   goto w2c_B0;
-  w2c_B16:;
-  w2c_j0 = w2c_p3;
-  w2c_i0 = !(w2c_j0);
-  if (w2c_i0) {goto w2c_B0;}
-  w2c_i0 = 0u;
-  w2c_l11 = w2c_i0;
-  w2c_j0 = w2c_p2;
-  w2c_j1 = w2c_p3;
-  w2c_j0 += w2c_j1;
-  w2c_l8 = w2c_j0;
-  w2c_j1 = 18446744073709551615ull;
-  w2c_j0 += w2c_j1;
-  w2c_i0 = (u32)(w2c_j0);
-  w2c_i0 = i32_load8_s(m, (u64)(w2c_i0));
-  w2c_p4 = w2c_i0;
-  w2c_i1 = 0u;
-  w2c_i0 = (u32)((s32)w2c_i0 >= (s32)w2c_i1);
-  if (w2c_i0) {goto w2c_B101;}
-  w2c_j0 = 18446744073709551614ull;
-  w2c_l9 = w2c_j0;
-  w2c_j0 = w2c_l8;
-  w2c_j1 = 18446744073709551614ull;
-  w2c_j0 += w2c_j1;
-  w2c_i0 = (u32)(w2c_j0);
-  w2c_i0 = i32_load8_u(m, (u64)(w2c_i0));
-  w2c_i1 = 191u;
-  w2c_i0 = w2c_i0 > w2c_i1;
-  if (w2c_i0) {goto w2c_B102;}
-  w2c_j0 = 18446744073709551613ull;
-  w2c_j1 = 18446744073709551612ull;
-  w2c_j2 = w2c_l8;
-  w2c_j3 = 18446744073709551613ull;
-  w2c_j2 += w2c_j3;
-  w2c_i2 = (u32)(w2c_j2);
-  w2c_i2 = i32_load8_u(m, (u64)(w2c_i2));
-  w2c_i3 = 191u;
-  w2c_i2 = w2c_i2 > w2c_i3;
-  w2c_j0 = w2c_i2 ? w2c_j0 : w2c_j1;
-  w2c_l9 = w2c_j0;
-  w2c_B102:;
-  w2c_j0 = w2c_p2;
-  w2c_j1 = w2c_l9;
-  w2c_j0 += w2c_j1;
-  w2c_j1 = w2c_p3;
-  w2c_j0 += w2c_j1;
-  w2c_p3 = w2c_j0;
-  w2c_i0 = (u32)(w2c_j0);
-  w2c_i0 = i32_load8_s(m, (u64)(w2c_i0));
-  w2c_l12 = w2c_i0;
-  w2c_i1 = 255u;
-  w2c_i0 &= w2c_i1;
-  w2c_p4 = w2c_i0;
-  w2c_i0 = w2c_l12;
-  w2c_i1 = 4294967295u;
-  w2c_i0 = (u32)((s32)w2c_i0 > (s32)w2c_i1);
-  if (w2c_i0) {goto w2c_B101;}
-  w2c_j0 = w2c_p3;
-  w2c_i0 = (u32)(w2c_j0);
-  w2c_i0 = i32_load8_u(m, (u64)(w2c_i0) + 1u);
-  w2c_i1 = 63u;
-  w2c_i0 &= w2c_i1;
-  w2c_l13 = w2c_i0;
-  w2c_i0 = w2c_l12;
-  w2c_i1 = 4294967263u;
-  w2c_i0 = w2c_i0 > w2c_i1;
-  if (w2c_i0) {goto w2c_B103;}
-  w2c_i0 = w2c_p4;
-  w2c_i1 = 6u;
-  w2c_i0 <<= (w2c_i1 & 31);
-  w2c_i1 = 1984u;
-  w2c_i0 &= w2c_i1;
-  w2c_i1 = w2c_l13;
-  w2c_i0 |= w2c_i1;
-  w2c_p4 = w2c_i0;
-  goto w2c_B101;
-  w2c_B103:;
-  w2c_j0 = w2c_p3;
-  w2c_i0 = (u32)(w2c_j0);
-  w2c_i0 = i32_load8_u(m, (u64)(w2c_i0) + 2u);
-  w2c_i1 = 63u;
-  w2c_i0 &= w2c_i1;
-  w2c_l14 = w2c_i0;
-  w2c_i0 = w2c_l12;
-  w2c_i1 = 4294967279u;
-  w2c_i0 = w2c_i0 > w2c_i1;
-  if (w2c_i0) {goto w2c_B104;}
-  w2c_i0 = w2c_l13;
-  w2c_i1 = 6u;
-  w2c_i0 <<= (w2c_i1 & 31);
-  w2c_i1 = w2c_p4;
-  w2c_i2 = 12u;
-  w2c_i1 <<= (w2c_i2 & 31);
-  w2c_i2 = 61440u;
-  w2c_i1 &= w2c_i2;
-  w2c_i0 |= w2c_i1;
-  w2c_i1 = w2c_l14;
-  w2c_i0 |= w2c_i1;
-  w2c_p4 = w2c_i0;
-  goto w2c_B101;
-  w2c_B104:;
-  w2c_i0 = w2c_l14;
-  w2c_i1 = 6u;
-  w2c_i0 <<= (w2c_i1 & 31);
-  w2c_i1 = w2c_l13;
-  w2c_i2 = 12u;
-  w2c_i1 <<= (w2c_i2 & 31);
-  w2c_i2 = w2c_p4;
-  w2c_i3 = 18u;
-  w2c_i2 <<= (w2c_i3 & 31);
-  w2c_i3 = 1835008u;
-  w2c_i2 &= w2c_i3;
-  w2c_i1 |= w2c_i2;
-  w2c_i0 |= w2c_i1;
-  w2c_j1 = w2c_p3;
-  w2c_i1 = (u32)(w2c_j1);
-  w2c_i1 = i32_load8_u(m, (u64)(w2c_i1) + 3u);
-  w2c_i2 = 63u;
-  w2c_i1 &= w2c_i2;
-  w2c_i0 |= w2c_i1;
-  w2c_p4 = w2c_i0;
-  w2c_B101:;
+  w2c_B14:;
   w2c_i0 = w2c_p0;
   w2c_i1 = w2c_p1;
-  w2c_i2 = w2c_p4;
-  w2c_i0 = w2c_f29(m, w2c_i0, w2c_i1, w2c_i2);
+  w2c_j2 = w2c_p2;
+  w2c_j3 = w2c_p3;
+  w2c_i0 = w2c_f28(m, w2c_i0, w2c_i1, w2c_j2, w2c_j3);
   w2c_p4 = w2c_i0;
   w2c_j0 = w2c_p6;
   w2c_i0 = !(w2c_j0);
@@ -17883,7 +16964,7 @@ static u32 w2c_f28(module *m, u32 w2c_p0, u32 w2c_p1, u64 w2c_p2, u64 w2c_p3, u3
   w2c_i0 = w2c_p4;
   w2c_i1 = 4294967279u;
   w2c_i0 = w2c_i0 > w2c_i1;
-  if (w2c_i0) {goto w2c_B106;}
+  if (w2c_i0) {goto w2c_B100;}
   w2c_i0 = w2c_l13;
   w2c_i1 = 6u;
   w2c_i0 <<= (w2c_i1 & 31);
@@ -17898,8 +16979,8 @@ static u32 w2c_f28(module *m, u32 w2c_p0, u32 w2c_p1, u64 w2c_p2, u64 w2c_p3, u3
   w2c_p4 = w2c_i0;
   w2c_j0 = 3ull;
   w2c_p3 = w2c_j0;
-  goto w2c_B105;
-  w2c_B106:;
+  goto w2c_B99;
+  w2c_B100:;
   w2c_i0 = w2c_l14;
   w2c_i1 = 6u;
   w2c_i0 <<= (w2c_i1 & 31);
@@ -17922,7 +17003,7 @@ static u32 w2c_f28(module *m, u32 w2c_p0, u32 w2c_p1, u64 w2c_p2, u64 w2c_p3, u3
   w2c_p4 = w2c_i0;
   w2c_j0 = 4ull;
   w2c_p3 = w2c_j0;
-  w2c_B105:;
+  w2c_B99:;
   w2c_i0 = w2c_p4;
   w2c_i1 = 20043u;
   w2c_i0 = w2c_i0 != w2c_i1;
@@ -17935,10 +17016,10 @@ static u32 w2c_f28(module *m, u32 w2c_p0, u32 w2c_p1, u64 w2c_p2, u64 w2c_p3, u3
   w2c_j3 = w2c_p6;
   w2c_j4 = w2c_p3;
   w2c_j3 -= w2c_j4;
-  w2c_i0 = w2c_f30(m, w2c_i0, w2c_i1, w2c_j2, w2c_j3);
+  w2c_i0 = w2c_f29(m, w2c_i0, w2c_i1, w2c_j2, w2c_j3);
   w2c_l11 = w2c_i0;
   goto w2c_B0;
-  w2c_B15:;
+  w2c_B13:;
   w2c_i0 = w2c_l14;
   w2c_i1 = 6u;
   w2c_i0 <<= (w2c_i1 & 31);
@@ -17959,299 +17040,70 @@ static u32 w2c_f28(module *m, u32 w2c_p0, u32 w2c_p1, u64 w2c_p2, u64 w2c_p3, u3
   w2c_i1 &= w2c_i2;
   w2c_i0 |= w2c_i1;
   w2c_p4 = w2c_i0;
-  w2c_B14:;
-  w2c_j0 = w2c_l8;
-  w2c_i0 = !(w2c_j0);
-  if (w2c_i0) {goto w2c_B0;}
+  w2c_B12:;
   w2c_i0 = w2c_p4;
   w2c_i1 = 20998u;
   w2c_i0 = w2c_i0 != w2c_i1;
   if (w2c_i0) {goto w2c_B0;}
-  w2c_i0 = 0u;
-  w2c_l11 = w2c_i0;
-  w2c_j0 = w2c_p3;
-  w2c_j1 = 18446744073709551615ull;
-  w2c_j0 += w2c_j1;
-  w2c_i0 = (u32)(w2c_j0);
-  w2c_i0 = i32_load8_s(m, (u64)(w2c_i0));
-  w2c_p4 = w2c_i0;
-  w2c_i1 = 0u;
-  w2c_i0 = (u32)((s32)w2c_i0 >= (s32)w2c_i1);
-  if (w2c_i0) {goto w2c_B107;}
-  w2c_j0 = 18446744073709551614ull;
-  w2c_l9 = w2c_j0;
-  w2c_j0 = w2c_p3;
-  w2c_j1 = 18446744073709551614ull;
-  w2c_j0 += w2c_j1;
-  w2c_i0 = (u32)(w2c_j0);
-  w2c_i0 = i32_load8_u(m, (u64)(w2c_i0));
-  w2c_i1 = 191u;
-  w2c_i0 = w2c_i0 > w2c_i1;
-  if (w2c_i0) {goto w2c_B108;}
-  w2c_j0 = 18446744073709551613ull;
-  w2c_j1 = 18446744073709551612ull;
-  w2c_j2 = w2c_p3;
-  w2c_j3 = 18446744073709551613ull;
-  w2c_j2 += w2c_j3;
-  w2c_i2 = (u32)(w2c_j2);
-  w2c_i2 = i32_load8_u(m, (u64)(w2c_i2));
-  w2c_i3 = 191u;
-  w2c_i2 = w2c_i2 > w2c_i3;
-  w2c_j0 = w2c_i2 ? w2c_j0 : w2c_j1;
-  w2c_l9 = w2c_j0;
-  w2c_B108:;
-  w2c_j0 = w2c_p2;
-  w2c_j1 = w2c_l9;
-  w2c_j0 += w2c_j1;
-  w2c_j1 = w2c_l8;
-  w2c_j0 += w2c_j1;
-  w2c_p3 = w2c_j0;
-  w2c_i0 = (u32)(w2c_j0);
-  w2c_i0 = i32_load8_s(m, (u64)(w2c_i0));
-  w2c_l12 = w2c_i0;
-  w2c_i1 = 255u;
-  w2c_i0 &= w2c_i1;
-  w2c_p4 = w2c_i0;
-  w2c_i0 = w2c_l12;
-  w2c_i1 = 4294967295u;
-  w2c_i0 = (u32)((s32)w2c_i0 > (s32)w2c_i1);
-  if (w2c_i0) {goto w2c_B107;}
-  w2c_j0 = w2c_p3;
-  w2c_i0 = (u32)(w2c_j0);
-  w2c_i0 = i32_load8_u(m, (u64)(w2c_i0) + 1u);
-  w2c_i1 = 63u;
-  w2c_i0 &= w2c_i1;
-  w2c_l13 = w2c_i0;
-  w2c_i0 = w2c_l12;
-  w2c_i1 = 4294967263u;
-  w2c_i0 = w2c_i0 > w2c_i1;
-  if (w2c_i0) {goto w2c_B109;}
-  w2c_i0 = w2c_p4;
-  w2c_i1 = 6u;
-  w2c_i0 <<= (w2c_i1 & 31);
-  w2c_i1 = 1984u;
-  w2c_i0 &= w2c_i1;
-  w2c_i1 = w2c_l13;
-  w2c_i0 |= w2c_i1;
-  w2c_p4 = w2c_i0;
-  goto w2c_B107;
-  w2c_B109:;
-  w2c_j0 = w2c_p3;
-  w2c_i0 = (u32)(w2c_j0);
-  w2c_i0 = i32_load8_u(m, (u64)(w2c_i0) + 2u);
-  w2c_i1 = 63u;
-  w2c_i0 &= w2c_i1;
-  w2c_l14 = w2c_i0;
-  w2c_i0 = w2c_l12;
-  w2c_i1 = 4294967279u;
-  w2c_i0 = w2c_i0 > w2c_i1;
-  if (w2c_i0) {goto w2c_B110;}
-  w2c_i0 = w2c_l13;
-  w2c_i1 = 6u;
-  w2c_i0 <<= (w2c_i1 & 31);
-  w2c_i1 = w2c_p4;
-  w2c_i2 = 12u;
-  w2c_i1 <<= (w2c_i2 & 31);
-  w2c_i2 = 61440u;
-  w2c_i1 &= w2c_i2;
-  w2c_i0 |= w2c_i1;
-  w2c_i1 = w2c_l14;
-  w2c_i0 |= w2c_i1;
-  w2c_p4 = w2c_i0;
-  goto w2c_B107;
-  w2c_B110:;
-  w2c_i0 = w2c_l14;
-  w2c_i1 = 6u;
-  w2c_i0 <<= (w2c_i1 & 31);
-  w2c_i1 = w2c_l13;
-  w2c_i2 = 12u;
-  w2c_i1 <<= (w2c_i2 & 31);
-  w2c_i2 = w2c_p4;
-  w2c_i3 = 18u;
-  w2c_i2 <<= (w2c_i3 & 31);
-  w2c_i3 = 1835008u;
-  w2c_i2 &= w2c_i3;
-  w2c_i1 |= w2c_i2;
-  w2c_i0 |= w2c_i1;
-  w2c_j1 = w2c_p3;
-  w2c_i1 = (u32)(w2c_j1);
-  w2c_i1 = i32_load8_u(m, (u64)(w2c_i1) + 3u);
-  w2c_i2 = 63u;
-  w2c_i1 &= w2c_i2;
-  w2c_i0 |= w2c_i1;
-  w2c_p4 = w2c_i0;
-  w2c_B107:;
   w2c_i0 = w2c_p0;
   w2c_i1 = w2c_p1;
-  w2c_i2 = w2c_p4;
-  w2c_i0 = w2c_f29(m, w2c_i0, w2c_i1, w2c_i2);
+  w2c_j2 = w2c_p2;
+  w2c_j3 = w2c_l8;
+  w2c_i0 = w2c_f28(m, w2c_i0, w2c_i1, w2c_j2, w2c_j3);
   w2c_i0 = !(w2c_i0);
   if (w2c_i0) {goto w2c_B0;}
   w2c_i0 = w2c_p0;
   w2c_i1 = w2c_p1;
   w2c_j2 = w2c_p5;
   w2c_j3 = w2c_p6;
-  w2c_i0 = w2c_f30(m, w2c_i0, w2c_i1, w2c_j2, w2c_j3);
+  w2c_i0 = w2c_f29(m, w2c_i0, w2c_i1, w2c_j2, w2c_j3);
   w2c_l11 = w2c_i0;
   goto w2c_B0;
-  w2c_B13:;
+  w2c_B11:;
+  w2c_i0 = w2c_p0;
+  w2c_i1 = w2c_p1;
+  w2c_j2 = w2c_p2;
+  w2c_j3 = w2c_p3;
+  w2c_i0 = w2c_f28(m, w2c_i0, w2c_i1, w2c_j2, w2c_j3);
+  w2c_i0 = !(w2c_i0);
+  if (w2c_i0) {goto w2c_B101;}
+  w2c_i0 = 1u;
+  w2c_l11 = w2c_i0;
+  goto w2c_B0;
+  w2c_B101:;
   w2c_j0 = w2c_p3;
   w2c_i0 = !(w2c_j0);
   if (w2c_i0) {goto w2c_B0;}
+  w2c_i0 = 0u;
+  w2c_l11 = w2c_i0;
   w2c_j0 = w2c_p2;
   w2c_j1 = w2c_p3;
+  w2c_j2 = 18446744073709551615ull;
+  w2c_j1 += w2c_j2;
+  w2c_p6 = w2c_j1;
   w2c_j0 += w2c_j1;
+  w2c_i0 = (u32)(w2c_j0);
+  w2c_i0 = i32_load8_s(m, (u64)(w2c_i0));
+  w2c_p4 = w2c_i0;
+  w2c_i1 = 0u;
+  w2c_i0 = (u32)((s32)w2c_i0 >= (s32)w2c_i1);
+  if (w2c_i0) {goto w2c_B102;}
+  w2c_j0 = 18446744073709551614ull;
   w2c_p6 = w2c_j0;
-  w2c_j1 = 18446744073709551615ull;
-  w2c_j0 += w2c_j1;
-  w2c_i0 = (u32)(w2c_j0);
-  w2c_i0 = i32_load8_s(m, (u64)(w2c_i0));
-  w2c_p4 = w2c_i0;
-  w2c_i1 = 4294967295u;
-  w2c_i0 = (u32)((s32)w2c_i0 > (s32)w2c_i1);
-  if (w2c_i0) {goto w2c_B113;}
-  w2c_j0 = 18446744073709551614ull;
-  w2c_p5 = w2c_j0;
-  w2c_j0 = w2c_p6;
-  w2c_j1 = 18446744073709551614ull;
-  w2c_j0 += w2c_j1;
-  w2c_i0 = (u32)(w2c_j0);
-  w2c_i0 = i32_load8_u(m, (u64)(w2c_i0));
-  w2c_i1 = 191u;
-  w2c_i0 = w2c_i0 > w2c_i1;
-  if (w2c_i0) {goto w2c_B114;}
-  w2c_j0 = 18446744073709551613ull;
-  w2c_j1 = 18446744073709551612ull;
-  w2c_j2 = w2c_p6;
-  w2c_j3 = 18446744073709551613ull;
-  w2c_j2 += w2c_j3;
-  w2c_i2 = (u32)(w2c_j2);
-  w2c_i2 = i32_load8_u(m, (u64)(w2c_i2));
-  w2c_i3 = 191u;
-  w2c_i2 = w2c_i2 > w2c_i3;
-  w2c_j0 = w2c_i2 ? w2c_j0 : w2c_j1;
-  w2c_p5 = w2c_j0;
-  w2c_B114:;
   w2c_j0 = w2c_p2;
-  w2c_j1 = w2c_p5;
-  w2c_j0 += w2c_j1;
   w2c_j1 = w2c_p3;
   w2c_j0 += w2c_j1;
   w2c_p5 = w2c_j0;
-  w2c_i0 = (u32)(w2c_j0);
-  w2c_i0 = i32_load8_s(m, (u64)(w2c_i0));
-  w2c_l12 = w2c_i0;
-  w2c_i1 = 255u;
-  w2c_i0 &= w2c_i1;
-  w2c_p4 = w2c_i0;
-  w2c_i0 = w2c_l12;
-  w2c_i1 = 4294967295u;
-  w2c_i0 = (u32)((s32)w2c_i0 > (s32)w2c_i1);
-  if (w2c_i0) {goto w2c_B115;}
-  w2c_j0 = w2c_p5;
-  w2c_i0 = (u32)(w2c_j0);
-  w2c_i0 = i32_load8_u(m, (u64)(w2c_i0) + 1u);
-  w2c_i1 = 63u;
-  w2c_i0 &= w2c_i1;
-  w2c_l13 = w2c_i0;
-  w2c_i0 = w2c_l12;
-  w2c_i1 = 4294967263u;
-  w2c_i0 = w2c_i0 > w2c_i1;
-  if (w2c_i0) {goto w2c_B116;}
-  w2c_i0 = w2c_p4;
-  w2c_i1 = 6u;
-  w2c_i0 <<= (w2c_i1 & 31);
-  w2c_i1 = 1984u;
-  w2c_i0 &= w2c_i1;
-  w2c_i1 = w2c_l13;
-  w2c_i0 |= w2c_i1;
-  w2c_p4 = w2c_i0;
-  goto w2c_B115;
-  w2c_B116:;
-  w2c_j0 = w2c_p5;
-  w2c_i0 = (u32)(w2c_j0);
-  w2c_i0 = i32_load8_u(m, (u64)(w2c_i0) + 2u);
-  w2c_i1 = 63u;
-  w2c_i0 &= w2c_i1;
-  w2c_l14 = w2c_i0;
-  w2c_i0 = w2c_l12;
-  w2c_i1 = 4294967279u;
-  w2c_i0 = w2c_i0 > w2c_i1;
-  if (w2c_i0) {goto w2c_B117;}
-  w2c_i0 = w2c_l13;
-  w2c_i1 = 6u;
-  w2c_i0 <<= (w2c_i1 & 31);
-  w2c_i1 = w2c_p4;
-  w2c_i2 = 12u;
-  w2c_i1 <<= (w2c_i2 & 31);
-  w2c_i2 = 61440u;
-  w2c_i1 &= w2c_i2;
-  w2c_i0 |= w2c_i1;
-  w2c_i1 = w2c_l14;
-  w2c_i0 |= w2c_i1;
-  w2c_p4 = w2c_i0;
-  goto w2c_B115;
-  w2c_B117:;
-  w2c_i0 = w2c_l14;
-  w2c_i1 = 6u;
-  w2c_i0 <<= (w2c_i1 & 31);
-  w2c_i1 = w2c_l13;
-  w2c_i2 = 12u;
-  w2c_i1 <<= (w2c_i2 & 31);
-  w2c_i2 = w2c_p4;
-  w2c_i3 = 18u;
-  w2c_i2 <<= (w2c_i3 & 31);
-  w2c_i3 = 1835008u;
-  w2c_i2 &= w2c_i3;
-  w2c_i1 |= w2c_i2;
-  w2c_i0 |= w2c_i1;
-  w2c_j1 = w2c_p5;
-  w2c_i1 = (u32)(w2c_j1);
-  w2c_i1 = i32_load8_u(m, (u64)(w2c_i1) + 3u);
-  w2c_i2 = 63u;
-  w2c_i1 &= w2c_i2;
-  w2c_i0 |= w2c_i1;
-  w2c_p4 = w2c_i0;
-  w2c_B115:;
-  w2c_i0 = w2c_p0;
-  w2c_i1 = w2c_p1;
-  w2c_i2 = w2c_p4;
-  w2c_i0 = w2c_f29(m, w2c_i0, w2c_i1, w2c_i2);
-  w2c_i0 = !(w2c_i0);
-  if (w2c_i0) {goto w2c_B112;}
-  w2c_i0 = 1u;
-  w2c_l11 = w2c_i0;
-  goto w2c_B0;
-  w2c_B113:;
-  w2c_i0 = w2c_p0;
-  w2c_i1 = w2c_p1;
-  w2c_i2 = w2c_p4;
-  w2c_i0 = w2c_f29(m, w2c_i0, w2c_i1, w2c_i2);
-  w2c_i0 = !(w2c_i0);
-  if (w2c_i0) {goto w2c_B118;}
-  w2c_i0 = 1u;
-  w2c_l11 = w2c_i0;
-  goto w2c_B0;
-  w2c_B118:;
-  w2c_j0 = w2c_p3;
-  w2c_j1 = 18446744073709551615ull;
-  w2c_j0 += w2c_j1;
-  w2c_p3 = w2c_j0;
-  goto w2c_B111;
-  w2c_B112:;
-  w2c_j0 = 18446744073709551614ull;
-  w2c_p5 = w2c_j0;
-  w2c_j0 = w2c_p6;
   w2c_j1 = 18446744073709551614ull;
   w2c_j0 += w2c_j1;
   w2c_i0 = (u32)(w2c_j0);
   w2c_i0 = i32_load8_u(m, (u64)(w2c_i0));
   w2c_i1 = 191u;
   w2c_i0 = w2c_i0 > w2c_i1;
-  if (w2c_i0) {goto w2c_B119;}
+  if (w2c_i0) {goto w2c_B103;}
   w2c_j0 = 18446744073709551613ull;
   w2c_j1 = 18446744073709551612ull;
-  w2c_j2 = w2c_p6;
+  w2c_j2 = w2c_p5;
   w2c_j3 = 18446744073709551613ull;
   w2c_j2 += w2c_j3;
   w2c_i2 = (u32)(w2c_j2);
@@ -18259,15 +17111,15 @@ static u32 w2c_f28(module *m, u32 w2c_p0, u32 w2c_p1, u64 w2c_p2, u64 w2c_p3, u3
   w2c_i3 = 191u;
   w2c_i2 = w2c_i2 > w2c_i3;
   w2c_j0 = w2c_i2 ? w2c_j0 : w2c_j1;
-  w2c_p5 = w2c_j0;
-  w2c_B119:;
+  w2c_p6 = w2c_j0;
+  w2c_B103:;
   w2c_j0 = w2c_p2;
-  w2c_j1 = w2c_p5;
+  w2c_j1 = w2c_p6;
   w2c_j2 = w2c_p3;
   w2c_j1 += w2c_j2;
-  w2c_p3 = w2c_j1;
+  w2c_p6 = w2c_j1;
   w2c_j0 += w2c_j1;
-  w2c_p6 = w2c_j0;
+  w2c_p3 = w2c_j0;
   w2c_i0 = (u32)(w2c_j0);
   w2c_i0 = i32_load8_s(m, (u64)(w2c_i0));
   w2c_p0 = w2c_i0;
@@ -18277,8 +17129,8 @@ static u32 w2c_f28(module *m, u32 w2c_p0, u32 w2c_p1, u64 w2c_p2, u64 w2c_p3, u3
   w2c_i0 = w2c_p0;
   w2c_i1 = 4294967295u;
   w2c_i0 = (u32)((s32)w2c_i0 > (s32)w2c_i1);
-  if (w2c_i0) {goto w2c_B111;}
-  w2c_j0 = w2c_p6;
+  if (w2c_i0) {goto w2c_B102;}
+  w2c_j0 = w2c_p3;
   w2c_i0 = (u32)(w2c_j0);
   w2c_i0 = i32_load8_u(m, (u64)(w2c_i0) + 1u);
   w2c_i1 = 63u;
@@ -18287,7 +17139,7 @@ static u32 w2c_f28(module *m, u32 w2c_p0, u32 w2c_p1, u64 w2c_p2, u64 w2c_p3, u3
   w2c_i0 = w2c_p0;
   w2c_i1 = 4294967263u;
   w2c_i0 = w2c_i0 > w2c_i1;
-  if (w2c_i0) {goto w2c_B120;}
+  if (w2c_i0) {goto w2c_B104;}
   w2c_i0 = w2c_p4;
   w2c_i1 = 6u;
   w2c_i0 <<= (w2c_i1 & 31);
@@ -18296,9 +17148,9 @@ static u32 w2c_f28(module *m, u32 w2c_p0, u32 w2c_p1, u64 w2c_p2, u64 w2c_p3, u3
   w2c_i1 = w2c_p1;
   w2c_i0 |= w2c_i1;
   w2c_p4 = w2c_i0;
-  goto w2c_B111;
-  w2c_B120:;
-  w2c_j0 = w2c_p6;
+  goto w2c_B102;
+  w2c_B104:;
+  w2c_j0 = w2c_p3;
   w2c_i0 = (u32)(w2c_j0);
   w2c_i0 = i32_load8_u(m, (u64)(w2c_i0) + 2u);
   w2c_i1 = 63u;
@@ -18307,7 +17159,7 @@ static u32 w2c_f28(module *m, u32 w2c_p0, u32 w2c_p1, u64 w2c_p2, u64 w2c_p3, u3
   w2c_i0 = w2c_p0;
   w2c_i1 = 4294967279u;
   w2c_i0 = w2c_i0 > w2c_i1;
-  if (w2c_i0) {goto w2c_B121;}
+  if (w2c_i0) {goto w2c_B105;}
   w2c_i0 = w2c_p1;
   w2c_i1 = 6u;
   w2c_i0 <<= (w2c_i1 & 31);
@@ -18320,8 +17172,8 @@ static u32 w2c_f28(module *m, u32 w2c_p0, u32 w2c_p1, u64 w2c_p2, u64 w2c_p3, u3
   w2c_i1 = w2c_l12;
   w2c_i0 |= w2c_i1;
   w2c_p4 = w2c_i0;
-  goto w2c_B111;
-  w2c_B121:;
+  goto w2c_B102;
+  w2c_B105:;
   w2c_i0 = w2c_l12;
   w2c_i1 = 6u;
   w2c_i0 <<= (w2c_i1 & 31);
@@ -18335,25 +17187,25 @@ static u32 w2c_f28(module *m, u32 w2c_p0, u32 w2c_p1, u64 w2c_p2, u64 w2c_p3, u3
   w2c_i2 &= w2c_i3;
   w2c_i1 |= w2c_i2;
   w2c_i0 |= w2c_i1;
-  w2c_j1 = w2c_p6;
+  w2c_j1 = w2c_p3;
   w2c_i1 = (u32)(w2c_j1);
   w2c_i1 = i32_load8_u(m, (u64)(w2c_i1) + 3u);
   w2c_i2 = 63u;
   w2c_i1 &= w2c_i2;
   w2c_i0 |= w2c_i1;
   w2c_p4 = w2c_i0;
-  w2c_B111:;
+  w2c_B102:;
   w2c_i0 = w2c_p4;
   w2c_i1 = 32u;
   w2c_i0 = w2c_i0 != w2c_i1;
   if (w2c_i0) {goto w2c_B0;}
-  w2c_j0 = w2c_p3;
+  w2c_j0 = w2c_p6;
   w2c_i0 = !(w2c_j0);
   if (w2c_i0) {goto w2c_B0;}
   w2c_j0 = w2c_p2;
-  w2c_j1 = w2c_p3;
+  w2c_j1 = w2c_p6;
   w2c_j0 += w2c_j1;
-  w2c_p6 = w2c_j0;
+  w2c_p3 = w2c_j0;
   w2c_j1 = 18446744073709551615ull;
   w2c_j0 += w2c_j1;
   w2c_i0 = (u32)(w2c_j0);
@@ -18361,20 +17213,20 @@ static u32 w2c_f28(module *m, u32 w2c_p0, u32 w2c_p1, u64 w2c_p2, u64 w2c_p3, u3
   w2c_p4 = w2c_i0;
   w2c_i1 = 0u;
   w2c_i0 = (u32)((s32)w2c_i0 >= (s32)w2c_i1);
-  if (w2c_i0) {goto w2c_B122;}
+  if (w2c_i0) {goto w2c_B106;}
   w2c_j0 = 18446744073709551614ull;
   w2c_p5 = w2c_j0;
-  w2c_j0 = w2c_p6;
+  w2c_j0 = w2c_p3;
   w2c_j1 = 18446744073709551614ull;
   w2c_j0 += w2c_j1;
   w2c_i0 = (u32)(w2c_j0);
   w2c_i0 = i32_load8_u(m, (u64)(w2c_i0));
   w2c_i1 = 191u;
   w2c_i0 = w2c_i0 > w2c_i1;
-  if (w2c_i0) {goto w2c_B123;}
+  if (w2c_i0) {goto w2c_B107;}
   w2c_j0 = 18446744073709551613ull;
   w2c_j1 = 18446744073709551612ull;
-  w2c_j2 = w2c_p6;
+  w2c_j2 = w2c_p3;
   w2c_j3 = 18446744073709551613ull;
   w2c_j2 += w2c_j3;
   w2c_i2 = (u32)(w2c_j2);
@@ -18383,11 +17235,11 @@ static u32 w2c_f28(module *m, u32 w2c_p0, u32 w2c_p1, u64 w2c_p2, u64 w2c_p3, u3
   w2c_i2 = w2c_i2 > w2c_i3;
   w2c_j0 = w2c_i2 ? w2c_j0 : w2c_j1;
   w2c_p5 = w2c_j0;
-  w2c_B123:;
+  w2c_B107:;
   w2c_j0 = w2c_p2;
   w2c_j1 = w2c_p5;
   w2c_j0 += w2c_j1;
-  w2c_j1 = w2c_p3;
+  w2c_j1 = w2c_p6;
   w2c_j0 += w2c_j1;
   w2c_p3 = w2c_j0;
   w2c_i0 = (u32)(w2c_j0);
@@ -18399,7 +17251,7 @@ static u32 w2c_f28(module *m, u32 w2c_p0, u32 w2c_p1, u64 w2c_p2, u64 w2c_p3, u3
   w2c_i0 = w2c_l11;
   w2c_i1 = 4294967295u;
   w2c_i0 = (u32)((s32)w2c_i0 > (s32)w2c_i1);
-  if (w2c_i0) {goto w2c_B122;}
+  if (w2c_i0) {goto w2c_B106;}
   w2c_j0 = w2c_p3;
   w2c_i0 = (u32)(w2c_j0);
   w2c_i0 = i32_load8_u(m, (u64)(w2c_i0) + 1u);
@@ -18409,7 +17261,7 @@ static u32 w2c_f28(module *m, u32 w2c_p0, u32 w2c_p1, u64 w2c_p2, u64 w2c_p3, u3
   w2c_i0 = w2c_l11;
   w2c_i1 = 4294967263u;
   w2c_i0 = w2c_i0 > w2c_i1;
-  if (w2c_i0) {goto w2c_B124;}
+  if (w2c_i0) {goto w2c_B108;}
   w2c_i0 = w2c_p4;
   w2c_i1 = 6u;
   w2c_i0 <<= (w2c_i1 & 31);
@@ -18418,8 +17270,8 @@ static u32 w2c_f28(module *m, u32 w2c_p0, u32 w2c_p1, u64 w2c_p2, u64 w2c_p3, u3
   w2c_i1 = w2c_p0;
   w2c_i0 |= w2c_i1;
   w2c_p4 = w2c_i0;
-  goto w2c_B122;
-  w2c_B124:;
+  goto w2c_B106;
+  w2c_B108:;
   w2c_j0 = w2c_p3;
   w2c_i0 = (u32)(w2c_j0);
   w2c_i0 = i32_load8_u(m, (u64)(w2c_i0) + 2u);
@@ -18429,7 +17281,7 @@ static u32 w2c_f28(module *m, u32 w2c_p0, u32 w2c_p1, u64 w2c_p2, u64 w2c_p3, u3
   w2c_i0 = w2c_l11;
   w2c_i1 = 4294967279u;
   w2c_i0 = w2c_i0 > w2c_i1;
-  if (w2c_i0) {goto w2c_B125;}
+  if (w2c_i0) {goto w2c_B109;}
   w2c_i0 = w2c_p0;
   w2c_i1 = 6u;
   w2c_i0 <<= (w2c_i1 & 31);
@@ -18442,8 +17294,8 @@ static u32 w2c_f28(module *m, u32 w2c_p0, u32 w2c_p1, u64 w2c_p2, u64 w2c_p3, u3
   w2c_i1 = w2c_p1;
   w2c_i0 |= w2c_i1;
   w2c_p4 = w2c_i0;
-  goto w2c_B122;
-  w2c_B125:;
+  goto w2c_B106;
+  w2c_B109:;
   w2c_i0 = w2c_p1;
   w2c_i1 = 6u;
   w2c_i0 <<= (w2c_i1 & 31);
@@ -18464,7 +17316,7 @@ static u32 w2c_f28(module *m, u32 w2c_p0, u32 w2c_p1, u64 w2c_p2, u64 w2c_p3, u3
   w2c_i1 &= w2c_i2;
   w2c_i0 |= w2c_i1;
   w2c_p4 = w2c_i0;
-  w2c_B122:;
+  w2c_B106:;
   w2c_i0 = w2c_p4;
   w2c_i1 = 4294967248u;
   w2c_i0 += w2c_i1;
@@ -18478,7 +17330,7 @@ static u32 w2c_f28(module *m, u32 w2c_p0, u32 w2c_p1, u64 w2c_p2, u64 w2c_p3, u3
   w2c_i0 |= w2c_i1;
   w2c_l11 = w2c_i0;
   goto w2c_B0;
-  w2c_B12:;
+  w2c_B10:;
   w2c_j0 = w2c_p6;
   w2c_i0 = !(w2c_j0);
   if (w2c_i0) {goto w2c_B0;}
@@ -18492,7 +17344,7 @@ static u32 w2c_f28(module *m, u32 w2c_p0, u32 w2c_p1, u64 w2c_p2, u64 w2c_p3, u3
   w2c_i0 = w2c_l12;
   w2c_i1 = 4294967295u;
   w2c_i0 = (u32)((s32)w2c_i0 > (s32)w2c_i1);
-  if (w2c_i0) {goto w2c_B126;}
+  if (w2c_i0) {goto w2c_B110;}
   w2c_j0 = w2c_p5;
   w2c_i0 = (u32)(w2c_j0);
   w2c_i0 = i32_load8_u(m, (u64)(w2c_i0) + 1u);
@@ -18502,7 +17354,7 @@ static u32 w2c_f28(module *m, u32 w2c_p0, u32 w2c_p1, u64 w2c_p2, u64 w2c_p3, u3
   w2c_i0 = w2c_l12;
   w2c_i1 = 4294967263u;
   w2c_i0 = w2c_i0 > w2c_i1;
-  if (w2c_i0) {goto w2c_B127;}
+  if (w2c_i0) {goto w2c_B111;}
   w2c_i0 = w2c_p4;
   w2c_i1 = 6u;
   w2c_i0 <<= (w2c_i1 & 31);
@@ -18511,8 +17363,8 @@ static u32 w2c_f28(module *m, u32 w2c_p0, u32 w2c_p1, u64 w2c_p2, u64 w2c_p3, u3
   w2c_i1 = w2c_l13;
   w2c_i0 |= w2c_i1;
   w2c_p4 = w2c_i0;
-  goto w2c_B126;
-  w2c_B127:;
+  goto w2c_B110;
+  w2c_B111:;
   w2c_j0 = w2c_p5;
   w2c_i0 = (u32)(w2c_j0);
   w2c_i0 = i32_load8_u(m, (u64)(w2c_i0) + 2u);
@@ -18522,7 +17374,7 @@ static u32 w2c_f28(module *m, u32 w2c_p0, u32 w2c_p1, u64 w2c_p2, u64 w2c_p3, u3
   w2c_i0 = w2c_l12;
   w2c_i1 = 4294967279u;
   w2c_i0 = w2c_i0 > w2c_i1;
-  if (w2c_i0) {goto w2c_B128;}
+  if (w2c_i0) {goto w2c_B112;}
   w2c_i0 = w2c_l13;
   w2c_i1 = 6u;
   w2c_i0 <<= (w2c_i1 & 31);
@@ -18535,8 +17387,8 @@ static u32 w2c_f28(module *m, u32 w2c_p0, u32 w2c_p1, u64 w2c_p2, u64 w2c_p3, u3
   w2c_i1 = w2c_l14;
   w2c_i0 |= w2c_i1;
   w2c_p4 = w2c_i0;
-  goto w2c_B126;
-  w2c_B128:;
+  goto w2c_B110;
+  w2c_B112:;
   w2c_i0 = w2c_l14;
   w2c_i1 = 6u;
   w2c_i0 <<= (w2c_i1 & 31);
@@ -18557,28 +17409,31 @@ static u32 w2c_f28(module *m, u32 w2c_p0, u32 w2c_p1, u64 w2c_p2, u64 w2c_p3, u3
   w2c_i1 &= w2c_i2;
   w2c_i0 |= w2c_i1;
   w2c_p4 = w2c_i0;
-  w2c_B126:;
+  w2c_B110:;
   w2c_i0 = w2c_p4;
   w2c_i1 = 4294967248u;
   w2c_i0 += w2c_i1;
   w2c_i1 = 10u;
   w2c_i0 = w2c_i0 < w2c_i1;
-  if (w2c_i0) {goto w2c_B129;}
+  if (w2c_i0) {goto w2c_B113;}
   w2c_i0 = w2c_p4;
   w2c_i1 = 4294902000u;
   w2c_i0 += w2c_i1;
   w2c_i1 = 9u;
   w2c_i0 = w2c_i0 > w2c_i1;
   if (w2c_i0) {goto w2c_B0;}
-  w2c_B129:;
-  w2c_j0 = w2c_p3;
-  w2c_i0 = !(w2c_j0);
-  w2c_i0 = !(w2c_i0);
-  if (w2c_i0) {goto w2c_B130;}
+  w2c_B113:;
+  w2c_i0 = w2c_p0;
+  w2c_i1 = w2c_p1;
+  w2c_j2 = w2c_p2;
+  w2c_j3 = w2c_p3;
+  w2c_i0 = w2c_f28(m, w2c_i0, w2c_i1, w2c_j2, w2c_j3);
+  if (w2c_i0) {goto w2c_B0;}
   w2c_i0 = 1u;
   w2c_l11 = w2c_i0;
-  goto w2c_B0;
-  w2c_B130:;
+  w2c_j0 = w2c_p3;
+  w2c_i0 = !(w2c_j0);
+  if (w2c_i0) {goto w2c_B0;}
   w2c_j0 = w2c_p2;
   w2c_j1 = w2c_p3;
   w2c_j0 += w2c_j1;
@@ -18588,9 +17443,9 @@ static u32 w2c_f28(module *m, u32 w2c_p0, u32 w2c_p1, u64 w2c_p2, u64 w2c_p3, u3
   w2c_i0 = (u32)(w2c_j0);
   w2c_i0 = i32_load8_s(m, (u64)(w2c_i0));
   w2c_p4 = w2c_i0;
-  w2c_i1 = 4294967295u;
-  w2c_i0 = (u32)((s32)w2c_i0 > (s32)w2c_i1);
-  if (w2c_i0) {goto w2c_B9;}
+  w2c_i1 = 0u;
+  w2c_i0 = (u32)((s32)w2c_i0 >= (s32)w2c_i1);
+  if (w2c_i0) {goto w2c_B114;}
   w2c_j0 = 18446744073709551614ull;
   w2c_p5 = w2c_j0;
   w2c_j0 = w2c_p6;
@@ -18600,7 +17455,7 @@ static u32 w2c_f28(module *m, u32 w2c_p0, u32 w2c_p1, u64 w2c_p2, u64 w2c_p3, u3
   w2c_i0 = i32_load8_u(m, (u64)(w2c_i0));
   w2c_i1 = 191u;
   w2c_i0 = w2c_i0 > w2c_i1;
-  if (w2c_i0) {goto w2c_B131;}
+  if (w2c_i0) {goto w2c_B115;}
   w2c_j0 = 18446744073709551613ull;
   w2c_j1 = 18446744073709551612ull;
   w2c_j2 = w2c_p6;
@@ -18612,115 +17467,7 @@ static u32 w2c_f28(module *m, u32 w2c_p0, u32 w2c_p1, u64 w2c_p2, u64 w2c_p3, u3
   w2c_i2 = w2c_i2 > w2c_i3;
   w2c_j0 = w2c_i2 ? w2c_j0 : w2c_j1;
   w2c_p5 = w2c_j0;
-  w2c_B131:;
-  w2c_j0 = w2c_p2;
-  w2c_j1 = w2c_p5;
-  w2c_j0 += w2c_j1;
-  w2c_j1 = w2c_p3;
-  w2c_j0 += w2c_j1;
-  w2c_p5 = w2c_j0;
-  w2c_i0 = (u32)(w2c_j0);
-  w2c_i0 = i32_load8_s(m, (u64)(w2c_i0));
-  w2c_l12 = w2c_i0;
-  w2c_i1 = 255u;
-  w2c_i0 &= w2c_i1;
-  w2c_p4 = w2c_i0;
-  w2c_i0 = w2c_l12;
-  w2c_i1 = 4294967295u;
-  w2c_i0 = (u32)((s32)w2c_i0 > (s32)w2c_i1);
-  if (w2c_i0) {goto w2c_B132;}
-  w2c_j0 = w2c_p5;
-  w2c_i0 = (u32)(w2c_j0);
-  w2c_i0 = i32_load8_u(m, (u64)(w2c_i0) + 1u);
-  w2c_i1 = 63u;
-  w2c_i0 &= w2c_i1;
-  w2c_l13 = w2c_i0;
-  w2c_i0 = w2c_l12;
-  w2c_i1 = 4294967263u;
-  w2c_i0 = w2c_i0 > w2c_i1;
-  if (w2c_i0) {goto w2c_B133;}
-  w2c_i0 = w2c_p4;
-  w2c_i1 = 6u;
-  w2c_i0 <<= (w2c_i1 & 31);
-  w2c_i1 = 1984u;
-  w2c_i0 &= w2c_i1;
-  w2c_i1 = w2c_l13;
-  w2c_i0 |= w2c_i1;
-  w2c_p4 = w2c_i0;
-  goto w2c_B132;
-  w2c_B133:;
-  w2c_j0 = w2c_p5;
-  w2c_i0 = (u32)(w2c_j0);
-  w2c_i0 = i32_load8_u(m, (u64)(w2c_i0) + 2u);
-  w2c_i1 = 63u;
-  w2c_i0 &= w2c_i1;
-  w2c_l14 = w2c_i0;
-  w2c_i0 = w2c_l12;
-  w2c_i1 = 4294967279u;
-  w2c_i0 = w2c_i0 > w2c_i1;
-  if (w2c_i0) {goto w2c_B134;}
-  w2c_i0 = w2c_l13;
-  w2c_i1 = 6u;
-  w2c_i0 <<= (w2c_i1 & 31);
-  w2c_i1 = w2c_p4;
-  w2c_i2 = 12u;
-  w2c_i1 <<= (w2c_i2 & 31);
-  w2c_i2 = 61440u;
-  w2c_i1 &= w2c_i2;
-  w2c_i0 |= w2c_i1;
-  w2c_i1 = w2c_l14;
-  w2c_i0 |= w2c_i1;
-  w2c_p4 = w2c_i0;
-  goto w2c_B132;
-  w2c_B134:;
-  w2c_i0 = w2c_l14;
-  w2c_i1 = 6u;
-  w2c_i0 <<= (w2c_i1 & 31);
-  w2c_i1 = w2c_l13;
-  w2c_i2 = 12u;
-  w2c_i1 <<= (w2c_i2 & 31);
-  w2c_i2 = w2c_p4;
-  w2c_i3 = 18u;
-  w2c_i2 <<= (w2c_i3 & 31);
-  w2c_i3 = 1835008u;
-  w2c_i2 &= w2c_i3;
-  w2c_i1 |= w2c_i2;
-  w2c_i0 |= w2c_i1;
-  w2c_j1 = w2c_p5;
-  w2c_i1 = (u32)(w2c_j1);
-  w2c_i1 = i32_load8_u(m, (u64)(w2c_i1) + 3u);
-  w2c_i2 = 63u;
-  w2c_i1 &= w2c_i2;
-  w2c_i0 |= w2c_i1;
-  w2c_p4 = w2c_i0;
-  w2c_B132:;
-  w2c_i0 = w2c_p0;
-  w2c_i1 = w2c_p1;
-  w2c_i2 = w2c_p4;
-  w2c_i0 = w2c_f29(m, w2c_i0, w2c_i1, w2c_i2);
-  if (w2c_i0) {goto w2c_B0;}
-  w2c_j0 = 18446744073709551614ull;
-  w2c_p5 = w2c_j0;
-  w2c_j0 = w2c_p6;
-  w2c_j1 = 18446744073709551614ull;
-  w2c_j0 += w2c_j1;
-  w2c_i0 = (u32)(w2c_j0);
-  w2c_i0 = i32_load8_u(m, (u64)(w2c_i0));
-  w2c_i1 = 191u;
-  w2c_i0 = w2c_i0 > w2c_i1;
-  if (w2c_i0) {goto w2c_B135;}
-  w2c_j0 = 18446744073709551613ull;
-  w2c_j1 = 18446744073709551612ull;
-  w2c_j2 = w2c_p6;
-  w2c_j3 = 18446744073709551613ull;
-  w2c_j2 += w2c_j3;
-  w2c_i2 = (u32)(w2c_j2);
-  w2c_i2 = i32_load8_u(m, (u64)(w2c_i2));
-  w2c_i3 = 191u;
-  w2c_i2 = w2c_i2 > w2c_i3;
-  w2c_j0 = w2c_i2 ? w2c_j0 : w2c_j1;
-  w2c_p5 = w2c_j0;
-  w2c_B135:;
+  w2c_B115:;
   w2c_j0 = w2c_p2;
   w2c_j1 = w2c_p5;
   w2c_j0 += w2c_j1;
@@ -18736,7 +17483,7 @@ static u32 w2c_f28(module *m, u32 w2c_p0, u32 w2c_p1, u64 w2c_p2, u64 w2c_p3, u3
   w2c_i0 = w2c_p0;
   w2c_i1 = 4294967295u;
   w2c_i0 = (u32)((s32)w2c_i0 > (s32)w2c_i1);
-  if (w2c_i0) {goto w2c_B8;}
+  if (w2c_i0) {goto w2c_B114;}
   w2c_j0 = w2c_p3;
   w2c_i0 = (u32)(w2c_j0);
   w2c_i0 = i32_load8_u(m, (u64)(w2c_i0) + 1u);
@@ -18746,7 +17493,7 @@ static u32 w2c_f28(module *m, u32 w2c_p0, u32 w2c_p1, u64 w2c_p2, u64 w2c_p3, u3
   w2c_i0 = w2c_p0;
   w2c_i1 = 4294967263u;
   w2c_i0 = w2c_i0 > w2c_i1;
-  if (w2c_i0) {goto w2c_B136;}
+  if (w2c_i0) {goto w2c_B116;}
   w2c_i0 = w2c_p4;
   w2c_i1 = 6u;
   w2c_i0 <<= (w2c_i1 & 31);
@@ -18755,8 +17502,8 @@ static u32 w2c_f28(module *m, u32 w2c_p0, u32 w2c_p1, u64 w2c_p2, u64 w2c_p3, u3
   w2c_i1 = w2c_p1;
   w2c_i0 |= w2c_i1;
   w2c_p4 = w2c_i0;
-  goto w2c_B8;
-  w2c_B136:;
+  goto w2c_B114;
+  w2c_B116:;
   w2c_j0 = w2c_p3;
   w2c_i0 = (u32)(w2c_j0);
   w2c_i0 = i32_load8_u(m, (u64)(w2c_i0) + 2u);
@@ -18766,7 +17513,7 @@ static u32 w2c_f28(module *m, u32 w2c_p0, u32 w2c_p1, u64 w2c_p2, u64 w2c_p3, u3
   w2c_i0 = w2c_p0;
   w2c_i1 = 4294967279u;
   w2c_i0 = w2c_i0 > w2c_i1;
-  if (w2c_i0) {goto w2c_B137;}
+  if (w2c_i0) {goto w2c_B117;}
   w2c_i0 = w2c_p1;
   w2c_i1 = 6u;
   w2c_i0 <<= (w2c_i1 & 31);
@@ -18779,8 +17526,8 @@ static u32 w2c_f28(module *m, u32 w2c_p0, u32 w2c_p1, u64 w2c_p2, u64 w2c_p3, u3
   w2c_i1 = w2c_l12;
   w2c_i0 |= w2c_i1;
   w2c_p4 = w2c_i0;
-  goto w2c_B8;
-  w2c_B137:;
+  goto w2c_B114;
+  w2c_B117:;
   w2c_i0 = w2c_l12;
   w2c_i1 = 6u;
   w2c_i0 <<= (w2c_i1 & 31);
@@ -18801,26 +17548,7 @@ static u32 w2c_f28(module *m, u32 w2c_p0, u32 w2c_p1, u64 w2c_p2, u64 w2c_p3, u3
   w2c_i1 &= w2c_i2;
   w2c_i0 |= w2c_i1;
   w2c_p4 = w2c_i0;
-  goto w2c_B8;
-  w2c_B11:;
-  UNREACHABLE;
-  w2c_B10:;
-  w2c_i0 = w2c_p4;
-  w2c_i1 = 4294967238u;
-  w2c_i0 += w2c_i1;
-  w2c_i1 = 255u;
-  w2c_i0 &= w2c_i1;
-  w2c_i1 = 246u;
-  w2c_i0 = w2c_i0 < w2c_i1;
-  if (w2c_i0) {goto w2c_B7;}
-  goto w2c_B6;
-  w2c_B9:;
-  w2c_i0 = w2c_p0;
-  w2c_i1 = w2c_p1;
-  w2c_i2 = w2c_p4;
-  w2c_i0 = w2c_f29(m, w2c_i0, w2c_i1, w2c_i2);
-  if (w2c_i0) {goto w2c_B0;}
-  w2c_B8:;
+  w2c_B114:;
   w2c_i0 = w2c_p4;
   w2c_i1 = 4294967263u;
   w2c_i0 &= w2c_i1;
@@ -18828,23 +17556,23 @@ static u32 w2c_f28(module *m, u32 w2c_p0, u32 w2c_p1, u64 w2c_p2, u64 w2c_p3, u3
   w2c_i0 += w2c_i1;
   w2c_i1 = 26u;
   w2c_i0 = w2c_i0 < w2c_i1;
-  if (w2c_i0) {goto w2c_B0;}
+  if (w2c_i0) {goto w2c_B2;}
   w2c_i0 = w2c_p4;
   w2c_i1 = 8239u;
   w2c_i0 = (u32)((s32)w2c_i0 > (s32)w2c_i1);
-  if (w2c_i0) {goto w2c_B139;}
+  if (w2c_i0) {goto w2c_B119;}
   w2c_i0 = w2c_p4;
   w2c_i1 = 4294967259u;
   w2c_i0 += w2c_i1;
   switch (w2c_i0) {
     case 0: goto w2c_B2;
-    case 1: goto w2c_B138;
-    case 2: goto w2c_B138;
-    case 3: goto w2c_B138;
+    case 1: goto w2c_B118;
+    case 2: goto w2c_B118;
+    case 3: goto w2c_B118;
     case 4: goto w2c_B2;
-    default: goto w2c_B140;
+    default: goto w2c_B120;
   }
-  w2c_B140:;
+  w2c_B120:;
   w2c_i0 = w2c_p4;
   w2c_i1 = 95u;
   w2c_i0 = w2c_i0 == w2c_i1;
@@ -18852,9 +17580,9 @@ static u32 w2c_f28(module *m, u32 w2c_p0, u32 w2c_p1, u64 w2c_p2, u64 w2c_p3, u3
   w2c_i0 = w2c_p4;
   w2c_i1 = 125u;
   w2c_i0 = w2c_i0 != w2c_i1;
-  if (w2c_i0) {goto w2c_B138;}
+  if (w2c_i0) {goto w2c_B118;}
   goto w2c_B2;
-  w2c_B139:;
+  w2c_B119:;
   w2c_i0 = w2c_p4;
   w2c_i1 = 8240u;
   w2c_i0 = w2c_i0 == w2c_i1;
@@ -18867,33 +17595,23 @@ static u32 w2c_f28(module *m, u32 w2c_p0, u32 w2c_p1, u64 w2c_p2, u64 w2c_p3, u3
   w2c_i1 = 65285u;
   w2c_i0 = w2c_i0 == w2c_i1;
   if (w2c_i0) {goto w2c_B2;}
-  w2c_B138:;
+  w2c_B118:;
   w2c_i0 = w2c_p4;
   w2c_i1 = 45u;
-  w2c_i0 = w2c_i0 >= w2c_i1;
-  if (w2c_i0) {goto w2c_B141;}
-  w2c_i0 = 1u;
-  w2c_l11 = w2c_i0;
-  goto w2c_B0;
-  w2c_B141:;
+  w2c_i0 = w2c_i0 < w2c_i1;
+  if (w2c_i0) {goto w2c_B0;}
   w2c_i0 = w2c_p4;
   w2c_i1 = 48u;
   w2c_i0 = w2c_i0 < w2c_i1;
   if (w2c_i0) {goto w2c_B2;}
   w2c_i0 = w2c_p4;
   w2c_i1 = 92u;
-  w2c_i0 = w2c_i0 >= w2c_i1;
-  if (w2c_i0) {goto w2c_B142;}
-  w2c_i0 = 1u;
-  w2c_l11 = w2c_i0;
-  goto w2c_B0;
-  w2c_B142:;
+  w2c_i0 = w2c_i0 < w2c_i1;
+  if (w2c_i0) {goto w2c_B0;}
   w2c_i0 = w2c_p4;
   w2c_i1 = 94u;
   w2c_i0 = w2c_i0 < w2c_i1;
   if (w2c_i0) {goto w2c_B2;}
-  w2c_i0 = 1u;
-  w2c_l11 = w2c_i0;
   w2c_i0 = w2c_p4;
   w2c_i1 = 4294902003u;
   w2c_i0 += w2c_i1;
@@ -18901,6 +17619,17 @@ static u32 w2c_f28(module *m, u32 w2c_p0, u32 w2c_p1, u64 w2c_p2, u64 w2c_p3, u3
   w2c_i0 = w2c_i0 > w2c_i1;
   if (w2c_i0) {goto w2c_B0;}
   goto w2c_B2;
+  w2c_B9:;
+  UNREACHABLE;
+  w2c_B8:;
+  w2c_i0 = w2c_p4;
+  w2c_i1 = 4294967238u;
+  w2c_i0 += w2c_i1;
+  w2c_i1 = 255u;
+  w2c_i0 &= w2c_i1;
+  w2c_i1 = 246u;
+  w2c_i0 = w2c_i0 >= w2c_i1;
+  if (w2c_i0) {goto w2c_B6;}
   w2c_B7:;
   w2c_i0 = w2c_p4;
   w2c_i1 = 4294967252u;
@@ -18909,9 +17638,9 @@ static u32 w2c_f28(module *m, u32 w2c_p0, u32 w2c_p1, u64 w2c_p2, u64 w2c_p3, u3
     case 0: goto w2c_B6;
     case 1: goto w2c_B4;
     case 2: goto w2c_B6;
-    default: goto w2c_B143;
+    default: goto w2c_B121;
   }
-  w2c_B143:;
+  w2c_B121:;
   w2c_i0 = w2c_p4;
   w2c_i1 = 65294u;
   w2c_i0 = w2c_i0 != w2c_i1;
@@ -18931,7 +17660,7 @@ static u32 w2c_f28(module *m, u32 w2c_p0, u32 w2c_p1, u64 w2c_p2, u64 w2c_p3, u3
   w2c_p4 = w2c_i0;
   w2c_i1 = 4294967295u;
   w2c_i0 = (u32)((s32)w2c_i0 > (s32)w2c_i1);
-  if (w2c_i0) {goto w2c_B144;}
+  if (w2c_i0) {goto w2c_B122;}
   w2c_j0 = 18446744073709551614ull;
   w2c_l9 = w2c_j0;
   w2c_j0 = w2c_p2;
@@ -18944,7 +17673,7 @@ static u32 w2c_f28(module *m, u32 w2c_p0, u32 w2c_p1, u64 w2c_p2, u64 w2c_p3, u3
   w2c_i0 = i32_load8_u(m, (u64)(w2c_i0));
   w2c_i1 = 191u;
   w2c_i0 = w2c_i0 > w2c_i1;
-  if (w2c_i0) {goto w2c_B145;}
+  if (w2c_i0) {goto w2c_B123;}
   w2c_j0 = 18446744073709551613ull;
   w2c_j1 = 18446744073709551612ull;
   w2c_j2 = w2c_l10;
@@ -18956,7 +17685,7 @@ static u32 w2c_f28(module *m, u32 w2c_p0, u32 w2c_p1, u64 w2c_p2, u64 w2c_p3, u3
   w2c_i2 = w2c_i2 > w2c_i3;
   w2c_j0 = w2c_i2 ? w2c_j0 : w2c_j1;
   w2c_l9 = w2c_j0;
-  w2c_B145:;
+  w2c_B123:;
   w2c_j0 = w2c_p2;
   w2c_j1 = w2c_l9;
   w2c_j2 = w2c_l8;
@@ -18973,7 +17702,7 @@ static u32 w2c_f28(module *m, u32 w2c_p0, u32 w2c_p1, u64 w2c_p2, u64 w2c_p3, u3
   w2c_i0 = w2c_l11;
   w2c_i1 = 4294967295u;
   w2c_i0 = (u32)((s32)w2c_i0 > (s32)w2c_i1);
-  if (w2c_i0) {goto w2c_B144;}
+  if (w2c_i0) {goto w2c_B122;}
   w2c_j0 = w2c_l8;
   w2c_i0 = (u32)(w2c_j0);
   w2c_i0 = i32_load8_u(m, (u64)(w2c_i0) + 1u);
@@ -18983,7 +17712,7 @@ static u32 w2c_f28(module *m, u32 w2c_p0, u32 w2c_p1, u64 w2c_p2, u64 w2c_p3, u3
   w2c_i0 = w2c_l11;
   w2c_i1 = 4294967264u;
   w2c_i0 = w2c_i0 < w2c_i1;
-  if (w2c_i0) {goto w2c_B146;}
+  if (w2c_i0) {goto w2c_B124;}
   w2c_j0 = w2c_l8;
   w2c_i0 = (u32)(w2c_j0);
   w2c_i0 = i32_load8_u(m, (u64)(w2c_i0) + 2u);
@@ -18993,7 +17722,7 @@ static u32 w2c_f28(module *m, u32 w2c_p0, u32 w2c_p1, u64 w2c_p2, u64 w2c_p3, u3
   w2c_i0 = w2c_l11;
   w2c_i1 = 4294967280u;
   w2c_i0 = w2c_i0 < w2c_i1;
-  if (w2c_i0) {goto w2c_B147;}
+  if (w2c_i0) {goto w2c_B125;}
   w2c_i0 = w2c_p1;
   w2c_i1 = 6u;
   w2c_i0 <<= (w2c_i1 & 31);
@@ -19014,8 +17743,8 @@ static u32 w2c_f28(module *m, u32 w2c_p0, u32 w2c_p1, u64 w2c_p2, u64 w2c_p3, u3
   w2c_i1 &= w2c_i2;
   w2c_i0 |= w2c_i1;
   w2c_p4 = w2c_i0;
-  goto w2c_B144;
-  w2c_B147:;
+  goto w2c_B122;
+  w2c_B125:;
   w2c_i0 = w2c_p0;
   w2c_i1 = 6u;
   w2c_i0 <<= (w2c_i1 & 31);
@@ -19028,8 +17757,8 @@ static u32 w2c_f28(module *m, u32 w2c_p0, u32 w2c_p1, u64 w2c_p2, u64 w2c_p3, u3
   w2c_i1 = w2c_p1;
   w2c_i0 |= w2c_i1;
   w2c_p4 = w2c_i0;
-  goto w2c_B144;
-  w2c_B146:;
+  goto w2c_B122;
+  w2c_B124:;
   w2c_i0 = w2c_p4;
   w2c_i1 = 6u;
   w2c_i0 <<= (w2c_i1 & 31);
@@ -19038,28 +17767,28 @@ static u32 w2c_f28(module *m, u32 w2c_p0, u32 w2c_p1, u64 w2c_p2, u64 w2c_p3, u3
   w2c_i1 = w2c_p0;
   w2c_i0 |= w2c_i1;
   w2c_p4 = w2c_i0;
-  w2c_B144:;
+  w2c_B122:;
   w2c_i0 = w2c_p4;
   w2c_i1 = 4294967248u;
   w2c_i0 += w2c_i1;
   w2c_i1 = 10u;
   w2c_i0 = w2c_i0 < w2c_i1;
-  if (w2c_i0) {goto w2c_B148;}
+  if (w2c_i0) {goto w2c_B126;}
   w2c_i0 = w2c_p4;
   w2c_i1 = 4294902000u;
   w2c_i0 += w2c_i1;
   w2c_i1 = 9u;
   w2c_i0 = w2c_i0 > w2c_i1;
   if (w2c_i0) {goto w2c_B5;}
-  w2c_B148:;
+  w2c_B126:;
   w2c_i0 = w2c_p4;
   w2c_i1 = 48u;
   w2c_i0 = w2c_i0 == w2c_i1;
-  if (w2c_i0) {goto w2c_B149;}
+  if (w2c_i0) {goto w2c_B127;}
   w2c_i0 = w2c_p4;
   w2c_i1 = 65296u;
   w2c_i0 = w2c_i0 == w2c_i1;
-  if (w2c_i0) {goto w2c_B149;}
+  if (w2c_i0) {goto w2c_B127;}
   w2c_j0 = w2c_l9;
   w2c_i0 = !(w2c_j0);
   if (w2c_i0) {goto w2c_B4;}
@@ -19074,7 +17803,7 @@ static u32 w2c_f28(module *m, u32 w2c_p0, u32 w2c_p1, u64 w2c_p2, u64 w2c_p3, u3
   w2c_p4 = w2c_i0;
   w2c_i1 = 4294967295u;
   w2c_i0 = (u32)((s32)w2c_i0 > (s32)w2c_i1);
-  if (w2c_i0) {goto w2c_B151;}
+  if (w2c_i0) {goto w2c_B129;}
   w2c_j0 = 18446744073709551614ull;
   w2c_l10 = w2c_j0;
   w2c_j0 = w2c_l8;
@@ -19085,7 +17814,7 @@ static u32 w2c_f28(module *m, u32 w2c_p0, u32 w2c_p1, u64 w2c_p2, u64 w2c_p3, u3
   w2c_p0 = w2c_i0;
   w2c_i1 = 191u;
   w2c_i0 = w2c_i0 > w2c_i1;
-  if (w2c_i0) {goto w2c_B152;}
+  if (w2c_i0) {goto w2c_B130;}
   w2c_j0 = 18446744073709551613ull;
   w2c_j1 = 18446744073709551612ull;
   w2c_j2 = w2c_l8;
@@ -19097,7 +17826,7 @@ static u32 w2c_f28(module *m, u32 w2c_p0, u32 w2c_p1, u64 w2c_p2, u64 w2c_p3, u3
   w2c_i2 = w2c_i2 > w2c_i3;
   w2c_j0 = w2c_i2 ? w2c_j0 : w2c_j1;
   w2c_l10 = w2c_j0;
-  w2c_B152:;
+  w2c_B130:;
   w2c_j0 = w2c_p2;
   w2c_j1 = w2c_l10;
   w2c_j0 += w2c_j1;
@@ -19113,7 +17842,7 @@ static u32 w2c_f28(module *m, u32 w2c_p0, u32 w2c_p1, u64 w2c_p2, u64 w2c_p3, u3
   w2c_i0 = w2c_l11;
   w2c_i1 = 4294967295u;
   w2c_i0 = (u32)((s32)w2c_i0 > (s32)w2c_i1);
-  if (w2c_i0) {goto w2c_B153;}
+  if (w2c_i0) {goto w2c_B131;}
   w2c_j0 = w2c_l10;
   w2c_i0 = (u32)(w2c_j0);
   w2c_i0 = i32_load8_u(m, (u64)(w2c_i0) + 1u);
@@ -19123,7 +17852,7 @@ static u32 w2c_f28(module *m, u32 w2c_p0, u32 w2c_p1, u64 w2c_p2, u64 w2c_p3, u3
   w2c_i0 = w2c_l11;
   w2c_i1 = 4294967264u;
   w2c_i0 = w2c_i0 < w2c_i1;
-  if (w2c_i0) {goto w2c_B154;}
+  if (w2c_i0) {goto w2c_B132;}
   w2c_j0 = w2c_l10;
   w2c_i0 = (u32)(w2c_j0);
   w2c_i0 = i32_load8_u(m, (u64)(w2c_i0) + 2u);
@@ -19133,7 +17862,7 @@ static u32 w2c_f28(module *m, u32 w2c_p0, u32 w2c_p1, u64 w2c_p2, u64 w2c_p3, u3
   w2c_i0 = w2c_l11;
   w2c_i1 = 4294967280u;
   w2c_i0 = w2c_i0 < w2c_i1;
-  if (w2c_i0) {goto w2c_B155;}
+  if (w2c_i0) {goto w2c_B133;}
   w2c_i0 = w2c_l12;
   w2c_i1 = 6u;
   w2c_i0 <<= (w2c_i1 & 31);
@@ -19154,8 +17883,8 @@ static u32 w2c_f28(module *m, u32 w2c_p0, u32 w2c_p1, u64 w2c_p2, u64 w2c_p3, u3
   w2c_i1 &= w2c_i2;
   w2c_i0 |= w2c_i1;
   w2c_p4 = w2c_i0;
-  goto w2c_B153;
-  w2c_B155:;
+  goto w2c_B131;
+  w2c_B133:;
   w2c_i0 = w2c_p1;
   w2c_i1 = 6u;
   w2c_i0 <<= (w2c_i1 & 31);
@@ -19168,8 +17897,8 @@ static u32 w2c_f28(module *m, u32 w2c_p0, u32 w2c_p1, u64 w2c_p2, u64 w2c_p3, u3
   w2c_i1 = w2c_l12;
   w2c_i0 |= w2c_i1;
   w2c_p4 = w2c_i0;
-  goto w2c_B153;
-  w2c_B154:;
+  goto w2c_B131;
+  w2c_B132:;
   w2c_i0 = w2c_p4;
   w2c_i1 = 6u;
   w2c_i0 <<= (w2c_i1 & 31);
@@ -19178,25 +17907,25 @@ static u32 w2c_f28(module *m, u32 w2c_p0, u32 w2c_p1, u64 w2c_p2, u64 w2c_p3, u3
   w2c_i1 = w2c_p1;
   w2c_i0 |= w2c_i1;
   w2c_p4 = w2c_i0;
-  w2c_B153:;
+  w2c_B131:;
   w2c_i0 = w2c_p4;
   w2c_i1 = 4294967238u;
   w2c_i0 += w2c_i1;
   w2c_i1 = 4294967285u;
   w2c_i0 = w2c_i0 > w2c_i1;
-  if (w2c_i0) {goto w2c_B149;}
+  if (w2c_i0) {goto w2c_B127;}
   w2c_i0 = w2c_p4;
   w2c_i1 = 4294901990u;
   w2c_i0 += w2c_i1;
   w2c_i1 = 4294967285u;
   w2c_i0 = w2c_i0 > w2c_i1;
-  if (w2c_i0) {goto w2c_B149;}
+  if (w2c_i0) {goto w2c_B127;}
   w2c_j0 = 18446744073709551614ull;
   w2c_l10 = w2c_j0;
   w2c_i0 = w2c_p0;
   w2c_i1 = 191u;
   w2c_i0 = w2c_i0 > w2c_i1;
-  if (w2c_i0) {goto w2c_B156;}
+  if (w2c_i0) {goto w2c_B134;}
   w2c_j0 = 18446744073709551613ull;
   w2c_j1 = 18446744073709551612ull;
   w2c_j2 = w2c_l8;
@@ -19208,7 +17937,7 @@ static u32 w2c_f28(module *m, u32 w2c_p0, u32 w2c_p1, u64 w2c_p2, u64 w2c_p3, u3
   w2c_i2 = w2c_i2 > w2c_i3;
   w2c_j0 = w2c_i2 ? w2c_j0 : w2c_j1;
   w2c_l10 = w2c_j0;
-  w2c_B156:;
+  w2c_B134:;
   w2c_j0 = w2c_p2;
   w2c_j1 = w2c_l10;
   w2c_j0 += w2c_j1;
@@ -19224,7 +17953,7 @@ static u32 w2c_f28(module *m, u32 w2c_p0, u32 w2c_p1, u64 w2c_p2, u64 w2c_p3, u3
   w2c_i0 = w2c_l11;
   w2c_i1 = 4294967295u;
   w2c_i0 = (u32)((s32)w2c_i0 > (s32)w2c_i1);
-  if (w2c_i0) {goto w2c_B150;}
+  if (w2c_i0) {goto w2c_B128;}
   w2c_j0 = w2c_l8;
   w2c_i0 = (u32)(w2c_j0);
   w2c_i0 = i32_load8_u(m, (u64)(w2c_i0) + 1u);
@@ -19234,7 +17963,7 @@ static u32 w2c_f28(module *m, u32 w2c_p0, u32 w2c_p1, u64 w2c_p2, u64 w2c_p3, u3
   w2c_i0 = w2c_l11;
   w2c_i1 = 4294967264u;
   w2c_i0 = w2c_i0 < w2c_i1;
-  if (w2c_i0) {goto w2c_B157;}
+  if (w2c_i0) {goto w2c_B135;}
   w2c_j0 = w2c_l8;
   w2c_i0 = (u32)(w2c_j0);
   w2c_i0 = i32_load8_u(m, (u64)(w2c_i0) + 2u);
@@ -19244,7 +17973,7 @@ static u32 w2c_f28(module *m, u32 w2c_p0, u32 w2c_p1, u64 w2c_p2, u64 w2c_p3, u3
   w2c_i0 = w2c_l11;
   w2c_i1 = 4294967280u;
   w2c_i0 = w2c_i0 < w2c_i1;
-  if (w2c_i0) {goto w2c_B158;}
+  if (w2c_i0) {goto w2c_B136;}
   w2c_i0 = w2c_p1;
   w2c_i1 = 6u;
   w2c_i0 <<= (w2c_i1 & 31);
@@ -19265,8 +17994,8 @@ static u32 w2c_f28(module *m, u32 w2c_p0, u32 w2c_p1, u64 w2c_p2, u64 w2c_p3, u3
   w2c_i1 &= w2c_i2;
   w2c_i0 |= w2c_i1;
   w2c_p4 = w2c_i0;
-  goto w2c_B150;
-  w2c_B158:;
+  goto w2c_B128;
+  w2c_B136:;
   w2c_i0 = w2c_p0;
   w2c_i1 = 6u;
   w2c_i0 <<= (w2c_i1 & 31);
@@ -19279,8 +18008,8 @@ static u32 w2c_f28(module *m, u32 w2c_p0, u32 w2c_p1, u64 w2c_p2, u64 w2c_p3, u3
   w2c_i1 = w2c_p1;
   w2c_i0 |= w2c_i1;
   w2c_p4 = w2c_i0;
-  goto w2c_B150;
-  w2c_B157:;
+  goto w2c_B128;
+  w2c_B135:;
   w2c_i0 = w2c_p4;
   w2c_i1 = 6u;
   w2c_i0 <<= (w2c_i1 & 31);
@@ -19289,8 +18018,8 @@ static u32 w2c_f28(module *m, u32 w2c_p0, u32 w2c_p1, u64 w2c_p2, u64 w2c_p3, u3
   w2c_i1 = w2c_p0;
   w2c_i0 |= w2c_i1;
   w2c_p4 = w2c_i0;
-  goto w2c_B150;
-  w2c_B151:;
+  goto w2c_B128;
+  w2c_B129:;
   w2c_i0 = w2c_p4;
   w2c_i1 = 4294967238u;
   w2c_i0 += w2c_i1;
@@ -19298,23 +18027,23 @@ static u32 w2c_f28(module *m, u32 w2c_p0, u32 w2c_p1, u64 w2c_p2, u64 w2c_p3, u3
   w2c_i0 &= w2c_i1;
   w2c_i1 = 245u;
   w2c_i0 = w2c_i0 > w2c_i1;
-  if (w2c_i0) {goto w2c_B149;}
-  w2c_B150:;
+  if (w2c_i0) {goto w2c_B127;}
+  w2c_B128:;
   w2c_i0 = w2c_p4;
   w2c_i1 = 4294967252u;
   w2c_i0 += w2c_i1;
   switch (w2c_i0) {
-    case 0: goto w2c_B149;
+    case 0: goto w2c_B127;
     case 1: goto w2c_B4;
-    case 2: goto w2c_B149;
-    default: goto w2c_B159;
+    case 2: goto w2c_B127;
+    default: goto w2c_B137;
   }
-  w2c_B159:;
+  w2c_B137:;
   w2c_i0 = w2c_p4;
   w2c_i1 = 65294u;
   w2c_i0 = w2c_i0 != w2c_i1;
   if (w2c_i0) {goto w2c_B4;}
-  w2c_B149:;
+  w2c_B127:;
   w2c_j0 = w2c_l9;
   w2c_i0 = !(w2c_j0);
   if (w2c_i0) {goto w2c_B5;}
@@ -19329,7 +18058,7 @@ static u32 w2c_f28(module *m, u32 w2c_p0, u32 w2c_p1, u64 w2c_p2, u64 w2c_p3, u3
   w2c_p4 = w2c_i0;
   w2c_i1 = 4294967295u;
   w2c_i0 = (u32)((s32)w2c_i0 > (s32)w2c_i1);
-  if (w2c_i0) {goto w2c_B160;}
+  if (w2c_i0) {goto w2c_B138;}
   w2c_j0 = 18446744073709551614ull;
   w2c_l8 = w2c_j0;
   w2c_j0 = w2c_p2;
@@ -19342,7 +18071,7 @@ static u32 w2c_f28(module *m, u32 w2c_p0, u32 w2c_p1, u64 w2c_p2, u64 w2c_p3, u3
   w2c_i0 = i32_load8_u(m, (u64)(w2c_i0));
   w2c_i1 = 191u;
   w2c_i0 = w2c_i0 > w2c_i1;
-  if (w2c_i0) {goto w2c_B161;}
+  if (w2c_i0) {goto w2c_B139;}
   w2c_j0 = 18446744073709551613ull;
   w2c_j1 = 18446744073709551612ull;
   w2c_j2 = w2c_l10;
@@ -19354,7 +18083,7 @@ static u32 w2c_f28(module *m, u32 w2c_p0, u32 w2c_p1, u64 w2c_p2, u64 w2c_p3, u3
   w2c_i2 = w2c_i2 > w2c_i3;
   w2c_j0 = w2c_i2 ? w2c_j0 : w2c_j1;
   w2c_l8 = w2c_j0;
-  w2c_B161:;
+  w2c_B139:;
   w2c_j0 = w2c_p2;
   w2c_j1 = w2c_l8;
   w2c_j2 = w2c_l9;
@@ -19371,7 +18100,7 @@ static u32 w2c_f28(module *m, u32 w2c_p0, u32 w2c_p1, u64 w2c_p2, u64 w2c_p3, u3
   w2c_i0 = w2c_l11;
   w2c_i1 = 4294967295u;
   w2c_i0 = (u32)((s32)w2c_i0 > (s32)w2c_i1);
-  if (w2c_i0) {goto w2c_B160;}
+  if (w2c_i0) {goto w2c_B138;}
   w2c_j0 = w2c_l9;
   w2c_i0 = (u32)(w2c_j0);
   w2c_i0 = i32_load8_u(m, (u64)(w2c_i0) + 1u);
@@ -19381,7 +18110,7 @@ static u32 w2c_f28(module *m, u32 w2c_p0, u32 w2c_p1, u64 w2c_p2, u64 w2c_p3, u3
   w2c_i0 = w2c_l11;
   w2c_i1 = 4294967264u;
   w2c_i0 = w2c_i0 < w2c_i1;
-  if (w2c_i0) {goto w2c_B162;}
+  if (w2c_i0) {goto w2c_B140;}
   w2c_j0 = w2c_l9;
   w2c_i0 = (u32)(w2c_j0);
   w2c_i0 = i32_load8_u(m, (u64)(w2c_i0) + 2u);
@@ -19391,7 +18120,7 @@ static u32 w2c_f28(module *m, u32 w2c_p0, u32 w2c_p1, u64 w2c_p2, u64 w2c_p3, u3
   w2c_i0 = w2c_l11;
   w2c_i1 = 4294967280u;
   w2c_i0 = w2c_i0 < w2c_i1;
-  if (w2c_i0) {goto w2c_B163;}
+  if (w2c_i0) {goto w2c_B141;}
   w2c_i0 = w2c_p1;
   w2c_i1 = 6u;
   w2c_i0 <<= (w2c_i1 & 31);
@@ -19412,8 +18141,8 @@ static u32 w2c_f28(module *m, u32 w2c_p0, u32 w2c_p1, u64 w2c_p2, u64 w2c_p3, u3
   w2c_i1 &= w2c_i2;
   w2c_i0 |= w2c_i1;
   w2c_p4 = w2c_i0;
-  goto w2c_B160;
-  w2c_B163:;
+  goto w2c_B138;
+  w2c_B141:;
   w2c_i0 = w2c_p0;
   w2c_i1 = 6u;
   w2c_i0 <<= (w2c_i1 & 31);
@@ -19426,8 +18155,8 @@ static u32 w2c_f28(module *m, u32 w2c_p0, u32 w2c_p1, u64 w2c_p2, u64 w2c_p3, u3
   w2c_i1 = w2c_p1;
   w2c_i0 |= w2c_i1;
   w2c_p4 = w2c_i0;
-  goto w2c_B160;
-  w2c_B162:;
+  goto w2c_B138;
+  w2c_B140:;
   w2c_i0 = w2c_p4;
   w2c_i1 = 6u;
   w2c_i0 <<= (w2c_i1 & 31);
@@ -19436,20 +18165,20 @@ static u32 w2c_f28(module *m, u32 w2c_p0, u32 w2c_p1, u64 w2c_p2, u64 w2c_p3, u3
   w2c_i1 = w2c_p0;
   w2c_i0 |= w2c_i1;
   w2c_p4 = w2c_i0;
-  w2c_B160:;
+  w2c_B138:;
   w2c_i0 = w2c_p4;
   w2c_i1 = 4294967248u;
   w2c_i0 += w2c_i1;
   w2c_i1 = 10u;
   w2c_i0 = w2c_i0 < w2c_i1;
-  if (w2c_i0) {goto w2c_B164;}
+  if (w2c_i0) {goto w2c_B142;}
   w2c_i0 = w2c_p4;
   w2c_i1 = 4294902000u;
   w2c_i0 += w2c_i1;
   w2c_i1 = 9u;
   w2c_i0 = w2c_i0 > w2c_i1;
   if (w2c_i0) {goto w2c_B5;}
-  w2c_B164:;
+  w2c_B142:;
   w2c_i0 = w2c_p4;
   w2c_i1 = 48u;
   w2c_i0 = w2c_i0 == w2c_i1;
@@ -19472,7 +18201,7 @@ static u32 w2c_f28(module *m, u32 w2c_p0, u32 w2c_p1, u64 w2c_p2, u64 w2c_p3, u3
   w2c_p4 = w2c_i0;
   w2c_i1 = 4294967295u;
   w2c_i0 = (u32)((s32)w2c_i0 > (s32)w2c_i1);
-  if (w2c_i0) {goto w2c_B166;}
+  if (w2c_i0) {goto w2c_B144;}
   w2c_j0 = 18446744073709551614ull;
   w2c_l10 = w2c_j0;
   w2c_j0 = w2c_l9;
@@ -19483,7 +18212,7 @@ static u32 w2c_f28(module *m, u32 w2c_p0, u32 w2c_p1, u64 w2c_p2, u64 w2c_p3, u3
   w2c_p0 = w2c_i0;
   w2c_i1 = 191u;
   w2c_i0 = w2c_i0 > w2c_i1;
-  if (w2c_i0) {goto w2c_B167;}
+  if (w2c_i0) {goto w2c_B145;}
   w2c_j0 = 18446744073709551613ull;
   w2c_j1 = 18446744073709551612ull;
   w2c_j2 = w2c_l9;
@@ -19495,7 +18224,7 @@ static u32 w2c_f28(module *m, u32 w2c_p0, u32 w2c_p1, u64 w2c_p2, u64 w2c_p3, u3
   w2c_i2 = w2c_i2 > w2c_i3;
   w2c_j0 = w2c_i2 ? w2c_j0 : w2c_j1;
   w2c_l10 = w2c_j0;
-  w2c_B167:;
+  w2c_B145:;
   w2c_j0 = w2c_p2;
   w2c_j1 = w2c_l10;
   w2c_j0 += w2c_j1;
@@ -19511,7 +18240,7 @@ static u32 w2c_f28(module *m, u32 w2c_p0, u32 w2c_p1, u64 w2c_p2, u64 w2c_p3, u3
   w2c_i0 = w2c_l11;
   w2c_i1 = 4294967295u;
   w2c_i0 = (u32)((s32)w2c_i0 > (s32)w2c_i1);
-  if (w2c_i0) {goto w2c_B168;}
+  if (w2c_i0) {goto w2c_B146;}
   w2c_j0 = w2c_l10;
   w2c_i0 = (u32)(w2c_j0);
   w2c_i0 = i32_load8_u(m, (u64)(w2c_i0) + 1u);
@@ -19521,7 +18250,7 @@ static u32 w2c_f28(module *m, u32 w2c_p0, u32 w2c_p1, u64 w2c_p2, u64 w2c_p3, u3
   w2c_i0 = w2c_l11;
   w2c_i1 = 4294967264u;
   w2c_i0 = w2c_i0 < w2c_i1;
-  if (w2c_i0) {goto w2c_B169;}
+  if (w2c_i0) {goto w2c_B147;}
   w2c_j0 = w2c_l10;
   w2c_i0 = (u32)(w2c_j0);
   w2c_i0 = i32_load8_u(m, (u64)(w2c_i0) + 2u);
@@ -19531,7 +18260,7 @@ static u32 w2c_f28(module *m, u32 w2c_p0, u32 w2c_p1, u64 w2c_p2, u64 w2c_p3, u3
   w2c_i0 = w2c_l11;
   w2c_i1 = 4294967280u;
   w2c_i0 = w2c_i0 < w2c_i1;
-  if (w2c_i0) {goto w2c_B170;}
+  if (w2c_i0) {goto w2c_B148;}
   w2c_i0 = w2c_l12;
   w2c_i1 = 6u;
   w2c_i0 <<= (w2c_i1 & 31);
@@ -19552,8 +18281,8 @@ static u32 w2c_f28(module *m, u32 w2c_p0, u32 w2c_p1, u64 w2c_p2, u64 w2c_p3, u3
   w2c_i1 &= w2c_i2;
   w2c_i0 |= w2c_i1;
   w2c_p4 = w2c_i0;
-  goto w2c_B168;
-  w2c_B170:;
+  goto w2c_B146;
+  w2c_B148:;
   w2c_i0 = w2c_p1;
   w2c_i1 = 6u;
   w2c_i0 <<= (w2c_i1 & 31);
@@ -19566,8 +18295,8 @@ static u32 w2c_f28(module *m, u32 w2c_p0, u32 w2c_p1, u64 w2c_p2, u64 w2c_p3, u3
   w2c_i1 = w2c_l12;
   w2c_i0 |= w2c_i1;
   w2c_p4 = w2c_i0;
-  goto w2c_B168;
-  w2c_B169:;
+  goto w2c_B146;
+  w2c_B147:;
   w2c_i0 = w2c_p4;
   w2c_i1 = 6u;
   w2c_i0 <<= (w2c_i1 & 31);
@@ -19576,7 +18305,7 @@ static u32 w2c_f28(module *m, u32 w2c_p0, u32 w2c_p1, u64 w2c_p2, u64 w2c_p3, u3
   w2c_i1 = w2c_p1;
   w2c_i0 |= w2c_i1;
   w2c_p4 = w2c_i0;
-  w2c_B168:;
+  w2c_B146:;
   w2c_i0 = w2c_p4;
   w2c_i1 = 4294967238u;
   w2c_i0 += w2c_i1;
@@ -19594,7 +18323,7 @@ static u32 w2c_f28(module *m, u32 w2c_p0, u32 w2c_p1, u64 w2c_p2, u64 w2c_p3, u3
   w2c_i0 = w2c_p0;
   w2c_i1 = 191u;
   w2c_i0 = w2c_i0 > w2c_i1;
-  if (w2c_i0) {goto w2c_B171;}
+  if (w2c_i0) {goto w2c_B149;}
   w2c_j0 = 18446744073709551613ull;
   w2c_j1 = 18446744073709551612ull;
   w2c_j2 = w2c_l9;
@@ -19606,7 +18335,7 @@ static u32 w2c_f28(module *m, u32 w2c_p0, u32 w2c_p1, u64 w2c_p2, u64 w2c_p3, u3
   w2c_i2 = w2c_i2 > w2c_i3;
   w2c_j0 = w2c_i2 ? w2c_j0 : w2c_j1;
   w2c_l10 = w2c_j0;
-  w2c_B171:;
+  w2c_B149:;
   w2c_j0 = w2c_p2;
   w2c_j1 = w2c_l10;
   w2c_j0 += w2c_j1;
@@ -19622,7 +18351,7 @@ static u32 w2c_f28(module *m, u32 w2c_p0, u32 w2c_p1, u64 w2c_p2, u64 w2c_p3, u3
   w2c_i0 = w2c_l11;
   w2c_i1 = 4294967295u;
   w2c_i0 = (u32)((s32)w2c_i0 > (s32)w2c_i1);
-  if (w2c_i0) {goto w2c_B165;}
+  if (w2c_i0) {goto w2c_B143;}
   w2c_j0 = w2c_l8;
   w2c_i0 = (u32)(w2c_j0);
   w2c_i0 = i32_load8_u(m, (u64)(w2c_i0) + 1u);
@@ -19632,7 +18361,7 @@ static u32 w2c_f28(module *m, u32 w2c_p0, u32 w2c_p1, u64 w2c_p2, u64 w2c_p3, u3
   w2c_i0 = w2c_l11;
   w2c_i1 = 4294967264u;
   w2c_i0 = w2c_i0 < w2c_i1;
-  if (w2c_i0) {goto w2c_B172;}
+  if (w2c_i0) {goto w2c_B150;}
   w2c_j0 = w2c_l8;
   w2c_i0 = (u32)(w2c_j0);
   w2c_i0 = i32_load8_u(m, (u64)(w2c_i0) + 2u);
@@ -19642,7 +18371,7 @@ static u32 w2c_f28(module *m, u32 w2c_p0, u32 w2c_p1, u64 w2c_p2, u64 w2c_p3, u3
   w2c_i0 = w2c_l11;
   w2c_i1 = 4294967280u;
   w2c_i0 = w2c_i0 < w2c_i1;
-  if (w2c_i0) {goto w2c_B173;}
+  if (w2c_i0) {goto w2c_B151;}
   w2c_i0 = w2c_p1;
   w2c_i1 = 6u;
   w2c_i0 <<= (w2c_i1 & 31);
@@ -19663,8 +18392,8 @@ static u32 w2c_f28(module *m, u32 w2c_p0, u32 w2c_p1, u64 w2c_p2, u64 w2c_p3, u3
   w2c_i1 &= w2c_i2;
   w2c_i0 |= w2c_i1;
   w2c_p4 = w2c_i0;
-  goto w2c_B165;
-  w2c_B173:;
+  goto w2c_B143;
+  w2c_B151:;
   w2c_i0 = w2c_p0;
   w2c_i1 = 6u;
   w2c_i0 <<= (w2c_i1 & 31);
@@ -19677,8 +18406,8 @@ static u32 w2c_f28(module *m, u32 w2c_p0, u32 w2c_p1, u64 w2c_p2, u64 w2c_p3, u3
   w2c_i1 = w2c_p1;
   w2c_i0 |= w2c_i1;
   w2c_p4 = w2c_i0;
-  goto w2c_B165;
-  w2c_B172:;
+  goto w2c_B143;
+  w2c_B150:;
   w2c_i0 = w2c_p4;
   w2c_i1 = 6u;
   w2c_i0 <<= (w2c_i1 & 31);
@@ -19687,8 +18416,8 @@ static u32 w2c_f28(module *m, u32 w2c_p0, u32 w2c_p1, u64 w2c_p2, u64 w2c_p3, u3
   w2c_i1 = w2c_p0;
   w2c_i0 |= w2c_i1;
   w2c_p4 = w2c_i0;
-  goto w2c_B165;
-  w2c_B166:;
+  goto w2c_B143;
+  w2c_B144:;
   w2c_i0 = w2c_p4;
   w2c_i1 = 4294967238u;
   w2c_i0 += w2c_i1;
@@ -19697,7 +18426,7 @@ static u32 w2c_f28(module *m, u32 w2c_p0, u32 w2c_p1, u64 w2c_p2, u64 w2c_p3, u3
   w2c_i1 = 245u;
   w2c_i0 = w2c_i0 > w2c_i1;
   if (w2c_i0) {goto w2c_B5;}
-  w2c_B165:;
+  w2c_B143:;
   w2c_i0 = w2c_p4;
   w2c_i1 = 4294967252u;
   w2c_i0 += w2c_i1;
@@ -19705,9 +18434,9 @@ static u32 w2c_f28(module *m, u32 w2c_p0, u32 w2c_p1, u64 w2c_p2, u64 w2c_p3, u3
     case 0: goto w2c_B5;
     case 1: goto w2c_B4;
     case 2: goto w2c_B5;
-    default: goto w2c_B174;
+    default: goto w2c_B152;
   }
-  w2c_B174:;
+  w2c_B152:;
   w2c_i0 = w2c_p4;
   w2c_i1 = 65294u;
   w2c_i0 = w2c_i0 != w2c_i1;
@@ -19726,7 +18455,7 @@ static u32 w2c_f28(module *m, u32 w2c_p0, u32 w2c_p1, u64 w2c_p2, u64 w2c_p3, u3
   w2c_p4 = w2c_i0;
   w2c_i1 = 0u;
   w2c_i0 = (u32)((s32)w2c_i0 >= (s32)w2c_i1);
-  if (w2c_i0) {goto w2c_B175;}
+  if (w2c_i0) {goto w2c_B153;}
   w2c_j0 = 18446744073709551614ull;
   w2c_l8 = w2c_j0;
   w2c_j0 = w2c_p2;
@@ -19739,7 +18468,7 @@ static u32 w2c_f28(module *m, u32 w2c_p0, u32 w2c_p1, u64 w2c_p2, u64 w2c_p3, u3
   w2c_i0 = i32_load8_u(m, (u64)(w2c_i0));
   w2c_i1 = 191u;
   w2c_i0 = w2c_i0 > w2c_i1;
-  if (w2c_i0) {goto w2c_B176;}
+  if (w2c_i0) {goto w2c_B154;}
   w2c_j0 = 18446744073709551613ull;
   w2c_j1 = 18446744073709551612ull;
   w2c_j2 = w2c_l9;
@@ -19751,7 +18480,7 @@ static u32 w2c_f28(module *m, u32 w2c_p0, u32 w2c_p1, u64 w2c_p2, u64 w2c_p3, u3
   w2c_i2 = w2c_i2 > w2c_i3;
   w2c_j0 = w2c_i2 ? w2c_j0 : w2c_j1;
   w2c_l8 = w2c_j0;
-  w2c_B176:;
+  w2c_B154:;
   w2c_j0 = w2c_p2;
   w2c_j1 = w2c_l8;
   w2c_j2 = w2c_p3;
@@ -19768,7 +18497,7 @@ static u32 w2c_f28(module *m, u32 w2c_p0, u32 w2c_p1, u64 w2c_p2, u64 w2c_p3, u3
   w2c_i0 = w2c_p0;
   w2c_i1 = 4294967295u;
   w2c_i0 = (u32)((s32)w2c_i0 > (s32)w2c_i1);
-  if (w2c_i0) {goto w2c_B175;}
+  if (w2c_i0) {goto w2c_B153;}
   w2c_j0 = w2c_p3;
   w2c_i0 = (u32)(w2c_j0);
   w2c_i0 = i32_load8_u(m, (u64)(w2c_i0) + 1u);
@@ -19778,7 +18507,7 @@ static u32 w2c_f28(module *m, u32 w2c_p0, u32 w2c_p1, u64 w2c_p2, u64 w2c_p3, u3
   w2c_i0 = w2c_p0;
   w2c_i1 = 4294967263u;
   w2c_i0 = w2c_i0 > w2c_i1;
-  if (w2c_i0) {goto w2c_B177;}
+  if (w2c_i0) {goto w2c_B155;}
   w2c_i0 = w2c_p4;
   w2c_i1 = 6u;
   w2c_i0 <<= (w2c_i1 & 31);
@@ -19787,8 +18516,8 @@ static u32 w2c_f28(module *m, u32 w2c_p0, u32 w2c_p1, u64 w2c_p2, u64 w2c_p3, u3
   w2c_i1 = w2c_p1;
   w2c_i0 |= w2c_i1;
   w2c_p4 = w2c_i0;
-  goto w2c_B175;
-  w2c_B177:;
+  goto w2c_B153;
+  w2c_B155:;
   w2c_j0 = w2c_p3;
   w2c_i0 = (u32)(w2c_j0);
   w2c_i0 = i32_load8_u(m, (u64)(w2c_i0) + 2u);
@@ -19798,7 +18527,7 @@ static u32 w2c_f28(module *m, u32 w2c_p0, u32 w2c_p1, u64 w2c_p2, u64 w2c_p3, u3
   w2c_i0 = w2c_p0;
   w2c_i1 = 4294967279u;
   w2c_i0 = w2c_i0 > w2c_i1;
-  if (w2c_i0) {goto w2c_B178;}
+  if (w2c_i0) {goto w2c_B156;}
   w2c_i0 = w2c_p1;
   w2c_i1 = 6u;
   w2c_i0 <<= (w2c_i1 & 31);
@@ -19811,8 +18540,8 @@ static u32 w2c_f28(module *m, u32 w2c_p0, u32 w2c_p1, u64 w2c_p2, u64 w2c_p3, u3
   w2c_i1 = w2c_l12;
   w2c_i0 |= w2c_i1;
   w2c_p4 = w2c_i0;
-  goto w2c_B175;
-  w2c_B178:;
+  goto w2c_B153;
+  w2c_B156:;
   w2c_i0 = w2c_l12;
   w2c_i1 = 6u;
   w2c_i0 <<= (w2c_i1 & 31);
@@ -19833,7 +18562,7 @@ static u32 w2c_f28(module *m, u32 w2c_p0, u32 w2c_p1, u64 w2c_p2, u64 w2c_p3, u3
   w2c_i1 &= w2c_i2;
   w2c_i0 |= w2c_i1;
   w2c_p4 = w2c_i0;
-  w2c_B175:;
+  w2c_B153:;
   w2c_j0 = w2c_l8;
   w2c_i0 = !(w2c_j0);
   if (w2c_i0) {goto w2c_B0;}
@@ -19850,7 +18579,7 @@ static u32 w2c_f28(module *m, u32 w2c_p0, u32 w2c_p1, u64 w2c_p2, u64 w2c_p3, u3
   w2c_p0 = w2c_i0;
   w2c_i1 = 0u;
   w2c_i0 = (u32)((s32)w2c_i0 >= (s32)w2c_i1);
-  if (w2c_i0) {goto w2c_B179;}
+  if (w2c_i0) {goto w2c_B157;}
   w2c_j0 = 18446744073709551614ull;
   w2c_p3 = w2c_j0;
   w2c_j0 = w2c_p2;
@@ -19863,7 +18592,7 @@ static u32 w2c_f28(module *m, u32 w2c_p0, u32 w2c_p1, u64 w2c_p2, u64 w2c_p3, u3
   w2c_i0 = i32_load8_u(m, (u64)(w2c_i0));
   w2c_i1 = 191u;
   w2c_i0 = w2c_i0 > w2c_i1;
-  if (w2c_i0) {goto w2c_B180;}
+  if (w2c_i0) {goto w2c_B158;}
   w2c_j0 = 18446744073709551613ull;
   w2c_j1 = 18446744073709551612ull;
   w2c_j2 = w2c_l9;
@@ -19875,7 +18604,7 @@ static u32 w2c_f28(module *m, u32 w2c_p0, u32 w2c_p1, u64 w2c_p2, u64 w2c_p3, u3
   w2c_i2 = w2c_i2 > w2c_i3;
   w2c_j0 = w2c_i2 ? w2c_j0 : w2c_j1;
   w2c_p3 = w2c_j0;
-  w2c_B180:;
+  w2c_B158:;
   w2c_j0 = w2c_p2;
   w2c_j1 = w2c_p3;
   w2c_j2 = w2c_l8;
@@ -19892,7 +18621,7 @@ static u32 w2c_f28(module *m, u32 w2c_p0, u32 w2c_p1, u64 w2c_p2, u64 w2c_p3, u3
   w2c_i0 = w2c_p1;
   w2c_i1 = 4294967295u;
   w2c_i0 = (u32)((s32)w2c_i0 > (s32)w2c_i1);
-  if (w2c_i0) {goto w2c_B179;}
+  if (w2c_i0) {goto w2c_B157;}
   w2c_j0 = w2c_l8;
   w2c_i0 = (u32)(w2c_j0);
   w2c_i0 = i32_load8_u(m, (u64)(w2c_i0) + 1u);
@@ -19902,7 +18631,7 @@ static u32 w2c_f28(module *m, u32 w2c_p0, u32 w2c_p1, u64 w2c_p2, u64 w2c_p3, u3
   w2c_i0 = w2c_p1;
   w2c_i1 = 4294967263u;
   w2c_i0 = w2c_i0 > w2c_i1;
-  if (w2c_i0) {goto w2c_B181;}
+  if (w2c_i0) {goto w2c_B159;}
   w2c_i0 = w2c_p0;
   w2c_i1 = 6u;
   w2c_i0 <<= (w2c_i1 & 31);
@@ -19911,8 +18640,8 @@ static u32 w2c_f28(module *m, u32 w2c_p0, u32 w2c_p1, u64 w2c_p2, u64 w2c_p3, u3
   w2c_i1 = w2c_l12;
   w2c_i0 |= w2c_i1;
   w2c_p0 = w2c_i0;
-  goto w2c_B179;
-  w2c_B181:;
+  goto w2c_B157;
+  w2c_B159:;
   w2c_j0 = w2c_l8;
   w2c_i0 = (u32)(w2c_j0);
   w2c_i0 = i32_load8_u(m, (u64)(w2c_i0) + 2u);
@@ -19922,7 +18651,7 @@ static u32 w2c_f28(module *m, u32 w2c_p0, u32 w2c_p1, u64 w2c_p2, u64 w2c_p3, u3
   w2c_i0 = w2c_p1;
   w2c_i1 = 4294967279u;
   w2c_i0 = w2c_i0 > w2c_i1;
-  if (w2c_i0) {goto w2c_B182;}
+  if (w2c_i0) {goto w2c_B160;}
   w2c_i0 = w2c_l12;
   w2c_i1 = 6u;
   w2c_i0 <<= (w2c_i1 & 31);
@@ -19935,8 +18664,8 @@ static u32 w2c_f28(module *m, u32 w2c_p0, u32 w2c_p1, u64 w2c_p2, u64 w2c_p3, u3
   w2c_i1 = w2c_l13;
   w2c_i0 |= w2c_i1;
   w2c_p0 = w2c_i0;
-  goto w2c_B179;
-  w2c_B182:;
+  goto w2c_B157;
+  w2c_B160:;
   w2c_i0 = w2c_l13;
   w2c_i1 = 6u;
   w2c_i0 <<= (w2c_i1 & 31);
@@ -19957,7 +18686,7 @@ static u32 w2c_f28(module *m, u32 w2c_p0, u32 w2c_p1, u64 w2c_p2, u64 w2c_p3, u3
   w2c_i1 &= w2c_i2;
   w2c_i0 |= w2c_i1;
   w2c_p0 = w2c_i0;
-  w2c_B179:;
+  w2c_B157:;
   w2c_j0 = w2c_p3;
   w2c_i0 = !(w2c_j0);
   if (w2c_i0) {goto w2c_B0;}
@@ -19974,7 +18703,7 @@ static u32 w2c_f28(module *m, u32 w2c_p0, u32 w2c_p1, u64 w2c_p2, u64 w2c_p3, u3
   w2c_p1 = w2c_i0;
   w2c_i1 = 0u;
   w2c_i0 = (u32)((s32)w2c_i0 >= (s32)w2c_i1);
-  if (w2c_i0) {goto w2c_B183;}
+  if (w2c_i0) {goto w2c_B161;}
   w2c_j0 = 18446744073709551614ull;
   w2c_l8 = w2c_j0;
   w2c_j0 = w2c_p2;
@@ -19987,7 +18716,7 @@ static u32 w2c_f28(module *m, u32 w2c_p0, u32 w2c_p1, u64 w2c_p2, u64 w2c_p3, u3
   w2c_i0 = i32_load8_u(m, (u64)(w2c_i0));
   w2c_i1 = 191u;
   w2c_i0 = w2c_i0 > w2c_i1;
-  if (w2c_i0) {goto w2c_B184;}
+  if (w2c_i0) {goto w2c_B162;}
   w2c_j0 = 18446744073709551613ull;
   w2c_j1 = 18446744073709551612ull;
   w2c_j2 = w2c_l9;
@@ -19999,7 +18728,7 @@ static u32 w2c_f28(module *m, u32 w2c_p0, u32 w2c_p1, u64 w2c_p2, u64 w2c_p3, u3
   w2c_i2 = w2c_i2 > w2c_i3;
   w2c_j0 = w2c_i2 ? w2c_j0 : w2c_j1;
   w2c_l8 = w2c_j0;
-  w2c_B184:;
+  w2c_B162:;
   w2c_j0 = w2c_p2;
   w2c_j1 = w2c_l8;
   w2c_j2 = w2c_p3;
@@ -20016,7 +18745,7 @@ static u32 w2c_f28(module *m, u32 w2c_p0, u32 w2c_p1, u64 w2c_p2, u64 w2c_p3, u3
   w2c_i0 = w2c_l12;
   w2c_i1 = 4294967295u;
   w2c_i0 = (u32)((s32)w2c_i0 > (s32)w2c_i1);
-  if (w2c_i0) {goto w2c_B183;}
+  if (w2c_i0) {goto w2c_B161;}
   w2c_j0 = w2c_p3;
   w2c_i0 = (u32)(w2c_j0);
   w2c_i0 = i32_load8_u(m, (u64)(w2c_i0) + 1u);
@@ -20026,7 +18755,7 @@ static u32 w2c_f28(module *m, u32 w2c_p0, u32 w2c_p1, u64 w2c_p2, u64 w2c_p3, u3
   w2c_i0 = w2c_l12;
   w2c_i1 = 4294967263u;
   w2c_i0 = w2c_i0 > w2c_i1;
-  if (w2c_i0) {goto w2c_B185;}
+  if (w2c_i0) {goto w2c_B163;}
   w2c_i0 = w2c_p1;
   w2c_i1 = 6u;
   w2c_i0 <<= (w2c_i1 & 31);
@@ -20035,8 +18764,8 @@ static u32 w2c_f28(module *m, u32 w2c_p0, u32 w2c_p1, u64 w2c_p2, u64 w2c_p3, u3
   w2c_i1 = w2c_l13;
   w2c_i0 |= w2c_i1;
   w2c_p1 = w2c_i0;
-  goto w2c_B183;
-  w2c_B185:;
+  goto w2c_B161;
+  w2c_B163:;
   w2c_j0 = w2c_p3;
   w2c_i0 = (u32)(w2c_j0);
   w2c_i0 = i32_load8_u(m, (u64)(w2c_i0) + 2u);
@@ -20046,7 +18775,7 @@ static u32 w2c_f28(module *m, u32 w2c_p0, u32 w2c_p1, u64 w2c_p2, u64 w2c_p3, u3
   w2c_i0 = w2c_l12;
   w2c_i1 = 4294967279u;
   w2c_i0 = w2c_i0 > w2c_i1;
-  if (w2c_i0) {goto w2c_B186;}
+  if (w2c_i0) {goto w2c_B164;}
   w2c_i0 = w2c_l13;
   w2c_i1 = 6u;
   w2c_i0 <<= (w2c_i1 & 31);
@@ -20059,8 +18788,8 @@ static u32 w2c_f28(module *m, u32 w2c_p0, u32 w2c_p1, u64 w2c_p2, u64 w2c_p3, u3
   w2c_i1 = w2c_l14;
   w2c_i0 |= w2c_i1;
   w2c_p1 = w2c_i0;
-  goto w2c_B183;
-  w2c_B186:;
+  goto w2c_B161;
+  w2c_B164:;
   w2c_i0 = w2c_l14;
   w2c_i1 = 6u;
   w2c_i0 <<= (w2c_i1 & 31);
@@ -20081,33 +18810,33 @@ static u32 w2c_f28(module *m, u32 w2c_p0, u32 w2c_p1, u64 w2c_p2, u64 w2c_p3, u3
   w2c_i1 &= w2c_i2;
   w2c_i0 |= w2c_i1;
   w2c_p1 = w2c_i0;
-  w2c_B183:;
+  w2c_B161:;
   w2c_i0 = w2c_p4;
   w2c_i1 = 4294967248u;
   w2c_i0 += w2c_i1;
   w2c_i1 = 10u;
   w2c_i0 = w2c_i0 < w2c_i1;
-  if (w2c_i0) {goto w2c_B187;}
+  if (w2c_i0) {goto w2c_B165;}
   w2c_i0 = w2c_p4;
   w2c_i1 = 4294902000u;
   w2c_i0 += w2c_i1;
   w2c_i1 = 9u;
   w2c_i0 = w2c_i0 > w2c_i1;
   if (w2c_i0) {goto w2c_B0;}
-  w2c_B187:;
+  w2c_B165:;
   w2c_i0 = w2c_p0;
   w2c_i1 = 4294967248u;
   w2c_i0 += w2c_i1;
   w2c_i1 = 10u;
   w2c_i0 = w2c_i0 < w2c_i1;
-  if (w2c_i0) {goto w2c_B188;}
+  if (w2c_i0) {goto w2c_B166;}
   w2c_i0 = w2c_p0;
   w2c_i1 = 4294902000u;
   w2c_i0 += w2c_i1;
   w2c_i1 = 9u;
   w2c_i0 = w2c_i0 > w2c_i1;
   if (w2c_i0) {goto w2c_B0;}
-  w2c_B188:;
+  w2c_B166:;
   w2c_j0 = w2c_l8;
   w2c_i0 = !(w2c_j0);
   if (w2c_i0) {goto w2c_B0;}
@@ -20137,7 +18866,7 @@ static u32 w2c_f28(module *m, u32 w2c_p0, u32 w2c_p1, u64 w2c_p2, u64 w2c_p3, u3
   w2c_p4 = w2c_i0;
   w2c_i1 = 0u;
   w2c_i0 = (u32)((s32)w2c_i0 >= (s32)w2c_i1);
-  if (w2c_i0) {goto w2c_B189;}
+  if (w2c_i0) {goto w2c_B167;}
   w2c_j0 = 18446744073709551614ull;
   w2c_l9 = w2c_j0;
   w2c_j0 = w2c_p3;
@@ -20147,7 +18876,7 @@ static u32 w2c_f28(module *m, u32 w2c_p0, u32 w2c_p1, u64 w2c_p2, u64 w2c_p3, u3
   w2c_i0 = i32_load8_u(m, (u64)(w2c_i0));
   w2c_i1 = 191u;
   w2c_i0 = w2c_i0 > w2c_i1;
-  if (w2c_i0) {goto w2c_B190;}
+  if (w2c_i0) {goto w2c_B168;}
   w2c_j0 = 18446744073709551613ull;
   w2c_j1 = 18446744073709551612ull;
   w2c_j2 = w2c_p3;
@@ -20159,7 +18888,7 @@ static u32 w2c_f28(module *m, u32 w2c_p0, u32 w2c_p1, u64 w2c_p2, u64 w2c_p3, u3
   w2c_i2 = w2c_i2 > w2c_i3;
   w2c_j0 = w2c_i2 ? w2c_j0 : w2c_j1;
   w2c_l9 = w2c_j0;
-  w2c_B190:;
+  w2c_B168:;
   w2c_j0 = w2c_p2;
   w2c_j1 = w2c_l9;
   w2c_j0 += w2c_j1;
@@ -20175,7 +18904,7 @@ static u32 w2c_f28(module *m, u32 w2c_p0, u32 w2c_p1, u64 w2c_p2, u64 w2c_p3, u3
   w2c_i0 = w2c_p0;
   w2c_i1 = 4294967295u;
   w2c_i0 = (u32)((s32)w2c_i0 > (s32)w2c_i1);
-  if (w2c_i0) {goto w2c_B189;}
+  if (w2c_i0) {goto w2c_B167;}
   w2c_j0 = w2c_p3;
   w2c_i0 = (u32)(w2c_j0);
   w2c_i0 = i32_load8_u(m, (u64)(w2c_i0) + 1u);
@@ -20185,7 +18914,7 @@ static u32 w2c_f28(module *m, u32 w2c_p0, u32 w2c_p1, u64 w2c_p2, u64 w2c_p3, u3
   w2c_i0 = w2c_p0;
   w2c_i1 = 4294967263u;
   w2c_i0 = w2c_i0 > w2c_i1;
-  if (w2c_i0) {goto w2c_B191;}
+  if (w2c_i0) {goto w2c_B169;}
   w2c_i0 = w2c_p4;
   w2c_i1 = 6u;
   w2c_i0 <<= (w2c_i1 & 31);
@@ -20194,8 +18923,8 @@ static u32 w2c_f28(module *m, u32 w2c_p0, u32 w2c_p1, u64 w2c_p2, u64 w2c_p3, u3
   w2c_i1 = w2c_p1;
   w2c_i0 |= w2c_i1;
   w2c_p4 = w2c_i0;
-  goto w2c_B189;
-  w2c_B191:;
+  goto w2c_B167;
+  w2c_B169:;
   w2c_j0 = w2c_p3;
   w2c_i0 = (u32)(w2c_j0);
   w2c_i0 = i32_load8_u(m, (u64)(w2c_i0) + 2u);
@@ -20205,7 +18934,7 @@ static u32 w2c_f28(module *m, u32 w2c_p0, u32 w2c_p1, u64 w2c_p2, u64 w2c_p3, u3
   w2c_i0 = w2c_p0;
   w2c_i1 = 4294967279u;
   w2c_i0 = w2c_i0 > w2c_i1;
-  if (w2c_i0) {goto w2c_B192;}
+  if (w2c_i0) {goto w2c_B170;}
   w2c_i0 = w2c_p1;
   w2c_i1 = 6u;
   w2c_i0 <<= (w2c_i1 & 31);
@@ -20218,8 +18947,8 @@ static u32 w2c_f28(module *m, u32 w2c_p0, u32 w2c_p1, u64 w2c_p2, u64 w2c_p3, u3
   w2c_i1 = w2c_l12;
   w2c_i0 |= w2c_i1;
   w2c_p4 = w2c_i0;
-  goto w2c_B189;
-  w2c_B192:;
+  goto w2c_B167;
+  w2c_B170:;
   w2c_i0 = w2c_l12;
   w2c_i1 = 6u;
   w2c_i0 <<= (w2c_i1 & 31);
@@ -20240,7 +18969,7 @@ static u32 w2c_f28(module *m, u32 w2c_p0, u32 w2c_p1, u64 w2c_p2, u64 w2c_p3, u3
   w2c_i1 &= w2c_i2;
   w2c_i0 |= w2c_i1;
   w2c_p4 = w2c_i0;
-  w2c_B189:;
+  w2c_B167:;
   w2c_j0 = w2c_p6;
   w2c_i0 = !(w2c_j0);
   if (w2c_i0) {goto w2c_B0;}
@@ -20266,7 +18995,7 @@ static u32 w2c_f28(module *m, u32 w2c_p0, u32 w2c_p1, u64 w2c_p2, u64 w2c_p3, u3
   w2c_i0 = w2c_p4;
   w2c_i1 = 4294967295u;
   w2c_i0 = (u32)((s32)w2c_i0 > (s32)w2c_i1);
-  if (w2c_i0) {goto w2c_B193;}
+  if (w2c_i0) {goto w2c_B171;}
   w2c_j0 = w2c_p5;
   w2c_i0 = (u32)(w2c_j0);
   w2c_i0 = i32_load8_u(m, (u64)(w2c_i0) + 1u);
@@ -20276,7 +19005,7 @@ static u32 w2c_f28(module *m, u32 w2c_p0, u32 w2c_p1, u64 w2c_p2, u64 w2c_p3, u3
   w2c_i0 = w2c_p4;
   w2c_i1 = 4294967263u;
   w2c_i0 = w2c_i0 > w2c_i1;
-  if (w2c_i0) {goto w2c_B194;}
+  if (w2c_i0) {goto w2c_B172;}
   w2c_i0 = w2c_p0;
   w2c_i1 = 6u;
   w2c_i0 <<= (w2c_i1 & 31);
@@ -20287,8 +19016,8 @@ static u32 w2c_f28(module *m, u32 w2c_p0, u32 w2c_p1, u64 w2c_p2, u64 w2c_p3, u3
   w2c_p0 = w2c_i0;
   w2c_j0 = 2ull;
   w2c_p3 = w2c_j0;
-  goto w2c_B193;
-  w2c_B194:;
+  goto w2c_B171;
+  w2c_B172:;
   w2c_j0 = w2c_p5;
   w2c_i0 = (u32)(w2c_j0);
   w2c_i0 = i32_load8_u(m, (u64)(w2c_i0) + 2u);
@@ -20298,7 +19027,7 @@ static u32 w2c_f28(module *m, u32 w2c_p0, u32 w2c_p1, u64 w2c_p2, u64 w2c_p3, u3
   w2c_i0 = w2c_p4;
   w2c_i1 = 4294967279u;
   w2c_i0 = w2c_i0 > w2c_i1;
-  if (w2c_i0) {goto w2c_B195;}
+  if (w2c_i0) {goto w2c_B173;}
   w2c_i0 = w2c_l11;
   w2c_i1 = 6u;
   w2c_i0 <<= (w2c_i1 & 31);
@@ -20313,8 +19042,8 @@ static u32 w2c_f28(module *m, u32 w2c_p0, u32 w2c_p1, u64 w2c_p2, u64 w2c_p3, u3
   w2c_p0 = w2c_i0;
   w2c_j0 = 3ull;
   w2c_p3 = w2c_j0;
-  goto w2c_B193;
-  w2c_B195:;
+  goto w2c_B171;
+  w2c_B173:;
   w2c_i0 = w2c_p1;
   w2c_i1 = 6u;
   w2c_i0 <<= (w2c_i1 & 31);
@@ -20337,7 +19066,7 @@ static u32 w2c_f28(module *m, u32 w2c_p0, u32 w2c_p1, u64 w2c_p2, u64 w2c_p3, u3
   w2c_p0 = w2c_i0;
   w2c_j0 = 4ull;
   w2c_p3 = w2c_j0;
-  w2c_B193:;
+  w2c_B171:;
   w2c_i0 = 0u;
   w2c_l11 = w2c_i0;
   w2c_j0 = w2c_p6;
@@ -20359,7 +19088,7 @@ static u32 w2c_f28(module *m, u32 w2c_p0, u32 w2c_p1, u64 w2c_p2, u64 w2c_p3, u3
   w2c_i0 = w2c_p4;
   w2c_i1 = 4294967295u;
   w2c_i0 = (u32)((s32)w2c_i0 > (s32)w2c_i1);
-  if (w2c_i0) {goto w2c_B196;}
+  if (w2c_i0) {goto w2c_B174;}
   w2c_j0 = w2c_p5;
   w2c_i0 = (u32)(w2c_j0);
   w2c_i0 = i32_load8_u(m, (u64)(w2c_i0) + 1u);
@@ -20369,7 +19098,7 @@ static u32 w2c_f28(module *m, u32 w2c_p0, u32 w2c_p1, u64 w2c_p2, u64 w2c_p3, u3
   w2c_i0 = w2c_p4;
   w2c_i1 = 4294967263u;
   w2c_i0 = w2c_i0 > w2c_i1;
-  if (w2c_i0) {goto w2c_B197;}
+  if (w2c_i0) {goto w2c_B175;}
   w2c_i0 = w2c_p1;
   w2c_i1 = 6u;
   w2c_i0 <<= (w2c_i1 & 31);
@@ -20380,8 +19109,8 @@ static u32 w2c_f28(module *m, u32 w2c_p0, u32 w2c_p1, u64 w2c_p2, u64 w2c_p3, u3
   w2c_p1 = w2c_i0;
   w2c_j0 = 2ull;
   w2c_p2 = w2c_j0;
-  goto w2c_B196;
-  w2c_B197:;
+  goto w2c_B174;
+  w2c_B175:;
   w2c_j0 = w2c_p5;
   w2c_i0 = (u32)(w2c_j0);
   w2c_i0 = i32_load8_u(m, (u64)(w2c_i0) + 2u);
@@ -20391,7 +19120,7 @@ static u32 w2c_f28(module *m, u32 w2c_p0, u32 w2c_p1, u64 w2c_p2, u64 w2c_p3, u3
   w2c_i0 = w2c_p4;
   w2c_i1 = 4294967279u;
   w2c_i0 = w2c_i0 > w2c_i1;
-  if (w2c_i0) {goto w2c_B198;}
+  if (w2c_i0) {goto w2c_B176;}
   w2c_i0 = w2c_l12;
   w2c_i1 = 6u;
   w2c_i0 <<= (w2c_i1 & 31);
@@ -20406,8 +19135,8 @@ static u32 w2c_f28(module *m, u32 w2c_p0, u32 w2c_p1, u64 w2c_p2, u64 w2c_p3, u3
   w2c_p1 = w2c_i0;
   w2c_j0 = 3ull;
   w2c_p2 = w2c_j0;
-  goto w2c_B196;
-  w2c_B198:;
+  goto w2c_B174;
+  w2c_B176:;
   w2c_i0 = w2c_l13;
   w2c_i1 = 6u;
   w2c_i0 <<= (w2c_i1 & 31);
@@ -20430,7 +19159,7 @@ static u32 w2c_f28(module *m, u32 w2c_p0, u32 w2c_p1, u64 w2c_p2, u64 w2c_p3, u3
   w2c_p1 = w2c_i0;
   w2c_j0 = 4ull;
   w2c_p2 = w2c_j0;
-  w2c_B196:;
+  w2c_B174:;
   w2c_j0 = w2c_p6;
   w2c_j1 = w2c_p2;
   w2c_j2 = w2c_p3;
@@ -20453,7 +19182,7 @@ static u32 w2c_f28(module *m, u32 w2c_p0, u32 w2c_p1, u64 w2c_p2, u64 w2c_p3, u3
   w2c_i0 = w2c_p4;
   w2c_i1 = 4294967295u;
   w2c_i0 = (u32)((s32)w2c_i0 > (s32)w2c_i1);
-  if (w2c_i0) {goto w2c_B199;}
+  if (w2c_i0) {goto w2c_B177;}
   w2c_j0 = w2c_p2;
   w2c_i0 = (u32)(w2c_j0);
   w2c_i0 = i32_load8_u(m, (u64)(w2c_i0) + 1u);
@@ -20463,7 +19192,7 @@ static u32 w2c_f28(module *m, u32 w2c_p0, u32 w2c_p1, u64 w2c_p2, u64 w2c_p3, u3
   w2c_i0 = w2c_p4;
   w2c_i1 = 4294967263u;
   w2c_i0 = w2c_i0 > w2c_i1;
-  if (w2c_i0) {goto w2c_B200;}
+  if (w2c_i0) {goto w2c_B178;}
   w2c_i0 = w2c_l12;
   w2c_i1 = 6u;
   w2c_i0 <<= (w2c_i1 & 31);
@@ -20474,8 +19203,8 @@ static u32 w2c_f28(module *m, u32 w2c_p0, u32 w2c_p1, u64 w2c_p2, u64 w2c_p3, u3
   w2c_l12 = w2c_i0;
   w2c_j0 = 2ull;
   w2c_p5 = w2c_j0;
-  goto w2c_B199;
-  w2c_B200:;
+  goto w2c_B177;
+  w2c_B178:;
   w2c_j0 = w2c_p2;
   w2c_i0 = (u32)(w2c_j0);
   w2c_i0 = i32_load8_u(m, (u64)(w2c_i0) + 2u);
@@ -20485,7 +19214,7 @@ static u32 w2c_f28(module *m, u32 w2c_p0, u32 w2c_p1, u64 w2c_p2, u64 w2c_p3, u3
   w2c_i0 = w2c_p4;
   w2c_i1 = 4294967279u;
   w2c_i0 = w2c_i0 > w2c_i1;
-  if (w2c_i0) {goto w2c_B201;}
+  if (w2c_i0) {goto w2c_B179;}
   w2c_i0 = w2c_l13;
   w2c_i1 = 6u;
   w2c_i0 <<= (w2c_i1 & 31);
@@ -20500,8 +19229,8 @@ static u32 w2c_f28(module *m, u32 w2c_p0, u32 w2c_p1, u64 w2c_p2, u64 w2c_p3, u3
   w2c_l12 = w2c_i0;
   w2c_j0 = 3ull;
   w2c_p5 = w2c_j0;
-  goto w2c_B199;
-  w2c_B201:;
+  goto w2c_B177;
+  w2c_B179:;
   w2c_i0 = w2c_l14;
   w2c_i1 = 6u;
   w2c_i0 <<= (w2c_i1 & 31);
@@ -20524,56 +19253,56 @@ static u32 w2c_f28(module *m, u32 w2c_p0, u32 w2c_p1, u64 w2c_p2, u64 w2c_p3, u3
   w2c_l12 = w2c_i0;
   w2c_j0 = 4ull;
   w2c_p5 = w2c_j0;
-  w2c_B199:;
+  w2c_B177:;
   w2c_i0 = w2c_p0;
   w2c_i1 = 4294967248u;
   w2c_i0 += w2c_i1;
   w2c_i1 = 10u;
   w2c_i0 = w2c_i0 < w2c_i1;
-  if (w2c_i0) {goto w2c_B202;}
+  if (w2c_i0) {goto w2c_B180;}
   w2c_i0 = w2c_p0;
   w2c_i1 = 4294902000u;
   w2c_i0 += w2c_i1;
   w2c_i1 = 9u;
   w2c_i0 = w2c_i0 > w2c_i1;
   if (w2c_i0) {goto w2c_B0;}
-  w2c_B202:;
+  w2c_B180:;
   w2c_i0 = w2c_p1;
   w2c_i1 = 4294967248u;
   w2c_i0 += w2c_i1;
   w2c_i1 = 10u;
   w2c_i0 = w2c_i0 < w2c_i1;
-  if (w2c_i0) {goto w2c_B203;}
+  if (w2c_i0) {goto w2c_B181;}
   w2c_i0 = w2c_p1;
   w2c_i1 = 4294902000u;
   w2c_i0 += w2c_i1;
   w2c_i1 = 9u;
   w2c_i0 = w2c_i0 > w2c_i1;
   if (w2c_i0) {goto w2c_B0;}
-  w2c_B203:;
+  w2c_B181:;
   w2c_i0 = w2c_l12;
   w2c_i1 = 4294967248u;
   w2c_i0 += w2c_i1;
   w2c_i1 = 10u;
   w2c_i0 = w2c_i0 < w2c_i1;
-  if (w2c_i0) {goto w2c_B204;}
+  if (w2c_i0) {goto w2c_B182;}
   w2c_i0 = w2c_l12;
   w2c_i1 = 4294902000u;
   w2c_i0 += w2c_i1;
   w2c_i1 = 9u;
   w2c_i0 = w2c_i0 > w2c_i1;
   if (w2c_i0) {goto w2c_B0;}
-  w2c_B204:;
+  w2c_B182:;
   w2c_j0 = w2c_p6;
   w2c_j1 = w2c_p5;
   w2c_j2 = w2c_p3;
   w2c_j1 += w2c_j2;
   w2c_i0 = w2c_j0 != w2c_j1;
-  if (w2c_i0) {goto w2c_B205;}
+  if (w2c_i0) {goto w2c_B183;}
   w2c_i0 = 1u;
   w2c_l11 = w2c_i0;
   goto w2c_B0;
-  w2c_B205:;
+  w2c_B183:;
   w2c_j0 = w2c_p2;
   w2c_j1 = w2c_p5;
   w2c_j0 += w2c_j1;
@@ -20587,7 +19316,7 @@ static u32 w2c_f28(module *m, u32 w2c_p0, u32 w2c_p1, u64 w2c_p2, u64 w2c_p3, u3
   w2c_i0 = w2c_l11;
   w2c_i1 = 4294967295u;
   w2c_i0 = (u32)((s32)w2c_i0 > (s32)w2c_i1);
-  if (w2c_i0) {goto w2c_B206;}
+  if (w2c_i0) {goto w2c_B184;}
   w2c_j0 = w2c_p3;
   w2c_i0 = (u32)(w2c_j0);
   w2c_i0 = i32_load8_u(m, (u64)(w2c_i0) + 1u);
@@ -20597,7 +19326,7 @@ static u32 w2c_f28(module *m, u32 w2c_p0, u32 w2c_p1, u64 w2c_p2, u64 w2c_p3, u3
   w2c_i0 = w2c_l11;
   w2c_i1 = 4294967263u;
   w2c_i0 = w2c_i0 > w2c_i1;
-  if (w2c_i0) {goto w2c_B207;}
+  if (w2c_i0) {goto w2c_B185;}
   w2c_i0 = w2c_p4;
   w2c_i1 = 6u;
   w2c_i0 <<= (w2c_i1 & 31);
@@ -20606,8 +19335,8 @@ static u32 w2c_f28(module *m, u32 w2c_p0, u32 w2c_p1, u64 w2c_p2, u64 w2c_p3, u3
   w2c_i1 = w2c_p0;
   w2c_i0 |= w2c_i1;
   w2c_p4 = w2c_i0;
-  goto w2c_B206;
-  w2c_B207:;
+  goto w2c_B184;
+  w2c_B185:;
   w2c_j0 = w2c_p3;
   w2c_i0 = (u32)(w2c_j0);
   w2c_i0 = i32_load8_u(m, (u64)(w2c_i0) + 2u);
@@ -20617,7 +19346,7 @@ static u32 w2c_f28(module *m, u32 w2c_p0, u32 w2c_p1, u64 w2c_p2, u64 w2c_p3, u3
   w2c_i0 = w2c_l11;
   w2c_i1 = 4294967279u;
   w2c_i0 = w2c_i0 > w2c_i1;
-  if (w2c_i0) {goto w2c_B208;}
+  if (w2c_i0) {goto w2c_B186;}
   w2c_i0 = w2c_p0;
   w2c_i1 = 6u;
   w2c_i0 <<= (w2c_i1 & 31);
@@ -20630,8 +19359,8 @@ static u32 w2c_f28(module *m, u32 w2c_p0, u32 w2c_p1, u64 w2c_p2, u64 w2c_p3, u3
   w2c_i1 = w2c_p1;
   w2c_i0 |= w2c_i1;
   w2c_p4 = w2c_i0;
-  goto w2c_B206;
-  w2c_B208:;
+  goto w2c_B184;
+  w2c_B186:;
   w2c_i0 = w2c_p1;
   w2c_i1 = 6u;
   w2c_i0 <<= (w2c_i1 & 31);
@@ -20652,7 +19381,7 @@ static u32 w2c_f28(module *m, u32 w2c_p0, u32 w2c_p1, u64 w2c_p2, u64 w2c_p3, u3
   w2c_i1 &= w2c_i2;
   w2c_i0 |= w2c_i1;
   w2c_p4 = w2c_i0;
-  w2c_B206:;
+  w2c_B184:;
   w2c_i0 = w2c_p4;
   w2c_i1 = 4294967238u;
   w2c_i0 += w2c_i1;
@@ -20675,17 +19404,22 @@ static u32 w2c_f28(module *m, u32 w2c_p0, u32 w2c_p1, u64 w2c_p2, u64 w2c_p3, u3
   w2c_i1 = w2c_p1;
   w2c_j2 = w2c_p5;
   w2c_j3 = w2c_p6;
-  w2c_i0 = w2c_f30(m, w2c_i0, w2c_i1, w2c_j2, w2c_j3);
+  w2c_i0 = w2c_f29(m, w2c_i0, w2c_i1, w2c_j2, w2c_j3);
   w2c_i0 = !(w2c_i0);
   if (w2c_i0) {goto w2c_B0;}
-  w2c_j0 = w2c_p3;
-  w2c_i0 = !(w2c_j0);
-  w2c_i0 = !(w2c_i0);
-  if (w2c_i0) {goto w2c_B209;}
+  w2c_i0 = w2c_p0;
+  w2c_i1 = w2c_p1;
+  w2c_j2 = w2c_p2;
+  w2c_j3 = w2c_p3;
+  w2c_i0 = w2c_f28(m, w2c_i0, w2c_i1, w2c_j2, w2c_j3);
+  if (w2c_i0) {goto w2c_B0;}
   w2c_i0 = 1u;
   w2c_l11 = w2c_i0;
-  goto w2c_B0;
-  w2c_B209:;
+  w2c_j0 = w2c_p3;
+  w2c_i0 = !(w2c_j0);
+  if (w2c_i0) {goto w2c_B0;}
+  w2c_i0 = 0u;
+  w2c_l11 = w2c_i0;
   w2c_j0 = w2c_p2;
   w2c_j1 = w2c_p3;
   w2c_j0 += w2c_j1;
@@ -20695,9 +19429,9 @@ static u32 w2c_f28(module *m, u32 w2c_p0, u32 w2c_p1, u64 w2c_p2, u64 w2c_p3, u3
   w2c_i0 = (u32)(w2c_j0);
   w2c_i0 = i32_load8_s(m, (u64)(w2c_i0));
   w2c_p4 = w2c_i0;
-  w2c_i1 = 4294967295u;
-  w2c_i0 = (u32)((s32)w2c_i0 > (s32)w2c_i1);
-  if (w2c_i0) {goto w2c_B211;}
+  w2c_i1 = 0u;
+  w2c_i0 = (u32)((s32)w2c_i0 >= (s32)w2c_i1);
+  if (w2c_i0) {goto w2c_B187;}
   w2c_j0 = 18446744073709551614ull;
   w2c_p5 = w2c_j0;
   w2c_j0 = w2c_p6;
@@ -20707,7 +19441,7 @@ static u32 w2c_f28(module *m, u32 w2c_p0, u32 w2c_p1, u64 w2c_p2, u64 w2c_p3, u3
   w2c_i0 = i32_load8_u(m, (u64)(w2c_i0));
   w2c_i1 = 191u;
   w2c_i0 = w2c_i0 > w2c_i1;
-  if (w2c_i0) {goto w2c_B212;}
+  if (w2c_i0) {goto w2c_B188;}
   w2c_j0 = 18446744073709551613ull;
   w2c_j1 = 18446744073709551612ull;
   w2c_j2 = w2c_p6;
@@ -20719,115 +19453,7 @@ static u32 w2c_f28(module *m, u32 w2c_p0, u32 w2c_p1, u64 w2c_p2, u64 w2c_p3, u3
   w2c_i2 = w2c_i2 > w2c_i3;
   w2c_j0 = w2c_i2 ? w2c_j0 : w2c_j1;
   w2c_p5 = w2c_j0;
-  w2c_B212:;
-  w2c_j0 = w2c_p2;
-  w2c_j1 = w2c_p5;
-  w2c_j0 += w2c_j1;
-  w2c_j1 = w2c_p3;
-  w2c_j0 += w2c_j1;
-  w2c_p5 = w2c_j0;
-  w2c_i0 = (u32)(w2c_j0);
-  w2c_i0 = i32_load8_s(m, (u64)(w2c_i0));
-  w2c_l12 = w2c_i0;
-  w2c_i1 = 255u;
-  w2c_i0 &= w2c_i1;
-  w2c_p4 = w2c_i0;
-  w2c_i0 = w2c_l12;
-  w2c_i1 = 4294967295u;
-  w2c_i0 = (u32)((s32)w2c_i0 > (s32)w2c_i1);
-  if (w2c_i0) {goto w2c_B213;}
-  w2c_j0 = w2c_p5;
-  w2c_i0 = (u32)(w2c_j0);
-  w2c_i0 = i32_load8_u(m, (u64)(w2c_i0) + 1u);
-  w2c_i1 = 63u;
-  w2c_i0 &= w2c_i1;
-  w2c_l13 = w2c_i0;
-  w2c_i0 = w2c_l12;
-  w2c_i1 = 4294967263u;
-  w2c_i0 = w2c_i0 > w2c_i1;
-  if (w2c_i0) {goto w2c_B214;}
-  w2c_i0 = w2c_p4;
-  w2c_i1 = 6u;
-  w2c_i0 <<= (w2c_i1 & 31);
-  w2c_i1 = 1984u;
-  w2c_i0 &= w2c_i1;
-  w2c_i1 = w2c_l13;
-  w2c_i0 |= w2c_i1;
-  w2c_p4 = w2c_i0;
-  goto w2c_B213;
-  w2c_B214:;
-  w2c_j0 = w2c_p5;
-  w2c_i0 = (u32)(w2c_j0);
-  w2c_i0 = i32_load8_u(m, (u64)(w2c_i0) + 2u);
-  w2c_i1 = 63u;
-  w2c_i0 &= w2c_i1;
-  w2c_l14 = w2c_i0;
-  w2c_i0 = w2c_l12;
-  w2c_i1 = 4294967279u;
-  w2c_i0 = w2c_i0 > w2c_i1;
-  if (w2c_i0) {goto w2c_B215;}
-  w2c_i0 = w2c_l13;
-  w2c_i1 = 6u;
-  w2c_i0 <<= (w2c_i1 & 31);
-  w2c_i1 = w2c_p4;
-  w2c_i2 = 12u;
-  w2c_i1 <<= (w2c_i2 & 31);
-  w2c_i2 = 61440u;
-  w2c_i1 &= w2c_i2;
-  w2c_i0 |= w2c_i1;
-  w2c_i1 = w2c_l14;
-  w2c_i0 |= w2c_i1;
-  w2c_p4 = w2c_i0;
-  goto w2c_B213;
-  w2c_B215:;
-  w2c_i0 = w2c_l14;
-  w2c_i1 = 6u;
-  w2c_i0 <<= (w2c_i1 & 31);
-  w2c_i1 = w2c_l13;
-  w2c_i2 = 12u;
-  w2c_i1 <<= (w2c_i2 & 31);
-  w2c_i2 = w2c_p4;
-  w2c_i3 = 18u;
-  w2c_i2 <<= (w2c_i3 & 31);
-  w2c_i3 = 1835008u;
-  w2c_i2 &= w2c_i3;
-  w2c_i1 |= w2c_i2;
-  w2c_i0 |= w2c_i1;
-  w2c_j1 = w2c_p5;
-  w2c_i1 = (u32)(w2c_j1);
-  w2c_i1 = i32_load8_u(m, (u64)(w2c_i1) + 3u);
-  w2c_i2 = 63u;
-  w2c_i1 &= w2c_i2;
-  w2c_i0 |= w2c_i1;
-  w2c_p4 = w2c_i0;
-  w2c_B213:;
-  w2c_i0 = w2c_p0;
-  w2c_i1 = w2c_p1;
-  w2c_i2 = w2c_p4;
-  w2c_i0 = w2c_f29(m, w2c_i0, w2c_i1, w2c_i2);
-  if (w2c_i0) {goto w2c_B0;}
-  w2c_j0 = 18446744073709551614ull;
-  w2c_p5 = w2c_j0;
-  w2c_j0 = w2c_p6;
-  w2c_j1 = 18446744073709551614ull;
-  w2c_j0 += w2c_j1;
-  w2c_i0 = (u32)(w2c_j0);
-  w2c_i0 = i32_load8_u(m, (u64)(w2c_i0));
-  w2c_i1 = 191u;
-  w2c_i0 = w2c_i0 > w2c_i1;
-  if (w2c_i0) {goto w2c_B216;}
-  w2c_j0 = 18446744073709551613ull;
-  w2c_j1 = 18446744073709551612ull;
-  w2c_j2 = w2c_p6;
-  w2c_j3 = 18446744073709551613ull;
-  w2c_j2 += w2c_j3;
-  w2c_i2 = (u32)(w2c_j2);
-  w2c_i2 = i32_load8_u(m, (u64)(w2c_i2));
-  w2c_i3 = 191u;
-  w2c_i2 = w2c_i2 > w2c_i3;
-  w2c_j0 = w2c_i2 ? w2c_j0 : w2c_j1;
-  w2c_p5 = w2c_j0;
-  w2c_B216:;
+  w2c_B188:;
   w2c_j0 = w2c_p2;
   w2c_j1 = w2c_p5;
   w2c_j0 += w2c_j1;
@@ -20843,7 +19469,7 @@ static u32 w2c_f28(module *m, u32 w2c_p0, u32 w2c_p1, u64 w2c_p2, u64 w2c_p3, u3
   w2c_i0 = w2c_p0;
   w2c_i1 = 4294967295u;
   w2c_i0 = (u32)((s32)w2c_i0 > (s32)w2c_i1);
-  if (w2c_i0) {goto w2c_B210;}
+  if (w2c_i0) {goto w2c_B187;}
   w2c_j0 = w2c_p3;
   w2c_i0 = (u32)(w2c_j0);
   w2c_i0 = i32_load8_u(m, (u64)(w2c_i0) + 1u);
@@ -20853,7 +19479,7 @@ static u32 w2c_f28(module *m, u32 w2c_p0, u32 w2c_p1, u64 w2c_p2, u64 w2c_p3, u3
   w2c_i0 = w2c_p0;
   w2c_i1 = 4294967263u;
   w2c_i0 = w2c_i0 > w2c_i1;
-  if (w2c_i0) {goto w2c_B217;}
+  if (w2c_i0) {goto w2c_B189;}
   w2c_i0 = w2c_p4;
   w2c_i1 = 6u;
   w2c_i0 <<= (w2c_i1 & 31);
@@ -20862,8 +19488,8 @@ static u32 w2c_f28(module *m, u32 w2c_p0, u32 w2c_p1, u64 w2c_p2, u64 w2c_p3, u3
   w2c_i1 = w2c_p1;
   w2c_i0 |= w2c_i1;
   w2c_p4 = w2c_i0;
-  goto w2c_B210;
-  w2c_B217:;
+  goto w2c_B187;
+  w2c_B189:;
   w2c_j0 = w2c_p3;
   w2c_i0 = (u32)(w2c_j0);
   w2c_i0 = i32_load8_u(m, (u64)(w2c_i0) + 2u);
@@ -20873,7 +19499,7 @@ static u32 w2c_f28(module *m, u32 w2c_p0, u32 w2c_p1, u64 w2c_p2, u64 w2c_p3, u3
   w2c_i0 = w2c_p0;
   w2c_i1 = 4294967279u;
   w2c_i0 = w2c_i0 > w2c_i1;
-  if (w2c_i0) {goto w2c_B218;}
+  if (w2c_i0) {goto w2c_B190;}
   w2c_i0 = w2c_p1;
   w2c_i1 = 6u;
   w2c_i0 <<= (w2c_i1 & 31);
@@ -20886,8 +19512,8 @@ static u32 w2c_f28(module *m, u32 w2c_p0, u32 w2c_p1, u64 w2c_p2, u64 w2c_p3, u3
   w2c_i1 = w2c_l12;
   w2c_i0 |= w2c_i1;
   w2c_p4 = w2c_i0;
-  goto w2c_B210;
-  w2c_B218:;
+  goto w2c_B187;
+  w2c_B190:;
   w2c_i0 = w2c_l12;
   w2c_i1 = 6u;
   w2c_i0 <<= (w2c_i1 & 31);
@@ -20908,22 +19534,15 @@ static u32 w2c_f28(module *m, u32 w2c_p0, u32 w2c_p1, u64 w2c_p2, u64 w2c_p3, u3
   w2c_i1 &= w2c_i2;
   w2c_i0 |= w2c_i1;
   w2c_p4 = w2c_i0;
-  goto w2c_B210;
-  w2c_B211:;
-  w2c_i0 = w2c_p0;
-  w2c_i1 = w2c_p1;
-  w2c_i2 = w2c_p4;
-  w2c_i0 = w2c_f29(m, w2c_i0, w2c_i1, w2c_i2);
-  if (w2c_i0) {goto w2c_B0;}
-  w2c_B210:;
+  w2c_B187:;
   w2c_i0 = w2c_p4;
   w2c_i1 = 27490u;
   w2c_i0 = (u32)((s32)w2c_i0 > (s32)w2c_i1);
-  if (w2c_i0) {goto w2c_B220;}
+  if (w2c_i0) {goto w2c_B192;}
   w2c_i0 = w2c_p4;
   w2c_i1 = 25284u;
   w2c_i0 = (u32)((s32)w2c_i0 > (s32)w2c_i1);
-  if (w2c_i0) {goto w2c_B221;}
+  if (w2c_i0) {goto w2c_B193;}
   w2c_i0 = w2c_p4;
   w2c_i1 = 19981u;
   w2c_i0 = w2c_i0 == w2c_i1;
@@ -20935,13 +19554,13 @@ static u32 w2c_f28(module *m, u32 w2c_p0, u32 w2c_p1, u64 w2c_p2, u64 w2c_p3, u3
   w2c_i0 = w2c_p4;
   w2c_i1 = 25265u;
   w2c_i0 = w2c_i0 != w2c_i1;
-  if (w2c_i0) {goto w2c_B219;}
+  if (w2c_i0) {goto w2c_B191;}
   goto w2c_B0;
-  w2c_B221:;
+  w2c_B193:;
   w2c_i0 = w2c_p4;
   w2c_i1 = 25811u;
   w2c_i0 = (u32)((s32)w2c_i0 > (s32)w2c_i1);
-  if (w2c_i0) {goto w2c_B222;}
+  if (w2c_i0) {goto w2c_B194;}
   w2c_i0 = w2c_p4;
   w2c_i1 = 25285u;
   w2c_i0 = w2c_i0 == w2c_i1;
@@ -20949,9 +19568,9 @@ static u32 w2c_f28(module *m, u32 w2c_p0, u32 w2c_p1, u64 w2c_p2, u64 w2c_p3, u3
   w2c_i0 = w2c_p4;
   w2c_i1 = 25593u;
   w2c_i0 = w2c_i0 != w2c_i1;
-  if (w2c_i0) {goto w2c_B219;}
+  if (w2c_i0) {goto w2c_B191;}
   goto w2c_B0;
-  w2c_B222:;
+  w2c_B194:;
   w2c_i0 = w2c_p4;
   w2c_i1 = 25812u;
   w2c_i0 = w2c_i0 == w2c_i1;
@@ -20959,37 +19578,37 @@ static u32 w2c_f28(module *m, u32 w2c_p0, u32 w2c_p1, u64 w2c_p2, u64 w2c_p3, u3
   w2c_i0 = w2c_p4;
   w2c_i1 = 27450u;
   w2c_i0 = w2c_i0 != w2c_i1;
-  if (w2c_i0) {goto w2c_B219;}
+  if (w2c_i0) {goto w2c_B191;}
   goto w2c_B0;
-  w2c_B220:;
+  w2c_B192:;
   w2c_i0 = w2c_p4;
   w2c_i1 = 33257u;
   w2c_i0 = (u32)((s32)w2c_i0 > (s32)w2c_i1);
-  if (w2c_i0) {goto w2c_B223;}
+  if (w2c_i0) {goto w2c_B195;}
   w2c_i0 = w2c_p4;
   w2c_i1 = 4294934324u;
   w2c_i0 += w2c_i1;
   switch (w2c_i0) {
     case 0: goto w2c_B0;
-    case 1: goto w2c_B219;
-    case 2: goto w2c_B219;
-    case 3: goto w2c_B219;
-    case 4: goto w2c_B219;
-    case 5: goto w2c_B219;
-    case 6: goto w2c_B219;
-    case 7: goto w2c_B219;
-    case 8: goto w2c_B219;
-    case 9: goto w2c_B219;
-    case 10: goto w2c_B219;
-    case 11: goto w2c_B219;
-    case 12: goto w2c_B219;
-    case 13: goto w2c_B219;
-    case 14: goto w2c_B219;
-    case 15: goto w2c_B219;
+    case 1: goto w2c_B191;
+    case 2: goto w2c_B191;
+    case 3: goto w2c_B191;
+    case 4: goto w2c_B191;
+    case 5: goto w2c_B191;
+    case 6: goto w2c_B191;
+    case 7: goto w2c_B191;
+    case 8: goto w2c_B191;
+    case 9: goto w2c_B191;
+    case 10: goto w2c_B191;
+    case 11: goto w2c_B191;
+    case 12: goto w2c_B191;
+    case 13: goto w2c_B191;
+    case 14: goto w2c_B191;
+    case 15: goto w2c_B191;
     case 16: goto w2c_B0;
-    default: goto w2c_B224;
+    default: goto w2c_B196;
   }
-  w2c_B224:;
+  w2c_B196:;
   w2c_i0 = w2c_p4;
   w2c_i1 = 27491u;
   w2c_i0 = w2c_i0 == w2c_i1;
@@ -20997,9 +19616,9 @@ static u32 w2c_f28(module *m, u32 w2c_p0, u32 w2c_p1, u64 w2c_p2, u64 w2c_p3, u3
   w2c_i0 = w2c_p4;
   w2c_i1 = 32937u;
   w2c_i0 = w2c_i0 != w2c_i1;
-  if (w2c_i0) {goto w2c_B219;}
+  if (w2c_i0) {goto w2c_B191;}
   goto w2c_B0;
-  w2c_B223:;
+  w2c_B195:;
   w2c_i0 = w2c_p4;
   w2c_i1 = 33258u;
   w2c_i0 = w2c_i0 == w2c_i1;
@@ -21012,49 +19631,168 @@ static u32 w2c_f28(module *m, u32 w2c_p0, u32 w2c_p1, u64 w2c_p2, u64 w2c_p3, u3
   w2c_i1 = 38750u;
   w2c_i0 = w2c_i0 == w2c_i1;
   if (w2c_i0) {goto w2c_B0;}
-  w2c_B219:;
+  w2c_B191:;
   w2c_i0 = 1u;
   w2c_l11 = w2c_i0;
   w2c_B0:;
   w2c_j0 = w2c_l7;
-  w2c_j1 = 48ull;
+  w2c_j1 = 16ull;
   w2c_j0 += w2c_j1;
   m->w2c_g0 = w2c_j0;
   w2c_i0 = w2c_l11;
   return w2c_i0;
 }
 
-static u32 w2c_f29(module *m, u32 w2c_p0, u32 w2c_p1, u32 w2c_p2) {
-  u32 w2c_l5 = 0, w2c_l6 = 0, w2c_l7 = 0;
-  u64 w2c_l3 = 0, w2c_l4 = 0;
+static u32 w2c_f28(module *m, u32 w2c_p0, u32 w2c_p1, u64 w2c_p2, u64 w2c_p3) {
+  u32 w2c_l7 = 0, w2c_l8 = 0, w2c_l9 = 0, w2c_l10 = 0;
+  u64 w2c_l4 = 0, w2c_l5 = 0, w2c_l6 = 0;
   u32 w2c_i0, w2c_i1, w2c_i2, w2c_i3, w2c_i4;
-  u64 w2c_j0, w2c_j1, w2c_j5, w2c_j6;
+  u64 w2c_j0, w2c_j1, w2c_j2, w2c_j3, w2c_j5, w2c_j6;
   w2c_j0 = m->w2c_g0;
-  w2c_j1 = 16ull;
-  w2c_j0 -= w2c_j1;
-  w2c_l3 = w2c_j0;
-  m->w2c_g0 = w2c_j0;
-  w2c_j0 = w2c_l3;
-  w2c_l3 = w2c_j0;
+  w2c_l4 = w2c_j0;
   w2c_j1 = 16ull;
   w2c_i0 = (u64)((s64)w2c_j0 < (s64)w2c_j1);
   if (w2c_i0) {goto w2c_B0;}
-  w2c_i0 = w2c_p2;
+  w2c_j0 = w2c_p3;
+  w2c_i0 = !(w2c_j0);
+  w2c_i0 = !(w2c_i0);
+  if (w2c_i0) {goto w2c_B1;}
+  w2c_j0 = w2c_l4;
+  m->w2c_g0 = w2c_j0;
+  w2c_i0 = 0u;
+  goto w2c_Bfunc;
+  w2c_B1:;
+  w2c_j0 = w2c_p2;
+  w2c_j1 = w2c_p3;
+  w2c_j0 += w2c_j1;
+  w2c_l5 = w2c_j0;
+  w2c_j1 = 18446744073709551615ull;
+  w2c_j0 += w2c_j1;
+  w2c_i0 = (u32)(w2c_j0);
+  w2c_i0 = i32_load8_s(m, (u64)(w2c_i0));
+  w2c_l7 = w2c_i0;
+  w2c_i1 = 0u;
+  w2c_i0 = (u32)((s32)w2c_i0 >= (s32)w2c_i1);
+  if (w2c_i0) {goto w2c_B2;}
+  w2c_j0 = 18446744073709551614ull;
+  w2c_l6 = w2c_j0;
+  w2c_j0 = w2c_l5;
+  w2c_j1 = 18446744073709551614ull;
+  w2c_j0 += w2c_j1;
+  w2c_i0 = (u32)(w2c_j0);
+  w2c_i0 = i32_load8_u(m, (u64)(w2c_i0));
+  w2c_i1 = 191u;
+  w2c_i0 = w2c_i0 > w2c_i1;
+  if (w2c_i0) {goto w2c_B3;}
+  w2c_j0 = 18446744073709551613ull;
+  w2c_j1 = 18446744073709551612ull;
+  w2c_j2 = w2c_l5;
+  w2c_j3 = 18446744073709551613ull;
+  w2c_j2 += w2c_j3;
+  w2c_i2 = (u32)(w2c_j2);
+  w2c_i2 = i32_load8_u(m, (u64)(w2c_i2));
+  w2c_i3 = 191u;
+  w2c_i2 = w2c_i2 > w2c_i3;
+  w2c_j0 = w2c_i2 ? w2c_j0 : w2c_j1;
+  w2c_l6 = w2c_j0;
+  w2c_B3:;
+  w2c_j0 = w2c_p2;
+  w2c_j1 = w2c_l6;
+  w2c_j0 += w2c_j1;
+  w2c_j1 = w2c_p3;
+  w2c_j0 += w2c_j1;
+  w2c_p3 = w2c_j0;
+  w2c_i0 = (u32)(w2c_j0);
+  w2c_i0 = i32_load8_s(m, (u64)(w2c_i0));
+  w2c_l8 = w2c_i0;
+  w2c_i1 = 255u;
+  w2c_i0 &= w2c_i1;
+  w2c_l7 = w2c_i0;
+  w2c_i0 = w2c_l8;
+  w2c_i1 = 4294967295u;
+  w2c_i0 = (u32)((s32)w2c_i0 > (s32)w2c_i1);
+  if (w2c_i0) {goto w2c_B2;}
+  w2c_j0 = w2c_p3;
+  w2c_i0 = (u32)(w2c_j0);
+  w2c_i0 = i32_load8_u(m, (u64)(w2c_i0) + 1u);
+  w2c_i1 = 63u;
+  w2c_i0 &= w2c_i1;
+  w2c_l9 = w2c_i0;
+  w2c_i0 = w2c_l8;
+  w2c_i1 = 4294967263u;
+  w2c_i0 = w2c_i0 > w2c_i1;
+  if (w2c_i0) {goto w2c_B4;}
+  w2c_i0 = w2c_l7;
+  w2c_i1 = 6u;
+  w2c_i0 <<= (w2c_i1 & 31);
+  w2c_i1 = 1984u;
+  w2c_i0 &= w2c_i1;
+  w2c_i1 = w2c_l9;
+  w2c_i0 |= w2c_i1;
+  w2c_l7 = w2c_i0;
+  goto w2c_B2;
+  w2c_B4:;
+  w2c_j0 = w2c_p3;
+  w2c_i0 = (u32)(w2c_j0);
+  w2c_i0 = i32_load8_u(m, (u64)(w2c_i0) + 2u);
+  w2c_i1 = 63u;
+  w2c_i0 &= w2c_i1;
+  w2c_l10 = w2c_i0;
+  w2c_i0 = w2c_l8;
+  w2c_i1 = 4294967279u;
+  w2c_i0 = w2c_i0 > w2c_i1;
+  if (w2c_i0) {goto w2c_B5;}
+  w2c_i0 = w2c_l9;
+  w2c_i1 = 6u;
+  w2c_i0 <<= (w2c_i1 & 31);
+  w2c_i1 = w2c_l7;
+  w2c_i2 = 12u;
+  w2c_i1 <<= (w2c_i2 & 31);
+  w2c_i2 = 61440u;
+  w2c_i1 &= w2c_i2;
+  w2c_i0 |= w2c_i1;
+  w2c_i1 = w2c_l10;
+  w2c_i0 |= w2c_i1;
+  w2c_l7 = w2c_i0;
+  goto w2c_B2;
+  w2c_B5:;
+  w2c_i0 = w2c_l10;
+  w2c_i1 = 6u;
+  w2c_i0 <<= (w2c_i1 & 31);
+  w2c_i1 = w2c_l9;
+  w2c_i2 = 12u;
+  w2c_i1 <<= (w2c_i2 & 31);
+  w2c_i2 = w2c_l7;
+  w2c_i3 = 18u;
+  w2c_i2 <<= (w2c_i3 & 31);
+  w2c_i3 = 1835008u;
+  w2c_i2 &= w2c_i3;
+  w2c_i1 |= w2c_i2;
+  w2c_i0 |= w2c_i1;
+  w2c_j1 = w2c_p3;
+  w2c_i1 = (u32)(w2c_j1);
+  w2c_i1 = i32_load8_u(m, (u64)(w2c_i1) + 3u);
+  w2c_i2 = 63u;
+  w2c_i1 &= w2c_i2;
+  w2c_i0 |= w2c_i1;
+  w2c_l7 = w2c_i0;
+  w2c_B2:;
+  w2c_i0 = w2c_l7;
   w2c_i1 = 4294965248u;
   w2c_i0 += w2c_i1;
   w2c_i1 = 63487u;
   w2c_i0 = w2c_i0 > w2c_i1;
-  if (w2c_i0) {goto w2c_B4;}
-  w2c_i0 = w2c_p2;
+  if (w2c_i0) {goto w2c_B8;}
+  w2c_i0 = w2c_l7;
   w2c_i1 = 12u;
   w2c_i0 >>= (w2c_i1 & 31);
-  w2c_i1 = w2c_p2;
+  w2c_i1 = w2c_l7;
   w2c_i2 = 2u;
   w2c_i1 <<= (w2c_i2 & 31);
   w2c_i2 = 16128u;
   w2c_i1 &= w2c_i2;
   w2c_i0 |= w2c_i1;
-  w2c_i1 = w2c_p2;
+  w2c_i1 = w2c_l7;
   w2c_i2 = 16u;
   w2c_i1 <<= (w2c_i2 & 31);
   w2c_i2 = 4128768u;
@@ -21062,7 +19800,7 @@ static u32 w2c_f29(module *m, u32 w2c_p0, u32 w2c_p1, u32 w2c_p2) {
   w2c_i0 |= w2c_i1;
   w2c_i1 = 8421600u;
   w2c_i0 |= w2c_i1;
-  w2c_l5 = w2c_i0;
+  w2c_l8 = w2c_i0;
   w2c_j0 = (u64)(w2c_i0);
   w2c_j1 = 953497ull;
   w2c_j0 *= w2c_j1;
@@ -21070,100 +19808,76 @@ static u32 w2c_f29(module *m, u32 w2c_p0, u32 w2c_p1, u32 w2c_p2) {
   w2c_j0 >>= (w2c_j1 & 63);
   w2c_j1 = 1016ull;
   w2c_j0 &= w2c_j1;
-  w2c_l4 = w2c_j0;
+  w2c_p3 = w2c_j0;
   w2c_i0 = (u32)(w2c_j0);
   w2c_i0 = i32_load(m, (u64)(w2c_i0) + 66992u);
-  w2c_i1 = w2c_l5;
+  w2c_i1 = w2c_l8;
   w2c_i0 = w2c_i0 != w2c_i1;
-  if (w2c_i0) {goto w2c_B2;}
-  w2c_j0 = w2c_l4;
+  if (w2c_i0) {goto w2c_B6;}
+  w2c_j0 = w2c_p3;
   w2c_j1 = 66996ull;
   w2c_j0 += w2c_j1;
   w2c_i0 = (u32)(w2c_j0);
   w2c_i0 = i32_load8_u(m, (u64)(w2c_i0));
-  w2c_l6 = w2c_i0;
+  w2c_l8 = w2c_i0;
   w2c_i1 = 255u;
   w2c_i0 &= w2c_i1;
   w2c_i1 = 2u;
   w2c_i0 = w2c_i0 == w2c_i1;
-  if (w2c_i0) {goto w2c_B2;}
-  w2c_j0 = w2c_l4;
+  if (w2c_i0) {goto w2c_B6;}
+  w2c_j0 = w2c_p3;
   w2c_j1 = 66997ull;
   w2c_j0 += w2c_j1;
   w2c_i0 = (u32)(w2c_j0);
   w2c_i0 = i32_load8_u(m, (u64)(w2c_i0));
-  w2c_l7 = w2c_i0;
-  goto w2c_B3;
-  w2c_B4:;
-  w2c_j0 = w2c_l3;
-  w2c_j1 = 8ull;
-  w2c_j0 += w2c_j1;
-  w2c_i1 = w2c_p2;
-  w2c_f18(m, w2c_j0, w2c_i1);
-  w2c_i0 = 1u;
-  w2c_l6 = w2c_i0;
-  w2c_j0 = w2c_l3;
-  w2c_i0 = (u32)(w2c_j0);
-  w2c_i0 = i32_load8_u(m, (u64)(w2c_i0) + 8u);
-  w2c_i1 = 1u;
-  w2c_i0 = w2c_i0 != w2c_i1;
-  if (w2c_i0) {goto w2c_B5;}
-  w2c_j0 = w2c_l3;
-  w2c_i0 = (u32)(w2c_j0);
-  w2c_i0 = i32_load8_u(m, (u64)(w2c_i0) + 9u);
-  w2c_l7 = w2c_i0;
+  w2c_l9 = w2c_i0;
+  goto w2c_B7;
+  w2c_B8:;
   w2c_i0 = 0u;
-  w2c_l6 = w2c_i0;
-  goto w2c_B3;
-  w2c_B5:;
-  w2c_j0 = w2c_l3;
-  w2c_i1 = w2c_p2;
-  w2c_f19(m, w2c_j0, w2c_i1);
-  w2c_j0 = w2c_l3;
-  w2c_i0 = (u32)(w2c_j0);
-  w2c_i0 = i32_load8_u(m, (u64)(w2c_i0));
-  w2c_i1 = 1u;
-  w2c_i0 = w2c_i0 != w2c_i1;
-  if (w2c_i0) {goto w2c_B2;}
-  w2c_j0 = w2c_l3;
-  w2c_i0 = (u32)(w2c_j0);
-  w2c_i0 = i32_load8_u(m, (u64)(w2c_i0) + 1u);
-  w2c_l7 = w2c_i0;
-  w2c_B3:;
-  w2c_i0 = 1u;
-  w2c_l5 = w2c_i0;
+  w2c_l8 = w2c_i0;
+  w2c_i0 = w2c_l7;
+  w2c_i1 = 4294967248u;
+  w2c_i0 += w2c_i1;
+  w2c_l9 = w2c_i0;
+  w2c_i1 = 9u;
+  w2c_i0 = w2c_i0 > w2c_i1;
+  if (w2c_i0) {goto w2c_B6;}
+  w2c_B7:;
   w2c_i0 = w2c_p0;
   w2c_i1 = w2c_p1;
-  w2c_i2 = w2c_p2;
-  w2c_i3 = w2c_l6;
-  w2c_i4 = w2c_l7;
+  w2c_i2 = w2c_l7;
+  w2c_i3 = w2c_l8;
+  w2c_i4 = w2c_l9;
   w2c_j5 = 66332ull;
   w2c_j6 = 0ull;
   w2c_i0 = w2c_f17(m, w2c_i0, w2c_i1, w2c_i2, w2c_i3, w2c_i4, w2c_j5, w2c_j6);
-  if (w2c_i0) {goto w2c_B1;}
-  w2c_B2:;
+  w2c_i0 = !(w2c_i0);
+  if (w2c_i0) {goto w2c_B6;}
+  w2c_j0 = w2c_l4;
+  m->w2c_g0 = w2c_j0;
   w2c_i0 = 1u;
-  w2c_l5 = w2c_i0;
-  w2c_i0 = w2c_p2;
+  goto w2c_Bfunc;
+  w2c_B6:;
+  w2c_i0 = 1u;
+  w2c_p1 = w2c_i0;
+  w2c_i0 = w2c_l7;
   w2c_i1 = 21317u;
   w2c_i0 = w2c_i0 == w2c_i1;
-  if (w2c_i0) {goto w2c_B1;}
-  w2c_i0 = w2c_p2;
+  if (w2c_i0) {goto w2c_B9;}
+  w2c_i0 = w2c_l7;
   w2c_i1 = 24319u;
   w2c_i0 = w2c_i0 == w2c_i1;
-  if (w2c_i0) {goto w2c_B1;}
-  w2c_i0 = w2c_p2;
+  if (w2c_i0) {goto w2c_B9;}
+  w2c_i0 = w2c_l7;
   w2c_i1 = 4294902000u;
   w2c_i0 += w2c_i1;
   w2c_i1 = 10u;
   w2c_i0 = w2c_i0 < w2c_i1;
-  w2c_l5 = w2c_i0;
-  w2c_B1:;
-  w2c_j0 = w2c_l3;
-  w2c_j1 = 16ull;
-  w2c_j0 += w2c_j1;
+  w2c_p1 = w2c_i0;
+  w2c_B9:;
+  w2c_j0 = w2c_l4;
   m->w2c_g0 = w2c_j0;
-  w2c_i0 = w2c_l5;
+  w2c_i0 = w2c_p1;
   goto w2c_Bfunc;
   w2c_B0:;
   UNREACHABLE;
@@ -21171,25 +19885,20 @@ static u32 w2c_f29(module *m, u32 w2c_p0, u32 w2c_p1, u32 w2c_p2) {
   return w2c_i0;
 }
 
-static u32 w2c_f30(module *m, u32 w2c_p0, u32 w2c_p1, u64 w2c_p2, u64 w2c_p3) {
+static u32 w2c_f29(module *m, u32 w2c_p0, u32 w2c_p1, u64 w2c_p2, u64 w2c_p3) {
   u32 w2c_l6 = 0, w2c_l7 = 0, w2c_l8 = 0, w2c_l9 = 0;
   u64 w2c_l4 = 0, w2c_l5 = 0;
   u32 w2c_i0, w2c_i1, w2c_i2, w2c_i3, w2c_i4;
   u64 w2c_j0, w2c_j1, w2c_j2, w2c_j5, w2c_j6;
   w2c_j0 = m->w2c_g0;
-  w2c_j1 = 16ull;
-  w2c_j0 -= w2c_j1;
-  w2c_l4 = w2c_j0;
-  m->w2c_g0 = w2c_j0;
-  w2c_j0 = w2c_l4;
   w2c_l4 = w2c_j0;
   w2c_j1 = 16ull;
   w2c_i0 = (u64)((s64)w2c_j0 < (s64)w2c_j1);
-  if (w2c_i0) {goto w2c_B0;}
+  if (w2c_i0) {goto w2c_B2;}
   w2c_j0 = w2c_p3;
   w2c_j1 = 3ull;
   w2c_i0 = w2c_j0 < w2c_j1;
-  if (w2c_i0) {goto w2c_B7;}
+  if (w2c_i0) {goto w2c_B6;}
   w2c_j0 = w2c_p2;
   w2c_i0 = (u32)(w2c_j0);
   w2c_i0 = i32_load8_u(m, (u64)(w2c_i0));
@@ -21198,7 +19907,7 @@ static u32 w2c_f30(module *m, u32 w2c_p0, u32 w2c_p1, u64 w2c_p2, u64 w2c_p3) {
   w2c_i0 &= w2c_i1;
   w2c_i1 = 224u;
   w2c_i0 = w2c_i0 != w2c_i1;
-  if (w2c_i0) {goto w2c_B6;}
+  if (w2c_i0) {goto w2c_B5;}
   w2c_j0 = w2c_p2;
   w2c_i0 = (u32)(w2c_j0);
   w2c_i0 = i32_load8_u(m, (u64)(w2c_i0) + 1u);
@@ -21242,7 +19951,7 @@ static u32 w2c_f30(module *m, u32 w2c_p0, u32 w2c_p1, u64 w2c_p2, u64 w2c_p3) {
   w2c_i1 = (u32)(w2c_j1);
   w2c_i1 = i32_load(m, (u64)(w2c_i1));
   w2c_i0 = w2c_i0 != w2c_i1;
-  if (w2c_i0) {goto w2c_B2;}
+  if (w2c_i0) {goto w2c_B0;}
   w2c_j0 = w2c_p3;
   w2c_j1 = 18446744073709551613ull;
   w2c_j0 += w2c_j1;
@@ -21251,28 +19960,29 @@ static u32 w2c_f30(module *m, u32 w2c_p0, u32 w2c_p1, u64 w2c_p2, u64 w2c_p3) {
   w2c_j1 = 3ull;
   w2c_j0 += w2c_j1;
   w2c_p2 = w2c_j0;
-  goto w2c_B5;
-  w2c_B7:;
+  goto w2c_B4;
+  w2c_B6:;
   w2c_j0 = w2c_p3;
   w2c_i0 = !(w2c_j0);
   w2c_i0 = !(w2c_i0);
-  if (w2c_i0) {goto w2c_B8;}
+  if (w2c_i0) {goto w2c_B7;}
+  w2c_j0 = w2c_l4;
+  m->w2c_g0 = w2c_j0;
   w2c_i0 = 0u;
-  w2c_p1 = w2c_i0;
-  goto w2c_B1;
-  w2c_B8:;
+  goto w2c_Bfunc;
+  w2c_B7:;
   w2c_j0 = w2c_p2;
   w2c_i0 = (u32)(w2c_j0);
   w2c_i0 = i32_load8_u(m, (u64)(w2c_i0));
   w2c_l6 = w2c_i0;
-  w2c_B6:;
+  w2c_B5:;
   w2c_j0 = 1ull;
   w2c_l5 = w2c_j0;
   w2c_i0 = w2c_l6;
   w2c_i0 = (u32)(s32)(s8)(u8)(w2c_i0);
   w2c_i1 = 4294967295u;
   w2c_i0 = (u32)((s32)w2c_i0 > (s32)w2c_i1);
-  if (w2c_i0) {goto w2c_B9;}
+  if (w2c_i0) {goto w2c_B8;}
   w2c_j0 = w2c_p2;
   w2c_i0 = (u32)(w2c_j0);
   w2c_i0 = i32_load8_u(m, (u64)(w2c_i0) + 1u);
@@ -21282,7 +19992,7 @@ static u32 w2c_f30(module *m, u32 w2c_p0, u32 w2c_p1, u64 w2c_p2, u64 w2c_p3) {
   w2c_i0 = w2c_l6;
   w2c_i1 = 223u;
   w2c_i0 = w2c_i0 > w2c_i1;
-  if (w2c_i0) {goto w2c_B10;}
+  if (w2c_i0) {goto w2c_B9;}
   w2c_i0 = w2c_l6;
   w2c_i1 = 6u;
   w2c_i0 <<= (w2c_i1 & 31);
@@ -21293,8 +20003,8 @@ static u32 w2c_f30(module *m, u32 w2c_p0, u32 w2c_p1, u64 w2c_p2, u64 w2c_p3) {
   w2c_l6 = w2c_i0;
   w2c_j0 = 2ull;
   w2c_l5 = w2c_j0;
-  goto w2c_B9;
-  w2c_B10:;
+  goto w2c_B8;
+  w2c_B9:;
   w2c_j0 = w2c_p2;
   w2c_i0 = (u32)(w2c_j0);
   w2c_i0 = i32_load8_u(m, (u64)(w2c_i0) + 2u);
@@ -21304,7 +20014,7 @@ static u32 w2c_f30(module *m, u32 w2c_p0, u32 w2c_p1, u64 w2c_p2, u64 w2c_p3) {
   w2c_i0 = w2c_l6;
   w2c_i1 = 239u;
   w2c_i0 = w2c_i0 > w2c_i1;
-  if (w2c_i0) {goto w2c_B11;}
+  if (w2c_i0) {goto w2c_B10;}
   w2c_i0 = w2c_l9;
   w2c_i1 = 6u;
   w2c_i0 <<= (w2c_i1 & 31);
@@ -21319,8 +20029,8 @@ static u32 w2c_f30(module *m, u32 w2c_p0, u32 w2c_p1, u64 w2c_p2, u64 w2c_p3) {
   w2c_l6 = w2c_i0;
   w2c_j0 = 3ull;
   w2c_l5 = w2c_j0;
-  goto w2c_B9;
-  w2c_B11:;
+  goto w2c_B8;
+  w2c_B10:;
   w2c_i0 = w2c_l7;
   w2c_i1 = 6u;
   w2c_i0 <<= (w2c_i1 & 31);
@@ -21343,7 +20053,7 @@ static u32 w2c_f30(module *m, u32 w2c_p0, u32 w2c_p1, u64 w2c_p2, u64 w2c_p3) {
   w2c_l6 = w2c_i0;
   w2c_j0 = 4ull;
   w2c_l5 = w2c_j0;
-  w2c_B9:;
+  w2c_B8:;
   w2c_j0 = w2c_p3;
   w2c_j1 = w2c_l5;
   w2c_j0 -= w2c_j1;
@@ -21357,7 +20067,7 @@ static u32 w2c_f30(module *m, u32 w2c_p0, u32 w2c_p1, u64 w2c_p2, u64 w2c_p3) {
   w2c_i0 += w2c_i1;
   w2c_i1 = 63487u;
   w2c_i0 = w2c_i0 > w2c_i1;
-  if (w2c_i0) {goto w2c_B4;}
+  if (w2c_i0) {goto w2c_B3;}
   w2c_i0 = w2c_l6;
   w2c_i1 = 12u;
   w2c_i0 >>= (w2c_i1 & 31);
@@ -21390,8 +20100,8 @@ static u32 w2c_f30(module *m, u32 w2c_p0, u32 w2c_p1, u64 w2c_p2, u64 w2c_p3) {
   w2c_i0 = i32_load(m, (u64)(w2c_i0));
   w2c_i1 = w2c_l9;
   w2c_i0 = w2c_i0 != w2c_i1;
-  if (w2c_i0) {goto w2c_B2;}
-  w2c_B5:;
+  if (w2c_i0) {goto w2c_B0;}
+  w2c_B4:;
   w2c_j0 = w2c_l5;
   w2c_j1 = 66996ull;
   w2c_j0 += w2c_j1;
@@ -21400,50 +20110,28 @@ static u32 w2c_f30(module *m, u32 w2c_p0, u32 w2c_p1, u64 w2c_p2, u64 w2c_p3) {
   w2c_l9 = w2c_i0;
   w2c_i1 = 2u;
   w2c_i0 = w2c_i0 == w2c_i1;
-  if (w2c_i0) {goto w2c_B2;}
+  if (w2c_i0) {goto w2c_B0;}
   w2c_j0 = w2c_l5;
   w2c_j1 = 66997ull;
   w2c_j0 += w2c_j1;
   w2c_i0 = (u32)(w2c_j0);
   w2c_i0 = i32_load8_u(m, (u64)(w2c_i0));
   w2c_l7 = w2c_i0;
-  goto w2c_B3;
-  w2c_B4:;
-  w2c_j0 = w2c_l4;
-  w2c_j1 = 8ull;
-  w2c_j0 += w2c_j1;
-  w2c_i1 = w2c_l6;
-  w2c_f18(m, w2c_j0, w2c_i1);
-  w2c_i0 = 1u;
-  w2c_l9 = w2c_i0;
-  w2c_j0 = w2c_l4;
-  w2c_i0 = (u32)(w2c_j0);
-  w2c_i0 = i32_load8_u(m, (u64)(w2c_i0) + 8u);
-  w2c_i1 = 1u;
-  w2c_i0 = w2c_i0 != w2c_i1;
-  if (w2c_i0) {goto w2c_B12;}
-  w2c_j0 = w2c_l4;
-  w2c_i0 = (u32)(w2c_j0);
-  w2c_i0 = i32_load8_u(m, (u64)(w2c_i0) + 9u);
-  w2c_l7 = w2c_i0;
+  goto w2c_B1;
+  w2c_B3:;
   w2c_i0 = 0u;
   w2c_l9 = w2c_i0;
-  goto w2c_B3;
-  w2c_B12:;
-  w2c_j0 = w2c_l4;
-  w2c_i1 = w2c_l6;
-  w2c_f19(m, w2c_j0, w2c_i1);
-  w2c_j0 = w2c_l4;
-  w2c_i0 = (u32)(w2c_j0);
-  w2c_i0 = i32_load8_u(m, (u64)(w2c_i0));
-  w2c_i1 = 1u;
-  w2c_i0 = w2c_i0 != w2c_i1;
-  if (w2c_i0) {goto w2c_B2;}
-  w2c_j0 = w2c_l4;
-  w2c_i0 = (u32)(w2c_j0);
-  w2c_i0 = i32_load8_u(m, (u64)(w2c_i0) + 1u);
+  w2c_i0 = w2c_l6;
+  w2c_i1 = 4294967248u;
+  w2c_i0 += w2c_i1;
   w2c_l7 = w2c_i0;
-  w2c_B3:;
+  w2c_i1 = 10u;
+  w2c_i0 = w2c_i0 < w2c_i1;
+  if (w2c_i0) {goto w2c_B1;}
+  goto w2c_B0;
+  w2c_B2:;
+  UNREACHABLE;
+  w2c_B1:;
   w2c_i0 = w2c_p0;
   w2c_i1 = w2c_p1;
   w2c_i2 = w2c_l6;
@@ -21453,41 +20141,37 @@ static u32 w2c_f30(module *m, u32 w2c_p0, u32 w2c_p1, u64 w2c_p2, u64 w2c_p3) {
   w2c_j6 = w2c_p3;
   w2c_i0 = w2c_f17(m, w2c_i0, w2c_i1, w2c_i2, w2c_i3, w2c_i4, w2c_j5, w2c_j6);
   w2c_i0 = !(w2c_i0);
-  if (w2c_i0) {goto w2c_B2;}
+  if (w2c_i0) {goto w2c_B0;}
+  w2c_j0 = w2c_l4;
+  m->w2c_g0 = w2c_j0;
   w2c_i0 = 1u;
-  w2c_p1 = w2c_i0;
-  goto w2c_B1;
-  w2c_B2:;
+  goto w2c_Bfunc;
+  w2c_B0:;
   w2c_i0 = 1u;
   w2c_p1 = w2c_i0;
   w2c_i0 = w2c_l6;
   w2c_i1 = 21317u;
   w2c_i0 = w2c_i0 == w2c_i1;
-  if (w2c_i0) {goto w2c_B1;}
+  if (w2c_i0) {goto w2c_B11;}
   w2c_i0 = w2c_l6;
   w2c_i1 = 24319u;
   w2c_i0 = w2c_i0 == w2c_i1;
-  if (w2c_i0) {goto w2c_B1;}
+  if (w2c_i0) {goto w2c_B11;}
   w2c_i0 = w2c_l6;
   w2c_i1 = 4294902000u;
   w2c_i0 += w2c_i1;
   w2c_i1 = 10u;
   w2c_i0 = w2c_i0 < w2c_i1;
   w2c_p1 = w2c_i0;
-  w2c_B1:;
+  w2c_B11:;
   w2c_j0 = w2c_l4;
-  w2c_j1 = 16ull;
-  w2c_j0 += w2c_j1;
   m->w2c_g0 = w2c_j0;
   w2c_i0 = w2c_p1;
-  goto w2c_Bfunc;
-  w2c_B0:;
-  UNREACHABLE;
   w2c_Bfunc:;
   return w2c_i0;
 }
 
-static u64 w2c_f31(module *m, u64 w2c_p0, u64 w2c_p1, u32 w2c_p2, u32 w2c_p3, u64 w2c_p4, u64 w2c_p5) {
+static u64 w2c_f30(module *m, u64 w2c_p0, u64 w2c_p1, u32 w2c_p2, u32 w2c_p3, u64 w2c_p4, u64 w2c_p5) {
   u32 w2c_l16 = 0, w2c_l17 = 0, w2c_l18 = 0, w2c_l19 = 0, w2c_l20 = 0, w2c_l21 = 0;
   u64 w2c_l6 = 0, w2c_l7 = 0, w2c_l8 = 0, w2c_l9 = 0, w2c_l10 = 0, w2c_l11 = 0, w2c_l12 = 0, w2c_l13 = 0, w2c_l14 = 0, w2c_l15 = 0;
   u32 w2c_i0, w2c_i1, w2c_i2, w2c_i3, w2c_i4, w2c_i5, w2c_i6;
@@ -26410,13 +25094,13 @@ static u64 w2c_f31(module *m, u64 w2c_p0, u64 w2c_p1, u32 w2c_p2, u32 w2c_p3, u6
   return w2c_j0;
 }
 
-static void w2c_f32(module *m, u64 w2c_p0, u64 w2c_p1, u64 w2c_p2, u32 w2c_p3) {
-  u32 w2c_l12 = 0, w2c_l13 = 0, w2c_l14 = 0;
+static void w2c_f31(module *m, u64 w2c_p0, u64 w2c_p1, u64 w2c_p2, u32 w2c_p3) {
+  u32 w2c_l12 = 0, w2c_l13 = 0, w2c_l14 = 0, w2c_l15 = 0;
   u64 w2c_l4 = 0, w2c_l5 = 0, w2c_l6 = 0, w2c_l7 = 0, w2c_l8 = 0, w2c_l9 = 0, w2c_l10 = 0, w2c_l11 = 0;
   u32 w2c_i0, w2c_i1, w2c_i2, w2c_i3, w2c_i4;
   u64 w2c_j0, w2c_j1, w2c_j2, w2c_j3, w2c_j4;
   w2c_j0 = m->w2c_g0;
-  w2c_j1 = 352ull;
+  w2c_j1 = 384ull;
   w2c_j0 -= w2c_j1;
   w2c_l4 = w2c_j0;
   m->w2c_g0 = w2c_j0;
@@ -26424,7 +25108,7 @@ static void w2c_f32(module *m, u64 w2c_p0, u64 w2c_p1, u64 w2c_p2, u32 w2c_p3) {
   w2c_l4 = w2c_j0;
   w2c_j1 = 16ull;
   w2c_i0 = (u64)((s64)w2c_j0 < (s64)w2c_j1);
-  if (w2c_i0) {goto w2c_B6;}
+  if (w2c_i0) {goto w2c_B2;}
   w2c_j0 = w2c_l4;
   w2c_i0 = (u32)(w2c_j0);
   w2c_j1 = 0ull;
@@ -26436,121 +25120,190 @@ static void w2c_f32(module *m, u64 w2c_p0, u64 w2c_p1, u64 w2c_p2, u32 w2c_p3) {
   w2c_j0 = w2c_l4;
   w2c_i0 = (u32)(w2c_j0);
   w2c_j1 = 0ull;
+  i64_store(m, (u64)(w2c_i0) + 320, w2c_j1);
+  w2c_j0 = w2c_l4;
+  w2c_i0 = (u32)(w2c_j0);
+  w2c_j1 = 0ull;
+  i64_store(m, (u64)(w2c_i0) + 312, w2c_j1);
+  w2c_j0 = w2c_l4;
+  w2c_i0 = (u32)(w2c_j0);
+  w2c_j1 = 0ull;
+  i64_store(m, (u64)(w2c_i0) + 304, w2c_j1);
+  w2c_j0 = w2c_l4;
+  w2c_i0 = (u32)(w2c_j0);
+  w2c_j1 = 0ull;
+  i64_store(m, (u64)(w2c_i0) + 296, w2c_j1);
+  w2c_j0 = w2c_l4;
+  w2c_i0 = (u32)(w2c_j0);
+  w2c_j1 = 0ull;
   i64_store(m, (u64)(w2c_i0) + 288, w2c_j1);
-  w2c_j0 = w2c_l4;
+  w2c_j0 = w2c_p2;
+  w2c_j1 = 3ull;
+  w2c_i0 = w2c_j0 < w2c_j1;
+  if (w2c_i0) {goto w2c_B4;}
+  w2c_j0 = w2c_p1;
   w2c_i0 = (u32)(w2c_j0);
-  w2c_j1 = 0ull;
-  i64_store(m, (u64)(w2c_i0) + 280, w2c_j1);
-  w2c_j0 = w2c_l4;
+  w2c_i0 = i32_load8_u(m, (u64)(w2c_i0));
+  w2c_l12 = w2c_i0;
+  w2c_i1 = 240u;
+  w2c_i0 &= w2c_i1;
+  w2c_i1 = 224u;
+  w2c_i0 = w2c_i0 != w2c_i1;
+  if (w2c_i0) {goto w2c_B4;}
+  w2c_j0 = w2c_p1;
   w2c_i0 = (u32)(w2c_j0);
-  w2c_j1 = 0ull;
-  i64_store(m, (u64)(w2c_i0) + 272, w2c_j1);
-  w2c_j0 = w2c_l4;
+  w2c_i0 = i32_load8_u(m, (u64)(w2c_i0) + 1u);
+  w2c_l13 = w2c_i0;
+  w2c_i1 = 8u;
+  w2c_i0 <<= (w2c_i1 & 31);
+  w2c_j1 = w2c_p1;
+  w2c_i1 = (u32)(w2c_j1);
+  w2c_i1 = i32_load8_u(m, (u64)(w2c_i1) + 2u);
+  w2c_l14 = w2c_i1;
+  w2c_i2 = 16u;
+  w2c_i1 <<= (w2c_i2 & 31);
+  w2c_i0 |= w2c_i1;
+  w2c_i1 = w2c_l12;
+  w2c_i0 |= w2c_i1;
+  w2c_l15 = w2c_i0;
+  w2c_j0 = (u64)(w2c_i0);
+  w2c_j1 = 953497ull;
+  w2c_j0 *= w2c_j1;
+  w2c_j1 = 22ull;
+  w2c_j0 >>= (w2c_j1 & 63);
+  w2c_j1 = 1016ull;
+  w2c_j0 &= w2c_j1;
+  w2c_l5 = w2c_j0;
   w2c_i0 = (u32)(w2c_j0);
-  w2c_j1 = 0ull;
-  i64_store(m, (u64)(w2c_i0) + 264, w2c_j1);
-  w2c_j0 = w2c_l4;
+  w2c_i0 = i32_load(m, (u64)(w2c_i0) + 66992u);
+  w2c_i1 = w2c_l15;
+  w2c_i0 = w2c_i0 != w2c_i1;
+  if (w2c_i0) {goto w2c_B4;}
+  w2c_j0 = w2c_l5;
+  w2c_j1 = 66996ull;
+  w2c_j0 += w2c_j1;
   w2c_i0 = (u32)(w2c_j0);
-  w2c_j1 = 0ull;
-  i64_store(m, (u64)(w2c_i0) + 256, w2c_j1);
+  w2c_i0 = i32_load8_u(m, (u64)(w2c_i0));
+  w2c_i1 = 255u;
+  w2c_i0 &= w2c_i1;
+  w2c_i1 = 2u;
+  w2c_i0 = w2c_i0 == w2c_i1;
+  if (w2c_i0) {goto w2c_B4;}
+  w2c_i0 = w2c_l12;
+  w2c_i1 = 12u;
+  w2c_i0 <<= (w2c_i1 & 31);
+  w2c_i1 = w2c_l13;
+  w2c_i2 = 6u;
+  w2c_i1 <<= (w2c_i2 & 31);
+  w2c_i0 += w2c_i1;
+  w2c_i1 = w2c_l14;
+  w2c_i0 += w2c_i1;
+  w2c_i1 = 4294041472u;
+  w2c_i0 += w2c_i1;
+  w2c_l12 = w2c_i0;
+  w2c_j0 = w2c_p1;
+  w2c_j1 = 3ull;
+  w2c_j0 += w2c_j1;
+  w2c_l6 = w2c_j0;
+  w2c_j0 = w2c_p2;
+  w2c_j1 = 18446744073709551613ull;
+  w2c_j0 += w2c_j1;
+  w2c_l7 = w2c_j0;
+  w2c_j0 = 1ull;
+  w2c_l8 = w2c_j0;
+  goto w2c_B3;
+  w2c_B4:;
   w2c_j0 = w2c_l4;
-  w2c_j1 = 256ull;
+  w2c_j1 = 288ull;
   w2c_j0 += w2c_j1;
   w2c_j1 = w2c_p1;
   w2c_j2 = w2c_p2;
-  w2c_f33(m, w2c_j0, w2c_j1, w2c_j2);
-  w2c_i0 = 0u;
-  w2c_l12 = w2c_i0;
+  w2c_f32(m, w2c_j0, w2c_j1, w2c_j2);
   w2c_j0 = w2c_l4;
   w2c_i0 = (u32)(w2c_j0);
-  w2c_i0 = i32_load8_u(m, (u64)(w2c_i0) + 256u);
+  w2c_i0 = i32_load8_u(m, (u64)(w2c_i0) + 288u);
   w2c_i1 = 1u;
-  w2c_i0 = w2c_i0 == w2c_i1;
-  if (w2c_i0) {goto w2c_B8;}
-  w2c_j0 = 0ull;
-  w2c_l5 = w2c_j0;
-  goto w2c_B7;
-  w2c_B8:;
-  w2c_i0 = 0u;
-  w2c_l12 = w2c_i0;
+  w2c_i0 = w2c_i0 != w2c_i1;
+  if (w2c_i0) {goto w2c_B1;}
   w2c_j0 = w2c_l4;
   w2c_i0 = (u32)(w2c_j0);
-  w2c_j0 = i64_load(m, (u64)(w2c_i0) + 288u);
-  w2c_l6 = w2c_j0;
-  w2c_j0 = w2c_l4;
-  w2c_i0 = (u32)(w2c_j0);
-  w2c_j0 = i64_load(m, (u64)(w2c_i0) + 280u);
-  w2c_l7 = w2c_j0;
-  w2c_j0 = w2c_l4;
-  w2c_i0 = (u32)(w2c_j0);
-  w2c_j0 = i64_load(m, (u64)(w2c_i0) + 272u);
+  w2c_j0 = i64_load(m, (u64)(w2c_i0) + 304u);
+  w2c_j1 = 1ull;
+  w2c_j0 += w2c_j1;
   w2c_l8 = w2c_j0;
   w2c_j0 = w2c_l4;
   w2c_i0 = (u32)(w2c_j0);
-  w2c_i0 = i32_load(m, (u64)(w2c_i0) + 264u);
-  w2c_l13 = w2c_i0;
+  w2c_j0 = i64_load(m, (u64)(w2c_i0) + 320u);
+  w2c_l7 = w2c_j0;
+  w2c_j0 = w2c_l4;
+  w2c_i0 = (u32)(w2c_j0);
+  w2c_j0 = i64_load(m, (u64)(w2c_i0) + 312u);
+  w2c_l6 = w2c_j0;
+  w2c_j0 = w2c_l4;
+  w2c_i0 = (u32)(w2c_j0);
+  w2c_i0 = i32_load(m, (u64)(w2c_i0) + 296u);
+  w2c_l12 = w2c_i0;
+  w2c_B3:;
+  w2c_i0 = 0u;
+  w2c_l15 = w2c_i0;
+  w2c_i0 = w2c_l12;
   w2c_i1 = 35999u;
   w2c_i0 = (u32)((s32)w2c_i0 > (s32)w2c_i1);
-  if (w2c_i0) {goto w2c_B11;}
-  w2c_j0 = 0ull;
-  w2c_l5 = w2c_j0;
-  w2c_i0 = w2c_l13;
+  if (w2c_i0) {goto w2c_B6;}
+  w2c_i0 = w2c_l12;
   w2c_i1 = 4294967253u;
   w2c_i0 += w2c_i1;
   switch (w2c_i0) {
-    case 0: goto w2c_B9;
-    case 1: goto w2c_B7;
-    case 2: goto w2c_B10;
-    default: goto w2c_B12;
+    case 0: goto w2c_B0;
+    case 1: goto w2c_B1;
+    case 2: goto w2c_B5;
+    default: goto w2c_B7;
   }
-  w2c_B12:;
-  w2c_i0 = w2c_l13;
+  w2c_B7:;
+  w2c_i0 = w2c_l12;
   w2c_i1 = 8722u;
   w2c_i0 = w2c_i0 == w2c_i1;
-  if (w2c_i0) {goto w2c_B10;}
-  w2c_j0 = 0ull;
-  w2c_l5 = w2c_j0;
-  w2c_i0 = w2c_l13;
+  if (w2c_i0) {goto w2c_B5;}
+  w2c_i0 = w2c_l12;
   w2c_i1 = 27491u;
   w2c_i0 = w2c_i0 == w2c_i1;
-  if (w2c_i0) {goto w2c_B9;}
-  goto w2c_B7;
-  w2c_B11:;
-  w2c_j0 = 0ull;
-  w2c_l5 = w2c_j0;
-  w2c_i0 = w2c_l13;
+  if (w2c_i0) {goto w2c_B0;}
+  goto w2c_B1;
+  w2c_B6:;
+  w2c_i0 = w2c_l12;
   w2c_i1 = 4294902005u;
   w2c_i0 += w2c_i1;
   switch (w2c_i0) {
-    case 0: goto w2c_B9;
-    case 1: goto w2c_B7;
-    case 2: goto w2c_B10;
-    default: goto w2c_B13;
+    case 0: goto w2c_B0;
+    case 1: goto w2c_B1;
+    case 2: goto w2c_B5;
+    default: goto w2c_B8;
   }
-  w2c_B13:;
-  w2c_i0 = w2c_l13;
+  w2c_B8:;
+  w2c_i0 = w2c_l12;
   w2c_i1 = 36127u;
   w2c_i0 = w2c_i0 == w2c_i1;
-  if (w2c_i0) {goto w2c_B10;}
-  w2c_j0 = 0ull;
-  w2c_l5 = w2c_j0;
-  w2c_i0 = w2c_l13;
+  if (w2c_i0) {goto w2c_B5;}
+  w2c_i0 = w2c_l12;
   w2c_i1 = 36000u;
   w2c_i0 = w2c_i0 != w2c_i1;
-  if (w2c_i0) {goto w2c_B7;}
-  w2c_B10:;
+  if (w2c_i0) {goto w2c_B1;}
+  w2c_B5:;
   w2c_i0 = 1u;
-  w2c_l12 = w2c_i0;
-  w2c_B9:;
-  w2c_j0 = w2c_l8;
-  w2c_j1 = 1ull;
-  w2c_j0 += w2c_j1;
-  w2c_l5 = w2c_j0;
-  w2c_j0 = w2c_l7;
-  w2c_p1 = w2c_j0;
-  w2c_j0 = w2c_l6;
-  w2c_p2 = w2c_j0;
-  w2c_B7:;
+  w2c_l15 = w2c_i0;
+  goto w2c_B0;
+  w2c_B2:;
+  UNREACHABLE;
+  w2c_B1:;
+  w2c_j0 = 0ull;
+  w2c_l8 = w2c_j0;
+  w2c_i0 = 0u;
+  w2c_l15 = w2c_i0;
+  w2c_j0 = w2c_p1;
+  w2c_l6 = w2c_j0;
+  w2c_j0 = w2c_p2;
+  w2c_l7 = w2c_j0;
+  w2c_B0:;
   w2c_j0 = w2c_l4;
   w2c_i0 = (u32)(w2c_j0);
   w2c_j1 = 0ull;
@@ -26626,10 +25379,6 @@ static void w2c_f32(module *m, u64 w2c_p0, u64 w2c_p1, u64 w2c_p2, u32 w2c_p3) {
   w2c_j0 = w2c_l4;
   w2c_i0 = (u32)(w2c_j0);
   w2c_j1 = 0ull;
-  i64_store(m, (u64)(w2c_i0) + 288, w2c_j1);
-  w2c_j0 = w2c_l4;
-  w2c_i0 = (u32)(w2c_j0);
-  w2c_j1 = 0ull;
   i64_store(m, (u64)(w2c_i0) + 280, w2c_j1);
   w2c_j0 = w2c_l4;
   w2c_i0 = (u32)(w2c_j0);
@@ -26644,138 +25393,166 @@ static void w2c_f32(module *m, u64 w2c_p0, u64 w2c_p1, u64 w2c_p2, u32 w2c_p3) {
   w2c_j1 = 0ull;
   i64_store(m, (u64)(w2c_i0) + 256, w2c_j1);
   w2c_j0 = w2c_l4;
-  w2c_j1 = 256ull;
-  w2c_j0 += w2c_j1;
-  w2c_j1 = w2c_p1;
-  w2c_j2 = w2c_p2;
-  w2c_f33(m, w2c_j0, w2c_j1, w2c_j2);
+  w2c_i0 = (u32)(w2c_j0);
+  w2c_j1 = 0ull;
+  i64_store(m, (u64)(w2c_i0) + 368, w2c_j1);
   w2c_j0 = w2c_l4;
   w2c_i0 = (u32)(w2c_j0);
-  w2c_i0 = i32_load8_u(m, (u64)(w2c_i0) + 256u);
+  w2c_j1 = 0ull;
+  i64_store(m, (u64)(w2c_i0) + 360, w2c_j1);
+  w2c_j0 = w2c_l4;
+  w2c_i0 = (u32)(w2c_j0);
+  w2c_j1 = 0ull;
+  i64_store(m, (u64)(w2c_i0) + 352, w2c_j1);
+  w2c_j0 = w2c_l4;
+  w2c_i0 = (u32)(w2c_j0);
+  w2c_j1 = 0ull;
+  i64_store(m, (u64)(w2c_i0) + 344, w2c_j1);
+  w2c_j0 = w2c_l4;
+  w2c_j1 = 344ull;
+  w2c_j0 += w2c_j1;
+  w2c_j1 = w2c_l6;
+  w2c_j2 = w2c_l7;
+  w2c_f33(m, w2c_j0, w2c_j1, w2c_j2);
+  w2c_j0 = w2c_l7;
+  w2c_l5 = w2c_j0;
+  w2c_j0 = w2c_l4;
+  w2c_i0 = (u32)(w2c_j0);
+  w2c_i0 = i32_load8_u(m, (u64)(w2c_i0) + 344u);
   w2c_i1 = 1u;
   w2c_i0 = w2c_i0 != w2c_i1;
-  if (w2c_i0) {goto w2c_B5;}
-  w2c_j0 = w2c_p2;
-  w2c_l6 = w2c_j0;
-  w2c_L15:
-    w2c_j0 = w2c_l6;
-    w2c_l8 = w2c_j0;
+  if (w2c_i0) {goto w2c_B14;}
+  w2c_L16:
     w2c_j0 = w2c_l4;
     w2c_i0 = (u32)(w2c_j0);
-    w2c_j0 = i64_load(m, (u64)(w2c_i0) + 288u);
-    w2c_l6 = w2c_j0;
+    w2c_j0 = i64_load(m, (u64)(w2c_i0) + 368u);
+    w2c_p2 = w2c_j0;
     w2c_j0 = w2c_l4;
     w2c_i0 = (u32)(w2c_j0);
-    w2c_j0 = i64_load(m, (u64)(w2c_i0) + 280u);
-    w2c_l7 = w2c_j0;
+    w2c_j0 = i64_load(m, (u64)(w2c_i0) + 360u);
+    w2c_p1 = w2c_j0;
     w2c_j0 = w2c_l4;
     w2c_i0 = (u32)(w2c_j0);
-    w2c_i0 = i32_load(m, (u64)(w2c_i0) + 264u);
+    w2c_i0 = i32_load(m, (u64)(w2c_i0) + 352u);
+    w2c_l12 = w2c_i0;
+    w2c_j0 = w2c_l4;
+    w2c_i0 = (u32)(w2c_j0);
+    w2c_j1 = 0ull;
+    i64_store(m, (u64)(w2c_i0) + 312, w2c_j1);
+    w2c_j0 = w2c_l4;
+    w2c_i0 = (u32)(w2c_j0);
+    w2c_j1 = 0ull;
+    i64_store(m, (u64)(w2c_i0) + 304, w2c_j1);
+    w2c_j0 = w2c_l4;
+    w2c_i0 = (u32)(w2c_j0);
+    w2c_j1 = 0ull;
+    i64_store(m, (u64)(w2c_i0) + 296, w2c_j1);
+    w2c_j0 = w2c_l4;
+    w2c_i0 = (u32)(w2c_j0);
+    w2c_j1 = 0ull;
+    i64_store(m, (u64)(w2c_i0) + 288, w2c_j1);
+    w2c_i0 = w2c_l12;
     w2c_i1 = 20998u;
     w2c_i0 = w2c_i0 != w2c_i1;
-    if (w2c_i0) {goto w2c_B16;}
+    if (w2c_i0) {goto w2c_B17;}
     w2c_j0 = w2c_l4;
-    w2c_i0 = (u32)(w2c_j0);
-    w2c_j1 = 0ull;
-    i64_store(m, (u64)(w2c_i0) + 288, w2c_j1);
-    w2c_j0 = w2c_l4;
-    w2c_i0 = (u32)(w2c_j0);
-    w2c_j1 = 0ull;
-    i64_store(m, (u64)(w2c_i0) + 280, w2c_j1);
-    w2c_j0 = w2c_l4;
-    w2c_i0 = (u32)(w2c_j0);
-    w2c_j1 = 0ull;
-    i64_store(m, (u64)(w2c_i0) + 272, w2c_j1);
-    w2c_j0 = w2c_l4;
-    w2c_i0 = (u32)(w2c_j0);
-    w2c_j1 = 0ull;
-    i64_store(m, (u64)(w2c_i0) + 264, w2c_j1);
-    w2c_j0 = w2c_l4;
-    w2c_i0 = (u32)(w2c_j0);
-    w2c_j1 = 0ull;
-    i64_store(m, (u64)(w2c_i0) + 256, w2c_j1);
-    w2c_j0 = w2c_l4;
-    w2c_j1 = 256ull;
+    w2c_j1 = 288ull;
     w2c_j0 += w2c_j1;
-    w2c_j1 = w2c_l7;
-    w2c_j2 = w2c_l6;
+    w2c_j1 = w2c_p1;
+    w2c_j2 = w2c_p2;
     w2c_f33(m, w2c_j0, w2c_j1, w2c_j2);
     w2c_j0 = w2c_l4;
     w2c_i0 = (u32)(w2c_j0);
-    w2c_i0 = i32_load8_u(m, (u64)(w2c_i0) + 256u);
+    w2c_i0 = i32_load8_u(m, (u64)(w2c_i0) + 288u);
     w2c_i1 = 1u;
     w2c_i0 = w2c_i0 != w2c_i1;
-    if (w2c_i0) {goto w2c_B16;}
+    if (w2c_i0) {goto w2c_B17;}
     w2c_j0 = w2c_l4;
     w2c_i0 = (u32)(w2c_j0);
-    w2c_i0 = i32_load(m, (u64)(w2c_i0) + 264u);
+    w2c_i0 = i32_load(m, (u64)(w2c_i0) + 296u);
     w2c_i1 = 20043u;
     w2c_i0 = w2c_i0 == w2c_i1;
-    if (w2c_i0) {goto w2c_B14;}
-    w2c_B16:;
+    if (w2c_i0) {goto w2c_B15;}
+    w2c_B17:;
     w2c_j0 = w2c_l4;
-    w2c_i0 = (u32)(w2c_j0);
-    w2c_j1 = 0ull;
-    i64_store(m, (u64)(w2c_i0) + 288, w2c_j1);
-    w2c_j0 = w2c_l4;
-    w2c_i0 = (u32)(w2c_j0);
-    w2c_j1 = 0ull;
-    i64_store(m, (u64)(w2c_i0) + 280, w2c_j1);
-    w2c_j0 = w2c_l4;
-    w2c_i0 = (u32)(w2c_j0);
-    w2c_j1 = 0ull;
-    i64_store(m, (u64)(w2c_i0) + 272, w2c_j1);
-    w2c_j0 = w2c_l4;
-    w2c_i0 = (u32)(w2c_j0);
-    w2c_j1 = 0ull;
-    i64_store(m, (u64)(w2c_i0) + 264, w2c_j1);
-    w2c_j0 = w2c_l4;
-    w2c_i0 = (u32)(w2c_j0);
-    w2c_j1 = 0ull;
-    i64_store(m, (u64)(w2c_i0) + 256, w2c_j1);
-    w2c_j0 = w2c_l4;
-    w2c_j1 = 256ull;
+    w2c_j1 = 344ull;
     w2c_j0 += w2c_j1;
-    w2c_j1 = w2c_l7;
-    w2c_j2 = w2c_l6;
+    w2c_j1 = w2c_p1;
+    w2c_j2 = w2c_p2;
     w2c_f33(m, w2c_j0, w2c_j1, w2c_j2);
+    w2c_j0 = w2c_p2;
+    w2c_l5 = w2c_j0;
     w2c_j0 = w2c_l4;
     w2c_i0 = (u32)(w2c_j0);
-    w2c_i0 = i32_load8_u(m, (u64)(w2c_i0) + 256u);
+    w2c_i0 = i32_load8_u(m, (u64)(w2c_i0) + 344u);
     w2c_i1 = 1u;
     w2c_i0 = w2c_i0 == w2c_i1;
-    if (w2c_i0) {goto w2c_L15;}
-    goto w2c_B5;
+    if (w2c_i0) {goto w2c_L16;}
+    goto w2c_B14;
   UNREACHABLE;
-  w2c_B14:;
-  w2c_j0 = w2c_p2;
-  w2c_j1 = w2c_l8;
-  w2c_j0 -= w2c_j1;
-  w2c_l9 = w2c_j0;
+  w2c_B15:;
   w2c_j0 = 0ull;
-  w2c_l7 = w2c_j0;
-  w2c_j0 = w2c_p2;
+  w2c_p2 = w2c_j0;
+  w2c_j0 = 0ull;
+  w2c_p1 = w2c_j0;
+  w2c_j0 = w2c_l7;
   w2c_j1 = w2c_l4;
   w2c_i1 = (u32)(w2c_j1);
-  w2c_j1 = i64_load(m, (u64)(w2c_i1) + 288u);
-  w2c_l10 = w2c_j1;
-  w2c_i0 = w2c_j0 == w2c_j1;
-  if (w2c_i0) {goto w2c_B17;}
+  w2c_j1 = i64_load(m, (u64)(w2c_i1) + 312u);
+  w2c_l9 = w2c_j1;
+  w2c_j0 -= w2c_j1;
+  w2c_l10 = w2c_j0;
+  w2c_j1 = 8ull;
+  w2c_i0 = w2c_j0 < w2c_j1;
+  if (w2c_i0) {goto w2c_B18;}
+  w2c_j0 = 0ull;
+  w2c_p1 = w2c_j0;
+  w2c_j0 = w2c_l10;
+  w2c_l11 = w2c_j0;
+  w2c_j0 = 0ull;
+  w2c_p2 = w2c_j0;
+  w2c_L19:
+    w2c_j0 = w2c_l6;
+    w2c_j1 = w2c_p2;
+    w2c_j0 += w2c_j1;
+    w2c_i0 = (u32)(w2c_j0);
+    w2c_j0 = i64_load(m, (u64)(w2c_i0));
+    w2c_j1 = 67553998437089520ull;
+    w2c_j0 &= w2c_j1;
+    w2c_j1 = 63050398541283552ull;
+    w2c_i0 = w2c_j0 != w2c_j1;
+    if (w2c_i0) {goto w2c_B18;}
+    w2c_j0 = w2c_p1;
+    w2c_j1 = 3ull;
+    w2c_j0 += w2c_j1;
+    w2c_p1 = w2c_j0;
+    w2c_j0 = w2c_p2;
+    w2c_j1 = 9ull;
+    w2c_j0 += w2c_j1;
+    w2c_p2 = w2c_j0;
+    w2c_j0 = w2c_l11;
+    w2c_j1 = 18446744073709551607ull;
+    w2c_j0 += w2c_j1;
+    w2c_l11 = w2c_j0;
+    w2c_j1 = 7ull;
+    w2c_i0 = w2c_j0 > w2c_j1;
+    if (w2c_i0) {goto w2c_L19;}
+  w2c_B18:;
+  w2c_j0 = w2c_l7;
+  w2c_j1 = w2c_l5;
+  w2c_j0 -= w2c_j1;
+  w2c_l5 = w2c_j0;
   w2c_j0 = w2c_p2;
   w2c_j1 = w2c_l10;
-  w2c_j0 -= w2c_j1;
-  w2c_l8 = w2c_j0;
-  w2c_j0 = 0ull;
-  w2c_l7 = w2c_j0;
-  w2c_j0 = 0ull;
-  w2c_l6 = w2c_j0;
-  w2c_L18:
-    w2c_j0 = w2c_l7;
+  w2c_i0 = w2c_j0 >= w2c_j1;
+  if (w2c_i0) {goto w2c_B20;}
+  w2c_L21:
+    w2c_j0 = w2c_p1;
     w2c_j1 = 1ull;
     w2c_j0 += w2c_j1;
-    w2c_l7 = w2c_j0;
-    w2c_j0 = w2c_p1;
-    w2c_j1 = w2c_l6;
+    w2c_p1 = w2c_j0;
+    w2c_j0 = w2c_l6;
+    w2c_j1 = w2c_p2;
     w2c_j0 += w2c_j1;
     w2c_i0 = (u32)(w2c_j0);
     w2c_i0 = i32_load8_u(m, (u64)(w2c_i0));
@@ -26788,41 +25565,33 @@ static void w2c_f32(module *m, u64 w2c_p0, u64 w2c_p1, u64 w2c_p2, u32 w2c_p3) {
     w2c_j0 += w2c_j1;
     w2c_i0 = (u32)(w2c_j0);
     w2c_j0 = i64_load(m, (u64)(w2c_i0));
-    w2c_j1 = w2c_l6;
+    w2c_j1 = w2c_p2;
     w2c_j0 += w2c_j1;
-    w2c_l6 = w2c_j0;
-    w2c_j1 = w2c_l8;
+    w2c_p2 = w2c_j0;
+    w2c_j1 = w2c_l10;
     w2c_i0 = w2c_j0 < w2c_j1;
-    if (w2c_i0) {goto w2c_L18;}
-  w2c_B17:;
+    if (w2c_i0) {goto w2c_L21;}
+  w2c_B20:;
   w2c_j0 = w2c_l4;
   w2c_i0 = (u32)(w2c_j0);
-  w2c_j0 = i64_load(m, (u64)(w2c_i0) + 280u);
-  w2c_l6 = w2c_j0;
-  w2c_j0 = w2c_l4;
-  w2c_i0 = (u32)(w2c_j0);
-  w2c_j1 = 0ull;
-  i64_store(m, (u64)(w2c_i0) + 288, w2c_j1);
-  w2c_j0 = w2c_l4;
-  w2c_i0 = (u32)(w2c_j0);
-  w2c_j1 = 0ull;
-  i64_store(m, (u64)(w2c_i0) + 280, w2c_j1);
-  w2c_j0 = w2c_l4;
-  w2c_i0 = (u32)(w2c_j0);
-  w2c_j1 = 0ull;
-  i64_store(m, (u64)(w2c_i0) + 272, w2c_j1);
-  w2c_j0 = w2c_l4;
-  w2c_i0 = (u32)(w2c_j0);
-  w2c_j1 = 0ull;
-  i64_store(m, (u64)(w2c_i0) + 264, w2c_j1);
-  w2c_j0 = w2c_l4;
-  w2c_i0 = (u32)(w2c_j0);
-  w2c_j1 = 0ull;
-  i64_store(m, (u64)(w2c_i0) + 256, w2c_j1);
+  w2c_j0 = i64_load(m, (u64)(w2c_i0) + 304u);
+  w2c_p2 = w2c_j0;
   w2c_j0 = w2c_l4;
   w2c_j1 = 256ull;
   w2c_j0 += w2c_j1;
-  w2c_j1 = w2c_p1;
+  w2c_j1 = w2c_l6;
+  w2c_j2 = w2c_l5;
+  w2c_f33(m, w2c_j0, w2c_j1, w2c_j2);
+  w2c_j0 = w2c_l4;
+  w2c_i0 = (u32)(w2c_j0);
+  w2c_i0 = i32_load8_u(m, (u64)(w2c_i0) + 256u);
+  w2c_i1 = 1u;
+  w2c_i0 = w2c_i0 != w2c_i1;
+  if (w2c_i0) {goto w2c_B14;}
+  w2c_j0 = w2c_l4;
+  w2c_j1 = 256ull;
+  w2c_j0 += w2c_j1;
+  w2c_j1 = w2c_p2;
   w2c_j2 = w2c_l9;
   w2c_f33(m, w2c_j0, w2c_j1, w2c_j2);
   w2c_j0 = w2c_l4;
@@ -26830,49 +25599,9 @@ static void w2c_f32(module *m, u64 w2c_p0, u64 w2c_p1, u64 w2c_p2, u32 w2c_p3) {
   w2c_i0 = i32_load8_u(m, (u64)(w2c_i0) + 256u);
   w2c_i1 = 1u;
   w2c_i0 = w2c_i0 != w2c_i1;
-  if (w2c_i0) {goto w2c_B5;}
+  if (w2c_i0) {goto w2c_B14;}
   w2c_j0 = 0ull;
-  w2c_l11 = w2c_j0;
-  w2c_j0 = w2c_l4;
-  w2c_i0 = (u32)(w2c_j0);
-  w2c_j1 = 0ull;
-  i64_store(m, (u64)(w2c_i0) + 288, w2c_j1);
-  w2c_j0 = w2c_l4;
-  w2c_i0 = (u32)(w2c_j0);
-  w2c_j1 = 0ull;
-  i64_store(m, (u64)(w2c_i0) + 280, w2c_j1);
-  w2c_j0 = w2c_l4;
-  w2c_i0 = (u32)(w2c_j0);
-  w2c_j1 = 0ull;
-  i64_store(m, (u64)(w2c_i0) + 272, w2c_j1);
-  w2c_j0 = w2c_l4;
-  w2c_i0 = (u32)(w2c_j0);
-  w2c_j1 = 0ull;
-  i64_store(m, (u64)(w2c_i0) + 264, w2c_j1);
-  w2c_j0 = w2c_l4;
-  w2c_i0 = (u32)(w2c_j0);
-  w2c_j1 = 0ull;
-  i64_store(m, (u64)(w2c_i0) + 256, w2c_j1);
-  w2c_j0 = w2c_l4;
-  w2c_j1 = 256ull;
-  w2c_j0 += w2c_j1;
-  w2c_j1 = w2c_l6;
-  w2c_j2 = w2c_l10;
-  w2c_f33(m, w2c_j0, w2c_j1, w2c_j2);
-  w2c_j0 = w2c_l4;
-  w2c_i0 = (u32)(w2c_j0);
-  w2c_i0 = i32_load8_u(m, (u64)(w2c_i0) + 256u);
-  w2c_i1 = 1u;
-  w2c_i0 = w2c_i0 != w2c_i1;
-  if (w2c_i0) {goto w2c_B5;}
-  w2c_j0 = w2c_l4;
-  w2c_i0 = (u32)(w2c_j0);
-  w2c_j1 = 0ull;
-  i64_store(m, (u64)(w2c_i0) + 312, w2c_j1);
-  w2c_j0 = w2c_l4;
-  w2c_i0 = (u32)(w2c_j0);
-  w2c_j1 = 0ull;
-  i64_store(m, (u64)(w2c_i0) + 320, w2c_j1);
+  w2c_l7 = w2c_j0;
   w2c_j0 = w2c_l4;
   w2c_i0 = (u32)(w2c_j0);
   w2c_j1 = 0ull;
@@ -26880,27 +25609,19 @@ static void w2c_f32(module *m, u64 w2c_p0, u64 w2c_p1, u64 w2c_p2, u32 w2c_p3) {
   w2c_j0 = w2c_l4;
   w2c_i0 = (u32)(w2c_j0);
   w2c_j1 = 0ull;
-  i64_store(m, (u64)(w2c_i0) + 336, w2c_j1);
+  i64_store(m, (u64)(w2c_i0) + 320, w2c_j1);
   w2c_j0 = w2c_l4;
   w2c_i0 = (u32)(w2c_j0);
   w2c_j1 = 0ull;
-  i64_store(m, (u64)(w2c_i0) + 344, w2c_j1);
+  i64_store(m, (u64)(w2c_i0) + 312, w2c_j1);
   w2c_j0 = w2c_l4;
   w2c_i0 = (u32)(w2c_j0);
   w2c_j1 = 0ull;
-  i64_store(m, (u64)(w2c_i0) + 256, w2c_j1);
+  i64_store(m, (u64)(w2c_i0) + 304, w2c_j1);
   w2c_j0 = w2c_l4;
   w2c_i0 = (u32)(w2c_j0);
   w2c_j1 = 0ull;
-  i64_store(m, (u64)(w2c_i0) + 264, w2c_j1);
-  w2c_j0 = w2c_l4;
-  w2c_i0 = (u32)(w2c_j0);
-  w2c_j1 = 0ull;
-  i64_store(m, (u64)(w2c_i0) + 272, w2c_j1);
-  w2c_j0 = w2c_l4;
-  w2c_i0 = (u32)(w2c_j0);
-  w2c_j1 = 0ull;
-  i64_store(m, (u64)(w2c_i0) + 280, w2c_j1);
+  i64_store(m, (u64)(w2c_i0) + 296, w2c_j1);
   w2c_j0 = w2c_l4;
   w2c_i0 = (u32)(w2c_j0);
   w2c_j1 = 0ull;
@@ -26908,147 +25629,218 @@ static void w2c_f32(module *m, u64 w2c_p0, u64 w2c_p1, u64 w2c_p2, u32 w2c_p3) {
   w2c_j0 = w2c_l4;
   w2c_i0 = (u32)(w2c_j0);
   w2c_j1 = 0ull;
-  i64_store(m, (u64)(w2c_i0) + 296, w2c_j1);
-  w2c_j0 = w2c_l4;
-  w2c_j1 = 312ull;
-  w2c_j0 += w2c_j1;
-  w2c_j1 = w2c_p1;
-  w2c_j2 = w2c_l9;
-  w2c_f33(m, w2c_j0, w2c_j1, w2c_j2);
-  w2c_i0 = 0u;
-  w2c_l13 = w2c_i0;
+  i64_store(m, (u64)(w2c_i0) + 376, w2c_j1);
   w2c_j0 = w2c_l4;
   w2c_i0 = (u32)(w2c_j0);
-  w2c_i0 = i32_load8_u(m, (u64)(w2c_i0) + 312u);
+  w2c_j1 = 0ull;
+  i64_store(m, (u64)(w2c_i0) + 368, w2c_j1);
+  w2c_j0 = w2c_l4;
+  w2c_i0 = (u32)(w2c_j0);
+  w2c_j1 = 0ull;
+  i64_store(m, (u64)(w2c_i0) + 360, w2c_j1);
+  w2c_j0 = w2c_l4;
+  w2c_i0 = (u32)(w2c_j0);
+  w2c_j1 = 0ull;
+  i64_store(m, (u64)(w2c_i0) + 352, w2c_j1);
+  w2c_j0 = w2c_l4;
+  w2c_i0 = (u32)(w2c_j0);
+  w2c_j1 = 0ull;
+  i64_store(m, (u64)(w2c_i0) + 344, w2c_j1);
+  w2c_j0 = w2c_l5;
+  w2c_j1 = 3ull;
+  w2c_i0 = w2c_j0 < w2c_j1;
+  if (w2c_i0) {goto w2c_B23;}
+  w2c_j0 = w2c_l6;
+  w2c_i0 = (u32)(w2c_j0);
+  w2c_i0 = i32_load8_u(m, (u64)(w2c_i0));
+  w2c_l12 = w2c_i0;
+  w2c_i1 = 240u;
+  w2c_i0 &= w2c_i1;
+  w2c_i1 = 224u;
+  w2c_i0 = w2c_i0 != w2c_i1;
+  if (w2c_i0) {goto w2c_B23;}
+  w2c_j0 = w2c_l6;
+  w2c_i0 = (u32)(w2c_j0);
+  w2c_i0 = i32_load8_u(m, (u64)(w2c_i0) + 1u);
+  w2c_i1 = 8u;
+  w2c_i0 <<= (w2c_i1 & 31);
+  w2c_j1 = w2c_l6;
+  w2c_i1 = (u32)(w2c_j1);
+  w2c_i1 = i32_load8_u(m, (u64)(w2c_i1) + 2u);
+  w2c_i2 = 16u;
+  w2c_i1 <<= (w2c_i2 & 31);
+  w2c_i0 |= w2c_i1;
+  w2c_i1 = w2c_l12;
+  w2c_i0 |= w2c_i1;
+  w2c_l12 = w2c_i0;
+  w2c_j0 = (u64)(w2c_i0);
+  w2c_j1 = 953497ull;
+  w2c_j0 *= w2c_j1;
+  w2c_j1 = 22ull;
+  w2c_j0 >>= (w2c_j1 & 63);
+  w2c_j1 = 1016ull;
+  w2c_j0 &= w2c_j1;
+  w2c_l10 = w2c_j0;
+  w2c_i0 = (u32)(w2c_j0);
+  w2c_i0 = i32_load(m, (u64)(w2c_i0) + 66992u);
+  w2c_i1 = w2c_l12;
+  w2c_i0 = w2c_i0 != w2c_i1;
+  if (w2c_i0) {goto w2c_B23;}
+  w2c_j0 = w2c_l10;
+  w2c_j1 = 66996ull;
+  w2c_j0 += w2c_j1;
+  w2c_i0 = (u32)(w2c_j0);
+  w2c_i0 = i32_load8_u(m, (u64)(w2c_i0));
+  w2c_i1 = 255u;
+  w2c_i0 &= w2c_i1;
+  w2c_i1 = 2u;
+  w2c_i0 = w2c_i0 == w2c_i1;
+  if (w2c_i0) {goto w2c_B23;}
+  w2c_j0 = 0ull;
+  w2c_l10 = w2c_j0;
+  goto w2c_B22;
+  w2c_B23:;
+  w2c_j0 = w2c_l4;
+  w2c_j1 = 344ull;
+  w2c_j0 += w2c_j1;
+  w2c_j1 = w2c_l6;
+  w2c_j2 = w2c_l5;
+  w2c_f32(m, w2c_j0, w2c_j1, w2c_j2);
+  w2c_i0 = 0u;
+  w2c_l12 = w2c_i0;
+  w2c_j0 = w2c_l4;
+  w2c_i0 = (u32)(w2c_j0);
+  w2c_i0 = i32_load8_u(m, (u64)(w2c_i0) + 344u);
   w2c_i1 = 1u;
   w2c_i0 = w2c_i0 != w2c_i1;
-  if (w2c_i0) {goto w2c_B3;}
+  if (w2c_i0) {goto w2c_B12;}
   w2c_j0 = w2c_l4;
   w2c_i0 = (u32)(w2c_j0);
-  w2c_j0 = i64_load(m, (u64)(w2c_i0) + 328u);
-  w2c_l8 = w2c_j0;
+  w2c_j0 = i64_load(m, (u64)(w2c_i0) + 360u);
+  w2c_l10 = w2c_j0;
+  w2c_B22:;
   w2c_j0 = w2c_l4;
-  w2c_j1 = 256ull;
+  w2c_j1 = 288ull;
   w2c_j0 += w2c_j1;
   w2c_i1 = w2c_p3;
-  w2c_j2 = w2c_l5;
-  w2c_j3 = w2c_p1;
-  w2c_j4 = w2c_l9;
+  w2c_j2 = w2c_l8;
+  w2c_j3 = w2c_l6;
+  w2c_j4 = w2c_l5;
   w2c_f34(m, w2c_j0, w2c_i1, w2c_j2, w2c_j3, w2c_j4);
   w2c_j0 = w2c_l4;
   w2c_i0 = (u32)(w2c_j0);
-  w2c_j0 = i64_load(m, (u64)(w2c_i0) + 272u);
-  w2c_l11 = w2c_j0;
+  w2c_j0 = i64_load(m, (u64)(w2c_i0) + 304u);
+  w2c_l7 = w2c_j0;
   w2c_j0 = w2c_l4;
   w2c_i0 = (u32)(w2c_j0);
-  w2c_i0 = i32_load8_u(m, (u64)(w2c_i0) + 256u);
+  w2c_i0 = i32_load8_u(m, (u64)(w2c_i0) + 288u);
   w2c_i0 = !(w2c_i0);
-  if (w2c_i0) {goto w2c_B19;}
+  if (w2c_i0) {goto w2c_B24;}
   w2c_j0 = w2c_l4;
   w2c_i0 = (u32)(w2c_j0);
-  w2c_i0 = i32_load8_u(m, (u64)(w2c_i0) + 264u);
-  w2c_l13 = w2c_i0;
-  goto w2c_B3;
-  w2c_B19:;
-  w2c_j0 = w2c_l8;
-  w2c_j1 = w2c_l5;
+  w2c_i0 = i32_load8_u(m, (u64)(w2c_i0) + 296u);
+  w2c_l12 = w2c_i0;
+  goto w2c_B12;
+  w2c_B24:;
+  w2c_j0 = w2c_l10;
+  w2c_j1 = w2c_l8;
   w2c_j0 += w2c_j1;
-  w2c_j1 = w2c_l11;
-  w2c_j2 = w2c_l11;
+  w2c_j1 = w2c_l7;
+  w2c_j2 = w2c_l7;
   w2c_j3 = w2c_l4;
   w2c_i3 = (u32)(w2c_j3);
-  w2c_j3 = i64_load(m, (u64)(w2c_i3) + 280u);
-  w2c_p1 = w2c_j3;
+  w2c_j3 = i64_load(m, (u64)(w2c_i3) + 312u);
+  w2c_l6 = w2c_j3;
   w2c_j2 |= w2c_j3;
   w2c_i2 = !(w2c_j2);
   w2c_j3 = w2c_l4;
   w2c_i3 = (u32)(w2c_j3);
-  w2c_j3 = i64_load(m, (u64)(w2c_i3) + 288u);
+  w2c_j3 = i64_load(m, (u64)(w2c_i3) + 320u);
   w2c_j4 = 0ull;
   w2c_i3 = w2c_j3 != w2c_j4;
   w2c_i2 |= w2c_i3;
-  w2c_l14 = w2c_i2;
+  w2c_l13 = w2c_i2;
   w2c_j0 = w2c_i2 ? w2c_j0 : w2c_j1;
-  w2c_l8 = w2c_j0;
+  w2c_l5 = w2c_j0;
   w2c_i0 = 1u;
-  w2c_l13 = w2c_i0;
-  w2c_i0 = w2c_l14;
+  w2c_l12 = w2c_i0;
+  w2c_i0 = w2c_l13;
   w2c_i0 = !(w2c_i0);
-  if (w2c_i0) {goto w2c_B20;}
-  w2c_j0 = w2c_l8;
-  w2c_l11 = w2c_j0;
-  goto w2c_B3;
-  w2c_B20:;
+  if (w2c_i0) {goto w2c_B25;}
+  w2c_j0 = w2c_l5;
+  w2c_l7 = w2c_j0;
+  goto w2c_B12;
+  w2c_B25:;
   w2c_j0 = w2c_l4;
   w2c_j1 = 208ull;
   w2c_j0 += w2c_j1;
   w2c_i1 = w2c_p3;
-  w2c_j2 = w2c_l7;
-  w2c_j3 = w2c_l5;
+  w2c_j2 = w2c_p1;
+  w2c_j3 = w2c_l8;
   w2c_j2 += w2c_j3;
-  w2c_j3 = w2c_l6;
-  w2c_j4 = w2c_l10;
+  w2c_j3 = w2c_p2;
+  w2c_j4 = w2c_l9;
   w2c_f34(m, w2c_j0, w2c_i1, w2c_j2, w2c_j3, w2c_j4);
   w2c_j0 = w2c_l4;
   w2c_i0 = (u32)(w2c_j0);
   w2c_j0 = i64_load(m, (u64)(w2c_i0) + 224u);
-  w2c_l6 = w2c_j0;
+  w2c_p2 = w2c_j0;
   w2c_j0 = w2c_l4;
   w2c_i0 = (u32)(w2c_j0);
   w2c_i0 = i32_load8_u(m, (u64)(w2c_i0) + 208u);
-  if (w2c_i0) {goto w2c_B21;}
+  if (w2c_i0) {goto w2c_B26;}
   w2c_j0 = w2c_l4;
   w2c_i0 = (u32)(w2c_j0);
   w2c_j0 = i64_load(m, (u64)(w2c_i0) + 240u);
-  w2c_p2 = w2c_j0;
+  w2c_l8 = w2c_j0;
   w2c_j1 = 38ull;
   w2c_i0 = w2c_j0 > w2c_j1;
-  if (w2c_i0) {goto w2c_B4;}
+  if (w2c_i0) {goto w2c_B13;}
   w2c_j0 = w2c_l4;
   w2c_i0 = (u32)(w2c_j0);
   w2c_j0 = i64_load(m, (u64)(w2c_i0) + 232u);
-  w2c_l7 = w2c_j0;
+  w2c_p1 = w2c_j0;
   w2c_j0 = w2c_l4;
   w2c_j1 = 16ull;
   w2c_j0 += w2c_j1;
-  w2c_j1 = w2c_p2;
+  w2c_j1 = w2c_l8;
   w2c_j2 = 4ull;
   w2c_j1 <<= (w2c_j2 & 63);
-  w2c_p2 = w2c_j1;
+  w2c_l8 = w2c_j1;
   w2c_j2 = 68624ull;
   w2c_j1 += w2c_j2;
   w2c_i1 = (u32)(w2c_j1);
   w2c_j1 = i64_load(m, (u64)(w2c_i1));
-  w2c_l5 = w2c_j1;
+  w2c_l10 = w2c_j1;
   w2c_j2 = 0ull;
-  w2c_j3 = w2c_l8;
+  w2c_j3 = w2c_l5;
   w2c_j4 = 0ull;
   w2c_f3(m, w2c_j0, w2c_j1, w2c_j2, w2c_j3, w2c_j4);
   w2c_j0 = w2c_l4;
-  w2c_j1 = w2c_p2;
+  w2c_j1 = w2c_l8;
   w2c_j2 = 68632ull;
   w2c_j1 += w2c_j2;
   w2c_i1 = (u32)(w2c_j1);
   w2c_j1 = i64_load(m, (u64)(w2c_i1));
-  w2c_p2 = w2c_j1;
+  w2c_l8 = w2c_j1;
   w2c_j2 = 0ull;
-  w2c_j3 = w2c_l8;
+  w2c_j3 = w2c_l5;
   w2c_j4 = 0ull;
   w2c_f3(m, w2c_j0, w2c_j1, w2c_j2, w2c_j3, w2c_j4);
   w2c_j0 = w2c_l4;
   w2c_j1 = 32ull;
   w2c_j0 += w2c_j1;
-  w2c_j1 = w2c_l5;
+  w2c_j1 = w2c_l10;
   w2c_j2 = 0ull;
-  w2c_j3 = w2c_p1;
+  w2c_j3 = w2c_l6;
   w2c_j4 = 0ull;
   w2c_f3(m, w2c_j0, w2c_j1, w2c_j2, w2c_j3, w2c_j4);
   w2c_j0 = w2c_l4;
   w2c_j1 = 48ull;
   w2c_j0 += w2c_j1;
-  w2c_j1 = w2c_p2;
+  w2c_j1 = w2c_l8;
   w2c_j2 = 0ull;
-  w2c_j3 = w2c_p1;
+  w2c_j3 = w2c_l6;
   w2c_j4 = 0ull;
   w2c_f3(m, w2c_j0, w2c_j1, w2c_j2, w2c_j3, w2c_j4);
   w2c_j0 = w2c_l4;
@@ -27057,189 +25849,177 @@ static void w2c_f32(module *m, u64 w2c_p0, u64 w2c_p1, u64 w2c_p2, u32 w2c_p3) {
   w2c_j1 = w2c_l4;
   w2c_i1 = (u32)(w2c_j1);
   w2c_j1 = i64_load(m, (u64)(w2c_i1) + 24u);
-  w2c_l5 = w2c_j1;
+  w2c_l10 = w2c_j1;
   w2c_j2 = w2c_l4;
   w2c_i2 = (u32)(w2c_j2);
   w2c_j2 = i64_load(m, (u64)(w2c_i2));
   w2c_j1 += w2c_j2;
-  w2c_p2 = w2c_j1;
+  w2c_l8 = w2c_j1;
   w2c_j2 = w2c_l4;
   w2c_i2 = (u32)(w2c_j2);
   w2c_j2 = i64_load(m, (u64)(w2c_i2) + 32u);
   w2c_j1 += w2c_j2;
-  w2c_l8 = w2c_j1;
-  w2c_j2 = w2c_p2;
+  w2c_l5 = w2c_j1;
+  w2c_j2 = w2c_l8;
   w2c_i1 = w2c_j1 < w2c_j2;
   w2c_j1 = (u64)(w2c_i1);
   w2c_j0 += w2c_j1;
   w2c_j1 = w2c_l4;
   w2c_i1 = (u32)(w2c_j1);
   w2c_j1 = i64_load(m, (u64)(w2c_i1) + 8u);
-  w2c_j2 = w2c_p2;
-  w2c_j3 = w2c_l5;
+  w2c_j2 = w2c_l8;
+  w2c_j3 = w2c_l10;
   w2c_i2 = w2c_j2 < w2c_j3;
   w2c_j2 = (u64)(w2c_i2);
   w2c_j1 += w2c_j2;
-  w2c_p2 = w2c_j1;
+  w2c_l8 = w2c_j1;
   w2c_j2 = w2c_l4;
   w2c_i2 = (u32)(w2c_j2);
   w2c_j2 = i64_load(m, (u64)(w2c_i2) + 48u);
   w2c_j1 += w2c_j2;
-  w2c_l5 = w2c_j1;
+  w2c_l10 = w2c_j1;
   w2c_j0 |= w2c_j1;
   w2c_j1 = w2c_l4;
   w2c_i1 = (u32)(w2c_j1);
   w2c_j1 = i64_load(m, (u64)(w2c_i1) + 56u);
-  w2c_j2 = w2c_l5;
-  w2c_j3 = w2c_p2;
+  w2c_j2 = w2c_l10;
+  w2c_j3 = w2c_l8;
   w2c_i2 = w2c_j2 < w2c_j3;
   w2c_j2 = (u64)(w2c_i2);
   w2c_j1 += w2c_j2;
   w2c_j0 |= w2c_j1;
   w2c_j1 = 0ull;
   w2c_i0 = w2c_j0 != w2c_j1;
-  if (w2c_i0) {goto w2c_B4;}
+  if (w2c_i0) {goto w2c_B13;}
   w2c_i0 = 2u;
   w2c_i1 = 3u;
-  w2c_j2 = w2c_l11;
+  w2c_j2 = w2c_l7;
   w2c_j3 = 100ull;
   w2c_j2 ^= w2c_j3;
-  w2c_j3 = w2c_p1;
+  w2c_j3 = w2c_l6;
   w2c_j2 |= w2c_j3;
   w2c_i2 = !(w2c_j2);
   w2c_i0 = w2c_i2 ? w2c_i0 : w2c_i1;
-  w2c_l13 = w2c_i0;
+  w2c_l12 = w2c_i0;
   w2c_j0 = w2c_l4;
   w2c_i0 = (u32)(w2c_j0);
   w2c_j0 = i64_load(m, (u64)(w2c_i0) + 16u);
-  w2c_p1 = w2c_j0;
-  goto w2c_B2;
-  w2c_B21:;
+  w2c_l6 = w2c_j0;
+  goto w2c_B11;
+  w2c_B26:;
   w2c_j0 = w2c_l4;
   w2c_i0 = (u32)(w2c_j0);
   w2c_i0 = i32_load8_u(m, (u64)(w2c_i0) + 216u);
-  w2c_l13 = w2c_i0;
-  w2c_j0 = w2c_l6;
-  w2c_l11 = w2c_j0;
-  goto w2c_B3;
-  w2c_B6:;
-  UNREACHABLE;
-  w2c_B5:;
-  w2c_j0 = w2c_l4;
-  w2c_i0 = (u32)(w2c_j0);
-  w2c_j1 = 0ull;
-  i64_store(m, (u64)(w2c_i0) + 280, w2c_j1);
-  w2c_j0 = w2c_l4;
-  w2c_i0 = (u32)(w2c_j0);
-  w2c_j1 = 0ull;
-  i64_store(m, (u64)(w2c_i0) + 272, w2c_j1);
-  w2c_j0 = w2c_l4;
-  w2c_i0 = (u32)(w2c_j0);
-  w2c_j1 = 0ull;
-  i64_store(m, (u64)(w2c_i0) + 264, w2c_j1);
-  w2c_j0 = w2c_l4;
-  w2c_i0 = (u32)(w2c_j0);
-  w2c_j1 = 0ull;
-  i64_store(m, (u64)(w2c_i0) + 256, w2c_j1);
-  w2c_j0 = w2c_l4;
-  w2c_j1 = 256ull;
-  w2c_j0 += w2c_j1;
-  w2c_j1 = w2c_p1;
-  w2c_j2 = w2c_p2;
-  w2c_f35(m, w2c_j0, w2c_j1, w2c_j2);
-  w2c_j0 = w2c_l4;
-  w2c_i0 = (u32)(w2c_j0);
-  w2c_i0 = i32_load8_u(m, (u64)(w2c_i0) + 256u);
-  w2c_i1 = 1u;
-  w2c_i0 = w2c_i0 != w2c_i1;
-  if (w2c_i0) {goto w2c_B22;}
-  w2c_j0 = w2c_l4;
-  w2c_i0 = (u32)(w2c_j0);
-  w2c_i0 = i32_load(m, (u64)(w2c_i0) + 264u);
-  w2c_l13 = w2c_i0;
-  w2c_j0 = w2c_l4;
-  w2c_i0 = (u32)(w2c_j0);
-  w2c_j0 = i64_load(m, (u64)(w2c_i0) + 280u);
-  w2c_l6 = w2c_j0;
-  w2c_j0 = w2c_l4;
-  w2c_i0 = (u32)(w2c_j0);
-  w2c_j0 = i64_load(m, (u64)(w2c_i0) + 272u);
+  w2c_l12 = w2c_i0;
+  w2c_j0 = w2c_p2;
   w2c_l7 = w2c_j0;
+  goto w2c_B12;
+  w2c_B14:;
+  w2c_j0 = w2c_l4;
+  w2c_i0 = (u32)(w2c_j0);
+  w2c_j1 = 0ull;
+  i64_store(m, (u64)(w2c_i0) + 312, w2c_j1);
+  w2c_j0 = w2c_l4;
+  w2c_i0 = (u32)(w2c_j0);
+  w2c_j1 = 0ull;
+  i64_store(m, (u64)(w2c_i0) + 304, w2c_j1);
+  w2c_j0 = w2c_l4;
+  w2c_i0 = (u32)(w2c_j0);
+  w2c_j1 = 0ull;
+  i64_store(m, (u64)(w2c_i0) + 296, w2c_j1);
   w2c_j0 = w2c_l4;
   w2c_i0 = (u32)(w2c_j0);
   w2c_j1 = 0ull;
   i64_store(m, (u64)(w2c_i0) + 288, w2c_j1);
   w2c_j0 = w2c_l4;
-  w2c_i0 = (u32)(w2c_j0);
-  w2c_j1 = 0ull;
-  i64_store(m, (u64)(w2c_i0) + 280, w2c_j1);
-  w2c_j0 = w2c_l4;
-  w2c_i0 = (u32)(w2c_j0);
-  w2c_j1 = 0ull;
-  i64_store(m, (u64)(w2c_i0) + 272, w2c_j1);
-  w2c_j0 = w2c_l4;
-  w2c_i0 = (u32)(w2c_j0);
-  w2c_j1 = 0ull;
-  i64_store(m, (u64)(w2c_i0) + 264, w2c_j1);
-  w2c_j0 = w2c_l4;
-  w2c_i0 = (u32)(w2c_j0);
-  w2c_j1 = 0ull;
-  i64_store(m, (u64)(w2c_i0) + 256, w2c_j1);
-  w2c_j0 = w2c_l4;
-  w2c_j1 = 256ull;
+  w2c_j1 = 288ull;
   w2c_j0 += w2c_j1;
-  w2c_j1 = w2c_l7;
-  w2c_j2 = w2c_l6;
+  w2c_j1 = w2c_l6;
+  w2c_j2 = w2c_l7;
+  w2c_f35(m, w2c_j0, w2c_j1, w2c_j2);
+  w2c_j0 = w2c_l4;
+  w2c_i0 = (u32)(w2c_j0);
+  w2c_i0 = i32_load8_u(m, (u64)(w2c_i0) + 288u);
+  w2c_i1 = 1u;
+  w2c_i0 = w2c_i0 != w2c_i1;
+  if (w2c_i0) {goto w2c_B27;}
+  w2c_j0 = w2c_l4;
+  w2c_i0 = (u32)(w2c_j0);
+  w2c_j1 = w2c_l4;
+  w2c_i1 = (u32)(w2c_j1);
+  w2c_j1 = i64_load(m, (u64)(w2c_i1) + 304u);
+  w2c_p2 = w2c_j1;
+  i64_store(m, (u64)(w2c_i0) + 360, w2c_j1);
+  w2c_j0 = w2c_l4;
+  w2c_i0 = (u32)(w2c_j0);
+  w2c_j1 = w2c_l4;
+  w2c_i1 = (u32)(w2c_j1);
+  w2c_j1 = i64_load(m, (u64)(w2c_i1) + 312u);
+  w2c_p1 = w2c_j1;
+  i64_store(m, (u64)(w2c_i0) + 368, w2c_j1);
+  w2c_j0 = w2c_l4;
+  w2c_i0 = (u32)(w2c_j0);
+  w2c_j1 = 1ull;
+  i64_store(m, (u64)(w2c_i0) + 344, w2c_j1);
+  w2c_j0 = w2c_l4;
+  w2c_i0 = (u32)(w2c_j0);
+  w2c_i0 = i32_load(m, (u64)(w2c_i0) + 296u);
+  w2c_l12 = w2c_i0;
+  w2c_j0 = w2c_l4;
+  w2c_j1 = 344ull;
+  w2c_j0 += w2c_j1;
+  w2c_j1 = w2c_p2;
+  w2c_j2 = w2c_p1;
   w2c_f33(m, w2c_j0, w2c_j1, w2c_j2);
   w2c_j0 = w2c_l4;
   w2c_i0 = (u32)(w2c_j0);
-  w2c_i0 = i32_load8_u(m, (u64)(w2c_i0) + 256u);
+  w2c_i0 = i32_load8_u(m, (u64)(w2c_i0) + 344u);
   w2c_i1 = 1u;
   w2c_i0 = w2c_i0 != w2c_i1;
-  if (w2c_i0) {goto w2c_B22;}
-  w2c_i0 = w2c_l13;
+  if (w2c_i0) {goto w2c_B27;}
+  w2c_i0 = w2c_l12;
   w2c_i1 = 65285u;
   w2c_i0 = w2c_i0 == w2c_i1;
-  if (w2c_i0) {goto w2c_B23;}
-  w2c_i0 = w2c_l13;
+  if (w2c_i0) {goto w2c_B28;}
+  w2c_i0 = w2c_l12;
   w2c_i1 = 37u;
   w2c_i0 = w2c_i0 != w2c_i1;
-  if (w2c_i0) {goto w2c_B22;}
-  w2c_B23:;
+  if (w2c_i0) {goto w2c_B27;}
+  w2c_B28:;
   w2c_j0 = w2c_l4;
   w2c_j1 = 160ull;
   w2c_j0 += w2c_j1;
   w2c_i1 = w2c_p3;
-  w2c_j2 = w2c_l5;
-  w2c_j3 = w2c_l7;
-  w2c_j4 = w2c_l6;
+  w2c_j2 = w2c_l8;
+  w2c_j3 = w2c_p2;
+  w2c_j4 = w2c_p1;
   w2c_f36(m, w2c_j0, w2c_i1, w2c_j2, w2c_j3, w2c_j4);
   w2c_j0 = w2c_l4;
   w2c_i0 = (u32)(w2c_j0);
   w2c_j0 = i64_load(m, (u64)(w2c_i0) + 176u);
-  w2c_l6 = w2c_j0;
+  w2c_p2 = w2c_j0;
   w2c_j0 = w2c_l4;
   w2c_i0 = (u32)(w2c_j0);
   w2c_i0 = i32_load8_u(m, (u64)(w2c_i0) + 160u);
-  if (w2c_i0) {goto w2c_B24;}
+  if (w2c_i0) {goto w2c_B29;}
   w2c_j0 = w2c_l4;
   w2c_i0 = (u32)(w2c_j0);
   w2c_j0 = i64_load(m, (u64)(w2c_i0) + 192u);
-  w2c_l8 = w2c_j0;
+  w2c_l5 = w2c_j0;
   w2c_j1 = 38ull;
   w2c_i0 = w2c_j0 > w2c_j1;
-  if (w2c_i0) {goto w2c_B4;}
+  if (w2c_i0) {goto w2c_B13;}
   w2c_j0 = w2c_l4;
   w2c_i0 = (u32)(w2c_j0);
   w2c_j0 = i64_load(m, (u64)(w2c_i0) + 184u);
-  w2c_l7 = w2c_j0;
+  w2c_p1 = w2c_j0;
   w2c_j0 = w2c_l4;
   w2c_j1 = 64ull;
   w2c_j0 += w2c_j1;
-  w2c_j1 = w2c_l8;
+  w2c_j1 = w2c_l5;
   w2c_j2 = 4ull;
   w2c_j1 <<= (w2c_j2 & 63);
-  w2c_l8 = w2c_j1;
+  w2c_l5 = w2c_j1;
   w2c_j2 = 68624ull;
   w2c_j1 += w2c_j2;
   w2c_i1 = (u32)(w2c_j1);
@@ -27251,7 +26031,7 @@ static void w2c_f32(module *m, u64 w2c_p0, u64 w2c_p1, u64 w2c_p2, u32 w2c_p3) {
   w2c_j0 = w2c_l4;
   w2c_j1 = 80ull;
   w2c_j0 += w2c_j1;
-  w2c_j1 = w2c_l8;
+  w2c_j1 = w2c_l5;
   w2c_j2 = 68632ull;
   w2c_j1 += w2c_j2;
   w2c_i1 = (u32)(w2c_j1);
@@ -27266,149 +26046,149 @@ static void w2c_f32(module *m, u64 w2c_p0, u64 w2c_p1, u64 w2c_p2, u32 w2c_p3) {
   w2c_j1 = w2c_l4;
   w2c_i1 = (u32)(w2c_j1);
   w2c_j1 = i64_load(m, (u64)(w2c_i1) + 72u);
-  w2c_p1 = w2c_j1;
+  w2c_l6 = w2c_j1;
   w2c_j2 = w2c_l4;
   w2c_i2 = (u32)(w2c_j2);
   w2c_j2 = i64_load(m, (u64)(w2c_i2) + 80u);
   w2c_j1 += w2c_j2;
-  w2c_l8 = w2c_j1;
-  w2c_j2 = w2c_p1;
+  w2c_l5 = w2c_j1;
+  w2c_j2 = w2c_l6;
   w2c_i1 = w2c_j1 < w2c_j2;
   w2c_j1 = (u64)(w2c_i1);
   w2c_j0 += w2c_j1;
   w2c_j1 = 0ull;
   w2c_i0 = w2c_j0 != w2c_j1;
-  if (w2c_i0) {goto w2c_B4;}
+  if (w2c_i0) {goto w2c_B13;}
   w2c_j0 = w2c_l4;
   w2c_i0 = (u32)(w2c_j0);
   w2c_j0 = i64_load(m, (u64)(w2c_i0) + 64u);
   w2c_j1 = 18446744073709551612ull;
   w2c_j0 &= w2c_j1;
-  w2c_p1 = w2c_j0;
+  w2c_l6 = w2c_j0;
   w2c_i0 = 2u;
-  w2c_l13 = w2c_i0;
-  goto w2c_B2;
-  w2c_B24:;
+  w2c_l12 = w2c_i0;
+  goto w2c_B11;
+  w2c_B29:;
   w2c_j0 = w2c_l4;
   w2c_i0 = (u32)(w2c_j0);
   w2c_i0 = i32_load8_u(m, (u64)(w2c_i0) + 168u);
-  w2c_l13 = w2c_i0;
-  w2c_j0 = w2c_l6;
-  w2c_l11 = w2c_j0;
-  goto w2c_B3;
-  w2c_B22:;
+  w2c_l12 = w2c_i0;
+  w2c_j0 = w2c_p2;
+  w2c_l7 = w2c_j0;
+  goto w2c_B12;
+  w2c_B27:;
   w2c_j0 = w2c_l4;
   w2c_j1 = 112ull;
   w2c_j0 += w2c_j1;
   w2c_i1 = w2c_p3;
-  w2c_j2 = w2c_l5;
-  w2c_j3 = w2c_p1;
-  w2c_j4 = w2c_p2;
+  w2c_j2 = w2c_l8;
+  w2c_j3 = w2c_l6;
+  w2c_j4 = w2c_l7;
   w2c_f36(m, w2c_j0, w2c_i1, w2c_j2, w2c_j3, w2c_j4);
   w2c_j0 = w2c_l4;
   w2c_i0 = (u32)(w2c_j0);
   w2c_j0 = i64_load(m, (u64)(w2c_i0) + 128u);
-  w2c_l6 = w2c_j0;
+  w2c_p2 = w2c_j0;
   w2c_j0 = w2c_l4;
   w2c_i0 = (u32)(w2c_j0);
   w2c_i0 = i32_load8_u(m, (u64)(w2c_i0) + 112u);
-  if (w2c_i0) {goto w2c_B25;}
+  if (w2c_i0) {goto w2c_B30;}
   w2c_j0 = w2c_l4;
   w2c_i0 = (u32)(w2c_j0);
   w2c_j0 = i64_load(m, (u64)(w2c_i0) + 144u);
-  w2c_l7 = w2c_j0;
+  w2c_p1 = w2c_j0;
   w2c_j1 = 38ull;
   w2c_i0 = w2c_j0 > w2c_j1;
-  if (w2c_i0) {goto w2c_B4;}
-  w2c_j0 = w2c_l7;
+  if (w2c_i0) {goto w2c_B13;}
+  w2c_j0 = w2c_p1;
   w2c_j1 = 0ull;
   w2c_i0 = w2c_j0 != w2c_j1;
-  w2c_l13 = w2c_i0;
-  w2c_j0 = w2c_l7;
+  w2c_l12 = w2c_i0;
+  w2c_j0 = w2c_p1;
   w2c_j1 = 4ull;
   w2c_j0 <<= (w2c_j1 & 63);
-  w2c_l7 = w2c_j0;
+  w2c_p1 = w2c_j0;
   w2c_j1 = 68632ull;
   w2c_j0 += w2c_j1;
   w2c_i0 = (u32)(w2c_j0);
   w2c_j0 = i64_load(m, (u64)(w2c_i0));
-  w2c_l8 = w2c_j0;
-  w2c_j0 = w2c_l7;
+  w2c_l5 = w2c_j0;
+  w2c_j0 = w2c_p1;
   w2c_j1 = 68624ull;
   w2c_j0 += w2c_j1;
   w2c_i0 = (u32)(w2c_j0);
   w2c_j0 = i64_load(m, (u64)(w2c_i0));
-  w2c_p1 = w2c_j0;
+  w2c_l6 = w2c_j0;
   w2c_j0 = w2c_l4;
   w2c_i0 = (u32)(w2c_j0);
   w2c_j0 = i64_load(m, (u64)(w2c_i0) + 136u);
-  w2c_l7 = w2c_j0;
-  goto w2c_B2;
-  w2c_B25:;
+  w2c_p1 = w2c_j0;
+  goto w2c_B11;
+  w2c_B30:;
   w2c_j0 = w2c_l4;
   w2c_i0 = (u32)(w2c_j0);
   w2c_i0 = i32_load8_u(m, (u64)(w2c_i0) + 120u);
-  w2c_l13 = w2c_i0;
-  w2c_j0 = w2c_l6;
-  w2c_l11 = w2c_j0;
-  goto w2c_B3;
-  w2c_B4:;
+  w2c_l12 = w2c_i0;
+  w2c_j0 = w2c_p2;
+  w2c_l7 = w2c_j0;
+  goto w2c_B12;
+  w2c_B13:;
   w2c_i0 = 2u;
-  w2c_l13 = w2c_i0;
-  w2c_j0 = 0ull;
-  w2c_l11 = w2c_j0;
-  w2c_B3:;
+  w2c_l12 = w2c_i0;
   w2c_j0 = 0ull;
   w2c_l7 = w2c_j0;
+  w2c_B12:;
   w2c_j0 = 0ull;
-  w2c_j1 = w2c_l11;
-  w2c_i2 = w2c_l12;
-  w2c_i3 = w2c_l13;
+  w2c_p1 = w2c_j0;
+  w2c_j0 = 0ull;
+  w2c_j1 = w2c_l7;
+  w2c_i2 = w2c_l15;
+  w2c_i3 = w2c_l12;
   w2c_i4 = 255u;
   w2c_i3 &= w2c_i4;
   w2c_i4 = 2u;
   w2c_i3 = w2c_i3 == w2c_i4;
   w2c_i2 &= w2c_i3;
-  w2c_l12 = w2c_i2;
+  w2c_l15 = w2c_i2;
   w2c_j0 = w2c_i2 ? w2c_j0 : w2c_j1;
-  w2c_l6 = w2c_j0;
-  w2c_i0 = 3u;
-  w2c_i1 = w2c_l13;
-  w2c_i2 = w2c_l12;
-  w2c_i0 = w2c_i2 ? w2c_i0 : w2c_i1;
-  w2c_l12 = w2c_i0;
-  w2c_i0 = 0u;
-  w2c_l13 = w2c_i0;
-  w2c_j0 = 1ull;
   w2c_p2 = w2c_j0;
-  goto w2c_B1;
-  w2c_B2:;
-  w2c_i0 = w2c_l12;
+  w2c_i0 = 3u;
+  w2c_i1 = w2c_l12;
+  w2c_i2 = w2c_l15;
+  w2c_i0 = w2c_i2 ? w2c_i0 : w2c_i1;
+  w2c_l15 = w2c_i0;
+  w2c_i0 = 0u;
+  w2c_l12 = w2c_i0;
+  w2c_j0 = 1ull;
+  w2c_l7 = w2c_j0;
+  goto w2c_B10;
+  w2c_B11:;
+  w2c_i0 = w2c_l15;
   w2c_i0 = !(w2c_i0);
-  if (w2c_i0) {goto w2c_B29;}
-  w2c_j0 = w2c_l6;
+  if (w2c_i0) {goto w2c_B34;}
+  w2c_j0 = w2c_p2;
   w2c_i0 = !(w2c_j0);
-  w2c_j1 = w2c_l7;
+  w2c_j1 = w2c_p1;
   w2c_j2 = 18446744073709551615ull;
   w2c_i1 = (u64)((s64)w2c_j1 > (s64)w2c_j2);
-  w2c_j2 = w2c_l7;
+  w2c_j2 = w2c_p1;
   w2c_j3 = 9223372036854775808ull;
   w2c_i2 = w2c_j2 == w2c_j3;
   w2c_i0 = w2c_i2 ? w2c_i0 : w2c_i1;
-  if (w2c_i0) {goto w2c_B27;}
+  if (w2c_i0) {goto w2c_B32;}
   w2c_i0 = 3u;
-  w2c_l12 = w2c_i0;
-  goto w2c_B28;
-  w2c_B29:;
-  w2c_j0 = w2c_l7;
+  w2c_l15 = w2c_i0;
+  goto w2c_B33;
+  w2c_B34:;
+  w2c_j0 = w2c_p1;
   w2c_j1 = 0ull;
   w2c_i0 = (u64)((s64)w2c_j0 >= (s64)w2c_j1);
-  if (w2c_i0) {goto w2c_B26;}
+  if (w2c_i0) {goto w2c_B31;}
   w2c_i0 = 2u;
-  w2c_l12 = w2c_i0;
-  w2c_B28:;
+  w2c_l15 = w2c_i0;
+  w2c_B33:;
   w2c_j0 = 0ull;
-  w2c_l6 = w2c_j0;
+  w2c_p2 = w2c_j0;
   w2c_j0 = w2c_l4;
   w2c_i0 = (u32)(w2c_j0);
   w2c_j1 = 0ull;
@@ -27418,29 +26198,29 @@ static void w2c_f32(module *m, u64 w2c_p0, u64 w2c_p1, u64 w2c_p2, u32 w2c_p3) {
   w2c_j1 = 0ull;
   i64_store(m, (u64)(w2c_i0) + 96, w2c_j1);
   w2c_i0 = 0u;
-  w2c_l13 = w2c_i0;
+  w2c_l12 = w2c_i0;
   w2c_j0 = 1ull;
-  w2c_p2 = w2c_j0;
-  w2c_j0 = 0ull;
   w2c_l7 = w2c_j0;
-  goto w2c_B1;
-  w2c_B27:;
   w2c_j0 = 0ull;
-  w2c_j1 = w2c_l7;
-  w2c_j2 = w2c_l6;
+  w2c_p1 = w2c_j0;
+  goto w2c_B10;
+  w2c_B32:;
+  w2c_j0 = 0ull;
+  w2c_j1 = w2c_p1;
+  w2c_j2 = w2c_p2;
   w2c_j3 = 0ull;
   w2c_i2 = w2c_j2 != w2c_j3;
   w2c_j2 = (u64)(w2c_i2);
   w2c_j1 += w2c_j2;
   w2c_j0 -= w2c_j1;
-  w2c_l7 = w2c_j0;
+  w2c_p1 = w2c_j0;
   w2c_j0 = 0ull;
-  w2c_j1 = w2c_l6;
+  w2c_j1 = w2c_p2;
   w2c_j0 -= w2c_j1;
-  w2c_l6 = w2c_j0;
-  w2c_B26:;
-  w2c_j0 = 0ull;
   w2c_p2 = w2c_j0;
+  w2c_B31:;
+  w2c_j0 = 0ull;
+  w2c_l7 = w2c_j0;
   w2c_j0 = w2c_l4;
   w2c_i0 = (u32)(w2c_j0);
   w2c_j1 = 0ull;
@@ -27450,47 +26230,47 @@ static void w2c_f32(module *m, u64 w2c_p0, u64 w2c_p1, u64 w2c_p2, u32 w2c_p3) {
   w2c_j1 = 0ull;
   i64_store(m, (u64)(w2c_i0) + 96, w2c_j1);
   w2c_i0 = 0u;
-  w2c_l12 = w2c_i0;
-  goto w2c_B0;
-  w2c_B1:;
+  w2c_l15 = w2c_i0;
+  goto w2c_B9;
+  w2c_B10:;
   w2c_j0 = 0ull;
-  w2c_p1 = w2c_j0;
+  w2c_l6 = w2c_j0;
   w2c_j0 = 0ull;
-  w2c_l8 = w2c_j0;
-  w2c_B0:;
+  w2c_l5 = w2c_j0;
+  w2c_B9:;
   w2c_j0 = w2c_p0;
   w2c_i0 = (u32)(w2c_j0);
-  w2c_j1 = w2c_p2;
+  w2c_j1 = w2c_l7;
   i64_store(m, (u64)(w2c_i0), w2c_j1);
   w2c_j0 = w2c_p0;
   w2c_j1 = 40ull;
   w2c_j0 += w2c_j1;
   w2c_i0 = (u32)(w2c_j0);
-  w2c_j1 = w2c_l8;
+  w2c_j1 = w2c_l5;
   i64_store(m, (u64)(w2c_i0), w2c_j1);
   w2c_j0 = w2c_p0;
   w2c_j1 = 32ull;
   w2c_j0 += w2c_j1;
   w2c_i0 = (u32)(w2c_j0);
-  w2c_j1 = w2c_p1;
+  w2c_j1 = w2c_l6;
   i64_store(m, (u64)(w2c_i0), w2c_j1);
   w2c_j0 = w2c_p0;
   w2c_j1 = 24ull;
   w2c_j0 += w2c_j1;
   w2c_i0 = (u32)(w2c_j0);
-  w2c_j1 = w2c_l7;
+  w2c_j1 = w2c_p1;
   i64_store(m, (u64)(w2c_i0), w2c_j1);
   w2c_j0 = w2c_p0;
   w2c_j1 = 16ull;
   w2c_j0 += w2c_j1;
   w2c_i0 = (u32)(w2c_j0);
-  w2c_j1 = w2c_l6;
+  w2c_j1 = w2c_p2;
   i64_store(m, (u64)(w2c_i0), w2c_j1);
   w2c_j0 = w2c_p0;
   w2c_j1 = 48ull;
   w2c_j0 += w2c_j1;
   w2c_i0 = (u32)(w2c_j0);
-  w2c_i1 = w2c_l13;
+  w2c_i1 = w2c_l12;
   i32_store8(m, (u64)(w2c_i0), w2c_i1);
   w2c_j0 = w2c_p0;
   w2c_j1 = 49ull;
@@ -27512,18 +26292,18 @@ static void w2c_f32(module *m, u64 w2c_p0, u64 w2c_p1, u64 w2c_p2, u32 w2c_p3) {
   w2c_j1 = 8ull;
   w2c_j0 += w2c_j1;
   w2c_i0 = (u32)(w2c_j0);
-  w2c_i1 = w2c_l12;
+  w2c_i1 = w2c_l15;
   w2c_j1 = (u64)(w2c_i1);
   w2c_j2 = 255ull;
   w2c_j1 &= w2c_j2;
   i64_store(m, (u64)(w2c_i0), w2c_j1);
   w2c_j0 = w2c_l4;
-  w2c_j1 = 352ull;
+  w2c_j1 = 384ull;
   w2c_j0 += w2c_j1;
   m->w2c_g0 = w2c_j0;
 }
 
-static void w2c_f33(module *m, u64 w2c_p0, u64 w2c_p1, u64 w2c_p2) {
+static void w2c_f32(module *m, u64 w2c_p0, u64 w2c_p1, u64 w2c_p2) {
   u32 w2c_l5 = 0, w2c_l6 = 0, w2c_l7 = 0, w2c_l8 = 0;
   u64 w2c_l3 = 0, w2c_l4 = 0;
   u32 w2c_i0, w2c_i1, w2c_i2, w2c_i3;
@@ -27774,13 +26554,273 @@ static void w2c_f33(module *m, u64 w2c_p0, u64 w2c_p1, u64 w2c_p2) {
   w2c_Bfunc:;
 }
 
+static void w2c_f33(module *m, u64 w2c_p0, u64 w2c_p1, u64 w2c_p2) {
+  u32 w2c_l5 = 0, w2c_l6 = 0, w2c_l7 = 0, w2c_l8 = 0;
+  u64 w2c_l3 = 0, w2c_l4 = 0;
+  u32 w2c_i0, w2c_i1, w2c_i2;
+  u64 w2c_j0, w2c_j1, w2c_j2;
+  w2c_j0 = m->w2c_g0;
+  w2c_j1 = 96ull;
+  w2c_j0 -= w2c_j1;
+  w2c_l3 = w2c_j0;
+  m->w2c_g0 = w2c_j0;
+  w2c_j0 = w2c_l3;
+  w2c_l3 = w2c_j0;
+  w2c_j1 = 16ull;
+  w2c_i0 = (u64)((s64)w2c_j0 < (s64)w2c_j1);
+  if (w2c_i0) {goto w2c_B1;}
+  w2c_j0 = w2c_l3;
+  w2c_i0 = (u32)(w2c_j0);
+  w2c_j1 = 0ull;
+  i64_store(m, (u64)(w2c_i0) + 88, w2c_j1);
+  w2c_j0 = w2c_l3;
+  w2c_i0 = (u32)(w2c_j0);
+  w2c_j1 = 0ull;
+  i64_store(m, (u64)(w2c_i0) + 80, w2c_j1);
+  w2c_j0 = w2c_l3;
+  w2c_i0 = (u32)(w2c_j0);
+  w2c_j1 = 0ull;
+  i64_store(m, (u64)(w2c_i0) + 72, w2c_j1);
+  w2c_j0 = w2c_l3;
+  w2c_i0 = (u32)(w2c_j0);
+  w2c_j1 = 0ull;
+  i64_store(m, (u64)(w2c_i0) + 64, w2c_j1);
+  w2c_j0 = w2c_l3;
+  w2c_i0 = (u32)(w2c_j0);
+  w2c_j1 = 0ull;
+  i64_store(m, (u64)(w2c_i0) + 56, w2c_j1);
+  w2c_j0 = w2c_p2;
+  w2c_j1 = 3ull;
+  w2c_i0 = w2c_j0 < w2c_j1;
+  if (w2c_i0) {goto w2c_B4;}
+  w2c_j0 = w2c_p1;
+  w2c_i0 = (u32)(w2c_j0);
+  w2c_i0 = i32_load8_u(m, (u64)(w2c_i0));
+  w2c_l5 = w2c_i0;
+  w2c_i1 = 240u;
+  w2c_i0 &= w2c_i1;
+  w2c_i1 = 224u;
+  w2c_i0 = w2c_i0 != w2c_i1;
+  if (w2c_i0) {goto w2c_B4;}
+  w2c_j0 = w2c_p1;
+  w2c_i0 = (u32)(w2c_j0);
+  w2c_i0 = i32_load8_u(m, (u64)(w2c_i0) + 1u);
+  w2c_l6 = w2c_i0;
+  w2c_i1 = 8u;
+  w2c_i0 <<= (w2c_i1 & 31);
+  w2c_j1 = w2c_p1;
+  w2c_i1 = (u32)(w2c_j1);
+  w2c_i1 = i32_load8_u(m, (u64)(w2c_i1) + 2u);
+  w2c_l7 = w2c_i1;
+  w2c_i2 = 16u;
+  w2c_i1 <<= (w2c_i2 & 31);
+  w2c_i0 |= w2c_i1;
+  w2c_i1 = w2c_l5;
+  w2c_i0 |= w2c_i1;
+  w2c_l8 = w2c_i0;
+  w2c_j0 = (u64)(w2c_i0);
+  w2c_j1 = 953497ull;
+  w2c_j0 *= w2c_j1;
+  w2c_j1 = 22ull;
+  w2c_j0 >>= (w2c_j1 & 63);
+  w2c_j1 = 1016ull;
+  w2c_j0 &= w2c_j1;
+  w2c_l4 = w2c_j0;
+  w2c_i0 = (u32)(w2c_j0);
+  w2c_i0 = i32_load(m, (u64)(w2c_i0) + 66992u);
+  w2c_i1 = w2c_l8;
+  w2c_i0 = w2c_i0 != w2c_i1;
+  if (w2c_i0) {goto w2c_B4;}
+  w2c_j0 = w2c_l4;
+  w2c_j1 = 66996ull;
+  w2c_j0 += w2c_j1;
+  w2c_i0 = (u32)(w2c_j0);
+  w2c_i0 = i32_load8_u(m, (u64)(w2c_i0));
+  w2c_i1 = 255u;
+  w2c_i0 &= w2c_i1;
+  w2c_i1 = 2u;
+  w2c_i0 = w2c_i0 == w2c_i1;
+  if (w2c_i0) {goto w2c_B4;}
+  w2c_j0 = w2c_l3;
+  w2c_i0 = (u32)(w2c_j0);
+  w2c_j1 = 0ull;
+  i64_store(m, (u64)(w2c_i0) + 72, w2c_j1);
+  w2c_j0 = w2c_l3;
+  w2c_i0 = (u32)(w2c_j0);
+  w2c_j1 = w2c_p1;
+  w2c_j2 = 3ull;
+  w2c_j1 += w2c_j2;
+  i64_store(m, (u64)(w2c_i0) + 80, w2c_j1);
+  w2c_j0 = w2c_l3;
+  w2c_i0 = (u32)(w2c_j0);
+  w2c_j1 = w2c_p2;
+  w2c_j2 = 18446744073709551613ull;
+  w2c_j1 += w2c_j2;
+  i64_store(m, (u64)(w2c_i0) + 88, w2c_j1);
+  w2c_j0 = w2c_l3;
+  w2c_i0 = (u32)(w2c_j0);
+  w2c_j1 = w2c_l3;
+  w2c_i1 = (u32)(w2c_j1);
+  w2c_j1 = i64_load(m, (u64)(w2c_i1) + 68u);
+  i64_store(m, (u64)(w2c_i0) + 24, w2c_j1);
+  w2c_j0 = w2c_l3;
+  w2c_i0 = (u32)(w2c_j0);
+  w2c_j1 = w2c_l3;
+  w2c_i1 = (u32)(w2c_j1);
+  w2c_j1 = i64_load(m, (u64)(w2c_i1) + 76u);
+  i64_store(m, (u64)(w2c_i0) + 32, w2c_j1);
+  w2c_j0 = w2c_l3;
+  w2c_i0 = (u32)(w2c_j0);
+  w2c_j1 = w2c_l3;
+  w2c_i1 = (u32)(w2c_j1);
+  w2c_j1 = i64_load(m, (u64)(w2c_i1) + 84u);
+  i64_store(m, (u64)(w2c_i0) + 40, w2c_j1);
+  w2c_j0 = w2c_l3;
+  w2c_i0 = (u32)(w2c_j0);
+  w2c_j1 = w2c_l3;
+  w2c_i1 = (u32)(w2c_j1);
+  w2c_i1 = i32_load(m, (u64)(w2c_i1) + 92u);
+  i32_store(m, (u64)(w2c_i0) + 48, w2c_i1);
+  w2c_i0 = w2c_l5;
+  w2c_i1 = 12u;
+  w2c_i0 <<= (w2c_i1 & 31);
+  w2c_i1 = w2c_l6;
+  w2c_i2 = 6u;
+  w2c_i1 <<= (w2c_i2 & 31);
+  w2c_i0 += w2c_i1;
+  w2c_i1 = w2c_l7;
+  w2c_i0 += w2c_i1;
+  w2c_i1 = 4294041472u;
+  w2c_i0 += w2c_i1;
+  w2c_l5 = w2c_i0;
+  goto w2c_B3;
+  w2c_B4:;
+  w2c_j0 = w2c_l3;
+  w2c_j1 = 56ull;
+  w2c_j0 += w2c_j1;
+  w2c_j1 = w2c_p1;
+  w2c_j2 = w2c_p2;
+  w2c_f32(m, w2c_j0, w2c_j1, w2c_j2);
+  w2c_j0 = w2c_l3;
+  w2c_i0 = (u32)(w2c_j0);
+  w2c_j1 = w2c_l3;
+  w2c_i1 = (u32)(w2c_j1);
+  w2c_j1 = i64_load(m, (u64)(w2c_i1) + 68u);
+  i64_store(m, (u64)(w2c_i0) + 24, w2c_j1);
+  w2c_j0 = w2c_l3;
+  w2c_i0 = (u32)(w2c_j0);
+  w2c_j1 = w2c_l3;
+  w2c_i1 = (u32)(w2c_j1);
+  w2c_j1 = i64_load(m, (u64)(w2c_i1) + 76u);
+  i64_store(m, (u64)(w2c_i0) + 32, w2c_j1);
+  w2c_j0 = w2c_l3;
+  w2c_i0 = (u32)(w2c_j0);
+  w2c_j1 = w2c_l3;
+  w2c_i1 = (u32)(w2c_j1);
+  w2c_j1 = i64_load(m, (u64)(w2c_i1) + 84u);
+  i64_store(m, (u64)(w2c_i0) + 40, w2c_j1);
+  w2c_j0 = w2c_l3;
+  w2c_i0 = (u32)(w2c_j0);
+  w2c_j1 = w2c_l3;
+  w2c_i1 = (u32)(w2c_j1);
+  w2c_i1 = i32_load(m, (u64)(w2c_i1) + 92u);
+  i32_store(m, (u64)(w2c_i0) + 48, w2c_i1);
+  w2c_j0 = w2c_l3;
+  w2c_i0 = (u32)(w2c_j0);
+  w2c_i0 = i32_load8_u(m, (u64)(w2c_i0) + 56u);
+  w2c_i1 = 1u;
+  w2c_i0 = w2c_i0 != w2c_i1;
+  if (w2c_i0) {goto w2c_B2;}
+  w2c_j0 = w2c_l3;
+  w2c_i0 = (u32)(w2c_j0);
+  w2c_i0 = i32_load(m, (u64)(w2c_i0) + 64u);
+  w2c_l5 = w2c_i0;
+  w2c_B3:;
+  w2c_j0 = w2c_p0;
+  w2c_j1 = 12ull;
+  w2c_j0 += w2c_j1;
+  w2c_i0 = (u32)(w2c_j0);
+  w2c_i1 = 0u;
+  i32_store(m, (u64)(w2c_i0), w2c_i1);
+  w2c_j0 = w2c_p0;
+  w2c_j1 = 16ull;
+  w2c_j0 += w2c_j1;
+  w2c_i0 = (u32)(w2c_j0);
+  w2c_j1 = w2c_l3;
+  w2c_i1 = (u32)(w2c_j1);
+  w2c_j1 = i64_load(m, (u64)(w2c_i1) + 36u);
+  w2c_p2 = w2c_j1;
+  i64_store(m, (u64)(w2c_i0), w2c_j1);
+  w2c_j0 = w2c_p0;
+  w2c_j1 = 24ull;
+  w2c_j0 += w2c_j1;
+  w2c_i0 = (u32)(w2c_j0);
+  w2c_j1 = w2c_l3;
+  w2c_i1 = (u32)(w2c_j1);
+  w2c_j1 = i64_load(m, (u64)(w2c_i1) + 44u);
+  w2c_p1 = w2c_j1;
+  i64_store(m, (u64)(w2c_i0), w2c_j1);
+  w2c_j0 = w2c_l3;
+  w2c_i0 = (u32)(w2c_j0);
+  w2c_j1 = w2c_p1;
+  i64_store(m, (u64)(w2c_i0) + 16, w2c_j1);
+  w2c_j0 = w2c_l3;
+  w2c_i0 = (u32)(w2c_j0);
+  w2c_j1 = w2c_p2;
+  i64_store(m, (u64)(w2c_i0) + 8, w2c_j1);
+  w2c_j0 = 1ull;
+  w2c_p2 = w2c_j0;
+  goto w2c_B0;
+  w2c_B2:;
+  w2c_i0 = 0u;
+  w2c_l5 = w2c_i0;
+  w2c_j0 = w2c_p0;
+  w2c_j1 = 28ull;
+  w2c_j0 += w2c_j1;
+  w2c_i0 = (u32)(w2c_j0);
+  w2c_i1 = 0u;
+  i32_store(m, (u64)(w2c_i0), w2c_i1);
+  w2c_j0 = 0ull;
+  w2c_p2 = w2c_j0;
+  w2c_j0 = w2c_p0;
+  w2c_j1 = 20ull;
+  w2c_j0 += w2c_j1;
+  w2c_i0 = (u32)(w2c_j0);
+  w2c_j1 = 0ull;
+  i64_store(m, (u64)(w2c_i0), w2c_j1);
+  w2c_j0 = w2c_p0;
+  w2c_j1 = 12ull;
+  w2c_j0 += w2c_j1;
+  w2c_i0 = (u32)(w2c_j0);
+  w2c_j1 = 0ull;
+  i64_store(m, (u64)(w2c_i0), w2c_j1);
+  goto w2c_B0;
+  w2c_B1:;
+  UNREACHABLE;
+  w2c_B0:;
+  w2c_j0 = w2c_p0;
+  w2c_i0 = (u32)(w2c_j0);
+  w2c_j1 = w2c_p2;
+  i64_store(m, (u64)(w2c_i0), w2c_j1);
+  w2c_j0 = w2c_p0;
+  w2c_j1 = 8ull;
+  w2c_j0 += w2c_j1;
+  w2c_i0 = (u32)(w2c_j0);
+  w2c_i1 = w2c_l5;
+  i32_store(m, (u64)(w2c_i0), w2c_i1);
+  w2c_j0 = w2c_l3;
+  w2c_j1 = 96ull;
+  w2c_j0 += w2c_j1;
+  m->w2c_g0 = w2c_j0;
+}
+
 static void w2c_f34(module *m, u64 w2c_p0, u32 w2c_p1, u64 w2c_p2, u64 w2c_p3, u64 w2c_p4) {
-  u32 w2c_l9 = 0, w2c_l10 = 0, w2c_l11 = 0;
-  u64 w2c_l5 = 0, w2c_l6 = 0, w2c_l7 = 0, w2c_l8 = 0;
+  u32 w2c_l8 = 0, w2c_l9 = 0, w2c_l10 = 0;
+  u64 w2c_l5 = 0, w2c_l6 = 0, w2c_l7 = 0;
   u32 w2c_i0, w2c_i1, w2c_i2;
   u64 w2c_j0, w2c_j1, w2c_j2, w2c_j3, w2c_j4, w2c_j5;
   w2c_j0 = m->w2c_g0;
-  w2c_j1 = 144ull;
+  w2c_j1 = 160ull;
   w2c_j0 -= w2c_j1;
   w2c_l5 = w2c_j0;
   m->w2c_g0 = w2c_j0;
@@ -27792,6 +26832,22 @@ static void w2c_f34(module *m, u64 w2c_p0, u32 w2c_p1, u64 w2c_p2, u64 w2c_p3, u
   w2c_j0 = w2c_l5;
   w2c_i0 = (u32)(w2c_j0);
   w2c_j1 = 0ull;
+  i64_store(m, (u64)(w2c_i0) + 120, w2c_j1);
+  w2c_j0 = w2c_l5;
+  w2c_i0 = (u32)(w2c_j0);
+  w2c_j1 = 0ull;
+  i64_store(m, (u64)(w2c_i0) + 112, w2c_j1);
+  w2c_j0 = w2c_l5;
+  w2c_i0 = (u32)(w2c_j0);
+  w2c_j1 = 0ull;
+  i64_store(m, (u64)(w2c_i0) + 104, w2c_j1);
+  w2c_j0 = w2c_l5;
+  w2c_i0 = (u32)(w2c_j0);
+  w2c_j1 = 0ull;
+  i64_store(m, (u64)(w2c_i0) + 96, w2c_j1);
+  w2c_j0 = w2c_l5;
+  w2c_i0 = (u32)(w2c_j0);
+  w2c_j1 = 0ull;
   i64_store(m, (u64)(w2c_i0) + 88, w2c_j1);
   w2c_j0 = w2c_l5;
   w2c_i0 = (u32)(w2c_j0);
@@ -27800,11 +26856,7 @@ static void w2c_f34(module *m, u64 w2c_p0, u32 w2c_p1, u64 w2c_p2, u64 w2c_p3, u
   w2c_j0 = w2c_l5;
   w2c_i0 = (u32)(w2c_j0);
   w2c_j1 = 0ull;
-  i64_store(m, (u64)(w2c_i0) + 72, w2c_j1);
-  w2c_j0 = w2c_l5;
-  w2c_i0 = (u32)(w2c_j0);
-  w2c_j1 = 0ull;
-  i64_store(m, (u64)(w2c_i0) + 64, w2c_j1);
+  i64_store(m, (u64)(w2c_i0) + 48, w2c_j1);
   w2c_j0 = w2c_l5;
   w2c_i0 = (u32)(w2c_j0);
   w2c_j1 = 0ull;
@@ -27812,7 +26864,11 @@ static void w2c_f34(module *m, u64 w2c_p0, u32 w2c_p1, u64 w2c_p2, u64 w2c_p3, u
   w2c_j0 = w2c_l5;
   w2c_i0 = (u32)(w2c_j0);
   w2c_j1 = 0ull;
-  i64_store(m, (u64)(w2c_i0) + 48, w2c_j1);
+  i64_store(m, (u64)(w2c_i0) + 64, w2c_j1);
+  w2c_j0 = w2c_l5;
+  w2c_i0 = (u32)(w2c_j0);
+  w2c_j1 = 0ull;
+  i64_store(m, (u64)(w2c_i0) + 72, w2c_j1);
   w2c_j0 = w2c_l5;
   w2c_i0 = (u32)(w2c_j0);
   w2c_j1 = 0ull;
@@ -27830,6 +26886,28 @@ static void w2c_f34(module *m, u64 w2c_p0, u32 w2c_p1, u64 w2c_p2, u64 w2c_p3, u
   w2c_j1 = 0ull;
   i64_store(m, (u64)(w2c_i0) + 40, w2c_j1);
   w2c_j0 = w2c_l5;
+  w2c_j1 = 48ull;
+  w2c_j0 += w2c_j1;
+  w2c_j1 = w2c_p3;
+  w2c_j2 = w2c_p4;
+  w2c_f33(m, w2c_j0, w2c_j1, w2c_j2);
+  w2c_i0 = 1u;
+  w2c_l8 = w2c_i0;
+  w2c_j0 = w2c_l5;
+  w2c_i0 = (u32)(w2c_j0);
+  w2c_i0 = i32_load8_u(m, (u64)(w2c_i0) + 48u);
+  w2c_i1 = 1u;
+  w2c_i0 = w2c_i0 != w2c_i1;
+  if (w2c_i0) {goto w2c_B3;}
+  w2c_j0 = w2c_l5;
+  w2c_i0 = (u32)(w2c_j0);
+  w2c_j1 = 0ull;
+  i64_store(m, (u64)(w2c_i0) + 152, w2c_j1);
+  w2c_j0 = w2c_l5;
+  w2c_i0 = (u32)(w2c_j0);
+  w2c_j1 = 0ull;
+  i64_store(m, (u64)(w2c_i0) + 144, w2c_j1);
+  w2c_j0 = w2c_l5;
   w2c_i0 = (u32)(w2c_j0);
   w2c_j1 = 0ull;
   i64_store(m, (u64)(w2c_i0) + 136, w2c_j1);
@@ -27837,112 +26915,64 @@ static void w2c_f34(module *m, u64 w2c_p0, u32 w2c_p1, u64 w2c_p2, u64 w2c_p3, u
   w2c_i0 = (u32)(w2c_j0);
   w2c_j1 = 0ull;
   i64_store(m, (u64)(w2c_i0) + 128, w2c_j1);
-  w2c_j0 = w2c_l5;
-  w2c_i0 = (u32)(w2c_j0);
-  w2c_j1 = 0ull;
-  i64_store(m, (u64)(w2c_i0) + 120, w2c_j1);
-  w2c_j0 = w2c_l5;
-  w2c_i0 = (u32)(w2c_j0);
-  w2c_j1 = 0ull;
-  i64_store(m, (u64)(w2c_i0) + 112, w2c_j1);
-  w2c_j0 = w2c_l5;
-  w2c_i0 = (u32)(w2c_j0);
-  w2c_j1 = 0ull;
-  i64_store(m, (u64)(w2c_i0) + 104, w2c_j1);
-  w2c_j0 = w2c_l5;
-  w2c_j1 = 104ull;
-  w2c_j0 += w2c_j1;
-  w2c_j1 = w2c_p3;
-  w2c_j2 = w2c_p4;
-  w2c_f33(m, w2c_j0, w2c_j1, w2c_j2);
-  w2c_i0 = 1u;
-  w2c_l9 = w2c_i0;
-  w2c_j0 = w2c_l5;
-  w2c_i0 = (u32)(w2c_j0);
-  w2c_i0 = i32_load8_u(m, (u64)(w2c_i0) + 104u);
-  w2c_i1 = 1u;
-  w2c_i0 = w2c_i0 != w2c_i1;
-  if (w2c_i0) {goto w2c_B3;}
   w2c_j0 = w2c_p3;
   w2c_l6 = w2c_j0;
   w2c_j0 = w2c_p4;
   w2c_l7 = w2c_j0;
   w2c_L4:
-    w2c_j0 = 0ull;
-    w2c_l8 = w2c_j0;
     w2c_j0 = w2c_l5;
-    w2c_i0 = (u32)(w2c_j0);
-    w2c_j1 = 0ull;
-    i64_store(m, (u64)(w2c_i0) + 136, w2c_j1);
-    w2c_j0 = w2c_l5;
-    w2c_i0 = (u32)(w2c_j0);
-    w2c_j1 = 0ull;
-    i64_store(m, (u64)(w2c_i0) + 128, w2c_j1);
-    w2c_j0 = w2c_l5;
-    w2c_i0 = (u32)(w2c_j0);
-    w2c_j1 = 0ull;
-    i64_store(m, (u64)(w2c_i0) + 120, w2c_j1);
-    w2c_j0 = w2c_l5;
-    w2c_i0 = (u32)(w2c_j0);
-    w2c_j1 = 0ull;
-    i64_store(m, (u64)(w2c_i0) + 112, w2c_j1);
-    w2c_j0 = w2c_l5;
-    w2c_i0 = (u32)(w2c_j0);
-    w2c_j1 = 0ull;
-    i64_store(m, (u64)(w2c_i0) + 104, w2c_j1);
-    w2c_j0 = w2c_l5;
-    w2c_j1 = 104ull;
+    w2c_j1 = 128ull;
     w2c_j0 += w2c_j1;
     w2c_j1 = w2c_l6;
     w2c_j2 = w2c_l7;
     w2c_f33(m, w2c_j0, w2c_j1, w2c_j2);
     w2c_i0 = 1u;
-    w2c_l10 = w2c_i0;
+    w2c_l9 = w2c_i0;
     w2c_j0 = w2c_l5;
     w2c_i0 = (u32)(w2c_j0);
-    w2c_i0 = i32_load8_u(m, (u64)(w2c_i0) + 104u);
+    w2c_i0 = i32_load8_u(m, (u64)(w2c_i0) + 128u);
     w2c_i1 = 1u;
     w2c_i0 = w2c_i0 != w2c_i1;
     if (w2c_i0) {goto w2c_B2;}
     w2c_j0 = w2c_l5;
     w2c_i0 = (u32)(w2c_j0);
-    w2c_j0 = i64_load(m, (u64)(w2c_i0) + 136u);
+    w2c_j0 = i64_load(m, (u64)(w2c_i0) + 152u);
     w2c_l7 = w2c_j0;
     w2c_j0 = w2c_l5;
     w2c_i0 = (u32)(w2c_j0);
-    w2c_j0 = i64_load(m, (u64)(w2c_i0) + 128u);
+    w2c_j0 = i64_load(m, (u64)(w2c_i0) + 144u);
     w2c_l6 = w2c_j0;
     w2c_j0 = w2c_l5;
     w2c_j1 = 8ull;
     w2c_j0 += w2c_j1;
     w2c_j1 = w2c_l5;
     w2c_i1 = (u32)(w2c_j1);
-    w2c_i1 = i32_load(m, (u64)(w2c_i1) + 112u);
-    w2c_f19(m, w2c_j0, w2c_i1);
+    w2c_i1 = i32_load(m, (u64)(w2c_i1) + 136u);
+    w2c_f25(m, w2c_j0, w2c_i1);
     w2c_j0 = w2c_l5;
     w2c_i0 = (u32)(w2c_j0);
     w2c_i0 = i32_load8_u(m, (u64)(w2c_i0) + 8u);
     w2c_i1 = 1u;
     w2c_i0 = w2c_i0 != w2c_i1;
     if (w2c_i0) {goto w2c_B3;}
-    w2c_i0 = w2c_l9;
+    w2c_i0 = w2c_l8;
     w2c_i1 = 255u;
     w2c_i0 &= w2c_i1;
-    w2c_l10 = w2c_i0;
+    w2c_l9 = w2c_i0;
     w2c_j0 = w2c_l5;
     w2c_i0 = (u32)(w2c_j0);
     w2c_i0 = i32_load8_u(m, (u64)(w2c_i0) + 9u);
-    w2c_l11 = w2c_i0;
-    w2c_l9 = w2c_i0;
-    w2c_i0 = w2c_l10;
-    w2c_i1 = w2c_l11;
+    w2c_l10 = w2c_i0;
+    w2c_l8 = w2c_i0;
+    w2c_i0 = w2c_l9;
+    w2c_i1 = w2c_l10;
     w2c_i2 = 255u;
     w2c_i1 &= w2c_i2;
     w2c_i0 = w2c_i0 < w2c_i1;
     if (w2c_i0) {goto w2c_L4;}
   w2c_B3:;
   w2c_j0 = w2c_l5;
-  w2c_j1 = 48ull;
+  w2c_j1 = 80ull;
   w2c_j0 += w2c_j1;
   w2c_i1 = w2c_p1;
   w2c_j2 = w2c_p2;
@@ -27951,12 +26981,12 @@ static void w2c_f34(module *m, u64 w2c_p0, u32 w2c_p1, u64 w2c_p2, u64 w2c_p3, u
   w2c_f36(m, w2c_j0, w2c_i1, w2c_j2, w2c_j3, w2c_j4);
   w2c_j0 = w2c_l5;
   w2c_i0 = (u32)(w2c_j0);
-  w2c_i0 = i32_load8_u(m, (u64)(w2c_i0) + 56u);
-  w2c_l9 = w2c_i0;
+  w2c_i0 = i32_load8_u(m, (u64)(w2c_i0) + 88u);
+  w2c_l8 = w2c_i0;
   w2c_j0 = w2c_l5;
   w2c_i0 = (u32)(w2c_j0);
-  w2c_i0 = i32_load8_u(m, (u64)(w2c_i0) + 48u);
-  w2c_l10 = w2c_i0;
+  w2c_i0 = i32_load8_u(m, (u64)(w2c_i0) + 80u);
+  w2c_l9 = w2c_i0;
   goto w2c_B1;
   w2c_B2:;
   w2c_j0 = w2c_l5;
@@ -27969,9 +26999,11 @@ static void w2c_f34(module *m, u64 w2c_p0, u32 w2c_p1, u64 w2c_p2, u64 w2c_p3, u
   w2c_j5 = w2c_p4;
   w2c_f37(m, w2c_j0, w2c_i1, w2c_j2, w2c_j3, w2c_j4, w2c_j5);
   w2c_i0 = 2u;
-  w2c_l9 = w2c_i0;
+  w2c_l8 = w2c_i0;
   w2c_j0 = 0ull;
   w2c_l6 = w2c_j0;
+  w2c_j0 = 0ull;
+  w2c_l7 = w2c_j0;
   w2c_j0 = w2c_l5;
   w2c_i0 = (u32)(w2c_j0);
   w2c_i0 = i32_load8_u(m, (u64)(w2c_i0) + 16u);
@@ -27979,34 +27011,34 @@ static void w2c_f34(module *m, u64 w2c_p0, u32 w2c_p1, u64 w2c_p2, u64 w2c_p3, u
   w2c_i0 = w2c_i0 != w2c_i1;
   if (w2c_i0) {goto w2c_B5;}
   w2c_i0 = 0u;
-  w2c_l10 = w2c_i0;
+  w2c_l9 = w2c_i0;
   w2c_j0 = w2c_l5;
   w2c_i0 = (u32)(w2c_j0);
   w2c_j0 = i64_load(m, (u64)(w2c_i0) + 40u);
-  w2c_l6 = w2c_j0;
+  w2c_l7 = w2c_j0;
   w2c_j0 = w2c_l5;
   w2c_i0 = (u32)(w2c_j0);
   w2c_j0 = i64_load(m, (u64)(w2c_i0) + 32u);
-  w2c_l8 = w2c_j0;
+  w2c_l6 = w2c_j0;
   w2c_i0 = 0u;
-  w2c_l9 = w2c_i0;
+  w2c_l8 = w2c_i0;
   w2c_B5:;
   w2c_j0 = w2c_l5;
   w2c_i0 = (u32)(w2c_j0);
+  w2c_j1 = w2c_l7;
+  i64_store(m, (u64)(w2c_i0) + 104, w2c_j1);
+  w2c_j0 = w2c_l5;
+  w2c_i0 = (u32)(w2c_j0);
   w2c_j1 = w2c_l6;
-  i64_store(m, (u64)(w2c_i0) + 72, w2c_j1);
-  w2c_j0 = w2c_l5;
-  w2c_i0 = (u32)(w2c_j0);
-  w2c_j1 = w2c_l8;
-  i64_store(m, (u64)(w2c_i0) + 64, w2c_j1);
+  i64_store(m, (u64)(w2c_i0) + 96, w2c_j1);
   w2c_j0 = w2c_l5;
   w2c_i0 = (u32)(w2c_j0);
   w2c_j1 = 0ull;
-  i64_store(m, (u64)(w2c_i0) + 80, w2c_j1);
+  i64_store(m, (u64)(w2c_i0) + 112, w2c_j1);
   w2c_j0 = w2c_l5;
   w2c_i0 = (u32)(w2c_j0);
   w2c_j1 = 0ull;
-  i64_store(m, (u64)(w2c_i0) + 88, w2c_j1);
+  i64_store(m, (u64)(w2c_i0) + 120, w2c_j1);
   w2c_B1:;
   w2c_j0 = w2c_p0;
   w2c_j1 = 16ull;
@@ -28014,7 +27046,7 @@ static void w2c_f34(module *m, u64 w2c_p0, u32 w2c_p1, u64 w2c_p2, u64 w2c_p3, u
   w2c_i0 = (u32)(w2c_j0);
   w2c_j1 = w2c_l5;
   w2c_i1 = (u32)(w2c_j1);
-  w2c_j1 = i64_load(m, (u64)(w2c_i1) + 64u);
+  w2c_j1 = i64_load(m, (u64)(w2c_i1) + 96u);
   i64_store(m, (u64)(w2c_i0), w2c_j1);
   w2c_j0 = w2c_p0;
   w2c_j1 = 24ull;
@@ -28022,7 +27054,7 @@ static void w2c_f34(module *m, u64 w2c_p0, u32 w2c_p1, u64 w2c_p2, u64 w2c_p3, u
   w2c_i0 = (u32)(w2c_j0);
   w2c_j1 = w2c_l5;
   w2c_i1 = (u32)(w2c_j1);
-  w2c_j1 = i64_load(m, (u64)(w2c_i1) + 72u);
+  w2c_j1 = i64_load(m, (u64)(w2c_i1) + 104u);
   i64_store(m, (u64)(w2c_i0), w2c_j1);
   w2c_j0 = w2c_p0;
   w2c_j1 = 32ull;
@@ -28030,7 +27062,7 @@ static void w2c_f34(module *m, u64 w2c_p0, u32 w2c_p1, u64 w2c_p2, u64 w2c_p3, u
   w2c_i0 = (u32)(w2c_j0);
   w2c_j1 = w2c_l5;
   w2c_i1 = (u32)(w2c_j1);
-  w2c_j1 = i64_load(m, (u64)(w2c_i1) + 80u);
+  w2c_j1 = i64_load(m, (u64)(w2c_i1) + 112u);
   i64_store(m, (u64)(w2c_i0), w2c_j1);
   w2c_j0 = w2c_p0;
   w2c_j1 = 40ull;
@@ -28038,26 +27070,26 @@ static void w2c_f34(module *m, u64 w2c_p0, u32 w2c_p1, u64 w2c_p2, u64 w2c_p3, u
   w2c_i0 = (u32)(w2c_j0);
   w2c_j1 = w2c_l5;
   w2c_i1 = (u32)(w2c_j1);
-  w2c_j1 = i64_load(m, (u64)(w2c_i1) + 88u);
+  w2c_j1 = i64_load(m, (u64)(w2c_i1) + 120u);
   i64_store(m, (u64)(w2c_i0), w2c_j1);
   w2c_j0 = w2c_p0;
   w2c_j1 = 8ull;
   w2c_j0 += w2c_j1;
+  w2c_i0 = (u32)(w2c_j0);
+  w2c_i1 = w2c_l8;
+  w2c_j1 = (u64)(w2c_i1);
+  w2c_j2 = 255ull;
+  w2c_j1 &= w2c_j2;
+  i64_store(m, (u64)(w2c_i0), w2c_j1);
+  w2c_j0 = w2c_p0;
   w2c_i0 = (u32)(w2c_j0);
   w2c_i1 = w2c_l9;
   w2c_j1 = (u64)(w2c_i1);
   w2c_j2 = 255ull;
   w2c_j1 &= w2c_j2;
   i64_store(m, (u64)(w2c_i0), w2c_j1);
-  w2c_j0 = w2c_p0;
-  w2c_i0 = (u32)(w2c_j0);
-  w2c_i1 = w2c_l10;
-  w2c_j1 = (u64)(w2c_i1);
-  w2c_j2 = 255ull;
-  w2c_j1 &= w2c_j2;
-  i64_store(m, (u64)(w2c_i0), w2c_j1);
   w2c_j0 = w2c_l5;
-  w2c_j1 = 144ull;
+  w2c_j1 = 160ull;
   w2c_j0 += w2c_j1;
   m->w2c_g0 = w2c_j0;
   goto w2c_Bfunc;
@@ -28328,12 +27360,12 @@ static void w2c_f35(module *m, u64 w2c_p0, u64 w2c_p1, u64 w2c_p2) {
 }
 
 static void w2c_f36(module *m, u64 w2c_p0, u32 w2c_p1, u64 w2c_p2, u64 w2c_p3, u64 w2c_p4) {
-  u32 w2c_l14 = 0, w2c_l15 = 0;
+  u32 w2c_l14 = 0, w2c_l15 = 0, w2c_l16 = 0;
   u64 w2c_l5 = 0, w2c_l6 = 0, w2c_l7 = 0, w2c_l8 = 0, w2c_l9 = 0, w2c_l10 = 0, w2c_l11 = 0, w2c_l12 = 0, w2c_l13 = 0;
   u32 w2c_i0, w2c_i1, w2c_i2, w2c_i3, w2c_i4;
   u64 w2c_j0, w2c_j1, w2c_j2, w2c_j3, w2c_j4, w2c_j5, w2c_j6;
   w2c_j0 = m->w2c_g0;
-  w2c_j1 = 320ull;
+  w2c_j1 = 304ull;
   w2c_j0 -= w2c_j1;
   w2c_l5 = w2c_j0;
   m->w2c_g0 = w2c_j0;
@@ -28341,9 +27373,7 @@ static void w2c_f36(module *m, u64 w2c_p0, u32 w2c_p1, u64 w2c_p2, u64 w2c_p3, u
   w2c_l5 = w2c_j0;
   w2c_j1 = 16ull;
   w2c_i0 = (u64)((s64)w2c_j0 < (s64)w2c_j1);
-  if (w2c_i0) {goto w2c_B4;}
-  w2c_j0 = 0ull;
-  w2c_l6 = w2c_j0;
+  if (w2c_i0) {goto w2c_B5;}
   w2c_j0 = w2c_l5;
   w2c_i0 = (u32)(w2c_j0);
   w2c_j1 = 0ull;
@@ -28379,14 +27409,6 @@ static void w2c_f36(module *m, u64 w2c_p0, u32 w2c_p1, u64 w2c_p2, u64 w2c_p3, u
   w2c_j0 = w2c_l5;
   w2c_i0 = (u32)(w2c_j0);
   w2c_j1 = 0ull;
-  i64_store(m, (u64)(w2c_i0) + 312, w2c_j1);
-  w2c_j0 = w2c_l5;
-  w2c_i0 = (u32)(w2c_j0);
-  w2c_j1 = 0ull;
-  i64_store(m, (u64)(w2c_i0) + 304, w2c_j1);
-  w2c_j0 = w2c_l5;
-  w2c_i0 = (u32)(w2c_j0);
-  w2c_j1 = 0ull;
   i64_store(m, (u64)(w2c_i0) + 296, w2c_j1);
   w2c_j0 = w2c_l5;
   w2c_i0 = (u32)(w2c_j0);
@@ -28397,127 +27419,92 @@ static void w2c_f36(module *m, u64 w2c_p0, u32 w2c_p1, u64 w2c_p2, u64 w2c_p3, u
   w2c_j1 = 0ull;
   i64_store(m, (u64)(w2c_i0) + 280, w2c_j1);
   w2c_j0 = w2c_l5;
-  w2c_j1 = 280ull;
+  w2c_i0 = (u32)(w2c_j0);
+  w2c_j1 = 0ull;
+  i64_store(m, (u64)(w2c_i0) + 272, w2c_j1);
+  w2c_j0 = w2c_l5;
+  w2c_j1 = 272ull;
   w2c_j0 += w2c_j1;
   w2c_j1 = w2c_p3;
   w2c_j2 = w2c_p4;
   w2c_f33(m, w2c_j0, w2c_j1, w2c_j2);
-  w2c_j0 = w2c_p3;
-  w2c_l7 = w2c_j0;
-  w2c_j0 = w2c_p4;
-  w2c_l8 = w2c_j0;
   w2c_j0 = w2c_l5;
   w2c_i0 = (u32)(w2c_j0);
-  w2c_i0 = i32_load8_u(m, (u64)(w2c_i0) + 280u);
+  w2c_i0 = i32_load8_u(m, (u64)(w2c_i0) + 272u);
   w2c_i1 = 1u;
   w2c_i0 = w2c_i0 != w2c_i1;
-  if (w2c_i0) {goto w2c_B2;}
+  if (w2c_i0) {goto w2c_B6;}
   w2c_j0 = w2c_l5;
   w2c_i0 = (u32)(w2c_j0);
-  w2c_j0 = i64_load(m, (u64)(w2c_i0) + 312u);
-  w2c_l9 = w2c_j0;
+  w2c_j0 = i64_load(m, (u64)(w2c_i0) + 296u);
+  w2c_l6 = w2c_j0;
   w2c_j0 = w2c_l5;
   w2c_i0 = (u32)(w2c_j0);
-  w2c_j0 = i64_load(m, (u64)(w2c_i0) + 304u);
-  w2c_l10 = w2c_j0;
+  w2c_j0 = i64_load(m, (u64)(w2c_i0) + 288u);
+  w2c_l7 = w2c_j0;
   w2c_j0 = w2c_l5;
   w2c_j1 = 168ull;
   w2c_j0 += w2c_j1;
   w2c_i1 = 0u;
   w2c_j2 = w2c_l5;
   w2c_i2 = (u32)(w2c_j2);
-  w2c_i2 = i32_load(m, (u64)(w2c_i2) + 288u);
+  w2c_i2 = i32_load(m, (u64)(w2c_i2) + 280u);
   w2c_f38(m, w2c_j0, w2c_i1, w2c_i2);
   w2c_j0 = w2c_l5;
   w2c_i0 = (u32)(w2c_j0);
   w2c_i0 = i32_load8_u(m, (u64)(w2c_i0) + 168u);
   w2c_i1 = 1u;
   w2c_i0 = w2c_i0 != w2c_i1;
-  if (w2c_i0) {goto w2c_B1;}
-  w2c_j0 = 0ull;
-  w2c_l6 = w2c_j0;
-  w2c_L5:
+  if (w2c_i0) {goto w2c_B6;}
+  w2c_j0 = 1ull;
+  w2c_l8 = w2c_j0;
+  w2c_L8:
+    w2c_j0 = w2c_l8;
+    w2c_l9 = w2c_j0;
     w2c_j0 = w2c_l5;
-    w2c_i0 = (u32)(w2c_j0);
-    w2c_j1 = 0ull;
-    i64_store(m, (u64)(w2c_i0) + 312, w2c_j1);
-    w2c_j0 = w2c_l5;
-    w2c_i0 = (u32)(w2c_j0);
-    w2c_j1 = 0ull;
-    i64_store(m, (u64)(w2c_i0) + 304, w2c_j1);
-    w2c_j0 = w2c_l5;
-    w2c_i0 = (u32)(w2c_j0);
-    w2c_j1 = 0ull;
-    i64_store(m, (u64)(w2c_i0) + 296, w2c_j1);
-    w2c_j0 = w2c_l5;
-    w2c_i0 = (u32)(w2c_j0);
-    w2c_j1 = 0ull;
-    i64_store(m, (u64)(w2c_i0) + 288, w2c_j1);
-    w2c_j0 = w2c_l5;
-    w2c_i0 = (u32)(w2c_j0);
-    w2c_j1 = 0ull;
-    i64_store(m, (u64)(w2c_i0) + 280, w2c_j1);
-    w2c_j0 = w2c_l5;
-    w2c_j1 = 280ull;
+    w2c_j1 = 272ull;
     w2c_j0 += w2c_j1;
-    w2c_j1 = w2c_l10;
-    w2c_l7 = w2c_j1;
-    w2c_j2 = w2c_l9;
-    w2c_l8 = w2c_j2;
+    w2c_j1 = w2c_l7;
+    w2c_l10 = w2c_j1;
+    w2c_j2 = w2c_l6;
+    w2c_l11 = w2c_j2;
     w2c_f33(m, w2c_j0, w2c_j1, w2c_j2);
     w2c_j0 = w2c_l5;
     w2c_i0 = (u32)(w2c_j0);
-    w2c_i0 = i32_load8_u(m, (u64)(w2c_i0) + 280u);
+    w2c_i0 = i32_load8_u(m, (u64)(w2c_i0) + 272u);
     w2c_i1 = 1u;
     w2c_i0 = w2c_i0 != w2c_i1;
-    if (w2c_i0) {goto w2c_B3;}
+    if (w2c_i0) {goto w2c_B7;}
     w2c_j0 = w2c_l5;
     w2c_i0 = (u32)(w2c_j0);
-    w2c_j0 = i64_load(m, (u64)(w2c_i0) + 312u);
-    w2c_l9 = w2c_j0;
+    w2c_j0 = i64_load(m, (u64)(w2c_i0) + 296u);
+    w2c_l6 = w2c_j0;
     w2c_j0 = w2c_l5;
     w2c_i0 = (u32)(w2c_j0);
-    w2c_j0 = i64_load(m, (u64)(w2c_i0) + 304u);
-    w2c_l10 = w2c_j0;
+    w2c_j0 = i64_load(m, (u64)(w2c_i0) + 288u);
+    w2c_l7 = w2c_j0;
     w2c_j0 = w2c_l5;
     w2c_j1 = 160ull;
     w2c_j0 += w2c_j1;
     w2c_i1 = 0u;
     w2c_j2 = w2c_l5;
     w2c_i2 = (u32)(w2c_j2);
-    w2c_i2 = i32_load(m, (u64)(w2c_i2) + 288u);
+    w2c_i2 = i32_load(m, (u64)(w2c_i2) + 280u);
     w2c_f38(m, w2c_j0, w2c_i1, w2c_i2);
-    w2c_j0 = w2c_l6;
+    w2c_j0 = w2c_l9;
     w2c_j1 = 1ull;
     w2c_j0 += w2c_j1;
-    w2c_l6 = w2c_j0;
+    w2c_l8 = w2c_j0;
     w2c_j0 = w2c_l5;
     w2c_i0 = (u32)(w2c_j0);
     w2c_i0 = i32_load8_u(m, (u64)(w2c_i0) + 160u);
     w2c_i1 = 1u;
-    w2c_i0 = w2c_i0 != w2c_i1;
-    if (w2c_i0) {goto w2c_B2;}
-    goto w2c_L5;
-  UNREACHABLE;
-  w2c_B4:;
-  UNREACHABLE;
-  w2c_B3:;
-  w2c_j0 = w2c_l6;
-  w2c_j1 = 1ull;
-  w2c_j0 += w2c_j1;
-  w2c_l6 = w2c_j0;
-  w2c_B2:;
-  w2c_j0 = w2c_l6;
+    w2c_i0 = w2c_i0 == w2c_i1;
+    if (w2c_i0) {goto w2c_L8;}
+  w2c_B7:;
+  w2c_j0 = w2c_l9;
   w2c_i0 = !(w2c_j0);
-  if (w2c_i0) {goto w2c_B1;}
-  w2c_j0 = w2c_l5;
-  w2c_i0 = (u32)(w2c_j0);
-  w2c_j1 = 0ull;
-  i64_store(m, (u64)(w2c_i0) + 312, w2c_j1);
-  w2c_j0 = w2c_l5;
-  w2c_i0 = (u32)(w2c_j0);
-  w2c_j1 = 0ull;
-  i64_store(m, (u64)(w2c_i0) + 304, w2c_j1);
+  if (w2c_i0) {goto w2c_B6;}
   w2c_j0 = w2c_l5;
   w2c_i0 = (u32)(w2c_j0);
   w2c_j1 = 0ull;
@@ -28531,51 +27518,89 @@ static void w2c_f36(module *m, u64 w2c_p0, u32 w2c_p1, u64 w2c_p2, u64 w2c_p3, u
   w2c_j1 = 0ull;
   i64_store(m, (u64)(w2c_i0) + 280, w2c_j1);
   w2c_j0 = w2c_l5;
-  w2c_j1 = 280ull;
+  w2c_i0 = (u32)(w2c_j0);
+  w2c_j1 = 0ull;
+  i64_store(m, (u64)(w2c_i0) + 272, w2c_j1);
+  w2c_j0 = w2c_l5;
+  w2c_j1 = 272ull;
   w2c_j0 += w2c_j1;
   w2c_j1 = w2c_p3;
   w2c_j2 = w2c_p4;
   w2c_f33(m, w2c_j0, w2c_j1, w2c_j2);
   w2c_j0 = w2c_l5;
   w2c_i0 = (u32)(w2c_j0);
-  w2c_i0 = i32_load8_u(m, (u64)(w2c_i0) + 280u);
+  w2c_i0 = i32_load8_u(m, (u64)(w2c_i0) + 272u);
   w2c_i1 = 1u;
   w2c_i0 = w2c_i0 != w2c_i1;
-  if (w2c_i0) {goto w2c_B7;}
+  if (w2c_i0) {goto w2c_B10;}
   w2c_j0 = w2c_l5;
   w2c_j1 = 152ull;
   w2c_j0 += w2c_j1;
   w2c_i1 = 0u;
   w2c_j2 = w2c_l5;
   w2c_i2 = (u32)(w2c_j2);
-  w2c_i2 = i32_load(m, (u64)(w2c_i2) + 288u);
+  w2c_i2 = i32_load(m, (u64)(w2c_i2) + 280u);
   w2c_f38(m, w2c_j0, w2c_i1, w2c_i2);
   w2c_j0 = w2c_l5;
   w2c_i0 = (u32)(w2c_j0);
   w2c_i0 = i32_load8_u(m, (u64)(w2c_i0) + 152u);
   w2c_i1 = 1u;
   w2c_i0 = w2c_i0 != w2c_i1;
-  if (w2c_i0) {goto w2c_B7;}
-  w2c_j0 = w2c_l6;
+  if (w2c_i0) {goto w2c_B10;}
+  w2c_j0 = w2c_l9;
   w2c_j1 = 3ull;
   w2c_i0 = w2c_j0 > w2c_j1;
-  if (w2c_i0) {goto w2c_B7;}
+  if (w2c_i0) {goto w2c_B10;}
   w2c_j0 = w2c_l5;
   w2c_i0 = (u32)(w2c_j0);
   w2c_i0 = i32_load8_u(m, (u64)(w2c_i0) + 153u);
   w2c_i1 = 255u;
   w2c_i0 &= w2c_i1;
   w2c_i0 = !(w2c_i0);
-  if (w2c_i0) {goto w2c_B7;}
-  w2c_L9:
+  if (w2c_i0) {goto w2c_B10;}
+  w2c_j0 = w2c_l5;
+  w2c_i0 = (u32)(w2c_j0);
+  w2c_j1 = 0ull;
+  i64_store(m, (u64)(w2c_i0) + 264, w2c_j1);
+  w2c_j0 = w2c_l5;
+  w2c_i0 = (u32)(w2c_j0);
+  w2c_j1 = 0ull;
+  i64_store(m, (u64)(w2c_i0) + 256, w2c_j1);
+  w2c_j0 = w2c_l5;
+  w2c_i0 = (u32)(w2c_j0);
+  w2c_j1 = 0ull;
+  i64_store(m, (u64)(w2c_i0) + 248, w2c_j1);
+  w2c_j0 = w2c_l5;
+  w2c_i0 = (u32)(w2c_j0);
+  w2c_j1 = 0ull;
+  i64_store(m, (u64)(w2c_i0) + 240, w2c_j1);
+  w2c_j0 = w2c_l5;
+  w2c_j1 = 240ull;
+  w2c_j0 += w2c_j1;
+  w2c_j1 = w2c_l10;
+  w2c_j2 = w2c_l11;
+  w2c_f33(m, w2c_j0, w2c_j1, w2c_j2);
+  w2c_j0 = w2c_l5;
+  w2c_i0 = (u32)(w2c_j0);
+  w2c_i0 = i32_load8_u(m, (u64)(w2c_i0) + 240u);
+  w2c_i1 = 1u;
+  w2c_i0 = w2c_i0 != w2c_i1;
+  if (w2c_i0) {goto w2c_B11;}
+  w2c_j0 = w2c_l5;
+  w2c_i0 = (u32)(w2c_j0);
+  w2c_i0 = i32_load(m, (u64)(w2c_i0) + 248u);
+  w2c_i1 = 44u;
+  w2c_i0 = w2c_i0 != w2c_i1;
+  if (w2c_i0) {goto w2c_B11;}
+  w2c_L12:
     w2c_j0 = w2c_l5;
     w2c_i0 = (u32)(w2c_j0);
-    w2c_j1 = 0ull;
-    i64_store(m, (u64)(w2c_i0) + 312, w2c_j1);
+    w2c_j0 = i64_load(m, (u64)(w2c_i0) + 256u);
+    w2c_l6 = w2c_j0;
     w2c_j0 = w2c_l5;
     w2c_i0 = (u32)(w2c_j0);
-    w2c_j1 = 0ull;
-    i64_store(m, (u64)(w2c_i0) + 304, w2c_j1);
+    w2c_j0 = i64_load(m, (u64)(w2c_i0) + 264u);
+    w2c_l7 = w2c_j0;
     w2c_j0 = w2c_l5;
     w2c_i0 = (u32)(w2c_j0);
     w2c_j1 = 0ull;
@@ -28589,95 +27614,43 @@ static void w2c_f36(module *m, u64 w2c_p0, u32 w2c_p1, u64 w2c_p2, u64 w2c_p3, u
     w2c_j1 = 0ull;
     i64_store(m, (u64)(w2c_i0) + 280, w2c_j1);
     w2c_j0 = w2c_l5;
-    w2c_j1 = 280ull;
+    w2c_i0 = (u32)(w2c_j0);
+    w2c_j1 = 0ull;
+    i64_store(m, (u64)(w2c_i0) + 272, w2c_j1);
+    w2c_j0 = w2c_l5;
+    w2c_j1 = 272ull;
     w2c_j0 += w2c_j1;
-    w2c_j1 = w2c_l7;
-    w2c_l10 = w2c_j1;
-    w2c_j2 = w2c_l8;
-    w2c_l11 = w2c_j2;
+    w2c_j1 = w2c_l6;
+    w2c_j2 = w2c_l7;
     w2c_f33(m, w2c_j0, w2c_j1, w2c_j2);
     w2c_j0 = w2c_l5;
     w2c_i0 = (u32)(w2c_j0);
-    w2c_i0 = i32_load8_u(m, (u64)(w2c_i0) + 280u);
+    w2c_i0 = i32_load8_u(m, (u64)(w2c_i0) + 272u);
     w2c_i1 = 1u;
     w2c_i0 = w2c_i0 != w2c_i1;
-    if (w2c_i0) {goto w2c_B8;}
-    w2c_j0 = w2c_l5;
-    w2c_i0 = (u32)(w2c_j0);
-    w2c_i0 = i32_load(m, (u64)(w2c_i0) + 288u);
-    w2c_i1 = 44u;
-    w2c_i0 = w2c_i0 != w2c_i1;
-    if (w2c_i0) {goto w2c_B8;}
-    w2c_j0 = w2c_l5;
-    w2c_i0 = (u32)(w2c_j0);
-    w2c_j0 = i64_load(m, (u64)(w2c_i0) + 312u);
-    w2c_l6 = w2c_j0;
-    w2c_j0 = w2c_l5;
-    w2c_i0 = (u32)(w2c_j0);
-    w2c_j0 = i64_load(m, (u64)(w2c_i0) + 304u);
-    w2c_l9 = w2c_j0;
-    w2c_j0 = w2c_l5;
-    w2c_i0 = (u32)(w2c_j0);
-    w2c_j1 = 0ull;
-    i64_store(m, (u64)(w2c_i0) + 312, w2c_j1);
-    w2c_j0 = w2c_l5;
-    w2c_i0 = (u32)(w2c_j0);
-    w2c_j1 = 0ull;
-    i64_store(m, (u64)(w2c_i0) + 304, w2c_j1);
-    w2c_j0 = w2c_l5;
-    w2c_i0 = (u32)(w2c_j0);
-    w2c_j1 = 0ull;
-    i64_store(m, (u64)(w2c_i0) + 296, w2c_j1);
-    w2c_j0 = w2c_l5;
-    w2c_i0 = (u32)(w2c_j0);
-    w2c_j1 = 0ull;
-    i64_store(m, (u64)(w2c_i0) + 288, w2c_j1);
-    w2c_j0 = w2c_l5;
-    w2c_i0 = (u32)(w2c_j0);
-    w2c_j1 = 0ull;
-    i64_store(m, (u64)(w2c_i0) + 280, w2c_j1);
-    w2c_j0 = w2c_l5;
-    w2c_j1 = 280ull;
-    w2c_j0 += w2c_j1;
-    w2c_j1 = w2c_l9;
-    w2c_j2 = w2c_l6;
-    w2c_f33(m, w2c_j0, w2c_j1, w2c_j2);
-    w2c_j0 = w2c_l5;
-    w2c_i0 = (u32)(w2c_j0);
-    w2c_i0 = i32_load8_u(m, (u64)(w2c_i0) + 280u);
-    w2c_i1 = 1u;
-    w2c_i0 = w2c_i0 != w2c_i1;
-    if (w2c_i0) {goto w2c_B8;}
-    w2c_j0 = w2c_l5;
-    w2c_i0 = (u32)(w2c_j0);
-    w2c_j0 = i64_load(m, (u64)(w2c_i0) + 312u);
-    w2c_l6 = w2c_j0;
-    w2c_j0 = w2c_l5;
-    w2c_i0 = (u32)(w2c_j0);
-    w2c_j0 = i64_load(m, (u64)(w2c_i0) + 304u);
-    w2c_l9 = w2c_j0;
+    if (w2c_i0) {goto w2c_B11;}
     w2c_j0 = w2c_l5;
     w2c_j1 = 128ull;
     w2c_j0 += w2c_j1;
     w2c_i1 = 0u;
     w2c_j2 = w2c_l5;
     w2c_i2 = (u32)(w2c_j2);
-    w2c_i2 = i32_load(m, (u64)(w2c_i2) + 288u);
+    w2c_i2 = i32_load(m, (u64)(w2c_i2) + 280u);
     w2c_f38(m, w2c_j0, w2c_i1, w2c_i2);
     w2c_j0 = w2c_l5;
     w2c_i0 = (u32)(w2c_j0);
     w2c_i0 = i32_load8_u(m, (u64)(w2c_i0) + 128u);
     w2c_i1 = 1u;
     w2c_i0 = w2c_i0 != w2c_i1;
-    if (w2c_i0) {goto w2c_B8;}
+    if (w2c_i0) {goto w2c_B11;}
     w2c_j0 = w2c_l5;
     w2c_i0 = (u32)(w2c_j0);
-    w2c_j1 = 0ull;
-    i64_store(m, (u64)(w2c_i0) + 312, w2c_j1);
+    w2c_j0 = i64_load(m, (u64)(w2c_i0) + 296u);
+    w2c_l6 = w2c_j0;
     w2c_j0 = w2c_l5;
     w2c_i0 = (u32)(w2c_j0);
-    w2c_j1 = 0ull;
-    i64_store(m, (u64)(w2c_i0) + 304, w2c_j1);
+    w2c_j0 = i64_load(m, (u64)(w2c_i0) + 288u);
+    w2c_l7 = w2c_j0;
     w2c_j0 = w2c_l5;
     w2c_i0 = (u32)(w2c_j0);
     w2c_j1 = 0ull;
@@ -28691,47 +27664,43 @@ static void w2c_f36(module *m, u64 w2c_p0, u32 w2c_p1, u64 w2c_p2, u64 w2c_p3, u
     w2c_j1 = 0ull;
     i64_store(m, (u64)(w2c_i0) + 280, w2c_j1);
     w2c_j0 = w2c_l5;
-    w2c_j1 = 280ull;
+    w2c_i0 = (u32)(w2c_j0);
+    w2c_j1 = 0ull;
+    i64_store(m, (u64)(w2c_i0) + 272, w2c_j1);
+    w2c_j0 = w2c_l5;
+    w2c_j1 = 272ull;
     w2c_j0 += w2c_j1;
-    w2c_j1 = w2c_l9;
+    w2c_j1 = w2c_l7;
     w2c_j2 = w2c_l6;
     w2c_f33(m, w2c_j0, w2c_j1, w2c_j2);
     w2c_j0 = w2c_l5;
     w2c_i0 = (u32)(w2c_j0);
-    w2c_i0 = i32_load8_u(m, (u64)(w2c_i0) + 280u);
+    w2c_i0 = i32_load8_u(m, (u64)(w2c_i0) + 272u);
     w2c_i1 = 1u;
     w2c_i0 = w2c_i0 != w2c_i1;
-    if (w2c_i0) {goto w2c_B8;}
-    w2c_j0 = w2c_l5;
-    w2c_i0 = (u32)(w2c_j0);
-    w2c_j0 = i64_load(m, (u64)(w2c_i0) + 312u);
-    w2c_l6 = w2c_j0;
-    w2c_j0 = w2c_l5;
-    w2c_i0 = (u32)(w2c_j0);
-    w2c_j0 = i64_load(m, (u64)(w2c_i0) + 304u);
-    w2c_l9 = w2c_j0;
+    if (w2c_i0) {goto w2c_B11;}
     w2c_j0 = w2c_l5;
     w2c_j1 = 120ull;
     w2c_j0 += w2c_j1;
     w2c_i1 = 0u;
     w2c_j2 = w2c_l5;
     w2c_i2 = (u32)(w2c_j2);
-    w2c_i2 = i32_load(m, (u64)(w2c_i2) + 288u);
+    w2c_i2 = i32_load(m, (u64)(w2c_i2) + 280u);
     w2c_f38(m, w2c_j0, w2c_i1, w2c_i2);
     w2c_j0 = w2c_l5;
     w2c_i0 = (u32)(w2c_j0);
     w2c_i0 = i32_load8_u(m, (u64)(w2c_i0) + 120u);
     w2c_i1 = 1u;
     w2c_i0 = w2c_i0 != w2c_i1;
-    if (w2c_i0) {goto w2c_B8;}
+    if (w2c_i0) {goto w2c_B11;}
     w2c_j0 = w2c_l5;
     w2c_i0 = (u32)(w2c_j0);
-    w2c_j1 = 0ull;
-    i64_store(m, (u64)(w2c_i0) + 312, w2c_j1);
+    w2c_j0 = i64_load(m, (u64)(w2c_i0) + 296u);
+    w2c_l6 = w2c_j0;
     w2c_j0 = w2c_l5;
     w2c_i0 = (u32)(w2c_j0);
-    w2c_j1 = 0ull;
-    i64_store(m, (u64)(w2c_i0) + 304, w2c_j1);
+    w2c_j0 = i64_load(m, (u64)(w2c_i0) + 288u);
+    w2c_l7 = w2c_j0;
     w2c_j0 = w2c_l5;
     w2c_i0 = (u32)(w2c_j0);
     w2c_j1 = 0ull;
@@ -28745,40 +27714,78 @@ static void w2c_f36(module *m, u64 w2c_p0, u32 w2c_p1, u64 w2c_p2, u64 w2c_p3, u
     w2c_j1 = 0ull;
     i64_store(m, (u64)(w2c_i0) + 280, w2c_j1);
     w2c_j0 = w2c_l5;
-    w2c_j1 = 280ull;
+    w2c_i0 = (u32)(w2c_j0);
+    w2c_j1 = 0ull;
+    i64_store(m, (u64)(w2c_i0) + 272, w2c_j1);
+    w2c_j0 = w2c_l5;
+    w2c_j1 = 272ull;
     w2c_j0 += w2c_j1;
-    w2c_j1 = w2c_l9;
+    w2c_j1 = w2c_l7;
     w2c_j2 = w2c_l6;
     w2c_f33(m, w2c_j0, w2c_j1, w2c_j2);
     w2c_j0 = w2c_l5;
     w2c_i0 = (u32)(w2c_j0);
-    w2c_i0 = i32_load8_u(m, (u64)(w2c_i0) + 280u);
+    w2c_i0 = i32_load8_u(m, (u64)(w2c_i0) + 272u);
     w2c_i1 = 1u;
     w2c_i0 = w2c_i0 != w2c_i1;
-    if (w2c_i0) {goto w2c_B8;}
-    w2c_j0 = w2c_l5;
-    w2c_i0 = (u32)(w2c_j0);
-    w2c_j0 = i64_load(m, (u64)(w2c_i0) + 312u);
-    w2c_l8 = w2c_j0;
-    w2c_j0 = w2c_l5;
-    w2c_i0 = (u32)(w2c_j0);
-    w2c_j0 = i64_load(m, (u64)(w2c_i0) + 304u);
-    w2c_l7 = w2c_j0;
+    if (w2c_i0) {goto w2c_B11;}
     w2c_j0 = w2c_l5;
     w2c_j1 = 112ull;
     w2c_j0 += w2c_j1;
     w2c_i1 = 0u;
     w2c_j2 = w2c_l5;
     w2c_i2 = (u32)(w2c_j2);
-    w2c_i2 = i32_load(m, (u64)(w2c_i2) + 288u);
+    w2c_i2 = i32_load(m, (u64)(w2c_i2) + 280u);
     w2c_f38(m, w2c_j0, w2c_i1, w2c_i2);
     w2c_j0 = w2c_l5;
     w2c_i0 = (u32)(w2c_j0);
     w2c_i0 = i32_load8_u(m, (u64)(w2c_i0) + 112u);
     w2c_i1 = 1u;
+    w2c_i0 = w2c_i0 != w2c_i1;
+    if (w2c_i0) {goto w2c_B11;}
+    w2c_j0 = w2c_l5;
+    w2c_i0 = (u32)(w2c_j0);
+    w2c_j0 = i64_load(m, (u64)(w2c_i0) + 296u);
+    w2c_l11 = w2c_j0;
+    w2c_j0 = w2c_l5;
+    w2c_i0 = (u32)(w2c_j0);
+    w2c_j0 = i64_load(m, (u64)(w2c_i0) + 288u);
+    w2c_l10 = w2c_j0;
+    w2c_j0 = w2c_l5;
+    w2c_i0 = (u32)(w2c_j0);
+    w2c_j1 = 0ull;
+    i64_store(m, (u64)(w2c_i0) + 264, w2c_j1);
+    w2c_j0 = w2c_l5;
+    w2c_i0 = (u32)(w2c_j0);
+    w2c_j1 = 0ull;
+    i64_store(m, (u64)(w2c_i0) + 256, w2c_j1);
+    w2c_j0 = w2c_l5;
+    w2c_i0 = (u32)(w2c_j0);
+    w2c_j1 = 0ull;
+    i64_store(m, (u64)(w2c_i0) + 248, w2c_j1);
+    w2c_j0 = w2c_l5;
+    w2c_i0 = (u32)(w2c_j0);
+    w2c_j1 = 0ull;
+    i64_store(m, (u64)(w2c_i0) + 240, w2c_j1);
+    w2c_j0 = w2c_l5;
+    w2c_j1 = 240ull;
+    w2c_j0 += w2c_j1;
+    w2c_j1 = w2c_l10;
+    w2c_j2 = w2c_l11;
+    w2c_f33(m, w2c_j0, w2c_j1, w2c_j2);
+    w2c_j0 = w2c_l5;
+    w2c_i0 = (u32)(w2c_j0);
+    w2c_i0 = i32_load8_u(m, (u64)(w2c_i0) + 240u);
+    w2c_i1 = 1u;
+    w2c_i0 = w2c_i0 != w2c_i1;
+    if (w2c_i0) {goto w2c_B11;}
+    w2c_j0 = w2c_l5;
+    w2c_i0 = (u32)(w2c_j0);
+    w2c_i0 = i32_load(m, (u64)(w2c_i0) + 248u);
+    w2c_i1 = 44u;
     w2c_i0 = w2c_i0 == w2c_i1;
-    if (w2c_i0) {goto w2c_L9;}
-  w2c_B8:;
+    if (w2c_i0) {goto w2c_L12;}
+  w2c_B11:;
   w2c_j0 = w2c_l5;
   w2c_j1 = 96ull;
   w2c_j0 += w2c_j1;
@@ -28793,13 +27800,13 @@ static void w2c_f36(module *m, u64 w2c_p0, u32 w2c_p1, u64 w2c_p2, u64 w2c_p3, u
   w2c_i0 = (u32)(w2c_j0);
   w2c_i0 = i32_load8_u(m, (u64)(w2c_i0) + 96u);
   w2c_l14 = w2c_i0;
-  goto w2c_B6;
-  w2c_B7:;
+  goto w2c_B9;
+  w2c_B10:;
   w2c_j0 = w2c_l5;
   w2c_j1 = 136ull;
   w2c_j0 += w2c_j1;
-  w2c_j1 = w2c_l7;
-  w2c_j2 = w2c_l8;
+  w2c_j1 = w2c_l10;
+  w2c_j2 = w2c_l11;
   w2c_f39(m, w2c_j0, w2c_j1, w2c_j2);
   w2c_j0 = w2c_l5;
   w2c_i0 = (u32)(w2c_j0);
@@ -28809,13 +27816,13 @@ static void w2c_f36(module *m, u64 w2c_p0, u32 w2c_p1, u64 w2c_p2, u64 w2c_p3, u
   w2c_i0 = (u32)(w2c_j0);
   w2c_i0 = i32_load8_u(m, (u64)(w2c_i0) + 136u);
   w2c_l14 = w2c_i0;
-  w2c_B6:;
+  w2c_B9:;
   w2c_i0 = w2c_l14;
   w2c_i1 = 255u;
   w2c_i0 &= w2c_i1;
   w2c_i1 = 1u;
   w2c_i0 = w2c_i0 != w2c_i1;
-  if (w2c_i0) {goto w2c_B1;}
+  if (w2c_i0) {goto w2c_B6;}
   w2c_j0 = w2c_l5;
   w2c_j1 = 208ull;
   w2c_j0 += w2c_j1;
@@ -28831,47 +27838,47 @@ static void w2c_f36(module *m, u64 w2c_p0, u32 w2c_p1, u64 w2c_p2, u64 w2c_p3, u
   w2c_i0 = i32_load8_u(m, (u64)(w2c_i0) + 208u);
   w2c_i1 = 1u;
   w2c_i0 = w2c_i0 == w2c_i1;
-  if (w2c_i0) {goto w2c_B11;}
+  if (w2c_i0) {goto w2c_B14;}
   w2c_j0 = 2ull;
-  w2c_l9 = w2c_j0;
+  w2c_l7 = w2c_j0;
   w2c_j0 = 1ull;
-  w2c_l10 = w2c_j0;
+  w2c_l9 = w2c_j0;
+  w2c_j0 = 0ull;
+  w2c_l8 = w2c_j0;
   w2c_j0 = 0ull;
   w2c_p3 = w2c_j0;
   w2c_j0 = 0ull;
-  w2c_p4 = w2c_j0;
-  w2c_j0 = 0ull;
   w2c_l6 = w2c_j0;
-  goto w2c_B10;
-  w2c_B11:;
+  goto w2c_B13;
+  w2c_B14:;
   w2c_j0 = 0ull;
-  w2c_l10 = w2c_j0;
+  w2c_l9 = w2c_j0;
   w2c_j0 = w2c_l5;
   w2c_i0 = (u32)(w2c_j0);
   w2c_j0 = i64_load(m, (u64)(w2c_i0) + 232u);
-  w2c_p4 = w2c_j0;
+  w2c_p3 = w2c_j0;
   w2c_j0 = w2c_l5;
   w2c_i0 = (u32)(w2c_j0);
   w2c_j0 = i64_load(m, (u64)(w2c_i0) + 224u);
-  w2c_p3 = w2c_j0;
+  w2c_l8 = w2c_j0;
   w2c_j0 = 0ull;
-  w2c_l9 = w2c_j0;
-  w2c_B10:;
+  w2c_l7 = w2c_j0;
+  w2c_B13:;
   w2c_j0 = w2c_p0;
   w2c_i0 = (u32)(w2c_j0);
-  w2c_j1 = w2c_l10;
+  w2c_j1 = w2c_l9;
   i64_store(m, (u64)(w2c_i0), w2c_j1);
   w2c_j0 = w2c_p0;
   w2c_j1 = 24ull;
   w2c_j0 += w2c_j1;
   w2c_i0 = (u32)(w2c_j0);
-  w2c_j1 = w2c_p4;
+  w2c_j1 = w2c_p3;
   i64_store(m, (u64)(w2c_i0), w2c_j1);
   w2c_j0 = w2c_p0;
   w2c_j1 = 16ull;
   w2c_j0 += w2c_j1;
   w2c_i0 = (u32)(w2c_j0);
-  w2c_j1 = w2c_p3;
+  w2c_j1 = w2c_l8;
   i64_store(m, (u64)(w2c_i0), w2c_j1);
   w2c_j0 = w2c_p0;
   w2c_j1 = 40ull;
@@ -28889,535 +27896,10 @@ static void w2c_f36(module *m, u64 w2c_p0, u32 w2c_p1, u64 w2c_p2, u64 w2c_p3, u
   w2c_j1 = 8ull;
   w2c_j0 += w2c_j1;
   w2c_i0 = (u32)(w2c_j0);
-  w2c_j1 = w2c_l9;
+  w2c_j1 = w2c_l7;
   i64_store(m, (u64)(w2c_i0), w2c_j1);
   goto w2c_B0;
-  w2c_B1:;
-  w2c_j0 = w2c_p3;
-  w2c_l6 = w2c_j0;
-  w2c_j0 = w2c_p4;
-  w2c_l9 = w2c_j0;
-  w2c_L21:
-    w2c_j0 = w2c_l5;
-    w2c_i0 = (u32)(w2c_j0);
-    w2c_j1 = 0ull;
-    i64_store(m, (u64)(w2c_i0) + 312, w2c_j1);
-    w2c_j0 = w2c_l5;
-    w2c_i0 = (u32)(w2c_j0);
-    w2c_j1 = 0ull;
-    i64_store(m, (u64)(w2c_i0) + 304, w2c_j1);
-    w2c_j0 = w2c_l5;
-    w2c_i0 = (u32)(w2c_j0);
-    w2c_j1 = 0ull;
-    i64_store(m, (u64)(w2c_i0) + 296, w2c_j1);
-    w2c_j0 = w2c_l5;
-    w2c_i0 = (u32)(w2c_j0);
-    w2c_j1 = 0ull;
-    i64_store(m, (u64)(w2c_i0) + 288, w2c_j1);
-    w2c_j0 = w2c_l5;
-    w2c_i0 = (u32)(w2c_j0);
-    w2c_j1 = 0ull;
-    i64_store(m, (u64)(w2c_i0) + 280, w2c_j1);
-    w2c_j0 = w2c_l5;
-    w2c_j1 = 280ull;
-    w2c_j0 += w2c_j1;
-    w2c_j1 = w2c_l6;
-    w2c_j2 = w2c_l9;
-    w2c_l10 = w2c_j2;
-    w2c_f33(m, w2c_j0, w2c_j1, w2c_j2);
-    w2c_j0 = w2c_l5;
-    w2c_i0 = (u32)(w2c_j0);
-    w2c_i0 = i32_load8_u(m, (u64)(w2c_i0) + 280u);
-    w2c_i1 = 1u;
-    w2c_i0 = w2c_i0 != w2c_i1;
-    if (w2c_i0) {goto w2c_B20;}
-    w2c_j0 = w2c_l5;
-    w2c_i0 = (u32)(w2c_j0);
-    w2c_j0 = i64_load(m, (u64)(w2c_i0) + 312u);
-    w2c_l9 = w2c_j0;
-    w2c_j0 = w2c_l5;
-    w2c_i0 = (u32)(w2c_j0);
-    w2c_j0 = i64_load(m, (u64)(w2c_i0) + 304u);
-    w2c_l6 = w2c_j0;
-    w2c_j0 = w2c_l5;
-    w2c_i0 = (u32)(w2c_j0);
-    w2c_i0 = i32_load(m, (u64)(w2c_i0) + 288u);
-    w2c_l14 = w2c_i0;
-    w2c_i1 = 40670u;
-    w2c_i0 = w2c_i0 == w2c_i1;
-    if (w2c_i0) {goto w2c_B22;}
-    w2c_i0 = w2c_l14;
-    w2c_i1 = 28857u;
-    w2c_i0 = w2c_i0 != w2c_i1;
-    if (w2c_i0) {goto w2c_L21;}
-    w2c_B22:;
-  w2c_j0 = w2c_l5;
-  w2c_i0 = (u32)(w2c_j0);
-  w2c_j1 = 0ull;
-  i64_store(m, (u64)(w2c_i0) + 312, w2c_j1);
-  w2c_j0 = w2c_l5;
-  w2c_i0 = (u32)(w2c_j0);
-  w2c_j1 = 0ull;
-  i64_store(m, (u64)(w2c_i0) + 304, w2c_j1);
-  w2c_j0 = w2c_l5;
-  w2c_i0 = (u32)(w2c_j0);
-  w2c_j1 = 0ull;
-  i64_store(m, (u64)(w2c_i0) + 296, w2c_j1);
-  w2c_j0 = w2c_l5;
-  w2c_i0 = (u32)(w2c_j0);
-  w2c_j1 = 0ull;
-  i64_store(m, (u64)(w2c_i0) + 288, w2c_j1);
-  w2c_j0 = w2c_l5;
-  w2c_i0 = (u32)(w2c_j0);
-  w2c_j1 = 0ull;
-  i64_store(m, (u64)(w2c_i0) + 280, w2c_j1);
-  w2c_j0 = w2c_l5;
-  w2c_j1 = 280ull;
-  w2c_j0 += w2c_j1;
-  w2c_j1 = w2c_p3;
-  w2c_j2 = w2c_p4;
-  w2c_j3 = w2c_l10;
-  w2c_j2 -= w2c_j3;
-  w2c_l8 = w2c_j2;
-  w2c_f33(m, w2c_j0, w2c_j1, w2c_j2);
-  w2c_j0 = w2c_l5;
-  w2c_i0 = (u32)(w2c_j0);
-  w2c_i0 = i32_load8_u(m, (u64)(w2c_i0) + 280u);
-  w2c_i1 = 1u;
-  w2c_i0 = w2c_i0 != w2c_i1;
-  if (w2c_i0) {goto w2c_B20;}
-  w2c_j0 = w2c_l5;
-  w2c_j1 = 80ull;
-  w2c_j0 += w2c_j1;
-  w2c_i1 = 1u;
-  w2c_j2 = w2c_l6;
-  w2c_j3 = w2c_l9;
-  w2c_f41(m, w2c_j0, w2c_i1, w2c_j2, w2c_j3);
-  w2c_j0 = w2c_l5;
-  w2c_i0 = (u32)(w2c_j0);
-  w2c_i0 = i32_load8_u(m, (u64)(w2c_i0) + 80u);
-  w2c_l14 = w2c_i0;
-  w2c_i1 = 1u;
-  w2c_i0 = w2c_i0 != w2c_i1;
-  if (w2c_i0) {goto w2c_B20;}
-  w2c_j0 = w2c_l5;
-  w2c_i0 = (u32)(w2c_j0);
-  w2c_j0 = i64_load(m, (u64)(w2c_i0) + 88u);
-  w2c_l12 = w2c_j0;
-  w2c_j0 = w2c_l5;
-  w2c_i0 = (u32)(w2c_j0);
-  w2c_j1 = 0ull;
-  i64_store(m, (u64)(w2c_i0) + 312, w2c_j1);
-  w2c_j0 = w2c_l5;
-  w2c_i0 = (u32)(w2c_j0);
-  w2c_j1 = 0ull;
-  i64_store(m, (u64)(w2c_i0) + 304, w2c_j1);
-  w2c_j0 = w2c_l5;
-  w2c_i0 = (u32)(w2c_j0);
-  w2c_j1 = 0ull;
-  i64_store(m, (u64)(w2c_i0) + 296, w2c_j1);
-  w2c_j0 = w2c_l5;
-  w2c_i0 = (u32)(w2c_j0);
-  w2c_j1 = 0ull;
-  i64_store(m, (u64)(w2c_i0) + 288, w2c_j1);
-  w2c_j0 = w2c_l5;
-  w2c_i0 = (u32)(w2c_j0);
-  w2c_j1 = 0ull;
-  i64_store(m, (u64)(w2c_i0) + 280, w2c_j1);
-  w2c_j0 = w2c_l5;
-  w2c_j1 = 280ull;
-  w2c_j0 += w2c_j1;
-  w2c_j1 = w2c_l6;
-  w2c_j2 = w2c_l9;
-  w2c_f33(m, w2c_j0, w2c_j1, w2c_j2);
-  w2c_j0 = w2c_l6;
-  w2c_l10 = w2c_j0;
-  w2c_j0 = w2c_l9;
-  w2c_l7 = w2c_j0;
-  w2c_j0 = w2c_l5;
-  w2c_i0 = (u32)(w2c_j0);
-  w2c_i0 = i32_load8_u(m, (u64)(w2c_i0) + 280u);
-  w2c_i1 = 1u;
-  w2c_i0 = w2c_i0 != w2c_i1;
-  if (w2c_i0) {goto w2c_B23;}
-  w2c_j0 = w2c_l6;
-  w2c_l10 = w2c_j0;
-  w2c_j0 = w2c_l9;
-  w2c_l7 = w2c_j0;
-  w2c_j0 = w2c_l5;
-  w2c_i0 = (u32)(w2c_j0);
-  w2c_i0 = i32_load(m, (u64)(w2c_i0) + 288u);
-  w2c_l15 = w2c_i0;
-  w2c_i1 = 4294967248u;
-  w2c_i0 += w2c_i1;
-  w2c_i1 = 10u;
-  w2c_i0 = w2c_i0 < w2c_i1;
-  if (w2c_i0) {goto w2c_B23;}
-  w2c_j0 = w2c_l5;
-  w2c_i0 = (u32)(w2c_j0);
-  w2c_j0 = i64_load(m, (u64)(w2c_i0) + 312u);
-  w2c_l11 = w2c_j0;
-  w2c_j0 = w2c_l5;
-  w2c_i0 = (u32)(w2c_j0);
-  w2c_j0 = i64_load(m, (u64)(w2c_i0) + 304u);
-  w2c_l13 = w2c_j0;
-  w2c_j0 = w2c_l5;
-  w2c_j1 = 72ull;
-  w2c_j0 += w2c_j1;
-  w2c_i1 = w2c_l15;
-  w2c_f18(m, w2c_j0, w2c_i1);
-  w2c_j0 = w2c_l6;
-  w2c_l10 = w2c_j0;
-  w2c_j0 = w2c_l9;
-  w2c_l7 = w2c_j0;
-  w2c_j0 = w2c_l5;
-  w2c_i0 = (u32)(w2c_j0);
-  w2c_i0 = i32_load8_u(m, (u64)(w2c_i0) + 72u);
-  w2c_i1 = 1u;
-  w2c_i0 = w2c_i0 != w2c_i1;
-  if (w2c_i0) {goto w2c_B23;}
-  w2c_L24:
-    w2c_j0 = w2c_l5;
-    w2c_i0 = (u32)(w2c_j0);
-    w2c_j1 = 0ull;
-    i64_store(m, (u64)(w2c_i0) + 312, w2c_j1);
-    w2c_j0 = w2c_l5;
-    w2c_i0 = (u32)(w2c_j0);
-    w2c_j1 = 0ull;
-    i64_store(m, (u64)(w2c_i0) + 304, w2c_j1);
-    w2c_j0 = w2c_l5;
-    w2c_i0 = (u32)(w2c_j0);
-    w2c_j1 = 0ull;
-    i64_store(m, (u64)(w2c_i0) + 296, w2c_j1);
-    w2c_j0 = w2c_l5;
-    w2c_i0 = (u32)(w2c_j0);
-    w2c_j1 = 0ull;
-    i64_store(m, (u64)(w2c_i0) + 288, w2c_j1);
-    w2c_j0 = w2c_l5;
-    w2c_i0 = (u32)(w2c_j0);
-    w2c_j1 = 0ull;
-    i64_store(m, (u64)(w2c_i0) + 280, w2c_j1);
-    w2c_j0 = w2c_l5;
-    w2c_j1 = 280ull;
-    w2c_j0 += w2c_j1;
-    w2c_j1 = w2c_l13;
-    w2c_l10 = w2c_j1;
-    w2c_j2 = w2c_l11;
-    w2c_l7 = w2c_j2;
-    w2c_f33(m, w2c_j0, w2c_j1, w2c_j2);
-    w2c_j0 = w2c_l5;
-    w2c_i0 = (u32)(w2c_j0);
-    w2c_i0 = i32_load8_u(m, (u64)(w2c_i0) + 280u);
-    w2c_i1 = 1u;
-    w2c_i0 = w2c_i0 != w2c_i1;
-    if (w2c_i0) {goto w2c_B23;}
-    w2c_j0 = w2c_l5;
-    w2c_i0 = (u32)(w2c_j0);
-    w2c_i0 = i32_load(m, (u64)(w2c_i0) + 288u);
-    w2c_l15 = w2c_i0;
-    w2c_i1 = 4294967248u;
-    w2c_i0 += w2c_i1;
-    w2c_i1 = 10u;
-    w2c_i0 = w2c_i0 < w2c_i1;
-    if (w2c_i0) {goto w2c_B23;}
-    w2c_j0 = w2c_l5;
-    w2c_i0 = (u32)(w2c_j0);
-    w2c_j0 = i64_load(m, (u64)(w2c_i0) + 312u);
-    w2c_l11 = w2c_j0;
-    w2c_j0 = w2c_l5;
-    w2c_i0 = (u32)(w2c_j0);
-    w2c_j0 = i64_load(m, (u64)(w2c_i0) + 304u);
-    w2c_l13 = w2c_j0;
-    w2c_j0 = w2c_l5;
-    w2c_j1 = 64ull;
-    w2c_j0 += w2c_j1;
-    w2c_i1 = w2c_l15;
-    w2c_f18(m, w2c_j0, w2c_i1);
-    w2c_j0 = w2c_l5;
-    w2c_i0 = (u32)(w2c_j0);
-    w2c_i0 = i32_load8_u(m, (u64)(w2c_i0) + 64u);
-    w2c_i1 = 1u;
-    w2c_i0 = w2c_i0 == w2c_i1;
-    if (w2c_i0) {goto w2c_L24;}
-  w2c_B23:;
-  w2c_j0 = w2c_l5;
-  w2c_i0 = (u32)(w2c_j0);
-  w2c_j1 = 0ull;
-  i64_store(m, (u64)(w2c_i0) + 304, w2c_j1);
-  w2c_j0 = w2c_l5;
-  w2c_i0 = (u32)(w2c_j0);
-  w2c_j1 = 0ull;
-  i64_store(m, (u64)(w2c_i0) + 296, w2c_j1);
-  w2c_j0 = w2c_l5;
-  w2c_i0 = (u32)(w2c_j0);
-  w2c_j1 = 0ull;
-  i64_store(m, (u64)(w2c_i0) + 288, w2c_j1);
-  w2c_j0 = w2c_l5;
-  w2c_i0 = (u32)(w2c_j0);
-  w2c_j1 = 0ull;
-  i64_store(m, (u64)(w2c_i0) + 280, w2c_j1);
-  w2c_j0 = w2c_l5;
-  w2c_j1 = 280ull;
-  w2c_j0 += w2c_j1;
-  w2c_j1 = w2c_p3;
-  w2c_j2 = w2c_l8;
-  w2c_f35(m, w2c_j0, w2c_j1, w2c_j2);
-  w2c_j0 = w2c_l5;
-  w2c_i0 = (u32)(w2c_j0);
-  w2c_i0 = i32_load8_u(m, (u64)(w2c_i0) + 280u);
-  w2c_i1 = 1u;
-  w2c_i0 = w2c_i0 != w2c_i1;
-  if (w2c_i0) {goto w2c_B25;}
-  w2c_j0 = w2c_l5;
-  w2c_i0 = (u32)(w2c_j0);
-  w2c_i0 = i32_load(m, (u64)(w2c_i0) + 288u);
-  w2c_l15 = w2c_i0;
-  w2c_j0 = w2c_l5;
-  w2c_i0 = (u32)(w2c_j0);
-  w2c_j0 = i64_load(m, (u64)(w2c_i0) + 304u);
-  w2c_l11 = w2c_j0;
-  w2c_j0 = w2c_l5;
-  w2c_i0 = (u32)(w2c_j0);
-  w2c_j0 = i64_load(m, (u64)(w2c_i0) + 296u);
-  w2c_l13 = w2c_j0;
-  w2c_j0 = w2c_l5;
-  w2c_i0 = (u32)(w2c_j0);
-  w2c_j1 = 0ull;
-  i64_store(m, (u64)(w2c_i0) + 304, w2c_j1);
-  w2c_j0 = w2c_l5;
-  w2c_i0 = (u32)(w2c_j0);
-  w2c_j1 = 0ull;
-  i64_store(m, (u64)(w2c_i0) + 296, w2c_j1);
-  w2c_j0 = w2c_l5;
-  w2c_i0 = (u32)(w2c_j0);
-  w2c_j1 = 0ull;
-  i64_store(m, (u64)(w2c_i0) + 288, w2c_j1);
-  w2c_j0 = w2c_l5;
-  w2c_i0 = (u32)(w2c_j0);
-  w2c_j1 = 0ull;
-  i64_store(m, (u64)(w2c_i0) + 280, w2c_j1);
-  w2c_j0 = w2c_l5;
-  w2c_j1 = 280ull;
-  w2c_j0 += w2c_j1;
-  w2c_j1 = w2c_l13;
-  w2c_j2 = w2c_l11;
-  w2c_f35(m, w2c_j0, w2c_j1, w2c_j2);
-  w2c_j0 = w2c_l5;
-  w2c_i0 = (u32)(w2c_j0);
-  w2c_i0 = i32_load8_u(m, (u64)(w2c_i0) + 280u);
-  w2c_i1 = 1u;
-  w2c_i0 = w2c_i0 != w2c_i1;
-  if (w2c_i0) {goto w2c_B25;}
-  w2c_j0 = w2c_l5;
-  w2c_j1 = 56ull;
-  w2c_j0 += w2c_j1;
-  w2c_j1 = w2c_l5;
-  w2c_i1 = (u32)(w2c_j1);
-  w2c_i1 = i32_load(m, (u64)(w2c_i1) + 288u);
-  w2c_f19(m, w2c_j0, w2c_i1);
-  w2c_j0 = w2c_l5;
-  w2c_i0 = (u32)(w2c_j0);
-  w2c_i0 = i32_load8_u(m, (u64)(w2c_i0) + 56u);
-  w2c_i1 = 1u;
-  w2c_i0 = w2c_i0 != w2c_i1;
-  if (w2c_i0) {goto w2c_B25;}
-  w2c_j0 = w2c_l5;
-  w2c_i0 = (u32)(w2c_j0);
-  w2c_i0 = i32_load8_u(m, (u64)(w2c_i0) + 57u);
-  w2c_i1 = 255u;
-  w2c_i0 &= w2c_i1;
-  w2c_i1 = 2u;
-  w2c_i0 = w2c_i0 < w2c_i1;
-  if (w2c_i0) {goto w2c_B25;}
-  w2c_j0 = w2c_l5;
-  w2c_j1 = 48ull;
-  w2c_j0 += w2c_j1;
-  w2c_i1 = w2c_l15;
-  w2c_f18(m, w2c_j0, w2c_i1);
-  w2c_j0 = w2c_l5;
-  w2c_i0 = (u32)(w2c_j0);
-  w2c_i0 = i32_load8_u(m, (u64)(w2c_i0) + 48u);
-  w2c_i1 = 1u;
-  w2c_i0 = w2c_i0 == w2c_i1;
-  if (w2c_i0) {goto w2c_B20;}
-  w2c_B25:;
-  w2c_j0 = w2c_l5;
-  w2c_i0 = (u32)(w2c_j0);
-  w2c_j1 = 0ull;
-  i64_store(m, (u64)(w2c_i0) + 312, w2c_j1);
-  w2c_j0 = w2c_l5;
-  w2c_i0 = (u32)(w2c_j0);
-  w2c_j1 = 0ull;
-  i64_store(m, (u64)(w2c_i0) + 304, w2c_j1);
-  w2c_j0 = w2c_l5;
-  w2c_i0 = (u32)(w2c_j0);
-  w2c_j1 = 0ull;
-  i64_store(m, (u64)(w2c_i0) + 296, w2c_j1);
-  w2c_j0 = w2c_l5;
-  w2c_i0 = (u32)(w2c_j0);
-  w2c_j1 = 0ull;
-  i64_store(m, (u64)(w2c_i0) + 288, w2c_j1);
-  w2c_j0 = w2c_l5;
-  w2c_i0 = (u32)(w2c_j0);
-  w2c_j1 = 0ull;
-  i64_store(m, (u64)(w2c_i0) + 280, w2c_j1);
-  w2c_j0 = w2c_l5;
-  w2c_j1 = 280ull;
-  w2c_j0 += w2c_j1;
-  w2c_j1 = w2c_l10;
-  w2c_j2 = w2c_l7;
-  w2c_f33(m, w2c_j0, w2c_j1, w2c_j2);
-  w2c_j0 = w2c_l5;
-  w2c_i0 = (u32)(w2c_j0);
-  w2c_i0 = i32_load8_u(m, (u64)(w2c_i0) + 280u);
-  w2c_i1 = 1u;
-  w2c_i0 = w2c_i0 != w2c_i1;
-  if (w2c_i0) {goto w2c_B19;}
-  w2c_j0 = w2c_l5;
-  w2c_j1 = 40ull;
-  w2c_j0 += w2c_j1;
-  w2c_j1 = w2c_l5;
-  w2c_i1 = (u32)(w2c_j1);
-  w2c_i1 = i32_load(m, (u64)(w2c_i1) + 288u);
-  w2c_f19(m, w2c_j0, w2c_i1);
-  w2c_j0 = w2c_l5;
-  w2c_i0 = (u32)(w2c_j0);
-  w2c_i0 = i32_load8_u(m, (u64)(w2c_i0) + 40u);
-  w2c_i1 = 1u;
-  w2c_i0 &= w2c_i1;
-  w2c_i0 = !(w2c_i0);
-  if (w2c_i0) {goto w2c_B19;}
-  w2c_j0 = w2c_l5;
-  w2c_i0 = (u32)(w2c_j0);
-  w2c_i0 = i32_load8_u(m, (u64)(w2c_i0) + 41u);
-  w2c_l15 = w2c_i0;
-  w2c_j0 = w2c_p3;
-  w2c_l10 = w2c_j0;
-  w2c_j0 = w2c_l8;
-  w2c_l7 = w2c_j0;
-  w2c_L26:
-    w2c_j0 = w2c_l5;
-    w2c_i0 = (u32)(w2c_j0);
-    w2c_j1 = 0ull;
-    i64_store(m, (u64)(w2c_i0) + 312, w2c_j1);
-    w2c_j0 = w2c_l5;
-    w2c_i0 = (u32)(w2c_j0);
-    w2c_j1 = 0ull;
-    i64_store(m, (u64)(w2c_i0) + 304, w2c_j1);
-    w2c_j0 = w2c_l5;
-    w2c_i0 = (u32)(w2c_j0);
-    w2c_j1 = 0ull;
-    i64_store(m, (u64)(w2c_i0) + 296, w2c_j1);
-    w2c_j0 = w2c_l5;
-    w2c_i0 = (u32)(w2c_j0);
-    w2c_j1 = 0ull;
-    i64_store(m, (u64)(w2c_i0) + 288, w2c_j1);
-    w2c_j0 = w2c_l5;
-    w2c_i0 = (u32)(w2c_j0);
-    w2c_j1 = 0ull;
-    i64_store(m, (u64)(w2c_i0) + 280, w2c_j1);
-    w2c_j0 = w2c_l5;
-    w2c_j1 = 280ull;
-    w2c_j0 += w2c_j1;
-    w2c_j1 = w2c_l10;
-    w2c_j2 = w2c_l7;
-    w2c_f33(m, w2c_j0, w2c_j1, w2c_j2);
-    w2c_j0 = w2c_l5;
-    w2c_i0 = (u32)(w2c_j0);
-    w2c_i0 = i32_load8_u(m, (u64)(w2c_i0) + 280u);
-    w2c_i1 = 1u;
-    w2c_i0 = w2c_i0 != w2c_i1;
-    if (w2c_i0) {goto w2c_B19;}
-    w2c_j0 = w2c_l5;
-    w2c_i0 = (u32)(w2c_j0);
-    w2c_j0 = i64_load(m, (u64)(w2c_i0) + 312u);
-    w2c_l7 = w2c_j0;
-    w2c_j0 = w2c_l5;
-    w2c_i0 = (u32)(w2c_j0);
-    w2c_j0 = i64_load(m, (u64)(w2c_i0) + 304u);
-    w2c_l10 = w2c_j0;
-    w2c_j0 = w2c_l5;
-    w2c_j1 = 24ull;
-    w2c_j0 += w2c_j1;
-    w2c_j1 = w2c_l5;
-    w2c_i1 = (u32)(w2c_j1);
-    w2c_i1 = i32_load(m, (u64)(w2c_i1) + 288u);
-    w2c_f19(m, w2c_j0, w2c_i1);
-    w2c_j0 = w2c_l5;
-    w2c_i0 = (u32)(w2c_j0);
-    w2c_i0 = i32_load8_u(m, (u64)(w2c_i0) + 24u);
-    w2c_i1 = 1u;
-    w2c_i0 = w2c_i0 != w2c_i1;
-    if (w2c_i0) {goto w2c_L26;}
-    w2c_j0 = w2c_l5;
-    w2c_i0 = (u32)(w2c_j0);
-    w2c_i0 = i32_load8_u(m, (u64)(w2c_i0) + 25u);
-    w2c_i1 = 255u;
-    w2c_i0 &= w2c_i1;
-    w2c_i1 = w2c_l15;
-    w2c_i2 = 255u;
-    w2c_i1 &= w2c_i2;
-    w2c_i0 = w2c_i0 < w2c_i1;
-    if (w2c_i0) {goto w2c_L26;}
-  w2c_B20:;
-  w2c_j0 = w2c_l5;
-  w2c_i0 = (u32)(w2c_j0);
-  w2c_j1 = 0ull;
-  i64_store(m, (u64)(w2c_i0) + 312, w2c_j1);
-  w2c_j0 = w2c_l5;
-  w2c_i0 = (u32)(w2c_j0);
-  w2c_j1 = 0ull;
-  i64_store(m, (u64)(w2c_i0) + 304, w2c_j1);
-  w2c_j0 = w2c_l5;
-  w2c_i0 = (u32)(w2c_j0);
-  w2c_j1 = 0ull;
-  i64_store(m, (u64)(w2c_i0) + 296, w2c_j1);
-  w2c_j0 = w2c_l5;
-  w2c_i0 = (u32)(w2c_j0);
-  w2c_j1 = 0ull;
-  i64_store(m, (u64)(w2c_i0) + 288, w2c_j1);
-  w2c_j0 = w2c_l5;
-  w2c_i0 = (u32)(w2c_j0);
-  w2c_j1 = 0ull;
-  i64_store(m, (u64)(w2c_i0) + 280, w2c_j1);
-  w2c_j0 = w2c_l5;
-  w2c_j1 = 280ull;
-  w2c_j0 += w2c_j1;
-  w2c_j1 = w2c_p3;
-  w2c_j2 = w2c_p4;
-  w2c_f33(m, w2c_j0, w2c_j1, w2c_j2);
-  w2c_j0 = w2c_l5;
-  w2c_i0 = (u32)(w2c_j0);
-  w2c_i0 = i32_load8_u(m, (u64)(w2c_i0) + 280u);
-  w2c_i1 = 1u;
-  w2c_i0 = w2c_i0 != w2c_i1;
-  if (w2c_i0) {goto w2c_B16;}
-  w2c_j0 = w2c_l5;
-  w2c_i0 = (u32)(w2c_j0);
-  w2c_j0 = i64_load(m, (u64)(w2c_i0) + 312u);
-  w2c_l6 = w2c_j0;
-  w2c_j0 = w2c_l5;
-  w2c_i0 = (u32)(w2c_j0);
-  w2c_j0 = i64_load(m, (u64)(w2c_i0) + 304u);
-  w2c_l9 = w2c_j0;
-  w2c_j0 = w2c_l5;
-  w2c_i0 = (u32)(w2c_j0);
-  w2c_i0 = i32_load(m, (u64)(w2c_i0) + 288u);
-  w2c_l14 = w2c_i0;
-  w2c_i1 = 24319u;
-  w2c_i0 = w2c_i0 != w2c_i1;
-  if (w2c_i0) {goto w2c_B18;}
-  w2c_j0 = 20ull;
-  w2c_l10 = w2c_j0;
-  goto w2c_B17;
-  w2c_B19:;
-  w2c_j0 = w2c_l12;
-  w2c_j1 = 0ull;
-  w2c_i2 = w2c_l14;
-  w2c_i3 = 1u;
-  w2c_i2 = w2c_i2 == w2c_i3;
-  w2c_j0 = w2c_i2 ? w2c_j0 : w2c_j1;
-  w2c_l7 = w2c_j0;
+  w2c_B6:;
   w2c_j0 = w2c_l5;
   w2c_i0 = (u32)(w2c_j0);
   w2c_j1 = 0ull;
@@ -29434,163 +27916,616 @@ static void w2c_f36(module *m, u64 w2c_p0, u32 w2c_p1, u64 w2c_p2, u64 w2c_p3, u
   w2c_i0 = (u32)(w2c_j0);
   w2c_j1 = 0ull;
   i64_store(m, (u64)(w2c_i0) + 240, w2c_j1);
+  w2c_j0 = w2c_l5;
+  w2c_i0 = (u32)(w2c_j0);
+  w2c_j1 = 0ull;
+  i64_store(m, (u64)(w2c_i0) + 296, w2c_j1);
+  w2c_j0 = w2c_l5;
+  w2c_i0 = (u32)(w2c_j0);
+  w2c_j1 = 0ull;
+  i64_store(m, (u64)(w2c_i0) + 288, w2c_j1);
+  w2c_j0 = w2c_l5;
+  w2c_i0 = (u32)(w2c_j0);
+  w2c_j1 = 0ull;
+  i64_store(m, (u64)(w2c_i0) + 280, w2c_j1);
+  w2c_j0 = w2c_l5;
+  w2c_i0 = (u32)(w2c_j0);
+  w2c_j1 = 0ull;
+  i64_store(m, (u64)(w2c_i0) + 272, w2c_j1);
   w2c_j0 = w2c_p3;
-  w2c_l10 = w2c_j0;
-  w2c_j0 = w2c_l8;
-  w2c_p4 = w2c_j0;
-  w2c_L27:
+  w2c_l6 = w2c_j0;
+  w2c_j0 = w2c_p4;
+  w2c_l7 = w2c_j0;
+  w2c_L20:
     w2c_j0 = w2c_l5;
-    w2c_i0 = (u32)(w2c_j0);
-    w2c_j1 = 0ull;
-    i64_store(m, (u64)(w2c_i0) + 312, w2c_j1);
-    w2c_j0 = w2c_l5;
-    w2c_i0 = (u32)(w2c_j0);
-    w2c_j1 = 0ull;
-    i64_store(m, (u64)(w2c_i0) + 304, w2c_j1);
-    w2c_j0 = w2c_l5;
-    w2c_i0 = (u32)(w2c_j0);
-    w2c_j1 = 0ull;
-    i64_store(m, (u64)(w2c_i0) + 296, w2c_j1);
-    w2c_j0 = w2c_l5;
-    w2c_i0 = (u32)(w2c_j0);
-    w2c_j1 = 0ull;
-    i64_store(m, (u64)(w2c_i0) + 288, w2c_j1);
-    w2c_j0 = w2c_l5;
-    w2c_i0 = (u32)(w2c_j0);
-    w2c_j1 = 0ull;
-    i64_store(m, (u64)(w2c_i0) + 280, w2c_j1);
-    w2c_j0 = w2c_l5;
-    w2c_j1 = 280ull;
+    w2c_j1 = 272ull;
     w2c_j0 += w2c_j1;
-    w2c_j1 = w2c_l10;
-    w2c_j2 = w2c_p4;
+    w2c_j1 = w2c_l6;
+    w2c_j2 = w2c_l7;
+    w2c_l9 = w2c_j2;
     w2c_f33(m, w2c_j0, w2c_j1, w2c_j2);
     w2c_j0 = w2c_l5;
     w2c_i0 = (u32)(w2c_j0);
-    w2c_i0 = i32_load8_u(m, (u64)(w2c_i0) + 280u);
+    w2c_i0 = i32_load8_u(m, (u64)(w2c_i0) + 272u);
     w2c_i1 = 1u;
     w2c_i0 = w2c_i0 != w2c_i1;
-    if (w2c_i0) {goto w2c_B15;}
+    if (w2c_i0) {goto w2c_B19;}
     w2c_j0 = w2c_l5;
     w2c_i0 = (u32)(w2c_j0);
-    w2c_j0 = i64_load(m, (u64)(w2c_i0) + 312u);
-    w2c_p4 = w2c_j0;
+    w2c_j0 = i64_load(m, (u64)(w2c_i0) + 296u);
+    w2c_l7 = w2c_j0;
     w2c_j0 = w2c_l5;
     w2c_i0 = (u32)(w2c_j0);
-    w2c_j0 = i64_load(m, (u64)(w2c_i0) + 304u);
-    w2c_l10 = w2c_j0;
+    w2c_j0 = i64_load(m, (u64)(w2c_i0) + 288u);
+    w2c_l6 = w2c_j0;
+    w2c_j0 = w2c_l5;
+    w2c_i0 = (u32)(w2c_j0);
+    w2c_i0 = i32_load(m, (u64)(w2c_i0) + 280u);
+    w2c_l14 = w2c_i0;
+    w2c_i1 = 40670u;
+    w2c_i0 = w2c_i0 == w2c_i1;
+    if (w2c_i0) {goto w2c_B21;}
+    w2c_i0 = w2c_l14;
+    w2c_i1 = 28857u;
+    w2c_i0 = w2c_i0 != w2c_i1;
+    if (w2c_i0) {goto w2c_L20;}
+    w2c_B21:;
+  w2c_j0 = w2c_l5;
+  w2c_j1 = 240ull;
+  w2c_j0 += w2c_j1;
+  w2c_j1 = w2c_p3;
+  w2c_j2 = w2c_p4;
+  w2c_j3 = w2c_l9;
+  w2c_j2 -= w2c_j3;
+  w2c_l10 = w2c_j2;
+  w2c_f33(m, w2c_j0, w2c_j1, w2c_j2);
+  w2c_j0 = w2c_l5;
+  w2c_i0 = (u32)(w2c_j0);
+  w2c_i0 = i32_load8_u(m, (u64)(w2c_i0) + 240u);
+  w2c_i1 = 1u;
+  w2c_i0 = w2c_i0 != w2c_i1;
+  if (w2c_i0) {goto w2c_B19;}
+  w2c_j0 = w2c_l5;
+  w2c_j1 = 80ull;
+  w2c_j0 += w2c_j1;
+  w2c_i1 = 1u;
+  w2c_j2 = w2c_l6;
+  w2c_j3 = w2c_l7;
+  w2c_f41(m, w2c_j0, w2c_i1, w2c_j2, w2c_j3);
+  w2c_j0 = w2c_l5;
+  w2c_i0 = (u32)(w2c_j0);
+  w2c_i0 = i32_load8_u(m, (u64)(w2c_i0) + 80u);
+  w2c_l14 = w2c_i0;
+  w2c_i1 = 1u;
+  w2c_i0 = w2c_i0 != w2c_i1;
+  if (w2c_i0) {goto w2c_B19;}
+  w2c_j0 = w2c_l5;
+  w2c_i0 = (u32)(w2c_j0);
+  w2c_j0 = i64_load(m, (u64)(w2c_i0) + 88u);
+  w2c_l12 = w2c_j0;
+  w2c_j0 = w2c_l5;
+  w2c_i0 = (u32)(w2c_j0);
+  w2c_j1 = 0ull;
+  i64_store(m, (u64)(w2c_i0) + 296, w2c_j1);
+  w2c_j0 = w2c_l5;
+  w2c_i0 = (u32)(w2c_j0);
+  w2c_j1 = 0ull;
+  i64_store(m, (u64)(w2c_i0) + 288, w2c_j1);
+  w2c_j0 = w2c_l5;
+  w2c_i0 = (u32)(w2c_j0);
+  w2c_j1 = 0ull;
+  i64_store(m, (u64)(w2c_i0) + 280, w2c_j1);
+  w2c_j0 = w2c_l5;
+  w2c_i0 = (u32)(w2c_j0);
+  w2c_j1 = 0ull;
+  i64_store(m, (u64)(w2c_i0) + 272, w2c_j1);
+  w2c_j0 = w2c_l5;
+  w2c_j1 = 272ull;
+  w2c_j0 += w2c_j1;
+  w2c_j1 = w2c_l6;
+  w2c_j2 = w2c_l7;
+  w2c_f33(m, w2c_j0, w2c_j1, w2c_j2);
+  w2c_j0 = w2c_l6;
+  w2c_l9 = w2c_j0;
+  w2c_j0 = w2c_l7;
+  w2c_l8 = w2c_j0;
+  w2c_j0 = w2c_l5;
+  w2c_i0 = (u32)(w2c_j0);
+  w2c_i0 = i32_load8_u(m, (u64)(w2c_i0) + 272u);
+  w2c_i1 = 1u;
+  w2c_i0 = w2c_i0 != w2c_i1;
+  if (w2c_i0) {goto w2c_B22;}
+  w2c_j0 = w2c_l6;
+  w2c_l9 = w2c_j0;
+  w2c_j0 = w2c_l7;
+  w2c_l8 = w2c_j0;
+  w2c_j0 = w2c_l5;
+  w2c_i0 = (u32)(w2c_j0);
+  w2c_i0 = i32_load(m, (u64)(w2c_i0) + 280u);
+  w2c_l15 = w2c_i0;
+  w2c_i1 = 4294967248u;
+  w2c_i0 += w2c_i1;
+  w2c_i1 = 10u;
+  w2c_i0 = w2c_i0 < w2c_i1;
+  if (w2c_i0) {goto w2c_B22;}
+  w2c_j0 = w2c_l5;
+  w2c_i0 = (u32)(w2c_j0);
+  w2c_j0 = i64_load(m, (u64)(w2c_i0) + 288u);
+  w2c_l11 = w2c_j0;
+  w2c_j0 = w2c_l5;
+  w2c_i0 = (u32)(w2c_j0);
+  w2c_j0 = i64_load(m, (u64)(w2c_i0) + 296u);
+  w2c_l13 = w2c_j0;
+  w2c_j0 = w2c_l5;
+  w2c_j1 = 72ull;
+  w2c_j0 += w2c_j1;
+  w2c_i1 = w2c_l15;
+  w2c_f18(m, w2c_j0, w2c_i1);
+  w2c_j0 = w2c_l6;
+  w2c_l9 = w2c_j0;
+  w2c_j0 = w2c_l7;
+  w2c_l8 = w2c_j0;
+  w2c_j0 = w2c_l5;
+  w2c_i0 = (u32)(w2c_j0);
+  w2c_i0 = i32_load8_u(m, (u64)(w2c_i0) + 72u);
+  w2c_i1 = 1u;
+  w2c_i0 = w2c_i0 != w2c_i1;
+  if (w2c_i0) {goto w2c_B22;}
+  w2c_L23:
+    w2c_j0 = w2c_l5;
+    w2c_j1 = 272ull;
+    w2c_j0 += w2c_j1;
+    w2c_j1 = w2c_l11;
+    w2c_l9 = w2c_j1;
+    w2c_j2 = w2c_l13;
+    w2c_l8 = w2c_j2;
+    w2c_f33(m, w2c_j0, w2c_j1, w2c_j2);
+    w2c_j0 = w2c_l5;
+    w2c_i0 = (u32)(w2c_j0);
+    w2c_i0 = i32_load8_u(m, (u64)(w2c_i0) + 272u);
+    w2c_i1 = 1u;
+    w2c_i0 = w2c_i0 != w2c_i1;
+    if (w2c_i0) {goto w2c_B22;}
+    w2c_j0 = w2c_l5;
+    w2c_i0 = (u32)(w2c_j0);
+    w2c_i0 = i32_load(m, (u64)(w2c_i0) + 280u);
+    w2c_l15 = w2c_i0;
+    w2c_i1 = 4294967248u;
+    w2c_i0 += w2c_i1;
+    w2c_i1 = 10u;
+    w2c_i0 = w2c_i0 < w2c_i1;
+    if (w2c_i0) {goto w2c_B22;}
+    w2c_j0 = w2c_l5;
+    w2c_i0 = (u32)(w2c_j0);
+    w2c_j0 = i64_load(m, (u64)(w2c_i0) + 296u);
+    w2c_l13 = w2c_j0;
+    w2c_j0 = w2c_l5;
+    w2c_i0 = (u32)(w2c_j0);
+    w2c_j0 = i64_load(m, (u64)(w2c_i0) + 288u);
+    w2c_l11 = w2c_j0;
+    w2c_j0 = w2c_l5;
+    w2c_j1 = 64ull;
+    w2c_j0 += w2c_j1;
+    w2c_i1 = w2c_l15;
+    w2c_f18(m, w2c_j0, w2c_i1);
+    w2c_j0 = w2c_l5;
+    w2c_i0 = (u32)(w2c_j0);
+    w2c_i0 = i32_load8_u(m, (u64)(w2c_i0) + 64u);
+    w2c_i1 = 1u;
+    w2c_i0 = w2c_i0 == w2c_i1;
+    if (w2c_i0) {goto w2c_L23;}
+  w2c_B22:;
+  w2c_j0 = w2c_l5;
+  w2c_i0 = (u32)(w2c_j0);
+  w2c_j1 = 0ull;
+  i64_store(m, (u64)(w2c_i0) + 296, w2c_j1);
+  w2c_j0 = w2c_l5;
+  w2c_i0 = (u32)(w2c_j0);
+  w2c_j1 = 0ull;
+  i64_store(m, (u64)(w2c_i0) + 288, w2c_j1);
+  w2c_j0 = w2c_l5;
+  w2c_i0 = (u32)(w2c_j0);
+  w2c_j1 = 0ull;
+  i64_store(m, (u64)(w2c_i0) + 280, w2c_j1);
+  w2c_j0 = w2c_l5;
+  w2c_i0 = (u32)(w2c_j0);
+  w2c_j1 = 0ull;
+  i64_store(m, (u64)(w2c_i0) + 272, w2c_j1);
+  w2c_j0 = w2c_l5;
+  w2c_j1 = 272ull;
+  w2c_j0 += w2c_j1;
+  w2c_j1 = w2c_p3;
+  w2c_j2 = w2c_l10;
+  w2c_f35(m, w2c_j0, w2c_j1, w2c_j2);
+  w2c_j0 = w2c_l5;
+  w2c_i0 = (u32)(w2c_j0);
+  w2c_i0 = i32_load8_u(m, (u64)(w2c_i0) + 272u);
+  w2c_i1 = 1u;
+  w2c_i0 = w2c_i0 != w2c_i1;
+  if (w2c_i0) {goto w2c_B24;}
+  w2c_j0 = w2c_l5;
+  w2c_i0 = (u32)(w2c_j0);
+  w2c_i0 = i32_load(m, (u64)(w2c_i0) + 280u);
+  w2c_l15 = w2c_i0;
+  w2c_j0 = w2c_l5;
+  w2c_i0 = (u32)(w2c_j0);
+  w2c_j0 = i64_load(m, (u64)(w2c_i0) + 296u);
+  w2c_l11 = w2c_j0;
+  w2c_j0 = w2c_l5;
+  w2c_i0 = (u32)(w2c_j0);
+  w2c_j0 = i64_load(m, (u64)(w2c_i0) + 288u);
+  w2c_l13 = w2c_j0;
+  w2c_j0 = w2c_l5;
+  w2c_i0 = (u32)(w2c_j0);
+  w2c_j1 = 0ull;
+  i64_store(m, (u64)(w2c_i0) + 296, w2c_j1);
+  w2c_j0 = w2c_l5;
+  w2c_i0 = (u32)(w2c_j0);
+  w2c_j1 = 0ull;
+  i64_store(m, (u64)(w2c_i0) + 288, w2c_j1);
+  w2c_j0 = w2c_l5;
+  w2c_i0 = (u32)(w2c_j0);
+  w2c_j1 = 0ull;
+  i64_store(m, (u64)(w2c_i0) + 280, w2c_j1);
+  w2c_j0 = w2c_l5;
+  w2c_i0 = (u32)(w2c_j0);
+  w2c_j1 = 0ull;
+  i64_store(m, (u64)(w2c_i0) + 272, w2c_j1);
+  w2c_j0 = w2c_l5;
+  w2c_j1 = 272ull;
+  w2c_j0 += w2c_j1;
+  w2c_j1 = w2c_l13;
+  w2c_j2 = w2c_l11;
+  w2c_f35(m, w2c_j0, w2c_j1, w2c_j2);
+  w2c_j0 = w2c_l5;
+  w2c_i0 = (u32)(w2c_j0);
+  w2c_i0 = i32_load8_u(m, (u64)(w2c_i0) + 272u);
+  w2c_i1 = 1u;
+  w2c_i0 = w2c_i0 != w2c_i1;
+  if (w2c_i0) {goto w2c_B24;}
+  w2c_j0 = w2c_l5;
+  w2c_j1 = 56ull;
+  w2c_j0 += w2c_j1;
+  w2c_j1 = w2c_l5;
+  w2c_i1 = (u32)(w2c_j1);
+  w2c_i1 = i32_load(m, (u64)(w2c_i1) + 280u);
+  w2c_f25(m, w2c_j0, w2c_i1);
+  w2c_j0 = w2c_l5;
+  w2c_i0 = (u32)(w2c_j0);
+  w2c_i0 = i32_load8_u(m, (u64)(w2c_i0) + 56u);
+  w2c_i1 = 1u;
+  w2c_i0 = w2c_i0 != w2c_i1;
+  if (w2c_i0) {goto w2c_B24;}
+  w2c_j0 = w2c_l5;
+  w2c_i0 = (u32)(w2c_j0);
+  w2c_i0 = i32_load8_u(m, (u64)(w2c_i0) + 57u);
+  w2c_i1 = 255u;
+  w2c_i0 &= w2c_i1;
+  w2c_i1 = 2u;
+  w2c_i0 = w2c_i0 < w2c_i1;
+  if (w2c_i0) {goto w2c_B24;}
+  w2c_j0 = w2c_l5;
+  w2c_j1 = 48ull;
+  w2c_j0 += w2c_j1;
+  w2c_i1 = w2c_l15;
+  w2c_f18(m, w2c_j0, w2c_i1);
+  w2c_j0 = w2c_l5;
+  w2c_i0 = (u32)(w2c_j0);
+  w2c_i0 = i32_load8_u(m, (u64)(w2c_i0) + 48u);
+  w2c_i1 = 1u;
+  w2c_i0 = w2c_i0 == w2c_i1;
+  if (w2c_i0) {goto w2c_B19;}
+  w2c_B24:;
+  w2c_j0 = w2c_l5;
+  w2c_i0 = (u32)(w2c_j0);
+  w2c_j1 = 0ull;
+  i64_store(m, (u64)(w2c_i0) + 296, w2c_j1);
+  w2c_j0 = w2c_l5;
+  w2c_i0 = (u32)(w2c_j0);
+  w2c_j1 = 0ull;
+  i64_store(m, (u64)(w2c_i0) + 288, w2c_j1);
+  w2c_j0 = w2c_l5;
+  w2c_i0 = (u32)(w2c_j0);
+  w2c_j1 = 0ull;
+  i64_store(m, (u64)(w2c_i0) + 280, w2c_j1);
+  w2c_j0 = w2c_l5;
+  w2c_i0 = (u32)(w2c_j0);
+  w2c_j1 = 0ull;
+  i64_store(m, (u64)(w2c_i0) + 272, w2c_j1);
+  w2c_j0 = w2c_l5;
+  w2c_j1 = 272ull;
+  w2c_j0 += w2c_j1;
+  w2c_j1 = w2c_l9;
+  w2c_j2 = w2c_l8;
+  w2c_f33(m, w2c_j0, w2c_j1, w2c_j2);
+  w2c_j0 = w2c_l5;
+  w2c_i0 = (u32)(w2c_j0);
+  w2c_i0 = i32_load8_u(m, (u64)(w2c_i0) + 272u);
+  w2c_i1 = 1u;
+  w2c_i0 = w2c_i0 != w2c_i1;
+  if (w2c_i0) {goto w2c_B18;}
+  w2c_j0 = w2c_l5;
+  w2c_j1 = 40ull;
+  w2c_j0 += w2c_j1;
+  w2c_j1 = w2c_l5;
+  w2c_i1 = (u32)(w2c_j1);
+  w2c_i1 = i32_load(m, (u64)(w2c_i1) + 280u);
+  w2c_f25(m, w2c_j0, w2c_i1);
+  w2c_j0 = w2c_l5;
+  w2c_i0 = (u32)(w2c_j0);
+  w2c_i0 = i32_load8_u(m, (u64)(w2c_i0) + 41u);
+  w2c_l15 = w2c_i0;
+  w2c_j0 = w2c_l5;
+  w2c_i0 = (u32)(w2c_j0);
+  w2c_i0 = i32_load8_u(m, (u64)(w2c_i0) + 40u);
+  w2c_l16 = w2c_i0;
+  w2c_j0 = w2c_l5;
+  w2c_i0 = (u32)(w2c_j0);
+  w2c_j1 = 0ull;
+  i64_store(m, (u64)(w2c_i0) + 296, w2c_j1);
+  w2c_j0 = w2c_l5;
+  w2c_i0 = (u32)(w2c_j0);
+  w2c_j1 = 0ull;
+  i64_store(m, (u64)(w2c_i0) + 288, w2c_j1);
+  w2c_j0 = w2c_l5;
+  w2c_i0 = (u32)(w2c_j0);
+  w2c_j1 = 0ull;
+  i64_store(m, (u64)(w2c_i0) + 280, w2c_j1);
+  w2c_j0 = w2c_l5;
+  w2c_i0 = (u32)(w2c_j0);
+  w2c_j1 = 0ull;
+  i64_store(m, (u64)(w2c_i0) + 272, w2c_j1);
+  w2c_i0 = w2c_l16;
+  w2c_i1 = 1u;
+  w2c_i0 &= w2c_i1;
+  w2c_i0 = !(w2c_i0);
+  if (w2c_i0) {goto w2c_B18;}
+  w2c_j0 = w2c_p3;
+  w2c_l9 = w2c_j0;
+  w2c_j0 = w2c_l10;
+  w2c_l8 = w2c_j0;
+  w2c_L25:
+    w2c_j0 = w2c_l5;
+    w2c_j1 = 272ull;
+    w2c_j0 += w2c_j1;
+    w2c_j1 = w2c_l9;
+    w2c_j2 = w2c_l8;
+    w2c_f33(m, w2c_j0, w2c_j1, w2c_j2);
+    w2c_j0 = w2c_l5;
+    w2c_i0 = (u32)(w2c_j0);
+    w2c_i0 = i32_load8_u(m, (u64)(w2c_i0) + 272u);
+    w2c_i1 = 1u;
+    w2c_i0 = w2c_i0 != w2c_i1;
+    if (w2c_i0) {goto w2c_B18;}
+    w2c_j0 = w2c_l5;
+    w2c_i0 = (u32)(w2c_j0);
+    w2c_j0 = i64_load(m, (u64)(w2c_i0) + 296u);
+    w2c_l8 = w2c_j0;
+    w2c_j0 = w2c_l5;
+    w2c_i0 = (u32)(w2c_j0);
+    w2c_j0 = i64_load(m, (u64)(w2c_i0) + 288u);
+    w2c_l9 = w2c_j0;
+    w2c_j0 = w2c_l5;
+    w2c_j1 = 24ull;
+    w2c_j0 += w2c_j1;
+    w2c_j1 = w2c_l5;
+    w2c_i1 = (u32)(w2c_j1);
+    w2c_i1 = i32_load(m, (u64)(w2c_i1) + 280u);
+    w2c_f25(m, w2c_j0, w2c_i1);
+    w2c_j0 = w2c_l5;
+    w2c_i0 = (u32)(w2c_j0);
+    w2c_i0 = i32_load8_u(m, (u64)(w2c_i0) + 24u);
+    w2c_i1 = 1u;
+    w2c_i0 = w2c_i0 != w2c_i1;
+    if (w2c_i0) {goto w2c_L25;}
+    w2c_j0 = w2c_l5;
+    w2c_i0 = (u32)(w2c_j0);
+    w2c_i0 = i32_load8_u(m, (u64)(w2c_i0) + 25u);
+    w2c_i1 = 255u;
+    w2c_i0 &= w2c_i1;
+    w2c_i1 = w2c_l15;
+    w2c_i2 = 255u;
+    w2c_i1 &= w2c_i2;
+    w2c_i0 = w2c_i0 < w2c_i1;
+    if (w2c_i0) {goto w2c_L25;}
+  w2c_B19:;
+  w2c_j0 = w2c_l5;
+  w2c_i0 = (u32)(w2c_j0);
+  w2c_j1 = 0ull;
+  i64_store(m, (u64)(w2c_i0) + 272, w2c_j1);
+  w2c_j0 = w2c_l5;
+  w2c_i0 = (u32)(w2c_j0);
+  w2c_j1 = 0ull;
+  i64_store(m, (u64)(w2c_i0) + 280, w2c_j1);
+  w2c_j0 = w2c_l5;
+  w2c_i0 = (u32)(w2c_j0);
+  w2c_j1 = 0ull;
+  i64_store(m, (u64)(w2c_i0) + 288, w2c_j1);
+  w2c_j0 = w2c_l5;
+  w2c_i0 = (u32)(w2c_j0);
+  w2c_j1 = 0ull;
+  i64_store(m, (u64)(w2c_i0) + 296, w2c_j1);
+  w2c_j0 = w2c_l5;
+  w2c_i0 = (u32)(w2c_j0);
+  w2c_j1 = 0ull;
+  i64_store(m, (u64)(w2c_i0) + 240, w2c_j1);
+  w2c_j0 = w2c_l5;
+  w2c_i0 = (u32)(w2c_j0);
+  w2c_j1 = 0ull;
+  i64_store(m, (u64)(w2c_i0) + 248, w2c_j1);
+  w2c_j0 = w2c_l5;
+  w2c_i0 = (u32)(w2c_j0);
+  w2c_j1 = 0ull;
+  i64_store(m, (u64)(w2c_i0) + 256, w2c_j1);
+  w2c_j0 = w2c_l5;
+  w2c_i0 = (u32)(w2c_j0);
+  w2c_j1 = 0ull;
+  i64_store(m, (u64)(w2c_i0) + 264, w2c_j1);
+  w2c_j0 = w2c_l5;
+  w2c_j1 = 272ull;
+  w2c_j0 += w2c_j1;
+  w2c_j1 = w2c_p3;
+  w2c_j2 = w2c_p4;
+  w2c_f33(m, w2c_j0, w2c_j1, w2c_j2);
+  w2c_j0 = w2c_l5;
+  w2c_i0 = (u32)(w2c_j0);
+  w2c_i0 = i32_load8_u(m, (u64)(w2c_i0) + 272u);
+  w2c_i1 = 1u;
+  w2c_i0 = w2c_i0 != w2c_i1;
+  if (w2c_i0) {goto w2c_B15;}
+  w2c_j0 = w2c_l5;
+  w2c_i0 = (u32)(w2c_j0);
+  w2c_j0 = i64_load(m, (u64)(w2c_i0) + 296u);
+  w2c_l6 = w2c_j0;
+  w2c_j0 = w2c_l5;
+  w2c_i0 = (u32)(w2c_j0);
+  w2c_j0 = i64_load(m, (u64)(w2c_i0) + 288u);
+  w2c_l7 = w2c_j0;
+  w2c_j0 = w2c_l5;
+  w2c_i0 = (u32)(w2c_j0);
+  w2c_i0 = i32_load(m, (u64)(w2c_i0) + 280u);
+  w2c_l14 = w2c_i0;
+  w2c_i1 = 24319u;
+  w2c_i0 = w2c_i0 != w2c_i1;
+  if (w2c_i0) {goto w2c_B17;}
+  w2c_j0 = 20ull;
+  w2c_l9 = w2c_j0;
+  goto w2c_B16;
+  w2c_B18:;
+  w2c_j0 = w2c_l12;
+  w2c_j1 = 0ull;
+  w2c_i2 = w2c_l14;
+  w2c_i3 = 1u;
+  w2c_i2 = w2c_i2 == w2c_i3;
+  w2c_j0 = w2c_i2 ? w2c_j0 : w2c_j1;
+  w2c_p4 = w2c_j0;
+  w2c_j0 = w2c_l5;
+  w2c_i0 = (u32)(w2c_j0);
+  w2c_j1 = 0ull;
+  i64_store(m, (u64)(w2c_i0) + 264, w2c_j1);
+  w2c_j0 = w2c_l5;
+  w2c_i0 = (u32)(w2c_j0);
+  w2c_j1 = 0ull;
+  i64_store(m, (u64)(w2c_i0) + 256, w2c_j1);
+  w2c_j0 = w2c_l5;
+  w2c_i0 = (u32)(w2c_j0);
+  w2c_j1 = 0ull;
+  i64_store(m, (u64)(w2c_i0) + 248, w2c_j1);
+  w2c_j0 = w2c_l5;
+  w2c_i0 = (u32)(w2c_j0);
+  w2c_j1 = 0ull;
+  i64_store(m, (u64)(w2c_i0) + 240, w2c_j1);
+  w2c_j0 = w2c_l5;
+  w2c_i0 = (u32)(w2c_j0);
+  w2c_j1 = 0ull;
+  i64_store(m, (u64)(w2c_i0) + 296, w2c_j1);
+  w2c_j0 = w2c_l5;
+  w2c_i0 = (u32)(w2c_j0);
+  w2c_j1 = 0ull;
+  i64_store(m, (u64)(w2c_i0) + 288, w2c_j1);
+  w2c_j0 = w2c_l5;
+  w2c_i0 = (u32)(w2c_j0);
+  w2c_j1 = 0ull;
+  i64_store(m, (u64)(w2c_i0) + 280, w2c_j1);
+  w2c_j0 = w2c_l5;
+  w2c_i0 = (u32)(w2c_j0);
+  w2c_j1 = 0ull;
+  i64_store(m, (u64)(w2c_i0) + 272, w2c_j1);
+  w2c_j0 = w2c_p3;
+  w2c_l9 = w2c_j0;
+  w2c_j0 = w2c_l10;
+  w2c_l8 = w2c_j0;
+  w2c_L26:
+    w2c_j0 = w2c_l5;
+    w2c_j1 = 272ull;
+    w2c_j0 += w2c_j1;
+    w2c_j1 = w2c_l9;
+    w2c_j2 = w2c_l8;
+    w2c_f33(m, w2c_j0, w2c_j1, w2c_j2);
+    w2c_j0 = w2c_l5;
+    w2c_i0 = (u32)(w2c_j0);
+    w2c_i0 = i32_load8_u(m, (u64)(w2c_i0) + 272u);
+    w2c_i1 = 1u;
+    w2c_i0 = w2c_i0 != w2c_i1;
+    if (w2c_i0) {goto w2c_B4;}
+    w2c_j0 = w2c_l5;
+    w2c_i0 = (u32)(w2c_j0);
+    w2c_j0 = i64_load(m, (u64)(w2c_i0) + 296u);
+    w2c_l8 = w2c_j0;
+    w2c_j0 = w2c_l5;
+    w2c_i0 = (u32)(w2c_j0);
+    w2c_j0 = i64_load(m, (u64)(w2c_i0) + 288u);
+    w2c_l9 = w2c_j0;
     w2c_j0 = w2c_l5;
     w2c_j1 = 32ull;
     w2c_j0 += w2c_j1;
     w2c_j1 = w2c_l5;
     w2c_i1 = (u32)(w2c_j1);
-    w2c_i1 = i32_load(m, (u64)(w2c_i1) + 288u);
+    w2c_i1 = i32_load(m, (u64)(w2c_i1) + 280u);
     w2c_f18(m, w2c_j0, w2c_i1);
     w2c_j0 = w2c_l5;
     w2c_i0 = (u32)(w2c_j0);
     w2c_i0 = i32_load8_u(m, (u64)(w2c_i0) + 32u);
     w2c_i1 = 1u;
     w2c_i0 = w2c_i0 == w2c_i1;
-    if (w2c_i0) {goto w2c_L27;}
+    if (w2c_i0) {goto w2c_L26;}
   w2c_j0 = w2c_l5;
   w2c_j1 = 240ull;
   w2c_j0 += w2c_j1;
   w2c_i1 = w2c_p1;
   w2c_j2 = w2c_p2;
   w2c_j3 = w2c_p3;
-  w2c_j4 = w2c_l8;
+  w2c_j4 = w2c_l10;
   w2c_f42(m, w2c_j0, w2c_i1, w2c_j2, w2c_j3, w2c_j4);
-  goto w2c_B12;
-  w2c_B18:;
+  goto w2c_B1;
+  w2c_B17:;
   w2c_i0 = w2c_l14;
   w2c_i1 = 21317u;
   w2c_i0 = w2c_i0 != w2c_i1;
-  if (w2c_i0) {goto w2c_B16;}
+  if (w2c_i0) {goto w2c_B15;}
   w2c_j0 = 30ull;
-  w2c_l10 = w2c_j0;
-  w2c_B17:;
+  w2c_l9 = w2c_j0;
+  w2c_B16:;
   w2c_j0 = w2c_l5;
-  w2c_i0 = (u32)(w2c_j0);
-  w2c_j1 = 0ull;
-  i64_store(m, (u64)(w2c_i0) + 312, w2c_j1);
-  w2c_j0 = w2c_l5;
-  w2c_i0 = (u32)(w2c_j0);
-  w2c_j1 = 0ull;
-  i64_store(m, (u64)(w2c_i0) + 304, w2c_j1);
-  w2c_j0 = w2c_l5;
-  w2c_i0 = (u32)(w2c_j0);
-  w2c_j1 = 0ull;
-  i64_store(m, (u64)(w2c_i0) + 296, w2c_j1);
-  w2c_j0 = w2c_l5;
-  w2c_i0 = (u32)(w2c_j0);
-  w2c_j1 = 0ull;
-  i64_store(m, (u64)(w2c_i0) + 288, w2c_j1);
-  w2c_j0 = w2c_l5;
-  w2c_i0 = (u32)(w2c_j0);
-  w2c_j1 = 0ull;
-  i64_store(m, (u64)(w2c_i0) + 280, w2c_j1);
-  w2c_j0 = w2c_l5;
-  w2c_j1 = 280ull;
+  w2c_j1 = 240ull;
   w2c_j0 += w2c_j1;
-  w2c_j1 = w2c_l9;
+  w2c_j1 = w2c_l7;
   w2c_j2 = w2c_l6;
   w2c_f33(m, w2c_j0, w2c_j1, w2c_j2);
   w2c_j0 = w2c_l5;
   w2c_i0 = (u32)(w2c_j0);
-  w2c_i0 = i32_load8_u(m, (u64)(w2c_i0) + 280u);
+  w2c_i0 = i32_load8_u(m, (u64)(w2c_i0) + 240u);
   w2c_i1 = 1u;
   w2c_i0 = w2c_i0 != w2c_i1;
-  if (w2c_i0) {goto w2c_B28;}
+  if (w2c_i0) {goto w2c_B27;}
   w2c_j0 = w2c_l5;
   w2c_i0 = (u32)(w2c_j0);
-  w2c_i0 = i32_load(m, (u64)(w2c_i0) + 288u);
+  w2c_i0 = i32_load(m, (u64)(w2c_i0) + 248u);
   w2c_l14 = w2c_i0;
   w2c_j0 = w2c_l5;
-  w2c_i0 = (u32)(w2c_j0);
-  w2c_j0 = i64_load(m, (u64)(w2c_i0) + 312u);
-  w2c_l6 = w2c_j0;
-  w2c_j0 = w2c_l5;
-  w2c_i0 = (u32)(w2c_j0);
-  w2c_j0 = i64_load(m, (u64)(w2c_i0) + 304u);
-  w2c_l9 = w2c_j0;
-  w2c_j0 = w2c_l5;
-  w2c_i0 = (u32)(w2c_j0);
-  w2c_j1 = 0ull;
-  i64_store(m, (u64)(w2c_i0) + 312, w2c_j1);
-  w2c_j0 = w2c_l5;
-  w2c_i0 = (u32)(w2c_j0);
-  w2c_j1 = 0ull;
-  i64_store(m, (u64)(w2c_i0) + 304, w2c_j1);
-  w2c_j0 = w2c_l5;
-  w2c_i0 = (u32)(w2c_j0);
-  w2c_j1 = 0ull;
-  i64_store(m, (u64)(w2c_i0) + 296, w2c_j1);
-  w2c_j0 = w2c_l5;
-  w2c_i0 = (u32)(w2c_j0);
-  w2c_j1 = 0ull;
-  i64_store(m, (u64)(w2c_i0) + 288, w2c_j1);
-  w2c_j0 = w2c_l5;
-  w2c_i0 = (u32)(w2c_j0);
-  w2c_j1 = 0ull;
-  i64_store(m, (u64)(w2c_i0) + 280, w2c_j1);
-  w2c_j0 = w2c_l5;
-  w2c_j1 = 280ull;
+  w2c_j1 = 272ull;
   w2c_j0 += w2c_j1;
-  w2c_j1 = w2c_l9;
-  w2c_j2 = w2c_l6;
+  w2c_j1 = w2c_l5;
+  w2c_i1 = (u32)(w2c_j1);
+  w2c_j1 = i64_load(m, (u64)(w2c_i1) + 256u);
+  w2c_j2 = w2c_l5;
+  w2c_i2 = (u32)(w2c_j2);
+  w2c_j2 = i64_load(m, (u64)(w2c_i2) + 264u);
   w2c_f33(m, w2c_j0, w2c_j1, w2c_j2);
-  w2c_j0 = w2c_l5;
-  w2c_i0 = (u32)(w2c_j0);
-  w2c_i0 = i32_load8_u(m, (u64)(w2c_i0) + 280u);
-  w2c_i1 = 1u;
-  w2c_i0 = w2c_i0 == w2c_i1;
-  if (w2c_i0) {goto w2c_B16;}
   w2c_i0 = w2c_l14;
   w2c_i1 = 4294967248u;
   w2c_i0 += w2c_i1;
   w2c_i1 = 10u;
   w2c_i0 = w2c_i0 < w2c_i1;
-  if (w2c_i0) {goto w2c_B16;}
+  if (w2c_i0) {goto w2c_B15;}
+  w2c_j0 = w2c_l5;
+  w2c_i0 = (u32)(w2c_j0);
+  w2c_i0 = i32_load8_u(m, (u64)(w2c_i0) + 272u);
+  w2c_i1 = 255u;
+  w2c_i0 &= w2c_i1;
+  w2c_i1 = 1u;
+  w2c_i0 = w2c_i0 == w2c_i1;
+  if (w2c_i0) {goto w2c_B15;}
   w2c_j0 = w2c_l5;
   w2c_j1 = 16ull;
   w2c_j0 += w2c_j1;
@@ -29602,8 +28537,8 @@ static void w2c_f36(module *m, u64 w2c_p0, u32 w2c_p1, u64 w2c_p2, u64 w2c_p3, u
   w2c_i1 = 1u;
   w2c_i0 &= w2c_i1;
   w2c_i0 = !(w2c_i0);
-  if (w2c_i0) {goto w2c_B16;}
-  w2c_j0 = w2c_l10;
+  if (w2c_i0) {goto w2c_B15;}
+  w2c_j0 = w2c_l9;
   w2c_j1 = w2c_l5;
   w2c_i1 = (u32)(w2c_j1);
   w2c_i1 = i32_load8_u(m, (u64)(w2c_i1) + 17u);
@@ -29611,16 +28546,8 @@ static void w2c_f36(module *m, u64 w2c_p0, u32 w2c_p1, u64 w2c_p2, u64 w2c_p3, u
   w2c_j2 = 255ull;
   w2c_j1 &= w2c_j2;
   w2c_j0 += w2c_j1;
-  w2c_l10 = w2c_j0;
-  w2c_B28:;
-  w2c_j0 = w2c_p0;
-  w2c_i0 = (u32)(w2c_j0);
-  w2c_j1 = 0ull;
-  i64_store(m, (u64)(w2c_i0) + 8, w2c_j1);
-  w2c_j0 = w2c_p0;
-  w2c_i0 = (u32)(w2c_j0);
-  w2c_j1 = 0ull;
-  i64_store(m, (u64)(w2c_i0), w2c_j1);
+  w2c_l9 = w2c_j0;
+  w2c_B27:;
   w2c_j0 = w2c_p0;
   w2c_j1 = 24ull;
   w2c_j0 += w2c_j1;
@@ -29631,7 +28558,15 @@ static void w2c_f36(module *m, u64 w2c_p0, u32 w2c_p1, u64 w2c_p2, u64 w2c_p3, u
   w2c_j1 = 16ull;
   w2c_j0 += w2c_j1;
   w2c_i0 = (u32)(w2c_j0);
-  w2c_j1 = w2c_l10;
+  w2c_j1 = w2c_l9;
+  i64_store(m, (u64)(w2c_i0), w2c_j1);
+  w2c_j0 = w2c_p0;
+  w2c_i0 = (u32)(w2c_j0);
+  w2c_j1 = 0ull;
+  i64_store(m, (u64)(w2c_i0) + 8, w2c_j1);
+  w2c_j0 = w2c_p0;
+  w2c_i0 = (u32)(w2c_j0);
+  w2c_j1 = 0ull;
   i64_store(m, (u64)(w2c_i0), w2c_j1);
   w2c_j0 = w2c_p0;
   w2c_j1 = 32ull;
@@ -29646,7 +28581,7 @@ static void w2c_f36(module *m, u64 w2c_p0, u32 w2c_p1, u64 w2c_p2, u64 w2c_p3, u
   w2c_j1 = 0ull;
   i64_store(m, (u64)(w2c_i0), w2c_j1);
   goto w2c_B0;
-  w2c_B16:;
+  w2c_B15:;
   w2c_j0 = w2c_l5;
   w2c_i0 = (u32)(w2c_j0);
   w2c_j1 = 0ull;
@@ -29663,64 +28598,60 @@ static void w2c_f36(module *m, u64 w2c_p0, u32 w2c_p1, u64 w2c_p2, u64 w2c_p3, u
   w2c_i0 = (u32)(w2c_j0);
   w2c_j1 = 0ull;
   i64_store(m, (u64)(w2c_i0) + 240, w2c_j1);
+  w2c_j0 = w2c_l5;
+  w2c_i0 = (u32)(w2c_j0);
+  w2c_j1 = 0ull;
+  i64_store(m, (u64)(w2c_i0) + 296, w2c_j1);
+  w2c_j0 = w2c_l5;
+  w2c_i0 = (u32)(w2c_j0);
+  w2c_j1 = 0ull;
+  i64_store(m, (u64)(w2c_i0) + 288, w2c_j1);
+  w2c_j0 = w2c_l5;
+  w2c_i0 = (u32)(w2c_j0);
+  w2c_j1 = 0ull;
+  i64_store(m, (u64)(w2c_i0) + 280, w2c_j1);
+  w2c_j0 = w2c_l5;
+  w2c_i0 = (u32)(w2c_j0);
+  w2c_j1 = 0ull;
+  i64_store(m, (u64)(w2c_i0) + 272, w2c_j1);
   w2c_j0 = w2c_p3;
   w2c_l6 = w2c_j0;
   w2c_j0 = w2c_p4;
-  w2c_l9 = w2c_j0;
-  w2c_L29:
+  w2c_l7 = w2c_j0;
+  w2c_L28:
     w2c_j0 = w2c_l5;
-    w2c_i0 = (u32)(w2c_j0);
-    w2c_j1 = 0ull;
-    i64_store(m, (u64)(w2c_i0) + 312, w2c_j1);
-    w2c_j0 = w2c_l5;
-    w2c_i0 = (u32)(w2c_j0);
-    w2c_j1 = 0ull;
-    i64_store(m, (u64)(w2c_i0) + 304, w2c_j1);
-    w2c_j0 = w2c_l5;
-    w2c_i0 = (u32)(w2c_j0);
-    w2c_j1 = 0ull;
-    i64_store(m, (u64)(w2c_i0) + 296, w2c_j1);
-    w2c_j0 = w2c_l5;
-    w2c_i0 = (u32)(w2c_j0);
-    w2c_j1 = 0ull;
-    i64_store(m, (u64)(w2c_i0) + 288, w2c_j1);
-    w2c_j0 = w2c_l5;
-    w2c_i0 = (u32)(w2c_j0);
-    w2c_j1 = 0ull;
-    i64_store(m, (u64)(w2c_i0) + 280, w2c_j1);
-    w2c_j0 = w2c_l5;
-    w2c_j1 = 280ull;
+    w2c_j1 = 272ull;
     w2c_j0 += w2c_j1;
     w2c_j1 = w2c_l6;
-    w2c_j2 = w2c_l9;
+    w2c_j2 = w2c_l7;
     w2c_f33(m, w2c_j0, w2c_j1, w2c_j2);
     w2c_j0 = w2c_l5;
     w2c_i0 = (u32)(w2c_j0);
-    w2c_i0 = i32_load8_u(m, (u64)(w2c_i0) + 280u);
+    w2c_i0 = i32_load8_u(m, (u64)(w2c_i0) + 272u);
     w2c_i1 = 1u;
     w2c_i0 = w2c_i0 != w2c_i1;
-    if (w2c_i0) {goto w2c_B14;}
+    if (w2c_i0) {goto w2c_B3;}
     w2c_j0 = w2c_l5;
     w2c_i0 = (u32)(w2c_j0);
-    w2c_j0 = i64_load(m, (u64)(w2c_i0) + 312u);
-    w2c_l9 = w2c_j0;
+    w2c_j0 = i64_load(m, (u64)(w2c_i0) + 296u);
+    w2c_l7 = w2c_j0;
     w2c_j0 = w2c_l5;
     w2c_i0 = (u32)(w2c_j0);
-    w2c_j0 = i64_load(m, (u64)(w2c_i0) + 304u);
+    w2c_j0 = i64_load(m, (u64)(w2c_i0) + 288u);
     w2c_l6 = w2c_j0;
     w2c_j0 = w2c_l5;
     w2c_j1 = 8ull;
     w2c_j0 += w2c_j1;
     w2c_j1 = w2c_l5;
     w2c_i1 = (u32)(w2c_j1);
-    w2c_i1 = i32_load(m, (u64)(w2c_i1) + 288u);
+    w2c_i1 = i32_load(m, (u64)(w2c_i1) + 280u);
     w2c_f18(m, w2c_j0, w2c_i1);
     w2c_j0 = w2c_l5;
     w2c_i0 = (u32)(w2c_j0);
     w2c_i0 = i32_load8_u(m, (u64)(w2c_i0) + 8u);
     w2c_i1 = 1u;
     w2c_i0 = w2c_i0 == w2c_i1;
-    if (w2c_i0) {goto w2c_L29;}
+    if (w2c_i0) {goto w2c_L28;}
   w2c_j0 = w2c_l5;
   w2c_j1 = 240ull;
   w2c_j0 += w2c_j1;
@@ -29729,17 +28660,19 @@ static void w2c_f36(module *m, u64 w2c_p0, u32 w2c_p1, u64 w2c_p2, u64 w2c_p3, u
   w2c_j3 = w2c_p3;
   w2c_j4 = w2c_p4;
   w2c_f42(m, w2c_j0, w2c_i1, w2c_j2, w2c_j3, w2c_j4);
-  goto w2c_B13;
-  w2c_B15:;
+  goto w2c_B2;
+  w2c_B5:;
+  UNREACHABLE;
+  w2c_B4:;
   w2c_j0 = w2c_l5;
   w2c_j1 = 240ull;
   w2c_j0 += w2c_j1;
   w2c_j1 = w2c_p2;
   w2c_j2 = w2c_p3;
-  w2c_j3 = w2c_l8;
+  w2c_j3 = w2c_l10;
   w2c_f43(m, w2c_j0, w2c_j1, w2c_j2, w2c_j3);
-  goto w2c_B12;
-  w2c_B14:;
+  goto w2c_B1;
+  w2c_B3:;
   w2c_j0 = w2c_l5;
   w2c_j1 = 240ull;
   w2c_j0 += w2c_j1;
@@ -29747,7 +28680,7 @@ static void w2c_f36(module *m, u64 w2c_p0, u32 w2c_p1, u64 w2c_p2, u64 w2c_p3, u
   w2c_j2 = w2c_p3;
   w2c_j3 = w2c_p4;
   w2c_f43(m, w2c_j0, w2c_j1, w2c_j2, w2c_j3);
-  w2c_B13:;
+  w2c_B2:;
   w2c_j0 = w2c_l5;
   w2c_i0 = (u32)(w2c_j0);
   w2c_j0 = i64_load(m, (u64)(w2c_i0) + 256u);
@@ -29755,11 +28688,11 @@ static void w2c_f36(module *m, u64 w2c_p0, u32 w2c_p1, u64 w2c_p2, u64 w2c_p3, u
   w2c_j0 = w2c_l5;
   w2c_i0 = (u32)(w2c_j0);
   w2c_i0 = i32_load8_u(m, (u64)(w2c_i0) + 240u);
-  if (w2c_i0) {goto w2c_B30;}
+  if (w2c_i0) {goto w2c_B29;}
   w2c_j0 = w2c_l5;
   w2c_i0 = (u32)(w2c_j0);
   w2c_j0 = i64_load(m, (u64)(w2c_i0) + 264u);
-  w2c_l9 = w2c_j0;
+  w2c_l7 = w2c_j0;
   w2c_j0 = w2c_p0;
   w2c_i0 = (u32)(w2c_j0);
   w2c_j1 = 0ull;
@@ -29772,7 +28705,7 @@ static void w2c_f36(module *m, u64 w2c_p0, u32 w2c_p1, u64 w2c_p2, u64 w2c_p3, u
   w2c_j1 = 24ull;
   w2c_j0 += w2c_j1;
   w2c_i0 = (u32)(w2c_j0);
-  w2c_j1 = w2c_l9;
+  w2c_j1 = w2c_l7;
   i64_store(m, (u64)(w2c_i0), w2c_j1);
   w2c_j0 = w2c_p0;
   w2c_j1 = 16ull;
@@ -29793,11 +28726,11 @@ static void w2c_f36(module *m, u64 w2c_p0, u32 w2c_p1, u64 w2c_p2, u64 w2c_p3, u
   w2c_j1 = 0ull;
   i64_store(m, (u64)(w2c_i0), w2c_j1);
   goto w2c_B0;
-  w2c_B30:;
+  w2c_B29:;
   w2c_j0 = w2c_l5;
   w2c_i0 = (u32)(w2c_j0);
   w2c_j0 = i64_load8_u(m, (u64)(w2c_i0) + 248u);
-  w2c_l9 = w2c_j0;
+  w2c_l7 = w2c_j0;
   w2c_j0 = w2c_p0;
   w2c_i0 = (u32)(w2c_j0);
   w2c_j1 = 1ull;
@@ -29824,7 +28757,7 @@ static void w2c_f36(module *m, u64 w2c_p0, u32 w2c_p1, u64 w2c_p2, u64 w2c_p3, u
   w2c_j1 = 8ull;
   w2c_j0 += w2c_j1;
   w2c_i0 = (u32)(w2c_j0);
-  w2c_j1 = w2c_l9;
+  w2c_j1 = w2c_l7;
   i64_store(m, (u64)(w2c_i0), w2c_j1);
   w2c_j0 = w2c_p0;
   w2c_j1 = 40ull;
@@ -29833,73 +28766,73 @@ static void w2c_f36(module *m, u64 w2c_p0, u32 w2c_p1, u64 w2c_p2, u64 w2c_p3, u
   w2c_j1 = 0ull;
   i64_store(m, (u64)(w2c_i0), w2c_j1);
   goto w2c_B0;
-  w2c_B12:;
+  w2c_B1:;
   w2c_j0 = w2c_l5;
   w2c_i0 = (u32)(w2c_j0);
   w2c_j0 = i64_load(m, (u64)(w2c_i0) + 256u);
-  w2c_l10 = w2c_j0;
+  w2c_l9 = w2c_j0;
   w2c_j0 = w2c_l5;
   w2c_i0 = (u32)(w2c_j0);
   w2c_i0 = i32_load8_u(m, (u64)(w2c_i0) + 240u);
-  if (w2c_i0) {goto w2c_B31;}
+  if (w2c_i0) {goto w2c_B30;}
   w2c_j0 = w2c_l5;
   w2c_j1 = 176ull;
   w2c_j0 += w2c_j1;
   w2c_i1 = w2c_p1;
   w2c_i2 = 1u;
-  w2c_j3 = w2c_l10;
+  w2c_j3 = w2c_l9;
   w2c_j4 = w2c_l5;
   w2c_i4 = (u32)(w2c_j4);
   w2c_j4 = i64_load(m, (u64)(w2c_i4) + 264u);
   w2c_j5 = w2c_l6;
-  w2c_j6 = w2c_l9;
+  w2c_j6 = w2c_l7;
   w2c_f40(m, w2c_j0, w2c_i1, w2c_i2, w2c_j3, w2c_j4, w2c_j5, w2c_j6);
   w2c_j0 = w2c_l5;
   w2c_i0 = (u32)(w2c_j0);
   w2c_i0 = i32_load8_u(m, (u64)(w2c_i0) + 176u);
   w2c_i1 = 1u;
   w2c_i0 = w2c_i0 == w2c_i1;
-  if (w2c_i0) {goto w2c_B33;}
+  if (w2c_i0) {goto w2c_B32;}
   w2c_j0 = 2ull;
   w2c_l6 = w2c_j0;
   w2c_j0 = 1ull;
+  w2c_l7 = w2c_j0;
+  w2c_j0 = 0ull;
   w2c_l9 = w2c_j0;
   w2c_j0 = 0ull;
-  w2c_l10 = w2c_j0;
+  w2c_l8 = w2c_j0;
   w2c_j0 = 0ull;
-  w2c_p3 = w2c_j0;
+  w2c_p4 = w2c_j0;
+  goto w2c_B31;
+  w2c_B32:;
   w2c_j0 = 0ull;
   w2c_l7 = w2c_j0;
-  goto w2c_B32;
-  w2c_B33:;
-  w2c_j0 = 0ull;
-  w2c_l9 = w2c_j0;
   w2c_j0 = w2c_l5;
   w2c_i0 = (u32)(w2c_j0);
   w2c_j0 = i64_load(m, (u64)(w2c_i0) + 200u);
-  w2c_p3 = w2c_j0;
+  w2c_l8 = w2c_j0;
   w2c_j0 = w2c_l5;
   w2c_i0 = (u32)(w2c_j0);
   w2c_j0 = i64_load(m, (u64)(w2c_i0) + 192u);
-  w2c_l10 = w2c_j0;
+  w2c_l9 = w2c_j0;
   w2c_j0 = 0ull;
   w2c_l6 = w2c_j0;
-  w2c_B32:;
+  w2c_B31:;
   w2c_j0 = w2c_p0;
   w2c_i0 = (u32)(w2c_j0);
-  w2c_j1 = w2c_l9;
+  w2c_j1 = w2c_l7;
   i64_store(m, (u64)(w2c_i0), w2c_j1);
   w2c_j0 = w2c_p0;
   w2c_j1 = 24ull;
   w2c_j0 += w2c_j1;
   w2c_i0 = (u32)(w2c_j0);
-  w2c_j1 = w2c_p3;
+  w2c_j1 = w2c_l8;
   i64_store(m, (u64)(w2c_i0), w2c_j1);
   w2c_j0 = w2c_p0;
   w2c_j1 = 16ull;
   w2c_j0 += w2c_j1;
   w2c_i0 = (u32)(w2c_j0);
-  w2c_j1 = w2c_l10;
+  w2c_j1 = w2c_l9;
   i64_store(m, (u64)(w2c_i0), w2c_j1);
   w2c_j0 = w2c_p0;
   w2c_j1 = 40ull;
@@ -29911,7 +28844,7 @@ static void w2c_f36(module *m, u64 w2c_p0, u32 w2c_p1, u64 w2c_p2, u64 w2c_p3, u
   w2c_j1 = 32ull;
   w2c_j0 += w2c_j1;
   w2c_i0 = (u32)(w2c_j0);
-  w2c_j1 = w2c_l7;
+  w2c_j1 = w2c_p4;
   i64_store(m, (u64)(w2c_i0), w2c_j1);
   w2c_j0 = w2c_p0;
   w2c_j1 = 8ull;
@@ -29920,7 +28853,7 @@ static void w2c_f36(module *m, u64 w2c_p0, u32 w2c_p1, u64 w2c_p2, u64 w2c_p3, u
   w2c_j1 = w2c_l6;
   i64_store(m, (u64)(w2c_i0), w2c_j1);
   goto w2c_B0;
-  w2c_B31:;
+  w2c_B30:;
   w2c_j0 = w2c_l5;
   w2c_i0 = (u32)(w2c_j0);
   w2c_j0 = i64_load8_u(m, (u64)(w2c_i0) + 248u);
@@ -29939,7 +28872,7 @@ static void w2c_f36(module *m, u64 w2c_p0, u32 w2c_p1, u64 w2c_p2, u64 w2c_p3, u
   w2c_j1 = 16ull;
   w2c_j0 += w2c_j1;
   w2c_i0 = (u32)(w2c_j0);
-  w2c_j1 = w2c_l10;
+  w2c_j1 = w2c_l9;
   i64_store(m, (u64)(w2c_i0), w2c_j1);
   w2c_j0 = w2c_p0;
   w2c_j1 = 32ull;
@@ -29961,7 +28894,7 @@ static void w2c_f36(module *m, u64 w2c_p0, u32 w2c_p1, u64 w2c_p2, u64 w2c_p3, u
   i64_store(m, (u64)(w2c_i0), w2c_j1);
   w2c_B0:;
   w2c_j0 = w2c_l5;
-  w2c_j1 = 320ull;
+  w2c_j1 = 304ull;
   w2c_j0 += w2c_j1;
   m->w2c_g0 = w2c_j0;
 }
@@ -29997,18 +28930,14 @@ static void w2c_f37(module *m, u64 w2c_p0, u32 w2c_p1, u64 w2c_p2, u64 w2c_p3, u
   w2c_j1 = 0ull;
   i64_store(m, (u64)(w2c_i0) + 80, w2c_j1);
   w2c_j0 = w2c_l6;
-  w2c_i0 = (u32)(w2c_j0);
-  w2c_j1 = 0ull;
-  i64_store(m, (u64)(w2c_i0) + 72, w2c_j1);
-  w2c_j0 = w2c_l6;
-  w2c_j1 = 72ull;
+  w2c_j1 = 80ull;
   w2c_j0 += w2c_j1;
   w2c_j1 = w2c_p4;
   w2c_j2 = w2c_p5;
   w2c_f33(m, w2c_j0, w2c_j1, w2c_j2);
   w2c_j0 = w2c_l6;
   w2c_i0 = (u32)(w2c_j0);
-  w2c_i0 = i32_load8_u(m, (u64)(w2c_i0) + 72u);
+  w2c_i0 = i32_load8_u(m, (u64)(w2c_i0) + 80u);
   w2c_i1 = 1u;
   w2c_i0 = w2c_i0 != w2c_i1;
   if (w2c_i0) {goto w2c_B3;}
@@ -30031,22 +28960,22 @@ static void w2c_f37(module *m, u64 w2c_p0, u32 w2c_p1, u64 w2c_p2, u64 w2c_p3, u
     w2c_j0 = i64_load(m, (u64)(w2c_i0) + 96u);
     w2c_p4 = w2c_j0;
     w2c_j0 = w2c_l6;
-    w2c_j1 = 64ull;
+    w2c_j1 = 72ull;
     w2c_j0 += w2c_j1;
     w2c_j1 = w2c_l6;
     w2c_i1 = (u32)(w2c_j1);
-    w2c_i1 = i32_load(m, (u64)(w2c_i1) + 80u);
-    w2c_f19(m, w2c_j0, w2c_i1);
+    w2c_i1 = i32_load(m, (u64)(w2c_i1) + 88u);
+    w2c_f25(m, w2c_j0, w2c_i1);
     w2c_j0 = w2c_l6;
     w2c_i0 = (u32)(w2c_j0);
-    w2c_i0 = i32_load8_u(m, (u64)(w2c_i0) + 64u);
+    w2c_i0 = i32_load8_u(m, (u64)(w2c_i0) + 72u);
     w2c_i1 = 1u;
     w2c_i0 = w2c_i0 != w2c_i1;
     if (w2c_i0) {goto w2c_B5;}
     w2c_j0 = w2c_l7;
     w2c_j1 = w2c_l6;
     w2c_i1 = (u32)(w2c_j1);
-    w2c_i1 = i32_load8_u(m, (u64)(w2c_i1) + 65u);
+    w2c_i1 = i32_load8_u(m, (u64)(w2c_i1) + 73u);
     w2c_i2 = 1u;
     w2c_i1 <<= (w2c_i2 & 31);
     w2c_j1 = (u64)(w2c_i1);
@@ -30156,34 +29085,14 @@ static void w2c_f37(module *m, u64 w2c_p0, u32 w2c_p1, u64 w2c_p2, u64 w2c_p3, u
     w2c_p2 = w2c_j0;
     w2c_B5:;
     w2c_j0 = w2c_l6;
-    w2c_i0 = (u32)(w2c_j0);
-    w2c_j1 = 0ull;
-    i64_store(m, (u64)(w2c_i0) + 104, w2c_j1);
-    w2c_j0 = w2c_l6;
-    w2c_i0 = (u32)(w2c_j0);
-    w2c_j1 = 0ull;
-    i64_store(m, (u64)(w2c_i0) + 96, w2c_j1);
-    w2c_j0 = w2c_l6;
-    w2c_i0 = (u32)(w2c_j0);
-    w2c_j1 = 0ull;
-    i64_store(m, (u64)(w2c_i0) + 88, w2c_j1);
-    w2c_j0 = w2c_l6;
-    w2c_i0 = (u32)(w2c_j0);
-    w2c_j1 = 0ull;
-    i64_store(m, (u64)(w2c_i0) + 80, w2c_j1);
-    w2c_j0 = w2c_l6;
-    w2c_i0 = (u32)(w2c_j0);
-    w2c_j1 = 0ull;
-    i64_store(m, (u64)(w2c_i0) + 72, w2c_j1);
-    w2c_j0 = w2c_l6;
-    w2c_j1 = 72ull;
+    w2c_j1 = 80ull;
     w2c_j0 += w2c_j1;
     w2c_j1 = w2c_p4;
     w2c_j2 = w2c_p5;
     w2c_f33(m, w2c_j0, w2c_j1, w2c_j2);
     w2c_j0 = w2c_l6;
     w2c_i0 = (u32)(w2c_j0);
-    w2c_i0 = i32_load8_u(m, (u64)(w2c_i0) + 72u);
+    w2c_i0 = i32_load8_u(m, (u64)(w2c_i0) + 80u);
     w2c_i1 = 1u;
     w2c_i0 = w2c_i0 == w2c_i1;
     if (w2c_i0) {goto w2c_L4;}
@@ -30381,12 +29290,12 @@ static void w2c_f38(module *m, u64 w2c_p0, u32 w2c_p1, u32 w2c_p2) {
 }
 
 static void w2c_f39(module *m, u64 w2c_p0, u64 w2c_p1, u64 w2c_p2) {
-  u32 w2c_l6 = 0, w2c_l7 = 0, w2c_l8 = 0, w2c_l9 = 0;
-  u64 w2c_l3 = 0, w2c_l4 = 0, w2c_l5 = 0;
-  u32 w2c_i0, w2c_i1, w2c_i2;
+  u32 w2c_l5 = 0, w2c_l6 = 0, w2c_l7 = 0, w2c_l8 = 0;
+  u64 w2c_l3 = 0, w2c_l4 = 0;
+  u32 w2c_i0, w2c_i1, w2c_i2, w2c_i3;
   u64 w2c_j0, w2c_j1, w2c_j2, w2c_j3;
   w2c_j0 = m->w2c_g0;
-  w2c_j1 = 64ull;
+  w2c_j1 = 96ull;
   w2c_j0 -= w2c_j1;
   w2c_l3 = w2c_j0;
   m->w2c_g0 = w2c_j0;
@@ -30414,135 +29323,125 @@ static void w2c_f39(module *m, u64 w2c_p0, u64 w2c_p1, u64 w2c_p2) {
   w2c_j1 = 0ull;
   i64_store(m, (u64)(w2c_i0) + 32, w2c_j1);
   w2c_j0 = w2c_l3;
-  w2c_i0 = (u32)(w2c_j0);
-  w2c_j1 = 0ull;
-  i64_store(m, (u64)(w2c_i0) + 24, w2c_j1);
-  w2c_j0 = w2c_l3;
-  w2c_j1 = 24ull;
+  w2c_j1 = 32ull;
   w2c_j0 += w2c_j1;
   w2c_j1 = w2c_p1;
   w2c_j2 = w2c_p2;
   w2c_f33(m, w2c_j0, w2c_j1, w2c_j2);
   w2c_i0 = 1u;
-  w2c_l6 = w2c_i0;
+  w2c_l5 = w2c_i0;
   w2c_j0 = w2c_l3;
   w2c_i0 = (u32)(w2c_j0);
-  w2c_i0 = i32_load8_u(m, (u64)(w2c_i0) + 24u);
+  w2c_i0 = i32_load8_u(m, (u64)(w2c_i0) + 32u);
   w2c_i1 = 1u;
   w2c_i0 = w2c_i0 != w2c_i1;
   if (w2c_i0) {goto w2c_B1;}
   w2c_j0 = w2c_l3;
   w2c_i0 = (u32)(w2c_j0);
-  w2c_j0 = i64_load(m, (u64)(w2c_i0) + 56u);
-  w2c_l4 = w2c_j0;
-  w2c_j0 = w2c_l3;
-  w2c_i0 = (u32)(w2c_j0);
-  w2c_j0 = i64_load(m, (u64)(w2c_i0) + 48u);
-  w2c_l5 = w2c_j0;
-  w2c_j0 = w2c_l3;
-  w2c_i0 = (u32)(w2c_j0);
-  w2c_i0 = i32_load(m, (u64)(w2c_i0) + 32u);
-  w2c_l6 = w2c_i0;
+  w2c_i0 = i32_load(m, (u64)(w2c_i0) + 40u);
+  w2c_l5 = w2c_i0;
   w2c_i1 = 65294u;
   w2c_i0 = w2c_i0 == w2c_i1;
   if (w2c_i0) {goto w2c_B3;}
-  w2c_i0 = w2c_l6;
+  w2c_i0 = w2c_l5;
   w2c_i1 = 46u;
   w2c_i0 = w2c_i0 != w2c_i1;
   if (w2c_i0) {goto w2c_B2;}
   w2c_B3:;
   w2c_j0 = w2c_l3;
-  w2c_j1 = 8ull;
+  w2c_j1 = 16ull;
   w2c_j0 += w2c_j1;
   w2c_i1 = 0u;
-  w2c_j2 = w2c_l5;
-  w2c_j3 = w2c_l4;
+  w2c_j2 = w2c_l3;
+  w2c_i2 = (u32)(w2c_j2);
+  w2c_j2 = i64_load(m, (u64)(w2c_i2) + 48u);
+  w2c_j3 = w2c_l3;
+  w2c_i3 = (u32)(w2c_j3);
+  w2c_j3 = i64_load(m, (u64)(w2c_i3) + 56u);
   w2c_f41(m, w2c_j0, w2c_i1, w2c_j2, w2c_j3);
   w2c_j0 = w2c_l3;
   w2c_i0 = (u32)(w2c_j0);
-  w2c_j0 = i64_load(m, (u64)(w2c_i0) + 16u);
+  w2c_j0 = i64_load(m, (u64)(w2c_i0) + 24u);
   w2c_l4 = w2c_j0;
   w2c_j0 = w2c_l3;
   w2c_i0 = (u32)(w2c_j0);
-  w2c_i0 = i32_load8_u(m, (u64)(w2c_i0) + 8u);
-  w2c_l6 = w2c_i0;
+  w2c_i0 = i32_load8_u(m, (u64)(w2c_i0) + 16u);
+  w2c_l5 = w2c_i0;
   goto w2c_B1;
   w2c_B2:;
+  w2c_j0 = w2c_l3;
+  w2c_i0 = (u32)(w2c_j0);
+  w2c_j1 = 0ull;
+  i64_store(m, (u64)(w2c_i0) + 88, w2c_j1);
+  w2c_j0 = w2c_l3;
+  w2c_i0 = (u32)(w2c_j0);
+  w2c_j1 = 0ull;
+  i64_store(m, (u64)(w2c_i0) + 80, w2c_j1);
+  w2c_j0 = w2c_l3;
+  w2c_i0 = (u32)(w2c_j0);
+  w2c_j1 = 0ull;
+  i64_store(m, (u64)(w2c_i0) + 72, w2c_j1);
+  w2c_j0 = w2c_l3;
+  w2c_i0 = (u32)(w2c_j0);
+  w2c_j1 = 0ull;
+  i64_store(m, (u64)(w2c_i0) + 64, w2c_j1);
   w2c_i0 = 1u;
-  w2c_l6 = w2c_i0;
+  w2c_l5 = w2c_i0;
   w2c_L5:
     w2c_j0 = w2c_l3;
-    w2c_i0 = (u32)(w2c_j0);
-    w2c_j1 = 0ull;
-    i64_store(m, (u64)(w2c_i0) + 56, w2c_j1);
-    w2c_j0 = w2c_l3;
-    w2c_i0 = (u32)(w2c_j0);
-    w2c_j1 = 0ull;
-    i64_store(m, (u64)(w2c_i0) + 48, w2c_j1);
-    w2c_j0 = w2c_l3;
-    w2c_i0 = (u32)(w2c_j0);
-    w2c_j1 = 0ull;
-    i64_store(m, (u64)(w2c_i0) + 40, w2c_j1);
-    w2c_j0 = w2c_l3;
-    w2c_i0 = (u32)(w2c_j0);
-    w2c_j1 = 0ull;
-    i64_store(m, (u64)(w2c_i0) + 32, w2c_j1);
-    w2c_j0 = w2c_l3;
-    w2c_i0 = (u32)(w2c_j0);
-    w2c_j1 = 0ull;
-    i64_store(m, (u64)(w2c_i0) + 24, w2c_j1);
-    w2c_j0 = w2c_l3;
-    w2c_j1 = 24ull;
+    w2c_j1 = 64ull;
     w2c_j0 += w2c_j1;
     w2c_j1 = w2c_p1;
     w2c_j2 = w2c_p2;
     w2c_f33(m, w2c_j0, w2c_j1, w2c_j2);
     w2c_j0 = w2c_l3;
     w2c_i0 = (u32)(w2c_j0);
-    w2c_i0 = i32_load8_u(m, (u64)(w2c_i0) + 24u);
-    w2c_l7 = w2c_i0;
+    w2c_i0 = i32_load8_u(m, (u64)(w2c_i0) + 64u);
+    w2c_l6 = w2c_i0;
     w2c_i1 = 1u;
     w2c_i0 = w2c_i0 != w2c_i1;
     if (w2c_i0) {goto w2c_B4;}
     w2c_j0 = w2c_l3;
     w2c_i0 = (u32)(w2c_j0);
-    w2c_j0 = i64_load(m, (u64)(w2c_i0) + 56u);
+    w2c_j0 = i64_load(m, (u64)(w2c_i0) + 88u);
     w2c_p2 = w2c_j0;
     w2c_j0 = w2c_l3;
     w2c_i0 = (u32)(w2c_j0);
-    w2c_j0 = i64_load(m, (u64)(w2c_i0) + 48u);
+    w2c_j0 = i64_load(m, (u64)(w2c_i0) + 80u);
     w2c_p1 = w2c_j0;
     w2c_j0 = w2c_l3;
+    w2c_j1 = 8ull;
+    w2c_j0 += w2c_j1;
     w2c_j1 = w2c_l3;
     w2c_i1 = (u32)(w2c_j1);
-    w2c_i1 = i32_load(m, (u64)(w2c_i1) + 32u);
-    w2c_f19(m, w2c_j0, w2c_i1);
+    w2c_i1 = i32_load(m, (u64)(w2c_i1) + 72u);
+    w2c_f25(m, w2c_j0, w2c_i1);
     w2c_j0 = w2c_l3;
     w2c_i0 = (u32)(w2c_j0);
-    w2c_i0 = i32_load8_u(m, (u64)(w2c_i0));
+    w2c_i0 = i32_load8_u(m, (u64)(w2c_i0) + 8u);
     w2c_i1 = 1u;
     w2c_i0 = w2c_i0 != w2c_i1;
     if (w2c_i0) {goto w2c_B4;}
-    w2c_i0 = w2c_l6;
+    w2c_i0 = w2c_l5;
     w2c_i1 = 255u;
     w2c_i0 &= w2c_i1;
-    w2c_l8 = w2c_i0;
+    w2c_l7 = w2c_i0;
     w2c_j0 = w2c_l3;
     w2c_i0 = (u32)(w2c_j0);
-    w2c_i0 = i32_load8_u(m, (u64)(w2c_i0) + 1u);
-    w2c_l9 = w2c_i0;
-    w2c_l6 = w2c_i0;
-    w2c_i0 = w2c_l8;
-    w2c_i1 = w2c_l9;
+    w2c_i0 = i32_load8_u(m, (u64)(w2c_i0) + 9u);
+    w2c_l8 = w2c_i0;
+    w2c_l5 = w2c_i0;
+    w2c_i0 = w2c_l7;
+    w2c_i1 = w2c_l8;
     w2c_i2 = 255u;
     w2c_i1 &= w2c_i2;
     w2c_i0 = w2c_i0 < w2c_i1;
     if (w2c_i0) {goto w2c_L5;}
   w2c_B4:;
-  w2c_i0 = w2c_l7;
+  w2c_i0 = w2c_l6;
   w2c_i1 = 1u;
   w2c_i0 = w2c_i0 != w2c_i1;
-  w2c_l6 = w2c_i0;
+  w2c_l5 = w2c_i0;
   w2c_j0 = 0ull;
   w2c_l4 = w2c_j0;
   w2c_B1:;
@@ -30552,10 +29451,10 @@ static void w2c_f39(module *m, u64 w2c_p0, u64 w2c_p1, u64 w2c_p2) {
   i64_store(m, (u64)(w2c_i0) + 8, w2c_j1);
   w2c_j0 = w2c_p0;
   w2c_i0 = (u32)(w2c_j0);
-  w2c_i1 = w2c_l6;
+  w2c_i1 = w2c_l5;
   i32_store8(m, (u64)(w2c_i0), w2c_i1);
   w2c_j0 = w2c_l3;
-  w2c_j1 = 64ull;
+  w2c_j1 = 96ull;
   w2c_j0 += w2c_j1;
   m->w2c_g0 = w2c_j0;
   goto w2c_Bfunc;
@@ -30570,7 +29469,7 @@ static void w2c_f40(module *m, u64 w2c_p0, u32 w2c_p1, u32 w2c_p2, u64 w2c_p3, u
   u32 w2c_i0, w2c_i1, w2c_i2;
   u64 w2c_j0, w2c_j1, w2c_j2, w2c_j3, w2c_j4, w2c_j5;
   w2c_j0 = m->w2c_g0;
-  w2c_j1 = 128ull;
+  w2c_j1 = 112ull;
   w2c_j0 -= w2c_j1;
   w2c_l7 = w2c_j0;
   m->w2c_g0 = w2c_j0;
@@ -30598,14 +29497,6 @@ static void w2c_f40(module *m, u64 w2c_p0, u32 w2c_p1, u32 w2c_p2, u64 w2c_p3, u
   w2c_j0 = w2c_l7;
   w2c_i0 = (u32)(w2c_j0);
   w2c_j1 = 0ull;
-  i64_store(m, (u64)(w2c_i0) + 120, w2c_j1);
-  w2c_j0 = w2c_l7;
-  w2c_i0 = (u32)(w2c_j0);
-  w2c_j1 = 0ull;
-  i64_store(m, (u64)(w2c_i0) + 112, w2c_j1);
-  w2c_j0 = w2c_l7;
-  w2c_i0 = (u32)(w2c_j0);
-  w2c_j1 = 0ull;
   i64_store(m, (u64)(w2c_i0) + 104, w2c_j1);
   w2c_j0 = w2c_l7;
   w2c_i0 = (u32)(w2c_j0);
@@ -30616,25 +29507,29 @@ static void w2c_f40(module *m, u64 w2c_p0, u32 w2c_p1, u32 w2c_p2, u64 w2c_p3, u
   w2c_j1 = 0ull;
   i64_store(m, (u64)(w2c_i0) + 88, w2c_j1);
   w2c_j0 = w2c_l7;
-  w2c_j1 = 88ull;
+  w2c_i0 = (u32)(w2c_j0);
+  w2c_j1 = 0ull;
+  i64_store(m, (u64)(w2c_i0) + 80, w2c_j1);
+  w2c_j0 = w2c_l7;
+  w2c_j1 = 80ull;
   w2c_j0 += w2c_j1;
   w2c_j1 = w2c_p5;
   w2c_j2 = w2c_p6;
   w2c_f33(m, w2c_j0, w2c_j1, w2c_j2);
   w2c_j0 = w2c_l7;
   w2c_i0 = (u32)(w2c_j0);
-  w2c_i0 = i32_load8_u(m, (u64)(w2c_i0) + 88u);
+  w2c_i0 = i32_load8_u(m, (u64)(w2c_i0) + 80u);
   w2c_i1 = 1u;
   w2c_i0 = w2c_i0 != w2c_i1;
   if (w2c_i0) {goto w2c_B3;}
   w2c_L4:
     w2c_j0 = w2c_l7;
     w2c_i0 = (u32)(w2c_j0);
-    w2c_j0 = i64_load(m, (u64)(w2c_i0) + 120u);
+    w2c_j0 = i64_load(m, (u64)(w2c_i0) + 104u);
     w2c_l8 = w2c_j0;
     w2c_j0 = w2c_l7;
     w2c_i0 = (u32)(w2c_j0);
-    w2c_j0 = i64_load(m, (u64)(w2c_i0) + 112u);
+    w2c_j0 = i64_load(m, (u64)(w2c_i0) + 96u);
     w2c_l9 = w2c_j0;
     w2c_j0 = w2c_l7;
     w2c_j1 = 40ull;
@@ -30642,7 +29537,7 @@ static void w2c_f40(module *m, u64 w2c_p0, u32 w2c_p1, u32 w2c_p2, u64 w2c_p3, u
     w2c_i1 = w2c_p2;
     w2c_j2 = w2c_l7;
     w2c_i2 = (u32)(w2c_j2);
-    w2c_i2 = i32_load(m, (u64)(w2c_i2) + 96u);
+    w2c_i2 = i32_load(m, (u64)(w2c_i2) + 88u);
     w2c_f38(m, w2c_j0, w2c_i1, w2c_i2);
     w2c_j0 = w2c_l7;
     w2c_i0 = (u32)(w2c_j0);
@@ -30719,34 +29614,14 @@ static void w2c_f40(module *m, u64 w2c_p0, u32 w2c_p1, u32 w2c_p2, u64 w2c_p3, u
     w2c_p4 = w2c_j0;
     w2c_B5:;
     w2c_j0 = w2c_l7;
-    w2c_i0 = (u32)(w2c_j0);
-    w2c_j1 = 0ull;
-    i64_store(m, (u64)(w2c_i0) + 120, w2c_j1);
-    w2c_j0 = w2c_l7;
-    w2c_i0 = (u32)(w2c_j0);
-    w2c_j1 = 0ull;
-    i64_store(m, (u64)(w2c_i0) + 112, w2c_j1);
-    w2c_j0 = w2c_l7;
-    w2c_i0 = (u32)(w2c_j0);
-    w2c_j1 = 0ull;
-    i64_store(m, (u64)(w2c_i0) + 104, w2c_j1);
-    w2c_j0 = w2c_l7;
-    w2c_i0 = (u32)(w2c_j0);
-    w2c_j1 = 0ull;
-    i64_store(m, (u64)(w2c_i0) + 96, w2c_j1);
-    w2c_j0 = w2c_l7;
-    w2c_i0 = (u32)(w2c_j0);
-    w2c_j1 = 0ull;
-    i64_store(m, (u64)(w2c_i0) + 88, w2c_j1);
-    w2c_j0 = w2c_l7;
-    w2c_j1 = 88ull;
+    w2c_j1 = 80ull;
     w2c_j0 += w2c_j1;
     w2c_j1 = w2c_l9;
     w2c_j2 = w2c_l8;
     w2c_f33(m, w2c_j0, w2c_j1, w2c_j2);
     w2c_j0 = w2c_l7;
     w2c_i0 = (u32)(w2c_j0);
-    w2c_i0 = i32_load8_u(m, (u64)(w2c_i0) + 88u);
+    w2c_i0 = i32_load8_u(m, (u64)(w2c_i0) + 80u);
     w2c_i1 = 1u;
     w2c_i0 = w2c_i0 == w2c_i1;
     if (w2c_i0) {goto w2c_L4;}
@@ -30809,14 +29684,14 @@ static void w2c_f40(module *m, u64 w2c_p0, u32 w2c_p1, u32 w2c_p2, u64 w2c_p3, u
   UNREACHABLE;
   w2c_B0:;
   w2c_j0 = w2c_l7;
-  w2c_j1 = 128ull;
+  w2c_j1 = 112ull;
   w2c_j0 += w2c_j1;
   m->w2c_g0 = w2c_j0;
 }
 
 static void w2c_f41(module *m, u64 w2c_p0, u32 w2c_p1, u64 w2c_p2, u64 w2c_p3) {
-  u32 w2c_l8 = 0, w2c_l9 = 0, w2c_l10 = 0;
-  u64 w2c_l4 = 0, w2c_l5 = 0, w2c_l6 = 0, w2c_l7 = 0;
+  u32 w2c_l9 = 0, w2c_l10 = 0, w2c_l11 = 0;
+  u64 w2c_l4 = 0, w2c_l5 = 0, w2c_l6 = 0, w2c_l7 = 0, w2c_l8 = 0;
   u32 w2c_i0, w2c_i1, w2c_i2;
   u64 w2c_j0, w2c_j1, w2c_j2;
   w2c_j0 = m->w2c_g0;
@@ -30828,7 +29703,7 @@ static void w2c_f41(module *m, u64 w2c_p0, u32 w2c_p1, u64 w2c_p2, u64 w2c_p3) {
   w2c_l4 = w2c_j0;
   w2c_j1 = 16ull;
   w2c_i0 = (u64)((s64)w2c_j0 < (s64)w2c_j1);
-  if (w2c_i0) {goto w2c_B3;}
+  if (w2c_i0) {goto w2c_B0;}
   w2c_j0 = 0ull;
   w2c_l5 = w2c_j0;
   w2c_j0 = w2c_l4;
@@ -30848,21 +29723,21 @@ static void w2c_f41(module *m, u64 w2c_p0, u32 w2c_p1, u64 w2c_p2, u64 w2c_p3) {
   w2c_j1 = 0ull;
   i64_store(m, (u64)(w2c_i0) + 32, w2c_j1);
   w2c_j0 = w2c_l4;
-  w2c_i0 = (u32)(w2c_j0);
-  w2c_j1 = 0ull;
-  i64_store(m, (u64)(w2c_i0) + 24, w2c_j1);
-  w2c_j0 = w2c_l4;
-  w2c_j1 = 24ull;
+  w2c_j1 = 32ull;
   w2c_j0 += w2c_j1;
   w2c_j1 = w2c_p2;
   w2c_j2 = w2c_p3;
   w2c_f33(m, w2c_j0, w2c_j1, w2c_j2);
   w2c_j0 = w2c_l4;
   w2c_i0 = (u32)(w2c_j0);
-  w2c_i0 = i32_load8_u(m, (u64)(w2c_i0) + 24u);
+  w2c_i0 = i32_load8_u(m, (u64)(w2c_i0) + 32u);
   w2c_i1 = 1u;
-  w2c_i0 = w2c_i0 != w2c_i1;
-  if (w2c_i0) {goto w2c_B1;}
+  w2c_i0 = w2c_i0 == w2c_i1;
+  if (w2c_i0) {goto w2c_B2;}
+  w2c_i0 = 0u;
+  w2c_l9 = w2c_i0;
+  goto w2c_B1;
+  w2c_B2:;
   w2c_j0 = w2c_l4;
   w2c_i0 = (u32)(w2c_j0);
   w2c_j0 = i64_load(m, (u64)(w2c_i0) + 56u);
@@ -30872,62 +29747,44 @@ static void w2c_f41(module *m, u64 w2c_p0, u32 w2c_p1, u64 w2c_p2, u64 w2c_p3) {
   w2c_j0 = i64_load(m, (u64)(w2c_i0) + 48u);
   w2c_l7 = w2c_j0;
   w2c_j0 = w2c_l4;
-  w2c_j1 = 16ull;
+  w2c_j1 = 24ull;
   w2c_j0 += w2c_j1;
   w2c_i1 = w2c_p1;
   w2c_j2 = w2c_l4;
   w2c_i2 = (u32)(w2c_j2);
-  w2c_i2 = i32_load(m, (u64)(w2c_i2) + 32u);
+  w2c_i2 = i32_load(m, (u64)(w2c_i2) + 40u);
   w2c_f38(m, w2c_j0, w2c_i1, w2c_i2);
   w2c_j0 = w2c_l4;
   w2c_i0 = (u32)(w2c_j0);
-  w2c_i0 = i32_load8_u(m, (u64)(w2c_i0) + 16u);
+  w2c_i0 = i32_load8_u(m, (u64)(w2c_i0) + 24u);
   w2c_i1 = 1u;
-  w2c_i0 = w2c_i0 == w2c_i1;
+  w2c_i0 = w2c_i0 != w2c_i1;
   if (w2c_i0) {goto w2c_B4;}
-  w2c_j0 = 0ull;
+  w2c_j0 = 18446744073709551615ull;
   w2c_l5 = w2c_j0;
-  w2c_i0 = 0u;
-  w2c_l8 = w2c_i0;
-  goto w2c_B0;
+  goto w2c_B3;
   w2c_B4:;
-  w2c_j0 = 0ull;
-  w2c_l5 = w2c_j0;
-  w2c_L5:
+  w2c_i0 = 0u;
+  w2c_l9 = w2c_i0;
+  goto w2c_B1;
+  w2c_B3:;
+  w2c_L6:
+    w2c_j0 = w2c_l5;
+    w2c_l8 = w2c_j0;
     w2c_j0 = w2c_l4;
-    w2c_i0 = (u32)(w2c_j0);
-    w2c_j1 = 0ull;
-    i64_store(m, (u64)(w2c_i0) + 56, w2c_j1);
-    w2c_j0 = w2c_l4;
-    w2c_i0 = (u32)(w2c_j0);
-    w2c_j1 = 0ull;
-    i64_store(m, (u64)(w2c_i0) + 48, w2c_j1);
-    w2c_j0 = w2c_l4;
-    w2c_i0 = (u32)(w2c_j0);
-    w2c_j1 = 0ull;
-    i64_store(m, (u64)(w2c_i0) + 40, w2c_j1);
-    w2c_j0 = w2c_l4;
-    w2c_i0 = (u32)(w2c_j0);
-    w2c_j1 = 0ull;
-    i64_store(m, (u64)(w2c_i0) + 32, w2c_j1);
-    w2c_j0 = w2c_l4;
-    w2c_i0 = (u32)(w2c_j0);
-    w2c_j1 = 0ull;
-    i64_store(m, (u64)(w2c_i0) + 24, w2c_j1);
-    w2c_j0 = w2c_l4;
-    w2c_j1 = 24ull;
+    w2c_j1 = 32ull;
     w2c_j0 += w2c_j1;
     w2c_j1 = w2c_l7;
-    w2c_p2 = w2c_j1;
+    w2c_p3 = w2c_j1;
     w2c_j2 = w2c_l6;
-    w2c_p3 = w2c_j2;
+    w2c_p2 = w2c_j2;
     w2c_f33(m, w2c_j0, w2c_j1, w2c_j2);
     w2c_j0 = w2c_l4;
     w2c_i0 = (u32)(w2c_j0);
-    w2c_i0 = i32_load8_u(m, (u64)(w2c_i0) + 24u);
+    w2c_i0 = i32_load8_u(m, (u64)(w2c_i0) + 32u);
     w2c_i1 = 1u;
     w2c_i0 = w2c_i0 != w2c_i1;
-    if (w2c_i0) {goto w2c_B2;}
+    if (w2c_i0) {goto w2c_B5;}
     w2c_j0 = w2c_l4;
     w2c_i0 = (u32)(w2c_j0);
     w2c_j0 = i64_load(m, (u64)(w2c_i0) + 56u);
@@ -30937,136 +29794,135 @@ static void w2c_f41(module *m, u64 w2c_p0, u32 w2c_p1, u64 w2c_p2, u64 w2c_p3) {
     w2c_j0 = i64_load(m, (u64)(w2c_i0) + 48u);
     w2c_l7 = w2c_j0;
     w2c_j0 = w2c_l4;
-    w2c_j1 = 8ull;
+    w2c_j1 = 16ull;
     w2c_j0 += w2c_j1;
     w2c_i1 = w2c_p1;
     w2c_j2 = w2c_l4;
     w2c_i2 = (u32)(w2c_j2);
-    w2c_i2 = i32_load(m, (u64)(w2c_i2) + 32u);
+    w2c_i2 = i32_load(m, (u64)(w2c_i2) + 40u);
     w2c_f38(m, w2c_j0, w2c_i1, w2c_i2);
-    w2c_j0 = w2c_l5;
-    w2c_j1 = 1ull;
+    w2c_j0 = w2c_l8;
+    w2c_j1 = 18446744073709551615ull;
     w2c_j0 += w2c_j1;
     w2c_l5 = w2c_j0;
+    w2c_j0 = w2c_l4;
+    w2c_i0 = (u32)(w2c_j0);
+    w2c_i0 = i32_load8_u(m, (u64)(w2c_i0) + 16u);
+    w2c_i1 = 1u;
+    w2c_i0 = w2c_i0 == w2c_i1;
+    if (w2c_i0) {goto w2c_L6;}
+  w2c_B5:;
+  w2c_j0 = 0ull;
+  w2c_l5 = w2c_j0;
+  w2c_i0 = 0u;
+  w2c_l9 = w2c_i0;
+  w2c_j0 = w2c_l8;
+  w2c_i0 = !(w2c_j0);
+  if (w2c_i0) {goto w2c_B1;}
+  w2c_j0 = 0ull;
+  w2c_j1 = w2c_l8;
+  w2c_j0 -= w2c_j1;
+  w2c_l5 = w2c_j0;
+  w2c_j0 = w2c_l4;
+  w2c_i0 = (u32)(w2c_j0);
+  w2c_j1 = 0ull;
+  i64_store(m, (u64)(w2c_i0) + 56, w2c_j1);
+  w2c_j0 = w2c_l4;
+  w2c_i0 = (u32)(w2c_j0);
+  w2c_j1 = 0ull;
+  i64_store(m, (u64)(w2c_i0) + 48, w2c_j1);
+  w2c_j0 = w2c_l4;
+  w2c_i0 = (u32)(w2c_j0);
+  w2c_j1 = 0ull;
+  i64_store(m, (u64)(w2c_i0) + 40, w2c_j1);
+  w2c_j0 = w2c_l4;
+  w2c_i0 = (u32)(w2c_j0);
+  w2c_j1 = 0ull;
+  i64_store(m, (u64)(w2c_i0) + 32, w2c_j1);
+  w2c_i0 = 1u;
+  w2c_p1 = w2c_i0;
+  w2c_L7:
+    w2c_j0 = w2c_l4;
+    w2c_j1 = 32ull;
+    w2c_j0 += w2c_j1;
+    w2c_j1 = w2c_p3;
+    w2c_j2 = w2c_p2;
+    w2c_f33(m, w2c_j0, w2c_j1, w2c_j2);
+    w2c_j0 = w2c_l4;
+    w2c_i0 = (u32)(w2c_j0);
+    w2c_i0 = i32_load8_u(m, (u64)(w2c_i0) + 32u);
+    w2c_i1 = 1u;
+    w2c_i0 = w2c_i0 == w2c_i1;
+    if (w2c_i0) {goto w2c_B8;}
+    w2c_i0 = 1u;
+    w2c_l9 = w2c_i0;
+    goto w2c_B1;
+    w2c_B8:;
+    w2c_j0 = w2c_l4;
+    w2c_i0 = (u32)(w2c_j0);
+    w2c_j0 = i64_load(m, (u64)(w2c_i0) + 56u);
+    w2c_p2 = w2c_j0;
+    w2c_j0 = w2c_l4;
+    w2c_i0 = (u32)(w2c_j0);
+    w2c_j0 = i64_load(m, (u64)(w2c_i0) + 48u);
+    w2c_p3 = w2c_j0;
+    w2c_j0 = w2c_l4;
+    w2c_j1 = 8ull;
+    w2c_j0 += w2c_j1;
+    w2c_j1 = w2c_l4;
+    w2c_i1 = (u32)(w2c_j1);
+    w2c_i1 = i32_load(m, (u64)(w2c_i1) + 40u);
+    w2c_f25(m, w2c_j0, w2c_i1);
     w2c_j0 = w2c_l4;
     w2c_i0 = (u32)(w2c_j0);
     w2c_i0 = i32_load8_u(m, (u64)(w2c_i0) + 8u);
     w2c_i1 = 1u;
     w2c_i0 = w2c_i0 != w2c_i1;
-    if (w2c_i0) {goto w2c_B1;}
-    goto w2c_L5;
-  UNREACHABLE;
-  w2c_B3:;
-  UNREACHABLE;
-  w2c_B2:;
-  w2c_j0 = w2c_l5;
-  w2c_j1 = 1ull;
-  w2c_j0 += w2c_j1;
-  w2c_l5 = w2c_j0;
-  w2c_B1:;
-  w2c_i0 = 0u;
-  w2c_l8 = w2c_i0;
-  w2c_j0 = w2c_l5;
-  w2c_i0 = !(w2c_j0);
-  if (w2c_i0) {goto w2c_B6;}
-  w2c_i0 = 1u;
-  w2c_p1 = w2c_i0;
-  w2c_L7:
-    w2c_j0 = w2c_l4;
-    w2c_i0 = (u32)(w2c_j0);
-    w2c_j1 = 0ull;
-    i64_store(m, (u64)(w2c_i0) + 56, w2c_j1);
-    w2c_j0 = w2c_l4;
-    w2c_i0 = (u32)(w2c_j0);
-    w2c_j1 = 0ull;
-    i64_store(m, (u64)(w2c_i0) + 48, w2c_j1);
-    w2c_j0 = w2c_l4;
-    w2c_i0 = (u32)(w2c_j0);
-    w2c_j1 = 0ull;
-    i64_store(m, (u64)(w2c_i0) + 40, w2c_j1);
-    w2c_j0 = w2c_l4;
-    w2c_i0 = (u32)(w2c_j0);
-    w2c_j1 = 0ull;
-    i64_store(m, (u64)(w2c_i0) + 32, w2c_j1);
-    w2c_j0 = w2c_l4;
-    w2c_i0 = (u32)(w2c_j0);
-    w2c_j1 = 0ull;
-    i64_store(m, (u64)(w2c_i0) + 24, w2c_j1);
-    w2c_j0 = w2c_l4;
-    w2c_j1 = 24ull;
-    w2c_j0 += w2c_j1;
-    w2c_j1 = w2c_p2;
-    w2c_j2 = w2c_p3;
-    w2c_f33(m, w2c_j0, w2c_j1, w2c_j2);
-    w2c_j0 = w2c_l4;
-    w2c_i0 = (u32)(w2c_j0);
-    w2c_i0 = i32_load8_u(m, (u64)(w2c_i0) + 24u);
-    w2c_i1 = 1u;
-    w2c_i0 = w2c_i0 == w2c_i1;
-    if (w2c_i0) {goto w2c_B8;}
-    w2c_i0 = 1u;
-    w2c_l8 = w2c_i0;
-    goto w2c_B0;
-    w2c_B8:;
-    w2c_j0 = w2c_l4;
-    w2c_i0 = (u32)(w2c_j0);
-    w2c_j0 = i64_load(m, (u64)(w2c_i0) + 56u);
-    w2c_p3 = w2c_j0;
-    w2c_j0 = w2c_l4;
-    w2c_i0 = (u32)(w2c_j0);
-    w2c_j0 = i64_load(m, (u64)(w2c_i0) + 48u);
-    w2c_p2 = w2c_j0;
-    w2c_j0 = w2c_l4;
-    w2c_j1 = w2c_l4;
-    w2c_i1 = (u32)(w2c_j1);
-    w2c_i1 = i32_load(m, (u64)(w2c_i1) + 32u);
-    w2c_f19(m, w2c_j0, w2c_i1);
-    w2c_j0 = w2c_l4;
-    w2c_i0 = (u32)(w2c_j0);
-    w2c_i0 = i32_load8_u(m, (u64)(w2c_i0));
-    w2c_i1 = 1u;
-    w2c_i0 = w2c_i0 != w2c_i1;
-    if (w2c_i0) {goto w2c_B6;}
+    if (w2c_i0) {goto w2c_B9;}
     w2c_i0 = w2c_p1;
     w2c_i1 = 255u;
     w2c_i0 &= w2c_i1;
-    w2c_l9 = w2c_i0;
+    w2c_l10 = w2c_i0;
     w2c_j0 = w2c_l4;
     w2c_i0 = (u32)(w2c_j0);
-    w2c_i0 = i32_load8_u(m, (u64)(w2c_i0) + 1u);
-    w2c_l10 = w2c_i0;
+    w2c_i0 = i32_load8_u(m, (u64)(w2c_i0) + 9u);
+    w2c_l11 = w2c_i0;
     w2c_p1 = w2c_i0;
-    w2c_i0 = w2c_l9;
-    w2c_i1 = w2c_l10;
+    w2c_i0 = w2c_l10;
+    w2c_i1 = w2c_l11;
     w2c_i2 = 255u;
     w2c_i1 &= w2c_i2;
     w2c_i0 = w2c_i0 < w2c_i1;
     if (w2c_i0) {goto w2c_L7;}
-  w2c_B6:;
+    w2c_B9:;
   w2c_j0 = 0ull;
   w2c_l5 = w2c_j0;
-  w2c_B0:;
+  w2c_B1:;
   w2c_j0 = w2c_p0;
   w2c_i0 = (u32)(w2c_j0);
   w2c_j1 = w2c_l5;
   i64_store(m, (u64)(w2c_i0) + 8, w2c_j1);
   w2c_j0 = w2c_p0;
   w2c_i0 = (u32)(w2c_j0);
-  w2c_i1 = w2c_l8;
+  w2c_i1 = w2c_l9;
   i32_store8(m, (u64)(w2c_i0), w2c_i1);
   w2c_j0 = w2c_l4;
   w2c_j1 = 64ull;
   w2c_j0 += w2c_j1;
   m->w2c_g0 = w2c_j0;
+  goto w2c_Bfunc;
+  w2c_B0:;
+  UNREACHABLE;
+  w2c_Bfunc:;
 }
 
 static void w2c_f42(module *m, u64 w2c_p0, u32 w2c_p1, u64 w2c_p2, u64 w2c_p3, u64 w2c_p4) {
-  u32 w2c_l17 = 0, w2c_l18 = 0, w2c_l19 = 0, w2c_l20 = 0, w2c_l21 = 0;
-  u64 w2c_l5 = 0, w2c_l6 = 0, w2c_l7 = 0, w2c_l8 = 0, w2c_l9 = 0, w2c_l10 = 0, w2c_l11 = 0, w2c_l12 = 0, w2c_l13 = 0, w2c_l14 = 0, w2c_l15 = 0, w2c_l16 = 0;
-  u32 w2c_i0, w2c_i1, w2c_i2, w2c_i3, w2c_i4, w2c_i5, w2c_i6;
-  u64 w2c_j0, w2c_j1, w2c_j2, w2c_j3, w2c_j4, w2c_j5, w2c_j6, w2c_j7;
+  u32 w2c_l9 = 0, w2c_l10 = 0, w2c_l11 = 0, w2c_l12 = 0, w2c_l13 = 0;
+  u64 w2c_l5 = 0, w2c_l6 = 0, w2c_l7 = 0, w2c_l8 = 0;
+  u32 w2c_i0, w2c_i1, w2c_i2, w2c_i3, w2c_i4, w2c_i5;
+  u64 w2c_j0, w2c_j1, w2c_j2, w2c_j3, w2c_j4, w2c_j5;
   w2c_j0 = m->w2c_g0;
-  w2c_j1 = 192ull;
+  w2c_j1 = 144ull;
   w2c_j0 -= w2c_j1;
   w2c_l5 = w2c_j0;
   m->w2c_g0 = w2c_j0;
@@ -31074,23 +29930,7 @@ static void w2c_f42(module *m, u64 w2c_p0, u32 w2c_p1, u64 w2c_p2, u64 w2c_p3, u
   w2c_l5 = w2c_j0;
   w2c_j1 = 16ull;
   w2c_i0 = (u64)((s64)w2c_j0 < (s64)w2c_j1);
-  if (w2c_i0) {goto w2c_B8;}
-  w2c_j0 = w2c_l5;
-  w2c_i0 = (u32)(w2c_j0);
-  w2c_j1 = 0ull;
-  i64_store(m, (u64)(w2c_i0) + 152, w2c_j1);
-  w2c_j0 = w2c_l5;
-  w2c_i0 = (u32)(w2c_j0);
-  w2c_j1 = 0ull;
-  i64_store(m, (u64)(w2c_i0) + 144, w2c_j1);
-  w2c_j0 = w2c_l5;
-  w2c_i0 = (u32)(w2c_j0);
-  w2c_j1 = 0ull;
-  i64_store(m, (u64)(w2c_i0) + 136, w2c_j1);
-  w2c_j0 = w2c_l5;
-  w2c_i0 = (u32)(w2c_j0);
-  w2c_j1 = 0ull;
-  i64_store(m, (u64)(w2c_i0) + 128, w2c_j1);
+  if (w2c_i0) {goto w2c_B6;}
   w2c_j0 = w2c_l5;
   w2c_i0 = (u32)(w2c_j0);
   w2c_j1 = 0ull;
@@ -31098,19 +29938,23 @@ static void w2c_f42(module *m, u64 w2c_p0, u32 w2c_p1, u64 w2c_p2, u64 w2c_p3, u
   w2c_j0 = w2c_l5;
   w2c_i0 = (u32)(w2c_j0);
   w2c_j1 = 0ull;
-  i64_store(m, (u64)(w2c_i0) + 96, w2c_j1);
+  i64_store(m, (u64)(w2c_i0) + 80, w2c_j1);
   w2c_j0 = w2c_l5;
   w2c_i0 = (u32)(w2c_j0);
   w2c_j1 = 0ull;
-  i64_store(m, (u64)(w2c_i0) + 104, w2c_j1);
+  i64_store(m, (u64)(w2c_i0) + 72, w2c_j1);
   w2c_j0 = w2c_l5;
   w2c_i0 = (u32)(w2c_j0);
   w2c_j1 = 0ull;
-  i64_store(m, (u64)(w2c_i0) + 112, w2c_j1);
+  i64_store(m, (u64)(w2c_i0) + 64, w2c_j1);
   w2c_j0 = w2c_l5;
   w2c_i0 = (u32)(w2c_j0);
   w2c_j1 = 0ull;
-  i64_store(m, (u64)(w2c_i0) + 120, w2c_j1);
+  i64_store(m, (u64)(w2c_i0) + 32, w2c_j1);
+  w2c_j0 = w2c_l5;
+  w2c_i0 = (u32)(w2c_j0);
+  w2c_j1 = 0ull;
+  i64_store(m, (u64)(w2c_i0) + 40, w2c_j1);
   w2c_j0 = w2c_l5;
   w2c_i0 = (u32)(w2c_j0);
   w2c_j1 = 0ull;
@@ -31122,55 +29966,182 @@ static void w2c_f42(module *m, u64 w2c_p0, u32 w2c_p1, u64 w2c_p2, u64 w2c_p3, u
   w2c_j0 = w2c_l5;
   w2c_i0 = (u32)(w2c_j0);
   w2c_j1 = 0ull;
-  i64_store(m, (u64)(w2c_i0) + 64, w2c_j1);
+  i64_store(m, (u64)(w2c_i0), w2c_j1);
+  w2c_j0 = w2c_l5;
+  w2c_i0 = (u32)(w2c_j0);
+  w2c_j1 = 0ull;
+  i64_store(m, (u64)(w2c_i0) + 8, w2c_j1);
+  w2c_j0 = w2c_l5;
+  w2c_i0 = (u32)(w2c_j0);
+  w2c_j1 = 0ull;
+  i64_store(m, (u64)(w2c_i0) + 16, w2c_j1);
+  w2c_j0 = w2c_l5;
+  w2c_i0 = (u32)(w2c_j0);
+  w2c_j1 = 0ull;
+  i64_store(m, (u64)(w2c_i0) + 24, w2c_j1);
+  w2c_j0 = w2c_p4;
+  w2c_i0 = !(w2c_j0);
+  w2c_i0 = !(w2c_i0);
+  if (w2c_i0) {goto w2c_B7;}
+  w2c_j0 = w2c_p0;
+  w2c_i0 = (u32)(w2c_j0);
+  w2c_j1 = 1ull;
+  i64_store(m, (u64)(w2c_i0), w2c_j1);
+  w2c_j0 = w2c_p0;
+  w2c_j1 = 8ull;
+  w2c_j0 += w2c_j1;
+  w2c_i0 = (u32)(w2c_j0);
+  w2c_j1 = 0ull;
+  i64_store(m, (u64)(w2c_i0), w2c_j1);
+  w2c_j0 = w2c_p0;
+  w2c_j1 = 16ull;
+  w2c_j0 += w2c_j1;
+  w2c_i0 = (u32)(w2c_j0);
+  w2c_j1 = 0ull;
+  i64_store(m, (u64)(w2c_i0), w2c_j1);
+  w2c_j0 = w2c_p0;
+  w2c_j1 = 24ull;
+  w2c_j0 += w2c_j1;
+  w2c_i0 = (u32)(w2c_j0);
+  w2c_j1 = w2c_l5;
+  w2c_i1 = (u32)(w2c_j1);
+  w2c_j1 = i64_load(m, (u64)(w2c_i1) + 88u);
+  i64_store(m, (u64)(w2c_i0), w2c_j1);
+  w2c_j0 = w2c_l5;
+  w2c_i0 = (u32)(w2c_j0);
+  w2c_j1 = 0ull;
+  i64_store(m, (u64)(w2c_i0) + 80, w2c_j1);
   w2c_j0 = w2c_l5;
   w2c_i0 = (u32)(w2c_j0);
   w2c_j1 = 0ull;
   i64_store(m, (u64)(w2c_i0) + 72, w2c_j1);
+  goto w2c_B0;
+  w2c_B7:;
   w2c_j0 = w2c_l5;
-  w2c_j1 = 88ull;
+  w2c_i0 = (u32)(w2c_j0);
+  w2c_j1 = 0ull;
+  i64_store(m, (u64)(w2c_i0) + 136, w2c_j1);
+  w2c_j0 = w2c_l5;
+  w2c_i0 = (u32)(w2c_j0);
+  w2c_j1 = 0ull;
+  i64_store(m, (u64)(w2c_i0) + 128, w2c_j1);
+  w2c_j0 = w2c_l5;
+  w2c_i0 = (u32)(w2c_j0);
+  w2c_j1 = 0ull;
+  i64_store(m, (u64)(w2c_i0) + 120, w2c_j1);
+  w2c_j0 = w2c_l5;
+  w2c_i0 = (u32)(w2c_j0);
+  w2c_j1 = 0ull;
+  i64_store(m, (u64)(w2c_i0) + 112, w2c_j1);
+  w2c_j0 = w2c_l5;
+  w2c_i0 = (u32)(w2c_j0);
+  w2c_j1 = 0ull;
+  i64_store(m, (u64)(w2c_i0) + 104, w2c_j1);
+  w2c_j0 = w2c_p4;
+  w2c_j1 = 3ull;
+  w2c_i0 = w2c_j0 < w2c_j1;
+  if (w2c_i0) {goto w2c_B10;}
+  w2c_j0 = w2c_p3;
+  w2c_i0 = (u32)(w2c_j0);
+  w2c_i0 = i32_load8_u(m, (u64)(w2c_i0));
+  w2c_l9 = w2c_i0;
+  w2c_i1 = 240u;
+  w2c_i0 &= w2c_i1;
+  w2c_i1 = 224u;
+  w2c_i0 = w2c_i0 != w2c_i1;
+  if (w2c_i0) {goto w2c_B10;}
+  w2c_j0 = w2c_p3;
+  w2c_i0 = (u32)(w2c_j0);
+  w2c_i0 = i32_load8_u(m, (u64)(w2c_i0) + 1u);
+  w2c_l10 = w2c_i0;
+  w2c_i1 = 8u;
+  w2c_i0 <<= (w2c_i1 & 31);
+  w2c_j1 = w2c_p3;
+  w2c_i1 = (u32)(w2c_j1);
+  w2c_i1 = i32_load8_u(m, (u64)(w2c_i1) + 2u);
+  w2c_l11 = w2c_i1;
+  w2c_i2 = 16u;
+  w2c_i1 <<= (w2c_i2 & 31);
+  w2c_i0 |= w2c_i1;
+  w2c_i1 = w2c_l9;
+  w2c_i0 |= w2c_i1;
+  w2c_l12 = w2c_i0;
+  w2c_j0 = (u64)(w2c_i0);
+  w2c_j1 = 953497ull;
+  w2c_j0 *= w2c_j1;
+  w2c_j1 = 22ull;
+  w2c_j0 >>= (w2c_j1 & 63);
+  w2c_j1 = 1016ull;
+  w2c_j0 &= w2c_j1;
+  w2c_l6 = w2c_j0;
+  w2c_i0 = (u32)(w2c_j0);
+  w2c_i0 = i32_load(m, (u64)(w2c_i0) + 66992u);
+  w2c_i1 = w2c_l12;
+  w2c_i0 = w2c_i0 != w2c_i1;
+  if (w2c_i0) {goto w2c_B10;}
+  w2c_j0 = w2c_l6;
+  w2c_j1 = 66996ull;
+  w2c_j0 += w2c_j1;
+  w2c_i0 = (u32)(w2c_j0);
+  w2c_i0 = i32_load8_u(m, (u64)(w2c_i0));
+  w2c_i1 = 255u;
+  w2c_i0 &= w2c_i1;
+  w2c_i1 = 2u;
+  w2c_i0 = w2c_i0 == w2c_i1;
+  if (w2c_i0) {goto w2c_B10;}
+  w2c_i0 = w2c_l9;
+  w2c_i1 = 12u;
+  w2c_i0 <<= (w2c_i1 & 31);
+  w2c_i1 = w2c_l10;
+  w2c_i2 = 6u;
+  w2c_i1 <<= (w2c_i2 & 31);
+  w2c_i0 += w2c_i1;
+  w2c_i1 = w2c_l11;
+  w2c_i0 += w2c_i1;
+  w2c_i1 = 4294041472u;
+  w2c_i0 += w2c_i1;
+  w2c_l9 = w2c_i0;
+  w2c_j0 = w2c_p3;
+  w2c_j1 = 3ull;
+  w2c_j0 += w2c_j1;
+  w2c_p3 = w2c_j0;
+  w2c_j0 = w2c_p4;
+  w2c_j1 = 18446744073709551613ull;
+  w2c_j0 += w2c_j1;
+  w2c_p4 = w2c_j0;
+  w2c_j0 = 0ull;
+  w2c_l6 = w2c_j0;
+  goto w2c_B9;
+  w2c_B10:;
+  w2c_j0 = w2c_l5;
+  w2c_j1 = 104ull;
   w2c_j0 += w2c_j1;
   w2c_j1 = w2c_p3;
   w2c_j2 = w2c_p4;
-  w2c_f33(m, w2c_j0, w2c_j1, w2c_j2);
+  w2c_f32(m, w2c_j0, w2c_j1, w2c_j2);
   w2c_j0 = w2c_l5;
   w2c_i0 = (u32)(w2c_j0);
-  w2c_i0 = i32_load8_u(m, (u64)(w2c_i0) + 88u);
+  w2c_i0 = i32_load8_u(m, (u64)(w2c_i0) + 104u);
   w2c_i1 = 1u;
   w2c_i0 = w2c_i0 != w2c_i1;
-  if (w2c_i0) {goto w2c_B11;}
+  if (w2c_i0) {goto w2c_B8;}
   w2c_j0 = w2c_l5;
   w2c_i0 = (u32)(w2c_j0);
-  w2c_j0 = i64_load(m, (u64)(w2c_i0) + 112u);
-  w2c_p3 = w2c_j0;
-  w2c_j0 = w2c_l5;
-  w2c_i0 = (u32)(w2c_j0);
-  w2c_i0 = i32_load(m, (u64)(w2c_i0) + 96u);
-  w2c_l17 = w2c_i0;
-  w2c_j0 = w2c_l5;
-  w2c_i0 = (u32)(w2c_j0);
-  w2c_j0 = i64_load(m, (u64)(w2c_i0) + 120u);
+  w2c_j0 = i64_load(m, (u64)(w2c_i0) + 136u);
   w2c_p4 = w2c_j0;
   w2c_j0 = w2c_l5;
   w2c_i0 = (u32)(w2c_j0);
-  w2c_j0 = i64_load(m, (u64)(w2c_i0) + 104u);
+  w2c_j0 = i64_load(m, (u64)(w2c_i0) + 128u);
+  w2c_p3 = w2c_j0;
+  w2c_j0 = w2c_l5;
+  w2c_i0 = (u32)(w2c_j0);
+  w2c_j0 = i64_load(m, (u64)(w2c_i0) + 120u);
   w2c_l6 = w2c_j0;
   w2c_j0 = w2c_l5;
   w2c_i0 = (u32)(w2c_j0);
-  w2c_j1 = 0ull;
-  i64_store(m, (u64)(w2c_i0) + 184, w2c_j1);
-  w2c_j0 = w2c_l5;
-  w2c_i0 = (u32)(w2c_j0);
-  w2c_j1 = 0ull;
-  i64_store(m, (u64)(w2c_i0) + 176, w2c_j1);
-  w2c_j0 = w2c_l5;
-  w2c_i0 = (u32)(w2c_j0);
-  w2c_j1 = 0ull;
-  i64_store(m, (u64)(w2c_i0) + 168, w2c_j1);
-  w2c_j0 = w2c_l5;
-  w2c_i0 = (u32)(w2c_j0);
-  w2c_j1 = 0ull;
-  i64_store(m, (u64)(w2c_i0) + 160, w2c_j1);
+  w2c_i0 = i32_load(m, (u64)(w2c_i0) + 112u);
+  w2c_l9 = w2c_i0;
+  w2c_B9:;
   w2c_j0 = w2c_l6;
   w2c_j1 = w2c_p2;
   w2c_j0 += w2c_j1;
@@ -31178,7 +30149,7 @@ static void w2c_f42(module *m, u64 w2c_p0, u32 w2c_p1, u64 w2c_p2, u64 w2c_p3, u
   w2c_j0 = w2c_p4;
   w2c_j1 = 4ull;
   w2c_i0 = w2c_j0 < w2c_j1;
-  if (w2c_i0) {goto w2c_B15;}
+  if (w2c_i0) {goto w2c_B14;}
   w2c_j0 = w2c_p3;
   w2c_j1 = w2c_p4;
   w2c_j0 += w2c_j1;
@@ -31188,7 +30159,7 @@ static void w2c_f42(module *m, u64 w2c_p0, u32 w2c_p1, u64 w2c_p2, u64 w2c_p3, u
   w2c_i0 = i32_load(m, (u64)(w2c_i0));
   w2c_i1 = 8u;
   w2c_i0 >>= (w2c_i1 & 31);
-  w2c_l18 = w2c_i0;
+  w2c_l12 = w2c_i0;
   w2c_j0 = (u64)(w2c_i0);
   w2c_j1 = 953497ull;
   w2c_j0 *= w2c_j1;
@@ -31201,21 +30172,21 @@ static void w2c_f42(module *m, u64 w2c_p0, u32 w2c_p1, u64 w2c_p2, u64 w2c_p3, u
   w2c_j0 += w2c_j1;
   w2c_i0 = (u32)(w2c_j0);
   w2c_i0 = i32_load(m, (u64)(w2c_i0));
-  w2c_i1 = w2c_l18;
+  w2c_i1 = w2c_l12;
   w2c_i0 = w2c_i0 != w2c_i1;
-  if (w2c_i0) {goto w2c_B13;}
+  if (w2c_i0) {goto w2c_B12;}
   w2c_j0 = w2c_p4;
   w2c_j1 = 18446744073709551613ull;
   w2c_j0 += w2c_j1;
   w2c_p2 = w2c_j0;
   w2c_j0 = w2c_p3;
   w2c_l6 = w2c_j0;
-  goto w2c_B14;
-  w2c_B15:;
+  goto w2c_B13;
+  w2c_B14:;
   w2c_j0 = w2c_p4;
   w2c_j1 = 3ull;
   w2c_i0 = w2c_j0 != w2c_j1;
-  if (w2c_i0) {goto w2c_B13;}
+  if (w2c_i0) {goto w2c_B12;}
   w2c_j0 = w2c_p3;
   w2c_i0 = (u32)(w2c_j0);
   w2c_i0 = i32_load16_u(m, (u64)(w2c_i0));
@@ -31225,7 +30196,7 @@ static void w2c_f42(module *m, u64 w2c_p0, u32 w2c_p1, u64 w2c_p2, u64 w2c_p3, u
   w2c_i2 = 16u;
   w2c_i1 <<= (w2c_i2 & 31);
   w2c_i0 |= w2c_i1;
-  w2c_l18 = w2c_i0;
+  w2c_l12 = w2c_i0;
   w2c_j0 = (u64)(w2c_i0);
   w2c_j1 = 953497ull;
   w2c_j0 *= w2c_j1;
@@ -31238,79 +30209,147 @@ static void w2c_f42(module *m, u64 w2c_p0, u32 w2c_p1, u64 w2c_p2, u64 w2c_p3, u
   w2c_j0 += w2c_j1;
   w2c_i0 = (u32)(w2c_j0);
   w2c_i0 = i32_load(m, (u64)(w2c_i0));
-  w2c_i1 = w2c_l18;
+  w2c_i1 = w2c_l12;
   w2c_i0 = w2c_i0 != w2c_i1;
-  if (w2c_i0) {goto w2c_B13;}
+  if (w2c_i0) {goto w2c_B12;}
   w2c_j0 = w2c_p3;
   w2c_j1 = 3ull;
   w2c_j0 += w2c_j1;
   w2c_l6 = w2c_j0;
   w2c_j0 = 0ull;
   w2c_p2 = w2c_j0;
-  w2c_B14:;
+  w2c_B13:;
   w2c_j0 = w2c_l8;
   w2c_j1 = 66996ull;
   w2c_j0 += w2c_j1;
   w2c_i0 = (u32)(w2c_j0);
   w2c_i0 = i32_load8_u(m, (u64)(w2c_i0));
-  w2c_l18 = w2c_i0;
+  w2c_l12 = w2c_i0;
   w2c_j0 = w2c_l8;
   w2c_j1 = 66997ull;
   w2c_j0 += w2c_j1;
   w2c_i0 = (u32)(w2c_j0);
   w2c_i0 = i32_load8_u(m, (u64)(w2c_i0));
-  w2c_l19 = w2c_i0;
-  goto w2c_B12;
-  w2c_B13:;
-  w2c_j0 = w2c_l5;
-  w2c_j1 = 160ull;
-  w2c_j0 += w2c_j1;
-  w2c_j1 = w2c_p3;
-  w2c_j2 = w2c_p4;
-  w2c_f44(m, w2c_j0, w2c_j1, w2c_j2);
-  w2c_j0 = w2c_l5;
-  w2c_i0 = (u32)(w2c_j0);
-  w2c_i0 = i32_load8_u(m, (u64)(w2c_i0) + 160u);
-  w2c_i1 = 1u;
-  w2c_i0 = w2c_i0 != w2c_i1;
-  if (w2c_i0) {goto w2c_B7;}
-  w2c_j0 = w2c_l5;
-  w2c_i0 = (u32)(w2c_j0);
-  w2c_j0 = i64_load(m, (u64)(w2c_i0) + 184u);
-  w2c_p2 = w2c_j0;
-  w2c_j0 = w2c_l5;
-  w2c_i0 = (u32)(w2c_j0);
-  w2c_j0 = i64_load(m, (u64)(w2c_i0) + 176u);
-  w2c_l6 = w2c_j0;
-  w2c_j0 = w2c_l5;
-  w2c_i0 = (u32)(w2c_j0);
-  w2c_i0 = i32_load8_u(m, (u64)(w2c_i0) + 169u);
-  w2c_l19 = w2c_i0;
-  w2c_j0 = w2c_l5;
-  w2c_i0 = (u32)(w2c_j0);
-  w2c_i0 = i32_load8_u(m, (u64)(w2c_i0) + 168u);
-  w2c_l18 = w2c_i0;
+  w2c_l11 = w2c_i0;
+  goto w2c_B11;
   w2c_B12:;
   w2c_j0 = w2c_l5;
   w2c_i0 = (u32)(w2c_j0);
   w2c_j1 = 0ull;
-  i64_store(m, (u64)(w2c_i0) + 184, w2c_j1);
+  i64_store(m, (u64)(w2c_i0) + 128, w2c_j1);
   w2c_j0 = w2c_l5;
   w2c_i0 = (u32)(w2c_j0);
   w2c_j1 = 0ull;
-  i64_store(m, (u64)(w2c_i0) + 176, w2c_j1);
+  i64_store(m, (u64)(w2c_i0) + 120, w2c_j1);
   w2c_j0 = w2c_l5;
   w2c_i0 = (u32)(w2c_j0);
   w2c_j1 = 0ull;
-  i64_store(m, (u64)(w2c_i0) + 168, w2c_j1);
+  i64_store(m, (u64)(w2c_i0) + 112, w2c_j1);
   w2c_j0 = w2c_l5;
   w2c_i0 = (u32)(w2c_j0);
   w2c_j1 = 0ull;
-  i64_store(m, (u64)(w2c_i0) + 160, w2c_j1);
+  i64_store(m, (u64)(w2c_i0) + 104, w2c_j1);
+  w2c_j0 = w2c_l5;
+  w2c_j1 = 104ull;
+  w2c_j0 += w2c_j1;
+  w2c_j1 = w2c_p3;
+  w2c_j2 = w2c_p4;
+  w2c_f35(m, w2c_j0, w2c_j1, w2c_j2);
+  w2c_j0 = w2c_l5;
+  w2c_i0 = (u32)(w2c_j0);
+  w2c_i0 = i32_load8_u(m, (u64)(w2c_i0) + 104u);
+  w2c_i1 = 1u;
+  w2c_i0 = w2c_i0 != w2c_i1;
+  if (w2c_i0) {goto w2c_B3;}
+  w2c_j0 = w2c_l5;
+  w2c_i0 = (u32)(w2c_j0);
+  w2c_i0 = i32_load(m, (u64)(w2c_i0) + 112u);
+  w2c_l12 = w2c_i0;
+  w2c_i1 = 4294965248u;
+  w2c_i0 += w2c_i1;
+  w2c_i1 = 63487u;
+  w2c_i0 = w2c_i0 > w2c_i1;
+  if (w2c_i0) {goto w2c_B16;}
+  w2c_i0 = w2c_l12;
+  w2c_i1 = 12u;
+  w2c_i0 >>= (w2c_i1 & 31);
+  w2c_i1 = w2c_l12;
+  w2c_i2 = 2u;
+  w2c_i1 <<= (w2c_i2 & 31);
+  w2c_i2 = 16128u;
+  w2c_i1 &= w2c_i2;
+  w2c_i0 |= w2c_i1;
+  w2c_i1 = w2c_l12;
+  w2c_i2 = 16u;
+  w2c_i1 <<= (w2c_i2 & 31);
+  w2c_i2 = 4128768u;
+  w2c_i1 &= w2c_i2;
+  w2c_i0 |= w2c_i1;
+  w2c_i1 = 8421600u;
+  w2c_i0 |= w2c_i1;
+  w2c_l12 = w2c_i0;
+  w2c_j0 = (u64)(w2c_i0);
+  w2c_j1 = 953497ull;
+  w2c_j0 *= w2c_j1;
+  w2c_j1 = 22ull;
+  w2c_j0 >>= (w2c_j1 & 63);
+  w2c_j1 = 1016ull;
+  w2c_j0 &= w2c_j1;
+  w2c_p2 = w2c_j0;
+  w2c_j1 = 66997ull;
+  w2c_j0 += w2c_j1;
+  w2c_i0 = (u32)(w2c_j0);
+  w2c_i0 = i32_load8_u(m, (u64)(w2c_i0));
+  w2c_i1 = 0u;
+  w2c_j2 = w2c_p2;
+  w2c_i2 = (u32)(w2c_j2);
+  w2c_i2 = i32_load(m, (u64)(w2c_i2) + 66992u);
+  w2c_i3 = w2c_l12;
+  w2c_i2 = w2c_i2 == w2c_i3;
+  w2c_l12 = w2c_i2;
+  w2c_i0 = w2c_i2 ? w2c_i0 : w2c_i1;
+  w2c_l11 = w2c_i0;
+  w2c_j0 = w2c_p2;
+  w2c_j1 = 66996ull;
+  w2c_j0 += w2c_j1;
+  w2c_i0 = (u32)(w2c_j0);
+  w2c_i0 = i32_load8_u(m, (u64)(w2c_i0));
+  w2c_i1 = 2u;
+  w2c_i2 = w2c_l12;
+  w2c_i0 = w2c_i2 ? w2c_i0 : w2c_i1;
+  w2c_l12 = w2c_i0;
+  goto w2c_B15;
+  w2c_B16:;
+  w2c_i0 = w2c_l12;
+  w2c_i1 = 4294967248u;
+  w2c_i0 += w2c_i1;
+  w2c_l12 = w2c_i0;
+  w2c_i1 = 0u;
+  w2c_i2 = w2c_l12;
+  w2c_i3 = 10u;
+  w2c_i2 = w2c_i2 < w2c_i3;
+  w2c_l12 = w2c_i2;
+  w2c_i0 = w2c_i2 ? w2c_i0 : w2c_i1;
+  w2c_l11 = w2c_i0;
+  w2c_i0 = 0u;
+  w2c_i1 = 2u;
+  w2c_i2 = w2c_l12;
+  w2c_i0 = w2c_i2 ? w2c_i0 : w2c_i1;
+  w2c_l12 = w2c_i0;
+  w2c_B15:;
+  w2c_j0 = w2c_l5;
+  w2c_i0 = (u32)(w2c_j0);
+  w2c_j0 = i64_load(m, (u64)(w2c_i0) + 128u);
+  w2c_p2 = w2c_j0;
+  w2c_j0 = w2c_l5;
+  w2c_i0 = (u32)(w2c_j0);
+  w2c_j0 = i64_load(m, (u64)(w2c_i0) + 120u);
+  w2c_l6 = w2c_j0;
+  w2c_B11:;
   w2c_j0 = w2c_p2;
   w2c_j1 = 4ull;
   w2c_i0 = w2c_j0 < w2c_j1;
-  if (w2c_i0) {goto w2c_B17;}
+  if (w2c_i0) {goto w2c_B18;}
   w2c_j0 = w2c_l6;
   w2c_j1 = w2c_p2;
   w2c_j0 += w2c_j1;
@@ -31320,7 +30359,7 @@ static void w2c_f42(module *m, u64 w2c_p0, u32 w2c_p1, u64 w2c_p2, u64 w2c_p3, u
   w2c_i0 = i32_load(m, (u64)(w2c_i0));
   w2c_i1 = 8u;
   w2c_i0 >>= (w2c_i1 & 31);
-  w2c_l20 = w2c_i0;
+  w2c_l10 = w2c_i0;
   w2c_j0 = (u64)(w2c_i0);
   w2c_j1 = 953497ull;
   w2c_j0 *= w2c_j1;
@@ -31333,15 +30372,15 @@ static void w2c_f42(module *m, u64 w2c_p0, u32 w2c_p1, u64 w2c_p2, u64 w2c_p3, u
   w2c_j0 += w2c_j1;
   w2c_i0 = (u32)(w2c_j0);
   w2c_i0 = i32_load(m, (u64)(w2c_i0));
-  w2c_i1 = w2c_l20;
-  w2c_i0 = w2c_i0 == w2c_i1;
-  if (w2c_i0) {goto w2c_B16;}
-  goto w2c_B10;
-  w2c_B17:;
+  w2c_i1 = w2c_l10;
+  w2c_i0 = w2c_i0 != w2c_i1;
+  if (w2c_i0) {goto w2c_B17;}
+  goto w2c_B5;
+  w2c_B18:;
   w2c_j0 = w2c_p2;
   w2c_j1 = 3ull;
   w2c_i0 = w2c_j0 != w2c_j1;
-  if (w2c_i0) {goto w2c_B10;}
+  if (w2c_i0) {goto w2c_B17;}
   w2c_j0 = w2c_l6;
   w2c_i0 = (u32)(w2c_j0);
   w2c_i0 = i32_load16_u(m, (u64)(w2c_i0));
@@ -31351,7 +30390,7 @@ static void w2c_f42(module *m, u64 w2c_p0, u32 w2c_p1, u64 w2c_p2, u64 w2c_p3, u
   w2c_i2 = 16u;
   w2c_i1 <<= (w2c_i2 & 31);
   w2c_i0 |= w2c_i1;
-  w2c_l20 = w2c_i0;
+  w2c_l10 = w2c_i0;
   w2c_j0 = (u64)(w2c_i0);
   w2c_j1 = 953497ull;
   w2c_j0 *= w2c_j1;
@@ -31364,24 +30403,115 @@ static void w2c_f42(module *m, u64 w2c_p0, u32 w2c_p1, u64 w2c_p2, u64 w2c_p3, u
   w2c_j0 += w2c_j1;
   w2c_i0 = (u32)(w2c_j0);
   w2c_i0 = i32_load(m, (u64)(w2c_i0));
-  w2c_i1 = w2c_l20;
+  w2c_i1 = w2c_l10;
+  w2c_i0 = w2c_i0 == w2c_i1;
+  if (w2c_i0) {goto w2c_B5;}
+  w2c_B17:;
+  w2c_j0 = w2c_l5;
+  w2c_i0 = (u32)(w2c_j0);
+  w2c_j1 = 0ull;
+  i64_store(m, (u64)(w2c_i0) + 128, w2c_j1);
+  w2c_j0 = w2c_l5;
+  w2c_i0 = (u32)(w2c_j0);
+  w2c_j1 = 0ull;
+  i64_store(m, (u64)(w2c_i0) + 120, w2c_j1);
+  w2c_j0 = w2c_l5;
+  w2c_i0 = (u32)(w2c_j0);
+  w2c_j1 = 0ull;
+  i64_store(m, (u64)(w2c_i0) + 112, w2c_j1);
+  w2c_j0 = w2c_l5;
+  w2c_i0 = (u32)(w2c_j0);
+  w2c_j1 = 0ull;
+  i64_store(m, (u64)(w2c_i0) + 104, w2c_j1);
+  w2c_j0 = w2c_l5;
+  w2c_j1 = 104ull;
+  w2c_j0 += w2c_j1;
+  w2c_j1 = w2c_l6;
+  w2c_j2 = w2c_p2;
+  w2c_f35(m, w2c_j0, w2c_j1, w2c_j2);
+  w2c_j0 = w2c_l5;
+  w2c_i0 = (u32)(w2c_j0);
+  w2c_i0 = i32_load8_u(m, (u64)(w2c_i0) + 104u);
+  w2c_i1 = 1u;
   w2c_i0 = w2c_i0 != w2c_i1;
-  if (w2c_i0) {goto w2c_B10;}
-  w2c_B16:;
+  if (w2c_i0) {goto w2c_B3;}
+  w2c_j0 = w2c_l5;
+  w2c_i0 = (u32)(w2c_j0);
+  w2c_i0 = i32_load(m, (u64)(w2c_i0) + 112u);
+  w2c_l10 = w2c_i0;
+  w2c_i1 = 4294965248u;
+  w2c_i0 += w2c_i1;
+  w2c_i1 = 63487u;
+  w2c_i0 = w2c_i0 > w2c_i1;
+  if (w2c_i0) {goto w2c_B19;}
+  w2c_i0 = w2c_l10;
+  w2c_i1 = 12u;
+  w2c_i0 >>= (w2c_i1 & 31);
+  w2c_i1 = w2c_l10;
+  w2c_i2 = 2u;
+  w2c_i1 <<= (w2c_i2 & 31);
+  w2c_i2 = 16128u;
+  w2c_i1 &= w2c_i2;
+  w2c_i0 |= w2c_i1;
+  w2c_i1 = w2c_l10;
+  w2c_i2 = 16u;
+  w2c_i1 <<= (w2c_i2 & 31);
+  w2c_i2 = 4128768u;
+  w2c_i1 &= w2c_i2;
+  w2c_i0 |= w2c_i1;
+  w2c_i1 = 8421600u;
+  w2c_i0 |= w2c_i1;
+  w2c_l10 = w2c_i0;
+  w2c_j0 = (u64)(w2c_i0);
+  w2c_j1 = 953497ull;
+  w2c_j0 *= w2c_j1;
+  w2c_j1 = 22ull;
+  w2c_j0 >>= (w2c_j1 & 63);
+  w2c_j1 = 1016ull;
+  w2c_j0 &= w2c_j1;
+  w2c_l8 = w2c_j0;
+  w2c_j1 = 66997ull;
+  w2c_j0 += w2c_j1;
+  w2c_i0 = (u32)(w2c_j0);
+  w2c_i0 = i32_load8_u(m, (u64)(w2c_i0));
+  w2c_i1 = 0u;
+  w2c_j2 = w2c_l8;
+  w2c_i2 = (u32)(w2c_j2);
+  w2c_i2 = i32_load(m, (u64)(w2c_i2) + 66992u);
+  w2c_i3 = w2c_l10;
+  w2c_i2 = w2c_i2 == w2c_i3;
+  w2c_l10 = w2c_i2;
+  w2c_i0 = w2c_i2 ? w2c_i0 : w2c_i1;
+  w2c_l13 = w2c_i0;
   w2c_j0 = w2c_l8;
   w2c_j1 = 66996ull;
   w2c_j0 += w2c_j1;
   w2c_i0 = (u32)(w2c_j0);
   w2c_i0 = i32_load8_u(m, (u64)(w2c_i0));
-  w2c_l20 = w2c_i0;
-  w2c_j0 = w2c_l8;
-  w2c_j1 = 66997ull;
-  w2c_j0 += w2c_j1;
-  w2c_i0 = (u32)(w2c_j0);
-  w2c_i0 = i32_load8_u(m, (u64)(w2c_i0));
-  w2c_l21 = w2c_i0;
-  goto w2c_B9;
-  w2c_B11:;
+  w2c_i1 = 2u;
+  w2c_i2 = w2c_l10;
+  w2c_i0 = w2c_i2 ? w2c_i0 : w2c_i1;
+  w2c_l10 = w2c_i0;
+  goto w2c_B4;
+  w2c_B19:;
+  w2c_i0 = w2c_l10;
+  w2c_i1 = 4294967248u;
+  w2c_i0 += w2c_i1;
+  w2c_l10 = w2c_i0;
+  w2c_i1 = 0u;
+  w2c_i2 = w2c_l10;
+  w2c_i3 = 10u;
+  w2c_i2 = w2c_i2 < w2c_i3;
+  w2c_l10 = w2c_i2;
+  w2c_i0 = w2c_i2 ? w2c_i0 : w2c_i1;
+  w2c_l13 = w2c_i0;
+  w2c_i0 = 0u;
+  w2c_i1 = 2u;
+  w2c_i2 = w2c_l10;
+  w2c_i0 = w2c_i2 ? w2c_i0 : w2c_i1;
+  w2c_l10 = w2c_i0;
+  goto w2c_B4;
+  w2c_B8:;
   w2c_j0 = w2c_p0;
   w2c_i0 = (u32)(w2c_j0);
   w2c_j1 = 1ull;
@@ -31404,406 +30534,266 @@ static void w2c_f42(module *m, u64 w2c_p0, u32 w2c_p1, u64 w2c_p2, u64 w2c_p3, u
   w2c_i0 = (u32)(w2c_j0);
   w2c_j1 = w2c_l5;
   w2c_i1 = (u32)(w2c_j1);
-  w2c_j1 = i64_load(m, (u64)(w2c_i1) + 152u);
+  w2c_j1 = i64_load(m, (u64)(w2c_i1) + 88u);
   i64_store(m, (u64)(w2c_i0), w2c_j1);
   w2c_j0 = w2c_l5;
   w2c_i0 = (u32)(w2c_j0);
   w2c_j1 = 0ull;
-  i64_store(m, (u64)(w2c_i0) + 144, w2c_j1);
+  i64_store(m, (u64)(w2c_i0) + 80, w2c_j1);
   w2c_j0 = w2c_l5;
   w2c_i0 = (u32)(w2c_j0);
   w2c_j1 = 0ull;
-  i64_store(m, (u64)(w2c_i0) + 136, w2c_j1);
+  i64_store(m, (u64)(w2c_i0) + 72, w2c_j1);
   goto w2c_B0;
-  w2c_B10:;
-  w2c_j0 = w2c_l5;
-  w2c_j1 = 160ull;
+  w2c_B6:;
+  UNREACHABLE;
+  w2c_B5:;
+  w2c_j0 = w2c_l8;
+  w2c_j1 = 66996ull;
   w2c_j0 += w2c_j1;
-  w2c_j1 = w2c_l6;
-  w2c_j2 = w2c_p2;
-  w2c_f44(m, w2c_j0, w2c_j1, w2c_j2);
-  w2c_j0 = w2c_l5;
   w2c_i0 = (u32)(w2c_j0);
-  w2c_i0 = i32_load8_u(m, (u64)(w2c_i0) + 160u);
-  w2c_i1 = 1u;
-  w2c_i0 = w2c_i0 != w2c_i1;
-  if (w2c_i0) {goto w2c_B7;}
-  w2c_j0 = w2c_l5;
+  w2c_i0 = i32_load8_u(m, (u64)(w2c_i0));
+  w2c_l10 = w2c_i0;
+  w2c_j0 = w2c_l8;
+  w2c_j1 = 66997ull;
+  w2c_j0 += w2c_j1;
   w2c_i0 = (u32)(w2c_j0);
-  w2c_i0 = i32_load8_u(m, (u64)(w2c_i0) + 169u);
-  w2c_l21 = w2c_i0;
-  w2c_j0 = w2c_l5;
-  w2c_i0 = (u32)(w2c_j0);
-  w2c_i0 = i32_load8_u(m, (u64)(w2c_i0) + 168u);
-  w2c_l20 = w2c_i0;
-  w2c_B9:;
-  w2c_i0 = w2c_l20;
+  w2c_i0 = i32_load8_u(m, (u64)(w2c_i0));
+  w2c_l13 = w2c_i0;
+  w2c_B4:;
+  w2c_i0 = w2c_l10;
   w2c_i1 = 255u;
   w2c_i0 &= w2c_i1;
   w2c_i1 = 1u;
   w2c_i0 = w2c_i0 != w2c_i1;
-  if (w2c_i0) {goto w2c_B7;}
-  w2c_i0 = w2c_l18;
+  if (w2c_i0) {goto w2c_B3;}
+  w2c_i0 = w2c_l12;
   w2c_i1 = 255u;
   w2c_i0 &= w2c_i1;
   w2c_i1 = 1u;
   w2c_i0 = w2c_i0 != w2c_i1;
-  w2c_i1 = w2c_l19;
+  w2c_i1 = w2c_l11;
   w2c_i2 = 255u;
   w2c_i1 &= w2c_i2;
   w2c_i1 = !(w2c_i1);
   w2c_i0 |= w2c_i1;
   w2c_i1 = 1u;
   w2c_i0 = w2c_i0 != w2c_i1;
-  if (w2c_i0) {goto w2c_B7;}
-  w2c_i0 = w2c_l21;
+  if (w2c_i0) {goto w2c_B3;}
+  w2c_i0 = w2c_l13;
   w2c_i1 = 255u;
   w2c_i0 &= w2c_i1;
   w2c_i1 = 1u;
   w2c_i0 = w2c_i0 <= w2c_i1;
-  if (w2c_i0) {goto w2c_B7;}
-  w2c_j0 = w2c_l5;
-  w2c_j1 = 48ull;
-  w2c_j0 += w2c_j1;
-  w2c_i1 = w2c_p1;
-  w2c_j2 = w2c_l7;
-  w2c_i3 = w2c_l17;
-  w2c_j4 = w2c_l6;
-  w2c_j5 = w2c_p2;
-  w2c_f45(m, w2c_j0, w2c_i1, w2c_j2, w2c_i3, w2c_j4, w2c_j5);
-  w2c_j0 = w2c_l5;
-  w2c_i0 = (u32)(w2c_j0);
-  w2c_j0 = i64_load(m, (u64)(w2c_i0) + 64u);
-  w2c_l8 = w2c_j0;
-  w2c_j0 = w2c_l5;
-  w2c_i0 = (u32)(w2c_j0);
-  w2c_i0 = i32_load8_u(m, (u64)(w2c_i0) + 48u);
-  if (w2c_i0) {goto w2c_B6;}
-  w2c_i0 = w2c_l18;
-  w2c_i1 = 255u;
-  w2c_i0 &= w2c_i1;
-  if (w2c_i0) {goto w2c_B4;}
-  w2c_i0 = w2c_p1;
-  w2c_j0 = (u64)(w2c_i0);
-  w2c_j1 = 255ull;
-  w2c_j0 &= w2c_j1;
-  w2c_j1 = 5ull;
-  w2c_j0 <<= (w2c_j1 & 63);
-  w2c_i1 = w2c_l21;
-  w2c_j1 = (u64)(w2c_i1);
-  w2c_j2 = 255ull;
-  w2c_j1 &= w2c_j2;
-  w2c_j2 = 1ull;
-  w2c_j1 <<= (w2c_j2 & 63);
-  w2c_j0 += w2c_j1;
-  w2c_j1 = 68486ull;
-  w2c_j0 += w2c_j1;
-  w2c_i0 = (u32)(w2c_j0);
-  w2c_j0 = i64_load16_u(m, (u64)(w2c_i0));
-  w2c_p4 = w2c_j0;
-  w2c_j1 = 39ull;
-  w2c_i0 = w2c_j0 < w2c_j1;
-  if (w2c_i0) {goto w2c_B5;}
-  w2c_B8:;
-  UNREACHABLE;
-  w2c_B7:;
-  w2c_j0 = w2c_l5;
-  w2c_j1 = 128ull;
-  w2c_j0 += w2c_j1;
-  w2c_i1 = w2c_p1;
-  w2c_j2 = w2c_l7;
-  w2c_i3 = w2c_l17;
-  w2c_j4 = w2c_p3;
-  w2c_j5 = w2c_p4;
-  w2c_f45(m, w2c_j0, w2c_i1, w2c_j2, w2c_i3, w2c_j4, w2c_j5);
-  w2c_j0 = w2c_p0;
-  w2c_i0 = (u32)(w2c_j0);
-  w2c_j1 = w2c_l5;
-  w2c_i1 = (u32)(w2c_j1);
-  w2c_j1 = i64_load8_u(m, (u64)(w2c_i1) + 128u);
-  i64_store(m, (u64)(w2c_i0), w2c_j1);
-  w2c_j0 = w2c_p0;
-  w2c_j1 = 8ull;
-  w2c_j0 += w2c_j1;
-  w2c_i0 = (u32)(w2c_j0);
-  w2c_j1 = w2c_l5;
-  w2c_i1 = (u32)(w2c_j1);
-  w2c_j1 = i64_load8_u(m, (u64)(w2c_i1) + 136u);
-  i64_store(m, (u64)(w2c_i0), w2c_j1);
-  w2c_j0 = w2c_p0;
-  w2c_j1 = 16ull;
-  w2c_j0 += w2c_j1;
-  w2c_i0 = (u32)(w2c_j0);
-  w2c_j1 = w2c_l5;
-  w2c_i1 = (u32)(w2c_j1);
-  w2c_j1 = i64_load(m, (u64)(w2c_i1) + 144u);
-  i64_store(m, (u64)(w2c_i0), w2c_j1);
-  w2c_j0 = w2c_p0;
-  w2c_j1 = 24ull;
-  w2c_j0 += w2c_j1;
-  w2c_i0 = (u32)(w2c_j0);
-  w2c_j1 = w2c_l5;
-  w2c_i1 = (u32)(w2c_j1);
-  w2c_j1 = i64_load(m, (u64)(w2c_i1) + 152u);
-  i64_store(m, (u64)(w2c_i0), w2c_j1);
-  goto w2c_B0;
-  w2c_B6:;
-  w2c_j0 = w2c_p0;
-  w2c_i0 = (u32)(w2c_j0);
-  w2c_j1 = 1ull;
-  i64_store(m, (u64)(w2c_i0), w2c_j1);
-  w2c_j0 = w2c_p0;
-  w2c_j1 = 8ull;
-  w2c_j0 += w2c_j1;
-  w2c_i0 = (u32)(w2c_j0);
-  w2c_j1 = w2c_l5;
-  w2c_i1 = (u32)(w2c_j1);
-  w2c_j1 = i64_load8_u(m, (u64)(w2c_i1) + 56u);
-  i64_store(m, (u64)(w2c_i0), w2c_j1);
-  w2c_j0 = w2c_p0;
-  w2c_j1 = 16ull;
-  w2c_j0 += w2c_j1;
-  w2c_i0 = (u32)(w2c_j0);
-  w2c_j1 = w2c_l8;
-  i64_store(m, (u64)(w2c_i0), w2c_j1);
-  w2c_j0 = w2c_p0;
-  w2c_j1 = 24ull;
-  w2c_j0 += w2c_j1;
-  w2c_i0 = (u32)(w2c_j0);
-  w2c_j1 = 0ull;
-  i64_store(m, (u64)(w2c_i0), w2c_j1);
-  w2c_j0 = w2c_l5;
-  w2c_i0 = (u32)(w2c_j0);
-  w2c_j1 = 0ull;
-  i64_store(m, (u64)(w2c_i0) + 152, w2c_j1);
-  w2c_j0 = w2c_l5;
-  w2c_i0 = (u32)(w2c_j0);
-  w2c_j1 = w2c_l8;
-  i64_store(m, (u64)(w2c_i0) + 144, w2c_j1);
-  goto w2c_B0;
-  w2c_B5:;
-  w2c_j0 = w2c_l5;
-  w2c_i0 = (u32)(w2c_j0);
-  w2c_j0 = i64_load(m, (u64)(w2c_i0) + 72u);
-  w2c_l9 = w2c_j0;
-  w2c_j0 = 0ull;
-  w2c_j1 = w2c_p4;
-  w2c_j2 = 4ull;
-  w2c_j1 <<= (w2c_j2 & 63);
-  w2c_p4 = w2c_j1;
-  w2c_j2 = 68632ull;
-  w2c_j1 += w2c_j2;
-  w2c_i1 = (u32)(w2c_j1);
-  w2c_j1 = i64_load(m, (u64)(w2c_i1));
-  w2c_l6 = w2c_j1;
-  w2c_j2 = w2c_l6;
-  w2c_j3 = w2c_p4;
-  w2c_j4 = 68624ull;
-  w2c_j3 += w2c_j4;
-  w2c_i3 = (u32)(w2c_j3);
-  w2c_j3 = i64_load(m, (u64)(w2c_i3));
-  w2c_l7 = w2c_j3;
-  w2c_j2 |= w2c_j3;
-  w2c_i2 = !(w2c_j2);
-  w2c_j3 = 124ull;
-  w2c_j4 = w2c_l6;
-  w2c_j4 = I64_CLZ(w2c_j4);
-  w2c_j5 = w2c_l7;
-  w2c_j5 = I64_CLZ(w2c_j5);
-  w2c_j6 = 64ull;
-  w2c_j5 += w2c_j6;
-  w2c_j6 = w2c_l6;
-  w2c_j7 = 0ull;
-  w2c_i6 = w2c_j6 != w2c_j7;
-  w2c_j4 = w2c_i6 ? w2c_j4 : w2c_j5;
-  w2c_p4 = w2c_j4;
-  w2c_j3 -= w2c_j4;
-  w2c_p3 = w2c_j3;
-  w2c_j4 = 127ull;
-  w2c_i3 = w2c_j3 > w2c_j4;
-  w2c_j4 = 0ull;
-  w2c_j5 = w2c_p4;
-  w2c_j6 = 124ull;
-  w2c_i5 = w2c_j5 > w2c_j6;
-  w2c_j5 = (u64)(w2c_i5);
-  w2c_j4 -= w2c_j5;
-  w2c_l10 = w2c_j4;
-  w2c_j5 = 0ull;
-  w2c_i4 = w2c_j4 != w2c_j5;
-  w2c_j5 = w2c_l10;
-  w2c_i5 = !(w2c_j5);
-  w2c_i3 = w2c_i5 ? w2c_i3 : w2c_i4;
-  w2c_i2 |= w2c_i3;
-  w2c_p1 = w2c_i2;
-  w2c_j0 = w2c_i2 ? w2c_j0 : w2c_j1;
-  w2c_p2 = w2c_j0;
-  w2c_j0 = 0ull;
-  w2c_j1 = w2c_l7;
-  w2c_i2 = w2c_p1;
-  w2c_j0 = w2c_i2 ? w2c_j0 : w2c_j1;
-  w2c_p4 = w2c_j0;
-  w2c_i0 = w2c_p1;
-  if (w2c_i0) {goto w2c_B1;}
-  w2c_j0 = w2c_p3;
-  w2c_j1 = 127ull;
-  w2c_j0 ^= w2c_j1;
-  w2c_j1 = w2c_l10;
-  w2c_j0 |= w2c_j1;
-  w2c_i0 = !(w2c_j0);
-  if (w2c_i0) {goto w2c_B1;}
+  if (w2c_i0) {goto w2c_B3;}
   w2c_j0 = w2c_l5;
   w2c_j1 = 32ull;
   w2c_j0 += w2c_j1;
-  w2c_j1 = w2c_l7;
-  w2c_j2 = w2c_l6;
-  w2c_i3 = 127u;
-  w2c_j4 = w2c_p3;
-  w2c_i4 = (u32)(w2c_j4);
-  w2c_i3 -= w2c_i4;
-  w2c_f4(m, w2c_j0, w2c_j1, w2c_j2, w2c_i3);
+  w2c_i1 = w2c_p1;
+  w2c_j2 = w2c_l7;
+  w2c_i3 = w2c_l9;
+  w2c_j4 = w2c_l6;
+  w2c_j5 = w2c_p2;
+  w2c_f44(m, w2c_j0, w2c_i1, w2c_j2, w2c_i3, w2c_j4, w2c_j5);
   w2c_j0 = w2c_l5;
   w2c_i0 = (u32)(w2c_j0);
-  w2c_j0 = i64_load(m, (u64)(w2c_i0) + 40u);
-  w2c_p2 = w2c_j0;
-  w2c_j0 = w2c_l5;
-  w2c_i0 = (u32)(w2c_j0);
-  w2c_j0 = i64_load(m, (u64)(w2c_i0) + 32u);
+  w2c_j0 = i64_load(m, (u64)(w2c_i0) + 48u);
   w2c_p4 = w2c_j0;
-  w2c_j0 = w2c_p3;
-  w2c_j1 = 1ull;
-  w2c_j0 += w2c_j1;
-  w2c_p3 = w2c_j0;
-  w2c_j1 = w2c_l10;
-  w2c_j2 = w2c_p3;
-  w2c_i2 = !(w2c_j2);
-  w2c_j2 = (u64)(w2c_i2);
-  w2c_j1 += w2c_j2;
-  w2c_l11 = w2c_j1;
-  w2c_j0 |= w2c_j1;
-  w2c_i0 = !(w2c_j0);
-  if (w2c_i0) {goto w2c_B3;}
   w2c_j0 = w2c_l5;
+  w2c_i0 = (u32)(w2c_j0);
+  w2c_i0 = i32_load8_u(m, (u64)(w2c_i0) + 32u);
+  if (w2c_i0) {goto w2c_B2;}
+  w2c_i0 = w2c_l12;
+  w2c_i1 = 255u;
+  w2c_i0 &= w2c_i1;
+  if (w2c_i0) {goto w2c_B1;}
+  w2c_j0 = w2c_l5;
+  w2c_i1 = w2c_p1;
+  w2c_j2 = w2c_p4;
+  w2c_j3 = w2c_l5;
+  w2c_i3 = (u32)(w2c_j3);
+  w2c_j3 = i64_load(m, (u64)(w2c_i3) + 56u);
+  w2c_i4 = w2c_l13;
+  w2c_i5 = w2c_l11;
+  w2c_f45(m, w2c_j0, w2c_i1, w2c_j2, w2c_j3, w2c_i4, w2c_i5);
+  w2c_j0 = w2c_p0;
+  w2c_j1 = 8ull;
+  w2c_j0 += w2c_j1;
+  w2c_i0 = (u32)(w2c_j0);
+  w2c_j1 = 2ull;
+  w2c_j2 = 0ull;
+  w2c_j3 = w2c_l5;
+  w2c_i3 = (u32)(w2c_j3);
+  w2c_i3 = i32_load8_u(m, (u64)(w2c_i3));
+  w2c_i4 = 1u;
+  w2c_i3 = w2c_i3 != w2c_i4;
+  w2c_p1 = w2c_i3;
+  w2c_j1 = w2c_i3 ? w2c_j1 : w2c_j2;
+  i64_store(m, (u64)(w2c_i0), w2c_j1);
+  w2c_j0 = w2c_p0;
+  w2c_i0 = (u32)(w2c_j0);
+  w2c_i1 = w2c_p1;
+  w2c_j1 = (u64)(w2c_i1);
+  i64_store(m, (u64)(w2c_i0), w2c_j1);
+  w2c_j0 = w2c_p0;
   w2c_j1 = 16ull;
   w2c_j0 += w2c_j1;
-  w2c_j1 = w2c_l7;
-  w2c_j2 = w2c_l6;
-  w2c_j3 = w2c_p3;
-  w2c_i3 = (u32)(w2c_j3);
-  w2c_f5(m, w2c_j0, w2c_j1, w2c_j2, w2c_i3);
-  w2c_j0 = 10ull;
-  w2c_j1 = 18446744073709551615ull;
+  w2c_i0 = (u32)(w2c_j0);
+  w2c_j1 = 0ull;
+  w2c_j2 = w2c_l5;
+  w2c_i2 = (u32)(w2c_j2);
+  w2c_j2 = i64_load(m, (u64)(w2c_i2) + 16u);
+  w2c_i3 = w2c_p1;
+  w2c_j1 = w2c_i3 ? w2c_j1 : w2c_j2;
+  w2c_p4 = w2c_j1;
+  i64_store(m, (u64)(w2c_i0), w2c_j1);
+  w2c_j0 = w2c_p0;
+  w2c_j1 = 24ull;
   w2c_j0 += w2c_j1;
-  w2c_l12 = w2c_j0;
-  w2c_j0 = 0ull;
-  w2c_j1 = 10ull;
-  w2c_i1 = !(w2c_j1);
-  w2c_j1 = (u64)(w2c_i1);
-  w2c_j0 -= w2c_j1;
-  w2c_l13 = w2c_j0;
+  w2c_i0 = (u32)(w2c_j0);
+  w2c_j1 = 0ull;
+  w2c_j2 = w2c_l5;
+  w2c_i2 = (u32)(w2c_j2);
+  w2c_j2 = i64_load(m, (u64)(w2c_i2) + 24u);
+  w2c_i3 = w2c_p1;
+  w2c_j1 = w2c_i3 ? w2c_j1 : w2c_j2;
+  w2c_p0 = w2c_j1;
+  i64_store(m, (u64)(w2c_i0), w2c_j1);
   w2c_j0 = w2c_l5;
   w2c_i0 = (u32)(w2c_j0);
-  w2c_j0 = i64_load(m, (u64)(w2c_i0) + 24u);
-  w2c_l7 = w2c_j0;
+  w2c_j1 = w2c_p4;
+  i64_store(m, (u64)(w2c_i0) + 80, w2c_j1);
   w2c_j0 = w2c_l5;
   w2c_i0 = (u32)(w2c_j0);
-  w2c_j0 = i64_load(m, (u64)(w2c_i0) + 16u);
-  w2c_l6 = w2c_j0;
+  w2c_j1 = w2c_p0;
+  i64_store(m, (u64)(w2c_i0) + 88, w2c_j1);
+  goto w2c_B0;
+  w2c_B3:;
+  w2c_j0 = w2c_l5;
+  w2c_j1 = 64ull;
+  w2c_j0 += w2c_j1;
+  w2c_i1 = w2c_p1;
+  w2c_j2 = w2c_l7;
+  w2c_i3 = w2c_l9;
+  w2c_j4 = w2c_p3;
+  w2c_j5 = w2c_p4;
+  w2c_f44(m, w2c_j0, w2c_i1, w2c_j2, w2c_i3, w2c_j4, w2c_j5);
+  w2c_j0 = w2c_p0;
+  w2c_i0 = (u32)(w2c_j0);
+  w2c_j1 = w2c_l5;
+  w2c_i1 = (u32)(w2c_j1);
+  w2c_j1 = i64_load8_u(m, (u64)(w2c_i1) + 64u);
+  i64_store(m, (u64)(w2c_i0), w2c_j1);
+  w2c_j0 = w2c_p0;
+  w2c_j1 = 8ull;
+  w2c_j0 += w2c_j1;
+  w2c_i0 = (u32)(w2c_j0);
+  w2c_j1 = w2c_l5;
+  w2c_i1 = (u32)(w2c_j1);
+  w2c_j1 = i64_load8_u(m, (u64)(w2c_i1) + 72u);
+  i64_store(m, (u64)(w2c_i0), w2c_j1);
+  w2c_j0 = w2c_p0;
+  w2c_j1 = 16ull;
+  w2c_j0 += w2c_j1;
+  w2c_i0 = (u32)(w2c_j0);
+  w2c_j1 = w2c_l5;
+  w2c_i1 = (u32)(w2c_j1);
+  w2c_j1 = i64_load(m, (u64)(w2c_i1) + 80u);
+  i64_store(m, (u64)(w2c_i0), w2c_j1);
+  w2c_j0 = w2c_p0;
+  w2c_j1 = 24ull;
+  w2c_j0 += w2c_j1;
+  w2c_i0 = (u32)(w2c_j0);
+  w2c_j1 = w2c_l5;
+  w2c_i1 = (u32)(w2c_j1);
+  w2c_j1 = i64_load(m, (u64)(w2c_i1) + 88u);
+  i64_store(m, (u64)(w2c_i0), w2c_j1);
+  goto w2c_B0;
+  w2c_B2:;
+  w2c_j0 = w2c_p0;
+  w2c_i0 = (u32)(w2c_j0);
+  w2c_j1 = 1ull;
+  i64_store(m, (u64)(w2c_i0), w2c_j1);
+  w2c_j0 = w2c_p0;
+  w2c_j1 = 8ull;
+  w2c_j0 += w2c_j1;
+  w2c_i0 = (u32)(w2c_j0);
+  w2c_j1 = w2c_l5;
+  w2c_i1 = (u32)(w2c_j1);
+  w2c_j1 = i64_load8_u(m, (u64)(w2c_i1) + 40u);
+  i64_store(m, (u64)(w2c_i0), w2c_j1);
+  w2c_j0 = w2c_p0;
+  w2c_j1 = 16ull;
+  w2c_j0 += w2c_j1;
+  w2c_i0 = (u32)(w2c_j0);
+  w2c_j1 = w2c_p4;
+  i64_store(m, (u64)(w2c_i0), w2c_j1);
+  w2c_j0 = w2c_p0;
+  w2c_j1 = 24ull;
+  w2c_j0 += w2c_j1;
+  w2c_i0 = (u32)(w2c_j0);
+  w2c_j1 = 0ull;
+  i64_store(m, (u64)(w2c_i0), w2c_j1);
+  w2c_j0 = w2c_l5;
+  w2c_i0 = (u32)(w2c_j0);
+  w2c_j1 = 0ull;
+  i64_store(m, (u64)(w2c_i0) + 88, w2c_j1);
+  w2c_j0 = w2c_l5;
+  w2c_i0 = (u32)(w2c_j0);
+  w2c_j1 = w2c_p4;
+  i64_store(m, (u64)(w2c_i0) + 80, w2c_j1);
+  goto w2c_B0;
+  w2c_B1:;
   w2c_j0 = 0ull;
-  w2c_l10 = w2c_j0;
-  w2c_L18:
-    w2c_j0 = w2c_l10;
-    w2c_l14 = w2c_j0;
-    w2c_j0 = w2c_l13;
-    w2c_j1 = w2c_l7;
-    w2c_j2 = 1ull;
-    w2c_j1 <<= (w2c_j2 & 63);
-    w2c_j2 = w2c_l6;
-    w2c_j3 = 63ull;
-    w2c_j2 >>= (w2c_j3 & 63);
-    w2c_j1 |= w2c_j2;
-    w2c_l15 = w2c_j1;
-    w2c_j0 -= w2c_j1;
-    w2c_j1 = w2c_l12;
-    w2c_j2 = w2c_l6;
-    w2c_j3 = 1ull;
-    w2c_j2 <<= (w2c_j3 & 63);
-    w2c_j3 = w2c_p2;
-    w2c_j4 = 63ull;
-    w2c_j3 >>= (w2c_j4 & 63);
-    w2c_j2 |= w2c_j3;
-    w2c_l7 = w2c_j2;
-    w2c_i1 = w2c_j1 < w2c_j2;
-    w2c_j1 = (u64)(w2c_i1);
-    w2c_j0 -= w2c_j1;
-    w2c_j1 = 63ull;
-    w2c_j0 = (u64)((s64)w2c_j0 >> (w2c_j1 & 63));
-    w2c_l6 = w2c_j0;
-    w2c_j1 = 1ull;
-    w2c_j0 &= w2c_j1;
-    w2c_l10 = w2c_j0;
-    w2c_j0 = w2c_l7;
-    w2c_j1 = w2c_l6;
-    w2c_j2 = 10ull;
-    w2c_j1 &= w2c_j2;
-    w2c_l16 = w2c_j1;
-    w2c_j0 -= w2c_j1;
-    w2c_l6 = w2c_j0;
-    w2c_j0 = w2c_l15;
-    w2c_j1 = w2c_l7;
-    w2c_j2 = w2c_l16;
-    w2c_i1 = w2c_j1 < w2c_j2;
-    w2c_j1 = (u64)(w2c_i1);
-    w2c_j0 -= w2c_j1;
-    w2c_l7 = w2c_j0;
-    w2c_j0 = 0ull;
-    w2c_j1 = w2c_p2;
-    w2c_j2 = 1ull;
-    w2c_j1 <<= (w2c_j2 & 63);
-    w2c_j2 = w2c_p4;
-    w2c_j3 = 63ull;
-    w2c_j2 >>= (w2c_j3 & 63);
-    w2c_j1 |= w2c_j2;
-    w2c_j0 |= w2c_j1;
-    w2c_p2 = w2c_j0;
-    w2c_j0 = w2c_p3;
-    w2c_i0 = !(w2c_j0);
-    w2c_p1 = w2c_i0;
-    w2c_j0 = w2c_l14;
+  w2c_p4 = w2c_j0;
+  w2c_j0 = 0ull;
+  w2c_p3 = w2c_j0;
+  w2c_j0 = w2c_p2;
+  w2c_j1 = 8ull;
+  w2c_i0 = w2c_j0 < w2c_j1;
+  if (w2c_i0) {goto w2c_B20;}
+  w2c_j0 = 0ull;
+  w2c_p3 = w2c_j0;
+  w2c_j0 = w2c_p2;
+  w2c_l8 = w2c_j0;
+  w2c_j0 = 0ull;
+  w2c_p4 = w2c_j0;
+  w2c_L21:
+    w2c_j0 = w2c_l6;
     w2c_j1 = w2c_p4;
-    w2c_j2 = 1ull;
-    w2c_j1 <<= (w2c_j2 & 63);
-    w2c_j0 |= w2c_j1;
-    w2c_p4 = w2c_j0;
-    w2c_j0 = w2c_p3;
-    w2c_j1 = 18446744073709551615ull;
     w2c_j0 += w2c_j1;
-    w2c_l14 = w2c_j0;
+    w2c_i0 = (u32)(w2c_j0);
+    w2c_j0 = i64_load(m, (u64)(w2c_i0));
+    w2c_j1 = 67553998437089520ull;
+    w2c_j0 &= w2c_j1;
+    w2c_j1 = 63050398541283552ull;
+    w2c_i0 = w2c_j0 != w2c_j1;
+    if (w2c_i0) {goto w2c_B20;}
+    w2c_j0 = w2c_p3;
+    w2c_j1 = 3ull;
+    w2c_j0 += w2c_j1;
     w2c_p3 = w2c_j0;
-    w2c_j0 = w2c_l14;
-    w2c_j1 = w2c_l11;
-    w2c_i2 = w2c_p1;
-    w2c_j2 = (u64)(w2c_i2);
-    w2c_j1 -= w2c_j2;
-    w2c_l11 = w2c_j1;
-    w2c_j0 |= w2c_j1;
-    w2c_i0 = !(w2c_j0);
-    w2c_i0 = !(w2c_i0);
-    if (w2c_i0) {goto w2c_L18;}
-    goto w2c_B2;
-  UNREACHABLE;
-  w2c_B4:;
+    w2c_j0 = w2c_p4;
+    w2c_j1 = 9ull;
+    w2c_j0 += w2c_j1;
+    w2c_p4 = w2c_j0;
+    w2c_j0 = w2c_l8;
+    w2c_j1 = 18446744073709551607ull;
+    w2c_j0 += w2c_j1;
+    w2c_l8 = w2c_j0;
+    w2c_j1 = 7ull;
+    w2c_i0 = w2c_j0 > w2c_j1;
+    if (w2c_i0) {goto w2c_L21;}
+  w2c_B20:;
   w2c_j0 = w2c_l7;
   w2c_j1 = 1ull;
   w2c_j0 += w2c_j1;
   w2c_l7 = w2c_j0;
-  w2c_j0 = 0ull;
-  w2c_p3 = w2c_j0;
-  w2c_j0 = w2c_p2;
-  w2c_i0 = !(w2c_j0);
-  if (w2c_i0) {goto w2c_B19;}
-  w2c_j0 = 0ull;
-  w2c_p4 = w2c_j0;
-  w2c_L20:
+  w2c_j0 = w2c_p4;
+  w2c_j1 = w2c_p2;
+  w2c_i0 = w2c_j0 >= w2c_j1;
+  if (w2c_i0) {goto w2c_B22;}
+  w2c_L23:
     w2c_j0 = w2c_p3;
     w2c_j1 = 1ull;
     w2c_j0 += w2c_j1;
@@ -31827,8 +30817,8 @@ static void w2c_f42(module *m, u64 w2c_p0, u32 w2c_p1, u64 w2c_p2, u64 w2c_p3, u
     w2c_p4 = w2c_j0;
     w2c_j1 = w2c_p2;
     w2c_i0 = w2c_j0 < w2c_j1;
-    if (w2c_i0) {goto w2c_L20;}
-  w2c_B19:;
+    if (w2c_i0) {goto w2c_L23;}
+  w2c_B22:;
   w2c_j0 = w2c_p0;
   w2c_i0 = (u32)(w2c_j0);
   w2c_j1 = 1ull;
@@ -31854,117 +30844,15 @@ static void w2c_f42(module *m, u64 w2c_p0, u32 w2c_p1, u64 w2c_p2, u64 w2c_p3, u
   w2c_i0 = (u32)(w2c_j0);
   w2c_j1 = w2c_l5;
   w2c_i1 = (u32)(w2c_j1);
-  w2c_j1 = i64_load(m, (u64)(w2c_i1) + 152u);
+  w2c_j1 = i64_load(m, (u64)(w2c_i1) + 88u);
   i64_store(m, (u64)(w2c_i0), w2c_j1);
   w2c_j0 = w2c_l5;
   w2c_i0 = (u32)(w2c_j0);
   w2c_j1 = w2c_p4;
-  i64_store(m, (u64)(w2c_i0) + 144, w2c_j1);
-  goto w2c_B0;
-  w2c_B3:;
-  w2c_j0 = 0ull;
-  w2c_l10 = w2c_j0;
-  w2c_B2:;
-  w2c_j0 = w2c_p2;
-  w2c_j1 = 1ull;
-  w2c_j0 <<= (w2c_j1 & 63);
-  w2c_j1 = w2c_p4;
-  w2c_j2 = 63ull;
-  w2c_j1 >>= (w2c_j2 & 63);
-  w2c_j0 |= w2c_j1;
-  w2c_p2 = w2c_j0;
-  w2c_j0 = w2c_l10;
-  w2c_j1 = w2c_p4;
-  w2c_j2 = 1ull;
-  w2c_j1 <<= (w2c_j2 & 63);
-  w2c_j0 |= w2c_j1;
-  w2c_p4 = w2c_j0;
-  w2c_B1:;
-  w2c_j0 = w2c_l5;
-  w2c_j1 = w2c_p4;
-  w2c_j2 = w2c_p2;
-  w2c_i3 = w2c_l19;
-  w2c_j3 = (u64)(w2c_i3);
-  w2c_j4 = 255ull;
-  w2c_j3 &= w2c_j4;
-  w2c_j4 = 0ull;
-  w2c_f3(m, w2c_j0, w2c_j1, w2c_j2, w2c_j3, w2c_j4);
-  w2c_j0 = w2c_p0;
-  w2c_j1 = 8ull;
-  w2c_j0 += w2c_j1;
-  w2c_i0 = (u32)(w2c_j0);
-  w2c_j1 = 2ull;
-  w2c_j2 = 0ull;
-  w2c_j3 = w2c_l8;
-  w2c_j4 = w2c_l5;
-  w2c_i4 = (u32)(w2c_j4);
-  w2c_j4 = i64_load(m, (u64)(w2c_i4));
-  w2c_p4 = w2c_j4;
-  w2c_j5 = 18446744073709551615ull;
-  w2c_j4 ^= w2c_j5;
-  w2c_i3 = w2c_j3 > w2c_j4;
-  w2c_j4 = w2c_l9;
-  w2c_j5 = w2c_l5;
-  w2c_i5 = (u32)(w2c_j5);
-  w2c_j5 = i64_load(m, (u64)(w2c_i5) + 8u);
-  w2c_p3 = w2c_j5;
-  w2c_j6 = 18446744073709551615ull;
-  w2c_j5 ^= w2c_j6;
-  w2c_p2 = w2c_j5;
-  w2c_i4 = w2c_j4 > w2c_j5;
-  w2c_j5 = w2c_l9;
-  w2c_j6 = w2c_p2;
-  w2c_i5 = w2c_j5 == w2c_j6;
-  w2c_i3 = w2c_i5 ? w2c_i3 : w2c_i4;
-  w2c_p1 = w2c_i3;
-  w2c_j1 = w2c_i3 ? w2c_j1 : w2c_j2;
-  i64_store(m, (u64)(w2c_i0), w2c_j1);
-  w2c_j0 = w2c_p0;
-  w2c_i0 = (u32)(w2c_j0);
-  w2c_i1 = w2c_p1;
-  w2c_j1 = (u64)(w2c_i1);
-  i64_store(m, (u64)(w2c_i0), w2c_j1);
-  w2c_j0 = w2c_p0;
-  w2c_j1 = 16ull;
-  w2c_j0 += w2c_j1;
-  w2c_i0 = (u32)(w2c_j0);
-  w2c_j1 = 0ull;
-  w2c_j2 = w2c_p4;
-  w2c_j3 = w2c_l8;
-  w2c_j2 += w2c_j3;
-  w2c_p2 = w2c_j2;
-  w2c_i3 = w2c_p1;
-  w2c_j1 = w2c_i3 ? w2c_j1 : w2c_j2;
-  w2c_l6 = w2c_j1;
-  i64_store(m, (u64)(w2c_i0), w2c_j1);
-  w2c_j0 = w2c_p0;
-  w2c_j1 = 24ull;
-  w2c_j0 += w2c_j1;
-  w2c_i0 = (u32)(w2c_j0);
-  w2c_j1 = 0ull;
-  w2c_j2 = w2c_p3;
-  w2c_j3 = w2c_l9;
-  w2c_j2 += w2c_j3;
-  w2c_j3 = w2c_p2;
-  w2c_j4 = w2c_p4;
-  w2c_i3 = w2c_j3 < w2c_j4;
-  w2c_j3 = (u64)(w2c_i3);
-  w2c_j2 += w2c_j3;
-  w2c_i3 = w2c_p1;
-  w2c_j1 = w2c_i3 ? w2c_j1 : w2c_j2;
-  w2c_p0 = w2c_j1;
-  i64_store(m, (u64)(w2c_i0), w2c_j1);
-  w2c_j0 = w2c_l5;
-  w2c_i0 = (u32)(w2c_j0);
-  w2c_j1 = w2c_l6;
-  i64_store(m, (u64)(w2c_i0) + 144, w2c_j1);
-  w2c_j0 = w2c_l5;
-  w2c_i0 = (u32)(w2c_j0);
-  w2c_j1 = w2c_p0;
-  i64_store(m, (u64)(w2c_i0) + 152, w2c_j1);
+  i64_store(m, (u64)(w2c_i0) + 80, w2c_j1);
   w2c_B0:;
   w2c_j0 = w2c_l5;
-  w2c_j1 = 192ull;
+  w2c_j1 = 144ull;
   w2c_j0 += w2c_j1;
   m->w2c_g0 = w2c_j0;
 }
@@ -31975,7 +30863,7 @@ static void w2c_f43(module *m, u64 w2c_p0, u64 w2c_p1, u64 w2c_p2, u64 w2c_p3) {
   u32 w2c_i0, w2c_i1, w2c_i2, w2c_i3, w2c_i4;
   u64 w2c_j0, w2c_j1, w2c_j2, w2c_j3, w2c_j4;
   w2c_j0 = m->w2c_g0;
-  w2c_j1 = 64ull;
+  w2c_j1 = 48ull;
   w2c_j0 -= w2c_j1;
   w2c_l4 = w2c_j0;
   m->w2c_g0 = w2c_j0;
@@ -31990,11 +30878,11 @@ static void w2c_f43(module *m, u64 w2c_p0, u64 w2c_p1, u64 w2c_p2, u64 w2c_p3) {
   w2c_l15 = w2c_i0;
   w2c_j0 = 0ull;
   w2c_l7 = w2c_j0;
-  w2c_L2:
+  w2c_L1:
     w2c_j0 = w2c_p3;
     w2c_j1 = 3ull;
     w2c_i0 = w2c_j0 < w2c_j1;
-    if (w2c_i0) {goto w2c_B4;}
+    if (w2c_i0) {goto w2c_B14;}
     w2c_j0 = 1ull;
     w2c_l8 = w2c_j0;
     w2c_j0 = w2c_p3;
@@ -32024,7 +30912,7 @@ static void w2c_f43(module *m, u64 w2c_p0, u64 w2c_p1, u64 w2c_p2, u64 w2c_p3) {
     w2c_l4 = w2c_j0;
     w2c_j0 = 0ull;
     w2c_l12 = w2c_j0;
-    w2c_L6:
+    w2c_L16:
       w2c_j0 = w2c_p2;
       w2c_j1 = w2c_l4;
       w2c_j0 += w2c_j1;
@@ -32052,13 +30940,13 @@ static void w2c_f43(module *m, u64 w2c_p0, u64 w2c_p1, u64 w2c_p2, u64 w2c_p3) {
       w2c_i0 = i32_load(m, (u64)(w2c_i0) + 66992u);
       w2c_i1 = w2c_l16;
       w2c_i0 = w2c_i0 != w2c_i1;
-      if (w2c_i0) {goto w2c_B5;}
+      if (w2c_i0) {goto w2c_B15;}
       w2c_j0 = w2c_l14;
       w2c_j1 = 66996ull;
       w2c_j0 += w2c_j1;
       w2c_i0 = (u32)(w2c_j0);
       w2c_i0 = i32_load8_u(m, (u64)(w2c_i0));
-      if (w2c_i0) {goto w2c_B5;}
+      if (w2c_i0) {goto w2c_B15;}
       w2c_j0 = w2c_l8;
       w2c_j1 = 10ull;
       w2c_j0 *= w2c_j1;
@@ -32083,7 +30971,7 @@ static void w2c_f43(module *m, u64 w2c_p0, u64 w2c_p1, u64 w2c_p2, u64 w2c_p3) {
       w2c_j1 += w2c_j2;
       w2c_l4 = w2c_j1;
       w2c_i0 = w2c_j0 != w2c_j1;
-      if (w2c_i0) {goto w2c_L6;}
+      if (w2c_i0) {goto w2c_L16;}
     w2c_j0 = w2c_p2;
     w2c_j1 = w2c_l4;
     w2c_j0 += w2c_j1;
@@ -32094,69 +30982,131 @@ static void w2c_f43(module *m, u64 w2c_p0, u64 w2c_p1, u64 w2c_p2, u64 w2c_p3) {
     w2c_p3 = w2c_j0;
     w2c_j0 = w2c_l9;
     w2c_l12 = w2c_j0;
-    goto w2c_B3;
-    w2c_B5:;
+    goto w2c_B7;
+    w2c_B15:;
     w2c_j0 = w2c_l4;
     w2c_j1 = 0ull;
     w2c_i0 = w2c_j0 == w2c_j1;
-    if (w2c_i0) {goto w2c_B4;}
+    if (w2c_i0) {goto w2c_B17;}
     w2c_j0 = w2c_p3;
     w2c_j1 = w2c_l4;
     w2c_j0 -= w2c_j1;
     w2c_p3 = w2c_j0;
     w2c_j0 = w2c_l13;
     w2c_p2 = w2c_j0;
-    goto w2c_B3;
-    w2c_B4:;
-    w2c_j0 = w2c_p3;
-    w2c_i0 = !(w2c_j0);
-    if (w2c_i0) {goto w2c_B11;}
+    goto w2c_B7;
+    w2c_B17:;
     w2c_j0 = w2c_p2;
     w2c_i0 = (u32)(w2c_j0);
-    w2c_i0 = i32_load8_s(m, (u64)(w2c_i0));
-    w2c_l17 = w2c_i0;
-    w2c_i1 = 255u;
-    w2c_i0 &= w2c_i1;
+    w2c_i0 = i32_load8_u(m, (u64)(w2c_i0));
     w2c_l16 = w2c_i0;
+    w2c_i1 = 240u;
+    w2c_i0 &= w2c_i1;
+    w2c_i1 = 224u;
+    w2c_i0 = w2c_i0 != w2c_i1;
+    if (w2c_i0) {goto w2c_B13;}
+    w2c_j0 = w2c_p2;
+    w2c_i0 = (u32)(w2c_j0);
+    w2c_i0 = i32_load8_u(m, (u64)(w2c_i0) + 1u);
+    w2c_l17 = w2c_i0;
+    w2c_i1 = 8u;
+    w2c_i0 <<= (w2c_i1 & 31);
+    w2c_j1 = w2c_p2;
+    w2c_i1 = (u32)(w2c_j1);
+    w2c_i1 = i32_load8_u(m, (u64)(w2c_i1) + 2u);
+    w2c_l18 = w2c_i1;
+    w2c_i2 = 16u;
+    w2c_i1 <<= (w2c_i2 & 31);
+    w2c_i0 |= w2c_i1;
+    w2c_i1 = w2c_l16;
+    w2c_i0 |= w2c_i1;
+    w2c_l19 = w2c_i0;
+    w2c_i0 = w2c_l16;
+    w2c_i1 = 12u;
+    w2c_i0 <<= (w2c_i1 & 31);
+    w2c_i1 = w2c_l17;
+    w2c_i2 = 6u;
+    w2c_i1 <<= (w2c_i2 & 31);
+    w2c_i0 += w2c_i1;
+    w2c_i1 = w2c_l18;
+    w2c_i0 += w2c_i1;
+    w2c_i1 = 4294041472u;
+    w2c_i0 += w2c_i1;
+    w2c_l16 = w2c_i0;
+    w2c_j0 = w2c_p3;
+    w2c_j1 = 18446744073709551613ull;
+    w2c_j0 += w2c_j1;
+    w2c_p3 = w2c_j0;
+    w2c_j0 = w2c_p2;
+    w2c_j1 = 3ull;
+    w2c_j0 += w2c_j1;
+    w2c_p2 = w2c_j0;
+    w2c_i0 = w2c_l19;
+    w2c_i1 = w2c_l19;
+    w2c_j1 = (u64)(w2c_i1);
+    w2c_j2 = 953497ull;
+    w2c_j1 *= w2c_j2;
+    w2c_j2 = 22ull;
+    w2c_j1 >>= (w2c_j2 & 63);
+    w2c_j2 = 1016ull;
+    w2c_j1 &= w2c_j2;
+    w2c_l4 = w2c_j1;
+    w2c_j2 = 66992ull;
+    w2c_j1 += w2c_j2;
+    w2c_i1 = (u32)(w2c_j1);
+    w2c_i1 = i32_load(m, (u64)(w2c_i1));
+    w2c_i0 = w2c_i0 == w2c_i1;
+    if (w2c_i0) {goto w2c_B12;}
+    goto w2c_B10;
+    w2c_B14:;
+    w2c_j0 = w2c_p3;
+    w2c_i0 = !(w2c_j0);
+    if (w2c_i0) {goto w2c_B6;}
+    w2c_j0 = w2c_p2;
+    w2c_i0 = (u32)(w2c_j0);
+    w2c_i0 = i32_load8_u(m, (u64)(w2c_i0));
+    w2c_l16 = w2c_i0;
+    w2c_B13:;
     w2c_j0 = 1ull;
     w2c_l4 = w2c_j0;
-    w2c_i0 = w2c_l17;
+    w2c_i0 = w2c_l16;
+    w2c_i0 = (u32)(s32)(s8)(u8)(w2c_i0);
     w2c_i1 = 4294967295u;
     w2c_i0 = (u32)((s32)w2c_i0 > (s32)w2c_i1);
-    if (w2c_i0) {goto w2c_B12;}
+    if (w2c_i0) {goto w2c_B18;}
     w2c_j0 = w2c_p2;
     w2c_i0 = (u32)(w2c_j0);
     w2c_i0 = i32_load8_u(m, (u64)(w2c_i0) + 1u);
     w2c_i1 = 63u;
     w2c_i0 &= w2c_i1;
-    w2c_l18 = w2c_i0;
-    w2c_i0 = w2c_l17;
-    w2c_i1 = 4294967263u;
+    w2c_l19 = w2c_i0;
+    w2c_i0 = w2c_l16;
+    w2c_i1 = 223u;
     w2c_i0 = w2c_i0 > w2c_i1;
-    if (w2c_i0) {goto w2c_B13;}
+    if (w2c_i0) {goto w2c_B19;}
     w2c_i0 = w2c_l16;
     w2c_i1 = 6u;
     w2c_i0 <<= (w2c_i1 & 31);
     w2c_i1 = 1984u;
     w2c_i0 &= w2c_i1;
-    w2c_i1 = w2c_l18;
+    w2c_i1 = w2c_l19;
     w2c_i0 |= w2c_i1;
     w2c_l16 = w2c_i0;
     w2c_j0 = 2ull;
     w2c_l4 = w2c_j0;
-    goto w2c_B12;
-    w2c_B13:;
+    goto w2c_B18;
+    w2c_B19:;
     w2c_j0 = w2c_p2;
     w2c_i0 = (u32)(w2c_j0);
     w2c_i0 = i32_load8_u(m, (u64)(w2c_i0) + 2u);
     w2c_i1 = 63u;
     w2c_i0 &= w2c_i1;
-    w2c_l19 = w2c_i0;
-    w2c_i0 = w2c_l17;
-    w2c_i1 = 4294967279u;
+    w2c_l17 = w2c_i0;
+    w2c_i0 = w2c_l16;
+    w2c_i1 = 239u;
     w2c_i0 = w2c_i0 > w2c_i1;
-    if (w2c_i0) {goto w2c_B14;}
-    w2c_i0 = w2c_l18;
+    if (w2c_i0) {goto w2c_B20;}
+    w2c_i0 = w2c_l19;
     w2c_i1 = 6u;
     w2c_i0 <<= (w2c_i1 & 31);
     w2c_i1 = w2c_l16;
@@ -32165,17 +31115,17 @@ static void w2c_f43(module *m, u64 w2c_p0, u64 w2c_p1, u64 w2c_p2, u64 w2c_p3) {
     w2c_i2 = 61440u;
     w2c_i1 &= w2c_i2;
     w2c_i0 |= w2c_i1;
-    w2c_i1 = w2c_l19;
+    w2c_i1 = w2c_l17;
     w2c_i0 |= w2c_i1;
     w2c_l16 = w2c_i0;
     w2c_j0 = 3ull;
     w2c_l4 = w2c_j0;
-    goto w2c_B12;
-    w2c_B14:;
-    w2c_i0 = w2c_l19;
+    goto w2c_B18;
+    w2c_B20:;
+    w2c_i0 = w2c_l17;
     w2c_i1 = 6u;
     w2c_i0 <<= (w2c_i1 & 31);
-    w2c_i1 = w2c_l18;
+    w2c_i1 = w2c_l19;
     w2c_i2 = 12u;
     w2c_i1 <<= (w2c_i2 & 31);
     w2c_i2 = w2c_l16;
@@ -32194,7 +31144,7 @@ static void w2c_f43(module *m, u64 w2c_p0, u64 w2c_p1, u64 w2c_p2, u64 w2c_p3) {
     w2c_l16 = w2c_i0;
     w2c_j0 = 4ull;
     w2c_l4 = w2c_j0;
-    w2c_B12:;
+    w2c_B18:;
     w2c_j0 = w2c_p3;
     w2c_j1 = w2c_l4;
     w2c_j0 -= w2c_j1;
@@ -32208,7 +31158,7 @@ static void w2c_f43(module *m, u64 w2c_p0, u64 w2c_p1, u64 w2c_p2, u64 w2c_p3) {
     w2c_i0 += w2c_i1;
     w2c_i1 = 63487u;
     w2c_i0 = w2c_i0 > w2c_i1;
-    if (w2c_i0) {goto w2c_B17;}
+    if (w2c_i0) {goto w2c_B11;}
     w2c_i0 = w2c_l16;
     w2c_i1 = 12u;
     w2c_i0 >>= (w2c_i1 & 31);
@@ -32226,7 +31176,7 @@ static void w2c_f43(module *m, u64 w2c_p0, u64 w2c_p1, u64 w2c_p2, u64 w2c_p3) {
     w2c_i0 |= w2c_i1;
     w2c_i1 = 8421600u;
     w2c_i0 |= w2c_i1;
-    w2c_l17 = w2c_i0;
+    w2c_l19 = w2c_i0;
     w2c_j0 = (u64)(w2c_i0);
     w2c_j1 = 953497ull;
     w2c_j0 *= w2c_j1;
@@ -32239,15 +31189,16 @@ static void w2c_f43(module *m, u64 w2c_p0, u64 w2c_p1, u64 w2c_p2, u64 w2c_p3) {
     w2c_j0 += w2c_j1;
     w2c_i0 = (u32)(w2c_j0);
     w2c_i0 = i32_load(m, (u64)(w2c_i0));
-    w2c_i1 = w2c_l17;
+    w2c_i1 = w2c_l19;
     w2c_i0 = w2c_i0 != w2c_i1;
     if (w2c_i0) {goto w2c_B9;}
+    w2c_B12:;
     w2c_j0 = w2c_l4;
     w2c_j1 = 66997ull;
     w2c_j0 += w2c_j1;
     w2c_i0 = (u32)(w2c_j0);
     w2c_i0 = i32_load8_u(m, (u64)(w2c_i0));
-    w2c_l17 = w2c_i0;
+    w2c_l19 = w2c_i0;
     w2c_j0 = w2c_l4;
     w2c_j1 = 66996ull;
     w2c_j0 += w2c_j1;
@@ -32255,87 +31206,19 @@ static void w2c_f43(module *m, u64 w2c_p0, u64 w2c_p1, u64 w2c_p2, u64 w2c_p3) {
     w2c_j0 = i64_load8_u(m, (u64)(w2c_i0));
     w2c_i0 = (u32)(w2c_j0);
     switch (w2c_i0) {
-      case 0: goto w2c_B16;
-      case 1: goto w2c_B8;
-      case 2: goto w2c_B9;
-      default: goto w2c_B16;
+      case 0: goto w2c_B8;
+      case 1: goto w2c_B4;
+      case 2: goto w2c_B10;
+      default: goto w2c_B8;
     }
-    w2c_B17:;
-    w2c_j0 = w2c_l5;
-    w2c_j1 = 56ull;
-    w2c_j0 += w2c_j1;
-    w2c_i1 = w2c_l16;
-    w2c_f18(m, w2c_j0, w2c_i1);
-    w2c_j0 = w2c_l5;
-    w2c_i0 = (u32)(w2c_j0);
-    w2c_i0 = i32_load8_u(m, (u64)(w2c_i0) + 56u);
-    w2c_i1 = 1u;
-    w2c_i0 = w2c_i0 != w2c_i1;
-    if (w2c_i0) {goto w2c_B15;}
-    w2c_j0 = w2c_l5;
-    w2c_i0 = (u32)(w2c_j0);
-    w2c_i0 = i32_load8_u(m, (u64)(w2c_i0) + 57u);
-    w2c_l17 = w2c_i0;
-    w2c_B16:;
-    w2c_i0 = w2c_l17;
-    w2c_j0 = (u64)(w2c_i0);
-    w2c_j1 = 255ull;
-    w2c_j0 &= w2c_j1;
-    w2c_l11 = w2c_j0;
-    w2c_j0 = 1ull;
-    w2c_l12 = w2c_j0;
-    w2c_j0 = 10ull;
-    w2c_l8 = w2c_j0;
-    goto w2c_B3;
-    w2c_B15:;
-    w2c_j0 = w2c_l5;
-    w2c_j1 = 48ull;
-    w2c_j0 += w2c_j1;
-    w2c_i1 = w2c_l16;
-    w2c_f19(m, w2c_j0, w2c_i1);
-    w2c_j0 = w2c_l5;
-    w2c_i0 = (u32)(w2c_j0);
-    w2c_i0 = i32_load8_u(m, (u64)(w2c_i0) + 48u);
-    w2c_i1 = 1u;
-    w2c_i0 = w2c_i0 != w2c_i1;
-    if (w2c_i0) {goto w2c_B10;}
-    goto w2c_B8;
     w2c_B11:;
-    w2c_j0 = w2c_p0;
-    w2c_j1 = 8ull;
-    w2c_j0 += w2c_j1;
-    w2c_i0 = (u32)(w2c_j0);
-    w2c_j1 = 0ull;
-    i64_store(m, (u64)(w2c_i0), w2c_j1);
-    w2c_j0 = w2c_p0;
-    w2c_j1 = 24ull;
-    w2c_j0 += w2c_j1;
-    w2c_i0 = (u32)(w2c_j0);
-    w2c_j1 = 0ull;
-    w2c_j2 = w2c_l6;
-    w2c_i3 = w2c_l15;
-    w2c_i4 = 1u;
-    w2c_i3 &= w2c_i4;
-    w2c_l16 = w2c_i3;
-    w2c_j1 = w2c_i3 ? w2c_j1 : w2c_j2;
-    i64_store(m, (u64)(w2c_i0), w2c_j1);
-    w2c_j0 = w2c_p0;
-    w2c_j1 = 16ull;
-    w2c_j0 += w2c_j1;
-    w2c_i0 = (u32)(w2c_j0);
-    w2c_j1 = 0ull;
-    w2c_j2 = w2c_l7;
-    w2c_i3 = w2c_l16;
-    w2c_j1 = w2c_i3 ? w2c_j1 : w2c_j2;
-    i64_store(m, (u64)(w2c_i0), w2c_j1);
-    w2c_j0 = w2c_p0;
-    w2c_i0 = (u32)(w2c_j0);
-    w2c_i1 = w2c_l15;
-    w2c_j1 = (u64)(w2c_i1);
-    w2c_j2 = 1ull;
-    w2c_j1 &= w2c_j2;
-    i64_store(m, (u64)(w2c_i0), w2c_j1);
-    goto w2c_B1;
+    w2c_i0 = w2c_l16;
+    w2c_i1 = 4294967248u;
+    w2c_i0 += w2c_i1;
+    w2c_l19 = w2c_i0;
+    w2c_i1 = 10u;
+    w2c_i0 = w2c_i0 < w2c_i1;
+    if (w2c_i0) {goto w2c_B8;}
     w2c_B10:;
     w2c_i0 = w2c_l16;
     w2c_i1 = 127u;
@@ -32348,12 +31231,12 @@ static void w2c_f43(module *m, u64 w2c_p0, u64 w2c_p1, u64 w2c_p2, u64 w2c_p3) {
     w2c_i0 += w2c_i1;
     w2c_i1 = 5u;
     w2c_i0 = w2c_i0 < w2c_i1;
-    if (w2c_i0) {goto w2c_B7;}
+    if (w2c_i0) {goto w2c_B2;}
     w2c_i0 = w2c_l16;
     w2c_i1 = 32u;
-    w2c_i0 = w2c_i0 != w2c_i1;
-    if (w2c_i0) {goto w2c_B8;}
-    goto w2c_B7;
+    w2c_i0 = w2c_i0 == w2c_i1;
+    if (w2c_i0) {goto w2c_B2;}
+    goto w2c_B4;
     w2c_B9:;
     w2c_j0 = 1ull;
     w2c_l4 = w2c_j0;
@@ -32362,81 +31245,57 @@ static void w2c_f43(module *m, u64 w2c_p0, u64 w2c_p1, u64 w2c_p2, u64 w2c_p3) {
     w2c_i0 += w2c_i1;
     w2c_i1 = 11u;
     w2c_i0 = w2c_i0 < w2c_i1;
-    if (w2c_i0) {goto w2c_B7;}
+    if (w2c_i0) {goto w2c_B2;}
     w2c_i0 = w2c_l16;
     w2c_i1 = 8231u;
     w2c_i0 = (u32)((s32)w2c_i0 > (s32)w2c_i1);
-    if (w2c_i0) {goto w2c_B18;}
+    if (w2c_i0) {goto w2c_B21;}
     w2c_i0 = w2c_l16;
     w2c_i1 = 133u;
     w2c_i0 = w2c_i0 == w2c_i1;
-    if (w2c_i0) {goto w2c_B7;}
+    if (w2c_i0) {goto w2c_B2;}
     w2c_i0 = w2c_l16;
     w2c_i1 = 160u;
     w2c_i0 = w2c_i0 == w2c_i1;
-    if (w2c_i0) {goto w2c_B7;}
+    if (w2c_i0) {goto w2c_B2;}
     w2c_i0 = w2c_l16;
     w2c_i1 = 5760u;
-    w2c_i0 = w2c_i0 == w2c_i1;
-    if (w2c_i0) {goto w2c_B7;}
-    goto w2c_B8;
-    w2c_B18:;
+    w2c_i0 = w2c_i0 != w2c_i1;
+    if (w2c_i0) {goto w2c_B4;}
+    goto w2c_B2;
+    w2c_B21:;
     w2c_i0 = w2c_l16;
     w2c_i1 = 4294959064u;
     w2c_i0 += w2c_i1;
-    w2c_l17 = w2c_i0;
+    w2c_l19 = w2c_i0;
     w2c_i1 = 55u;
     w2c_i0 = w2c_i0 > w2c_i1;
-    if (w2c_i0) {goto w2c_B19;}
+    if (w2c_i0) {goto w2c_B5;}
     w2c_j0 = 1ull;
-    w2c_i1 = w2c_l17;
+    w2c_i1 = w2c_l19;
     w2c_j1 = (u64)(w2c_i1);
     w2c_j0 <<= (w2c_j1 & 63);
     w2c_j1 = 36028797018964099ull;
     w2c_j0 &= w2c_j1;
     w2c_j1 = 0ull;
     w2c_i0 = w2c_j0 != w2c_j1;
-    if (w2c_i0) {goto w2c_B7;}
-    w2c_B19:;
-    w2c_i0 = w2c_l16;
-    w2c_i1 = 12288u;
-    w2c_i0 = w2c_i0 == w2c_i1;
-    if (w2c_i0) {goto w2c_B7;}
+    if (w2c_i0) {goto w2c_B2;}
+    goto w2c_B5;
     w2c_B8:;
-    w2c_j0 = w2c_p0;
-    w2c_i0 = (u32)(w2c_j0);
-    w2c_j1 = 1ull;
-    i64_store(m, (u64)(w2c_i0), w2c_j1);
-    w2c_j0 = w2c_p0;
-    w2c_j1 = 24ull;
-    w2c_j0 += w2c_j1;
-    w2c_i0 = (u32)(w2c_j0);
-    w2c_j1 = 0ull;
-    i64_store(m, (u64)(w2c_i0), w2c_j1);
-    w2c_j0 = w2c_p0;
-    w2c_j1 = 16ull;
-    w2c_j0 += w2c_j1;
-    w2c_i0 = (u32)(w2c_j0);
-    w2c_j1 = w2c_p1;
-    i64_store(m, (u64)(w2c_i0), w2c_j1);
-    w2c_j0 = w2c_p0;
-    w2c_j1 = 8ull;
-    w2c_j0 += w2c_j1;
-    w2c_i0 = (u32)(w2c_j0);
-    w2c_j1 = 1ull;
-    i64_store(m, (u64)(w2c_i0), w2c_j1);
-    goto w2c_B1;
+    w2c_i0 = w2c_l19;
+    w2c_j0 = (u64)(w2c_i0);
+    w2c_j1 = 255ull;
+    w2c_j0 &= w2c_j1;
+    w2c_l11 = w2c_j0;
+    w2c_j0 = 10ull;
+    w2c_l8 = w2c_j0;
+    w2c_j0 = 1ull;
+    w2c_l12 = w2c_j0;
     w2c_B7:;
-    w2c_j0 = w2c_l4;
-    w2c_j1 = w2c_p1;
-    w2c_j0 += w2c_j1;
-    w2c_p1 = w2c_j0;
-    goto w2c_L2;
-    w2c_B3:;
     w2c_j0 = w2c_l6;
     w2c_j1 = 0ull;
     w2c_i0 = w2c_j0 != w2c_j1;
-    if (w2c_i0) {goto w2c_B20;}
+    if (w2c_i0) {goto w2c_B22;}
     w2c_j0 = w2c_l5;
     w2c_j1 = w2c_l7;
     w2c_j2 = w2c_l6;
@@ -32464,8 +31323,8 @@ static void w2c_f43(module *m, u64 w2c_p0, u64 w2c_p1, u64 w2c_p2, u64 w2c_p3) {
     w2c_j1 = w2c_p1;
     w2c_j0 += w2c_j1;
     w2c_p1 = w2c_j0;
-    goto w2c_L2;
-    w2c_B20:;
+    goto w2c_L1;
+    w2c_B22:;
     w2c_j0 = w2c_l5;
     w2c_j1 = 16ull;
     w2c_j0 += w2c_j1;
@@ -32500,7 +31359,7 @@ static void w2c_f43(module *m, u64 w2c_p0, u64 w2c_p1, u64 w2c_p2, u64 w2c_p3) {
     w2c_j0 += w2c_j1;
     w2c_j1 = 0ull;
     w2c_i0 = w2c_j0 != w2c_j1;
-    if (w2c_i0) {goto w2c_B21;}
+    if (w2c_i0) {goto w2c_B23;}
     w2c_i0 = 0u;
     w2c_l15 = w2c_i0;
     w2c_j0 = w2c_l5;
@@ -32516,7 +31375,7 @@ static void w2c_f43(module *m, u64 w2c_p0, u64 w2c_p1, u64 w2c_p2, u64 w2c_p3) {
     w2c_j3 = 18446744073709551615ull;
     w2c_i2 = w2c_j2 == w2c_j3;
     w2c_i0 = w2c_i2 ? w2c_i0 : w2c_i1;
-    if (w2c_i0) {goto w2c_B21;}
+    if (w2c_i0) {goto w2c_B23;}
     w2c_j0 = w2c_l4;
     w2c_j1 = w2c_l14;
     w2c_j2 = w2c_l11;
@@ -32531,268 +31390,120 @@ static void w2c_f43(module *m, u64 w2c_p0, u64 w2c_p1, u64 w2c_p2, u64 w2c_p3) {
     w2c_j1 = w2c_p1;
     w2c_j0 += w2c_j1;
     w2c_p1 = w2c_j0;
-    goto w2c_L2;
-    w2c_B21:;
-  w2c_j0 = w2c_p0;
-  w2c_i0 = (u32)(w2c_j0);
-  w2c_j1 = 1ull;
-  i64_store(m, (u64)(w2c_i0), w2c_j1);
-  w2c_j0 = w2c_p0;
-  w2c_j1 = 24ull;
-  w2c_j0 += w2c_j1;
-  w2c_i0 = (u32)(w2c_j0);
-  w2c_j1 = 0ull;
-  i64_store(m, (u64)(w2c_i0), w2c_j1);
-  w2c_j0 = w2c_p0;
-  w2c_j1 = 16ull;
-  w2c_j0 += w2c_j1;
-  w2c_i0 = (u32)(w2c_j0);
-  w2c_j1 = 0ull;
-  i64_store(m, (u64)(w2c_i0), w2c_j1);
-  w2c_j0 = w2c_p0;
-  w2c_j1 = 8ull;
-  w2c_j0 += w2c_j1;
-  w2c_i0 = (u32)(w2c_j0);
-  w2c_j1 = 2ull;
-  i64_store(m, (u64)(w2c_i0), w2c_j1);
-  w2c_B1:;
-  w2c_j0 = w2c_l5;
-  w2c_j1 = 64ull;
-  w2c_j0 += w2c_j1;
-  m->w2c_g0 = w2c_j0;
-  goto w2c_Bfunc;
+    goto w2c_L1;
+    w2c_B23:;
+    w2c_j0 = w2c_p0;
+    w2c_i0 = (u32)(w2c_j0);
+    w2c_j1 = 1ull;
+    i64_store(m, (u64)(w2c_i0), w2c_j1);
+    w2c_j0 = w2c_p0;
+    w2c_j1 = 24ull;
+    w2c_j0 += w2c_j1;
+    w2c_i0 = (u32)(w2c_j0);
+    w2c_j1 = 0ull;
+    i64_store(m, (u64)(w2c_i0), w2c_j1);
+    w2c_j0 = w2c_p0;
+    w2c_j1 = 16ull;
+    w2c_j0 += w2c_j1;
+    w2c_i0 = (u32)(w2c_j0);
+    w2c_j1 = 0ull;
+    i64_store(m, (u64)(w2c_i0), w2c_j1);
+    w2c_j0 = w2c_p0;
+    w2c_j1 = 8ull;
+    w2c_j0 += w2c_j1;
+    w2c_i0 = (u32)(w2c_j0);
+    w2c_j1 = 2ull;
+    i64_store(m, (u64)(w2c_i0), w2c_j1);
+    goto w2c_B3;
+    w2c_B6:;
+    w2c_j0 = w2c_p0;
+    w2c_j1 = 8ull;
+    w2c_j0 += w2c_j1;
+    w2c_i0 = (u32)(w2c_j0);
+    w2c_j1 = 0ull;
+    i64_store(m, (u64)(w2c_i0), w2c_j1);
+    w2c_j0 = w2c_p0;
+    w2c_j1 = 24ull;
+    w2c_j0 += w2c_j1;
+    w2c_i0 = (u32)(w2c_j0);
+    w2c_j1 = 0ull;
+    w2c_j2 = w2c_l6;
+    w2c_i3 = w2c_l15;
+    w2c_i4 = 1u;
+    w2c_i3 &= w2c_i4;
+    w2c_l16 = w2c_i3;
+    w2c_j1 = w2c_i3 ? w2c_j1 : w2c_j2;
+    i64_store(m, (u64)(w2c_i0), w2c_j1);
+    w2c_j0 = w2c_p0;
+    w2c_j1 = 16ull;
+    w2c_j0 += w2c_j1;
+    w2c_i0 = (u32)(w2c_j0);
+    w2c_j1 = 0ull;
+    w2c_j2 = w2c_l7;
+    w2c_i3 = w2c_l16;
+    w2c_j1 = w2c_i3 ? w2c_j1 : w2c_j2;
+    i64_store(m, (u64)(w2c_i0), w2c_j1);
+    w2c_j0 = w2c_p0;
+    w2c_i0 = (u32)(w2c_j0);
+    w2c_i1 = w2c_l15;
+    w2c_j1 = (u64)(w2c_i1);
+    w2c_j2 = 1ull;
+    w2c_j1 &= w2c_j2;
+    i64_store(m, (u64)(w2c_i0), w2c_j1);
+    goto w2c_B3;
+    w2c_B5:;
+    w2c_i0 = w2c_l16;
+    w2c_i1 = 12288u;
+    w2c_i0 = w2c_i0 == w2c_i1;
+    if (w2c_i0) {goto w2c_B2;}
+    w2c_B4:;
+    w2c_j0 = w2c_p0;
+    w2c_i0 = (u32)(w2c_j0);
+    w2c_j1 = 1ull;
+    i64_store(m, (u64)(w2c_i0), w2c_j1);
+    w2c_j0 = w2c_p0;
+    w2c_j1 = 24ull;
+    w2c_j0 += w2c_j1;
+    w2c_i0 = (u32)(w2c_j0);
+    w2c_j1 = 0ull;
+    i64_store(m, (u64)(w2c_i0), w2c_j1);
+    w2c_j0 = w2c_p0;
+    w2c_j1 = 16ull;
+    w2c_j0 += w2c_j1;
+    w2c_i0 = (u32)(w2c_j0);
+    w2c_j1 = w2c_p1;
+    i64_store(m, (u64)(w2c_i0), w2c_j1);
+    w2c_j0 = w2c_p0;
+    w2c_j1 = 8ull;
+    w2c_j0 += w2c_j1;
+    w2c_i0 = (u32)(w2c_j0);
+    w2c_j1 = 1ull;
+    i64_store(m, (u64)(w2c_i0), w2c_j1);
+    w2c_B3:;
+    w2c_j0 = w2c_l5;
+    w2c_j1 = 48ull;
+    w2c_j0 += w2c_j1;
+    m->w2c_g0 = w2c_j0;
+    goto w2c_Bfunc;
+    w2c_B2:;
+    w2c_j0 = w2c_l4;
+    w2c_j1 = w2c_p1;
+    w2c_j0 += w2c_j1;
+    w2c_p1 = w2c_j0;
+    goto w2c_L1;
+  UNREACHABLE;
   w2c_B0:;
   UNREACHABLE;
   w2c_Bfunc:;
 }
 
-static void w2c_f44(module *m, u64 w2c_p0, u64 w2c_p1, u64 w2c_p2) {
-  u32 w2c_l5 = 0, w2c_l6 = 0;
-  u64 w2c_l3 = 0, w2c_l4 = 0;
-  u32 w2c_i0, w2c_i1, w2c_i2, w2c_i3;
-  u64 w2c_j0, w2c_j1, w2c_j2;
-  w2c_j0 = m->w2c_g0;
-  w2c_j1 = 80ull;
-  w2c_j0 -= w2c_j1;
-  w2c_l3 = w2c_j0;
-  m->w2c_g0 = w2c_j0;
-  w2c_j0 = w2c_l3;
-  w2c_l3 = w2c_j0;
-  w2c_j1 = 16ull;
-  w2c_i0 = (u64)((s64)w2c_j0 < (s64)w2c_j1);
-  if (w2c_i0) {goto w2c_B0;}
-  w2c_j0 = w2c_l3;
-  w2c_i0 = (u32)(w2c_j0);
-  w2c_j1 = 0ull;
-  i64_store(m, (u64)(w2c_i0) + 72, w2c_j1);
-  w2c_j0 = w2c_l3;
-  w2c_i0 = (u32)(w2c_j0);
-  w2c_j1 = 0ull;
-  i64_store(m, (u64)(w2c_i0) + 64, w2c_j1);
-  w2c_j0 = w2c_l3;
-  w2c_i0 = (u32)(w2c_j0);
-  w2c_j1 = 0ull;
-  i64_store(m, (u64)(w2c_i0) + 56, w2c_j1);
-  w2c_j0 = w2c_l3;
-  w2c_i0 = (u32)(w2c_j0);
-  w2c_j1 = 0ull;
-  i64_store(m, (u64)(w2c_i0) + 48, w2c_j1);
-  w2c_j0 = w2c_l3;
-  w2c_i0 = (u32)(w2c_j0);
-  w2c_j1 = 0ull;
-  i64_store(m, (u64)(w2c_i0) + 24, w2c_j1);
-  w2c_j0 = w2c_l3;
-  w2c_i0 = (u32)(w2c_j0);
-  w2c_j1 = 0ull;
-  i64_store(m, (u64)(w2c_i0) + 32, w2c_j1);
-  w2c_j0 = w2c_l3;
-  w2c_i0 = (u32)(w2c_j0);
-  w2c_j1 = 0ull;
-  i64_store(m, (u64)(w2c_i0) + 38, w2c_j1);
-  w2c_j0 = w2c_l3;
-  w2c_j1 = 48ull;
-  w2c_j0 += w2c_j1;
-  w2c_j1 = w2c_p1;
-  w2c_j2 = w2c_p2;
-  w2c_f35(m, w2c_j0, w2c_j1, w2c_j2);
-  w2c_i0 = 0u;
-  w2c_l5 = w2c_i0;
-  w2c_i0 = 0u;
-  w2c_l6 = w2c_i0;
-  w2c_j0 = w2c_l3;
-  w2c_i0 = (u32)(w2c_j0);
-  w2c_j0 = i64_load8_u(m, (u64)(w2c_i0) + 48u);
-  w2c_p2 = w2c_j0;
-  w2c_j1 = 1ull;
-  w2c_i0 = w2c_j0 != w2c_j1;
-  if (w2c_i0) {goto w2c_B1;}
-  w2c_j0 = w2c_l3;
-  w2c_j1 = 64ull;
-  w2c_j0 += w2c_j1;
-  w2c_p1 = w2c_j0;
-  w2c_j0 = w2c_l3;
-  w2c_i0 = (u32)(w2c_j0);
-  w2c_i0 = i32_load(m, (u64)(w2c_i0) + 56u);
-  w2c_l5 = w2c_i0;
-  w2c_i1 = 4294965248u;
-  w2c_i0 += w2c_i1;
-  w2c_i1 = 63487u;
-  w2c_i0 = w2c_i0 > w2c_i1;
-  if (w2c_i0) {goto w2c_B3;}
-  w2c_i0 = w2c_l5;
-  w2c_i1 = 12u;
-  w2c_i0 >>= (w2c_i1 & 31);
-  w2c_i1 = w2c_l5;
-  w2c_i2 = 2u;
-  w2c_i1 <<= (w2c_i2 & 31);
-  w2c_i2 = 16128u;
-  w2c_i1 &= w2c_i2;
-  w2c_i0 |= w2c_i1;
-  w2c_i1 = w2c_l5;
-  w2c_i2 = 16u;
-  w2c_i1 <<= (w2c_i2 & 31);
-  w2c_i2 = 4128768u;
-  w2c_i1 &= w2c_i2;
-  w2c_i0 |= w2c_i1;
-  w2c_i1 = 8421600u;
-  w2c_i0 |= w2c_i1;
-  w2c_l5 = w2c_i0;
-  w2c_j0 = (u64)(w2c_i0);
-  w2c_j1 = 953497ull;
-  w2c_j0 *= w2c_j1;
-  w2c_j1 = 22ull;
-  w2c_j0 >>= (w2c_j1 & 63);
-  w2c_j1 = 1016ull;
-  w2c_j0 &= w2c_j1;
-  w2c_l4 = w2c_j0;
-  w2c_j1 = 66997ull;
-  w2c_j0 += w2c_j1;
-  w2c_i0 = (u32)(w2c_j0);
-  w2c_i0 = i32_load8_u(m, (u64)(w2c_i0));
-  w2c_i1 = 0u;
-  w2c_j2 = w2c_l4;
-  w2c_i2 = (u32)(w2c_j2);
-  w2c_i2 = i32_load(m, (u64)(w2c_i2) + 66992u);
-  w2c_i3 = w2c_l5;
-  w2c_i2 = w2c_i2 == w2c_i3;
-  w2c_l5 = w2c_i2;
-  w2c_i0 = w2c_i2 ? w2c_i0 : w2c_i1;
-  w2c_l6 = w2c_i0;
-  w2c_j0 = w2c_l4;
-  w2c_j1 = 66996ull;
-  w2c_j0 += w2c_j1;
-  w2c_i0 = (u32)(w2c_j0);
-  w2c_i0 = i32_load8_u(m, (u64)(w2c_i0));
-  w2c_i1 = 2u;
-  w2c_i2 = w2c_l5;
-  w2c_i0 = w2c_i2 ? w2c_i0 : w2c_i1;
-  w2c_l5 = w2c_i0;
-  goto w2c_B2;
-  w2c_B3:;
-  w2c_j0 = w2c_l3;
-  w2c_j1 = 16ull;
-  w2c_j0 += w2c_j1;
-  w2c_i1 = w2c_l5;
-  w2c_f18(m, w2c_j0, w2c_i1);
-  w2c_j0 = w2c_l3;
-  w2c_i0 = (u32)(w2c_j0);
-  w2c_i0 = i32_load8_u(m, (u64)(w2c_i0) + 16u);
-  w2c_i1 = 1u;
-  w2c_i0 = w2c_i0 != w2c_i1;
-  if (w2c_i0) {goto w2c_B4;}
-  w2c_j0 = w2c_l3;
-  w2c_i0 = (u32)(w2c_j0);
-  w2c_i0 = i32_load8_u(m, (u64)(w2c_i0) + 17u);
-  w2c_l6 = w2c_i0;
-  w2c_i0 = 0u;
-  w2c_l5 = w2c_i0;
-  goto w2c_B2;
-  w2c_B4:;
-  w2c_j0 = w2c_l3;
-  w2c_j1 = 8ull;
-  w2c_j0 += w2c_j1;
-  w2c_i1 = w2c_l5;
-  w2c_f19(m, w2c_j0, w2c_i1);
-  w2c_j0 = w2c_l3;
-  w2c_i0 = (u32)(w2c_j0);
-  w2c_i0 = i32_load8_u(m, (u64)(w2c_i0) + 9u);
-  w2c_i1 = 0u;
-  w2c_j2 = w2c_l3;
-  w2c_i2 = (u32)(w2c_j2);
-  w2c_i2 = i32_load8_u(m, (u64)(w2c_i2) + 8u);
-  w2c_i3 = 1u;
-  w2c_i2 = w2c_i2 == w2c_i3;
-  w2c_l5 = w2c_i2;
-  w2c_i0 = w2c_i2 ? w2c_i0 : w2c_i1;
-  w2c_l6 = w2c_i0;
-  w2c_i0 = 1u;
-  w2c_i1 = 2u;
-  w2c_i2 = w2c_l5;
-  w2c_i0 = w2c_i2 ? w2c_i0 : w2c_i1;
-  w2c_l5 = w2c_i0;
-  w2c_B2:;
-  w2c_j0 = w2c_l3;
-  w2c_i0 = (u32)(w2c_j0);
-  w2c_j1 = w2c_p1;
-  w2c_i1 = (u32)(w2c_j1);
-  w2c_j1 = i64_load(m, (u64)(w2c_i1) + 8u);
-  i64_store(m, (u64)(w2c_i0) + 38, w2c_j1);
-  w2c_j0 = w2c_l3;
-  w2c_i0 = (u32)(w2c_j0);
-  w2c_j1 = w2c_p1;
-  w2c_i1 = (u32)(w2c_j1);
-  w2c_j1 = i64_load(m, (u64)(w2c_i1));
-  i64_store(m, (u64)(w2c_i0) + 30, w2c_j1);
-  w2c_B1:;
-  w2c_j0 = w2c_p0;
-  w2c_i0 = (u32)(w2c_j0);
-  w2c_j1 = w2c_p2;
-  i64_store(m, (u64)(w2c_i0), w2c_j1);
-  w2c_j0 = w2c_p0;
-  w2c_j1 = 9ull;
-  w2c_j0 += w2c_j1;
-  w2c_i0 = (u32)(w2c_j0);
-  w2c_i1 = w2c_l6;
-  i32_store8(m, (u64)(w2c_i0), w2c_i1);
-  w2c_j0 = w2c_p0;
-  w2c_j1 = 8ull;
-  w2c_j0 += w2c_j1;
-  w2c_i0 = (u32)(w2c_j0);
-  w2c_i1 = w2c_l5;
-  i32_store8(m, (u64)(w2c_i0), w2c_i1);
-  w2c_j0 = w2c_p0;
-  w2c_j1 = 16ull;
-  w2c_j0 += w2c_j1;
-  w2c_i0 = (u32)(w2c_j0);
-  w2c_j1 = w2c_l3;
-  w2c_i1 = (u32)(w2c_j1);
-  w2c_j1 = i64_load(m, (u64)(w2c_i1) + 30u);
-  i64_store(m, (u64)(w2c_i0), w2c_j1);
-  w2c_j0 = w2c_p0;
-  w2c_j1 = 24ull;
-  w2c_j0 += w2c_j1;
-  w2c_i0 = (u32)(w2c_j0);
-  w2c_j1 = w2c_l3;
-  w2c_i1 = (u32)(w2c_j1);
-  w2c_j1 = i64_load(m, (u64)(w2c_i1) + 38u);
-  i64_store(m, (u64)(w2c_i0), w2c_j1);
-  w2c_j0 = w2c_l3;
-  w2c_j1 = 80ull;
-  w2c_j0 += w2c_j1;
-  m->w2c_g0 = w2c_j0;
-  goto w2c_Bfunc;
-  w2c_B0:;
-  UNREACHABLE;
-  w2c_Bfunc:;
-}
-
-static void w2c_f45(module *m, u64 w2c_p0, u32 w2c_p1, u64 w2c_p2, u32 w2c_p3, u64 w2c_p4, u64 w2c_p5) {
+static void w2c_f44(module *m, u64 w2c_p0, u32 w2c_p1, u64 w2c_p2, u32 w2c_p3, u64 w2c_p4, u64 w2c_p5) {
   u32 w2c_l19 = 0, w2c_l20 = 0, w2c_l21 = 0, w2c_l22 = 0, w2c_l23 = 0;
   u64 w2c_l6 = 0, w2c_l7 = 0, w2c_l8 = 0, w2c_l9 = 0, w2c_l10 = 0, w2c_l11 = 0, w2c_l12 = 0, w2c_l13 = 0, w2c_l14 = 0, w2c_l15 = 0, w2c_l16 = 0, w2c_l17 = 0, w2c_l18 = 0;
   u32 w2c_i0, w2c_i1, w2c_i2, w2c_i3, w2c_i4;
   u64 w2c_j0, w2c_j1, w2c_j2, w2c_j3, w2c_j4;
   w2c_j0 = m->w2c_g0;
-  w2c_j1 = 992ull;
+  w2c_j1 = 976ull;
   w2c_j0 -= w2c_j1;
   w2c_l6 = w2c_j0;
   m->w2c_g0 = w2c_j0;
@@ -32804,7 +31515,7 @@ static void w2c_f45(module *m, u64 w2c_p0, u32 w2c_p1, u64 w2c_p2, u32 w2c_p3, u
   w2c_i0 = 0u;
   w2c_l19 = w2c_i0;
   w2c_j0 = w2c_l6;
-  w2c_j1 = 176ull;
+  w2c_j1 = 160ull;
   w2c_j0 += w2c_j1;
   w2c_i0 = (u32)(w2c_j0);
   w2c_i1 = 0u;
@@ -32825,7 +31536,7 @@ static void w2c_f45(module *m, u64 w2c_p0, u32 w2c_p1, u64 w2c_p2, u32 w2c_p3, u
   w2c_j0 += w2c_j1;
   w2c_l8 = w2c_j0;
   w2c_j0 = w2c_l6;
-  w2c_j1 = 128ull;
+  w2c_j1 = 112ull;
   w2c_j0 += w2c_j1;
   w2c_l9 = w2c_j0;
   w2c_i0 = 1u;
@@ -32837,26 +31548,10 @@ static void w2c_f45(module *m, u64 w2c_p0, u32 w2c_p1, u64 w2c_p2, u32 w2c_p3, u
   w2c_i0 = 0u;
   w2c_l22 = w2c_i0;
   w2c_L1:
-    w2c_j0 = w2c_l6;
-    w2c_i0 = (u32)(w2c_j0);
-    w2c_j1 = 0ull;
-    i64_store(m, (u64)(w2c_i0) + 984, w2c_j1);
-    w2c_j0 = w2c_l6;
-    w2c_i0 = (u32)(w2c_j0);
-    w2c_j1 = 0ull;
-    i64_store(m, (u64)(w2c_i0) + 976, w2c_j1);
-    w2c_j0 = w2c_l6;
-    w2c_i0 = (u32)(w2c_j0);
-    w2c_j1 = 0ull;
-    i64_store(m, (u64)(w2c_i0) + 968, w2c_j1);
-    w2c_j0 = w2c_l6;
-    w2c_i0 = (u32)(w2c_j0);
-    w2c_j1 = 0ull;
-    i64_store(m, (u64)(w2c_i0) + 960, w2c_j1);
     w2c_j0 = w2c_p5;
     w2c_j1 = 4ull;
     w2c_i0 = w2c_j0 < w2c_j1;
-    if (w2c_i0) {goto w2c_B8;}
+    if (w2c_i0) {goto w2c_B7;}
     w2c_j0 = w2c_p4;
     w2c_j1 = w2c_p5;
     w2c_j0 += w2c_j1;
@@ -32886,8 +31581,20 @@ static void w2c_f45(module *m, u64 w2c_p0, u32 w2c_p1, u64 w2c_p2, u32 w2c_p3, u
     w2c_j1 = 18446744073709551613ull;
     w2c_j0 += w2c_j1;
     w2c_p5 = w2c_j0;
-    goto w2c_B7;
-    w2c_B8:;
+    w2c_j0 = w2c_l11;
+    w2c_j1 = 66996ull;
+    w2c_j0 += w2c_j1;
+    w2c_i0 = (u32)(w2c_j0);
+    w2c_i0 = i32_load8_u(m, (u64)(w2c_i0));
+    w2c_l23 = w2c_i0;
+    w2c_j0 = w2c_l11;
+    w2c_j1 = 66997ull;
+    w2c_j0 += w2c_j1;
+    w2c_i0 = (u32)(w2c_j0);
+    w2c_i0 = i32_load8_u(m, (u64)(w2c_i0));
+    w2c_p1 = w2c_i0;
+    goto w2c_B5;
+    w2c_B7:;
     w2c_j0 = w2c_p5;
     w2c_j1 = 3ull;
     w2c_i0 = w2c_j0 != w2c_j1;
@@ -32921,9 +31628,6 @@ static void w2c_f45(module *m, u64 w2c_p0, u32 w2c_p1, u64 w2c_p2, u32 w2c_p3, u
     w2c_j1 = 3ull;
     w2c_j0 += w2c_j1;
     w2c_p4 = w2c_j0;
-    w2c_j0 = 0ull;
-    w2c_p5 = w2c_j0;
-    w2c_B7:;
     w2c_j0 = w2c_l11;
     w2c_j1 = 66996ull;
     w2c_j0 += w2c_j1;
@@ -32936,36 +31640,122 @@ static void w2c_f45(module *m, u64 w2c_p0, u32 w2c_p1, u64 w2c_p2, u32 w2c_p3, u
     w2c_i0 = (u32)(w2c_j0);
     w2c_i0 = i32_load8_u(m, (u64)(w2c_i0));
     w2c_p1 = w2c_i0;
+    w2c_j0 = 0ull;
+    w2c_p5 = w2c_j0;
     goto w2c_B5;
     w2c_B6:;
     w2c_j0 = w2c_l6;
-    w2c_j1 = 960ull;
+    w2c_i0 = (u32)(w2c_j0);
+    w2c_j1 = 0ull;
+    i64_store(m, (u64)(w2c_i0) + 968, w2c_j1);
+    w2c_j0 = w2c_l6;
+    w2c_i0 = (u32)(w2c_j0);
+    w2c_j1 = 0ull;
+    i64_store(m, (u64)(w2c_i0) + 960, w2c_j1);
+    w2c_j0 = w2c_l6;
+    w2c_i0 = (u32)(w2c_j0);
+    w2c_j1 = 0ull;
+    i64_store(m, (u64)(w2c_i0) + 952, w2c_j1);
+    w2c_j0 = w2c_l6;
+    w2c_i0 = (u32)(w2c_j0);
+    w2c_j1 = 0ull;
+    i64_store(m, (u64)(w2c_i0) + 944, w2c_j1);
+    w2c_j0 = w2c_l6;
+    w2c_j1 = 944ull;
     w2c_j0 += w2c_j1;
     w2c_j1 = w2c_p4;
     w2c_j2 = w2c_p5;
-    w2c_f44(m, w2c_j0, w2c_j1, w2c_j2);
+    w2c_f35(m, w2c_j0, w2c_j1, w2c_j2);
     w2c_j0 = w2c_l6;
     w2c_i0 = (u32)(w2c_j0);
-    w2c_i0 = i32_load8_u(m, (u64)(w2c_i0) + 960u);
+    w2c_i0 = i32_load8_u(m, (u64)(w2c_i0) + 944u);
     w2c_i1 = 1u;
     w2c_i0 = w2c_i0 != w2c_i1;
     if (w2c_i0) {goto w2c_B4;}
     w2c_j0 = w2c_l6;
     w2c_i0 = (u32)(w2c_j0);
-    w2c_j0 = i64_load(m, (u64)(w2c_i0) + 984u);
+    w2c_i0 = i32_load(m, (u64)(w2c_i0) + 952u);
+    w2c_p1 = w2c_i0;
+    w2c_i1 = 4294965248u;
+    w2c_i0 += w2c_i1;
+    w2c_i1 = 63487u;
+    w2c_i0 = w2c_i0 > w2c_i1;
+    if (w2c_i0) {goto w2c_B9;}
+    w2c_i0 = w2c_p1;
+    w2c_i1 = 12u;
+    w2c_i0 >>= (w2c_i1 & 31);
+    w2c_i1 = w2c_p1;
+    w2c_i2 = 2u;
+    w2c_i1 <<= (w2c_i2 & 31);
+    w2c_i2 = 16128u;
+    w2c_i1 &= w2c_i2;
+    w2c_i0 |= w2c_i1;
+    w2c_i1 = w2c_p1;
+    w2c_i2 = 16u;
+    w2c_i1 <<= (w2c_i2 & 31);
+    w2c_i2 = 4128768u;
+    w2c_i1 &= w2c_i2;
+    w2c_i0 |= w2c_i1;
+    w2c_i1 = 8421600u;
+    w2c_i0 |= w2c_i1;
+    w2c_p1 = w2c_i0;
+    w2c_j0 = (u64)(w2c_i0);
+    w2c_j1 = 953497ull;
+    w2c_j0 *= w2c_j1;
+    w2c_j1 = 22ull;
+    w2c_j0 >>= (w2c_j1 & 63);
+    w2c_j1 = 1016ull;
+    w2c_j0 &= w2c_j1;
+    w2c_l11 = w2c_j0;
+    w2c_j1 = 66997ull;
+    w2c_j0 += w2c_j1;
+    w2c_i0 = (u32)(w2c_j0);
+    w2c_i0 = i32_load8_u(m, (u64)(w2c_i0));
+    w2c_i1 = 0u;
+    w2c_j2 = w2c_l11;
+    w2c_i2 = (u32)(w2c_j2);
+    w2c_i2 = i32_load(m, (u64)(w2c_i2) + 66992u);
+    w2c_i3 = w2c_p1;
+    w2c_i2 = w2c_i2 == w2c_i3;
+    w2c_l23 = w2c_i2;
+    w2c_i0 = w2c_i2 ? w2c_i0 : w2c_i1;
+    w2c_p1 = w2c_i0;
+    w2c_j0 = w2c_l11;
+    w2c_j1 = 66996ull;
+    w2c_j0 += w2c_j1;
+    w2c_i0 = (u32)(w2c_j0);
+    w2c_i0 = i32_load8_u(m, (u64)(w2c_i0));
+    w2c_i1 = 2u;
+    w2c_i2 = w2c_l23;
+    w2c_i0 = w2c_i2 ? w2c_i0 : w2c_i1;
+    w2c_l23 = w2c_i0;
+    goto w2c_B8;
+    w2c_B9:;
+    w2c_i0 = w2c_p1;
+    w2c_i1 = 4294967248u;
+    w2c_i0 += w2c_i1;
+    w2c_p1 = w2c_i0;
+    w2c_i1 = 0u;
+    w2c_i2 = w2c_p1;
+    w2c_i3 = 10u;
+    w2c_i2 = w2c_i2 < w2c_i3;
+    w2c_l23 = w2c_i2;
+    w2c_i0 = w2c_i2 ? w2c_i0 : w2c_i1;
+    w2c_p1 = w2c_i0;
+    w2c_i0 = 0u;
+    w2c_i1 = 2u;
+    w2c_i2 = w2c_l23;
+    w2c_i0 = w2c_i2 ? w2c_i0 : w2c_i1;
+    w2c_l23 = w2c_i0;
+    w2c_B8:;
+    w2c_j0 = w2c_l6;
+    w2c_i0 = (u32)(w2c_j0);
+    w2c_j0 = i64_load(m, (u64)(w2c_i0) + 968u);
     w2c_p5 = w2c_j0;
     w2c_j0 = w2c_l6;
     w2c_i0 = (u32)(w2c_j0);
-    w2c_j0 = i64_load(m, (u64)(w2c_i0) + 976u);
+    w2c_j0 = i64_load(m, (u64)(w2c_i0) + 960u);
     w2c_p4 = w2c_j0;
-    w2c_j0 = w2c_l6;
-    w2c_i0 = (u32)(w2c_j0);
-    w2c_i0 = i32_load8_u(m, (u64)(w2c_i0) + 969u);
-    w2c_p1 = w2c_i0;
-    w2c_j0 = w2c_l6;
-    w2c_i0 = (u32)(w2c_j0);
-    w2c_i0 = i32_load8_u(m, (u64)(w2c_i0) + 968u);
-    w2c_l23 = w2c_i0;
     w2c_B5:;
     w2c_i0 = w2c_l23;
     w2c_j0 = (u64)(w2c_i0);
@@ -32973,12 +31763,12 @@ static void w2c_f45(module *m, u64 w2c_p0, u32 w2c_p1, u64 w2c_p2, u32 w2c_p3, u
     w2c_j0 &= w2c_j1;
     w2c_i0 = (u32)(w2c_j0);
     switch (w2c_i0) {
-      case 0: goto w2c_B12;
-      case 1: goto w2c_B11;
-      case 2: goto w2c_B10;
-      default: goto w2c_B12;
+      case 0: goto w2c_B13;
+      case 1: goto w2c_B12;
+      case 2: goto w2c_B11;
+      default: goto w2c_B13;
     }
-    w2c_B12:;
+    w2c_B13:;
     w2c_i0 = 1u;
     w2c_l21 = w2c_i0;
     w2c_i0 = w2c_l20;
@@ -32990,12 +31780,12 @@ static void w2c_f45(module *m, u64 w2c_p0, u32 w2c_p1, u64 w2c_p2, u32 w2c_p3, u
     w2c_i0 |= w2c_i1;
     w2c_i1 = 1u;
     w2c_i0 &= w2c_i1;
-    if (w2c_i0) {goto w2c_B13;}
+    if (w2c_i0) {goto w2c_B14;}
     w2c_i0 = w2c_p1;
     w2c_i1 = 255u;
     w2c_i0 &= w2c_i1;
-    if (w2c_i0) {goto w2c_B10;}
-    w2c_B13:;
+    if (w2c_i0) {goto w2c_B11;}
+    w2c_B14:;
     w2c_i0 = w2c_p1;
     w2c_j0 = (u64)(w2c_i0);
     w2c_j1 = 255ull;
@@ -33009,7 +31799,7 @@ static void w2c_f45(module *m, u64 w2c_p0, u32 w2c_p1, u64 w2c_p2, u32 w2c_p3, u
     w2c_i0 = 0u;
     w2c_l20 = w2c_i0;
     goto w2c_B2;
-    w2c_B11:;
+    w2c_B12:;
     w2c_i0 = w2c_l21;
     w2c_i1 = w2c_l19;
     w2c_i2 = 255u;
@@ -33019,7 +31809,7 @@ static void w2c_f45(module *m, u64 w2c_p0, u32 w2c_p1, u64 w2c_p2, u32 w2c_p3, u
     w2c_i0 &= w2c_i1;
     w2c_l19 = w2c_i0;
     w2c_i0 = !(w2c_i0);
-    if (w2c_i0) {goto w2c_B14;}
+    if (w2c_i0) {goto w2c_B15;}
     w2c_i0 = w2c_p1;
     w2c_i1 = 255u;
     w2c_i0 &= w2c_i1;
@@ -33031,31 +31821,31 @@ static void w2c_f45(module *m, u64 w2c_p0, u32 w2c_p1, u64 w2c_p2, u32 w2c_p3, u
     w2c_i2 = 255u;
     w2c_i1 &= w2c_i2;
     w2c_i0 = w2c_i0 < w2c_i1;
-    if (w2c_i0) {goto w2c_B14;}
+    if (w2c_i0) {goto w2c_B15;}
     w2c_i0 = w2c_p1;
     w2c_i1 = 255u;
     w2c_i0 &= w2c_i1;
     w2c_i1 = 1u;
     w2c_i0 = w2c_i0 != w2c_i1;
-    if (w2c_i0) {goto w2c_B10;}
+    if (w2c_i0) {goto w2c_B11;}
     w2c_i0 = w2c_l21;
     w2c_i1 = 255u;
     w2c_i0 &= w2c_i1;
-    if (w2c_i0) {goto w2c_B10;}
-    w2c_B14:;
+    if (w2c_i0) {goto w2c_B11;}
+    w2c_B15:;
     w2c_j0 = w2c_l6;
     w2c_i0 = (u32)(w2c_j0);
-    w2c_j0 = i64_load(m, (u64)(w2c_i0) + 944u);
+    w2c_j0 = i64_load(m, (u64)(w2c_i0) + 928u);
     w2c_l12 = w2c_j0;
     w2c_i0 = !(w2c_j0);
     w2c_i0 = !(w2c_i0);
-    if (w2c_i0) {goto w2c_B18;}
+    if (w2c_i0) {goto w2c_B19;}
     w2c_j0 = 0ull;
     w2c_l13 = w2c_j0;
     w2c_j0 = 0ull;
     w2c_l14 = w2c_j0;
-    goto w2c_B17;
-    w2c_B18:;
+    goto w2c_B18;
+    w2c_B19:;
     w2c_j0 = w2c_l9;
     w2c_j1 = w2c_l12;
     w2c_j2 = 48ull;
@@ -33064,7 +31854,7 @@ static void w2c_f45(module *m, u64 w2c_p0, u32 w2c_p1, u64 w2c_p2, u32 w2c_p3, u
     w2c_l11 = w2c_j0;
     w2c_j0 = 0ull;
     w2c_l14 = w2c_j0;
-    w2c_L19:
+    w2c_L20:
       w2c_j0 = w2c_l11;
       w2c_i0 = (u32)(w2c_j0);
       w2c_i0 = i32_load8_u(m, (u64)(w2c_i0));
@@ -33072,11 +31862,11 @@ static void w2c_f45(module *m, u64 w2c_p0, u32 w2c_p1, u64 w2c_p2, u32 w2c_p3, u
       w2c_i2 = 255u;
       w2c_i1 &= w2c_i2;
       w2c_i0 = w2c_i0 < w2c_i1;
-      if (w2c_i0) {goto w2c_B20;}
+      if (w2c_i0) {goto w2c_B21;}
       w2c_j0 = w2c_l12;
       w2c_l13 = w2c_j0;
-      goto w2c_B17;
-      w2c_B20:;
+      goto w2c_B18;
+      w2c_B21:;
       w2c_j0 = w2c_l11;
       w2c_j1 = 32ull;
       w2c_j0 += w2c_j1;
@@ -33095,7 +31885,7 @@ static void w2c_f45(module *m, u64 w2c_p0, u32 w2c_p1, u64 w2c_p2, u32 w2c_p3, u
       w2c_j2 = 18446744073709551615ull;
       w2c_j1 += w2c_j2;
       w2c_l12 = w2c_j1;
-      i64_store(m, (u64)(w2c_i0) + 944, w2c_j1);
+      i64_store(m, (u64)(w2c_i0) + 928, w2c_j1);
       w2c_j0 = 0ull;
       w2c_l16 = w2c_j0;
       w2c_j0 = w2c_l11;
@@ -33114,7 +31904,7 @@ static void w2c_f45(module *m, u64 w2c_p0, u32 w2c_p1, u64 w2c_p2, u32 w2c_p3, u
       w2c_j0 |= w2c_j1;
       w2c_j1 = 0ull;
       w2c_i0 = w2c_j0 != w2c_j1;
-      if (w2c_i0) {goto w2c_B22;}
+      if (w2c_i0) {goto w2c_B23;}
       w2c_j0 = w2c_l6;
       w2c_j1 = w2c_l15;
       w2c_j2 = w2c_l18;
@@ -33142,7 +31932,7 @@ static void w2c_f45(module *m, u64 w2c_p0, u32 w2c_p1, u64 w2c_p2, u32 w2c_p3, u
       w2c_j3 = w2c_l10;
       w2c_i2 = w2c_j2 == w2c_j3;
       w2c_i0 = w2c_i2 ? w2c_i0 : w2c_i1;
-      if (w2c_i0) {goto w2c_B16;}
+      if (w2c_i0) {goto w2c_B17;}
       w2c_j0 = w2c_l17;
       w2c_j1 = w2c_l14;
       w2c_j0 += w2c_j1;
@@ -33155,8 +31945,8 @@ static void w2c_f45(module *m, u64 w2c_p0, u32 w2c_p1, u64 w2c_p2, u32 w2c_p3, u
       w2c_j1 = (u64)(w2c_i1);
       w2c_j0 += w2c_j1;
       w2c_l14 = w2c_j0;
-      goto w2c_B21;
-      w2c_B22:;
+      goto w2c_B22;
+      w2c_B23:;
       w2c_j0 = w2c_l6;
       w2c_j1 = 32ull;
       w2c_j0 += w2c_j1;
@@ -33238,7 +32028,7 @@ static void w2c_f45(module *m, u64 w2c_p0, u32 w2c_p1, u64 w2c_p2, u32 w2c_p3, u
       w2c_j0 |= w2c_j1;
       w2c_j1 = 0ull;
       w2c_i0 = w2c_j0 != w2c_j1;
-      if (w2c_i0) {goto w2c_B9;}
+      if (w2c_i0) {goto w2c_B10;}
       w2c_j0 = w2c_l6;
       w2c_i0 = (u32)(w2c_j0);
       w2c_j0 = i64_load(m, (u64)(w2c_i0) + 32u);
@@ -33257,7 +32047,7 @@ static void w2c_f45(module *m, u64 w2c_p0, u32 w2c_p1, u64 w2c_p2, u32 w2c_p3, u
       w2c_j3 = w2c_l10;
       w2c_i2 = w2c_j2 == w2c_j3;
       w2c_i0 = w2c_i2 ? w2c_i0 : w2c_i1;
-      if (w2c_i0) {goto w2c_B9;}
+      if (w2c_i0) {goto w2c_B10;}
       w2c_j0 = w2c_l14;
       w2c_j1 = w2c_l17;
       w2c_j0 += w2c_j1;
@@ -33270,7 +32060,7 @@ static void w2c_f45(module *m, u64 w2c_p0, u32 w2c_p1, u64 w2c_p2, u32 w2c_p3, u
       w2c_j1 = (u64)(w2c_i1);
       w2c_j0 += w2c_j1;
       w2c_l14 = w2c_j0;
-      w2c_B21:;
+      w2c_B22:;
       w2c_j0 = w2c_l11;
       w2c_j1 = 18446744073709551568ull;
       w2c_j0 += w2c_j1;
@@ -33280,20 +32070,20 @@ static void w2c_f45(module *m, u64 w2c_p0, u32 w2c_p1, u64 w2c_p2, u32 w2c_p3, u
       w2c_j0 = w2c_l12;
       w2c_j1 = 0ull;
       w2c_i0 = w2c_j0 != w2c_j1;
-      if (w2c_i0) {goto w2c_L19;}
-    w2c_B17:;
+      if (w2c_i0) {goto w2c_L20;}
+    w2c_B18:;
     w2c_i0 = w2c_p1;
     w2c_i1 = w2c_l19;
     w2c_i0 |= w2c_i1;
     w2c_i1 = 255u;
     w2c_i0 &= w2c_i1;
     w2c_i0 = !(w2c_i0);
-    if (w2c_i0) {goto w2c_B10;}
+    if (w2c_i0) {goto w2c_B11;}
     w2c_j0 = w2c_l13;
     w2c_i0 = !(w2c_j0);
-    if (w2c_i0) {goto w2c_B23;}
+    if (w2c_i0) {goto w2c_B24;}
     w2c_j0 = w2c_l6;
-    w2c_j1 = 176ull;
+    w2c_j1 = 160ull;
     w2c_j0 += w2c_j1;
     w2c_j1 = w2c_l13;
     w2c_j2 = 48ull;
@@ -33307,8 +32097,8 @@ static void w2c_f45(module *m, u64 w2c_p0, u32 w2c_p1, u64 w2c_p2, u32 w2c_p3, u
     w2c_i2 = 255u;
     w2c_i1 &= w2c_i2;
     w2c_i0 = w2c_i0 == w2c_i1;
-    if (w2c_i0) {goto w2c_B10;}
-    w2c_B23:;
+    if (w2c_i0) {goto w2c_B11;}
+    w2c_B24:;
     w2c_j0 = w2c_l8;
     w2c_i1 = w2c_p1;
     w2c_j1 = (u64)(w2c_i1);
@@ -33322,16 +32112,16 @@ static void w2c_f45(module *m, u64 w2c_p0, u32 w2c_p1, u64 w2c_p2, u32 w2c_p3, u
     w2c_l12 = w2c_j0;
     w2c_j1 = 38ull;
     w2c_i0 = w2c_j0 <= w2c_j1;
-    if (w2c_i0) {goto w2c_B15;}
+    if (w2c_i0) {goto w2c_B16;}
     w2c_j0 = 0ull;
     w2c_l16 = w2c_j0;
-    w2c_B16:;
+    w2c_B17:;
     w2c_j0 = 2ull;
     w2c_l18 = w2c_j0;
-    goto w2c_B9;
-    w2c_B15:;
+    goto w2c_B10;
+    w2c_B16:;
     w2c_j0 = w2c_l6;
-    w2c_j1 = 176ull;
+    w2c_j1 = 160ull;
     w2c_j0 += w2c_j1;
     w2c_j1 = w2c_l13;
     w2c_j2 = 48ull;
@@ -33382,24 +32172,62 @@ static void w2c_f45(module *m, u64 w2c_p0, u32 w2c_p1, u64 w2c_p2, u32 w2c_p3, u
     w2c_i0 = (u32)(w2c_j0);
     w2c_j1 = w2c_l6;
     w2c_i1 = (u32)(w2c_j1);
-    w2c_j1 = i64_load(m, (u64)(w2c_i1) + 944u);
+    w2c_j1 = i64_load(m, (u64)(w2c_i1) + 928u);
     w2c_j2 = 1ull;
     w2c_j1 += w2c_j2;
-    i64_store(m, (u64)(w2c_i0) + 944, w2c_j1);
+    i64_store(m, (u64)(w2c_i0) + 928, w2c_j1);
     w2c_i0 = 0u;
     w2c_l20 = w2c_i0;
     w2c_i0 = 1u;
     w2c_l21 = w2c_i0;
     goto w2c_B2;
-    w2c_B10:;
+    w2c_B11:;
+    w2c_j0 = 0ull;
+    w2c_l11 = w2c_j0;
     w2c_j0 = 0ull;
     w2c_l14 = w2c_j0;
     w2c_j0 = w2c_p5;
-    w2c_i0 = !(w2c_j0);
-    if (w2c_i0) {goto w2c_B24;}
+    w2c_j1 = 8ull;
+    w2c_i0 = w2c_j0 < w2c_j1;
+    if (w2c_i0) {goto w2c_B25;}
+    w2c_j0 = 0ull;
+    w2c_l14 = w2c_j0;
+    w2c_j0 = w2c_p5;
+    w2c_l13 = w2c_j0;
     w2c_j0 = 0ull;
     w2c_l11 = w2c_j0;
-    w2c_L25:
+    w2c_L26:
+      w2c_j0 = w2c_p4;
+      w2c_j1 = w2c_l11;
+      w2c_j0 += w2c_j1;
+      w2c_i0 = (u32)(w2c_j0);
+      w2c_j0 = i64_load(m, (u64)(w2c_i0));
+      w2c_j1 = 67553998437089520ull;
+      w2c_j0 &= w2c_j1;
+      w2c_j1 = 63050398541283552ull;
+      w2c_i0 = w2c_j0 != w2c_j1;
+      if (w2c_i0) {goto w2c_B25;}
+      w2c_j0 = w2c_l14;
+      w2c_j1 = 3ull;
+      w2c_j0 += w2c_j1;
+      w2c_l14 = w2c_j0;
+      w2c_j0 = w2c_l11;
+      w2c_j1 = 9ull;
+      w2c_j0 += w2c_j1;
+      w2c_l11 = w2c_j0;
+      w2c_j0 = w2c_l13;
+      w2c_j1 = 18446744073709551607ull;
+      w2c_j0 += w2c_j1;
+      w2c_l13 = w2c_j0;
+      w2c_j1 = 7ull;
+      w2c_i0 = w2c_j0 > w2c_j1;
+      if (w2c_i0) {goto w2c_L26;}
+    w2c_B25:;
+    w2c_j0 = w2c_l11;
+    w2c_j1 = w2c_p5;
+    w2c_i0 = w2c_j0 >= w2c_j1;
+    if (w2c_i0) {goto w2c_B27;}
+    w2c_L28:
       w2c_j0 = w2c_l14;
       w2c_j1 = 1ull;
       w2c_j0 += w2c_j1;
@@ -33423,15 +32251,15 @@ static void w2c_f45(module *m, u64 w2c_p0, u32 w2c_p1, u64 w2c_p2, u32 w2c_p3, u
       w2c_l11 = w2c_j0;
       w2c_j1 = w2c_p5;
       w2c_i0 = w2c_j0 < w2c_j1;
-      if (w2c_i0) {goto w2c_L25;}
-    w2c_B24:;
+      if (w2c_i0) {goto w2c_L28;}
+    w2c_B27:;
     w2c_j0 = w2c_l7;
     w2c_j1 = w2c_l14;
     w2c_j0 += w2c_j1;
     w2c_l16 = w2c_j0;
     w2c_j0 = 1ull;
     w2c_l18 = w2c_j0;
-    w2c_B9:;
+    w2c_B10:;
     w2c_j0 = w2c_p0;
     w2c_i0 = (u32)(w2c_j0);
     w2c_j1 = 1ull;
@@ -33461,7 +32289,7 @@ static void w2c_f45(module *m, u64 w2c_p0, u32 w2c_p1, u64 w2c_p2, u32 w2c_p3, u
     w2c_i0 += w2c_i1;
     w2c_i1 = 63487u;
     w2c_i0 = w2c_i0 > w2c_i1;
-    if (w2c_i0) {goto w2c_B31;}
+    if (w2c_i0) {goto w2c_B34;}
     w2c_i0 = w2c_p3;
     w2c_i1 = 12u;
     w2c_i0 >>= (w2c_i1 & 31);
@@ -33488,13 +32316,11 @@ static void w2c_f45(module *m, u64 w2c_p0, u32 w2c_p1, u64 w2c_p2, u32 w2c_p3, u
     w2c_j1 = 1016ull;
     w2c_j0 &= w2c_j1;
     w2c_l11 = w2c_j0;
-    w2c_j1 = 66992ull;
-    w2c_j0 += w2c_j1;
     w2c_i0 = (u32)(w2c_j0);
-    w2c_i0 = i32_load(m, (u64)(w2c_i0));
+    w2c_i0 = i32_load(m, (u64)(w2c_i0) + 66992u);
     w2c_i1 = w2c_p1;
     w2c_i0 = w2c_i0 != w2c_i1;
-    if (w2c_i0) {goto w2c_B26;}
+    if (w2c_i0) {goto w2c_B31;}
     w2c_j0 = w2c_l11;
     w2c_j1 = 66997ull;
     w2c_j0 += w2c_j1;
@@ -33508,28 +32334,30 @@ static void w2c_f45(module *m, u64 w2c_p0, u32 w2c_p1, u64 w2c_p2, u32 w2c_p3, u
     w2c_j0 = i64_load8_u(m, (u64)(w2c_i0));
     w2c_i0 = (u32)(w2c_j0);
     switch (w2c_i0) {
-      case 0: goto w2c_B30;
-      case 1: goto w2c_B28;
-      case 2: goto w2c_B26;
-      default: goto w2c_B30;
+      case 0: goto w2c_B33;
+      case 1: goto w2c_B35;
+      case 2: goto w2c_B31;
+      default: goto w2c_B33;
     }
-    w2c_B31:;
-    w2c_j0 = w2c_l6;
-    w2c_j1 = 168ull;
-    w2c_j0 += w2c_j1;
-    w2c_i1 = w2c_p3;
-    w2c_f18(m, w2c_j0, w2c_i1);
-    w2c_j0 = w2c_l6;
-    w2c_i0 = (u32)(w2c_j0);
-    w2c_i0 = i32_load8_u(m, (u64)(w2c_i0) + 168u);
+    w2c_B35:;
+    w2c_i0 = 10u;
+    w2c_l19 = w2c_i0;
+    w2c_i0 = w2c_p1;
+    w2c_i1 = 255u;
+    w2c_i0 &= w2c_i1;
     w2c_i1 = 1u;
     w2c_i0 = w2c_i0 != w2c_i1;
-    if (w2c_i0) {goto w2c_B29;}
-    w2c_j0 = w2c_l6;
-    w2c_i0 = (u32)(w2c_j0);
-    w2c_i0 = i32_load8_u(m, (u64)(w2c_i0) + 169u);
+    if (w2c_i0) {goto w2c_B31;}
+    goto w2c_B32;
+    w2c_B34:;
+    w2c_i0 = w2c_p3;
+    w2c_i1 = 4294967248u;
+    w2c_i0 += w2c_i1;
     w2c_p1 = w2c_i0;
-    w2c_B30:;
+    w2c_i1 = 10u;
+    w2c_i0 = w2c_i0 >= w2c_i1;
+    if (w2c_i0) {goto w2c_B31;}
+    w2c_B33:;
     w2c_i0 = 0u;
     w2c_i1 = w2c_p1;
     w2c_i2 = w2c_l21;
@@ -33538,46 +32366,19 @@ static void w2c_f45(module *m, u64 w2c_p0, u32 w2c_p1, u64 w2c_p2, u32 w2c_p3, u
     w2c_i3 &= w2c_i4;
     w2c_i3 = !(w2c_i3);
     w2c_i2 &= w2c_i3;
-    w2c_l19 = w2c_i2;
+    w2c_l23 = w2c_i2;
     w2c_i0 = w2c_i2 ? w2c_i0 : w2c_i1;
-    w2c_l23 = w2c_i0;
-    w2c_i0 = w2c_l19;
-    w2c_i1 = 1u;
-    w2c_i0 = w2c_i0 != w2c_i1;
-    if (w2c_i0) {goto w2c_B27;}
-    w2c_i0 = w2c_p1;
-    w2c_i1 = 255u;
-    w2c_i0 &= w2c_i1;
-    w2c_i0 = !(w2c_i0);
-    if (w2c_i0) {goto w2c_B27;}
-    goto w2c_B26;
-    w2c_B29:;
-    w2c_j0 = w2c_l6;
-    w2c_j1 = 160ull;
-    w2c_j0 += w2c_j1;
-    w2c_i1 = w2c_p3;
-    w2c_f19(m, w2c_j0, w2c_i1);
-    w2c_j0 = w2c_l6;
-    w2c_i0 = (u32)(w2c_j0);
-    w2c_i0 = i32_load8_u(m, (u64)(w2c_i0) + 160u);
-    w2c_i1 = 1u;
-    w2c_i0 = w2c_i0 != w2c_i1;
-    if (w2c_i0) {goto w2c_B26;}
-    w2c_j0 = w2c_l6;
-    w2c_i0 = (u32)(w2c_j0);
-    w2c_i0 = i32_load8_u(m, (u64)(w2c_i0) + 161u);
-    w2c_p1 = w2c_i0;
-    w2c_B28:;
-    w2c_i0 = 10u;
-    w2c_l23 = w2c_i0;
-    w2c_i0 = w2c_p1;
-    w2c_i1 = 255u;
-    w2c_i0 &= w2c_i1;
-    w2c_i1 = 1u;
-    w2c_i0 = w2c_i0 != w2c_i1;
-    if (w2c_i0) {goto w2c_B26;}
-    w2c_B27:;
+    w2c_l19 = w2c_i0;
     w2c_i0 = w2c_l23;
+    w2c_i1 = 1u;
+    w2c_i0 = w2c_i0 != w2c_i1;
+    if (w2c_i0) {goto w2c_B32;}
+    w2c_i0 = w2c_p1;
+    w2c_i1 = 255u;
+    w2c_i0 &= w2c_i1;
+    if (w2c_i0) {goto w2c_B31;}
+    w2c_B32:;
+    w2c_i0 = w2c_l19;
     w2c_j0 = (u64)(w2c_i0);
     w2c_j1 = 255ull;
     w2c_j0 &= w2c_j1;
@@ -33591,10 +32392,10 @@ static void w2c_f45(module *m, u64 w2c_p0, u32 w2c_p1, u64 w2c_p2, u32 w2c_p3, u
     w2c_l14 = w2c_j0;
     w2c_j0 = w2c_l6;
     w2c_i0 = (u32)(w2c_j0);
-    w2c_j0 = i64_load(m, (u64)(w2c_i0) + 944u);
+    w2c_j0 = i64_load(m, (u64)(w2c_i0) + 928u);
     w2c_l11 = w2c_j0;
     w2c_i0 = !(w2c_j0);
-    if (w2c_i0) {goto w2c_B34;}
+    if (w2c_i0) {goto w2c_B36;}
     w2c_j0 = w2c_l11;
     w2c_j1 = 18446744073709551615ull;
     w2c_j0 += w2c_j1;
@@ -33603,13 +32404,13 @@ static void w2c_f45(module *m, u64 w2c_p0, u32 w2c_p1, u64 w2c_p2, u32 w2c_p3, u
     w2c_j1 = 48ull;
     w2c_j0 *= w2c_j1;
     w2c_j1 = w2c_l6;
-    w2c_j2 = 176ull;
+    w2c_j2 = 160ull;
     w2c_j1 += w2c_j2;
     w2c_j0 += w2c_j1;
     w2c_j1 = 18446744073709551584ull;
     w2c_j0 += w2c_j1;
     w2c_l11 = w2c_j0;
-    w2c_L35:
+    w2c_L37:
       w2c_j0 = w2c_l11;
       w2c_j1 = 16ull;
       w2c_j0 += w2c_j1;
@@ -33623,7 +32424,7 @@ static void w2c_f45(module *m, u64 w2c_p0, u32 w2c_p1, u64 w2c_p2, u32 w2c_p3, u
       w2c_j0 = w2c_l6;
       w2c_i0 = (u32)(w2c_j0);
       w2c_j1 = w2c_l12;
-      i64_store(m, (u64)(w2c_i0) + 944, w2c_j1);
+      i64_store(m, (u64)(w2c_i0) + 928, w2c_j1);
       w2c_j0 = w2c_l11;
       w2c_j1 = 24ull;
       w2c_j0 += w2c_j1;
@@ -33638,7 +32439,7 @@ static void w2c_f45(module *m, u64 w2c_p0, u32 w2c_p1, u64 w2c_p2, u32 w2c_p3, u
       w2c_j0 |= w2c_j1;
       w2c_j1 = 0ull;
       w2c_i0 = w2c_j0 != w2c_j1;
-      if (w2c_i0) {goto w2c_B37;}
+      if (w2c_i0) {goto w2c_B39;}
       w2c_j0 = w2c_l6;
       w2c_j1 = 80ull;
       w2c_j0 += w2c_j1;
@@ -33668,7 +32469,7 @@ static void w2c_f45(module *m, u64 w2c_p0, u32 w2c_p1, u64 w2c_p2, u32 w2c_p3, u
       w2c_j3 = w2c_l17;
       w2c_i2 = w2c_j2 == w2c_j3;
       w2c_i0 = w2c_i2 ? w2c_i0 : w2c_i1;
-      if (w2c_i0) {goto w2c_B38;}
+      if (w2c_i0) {goto w2c_B40;}
       w2c_j0 = w2c_l10;
       w2c_j1 = w2c_l14;
       w2c_j0 += w2c_j1;
@@ -33681,8 +32482,8 @@ static void w2c_f45(module *m, u64 w2c_p0, u32 w2c_p1, u64 w2c_p2, u32 w2c_p3, u
       w2c_j1 = (u64)(w2c_i1);
       w2c_j0 += w2c_j1;
       w2c_l14 = w2c_j0;
-      goto w2c_B36;
-      w2c_B38:;
+      goto w2c_B38;
+      w2c_B40:;
       w2c_j0 = 0ull;
       w2c_l17 = w2c_j0;
       w2c_j0 = 1ull;
@@ -33691,8 +32492,8 @@ static void w2c_f45(module *m, u64 w2c_p0, u32 w2c_p1, u64 w2c_p2, u32 w2c_p3, u
       w2c_p5 = w2c_j0;
       w2c_j0 = 0ull;
       w2c_l14 = w2c_j0;
-      goto w2c_B32;
-      w2c_B37:;
+      goto w2c_B29;
+      w2c_B39:;
       w2c_j0 = w2c_l6;
       w2c_j1 = 112ull;
       w2c_j0 += w2c_j1;
@@ -33776,13 +32577,13 @@ static void w2c_f45(module *m, u64 w2c_p0, u32 w2c_p1, u64 w2c_p2, u32 w2c_p3, u
       w2c_j0 |= w2c_j1;
       w2c_j1 = 0ull;
       w2c_i0 = w2c_j0 == w2c_j1;
-      if (w2c_i0) {goto w2c_B39;}
+      if (w2c_i0) {goto w2c_B41;}
       w2c_j0 = 0ull;
       w2c_l17 = w2c_j0;
       w2c_j0 = 0ull;
       w2c_l14 = w2c_j0;
-      goto w2c_B32;
-      w2c_B39:;
+      goto w2c_B29;
+      w2c_B41:;
       w2c_j0 = w2c_l6;
       w2c_i0 = (u32)(w2c_j0);
       w2c_j0 = i64_load(m, (u64)(w2c_i0) + 112u);
@@ -33801,7 +32602,7 @@ static void w2c_f45(module *m, u64 w2c_p0, u32 w2c_p1, u64 w2c_p2, u32 w2c_p3, u
       w2c_j3 = w2c_l17;
       w2c_i2 = w2c_j2 == w2c_j3;
       w2c_i0 = w2c_i2 ? w2c_i0 : w2c_i1;
-      if (w2c_i0) {goto w2c_B33;}
+      if (w2c_i0) {goto w2c_B30;}
       w2c_j0 = w2c_l14;
       w2c_j1 = w2c_l10;
       w2c_j0 += w2c_j1;
@@ -33814,7 +32615,7 @@ static void w2c_f45(module *m, u64 w2c_p0, u32 w2c_p1, u64 w2c_p2, u32 w2c_p3, u
       w2c_j1 = (u64)(w2c_i1);
       w2c_j0 += w2c_j1;
       w2c_l14 = w2c_j0;
-      w2c_B36:;
+      w2c_B38:;
       w2c_j0 = w2c_l11;
       w2c_j1 = 18446744073709551568ull;
       w2c_j0 += w2c_j1;
@@ -33825,43 +32626,14 @@ static void w2c_f45(module *m, u64 w2c_p0, u32 w2c_p1, u64 w2c_p2, u32 w2c_p3, u
       w2c_l12 = w2c_j0;
       w2c_j1 = 18446744073709551615ull;
       w2c_i0 = w2c_j0 != w2c_j1;
-      if (w2c_i0) {goto w2c_L35;}
-    w2c_B34:;
+      if (w2c_i0) {goto w2c_L37;}
+    w2c_B36:;
     w2c_j0 = 0ull;
     w2c_p5 = w2c_j0;
     w2c_j0 = 0ull;
     w2c_l18 = w2c_j0;
-    goto w2c_B32;
-    w2c_B33:;
-    w2c_j0 = 0ull;
-    w2c_l14 = w2c_j0;
-    w2c_j0 = 0ull;
-    w2c_l17 = w2c_j0;
-    w2c_B32:;
-    w2c_j0 = w2c_p0;
-    w2c_i0 = (u32)(w2c_j0);
-    w2c_j1 = w2c_l18;
-    i64_store(m, (u64)(w2c_i0), w2c_j1);
-    w2c_j0 = w2c_p0;
-    w2c_j1 = 24ull;
-    w2c_j0 += w2c_j1;
-    w2c_i0 = (u32)(w2c_j0);
-    w2c_j1 = w2c_l14;
-    i64_store(m, (u64)(w2c_i0), w2c_j1);
-    w2c_j0 = w2c_p0;
-    w2c_j1 = 16ull;
-    w2c_j0 += w2c_j1;
-    w2c_i0 = (u32)(w2c_j0);
-    w2c_j1 = w2c_l17;
-    i64_store(m, (u64)(w2c_i0), w2c_j1);
-    w2c_j0 = w2c_p0;
-    w2c_j1 = 8ull;
-    w2c_j0 += w2c_j1;
-    w2c_i0 = (u32)(w2c_j0);
-    w2c_j1 = w2c_p5;
-    i64_store(m, (u64)(w2c_i0), w2c_j1);
-    goto w2c_B3;
-    w2c_B26:;
+    goto w2c_B29;
+    w2c_B31:;
     w2c_j0 = w2c_p0;
     w2c_i0 = (u32)(w2c_j0);
     w2c_j1 = 1ull;
@@ -33884,9 +32656,38 @@ static void w2c_f45(module *m, u64 w2c_p0, u32 w2c_p1, u64 w2c_p2, u32 w2c_p3, u
     w2c_i0 = (u32)(w2c_j0);
     w2c_j1 = 1ull;
     i64_store(m, (u64)(w2c_i0), w2c_j1);
+    goto w2c_B3;
+    w2c_B30:;
+    w2c_j0 = 0ull;
+    w2c_l14 = w2c_j0;
+    w2c_j0 = 0ull;
+    w2c_l17 = w2c_j0;
+    w2c_B29:;
+    w2c_j0 = w2c_p0;
+    w2c_i0 = (u32)(w2c_j0);
+    w2c_j1 = w2c_l18;
+    i64_store(m, (u64)(w2c_i0), w2c_j1);
+    w2c_j0 = w2c_p0;
+    w2c_j1 = 24ull;
+    w2c_j0 += w2c_j1;
+    w2c_i0 = (u32)(w2c_j0);
+    w2c_j1 = w2c_l14;
+    i64_store(m, (u64)(w2c_i0), w2c_j1);
+    w2c_j0 = w2c_p0;
+    w2c_j1 = 16ull;
+    w2c_j0 += w2c_j1;
+    w2c_i0 = (u32)(w2c_j0);
+    w2c_j1 = w2c_l17;
+    i64_store(m, (u64)(w2c_i0), w2c_j1);
+    w2c_j0 = w2c_p0;
+    w2c_j1 = 8ull;
+    w2c_j0 += w2c_j1;
+    w2c_i0 = (u32)(w2c_j0);
+    w2c_j1 = w2c_p5;
+    i64_store(m, (u64)(w2c_i0), w2c_j1);
     w2c_B3:;
     w2c_j0 = w2c_l6;
-    w2c_j1 = 992ull;
+    w2c_j1 = 976ull;
     w2c_j0 += w2c_j1;
     m->w2c_g0 = w2c_j0;
     goto w2c_Bfunc;
@@ -33902,9 +32703,343 @@ static void w2c_f45(module *m, u64 w2c_p0, u32 w2c_p1, u64 w2c_p2, u32 w2c_p3, u
   w2c_Bfunc:;
 }
 
+static void w2c_f45(module *m, u64 w2c_p0, u32 w2c_p1, u64 w2c_p2, u64 w2c_p3, u32 w2c_p4, u32 w2c_p5) {
+  u64 w2c_l6 = 0, w2c_l7 = 0, w2c_l8 = 0, w2c_l9 = 0, w2c_l10 = 0, w2c_l11 = 0, w2c_l12 = 0, w2c_l13 = 0, w2c_l14 = 0, w2c_l15 = 0, w2c_l16 = 0, w2c_l17 = 0, w2c_l18 = 0;
+  u32 w2c_i0, w2c_i1, w2c_i2, w2c_i3, w2c_i4, w2c_i5, w2c_i6;
+  u64 w2c_j0, w2c_j1, w2c_j2, w2c_j3, w2c_j4, w2c_j5, w2c_j6, w2c_j7;
+  w2c_j0 = m->w2c_g0;
+  w2c_j1 = 48ull;
+  w2c_j0 -= w2c_j1;
+  w2c_l6 = w2c_j0;
+  m->w2c_g0 = w2c_j0;
+  w2c_j0 = w2c_l6;
+  w2c_l7 = w2c_j0;
+  w2c_j1 = 16ull;
+  w2c_i0 = (u64)((s64)w2c_j0 < (s64)w2c_j1);
+  if (w2c_i0) {goto w2c_B3;}
+  w2c_i0 = w2c_p1;
+  w2c_j0 = (u64)(w2c_i0);
+  w2c_j1 = 255ull;
+  w2c_j0 &= w2c_j1;
+  w2c_j1 = 5ull;
+  w2c_j0 <<= (w2c_j1 & 63);
+  w2c_i1 = w2c_p4;
+  w2c_j1 = (u64)(w2c_i1);
+  w2c_j2 = 255ull;
+  w2c_j1 &= w2c_j2;
+  w2c_j2 = 1ull;
+  w2c_j1 <<= (w2c_j2 & 63);
+  w2c_j0 += w2c_j1;
+  w2c_j1 = 68486ull;
+  w2c_j0 += w2c_j1;
+  w2c_i0 = (u32)(w2c_j0);
+  w2c_j0 = i64_load16_u(m, (u64)(w2c_i0));
+  w2c_l6 = w2c_j0;
+  w2c_j1 = 38ull;
+  w2c_i0 = w2c_j0 > w2c_j1;
+  if (w2c_i0) {goto w2c_B3;}
+  w2c_j0 = 0ull;
+  w2c_j1 = w2c_l6;
+  w2c_j2 = 4ull;
+  w2c_j1 <<= (w2c_j2 & 63);
+  w2c_l6 = w2c_j1;
+  w2c_j2 = 68632ull;
+  w2c_j1 += w2c_j2;
+  w2c_i1 = (u32)(w2c_j1);
+  w2c_j1 = i64_load(m, (u64)(w2c_i1));
+  w2c_l8 = w2c_j1;
+  w2c_j2 = w2c_l8;
+  w2c_j3 = w2c_l6;
+  w2c_j4 = 68624ull;
+  w2c_j3 += w2c_j4;
+  w2c_i3 = (u32)(w2c_j3);
+  w2c_j3 = i64_load(m, (u64)(w2c_i3));
+  w2c_l9 = w2c_j3;
+  w2c_j2 |= w2c_j3;
+  w2c_i2 = !(w2c_j2);
+  w2c_j3 = 124ull;
+  w2c_j4 = w2c_l8;
+  w2c_j4 = I64_CLZ(w2c_j4);
+  w2c_j5 = w2c_l9;
+  w2c_j5 = I64_CLZ(w2c_j5);
+  w2c_j6 = 64ull;
+  w2c_j5 += w2c_j6;
+  w2c_j6 = w2c_l8;
+  w2c_j7 = 0ull;
+  w2c_i6 = w2c_j6 != w2c_j7;
+  w2c_j4 = w2c_i6 ? w2c_j4 : w2c_j5;
+  w2c_l6 = w2c_j4;
+  w2c_j3 -= w2c_j4;
+  w2c_l10 = w2c_j3;
+  w2c_j4 = 127ull;
+  w2c_i3 = w2c_j3 > w2c_j4;
+  w2c_j4 = 0ull;
+  w2c_j5 = w2c_l6;
+  w2c_j6 = 124ull;
+  w2c_i5 = w2c_j5 > w2c_j6;
+  w2c_j5 = (u64)(w2c_i5);
+  w2c_j4 -= w2c_j5;
+  w2c_l11 = w2c_j4;
+  w2c_j5 = 0ull;
+  w2c_i4 = w2c_j4 != w2c_j5;
+  w2c_j5 = w2c_l11;
+  w2c_i5 = !(w2c_j5);
+  w2c_i3 = w2c_i5 ? w2c_i3 : w2c_i4;
+  w2c_i2 |= w2c_i3;
+  w2c_p4 = w2c_i2;
+  w2c_j0 = w2c_i2 ? w2c_j0 : w2c_j1;
+  w2c_l12 = w2c_j0;
+  w2c_j0 = 0ull;
+  w2c_j1 = w2c_l9;
+  w2c_i2 = w2c_p4;
+  w2c_j0 = w2c_i2 ? w2c_j0 : w2c_j1;
+  w2c_l6 = w2c_j0;
+  w2c_i0 = w2c_p4;
+  if (w2c_i0) {goto w2c_B0;}
+  w2c_j0 = w2c_l10;
+  w2c_j1 = 127ull;
+  w2c_j0 ^= w2c_j1;
+  w2c_j1 = w2c_l11;
+  w2c_j0 |= w2c_j1;
+  w2c_i0 = !(w2c_j0);
+  if (w2c_i0) {goto w2c_B0;}
+  w2c_j0 = w2c_l7;
+  w2c_j1 = 32ull;
+  w2c_j0 += w2c_j1;
+  w2c_j1 = w2c_l9;
+  w2c_j2 = w2c_l8;
+  w2c_i3 = 127u;
+  w2c_j4 = w2c_l10;
+  w2c_i4 = (u32)(w2c_j4);
+  w2c_i3 -= w2c_i4;
+  w2c_f4(m, w2c_j0, w2c_j1, w2c_j2, w2c_i3);
+  w2c_j0 = w2c_l7;
+  w2c_i0 = (u32)(w2c_j0);
+  w2c_j0 = i64_load(m, (u64)(w2c_i0) + 40u);
+  w2c_l12 = w2c_j0;
+  w2c_j0 = w2c_l7;
+  w2c_i0 = (u32)(w2c_j0);
+  w2c_j0 = i64_load(m, (u64)(w2c_i0) + 32u);
+  w2c_l6 = w2c_j0;
+  w2c_j0 = w2c_l10;
+  w2c_j1 = 1ull;
+  w2c_j0 += w2c_j1;
+  w2c_l10 = w2c_j0;
+  w2c_j1 = w2c_l11;
+  w2c_j2 = w2c_l10;
+  w2c_i2 = !(w2c_j2);
+  w2c_j2 = (u64)(w2c_i2);
+  w2c_j1 += w2c_j2;
+  w2c_l13 = w2c_j1;
+  w2c_j0 |= w2c_j1;
+  w2c_i0 = !(w2c_j0);
+  if (w2c_i0) {goto w2c_B2;}
+  w2c_j0 = w2c_l7;
+  w2c_j1 = 16ull;
+  w2c_j0 += w2c_j1;
+  w2c_j1 = w2c_l9;
+  w2c_j2 = w2c_l8;
+  w2c_j3 = w2c_l10;
+  w2c_i3 = (u32)(w2c_j3);
+  w2c_f5(m, w2c_j0, w2c_j1, w2c_j2, w2c_i3);
+  w2c_j0 = 10ull;
+  w2c_j1 = 18446744073709551615ull;
+  w2c_j0 += w2c_j1;
+  w2c_l14 = w2c_j0;
+  w2c_j0 = 0ull;
+  w2c_j1 = 10ull;
+  w2c_i1 = !(w2c_j1);
+  w2c_j1 = (u64)(w2c_i1);
+  w2c_j0 -= w2c_j1;
+  w2c_l15 = w2c_j0;
+  w2c_j0 = w2c_l7;
+  w2c_i0 = (u32)(w2c_j0);
+  w2c_j0 = i64_load(m, (u64)(w2c_i0) + 24u);
+  w2c_l9 = w2c_j0;
+  w2c_j0 = w2c_l7;
+  w2c_i0 = (u32)(w2c_j0);
+  w2c_j0 = i64_load(m, (u64)(w2c_i0) + 16u);
+  w2c_l8 = w2c_j0;
+  w2c_j0 = 0ull;
+  w2c_l11 = w2c_j0;
+  w2c_L4:
+    w2c_j0 = w2c_l11;
+    w2c_l16 = w2c_j0;
+    w2c_j0 = w2c_l15;
+    w2c_j1 = w2c_l9;
+    w2c_j2 = 1ull;
+    w2c_j1 <<= (w2c_j2 & 63);
+    w2c_j2 = w2c_l8;
+    w2c_j3 = 63ull;
+    w2c_j2 >>= (w2c_j3 & 63);
+    w2c_j1 |= w2c_j2;
+    w2c_l17 = w2c_j1;
+    w2c_j0 -= w2c_j1;
+    w2c_j1 = w2c_l14;
+    w2c_j2 = w2c_l8;
+    w2c_j3 = 1ull;
+    w2c_j2 <<= (w2c_j3 & 63);
+    w2c_j3 = w2c_l12;
+    w2c_j4 = 63ull;
+    w2c_j3 >>= (w2c_j4 & 63);
+    w2c_j2 |= w2c_j3;
+    w2c_l9 = w2c_j2;
+    w2c_i1 = w2c_j1 < w2c_j2;
+    w2c_j1 = (u64)(w2c_i1);
+    w2c_j0 -= w2c_j1;
+    w2c_j1 = 63ull;
+    w2c_j0 = (u64)((s64)w2c_j0 >> (w2c_j1 & 63));
+    w2c_l8 = w2c_j0;
+    w2c_j1 = 1ull;
+    w2c_j0 &= w2c_j1;
+    w2c_l11 = w2c_j0;
+    w2c_j0 = w2c_l9;
+    w2c_j1 = w2c_l8;
+    w2c_j2 = 10ull;
+    w2c_j1 &= w2c_j2;
+    w2c_l18 = w2c_j1;
+    w2c_j0 -= w2c_j1;
+    w2c_l8 = w2c_j0;
+    w2c_j0 = w2c_l17;
+    w2c_j1 = w2c_l9;
+    w2c_j2 = w2c_l18;
+    w2c_i1 = w2c_j1 < w2c_j2;
+    w2c_j1 = (u64)(w2c_i1);
+    w2c_j0 -= w2c_j1;
+    w2c_l9 = w2c_j0;
+    w2c_j0 = 0ull;
+    w2c_j1 = w2c_l12;
+    w2c_j2 = 1ull;
+    w2c_j1 <<= (w2c_j2 & 63);
+    w2c_j2 = w2c_l6;
+    w2c_j3 = 63ull;
+    w2c_j2 >>= (w2c_j3 & 63);
+    w2c_j1 |= w2c_j2;
+    w2c_j0 |= w2c_j1;
+    w2c_l12 = w2c_j0;
+    w2c_j0 = w2c_l10;
+    w2c_i0 = !(w2c_j0);
+    w2c_p4 = w2c_i0;
+    w2c_j0 = w2c_l16;
+    w2c_j1 = w2c_l6;
+    w2c_j2 = 1ull;
+    w2c_j1 <<= (w2c_j2 & 63);
+    w2c_j0 |= w2c_j1;
+    w2c_l6 = w2c_j0;
+    w2c_j0 = w2c_l10;
+    w2c_j1 = 18446744073709551615ull;
+    w2c_j0 += w2c_j1;
+    w2c_l16 = w2c_j0;
+    w2c_l10 = w2c_j0;
+    w2c_j0 = w2c_l16;
+    w2c_j1 = w2c_l13;
+    w2c_i2 = w2c_p4;
+    w2c_j2 = (u64)(w2c_i2);
+    w2c_j1 -= w2c_j2;
+    w2c_l13 = w2c_j1;
+    w2c_j0 |= w2c_j1;
+    w2c_i0 = !(w2c_j0);
+    w2c_i0 = !(w2c_i0);
+    if (w2c_i0) {goto w2c_L4;}
+    goto w2c_B1;
+  UNREACHABLE;
+  w2c_B3:;
+  UNREACHABLE;
+  w2c_B2:;
+  w2c_j0 = 0ull;
+  w2c_l11 = w2c_j0;
+  w2c_B1:;
+  w2c_j0 = w2c_l12;
+  w2c_j1 = 1ull;
+  w2c_j0 <<= (w2c_j1 & 63);
+  w2c_j1 = w2c_l6;
+  w2c_j2 = 63ull;
+  w2c_j1 >>= (w2c_j2 & 63);
+  w2c_j0 |= w2c_j1;
+  w2c_l12 = w2c_j0;
+  w2c_j0 = w2c_l11;
+  w2c_j1 = w2c_l6;
+  w2c_j2 = 1ull;
+  w2c_j1 <<= (w2c_j2 & 63);
+  w2c_j0 |= w2c_j1;
+  w2c_l6 = w2c_j0;
+  w2c_B0:;
+  w2c_j0 = w2c_l7;
+  w2c_j1 = w2c_l6;
+  w2c_j2 = w2c_l12;
+  w2c_i3 = w2c_p5;
+  w2c_j3 = (u64)(w2c_i3);
+  w2c_j4 = 255ull;
+  w2c_j3 &= w2c_j4;
+  w2c_j4 = 0ull;
+  w2c_f3(m, w2c_j0, w2c_j1, w2c_j2, w2c_j3, w2c_j4);
+  w2c_j0 = w2c_p0;
+  w2c_i0 = (u32)(w2c_j0);
+  w2c_j1 = 0ull;
+  i64_store(m, (u64)(w2c_i0) + 8, w2c_j1);
+  w2c_j0 = w2c_p0;
+  w2c_j1 = 16ull;
+  w2c_j0 += w2c_j1;
+  w2c_i0 = (u32)(w2c_j0);
+  w2c_j1 = w2c_l7;
+  w2c_i1 = (u32)(w2c_j1);
+  w2c_j1 = i64_load(m, (u64)(w2c_i1));
+  w2c_l6 = w2c_j1;
+  w2c_j2 = w2c_p2;
+  w2c_j1 += w2c_j2;
+  w2c_l10 = w2c_j1;
+  w2c_j2 = 0ull;
+  w2c_j3 = w2c_p2;
+  w2c_j4 = w2c_l6;
+  w2c_j5 = 18446744073709551615ull;
+  w2c_j4 ^= w2c_j5;
+  w2c_i3 = w2c_j3 <= w2c_j4;
+  w2c_j4 = w2c_p3;
+  w2c_j5 = w2c_l7;
+  w2c_i5 = (u32)(w2c_j5);
+  w2c_j5 = i64_load(m, (u64)(w2c_i5) + 8u);
+  w2c_l12 = w2c_j5;
+  w2c_j6 = 18446744073709551615ull;
+  w2c_j5 ^= w2c_j6;
+  w2c_l8 = w2c_j5;
+  w2c_i4 = w2c_j4 <= w2c_j5;
+  w2c_j5 = w2c_p3;
+  w2c_j6 = w2c_l8;
+  w2c_i5 = w2c_j5 == w2c_j6;
+  w2c_i3 = w2c_i5 ? w2c_i3 : w2c_i4;
+  w2c_p4 = w2c_i3;
+  w2c_j1 = w2c_i3 ? w2c_j1 : w2c_j2;
+  i64_store(m, (u64)(w2c_i0), w2c_j1);
+  w2c_j0 = w2c_p0;
+  w2c_i0 = (u32)(w2c_j0);
+  w2c_i1 = w2c_p4;
+  w2c_j1 = (u64)(w2c_i1);
+  i64_store(m, (u64)(w2c_i0), w2c_j1);
+  w2c_j0 = w2c_p0;
+  w2c_j1 = 24ull;
+  w2c_j0 += w2c_j1;
+  w2c_i0 = (u32)(w2c_j0);
+  w2c_j1 = w2c_l12;
+  w2c_j2 = w2c_p3;
+  w2c_j1 += w2c_j2;
+  w2c_j2 = w2c_l10;
+  w2c_j3 = w2c_l6;
+  w2c_i2 = w2c_j2 < w2c_j3;
+  w2c_j2 = (u64)(w2c_i2);
+  w2c_j1 += w2c_j2;
+  w2c_j2 = 0ull;
+  w2c_i3 = w2c_p4;
+  w2c_j1 = w2c_i3 ? w2c_j1 : w2c_j2;
+  i64_store(m, (u64)(w2c_i0), w2c_j1);
+  w2c_j0 = w2c_l7;
+  w2c_j1 = 48ull;
+  w2c_j0 += w2c_j1;
+  m->w2c_g0 = w2c_j0;
+}
+
 static u32 w2c_f46(module *m, u64 w2c_p0, u64 w2c_p1, u32 w2c_p2, u64 w2c_p3, u64 w2c_p4, u64 w2c_p5) {
-  u32 w2c_l7 = 0;
-  u64 w2c_l6 = 0;
+  u32 w2c_l9 = 0;
+  u64 w2c_l6 = 0, w2c_l7 = 0, w2c_l8 = 0;
   u32 w2c_i0, w2c_i1;
   u64 w2c_j0, w2c_j1;
   w2c_j0 = m->w2c_g0;
@@ -33922,7 +33057,7 @@ static u32 w2c_f46(module *m, u64 w2c_p0, u64 w2c_p1, u32 w2c_p2, u64 w2c_p3, u6
   w2c_j1 = 0ull;
   i64_store(m, (u64)(w2c_i0), w2c_j1);
   w2c_i0 = 1u;
-  w2c_l7 = w2c_i0;
+  w2c_l9 = w2c_i0;
   w2c_i0 = w2c_p2;
   w2c_j0 = (u64)(w2c_i0);
   w2c_j1 = 255ull;
@@ -33941,16 +33076,82 @@ static u32 w2c_f46(module *m, u64 w2c_p0, u64 w2c_p1, u32 w2c_p2, u64 w2c_p3, u6
   w2c_j1 = w2c_p3;
   i64_store(m, (u64)(w2c_i0), w2c_j1);
   w2c_j0 = w2c_p1;
-  w2c_i0 = !(w2c_j0);
-  if (w2c_i0) {goto w2c_B5;}
+  w2c_j1 = 8ull;
+  w2c_i0 = w2c_j0 >= w2c_j1;
+  if (w2c_i0) {goto w2c_B6;}
+  w2c_j0 = 0ull;
+  w2c_l7 = w2c_j0;
+  goto w2c_B5;
+  w2c_B6:;
+  w2c_j0 = 0ull;
+  w2c_l7 = w2c_j0;
   w2c_j0 = w2c_p3;
-  w2c_i0 = !(w2c_j0);
+  w2c_j1 = 3ull;
+  w2c_i0 = w2c_j0 < w2c_j1;
   if (w2c_i0) {goto w2c_B5;}
+  w2c_j0 = w2c_p1;
+  w2c_j1 = 18446744073709551607ull;
+  w2c_j0 += w2c_j1;
+  w2c_l8 = w2c_j0;
+  w2c_j0 = w2c_p3;
+  w2c_j1 = 18446744073709551613ull;
+  w2c_j0 += w2c_j1;
+  w2c_p4 = w2c_j0;
+  w2c_j0 = 0ull;
+  w2c_l7 = w2c_j0;
   w2c_j0 = 0ull;
   w2c_l6 = w2c_j0;
-  w2c_j0 = 1ull;
+  w2c_L7:
+    w2c_j0 = w2c_p0;
+    w2c_j1 = w2c_l6;
+    w2c_j0 += w2c_j1;
+    w2c_i0 = (u32)(w2c_j0);
+    w2c_j0 = i64_load(m, (u64)(w2c_i0));
+    w2c_j1 = 67553998437089520ull;
+    w2c_j0 &= w2c_j1;
+    w2c_j1 = 63050398541283552ull;
+    w2c_i0 = w2c_j0 != w2c_j1;
+    if (w2c_i0) {goto w2c_B5;}
+    w2c_j0 = w2c_l7;
+    w2c_j1 = 3ull;
+    w2c_j0 += w2c_j1;
+    w2c_l7 = w2c_j0;
+    w2c_j0 = w2c_l6;
+    w2c_j1 = 9ull;
+    w2c_j0 += w2c_j1;
+    w2c_l6 = w2c_j0;
+    w2c_j0 = w2c_p4;
+    w2c_j1 = 3ull;
+    w2c_i0 = w2c_j0 < w2c_j1;
+    if (w2c_i0) {goto w2c_B5;}
+    w2c_j0 = w2c_p4;
+    w2c_j1 = 18446744073709551613ull;
+    w2c_j0 += w2c_j1;
+    w2c_p4 = w2c_j0;
+    w2c_j0 = w2c_l8;
+    w2c_j1 = 7ull;
+    w2c_i0 = w2c_j0 > w2c_j1;
+    w2c_p2 = w2c_i0;
+    w2c_j0 = w2c_l8;
+    w2c_j1 = 18446744073709551607ull;
+    w2c_j0 += w2c_j1;
+    w2c_l8 = w2c_j0;
+    w2c_i0 = w2c_p2;
+    if (w2c_i0) {goto w2c_L7;}
+  w2c_B5:;
+  w2c_j0 = w2c_p1;
+  w2c_j1 = w2c_l6;
+  w2c_i0 = w2c_j0 <= w2c_j1;
+  if (w2c_i0) {goto w2c_B8;}
+  w2c_j0 = w2c_l7;
+  w2c_j1 = w2c_p3;
+  w2c_i0 = w2c_j0 >= w2c_j1;
+  if (w2c_i0) {goto w2c_B8;}
+  w2c_j0 = w2c_l7;
+  w2c_j1 = 1ull;
+  w2c_j0 += w2c_j1;
   w2c_p4 = w2c_j0;
-  w2c_L6:
+  w2c_L9:
     w2c_j0 = w2c_p0;
     w2c_j1 = w2c_l6;
     w2c_j0 += w2c_j1;
@@ -33971,7 +33172,7 @@ static u32 w2c_f46(module *m, u64 w2c_p0, u64 w2c_p1, u32 w2c_p2, u64 w2c_p3, u6
     w2c_j0 = w2c_p4;
     w2c_j1 = w2c_p3;
     w2c_i0 = w2c_j0 >= w2c_j1;
-    if (w2c_i0) {goto w2c_B5;}
+    if (w2c_i0) {goto w2c_B8;}
     w2c_j0 = w2c_p4;
     w2c_j1 = 1ull;
     w2c_j0 += w2c_j1;
@@ -33979,8 +33180,8 @@ static u32 w2c_f46(module *m, u64 w2c_p0, u64 w2c_p1, u32 w2c_p2, u64 w2c_p3, u6
     w2c_j0 = w2c_p1;
     w2c_j1 = w2c_l6;
     w2c_i0 = w2c_j0 > w2c_j1;
-    if (w2c_i0) {goto w2c_L6;}
-  w2c_B5:;
+    if (w2c_i0) {goto w2c_L9;}
+  w2c_B8:;
   w2c_j0 = w2c_p5;
   w2c_i0 = (u32)(w2c_j0);
   w2c_j1 = w2c_l6;
@@ -33992,9 +33193,9 @@ static u32 w2c_f46(module *m, u64 w2c_p0, u64 w2c_p1, u32 w2c_p2, u64 w2c_p3, u6
   goto w2c_Bfunc;
   w2c_B2:;
   w2c_i0 = 4u;
-  w2c_l7 = w2c_i0;
+  w2c_l9 = w2c_i0;
   w2c_B1:;
-  w2c_i0 = w2c_l7;
+  w2c_i0 = w2c_l9;
   goto w2c_Bfunc;
   w2c_B0:;
   UNREACHABLE;
@@ -34048,7 +33249,7 @@ static void w2c_f47(module *m, u64 w2c_p0, u32 w2c_p1, u64 w2c_p2, u64 w2c_p3) {
   w2c_j0 += w2c_j1;
   w2c_j1 = w2c_p2;
   w2c_j2 = w2c_p3;
-  w2c_f33(m, w2c_j0, w2c_j1, w2c_j2);
+  w2c_f32(m, w2c_j0, w2c_j1, w2c_j2);
   w2c_j0 = w2c_l5;
   w2c_i0 = (u32)(w2c_j0);
   w2c_i0 = i32_load8_u(m, (u64)(w2c_i0) + 8u);
@@ -34285,7 +33486,7 @@ static void w2c_f48(module *m, u64 w2c_p0, u32 w2c_p1, u64 w2c_p2, u64 w2c_p3, u
   w2c_l5 = w2c_j0;
   w2c_j1 = 16ull;
   w2c_i0 = (u64)((s64)w2c_j0 < (s64)w2c_j1);
-  if (w2c_i0) {goto w2c_B2;}
+  if (w2c_i0) {goto w2c_B4;}
   w2c_j0 = w2c_l5;
   w2c_i0 = (u32)(w2c_j0);
   w2c_j1 = 0ull;
@@ -34340,7 +33541,7 @@ static void w2c_f48(module *m, u64 w2c_p0, u32 w2c_p1, u64 w2c_p2, u64 w2c_p3, u
   w2c_i1 = 255u;
   w2c_i0 &= w2c_i1;
   w2c_i0 = !(w2c_i0);
-  if (w2c_i0) {goto w2c_B4;}
+  if (w2c_i0) {goto w2c_B3;}
   w2c_i0 = w2c_p1;
   w2c_j0 = (u64)(w2c_i0);
   w2c_j1 = 255ull;
@@ -34373,7 +33574,7 @@ static void w2c_f48(module *m, u64 w2c_p0, u32 w2c_p1, u64 w2c_p2, u64 w2c_p3, u
     w2c_l18 = w2c_i0;
     w2c_i0 = 0u;
     w2c_l19 = w2c_i0;
-    goto w2c_B3;
+    goto w2c_B2;
     w2c_B6:;
     w2c_j0 = w2c_p3;
     w2c_j1 = w2c_l12;
@@ -34451,7 +33652,7 @@ static void w2c_f48(module *m, u64 w2c_p0, u32 w2c_p1, u64 w2c_p2, u64 w2c_p3, u
     w2c_l10 = w2c_j0;
     w2c_j0 = w2c_l6;
     w2c_l12 = w2c_j0;
-    goto w2c_B3;
+    goto w2c_B2;
     w2c_B12:;
     w2c_j0 = w2c_p3;
     w2c_j1 = w2c_l6;
@@ -34510,12 +33711,10 @@ static void w2c_f48(module *m, u64 w2c_p0, u32 w2c_p1, u64 w2c_p2, u64 w2c_p3, u
     w2c_j0 = (u64)(w2c_i0);
     w2c_j1 = 255ull;
     w2c_j0 &= w2c_j1;
-    w2c_j1 = 4ull;
+    w2c_j1 = 3ull;
     w2c_j0 <<= (w2c_j1 & 63);
-    w2c_j1 = 68624ull;
-    w2c_j0 += w2c_j1;
     w2c_i0 = (u32)(w2c_j0);
-    w2c_j0 = i64_load(m, (u64)(w2c_i0));
+    w2c_j0 = i64_load(m, (u64)(w2c_i0) + 69256u);
     w2c_i1 = w2c_l18;
     w2c_j1 = (u64)(w2c_i1);
     w2c_j2 = 255ull;
@@ -34535,7 +33734,7 @@ static void w2c_f48(module *m, u64 w2c_p0, u32 w2c_p1, u64 w2c_p2, u64 w2c_p3, u
       w2c_l18 = w2c_i0;
       w2c_j0 = w2c_l6;
       w2c_l12 = w2c_j0;
-      goto w2c_B3;
+      goto w2c_B2;
       w2c_B14:;
       w2c_j0 = w2c_p3;
       w2c_j1 = w2c_l6;
@@ -34613,7 +33812,7 @@ static void w2c_f48(module *m, u64 w2c_p0, u32 w2c_p1, u64 w2c_p2, u64 w2c_p3, u
       if (w2c_i0) {goto w2c_B20;}
       w2c_j0 = w2c_l15;
       w2c_l10 = w2c_j0;
-      goto w2c_B3;
+      goto w2c_B2;
       w2c_B20:;
       w2c_j0 = w2c_p3;
       w2c_j1 = w2c_l12;
@@ -34684,12 +33883,10 @@ static void w2c_f48(module *m, u64 w2c_p0, u32 w2c_p1, u64 w2c_p2, u64 w2c_p3, u
       w2c_j1 = (u64)(w2c_i1);
       w2c_j2 = 255ull;
       w2c_j1 &= w2c_j2;
-      w2c_j2 = 4ull;
+      w2c_j2 = 3ull;
       w2c_j1 <<= (w2c_j2 & 63);
-      w2c_j2 = 68624ull;
-      w2c_j1 += w2c_j2;
       w2c_i1 = (u32)(w2c_j1);
-      w2c_j1 = i64_load(m, (u64)(w2c_i1));
+      w2c_j1 = i64_load(m, (u64)(w2c_i1) + 69256u);
       w2c_i2 = w2c_l18;
       w2c_j2 = (u64)(w2c_i2);
       w2c_j3 = 255ull;
@@ -35035,6 +34232,8 @@ static void w2c_f48(module *m, u64 w2c_p0, u32 w2c_p1, u64 w2c_p2, u64 w2c_p3, u
     goto w2c_L5;
   UNREACHABLE;
   w2c_B4:;
+  UNREACHABLE;
+  w2c_B3:;
   w2c_j0 = w2c_p4;
   w2c_j1 = 3ull;
   w2c_i0 = w2c_j0 != w2c_j1;
@@ -35053,7 +34252,7 @@ static void w2c_f48(module *m, u64 w2c_p0, u32 w2c_p1, u64 w2c_p2, u64 w2c_p3, u
   w2c_l19 = w2c_i0;
   w2c_j0 = w2c_p4;
   w2c_l12 = w2c_j0;
-  goto w2c_B3;
+  goto w2c_B2;
   w2c_B34:;
   w2c_j0 = w2c_p3;
   w2c_j1 = w2c_p4;
@@ -35078,19 +34277,18 @@ static void w2c_f48(module *m, u64 w2c_p0, u32 w2c_p1, u64 w2c_p2, u64 w2c_p3, u
   w2c_i1 = w2c_l18;
   w2c_i0 = w2c_i0 != w2c_i1;
   if (w2c_i0) {goto w2c_B1;}
-  w2c_j0 = w2c_p4;
-  w2c_j1 = 18446744073709551613ull;
-  w2c_j0 += w2c_j1;
-  w2c_l12 = w2c_j0;
-  w2c_i0 = 0u;
-  w2c_l20 = w2c_i0;
   w2c_j0 = w2c_l6;
   w2c_j1 = 66997ull;
   w2c_j0 += w2c_j1;
   w2c_i0 = (u32)(w2c_j0);
   w2c_i0 = i32_load8_u(m, (u64)(w2c_i0));
   w2c_l18 = w2c_i0;
-  w2c_l19 = w2c_i0;
+  w2c_j0 = w2c_p4;
+  w2c_j1 = 18446744073709551613ull;
+  w2c_j0 += w2c_j1;
+  w2c_l12 = w2c_j0;
+  w2c_i0 = 0u;
+  w2c_l20 = w2c_i0;
   w2c_j0 = w2c_l6;
   w2c_j1 = 66996ull;
   w2c_j0 += w2c_j1;
@@ -35123,7 +34321,7 @@ static void w2c_f48(module *m, u64 w2c_p0, u32 w2c_p1, u64 w2c_p2, u64 w2c_p3, u
   w2c_l14 = w2c_j0;
   w2c_j0 = 0ull;
   w2c_l10 = w2c_j0;
-  goto w2c_B3;
+  goto w2c_B2;
   w2c_B37:;
   w2c_j0 = w2c_p3;
   w2c_j1 = w2c_l12;
@@ -35143,8 +34341,10 @@ static void w2c_f48(module *m, u64 w2c_p0, u32 w2c_p1, u64 w2c_p2, u64 w2c_p3, u
   w2c_j1 = 1016ull;
   w2c_j0 &= w2c_j1;
   w2c_l6 = w2c_j0;
+  w2c_j1 = 66992ull;
+  w2c_j0 += w2c_j1;
   w2c_i0 = (u32)(w2c_j0);
-  w2c_i0 = i32_load(m, (u64)(w2c_i0) + 66992u);
+  w2c_i0 = i32_load(m, (u64)(w2c_i0));
   w2c_i1 = w2c_l20;
   w2c_i0 = w2c_i0 != w2c_i1;
   if (w2c_i0) {goto w2c_B1;}
@@ -35154,36 +34354,28 @@ static void w2c_f48(module *m, u64 w2c_p0, u32 w2c_p1, u64 w2c_p2, u64 w2c_p3, u
   w2c_i0 = (u32)(w2c_j0);
   w2c_i0 = i32_load8_u(m, (u64)(w2c_i0));
   if (w2c_i0) {goto w2c_B1;}
-  w2c_i0 = w2c_l18;
-  w2c_i1 = 255u;
-  w2c_i0 &= w2c_i1;
-  w2c_i1 = 38u;
-  w2c_i0 = w2c_i0 > w2c_i1;
-  if (w2c_i0) {goto w2c_B2;}
-  w2c_j0 = w2c_l6;
-  w2c_j1 = 66997ull;
-  w2c_j0 += w2c_j1;
-  w2c_i0 = (u32)(w2c_j0);
-  w2c_i0 = i32_load8_u(m, (u64)(w2c_i0));
-  w2c_l19 = w2c_i0;
   w2c_j0 = w2c_p4;
   w2c_j1 = 18446744073709551610ull;
   w2c_j0 += w2c_j1;
   w2c_l12 = w2c_j0;
   w2c_i0 = w2c_l18;
   w2c_l20 = w2c_i0;
+  w2c_j0 = w2c_l6;
+  w2c_j1 = 66997ull;
+  w2c_j0 += w2c_j1;
+  w2c_i0 = (u32)(w2c_j0);
+  w2c_i0 = i32_load8_u(m, (u64)(w2c_i0));
+  w2c_l18 = w2c_i0;
   w2c_B35:;
   w2c_i0 = w2c_l20;
   w2c_j0 = (u64)(w2c_i0);
   w2c_j1 = 255ull;
   w2c_j0 &= w2c_j1;
-  w2c_j1 = 4ull;
+  w2c_j1 = 3ull;
   w2c_j0 <<= (w2c_j1 & 63);
-  w2c_j1 = 68624ull;
-  w2c_j0 += w2c_j1;
   w2c_i0 = (u32)(w2c_j0);
-  w2c_j0 = i64_load(m, (u64)(w2c_i0));
-  w2c_i1 = w2c_l19;
+  w2c_j0 = i64_load(m, (u64)(w2c_i0) + 69256u);
+  w2c_i1 = w2c_l18;
   w2c_j1 = (u64)(w2c_i1);
   w2c_j2 = 255ull;
   w2c_j1 &= w2c_j2;
@@ -35206,7 +34398,7 @@ static void w2c_f48(module *m, u64 w2c_p0, u32 w2c_p1, u64 w2c_p2, u64 w2c_p3, u
     w2c_l14 = w2c_j0;
     w2c_i0 = w2c_l20;
     w2c_l18 = w2c_i0;
-    goto w2c_B3;
+    goto w2c_B2;
     w2c_B39:;
     w2c_j0 = w2c_p3;
     w2c_j1 = w2c_l12;
@@ -35248,12 +34440,20 @@ static void w2c_f48(module *m, u64 w2c_p0, u32 w2c_p1, u64 w2c_p2, u64 w2c_p3, u
     w2c_j0 = i64_load8_u(m, (u64)(w2c_i0));
     w2c_i0 = (u32)(w2c_j0);
     switch (w2c_i0) {
-      case 0: goto w2c_B41;
-      case 1: goto w2c_B42;
+      case 0: goto w2c_B42;
+      case 1: goto w2c_B41;
       case 2: goto w2c_B1;
-      default: goto w2c_B41;
+      default: goto w2c_B42;
     }
     w2c_B42:;
+    w2c_j0 = w2c_l15;
+    w2c_l12 = w2c_j0;
+    w2c_i0 = w2c_l18;
+    w2c_i1 = 255u;
+    w2c_i0 &= w2c_i1;
+    if (w2c_i0) {goto w2c_B1;}
+    goto w2c_B40;
+    w2c_B41:;
     w2c_j0 = w2c_l12;
     w2c_j1 = w2c_l7;
     w2c_i0 = w2c_j0 == w2c_j1;
@@ -35283,7 +34483,7 @@ static void w2c_f48(module *m, u64 w2c_p0, u32 w2c_p1, u64 w2c_p2, u64 w2c_p3, u
     w2c_l13 = w2c_j0;
     w2c_j0 = w2c_l15;
     w2c_l12 = w2c_j0;
-    goto w2c_B3;
+    goto w2c_B2;
     w2c_B43:;
     w2c_j0 = w2c_p3;
     w2c_j1 = w2c_l15;
@@ -35303,8 +34503,10 @@ static void w2c_f48(module *m, u64 w2c_p0, u32 w2c_p1, u64 w2c_p2, u64 w2c_p3, u
     w2c_j1 = 1016ull;
     w2c_j0 &= w2c_j1;
     w2c_l6 = w2c_j0;
+    w2c_j1 = 66992ull;
+    w2c_j0 += w2c_j1;
     w2c_i0 = (u32)(w2c_j0);
-    w2c_i0 = i32_load(m, (u64)(w2c_i0) + 66992u);
+    w2c_i0 = i32_load(m, (u64)(w2c_i0));
     w2c_i1 = w2c_l20;
     w2c_i0 = w2c_i0 != w2c_i1;
     if (w2c_i0) {goto w2c_B1;}
@@ -35314,46 +34516,28 @@ static void w2c_f48(module *m, u64 w2c_p0, u32 w2c_p1, u64 w2c_p2, u64 w2c_p3, u
     w2c_i0 = (u32)(w2c_j0);
     w2c_i0 = i32_load8_u(m, (u64)(w2c_i0));
     if (w2c_i0) {goto w2c_B1;}
-    w2c_i0 = w2c_l18;
-    w2c_i1 = 255u;
-    w2c_i0 &= w2c_i1;
-    w2c_i1 = 39u;
-    w2c_i0 = w2c_i0 >= w2c_i1;
-    if (w2c_i0) {goto w2c_B2;}
-    w2c_j0 = w2c_l6;
-    w2c_j1 = 66997ull;
-    w2c_j0 += w2c_j1;
-    w2c_i0 = (u32)(w2c_j0);
-    w2c_i0 = i32_load8_u(m, (u64)(w2c_i0));
-    w2c_l19 = w2c_i0;
     w2c_j0 = w2c_l12;
     w2c_j1 = 18446744073709551610ull;
     w2c_j0 += w2c_j1;
     w2c_l12 = w2c_j0;
     w2c_i0 = w2c_l18;
     w2c_l20 = w2c_i0;
-    goto w2c_B40;
-    w2c_B41:;
-    w2c_i0 = w2c_l18;
-    w2c_l19 = w2c_i0;
-    w2c_j0 = w2c_l15;
-    w2c_l12 = w2c_j0;
-    w2c_i0 = w2c_l18;
-    w2c_i1 = 255u;
-    w2c_i0 &= w2c_i1;
-    if (w2c_i0) {goto w2c_B1;}
+    w2c_j0 = w2c_l6;
+    w2c_j1 = 66997ull;
+    w2c_j0 += w2c_j1;
+    w2c_i0 = (u32)(w2c_j0);
+    w2c_i0 = i32_load8_u(m, (u64)(w2c_i0));
+    w2c_l18 = w2c_i0;
     w2c_B40:;
     w2c_i0 = w2c_l20;
     w2c_j0 = (u64)(w2c_i0);
     w2c_j1 = 255ull;
     w2c_j0 &= w2c_j1;
-    w2c_j1 = 4ull;
+    w2c_j1 = 3ull;
     w2c_j0 <<= (w2c_j1 & 63);
-    w2c_j1 = 68624ull;
-    w2c_j0 += w2c_j1;
     w2c_i0 = (u32)(w2c_j0);
-    w2c_j0 = i64_load(m, (u64)(w2c_i0));
-    w2c_i1 = w2c_l19;
+    w2c_j0 = i64_load(m, (u64)(w2c_i0) + 69256u);
+    w2c_i1 = w2c_l18;
     w2c_j1 = (u64)(w2c_i1);
     w2c_j2 = 255ull;
     w2c_j1 &= w2c_j2;
@@ -35370,7 +34554,7 @@ static void w2c_f48(module *m, u64 w2c_p0, u32 w2c_p1, u64 w2c_p2, u64 w2c_p3, u
     if (w2c_i0) {goto w2c_B1;}
     goto w2c_L38;
   UNREACHABLE;
-  w2c_B3:;
+  w2c_B2:;
   w2c_j0 = w2c_l12;
   w2c_j1 = 3ull;
   w2c_i0 = w2c_j0 != w2c_j1;
@@ -35444,24 +34628,16 @@ static void w2c_f48(module *m, u64 w2c_p0, u32 w2c_p1, u64 w2c_p2, u64 w2c_p3, u
   w2c_i0 = w2c_i0 != w2c_i1;
   if (w2c_i0) {goto w2c_B1;}
   w2c_B44:;
-  w2c_i0 = w2c_l18;
-  w2c_i1 = 255u;
-  w2c_i0 &= w2c_i1;
-  w2c_i1 = 39u;
-  w2c_i0 = w2c_i0 >= w2c_i1;
-  if (w2c_i0) {goto w2c_B2;}
   w2c_j0 = w2c_l10;
-  w2c_j1 = w2c_l6;
-  w2c_i2 = w2c_l18;
-  w2c_j2 = (u64)(w2c_i2);
-  w2c_j3 = 255ull;
-  w2c_j2 &= w2c_j3;
-  w2c_j3 = 4ull;
-  w2c_j2 <<= (w2c_j3 & 63);
-  w2c_j3 = 68624ull;
-  w2c_j2 += w2c_j3;
-  w2c_i2 = (u32)(w2c_j2);
-  w2c_j2 = i64_load(m, (u64)(w2c_i2));
+  w2c_i1 = w2c_l18;
+  w2c_j1 = (u64)(w2c_i1);
+  w2c_j2 = 255ull;
+  w2c_j1 &= w2c_j2;
+  w2c_j2 = 3ull;
+  w2c_j1 <<= (w2c_j2 & 63);
+  w2c_i1 = (u32)(w2c_j1);
+  w2c_j1 = i64_load(m, (u64)(w2c_i1) + 69256u);
+  w2c_j2 = w2c_l6;
   w2c_j1 *= w2c_j2;
   w2c_l6 = w2c_j1;
   w2c_j2 = 18446744073709551615ull;
@@ -35604,26 +34780,14 @@ static void w2c_f48(module *m, u64 w2c_p0, u32 w2c_p1, u64 w2c_p2, u64 w2c_p3, u
   w2c_i0 = w2c_i2 ? w2c_i0 : w2c_i1;
   if (w2c_i0) {goto w2c_B1;}
   w2c_B47:;
-  w2c_j0 = w2c_p0;
-  w2c_i0 = (u32)(w2c_j0);
-  w2c_j1 = 0ull;
-  i64_store(m, (u64)(w2c_i0), w2c_j1);
-  w2c_j0 = w2c_p0;
-  w2c_i0 = (u32)(w2c_j0);
-  w2c_j1 = 0ull;
-  i64_store(m, (u64)(w2c_i0) + 8, w2c_j1);
-  w2c_j0 = w2c_p0;
-  w2c_j1 = 16ull;
-  w2c_j0 += w2c_j1;
+  w2c_j0 = w2c_l5;
   w2c_i0 = (u32)(w2c_j0);
   w2c_j1 = w2c_l6;
   w2c_j2 = w2c_l13;
   w2c_j1 += w2c_j2;
   w2c_p3 = w2c_j1;
-  i64_store(m, (u64)(w2c_i0), w2c_j1);
-  w2c_j0 = w2c_p0;
-  w2c_j1 = 24ull;
-  w2c_j0 += w2c_j1;
+  i64_store(m, (u64)(w2c_i0) + 112, w2c_j1);
+  w2c_j0 = w2c_l5;
   w2c_i0 = (u32)(w2c_j0);
   w2c_j1 = w2c_l12;
   w2c_j2 = w2c_l14;
@@ -35633,19 +34797,12 @@ static void w2c_f48(module *m, u64 w2c_p0, u32 w2c_p1, u64 w2c_p2, u64 w2c_p3, u
   w2c_i2 = w2c_j2 < w2c_j3;
   w2c_j2 = (u64)(w2c_i2);
   w2c_j1 += w2c_j2;
-  w2c_l6 = w2c_j1;
-  i64_store(m, (u64)(w2c_i0), w2c_j1);
-  w2c_j0 = w2c_l5;
-  w2c_i0 = (u32)(w2c_j0);
-  w2c_j1 = w2c_p3;
-  i64_store(m, (u64)(w2c_i0) + 112, w2c_j1);
-  w2c_j0 = w2c_l5;
-  w2c_i0 = (u32)(w2c_j0);
-  w2c_j1 = w2c_l6;
   i64_store(m, (u64)(w2c_i0) + 120, w2c_j1);
+  w2c_j0 = 0ull;
+  w2c_l6 = w2c_j0;
+  w2c_j0 = 0ull;
+  w2c_l12 = w2c_j0;
   goto w2c_B0;
-  w2c_B2:;
-  UNREACHABLE;
   w2c_B1:;
   w2c_j0 = w2c_l5;
   w2c_j1 = 96ull;
@@ -35655,19 +34812,24 @@ static void w2c_f48(module *m, u64 w2c_p0, u32 w2c_p1, u64 w2c_p2, u64 w2c_p3, u
   w2c_j3 = w2c_p3;
   w2c_j4 = w2c_p4;
   w2c_f42(m, w2c_j0, w2c_i1, w2c_j2, w2c_j3, w2c_j4);
+  w2c_j0 = w2c_l5;
+  w2c_i0 = (u32)(w2c_j0);
+  w2c_j0 = i64_load8_u(m, (u64)(w2c_i0) + 104u);
+  w2c_l6 = w2c_j0;
+  w2c_j0 = w2c_l5;
+  w2c_i0 = (u32)(w2c_j0);
+  w2c_j0 = i64_load8_u(m, (u64)(w2c_i0) + 96u);
+  w2c_l12 = w2c_j0;
+  w2c_B0:;
   w2c_j0 = w2c_p0;
   w2c_i0 = (u32)(w2c_j0);
-  w2c_j1 = w2c_l5;
-  w2c_i1 = (u32)(w2c_j1);
-  w2c_j1 = i64_load8_u(m, (u64)(w2c_i1) + 96u);
+  w2c_j1 = w2c_l12;
   i64_store(m, (u64)(w2c_i0), w2c_j1);
   w2c_j0 = w2c_p0;
   w2c_j1 = 8ull;
   w2c_j0 += w2c_j1;
   w2c_i0 = (u32)(w2c_j0);
-  w2c_j1 = w2c_l5;
-  w2c_i1 = (u32)(w2c_j1);
-  w2c_j1 = i64_load8_u(m, (u64)(w2c_i1) + 104u);
+  w2c_j1 = w2c_l6;
   i64_store(m, (u64)(w2c_i0), w2c_j1);
   w2c_j0 = w2c_p0;
   w2c_j1 = 16ull;
@@ -35685,7 +34847,6 @@ static void w2c_f48(module *m, u64 w2c_p0, u32 w2c_p1, u64 w2c_p2, u64 w2c_p3, u
   w2c_i1 = (u32)(w2c_j1);
   w2c_j1 = i64_load(m, (u64)(w2c_i1) + 120u);
   i64_store(m, (u64)(w2c_i0), w2c_j1);
-  w2c_B0:;
   w2c_j0 = w2c_l5;
   w2c_j1 = 176ull;
   w2c_j0 += w2c_j1;
@@ -36872,12 +36033,7 @@ static u32 w2c_f60(module *m, u64 w2c_p0, u64 w2c_p1, u64 w2c_p2) {
   u32 w2c_i0, w2c_i1, w2c_i2, w2c_i3;
   u64 w2c_j0, w2c_j1, w2c_j2, w2c_j3;
   w2c_j0 = m->w2c_g0;
-  w2c_j1 = 32ull;
-  w2c_j0 -= w2c_j1;
   w2c_l3 = w2c_j0;
-  m->w2c_g0 = w2c_j0;
-  w2c_j0 = w2c_l3;
-  w2c_l4 = w2c_j0;
   w2c_j1 = 16ull;
   w2c_i0 = (u64)((s64)w2c_j0 < (s64)w2c_j1);
   if (w2c_i0) {goto w2c_B0;}
@@ -36887,9 +36043,9 @@ static u32 w2c_f60(module *m, u64 w2c_p0, u64 w2c_p1, u64 w2c_p2) {
   w2c_j3 = w2c_p0;
   w2c_i3 = !(w2c_j3);
   w2c_j1 = w2c_i3 ? w2c_j1 : w2c_j2;
-  w2c_l5 = w2c_j1;
+  w2c_l4 = w2c_j1;
   w2c_j0 += w2c_j1;
-  w2c_l6 = w2c_j0;
+  w2c_l5 = w2c_j0;
   w2c_j0 = w2c_p2;
   w2c_i0 = (u32)(w2c_j0);
   w2c_j1 = 0ull;
@@ -36902,67 +36058,48 @@ static u32 w2c_f60(module *m, u64 w2c_p0, u64 w2c_p1, u64 w2c_p2) {
   w2c_i0 = (u32)(w2c_j0);
   w2c_j1 = 0ull;
   i64_store(m, (u64)(w2c_i0), w2c_j1);
-  w2c_j0 = w2c_l4;
-  w2c_i0 = (u32)(w2c_j0);
-  w2c_j1 = 0ull;
-  i64_store(m, (u64)(w2c_i0) + 24, w2c_j1);
-  w2c_j0 = w2c_l4;
-  w2c_i0 = (u32)(w2c_j0);
-  w2c_j1 = 0ull;
-  i64_store(m, (u64)(w2c_i0) + 16, w2c_j1);
-  w2c_j0 = w2c_l4;
-  w2c_i0 = (u32)(w2c_j0);
-  w2c_j1 = 0ull;
-  i64_store(m, (u64)(w2c_i0) + 8, w2c_j1);
   w2c_j0 = w2c_p1;
-  w2c_l3 = w2c_j0;
+  w2c_l6 = w2c_j0;
   w2c_j0 = w2c_p1;
   w2c_j1 = 4ull;
   w2c_i0 = w2c_j0 < w2c_j1;
   if (w2c_i0) {goto w2c_B4;}
   w2c_j0 = w2c_p0;
-  w2c_j1 = w2c_l5;
+  w2c_j1 = w2c_l4;
   w2c_j0 += w2c_j1;
   w2c_j1 = 18446744073709551612ull;
   w2c_j0 += w2c_j1;
   w2c_p0 = w2c_j0;
   w2c_j0 = w2c_p1;
-  w2c_l3 = w2c_j0;
+  w2c_l6 = w2c_j0;
   w2c_L5:
     w2c_j0 = w2c_p0;
-    w2c_j1 = w2c_l3;
+    w2c_j1 = w2c_l6;
     w2c_j0 += w2c_j1;
     w2c_i0 = (u32)(w2c_j0);
     w2c_i0 = i32_load(m, (u64)(w2c_i0));
-    w2c_l15 = w2c_i0;
-    w2c_i1 = 3233808384u;
-    w2c_i0 &= w2c_i1;
-    w2c_i1 = 2155872256u;
-    w2c_i0 = w2c_i0 != w2c_i1;
-    if (w2c_i0) {goto w2c_B3;}
-    w2c_i0 = w2c_l15;
     w2c_i1 = 8u;
     w2c_i0 >>= (w2c_i1 & 31);
-    w2c_i1 = 255u;
-    w2c_i0 &= w2c_i1;
-    w2c_i1 = 4294967071u;
+    w2c_i1 = 16776989u;
     w2c_i0 += w2c_i1;
-    w2c_i1 = 11u;
-    w2c_i0 = w2c_i0 > w2c_i1;
+    w2c_i1 = 12632312u;
+    w2c_i0 &= w2c_i1;
+    w2c_i1 = 8421376u;
+    w2c_i0 = w2c_i0 != w2c_i1;
     if (w2c_i0) {goto w2c_B3;}
-    w2c_j0 = w2c_l3;
+    w2c_j0 = w2c_l6;
     w2c_j1 = 18446744073709551613ull;
     w2c_j0 += w2c_j1;
-    w2c_l3 = w2c_j0;
+    w2c_l6 = w2c_j0;
     w2c_j1 = 3ull;
     w2c_i0 = w2c_j0 > w2c_j1;
     if (w2c_i0) {goto w2c_L5;}
   w2c_B4:;
-  w2c_j0 = w2c_l3;
+  w2c_j0 = w2c_l6;
   w2c_j1 = 3ull;
   w2c_i0 = w2c_j0 > w2c_j1;
   if (w2c_i0) {goto w2c_B3;}
-  w2c_j0 = w2c_l3;
+  w2c_j0 = w2c_l6;
   w2c_i0 = (u32)(w2c_j0);
   switch (w2c_i0) {
     case 0: goto w2c_B2;
@@ -36972,59 +36109,32 @@ static u32 w2c_f60(module *m, u64 w2c_p0, u64 w2c_p1, u64 w2c_p2) {
     default: goto w2c_B2;
   }
   w2c_B6:;
-  w2c_j0 = w2c_l6;
+  w2c_j0 = w2c_l5;
   w2c_i0 = (u32)(w2c_j0);
-  w2c_i0 = i32_load8_u(m, (u64)(w2c_i0));
-  w2c_i1 = 31u;
-  w2c_i0 += w2c_i1;
-  w2c_i1 = 255u;
-  w2c_i0 &= w2c_i1;
-  w2c_i1 = 11u;
-  w2c_i0 = w2c_i0 > w2c_i1;
-  if (w2c_i0) {goto w2c_B3;}
-  w2c_j0 = w2c_l6;
-  w2c_j1 = 2ull;
-  w2c_j0 += w2c_j1;
-  w2c_i0 = (u32)(w2c_j0);
-  w2c_i0 = i32_load8_u(m, (u64)(w2c_i0));
-  w2c_i1 = 16u;
-  w2c_i0 <<= (w2c_i1 & 31);
-  w2c_j1 = w2c_l6;
-  w2c_j2 = 1ull;
+  w2c_i0 = i32_load16_u(m, (u64)(w2c_i0));
+  w2c_j1 = w2c_l5;
+  w2c_j2 = 2ull;
   w2c_j1 += w2c_j2;
   w2c_i1 = (u32)(w2c_j1);
   w2c_i1 = i32_load8_u(m, (u64)(w2c_i1));
-  w2c_i2 = 8u;
+  w2c_i2 = 16u;
   w2c_i1 <<= (w2c_i2 & 31);
   w2c_i0 |= w2c_i1;
-  w2c_i1 = 12632064u;
+  w2c_i1 = 16776989u;
+  w2c_i0 += w2c_i1;
+  w2c_i1 = 12632312u;
   w2c_i0 &= w2c_i1;
   w2c_i1 = 8421376u;
   w2c_i0 = w2c_i0 == w2c_i1;
   if (w2c_i0) {goto w2c_B2;}
   w2c_B3:;
-  w2c_j0 = w2c_l4;
-  w2c_j1 = 8ull;
-  w2c_j0 += w2c_j1;
-  w2c_j1 = w2c_l6;
-  w2c_j2 = w2c_p1;
-  w2c_f12(m, w2c_j0, w2c_j1, w2c_j2);
   w2c_i0 = 5u;
   w2c_l15 = w2c_i0;
-  w2c_j0 = w2c_l4;
-  w2c_i0 = (u32)(w2c_j0);
-  w2c_i0 = i32_load8_u(m, (u64)(w2c_i0) + 8u);
-  w2c_i1 = 1u;
-  w2c_i0 = w2c_i0 != w2c_i1;
+  w2c_j0 = w2c_l5;
+  w2c_j1 = w2c_p1;
+  w2c_i0 = w2c_f12(m, w2c_j0, w2c_j1);
+  w2c_i0 = !(w2c_i0);
   if (w2c_i0) {goto w2c_B1;}
-  w2c_j0 = w2c_l4;
-  w2c_i0 = (u32)(w2c_j0);
-  w2c_j0 = i64_load(m, (u64)(w2c_i0) + 24u);
-  w2c_p1 = w2c_j0;
-  w2c_j0 = w2c_l4;
-  w2c_i0 = (u32)(w2c_j0);
-  w2c_j0 = i64_load(m, (u64)(w2c_i0) + 16u);
-  w2c_l6 = w2c_j0;
   w2c_B2:;
   w2c_j0 = w2c_p1;
   w2c_i0 = !(w2c_j0);
@@ -37037,12 +36147,12 @@ static u32 w2c_f60(module *m, u64 w2c_p0, u64 w2c_p1, u64 w2c_p2) {
   w2c_l16 = w2c_i0;
   w2c_j0 = 0ull;
   w2c_l8 = w2c_j0;
+  w2c_j0 = 18446744073709551613ull;
+  w2c_p0 = w2c_j0;
   w2c_j0 = w2c_p1;
   w2c_l9 = w2c_j0;
-  w2c_j0 = w2c_l6;
-  w2c_p0 = w2c_j0;
-  w2c_j0 = 0ull;
-  w2c_l5 = w2c_j0;
+  w2c_j0 = w2c_l5;
+  w2c_l4 = w2c_j0;
   w2c_j0 = 0ull;
   w2c_l10 = w2c_j0;
   w2c_j0 = 0ull;
@@ -37056,7 +36166,7 @@ static u32 w2c_f60(module *m, u64 w2c_p0, u64 w2c_p1, u64 w2c_p2) {
   w2c_L9:
     w2c_i0 = w2c_l17;
     w2c_l19 = w2c_i0;
-    w2c_j0 = w2c_p0;
+    w2c_j0 = w2c_l4;
     w2c_i0 = (u32)(w2c_j0);
     w2c_i0 = i32_load8_s(m, (u64)(w2c_i0));
     w2c_l17 = w2c_i0;
@@ -37069,7 +36179,7 @@ static u32 w2c_f60(module *m, u64 w2c_p0, u64 w2c_p1, u64 w2c_p2) {
     w2c_i1 = 4294967295u;
     w2c_i0 = (u32)((s32)w2c_i0 > (s32)w2c_i1);
     if (w2c_i0) {goto w2c_B10;}
-    w2c_j0 = w2c_p0;
+    w2c_j0 = w2c_l4;
     w2c_i0 = (u32)(w2c_j0);
     w2c_i0 = i32_load8_u(m, (u64)(w2c_i0) + 1u);
     w2c_i1 = 63u;
@@ -37091,7 +36201,7 @@ static u32 w2c_f60(module *m, u64 w2c_p0, u64 w2c_p1, u64 w2c_p2) {
     w2c_l13 = w2c_j0;
     goto w2c_B10;
     w2c_B11:;
-    w2c_j0 = w2c_p0;
+    w2c_j0 = w2c_l4;
     w2c_i0 = (u32)(w2c_j0);
     w2c_i0 = i32_load8_u(m, (u64)(w2c_i0) + 2u);
     w2c_i1 = 63u;
@@ -37130,7 +36240,7 @@ static u32 w2c_f60(module *m, u64 w2c_p0, u64 w2c_p1, u64 w2c_p2) {
     w2c_i2 &= w2c_i3;
     w2c_i1 |= w2c_i2;
     w2c_i0 |= w2c_i1;
-    w2c_j1 = w2c_p0;
+    w2c_j1 = w2c_l4;
     w2c_i1 = (u32)(w2c_j1);
     w2c_i1 = i32_load8_u(m, (u64)(w2c_i1) + 3u);
     w2c_i2 = 63u;
@@ -37148,13 +36258,13 @@ static u32 w2c_f60(module *m, u64 w2c_p0, u64 w2c_p1, u64 w2c_p2) {
     w2c_j0 = (u64)(w2c_i0);
     w2c_j1 = 504ull;
     w2c_j0 &= w2c_j1;
-    w2c_l3 = w2c_j0;
+    w2c_l6 = w2c_j0;
     w2c_i0 = (u32)(w2c_j0);
     w2c_i0 = i32_load(m, (u64)(w2c_i0) + 66332u);
     w2c_i1 = w2c_l15;
     w2c_i0 = w2c_i0 != w2c_i1;
     if (w2c_i0) {goto w2c_B20;}
-    w2c_j0 = w2c_l3;
+    w2c_j0 = w2c_l6;
     w2c_j1 = 66336ull;
     w2c_j0 += w2c_j1;
     w2c_i0 = (u32)(w2c_j0);
@@ -37164,13 +36274,13 @@ static u32 w2c_f60(module *m, u64 w2c_p0, u64 w2c_p1, u64 w2c_p2) {
     w2c_i1 = 1u;
     w2c_i0 = w2c_i0 != w2c_i1;
     if (w2c_i0) {goto w2c_B20;}
-    w2c_j0 = w2c_l3;
+    w2c_j0 = w2c_l6;
     w2c_j1 = 66338ull;
     w2c_j0 += w2c_j1;
     w2c_i0 = (u32)(w2c_j0);
     w2c_j0 = i64_load8_u(m, (u64)(w2c_i0));
     w2c_l14 = w2c_j0;
-    w2c_j0 = w2c_l3;
+    w2c_j0 = w2c_l6;
     w2c_j1 = 66337ull;
     w2c_j0 += w2c_j1;
     w2c_i0 = (u32)(w2c_j0);
@@ -38600,7 +37710,7 @@ static u32 w2c_f60(module *m, u64 w2c_p0, u64 w2c_p1, u64 w2c_p2) {
     if (w2c_i0) {goto w2c_B19;}
     w2c_B20:;
     w2c_j0 = 0ull;
-    w2c_l3 = w2c_j0;
+    w2c_l6 = w2c_j0;
     w2c_j0 = w2c_p2;
     w2c_i0 = (u32)(w2c_j0);
     w2c_j1 = 0ull;
@@ -38611,18 +37721,86 @@ static u32 w2c_f60(module *m, u64 w2c_p0, u64 w2c_p1, u64 w2c_p2) {
     i64_store(m, (u64)(w2c_i0), w2c_j1);
     w2c_j0 = w2c_p2;
     w2c_i0 = (u32)(w2c_j0);
-    w2c_j1 = w2c_l5;
+    w2c_j1 = w2c_p0;
+    w2c_j2 = 3ull;
+    w2c_j1 += w2c_j2;
+    w2c_l13 = w2c_j1;
     i64_store(m, (u64)(w2c_i0) + 8, w2c_j1);
-    w2c_j0 = w2c_l5;
-    w2c_i0 = !(w2c_j0);
-    if (w2c_i0) {goto w2c_B122;}
+    w2c_j0 = w2c_p1;
+    w2c_j1 = 8ull;
+    w2c_i0 = w2c_j0 >= w2c_j1;
+    if (w2c_i0) {goto w2c_B123;}
     w2c_j0 = 0ull;
-    w2c_l3 = w2c_j0;
-    w2c_j0 = 1ull;
-    w2c_p0 = w2c_j0;
-    w2c_L123:
+    w2c_l9 = w2c_j0;
+    goto w2c_B122;
+    w2c_B123:;
+    w2c_j0 = 0ull;
+    w2c_l9 = w2c_j0;
+    w2c_j0 = w2c_l13;
+    w2c_j1 = 3ull;
+    w2c_i0 = w2c_j0 < w2c_j1;
+    if (w2c_i0) {goto w2c_B122;}
+    w2c_j0 = w2c_p1;
+    w2c_j1 = 18446744073709551607ull;
+    w2c_j0 += w2c_j1;
+    w2c_l4 = w2c_j0;
+    w2c_j0 = 0ull;
+    w2c_l9 = w2c_j0;
+    w2c_j0 = 0ull;
+    w2c_l6 = w2c_j0;
+    w2c_L124:
+      w2c_j0 = w2c_l5;
+      w2c_j1 = w2c_l6;
+      w2c_j0 += w2c_j1;
+      w2c_i0 = (u32)(w2c_j0);
+      w2c_j0 = i64_load(m, (u64)(w2c_i0));
+      w2c_j1 = 67553998437089520ull;
+      w2c_j0 &= w2c_j1;
+      w2c_j1 = 63050398541283552ull;
+      w2c_i0 = w2c_j0 != w2c_j1;
+      if (w2c_i0) {goto w2c_B122;}
+      w2c_j0 = w2c_l9;
+      w2c_j1 = 3ull;
+      w2c_j0 += w2c_j1;
+      w2c_l9 = w2c_j0;
       w2c_j0 = w2c_l6;
-      w2c_j1 = w2c_l3;
+      w2c_j1 = 9ull;
+      w2c_j0 += w2c_j1;
+      w2c_l6 = w2c_j0;
+      w2c_j0 = w2c_p0;
+      w2c_j1 = 3ull;
+      w2c_i0 = w2c_j0 < w2c_j1;
+      if (w2c_i0) {goto w2c_B122;}
+      w2c_j0 = w2c_p0;
+      w2c_j1 = 18446744073709551613ull;
+      w2c_j0 += w2c_j1;
+      w2c_p0 = w2c_j0;
+      w2c_j0 = w2c_l4;
+      w2c_j1 = 7ull;
+      w2c_i0 = w2c_j0 > w2c_j1;
+      w2c_l15 = w2c_i0;
+      w2c_j0 = w2c_l4;
+      w2c_j1 = 18446744073709551607ull;
+      w2c_j0 += w2c_j1;
+      w2c_l4 = w2c_j0;
+      w2c_i0 = w2c_l15;
+      if (w2c_i0) {goto w2c_L124;}
+    w2c_B122:;
+    w2c_j0 = w2c_p1;
+    w2c_j1 = w2c_l6;
+    w2c_i0 = w2c_j0 <= w2c_j1;
+    if (w2c_i0) {goto w2c_B125;}
+    w2c_j0 = w2c_l9;
+    w2c_j1 = w2c_l13;
+    w2c_i0 = w2c_j0 >= w2c_j1;
+    if (w2c_i0) {goto w2c_B125;}
+    w2c_j0 = w2c_l9;
+    w2c_j1 = 1ull;
+    w2c_j0 += w2c_j1;
+    w2c_p0 = w2c_j0;
+    w2c_L126:
+      w2c_j0 = w2c_l5;
+      w2c_j1 = w2c_l6;
       w2c_j0 += w2c_j1;
       w2c_i0 = (u32)(w2c_j0);
       w2c_i0 = i32_load8_u(m, (u64)(w2c_i0));
@@ -38635,29 +37813,30 @@ static u32 w2c_f60(module *m, u64 w2c_p0, u64 w2c_p1, u64 w2c_p2) {
       w2c_j0 += w2c_j1;
       w2c_i0 = (u32)(w2c_j0);
       w2c_j0 = i64_load(m, (u64)(w2c_i0));
-      w2c_j1 = w2c_l3;
+      w2c_j1 = w2c_l6;
       w2c_j0 += w2c_j1;
-      w2c_l3 = w2c_j0;
+      w2c_l6 = w2c_j0;
       w2c_j0 = w2c_p0;
-      w2c_j1 = w2c_l5;
+      w2c_j1 = w2c_l13;
       w2c_i0 = w2c_j0 >= w2c_j1;
-      if (w2c_i0) {goto w2c_B122;}
+      if (w2c_i0) {goto w2c_B125;}
       w2c_j0 = w2c_p0;
       w2c_j1 = 1ull;
       w2c_j0 += w2c_j1;
       w2c_p0 = w2c_j0;
       w2c_j0 = w2c_p1;
-      w2c_j1 = w2c_l3;
+      w2c_j1 = w2c_l6;
       w2c_i0 = w2c_j0 > w2c_j1;
-      if (w2c_i0) {goto w2c_L123;}
-    w2c_B122:;
+      if (w2c_i0) {goto w2c_L126;}
+    w2c_B125:;
     w2c_j0 = w2c_p2;
     w2c_i0 = (u32)(w2c_j0);
-    w2c_j1 = w2c_l3;
+    w2c_j1 = w2c_l6;
     i64_store(m, (u64)(w2c_i0) + 16, w2c_j1);
+    w2c_j0 = w2c_l3;
+    m->w2c_g0 = w2c_j0;
     w2c_i0 = 2u;
-    w2c_l15 = w2c_i0;
-    goto w2c_B1;
+    goto w2c_Bfunc;
     w2c_B19:;
     w2c_j0 = w2c_l8;
     w2c_j1 = 1000ull;
@@ -38720,14 +37899,14 @@ static u32 w2c_f60(module *m, u64 w2c_p0, u64 w2c_p1, u64 w2c_p2) {
     w2c_j0 = 0ull;
     w2c_l8 = w2c_j0;
     w2c_B13:;
-    w2c_j0 = w2c_p0;
+    w2c_j0 = w2c_l4;
     w2c_j1 = w2c_l13;
     w2c_j0 += w2c_j1;
-    w2c_p0 = w2c_j0;
-    w2c_j0 = w2c_l5;
+    w2c_l4 = w2c_j0;
+    w2c_j0 = w2c_p0;
     w2c_j1 = 1ull;
     w2c_j0 += w2c_j1;
-    w2c_l5 = w2c_j0;
+    w2c_p0 = w2c_j0;
     w2c_j0 = w2c_l9;
     w2c_j1 = w2c_l13;
     w2c_j0 -= w2c_j1;
@@ -38763,9 +37942,10 @@ static u32 w2c_f60(module *m, u64 w2c_p0, u64 w2c_p1, u64 w2c_p2) {
   w2c_i0 = (u32)(w2c_j0);
   w2c_j1 = 0ull;
   i64_store(m, (u64)(w2c_i0), w2c_j1);
+  w2c_j0 = w2c_l3;
+  m->w2c_g0 = w2c_j0;
   w2c_i0 = 9u;
-  w2c_l15 = w2c_i0;
-  goto w2c_B1;
+  goto w2c_Bfunc;
   w2c_B7:;
   w2c_j0 = w2c_l7;
   w2c_i0 = (u32)(w2c_j0);
@@ -38782,9 +37962,7 @@ static u32 w2c_f60(module *m, u64 w2c_p0, u64 w2c_p1, u64 w2c_p2) {
   w2c_i0 = 0u;
   w2c_l15 = w2c_i0;
   w2c_B1:;
-  w2c_j0 = w2c_l4;
-  w2c_j1 = 32ull;
-  w2c_j0 += w2c_j1;
+  w2c_j0 = w2c_l3;
   m->w2c_g0 = w2c_j0;
   w2c_i0 = w2c_l15;
   goto w2c_Bfunc;
@@ -38820,7 +37998,7 @@ static u32 w2c_f62(module *m, u64 w2c_p0, u64 w2c_p1, u64 w2c_p2) {
   u32 w2c_i0, w2c_i1, w2c_i2, w2c_i3, w2c_i4;
   u64 w2c_j0, w2c_j1, w2c_j2, w2c_j3;
   w2c_j0 = m->w2c_g0;
-  w2c_j1 = 32ull;
+  w2c_j1 = 16ull;
   w2c_j0 -= w2c_j1;
   w2c_l3 = w2c_j0;
   m->w2c_g0 = w2c_j0;
@@ -38850,18 +38028,6 @@ static u32 w2c_f62(module *m, u64 w2c_p0, u64 w2c_p1, u64 w2c_p2) {
   w2c_i0 = (u32)(w2c_j0);
   w2c_j1 = 0ull;
   i64_store(m, (u64)(w2c_i0), w2c_j1);
-  w2c_j0 = w2c_l3;
-  w2c_i0 = (u32)(w2c_j0);
-  w2c_j1 = 0ull;
-  i64_store(m, (u64)(w2c_i0) + 16, w2c_j1);
-  w2c_j0 = w2c_l3;
-  w2c_i0 = (u32)(w2c_j0);
-  w2c_j1 = 0ull;
-  i64_store(m, (u64)(w2c_i0) + 8, w2c_j1);
-  w2c_j0 = w2c_l3;
-  w2c_i0 = (u32)(w2c_j0);
-  w2c_j1 = 0ull;
-  i64_store(m, (u64)(w2c_i0), w2c_j1);
   w2c_j0 = w2c_p1;
   w2c_l6 = w2c_j0;
   w2c_j0 = w2c_p1;
@@ -38882,21 +38048,14 @@ static u32 w2c_f62(module *m, u64 w2c_p0, u64 w2c_p1, u64 w2c_p2) {
     w2c_j0 += w2c_j1;
     w2c_i0 = (u32)(w2c_j0);
     w2c_i0 = i32_load(m, (u64)(w2c_i0));
-    w2c_l14 = w2c_i0;
-    w2c_i1 = 3233808384u;
-    w2c_i0 &= w2c_i1;
-    w2c_i1 = 2155872256u;
-    w2c_i0 = w2c_i0 != w2c_i1;
-    if (w2c_i0) {goto w2c_B3;}
-    w2c_i0 = w2c_l14;
     w2c_i1 = 8u;
     w2c_i0 >>= (w2c_i1 & 31);
-    w2c_i1 = 255u;
-    w2c_i0 &= w2c_i1;
-    w2c_i1 = 4294967071u;
+    w2c_i1 = 16776989u;
     w2c_i0 += w2c_i1;
-    w2c_i1 = 11u;
-    w2c_i0 = w2c_i0 > w2c_i1;
+    w2c_i1 = 12632312u;
+    w2c_i0 &= w2c_i1;
+    w2c_i1 = 8421376u;
+    w2c_i0 = w2c_i0 != w2c_i1;
     if (w2c_i0) {goto w2c_B3;}
     w2c_j0 = w2c_l6;
     w2c_j1 = 18446744073709551613ull;
@@ -38922,62 +38081,41 @@ static u32 w2c_f62(module *m, u64 w2c_p0, u64 w2c_p1, u64 w2c_p2) {
   w2c_B6:;
   w2c_j0 = w2c_l5;
   w2c_i0 = (u32)(w2c_j0);
-  w2c_i0 = i32_load8_u(m, (u64)(w2c_i0));
-  w2c_i1 = 31u;
-  w2c_i0 += w2c_i1;
-  w2c_i1 = 255u;
-  w2c_i0 &= w2c_i1;
-  w2c_i1 = 11u;
-  w2c_i0 = w2c_i0 > w2c_i1;
-  if (w2c_i0) {goto w2c_B3;}
-  w2c_j0 = w2c_l5;
-  w2c_j1 = 2ull;
-  w2c_j0 += w2c_j1;
-  w2c_i0 = (u32)(w2c_j0);
-  w2c_i0 = i32_load8_u(m, (u64)(w2c_i0));
-  w2c_i1 = 16u;
-  w2c_i0 <<= (w2c_i1 & 31);
+  w2c_i0 = i32_load16_u(m, (u64)(w2c_i0));
   w2c_j1 = w2c_l5;
-  w2c_j2 = 1ull;
+  w2c_j2 = 2ull;
   w2c_j1 += w2c_j2;
   w2c_i1 = (u32)(w2c_j1);
   w2c_i1 = i32_load8_u(m, (u64)(w2c_i1));
-  w2c_i2 = 8u;
+  w2c_i2 = 16u;
   w2c_i1 <<= (w2c_i2 & 31);
   w2c_i0 |= w2c_i1;
-  w2c_i1 = 12632064u;
+  w2c_i1 = 16776989u;
+  w2c_i0 += w2c_i1;
+  w2c_i1 = 12632312u;
   w2c_i0 &= w2c_i1;
   w2c_i1 = 8421376u;
   w2c_i0 = w2c_i0 == w2c_i1;
   if (w2c_i0) {goto w2c_B2;}
   w2c_B3:;
-  w2c_j0 = w2c_l3;
-  w2c_j1 = w2c_l5;
-  w2c_j2 = w2c_p1;
-  w2c_f12(m, w2c_j0, w2c_j1, w2c_j2);
   w2c_i0 = 5u;
   w2c_l14 = w2c_i0;
-  w2c_j0 = w2c_l3;
-  w2c_i0 = (u32)(w2c_j0);
-  w2c_i0 = i32_load8_u(m, (u64)(w2c_i0));
-  w2c_i1 = 1u;
-  w2c_i0 = w2c_i0 != w2c_i1;
+  w2c_j0 = w2c_l5;
+  w2c_j1 = w2c_p1;
+  w2c_i0 = w2c_f12(m, w2c_j0, w2c_j1);
+  w2c_i0 = !(w2c_i0);
   if (w2c_i0) {goto w2c_B1;}
-  w2c_j0 = w2c_l3;
-  w2c_i0 = (u32)(w2c_j0);
-  w2c_j0 = i64_load(m, (u64)(w2c_i0) + 16u);
-  w2c_p1 = w2c_j0;
-  w2c_j0 = w2c_l3;
-  w2c_i0 = (u32)(w2c_j0);
-  w2c_j0 = i64_load(m, (u64)(w2c_i0) + 8u);
-  w2c_l5 = w2c_j0;
   w2c_B2:;
   w2c_i0 = 0u;
   w2c_l15 = w2c_i0;
   w2c_j0 = w2c_l3;
   w2c_i0 = (u32)(w2c_j0);
   w2c_i1 = 0u;
-  i32_store(m, (u64)(w2c_i0), w2c_i1);
+  i32_store(m, (u64)(w2c_i0) + 8, w2c_i1);
+  w2c_j0 = w2c_l3;
+  w2c_i0 = (u32)(w2c_j0);
+  w2c_i1 = 0u;
+  i32_store8(m, (u64)(w2c_i0) + 12, w2c_i1);
   w2c_j0 = w2c_l3;
   w2c_i0 = (u32)(w2c_j0);
   w2c_i1 = 0u;
@@ -38985,11 +38123,7 @@ static u32 w2c_f62(module *m, u64 w2c_p0, u64 w2c_p1, u64 w2c_p2) {
   w2c_j0 = w2c_l3;
   w2c_i0 = (u32)(w2c_j0);
   w2c_i1 = 0u;
-  i32_store8(m, (u64)(w2c_i0) + 28, w2c_i1);
-  w2c_j0 = w2c_l3;
-  w2c_i0 = (u32)(w2c_j0);
-  w2c_i1 = 0u;
-  i32_store(m, (u64)(w2c_i0) + 24, w2c_i1);
+  i32_store(m, (u64)(w2c_i0), w2c_i1);
   w2c_j0 = w2c_p1;
   w2c_i0 = !(w2c_j0);
   if (w2c_i0) {goto w2c_B7;}
@@ -38999,12 +38133,12 @@ static u32 w2c_f62(module *m, u64 w2c_p0, u64 w2c_p1, u64 w2c_p2) {
   w2c_l7 = w2c_j0;
   w2c_j0 = 0ull;
   w2c_l8 = w2c_j0;
+  w2c_j0 = 18446744073709551613ull;
+  w2c_l4 = w2c_j0;
   w2c_j0 = w2c_p1;
   w2c_p0 = w2c_j0;
   w2c_j0 = w2c_l5;
   w2c_l6 = w2c_j0;
-  w2c_j0 = 0ull;
-  w2c_l4 = w2c_j0;
   w2c_j0 = 0ull;
   w2c_l9 = w2c_j0;
   w2c_j0 = 0ull;
@@ -39204,14 +38338,14 @@ static u32 w2c_f62(module *m, u64 w2c_p0, u64 w2c_p1, u64 w2c_p2) {
     w2c_i0 = (u32)(w2c_j0);
     w2c_j1 = w2c_l3;
     w2c_i1 = (u32)(w2c_j1);
-    w2c_i1 = i32_load8_u(m, (u64)(w2c_i1) + 4u);
-    i32_store8(m, (u64)(w2c_i0) + 28, w2c_i1);
+    w2c_i1 = i32_load8_u(m, (u64)(w2c_i1) + 12u);
+    i32_store8(m, (u64)(w2c_i0) + 4, w2c_i1);
     w2c_j0 = w2c_l3;
     w2c_i0 = (u32)(w2c_j0);
     w2c_j1 = w2c_l3;
     w2c_i1 = (u32)(w2c_j1);
-    w2c_i1 = i32_load(m, (u64)(w2c_i1));
-    i32_store(m, (u64)(w2c_i0) + 24, w2c_i1);
+    w2c_i1 = i32_load(m, (u64)(w2c_i1) + 8u);
+    i32_store(m, (u64)(w2c_i0), w2c_i1);
     w2c_i0 = w2c_l18;
     w2c_l14 = w2c_i0;
     goto w2c_B9;
@@ -39265,11 +38399,11 @@ static u32 w2c_f62(module *m, u64 w2c_p0, u64 w2c_p1, u64 w2c_p2) {
     w2c_j0 = w2c_l3;
     w2c_i0 = (u32)(w2c_j0);
     w2c_i1 = 0u;
-    i32_store8(m, (u64)(w2c_i0) + 28, w2c_i1);
+    i32_store8(m, (u64)(w2c_i0) + 4, w2c_i1);
     w2c_j0 = w2c_l3;
     w2c_i0 = (u32)(w2c_j0);
     w2c_i1 = 0u;
-    i32_store(m, (u64)(w2c_i0) + 24, w2c_i1);
+    i32_store(m, (u64)(w2c_i0), w2c_i1);
     w2c_i0 = w2c_l18;
     w2c_l14 = w2c_i0;
     goto w2c_B9;
@@ -40759,15 +39893,83 @@ static u32 w2c_f62(module *m, u64 w2c_p0, u64 w2c_p1, u64 w2c_p2) {
     w2c_j0 = w2c_p2;
     w2c_i0 = (u32)(w2c_j0);
     w2c_j1 = w2c_l4;
+    w2c_j2 = 3ull;
+    w2c_j1 += w2c_j2;
+    w2c_l12 = w2c_j1;
     i64_store(m, (u64)(w2c_i0) + 8, w2c_j1);
-    w2c_j0 = w2c_l4;
-    w2c_i0 = !(w2c_j0);
+    w2c_j0 = w2c_p1;
+    w2c_j1 = 8ull;
+    w2c_i0 = w2c_j0 >= w2c_j1;
+    if (w2c_i0) {goto w2c_B138;}
+    w2c_j0 = 0ull;
+    w2c_l8 = w2c_j0;
+    goto w2c_B137;
+    w2c_B138:;
+    w2c_j0 = 0ull;
+    w2c_l8 = w2c_j0;
+    w2c_j0 = w2c_l12;
+    w2c_j1 = 3ull;
+    w2c_i0 = w2c_j0 < w2c_j1;
     if (w2c_i0) {goto w2c_B137;}
+    w2c_j0 = w2c_p1;
+    w2c_j1 = 18446744073709551607ull;
+    w2c_j0 += w2c_j1;
+    w2c_p0 = w2c_j0;
+    w2c_j0 = 0ull;
+    w2c_l8 = w2c_j0;
     w2c_j0 = 0ull;
     w2c_l6 = w2c_j0;
-    w2c_j0 = 1ull;
+    w2c_L139:
+      w2c_j0 = w2c_l5;
+      w2c_j1 = w2c_l6;
+      w2c_j0 += w2c_j1;
+      w2c_i0 = (u32)(w2c_j0);
+      w2c_j0 = i64_load(m, (u64)(w2c_i0));
+      w2c_j1 = 67553998437089520ull;
+      w2c_j0 &= w2c_j1;
+      w2c_j1 = 63050398541283552ull;
+      w2c_i0 = w2c_j0 != w2c_j1;
+      if (w2c_i0) {goto w2c_B137;}
+      w2c_j0 = w2c_l8;
+      w2c_j1 = 3ull;
+      w2c_j0 += w2c_j1;
+      w2c_l8 = w2c_j0;
+      w2c_j0 = w2c_l6;
+      w2c_j1 = 9ull;
+      w2c_j0 += w2c_j1;
+      w2c_l6 = w2c_j0;
+      w2c_j0 = w2c_l4;
+      w2c_j1 = 3ull;
+      w2c_i0 = w2c_j0 < w2c_j1;
+      if (w2c_i0) {goto w2c_B137;}
+      w2c_j0 = w2c_l4;
+      w2c_j1 = 18446744073709551613ull;
+      w2c_j0 += w2c_j1;
+      w2c_l4 = w2c_j0;
+      w2c_j0 = w2c_p0;
+      w2c_j1 = 7ull;
+      w2c_i0 = w2c_j0 > w2c_j1;
+      w2c_l14 = w2c_i0;
+      w2c_j0 = w2c_p0;
+      w2c_j1 = 18446744073709551607ull;
+      w2c_j0 += w2c_j1;
+      w2c_p0 = w2c_j0;
+      w2c_i0 = w2c_l14;
+      if (w2c_i0) {goto w2c_L139;}
+    w2c_B137:;
+    w2c_j0 = w2c_p1;
+    w2c_j1 = w2c_l6;
+    w2c_i0 = w2c_j0 <= w2c_j1;
+    if (w2c_i0) {goto w2c_B140;}
+    w2c_j0 = w2c_l8;
+    w2c_j1 = w2c_l12;
+    w2c_i0 = w2c_j0 >= w2c_j1;
+    if (w2c_i0) {goto w2c_B140;}
+    w2c_j0 = w2c_l8;
+    w2c_j1 = 1ull;
+    w2c_j0 += w2c_j1;
     w2c_p0 = w2c_j0;
-    w2c_L138:
+    w2c_L141:
       w2c_j0 = w2c_l5;
       w2c_j1 = w2c_l6;
       w2c_j0 += w2c_j1;
@@ -40786,9 +39988,9 @@ static u32 w2c_f62(module *m, u64 w2c_p0, u64 w2c_p1, u64 w2c_p2) {
       w2c_j0 += w2c_j1;
       w2c_l6 = w2c_j0;
       w2c_j0 = w2c_p0;
-      w2c_j1 = w2c_l4;
+      w2c_j1 = w2c_l12;
       w2c_i0 = w2c_j0 >= w2c_j1;
-      if (w2c_i0) {goto w2c_B137;}
+      if (w2c_i0) {goto w2c_B140;}
       w2c_j0 = w2c_p0;
       w2c_j1 = 1ull;
       w2c_j0 += w2c_j1;
@@ -40796,8 +39998,8 @@ static u32 w2c_f62(module *m, u64 w2c_p0, u64 w2c_p1, u64 w2c_p2) {
       w2c_j0 = w2c_p1;
       w2c_j1 = w2c_l6;
       w2c_i0 = w2c_j0 > w2c_j1;
-      if (w2c_i0) {goto w2c_L138;}
-    w2c_B137:;
+      if (w2c_i0) {goto w2c_L141;}
+    w2c_B140:;
     w2c_j0 = w2c_p2;
     w2c_i0 = (u32)(w2c_j0);
     w2c_j1 = w2c_l6;
@@ -40870,24 +40072,24 @@ static u32 w2c_f62(module *m, u64 w2c_p0, u64 w2c_p1, u64 w2c_p2) {
     w2c_j0 = w2c_l3;
     w2c_i0 = (u32)(w2c_j0);
     w2c_i1 = 0u;
-    i32_store8(m, (u64)(w2c_i0) + 28, w2c_i1);
+    i32_store8(m, (u64)(w2c_i0) + 4, w2c_i1);
     w2c_j0 = w2c_l3;
     w2c_i0 = (u32)(w2c_j0);
     w2c_i1 = 0u;
-    i32_store(m, (u64)(w2c_i0) + 24, w2c_i1);
+    i32_store(m, (u64)(w2c_i0), w2c_i1);
     w2c_B9:;
     w2c_j0 = w2c_l3;
     w2c_i0 = (u32)(w2c_j0);
     w2c_j1 = w2c_l3;
     w2c_i1 = (u32)(w2c_j1);
-    w2c_i1 = i32_load8_u(m, (u64)(w2c_i1) + 28u);
-    i32_store8(m, (u64)(w2c_i0) + 4, w2c_i1);
+    w2c_i1 = i32_load8_u(m, (u64)(w2c_i1) + 4u);
+    i32_store8(m, (u64)(w2c_i0) + 12, w2c_i1);
     w2c_j0 = w2c_l3;
     w2c_i0 = (u32)(w2c_j0);
     w2c_j1 = w2c_l3;
     w2c_i1 = (u32)(w2c_j1);
-    w2c_i1 = i32_load(m, (u64)(w2c_i1) + 24u);
-    i32_store(m, (u64)(w2c_i0), w2c_i1);
+    w2c_i1 = i32_load(m, (u64)(w2c_i1));
+    i32_store(m, (u64)(w2c_i0) + 8, w2c_i1);
     w2c_j0 = w2c_l4;
     w2c_j1 = 1ull;
     w2c_j0 += w2c_j1;
@@ -40907,12 +40109,12 @@ static u32 w2c_f62(module *m, u64 w2c_p0, u64 w2c_p1, u64 w2c_p2) {
   w2c_i1 = 4294967279u;
   w2c_i0 += w2c_i1;
   switch (w2c_i0) {
-    case 0: goto w2c_B139;
+    case 0: goto w2c_B142;
     case 1: goto w2c_B7;
-    case 2: goto w2c_B139;
-    default: goto w2c_B139;
+    case 2: goto w2c_B142;
+    default: goto w2c_B142;
   }
-  w2c_B139:;
+  w2c_B142:;
   w2c_j0 = w2c_l7;
   w2c_i0 = (u32)(w2c_j0);
   w2c_j1 = 0ull;
@@ -40945,7 +40147,7 @@ static u32 w2c_f62(module *m, u64 w2c_p0, u64 w2c_p1, u64 w2c_p2) {
   w2c_l14 = w2c_i0;
   w2c_B1:;
   w2c_j0 = w2c_l3;
-  w2c_j1 = 32ull;
+  w2c_j1 = 16ull;
   w2c_j0 += w2c_j1;
   m->w2c_g0 = w2c_j0;
   w2c_i0 = w2c_l14;
@@ -40982,24 +40184,19 @@ static u32 w2c_f64(module *m, u64 w2c_p0, u64 w2c_p1, u64 w2c_p2) {
   u32 w2c_i0, w2c_i1, w2c_i2, w2c_i3, w2c_i4;
   u64 w2c_j0, w2c_j1, w2c_j2, w2c_j3;
   w2c_j0 = m->w2c_g0;
-  w2c_j1 = 32ull;
-  w2c_j0 -= w2c_j1;
   w2c_l3 = w2c_j0;
-  m->w2c_g0 = w2c_j0;
-  w2c_j0 = w2c_l3;
-  w2c_l4 = w2c_j0;
   w2c_j1 = 16ull;
   w2c_i0 = (u64)((s64)w2c_j0 < (s64)w2c_j1);
-  if (w2c_i0) {goto w2c_B2;}
+  if (w2c_i0) {goto w2c_B1;}
   w2c_j0 = w2c_p0;
   w2c_j1 = 4096ull;
   w2c_j2 = 0ull;
   w2c_j3 = w2c_p0;
   w2c_i3 = !(w2c_j3);
   w2c_j1 = w2c_i3 ? w2c_j1 : w2c_j2;
-  w2c_l5 = w2c_j1;
+  w2c_l4 = w2c_j1;
   w2c_j0 += w2c_j1;
-  w2c_l6 = w2c_j0;
+  w2c_l5 = w2c_j0;
   w2c_j0 = w2c_p2;
   w2c_i0 = (u32)(w2c_j0);
   w2c_j1 = 0ull;
@@ -41016,201 +40213,154 @@ static u32 w2c_f64(module *m, u64 w2c_p0, u64 w2c_p1, u64 w2c_p2) {
   w2c_i0 = (u32)(w2c_j0);
   w2c_j1 = 0ull;
   i64_store(m, (u64)(w2c_i0), w2c_j1);
-  w2c_j0 = w2c_l4;
-  w2c_i0 = (u32)(w2c_j0);
-  w2c_j1 = 0ull;
-  i64_store(m, (u64)(w2c_i0) + 24, w2c_j1);
-  w2c_j0 = w2c_l4;
-  w2c_i0 = (u32)(w2c_j0);
-  w2c_j1 = 0ull;
-  i64_store(m, (u64)(w2c_i0) + 16, w2c_j1);
-  w2c_j0 = w2c_l4;
-  w2c_i0 = (u32)(w2c_j0);
-  w2c_j1 = 0ull;
-  i64_store(m, (u64)(w2c_i0) + 8, w2c_j1);
   w2c_j0 = w2c_p1;
-  w2c_l3 = w2c_j0;
+  w2c_l6 = w2c_j0;
   w2c_j0 = w2c_p1;
   w2c_j1 = 4ull;
   w2c_i0 = w2c_j0 < w2c_j1;
-  if (w2c_i0) {goto w2c_B5;}
+  if (w2c_i0) {goto w2c_B4;}
   w2c_j0 = w2c_p0;
-  w2c_j1 = w2c_l5;
+  w2c_j1 = w2c_l4;
   w2c_j0 += w2c_j1;
   w2c_j1 = 18446744073709551612ull;
   w2c_j0 += w2c_j1;
   w2c_p0 = w2c_j0;
   w2c_j0 = w2c_p1;
-  w2c_l3 = w2c_j0;
-  w2c_L6:
+  w2c_l6 = w2c_j0;
+  w2c_L5:
     w2c_j0 = w2c_p0;
-    w2c_j1 = w2c_l3;
+    w2c_j1 = w2c_l6;
     w2c_j0 += w2c_j1;
     w2c_i0 = (u32)(w2c_j0);
     w2c_i0 = i32_load(m, (u64)(w2c_i0));
-    w2c_l9 = w2c_i0;
-    w2c_i1 = 3233808384u;
-    w2c_i0 &= w2c_i1;
-    w2c_i1 = 2155872256u;
-    w2c_i0 = w2c_i0 != w2c_i1;
-    if (w2c_i0) {goto w2c_B4;}
-    w2c_i0 = w2c_l9;
     w2c_i1 = 8u;
     w2c_i0 >>= (w2c_i1 & 31);
-    w2c_i1 = 255u;
-    w2c_i0 &= w2c_i1;
-    w2c_i1 = 4294967071u;
+    w2c_i1 = 16776989u;
     w2c_i0 += w2c_i1;
-    w2c_i1 = 11u;
-    w2c_i0 = w2c_i0 > w2c_i1;
-    if (w2c_i0) {goto w2c_B4;}
-    w2c_j0 = w2c_l3;
+    w2c_i1 = 12632312u;
+    w2c_i0 &= w2c_i1;
+    w2c_i1 = 8421376u;
+    w2c_i0 = w2c_i0 != w2c_i1;
+    if (w2c_i0) {goto w2c_B3;}
+    w2c_j0 = w2c_l6;
     w2c_j1 = 18446744073709551613ull;
     w2c_j0 += w2c_j1;
-    w2c_l3 = w2c_j0;
+    w2c_l6 = w2c_j0;
     w2c_j1 = 3ull;
     w2c_i0 = w2c_j0 > w2c_j1;
-    if (w2c_i0) {goto w2c_L6;}
-  w2c_B5:;
-  w2c_j0 = w2c_l3;
+    if (w2c_i0) {goto w2c_L5;}
+  w2c_B4:;
+  w2c_j0 = w2c_l6;
   w2c_j1 = 3ull;
   w2c_i0 = w2c_j0 > w2c_j1;
-  if (w2c_i0) {goto w2c_B4;}
-  w2c_j0 = w2c_l3;
+  if (w2c_i0) {goto w2c_B3;}
+  w2c_j0 = w2c_l6;
   w2c_i0 = (u32)(w2c_j0);
   switch (w2c_i0) {
-    case 0: goto w2c_B3;
-    case 1: goto w2c_B4;
-    case 2: goto w2c_B4;
-    case 3: goto w2c_B7;
-    default: goto w2c_B3;
+    case 0: goto w2c_B2;
+    case 1: goto w2c_B3;
+    case 2: goto w2c_B3;
+    case 3: goto w2c_B6;
+    default: goto w2c_B2;
   }
-  w2c_B7:;
-  w2c_j0 = w2c_l6;
+  w2c_B6:;
+  w2c_j0 = w2c_l5;
   w2c_i0 = (u32)(w2c_j0);
-  w2c_i0 = i32_load8_u(m, (u64)(w2c_i0));
-  w2c_i1 = 31u;
-  w2c_i0 += w2c_i1;
-  w2c_i1 = 255u;
-  w2c_i0 &= w2c_i1;
-  w2c_i1 = 11u;
-  w2c_i0 = w2c_i0 > w2c_i1;
-  if (w2c_i0) {goto w2c_B4;}
-  w2c_j0 = w2c_l6;
-  w2c_j1 = 2ull;
-  w2c_j0 += w2c_j1;
-  w2c_i0 = (u32)(w2c_j0);
-  w2c_i0 = i32_load8_u(m, (u64)(w2c_i0));
-  w2c_i1 = 16u;
-  w2c_i0 <<= (w2c_i1 & 31);
-  w2c_j1 = w2c_l6;
-  w2c_j2 = 1ull;
+  w2c_i0 = i32_load16_u(m, (u64)(w2c_i0));
+  w2c_j1 = w2c_l5;
+  w2c_j2 = 2ull;
   w2c_j1 += w2c_j2;
   w2c_i1 = (u32)(w2c_j1);
   w2c_i1 = i32_load8_u(m, (u64)(w2c_i1));
-  w2c_i2 = 8u;
+  w2c_i2 = 16u;
   w2c_i1 <<= (w2c_i2 & 31);
   w2c_i0 |= w2c_i1;
-  w2c_i1 = 12632064u;
+  w2c_i1 = 16776989u;
+  w2c_i0 += w2c_i1;
+  w2c_i1 = 12632312u;
   w2c_i0 &= w2c_i1;
   w2c_i1 = 8421376u;
   w2c_i0 = w2c_i0 == w2c_i1;
-  if (w2c_i0) {goto w2c_B3;}
-  w2c_B4:;
-  w2c_j0 = w2c_l4;
-  w2c_j1 = 8ull;
-  w2c_j0 += w2c_j1;
-  w2c_j1 = w2c_l6;
-  w2c_j2 = w2c_p1;
-  w2c_f12(m, w2c_j0, w2c_j1, w2c_j2);
-  w2c_j0 = w2c_l4;
-  w2c_i0 = (u32)(w2c_j0);
-  w2c_i0 = i32_load8_u(m, (u64)(w2c_i0) + 8u);
-  w2c_i1 = 1u;
-  w2c_i0 = w2c_i0 == w2c_i1;
-  if (w2c_i0) {goto w2c_B8;}
-  w2c_i0 = 5u;
-  w2c_l9 = w2c_i0;
-  goto w2c_B0;
-  w2c_B8:;
-  w2c_j0 = w2c_l4;
-  w2c_i0 = (u32)(w2c_j0);
-  w2c_j0 = i64_load(m, (u64)(w2c_i0) + 24u);
-  w2c_p1 = w2c_j0;
-  w2c_j0 = w2c_l4;
-  w2c_i0 = (u32)(w2c_j0);
-  w2c_j0 = i64_load(m, (u64)(w2c_i0) + 16u);
-  w2c_l6 = w2c_j0;
+  if (w2c_i0) {goto w2c_B2;}
   w2c_B3:;
+  w2c_j0 = w2c_l5;
+  w2c_j1 = w2c_p1;
+  w2c_i0 = w2c_f12(m, w2c_j0, w2c_j1);
+  if (w2c_i0) {goto w2c_B2;}
+  w2c_j0 = w2c_l3;
+  m->w2c_g0 = w2c_j0;
+  w2c_i0 = 5u;
+  goto w2c_Bfunc;
+  w2c_B2:;
   w2c_j0 = w2c_p1;
   w2c_i0 = !(w2c_j0);
-  if (w2c_i0) {goto w2c_B1;}
+  if (w2c_i0) {goto w2c_B0;}
   w2c_i0 = 0u;
-  w2c_l10 = w2c_i0;
-  w2c_j0 = 0ull;
-  w2c_l5 = w2c_j0;
+  w2c_l9 = w2c_i0;
+  w2c_j0 = 18446744073709551613ull;
+  w2c_p0 = w2c_j0;
   w2c_j0 = w2c_p1;
   w2c_l7 = w2c_j0;
-  w2c_j0 = w2c_l6;
-  w2c_l3 = w2c_j0;
+  w2c_j0 = w2c_l5;
+  w2c_l6 = w2c_j0;
+  w2c_i0 = 0u;
+  w2c_l10 = w2c_i0;
   w2c_i0 = 0u;
   w2c_l11 = w2c_i0;
   w2c_i0 = 0u;
   w2c_l12 = w2c_i0;
   w2c_i0 = 0u;
   w2c_l13 = w2c_i0;
-  w2c_i0 = 0u;
-  w2c_l14 = w2c_i0;
-  w2c_L11:
-    w2c_j0 = w2c_l3;
+  w2c_L9:
+    w2c_j0 = w2c_l6;
     w2c_i0 = (u32)(w2c_j0);
     w2c_i0 = i32_load8_s(m, (u64)(w2c_i0));
-    w2c_l15 = w2c_i0;
+    w2c_l14 = w2c_i0;
     w2c_i1 = 255u;
     w2c_i0 &= w2c_i1;
-    w2c_l9 = w2c_i0;
+    w2c_l15 = w2c_i0;
     w2c_j0 = 1ull;
-    w2c_p0 = w2c_j0;
-    w2c_i0 = w2c_l15;
+    w2c_l4 = w2c_j0;
+    w2c_i0 = w2c_l14;
     w2c_i1 = 4294967295u;
     w2c_i0 = (u32)((s32)w2c_i0 > (s32)w2c_i1);
-    if (w2c_i0) {goto w2c_B12;}
-    w2c_j0 = w2c_l3;
+    if (w2c_i0) {goto w2c_B10;}
+    w2c_j0 = w2c_l6;
     w2c_i0 = (u32)(w2c_j0);
     w2c_i0 = i32_load8_u(m, (u64)(w2c_i0) + 1u);
     w2c_i1 = 63u;
     w2c_i0 &= w2c_i1;
     w2c_l16 = w2c_i0;
-    w2c_i0 = w2c_l15;
+    w2c_i0 = w2c_l14;
     w2c_i1 = 4294967263u;
     w2c_i0 = w2c_i0 > w2c_i1;
-    if (w2c_i0) {goto w2c_B13;}
-    w2c_i0 = w2c_l9;
+    if (w2c_i0) {goto w2c_B11;}
+    w2c_i0 = w2c_l15;
     w2c_i1 = 6u;
     w2c_i0 <<= (w2c_i1 & 31);
     w2c_i1 = 1984u;
     w2c_i0 &= w2c_i1;
     w2c_i1 = w2c_l16;
     w2c_i0 |= w2c_i1;
-    w2c_l9 = w2c_i0;
+    w2c_l15 = w2c_i0;
     w2c_j0 = 2ull;
-    w2c_p0 = w2c_j0;
-    goto w2c_B12;
-    w2c_B13:;
-    w2c_j0 = w2c_l3;
+    w2c_l4 = w2c_j0;
+    goto w2c_B10;
+    w2c_B11:;
+    w2c_j0 = w2c_l6;
     w2c_i0 = (u32)(w2c_j0);
     w2c_i0 = i32_load8_u(m, (u64)(w2c_i0) + 2u);
     w2c_i1 = 63u;
     w2c_i0 &= w2c_i1;
     w2c_l17 = w2c_i0;
-    w2c_i0 = w2c_l15;
+    w2c_i0 = w2c_l14;
     w2c_i1 = 4294967279u;
     w2c_i0 = w2c_i0 > w2c_i1;
-    if (w2c_i0) {goto w2c_B14;}
+    if (w2c_i0) {goto w2c_B12;}
     w2c_i0 = w2c_l16;
     w2c_i1 = 6u;
     w2c_i0 <<= (w2c_i1 & 31);
-    w2c_i1 = w2c_l9;
+    w2c_i1 = w2c_l15;
     w2c_i2 = 12u;
     w2c_i1 <<= (w2c_i2 & 31);
     w2c_i2 = 61440u;
@@ -41218,68 +40368,68 @@ static u32 w2c_f64(module *m, u64 w2c_p0, u64 w2c_p1, u64 w2c_p2) {
     w2c_i0 |= w2c_i1;
     w2c_i1 = w2c_l17;
     w2c_i0 |= w2c_i1;
-    w2c_l9 = w2c_i0;
+    w2c_l15 = w2c_i0;
     w2c_j0 = 3ull;
-    w2c_p0 = w2c_j0;
-    goto w2c_B12;
-    w2c_B14:;
+    w2c_l4 = w2c_j0;
+    goto w2c_B10;
+    w2c_B12:;
     w2c_i0 = w2c_l17;
     w2c_i1 = 6u;
     w2c_i0 <<= (w2c_i1 & 31);
     w2c_i1 = w2c_l16;
     w2c_i2 = 12u;
     w2c_i1 <<= (w2c_i2 & 31);
-    w2c_i2 = w2c_l9;
+    w2c_i2 = w2c_l15;
     w2c_i3 = 18u;
     w2c_i2 <<= (w2c_i3 & 31);
     w2c_i3 = 1835008u;
     w2c_i2 &= w2c_i3;
     w2c_i1 |= w2c_i2;
     w2c_i0 |= w2c_i1;
-    w2c_j1 = w2c_l3;
+    w2c_j1 = w2c_l6;
     w2c_i1 = (u32)(w2c_j1);
     w2c_i1 = i32_load8_u(m, (u64)(w2c_i1) + 3u);
     w2c_i2 = 63u;
     w2c_i1 &= w2c_i2;
     w2c_i0 |= w2c_i1;
-    w2c_l9 = w2c_i0;
+    w2c_l15 = w2c_i0;
     w2c_j0 = 4ull;
-    w2c_p0 = w2c_j0;
-    w2c_B12:;
+    w2c_l4 = w2c_j0;
+    w2c_B10:;
     w2c_i0 = 1u;
     w2c_l16 = w2c_i0;
-    w2c_i0 = w2c_l9;
+    w2c_i0 = w2c_l15;
     w2c_i1 = 26577u;
     w2c_i0 = (u32)((s32)w2c_i0 > (s32)w2c_i1);
-    if (w2c_i0) {goto w2c_B29;}
-    w2c_i0 = w2c_l9;
+    if (w2c_i0) {goto w2c_B27;}
+    w2c_i0 = w2c_l15;
     w2c_i1 = 25341u;
     w2c_i0 = (u32)((s32)w2c_i0 > (s32)w2c_i1);
-    if (w2c_i0) {goto w2c_B30;}
-    w2c_i0 = w2c_l9;
+    if (w2c_i0) {goto w2c_B28;}
+    w2c_i0 = w2c_l15;
     w2c_i1 = 22776u;
     w2c_i0 = (u32)((s32)w2c_i0 > (s32)w2c_i1);
-    if (w2c_i0) {goto w2c_B31;}
-    w2c_i0 = w2c_l9;
+    if (w2c_i0) {goto w2c_B29;}
+    w2c_i0 = w2c_l15;
     w2c_i1 = 20237u;
     w2c_i0 = w2c_i0 == w2c_i1;
-    if (w2c_i0) {goto w2c_B26;}
-    w2c_i0 = w2c_l9;
+    if (w2c_i0) {goto w2c_B24;}
+    w2c_i0 = w2c_l15;
     w2c_i1 = 21441u;
     w2c_i0 = w2c_i0 == w2c_i1;
-    if (w2c_i0) {goto w2c_B17;}
-    goto w2c_B18;
-    w2c_B31:;
-    w2c_i0 = w2c_l9;
+    if (w2c_i0) {goto w2c_B15;}
+    goto w2c_B16;
+    w2c_B29:;
+    w2c_i0 = w2c_l15;
     w2c_i1 = 22777u;
     w2c_i0 = w2c_i0 == w2c_i1;
-    if (w2c_i0) {goto w2c_B28;}
-    w2c_i0 = w2c_l9;
+    if (w2c_i0) {goto w2c_B26;}
+    w2c_i0 = w2c_l15;
     w2c_i1 = 24180u;
     w2c_i0 = w2c_i0 != w2c_i1;
-    if (w2c_i0) {goto w2c_B18;}
+    if (w2c_i0) {goto w2c_B16;}
     w2c_i0 = 0u;
-    w2c_l15 = w2c_i0;
+    w2c_l14 = w2c_i0;
     w2c_i0 = 2u;
     w2c_l18 = w2c_i0;
     w2c_i0 = 1u;
@@ -41290,34 +40440,34 @@ static u32 w2c_f64(module *m, u64 w2c_p0, u64 w2c_p1, u64 w2c_p2) {
     w2c_l21 = w2c_i0;
     w2c_i0 = 0u;
     w2c_l22 = w2c_i0;
-    goto w2c_B19;
-    w2c_B30:;
-    w2c_i0 = w2c_l9;
+    goto w2c_B17;
+    w2c_B28:;
+    w2c_i0 = w2c_l15;
     w2c_i1 = 26084u;
     w2c_i0 = (u32)((s32)w2c_i0 > (s32)w2c_i1);
-    if (w2c_i0) {goto w2c_B32;}
-    w2c_i0 = w2c_l9;
+    if (w2c_i0) {goto w2c_B30;}
+    w2c_i0 = w2c_l15;
     w2c_i1 = 25342u;
     w2c_i0 = w2c_i0 == w2c_i1;
-    if (w2c_i0) {goto w2c_B24;}
-    w2c_i0 = w2c_l9;
+    if (w2c_i0) {goto w2c_B22;}
+    w2c_i0 = w2c_l15;
     w2c_i1 = 25420u;
     w2c_i0 = w2c_i0 != w2c_i1;
-    if (w2c_i0) {goto w2c_B18;}
+    if (w2c_i0) {goto w2c_B16;}
     w2c_i0 = 8u;
     w2c_l23 = w2c_i0;
-    goto w2c_B16;
-    w2c_B32:;
-    w2c_i0 = w2c_l9;
+    goto w2c_B14;
+    w2c_B30:;
+    w2c_i0 = w2c_l15;
     w2c_i1 = 26085u;
     w2c_i0 = w2c_i0 == w2c_i1;
-    if (w2c_i0) {goto w2c_B23;}
-    w2c_i0 = w2c_l9;
+    if (w2c_i0) {goto w2c_B21;}
+    w2c_i0 = w2c_l15;
     w2c_i1 = 26376u;
     w2c_i0 = w2c_i0 != w2c_i1;
-    if (w2c_i0) {goto w2c_B18;}
+    if (w2c_i0) {goto w2c_B16;}
     w2c_i0 = 0u;
-    w2c_l15 = w2c_i0;
+    w2c_l14 = w2c_i0;
     w2c_i0 = 3u;
     w2c_l18 = w2c_i0;
     w2c_i0 = 1u;
@@ -41330,72 +40480,72 @@ static u32 w2c_f64(module *m, u64 w2c_p0, u64 w2c_p1, u64 w2c_p2) {
     w2c_l22 = w2c_i0;
     w2c_i0 = 1u;
     w2c_l16 = w2c_i0;
-    goto w2c_B19;
-    w2c_B29:;
-    w2c_i0 = w2c_l9;
+    goto w2c_B17;
+    w2c_B27:;
+    w2c_i0 = w2c_l15;
     w2c_i1 = 36143u;
     w2c_i0 = (u32)((s32)w2c_i0 > (s32)w2c_i1);
-    if (w2c_i0) {goto w2c_B33;}
-    w2c_i0 = w2c_l9;
+    if (w2c_i0) {goto w2c_B31;}
+    w2c_i0 = w2c_l15;
     w2c_i1 = 32901u;
     w2c_i0 = (u32)((s32)w2c_i0 > (s32)w2c_i1);
-    if (w2c_i0) {goto w2c_B34;}
-    w2c_i0 = w2c_l9;
+    if (w2c_i0) {goto w2c_B32;}
+    w2c_i0 = w2c_l15;
     w2c_i1 = 26578u;
     w2c_i0 = w2c_i0 == w2c_i1;
-    if (w2c_i0) {goto w2c_B25;}
-    w2c_i0 = w2c_l9;
+    if (w2c_i0) {goto w2c_B23;}
+    w2c_i0 = w2c_l15;
     w2c_i1 = 29590u;
     w2c_i0 = w2c_i0 != w2c_i1;
-    if (w2c_i0) {goto w2c_B18;}
+    if (w2c_i0) {goto w2c_B16;}
     w2c_i0 = 9u;
     w2c_l23 = w2c_i0;
-    goto w2c_B16;
-    w2c_B34:;
-    w2c_i0 = w2c_l9;
+    goto w2c_B14;
+    w2c_B32:;
+    w2c_i0 = w2c_l15;
     w2c_i1 = 32902u;
     w2c_i0 = w2c_i0 == w2c_i1;
-    if (w2c_i0) {goto w2c_B27;}
-    w2c_i0 = w2c_l9;
+    if (w2c_i0) {goto w2c_B25;}
+    w2c_i0 = w2c_l15;
     w2c_i1 = 36019u;
     w2c_i0 = w2c_i0 != w2c_i1;
-    if (w2c_i0) {goto w2c_B18;}
-    goto w2c_B21;
-    w2c_B33:;
-    w2c_i0 = w2c_l9;
+    if (w2c_i0) {goto w2c_B16;}
+    goto w2c_B19;
+    w2c_B31:;
+    w2c_i0 = w2c_l15;
     w2c_i1 = 38519u;
     w2c_i0 = (u32)((s32)w2c_i0 > (s32)w2c_i1);
-    if (w2c_i0) {goto w2c_B35;}
-    w2c_i0 = w2c_l9;
+    if (w2c_i0) {goto w2c_B33;}
+    w2c_i0 = w2c_l15;
     w2c_i1 = 36144u;
     w2c_i0 = w2c_i0 == w2c_i1;
-    if (w2c_i0) {goto w2c_B21;}
-    w2c_i0 = w2c_l9;
+    if (w2c_i0) {goto w2c_B19;}
+    w2c_i0 = w2c_l15;
     w2c_i1 = 38470u;
     w2c_i0 = w2c_i0 != w2c_i1;
-    if (w2c_i0) {goto w2c_B18;}
-    goto w2c_B22;
-    w2c_B35:;
-    w2c_i0 = w2c_l9;
+    if (w2c_i0) {goto w2c_B16;}
+    goto w2c_B20;
+    w2c_B33:;
+    w2c_i0 = w2c_l15;
     w2c_i1 = 38520u;
     w2c_i0 = w2c_i0 == w2c_i1;
-    if (w2c_i0) {goto w2c_B22;}
+    if (w2c_i0) {goto w2c_B20;}
     w2c_i0 = 0u;
     w2c_l23 = w2c_i0;
-    w2c_i0 = w2c_l9;
+    w2c_i0 = w2c_l15;
     w2c_i1 = 38646u;
     w2c_i0 = w2c_i0 != w2c_i1;
-    if (w2c_i0) {goto w2c_B18;}
+    if (w2c_i0) {goto w2c_B16;}
     w2c_i0 = 0u;
-    w2c_l15 = w2c_i0;
+    w2c_l14 = w2c_i0;
     w2c_i0 = 1u;
     w2c_l19 = w2c_i0;
-    goto w2c_B20;
-    w2c_B28:;
+    goto w2c_B18;
+    w2c_B26:;
     w2c_i0 = 1u;
     w2c_l21 = w2c_i0;
     w2c_i0 = 0u;
-    w2c_l15 = w2c_i0;
+    w2c_l14 = w2c_i0;
     w2c_i0 = 0u;
     w2c_l19 = w2c_i0;
     w2c_i0 = 0u;
@@ -41408,22 +40558,22 @@ static u32 w2c_f64(module *m, u64 w2c_p0, u64 w2c_p1, u64 w2c_p2) {
     w2c_l16 = w2c_i0;
     w2c_i0 = 1u;
     w2c_l23 = w2c_i0;
-    goto w2c_B15;
-    w2c_B27:;
+    goto w2c_B13;
+    w2c_B25:;
     w2c_i0 = 4u;
     w2c_l23 = w2c_i0;
-    goto w2c_B16;
-    w2c_B26:;
+    goto w2c_B14;
+    w2c_B24:;
     w2c_i0 = 5u;
     w2c_l23 = w2c_i0;
-    goto w2c_B16;
-    w2c_B25:;
+    goto w2c_B14;
+    w2c_B23:;
     w2c_i0 = 7u;
     w2c_l23 = w2c_i0;
-    goto w2c_B16;
-    w2c_B24:;
+    goto w2c_B14;
+    w2c_B22:;
     w2c_i0 = 0u;
-    w2c_l15 = w2c_i0;
+    w2c_l14 = w2c_i0;
     w2c_i0 = 1u;
     w2c_l19 = w2c_i0;
     w2c_i0 = 1u;
@@ -41436,14 +40586,14 @@ static u32 w2c_f64(module *m, u64 w2c_p0, u64 w2c_p1, u64 w2c_p2) {
     w2c_l18 = w2c_i0;
     w2c_i0 = 1u;
     w2c_l16 = w2c_i0;
-    goto w2c_B19;
-    w2c_B23:;
+    goto w2c_B17;
+    w2c_B21:;
     w2c_i0 = 0u;
     w2c_l20 = w2c_i0;
     w2c_i0 = 4u;
     w2c_l18 = w2c_i0;
     w2c_i0 = 1u;
-    w2c_l15 = w2c_i0;
+    w2c_l14 = w2c_i0;
     w2c_i0 = 1u;
     w2c_l19 = w2c_i0;
     w2c_i0 = 0u;
@@ -41452,19 +40602,19 @@ static u32 w2c_f64(module *m, u64 w2c_p0, u64 w2c_p1, u64 w2c_p2) {
     w2c_l22 = w2c_i0;
     w2c_i0 = 1u;
     w2c_l16 = w2c_i0;
-    goto w2c_B19;
-    w2c_B22:;
+    goto w2c_B17;
+    w2c_B20:;
     w2c_i0 = 6u;
     w2c_l23 = w2c_i0;
-    goto w2c_B16;
-    w2c_B21:;
+    goto w2c_B14;
+    w2c_B19:;
     w2c_i0 = 2u;
     w2c_l23 = w2c_i0;
     w2c_i0 = 0u;
-    w2c_l15 = w2c_i0;
+    w2c_l14 = w2c_i0;
     w2c_i0 = 0u;
     w2c_l19 = w2c_i0;
-    w2c_B20:;
+    w2c_B18:;
     w2c_i0 = 0u;
     w2c_l20 = w2c_i0;
     w2c_i0 = 1u;
@@ -41473,24 +40623,24 @@ static u32 w2c_f64(module *m, u64 w2c_p0, u64 w2c_p1, u64 w2c_p2) {
     w2c_l22 = w2c_i0;
     w2c_i0 = 0u;
     w2c_l18 = w2c_i0;
-    goto w2c_B15;
-    w2c_B19:;
+    goto w2c_B13;
+    w2c_B17:;
     w2c_i0 = 0u;
     w2c_l23 = w2c_i0;
-    goto w2c_B15;
-    w2c_B18:;
-    w2c_i0 = w2c_l9;
+    goto w2c_B13;
+    w2c_B16:;
+    w2c_i0 = w2c_l15;
     w2c_i1 = 4294945853u;
     w2c_i0 += w2c_i1;
     w2c_i1 = 1u;
     w2c_i0 = w2c_i0 > w2c_i1;
-    if (w2c_i0) {goto w2c_B10;}
-    w2c_B17:;
+    if (w2c_i0) {goto w2c_B8;}
+    w2c_B15:;
     w2c_i0 = 3u;
     w2c_l23 = w2c_i0;
-    w2c_B16:;
+    w2c_B14:;
     w2c_i0 = 0u;
-    w2c_l15 = w2c_i0;
+    w2c_l14 = w2c_i0;
     w2c_i0 = 0u;
     w2c_l19 = w2c_i0;
     w2c_i0 = 0u;
@@ -41503,336 +40653,336 @@ static u32 w2c_f64(module *m, u64 w2c_p0, u64 w2c_p1, u64 w2c_p2) {
     w2c_l18 = w2c_i0;
     w2c_i0 = 0u;
     w2c_l16 = w2c_i0;
-    w2c_B15:;
-    w2c_i0 = w2c_l13;
+    w2c_B13:;
+    w2c_i0 = w2c_l12;
     w2c_i1 = 24u;
     w2c_i0 >>= (w2c_i1 & 31);
-    w2c_l9 = w2c_i0;
-    w2c_i0 = w2c_l13;
+    w2c_l15 = w2c_i0;
+    w2c_i0 = w2c_l12;
     w2c_i1 = 16u;
     w2c_i0 >>= (w2c_i1 & 31);
     w2c_l17 = w2c_i0;
-    w2c_i0 = w2c_l14;
+    w2c_i0 = w2c_l13;
     w2c_j0 = (u64)(w2c_i0);
     w2c_j1 = 255ull;
     w2c_j0 &= w2c_j1;
     w2c_i0 = (u32)(w2c_j0);
     switch (w2c_i0) {
+      case 0: goto w2c_B40;
+      case 1: goto w2c_B39;
+      case 2: goto w2c_B38;
+      case 3: goto w2c_B8;
+      default: goto w2c_B40;
+    }
+    w2c_B40:;
+    w2c_i0 = w2c_l18;
+    switch (w2c_i0) {
       case 0: goto w2c_B42;
-      case 1: goto w2c_B41;
-      case 2: goto w2c_B40;
-      case 3: goto w2c_B10;
+      case 1: goto w2c_B8;
+      case 2: goto w2c_B41;
+      case 3: goto w2c_B8;
+      case 4: goto w2c_B8;
       default: goto w2c_B42;
     }
     w2c_B42:;
-    w2c_i0 = w2c_l18;
-    switch (w2c_i0) {
-      case 0: goto w2c_B44;
-      case 1: goto w2c_B10;
-      case 2: goto w2c_B43;
-      case 3: goto w2c_B10;
-      case 4: goto w2c_B10;
-      default: goto w2c_B44;
-    }
-    w2c_B44:;
-    w2c_i0 = w2c_l13;
+    w2c_i0 = w2c_l12;
     w2c_i1 = 65535u;
     w2c_i0 &= w2c_i1;
     w2c_i1 = 999u;
     w2c_i0 = w2c_i0 > w2c_i1;
-    if (w2c_i0) {goto w2c_B10;}
+    if (w2c_i0) {goto w2c_B8;}
+    w2c_i0 = 0u;
+    w2c_l9 = w2c_i0;
     w2c_i0 = 0u;
     w2c_l10 = w2c_i0;
     w2c_i0 = 0u;
     w2c_l11 = w2c_i0;
     w2c_i0 = 0u;
-    w2c_l12 = w2c_i0;
+    w2c_l15 = w2c_i0;
     w2c_i0 = 0u;
-    w2c_l9 = w2c_i0;
-    w2c_i0 = 0u;
-    w2c_l14 = w2c_i0;
-    w2c_i0 = w2c_l13;
+    w2c_l13 = w2c_i0;
+    w2c_i0 = w2c_l12;
     w2c_i1 = 10u;
     w2c_i0 *= w2c_i1;
     w2c_i1 = w2c_l23;
     w2c_i0 += w2c_i1;
-    w2c_l15 = w2c_i0;
+    w2c_l14 = w2c_i0;
     w2c_i1 = 65535u;
     w2c_i0 &= w2c_i1;
-    if (w2c_i0) {goto w2c_B36;}
-    goto w2c_B10;
-    w2c_B43:;
-    w2c_i0 = w2c_l13;
+    if (w2c_i0) {goto w2c_B34;}
+    goto w2c_B8;
+    w2c_B41:;
+    w2c_i0 = w2c_l12;
     w2c_i1 = 65535u;
     w2c_i0 &= w2c_i1;
     w2c_i0 = !(w2c_i0);
-    if (w2c_i0) {goto w2c_B10;}
+    if (w2c_i0) {goto w2c_B8;}
     w2c_i0 = 1u;
-    w2c_l14 = w2c_i0;
+    w2c_l13 = w2c_i0;
+    w2c_i0 = 0u;
+    w2c_l9 = w2c_i0;
     w2c_i0 = 0u;
     w2c_l10 = w2c_i0;
     w2c_i0 = 0u;
     w2c_l11 = w2c_i0;
     w2c_i0 = 0u;
-    w2c_l12 = w2c_i0;
-    w2c_i0 = 0u;
-    w2c_l9 = w2c_i0;
-    w2c_i0 = w2c_l13;
     w2c_l15 = w2c_i0;
-    goto w2c_B36;
-    w2c_B41:;
+    w2c_i0 = w2c_l12;
+    w2c_l14 = w2c_i0;
+    goto w2c_B34;
+    w2c_B39:;
     w2c_i0 = w2c_l22;
     w2c_i0 = !(w2c_i0);
-    if (w2c_i0) {goto w2c_B45;}
+    if (w2c_i0) {goto w2c_B43;}
     w2c_i0 = w2c_l17;
     w2c_j0 = (u64)(w2c_i0);
     w2c_j1 = 255ull;
     w2c_j0 &= w2c_j1;
     w2c_i0 = (u32)(w2c_j0);
     switch (w2c_i0) {
-      case 0: goto w2c_B10;
-      case 1: goto w2c_B10;
-      case 2: goto w2c_B46;
-      case 3: goto w2c_B49;
-      case 4: goto w2c_B47;
-      case 5: goto w2c_B10;
-      case 6: goto w2c_B48;
-      default: goto w2c_B10;
+      case 0: goto w2c_B8;
+      case 1: goto w2c_B8;
+      case 2: goto w2c_B44;
+      case 3: goto w2c_B47;
+      case 4: goto w2c_B45;
+      case 5: goto w2c_B8;
+      case 6: goto w2c_B46;
+      default: goto w2c_B8;
     }
-    w2c_B49:;
-    w2c_i0 = w2c_l9;
-    w2c_i1 = 10u;
-    w2c_i0 *= w2c_i1;
-    w2c_l9 = w2c_i0;
-    goto w2c_B46;
-    w2c_B48:;
-    w2c_i0 = w2c_l9;
-    w2c_i1 = 10u;
-    w2c_i0 *= w2c_i1;
-    w2c_i1 = w2c_l12;
-    w2c_i0 += w2c_i1;
-    w2c_l9 = w2c_i0;
-    goto w2c_B46;
     w2c_B47:;
-    w2c_i0 = w2c_l9;
+    w2c_i0 = w2c_l15;
+    w2c_i1 = 10u;
+    w2c_i0 *= w2c_i1;
+    w2c_l15 = w2c_i0;
+    goto w2c_B44;
+    w2c_B46:;
+    w2c_i0 = w2c_l15;
+    w2c_i1 = 10u;
+    w2c_i0 *= w2c_i1;
+    w2c_i1 = w2c_l11;
+    w2c_i0 += w2c_i1;
+    w2c_l15 = w2c_i0;
+    goto w2c_B44;
+    w2c_B45:;
+    w2c_i0 = w2c_l15;
     w2c_i1 = 1u;
     w2c_i0 = w2c_i0 == w2c_i1;
-    if (w2c_i0) {goto w2c_B10;}
-    w2c_B46:;
+    if (w2c_i0) {goto w2c_B8;}
+    w2c_B44:;
     w2c_i0 = 2u;
-    w2c_l14 = w2c_i0;
-    w2c_i0 = w2c_l9;
+    w2c_l13 = w2c_i0;
+    w2c_i0 = w2c_l15;
     w2c_i1 = 255u;
     w2c_i0 &= w2c_i1;
     w2c_i1 = 2u;
     w2c_i0 = w2c_i0 != w2c_i1;
-    if (w2c_i0) {goto w2c_B50;}
+    if (w2c_i0) {goto w2c_B48;}
     w2c_i0 = 1u;
     w2c_l18 = w2c_i0;
     w2c_i0 = 0u;
-    w2c_l12 = w2c_i0;
+    w2c_l11 = w2c_i0;
     w2c_i0 = 2u;
-    w2c_l9 = w2c_i0;
-    w2c_i0 = w2c_l13;
+    w2c_l15 = w2c_i0;
+    w2c_i0 = w2c_l12;
     w2c_i1 = 3u;
     w2c_i0 &= w2c_i1;
     w2c_i0 = !(w2c_i0);
-    if (w2c_i0) {goto w2c_B51;}
+    if (w2c_i0) {goto w2c_B49;}
     w2c_i0 = 28u;
-    w2c_l11 = w2c_i0;
-    goto w2c_B39;
-    w2c_B51:;
+    w2c_l10 = w2c_i0;
+    goto w2c_B37;
+    w2c_B49:;
     w2c_i0 = 29u;
     w2c_i1 = 28u;
     w2c_i2 = 29u;
-    w2c_i3 = w2c_l13;
+    w2c_i3 = w2c_l12;
     w2c_i4 = 65535u;
     w2c_i3 &= w2c_i4;
-    w2c_l15 = w2c_i3;
+    w2c_l14 = w2c_i3;
     w2c_i4 = 400u;
     w2c_i3 = REM_U(w2c_i3, w2c_i4);
     w2c_i1 = w2c_i3 ? w2c_i1 : w2c_i2;
-    w2c_i2 = w2c_l15;
+    w2c_i2 = w2c_l14;
     w2c_i3 = 100u;
     w2c_i2 = REM_U(w2c_i2, w2c_i3);
     w2c_i0 = w2c_i2 ? w2c_i0 : w2c_i1;
-    w2c_l11 = w2c_i0;
-    goto w2c_B39;
-    w2c_B50:;
+    w2c_l10 = w2c_i0;
+    goto w2c_B37;
+    w2c_B48:;
     w2c_i0 = 30u;
     w2c_i1 = 30u;
     w2c_i2 = 31u;
-    w2c_i3 = w2c_l9;
+    w2c_i3 = w2c_l15;
     w2c_i4 = 253u;
     w2c_i3 &= w2c_i4;
-    w2c_l15 = w2c_i3;
+    w2c_l14 = w2c_i3;
     w2c_i4 = 9u;
     w2c_i3 = w2c_i3 == w2c_i4;
     w2c_i1 = w2c_i3 ? w2c_i1 : w2c_i2;
-    w2c_i2 = w2c_l15;
+    w2c_i2 = w2c_l14;
     w2c_i3 = 4u;
     w2c_i2 = w2c_i2 == w2c_i3;
     w2c_i0 = w2c_i2 ? w2c_i0 : w2c_i1;
-    w2c_l11 = w2c_i0;
+    w2c_l10 = w2c_i0;
     w2c_i0 = 1u;
     w2c_l18 = w2c_i0;
     w2c_i0 = 0u;
-    w2c_l12 = w2c_i0;
-    w2c_i0 = w2c_l13;
-    w2c_l15 = w2c_i0;
-    goto w2c_B38;
-    w2c_B45:;
+    w2c_l11 = w2c_i0;
+    w2c_i0 = w2c_l12;
+    w2c_l14 = w2c_i0;
+    goto w2c_B36;
+    w2c_B43:;
     w2c_i0 = w2c_l17;
     w2c_j0 = (u64)(w2c_i0);
     w2c_j1 = 255ull;
     w2c_j0 &= w2c_j1;
     w2c_i0 = (u32)(w2c_j0);
     switch (w2c_i0) {
-      case 0: goto w2c_B60;
-      case 1: goto w2c_B59;
-      case 2: goto w2c_B58;
-      case 3: goto w2c_B10;
-      case 4: goto w2c_B57;
-      case 5: goto w2c_B55;
-      case 6: goto w2c_B10;
-      default: goto w2c_B60;
+      case 0: goto w2c_B58;
+      case 1: goto w2c_B57;
+      case 2: goto w2c_B56;
+      case 3: goto w2c_B8;
+      case 4: goto w2c_B55;
+      case 5: goto w2c_B53;
+      case 6: goto w2c_B8;
+      default: goto w2c_B58;
     }
-    w2c_B60:;
+    w2c_B58:;
     w2c_i0 = w2c_l21;
     w2c_i0 = !(w2c_i0);
-    if (w2c_i0) {goto w2c_B10;}
+    if (w2c_i0) {goto w2c_B8;}
     w2c_i0 = 0u;
-    w2c_l9 = w2c_i0;
+    w2c_l15 = w2c_i0;
     w2c_i0 = 1u;
     w2c_l16 = w2c_i0;
     w2c_i0 = w2c_l23;
     w2c_l17 = w2c_i0;
     w2c_i0 = 0u;
+    w2c_l10 = w2c_i0;
+    w2c_i0 = 0u;
     w2c_l11 = w2c_i0;
     w2c_i0 = 0u;
-    w2c_l12 = w2c_i0;
-    w2c_i0 = 0u;
-    w2c_l15 = w2c_i0;
-    w2c_i0 = 0u;
     w2c_l14 = w2c_i0;
+    w2c_i0 = 0u;
+    w2c_l13 = w2c_i0;
     w2c_i0 = 0u;
     w2c_l18 = w2c_i0;
     w2c_i0 = w2c_l23;
     switch (w2c_i0) {
-      case 0: goto w2c_B52;
-      case 1: goto w2c_B54;
-      case 2: goto w2c_B38;
-      default: goto w2c_B54;
+      case 0: goto w2c_B50;
+      case 1: goto w2c_B52;
+      case 2: goto w2c_B36;
+      default: goto w2c_B52;
     }
-    w2c_B59:;
+    w2c_B57:;
     w2c_i0 = w2c_l19;
-    if (w2c_i0) {goto w2c_B10;}
+    if (w2c_i0) {goto w2c_B8;}
     w2c_i0 = 2u;
     w2c_l16 = w2c_i0;
-    goto w2c_B53;
-    w2c_B58:;
+    goto w2c_B51;
+    w2c_B56:;
     w2c_i0 = w2c_l20;
     w2c_i0 = !(w2c_i0);
-    if (w2c_i0) {goto w2c_B10;}
+    if (w2c_i0) {goto w2c_B8;}
     w2c_i0 = 3u;
     w2c_l16 = w2c_i0;
-    goto w2c_B56;
-    w2c_B57:;
+    goto w2c_B54;
+    w2c_B55:;
     w2c_i0 = w2c_l20;
     w2c_i0 = !(w2c_i0);
-    if (w2c_i0) {goto w2c_B10;}
+    if (w2c_i0) {goto w2c_B8;}
     w2c_i0 = 5u;
     w2c_l16 = w2c_i0;
-    w2c_B56:;
+    w2c_B54:;
     w2c_i0 = 1u;
     w2c_l17 = w2c_i0;
-    w2c_i0 = w2c_l9;
+    w2c_i0 = w2c_l15;
     w2c_i1 = 1u;
     w2c_i0 = w2c_i0 == w2c_i1;
     w2c_l22 = w2c_i0;
     w2c_i0 = 0u;
     w2c_l23 = w2c_i0;
     w2c_i0 = 0u;
-    w2c_l9 = w2c_i0;
+    w2c_l15 = w2c_i0;
+    w2c_i0 = 0u;
+    w2c_l10 = w2c_i0;
     w2c_i0 = 0u;
     w2c_l11 = w2c_i0;
     w2c_i0 = 0u;
-    w2c_l12 = w2c_i0;
-    w2c_i0 = 0u;
-    w2c_l15 = w2c_i0;
-    w2c_i0 = 0u;
     w2c_l14 = w2c_i0;
+    w2c_i0 = 0u;
+    w2c_l13 = w2c_i0;
     w2c_i0 = 0u;
     w2c_l18 = w2c_i0;
     w2c_i0 = w2c_l22;
-    if (w2c_i0) {goto w2c_B52;}
-    goto w2c_B38;
-    w2c_B55:;
+    if (w2c_i0) {goto w2c_B50;}
+    goto w2c_B36;
+    w2c_B53:;
     w2c_i0 = w2c_l19;
-    if (w2c_i0) {goto w2c_B10;}
+    if (w2c_i0) {goto w2c_B8;}
     w2c_i0 = 1u;
     w2c_l17 = w2c_i0;
-    w2c_i0 = w2c_l9;
+    w2c_i0 = w2c_l15;
     w2c_i1 = 1u;
     w2c_i0 = w2c_i0 == w2c_i1;
     w2c_l22 = w2c_i0;
     w2c_i0 = 0u;
-    w2c_l9 = w2c_i0;
+    w2c_l15 = w2c_i0;
+    w2c_i0 = 0u;
+    w2c_l10 = w2c_i0;
     w2c_i0 = 0u;
     w2c_l11 = w2c_i0;
     w2c_i0 = 0u;
-    w2c_l12 = w2c_i0;
-    w2c_i0 = 0u;
-    w2c_l15 = w2c_i0;
-    w2c_i0 = 0u;
     w2c_l14 = w2c_i0;
+    w2c_i0 = 0u;
+    w2c_l13 = w2c_i0;
     w2c_i0 = 0u;
     w2c_l18 = w2c_i0;
     w2c_i0 = w2c_l22;
     w2c_i1 = w2c_l16;
     w2c_i0 &= w2c_i1;
     w2c_i0 = !(w2c_i0);
-    if (w2c_i0) {goto w2c_B38;}
+    if (w2c_i0) {goto w2c_B36;}
     w2c_i0 = 6u;
     w2c_l16 = w2c_i0;
-    goto w2c_B52;
-    w2c_B54:;
+    goto w2c_B50;
+    w2c_B52:;
     w2c_i0 = 4u;
     w2c_l16 = w2c_i0;
-    w2c_B53:;
+    w2c_B51:;
     w2c_i0 = w2c_l23;
     w2c_l17 = w2c_i0;
     w2c_i0 = 0u;
     w2c_l23 = w2c_i0;
-    w2c_B52:;
+    w2c_B50:;
     w2c_i0 = 1u;
-    w2c_l14 = w2c_i0;
+    w2c_l13 = w2c_i0;
     w2c_i0 = w2c_l16;
-    w2c_l9 = w2c_i0;
-    w2c_i0 = w2c_l17;
-    w2c_l11 = w2c_i0;
-    w2c_i0 = w2c_l23;
-    w2c_l12 = w2c_i0;
-    w2c_i0 = w2c_l13;
     w2c_l15 = w2c_i0;
+    w2c_i0 = w2c_l17;
+    w2c_l10 = w2c_i0;
+    w2c_i0 = w2c_l23;
+    w2c_l11 = w2c_i0;
+    w2c_i0 = w2c_l12;
+    w2c_l14 = w2c_i0;
     w2c_i0 = 1u;
     w2c_l18 = w2c_i0;
-    goto w2c_B38;
-    w2c_B40:;
-    w2c_i0 = w2c_l15;
+    goto w2c_B36;
+    w2c_B38:;
+    w2c_i0 = w2c_l14;
     w2c_i0 = !(w2c_i0);
-    if (w2c_i0) {goto w2c_B63;}
-    w2c_i0 = w2c_l12;
+    if (w2c_i0) {goto w2c_B61;}
+    w2c_i0 = w2c_l11;
     w2c_j0 = (u64)(w2c_i0);
     w2c_l8 = w2c_j0;
     w2c_i0 = 1u;
     w2c_l18 = w2c_i0;
     w2c_i0 = 3u;
-    w2c_l14 = w2c_i0;
+    w2c_l13 = w2c_i0;
     w2c_i0 = 0u;
-    w2c_l12 = w2c_i0;
-    w2c_i0 = w2c_l13;
-    w2c_l15 = w2c_i0;
+    w2c_l11 = w2c_i0;
+    w2c_i0 = w2c_l12;
+    w2c_l14 = w2c_i0;
     w2c_i0 = w2c_l17;
     w2c_l23 = w2c_i0;
     w2c_i0 = 0u;
@@ -41844,89 +40994,89 @@ static u32 w2c_f64(module *m, u64 w2c_p0, u64 w2c_p1, u64 w2c_p2) {
     w2c_j0 &= w2c_j1;
     w2c_i0 = (u32)(w2c_j0);
     switch (w2c_i0) {
-      case 0: goto w2c_B10;
-      case 1: goto w2c_B10;
-      case 2: goto w2c_B61;
-      case 3: goto w2c_B65;
-      case 4: goto w2c_B10;
-      case 5: goto w2c_B10;
-      case 6: goto w2c_B64;
-      default: goto w2c_B10;
+      case 0: goto w2c_B8;
+      case 1: goto w2c_B8;
+      case 2: goto w2c_B59;
+      case 3: goto w2c_B63;
+      case 4: goto w2c_B8;
+      case 5: goto w2c_B8;
+      case 6: goto w2c_B62;
+      default: goto w2c_B8;
     }
-    w2c_B65:;
-    w2c_i0 = w2c_l11;
-    w2c_i1 = 10u;
-    w2c_i0 *= w2c_i1;
-    w2c_l11 = w2c_i0;
-    goto w2c_B62;
-    w2c_B64:;
-    w2c_i0 = w2c_l11;
-    w2c_i1 = 10u;
-    w2c_i0 *= w2c_i1;
-    w2c_i1 = w2c_l10;
-    w2c_i0 += w2c_i1;
-    w2c_l11 = w2c_i0;
-    goto w2c_B62;
     w2c_B63:;
-    w2c_i0 = w2c_l12;
+    w2c_i0 = w2c_l10;
+    w2c_i1 = 10u;
+    w2c_i0 *= w2c_i1;
+    w2c_l10 = w2c_i0;
+    goto w2c_B60;
+    w2c_B62:;
+    w2c_i0 = w2c_l10;
+    w2c_i1 = 10u;
+    w2c_i0 *= w2c_i1;
+    w2c_i1 = w2c_l9;
+    w2c_i0 += w2c_i1;
+    w2c_l10 = w2c_i0;
+    goto w2c_B60;
+    w2c_B61:;
+    w2c_i0 = w2c_l11;
     w2c_j0 = (u64)(w2c_i0);
     w2c_j1 = 255ull;
     w2c_j0 &= w2c_j1;
     w2c_i0 = (u32)(w2c_j0);
     switch (w2c_i0) {
-      case 0: goto w2c_B74;
-      case 1: goto w2c_B73;
-      case 2: goto w2c_B68;
-      case 3: goto w2c_B10;
-      case 4: goto w2c_B72;
-      case 5: goto w2c_B70;
-      case 6: goto w2c_B10;
-      default: goto w2c_B74;
+      case 0: goto w2c_B72;
+      case 1: goto w2c_B71;
+      case 2: goto w2c_B66;
+      case 3: goto w2c_B8;
+      case 4: goto w2c_B70;
+      case 5: goto w2c_B68;
+      case 6: goto w2c_B8;
+      default: goto w2c_B72;
     }
-    w2c_B74:;
+    w2c_B72:;
     w2c_i0 = w2c_l21;
     w2c_i0 = !(w2c_i0);
-    if (w2c_i0) {goto w2c_B10;}
+    if (w2c_i0) {goto w2c_B8;}
     w2c_i0 = w2c_l19;
-    if (w2c_i0) {goto w2c_B69;}
+    if (w2c_i0) {goto w2c_B67;}
     w2c_i0 = 4u;
     w2c_l20 = w2c_i0;
     w2c_i0 = w2c_l23;
     w2c_l19 = w2c_i0;
-    goto w2c_B71;
-    w2c_B73:;
+    goto w2c_B69;
+    w2c_B71:;
     w2c_i0 = w2c_l19;
-    if (w2c_i0) {goto w2c_B10;}
+    if (w2c_i0) {goto w2c_B8;}
     w2c_i0 = 0u;
     w2c_l22 = w2c_i0;
     w2c_i0 = 2u;
     w2c_l20 = w2c_i0;
     w2c_i0 = w2c_l23;
     w2c_l19 = w2c_i0;
-    goto w2c_B66;
-    w2c_B72:;
+    goto w2c_B64;
+    w2c_B70:;
     w2c_i0 = w2c_l20;
     w2c_i0 = !(w2c_i0);
-    if (w2c_i0) {goto w2c_B10;}
+    if (w2c_i0) {goto w2c_B8;}
     w2c_i0 = 5u;
     w2c_l20 = w2c_i0;
-    w2c_i0 = w2c_l11;
+    w2c_i0 = w2c_l10;
     w2c_l19 = w2c_i0;
-    w2c_B71:;
+    w2c_B69:;
     w2c_i0 = 0u;
     w2c_l22 = w2c_i0;
     w2c_i0 = 0u;
-    w2c_l15 = w2c_i0;
+    w2c_l14 = w2c_i0;
     w2c_i0 = 0u;
     w2c_l23 = w2c_i0;
     w2c_i0 = 0u;
-    w2c_l11 = w2c_i0;
+    w2c_l10 = w2c_i0;
     w2c_i0 = 0u;
-    w2c_l12 = w2c_i0;
+    w2c_l11 = w2c_i0;
     w2c_i0 = 0u;
     w2c_l16 = w2c_i0;
     w2c_i0 = 0u;
-    w2c_l14 = w2c_i0;
+    w2c_l13 = w2c_i0;
     w2c_i0 = 0u;
     w2c_l18 = w2c_i0;
     w2c_i0 = w2c_l19;
@@ -41934,115 +41084,115 @@ static u32 w2c_f64(module *m, u64 w2c_p0, u64 w2c_p1, u64 w2c_p2) {
     w2c_i0 *= w2c_i1;
     w2c_i1 = 254u;
     w2c_i0 &= w2c_i1;
-    w2c_i1 = w2c_l9;
+    w2c_i1 = w2c_l15;
     w2c_i0 = w2c_i0 < w2c_i1;
-    if (w2c_i0) {goto w2c_B66;}
-    goto w2c_B61;
-    w2c_B70:;
+    if (w2c_i0) {goto w2c_B64;}
+    goto w2c_B59;
+    w2c_B68:;
     w2c_i0 = w2c_l19;
-    if (w2c_i0) {goto w2c_B10;}
+    if (w2c_i0) {goto w2c_B8;}
     w2c_i0 = w2c_l23;
-    w2c_i1 = w2c_l11;
+    w2c_i1 = w2c_l10;
     w2c_i2 = 10u;
     w2c_i1 *= w2c_i2;
     w2c_i0 += w2c_i1;
     w2c_i1 = 255u;
     w2c_i0 &= w2c_i1;
-    w2c_i1 = w2c_l9;
+    w2c_i1 = w2c_l15;
     w2c_i0 = w2c_i0 > w2c_i1;
-    if (w2c_i0) {goto w2c_B75;}
+    if (w2c_i0) {goto w2c_B73;}
     w2c_i0 = 6u;
     w2c_l20 = w2c_i0;
-    w2c_i0 = w2c_l11;
+    w2c_i0 = w2c_l10;
     w2c_l19 = w2c_i0;
     w2c_i0 = w2c_l23;
     w2c_l22 = w2c_i0;
-    goto w2c_B66;
-    w2c_B75:;
+    goto w2c_B64;
+    w2c_B73:;
     w2c_i0 = 0u;
-    w2c_l15 = w2c_i0;
+    w2c_l14 = w2c_i0;
     w2c_i0 = 0u;
     w2c_l23 = w2c_i0;
     w2c_i0 = 0u;
-    w2c_l11 = w2c_i0;
+    w2c_l10 = w2c_i0;
     w2c_i0 = 0u;
-    w2c_l12 = w2c_i0;
+    w2c_l11 = w2c_i0;
     w2c_i0 = 0u;
     w2c_l16 = w2c_i0;
     w2c_i0 = 0u;
     w2c_l22 = w2c_i0;
-    goto w2c_B67;
-    w2c_B69:;
+    goto w2c_B65;
+    w2c_B67:;
     w2c_i0 = 0u;
     w2c_l19 = w2c_i0;
     w2c_i0 = 1u;
     w2c_l20 = w2c_i0;
     w2c_i0 = 0u;
     w2c_l22 = w2c_i0;
-    goto w2c_B66;
-    w2c_B68:;
+    goto w2c_B64;
+    w2c_B66:;
     w2c_i0 = w2c_l20;
     w2c_i0 = !(w2c_i0);
-    if (w2c_i0) {goto w2c_B10;}
+    if (w2c_i0) {goto w2c_B8;}
     w2c_i0 = 0u;
     w2c_l22 = w2c_i0;
-    w2c_i0 = w2c_l11;
+    w2c_i0 = w2c_l10;
     w2c_i1 = 10u;
     w2c_i0 *= w2c_i1;
     w2c_i1 = 254u;
     w2c_i0 &= w2c_i1;
-    w2c_i1 = w2c_l9;
+    w2c_i1 = w2c_l15;
     w2c_i0 = w2c_i0 > w2c_i1;
-    if (w2c_i0) {goto w2c_B76;}
+    if (w2c_i0) {goto w2c_B74;}
     w2c_i0 = 3u;
     w2c_l20 = w2c_i0;
-    w2c_i0 = w2c_l11;
+    w2c_i0 = w2c_l10;
     w2c_l19 = w2c_i0;
-    goto w2c_B66;
-    w2c_B76:;
-    w2c_i0 = 0u;
-    w2c_l15 = w2c_i0;
-    w2c_i0 = 0u;
-    w2c_l23 = w2c_i0;
-    w2c_i0 = 0u;
-    w2c_l11 = w2c_i0;
-    w2c_i0 = 0u;
-    w2c_l12 = w2c_i0;
-    w2c_i0 = 0u;
-    w2c_l16 = w2c_i0;
-    w2c_B67:;
+    goto w2c_B64;
+    w2c_B74:;
     w2c_i0 = 0u;
     w2c_l14 = w2c_i0;
     w2c_i0 = 0u;
+    w2c_l23 = w2c_i0;
+    w2c_i0 = 0u;
+    w2c_l10 = w2c_i0;
+    w2c_i0 = 0u;
+    w2c_l11 = w2c_i0;
+    w2c_i0 = 0u;
+    w2c_l16 = w2c_i0;
+    w2c_B65:;
+    w2c_i0 = 0u;
+    w2c_l13 = w2c_i0;
+    w2c_i0 = 0u;
     w2c_l18 = w2c_i0;
-    goto w2c_B61;
-    w2c_B66:;
+    goto w2c_B59;
+    w2c_B64:;
     w2c_i0 = 1u;
     w2c_l18 = w2c_i0;
     w2c_i0 = 2u;
+    w2c_l13 = w2c_i0;
+    w2c_i0 = w2c_l12;
     w2c_l14 = w2c_i0;
-    w2c_i0 = w2c_l13;
-    w2c_l15 = w2c_i0;
     w2c_i0 = w2c_l17;
     w2c_l23 = w2c_i0;
-    w2c_i0 = w2c_l9;
-    w2c_l11 = w2c_i0;
+    w2c_i0 = w2c_l15;
+    w2c_l10 = w2c_i0;
     w2c_i0 = w2c_l20;
-    w2c_l12 = w2c_i0;
+    w2c_l11 = w2c_i0;
     w2c_i0 = w2c_l19;
     w2c_l16 = w2c_i0;
-    goto w2c_B61;
-    w2c_B62:;
-    w2c_i0 = w2c_l13;
-    w2c_l15 = w2c_i0;
+    goto w2c_B59;
+    w2c_B60:;
+    w2c_i0 = w2c_l12;
+    w2c_l14 = w2c_i0;
     w2c_i0 = w2c_l17;
     w2c_l23 = w2c_i0;
     w2c_i0 = 0u;
     w2c_l16 = w2c_i0;
     w2c_i0 = 0u;
     w2c_l22 = w2c_i0;
-    w2c_B61:;
-    w2c_i0 = w2c_l11;
+    w2c_B59:;
+    w2c_i0 = w2c_l10;
     w2c_i1 = 255u;
     w2c_i0 &= w2c_i1;
     w2c_i1 = 8u;
@@ -42051,59 +41201,59 @@ static u32 w2c_f64(module *m, u64 w2c_p0, u64 w2c_p1, u64 w2c_p2) {
     w2c_i2 = 255u;
     w2c_i1 &= w2c_i2;
     w2c_i0 |= w2c_i1;
-    w2c_l9 = w2c_i0;
-    goto w2c_B37;
-    w2c_B39:;
-    w2c_i0 = w2c_l13;
     w2c_l15 = w2c_i0;
-    w2c_i0 = 2u;
+    goto w2c_B35;
+    w2c_B37:;
+    w2c_i0 = w2c_l12;
     w2c_l14 = w2c_i0;
-    w2c_B38:;
-    w2c_i0 = w2c_l11;
+    w2c_i0 = 2u;
+    w2c_l13 = w2c_i0;
+    w2c_B36:;
+    w2c_i0 = w2c_l10;
     w2c_i1 = 8u;
     w2c_i0 <<= (w2c_i1 & 31);
-    w2c_i1 = w2c_l9;
+    w2c_i1 = w2c_l15;
     w2c_i2 = 255u;
     w2c_i1 &= w2c_i2;
     w2c_i0 |= w2c_i1;
-    w2c_l9 = w2c_i0;
+    w2c_l15 = w2c_i0;
     w2c_i0 = 0u;
     w2c_l16 = w2c_i0;
     w2c_i0 = 0u;
     w2c_l22 = w2c_i0;
-    w2c_B37:;
+    w2c_B35:;
     w2c_i0 = w2c_l22;
-    w2c_l10 = w2c_i0;
+    w2c_l9 = w2c_i0;
     w2c_i0 = w2c_l16;
-    w2c_l11 = w2c_i0;
+    w2c_l10 = w2c_i0;
     w2c_i0 = w2c_l18;
     w2c_i0 = !(w2c_i0);
-    if (w2c_i0) {goto w2c_B10;}
-    w2c_B36:;
-    w2c_j0 = w2c_l3;
-    w2c_j1 = w2c_p0;
+    if (w2c_i0) {goto w2c_B8;}
+    w2c_B34:;
+    w2c_j0 = w2c_l6;
+    w2c_j1 = w2c_l4;
     w2c_j0 += w2c_j1;
-    w2c_l3 = w2c_j0;
-    w2c_i0 = w2c_l9;
+    w2c_l6 = w2c_j0;
+    w2c_i0 = w2c_l15;
     w2c_i1 = 16u;
     w2c_i0 <<= (w2c_i1 & 31);
-    w2c_i1 = w2c_l15;
+    w2c_i1 = w2c_l14;
     w2c_i2 = 65535u;
     w2c_i1 &= w2c_i2;
-    w2c_l15 = w2c_i1;
+    w2c_l14 = w2c_i1;
     w2c_i0 |= w2c_i1;
-    w2c_l13 = w2c_i0;
-    w2c_j0 = w2c_l5;
+    w2c_l12 = w2c_i0;
+    w2c_j0 = w2c_p0;
     w2c_j1 = 1ull;
     w2c_j0 += w2c_j1;
-    w2c_l5 = w2c_j0;
+    w2c_p0 = w2c_j0;
     w2c_j0 = w2c_l7;
-    w2c_j1 = w2c_p0;
+    w2c_j1 = w2c_l4;
     w2c_j0 -= w2c_j1;
     w2c_l7 = w2c_j0;
     w2c_j1 = 0ull;
     w2c_i0 = w2c_j0 != w2c_j1;
-    if (w2c_i0) {goto w2c_L11;}
+    if (w2c_i0) {goto w2c_L9;}
   w2c_j0 = w2c_p2;
   w2c_i0 = (u32)(w2c_j0);
   w2c_j1 = 0ull;
@@ -42120,16 +41270,17 @@ static u32 w2c_f64(module *m, u64 w2c_p0, u64 w2c_p1, u64 w2c_p2) {
   w2c_i0 = (u32)(w2c_j0);
   w2c_j1 = 0ull;
   i64_store(m, (u64)(w2c_i0), w2c_j1);
-  w2c_i0 = w2c_l14;
+  w2c_i0 = w2c_l13;
   w2c_i1 = 3u;
   w2c_i0 = w2c_i0 == w2c_i1;
-  if (w2c_i0) {goto w2c_B9;}
+  if (w2c_i0) {goto w2c_B7;}
+  w2c_j0 = w2c_l3;
+  m->w2c_g0 = w2c_j0;
   w2c_i0 = 9u;
-  w2c_l9 = w2c_i0;
-  goto w2c_B0;
-  w2c_B10:;
+  goto w2c_Bfunc;
+  w2c_B8:;
   w2c_j0 = 0ull;
-  w2c_l3 = w2c_j0;
+  w2c_l6 = w2c_j0;
   w2c_j0 = w2c_p2;
   w2c_i0 = (u32)(w2c_j0);
   w2c_j1 = 0ull;
@@ -42144,18 +41295,86 @@ static u32 w2c_f64(module *m, u64 w2c_p0, u64 w2c_p1, u64 w2c_p2) {
   i64_store(m, (u64)(w2c_i0), w2c_j1);
   w2c_j0 = w2c_p2;
   w2c_i0 = (u32)(w2c_j0);
-  w2c_j1 = w2c_l5;
+  w2c_j1 = w2c_p0;
+  w2c_j2 = 3ull;
+  w2c_j1 += w2c_j2;
+  w2c_l7 = w2c_j1;
   i64_store(m, (u64)(w2c_i0) + 16, w2c_j1);
-  w2c_j0 = w2c_l5;
-  w2c_i0 = !(w2c_j0);
-  if (w2c_i0) {goto w2c_B77;}
+  w2c_j0 = w2c_p1;
+  w2c_j1 = 8ull;
+  w2c_i0 = w2c_j0 >= w2c_j1;
+  if (w2c_i0) {goto w2c_B76;}
   w2c_j0 = 0ull;
-  w2c_l3 = w2c_j0;
-  w2c_j0 = 1ull;
-  w2c_p0 = w2c_j0;
-  w2c_L78:
+  w2c_l8 = w2c_j0;
+  goto w2c_B75;
+  w2c_B76:;
+  w2c_j0 = 0ull;
+  w2c_l8 = w2c_j0;
+  w2c_j0 = w2c_l7;
+  w2c_j1 = 3ull;
+  w2c_i0 = w2c_j0 < w2c_j1;
+  if (w2c_i0) {goto w2c_B75;}
+  w2c_j0 = w2c_p1;
+  w2c_j1 = 18446744073709551607ull;
+  w2c_j0 += w2c_j1;
+  w2c_l4 = w2c_j0;
+  w2c_j0 = 0ull;
+  w2c_l8 = w2c_j0;
+  w2c_j0 = 0ull;
+  w2c_l6 = w2c_j0;
+  w2c_L77:
+    w2c_j0 = w2c_l5;
+    w2c_j1 = w2c_l6;
+    w2c_j0 += w2c_j1;
+    w2c_i0 = (u32)(w2c_j0);
+    w2c_j0 = i64_load(m, (u64)(w2c_i0));
+    w2c_j1 = 67553998437089520ull;
+    w2c_j0 &= w2c_j1;
+    w2c_j1 = 63050398541283552ull;
+    w2c_i0 = w2c_j0 != w2c_j1;
+    if (w2c_i0) {goto w2c_B75;}
+    w2c_j0 = w2c_l8;
+    w2c_j1 = 3ull;
+    w2c_j0 += w2c_j1;
+    w2c_l8 = w2c_j0;
     w2c_j0 = w2c_l6;
-    w2c_j1 = w2c_l3;
+    w2c_j1 = 9ull;
+    w2c_j0 += w2c_j1;
+    w2c_l6 = w2c_j0;
+    w2c_j0 = w2c_p0;
+    w2c_j1 = 3ull;
+    w2c_i0 = w2c_j0 < w2c_j1;
+    if (w2c_i0) {goto w2c_B75;}
+    w2c_j0 = w2c_p0;
+    w2c_j1 = 18446744073709551613ull;
+    w2c_j0 += w2c_j1;
+    w2c_p0 = w2c_j0;
+    w2c_j0 = w2c_l4;
+    w2c_j1 = 7ull;
+    w2c_i0 = w2c_j0 > w2c_j1;
+    w2c_l15 = w2c_i0;
+    w2c_j0 = w2c_l4;
+    w2c_j1 = 18446744073709551607ull;
+    w2c_j0 += w2c_j1;
+    w2c_l4 = w2c_j0;
+    w2c_i0 = w2c_l15;
+    if (w2c_i0) {goto w2c_L77;}
+  w2c_B75:;
+  w2c_j0 = w2c_p1;
+  w2c_j1 = w2c_l6;
+  w2c_i0 = w2c_j0 <= w2c_j1;
+  if (w2c_i0) {goto w2c_B78;}
+  w2c_j0 = w2c_l8;
+  w2c_j1 = w2c_l7;
+  w2c_i0 = w2c_j0 >= w2c_j1;
+  if (w2c_i0) {goto w2c_B78;}
+  w2c_j0 = w2c_l8;
+  w2c_j1 = 1ull;
+  w2c_j0 += w2c_j1;
+  w2c_p0 = w2c_j0;
+  w2c_L79:
+    w2c_j0 = w2c_l5;
+    w2c_j1 = w2c_l6;
     w2c_j0 += w2c_j1;
     w2c_i0 = (u32)(w2c_j0);
     w2c_i0 = i32_load8_u(m, (u64)(w2c_i0));
@@ -42168,52 +41387,54 @@ static u32 w2c_f64(module *m, u64 w2c_p0, u64 w2c_p1, u64 w2c_p2) {
     w2c_j0 += w2c_j1;
     w2c_i0 = (u32)(w2c_j0);
     w2c_j0 = i64_load(m, (u64)(w2c_i0));
-    w2c_j1 = w2c_l3;
+    w2c_j1 = w2c_l6;
     w2c_j0 += w2c_j1;
-    w2c_l3 = w2c_j0;
+    w2c_l6 = w2c_j0;
     w2c_j0 = w2c_p0;
-    w2c_j1 = w2c_l5;
+    w2c_j1 = w2c_l7;
     w2c_i0 = w2c_j0 >= w2c_j1;
-    if (w2c_i0) {goto w2c_B77;}
+    if (w2c_i0) {goto w2c_B78;}
     w2c_j0 = w2c_p0;
     w2c_j1 = 1ull;
     w2c_j0 += w2c_j1;
     w2c_p0 = w2c_j0;
     w2c_j0 = w2c_p1;
-    w2c_j1 = w2c_l3;
+    w2c_j1 = w2c_l6;
     w2c_i0 = w2c_j0 > w2c_j1;
-    if (w2c_i0) {goto w2c_L78;}
-  w2c_B77:;
+    if (w2c_i0) {goto w2c_L79;}
+  w2c_B78:;
   w2c_j0 = w2c_p2;
   w2c_i0 = (u32)(w2c_j0);
-  w2c_j1 = w2c_l3;
+  w2c_j1 = w2c_l6;
   i64_store(m, (u64)(w2c_i0) + 24, w2c_j1);
+  w2c_j0 = w2c_l3;
+  m->w2c_g0 = w2c_j0;
   w2c_i0 = 2u;
-  w2c_l9 = w2c_i0;
-  goto w2c_B0;
-  w2c_B9:;
+  goto w2c_Bfunc;
+  w2c_B7:;
   w2c_j0 = w2c_p2;
   w2c_i0 = (u32)(w2c_j0);
-  w2c_i1 = w2c_l15;
+  w2c_i1 = w2c_l14;
   i32_store(m, (u64)(w2c_i0), w2c_i1);
   w2c_j0 = w2c_p2;
   w2c_i0 = (u32)(w2c_j0);
-  w2c_i1 = w2c_l9;
+  w2c_i1 = w2c_l15;
   w2c_i2 = 8u;
   w2c_i1 >>= (w2c_i2 & 31);
   i32_store(m, (u64)(w2c_i0) + 8, w2c_i1);
   w2c_j0 = w2c_p2;
   w2c_i0 = (u32)(w2c_j0);
-  w2c_i1 = w2c_l9;
+  w2c_i1 = w2c_l15;
   w2c_i2 = 255u;
   w2c_i1 &= w2c_i2;
   i32_store(m, (u64)(w2c_i0) + 4, w2c_i1);
+  w2c_j0 = w2c_l3;
+  m->w2c_g0 = w2c_j0;
   w2c_i0 = 0u;
-  w2c_l9 = w2c_i0;
-  goto w2c_B0;
-  w2c_B2:;
-  UNREACHABLE;
+  goto w2c_Bfunc;
   w2c_B1:;
+  UNREACHABLE;
+  w2c_B0:;
   w2c_j0 = w2c_p2;
   w2c_i0 = (u32)(w2c_j0);
   w2c_j1 = 0ull;
@@ -42230,14 +41451,10 @@ static u32 w2c_f64(module *m, u64 w2c_p0, u64 w2c_p1, u64 w2c_p2) {
   w2c_i0 = (u32)(w2c_j0);
   w2c_j1 = 0ull;
   i64_store(m, (u64)(w2c_i0), w2c_j1);
-  w2c_i0 = 9u;
-  w2c_l9 = w2c_i0;
-  w2c_B0:;
-  w2c_j0 = w2c_l4;
-  w2c_j1 = 32ull;
-  w2c_j0 += w2c_j1;
+  w2c_j0 = w2c_l3;
   m->w2c_g0 = w2c_j0;
-  w2c_i0 = w2c_l9;
+  w2c_i0 = 9u;
+  w2c_Bfunc:;
   return w2c_i0;
 }
 
@@ -42262,8 +41479,8 @@ static u32 w2c_chinese_figures_read(module *m, u64 w2c_p0, u64 w2c_p1, u64 w2c_p
 }
 
 static u32 w2c_f66(module *m, u64 w2c_p0, u64 w2c_p1, u64 w2c_p2) {
-  u32 w2c_l7 = 0, w2c_l8 = 0, w2c_l9 = 0, w2c_l10 = 0, w2c_l11 = 0;
-  u64 w2c_l3 = 0, w2c_l4 = 0, w2c_l5 = 0, w2c_l6 = 0;
+  u32 w2c_l9 = 0, w2c_l10 = 0, w2c_l11 = 0, w2c_l12 = 0;
+  u64 w2c_l3 = 0, w2c_l4 = 0, w2c_l5 = 0, w2c_l6 = 0, w2c_l7 = 0, w2c_l8 = 0;
   u32 w2c_i0, w2c_i1, w2c_i2, w2c_i3;
   u64 w2c_j0, w2c_j1, w2c_j2, w2c_j3;
   w2c_j0 = m->w2c_g0;
@@ -42272,7 +41489,7 @@ static u32 w2c_f66(module *m, u64 w2c_p0, u64 w2c_p1, u64 w2c_p2) {
   w2c_l3 = w2c_j0;
   m->w2c_g0 = w2c_j0;
   w2c_j0 = w2c_l3;
-  w2c_l4 = w2c_j0;
+  w2c_l3 = w2c_j0;
   w2c_j1 = 16ull;
   w2c_i0 = (u64)((s64)w2c_j0 < (s64)w2c_j1);
   if (w2c_i0) {goto w2c_B3;}
@@ -42282,9 +41499,8 @@ static u32 w2c_f66(module *m, u64 w2c_p0, u64 w2c_p1, u64 w2c_p2) {
   w2c_j3 = w2c_p0;
   w2c_i3 = !(w2c_j3);
   w2c_j1 = w2c_i3 ? w2c_j1 : w2c_j2;
-  w2c_l5 = w2c_j1;
   w2c_j0 += w2c_j1;
-  w2c_l6 = w2c_j0;
+  w2c_l4 = w2c_j0;
   w2c_j0 = w2c_p2;
   w2c_i0 = (u32)(w2c_j0);
   w2c_j1 = 0ull;
@@ -42297,67 +41513,46 @@ static u32 w2c_f66(module *m, u64 w2c_p0, u64 w2c_p1, u64 w2c_p2) {
   w2c_i0 = (u32)(w2c_j0);
   w2c_j1 = 0ull;
   i64_store(m, (u64)(w2c_i0), w2c_j1);
-  w2c_j0 = w2c_l4;
-  w2c_i0 = (u32)(w2c_j0);
-  w2c_j1 = 0ull;
-  i64_store(m, (u64)(w2c_i0) + 40, w2c_j1);
-  w2c_j0 = w2c_l4;
-  w2c_i0 = (u32)(w2c_j0);
-  w2c_j1 = 0ull;
-  i64_store(m, (u64)(w2c_i0) + 32, w2c_j1);
-  w2c_j0 = w2c_l4;
-  w2c_i0 = (u32)(w2c_j0);
-  w2c_j1 = 0ull;
-  i64_store(m, (u64)(w2c_i0) + 24, w2c_j1);
   w2c_j0 = w2c_p1;
-  w2c_l3 = w2c_j0;
+  w2c_p0 = w2c_j0;
   w2c_j0 = w2c_p1;
   w2c_j1 = 4ull;
   w2c_i0 = w2c_j0 < w2c_j1;
   if (w2c_i0) {goto w2c_B6;}
-  w2c_j0 = w2c_p0;
-  w2c_j1 = w2c_l5;
-  w2c_j0 += w2c_j1;
+  w2c_j0 = w2c_l4;
   w2c_j1 = 18446744073709551612ull;
   w2c_j0 += w2c_j1;
-  w2c_p0 = w2c_j0;
+  w2c_l5 = w2c_j0;
   w2c_j0 = w2c_p1;
-  w2c_l3 = w2c_j0;
+  w2c_p0 = w2c_j0;
   w2c_L7:
-    w2c_j0 = w2c_p0;
-    w2c_j1 = w2c_l3;
+    w2c_j0 = w2c_l5;
+    w2c_j1 = w2c_p0;
     w2c_j0 += w2c_j1;
     w2c_i0 = (u32)(w2c_j0);
     w2c_i0 = i32_load(m, (u64)(w2c_i0));
-    w2c_l7 = w2c_i0;
-    w2c_i1 = 3233808384u;
-    w2c_i0 &= w2c_i1;
-    w2c_i1 = 2155872256u;
-    w2c_i0 = w2c_i0 != w2c_i1;
-    if (w2c_i0) {goto w2c_B5;}
-    w2c_i0 = w2c_l7;
     w2c_i1 = 8u;
     w2c_i0 >>= (w2c_i1 & 31);
-    w2c_i1 = 255u;
-    w2c_i0 &= w2c_i1;
-    w2c_i1 = 4294967071u;
+    w2c_i1 = 16776989u;
     w2c_i0 += w2c_i1;
-    w2c_i1 = 11u;
-    w2c_i0 = w2c_i0 > w2c_i1;
+    w2c_i1 = 12632312u;
+    w2c_i0 &= w2c_i1;
+    w2c_i1 = 8421376u;
+    w2c_i0 = w2c_i0 != w2c_i1;
     if (w2c_i0) {goto w2c_B5;}
-    w2c_j0 = w2c_l3;
+    w2c_j0 = w2c_p0;
     w2c_j1 = 18446744073709551613ull;
     w2c_j0 += w2c_j1;
-    w2c_l3 = w2c_j0;
+    w2c_p0 = w2c_j0;
     w2c_j1 = 3ull;
     w2c_i0 = w2c_j0 > w2c_j1;
     if (w2c_i0) {goto w2c_L7;}
   w2c_B6:;
-  w2c_j0 = w2c_l3;
+  w2c_j0 = w2c_p0;
   w2c_j1 = 3ull;
   w2c_i0 = w2c_j0 > w2c_j1;
   if (w2c_i0) {goto w2c_B5;}
-  w2c_j0 = w2c_l3;
+  w2c_j0 = w2c_p0;
   w2c_i0 = (u32)(w2c_j0);
   switch (w2c_i0) {
     case 0: goto w2c_B4;
@@ -42367,234 +41562,204 @@ static u32 w2c_f66(module *m, u64 w2c_p0, u64 w2c_p1, u64 w2c_p2) {
     default: goto w2c_B4;
   }
   w2c_B8:;
-  w2c_j0 = w2c_l6;
+  w2c_j0 = w2c_l4;
   w2c_i0 = (u32)(w2c_j0);
-  w2c_i0 = i32_load8_u(m, (u64)(w2c_i0));
-  w2c_i1 = 31u;
-  w2c_i0 += w2c_i1;
-  w2c_i1 = 255u;
-  w2c_i0 &= w2c_i1;
-  w2c_i1 = 11u;
-  w2c_i0 = w2c_i0 > w2c_i1;
-  if (w2c_i0) {goto w2c_B5;}
-  w2c_j0 = w2c_l6;
-  w2c_j1 = 2ull;
-  w2c_j0 += w2c_j1;
-  w2c_i0 = (u32)(w2c_j0);
-  w2c_i0 = i32_load8_u(m, (u64)(w2c_i0));
-  w2c_i1 = 16u;
-  w2c_i0 <<= (w2c_i1 & 31);
-  w2c_j1 = w2c_l6;
-  w2c_j2 = 1ull;
+  w2c_i0 = i32_load16_u(m, (u64)(w2c_i0));
+  w2c_j1 = w2c_l4;
+  w2c_j2 = 2ull;
   w2c_j1 += w2c_j2;
   w2c_i1 = (u32)(w2c_j1);
   w2c_i1 = i32_load8_u(m, (u64)(w2c_i1));
-  w2c_i2 = 8u;
+  w2c_i2 = 16u;
   w2c_i1 <<= (w2c_i2 & 31);
   w2c_i0 |= w2c_i1;
-  w2c_i1 = 12632064u;
+  w2c_i1 = 16776989u;
+  w2c_i0 += w2c_i1;
+  w2c_i1 = 12632312u;
   w2c_i0 &= w2c_i1;
   w2c_i1 = 8421376u;
   w2c_i0 = w2c_i0 == w2c_i1;
   if (w2c_i0) {goto w2c_B4;}
   w2c_B5:;
   w2c_j0 = w2c_l4;
-  w2c_j1 = 24ull;
-  w2c_j0 += w2c_j1;
-  w2c_j1 = w2c_l6;
-  w2c_j2 = w2c_p1;
-  w2c_f12(m, w2c_j0, w2c_j1, w2c_j2);
-  w2c_j0 = w2c_l4;
-  w2c_i0 = (u32)(w2c_j0);
-  w2c_i0 = i32_load8_u(m, (u64)(w2c_i0) + 24u);
-  w2c_i1 = 1u;
-  w2c_i0 = w2c_i0 == w2c_i1;
-  if (w2c_i0) {goto w2c_B9;}
+  w2c_j1 = w2c_p1;
+  w2c_i0 = w2c_f12(m, w2c_j0, w2c_j1);
+  if (w2c_i0) {goto w2c_B4;}
   w2c_i0 = 5u;
-  w2c_l7 = w2c_i0;
+  w2c_l9 = w2c_i0;
   goto w2c_B0;
-  w2c_B9:;
-  w2c_j0 = w2c_l4;
-  w2c_i0 = (u32)(w2c_j0);
-  w2c_j0 = i64_load(m, (u64)(w2c_i0) + 40u);
-  w2c_p1 = w2c_j0;
-  w2c_j0 = w2c_l4;
-  w2c_i0 = (u32)(w2c_j0);
-  w2c_j0 = i64_load(m, (u64)(w2c_i0) + 32u);
-  w2c_l6 = w2c_j0;
   w2c_B4:;
-  w2c_j0 = w2c_l4;
+  w2c_j0 = w2c_l3;
   w2c_i0 = (u32)(w2c_j0);
   w2c_j1 = 0ull;
   i64_store(m, (u64)(w2c_i0) + 24, w2c_j1);
-  w2c_j0 = w2c_l4;
+  w2c_j0 = w2c_l3;
   w2c_i0 = (u32)(w2c_j0);
   w2c_j1 = 0ull;
   i64_store(m, (u64)(w2c_i0) + 32, w2c_j1);
-  w2c_j0 = w2c_l4;
+  w2c_j0 = w2c_l3;
   w2c_i0 = (u32)(w2c_j0);
   w2c_j1 = 0ull;
   i64_store(m, (u64)(w2c_i0) + 40, w2c_j1);
-  w2c_j0 = w2c_l4;
+  w2c_j0 = w2c_l3;
   w2c_i0 = (u32)(w2c_j0);
   w2c_j1 = 0ull;
   i64_store(m, (u64)(w2c_i0), w2c_j1);
-  w2c_j0 = w2c_l4;
+  w2c_j0 = w2c_l3;
   w2c_i0 = (u32)(w2c_j0);
   w2c_j1 = 0ull;
   i64_store(m, (u64)(w2c_i0) + 8, w2c_j1);
-  w2c_j0 = w2c_l4;
+  w2c_j0 = w2c_l3;
   w2c_i0 = (u32)(w2c_j0);
   w2c_j1 = 0ull;
   i64_store(m, (u64)(w2c_i0) + 16, w2c_j1);
   w2c_j0 = w2c_p1;
   w2c_i0 = !(w2c_j0);
-  w2c_l8 = w2c_i0;
-  if (w2c_i0) {goto w2c_B12;}
-  w2c_j0 = w2c_l6;
+  if (w2c_i0) {goto w2c_B11;}
+  w2c_j0 = w2c_l4;
   w2c_i0 = (u32)(w2c_j0);
   w2c_i0 = i32_load8_s(m, (u64)(w2c_i0));
-  w2c_l9 = w2c_i0;
+  w2c_l10 = w2c_i0;
   w2c_i1 = 255u;
   w2c_i0 &= w2c_i1;
-  w2c_l7 = w2c_i0;
+  w2c_l9 = w2c_i0;
   w2c_j0 = 1ull;
-  w2c_l3 = w2c_j0;
-  w2c_i0 = w2c_l9;
+  w2c_p0 = w2c_j0;
+  w2c_i0 = w2c_l10;
   w2c_i1 = 4294967295u;
   w2c_i0 = (u32)((s32)w2c_i0 > (s32)w2c_i1);
-  if (w2c_i0) {goto w2c_B13;}
-  w2c_j0 = w2c_l6;
+  if (w2c_i0) {goto w2c_B12;}
+  w2c_j0 = w2c_l4;
   w2c_i0 = (u32)(w2c_j0);
   w2c_i0 = i32_load8_u(m, (u64)(w2c_i0) + 1u);
   w2c_i1 = 63u;
   w2c_i0 &= w2c_i1;
-  w2c_l10 = w2c_i0;
-  w2c_i0 = w2c_l9;
+  w2c_l11 = w2c_i0;
+  w2c_i0 = w2c_l10;
   w2c_i1 = 4294967263u;
   w2c_i0 = w2c_i0 > w2c_i1;
-  if (w2c_i0) {goto w2c_B14;}
-  w2c_i0 = w2c_l7;
+  if (w2c_i0) {goto w2c_B13;}
+  w2c_i0 = w2c_l9;
   w2c_i1 = 6u;
   w2c_i0 <<= (w2c_i1 & 31);
   w2c_i1 = 1984u;
   w2c_i0 &= w2c_i1;
-  w2c_i1 = w2c_l10;
+  w2c_i1 = w2c_l11;
   w2c_i0 |= w2c_i1;
-  w2c_l7 = w2c_i0;
+  w2c_l9 = w2c_i0;
   w2c_j0 = 2ull;
-  w2c_l3 = w2c_j0;
-  goto w2c_B13;
-  w2c_B14:;
-  w2c_j0 = w2c_l6;
+  w2c_p0 = w2c_j0;
+  goto w2c_B12;
+  w2c_B13:;
+  w2c_j0 = w2c_l4;
   w2c_i0 = (u32)(w2c_j0);
   w2c_i0 = i32_load8_u(m, (u64)(w2c_i0) + 2u);
   w2c_i1 = 63u;
   w2c_i0 &= w2c_i1;
-  w2c_l11 = w2c_i0;
-  w2c_i0 = w2c_l9;
+  w2c_l12 = w2c_i0;
+  w2c_i0 = w2c_l10;
   w2c_i1 = 4294967279u;
   w2c_i0 = w2c_i0 > w2c_i1;
-  if (w2c_i0) {goto w2c_B15;}
-  w2c_i0 = w2c_l10;
+  if (w2c_i0) {goto w2c_B14;}
+  w2c_i0 = w2c_l11;
   w2c_i1 = 6u;
   w2c_i0 <<= (w2c_i1 & 31);
-  w2c_i1 = w2c_l7;
+  w2c_i1 = w2c_l9;
   w2c_i2 = 12u;
   w2c_i1 <<= (w2c_i2 & 31);
   w2c_i2 = 61440u;
   w2c_i1 &= w2c_i2;
   w2c_i0 |= w2c_i1;
-  w2c_i1 = w2c_l11;
+  w2c_i1 = w2c_l12;
   w2c_i0 |= w2c_i1;
-  w2c_l7 = w2c_i0;
+  w2c_l9 = w2c_i0;
   w2c_j0 = 3ull;
-  w2c_l3 = w2c_j0;
-  goto w2c_B13;
-  w2c_B15:;
-  w2c_i0 = w2c_l11;
+  w2c_p0 = w2c_j0;
+  goto w2c_B12;
+  w2c_B14:;
+  w2c_i0 = w2c_l12;
   w2c_i1 = 6u;
   w2c_i0 <<= (w2c_i1 & 31);
-  w2c_i1 = w2c_l10;
+  w2c_i1 = w2c_l11;
   w2c_i2 = 12u;
   w2c_i1 <<= (w2c_i2 & 31);
-  w2c_i2 = w2c_l7;
+  w2c_i2 = w2c_l9;
   w2c_i3 = 18u;
   w2c_i2 <<= (w2c_i3 & 31);
   w2c_i3 = 1835008u;
   w2c_i2 &= w2c_i3;
   w2c_i1 |= w2c_i2;
   w2c_i0 |= w2c_i1;
-  w2c_j1 = w2c_l6;
+  w2c_j1 = w2c_l4;
   w2c_i1 = (u32)(w2c_j1);
   w2c_i1 = i32_load8_u(m, (u64)(w2c_i1) + 3u);
   w2c_i2 = 63u;
   w2c_i1 &= w2c_i2;
   w2c_i0 |= w2c_i1;
-  w2c_l7 = w2c_i0;
+  w2c_l9 = w2c_i0;
   w2c_j0 = 4ull;
-  w2c_l3 = w2c_j0;
-  w2c_B13:;
-  w2c_i0 = w2c_l7;
+  w2c_p0 = w2c_j0;
+  w2c_B12:;
+  w2c_i0 = w2c_l9;
   w2c_i1 = 8722u;
   w2c_i0 = w2c_i0 == w2c_i1;
-  if (w2c_i0) {goto w2c_B16;}
-  w2c_i0 = w2c_l7;
+  if (w2c_i0) {goto w2c_B15;}
+  w2c_i0 = w2c_l9;
   w2c_i1 = 45u;
   w2c_i0 = w2c_i0 != w2c_i1;
-  if (w2c_i0) {goto w2c_B12;}
-  w2c_B16:;
-  w2c_j0 = w2c_l4;
-  w2c_j1 = w2c_l6;
-  w2c_j2 = w2c_l3;
+  if (w2c_i0) {goto w2c_B11;}
+  w2c_B15:;
+  w2c_j0 = w2c_l3;
+  w2c_j1 = w2c_l4;
+  w2c_j2 = w2c_p0;
   w2c_j1 += w2c_j2;
   w2c_j2 = w2c_p1;
-  w2c_j3 = w2c_l3;
+  w2c_j3 = w2c_p0;
   w2c_j2 -= w2c_j3;
   w2c_f14(m, w2c_j0, w2c_j1, w2c_j2);
-  w2c_j0 = w2c_l4;
+  w2c_j0 = w2c_l3;
   w2c_i0 = (u32)(w2c_j0);
   w2c_i0 = i32_load8_u(m, (u64)(w2c_i0));
-  if (w2c_i0) {goto w2c_B11;}
-  w2c_j0 = w2c_l4;
+  if (w2c_i0) {goto w2c_B10;}
+  w2c_j0 = w2c_l3;
   w2c_i0 = (u32)(w2c_j0);
   w2c_j0 = i64_load(m, (u64)(w2c_i0) + 8u);
-  w2c_l3 = w2c_j0;
+  w2c_p0 = w2c_j0;
   w2c_j0 = w2c_p2;
   w2c_j1 = 8ull;
   w2c_j0 += w2c_j1;
-  w2c_p0 = w2c_j0;
+  w2c_l5 = w2c_j0;
   w2c_i0 = (u32)(w2c_j0);
   w2c_j1 = 0ull;
   i64_store(m, (u64)(w2c_i0) + 8, w2c_j1);
-  w2c_j0 = w2c_p0;
+  w2c_j0 = w2c_l5;
   w2c_i0 = (u32)(w2c_j0);
   w2c_j1 = 0ull;
   i64_store(m, (u64)(w2c_i0), w2c_j1);
   w2c_j0 = 0ull;
-  w2c_j1 = w2c_l3;
+  w2c_j1 = w2c_p0;
   w2c_j0 -= w2c_j1;
-  w2c_l3 = w2c_j0;
+  w2c_p0 = w2c_j0;
   goto w2c_B1;
-  w2c_B12:;
-  w2c_j0 = w2c_l4;
+  w2c_B11:;
+  w2c_j0 = w2c_l3;
   w2c_j1 = 24ull;
   w2c_j0 += w2c_j1;
-  w2c_j1 = w2c_l6;
+  w2c_j1 = w2c_l4;
   w2c_j2 = w2c_p1;
   w2c_f14(m, w2c_j0, w2c_j1, w2c_j2);
-  w2c_j0 = w2c_l4;
+  w2c_j0 = w2c_l3;
   w2c_i0 = (u32)(w2c_j0);
   w2c_j0 = i64_load(m, (u64)(w2c_i0) + 40u);
-  w2c_l5 = w2c_j0;
-  w2c_j0 = w2c_l4;
+  w2c_l6 = w2c_j0;
+  w2c_j0 = w2c_l3;
   w2c_i0 = (u32)(w2c_j0);
   w2c_i0 = i32_load8_u(m, (u64)(w2c_i0) + 24u);
-  w2c_l7 = w2c_i0;
-  w2c_j0 = w2c_l4;
+  w2c_l9 = w2c_i0;
+  w2c_j0 = w2c_l3;
   w2c_i0 = (u32)(w2c_j0);
   w2c_j0 = i64_load(m, (u64)(w2c_i0) + 32u);
-  w2c_l3 = w2c_j0;
+  w2c_p0 = w2c_j0;
   w2c_j0 = w2c_p2;
   w2c_i0 = (u32)(w2c_j0);
   w2c_j1 = 0ull;
@@ -42607,22 +41772,22 @@ static u32 w2c_f66(module *m, u64 w2c_p0, u64 w2c_p1, u64 w2c_p2) {
   w2c_i0 = (u32)(w2c_j0);
   w2c_j1 = 0ull;
   i64_store(m, (u64)(w2c_i0), w2c_j1);
-  w2c_i0 = w2c_l7;
+  w2c_i0 = w2c_l9;
   w2c_i0 = !(w2c_i0);
   if (w2c_i0) {goto w2c_B1;}
+  w2c_j0 = w2c_p0;
+  w2c_i0 = (u32)(w2c_j0);
+  w2c_l10 = w2c_i0;
+  goto w2c_B9;
+  w2c_B10:;
   w2c_j0 = w2c_l3;
   w2c_i0 = (u32)(w2c_j0);
-  w2c_l9 = w2c_i0;
-  goto w2c_B10;
-  w2c_B11:;
-  w2c_j0 = w2c_l4;
-  w2c_i0 = (u32)(w2c_j0);
   w2c_j0 = i64_load(m, (u64)(w2c_i0) + 16u);
-  w2c_l3 = w2c_j0;
-  w2c_j0 = w2c_l4;
+  w2c_p0 = w2c_j0;
+  w2c_j0 = w2c_l3;
   w2c_i0 = (u32)(w2c_j0);
   w2c_i0 = i32_load8_u(m, (u64)(w2c_i0) + 8u);
-  w2c_l9 = w2c_i0;
+  w2c_l10 = w2c_i0;
   w2c_j0 = w2c_p2;
   w2c_i0 = (u32)(w2c_j0);
   w2c_j1 = 0ull;
@@ -42635,44 +41800,111 @@ static u32 w2c_f66(module *m, u64 w2c_p0, u64 w2c_p1, u64 w2c_p2) {
   w2c_i0 = (u32)(w2c_j0);
   w2c_j1 = 0ull;
   i64_store(m, (u64)(w2c_i0), w2c_j1);
-  w2c_j0 = w2c_l3;
+  w2c_j0 = w2c_p0;
   w2c_j1 = 1ull;
   w2c_j0 += w2c_j1;
   w2c_j1 = 0ull;
-  w2c_i2 = w2c_l9;
+  w2c_i2 = w2c_l10;
   w2c_i3 = 1u;
   w2c_i2 = w2c_i2 == w2c_i3;
   w2c_j0 = w2c_i2 ? w2c_j0 : w2c_j1;
-  w2c_l5 = w2c_j0;
-  w2c_B10:;
+  w2c_l6 = w2c_j0;
+  w2c_B9:;
   w2c_i0 = 9u;
-  w2c_l7 = w2c_i0;
-  w2c_i0 = w2c_l9;
+  w2c_l9 = w2c_i0;
+  w2c_i0 = w2c_l10;
   w2c_j0 = (u64)(w2c_i0);
   w2c_j1 = 255ull;
   w2c_j0 &= w2c_j1;
   w2c_i0 = (u32)(w2c_j0);
   switch (w2c_i0) {
     case 0: goto w2c_B0;
-    case 1: goto w2c_B17;
+    case 1: goto w2c_B16;
     case 2: goto w2c_B2;
     default: goto w2c_B0;
   }
-  w2c_B17:;
+  w2c_B16:;
   w2c_j0 = 0ull;
-  w2c_l3 = w2c_j0;
-  w2c_i0 = w2c_l8;
-  if (w2c_i0) {goto w2c_B18;}
-  w2c_j0 = w2c_l5;
-  w2c_i0 = !(w2c_j0);
+  w2c_p0 = w2c_j0;
+  w2c_j0 = w2c_p1;
+  w2c_j1 = 8ull;
+  w2c_i0 = w2c_j0 >= w2c_j1;
   if (w2c_i0) {goto w2c_B18;}
   w2c_j0 = 0ull;
-  w2c_l3 = w2c_j0;
-  w2c_j0 = 1ull;
+  w2c_l7 = w2c_j0;
+  goto w2c_B17;
+  w2c_B18:;
+  w2c_j0 = 0ull;
+  w2c_l7 = w2c_j0;
+  w2c_j0 = w2c_l6;
+  w2c_j1 = 3ull;
+  w2c_i0 = w2c_j0 < w2c_j1;
+  if (w2c_i0) {goto w2c_B17;}
+  w2c_j0 = w2c_p1;
+  w2c_j1 = 18446744073709551607ull;
+  w2c_j0 += w2c_j1;
+  w2c_l8 = w2c_j0;
+  w2c_j0 = w2c_l6;
+  w2c_j1 = 18446744073709551613ull;
+  w2c_j0 += w2c_j1;
+  w2c_l5 = w2c_j0;
+  w2c_j0 = 0ull;
+  w2c_l7 = w2c_j0;
+  w2c_j0 = 0ull;
   w2c_p0 = w2c_j0;
   w2c_L19:
-    w2c_j0 = w2c_l6;
-    w2c_j1 = w2c_l3;
+    w2c_j0 = w2c_l4;
+    w2c_j1 = w2c_p0;
+    w2c_j0 += w2c_j1;
+    w2c_i0 = (u32)(w2c_j0);
+    w2c_j0 = i64_load(m, (u64)(w2c_i0));
+    w2c_j1 = 67553998437089520ull;
+    w2c_j0 &= w2c_j1;
+    w2c_j1 = 63050398541283552ull;
+    w2c_i0 = w2c_j0 != w2c_j1;
+    if (w2c_i0) {goto w2c_B17;}
+    w2c_j0 = w2c_l7;
+    w2c_j1 = 3ull;
+    w2c_j0 += w2c_j1;
+    w2c_l7 = w2c_j0;
+    w2c_j0 = w2c_p0;
+    w2c_j1 = 9ull;
+    w2c_j0 += w2c_j1;
+    w2c_p0 = w2c_j0;
+    w2c_j0 = w2c_l5;
+    w2c_j1 = 3ull;
+    w2c_i0 = w2c_j0 < w2c_j1;
+    if (w2c_i0) {goto w2c_B17;}
+    w2c_j0 = w2c_l5;
+    w2c_j1 = 18446744073709551613ull;
+    w2c_j0 += w2c_j1;
+    w2c_l5 = w2c_j0;
+    w2c_j0 = w2c_l8;
+    w2c_j1 = 7ull;
+    w2c_i0 = w2c_j0 > w2c_j1;
+    w2c_l9 = w2c_i0;
+    w2c_j0 = w2c_l8;
+    w2c_j1 = 18446744073709551607ull;
+    w2c_j0 += w2c_j1;
+    w2c_l8 = w2c_j0;
+    w2c_i0 = w2c_l9;
+    if (w2c_i0) {goto w2c_L19;}
+  w2c_B17:;
+  w2c_j0 = w2c_p1;
+  w2c_j1 = w2c_p0;
+  w2c_i0 = w2c_j0 <= w2c_j1;
+  if (w2c_i0) {goto w2c_B20;}
+  w2c_j0 = w2c_l7;
+  w2c_j1 = w2c_l6;
+  w2c_i0 = w2c_j0 >= w2c_j1;
+  if (w2c_i0) {goto w2c_B20;}
+  w2c_j0 = w2c_l7;
+  w2c_j1 = 1ull;
+  w2c_j0 += w2c_j1;
+  w2c_l5 = w2c_j0;
+  w2c_L21:
+    w2c_j0 = w2c_l4;
+    w2c_j1 = w2c_p0;
     w2c_j0 += w2c_j1;
     w2c_i0 = (u32)(w2c_j0);
     w2c_i0 = i32_load8_u(m, (u64)(w2c_i0));
@@ -42685,52 +41917,52 @@ static u32 w2c_f66(module *m, u64 w2c_p0, u64 w2c_p1, u64 w2c_p2) {
     w2c_j0 += w2c_j1;
     w2c_i0 = (u32)(w2c_j0);
     w2c_j0 = i64_load(m, (u64)(w2c_i0));
-    w2c_j1 = w2c_l3;
-    w2c_j0 += w2c_j1;
-    w2c_l3 = w2c_j0;
-    w2c_j0 = w2c_p0;
-    w2c_j1 = w2c_l5;
-    w2c_i0 = w2c_j0 >= w2c_j1;
-    if (w2c_i0) {goto w2c_B18;}
-    w2c_j0 = w2c_p0;
-    w2c_j1 = 1ull;
+    w2c_j1 = w2c_p0;
     w2c_j0 += w2c_j1;
     w2c_p0 = w2c_j0;
+    w2c_j0 = w2c_l5;
+    w2c_j1 = w2c_l6;
+    w2c_i0 = w2c_j0 >= w2c_j1;
+    if (w2c_i0) {goto w2c_B20;}
+    w2c_j0 = w2c_l5;
+    w2c_j1 = 1ull;
+    w2c_j0 += w2c_j1;
+    w2c_l5 = w2c_j0;
     w2c_j0 = w2c_p1;
-    w2c_j1 = w2c_l3;
+    w2c_j1 = w2c_p0;
     w2c_i0 = w2c_j0 > w2c_j1;
-    if (w2c_i0) {goto w2c_L19;}
-  w2c_B18:;
+    if (w2c_i0) {goto w2c_L21;}
+  w2c_B20:;
   w2c_j0 = w2c_p2;
   w2c_i0 = (u32)(w2c_j0);
-  w2c_j1 = w2c_l3;
+  w2c_j1 = w2c_p0;
   i64_store(m, (u64)(w2c_i0) + 16, w2c_j1);
   w2c_j0 = w2c_p2;
   w2c_i0 = (u32)(w2c_j0);
-  w2c_j1 = w2c_l5;
+  w2c_j1 = w2c_l6;
   i64_store(m, (u64)(w2c_i0) + 8, w2c_j1);
   w2c_i0 = 2u;
-  w2c_l7 = w2c_i0;
+  w2c_l9 = w2c_i0;
   goto w2c_B0;
   w2c_B3:;
   UNREACHABLE;
   w2c_B2:;
   w2c_i0 = 3u;
-  w2c_l7 = w2c_i0;
+  w2c_l9 = w2c_i0;
   goto w2c_B0;
   w2c_B1:;
   w2c_j0 = w2c_p2;
   w2c_i0 = (u32)(w2c_j0);
-  w2c_j1 = w2c_l3;
+  w2c_j1 = w2c_p0;
   i64_store(m, (u64)(w2c_i0), w2c_j1);
   w2c_i0 = 0u;
-  w2c_l7 = w2c_i0;
+  w2c_l9 = w2c_i0;
   w2c_B0:;
-  w2c_j0 = w2c_l4;
+  w2c_j0 = w2c_l3;
   w2c_j1 = 48ull;
   w2c_j0 += w2c_j1;
   m->w2c_g0 = w2c_j0;
-  w2c_i0 = w2c_l7;
+  w2c_i0 = w2c_l9;
   return w2c_i0;
 }
 
@@ -42760,12 +41992,7 @@ static u32 w2c_f68(module *m, u64 w2c_p0, u64 w2c_p1, u64 w2c_p2) {
   u32 w2c_i0, w2c_i1, w2c_i2, w2c_i3, w2c_i4;
   u64 w2c_j0, w2c_j1, w2c_j2, w2c_j3;
   w2c_j0 = m->w2c_g0;
-  w2c_j1 = 32ull;
-  w2c_j0 -= w2c_j1;
   w2c_l3 = w2c_j0;
-  m->w2c_g0 = w2c_j0;
-  w2c_j0 = w2c_l3;
-  w2c_l4 = w2c_j0;
   w2c_j1 = 16ull;
   w2c_i0 = (u64)((s64)w2c_j0 < (s64)w2c_j1);
   if (w2c_i0) {goto w2c_B0;}
@@ -42775,9 +42002,9 @@ static u32 w2c_f68(module *m, u64 w2c_p0, u64 w2c_p1, u64 w2c_p2) {
   w2c_j3 = w2c_p0;
   w2c_i3 = !(w2c_j3);
   w2c_j1 = w2c_i3 ? w2c_j1 : w2c_j2;
-  w2c_l5 = w2c_j1;
+  w2c_l4 = w2c_j1;
   w2c_j0 += w2c_j1;
-  w2c_l6 = w2c_j0;
+  w2c_l5 = w2c_j0;
   w2c_j0 = w2c_p2;
   w2c_i0 = (u32)(w2c_j0);
   w2c_j1 = 0ull;
@@ -42790,67 +42017,48 @@ static u32 w2c_f68(module *m, u64 w2c_p0, u64 w2c_p1, u64 w2c_p2) {
   w2c_i0 = (u32)(w2c_j0);
   w2c_j1 = 0ull;
   i64_store(m, (u64)(w2c_i0), w2c_j1);
-  w2c_j0 = w2c_l4;
-  w2c_i0 = (u32)(w2c_j0);
-  w2c_j1 = 0ull;
-  i64_store(m, (u64)(w2c_i0) + 24, w2c_j1);
-  w2c_j0 = w2c_l4;
-  w2c_i0 = (u32)(w2c_j0);
-  w2c_j1 = 0ull;
-  i64_store(m, (u64)(w2c_i0) + 16, w2c_j1);
-  w2c_j0 = w2c_l4;
-  w2c_i0 = (u32)(w2c_j0);
-  w2c_j1 = 0ull;
-  i64_store(m, (u64)(w2c_i0) + 8, w2c_j1);
   w2c_j0 = w2c_p1;
-  w2c_l3 = w2c_j0;
+  w2c_l6 = w2c_j0;
   w2c_j0 = w2c_p1;
   w2c_j1 = 4ull;
   w2c_i0 = w2c_j0 < w2c_j1;
   if (w2c_i0) {goto w2c_B4;}
   w2c_j0 = w2c_p0;
-  w2c_j1 = w2c_l5;
+  w2c_j1 = w2c_l4;
   w2c_j0 += w2c_j1;
   w2c_j1 = 18446744073709551612ull;
   w2c_j0 += w2c_j1;
   w2c_p0 = w2c_j0;
   w2c_j0 = w2c_p1;
-  w2c_l3 = w2c_j0;
+  w2c_l6 = w2c_j0;
   w2c_L5:
     w2c_j0 = w2c_p0;
-    w2c_j1 = w2c_l3;
+    w2c_j1 = w2c_l6;
     w2c_j0 += w2c_j1;
     w2c_i0 = (u32)(w2c_j0);
     w2c_i0 = i32_load(m, (u64)(w2c_i0));
-    w2c_l15 = w2c_i0;
-    w2c_i1 = 3233808384u;
-    w2c_i0 &= w2c_i1;
-    w2c_i1 = 2155872256u;
-    w2c_i0 = w2c_i0 != w2c_i1;
-    if (w2c_i0) {goto w2c_B3;}
-    w2c_i0 = w2c_l15;
     w2c_i1 = 8u;
     w2c_i0 >>= (w2c_i1 & 31);
-    w2c_i1 = 255u;
-    w2c_i0 &= w2c_i1;
-    w2c_i1 = 4294967071u;
+    w2c_i1 = 16776989u;
     w2c_i0 += w2c_i1;
-    w2c_i1 = 11u;
-    w2c_i0 = w2c_i0 > w2c_i1;
+    w2c_i1 = 12632312u;
+    w2c_i0 &= w2c_i1;
+    w2c_i1 = 8421376u;
+    w2c_i0 = w2c_i0 != w2c_i1;
     if (w2c_i0) {goto w2c_B3;}
-    w2c_j0 = w2c_l3;
+    w2c_j0 = w2c_l6;
     w2c_j1 = 18446744073709551613ull;
     w2c_j0 += w2c_j1;
-    w2c_l3 = w2c_j0;
+    w2c_l6 = w2c_j0;
     w2c_j1 = 3ull;
     w2c_i0 = w2c_j0 > w2c_j1;
     if (w2c_i0) {goto w2c_L5;}
   w2c_B4:;
-  w2c_j0 = w2c_l3;
+  w2c_j0 = w2c_l6;
   w2c_j1 = 3ull;
   w2c_i0 = w2c_j0 > w2c_j1;
   if (w2c_i0) {goto w2c_B3;}
-  w2c_j0 = w2c_l3;
+  w2c_j0 = w2c_l6;
   w2c_i0 = (u32)(w2c_j0);
   switch (w2c_i0) {
     case 0: goto w2c_B2;
@@ -42860,59 +42068,32 @@ static u32 w2c_f68(module *m, u64 w2c_p0, u64 w2c_p1, u64 w2c_p2) {
     default: goto w2c_B2;
   }
   w2c_B6:;
-  w2c_j0 = w2c_l6;
+  w2c_j0 = w2c_l5;
   w2c_i0 = (u32)(w2c_j0);
-  w2c_i0 = i32_load8_u(m, (u64)(w2c_i0));
-  w2c_i1 = 31u;
-  w2c_i0 += w2c_i1;
-  w2c_i1 = 255u;
-  w2c_i0 &= w2c_i1;
-  w2c_i1 = 11u;
-  w2c_i0 = w2c_i0 > w2c_i1;
-  if (w2c_i0) {goto w2c_B3;}
-  w2c_j0 = w2c_l6;
-  w2c_j1 = 2ull;
-  w2c_j0 += w2c_j1;
-  w2c_i0 = (u32)(w2c_j0);
-  w2c_i0 = i32_load8_u(m, (u64)(w2c_i0));
-  w2c_i1 = 16u;
-  w2c_i0 <<= (w2c_i1 & 31);
-  w2c_j1 = w2c_l6;
-  w2c_j2 = 1ull;
+  w2c_i0 = i32_load16_u(m, (u64)(w2c_i0));
+  w2c_j1 = w2c_l5;
+  w2c_j2 = 2ull;
   w2c_j1 += w2c_j2;
   w2c_i1 = (u32)(w2c_j1);
   w2c_i1 = i32_load8_u(m, (u64)(w2c_i1));
-  w2c_i2 = 8u;
+  w2c_i2 = 16u;
   w2c_i1 <<= (w2c_i2 & 31);
   w2c_i0 |= w2c_i1;
-  w2c_i1 = 12632064u;
+  w2c_i1 = 16776989u;
+  w2c_i0 += w2c_i1;
+  w2c_i1 = 12632312u;
   w2c_i0 &= w2c_i1;
   w2c_i1 = 8421376u;
   w2c_i0 = w2c_i0 == w2c_i1;
   if (w2c_i0) {goto w2c_B2;}
   w2c_B3:;
-  w2c_j0 = w2c_l4;
-  w2c_j1 = 8ull;
-  w2c_j0 += w2c_j1;
-  w2c_j1 = w2c_l6;
-  w2c_j2 = w2c_p1;
-  w2c_f12(m, w2c_j0, w2c_j1, w2c_j2);
   w2c_i0 = 5u;
   w2c_l15 = w2c_i0;
-  w2c_j0 = w2c_l4;
-  w2c_i0 = (u32)(w2c_j0);
-  w2c_i0 = i32_load8_u(m, (u64)(w2c_i0) + 8u);
-  w2c_i1 = 1u;
-  w2c_i0 = w2c_i0 != w2c_i1;
+  w2c_j0 = w2c_l5;
+  w2c_j1 = w2c_p1;
+  w2c_i0 = w2c_f12(m, w2c_j0, w2c_j1);
+  w2c_i0 = !(w2c_i0);
   if (w2c_i0) {goto w2c_B1;}
-  w2c_j0 = w2c_l4;
-  w2c_i0 = (u32)(w2c_j0);
-  w2c_j0 = i64_load(m, (u64)(w2c_i0) + 24u);
-  w2c_p1 = w2c_j0;
-  w2c_j0 = w2c_l4;
-  w2c_i0 = (u32)(w2c_j0);
-  w2c_j0 = i64_load(m, (u64)(w2c_i0) + 16u);
-  w2c_l6 = w2c_j0;
   w2c_B2:;
   w2c_j0 = w2c_p1;
   w2c_i0 = !(w2c_j0);
@@ -42925,12 +42106,12 @@ static u32 w2c_f68(module *m, u64 w2c_p0, u64 w2c_p1, u64 w2c_p2) {
   w2c_l16 = w2c_i0;
   w2c_j0 = 0ull;
   w2c_l8 = w2c_j0;
+  w2c_j0 = 18446744073709551613ull;
+  w2c_p0 = w2c_j0;
   w2c_j0 = w2c_p1;
   w2c_l9 = w2c_j0;
-  w2c_j0 = w2c_l6;
-  w2c_l3 = w2c_j0;
-  w2c_j0 = 0ull;
-  w2c_l5 = w2c_j0;
+  w2c_j0 = w2c_l5;
+  w2c_l6 = w2c_j0;
   w2c_j0 = 0ull;
   w2c_l10 = w2c_j0;
   w2c_j0 = 0ull;
@@ -42946,7 +42127,7 @@ static u32 w2c_f68(module *m, u64 w2c_p0, u64 w2c_p1, u64 w2c_p2) {
   w2c_L9:
     w2c_i0 = w2c_l15;
     w2c_l19 = w2c_i0;
-    w2c_j0 = w2c_l3;
+    w2c_j0 = w2c_l6;
     w2c_i0 = (u32)(w2c_j0);
     w2c_i0 = i32_load8_s(m, (u64)(w2c_i0));
     w2c_l20 = w2c_i0;
@@ -42954,12 +42135,12 @@ static u32 w2c_f68(module *m, u64 w2c_p0, u64 w2c_p1, u64 w2c_p2) {
     w2c_i0 &= w2c_i1;
     w2c_l15 = w2c_i0;
     w2c_j0 = 1ull;
-    w2c_p0 = w2c_j0;
+    w2c_l4 = w2c_j0;
     w2c_i0 = w2c_l20;
     w2c_i1 = 4294967295u;
     w2c_i0 = (u32)((s32)w2c_i0 > (s32)w2c_i1);
     if (w2c_i0) {goto w2c_B10;}
-    w2c_j0 = w2c_l3;
+    w2c_j0 = w2c_l6;
     w2c_i0 = (u32)(w2c_j0);
     w2c_i0 = i32_load8_u(m, (u64)(w2c_i0) + 1u);
     w2c_i1 = 63u;
@@ -42978,10 +42159,10 @@ static u32 w2c_f68(module *m, u64 w2c_p0, u64 w2c_p1, u64 w2c_p2) {
     w2c_i0 |= w2c_i1;
     w2c_l15 = w2c_i0;
     w2c_j0 = 2ull;
-    w2c_p0 = w2c_j0;
+    w2c_l4 = w2c_j0;
     goto w2c_B10;
     w2c_B11:;
-    w2c_j0 = w2c_l3;
+    w2c_j0 = w2c_l6;
     w2c_i0 = (u32)(w2c_j0);
     w2c_i0 = i32_load8_u(m, (u64)(w2c_i0) + 2u);
     w2c_i1 = 63u;
@@ -43004,7 +42185,7 @@ static u32 w2c_f68(module *m, u64 w2c_p0, u64 w2c_p1, u64 w2c_p2) {
     w2c_i0 |= w2c_i1;
     w2c_l15 = w2c_i0;
     w2c_j0 = 3ull;
-    w2c_p0 = w2c_j0;
+    w2c_l4 = w2c_j0;
     goto w2c_B10;
     w2c_B12:;
     w2c_i0 = w2c_l22;
@@ -43020,7 +42201,7 @@ static u32 w2c_f68(module *m, u64 w2c_p0, u64 w2c_p1, u64 w2c_p2) {
     w2c_i2 &= w2c_i3;
     w2c_i1 |= w2c_i2;
     w2c_i0 |= w2c_i1;
-    w2c_j1 = w2c_l3;
+    w2c_j1 = w2c_l6;
     w2c_i1 = (u32)(w2c_j1);
     w2c_i1 = i32_load8_u(m, (u64)(w2c_i1) + 3u);
     w2c_i2 = 63u;
@@ -43028,7 +42209,7 @@ static u32 w2c_f68(module *m, u64 w2c_p0, u64 w2c_p1, u64 w2c_p2) {
     w2c_i0 |= w2c_i1;
     w2c_l15 = w2c_i0;
     w2c_j0 = 4ull;
-    w2c_p0 = w2c_j0;
+    w2c_l4 = w2c_j0;
     w2c_B10:;
     w2c_i0 = 2u;
     w2c_i1 = 1u;
@@ -44525,7 +43706,7 @@ static u32 w2c_f68(module *m, u64 w2c_p0, u64 w2c_p1, u64 w2c_p2) {
     if (w2c_i0) {goto w2c_B20;}
     w2c_B21:;
     w2c_j0 = 0ull;
-    w2c_l3 = w2c_j0;
+    w2c_l6 = w2c_j0;
     w2c_j0 = w2c_p2;
     w2c_i0 = (u32)(w2c_j0);
     w2c_j1 = 0ull;
@@ -44538,16 +43719,85 @@ static u32 w2c_f68(module *m, u64 w2c_p0, u64 w2c_p1, u64 w2c_p2) {
     w2c_i0 = (u32)(w2c_j0);
     w2c_j1 = 0ull;
     i64_store(m, (u64)(w2c_i0), w2c_j1);
-    w2c_j0 = w2c_l5;
-    w2c_i0 = !(w2c_j0);
-    if (w2c_i0) {goto w2c_B123;}
+    w2c_j0 = w2c_p0;
+    w2c_j1 = 3ull;
+    w2c_j0 += w2c_j1;
+    w2c_l9 = w2c_j0;
+    w2c_j0 = w2c_p1;
+    w2c_j1 = 8ull;
+    w2c_i0 = w2c_j0 >= w2c_j1;
+    if (w2c_i0) {goto w2c_B124;}
     w2c_j0 = 0ull;
-    w2c_l3 = w2c_j0;
-    w2c_j0 = 1ull;
-    w2c_p0 = w2c_j0;
-    w2c_L124:
+    w2c_l13 = w2c_j0;
+    goto w2c_B123;
+    w2c_B124:;
+    w2c_j0 = 0ull;
+    w2c_l13 = w2c_j0;
+    w2c_j0 = w2c_l9;
+    w2c_j1 = 3ull;
+    w2c_i0 = w2c_j0 < w2c_j1;
+    if (w2c_i0) {goto w2c_B123;}
+    w2c_j0 = w2c_p1;
+    w2c_j1 = 18446744073709551607ull;
+    w2c_j0 += w2c_j1;
+    w2c_l4 = w2c_j0;
+    w2c_j0 = 0ull;
+    w2c_l13 = w2c_j0;
+    w2c_j0 = 0ull;
+    w2c_l6 = w2c_j0;
+    w2c_L125:
+      w2c_j0 = w2c_l5;
+      w2c_j1 = w2c_l6;
+      w2c_j0 += w2c_j1;
+      w2c_i0 = (u32)(w2c_j0);
+      w2c_j0 = i64_load(m, (u64)(w2c_i0));
+      w2c_j1 = 67553998437089520ull;
+      w2c_j0 &= w2c_j1;
+      w2c_j1 = 63050398541283552ull;
+      w2c_i0 = w2c_j0 != w2c_j1;
+      if (w2c_i0) {goto w2c_B123;}
+      w2c_j0 = w2c_l13;
+      w2c_j1 = 3ull;
+      w2c_j0 += w2c_j1;
+      w2c_l13 = w2c_j0;
       w2c_j0 = w2c_l6;
-      w2c_j1 = w2c_l3;
+      w2c_j1 = 9ull;
+      w2c_j0 += w2c_j1;
+      w2c_l6 = w2c_j0;
+      w2c_j0 = w2c_p0;
+      w2c_j1 = 3ull;
+      w2c_i0 = w2c_j0 < w2c_j1;
+      if (w2c_i0) {goto w2c_B123;}
+      w2c_j0 = w2c_p0;
+      w2c_j1 = 18446744073709551613ull;
+      w2c_j0 += w2c_j1;
+      w2c_p0 = w2c_j0;
+      w2c_j0 = w2c_l4;
+      w2c_j1 = 7ull;
+      w2c_i0 = w2c_j0 > w2c_j1;
+      w2c_l15 = w2c_i0;
+      w2c_j0 = w2c_l4;
+      w2c_j1 = 18446744073709551607ull;
+      w2c_j0 += w2c_j1;
+      w2c_l4 = w2c_j0;
+      w2c_i0 = w2c_l15;
+      if (w2c_i0) {goto w2c_L125;}
+    w2c_B123:;
+    w2c_j0 = w2c_p1;
+    w2c_j1 = w2c_l6;
+    w2c_i0 = w2c_j0 <= w2c_j1;
+    if (w2c_i0) {goto w2c_B126;}
+    w2c_j0 = w2c_l13;
+    w2c_j1 = w2c_l9;
+    w2c_i0 = w2c_j0 >= w2c_j1;
+    if (w2c_i0) {goto w2c_B126;}
+    w2c_j0 = w2c_l13;
+    w2c_j1 = 1ull;
+    w2c_j0 += w2c_j1;
+    w2c_p0 = w2c_j0;
+    w2c_L127:
+      w2c_j0 = w2c_l5;
+      w2c_j1 = w2c_l6;
       w2c_j0 += w2c_j1;
       w2c_i0 = (u32)(w2c_j0);
       w2c_i0 = i32_load8_u(m, (u64)(w2c_i0));
@@ -44560,33 +43810,34 @@ static u32 w2c_f68(module *m, u64 w2c_p0, u64 w2c_p1, u64 w2c_p2) {
       w2c_j0 += w2c_j1;
       w2c_i0 = (u32)(w2c_j0);
       w2c_j0 = i64_load(m, (u64)(w2c_i0));
-      w2c_j1 = w2c_l3;
+      w2c_j1 = w2c_l6;
       w2c_j0 += w2c_j1;
-      w2c_l3 = w2c_j0;
+      w2c_l6 = w2c_j0;
       w2c_j0 = w2c_p0;
-      w2c_j1 = w2c_l5;
+      w2c_j1 = w2c_l9;
       w2c_i0 = w2c_j0 >= w2c_j1;
-      if (w2c_i0) {goto w2c_B123;}
+      if (w2c_i0) {goto w2c_B126;}
       w2c_j0 = w2c_p0;
       w2c_j1 = 1ull;
       w2c_j0 += w2c_j1;
       w2c_p0 = w2c_j0;
       w2c_j0 = w2c_p1;
-      w2c_j1 = w2c_l3;
+      w2c_j1 = w2c_l6;
       w2c_i0 = w2c_j0 > w2c_j1;
-      if (w2c_i0) {goto w2c_L124;}
-    w2c_B123:;
+      if (w2c_i0) {goto w2c_L127;}
+    w2c_B126:;
     w2c_j0 = w2c_p2;
     w2c_i0 = (u32)(w2c_j0);
-    w2c_j1 = w2c_l3;
+    w2c_j1 = w2c_l6;
     i64_store(m, (u64)(w2c_i0) + 16, w2c_j1);
     w2c_j0 = w2c_p2;
     w2c_i0 = (u32)(w2c_j0);
-    w2c_j1 = w2c_l5;
+    w2c_j1 = w2c_l9;
     i64_store(m, (u64)(w2c_i0) + 8, w2c_j1);
+    w2c_j0 = w2c_l3;
+    m->w2c_g0 = w2c_j0;
     w2c_i0 = 2u;
-    w2c_l15 = w2c_i0;
-    goto w2c_B1;
+    goto w2c_Bfunc;
     w2c_B20:;
     w2c_j0 = w2c_l8;
     w2c_j1 = 1000ull;
@@ -44649,16 +43900,16 @@ static u32 w2c_f68(module *m, u64 w2c_p0, u64 w2c_p1, u64 w2c_p2) {
     w2c_j0 = 0ull;
     w2c_l8 = w2c_j0;
     w2c_B13:;
-    w2c_j0 = w2c_l3;
-    w2c_j1 = w2c_p0;
+    w2c_j0 = w2c_l6;
+    w2c_j1 = w2c_l4;
     w2c_j0 += w2c_j1;
-    w2c_l3 = w2c_j0;
-    w2c_j0 = w2c_l5;
+    w2c_l6 = w2c_j0;
+    w2c_j0 = w2c_p0;
     w2c_j1 = 1ull;
     w2c_j0 += w2c_j1;
-    w2c_l5 = w2c_j0;
+    w2c_p0 = w2c_j0;
     w2c_j0 = w2c_l9;
-    w2c_j1 = w2c_p0;
+    w2c_j1 = w2c_l4;
     w2c_j0 -= w2c_j1;
     w2c_l9 = w2c_j0;
     w2c_j1 = 0ull;
@@ -44693,9 +43944,10 @@ static u32 w2c_f68(module *m, u64 w2c_p0, u64 w2c_p1, u64 w2c_p2) {
   w2c_i0 = (u32)(w2c_j0);
   w2c_j1 = 0ull;
   i64_store(m, (u64)(w2c_i0), w2c_j1);
+  w2c_j0 = w2c_l3;
+  m->w2c_g0 = w2c_j0;
   w2c_i0 = 9u;
-  w2c_l15 = w2c_i0;
-  goto w2c_B1;
+  goto w2c_Bfunc;
   w2c_B7:;
   w2c_j0 = w2c_l7;
   w2c_i0 = (u32)(w2c_j0);
@@ -44721,9 +43973,7 @@ static u32 w2c_f68(module *m, u64 w2c_p0, u64 w2c_p1, u64 w2c_p2) {
   w2c_i0 = 0u;
   w2c_l15 = w2c_i0;
   w2c_B1:;
-  w2c_j0 = w2c_l4;
-  w2c_j1 = 32ull;
-  w2c_j0 += w2c_j1;
+  w2c_j0 = w2c_l3;
   m->w2c_g0 = w2c_j0;
   w2c_i0 = w2c_l15;
   goto w2c_Bfunc;
@@ -45155,7 +44405,7 @@ static u32 w2c_f76(module *m, u64 w2c_p0, u64 w2c_p1, u64 w2c_p2, u32 w2c_p3, u3
     w2c_j1 = w2c_l8;
     w2c_j2 = 88ull;
     w2c_j1 += w2c_j2;
-    w2c_f21(m, w2c_j0, w2c_j1);
+    w2c_f20(m, w2c_j0, w2c_j1);
     w2c_j0 = w2c_l8;
     w2c_i0 = (u32)(w2c_j0);
     w2c_i0 = i32_load8_u(m, (u64)(w2c_i0) + 32u);
@@ -45166,7 +44416,7 @@ static u32 w2c_f76(module *m, u64 w2c_p0, u64 w2c_p1, u64 w2c_p2, u32 w2c_p3, u3
     w2c_j1 = 8ull;
     w2c_j0 += w2c_j1;
     w2c_j1 = w2c_p1;
-    w2c_f20(m, w2c_j0, w2c_j1);
+    w2c_f19(m, w2c_j0, w2c_j1);
     w2c_j0 = w2c_p2;
     w2c_i0 = (u32)(w2c_j0);
     w2c_j1 = w2c_l8;
@@ -45836,7 +45086,7 @@ static u32 w2c_f78(module *m, u64 w2c_p0, u64 w2c_p1, u32 w2c_p2, u32 w2c_p3, u3
   w2c_i3 = w2c_l21;
   w2c_j4 = w2c_p6;
   w2c_j5 = w2c_p0;
-  w2c_j0 = w2c_f31(m, w2c_j0, w2c_j1, w2c_i2, w2c_i3, w2c_j4, w2c_j5);
+  w2c_j0 = w2c_f30(m, w2c_j0, w2c_j1, w2c_i2, w2c_i3, w2c_j4, w2c_j5);
   w2c_p0 = w2c_j0;
   goto w2c_B2;
   w2c_B16:;
@@ -46337,7 +45587,7 @@ static u32 w2c_f78(module *m, u64 w2c_p0, u64 w2c_p1, u32 w2c_p2, u32 w2c_p3, u3
   w2c_i3 = 0u;
   w2c_j4 = w2c_p0;
   w2c_j5 = w2c_p1;
-  w2c_j0 = w2c_f31(m, w2c_j0, w2c_j1, w2c_i2, w2c_i3, w2c_j4, w2c_j5);
+  w2c_j0 = w2c_f30(m, w2c_j0, w2c_j1, w2c_i2, w2c_i3, w2c_j4, w2c_j5);
   w2c_p1 = w2c_j0;
   goto w2c_B4;
   w2c_B6:;
@@ -46602,12 +45852,12 @@ static u32 w2c_chinese_quantities_to_figures(module *m, u64 w2c_p0, u64 w2c_p1, 
 }
 
 static u32 w2c_f80(module *m, u64 w2c_p0, u64 w2c_p1, u32 w2c_p2, u32 w2c_p3, u32 w2c_p4, u32 w2c_p5, u64 w2c_p6, u64 w2c_p7, u64 w2c_p8) {
-  u32 w2c_l30 = 0, w2c_l31 = 0, w2c_l32 = 0, w2c_l33 = 0;
-  u64 w2c_l9 = 0, w2c_l10 = 0, w2c_l11 = 0, w2c_l12 = 0, w2c_l13 = 0, w2c_l14 = 0, w2c_l15 = 0, w2c_l16 = 0, w2c_l17 = 0, w2c_l18 = 0, w2c_l19 = 0, w2c_l20 = 0, w2c_l21 = 0, w2c_l22 = 0, w2c_l23 = 0, w2c_l24 = 0, w2c_l25 = 0, w2c_l26 = 0, w2c_l27 = 0, w2c_l28 = 0, w2c_l29 = 0;
+  u32 w2c_l32 = 0, w2c_l33 = 0, w2c_l34 = 0, w2c_l35 = 0;
+  u64 w2c_l9 = 0, w2c_l10 = 0, w2c_l11 = 0, w2c_l12 = 0, w2c_l13 = 0, w2c_l14 = 0, w2c_l15 = 0, w2c_l16 = 0, w2c_l17 = 0, w2c_l18 = 0, w2c_l19 = 0, w2c_l20 = 0, w2c_l21 = 0, w2c_l22 = 0, w2c_l23 = 0, w2c_l24 = 0, w2c_l25 = 0, w2c_l26 = 0, w2c_l27 = 0, w2c_l28 = 0, w2c_l29 = 0, w2c_l30 = 0, w2c_l31 = 0;
   u32 w2c_i0, w2c_i1, w2c_i2, w2c_i3, w2c_i4;
   u64 w2c_j0, w2c_j1, w2c_j2, w2c_j3, w2c_j4, w2c_j5;
   w2c_j0 = m->w2c_g0;
-  w2c_j1 = 352ull;
+  w2c_j1 = 320ull;
   w2c_j0 -= w2c_j1;
   w2c_l9 = w2c_j0;
   m->w2c_g0 = w2c_j0;
@@ -46621,9 +45871,9 @@ static u32 w2c_f80(module *m, u64 w2c_p0, u64 w2c_p1, u32 w2c_p2, u32 w2c_p3, u3
   w2c_j1 = 0ull;
   i64_store(m, (u64)(w2c_i0), w2c_j1);
   w2c_i0 = 0u;
-  w2c_l30 = w2c_i0;
+  w2c_l32 = w2c_i0;
   w2c_i0 = 8u;
-  w2c_l31 = w2c_i0;
+  w2c_l33 = w2c_i0;
   w2c_i0 = w2c_p2;
   switch (w2c_i0) {
     case 0: goto w2c_B2;
@@ -46632,16 +45882,16 @@ static u32 w2c_f80(module *m, u64 w2c_p0, u64 w2c_p1, u32 w2c_p2, u32 w2c_p3, u3
   }
   w2c_B3:;
   w2c_i0 = 1u;
-  w2c_l30 = w2c_i0;
+  w2c_l32 = w2c_i0;
   w2c_B2:;
   w2c_i0 = w2c_p3;
   w2c_i1 = 15u;
   w2c_i0 = w2c_i0 > w2c_i1;
   if (w2c_i0) {goto w2c_B1;}
   w2c_i0 = 0u;
-  w2c_l32 = w2c_i0;
+  w2c_l34 = w2c_i0;
   w2c_i0 = 0u;
-  w2c_l33 = w2c_i0;
+  w2c_l35 = w2c_i0;
   w2c_i0 = w2c_p4;
   w2c_i1 = 4u;
   w2c_i0 = w2c_i0 > w2c_i1;
@@ -46663,9 +45913,9 @@ static u32 w2c_f80(module *m, u64 w2c_p0, u64 w2c_p1, u32 w2c_p2, u32 w2c_p3, u3
   w2c_j2 &= w2c_j3;
   w2c_j3 = 0ull;
   w2c_i2 = w2c_j2 != w2c_j3;
-  w2c_l32 = w2c_i2;
+  w2c_l34 = w2c_i2;
   w2c_i0 = w2c_i2 ? w2c_i0 : w2c_i1;
-  w2c_l33 = w2c_i0;
+  w2c_l35 = w2c_i0;
   w2c_B4:;
   w2c_i0 = w2c_p5;
   w2c_i1 = 30u;
@@ -46674,7 +45924,7 @@ static u32 w2c_f80(module *m, u64 w2c_p0, u64 w2c_p1, u32 w2c_p2, u32 w2c_p3, u3
   w2c_i1 = 3u;
   w2c_i0 = w2c_i0 > w2c_i1;
   if (w2c_i0) {goto w2c_B1;}
-  w2c_i0 = w2c_l32;
+  w2c_i0 = w2c_l34;
   w2c_i0 = !(w2c_i0);
   if (w2c_i0) {goto w2c_B1;}
   w2c_j0 = w2c_p0;
@@ -46693,53 +45943,32 @@ static u32 w2c_f80(module *m, u64 w2c_p0, u64 w2c_p1, u32 w2c_p2, u32 w2c_p3, u3
   w2c_i0 = (u32)(w2c_j0);
   w2c_i0 = i32_load8_u(m, (u64)(w2c_i0));
   w2c_p3 = w2c_i0;
-  w2c_j0 = w2c_l9;
-  w2c_i0 = (u32)(w2c_j0);
-  w2c_j1 = 0ull;
-  i64_store(m, (u64)(w2c_i0) + 224, w2c_j1);
-  w2c_j0 = w2c_l9;
-  w2c_i0 = (u32)(w2c_j0);
-  w2c_j1 = 0ull;
-  i64_store(m, (u64)(w2c_i0) + 216, w2c_j1);
-  w2c_j0 = w2c_l9;
-  w2c_i0 = (u32)(w2c_j0);
-  w2c_j1 = 0ull;
-  i64_store(m, (u64)(w2c_i0) + 208, w2c_j1);
   w2c_j0 = w2c_p1;
   w2c_l10 = w2c_j0;
   w2c_j0 = w2c_p1;
   w2c_j1 = 4ull;
   w2c_i0 = w2c_j0 < w2c_j1;
   if (w2c_i0) {goto w2c_B7;}
-  w2c_j0 = w2c_p0;
-  w2c_j1 = w2c_l11;
-  w2c_j0 += w2c_j1;
+  w2c_j0 = w2c_l12;
   w2c_j1 = 18446744073709551612ull;
   w2c_j0 += w2c_j1;
-  w2c_p0 = w2c_j0;
+  w2c_l13 = w2c_j0;
   w2c_j0 = w2c_p1;
   w2c_l10 = w2c_j0;
   w2c_L8:
-    w2c_j0 = w2c_p0;
+    w2c_j0 = w2c_l13;
     w2c_j1 = w2c_l10;
     w2c_j0 += w2c_j1;
     w2c_i0 = (u32)(w2c_j0);
     w2c_i0 = i32_load(m, (u64)(w2c_i0));
-    w2c_l31 = w2c_i0;
-    w2c_i1 = 3233808384u;
-    w2c_i0 &= w2c_i1;
-    w2c_i1 = 2155872256u;
-    w2c_i0 = w2c_i0 != w2c_i1;
-    if (w2c_i0) {goto w2c_B6;}
-    w2c_i0 = w2c_l31;
     w2c_i1 = 8u;
     w2c_i0 >>= (w2c_i1 & 31);
-    w2c_i1 = 255u;
-    w2c_i0 &= w2c_i1;
-    w2c_i1 = 4294967071u;
+    w2c_i1 = 16776989u;
     w2c_i0 += w2c_i1;
-    w2c_i1 = 11u;
-    w2c_i0 = w2c_i0 > w2c_i1;
+    w2c_i1 = 12632312u;
+    w2c_i0 &= w2c_i1;
+    w2c_i1 = 8421376u;
+    w2c_i0 = w2c_i0 != w2c_i1;
     if (w2c_i0) {goto w2c_B6;}
     w2c_j0 = w2c_l10;
     w2c_j1 = 18446744073709551613ull;
@@ -46765,57 +45994,30 @@ static u32 w2c_f80(module *m, u64 w2c_p0, u64 w2c_p1, u32 w2c_p2, u32 w2c_p3, u3
   w2c_B9:;
   w2c_j0 = w2c_l12;
   w2c_i0 = (u32)(w2c_j0);
-  w2c_i0 = i32_load8_u(m, (u64)(w2c_i0));
-  w2c_i1 = 31u;
-  w2c_i0 += w2c_i1;
-  w2c_i1 = 255u;
-  w2c_i0 &= w2c_i1;
-  w2c_i1 = 11u;
-  w2c_i0 = w2c_i0 > w2c_i1;
-  if (w2c_i0) {goto w2c_B6;}
-  w2c_j0 = w2c_l12;
-  w2c_j1 = 2ull;
-  w2c_j0 += w2c_j1;
-  w2c_i0 = (u32)(w2c_j0);
-  w2c_i0 = i32_load8_u(m, (u64)(w2c_i0));
-  w2c_i1 = 16u;
-  w2c_i0 <<= (w2c_i1 & 31);
+  w2c_i0 = i32_load16_u(m, (u64)(w2c_i0));
   w2c_j1 = w2c_l12;
-  w2c_j2 = 1ull;
+  w2c_j2 = 2ull;
   w2c_j1 += w2c_j2;
   w2c_i1 = (u32)(w2c_j1);
   w2c_i1 = i32_load8_u(m, (u64)(w2c_i1));
-  w2c_i2 = 8u;
+  w2c_i2 = 16u;
   w2c_i1 <<= (w2c_i2 & 31);
   w2c_i0 |= w2c_i1;
-  w2c_i1 = 12632064u;
+  w2c_i1 = 16776989u;
+  w2c_i0 += w2c_i1;
+  w2c_i1 = 12632312u;
   w2c_i0 &= w2c_i1;
   w2c_i1 = 8421376u;
   w2c_i0 = w2c_i0 == w2c_i1;
   if (w2c_i0) {goto w2c_B5;}
   w2c_B6:;
-  w2c_j0 = w2c_l9;
-  w2c_j1 = 208ull;
-  w2c_j0 += w2c_j1;
-  w2c_j1 = w2c_l12;
-  w2c_j2 = w2c_p1;
-  w2c_f12(m, w2c_j0, w2c_j1, w2c_j2);
   w2c_i0 = 5u;
-  w2c_l31 = w2c_i0;
-  w2c_j0 = w2c_l9;
-  w2c_i0 = (u32)(w2c_j0);
-  w2c_i0 = i32_load8_u(m, (u64)(w2c_i0) + 208u);
-  w2c_i1 = 1u;
-  w2c_i0 = w2c_i0 != w2c_i1;
+  w2c_l33 = w2c_i0;
+  w2c_j0 = w2c_l12;
+  w2c_j1 = w2c_p1;
+  w2c_i0 = w2c_f12(m, w2c_j0, w2c_j1);
+  w2c_i0 = !(w2c_i0);
   if (w2c_i0) {goto w2c_B1;}
-  w2c_j0 = w2c_l9;
-  w2c_i0 = (u32)(w2c_j0);
-  w2c_j0 = i64_load(m, (u64)(w2c_i0) + 224u);
-  w2c_p1 = w2c_j0;
-  w2c_j0 = w2c_l9;
-  w2c_i0 = (u32)(w2c_j0);
-  w2c_j0 = i64_load(m, (u64)(w2c_i0) + 216u);
-  w2c_l12 = w2c_j0;
   w2c_B5:;
   w2c_j0 = w2c_p6;
   w2c_j1 = 4096ull;
@@ -46823,59 +46025,43 @@ static u32 w2c_f80(module *m, u64 w2c_p0, u64 w2c_p1, u32 w2c_p2, u32 w2c_p3, u3
   w2c_j3 = w2c_p6;
   w2c_i3 = !(w2c_j3);
   w2c_j1 = w2c_i3 ? w2c_j1 : w2c_j2;
-  w2c_l13 = w2c_j1;
+  w2c_l14 = w2c_j1;
   w2c_j0 += w2c_j1;
-  w2c_l14 = w2c_j0;
-  w2c_j0 = w2c_l9;
-  w2c_i0 = (u32)(w2c_j0);
-  w2c_i1 = 0u;
-  i32_store(m, (u64)(w2c_i0) + 122, w2c_i1);
-  w2c_j0 = w2c_l9;
-  w2c_i0 = (u32)(w2c_j0);
-  w2c_i1 = w2c_p3;
-  i32_store8(m, (u64)(w2c_i0) + 121, w2c_i1);
-  w2c_j0 = w2c_l9;
-  w2c_i0 = (u32)(w2c_j0);
-  w2c_i1 = w2c_l30;
-  i32_store8(m, (u64)(w2c_i0) + 120, w2c_i1);
-  w2c_j0 = w2c_l9;
-  w2c_i0 = (u32)(w2c_j0);
-  w2c_i1 = 0u;
-  i32_store16(m, (u64)(w2c_i0) + 126, w2c_i1);
-  w2c_j0 = w2c_l9;
-  w2c_i0 = (u32)(w2c_j0);
-  w2c_j1 = w2c_p1;
-  i64_store(m, (u64)(w2c_i0) + 152, w2c_j1);
-  w2c_j0 = w2c_l9;
-  w2c_i0 = (u32)(w2c_j0);
-  w2c_j1 = w2c_l12;
-  i64_store(m, (u64)(w2c_i0) + 144, w2c_j1);
-  w2c_j0 = w2c_l9;
-  w2c_i0 = (u32)(w2c_j0);
-  w2c_j1 = w2c_p1;
-  i64_store(m, (u64)(w2c_i0) + 136, w2c_j1);
-  w2c_j0 = w2c_l9;
-  w2c_i0 = (u32)(w2c_j0);
-  w2c_j1 = w2c_l12;
-  i64_store(m, (u64)(w2c_i0) + 128, w2c_j1);
-  w2c_j0 = 0ull;
   w2c_l15 = w2c_j0;
   w2c_j0 = w2c_l9;
   w2c_i0 = (u32)(w2c_j0);
-  w2c_j1 = 0ull;
+  w2c_i1 = 0u;
+  i32_store(m, (u64)(w2c_i0) + 90, w2c_i1);
+  w2c_j0 = w2c_l9;
+  w2c_i0 = (u32)(w2c_j0);
+  w2c_i1 = w2c_p3;
+  i32_store8(m, (u64)(w2c_i0) + 89, w2c_i1);
+  w2c_j0 = w2c_l9;
+  w2c_i0 = (u32)(w2c_j0);
+  w2c_i1 = w2c_l32;
+  i32_store8(m, (u64)(w2c_i0) + 88, w2c_i1);
+  w2c_j0 = w2c_l9;
+  w2c_i0 = (u32)(w2c_j0);
+  w2c_i1 = 0u;
+  i32_store16(m, (u64)(w2c_i0) + 94, w2c_i1);
+  w2c_j0 = w2c_l9;
+  w2c_i0 = (u32)(w2c_j0);
+  w2c_j1 = w2c_p1;
+  i64_store(m, (u64)(w2c_i0) + 120, w2c_j1);
+  w2c_j0 = w2c_l9;
+  w2c_i0 = (u32)(w2c_j0);
+  w2c_j1 = w2c_l12;
   i64_store(m, (u64)(w2c_i0) + 112, w2c_j1);
   w2c_j0 = w2c_l9;
   w2c_i0 = (u32)(w2c_j0);
-  w2c_j1 = 0ull;
+  w2c_j1 = w2c_p1;
   i64_store(m, (u64)(w2c_i0) + 104, w2c_j1);
   w2c_j0 = w2c_l9;
   w2c_i0 = (u32)(w2c_j0);
-  w2c_j1 = 0ull;
+  w2c_j1 = w2c_l12;
   i64_store(m, (u64)(w2c_i0) + 96, w2c_j1);
-  w2c_j0 = w2c_l9;
-  w2c_i0 = (u32)(w2c_j0);
-  w2c_j1 = 0ull;
-  i64_store(m, (u64)(w2c_i0) + 88, w2c_j1);
+  w2c_j0 = 0ull;
+  w2c_l16 = w2c_j0;
   w2c_j0 = w2c_l9;
   w2c_i0 = (u32)(w2c_j0);
   w2c_j1 = 0ull;
@@ -46889,109 +46075,125 @@ static u32 w2c_f80(module *m, u64 w2c_p0, u64 w2c_p1, u32 w2c_p2, u32 w2c_p3, u3
   w2c_j1 = 0ull;
   i64_store(m, (u64)(w2c_i0) + 64, w2c_j1);
   w2c_j0 = w2c_l9;
-  w2c_j1 = 64ull;
-  w2c_j0 += w2c_j1;
-  w2c_j1 = w2c_l9;
-  w2c_j2 = 120ull;
-  w2c_j1 += w2c_j2;
-  w2c_f21(m, w2c_j0, w2c_j1);
-  w2c_j0 = 0ull;
-  w2c_l16 = w2c_j0;
+  w2c_i0 = (u32)(w2c_j0);
+  w2c_j1 = 0ull;
+  i64_store(m, (u64)(w2c_i0) + 56, w2c_j1);
   w2c_j0 = w2c_l9;
   w2c_i0 = (u32)(w2c_j0);
-  w2c_i0 = i32_load8_u(m, (u64)(w2c_i0) + 64u);
+  w2c_j1 = 0ull;
+  i64_store(m, (u64)(w2c_i0) + 48, w2c_j1);
+  w2c_j0 = w2c_l9;
+  w2c_i0 = (u32)(w2c_j0);
+  w2c_j1 = 0ull;
+  i64_store(m, (u64)(w2c_i0) + 40, w2c_j1);
+  w2c_j0 = w2c_l9;
+  w2c_i0 = (u32)(w2c_j0);
+  w2c_j1 = 0ull;
+  i64_store(m, (u64)(w2c_i0) + 32, w2c_j1);
+  w2c_j0 = w2c_l9;
+  w2c_j1 = 32ull;
+  w2c_j0 += w2c_j1;
+  w2c_j1 = w2c_l9;
+  w2c_j2 = 88ull;
+  w2c_j1 += w2c_j2;
+  w2c_f20(m, w2c_j0, w2c_j1);
+  w2c_j0 = 0ull;
+  w2c_l17 = w2c_j0;
+  w2c_j0 = w2c_l9;
+  w2c_i0 = (u32)(w2c_j0);
+  w2c_i0 = i32_load8_u(m, (u64)(w2c_i0) + 32u);
   w2c_i1 = 1u;
   w2c_i0 = w2c_i0 != w2c_i1;
   if (w2c_i0) {goto w2c_B10;}
   w2c_j0 = w2c_l9;
-  w2c_j1 = 304ull;
+  w2c_j1 = 272ull;
   w2c_j0 += w2c_j1;
-  w2c_l17 = w2c_j0;
-  w2c_j0 = 0ull;
-  w2c_l15 = w2c_j0;
+  w2c_l18 = w2c_j0;
   w2c_j0 = 0ull;
   w2c_l16 = w2c_j0;
+  w2c_j0 = 0ull;
+  w2c_l17 = w2c_j0;
   w2c_L11:
     w2c_j0 = w2c_l9;
     w2c_i0 = (u32)(w2c_j0);
-    w2c_j0 = i64_load(m, (u64)(w2c_i0) + 72u);
-    w2c_l18 = w2c_j0;
-    w2c_j0 = w2c_l9;
-    w2c_i0 = (u32)(w2c_j0);
-    w2c_j0 = i64_load(m, (u64)(w2c_i0) + 112u);
+    w2c_j0 = i64_load(m, (u64)(w2c_i0) + 40u);
     w2c_l19 = w2c_j0;
     w2c_j0 = w2c_l9;
     w2c_i0 = (u32)(w2c_j0);
-    w2c_j0 = i64_load(m, (u64)(w2c_i0) + 104u);
+    w2c_j0 = i64_load(m, (u64)(w2c_i0) + 80u);
     w2c_l20 = w2c_j0;
     w2c_j0 = w2c_l9;
     w2c_i0 = (u32)(w2c_j0);
-    w2c_j0 = i64_load(m, (u64)(w2c_i0) + 96u);
+    w2c_j0 = i64_load(m, (u64)(w2c_i0) + 72u);
     w2c_l21 = w2c_j0;
     w2c_j0 = w2c_l9;
     w2c_i0 = (u32)(w2c_j0);
-    w2c_j0 = i64_load(m, (u64)(w2c_i0) + 88u);
+    w2c_j0 = i64_load(m, (u64)(w2c_i0) + 64u);
     w2c_l22 = w2c_j0;
+    w2c_j0 = w2c_l9;
+    w2c_i0 = (u32)(w2c_j0);
+    w2c_j0 = i64_load(m, (u64)(w2c_i0) + 56u);
+    w2c_l23 = w2c_j0;
     w2c_j0 = 18446744073709551615ull;
     w2c_j1 = w2c_l9;
     w2c_i1 = (u32)(w2c_j1);
-    w2c_j1 = i64_load(m, (u64)(w2c_i1) + 80u);
-    w2c_l23 = w2c_j1;
-    w2c_j2 = w2c_l16;
-    w2c_j1 -= w2c_j2;
+    w2c_j1 = i64_load(m, (u64)(w2c_i1) + 48u);
     w2c_l24 = w2c_j1;
-    w2c_j2 = w2c_l15;
-    w2c_l25 = w2c_j2;
+    w2c_j2 = w2c_l17;
+    w2c_j1 -= w2c_j2;
+    w2c_l25 = w2c_j1;
+    w2c_j2 = w2c_l16;
+    w2c_l26 = w2c_j2;
     w2c_j1 += w2c_j2;
     w2c_l10 = w2c_j1;
     w2c_j2 = w2c_l10;
-    w2c_j3 = w2c_l24;
+    w2c_j3 = w2c_l25;
     w2c_i2 = w2c_j2 < w2c_j3;
     w2c_j0 = w2c_i2 ? w2c_j0 : w2c_j1;
-    w2c_l26 = w2c_j0;
+    w2c_l27 = w2c_j0;
     w2c_j1 = w2c_p7;
     w2c_i0 = w2c_j0 > w2c_j1;
     if (w2c_i0) {goto w2c_B12;}
-    w2c_j0 = w2c_l14;
-    w2c_j1 = w2c_l25;
+    w2c_j0 = w2c_l15;
+    w2c_j1 = w2c_l26;
     w2c_j0 += w2c_j1;
-    w2c_l27 = w2c_j0;
-    w2c_j1 = w2c_l18;
-    w2c_j2 = w2c_l16;
+    w2c_l28 = w2c_j0;
+    w2c_j1 = w2c_l19;
+    w2c_j2 = w2c_l17;
     w2c_j1 += w2c_j2;
-    w2c_l28 = w2c_j1;
+    w2c_l29 = w2c_j1;
     w2c_j0 -= w2c_j1;
-    w2c_j1 = w2c_l24;
+    w2c_j1 = w2c_l25;
     w2c_i0 = w2c_j0 >= w2c_j1;
     if (w2c_i0) {goto w2c_B13;}
-    w2c_j0 = w2c_l24;
+    w2c_j0 = w2c_l25;
     w2c_j1 = 3ull;
     w2c_j0 &= w2c_j1;
-    w2c_l29 = w2c_j0;
+    w2c_l30 = w2c_j0;
     w2c_j0 = 0ull;
-    w2c_p0 = w2c_j0;
-    w2c_j0 = w2c_l16;
-    w2c_j1 = w2c_l23;
+    w2c_l13 = w2c_j0;
+    w2c_j0 = w2c_l17;
+    w2c_j1 = w2c_l24;
     w2c_j0 -= w2c_j1;
     w2c_j1 = 18446744073709551612ull;
     w2c_i0 = w2c_j0 > w2c_j1;
     if (w2c_i0) {goto w2c_B14;}
-    w2c_j0 = w2c_l24;
+    w2c_j0 = w2c_l25;
     w2c_j1 = 18446744073709551612ull;
     w2c_j0 &= w2c_j1;
-    w2c_l15 = w2c_j0;
+    w2c_l16 = w2c_j0;
     w2c_j0 = 0ull;
-    w2c_p0 = w2c_j0;
+    w2c_l13 = w2c_j0;
     w2c_L15:
-      w2c_j0 = w2c_l27;
-      w2c_j1 = w2c_p0;
+      w2c_j0 = w2c_l28;
+      w2c_j1 = w2c_l13;
       w2c_j0 += w2c_j1;
       w2c_l10 = w2c_j0;
       w2c_i0 = (u32)(w2c_j0);
-      w2c_j1 = w2c_l28;
-      w2c_j2 = w2c_p0;
+      w2c_j1 = w2c_l29;
+      w2c_j2 = w2c_l13;
       w2c_j1 += w2c_j2;
-      w2c_l11 = w2c_j1;
+      w2c_l31 = w2c_j1;
       w2c_i1 = (u32)(w2c_j1);
       w2c_i1 = i32_load8_u(m, (u64)(w2c_i1));
       i32_store8(m, (u64)(w2c_i0), w2c_i1);
@@ -46999,7 +46201,7 @@ static u32 w2c_f80(module *m, u64 w2c_p0, u64 w2c_p1, u32 w2c_p2, u32 w2c_p3, u3
       w2c_j1 = 1ull;
       w2c_j0 += w2c_j1;
       w2c_i0 = (u32)(w2c_j0);
-      w2c_j1 = w2c_l11;
+      w2c_j1 = w2c_l31;
       w2c_j2 = 1ull;
       w2c_j1 += w2c_j2;
       w2c_i1 = (u32)(w2c_j1);
@@ -47009,7 +46211,7 @@ static u32 w2c_f80(module *m, u64 w2c_p0, u64 w2c_p1, u32 w2c_p2, u32 w2c_p3, u3
       w2c_j1 = 2ull;
       w2c_j0 += w2c_j1;
       w2c_i0 = (u32)(w2c_j0);
-      w2c_j1 = w2c_l11;
+      w2c_j1 = w2c_l31;
       w2c_j2 = 2ull;
       w2c_j1 += w2c_j2;
       w2c_i1 = (u32)(w2c_j1);
@@ -47019,39 +46221,39 @@ static u32 w2c_f80(module *m, u64 w2c_p0, u64 w2c_p1, u32 w2c_p2, u32 w2c_p3, u3
       w2c_j1 = 3ull;
       w2c_j0 += w2c_j1;
       w2c_i0 = (u32)(w2c_j0);
-      w2c_j1 = w2c_l11;
+      w2c_j1 = w2c_l31;
       w2c_j2 = 3ull;
       w2c_j1 += w2c_j2;
       w2c_i1 = (u32)(w2c_j1);
       w2c_i1 = i32_load8_u(m, (u64)(w2c_i1));
       i32_store8(m, (u64)(w2c_i0), w2c_i1);
-      w2c_j0 = w2c_l15;
-      w2c_j1 = w2c_p0;
+      w2c_j0 = w2c_l16;
+      w2c_j1 = w2c_l13;
       w2c_j2 = 4ull;
       w2c_j1 += w2c_j2;
-      w2c_p0 = w2c_j1;
+      w2c_l13 = w2c_j1;
       w2c_i0 = w2c_j0 != w2c_j1;
       if (w2c_i0) {goto w2c_L15;}
-    w2c_j0 = w2c_l29;
+    w2c_j0 = w2c_l30;
     w2c_i0 = !(w2c_j0);
     if (w2c_i0) {goto w2c_B12;}
     w2c_B14:;
-    w2c_j0 = w2c_l14;
-    w2c_j1 = w2c_l25;
-    w2c_j2 = w2c_p0;
+    w2c_j0 = w2c_l15;
+    w2c_j1 = w2c_l26;
+    w2c_j2 = w2c_l13;
     w2c_j1 += w2c_j2;
     w2c_j0 += w2c_j1;
     w2c_l10 = w2c_j0;
-    w2c_j0 = w2c_l18;
-    w2c_j1 = w2c_p0;
-    w2c_j2 = w2c_l16;
+    w2c_j0 = w2c_l19;
+    w2c_j1 = w2c_l13;
+    w2c_j2 = w2c_l17;
     w2c_j1 += w2c_j2;
     w2c_j0 += w2c_j1;
-    w2c_p0 = w2c_j0;
+    w2c_l13 = w2c_j0;
     w2c_L16:
       w2c_j0 = w2c_l10;
       w2c_i0 = (u32)(w2c_j0);
-      w2c_j1 = w2c_p0;
+      w2c_j1 = w2c_l13;
       w2c_i1 = (u32)(w2c_j1);
       w2c_i1 = i32_load8_u(m, (u64)(w2c_i1));
       i32_store8(m, (u64)(w2c_i0), w2c_i1);
@@ -47059,28 +46261,28 @@ static u32 w2c_f80(module *m, u64 w2c_p0, u64 w2c_p1, u32 w2c_p2, u32 w2c_p3, u3
       w2c_j1 = 1ull;
       w2c_j0 += w2c_j1;
       w2c_l10 = w2c_j0;
-      w2c_j0 = w2c_p0;
+      w2c_j0 = w2c_l13;
       w2c_j1 = 1ull;
       w2c_j0 += w2c_j1;
-      w2c_p0 = w2c_j0;
-      w2c_j0 = w2c_l29;
+      w2c_l13 = w2c_j0;
+      w2c_j0 = w2c_l30;
       w2c_j1 = 18446744073709551615ull;
       w2c_j0 += w2c_j1;
-      w2c_l29 = w2c_j0;
+      w2c_l30 = w2c_j0;
       w2c_j1 = 0ull;
       w2c_i0 = w2c_j0 != w2c_j1;
       if (w2c_i0) {goto w2c_L16;}
       goto w2c_B12;
     UNREACHABLE;
     w2c_B13:;
-    w2c_j0 = w2c_l24;
+    w2c_j0 = w2c_l25;
     w2c_i0 = !(w2c_j0);
     if (w2c_i0) {goto w2c_B12;}
-    w2c_j0 = w2c_l27;
+    w2c_j0 = w2c_l28;
     w2c_i0 = (u32)(w2c_j0);
-    w2c_j1 = w2c_l28;
+    w2c_j1 = w2c_l29;
     w2c_i1 = (u32)(w2c_j1);
-    w2c_j2 = w2c_l24;
+    w2c_j2 = w2c_l25;
     w2c_i2 = (u32)(w2c_j2);
     memory_copy(m, w2c_i0, w2c_i1, w2c_i2);
     w2c_B12:;
@@ -47089,47 +46291,185 @@ static u32 w2c_f80(module *m, u64 w2c_p0, u64 w2c_p1, u32 w2c_p2, u32 w2c_p3, u3
     w2c_i0 = w2c_i0 > w2c_i1;
     if (w2c_i0) {goto w2c_B19;}
     w2c_j0 = w2c_l22;
-    w2c_j1 = w2c_l21;
-    w2c_i0 = w2c_f27(m, w2c_j0, w2c_j1);
+    w2c_j1 = 3ull;
+    w2c_i0 = w2c_j0 < w2c_j1;
+    if (w2c_i0) {goto w2c_B22;}
+    w2c_j0 = w2c_l23;
+    w2c_i0 = (u32)(w2c_j0);
+    w2c_i0 = i32_load8_u(m, (u64)(w2c_i0));
+    w2c_l33 = w2c_i0;
+    w2c_i1 = 240u;
+    w2c_i0 &= w2c_i1;
+    w2c_i1 = 224u;
+    w2c_i0 = w2c_i0 != w2c_i1;
+    if (w2c_i0) {goto w2c_B21;}
+    w2c_i0 = w2c_l33;
+    w2c_i1 = 12u;
+    w2c_i0 <<= (w2c_i1 & 31);
+    w2c_j1 = w2c_l23;
+    w2c_i1 = (u32)(w2c_j1);
+    w2c_i1 = i32_load8_u(m, (u64)(w2c_i1) + 1u);
+    w2c_i2 = 6u;
+    w2c_i1 <<= (w2c_i2 & 31);
+    w2c_i0 += w2c_i1;
+    w2c_j1 = w2c_l23;
+    w2c_i1 = (u32)(w2c_j1);
+    w2c_i1 = i32_load8_u(m, (u64)(w2c_i1) + 2u);
+    w2c_i0 += w2c_i1;
+    w2c_i1 = 4294041472u;
+    w2c_i0 += w2c_i1;
+    w2c_l33 = w2c_i0;
+    w2c_j0 = w2c_l22;
+    w2c_j1 = 18446744073709551613ull;
+    w2c_j0 += w2c_j1;
+    w2c_l10 = w2c_j0;
+    goto w2c_B20;
+    w2c_B22:;
+    w2c_j0 = w2c_l22;
+    w2c_i0 = !(w2c_j0);
+    if (w2c_i0) {goto w2c_B19;}
+    w2c_j0 = w2c_l23;
+    w2c_i0 = (u32)(w2c_j0);
+    w2c_i0 = i32_load8_u(m, (u64)(w2c_i0));
+    w2c_l33 = w2c_i0;
+    w2c_B21:;
+    w2c_j0 = 18446744073709551615ull;
+    w2c_l10 = w2c_j0;
+    w2c_i0 = w2c_l33;
+    w2c_i0 = (u32)(s32)(s8)(u8)(w2c_i0);
+    w2c_i1 = 4294967295u;
+    w2c_i0 = (u32)((s32)w2c_i0 > (s32)w2c_i1);
+    if (w2c_i0) {goto w2c_B23;}
+    w2c_j0 = w2c_l23;
+    w2c_i0 = (u32)(w2c_j0);
+    w2c_i0 = i32_load8_u(m, (u64)(w2c_i0) + 1u);
+    w2c_i1 = 63u;
+    w2c_i0 &= w2c_i1;
+    w2c_p3 = w2c_i0;
+    w2c_i0 = w2c_l33;
+    w2c_i1 = 223u;
+    w2c_i0 = w2c_i0 > w2c_i1;
+    if (w2c_i0) {goto w2c_B24;}
+    w2c_i0 = w2c_l33;
+    w2c_i1 = 6u;
+    w2c_i0 <<= (w2c_i1 & 31);
+    w2c_i1 = 1984u;
+    w2c_i0 &= w2c_i1;
+    w2c_i1 = w2c_p3;
+    w2c_i0 |= w2c_i1;
+    w2c_l33 = w2c_i0;
+    w2c_j0 = 18446744073709551614ull;
+    w2c_l10 = w2c_j0;
+    goto w2c_B23;
+    w2c_B24:;
+    w2c_j0 = w2c_l23;
+    w2c_i0 = (u32)(w2c_j0);
+    w2c_i0 = i32_load8_u(m, (u64)(w2c_i0) + 2u);
+    w2c_i1 = 63u;
+    w2c_i0 &= w2c_i1;
+    w2c_p4 = w2c_i0;
+    w2c_i0 = w2c_l33;
+    w2c_i1 = 239u;
+    w2c_i0 = w2c_i0 > w2c_i1;
+    if (w2c_i0) {goto w2c_B25;}
+    w2c_i0 = w2c_p3;
+    w2c_i1 = 6u;
+    w2c_i0 <<= (w2c_i1 & 31);
+    w2c_i1 = w2c_l33;
+    w2c_i2 = 12u;
+    w2c_i1 <<= (w2c_i2 & 31);
+    w2c_i2 = 61440u;
+    w2c_i1 &= w2c_i2;
+    w2c_i0 |= w2c_i1;
+    w2c_i1 = w2c_p4;
+    w2c_i0 |= w2c_i1;
+    w2c_l33 = w2c_i0;
+    w2c_j0 = 18446744073709551613ull;
+    w2c_l10 = w2c_j0;
+    goto w2c_B23;
+    w2c_B25:;
+    w2c_i0 = w2c_p4;
+    w2c_i1 = 6u;
+    w2c_i0 <<= (w2c_i1 & 31);
+    w2c_i1 = w2c_p3;
+    w2c_i2 = 12u;
+    w2c_i1 <<= (w2c_i2 & 31);
+    w2c_i2 = w2c_l33;
+    w2c_i3 = 18u;
+    w2c_i2 <<= (w2c_i3 & 31);
+    w2c_i3 = 1835008u;
+    w2c_i2 &= w2c_i3;
+    w2c_i1 |= w2c_i2;
+    w2c_i0 |= w2c_i1;
+    w2c_j1 = w2c_l23;
+    w2c_i1 = (u32)(w2c_j1);
+    w2c_i1 = i32_load8_u(m, (u64)(w2c_i1) + 3u);
+    w2c_i2 = 63u;
+    w2c_i1 &= w2c_i2;
+    w2c_i0 |= w2c_i1;
+    w2c_l33 = w2c_i0;
+    w2c_j0 = 18446744073709551612ull;
+    w2c_l10 = w2c_j0;
+    w2c_B23:;
+    w2c_j0 = w2c_l10;
+    w2c_j1 = w2c_l22;
+    w2c_j0 += w2c_j1;
+    w2c_l10 = w2c_j0;
+    w2c_B20:;
+    w2c_j0 = w2c_l10;
+    w2c_j1 = 0ull;
+    w2c_i0 = w2c_j0 != w2c_j1;
+    if (w2c_i0) {goto w2c_B19;}
+    w2c_i0 = w2c_l33;
+    w2c_i1 = 4294967248u;
+    w2c_i0 += w2c_i1;
+    w2c_i1 = 10u;
+    w2c_i0 = w2c_i0 < w2c_i1;
+    if (w2c_i0) {goto w2c_B19;}
+    w2c_i0 = w2c_l33;
+    w2c_i1 = 4294902000u;
+    w2c_i0 += w2c_i1;
+    w2c_i1 = 9u;
+    w2c_i0 = w2c_i0 > w2c_i1;
     if (w2c_i0) {goto w2c_B18;}
     w2c_B19:;
     w2c_i0 = w2c_p2;
     w2c_i1 = 1u;
     w2c_i0 &= w2c_i1;
-    if (w2c_i0) {goto w2c_B20;}
+    if (w2c_i0) {goto w2c_B26;}
     w2c_i0 = 1u;
     w2c_p3 = w2c_i0;
-    w2c_j0 = w2c_l23;
+    w2c_j0 = w2c_l24;
     w2c_i0 = !(w2c_j0);
-    if (w2c_i0) {goto w2c_B21;}
-    w2c_j0 = w2c_l18;
-    w2c_j1 = w2c_l23;
+    if (w2c_i0) {goto w2c_B27;}
+    w2c_j0 = w2c_l19;
+    w2c_j1 = w2c_l24;
     w2c_j2 = 18446744073709551615ull;
     w2c_j1 += w2c_j2;
     w2c_l10 = w2c_j1;
     w2c_j0 += w2c_j1;
     w2c_i0 = (u32)(w2c_j0);
     w2c_i0 = i32_load8_s(m, (u64)(w2c_i0));
-    w2c_l31 = w2c_i0;
+    w2c_l33 = w2c_i0;
     w2c_i1 = 0u;
     w2c_i0 = (u32)((s32)w2c_i0 >= (s32)w2c_i1);
-    if (w2c_i0) {goto w2c_B28;}
+    if (w2c_i0) {goto w2c_B33;}
     w2c_j0 = 18446744073709551614ull;
     w2c_l10 = w2c_j0;
-    w2c_j0 = w2c_l18;
-    w2c_j1 = w2c_l23;
+    w2c_j0 = w2c_l19;
+    w2c_j1 = w2c_l24;
     w2c_j0 += w2c_j1;
-    w2c_p0 = w2c_j0;
+    w2c_l13 = w2c_j0;
     w2c_j1 = 18446744073709551614ull;
     w2c_j0 += w2c_j1;
     w2c_i0 = (u32)(w2c_j0);
     w2c_i0 = i32_load8_u(m, (u64)(w2c_i0));
     w2c_i1 = 191u;
     w2c_i0 = w2c_i0 > w2c_i1;
-    if (w2c_i0) {goto w2c_B29;}
+    if (w2c_i0) {goto w2c_B34;}
     w2c_j0 = 18446744073709551613ull;
     w2c_j1 = 18446744073709551612ull;
-    w2c_j2 = w2c_p0;
+    w2c_j2 = w2c_l13;
     w2c_j3 = 18446744073709551613ull;
     w2c_j2 += w2c_j3;
     w2c_i2 = (u32)(w2c_j2);
@@ -47138,25 +46478,25 @@ static u32 w2c_f80(module *m, u64 w2c_p0, u64 w2c_p1, u32 w2c_p2, u32 w2c_p3, u3
     w2c_i2 = w2c_i2 > w2c_i3;
     w2c_j0 = w2c_i2 ? w2c_j0 : w2c_j1;
     w2c_l10 = w2c_j0;
-    w2c_B29:;
-    w2c_j0 = w2c_l18;
+    w2c_B34:;
+    w2c_j0 = w2c_l19;
     w2c_j1 = w2c_l10;
-    w2c_j2 = w2c_l23;
+    w2c_j2 = w2c_l24;
     w2c_j1 += w2c_j2;
     w2c_l10 = w2c_j1;
     w2c_j0 += w2c_j1;
-    w2c_p0 = w2c_j0;
+    w2c_l13 = w2c_j0;
     w2c_i0 = (u32)(w2c_j0);
     w2c_i0 = i32_load8_s(m, (u64)(w2c_i0));
     w2c_p3 = w2c_i0;
     w2c_i1 = 255u;
     w2c_i0 &= w2c_i1;
-    w2c_l31 = w2c_i0;
+    w2c_l33 = w2c_i0;
     w2c_i0 = w2c_p3;
     w2c_i1 = 4294967295u;
     w2c_i0 = (u32)((s32)w2c_i0 > (s32)w2c_i1);
-    if (w2c_i0) {goto w2c_B28;}
-    w2c_j0 = w2c_p0;
+    if (w2c_i0) {goto w2c_B33;}
+    w2c_j0 = w2c_l13;
     w2c_i0 = (u32)(w2c_j0);
     w2c_i0 = i32_load8_u(m, (u64)(w2c_i0) + 1u);
     w2c_i1 = 63u;
@@ -47165,119 +46505,78 @@ static u32 w2c_f80(module *m, u64 w2c_p0, u64 w2c_p1, u32 w2c_p2, u32 w2c_p3, u3
     w2c_i0 = w2c_p3;
     w2c_i1 = 4294967263u;
     w2c_i0 = w2c_i0 > w2c_i1;
-    if (w2c_i0) {goto w2c_B30;}
-    w2c_i0 = w2c_l31;
+    if (w2c_i0) {goto w2c_B35;}
+    w2c_i0 = w2c_l33;
     w2c_i1 = 6u;
     w2c_i0 <<= (w2c_i1 & 31);
     w2c_i1 = 1984u;
     w2c_i0 &= w2c_i1;
     w2c_i1 = w2c_p4;
     w2c_i0 |= w2c_i1;
-    w2c_l31 = w2c_i0;
-    goto w2c_B28;
-    w2c_B30:;
-    w2c_j0 = w2c_p0;
+    w2c_l33 = w2c_i0;
+    goto w2c_B33;
+    w2c_B35:;
+    w2c_j0 = w2c_l13;
     w2c_i0 = (u32)(w2c_j0);
     w2c_i0 = i32_load8_u(m, (u64)(w2c_i0) + 2u);
     w2c_i1 = 63u;
     w2c_i0 &= w2c_i1;
-    w2c_l30 = w2c_i0;
+    w2c_l32 = w2c_i0;
     w2c_i0 = w2c_p3;
     w2c_i1 = 4294967279u;
     w2c_i0 = w2c_i0 > w2c_i1;
-    if (w2c_i0) {goto w2c_B32;}
+    if (w2c_i0) {goto w2c_B37;}
     w2c_i0 = w2c_p4;
     w2c_i1 = 6u;
     w2c_i0 <<= (w2c_i1 & 31);
-    w2c_i1 = w2c_l31;
+    w2c_i1 = w2c_l33;
     w2c_i2 = 12u;
     w2c_i1 <<= (w2c_i2 & 31);
     w2c_i2 = 61440u;
     w2c_i1 &= w2c_i2;
     w2c_i0 |= w2c_i1;
-    w2c_i1 = w2c_l30;
+    w2c_i1 = w2c_l32;
     w2c_i0 |= w2c_i1;
-    w2c_l31 = w2c_i0;
-    goto w2c_B31;
-    w2c_B32:;
-    w2c_i0 = w2c_l30;
+    w2c_l33 = w2c_i0;
+    goto w2c_B36;
+    w2c_B37:;
+    w2c_i0 = w2c_l32;
     w2c_i1 = 6u;
     w2c_i0 <<= (w2c_i1 & 31);
     w2c_i1 = w2c_p4;
     w2c_i2 = 12u;
     w2c_i1 <<= (w2c_i2 & 31);
-    w2c_i2 = w2c_l31;
+    w2c_i2 = w2c_l33;
     w2c_i3 = 18u;
     w2c_i2 <<= (w2c_i3 & 31);
     w2c_i3 = 1835008u;
     w2c_i2 &= w2c_i3;
     w2c_i1 |= w2c_i2;
     w2c_i0 |= w2c_i1;
-    w2c_j1 = w2c_p0;
+    w2c_j1 = w2c_l13;
     w2c_i1 = (u32)(w2c_j1);
     w2c_i1 = i32_load8_u(m, (u64)(w2c_i1) + 3u);
     w2c_i2 = 63u;
     w2c_i1 &= w2c_i2;
     w2c_i0 |= w2c_i1;
-    w2c_l31 = w2c_i0;
-    w2c_B31:;
-    w2c_i0 = w2c_l31;
+    w2c_l33 = w2c_i0;
+    w2c_B36:;
+    w2c_i0 = w2c_l33;
     w2c_i1 = 4294965248u;
     w2c_i0 += w2c_i1;
-    w2c_i1 = 63488u;
-    w2c_i0 = w2c_i0 < w2c_i1;
-    if (w2c_i0) {goto w2c_B27;}
-    w2c_B28:;
-    w2c_j0 = w2c_l9;
-    w2c_j1 = 56ull;
-    w2c_j0 += w2c_j1;
-    w2c_i1 = w2c_l31;
-    w2c_f18(m, w2c_j0, w2c_i1);
-    w2c_j0 = w2c_l9;
-    w2c_i0 = (u32)(w2c_j0);
-    w2c_i0 = i32_load8_u(m, (u64)(w2c_i0) + 56u);
-    w2c_i1 = 1u;
-    w2c_i0 = w2c_i0 == w2c_i1;
-    if (w2c_i0) {goto w2c_B23;}
-    w2c_j0 = w2c_l9;
-    w2c_j1 = 48ull;
-    w2c_j0 += w2c_j1;
-    w2c_i1 = w2c_l31;
-    w2c_f19(m, w2c_j0, w2c_i1);
-    w2c_i0 = w2c_l31;
-    w2c_i1 = 128u;
-    w2c_i0 = w2c_i0 >= w2c_i1;
-    if (w2c_i0) {goto w2c_B26;}
-    w2c_i0 = w2c_l31;
-    w2c_i1 = 95u;
-    w2c_i0 = w2c_i0 == w2c_i1;
-    if (w2c_i0) {goto w2c_B23;}
-    w2c_i0 = w2c_l31;
-    w2c_i1 = 4294967248u;
-    w2c_i0 += w2c_i1;
-    w2c_i1 = 10u;
-    w2c_i0 = w2c_i0 < w2c_i1;
-    if (w2c_i0) {goto w2c_B23;}
-    w2c_i0 = w2c_l31;
-    w2c_i1 = 95u;
-    w2c_i0 &= w2c_i1;
-    w2c_i1 = 4294967231u;
-    w2c_i0 += w2c_i1;
-    w2c_i1 = 26u;
-    w2c_i0 = w2c_i0 >= w2c_i1;
-    if (w2c_i0) {goto w2c_B25;}
-    goto w2c_B23;
-    w2c_B27:;
-    w2c_i0 = w2c_l31;
+    w2c_i1 = 63487u;
+    w2c_i0 = w2c_i0 > w2c_i1;
+    if (w2c_i0) {goto w2c_B33;}
+    w2c_i0 = w2c_l33;
     w2c_i1 = 12u;
     w2c_i0 >>= (w2c_i1 & 31);
-    w2c_i1 = w2c_l31;
+    w2c_i1 = w2c_l33;
     w2c_i2 = 2u;
     w2c_i1 <<= (w2c_i2 & 31);
     w2c_i2 = 16128u;
     w2c_i1 &= w2c_i2;
     w2c_i0 |= w2c_i1;
-    w2c_i1 = w2c_l31;
+    w2c_i1 = w2c_l33;
     w2c_i2 = 16u;
     w2c_i1 <<= (w2c_i2 & 31);
     w2c_i2 = 4128768u;
@@ -47293,13 +46592,13 @@ static u32 w2c_f80(module *m, u64 w2c_p0, u64 w2c_p1, u32 w2c_p2, u32 w2c_p3, u3
     w2c_j0 >>= (w2c_j1 & 63);
     w2c_j1 = 1016ull;
     w2c_j0 &= w2c_j1;
-    w2c_p0 = w2c_j0;
+    w2c_l13 = w2c_j0;
     w2c_i0 = (u32)(w2c_j0);
     w2c_i0 = i32_load(m, (u64)(w2c_i0) + 66992u);
     w2c_i1 = w2c_p3;
     w2c_i0 = w2c_i0 != w2c_i1;
-    if (w2c_i0) {goto w2c_B26;}
-    w2c_j0 = w2c_p0;
+    if (w2c_i0) {goto w2c_B32;}
+    w2c_j0 = w2c_l13;
     w2c_j1 = 66996ull;
     w2c_j0 += w2c_j1;
     w2c_i0 = (u32)(w2c_j0);
@@ -47307,126 +46606,151 @@ static u32 w2c_f80(module *m, u64 w2c_p0, u64 w2c_p1, u32 w2c_p2, u32 w2c_p3, u3
     w2c_i1 = 255u;
     w2c_i0 &= w2c_i1;
     w2c_i0 = !(w2c_i0);
-    if (w2c_i0) {goto w2c_B23;}
-    w2c_B26:;
-    w2c_i0 = w2c_l31;
+    if (w2c_i0) {goto w2c_B29;}
+    goto w2c_B32;
+    w2c_B33:;
+    w2c_i0 = w2c_l33;
+    w2c_i1 = 4294967248u;
+    w2c_i0 += w2c_i1;
+    w2c_i1 = 10u;
+    w2c_i0 = w2c_i0 < w2c_i1;
+    if (w2c_i0) {goto w2c_B29;}
+    w2c_i0 = w2c_l33;
+    w2c_i1 = 128u;
+    w2c_i0 = w2c_i0 >= w2c_i1;
+    if (w2c_i0) {goto w2c_B32;}
+    w2c_i0 = w2c_l33;
+    w2c_i1 = 95u;
+    w2c_i0 = w2c_i0 == w2c_i1;
+    if (w2c_i0) {goto w2c_B29;}
+    w2c_i0 = w2c_l33;
+    w2c_i1 = 95u;
+    w2c_i0 &= w2c_i1;
+    w2c_i1 = 4294967231u;
+    w2c_i0 += w2c_i1;
+    w2c_i1 = 26u;
+    w2c_i0 = w2c_i0 >= w2c_i1;
+    if (w2c_i0) {goto w2c_B31;}
+    goto w2c_B29;
+    w2c_B32:;
+    w2c_i0 = w2c_l33;
     w2c_i1 = 4294902000u;
     w2c_i0 += w2c_i1;
     w2c_i1 = 10u;
     w2c_i0 = w2c_i0 < w2c_i1;
-    if (w2c_i0) {goto w2c_B23;}
-    w2c_i0 = w2c_l31;
+    if (w2c_i0) {goto w2c_B29;}
+    w2c_i0 = w2c_l33;
     w2c_i1 = 24318u;
     w2c_i0 = (u32)((s32)w2c_i0 > (s32)w2c_i1);
-    if (w2c_i0) {goto w2c_B33;}
-    w2c_i0 = w2c_l31;
+    if (w2c_i0) {goto w2c_B38;}
+    w2c_i0 = w2c_l33;
     w2c_i1 = 4294945979u;
     w2c_i0 += w2c_i1;
     switch (w2c_i0) {
-      case 0: goto w2c_B22;
-      case 1: goto w2c_B25;
-      case 2: goto w2c_B25;
-      case 3: goto w2c_B25;
-      case 4: goto w2c_B25;
-      case 5: goto w2c_B25;
-      case 6: goto w2c_B25;
-      case 7: goto w2c_B22;
-      default: goto w2c_B34;
+      case 0: goto w2c_B28;
+      case 1: goto w2c_B31;
+      case 2: goto w2c_B31;
+      case 3: goto w2c_B31;
+      case 4: goto w2c_B31;
+      case 5: goto w2c_B31;
+      case 6: goto w2c_B31;
+      case 7: goto w2c_B28;
+      default: goto w2c_B39;
     }
-    w2c_B34:;
-    w2c_i0 = w2c_l31;
+    w2c_B39:;
+    w2c_i0 = w2c_l33;
     w2c_i1 = 24186u;
     w2c_i0 = w2c_i0 != w2c_i1;
-    if (w2c_i0) {goto w2c_B25;}
-    goto w2c_B22;
-    w2c_B33:;
-    w2c_i0 = w2c_l31;
+    if (w2c_i0) {goto w2c_B31;}
+    goto w2c_B28;
+    w2c_B38:;
+    w2c_i0 = w2c_l33;
     w2c_i1 = 24319u;
     w2c_i0 = w2c_i0 == w2c_i1;
-    if (w2c_i0) {goto w2c_B22;}
-    w2c_i0 = w2c_l31;
+    if (w2c_i0) {goto w2c_B28;}
+    w2c_i0 = w2c_l33;
     w2c_i1 = 28857u;
     w2c_i0 = w2c_i0 == w2c_i1;
-    if (w2c_i0) {goto w2c_B24;}
-    w2c_i0 = w2c_l31;
+    if (w2c_i0) {goto w2c_B30;}
+    w2c_i0 = w2c_l33;
     w2c_i1 = 40670u;
     w2c_i0 = w2c_i0 == w2c_i1;
-    if (w2c_i0) {goto w2c_B24;}
-    w2c_B25:;
-    w2c_i0 = w2c_l31;
+    if (w2c_i0) {goto w2c_B30;}
+    w2c_B31:;
+    w2c_i0 = w2c_l33;
     w2c_i1 = 4294967252u;
     w2c_i0 += w2c_i1;
     w2c_i1 = 2u;
     w2c_i0 = w2c_i0 > w2c_i1;
-    if (w2c_i0) {goto w2c_B23;}
-    w2c_B24:;
-    w2c_j0 = w2c_l18;
+    if (w2c_i0) {goto w2c_B29;}
+    w2c_B30:;
+    w2c_j0 = w2c_l19;
     w2c_j1 = w2c_l10;
-    w2c_i0 = w2c_f24(m, w2c_j0, w2c_j1);
-    w2c_B23:;
+    w2c_i0 = w2c_f23(m, w2c_j0, w2c_j1);
+    w2c_B29:;
     w2c_i0 = 0u;
     w2c_p3 = w2c_i0;
-    w2c_i0 = w2c_l31;
+    w2c_i0 = w2c_l33;
     w2c_i1 = 4294941328u;
     w2c_i0 += w2c_i1;
     switch (w2c_i0) {
-      case 0: goto w2c_B21;
-      case 1: goto w2c_B22;
-      case 2: goto w2c_B22;
-      case 3: goto w2c_B22;
-      case 4: goto w2c_B22;
-      case 5: goto w2c_B22;
-      case 6: goto w2c_B22;
-      case 7: goto w2c_B22;
-      case 8: goto w2c_B21;
-      default: goto w2c_B35;
+      case 0: goto w2c_B27;
+      case 1: goto w2c_B28;
+      case 2: goto w2c_B28;
+      case 3: goto w2c_B28;
+      case 4: goto w2c_B28;
+      case 5: goto w2c_B28;
+      case 6: goto w2c_B28;
+      case 7: goto w2c_B28;
+      case 8: goto w2c_B27;
+      default: goto w2c_B40;
     }
-    w2c_B35:;
-    w2c_i0 = w2c_l31;
+    w2c_B40:;
+    w2c_i0 = w2c_l33;
     w2c_i1 = 20960u;
     w2c_i0 = w2c_i0 == w2c_i1;
-    if (w2c_i0) {goto w2c_B21;}
-    w2c_i0 = w2c_l31;
+    if (w2c_i0) {goto w2c_B27;}
+    w2c_i0 = w2c_l33;
     w2c_i1 = 24190u;
     w2c_i0 = w2c_i0 == w2c_i1;
-    if (w2c_i0) {goto w2c_B21;}
-    w2c_B22:;
+    if (w2c_i0) {goto w2c_B27;}
+    w2c_B28:;
     w2c_i0 = 1u;
     w2c_p3 = w2c_i0;
-    w2c_B21:;
-    w2c_j0 = w2c_l19;
+    w2c_B27:;
+    w2c_j0 = w2c_l20;
     w2c_j1 = 3ull;
     w2c_i0 = w2c_j0 < w2c_j1;
-    if (w2c_i0) {goto w2c_B46;}
-    w2c_j0 = w2c_l20;
+    if (w2c_i0) {goto w2c_B52;}
+    w2c_j0 = w2c_l21;
     w2c_i0 = (u32)(w2c_j0);
     w2c_i0 = i32_load8_u(m, (u64)(w2c_i0));
-    w2c_l31 = w2c_i0;
+    w2c_l33 = w2c_i0;
     w2c_i1 = 240u;
     w2c_i0 &= w2c_i1;
     w2c_i1 = 224u;
     w2c_i0 = w2c_i0 != w2c_i1;
-    if (w2c_i0) {goto w2c_B45;}
-    w2c_j0 = w2c_l20;
+    if (w2c_i0) {goto w2c_B51;}
+    w2c_j0 = w2c_l21;
     w2c_i0 = (u32)(w2c_j0);
     w2c_i0 = i32_load8_u(m, (u64)(w2c_i0) + 1u);
-    w2c_l30 = w2c_i0;
+    w2c_l32 = w2c_i0;
     w2c_i1 = 8u;
     w2c_i0 <<= (w2c_i1 & 31);
-    w2c_j1 = w2c_l20;
+    w2c_j1 = w2c_l21;
     w2c_i1 = (u32)(w2c_j1);
     w2c_i1 = i32_load8_u(m, (u64)(w2c_i1) + 2u);
     w2c_p5 = w2c_i1;
     w2c_i2 = 16u;
     w2c_i1 <<= (w2c_i2 & 31);
     w2c_i0 |= w2c_i1;
-    w2c_i1 = w2c_l31;
+    w2c_i1 = w2c_l33;
     w2c_i0 |= w2c_i1;
     w2c_p4 = w2c_i0;
-    w2c_i0 = w2c_l31;
+    w2c_i0 = w2c_l33;
     w2c_i1 = 12u;
     w2c_i0 <<= (w2c_i1 & 31);
-    w2c_i1 = w2c_l30;
+    w2c_i1 = w2c_l32;
     w2c_i2 = 6u;
     w2c_i1 <<= (w2c_i2 & 31);
     w2c_i0 += w2c_i1;
@@ -47434,12 +46758,12 @@ static u32 w2c_f80(module *m, u64 w2c_p0, u64 w2c_p1, u32 w2c_p2, u32 w2c_p3, u3
     w2c_i0 += w2c_i1;
     w2c_i1 = 4294041472u;
     w2c_i0 += w2c_i1;
-    w2c_l31 = w2c_i0;
-    w2c_j0 = w2c_l19;
+    w2c_l33 = w2c_i0;
+    w2c_j0 = w2c_l20;
     w2c_j1 = 18446744073709551613ull;
     w2c_j0 += w2c_j1;
-    w2c_p0 = w2c_j0;
-    w2c_j0 = w2c_l20;
+    w2c_l13 = w2c_j0;
+    w2c_j0 = w2c_l21;
     w2c_j1 = 3ull;
     w2c_j0 += w2c_j1;
     w2c_l10 = w2c_j0;
@@ -47452,125 +46776,125 @@ static u32 w2c_f80(module *m, u64 w2c_p0, u64 w2c_p1, u32 w2c_p2, u32 w2c_p3, u3
     w2c_j1 >>= (w2c_j2 & 63);
     w2c_j2 = 1016ull;
     w2c_j1 &= w2c_j2;
-    w2c_l11 = w2c_j1;
+    w2c_l31 = w2c_j1;
     w2c_j2 = 66992ull;
     w2c_j1 += w2c_j2;
     w2c_i1 = (u32)(w2c_j1);
     w2c_i1 = i32_load(m, (u64)(w2c_i1));
-    w2c_i0 = w2c_i0 != w2c_i1;
-    if (w2c_i0) {goto w2c_B43;}
-    goto w2c_B44;
-    w2c_B46:;
-    w2c_j0 = w2c_l19;
-    w2c_i0 = !(w2c_j0);
-    if (w2c_i0) {goto w2c_B37;}
+    w2c_i0 = w2c_i0 == w2c_i1;
+    if (w2c_i0) {goto w2c_B50;}
+    goto w2c_B48;
+    w2c_B52:;
     w2c_j0 = w2c_l20;
+    w2c_i0 = !(w2c_j0);
+    if (w2c_i0) {goto w2c_B42;}
+    w2c_j0 = w2c_l21;
     w2c_i0 = (u32)(w2c_j0);
     w2c_i0 = i32_load8_u(m, (u64)(w2c_i0));
-    w2c_l31 = w2c_i0;
-    w2c_B45:;
+    w2c_l33 = w2c_i0;
+    w2c_B51:;
     w2c_j0 = 1ull;
     w2c_l10 = w2c_j0;
-    w2c_i0 = w2c_l31;
+    w2c_i0 = w2c_l33;
     w2c_i0 = (u32)(s32)(s8)(u8)(w2c_i0);
     w2c_i1 = 4294967295u;
     w2c_i0 = (u32)((s32)w2c_i0 > (s32)w2c_i1);
-    if (w2c_i0) {goto w2c_B47;}
-    w2c_j0 = w2c_l20;
+    if (w2c_i0) {goto w2c_B53;}
+    w2c_j0 = w2c_l21;
     w2c_i0 = (u32)(w2c_j0);
     w2c_i0 = i32_load8_u(m, (u64)(w2c_i0) + 1u);
     w2c_i1 = 63u;
     w2c_i0 &= w2c_i1;
     w2c_p4 = w2c_i0;
-    w2c_i0 = w2c_l31;
+    w2c_i0 = w2c_l33;
     w2c_i1 = 223u;
     w2c_i0 = w2c_i0 > w2c_i1;
-    if (w2c_i0) {goto w2c_B48;}
-    w2c_i0 = w2c_l31;
+    if (w2c_i0) {goto w2c_B54;}
+    w2c_i0 = w2c_l33;
     w2c_i1 = 6u;
     w2c_i0 <<= (w2c_i1 & 31);
     w2c_i1 = 1984u;
     w2c_i0 &= w2c_i1;
     w2c_i1 = w2c_p4;
     w2c_i0 |= w2c_i1;
-    w2c_l31 = w2c_i0;
+    w2c_l33 = w2c_i0;
     w2c_j0 = 2ull;
     w2c_l10 = w2c_j0;
-    goto w2c_B47;
-    w2c_B48:;
-    w2c_j0 = w2c_l20;
+    goto w2c_B53;
+    w2c_B54:;
+    w2c_j0 = w2c_l21;
     w2c_i0 = (u32)(w2c_j0);
     w2c_i0 = i32_load8_u(m, (u64)(w2c_i0) + 2u);
     w2c_i1 = 63u;
     w2c_i0 &= w2c_i1;
-    w2c_l30 = w2c_i0;
-    w2c_i0 = w2c_l31;
+    w2c_l32 = w2c_i0;
+    w2c_i0 = w2c_l33;
     w2c_i1 = 239u;
     w2c_i0 = w2c_i0 > w2c_i1;
-    if (w2c_i0) {goto w2c_B49;}
+    if (w2c_i0) {goto w2c_B55;}
     w2c_i0 = w2c_p4;
     w2c_i1 = 6u;
     w2c_i0 <<= (w2c_i1 & 31);
-    w2c_i1 = w2c_l31;
+    w2c_i1 = w2c_l33;
     w2c_i2 = 12u;
     w2c_i1 <<= (w2c_i2 & 31);
     w2c_i2 = 61440u;
     w2c_i1 &= w2c_i2;
     w2c_i0 |= w2c_i1;
-    w2c_i1 = w2c_l30;
+    w2c_i1 = w2c_l32;
     w2c_i0 |= w2c_i1;
-    w2c_l31 = w2c_i0;
+    w2c_l33 = w2c_i0;
     w2c_j0 = 3ull;
     w2c_l10 = w2c_j0;
-    goto w2c_B47;
-    w2c_B49:;
-    w2c_i0 = w2c_l30;
+    goto w2c_B53;
+    w2c_B55:;
+    w2c_i0 = w2c_l32;
     w2c_i1 = 6u;
     w2c_i0 <<= (w2c_i1 & 31);
     w2c_i1 = w2c_p4;
     w2c_i2 = 12u;
     w2c_i1 <<= (w2c_i2 & 31);
-    w2c_i2 = w2c_l31;
+    w2c_i2 = w2c_l33;
     w2c_i3 = 18u;
     w2c_i2 <<= (w2c_i3 & 31);
     w2c_i3 = 1835008u;
     w2c_i2 &= w2c_i3;
     w2c_i1 |= w2c_i2;
     w2c_i0 |= w2c_i1;
-    w2c_j1 = w2c_l20;
+    w2c_j1 = w2c_l21;
     w2c_i1 = (u32)(w2c_j1);
     w2c_i1 = i32_load8_u(m, (u64)(w2c_i1) + 3u);
     w2c_i2 = 63u;
     w2c_i1 &= w2c_i2;
     w2c_i0 |= w2c_i1;
-    w2c_l31 = w2c_i0;
+    w2c_l33 = w2c_i0;
     w2c_j0 = 4ull;
     w2c_l10 = w2c_j0;
-    w2c_B47:;
-    w2c_j0 = w2c_l19;
+    w2c_B53:;
+    w2c_j0 = w2c_l20;
     w2c_j1 = w2c_l10;
     w2c_j0 -= w2c_j1;
-    w2c_p0 = w2c_j0;
-    w2c_j0 = w2c_l20;
+    w2c_l13 = w2c_j0;
+    w2c_j0 = w2c_l21;
     w2c_j1 = w2c_l10;
     w2c_j0 += w2c_j1;
     w2c_l10 = w2c_j0;
-    w2c_i0 = w2c_l31;
+    w2c_i0 = w2c_l33;
     w2c_i1 = 4294965248u;
     w2c_i0 += w2c_i1;
     w2c_i1 = 63487u;
     w2c_i0 = w2c_i0 > w2c_i1;
-    if (w2c_i0) {goto w2c_B50;}
-    w2c_i0 = w2c_l31;
+    if (w2c_i0) {goto w2c_B49;}
+    w2c_i0 = w2c_l33;
     w2c_i1 = 12u;
     w2c_i0 >>= (w2c_i1 & 31);
-    w2c_i1 = w2c_l31;
+    w2c_i1 = w2c_l33;
     w2c_i2 = 2u;
     w2c_i1 <<= (w2c_i2 & 31);
     w2c_i2 = 16128u;
     w2c_i1 &= w2c_i2;
     w2c_i0 |= w2c_i1;
-    w2c_i1 = w2c_l31;
+    w2c_i1 = w2c_l33;
     w2c_i2 = 16u;
     w2c_i1 <<= (w2c_i2 & 31);
     w2c_i2 = 4128768u;
@@ -47586,205 +46910,194 @@ static u32 w2c_f80(module *m, u64 w2c_p0, u64 w2c_p1, u32 w2c_p2, u32 w2c_p3, u3
     w2c_j0 >>= (w2c_j1 & 63);
     w2c_j1 = 1016ull;
     w2c_j0 &= w2c_j1;
-    w2c_l11 = w2c_j0;
+    w2c_l31 = w2c_j0;
     w2c_j1 = 66992ull;
     w2c_j0 += w2c_j1;
     w2c_i0 = (u32)(w2c_j0);
     w2c_i0 = i32_load(m, (u64)(w2c_i0));
     w2c_i1 = w2c_p4;
-    w2c_i0 = w2c_i0 == w2c_i1;
-    if (w2c_i0) {goto w2c_B44;}
-    goto w2c_B42;
+    w2c_i0 = w2c_i0 != w2c_i1;
+    if (w2c_i0) {goto w2c_B47;}
     w2c_B50:;
-    w2c_j0 = w2c_l9;
-    w2c_j1 = 40ull;
-    w2c_j0 += w2c_j1;
-    w2c_i1 = w2c_l31;
-    w2c_f18(m, w2c_j0, w2c_i1);
-    w2c_j0 = w2c_l9;
-    w2c_i0 = (u32)(w2c_j0);
-    w2c_i0 = i32_load8_u(m, (u64)(w2c_i0) + 40u);
-    w2c_i1 = 1u;
-    w2c_i0 = w2c_i0 == w2c_i1;
-    if (w2c_i0) {goto w2c_B38;}
-    w2c_j0 = w2c_l9;
-    w2c_j1 = 32ull;
-    w2c_j0 += w2c_j1;
-    w2c_i1 = w2c_l31;
-    w2c_f19(m, w2c_j0, w2c_i1);
-    goto w2c_B43;
-    w2c_B44:;
-    w2c_j0 = w2c_l11;
+    w2c_j0 = w2c_l31;
     w2c_j1 = 66996ull;
     w2c_j0 += w2c_j1;
     w2c_i0 = (u32)(w2c_j0);
     w2c_i0 = i32_load8_u(m, (u64)(w2c_i0));
     w2c_i0 = !(w2c_i0);
-    if (w2c_i0) {goto w2c_B38;}
-    w2c_B43:;
-    w2c_i0 = w2c_l31;
-    w2c_i1 = 128u;
-    w2c_i0 = w2c_i0 < w2c_i1;
-    if (w2c_i0) {goto w2c_B41;}
-    w2c_B42:;
-    w2c_i0 = w2c_l31;
-    w2c_i1 = 4294902000u;
-    w2c_i0 += w2c_i1;
-    w2c_i1 = 10u;
-    w2c_i0 = w2c_i0 < w2c_i1;
-    if (w2c_i0) {goto w2c_B38;}
-    w2c_i0 = w2c_l31;
-    w2c_i1 = 24318u;
-    w2c_i0 = (u32)((s32)w2c_i0 > (s32)w2c_i1);
-    if (w2c_i0) {goto w2c_B51;}
-    w2c_i0 = w2c_l31;
-    w2c_i1 = 4294945979u;
-    w2c_i0 += w2c_i1;
-    switch (w2c_i0) {
-      case 0: goto w2c_B37;
-      case 1: goto w2c_B40;
-      case 2: goto w2c_B40;
-      case 3: goto w2c_B40;
-      case 4: goto w2c_B40;
-      case 5: goto w2c_B40;
-      case 6: goto w2c_B40;
-      case 7: goto w2c_B37;
-      default: goto w2c_B52;
-    }
-    w2c_B52:;
-    w2c_i0 = w2c_l31;
-    w2c_i1 = 24186u;
-    w2c_i0 = w2c_i0 != w2c_i1;
-    if (w2c_i0) {goto w2c_B40;}
-    goto w2c_B37;
-    w2c_B51:;
-    w2c_i0 = w2c_l31;
-    w2c_i1 = 24319u;
-    w2c_i0 = w2c_i0 == w2c_i1;
-    if (w2c_i0) {goto w2c_B37;}
-    w2c_i0 = w2c_l31;
-    w2c_i1 = 28857u;
-    w2c_i0 = w2c_i0 == w2c_i1;
-    if (w2c_i0) {goto w2c_B39;}
-    w2c_i0 = w2c_l31;
-    w2c_i1 = 40670u;
-    w2c_i0 = w2c_i0 != w2c_i1;
-    if (w2c_i0) {goto w2c_B40;}
-    goto w2c_B39;
-    w2c_B41:;
-    w2c_i0 = w2c_l31;
-    w2c_i1 = 95u;
-    w2c_i0 = w2c_i0 == w2c_i1;
-    if (w2c_i0) {goto w2c_B38;}
-    w2c_i0 = w2c_l31;
+    if (w2c_i0) {goto w2c_B43;}
+    goto w2c_B48;
+    w2c_B49:;
+    w2c_i0 = w2c_l33;
     w2c_i1 = 4294967248u;
     w2c_i0 += w2c_i1;
     w2c_i1 = 10u;
     w2c_i0 = w2c_i0 < w2c_i1;
-    if (w2c_i0) {goto w2c_B38;}
-    w2c_i0 = w2c_l31;
+    if (w2c_i0) {goto w2c_B43;}
+    w2c_B48:;
+    w2c_i0 = w2c_l33;
+    w2c_i1 = 128u;
+    w2c_i0 = w2c_i0 < w2c_i1;
+    if (w2c_i0) {goto w2c_B46;}
+    w2c_B47:;
+    w2c_i0 = w2c_l33;
+    w2c_i1 = 4294902000u;
+    w2c_i0 += w2c_i1;
+    w2c_i1 = 10u;
+    w2c_i0 = w2c_i0 < w2c_i1;
+    if (w2c_i0) {goto w2c_B43;}
+    w2c_i0 = w2c_l33;
+    w2c_i1 = 24318u;
+    w2c_i0 = (u32)((s32)w2c_i0 > (s32)w2c_i1);
+    if (w2c_i0) {goto w2c_B56;}
+    w2c_i0 = w2c_l33;
+    w2c_i1 = 4294945979u;
+    w2c_i0 += w2c_i1;
+    switch (w2c_i0) {
+      case 0: goto w2c_B42;
+      case 1: goto w2c_B45;
+      case 2: goto w2c_B45;
+      case 3: goto w2c_B45;
+      case 4: goto w2c_B45;
+      case 5: goto w2c_B45;
+      case 6: goto w2c_B45;
+      case 7: goto w2c_B42;
+      default: goto w2c_B57;
+    }
+    w2c_B57:;
+    w2c_i0 = w2c_l33;
+    w2c_i1 = 24186u;
+    w2c_i0 = w2c_i0 != w2c_i1;
+    if (w2c_i0) {goto w2c_B45;}
+    goto w2c_B42;
+    w2c_B56:;
+    w2c_i0 = w2c_l33;
+    w2c_i1 = 24319u;
+    w2c_i0 = w2c_i0 == w2c_i1;
+    if (w2c_i0) {goto w2c_B42;}
+    w2c_i0 = w2c_l33;
+    w2c_i1 = 28857u;
+    w2c_i0 = w2c_i0 == w2c_i1;
+    if (w2c_i0) {goto w2c_B44;}
+    w2c_i0 = w2c_l33;
+    w2c_i1 = 40670u;
+    w2c_i0 = w2c_i0 != w2c_i1;
+    if (w2c_i0) {goto w2c_B45;}
+    goto w2c_B44;
+    w2c_B46:;
+    w2c_i0 = w2c_l33;
+    w2c_i1 = 95u;
+    w2c_i0 = w2c_i0 == w2c_i1;
+    if (w2c_i0) {goto w2c_B43;}
+    w2c_i0 = w2c_l33;
+    w2c_i1 = 4294967248u;
+    w2c_i0 += w2c_i1;
+    w2c_i1 = 10u;
+    w2c_i0 = w2c_i0 < w2c_i1;
+    if (w2c_i0) {goto w2c_B43;}
+    w2c_i0 = w2c_l33;
     w2c_i1 = 95u;
     w2c_i0 &= w2c_i1;
     w2c_i1 = 4294967231u;
     w2c_i0 += w2c_i1;
     w2c_i1 = 26u;
     w2c_i0 = w2c_i0 < w2c_i1;
-    if (w2c_i0) {goto w2c_B38;}
-    w2c_B40:;
-    w2c_i0 = w2c_l31;
+    if (w2c_i0) {goto w2c_B43;}
+    w2c_B45:;
+    w2c_i0 = w2c_l33;
     w2c_i1 = 4294967252u;
     w2c_i0 += w2c_i1;
     w2c_i1 = 2u;
     w2c_i0 = w2c_i0 > w2c_i1;
-    if (w2c_i0) {goto w2c_B38;}
-    w2c_B39:;
+    if (w2c_i0) {goto w2c_B43;}
+    w2c_B44:;
     w2c_j0 = w2c_l10;
-    w2c_j1 = w2c_p0;
-    w2c_i0 = w2c_f25(m, w2c_j0, w2c_j1);
-    w2c_B38:;
+    w2c_j1 = w2c_l13;
+    w2c_i0 = w2c_f24(m, w2c_j0, w2c_j1);
+    w2c_B43:;
     w2c_i0 = 1u;
     w2c_p4 = w2c_i0;
-    w2c_i0 = w2c_l31;
+    w2c_i0 = w2c_l33;
     w2c_i1 = 22809u;
     w2c_i0 = (u32)((s32)w2c_i0 > (s32)w2c_i1);
-    if (w2c_i0) {goto w2c_B53;}
-    w2c_i0 = w2c_l31;
+    if (w2c_i0) {goto w2c_B58;}
+    w2c_i0 = w2c_l33;
     w2c_i1 = 20313u;
     w2c_i0 = w2c_i0 == w2c_i1;
-    if (w2c_i0) {goto w2c_B36;}
-    w2c_i0 = w2c_l31;
+    if (w2c_i0) {goto w2c_B41;}
+    w2c_i0 = w2c_l33;
     w2c_i1 = 20358u;
     w2c_i0 = w2c_i0 == w2c_i1;
-    if (w2c_i0) {goto w2c_B36;}
-    w2c_i0 = w2c_l31;
+    if (w2c_i0) {goto w2c_B41;}
+    w2c_i0 = w2c_l33;
     w2c_i1 = 20960u;
     w2c_i0 = w2c_i0 != w2c_i1;
-    if (w2c_i0) {goto w2c_B37;}
-    goto w2c_B36;
-    w2c_B53:;
-    w2c_i0 = w2c_l31;
+    if (w2c_i0) {goto w2c_B42;}
+    goto w2c_B41;
+    w2c_B58:;
+    w2c_i0 = w2c_l33;
     w2c_i1 = 26468u;
     w2c_i0 = (u32)((s32)w2c_i0 > (s32)w2c_i1);
-    if (w2c_i0) {goto w2c_B54;}
-    w2c_i0 = w2c_l31;
+    if (w2c_i0) {goto w2c_B59;}
+    w2c_i0 = w2c_l33;
     w2c_i1 = 22810u;
     w2c_i0 = w2c_i0 == w2c_i1;
-    if (w2c_i0) {goto w2c_B36;}
-    w2c_i0 = w2c_l31;
+    if (w2c_i0) {goto w2c_B41;}
+    w2c_i0 = w2c_l33;
     w2c_i1 = 24190u;
     w2c_i0 = w2c_i0 != w2c_i1;
-    if (w2c_i0) {goto w2c_B37;}
-    goto w2c_B36;
-    w2c_B54:;
-    w2c_i0 = w2c_l31;
+    if (w2c_i0) {goto w2c_B42;}
+    goto w2c_B41;
+    w2c_B59:;
+    w2c_i0 = w2c_l33;
     w2c_i1 = 26469u;
     w2c_i0 = w2c_i0 == w2c_i1;
-    if (w2c_i0) {goto w2c_B36;}
-    w2c_i0 = w2c_l31;
+    if (w2c_i0) {goto w2c_B41;}
+    w2c_i0 = w2c_l33;
     w2c_i1 = 39192u;
     w2c_i0 = w2c_i0 == w2c_i1;
-    if (w2c_i0) {goto w2c_B36;}
-    w2c_B37:;
+    if (w2c_i0) {goto w2c_B41;}
+    w2c_B42:;
     w2c_i0 = 0u;
     w2c_p4 = w2c_i0;
-    w2c_B36:;
-    w2c_j0 = w2c_l21;
+    w2c_B41:;
+    w2c_j0 = w2c_l22;
     w2c_i0 = !(w2c_j0);
     w2c_i1 = w2c_p3;
     w2c_i0 |= w2c_i1;
-    if (w2c_i0) {goto w2c_B56;}
-    w2c_j0 = w2c_l22;
+    if (w2c_i0) {goto w2c_B61;}
+    w2c_j0 = w2c_l23;
     w2c_i0 = (u32)(w2c_j0);
     w2c_i0 = i32_load8_s(m, (u64)(w2c_i0));
     w2c_p3 = w2c_i0;
     w2c_i1 = 255u;
     w2c_i0 &= w2c_i1;
-    w2c_l31 = w2c_i0;
+    w2c_l33 = w2c_i0;
     w2c_i0 = w2c_p3;
     w2c_i1 = 4294967295u;
     w2c_i0 = (u32)((s32)w2c_i0 > (s32)w2c_i1);
-    if (w2c_i0) {goto w2c_B57;}
-    w2c_j0 = w2c_l22;
+    if (w2c_i0) {goto w2c_B62;}
+    w2c_j0 = w2c_l23;
     w2c_i0 = (u32)(w2c_j0);
     w2c_i0 = i32_load8_u(m, (u64)(w2c_i0) + 1u);
     w2c_i1 = 63u;
     w2c_i0 &= w2c_i1;
-    w2c_l30 = w2c_i0;
+    w2c_l32 = w2c_i0;
     w2c_i0 = w2c_p3;
     w2c_i1 = 4294967263u;
     w2c_i0 = w2c_i0 > w2c_i1;
-    if (w2c_i0) {goto w2c_B58;}
-    w2c_i0 = w2c_l31;
+    if (w2c_i0) {goto w2c_B63;}
+    w2c_i0 = w2c_l33;
     w2c_i1 = 6u;
     w2c_i0 <<= (w2c_i1 & 31);
     w2c_i1 = 1984u;
     w2c_i0 &= w2c_i1;
-    w2c_i1 = w2c_l30;
+    w2c_i1 = w2c_l32;
     w2c_i0 |= w2c_i1;
-    w2c_l31 = w2c_i0;
-    goto w2c_B57;
-    w2c_B58:;
-    w2c_j0 = w2c_l22;
+    w2c_l33 = w2c_i0;
+    goto w2c_B62;
+    w2c_B63:;
+    w2c_j0 = w2c_l23;
     w2c_i0 = (u32)(w2c_j0);
     w2c_i0 = i32_load8_u(m, (u64)(w2c_i0) + 2u);
     w2c_i1 = 63u;
@@ -47793,11 +47106,11 @@ static u32 w2c_f80(module *m, u64 w2c_p0, u64 w2c_p1, u32 w2c_p2, u32 w2c_p3, u3
     w2c_i0 = w2c_p3;
     w2c_i1 = 4294967279u;
     w2c_i0 = w2c_i0 > w2c_i1;
-    if (w2c_i0) {goto w2c_B59;}
-    w2c_i0 = w2c_l30;
+    if (w2c_i0) {goto w2c_B64;}
+    w2c_i0 = w2c_l32;
     w2c_i1 = 6u;
     w2c_i0 <<= (w2c_i1 & 31);
-    w2c_i1 = w2c_l31;
+    w2c_i1 = w2c_l33;
     w2c_i2 = 12u;
     w2c_i1 <<= (w2c_i2 & 31);
     w2c_i2 = 61440u;
@@ -47805,35 +47118,35 @@ static u32 w2c_f80(module *m, u64 w2c_p0, u64 w2c_p1, u32 w2c_p2, u32 w2c_p3, u3
     w2c_i0 |= w2c_i1;
     w2c_i1 = w2c_p5;
     w2c_i0 |= w2c_i1;
-    w2c_l31 = w2c_i0;
-    goto w2c_B57;
-    w2c_B59:;
+    w2c_l33 = w2c_i0;
+    goto w2c_B62;
+    w2c_B64:;
     w2c_i0 = w2c_p5;
     w2c_i1 = 6u;
     w2c_i0 <<= (w2c_i1 & 31);
-    w2c_i1 = w2c_l30;
+    w2c_i1 = w2c_l32;
     w2c_i2 = 12u;
     w2c_i1 <<= (w2c_i2 & 31);
-    w2c_i2 = w2c_l31;
+    w2c_i2 = w2c_l33;
     w2c_i3 = 18u;
     w2c_i2 <<= (w2c_i3 & 31);
     w2c_i3 = 1835008u;
     w2c_i2 &= w2c_i3;
     w2c_i1 |= w2c_i2;
     w2c_i0 |= w2c_i1;
-    w2c_j1 = w2c_l22;
+    w2c_j1 = w2c_l23;
     w2c_i1 = (u32)(w2c_j1);
     w2c_i1 = i32_load8_u(m, (u64)(w2c_i1) + 3u);
     w2c_i2 = 63u;
     w2c_i1 &= w2c_i2;
     w2c_i0 |= w2c_i1;
-    w2c_l31 = w2c_i0;
-    w2c_B57:;
+    w2c_l33 = w2c_i0;
+    w2c_B62:;
     w2c_j0 = w2c_l9;
     w2c_j1 = 24ull;
     w2c_j0 += w2c_j1;
-    w2c_i1 = w2c_l31;
-    w2c_f19(m, w2c_j0, w2c_i1);
+    w2c_i1 = w2c_l33;
+    w2c_f25(m, w2c_j0, w2c_i1);
     w2c_i0 = w2c_p4;
     w2c_j1 = w2c_l9;
     w2c_i1 = (u32)(w2c_j1);
@@ -47844,32 +47157,16 @@ static u32 w2c_f80(module *m, u64 w2c_p0, u64 w2c_p1, u32 w2c_p2, u32 w2c_p3, u3
     w2c_i1 = w2c_i1 == w2c_i2;
     w2c_i0 |= w2c_i1;
     if (w2c_i0) {goto w2c_B18;}
-    goto w2c_B55;
-    w2c_B56:;
+    goto w2c_B60;
+    w2c_B61:;
     w2c_i0 = w2c_p4;
     if (w2c_i0) {goto w2c_B18;}
-    w2c_B55:;
-    w2c_j0 = w2c_l22;
-    w2c_j1 = w2c_l21;
+    w2c_B60:;
+    w2c_j0 = w2c_l23;
+    w2c_j1 = w2c_l22;
     w2c_i0 = w2c_f26(m, w2c_j0, w2c_j1);
     if (w2c_i0) {goto w2c_B18;}
-    w2c_B20:;
-    w2c_j0 = w2c_l9;
-    w2c_i0 = (u32)(w2c_j0);
-    w2c_j1 = 0ull;
-    i64_store(m, (u64)(w2c_i0) + 344, w2c_j1);
-    w2c_j0 = w2c_l9;
-    w2c_i0 = (u32)(w2c_j0);
-    w2c_j1 = 0ull;
-    i64_store(m, (u64)(w2c_i0) + 336, w2c_j1);
-    w2c_j0 = w2c_l9;
-    w2c_i0 = (u32)(w2c_j0);
-    w2c_j1 = 0ull;
-    i64_store(m, (u64)(w2c_i0) + 328, w2c_j1);
-    w2c_j0 = w2c_l9;
-    w2c_i0 = (u32)(w2c_j0);
-    w2c_j1 = 0ull;
-    i64_store(m, (u64)(w2c_i0) + 320, w2c_j1);
+    w2c_B26:;
     w2c_j0 = w2c_l9;
     w2c_i0 = (u32)(w2c_j0);
     w2c_j1 = 0ull;
@@ -47887,54 +47184,70 @@ static u32 w2c_f80(module *m, u64 w2c_p0, u64 w2c_p1, u32 w2c_p2, u32 w2c_p3, u3
     w2c_j1 = 0ull;
     i64_store(m, (u64)(w2c_i0) + 288, w2c_j1);
     w2c_j0 = w2c_l9;
-    w2c_j1 = 288ull;
-    w2c_j0 += w2c_j1;
-    w2c_j1 = w2c_l22;
-    w2c_j2 = w2c_l21;
-    w2c_i3 = w2c_l33;
-    w2c_f32(m, w2c_j0, w2c_j1, w2c_j2, w2c_i3);
+    w2c_i0 = (u32)(w2c_j0);
+    w2c_j1 = 0ull;
+    i64_store(m, (u64)(w2c_i0) + 280, w2c_j1);
     w2c_j0 = w2c_l9;
     w2c_i0 = (u32)(w2c_j0);
-    w2c_j1 = w2c_l17;
+    w2c_j1 = 0ull;
+    i64_store(m, (u64)(w2c_i0) + 272, w2c_j1);
+    w2c_j0 = w2c_l9;
+    w2c_i0 = (u32)(w2c_j0);
+    w2c_j1 = 0ull;
+    i64_store(m, (u64)(w2c_i0) + 264, w2c_j1);
+    w2c_j0 = w2c_l9;
+    w2c_i0 = (u32)(w2c_j0);
+    w2c_j1 = 0ull;
+    i64_store(m, (u64)(w2c_i0) + 256, w2c_j1);
+    w2c_j0 = w2c_l9;
+    w2c_j1 = 256ull;
+    w2c_j0 += w2c_j1;
+    w2c_j1 = w2c_l23;
+    w2c_j2 = w2c_l22;
+    w2c_i3 = w2c_l35;
+    w2c_f31(m, w2c_j0, w2c_j1, w2c_j2, w2c_i3);
+    w2c_j0 = w2c_l9;
+    w2c_i0 = (u32)(w2c_j0);
+    w2c_j1 = w2c_l18;
     w2c_i1 = (u32)(w2c_j1);
     w2c_j1 = i64_load(m, (u64)(w2c_i1));
+    i64_store(m, (u64)(w2c_i0) + 128, w2c_j1);
+    w2c_j0 = w2c_l9;
+    w2c_i0 = (u32)(w2c_j0);
+    w2c_j1 = w2c_l18;
+    w2c_i1 = (u32)(w2c_j1);
+    w2c_j1 = i64_load(m, (u64)(w2c_i1) + 8u);
+    i64_store(m, (u64)(w2c_i0) + 136, w2c_j1);
+    w2c_j0 = w2c_l9;
+    w2c_i0 = (u32)(w2c_j0);
+    w2c_j1 = w2c_l18;
+    w2c_i1 = (u32)(w2c_j1);
+    w2c_j1 = i64_load(m, (u64)(w2c_i1) + 16u);
+    i64_store(m, (u64)(w2c_i0) + 144, w2c_j1);
+    w2c_j0 = w2c_l9;
+    w2c_i0 = (u32)(w2c_j0);
+    w2c_j1 = w2c_l18;
+    w2c_i1 = (u32)(w2c_j1);
+    w2c_j1 = i64_load(m, (u64)(w2c_i1) + 24u);
+    i64_store(m, (u64)(w2c_i0) + 152, w2c_j1);
+    w2c_j0 = w2c_l9;
+    w2c_i0 = (u32)(w2c_j0);
+    w2c_j1 = w2c_l18;
+    w2c_i1 = (u32)(w2c_j1);
+    w2c_j1 = i64_load(m, (u64)(w2c_i1) + 32u);
     i64_store(m, (u64)(w2c_i0) + 160, w2c_j1);
     w2c_j0 = w2c_l9;
     w2c_i0 = (u32)(w2c_j0);
-    w2c_j1 = w2c_l17;
+    w2c_j1 = w2c_l18;
     w2c_i1 = (u32)(w2c_j1);
-    w2c_j1 = i64_load(m, (u64)(w2c_i1) + 8u);
+    w2c_j1 = i64_load(m, (u64)(w2c_i1) + 40u);
     i64_store(m, (u64)(w2c_i0) + 168, w2c_j1);
     w2c_j0 = w2c_l9;
     w2c_i0 = (u32)(w2c_j0);
-    w2c_j1 = w2c_l17;
-    w2c_i1 = (u32)(w2c_j1);
-    w2c_j1 = i64_load(m, (u64)(w2c_i1) + 16u);
-    i64_store(m, (u64)(w2c_i0) + 176, w2c_j1);
-    w2c_j0 = w2c_l9;
-    w2c_i0 = (u32)(w2c_j0);
-    w2c_j1 = w2c_l17;
-    w2c_i1 = (u32)(w2c_j1);
-    w2c_j1 = i64_load(m, (u64)(w2c_i1) + 24u);
-    i64_store(m, (u64)(w2c_i0) + 184, w2c_j1);
-    w2c_j0 = w2c_l9;
-    w2c_i0 = (u32)(w2c_j0);
-    w2c_j1 = w2c_l17;
-    w2c_i1 = (u32)(w2c_j1);
-    w2c_j1 = i64_load(m, (u64)(w2c_i1) + 32u);
-    i64_store(m, (u64)(w2c_i0) + 192, w2c_j1);
-    w2c_j0 = w2c_l9;
-    w2c_i0 = (u32)(w2c_j0);
-    w2c_j1 = w2c_l17;
-    w2c_i1 = (u32)(w2c_j1);
-    w2c_j1 = i64_load(m, (u64)(w2c_i1) + 40u);
-    i64_store(m, (u64)(w2c_i0) + 200, w2c_j1);
-    w2c_j0 = w2c_l9;
-    w2c_i0 = (u32)(w2c_j0);
-    w2c_i0 = i32_load8_u(m, (u64)(w2c_i0) + 288u);
+    w2c_i0 = i32_load8_u(m, (u64)(w2c_i0) + 256u);
     if (w2c_i0) {goto w2c_B18;}
     w2c_j0 = w2c_l9;
-    w2c_j1 = 208ull;
+    w2c_j1 = 176ull;
     w2c_j0 += w2c_j1;
     w2c_i0 = (u32)(w2c_j0);
     w2c_i1 = 0u;
@@ -47945,10 +47258,10 @@ static u32 w2c_f80(module *m, u64 w2c_p0, u64 w2c_p1, u32 w2c_p2, u32 w2c_p3, u3
     w2c_j1 = 8ull;
     w2c_j0 += w2c_j1;
     w2c_j1 = w2c_l9;
-    w2c_j2 = 208ull;
+    w2c_j2 = 176ull;
     w2c_j1 += w2c_j2;
     w2c_j2 = w2c_l9;
-    w2c_j3 = 160ull;
+    w2c_j3 = 128ull;
     w2c_j2 += w2c_j3;
     w2c_f11(m, w2c_j0, w2c_j1, w2c_j2);
     w2c_j0 = 18446744073709551615ull;
@@ -47956,55 +47269,55 @@ static u32 w2c_f80(module *m, u64 w2c_p0, u64 w2c_p1, u32 w2c_p2, u32 w2c_p3, u3
     w2c_i1 = (u32)(w2c_j1);
     w2c_j1 = i64_load(m, (u64)(w2c_i1) + 16u);
     w2c_l10 = w2c_j1;
-    w2c_j2 = w2c_l26;
+    w2c_j2 = w2c_l27;
     w2c_j1 += w2c_j2;
-    w2c_p0 = w2c_j1;
-    w2c_j2 = w2c_p0;
+    w2c_l13 = w2c_j1;
+    w2c_j2 = w2c_l13;
     w2c_j3 = w2c_l10;
     w2c_i2 = w2c_j2 < w2c_j3;
     w2c_j0 = w2c_i2 ? w2c_j0 : w2c_j1;
-    w2c_l15 = w2c_j0;
+    w2c_l16 = w2c_j0;
     w2c_j1 = w2c_p7;
     w2c_i0 = w2c_j0 > w2c_j1;
     if (w2c_i0) {goto w2c_B17;}
-    w2c_j0 = w2c_l14;
-    w2c_j1 = w2c_l26;
+    w2c_j0 = w2c_l15;
+    w2c_j1 = w2c_l27;
     w2c_j0 += w2c_j1;
-    w2c_l27 = w2c_j0;
+    w2c_l28 = w2c_j0;
     w2c_j1 = w2c_l9;
     w2c_i1 = (u32)(w2c_j1);
     w2c_j1 = i64_load(m, (u64)(w2c_i1) + 8u);
-    w2c_l22 = w2c_j1;
+    w2c_l23 = w2c_j1;
     w2c_j0 -= w2c_j1;
     w2c_j1 = w2c_l10;
     w2c_i0 = w2c_j0 >= w2c_j1;
-    if (w2c_i0) {goto w2c_B60;}
+    if (w2c_i0) {goto w2c_B65;}
     w2c_j0 = w2c_l10;
     w2c_j1 = 3ull;
     w2c_j0 &= w2c_j1;
-    w2c_l29 = w2c_j0;
+    w2c_l30 = w2c_j0;
     w2c_j0 = 0ull;
-    w2c_p0 = w2c_j0;
+    w2c_l13 = w2c_j0;
     w2c_j0 = w2c_l10;
     w2c_j1 = 4ull;
     w2c_i0 = w2c_j0 < w2c_j1;
-    if (w2c_i0) {goto w2c_B61;}
+    if (w2c_i0) {goto w2c_B66;}
     w2c_j0 = w2c_l10;
     w2c_j1 = 18446744073709551612ull;
     w2c_j0 &= w2c_j1;
-    w2c_l28 = w2c_j0;
+    w2c_l29 = w2c_j0;
     w2c_j0 = 0ull;
-    w2c_p0 = w2c_j0;
-    w2c_L62:
-      w2c_j0 = w2c_l27;
-      w2c_j1 = w2c_p0;
+    w2c_l13 = w2c_j0;
+    w2c_L67:
+      w2c_j0 = w2c_l28;
+      w2c_j1 = w2c_l13;
       w2c_j0 += w2c_j1;
       w2c_l10 = w2c_j0;
       w2c_i0 = (u32)(w2c_j0);
-      w2c_j1 = w2c_l22;
-      w2c_j2 = w2c_p0;
+      w2c_j1 = w2c_l23;
+      w2c_j2 = w2c_l13;
       w2c_j1 += w2c_j2;
-      w2c_l11 = w2c_j1;
+      w2c_l31 = w2c_j1;
       w2c_i1 = (u32)(w2c_j1);
       w2c_i1 = i32_load8_u(m, (u64)(w2c_i1));
       i32_store8(m, (u64)(w2c_i0), w2c_i1);
@@ -48012,7 +47325,7 @@ static u32 w2c_f80(module *m, u64 w2c_p0, u64 w2c_p1, u32 w2c_p2, u32 w2c_p3, u3
       w2c_j1 = 1ull;
       w2c_j0 += w2c_j1;
       w2c_i0 = (u32)(w2c_j0);
-      w2c_j1 = w2c_l11;
+      w2c_j1 = w2c_l31;
       w2c_j2 = 1ull;
       w2c_j1 += w2c_j2;
       w2c_i1 = (u32)(w2c_j1);
@@ -48022,7 +47335,7 @@ static u32 w2c_f80(module *m, u64 w2c_p0, u64 w2c_p1, u32 w2c_p2, u32 w2c_p3, u3
       w2c_j1 = 2ull;
       w2c_j0 += w2c_j1;
       w2c_i0 = (u32)(w2c_j0);
-      w2c_j1 = w2c_l11;
+      w2c_j1 = w2c_l31;
       w2c_j2 = 2ull;
       w2c_j1 += w2c_j2;
       w2c_i1 = (u32)(w2c_j1);
@@ -48032,47 +47345,47 @@ static u32 w2c_f80(module *m, u64 w2c_p0, u64 w2c_p1, u32 w2c_p2, u32 w2c_p3, u3
       w2c_j1 = 3ull;
       w2c_j0 += w2c_j1;
       w2c_i0 = (u32)(w2c_j0);
-      w2c_j1 = w2c_l11;
+      w2c_j1 = w2c_l31;
       w2c_j2 = 3ull;
       w2c_j1 += w2c_j2;
       w2c_i1 = (u32)(w2c_j1);
       w2c_i1 = i32_load8_u(m, (u64)(w2c_i1));
       i32_store8(m, (u64)(w2c_i0), w2c_i1);
-      w2c_j0 = w2c_l28;
-      w2c_j1 = w2c_p0;
+      w2c_j0 = w2c_l29;
+      w2c_j1 = w2c_l13;
       w2c_j2 = 4ull;
       w2c_j1 += w2c_j2;
-      w2c_p0 = w2c_j1;
+      w2c_l13 = w2c_j1;
       w2c_i0 = w2c_j0 != w2c_j1;
-      if (w2c_i0) {goto w2c_L62;}
-    w2c_j0 = w2c_l29;
+      if (w2c_i0) {goto w2c_L67;}
+    w2c_j0 = w2c_l30;
     w2c_i0 = !(w2c_j0);
     if (w2c_i0) {goto w2c_B17;}
-    w2c_B61:;
-    w2c_j0 = w2c_l14;
-    w2c_j1 = w2c_l25;
-    w2c_j2 = w2c_p0;
+    w2c_B66:;
+    w2c_j0 = w2c_l15;
+    w2c_j1 = w2c_l26;
+    w2c_j2 = w2c_l13;
     w2c_j1 += w2c_j2;
-    w2c_j2 = w2c_l24;
-    w2c_j3 = w2c_l25;
+    w2c_j2 = w2c_l25;
+    w2c_j3 = w2c_l26;
     w2c_j4 = 18446744073709551615ull;
     w2c_j3 ^= w2c_j4;
     w2c_l10 = w2c_j3;
-    w2c_j4 = w2c_l24;
+    w2c_j4 = w2c_l25;
     w2c_j5 = w2c_l10;
     w2c_i4 = w2c_j4 < w2c_j5;
     w2c_j2 = w2c_i4 ? w2c_j2 : w2c_j3;
     w2c_j1 += w2c_j2;
     w2c_j0 += w2c_j1;
     w2c_l10 = w2c_j0;
-    w2c_j0 = w2c_l22;
-    w2c_j1 = w2c_p0;
+    w2c_j0 = w2c_l23;
+    w2c_j1 = w2c_l13;
     w2c_j0 += w2c_j1;
-    w2c_p0 = w2c_j0;
-    w2c_L63:
+    w2c_l13 = w2c_j0;
+    w2c_L68:
       w2c_j0 = w2c_l10;
       w2c_i0 = (u32)(w2c_j0);
-      w2c_j1 = w2c_p0;
+      w2c_j1 = w2c_l13;
       w2c_i1 = (u32)(w2c_j1);
       w2c_i1 = i32_load8_u(m, (u64)(w2c_i1));
       i32_store8(m, (u64)(w2c_i0), w2c_i1);
@@ -48080,26 +47393,26 @@ static u32 w2c_f80(module *m, u64 w2c_p0, u64 w2c_p1, u32 w2c_p2, u32 w2c_p3, u3
       w2c_j1 = 1ull;
       w2c_j0 += w2c_j1;
       w2c_l10 = w2c_j0;
-      w2c_j0 = w2c_p0;
+      w2c_j0 = w2c_l13;
       w2c_j1 = 1ull;
       w2c_j0 += w2c_j1;
-      w2c_p0 = w2c_j0;
-      w2c_j0 = w2c_l29;
+      w2c_l13 = w2c_j0;
+      w2c_j0 = w2c_l30;
       w2c_j1 = 18446744073709551615ull;
       w2c_j0 += w2c_j1;
-      w2c_l29 = w2c_j0;
+      w2c_l30 = w2c_j0;
       w2c_j1 = 0ull;
       w2c_i0 = w2c_j0 != w2c_j1;
-      if (w2c_i0) {goto w2c_L63;}
+      if (w2c_i0) {goto w2c_L68;}
       goto w2c_B17;
     UNREACHABLE;
-    w2c_B60:;
+    w2c_B65:;
     w2c_j0 = w2c_l10;
     w2c_i0 = !(w2c_j0);
     if (w2c_i0) {goto w2c_B17;}
-    w2c_j0 = w2c_l27;
+    w2c_j0 = w2c_l28;
     w2c_i0 = (u32)(w2c_j0);
-    w2c_j1 = w2c_l22;
+    w2c_j1 = w2c_l23;
     w2c_i1 = (u32)(w2c_j1);
     w2c_j2 = w2c_l10;
     w2c_i2 = (u32)(w2c_j2);
@@ -48107,53 +47420,53 @@ static u32 w2c_f80(module *m, u64 w2c_p0, u64 w2c_p1, u32 w2c_p2, u32 w2c_p3, u3
     goto w2c_B17;
     w2c_B18:;
     w2c_j0 = 18446744073709551615ull;
-    w2c_j1 = w2c_l21;
-    w2c_j2 = w2c_l26;
+    w2c_j1 = w2c_l22;
+    w2c_j2 = w2c_l27;
     w2c_j1 += w2c_j2;
     w2c_l10 = w2c_j1;
     w2c_j2 = w2c_l10;
-    w2c_j3 = w2c_l21;
+    w2c_j3 = w2c_l22;
     w2c_i2 = w2c_j2 < w2c_j3;
     w2c_j0 = w2c_i2 ? w2c_j0 : w2c_j1;
-    w2c_l15 = w2c_j0;
+    w2c_l16 = w2c_j0;
     w2c_j1 = w2c_p7;
     w2c_i0 = w2c_j0 > w2c_j1;
     if (w2c_i0) {goto w2c_B17;}
-    w2c_j0 = w2c_l14;
-    w2c_j1 = w2c_l26;
+    w2c_j0 = w2c_l15;
+    w2c_j1 = w2c_l27;
     w2c_j0 += w2c_j1;
-    w2c_l27 = w2c_j0;
-    w2c_j1 = w2c_l22;
+    w2c_l28 = w2c_j0;
+    w2c_j1 = w2c_l23;
     w2c_j0 -= w2c_j1;
-    w2c_j1 = w2c_l21;
+    w2c_j1 = w2c_l22;
     w2c_i0 = w2c_j0 >= w2c_j1;
-    if (w2c_i0) {goto w2c_B64;}
-    w2c_j0 = w2c_l21;
+    if (w2c_i0) {goto w2c_B69;}
+    w2c_j0 = w2c_l22;
     w2c_j1 = 3ull;
+    w2c_j0 &= w2c_j1;
+    w2c_l30 = w2c_j0;
+    w2c_j0 = 0ull;
+    w2c_l13 = w2c_j0;
+    w2c_j0 = w2c_l22;
+    w2c_j1 = 4ull;
+    w2c_i0 = w2c_j0 < w2c_j1;
+    if (w2c_i0) {goto w2c_B70;}
+    w2c_j0 = w2c_l22;
+    w2c_j1 = 18446744073709551612ull;
     w2c_j0 &= w2c_j1;
     w2c_l29 = w2c_j0;
     w2c_j0 = 0ull;
-    w2c_p0 = w2c_j0;
-    w2c_j0 = w2c_l21;
-    w2c_j1 = 4ull;
-    w2c_i0 = w2c_j0 < w2c_j1;
-    if (w2c_i0) {goto w2c_B65;}
-    w2c_j0 = w2c_l21;
-    w2c_j1 = 18446744073709551612ull;
-    w2c_j0 &= w2c_j1;
-    w2c_l28 = w2c_j0;
-    w2c_j0 = 0ull;
-    w2c_p0 = w2c_j0;
-    w2c_L66:
-      w2c_j0 = w2c_l27;
-      w2c_j1 = w2c_p0;
+    w2c_l13 = w2c_j0;
+    w2c_L71:
+      w2c_j0 = w2c_l28;
+      w2c_j1 = w2c_l13;
       w2c_j0 += w2c_j1;
       w2c_l10 = w2c_j0;
       w2c_i0 = (u32)(w2c_j0);
-      w2c_j1 = w2c_l22;
-      w2c_j2 = w2c_p0;
+      w2c_j1 = w2c_l23;
+      w2c_j2 = w2c_l13;
       w2c_j1 += w2c_j2;
-      w2c_l11 = w2c_j1;
+      w2c_l31 = w2c_j1;
       w2c_i1 = (u32)(w2c_j1);
       w2c_i1 = i32_load8_u(m, (u64)(w2c_i1));
       i32_store8(m, (u64)(w2c_i0), w2c_i1);
@@ -48161,7 +47474,7 @@ static u32 w2c_f80(module *m, u64 w2c_p0, u64 w2c_p1, u32 w2c_p2, u32 w2c_p3, u3
       w2c_j1 = 1ull;
       w2c_j0 += w2c_j1;
       w2c_i0 = (u32)(w2c_j0);
-      w2c_j1 = w2c_l11;
+      w2c_j1 = w2c_l31;
       w2c_j2 = 1ull;
       w2c_j1 += w2c_j2;
       w2c_i1 = (u32)(w2c_j1);
@@ -48171,7 +47484,7 @@ static u32 w2c_f80(module *m, u64 w2c_p0, u64 w2c_p1, u32 w2c_p2, u32 w2c_p3, u3
       w2c_j1 = 2ull;
       w2c_j0 += w2c_j1;
       w2c_i0 = (u32)(w2c_j0);
-      w2c_j1 = w2c_l11;
+      w2c_j1 = w2c_l31;
       w2c_j2 = 2ull;
       w2c_j1 += w2c_j2;
       w2c_i1 = (u32)(w2c_j1);
@@ -48181,47 +47494,47 @@ static u32 w2c_f80(module *m, u64 w2c_p0, u64 w2c_p1, u32 w2c_p2, u32 w2c_p3, u3
       w2c_j1 = 3ull;
       w2c_j0 += w2c_j1;
       w2c_i0 = (u32)(w2c_j0);
-      w2c_j1 = w2c_l11;
+      w2c_j1 = w2c_l31;
       w2c_j2 = 3ull;
       w2c_j1 += w2c_j2;
       w2c_i1 = (u32)(w2c_j1);
       w2c_i1 = i32_load8_u(m, (u64)(w2c_i1));
       i32_store8(m, (u64)(w2c_i0), w2c_i1);
-      w2c_j0 = w2c_l28;
-      w2c_j1 = w2c_p0;
+      w2c_j0 = w2c_l29;
+      w2c_j1 = w2c_l13;
       w2c_j2 = 4ull;
       w2c_j1 += w2c_j2;
-      w2c_p0 = w2c_j1;
+      w2c_l13 = w2c_j1;
       w2c_i0 = w2c_j0 != w2c_j1;
-      if (w2c_i0) {goto w2c_L66;}
-    w2c_j0 = w2c_l29;
+      if (w2c_i0) {goto w2c_L71;}
+    w2c_j0 = w2c_l30;
     w2c_i0 = !(w2c_j0);
     if (w2c_i0) {goto w2c_B17;}
-    w2c_B65:;
-    w2c_j0 = w2c_l14;
-    w2c_j1 = w2c_l25;
-    w2c_j2 = w2c_p0;
+    w2c_B70:;
+    w2c_j0 = w2c_l15;
+    w2c_j1 = w2c_l26;
+    w2c_j2 = w2c_l13;
     w2c_j1 += w2c_j2;
-    w2c_j2 = w2c_l24;
-    w2c_j3 = w2c_l25;
+    w2c_j2 = w2c_l25;
+    w2c_j3 = w2c_l26;
     w2c_j4 = 18446744073709551615ull;
     w2c_j3 ^= w2c_j4;
     w2c_l10 = w2c_j3;
-    w2c_j4 = w2c_l24;
+    w2c_j4 = w2c_l25;
     w2c_j5 = w2c_l10;
     w2c_i4 = w2c_j4 < w2c_j5;
     w2c_j2 = w2c_i4 ? w2c_j2 : w2c_j3;
     w2c_j1 += w2c_j2;
     w2c_j0 += w2c_j1;
     w2c_l10 = w2c_j0;
-    w2c_j0 = w2c_l22;
-    w2c_j1 = w2c_p0;
+    w2c_j0 = w2c_l23;
+    w2c_j1 = w2c_l13;
     w2c_j0 += w2c_j1;
-    w2c_p0 = w2c_j0;
-    w2c_L67:
+    w2c_l13 = w2c_j0;
+    w2c_L72:
       w2c_j0 = w2c_l10;
       w2c_i0 = (u32)(w2c_j0);
-      w2c_j1 = w2c_p0;
+      w2c_j1 = w2c_l13;
       w2c_i1 = (u32)(w2c_j1);
       w2c_i1 = i32_load8_u(m, (u64)(w2c_i1));
       i32_store8(m, (u64)(w2c_i0), w2c_i1);
@@ -48229,109 +47542,109 @@ static u32 w2c_f80(module *m, u64 w2c_p0, u64 w2c_p1, u32 w2c_p2, u32 w2c_p3, u3
       w2c_j1 = 1ull;
       w2c_j0 += w2c_j1;
       w2c_l10 = w2c_j0;
-      w2c_j0 = w2c_p0;
+      w2c_j0 = w2c_l13;
       w2c_j1 = 1ull;
       w2c_j0 += w2c_j1;
-      w2c_p0 = w2c_j0;
-      w2c_j0 = w2c_l29;
+      w2c_l13 = w2c_j0;
+      w2c_j0 = w2c_l30;
       w2c_j1 = 18446744073709551615ull;
       w2c_j0 += w2c_j1;
-      w2c_l29 = w2c_j0;
+      w2c_l30 = w2c_j0;
       w2c_j1 = 0ull;
       w2c_i0 = w2c_j0 != w2c_j1;
-      if (w2c_i0) {goto w2c_L67;}
+      if (w2c_i0) {goto w2c_L72;}
       goto w2c_B17;
     UNREACHABLE;
-    w2c_B64:;
-    w2c_j0 = w2c_l21;
+    w2c_B69:;
+    w2c_j0 = w2c_l22;
     w2c_i0 = !(w2c_j0);
     if (w2c_i0) {goto w2c_B17;}
-    w2c_j0 = w2c_l27;
+    w2c_j0 = w2c_l28;
     w2c_i0 = (u32)(w2c_j0);
-    w2c_j1 = w2c_l22;
+    w2c_j1 = w2c_l23;
     w2c_i1 = (u32)(w2c_j1);
-    w2c_j2 = w2c_l21;
+    w2c_j2 = w2c_l22;
     w2c_i2 = (u32)(w2c_j2);
     memory_copy(m, w2c_i0, w2c_i1, w2c_i2);
     w2c_B17:;
-    w2c_j0 = w2c_l21;
-    w2c_j1 = w2c_l23;
+    w2c_j0 = w2c_l22;
+    w2c_j1 = w2c_l24;
     w2c_j0 += w2c_j1;
-    w2c_l16 = w2c_j0;
+    w2c_l17 = w2c_j0;
     w2c_j0 = w2c_l9;
-    w2c_j1 = 64ull;
+    w2c_j1 = 32ull;
     w2c_j0 += w2c_j1;
     w2c_j1 = w2c_l9;
-    w2c_j2 = 120ull;
+    w2c_j2 = 88ull;
     w2c_j1 += w2c_j2;
-    w2c_f21(m, w2c_j0, w2c_j1);
+    w2c_f20(m, w2c_j0, w2c_j1);
     w2c_j0 = w2c_l9;
     w2c_i0 = (u32)(w2c_j0);
-    w2c_i0 = i32_load8_u(m, (u64)(w2c_i0) + 64u);
+    w2c_i0 = i32_load8_u(m, (u64)(w2c_i0) + 32u);
     w2c_i1 = 1u;
     w2c_i0 = w2c_i0 == w2c_i1;
     if (w2c_i0) {goto w2c_L11;}
   w2c_B10:;
   w2c_j0 = 18446744073709551615ull;
   w2c_j1 = w2c_p1;
-  w2c_j2 = w2c_l16;
+  w2c_j2 = w2c_l17;
   w2c_j1 -= w2c_j2;
   w2c_l10 = w2c_j1;
-  w2c_j2 = w2c_l15;
+  w2c_j2 = w2c_l16;
   w2c_j1 += w2c_j2;
-  w2c_p0 = w2c_j1;
-  w2c_j2 = w2c_p0;
+  w2c_l13 = w2c_j1;
+  w2c_j2 = w2c_l13;
   w2c_j3 = w2c_l10;
   w2c_i2 = w2c_j2 < w2c_j3;
   w2c_j0 = w2c_i2 ? w2c_j0 : w2c_j1;
-  w2c_l28 = w2c_j0;
+  w2c_l29 = w2c_j0;
   w2c_j1 = w2c_p7;
   w2c_i0 = w2c_j0 <= w2c_j1;
-  if (w2c_i0) {goto w2c_B69;}
+  if (w2c_i0) {goto w2c_B74;}
   w2c_i0 = 6u;
-  w2c_l31 = w2c_i0;
-  goto w2c_B68;
-  w2c_B69:;
-  w2c_j0 = w2c_l14;
-  w2c_j1 = w2c_l15;
+  w2c_l33 = w2c_i0;
+  goto w2c_B73;
+  w2c_B74:;
+  w2c_j0 = w2c_l15;
+  w2c_j1 = w2c_l16;
   w2c_j0 += w2c_j1;
   w2c_l22 = w2c_j0;
   w2c_j1 = w2c_l12;
-  w2c_j2 = w2c_l16;
+  w2c_j2 = w2c_l17;
   w2c_j1 += w2c_j2;
-  w2c_l21 = w2c_j1;
+  w2c_l23 = w2c_j1;
   w2c_j0 -= w2c_j1;
   w2c_j1 = w2c_l10;
   w2c_i0 = w2c_j0 >= w2c_j1;
-  if (w2c_i0) {goto w2c_B71;}
+  if (w2c_i0) {goto w2c_B76;}
   w2c_j0 = w2c_l10;
   w2c_j1 = 3ull;
   w2c_j0 &= w2c_j1;
-  w2c_l29 = w2c_j0;
+  w2c_l30 = w2c_j0;
   w2c_j0 = 0ull;
-  w2c_p0 = w2c_j0;
-  w2c_j0 = w2c_l16;
+  w2c_l13 = w2c_j0;
+  w2c_j0 = w2c_l17;
   w2c_j1 = w2c_p1;
   w2c_j0 -= w2c_j1;
   w2c_j1 = 18446744073709551612ull;
   w2c_i0 = w2c_j0 > w2c_j1;
-  if (w2c_i0) {goto w2c_B72;}
+  if (w2c_i0) {goto w2c_B77;}
   w2c_j0 = w2c_l10;
   w2c_j1 = 18446744073709551612ull;
   w2c_j0 &= w2c_j1;
-  w2c_l27 = w2c_j0;
+  w2c_l28 = w2c_j0;
   w2c_j0 = 0ull;
-  w2c_p0 = w2c_j0;
-  w2c_L73:
+  w2c_l13 = w2c_j0;
+  w2c_L78:
     w2c_j0 = w2c_l22;
-    w2c_j1 = w2c_p0;
+    w2c_j1 = w2c_l13;
     w2c_j0 += w2c_j1;
     w2c_l10 = w2c_j0;
     w2c_i0 = (u32)(w2c_j0);
-    w2c_j1 = w2c_l21;
-    w2c_j2 = w2c_p0;
+    w2c_j1 = w2c_l23;
+    w2c_j2 = w2c_l13;
     w2c_j1 += w2c_j2;
-    w2c_l11 = w2c_j1;
+    w2c_l31 = w2c_j1;
     w2c_i1 = (u32)(w2c_j1);
     w2c_i1 = i32_load8_u(m, (u64)(w2c_i1));
     i32_store8(m, (u64)(w2c_i0), w2c_i1);
@@ -48339,7 +47652,7 @@ static u32 w2c_f80(module *m, u64 w2c_p0, u64 w2c_p1, u32 w2c_p2, u32 w2c_p3, u3
     w2c_j1 = 1ull;
     w2c_j0 += w2c_j1;
     w2c_i0 = (u32)(w2c_j0);
-    w2c_j1 = w2c_l11;
+    w2c_j1 = w2c_l31;
     w2c_j2 = 1ull;
     w2c_j1 += w2c_j2;
     w2c_i1 = (u32)(w2c_j1);
@@ -48349,7 +47662,7 @@ static u32 w2c_f80(module *m, u64 w2c_p0, u64 w2c_p1, u32 w2c_p2, u32 w2c_p3, u3
     w2c_j1 = 2ull;
     w2c_j0 += w2c_j1;
     w2c_i0 = (u32)(w2c_j0);
-    w2c_j1 = w2c_l11;
+    w2c_j1 = w2c_l31;
     w2c_j2 = 2ull;
     w2c_j1 += w2c_j2;
     w2c_i1 = (u32)(w2c_j1);
@@ -48359,86 +47672,88 @@ static u32 w2c_f80(module *m, u64 w2c_p0, u64 w2c_p1, u32 w2c_p2, u32 w2c_p3, u3
     w2c_j1 = 3ull;
     w2c_j0 += w2c_j1;
     w2c_i0 = (u32)(w2c_j0);
-    w2c_j1 = w2c_l11;
+    w2c_j1 = w2c_l31;
     w2c_j2 = 3ull;
     w2c_j1 += w2c_j2;
     w2c_i1 = (u32)(w2c_j1);
     w2c_i1 = i32_load8_u(m, (u64)(w2c_i1));
     i32_store8(m, (u64)(w2c_i0), w2c_i1);
-    w2c_j0 = w2c_l27;
-    w2c_j1 = w2c_p0;
+    w2c_j0 = w2c_l28;
+    w2c_j1 = w2c_l13;
     w2c_j2 = 4ull;
     w2c_j1 += w2c_j2;
-    w2c_p0 = w2c_j1;
+    w2c_l13 = w2c_j1;
     w2c_i0 = w2c_j0 != w2c_j1;
-    if (w2c_i0) {goto w2c_L73;}
-  w2c_j0 = w2c_l29;
+    if (w2c_i0) {goto w2c_L78;}
+  w2c_j0 = w2c_l30;
   w2c_i0 = !(w2c_j0);
-  if (w2c_i0) {goto w2c_B70;}
-  w2c_B72:;
-  w2c_j0 = w2c_l12;
-  w2c_j1 = w2c_l16;
-  w2c_j2 = w2c_p0;
+  if (w2c_i0) {goto w2c_B75;}
+  w2c_B77:;
+  w2c_j0 = w2c_p6;
+  w2c_j1 = w2c_l14;
+  w2c_j2 = w2c_l16;
+  w2c_j1 += w2c_j2;
+  w2c_j2 = w2c_l13;
   w2c_j1 += w2c_j2;
   w2c_j0 += w2c_j1;
   w2c_l10 = w2c_j0;
-  w2c_j0 = w2c_p6;
-  w2c_j1 = w2c_l13;
-  w2c_j2 = w2c_l15;
+  w2c_j0 = w2c_p0;
+  w2c_j1 = w2c_l11;
+  w2c_j2 = w2c_l17;
   w2c_j1 += w2c_j2;
-  w2c_j2 = w2c_p0;
+  w2c_j2 = w2c_l13;
   w2c_j1 += w2c_j2;
   w2c_j0 += w2c_j1;
-  w2c_p0 = w2c_j0;
-  w2c_L74:
-    w2c_j0 = w2c_p0;
+  w2c_l13 = w2c_j0;
+  w2c_L79:
+    w2c_j0 = w2c_l10;
     w2c_i0 = (u32)(w2c_j0);
-    w2c_j1 = w2c_l10;
+    w2c_j1 = w2c_l13;
     w2c_i1 = (u32)(w2c_j1);
     w2c_i1 = i32_load8_u(m, (u64)(w2c_i1));
     i32_store8(m, (u64)(w2c_i0), w2c_i1);
-    w2c_j0 = w2c_p0;
-    w2c_j1 = 1ull;
-    w2c_j0 += w2c_j1;
-    w2c_p0 = w2c_j0;
     w2c_j0 = w2c_l10;
     w2c_j1 = 1ull;
     w2c_j0 += w2c_j1;
     w2c_l10 = w2c_j0;
-    w2c_j0 = w2c_l29;
+    w2c_j0 = w2c_l13;
+    w2c_j1 = 1ull;
+    w2c_j0 += w2c_j1;
+    w2c_l13 = w2c_j0;
+    w2c_j0 = w2c_l30;
     w2c_j1 = 18446744073709551615ull;
     w2c_j0 += w2c_j1;
-    w2c_l29 = w2c_j0;
+    w2c_l30 = w2c_j0;
     w2c_j1 = 0ull;
     w2c_i0 = w2c_j0 != w2c_j1;
-    if (w2c_i0) {goto w2c_L74;}
-    goto w2c_B70;
+    if (w2c_i0) {goto w2c_L79;}
+    goto w2c_B75;
   UNREACHABLE;
-  w2c_B71:;
+  w2c_B76:;
   w2c_j0 = w2c_l10;
   w2c_i0 = !(w2c_j0);
-  if (w2c_i0) {goto w2c_B70;}
+  if (w2c_i0) {goto w2c_B75;}
   w2c_j0 = w2c_l22;
   w2c_i0 = (u32)(w2c_j0);
-  w2c_j1 = w2c_l21;
+  w2c_j1 = w2c_l23;
   w2c_i1 = (u32)(w2c_j1);
   w2c_j2 = w2c_l10;
   w2c_i2 = (u32)(w2c_j2);
   memory_copy(m, w2c_i0, w2c_i1, w2c_i2);
-  w2c_B70:;
+  w2c_B75:;
   w2c_i0 = 0u;
-  w2c_l31 = w2c_i0;
-  w2c_B68:;
+  w2c_l33 = w2c_i0;
+  w2c_B73:;
   w2c_j0 = w2c_p8;
   w2c_i0 = (u32)(w2c_j0);
-  w2c_j1 = w2c_l28;
+  w2c_j1 = w2c_l29;
   i64_store(m, (u64)(w2c_i0), w2c_j1);
   w2c_B1:;
   w2c_j0 = w2c_l9;
-  w2c_j1 = 352ull;
+  w2c_j1 = 320ull;
   w2c_j0 += w2c_j1;
   m->w2c_g0 = w2c_j0;
-  w2c_i0 = w2c_l31;
+  w2c_i0 = w2c_l33;
   goto w2c_Bfunc;
   w2c_B0:;
   UNREACHABLE;
@@ -48576,7 +47891,7 @@ static u32 w2c_f82(module *m, u64 w2c_p0, u32 w2c_p1, u32 w2c_p2, u32 w2c_p3, u6
   w2c_i0 = i32_load8_u(m, (u64)(w2c_i0));
   w2c_l30 = w2c_i0;
   w2c_j0 = w2c_l8;
-  w2c_j1 = 279ull;
+  w2c_j1 = 287ull;
   w2c_j0 += w2c_j1;
   w2c_i0 = (u32)(w2c_j0);
   w2c_i1 = 0u;
@@ -49179,7 +48494,7 @@ static u32 w2c_f82(module *m, u64 w2c_p0, u32 w2c_p1, u32 w2c_p2, u32 w2c_p3, u6
     w2c_i0 = w2c_i0 <= w2c_i1;
     if (w2c_i0) {goto w2c_B0;}
     w2c_j0 = w2c_l8;
-    w2c_j1 = 279ull;
+    w2c_j1 = 287ull;
     w2c_j0 += w2c_j1;
     w2c_j1 = w2c_l21;
     w2c_j2 = 18446744073709551613ull;
@@ -49226,7 +48541,7 @@ static u32 w2c_f82(module *m, u64 w2c_p0, u32 w2c_p1, u32 w2c_p2, u32 w2c_p3, u6
     w2c_i0 = w2c_j0 != w2c_j1;
     if (w2c_i0) {goto w2c_L19;}
   w2c_j0 = w2c_l8;
-  w2c_j1 = 279ull;
+  w2c_j1 = 287ull;
   w2c_j0 += w2c_j1;
   w2c_j1 = w2c_l21;
   w2c_j2 = 18446744073709551610ull;
@@ -49575,7 +48890,7 @@ static u32 w2c_f82(module *m, u64 w2c_p0, u32 w2c_p1, u32 w2c_p2, u32 w2c_p3, u6
   goto w2c_B8;
   w2c_B9:;
   w2c_j0 = w2c_l8;
-  w2c_j1 = 750ull;
+  w2c_j1 = 758ull;
   w2c_j0 += w2c_j1;
   w2c_i0 = (u32)(w2c_j0);
   w2c_i1 = 0u;
@@ -49599,19 +48914,19 @@ static u32 w2c_f82(module *m, u64 w2c_p0, u32 w2c_p1, u32 w2c_p2, u32 w2c_p3, u6
   w2c_j0 = w2c_l8;
   w2c_i0 = (u32)(w2c_j0);
   w2c_i1 = 0u;
-  i32_store(m, (u64)(w2c_i0) + 986, w2c_i1);
+  i32_store(m, (u64)(w2c_i0) + 994, w2c_i1);
   w2c_j0 = w2c_l8;
   w2c_i0 = (u32)(w2c_j0);
   w2c_i1 = w2c_l31;
-  i32_store8(m, (u64)(w2c_i0) + 985, w2c_i1);
+  i32_store8(m, (u64)(w2c_i0) + 993, w2c_i1);
   w2c_j0 = w2c_l8;
   w2c_i0 = (u32)(w2c_j0);
   w2c_i1 = w2c_l30;
-  i32_store8(m, (u64)(w2c_i0) + 984, w2c_i1);
+  i32_store8(m, (u64)(w2c_i0) + 992, w2c_i1);
   w2c_j0 = w2c_l8;
   w2c_i0 = (u32)(w2c_j0);
   w2c_i1 = 0u;
-  i32_store16(m, (u64)(w2c_i0) + 990, w2c_i1);
+  i32_store16(m, (u64)(w2c_i0) + 998, w2c_i1);
   w2c_j0 = w2c_l8;
   w2c_i0 = (u32)(w2c_j0);
   w2c_j1 = 65948ull;
@@ -49628,26 +48943,26 @@ static u32 w2c_f82(module *m, u64 w2c_p0, u32 w2c_p1, u32 w2c_p2, u32 w2c_p3, u6
   w2c_i3 = w2c_p2;
   w2c_j1 = w2c_i3 ? w2c_j1 : w2c_j2;
   w2c_l12 = w2c_j1;
-  i64_store(m, (u64)(w2c_i0) + 992, w2c_j1);
+  i64_store(m, (u64)(w2c_i0) + 1000, w2c_j1);
   w2c_j0 = 234ull;
   w2c_j1 = w2c_l8;
-  w2c_j2 = 750ull;
+  w2c_j2 = 758ull;
   w2c_j1 += w2c_j2;
   w2c_j2 = w2c_l8;
-  w2c_j3 = 984ull;
+  w2c_j3 = 992ull;
   w2c_j2 += w2c_j3;
   w2c_i3 = w2c_l27;
   w2c_i4 = 0u;
   w2c_j5 = w2c_l14;
   w2c_j6 = w2c_l15;
-  w2c_j1 = w2c_f31(m, w2c_j1, w2c_j2, w2c_i3, w2c_i4, w2c_j5, w2c_j6);
+  w2c_j1 = w2c_f30(m, w2c_j1, w2c_j2, w2c_i3, w2c_i4, w2c_j5, w2c_j6);
   w2c_p0 = w2c_j1;
   w2c_j0 -= w2c_j1;
   w2c_l11 = w2c_j0;
   w2c_i0 = !(w2c_j0);
   if (w2c_i0) {goto w2c_B30;}
   w2c_j0 = w2c_l8;
-  w2c_j1 = 279ull;
+  w2c_j1 = 287ull;
   w2c_j0 += w2c_j1;
   w2c_j1 = w2c_p0;
   w2c_j0 += w2c_j1;
@@ -49655,7 +48970,7 @@ static u32 w2c_f82(module *m, u64 w2c_p0, u32 w2c_p1, u32 w2c_p2, u32 w2c_p3, u6
   w2c_j0 += w2c_j1;
   w2c_i0 = (u32)(w2c_j0);
   w2c_j1 = w2c_l8;
-  w2c_j2 = 750ull;
+  w2c_j2 = 758ull;
   w2c_j1 += w2c_j2;
   w2c_j2 = w2c_p0;
   w2c_j1 += w2c_j2;
@@ -49665,7 +48980,7 @@ static u32 w2c_f82(module *m, u64 w2c_p0, u32 w2c_p1, u32 w2c_p2, u32 w2c_p3, u6
   memory_copy(m, w2c_i0, w2c_i1, w2c_i2);
   w2c_B30:;
   w2c_j0 = w2c_l8;
-  w2c_j1 = 279ull;
+  w2c_j1 = 287ull;
   w2c_j0 += w2c_j1;
   w2c_j1 = w2c_p0;
   w2c_j2 = 231ull;
@@ -49702,7 +49017,7 @@ static u32 w2c_f82(module *m, u64 w2c_p0, u32 w2c_p1, u32 w2c_p2, u32 w2c_p3, u6
   i32_store(m, (u64)(w2c_i0), w2c_i1);
   w2c_B31:;
   w2c_j0 = w2c_l8;
-  w2c_j1 = 750ull;
+  w2c_j1 = 758ull;
   w2c_j0 += w2c_j1;
   w2c_i0 = (u32)(w2c_j0);
   w2c_i1 = 0u;
@@ -49726,34 +49041,34 @@ static u32 w2c_f82(module *m, u64 w2c_p0, u32 w2c_p1, u32 w2c_p2, u32 w2c_p3, u6
   w2c_j0 = w2c_l8;
   w2c_i0 = (u32)(w2c_j0);
   w2c_i1 = 0u;
-  i32_store(m, (u64)(w2c_i0) + 986, w2c_i1);
+  i32_store(m, (u64)(w2c_i0) + 994, w2c_i1);
   w2c_j0 = w2c_l8;
   w2c_i0 = (u32)(w2c_j0);
   w2c_i1 = w2c_l31;
-  i32_store8(m, (u64)(w2c_i0) + 985, w2c_i1);
+  i32_store8(m, (u64)(w2c_i0) + 993, w2c_i1);
   w2c_j0 = w2c_l8;
   w2c_i0 = (u32)(w2c_j0);
   w2c_i1 = w2c_l30;
-  i32_store8(m, (u64)(w2c_i0) + 984, w2c_i1);
+  i32_store8(m, (u64)(w2c_i0) + 992, w2c_i1);
   w2c_j0 = w2c_l8;
   w2c_i0 = (u32)(w2c_j0);
   w2c_i1 = 0u;
-  i32_store16(m, (u64)(w2c_i0) + 990, w2c_i1);
+  i32_store16(m, (u64)(w2c_i0) + 998, w2c_i1);
   w2c_j0 = w2c_l8;
   w2c_i0 = (u32)(w2c_j0);
   w2c_j1 = w2c_l12;
-  i64_store(m, (u64)(w2c_i0) + 992, w2c_j1);
+  i64_store(m, (u64)(w2c_i0) + 1000, w2c_j1);
   w2c_j0 = w2c_l8;
-  w2c_j1 = 750ull;
+  w2c_j1 = 758ull;
   w2c_j0 += w2c_j1;
   w2c_j1 = w2c_l8;
-  w2c_j2 = 984ull;
+  w2c_j2 = 992ull;
   w2c_j1 += w2c_j2;
   w2c_i2 = w2c_l27;
   w2c_i3 = 0u;
   w2c_j4 = w2c_l7;
   w2c_j5 = w2c_l10;
-  w2c_j0 = w2c_f31(m, w2c_j0, w2c_j1, w2c_i2, w2c_i3, w2c_j4, w2c_j5);
+  w2c_j0 = w2c_f30(m, w2c_j0, w2c_j1, w2c_i2, w2c_i3, w2c_j4, w2c_j5);
   w2c_l10 = w2c_j0;
   w2c_j0 = w2c_l12;
   w2c_i0 = (u32)(w2c_j0);
@@ -49765,7 +49080,7 @@ static u32 w2c_f82(module *m, u64 w2c_p0, u32 w2c_p1, u32 w2c_p2, u32 w2c_p3, u6
   w2c_i0 = w2c_i0 <= w2c_i1;
   if (w2c_i0) {goto w2c_B0;}
   w2c_j0 = w2c_l8;
-  w2c_j1 = 750ull;
+  w2c_j1 = 758ull;
   w2c_j0 += w2c_j1;
   w2c_j1 = w2c_l10;
   w2c_j0 += w2c_j1;
@@ -49885,11 +49200,7 @@ static u32 w2c_f82(module *m, u64 w2c_p0, u32 w2c_p1, u32 w2c_p2, u32 w2c_p3, u6
   w2c_j1 = 0ull;
   i64_store(m, (u64)(w2c_i0) + 992, w2c_j1);
   w2c_j0 = w2c_l8;
-  w2c_i0 = (u32)(w2c_j0);
-  w2c_j1 = 0ull;
-  i64_store(m, (u64)(w2c_i0) + 984, w2c_j1);
-  w2c_j0 = w2c_l8;
-  w2c_j1 = 984ull;
+  w2c_j1 = 992ull;
   w2c_j0 += w2c_j1;
   w2c_j1 = w2c_l12;
   w2c_j2 = w2c_l11;
@@ -49902,7 +49213,7 @@ static u32 w2c_f82(module *m, u64 w2c_p0, u32 w2c_p1, u32 w2c_p2, u32 w2c_p3, u6
   w2c_f33(m, w2c_j0, w2c_j1, w2c_j2);
   w2c_j0 = w2c_l8;
   w2c_i0 = (u32)(w2c_j0);
-  w2c_i0 = i32_load8_u(m, (u64)(w2c_i0) + 984u);
+  w2c_i0 = i32_load8_u(m, (u64)(w2c_i0) + 992u);
   w2c_i1 = 1u;
   w2c_i0 = w2c_i0 != w2c_i1;
   if (w2c_i0) {goto w2c_B39;}
@@ -49911,8 +49222,8 @@ static u32 w2c_f82(module *m, u64 w2c_p0, u32 w2c_p1, u32 w2c_p2, u32 w2c_p3, u6
   w2c_j0 += w2c_j1;
   w2c_j1 = w2c_l8;
   w2c_i1 = (u32)(w2c_j1);
-  w2c_i1 = i32_load(m, (u64)(w2c_i1) + 992u);
-  w2c_f19(m, w2c_j0, w2c_i1);
+  w2c_i1 = i32_load(m, (u64)(w2c_i1) + 1000u);
+  w2c_f25(m, w2c_j0, w2c_i1);
   w2c_j0 = w2c_l8;
   w2c_i0 = (u32)(w2c_j0);
   w2c_i0 = i32_load8_u(m, (u64)(w2c_i0) + 40u);
@@ -49927,45 +49238,47 @@ static u32 w2c_f82(module *m, u64 w2c_p0, u32 w2c_p1, u32 w2c_p2, u32 w2c_p3, u6
   w2c_i1 = 5u;
   w2c_i0 = w2c_i0 > w2c_i1;
   if (w2c_i0) {goto w2c_B39;}
+  w2c_j0 = w2c_l8;
+  w2c_i0 = (u32)(w2c_j0);
+  w2c_j1 = 0ull;
+  i64_store(m, (u64)(w2c_i0) + 1016, w2c_j1);
+  w2c_j0 = w2c_l8;
+  w2c_i0 = (u32)(w2c_j0);
+  w2c_j1 = 0ull;
+  i64_store(m, (u64)(w2c_i0) + 1008, w2c_j1);
+  w2c_j0 = w2c_l8;
+  w2c_i0 = (u32)(w2c_j0);
+  w2c_j1 = 0ull;
+  i64_store(m, (u64)(w2c_i0) + 1000, w2c_j1);
+  w2c_j0 = w2c_l8;
+  w2c_i0 = (u32)(w2c_j0);
+  w2c_j1 = 0ull;
+  i64_store(m, (u64)(w2c_i0) + 992, w2c_j1);
   w2c_i0 = 1u;
   w2c_p1 = w2c_i0;
   w2c_j0 = w2c_l16;
   w2c_l10 = w2c_j0;
   w2c_j0 = w2c_l22;
   w2c_l11 = w2c_j0;
-  w2c_L41:
+  w2c_L40:
     w2c_j0 = w2c_l8;
-    w2c_i0 = (u32)(w2c_j0);
-    w2c_j1 = 0ull;
-    i64_store(m, (u64)(w2c_i0) + 1016, w2c_j1);
-    w2c_j0 = w2c_l8;
-    w2c_i0 = (u32)(w2c_j0);
-    w2c_j1 = 0ull;
-    i64_store(m, (u64)(w2c_i0) + 1008, w2c_j1);
-    w2c_j0 = w2c_l8;
-    w2c_i0 = (u32)(w2c_j0);
-    w2c_j1 = 0ull;
-    i64_store(m, (u64)(w2c_i0) + 1000, w2c_j1);
-    w2c_j0 = w2c_l8;
-    w2c_i0 = (u32)(w2c_j0);
-    w2c_j1 = 0ull;
-    i64_store(m, (u64)(w2c_i0) + 992, w2c_j1);
-    w2c_j0 = w2c_l8;
-    w2c_i0 = (u32)(w2c_j0);
-    w2c_j1 = 0ull;
-    i64_store(m, (u64)(w2c_i0) + 984, w2c_j1);
-    w2c_j0 = w2c_l8;
-    w2c_j1 = 984ull;
+    w2c_j1 = 992ull;
     w2c_j0 += w2c_j1;
     w2c_j1 = w2c_l10;
     w2c_j2 = w2c_l11;
     w2c_f33(m, w2c_j0, w2c_j1, w2c_j2);
     w2c_j0 = w2c_l8;
     w2c_i0 = (u32)(w2c_j0);
-    w2c_i0 = i32_load8_u(m, (u64)(w2c_i0) + 984u);
+    w2c_i0 = i32_load8_u(m, (u64)(w2c_i0) + 992u);
     w2c_i1 = 1u;
-    w2c_i0 = w2c_i0 != w2c_i1;
-    if (w2c_i0) {goto w2c_B40;}
+    w2c_i0 = w2c_i0 == w2c_i1;
+    if (w2c_i0) {goto w2c_B41;}
+    w2c_j0 = w2c_l16;
+    w2c_l12 = w2c_j0;
+    w2c_j0 = w2c_l22;
+    w2c_l7 = w2c_j0;
+    goto w2c_B39;
+    w2c_B41:;
     w2c_j0 = w2c_l8;
     w2c_i0 = (u32)(w2c_j0);
     w2c_j0 = i64_load(m, (u64)(w2c_i0) + 1016u);
@@ -49979,8 +49292,8 @@ static u32 w2c_f82(module *m, u64 w2c_p0, u32 w2c_p1, u32 w2c_p2, u32 w2c_p3, u6
     w2c_j0 += w2c_j1;
     w2c_j1 = w2c_l8;
     w2c_i1 = (u32)(w2c_j1);
-    w2c_i1 = i32_load(m, (u64)(w2c_i1) + 992u);
-    w2c_f19(m, w2c_j0, w2c_i1);
+    w2c_i1 = i32_load(m, (u64)(w2c_i1) + 1000u);
+    w2c_f25(m, w2c_j0, w2c_i1);
     w2c_j0 = w2c_l8;
     w2c_i0 = (u32)(w2c_j0);
     w2c_i0 = i32_load8_u(m, (u64)(w2c_i0) + 32u);
@@ -50001,17 +49314,10 @@ static u32 w2c_f82(module *m, u64 w2c_p0, u32 w2c_p1, u32 w2c_p2, u32 w2c_p3, u6
     w2c_i2 = 255u;
     w2c_i1 &= w2c_i2;
     w2c_i0 = w2c_i0 < w2c_i1;
-    if (w2c_i0) {goto w2c_L41;}
-    goto w2c_B39;
-  UNREACHABLE;
-  w2c_B40:;
-  w2c_j0 = w2c_l16;
-  w2c_l12 = w2c_j0;
-  w2c_j0 = w2c_l22;
-  w2c_l7 = w2c_j0;
+    if (w2c_i0) {goto w2c_L40;}
   w2c_B39:;
   w2c_j0 = w2c_l8;
-  w2c_j1 = 279ull;
+  w2c_j1 = 287ull;
   w2c_j0 += w2c_j1;
   w2c_j1 = w2c_p0;
   w2c_j2 = w2c_l7;
@@ -50059,7 +49365,7 @@ static u32 w2c_f82(module *m, u64 w2c_p0, u32 w2c_p1, u32 w2c_p2, u32 w2c_p3, u6
   w2c_p0 = w2c_j0;
   w2c_B7:;
   w2c_j0 = w2c_l8;
-  w2c_j1 = 750ull;
+  w2c_j1 = 758ull;
   w2c_j0 += w2c_j1;
   w2c_i0 = (u32)(w2c_j0);
   w2c_i1 = 0u;
@@ -50084,19 +49390,19 @@ static u32 w2c_f82(module *m, u64 w2c_p0, u32 w2c_p1, u32 w2c_p2, u32 w2c_p3, u6
   w2c_j0 = w2c_l8;
   w2c_i0 = (u32)(w2c_j0);
   w2c_i1 = 0u;
-  i32_store(m, (u64)(w2c_i0) + 986, w2c_i1);
+  i32_store(m, (u64)(w2c_i0) + 994, w2c_i1);
   w2c_j0 = w2c_l8;
   w2c_i0 = (u32)(w2c_j0);
   w2c_i1 = w2c_l31;
-  i32_store8(m, (u64)(w2c_i0) + 985, w2c_i1);
+  i32_store8(m, (u64)(w2c_i0) + 993, w2c_i1);
   w2c_j0 = w2c_l8;
   w2c_i0 = (u32)(w2c_j0);
   w2c_i1 = w2c_l30;
-  i32_store8(m, (u64)(w2c_i0) + 984, w2c_i1);
+  i32_store8(m, (u64)(w2c_i0) + 992, w2c_i1);
   w2c_j0 = w2c_l8;
   w2c_i0 = (u32)(w2c_j0);
   w2c_i1 = 0u;
-  i32_store16(m, (u64)(w2c_i0) + 990, w2c_i1);
+  i32_store16(m, (u64)(w2c_i0) + 998, w2c_i1);
   w2c_j0 = w2c_l8;
   w2c_i0 = (u32)(w2c_j0);
   w2c_j1 = 65948ull;
@@ -50113,23 +49419,23 @@ static u32 w2c_f82(module *m, u64 w2c_p0, u32 w2c_p1, u32 w2c_p2, u32 w2c_p3, u6
   w2c_i3 = w2c_p2;
   w2c_j1 = w2c_i3 ? w2c_j1 : w2c_j2;
   w2c_l11 = w2c_j1;
-  i64_store(m, (u64)(w2c_i0) + 992, w2c_j1);
+  i64_store(m, (u64)(w2c_i0) + 1000, w2c_j1);
   w2c_j0 = w2c_l8;
-  w2c_j1 = 279ull;
+  w2c_j1 = 287ull;
   w2c_j0 += w2c_j1;
   w2c_j1 = w2c_l17;
   w2c_j2 = 234ull;
   w2c_j3 = w2c_l8;
-  w2c_j4 = 750ull;
+  w2c_j4 = 758ull;
   w2c_j3 += w2c_j4;
   w2c_j4 = w2c_l8;
-  w2c_j5 = 984ull;
+  w2c_j5 = 992ull;
   w2c_j4 += w2c_j5;
   w2c_i5 = w2c_l27;
   w2c_i6 = 0u;
   w2c_j7 = w2c_p0;
   w2c_j8 = w2c_l7;
-  w2c_j3 = w2c_f31(m, w2c_j3, w2c_j4, w2c_i5, w2c_i6, w2c_j7, w2c_j8);
+  w2c_j3 = w2c_f30(m, w2c_j3, w2c_j4, w2c_i5, w2c_i6, w2c_j7, w2c_j8);
   w2c_l12 = w2c_j3;
   w2c_j2 -= w2c_j3;
   w2c_l7 = w2c_j2;
@@ -50143,7 +49449,7 @@ static u32 w2c_f82(module *m, u64 w2c_p0, u32 w2c_p1, u32 w2c_p2, u32 w2c_p3, u6
   w2c_j0 = w2c_l10;
   w2c_i0 = (u32)(w2c_j0);
   w2c_j1 = w2c_l8;
-  w2c_j2 = 750ull;
+  w2c_j2 = 758ull;
   w2c_j1 += w2c_j2;
   w2c_j2 = w2c_l12;
   w2c_j1 += w2c_j2;
@@ -50210,7 +49516,7 @@ static u32 w2c_f82(module *m, u64 w2c_p0, u32 w2c_p1, u32 w2c_p2, u32 w2c_p3, u6
   w2c_i0 = w2c_i0 <= w2c_i1;
   if (w2c_i0) {goto w2c_B0;}
   w2c_j0 = w2c_l8;
-  w2c_j1 = 279ull;
+  w2c_j1 = 287ull;
   w2c_j0 += w2c_j1;
   w2c_j1 = w2c_p0;
   w2c_j2 = 18446744073709551607ull;
@@ -50249,7 +49555,7 @@ static u32 w2c_f82(module *m, u64 w2c_p0, u32 w2c_p1, u32 w2c_p2, u32 w2c_p3, u6
   w2c_i0 = (u64)((s64)w2c_j0 > (s64)w2c_j1);
   if (w2c_i0) {goto w2c_B46;}
   w2c_j0 = w2c_l8;
-  w2c_j1 = 279ull;
+  w2c_j1 = 287ull;
   w2c_j0 += w2c_j1;
   w2c_j1 = w2c_p0;
   w2c_j2 = 18446744073709551613ull;
@@ -50306,7 +49612,7 @@ static u32 w2c_f82(module *m, u64 w2c_p0, u32 w2c_p1, u32 w2c_p2, u32 w2c_p3, u6
   w2c_j0 += w2c_j1;
   w2c_i0 = (u32)(w2c_j0);
   w2c_j1 = w2c_l8;
-  w2c_j2 = 279ull;
+  w2c_j2 = 287ull;
   w2c_j1 += w2c_j2;
   w2c_j2 = w2c_p0;
   w2c_j1 += w2c_j2;
@@ -50360,12 +49666,12 @@ static u32 w2c_chinese_quantity_read(module *m, u64 w2c_p0, u64 w2c_p1, u32 w2c_
 }
 
 static u32 w2c_f84(module *m, u64 w2c_p0, u64 w2c_p1, u32 w2c_p2, u64 w2c_p3) {
-  u32 w2c_l8 = 0, w2c_l9 = 0, w2c_l10 = 0;
-  u64 w2c_l4 = 0, w2c_l5 = 0, w2c_l6 = 0, w2c_l7 = 0;
+  u32 w2c_l7 = 0, w2c_l8 = 0;
+  u64 w2c_l4 = 0, w2c_l5 = 0, w2c_l6 = 0;
   u32 w2c_i0, w2c_i1, w2c_i2, w2c_i3, w2c_i4, w2c_i5;
   u64 w2c_j0, w2c_j1, w2c_j2, w2c_j3, w2c_j4, w2c_j5, w2c_j6;
   w2c_j0 = m->w2c_g0;
-  w2c_j1 = 96ull;
+  w2c_j1 = 64ull;
   w2c_j0 -= w2c_j1;
   w2c_l4 = w2c_j0;
   m->w2c_g0 = w2c_j0;
@@ -50435,7 +49741,7 @@ static u32 w2c_f84(module *m, u64 w2c_p0, u64 w2c_p1, u32 w2c_p2, u64 w2c_p3) {
   w2c_j1 = 0ull;
   i64_store(m, (u64)(w2c_i0), w2c_j1);
   w2c_i0 = 8u;
-  w2c_l8 = w2c_i0;
+  w2c_l7 = w2c_i0;
   w2c_i0 = w2c_p2;
   w2c_i1 = 4u;
   w2c_i0 = w2c_i0 > w2c_i1;
@@ -50450,7 +49756,7 @@ static u32 w2c_f84(module *m, u64 w2c_p0, u64 w2c_p1, u32 w2c_p2, u64 w2c_p3) {
   w2c_j1 = 340ull;
   w2c_j0 &= w2c_j1;
   w2c_i0 = !(w2c_j0);
-  w2c_l9 = w2c_i0;
+  w2c_p2 = w2c_i0;
   if (w2c_i0) {goto w2c_B0;}
   w2c_j0 = w2c_p0;
   w2c_j1 = 4096ull;
@@ -50458,76 +49764,54 @@ static u32 w2c_f84(module *m, u64 w2c_p0, u64 w2c_p1, u32 w2c_p2, u64 w2c_p3) {
   w2c_j3 = w2c_p0;
   w2c_i3 = !(w2c_j3);
   w2c_j1 = w2c_i3 ? w2c_j1 : w2c_j2;
-  w2c_l6 = w2c_j1;
   w2c_j0 += w2c_j1;
-  w2c_l7 = w2c_j0;
+  w2c_l6 = w2c_j0;
   w2c_j0 = w2c_l5;
   w2c_j1 = 68027ull;
   w2c_j0 += w2c_j1;
   w2c_i0 = (u32)(w2c_j0);
   w2c_i0 = i32_load8_u(m, (u64)(w2c_i0));
-  w2c_l10 = w2c_i0;
-  w2c_j0 = w2c_l4;
-  w2c_i0 = (u32)(w2c_j0);
-  w2c_j1 = 0ull;
-  i64_store(m, (u64)(w2c_i0) + 88, w2c_j1);
-  w2c_j0 = w2c_l4;
-  w2c_i0 = (u32)(w2c_j0);
-  w2c_j1 = 0ull;
-  i64_store(m, (u64)(w2c_i0) + 80, w2c_j1);
-  w2c_j0 = w2c_l4;
-  w2c_i0 = (u32)(w2c_j0);
-  w2c_j1 = 0ull;
-  i64_store(m, (u64)(w2c_i0) + 72, w2c_j1);
+  w2c_l8 = w2c_i0;
   w2c_j0 = w2c_p1;
-  w2c_l5 = w2c_j0;
+  w2c_p0 = w2c_j0;
   w2c_j0 = w2c_p1;
   w2c_j1 = 4ull;
   w2c_i0 = w2c_j0 < w2c_j1;
   if (w2c_i0) {goto w2c_B5;}
-  w2c_j0 = w2c_p0;
-  w2c_j1 = w2c_l6;
-  w2c_j0 += w2c_j1;
+  w2c_j0 = w2c_l6;
   w2c_j1 = 18446744073709551612ull;
   w2c_j0 += w2c_j1;
-  w2c_p0 = w2c_j0;
-  w2c_j0 = w2c_p1;
   w2c_l5 = w2c_j0;
+  w2c_j0 = w2c_p1;
+  w2c_p0 = w2c_j0;
   w2c_L6:
-    w2c_j0 = w2c_p0;
-    w2c_j1 = w2c_l5;
+    w2c_j0 = w2c_l5;
+    w2c_j1 = w2c_p0;
     w2c_j0 += w2c_j1;
     w2c_i0 = (u32)(w2c_j0);
     w2c_i0 = i32_load(m, (u64)(w2c_i0));
-    w2c_p2 = w2c_i0;
-    w2c_i1 = 3233808384u;
-    w2c_i0 &= w2c_i1;
-    w2c_i1 = 2155872256u;
-    w2c_i0 = w2c_i0 != w2c_i1;
-    if (w2c_i0) {goto w2c_B4;}
-    w2c_i0 = w2c_p2;
     w2c_i1 = 8u;
     w2c_i0 >>= (w2c_i1 & 31);
-    w2c_i1 = 255u;
-    w2c_i0 &= w2c_i1;
-    w2c_i1 = 4294967071u;
+    w2c_i1 = 16776989u;
     w2c_i0 += w2c_i1;
-    w2c_i1 = 11u;
-    w2c_i0 = w2c_i0 > w2c_i1;
+    w2c_i1 = 12632312u;
+    w2c_i0 &= w2c_i1;
+    w2c_i1 = 8421376u;
+    w2c_i0 = w2c_i0 != w2c_i1;
     if (w2c_i0) {goto w2c_B4;}
-    w2c_j0 = w2c_l5;
+    w2c_j0 = w2c_p0;
     w2c_j1 = 18446744073709551613ull;
     w2c_j0 += w2c_j1;
-    w2c_l5 = w2c_j0;
+    w2c_p0 = w2c_j0;
     w2c_j1 = 3ull;
     w2c_i0 = w2c_j0 > w2c_j1;
     if (w2c_i0) {goto w2c_L6;}
   w2c_B5:;
-  w2c_j0 = w2c_l5;
+  w2c_j0 = w2c_p0;
   w2c_j1 = 3ull;
   w2c_i0 = w2c_j0 > w2c_j1;
   if (w2c_i0) {goto w2c_B4;}
-  w2c_j0 = w2c_l5;
+  w2c_j0 = w2c_p0;
   w2c_i0 = (u32)(w2c_j0);
   switch (w2c_i0) {
     case 0: goto w2c_B3;
@@ -50537,68 +49821,41 @@ static u32 w2c_f84(module *m, u64 w2c_p0, u64 w2c_p1, u32 w2c_p2, u64 w2c_p3) {
     default: goto w2c_B3;
   }
   w2c_B7:;
-  w2c_j0 = w2c_l7;
+  w2c_j0 = w2c_l6;
   w2c_i0 = (u32)(w2c_j0);
-  w2c_i0 = i32_load8_u(m, (u64)(w2c_i0));
-  w2c_i1 = 31u;
-  w2c_i0 += w2c_i1;
-  w2c_i1 = 255u;
-  w2c_i0 &= w2c_i1;
-  w2c_i1 = 11u;
-  w2c_i0 = w2c_i0 > w2c_i1;
-  if (w2c_i0) {goto w2c_B4;}
-  w2c_j0 = w2c_l7;
-  w2c_j1 = 2ull;
-  w2c_j0 += w2c_j1;
-  w2c_i0 = (u32)(w2c_j0);
-  w2c_i0 = i32_load8_u(m, (u64)(w2c_i0));
-  w2c_i1 = 16u;
-  w2c_i0 <<= (w2c_i1 & 31);
-  w2c_j1 = w2c_l7;
-  w2c_j2 = 1ull;
+  w2c_i0 = i32_load16_u(m, (u64)(w2c_i0));
+  w2c_j1 = w2c_l6;
+  w2c_j2 = 2ull;
   w2c_j1 += w2c_j2;
   w2c_i1 = (u32)(w2c_j1);
   w2c_i1 = i32_load8_u(m, (u64)(w2c_i1));
-  w2c_i2 = 8u;
+  w2c_i2 = 16u;
   w2c_i1 <<= (w2c_i2 & 31);
   w2c_i0 |= w2c_i1;
-  w2c_i1 = 12632064u;
+  w2c_i1 = 16776989u;
+  w2c_i0 += w2c_i1;
+  w2c_i1 = 12632312u;
   w2c_i0 &= w2c_i1;
   w2c_i1 = 8421376u;
   w2c_i0 = w2c_i0 == w2c_i1;
   if (w2c_i0) {goto w2c_B3;}
   w2c_B4:;
-  w2c_j0 = w2c_l4;
-  w2c_j1 = 72ull;
-  w2c_j0 += w2c_j1;
-  w2c_j1 = w2c_l7;
-  w2c_j2 = w2c_p1;
-  w2c_f12(m, w2c_j0, w2c_j1, w2c_j2);
   w2c_i0 = 5u;
-  w2c_l8 = w2c_i0;
-  w2c_j0 = w2c_l4;
-  w2c_i0 = (u32)(w2c_j0);
-  w2c_i0 = i32_load8_u(m, (u64)(w2c_i0) + 72u);
-  w2c_i1 = 1u;
-  w2c_i0 = w2c_i0 != w2c_i1;
+  w2c_l7 = w2c_i0;
+  w2c_j0 = w2c_l6;
+  w2c_j1 = w2c_p1;
+  w2c_i0 = w2c_f12(m, w2c_j0, w2c_j1);
+  w2c_i0 = !(w2c_i0);
   if (w2c_i0) {goto w2c_B0;}
-  w2c_j0 = w2c_l4;
-  w2c_i0 = (u32)(w2c_j0);
-  w2c_j0 = i64_load(m, (u64)(w2c_i0) + 88u);
-  w2c_p1 = w2c_j0;
-  w2c_j0 = w2c_l4;
-  w2c_i0 = (u32)(w2c_j0);
-  w2c_j0 = i64_load(m, (u64)(w2c_i0) + 80u);
-  w2c_l7 = w2c_j0;
   w2c_B3:;
   w2c_j0 = w2c_l4;
-  w2c_j1 = w2c_l7;
+  w2c_j1 = w2c_l6;
   w2c_j2 = w2c_p1;
   w2c_i3 = 0u;
-  w2c_i4 = w2c_l10;
-  w2c_i5 = w2c_l9;
+  w2c_i4 = w2c_l8;
+  w2c_i5 = w2c_p2;
   w2c_i3 = w2c_i5 ? w2c_i3 : w2c_i4;
-  w2c_f32(m, w2c_j0, w2c_j1, w2c_j2, w2c_i3);
+  w2c_f31(m, w2c_j0, w2c_j1, w2c_j2, w2c_i3);
   w2c_j0 = w2c_p3;
   w2c_i0 = (u32)(w2c_j0);
   w2c_j1 = 0ull;
@@ -50630,7 +49887,7 @@ static u32 w2c_f84(module *m, u64 w2c_p0, u64 w2c_p1, u32 w2c_p2, u64 w2c_p3) {
   w2c_j0 = w2c_l4;
   w2c_i0 = (u32)(w2c_j0);
   w2c_j0 = i64_load(m, (u64)(w2c_i0) + 16u);
-  w2c_l5 = w2c_j0;
+  w2c_p0 = w2c_j0;
   w2c_j0 = w2c_l4;
   w2c_i0 = (u32)(w2c_j0);
   w2c_i0 = i32_load8_u(m, (u64)(w2c_i0));
@@ -50642,11 +49899,11 @@ static u32 w2c_f84(module *m, u64 w2c_p0, u64 w2c_p1, u32 w2c_p2, u64 w2c_p3) {
   w2c_j0 = w2c_l4;
   w2c_i0 = (u32)(w2c_j0);
   w2c_j0 = i64_load(m, (u64)(w2c_i0) + 32u);
-  w2c_l7 = w2c_j0;
+  w2c_l6 = w2c_j0;
   w2c_j0 = w2c_l4;
   w2c_i0 = (u32)(w2c_j0);
   w2c_j0 = i64_load(m, (u64)(w2c_i0) + 24u);
-  w2c_p0 = w2c_j0;
+  w2c_l5 = w2c_j0;
   w2c_j0 = w2c_p3;
   w2c_i0 = (u32)(w2c_j0);
   w2c_j1 = w2c_l4;
@@ -50655,7 +49912,7 @@ static u32 w2c_f84(module *m, u64 w2c_p0, u64 w2c_p1, u32 w2c_p2, u64 w2c_p3) {
   i32_store(m, (u64)(w2c_i0) + 32, w2c_i1);
   w2c_j0 = w2c_p3;
   w2c_i0 = (u32)(w2c_j0);
-  w2c_j1 = w2c_l7;
+  w2c_j1 = w2c_l6;
   i64_store(m, (u64)(w2c_i0) + 16, w2c_j1);
   w2c_j0 = w2c_p3;
   w2c_i0 = (u32)(w2c_j0);
@@ -50665,10 +49922,10 @@ static u32 w2c_f84(module *m, u64 w2c_p0, u64 w2c_p1, u32 w2c_p2, u64 w2c_p3) {
   w2c_i0 = (u32)(w2c_j0);
   w2c_j1 = 0ull;
   w2c_j2 = 0ull;
-  w2c_j3 = w2c_l5;
+  w2c_j3 = w2c_p0;
   w2c_j2 -= w2c_j3;
-  w2c_j3 = w2c_l5;
-  w2c_j4 = w2c_p0;
+  w2c_j3 = w2c_p0;
+  w2c_j4 = w2c_l5;
   w2c_j5 = 0ull;
   w2c_i4 = (u64)((s64)w2c_j4 < (s64)w2c_j5);
   w2c_p2 = w2c_i4;
@@ -50683,39 +49940,39 @@ static u32 w2c_f84(module *m, u64 w2c_p0, u64 w2c_p1, u32 w2c_p2, u64 w2c_p3) {
   w2c_i0 = (u32)(w2c_j0);
   w2c_j1 = 0ull;
   w2c_j2 = 0ull;
-  w2c_j3 = w2c_p0;
-  w2c_j4 = w2c_l5;
+  w2c_j3 = w2c_l5;
+  w2c_j4 = w2c_p0;
   w2c_j5 = 0ull;
   w2c_i4 = w2c_j4 != w2c_j5;
   w2c_j4 = (u64)(w2c_i4);
   w2c_j3 += w2c_j4;
   w2c_j2 -= w2c_j3;
-  w2c_j3 = w2c_p0;
+  w2c_j3 = w2c_l5;
   w2c_i4 = w2c_p2;
   w2c_j2 = w2c_i4 ? w2c_j2 : w2c_j3;
-  w2c_l5 = w2c_j2;
+  w2c_p0 = w2c_j2;
   w2c_j3 = w2c_p1;
   w2c_j4 = 0ull;
   w2c_i3 = w2c_j3 != w2c_j4;
   w2c_j3 = (u64)(w2c_i3);
   w2c_j2 += w2c_j3;
   w2c_j1 -= w2c_j2;
-  w2c_j2 = w2c_l5;
+  w2c_j2 = w2c_p0;
   w2c_i3 = w2c_p2;
   w2c_j1 = w2c_i3 ? w2c_j1 : w2c_j2;
   i64_store(m, (u64)(w2c_i0) + 8, w2c_j1);
   w2c_i0 = 0u;
-  w2c_l8 = w2c_i0;
+  w2c_l7 = w2c_i0;
   goto w2c_B0;
   w2c_B2:;
   UNREACHABLE;
   w2c_B1:;
-  w2c_j0 = w2c_l7;
+  w2c_j0 = w2c_l6;
   w2c_j1 = w2c_p1;
   w2c_j2 = w2c_l4;
   w2c_i2 = (u32)(w2c_j2);
   w2c_i2 = i32_load8_u(m, (u64)(w2c_i2) + 8u);
-  w2c_j3 = w2c_l5;
+  w2c_j3 = w2c_p0;
   w2c_j4 = w2c_p3;
   w2c_j5 = 40ull;
   w2c_j4 += w2c_j5;
@@ -50723,13 +49980,13 @@ static u32 w2c_f84(module *m, u64 w2c_p0, u64 w2c_p1, u32 w2c_p2, u64 w2c_p3) {
   w2c_j6 = 48ull;
   w2c_j5 += w2c_j6;
   w2c_i0 = w2c_f46(m, w2c_j0, w2c_j1, w2c_i2, w2c_j3, w2c_j4, w2c_j5);
-  w2c_l8 = w2c_i0;
+  w2c_l7 = w2c_i0;
   w2c_B0:;
   w2c_j0 = w2c_l4;
-  w2c_j1 = 96ull;
+  w2c_j1 = 64ull;
   w2c_j0 += w2c_j1;
   m->w2c_g0 = w2c_j0;
-  w2c_i0 = w2c_l8;
+  w2c_i0 = w2c_l7;
   return w2c_i0;
 }
 
@@ -50755,10 +50012,10 @@ static u32 w2c_chinese_number_read(module *m, u64 w2c_p0, u64 w2c_p1, u32 w2c_p2
 }
 
 static u32 w2c_f86(module *m, u64 w2c_p0, u64 w2c_p1, u32 w2c_p2, u32 w2c_p3, u64 w2c_p4) {
-  u32 w2c_l10 = 0, w2c_l11 = 0, w2c_l12 = 0, w2c_l13 = 0;
-  u64 w2c_l5 = 0, w2c_l6 = 0, w2c_l7 = 0, w2c_l8 = 0, w2c_l9 = 0;
+  u32 w2c_l12 = 0, w2c_l13 = 0, w2c_l14 = 0, w2c_l15 = 0;
+  u64 w2c_l5 = 0, w2c_l6 = 0, w2c_l7 = 0, w2c_l8 = 0, w2c_l9 = 0, w2c_l10 = 0, w2c_l11 = 0;
   u32 w2c_i0, w2c_i1, w2c_i2, w2c_i3, w2c_i4;
-  u64 w2c_j0, w2c_j1, w2c_j2, w2c_j3, w2c_j4, w2c_j5, w2c_j6;
+  u64 w2c_j0, w2c_j1, w2c_j2, w2c_j3, w2c_j4, w2c_j5;
   w2c_j0 = m->w2c_g0;
   w2c_j1 = 96ull;
   w2c_j0 -= w2c_j1;
@@ -50768,7 +50025,7 @@ static u32 w2c_f86(module *m, u64 w2c_p0, u64 w2c_p1, u32 w2c_p2, u32 w2c_p3, u6
   w2c_l6 = w2c_j0;
   w2c_j1 = 16ull;
   w2c_i0 = (u64)((s64)w2c_j0 < (s64)w2c_j1);
-  if (w2c_i0) {goto w2c_B11;}
+  if (w2c_i0) {goto w2c_B13;}
   w2c_j0 = w2c_p4;
   w2c_i0 = (u32)(w2c_j0);
   w2c_j1 = 0ull;
@@ -50786,7 +50043,7 @@ static u32 w2c_f86(module *m, u64 w2c_p0, u64 w2c_p1, u32 w2c_p2, u32 w2c_p3, u6
   w2c_j1 = 0ull;
   i64_store(m, (u64)(w2c_i0), w2c_j1);
   w2c_i0 = 8u;
-  w2c_l10 = w2c_i0;
+  w2c_l12 = w2c_i0;
   w2c_i0 = w2c_p2;
   w2c_i1 = 9u;
   w2c_i0 = w2c_i0 > w2c_i1;
@@ -50797,11 +50054,11 @@ static u32 w2c_f86(module *m, u64 w2c_p0, u64 w2c_p1, u32 w2c_p2, u32 w2c_p3, u6
   w2c_j0 += w2c_j1;
   w2c_i0 = (u32)(w2c_j0);
   w2c_i0 = i32_load8_u(m, (u64)(w2c_i0));
-  w2c_l11 = w2c_i0;
+  w2c_l13 = w2c_i0;
   w2c_i0 = w2c_p3;
   w2c_i1 = 4u;
   w2c_i0 = w2c_i0 > w2c_i1;
-  if (w2c_i0) {goto w2c_B13;}
+  if (w2c_i0) {goto w2c_B15;}
   w2c_i0 = w2c_p3;
   w2c_j0 = (u64)(w2c_i0);
   w2c_j1 = 1ull;
@@ -50811,188 +50068,151 @@ static u32 w2c_f86(module *m, u64 w2c_p0, u64 w2c_p1, u32 w2c_p2, u32 w2c_p3, u6
   w2c_j0 += w2c_j1;
   w2c_i0 = (u32)(w2c_j0);
   w2c_i0 = i32_load8_u(m, (u64)(w2c_i0));
-  w2c_l12 = w2c_i0;
+  w2c_l14 = w2c_i0;
   w2c_j0 = w2c_l5;
   w2c_j1 = 68026ull;
   w2c_j0 += w2c_j1;
   w2c_i0 = (u32)(w2c_j0);
   w2c_i0 = i32_load8_u(m, (u64)(w2c_i0));
-  w2c_l13 = w2c_i0;
-  goto w2c_B12;
-  w2c_B13:;
+  w2c_l15 = w2c_i0;
+  goto w2c_B14;
+  w2c_B15:;
   w2c_i0 = 0u;
-  w2c_l12 = w2c_i0;
+  w2c_l14 = w2c_i0;
   w2c_i0 = 0u;
-  w2c_l13 = w2c_i0;
+  w2c_l15 = w2c_i0;
   w2c_i0 = w2c_p3;
   w2c_i1 = 5u;
   w2c_i0 = w2c_i0 != w2c_i1;
   if (w2c_i0) {goto w2c_B0;}
-  w2c_B12:;
+  w2c_B14:;
   w2c_j0 = w2c_p0;
   w2c_j1 = 4096ull;
   w2c_j2 = 0ull;
   w2c_j3 = w2c_p0;
   w2c_i3 = !(w2c_j3);
   w2c_j1 = w2c_i3 ? w2c_j1 : w2c_j2;
-  w2c_l7 = w2c_j1;
   w2c_j0 += w2c_j1;
-  w2c_l8 = w2c_j0;
-  w2c_j0 = w2c_l6;
-  w2c_i0 = (u32)(w2c_j0);
-  w2c_j1 = 0ull;
-  i64_store(m, (u64)(w2c_i0) + 72, w2c_j1);
-  w2c_j0 = w2c_l6;
-  w2c_i0 = (u32)(w2c_j0);
-  w2c_j1 = 0ull;
-  i64_store(m, (u64)(w2c_i0) + 64, w2c_j1);
-  w2c_j0 = w2c_l6;
-  w2c_i0 = (u32)(w2c_j0);
-  w2c_j1 = 0ull;
-  i64_store(m, (u64)(w2c_i0) + 56, w2c_j1);
+  w2c_l7 = w2c_j0;
   w2c_j0 = w2c_p1;
   w2c_l5 = w2c_j0;
   w2c_j0 = w2c_p1;
   w2c_j1 = 4ull;
   w2c_i0 = w2c_j0 < w2c_j1;
-  if (w2c_i0) {goto w2c_B16;}
-  w2c_j0 = w2c_p0;
-  w2c_j1 = w2c_l7;
-  w2c_j0 += w2c_j1;
+  if (w2c_i0) {goto w2c_B18;}
+  w2c_j0 = w2c_l7;
   w2c_j1 = 18446744073709551612ull;
   w2c_j0 += w2c_j1;
   w2c_p0 = w2c_j0;
   w2c_j0 = w2c_p1;
   w2c_l5 = w2c_j0;
-  w2c_L17:
+  w2c_L19:
     w2c_j0 = w2c_p0;
     w2c_j1 = w2c_l5;
     w2c_j0 += w2c_j1;
     w2c_i0 = (u32)(w2c_j0);
     w2c_i0 = i32_load(m, (u64)(w2c_i0));
-    w2c_l10 = w2c_i0;
-    w2c_i1 = 3233808384u;
-    w2c_i0 &= w2c_i1;
-    w2c_i1 = 2155872256u;
-    w2c_i0 = w2c_i0 != w2c_i1;
-    if (w2c_i0) {goto w2c_B15;}
-    w2c_i0 = w2c_l10;
     w2c_i1 = 8u;
     w2c_i0 >>= (w2c_i1 & 31);
-    w2c_i1 = 255u;
-    w2c_i0 &= w2c_i1;
-    w2c_i1 = 4294967071u;
+    w2c_i1 = 16776989u;
     w2c_i0 += w2c_i1;
-    w2c_i1 = 11u;
-    w2c_i0 = w2c_i0 > w2c_i1;
-    if (w2c_i0) {goto w2c_B15;}
+    w2c_i1 = 12632312u;
+    w2c_i0 &= w2c_i1;
+    w2c_i1 = 8421376u;
+    w2c_i0 = w2c_i0 != w2c_i1;
+    if (w2c_i0) {goto w2c_B17;}
     w2c_j0 = w2c_l5;
     w2c_j1 = 18446744073709551613ull;
     w2c_j0 += w2c_j1;
     w2c_l5 = w2c_j0;
     w2c_j1 = 3ull;
     w2c_i0 = w2c_j0 > w2c_j1;
-    if (w2c_i0) {goto w2c_L17;}
-  w2c_B16:;
+    if (w2c_i0) {goto w2c_L19;}
+  w2c_B18:;
   w2c_j0 = w2c_l5;
   w2c_j1 = 3ull;
   w2c_i0 = w2c_j0 > w2c_j1;
-  if (w2c_i0) {goto w2c_B15;}
+  if (w2c_i0) {goto w2c_B17;}
   w2c_j0 = w2c_l5;
   w2c_i0 = (u32)(w2c_j0);
   switch (w2c_i0) {
-    case 0: goto w2c_B14;
-    case 1: goto w2c_B15;
-    case 2: goto w2c_B15;
-    case 3: goto w2c_B18;
-    default: goto w2c_B14;
+    case 0: goto w2c_B16;
+    case 1: goto w2c_B17;
+    case 2: goto w2c_B17;
+    case 3: goto w2c_B20;
+    default: goto w2c_B16;
   }
-  w2c_B18:;
-  w2c_j0 = w2c_l8;
+  w2c_B20:;
+  w2c_j0 = w2c_l7;
   w2c_i0 = (u32)(w2c_j0);
-  w2c_i0 = i32_load8_u(m, (u64)(w2c_i0));
-  w2c_i1 = 31u;
-  w2c_i0 += w2c_i1;
-  w2c_i1 = 255u;
-  w2c_i0 &= w2c_i1;
-  w2c_i1 = 11u;
-  w2c_i0 = w2c_i0 > w2c_i1;
-  if (w2c_i0) {goto w2c_B15;}
-  w2c_j0 = w2c_l8;
-  w2c_j1 = 2ull;
-  w2c_j0 += w2c_j1;
-  w2c_i0 = (u32)(w2c_j0);
-  w2c_i0 = i32_load8_u(m, (u64)(w2c_i0));
-  w2c_i1 = 16u;
-  w2c_i0 <<= (w2c_i1 & 31);
-  w2c_j1 = w2c_l8;
-  w2c_j2 = 1ull;
+  w2c_i0 = i32_load16_u(m, (u64)(w2c_i0));
+  w2c_j1 = w2c_l7;
+  w2c_j2 = 2ull;
   w2c_j1 += w2c_j2;
   w2c_i1 = (u32)(w2c_j1);
   w2c_i1 = i32_load8_u(m, (u64)(w2c_i1));
-  w2c_i2 = 8u;
+  w2c_i2 = 16u;
   w2c_i1 <<= (w2c_i2 & 31);
   w2c_i0 |= w2c_i1;
-  w2c_i1 = 12632064u;
+  w2c_i1 = 16776989u;
+  w2c_i0 += w2c_i1;
+  w2c_i1 = 12632312u;
   w2c_i0 &= w2c_i1;
   w2c_i1 = 8421376u;
   w2c_i0 = w2c_i0 == w2c_i1;
-  if (w2c_i0) {goto w2c_B14;}
-  w2c_B15:;
-  w2c_j0 = w2c_l6;
-  w2c_j1 = 56ull;
-  w2c_j0 += w2c_j1;
-  w2c_j1 = w2c_l8;
-  w2c_j2 = w2c_p1;
-  w2c_f12(m, w2c_j0, w2c_j1, w2c_j2);
+  if (w2c_i0) {goto w2c_B16;}
+  w2c_B17:;
   w2c_i0 = 5u;
-  w2c_l10 = w2c_i0;
-  w2c_j0 = w2c_l6;
-  w2c_i0 = (u32)(w2c_j0);
-  w2c_i0 = i32_load8_u(m, (u64)(w2c_i0) + 56u);
-  w2c_i1 = 1u;
-  w2c_i0 = w2c_i0 != w2c_i1;
+  w2c_l12 = w2c_i0;
+  w2c_j0 = w2c_l7;
+  w2c_j1 = w2c_p1;
+  w2c_i0 = w2c_f12(m, w2c_j0, w2c_j1);
+  w2c_i0 = !(w2c_i0);
   if (w2c_i0) {goto w2c_B0;}
-  w2c_j0 = w2c_l6;
-  w2c_i0 = (u32)(w2c_j0);
-  w2c_j0 = i64_load(m, (u64)(w2c_i0) + 72u);
-  w2c_p1 = w2c_j0;
-  w2c_j0 = w2c_l6;
-  w2c_i0 = (u32)(w2c_j0);
-  w2c_j0 = i64_load(m, (u64)(w2c_i0) + 64u);
-  w2c_l8 = w2c_j0;
-  w2c_B14:;
-  w2c_i0 = w2c_l11;
+  w2c_B16:;
+  w2c_i0 = w2c_l13;
   w2c_j0 = (u64)(w2c_i0);
   w2c_l5 = w2c_j0;
   w2c_i0 = w2c_p3;
   w2c_i1 = 4u;
   w2c_i0 = w2c_i0 <= w2c_i1;
-  if (w2c_i0) {goto w2c_B19;}
+  if (w2c_i0) {goto w2c_B21;}
   w2c_j0 = w2c_l6;
   w2c_j1 = 8ull;
   w2c_j0 += w2c_j1;
-  w2c_i1 = w2c_l11;
-  w2c_j2 = w2c_l8;
+  w2c_i1 = w2c_l13;
+  w2c_j2 = w2c_l7;
   w2c_j3 = w2c_p1;
   w2c_f47(m, w2c_j0, w2c_i1, w2c_j2, w2c_j3);
   w2c_j0 = w2c_l6;
   w2c_i0 = (u32)(w2c_j0);
   w2c_i0 = i32_load8_u(m, (u64)(w2c_i0) + 9u);
-  w2c_l12 = w2c_i0;
+  w2c_l14 = w2c_i0;
   w2c_j0 = w2c_l6;
   w2c_i0 = (u32)(w2c_j0);
   w2c_i0 = i32_load8_u(m, (u64)(w2c_i0) + 8u);
-  w2c_l13 = w2c_i0;
-  w2c_B19:;
+  w2c_l15 = w2c_i0;
+  w2c_B21:;
+  w2c_j0 = w2c_p4;
+  w2c_j1 = 24ull;
+  w2c_j0 += w2c_j1;
+  w2c_l8 = w2c_j0;
+  w2c_j0 = w2c_p4;
+  w2c_j1 = 16ull;
+  w2c_j0 += w2c_j1;
+  w2c_l9 = w2c_j0;
   w2c_j0 = w2c_l5;
   w2c_j1 = 255ull;
   w2c_j0 &= w2c_j1;
-  w2c_l7 = w2c_j0;
-  w2c_i0 = w2c_l13;
+  w2c_l10 = w2c_j0;
+  w2c_i0 = w2c_p2;
+  w2c_i1 = 5u;
+  w2c_i0 = w2c_i0 < w2c_i1;
+  if (w2c_i0) {goto w2c_B22;}
+  w2c_i0 = w2c_l15;
   w2c_i1 = 255u;
   w2c_i0 &= w2c_i1;
-  if (w2c_i0) {goto w2c_B20;}
+  if (w2c_i0) {goto w2c_B23;}
   w2c_j0 = w2c_l6;
   w2c_i0 = (u32)(w2c_j0);
   w2c_j1 = 0ull;
@@ -51012,10 +50232,6 @@ static u32 w2c_f86(module *m, u64 w2c_p0, u64 w2c_p1, u32 w2c_p2, u32 w2c_p3, u6
   w2c_j0 = w2c_l6;
   w2c_i0 = (u32)(w2c_j0);
   w2c_j1 = 0ull;
-  i64_store(m, (u64)(w2c_i0) + 88, w2c_j1);
-  w2c_j0 = w2c_l6;
-  w2c_i0 = (u32)(w2c_j0);
-  w2c_j1 = 0ull;
   i64_store(m, (u64)(w2c_i0) + 80, w2c_j1);
   w2c_j0 = w2c_l6;
   w2c_i0 = (u32)(w2c_j0);
@@ -51029,161 +50245,46 @@ static u32 w2c_f86(module *m, u64 w2c_p0, u64 w2c_p1, u32 w2c_p2, u32 w2c_p3, u6
   w2c_i0 = (u32)(w2c_j0);
   w2c_j1 = 0ull;
   i64_store(m, (u64)(w2c_i0) + 56, w2c_j1);
-  w2c_i0 = w2c_p2;
-  w2c_i1 = 5u;
-  w2c_i0 = w2c_i0 < w2c_i1;
-  if (w2c_i0) {goto w2c_B23;}
-  w2c_j0 = w2c_l6;
-  w2c_j1 = 56ull;
-  w2c_j0 += w2c_j1;
-  w2c_j1 = w2c_l8;
-  w2c_j2 = w2c_p1;
-  w2c_f33(m, w2c_j0, w2c_j1, w2c_j2);
   w2c_j0 = w2c_l6;
   w2c_i0 = (u32)(w2c_j0);
-  w2c_i0 = i32_load8_u(m, (u64)(w2c_i0) + 56u);
+  w2c_j1 = 0ull;
+  i64_store(m, (u64)(w2c_i0) + 48, w2c_j1);
+  w2c_j0 = w2c_l6;
+  w2c_j1 = 48ull;
+  w2c_j0 += w2c_j1;
+  w2c_j1 = w2c_l7;
+  w2c_j2 = w2c_p1;
+  w2c_f32(m, w2c_j0, w2c_j1, w2c_j2);
+  w2c_j0 = w2c_l6;
+  w2c_i0 = (u32)(w2c_j0);
+  w2c_i0 = i32_load8_u(m, (u64)(w2c_i0) + 48u);
   w2c_i1 = 1u;
   w2c_i0 = w2c_i0 != w2c_i1;
-  if (w2c_i0) {goto w2c_B23;}
-  w2c_j0 = w2c_l6;
-  w2c_i0 = (u32)(w2c_j0);
-  w2c_j0 = i64_load(m, (u64)(w2c_i0) + 88u);
-  w2c_l5 = w2c_j0;
+  if (w2c_i0) {goto w2c_B26;}
   w2c_j0 = w2c_l6;
   w2c_i0 = (u32)(w2c_j0);
   w2c_j0 = i64_load(m, (u64)(w2c_i0) + 80u);
-  w2c_p0 = w2c_j0;
+  w2c_l5 = w2c_j0;
   w2c_j0 = w2c_l6;
   w2c_i0 = (u32)(w2c_j0);
   w2c_j0 = i64_load(m, (u64)(w2c_i0) + 72u);
-  w2c_l9 = w2c_j0;
+  w2c_p0 = w2c_j0;
   w2c_j0 = w2c_l6;
   w2c_i0 = (u32)(w2c_j0);
-  w2c_i0 = i32_load(m, (u64)(w2c_i0) + 64u);
-  w2c_l10 = w2c_i0;
-  w2c_i1 = 27491u;
-  w2c_i0 = w2c_i0 == w2c_i1;
-  if (w2c_i0) {goto w2c_B22;}
-  w2c_i0 = w2c_l10;
-  w2c_i1 = 36000u;
-  w2c_i0 = w2c_i0 == w2c_i1;
-  if (w2c_i0) {goto w2c_B21;}
-  w2c_i0 = w2c_l10;
-  w2c_i1 = 36127u;
-  w2c_i0 = w2c_i0 == w2c_i1;
-  if (w2c_i0) {goto w2c_B21;}
-  w2c_B23:;
+  w2c_j0 = i64_load(m, (u64)(w2c_i0) + 64u);
+  w2c_l11 = w2c_j0;
   w2c_j0 = w2c_l6;
-  w2c_j1 = 16ull;
-  w2c_j0 += w2c_j1;
-  w2c_j1 = 0ull;
-  w2c_j2 = w2c_l8;
-  w2c_j3 = w2c_p1;
-  w2c_f43(m, w2c_j0, w2c_j1, w2c_j2, w2c_j3);
-  goto w2c_B8;
-  w2c_B22:;
-  w2c_j0 = w2c_l6;
-  w2c_j1 = 16ull;
-  w2c_j0 += w2c_j1;
-  w2c_j1 = w2c_l9;
-  w2c_j2 = 1ull;
-  w2c_j1 += w2c_j2;
-  w2c_j2 = w2c_p0;
-  w2c_j3 = w2c_l5;
-  w2c_f43(m, w2c_j0, w2c_j1, w2c_j2, w2c_j3);
-  goto w2c_B8;
-  w2c_B21:;
-  w2c_j0 = w2c_l6;
-  w2c_j1 = 16ull;
-  w2c_j0 += w2c_j1;
-  w2c_j1 = w2c_l9;
-  w2c_j2 = 1ull;
-  w2c_j1 += w2c_j2;
-  w2c_j2 = w2c_p0;
-  w2c_j3 = w2c_l5;
-  w2c_f43(m, w2c_j0, w2c_j1, w2c_j2, w2c_j3);
-  w2c_i0 = 3u;
-  w2c_l10 = w2c_i0;
-  w2c_i0 = 1u;
+  w2c_i0 = (u32)(w2c_j0);
+  w2c_i0 = i32_load(m, (u64)(w2c_i0) + 56u);
   w2c_p2 = w2c_i0;
-  goto w2c_B7;
-  w2c_B20:;
-  w2c_j0 = w2c_l6;
-  w2c_i0 = (u32)(w2c_j0);
-  w2c_j1 = 0ull;
-  i64_store(m, (u64)(w2c_i0) + 40, w2c_j1);
-  w2c_j0 = w2c_l6;
-  w2c_i0 = (u32)(w2c_j0);
-  w2c_j1 = 0ull;
-  i64_store(m, (u64)(w2c_i0) + 32, w2c_j1);
-  w2c_j0 = w2c_l6;
-  w2c_i0 = (u32)(w2c_j0);
-  w2c_j1 = 0ull;
-  i64_store(m, (u64)(w2c_i0) + 24, w2c_j1);
-  w2c_j0 = w2c_l6;
-  w2c_i0 = (u32)(w2c_j0);
-  w2c_j1 = 0ull;
-  i64_store(m, (u64)(w2c_i0) + 16, w2c_j1);
-  w2c_j0 = w2c_l6;
-  w2c_i0 = (u32)(w2c_j0);
-  w2c_j1 = 0ull;
-  i64_store(m, (u64)(w2c_i0) + 88, w2c_j1);
-  w2c_j0 = w2c_l6;
-  w2c_i0 = (u32)(w2c_j0);
-  w2c_j1 = 0ull;
-  i64_store(m, (u64)(w2c_i0) + 80, w2c_j1);
-  w2c_j0 = w2c_l6;
-  w2c_i0 = (u32)(w2c_j0);
-  w2c_j1 = 0ull;
-  i64_store(m, (u64)(w2c_i0) + 72, w2c_j1);
-  w2c_j0 = w2c_l6;
-  w2c_i0 = (u32)(w2c_j0);
-  w2c_j1 = 0ull;
-  i64_store(m, (u64)(w2c_i0) + 64, w2c_j1);
-  w2c_j0 = w2c_l6;
-  w2c_i0 = (u32)(w2c_j0);
-  w2c_j1 = 0ull;
-  i64_store(m, (u64)(w2c_i0) + 56, w2c_j1);
-  w2c_i0 = w2c_p2;
-  w2c_i1 = 5u;
-  w2c_i0 = w2c_i0 < w2c_i1;
-  if (w2c_i0) {goto w2c_B26;}
-  w2c_j0 = w2c_l6;
-  w2c_j1 = 56ull;
-  w2c_j0 += w2c_j1;
-  w2c_j1 = w2c_l8;
-  w2c_j2 = w2c_p1;
-  w2c_f33(m, w2c_j0, w2c_j1, w2c_j2);
-  w2c_j0 = w2c_l6;
-  w2c_i0 = (u32)(w2c_j0);
-  w2c_i0 = i32_load8_u(m, (u64)(w2c_i0) + 56u);
-  w2c_i1 = 1u;
-  w2c_i0 = w2c_i0 != w2c_i1;
-  if (w2c_i0) {goto w2c_B26;}
-  w2c_j0 = w2c_l6;
-  w2c_i0 = (u32)(w2c_j0);
-  w2c_j0 = i64_load(m, (u64)(w2c_i0) + 88u);
-  w2c_l5 = w2c_j0;
-  w2c_j0 = w2c_l6;
-  w2c_i0 = (u32)(w2c_j0);
-  w2c_j0 = i64_load(m, (u64)(w2c_i0) + 80u);
-  w2c_p0 = w2c_j0;
-  w2c_j0 = w2c_l6;
-  w2c_i0 = (u32)(w2c_j0);
-  w2c_j0 = i64_load(m, (u64)(w2c_i0) + 72u);
-  w2c_l9 = w2c_j0;
-  w2c_j0 = w2c_l6;
-  w2c_i0 = (u32)(w2c_j0);
-  w2c_i0 = i32_load(m, (u64)(w2c_i0) + 64u);
-  w2c_l10 = w2c_i0;
   w2c_i1 = 27491u;
   w2c_i0 = w2c_i0 == w2c_i1;
   if (w2c_i0) {goto w2c_B25;}
-  w2c_i0 = w2c_l10;
+  w2c_i0 = w2c_p2;
   w2c_i1 = 36000u;
   w2c_i0 = w2c_i0 == w2c_i1;
   if (w2c_i0) {goto w2c_B24;}
-  w2c_i0 = w2c_l10;
+  w2c_i0 = w2c_p2;
   w2c_i1 = 36127u;
   w2c_i0 = w2c_i0 == w2c_i1;
   if (w2c_i0) {goto w2c_B24;}
@@ -51191,47 +50292,349 @@ static u32 w2c_f86(module *m, u64 w2c_p0, u64 w2c_p1, u32 w2c_p2, u32 w2c_p3, u6
   w2c_j0 = w2c_l6;
   w2c_j1 = 16ull;
   w2c_j0 += w2c_j1;
-  w2c_i1 = w2c_l12;
-  w2c_j2 = 0ull;
-  w2c_j3 = w2c_l8;
-  w2c_j4 = w2c_p1;
-  w2c_f48(m, w2c_j0, w2c_i1, w2c_j2, w2c_j3, w2c_j4);
-  goto w2c_B10;
+  w2c_j1 = 0ull;
+  w2c_j2 = w2c_l7;
+  w2c_j3 = w2c_p1;
+  w2c_f43(m, w2c_j0, w2c_j1, w2c_j2, w2c_j3);
+  goto w2c_B8;
   w2c_B25:;
   w2c_j0 = w2c_l6;
   w2c_j1 = 16ull;
   w2c_j0 += w2c_j1;
-  w2c_i1 = w2c_l12;
-  w2c_j2 = w2c_l9;
+  w2c_j1 = w2c_l11;
+  w2c_j2 = 1ull;
+  w2c_j1 += w2c_j2;
+  w2c_j2 = w2c_p0;
+  w2c_j3 = w2c_l5;
+  w2c_f43(m, w2c_j0, w2c_j1, w2c_j2, w2c_j3);
+  goto w2c_B8;
+  w2c_B24:;
+  w2c_j0 = w2c_l6;
+  w2c_j1 = 16ull;
+  w2c_j0 += w2c_j1;
+  w2c_j1 = w2c_l11;
+  w2c_j2 = 1ull;
+  w2c_j1 += w2c_j2;
+  w2c_j2 = w2c_p0;
+  w2c_j3 = w2c_l5;
+  w2c_f43(m, w2c_j0, w2c_j1, w2c_j2, w2c_j3);
+  w2c_i0 = 3u;
+  w2c_p2 = w2c_i0;
+  w2c_i0 = 1u;
+  w2c_l12 = w2c_i0;
+  goto w2c_B7;
+  w2c_B23:;
+  w2c_j0 = w2c_l6;
+  w2c_i0 = (u32)(w2c_j0);
+  w2c_j1 = 0ull;
+  i64_store(m, (u64)(w2c_i0) + 40, w2c_j1);
+  w2c_j0 = w2c_l6;
+  w2c_i0 = (u32)(w2c_j0);
+  w2c_j1 = 0ull;
+  i64_store(m, (u64)(w2c_i0) + 32, w2c_j1);
+  w2c_j0 = w2c_l6;
+  w2c_i0 = (u32)(w2c_j0);
+  w2c_j1 = 0ull;
+  i64_store(m, (u64)(w2c_i0) + 24, w2c_j1);
+  w2c_j0 = w2c_l6;
+  w2c_i0 = (u32)(w2c_j0);
+  w2c_j1 = 0ull;
+  i64_store(m, (u64)(w2c_i0) + 16, w2c_j1);
+  w2c_j0 = w2c_l6;
+  w2c_i0 = (u32)(w2c_j0);
+  w2c_j1 = 0ull;
+  i64_store(m, (u64)(w2c_i0) + 80, w2c_j1);
+  w2c_j0 = w2c_l6;
+  w2c_i0 = (u32)(w2c_j0);
+  w2c_j1 = 0ull;
+  i64_store(m, (u64)(w2c_i0) + 72, w2c_j1);
+  w2c_j0 = w2c_l6;
+  w2c_i0 = (u32)(w2c_j0);
+  w2c_j1 = 0ull;
+  i64_store(m, (u64)(w2c_i0) + 64, w2c_j1);
+  w2c_j0 = w2c_l6;
+  w2c_i0 = (u32)(w2c_j0);
+  w2c_j1 = 0ull;
+  i64_store(m, (u64)(w2c_i0) + 56, w2c_j1);
+  w2c_j0 = w2c_l6;
+  w2c_i0 = (u32)(w2c_j0);
+  w2c_j1 = 0ull;
+  i64_store(m, (u64)(w2c_i0) + 48, w2c_j1);
+  w2c_j0 = w2c_l6;
+  w2c_j1 = 48ull;
+  w2c_j0 += w2c_j1;
+  w2c_j1 = w2c_l7;
+  w2c_j2 = w2c_p1;
+  w2c_f32(m, w2c_j0, w2c_j1, w2c_j2);
+  w2c_j0 = w2c_l6;
+  w2c_i0 = (u32)(w2c_j0);
+  w2c_i0 = i32_load8_u(m, (u64)(w2c_i0) + 48u);
+  w2c_i1 = 1u;
+  w2c_i0 = w2c_i0 != w2c_i1;
+  if (w2c_i0) {goto w2c_B29;}
+  w2c_j0 = w2c_l6;
+  w2c_i0 = (u32)(w2c_j0);
+  w2c_j0 = i64_load(m, (u64)(w2c_i0) + 80u);
+  w2c_l5 = w2c_j0;
+  w2c_j0 = w2c_l6;
+  w2c_i0 = (u32)(w2c_j0);
+  w2c_j0 = i64_load(m, (u64)(w2c_i0) + 72u);
+  w2c_p0 = w2c_j0;
+  w2c_j0 = w2c_l6;
+  w2c_i0 = (u32)(w2c_j0);
+  w2c_j0 = i64_load(m, (u64)(w2c_i0) + 64u);
+  w2c_l11 = w2c_j0;
+  w2c_j0 = w2c_l6;
+  w2c_i0 = (u32)(w2c_j0);
+  w2c_i0 = i32_load(m, (u64)(w2c_i0) + 56u);
+  w2c_p2 = w2c_i0;
+  w2c_i1 = 27491u;
+  w2c_i0 = w2c_i0 == w2c_i1;
+  if (w2c_i0) {goto w2c_B28;}
+  w2c_i0 = w2c_p2;
+  w2c_i1 = 36000u;
+  w2c_i0 = w2c_i0 == w2c_i1;
+  if (w2c_i0) {goto w2c_B27;}
+  w2c_i0 = w2c_p2;
+  w2c_i1 = 36127u;
+  w2c_i0 = w2c_i0 == w2c_i1;
+  if (w2c_i0) {goto w2c_B27;}
+  w2c_B29:;
+  w2c_j0 = w2c_l6;
+  w2c_j1 = 16ull;
+  w2c_j0 += w2c_j1;
+  w2c_i1 = w2c_l14;
+  w2c_j2 = 0ull;
+  w2c_j3 = w2c_l7;
+  w2c_j4 = w2c_p1;
+  w2c_f48(m, w2c_j0, w2c_i1, w2c_j2, w2c_j3, w2c_j4);
+  goto w2c_B10;
+  w2c_B28:;
+  w2c_j0 = w2c_l6;
+  w2c_j1 = 16ull;
+  w2c_j0 += w2c_j1;
+  w2c_i1 = w2c_l14;
+  w2c_j2 = w2c_l11;
   w2c_j3 = 1ull;
   w2c_j2 += w2c_j3;
   w2c_j3 = w2c_p0;
   w2c_j4 = w2c_l5;
   w2c_f48(m, w2c_j0, w2c_i1, w2c_j2, w2c_j3, w2c_j4);
   goto w2c_B10;
-  w2c_B24:;
+  w2c_B27:;
   w2c_j0 = w2c_l6;
   w2c_j1 = 16ull;
   w2c_j0 += w2c_j1;
-  w2c_i1 = w2c_l12;
-  w2c_j2 = w2c_l9;
+  w2c_i1 = w2c_l14;
+  w2c_j2 = w2c_l11;
   w2c_j3 = 1ull;
   w2c_j2 += w2c_j3;
   w2c_j3 = w2c_p0;
   w2c_j4 = w2c_l5;
   w2c_f48(m, w2c_j0, w2c_i1, w2c_j2, w2c_j3, w2c_j4);
   w2c_i0 = 3u;
-  w2c_l10 = w2c_i0;
-  w2c_i0 = 1u;
   w2c_p2 = w2c_i0;
+  w2c_i0 = 1u;
+  w2c_l12 = w2c_i0;
   goto w2c_B9;
-  w2c_B11:;
-  UNREACHABLE;
-  w2c_B10:;
-  w2c_i0 = 2u;
-  w2c_l10 = w2c_i0;
+  w2c_B22:;
+  w2c_i0 = w2c_l15;
+  w2c_i1 = 255u;
+  w2c_i0 &= w2c_i1;
+  if (w2c_i0) {goto w2c_B33;}
+  w2c_j0 = 0ull;
+  w2c_p0 = w2c_j0;
+  w2c_j0 = w2c_l6;
+  w2c_i0 = (u32)(w2c_j0);
+  w2c_j1 = 0ull;
+  i64_store(m, (u64)(w2c_i0) + 72, w2c_j1);
+  w2c_j0 = w2c_l6;
+  w2c_i0 = (u32)(w2c_j0);
+  w2c_j1 = 0ull;
+  i64_store(m, (u64)(w2c_i0) + 64, w2c_j1);
+  w2c_j0 = w2c_l6;
+  w2c_i0 = (u32)(w2c_j0);
+  w2c_j1 = 0ull;
+  i64_store(m, (u64)(w2c_i0) + 56, w2c_j1);
+  w2c_j0 = w2c_l6;
+  w2c_i0 = (u32)(w2c_j0);
+  w2c_j1 = 0ull;
+  i64_store(m, (u64)(w2c_i0) + 48, w2c_j1);
+  w2c_j0 = w2c_l6;
+  w2c_j1 = 48ull;
+  w2c_j0 += w2c_j1;
+  w2c_j1 = 0ull;
+  w2c_j2 = w2c_l7;
+  w2c_j3 = w2c_p1;
+  w2c_f43(m, w2c_j0, w2c_j1, w2c_j2, w2c_j3);
+  w2c_j0 = w2c_l6;
+  w2c_i0 = (u32)(w2c_j0);
+  w2c_j0 = i64_load(m, (u64)(w2c_i0) + 64u);
+  w2c_l5 = w2c_j0;
+  w2c_j0 = w2c_l6;
+  w2c_i0 = (u32)(w2c_j0);
+  w2c_i0 = i32_load8_u(m, (u64)(w2c_i0) + 48u);
+  if (w2c_i0) {goto w2c_B34;}
+  w2c_j0 = 0ull;
+  w2c_l11 = w2c_j0;
+  w2c_j0 = w2c_l5;
+  w2c_j1 = w2c_l10;
+  w2c_j2 = 5ull;
+  w2c_j1 <<= (w2c_j2 & 63);
+  w2c_l10 = w2c_j1;
+  w2c_i1 = (u32)(w2c_j1);
+  w2c_j1 = i64_load(m, (u64)(w2c_i1) + 68048u);
+  w2c_i0 = w2c_j0 > w2c_j1;
+  w2c_j1 = w2c_l6;
+  w2c_i1 = (u32)(w2c_j1);
+  w2c_j1 = i64_load(m, (u64)(w2c_i1) + 72u);
+  w2c_p0 = w2c_j1;
+  w2c_j2 = w2c_l10;
+  w2c_i2 = (u32)(w2c_j2);
+  w2c_j2 = i64_load(m, (u64)(w2c_i2) + 68056u);
+  w2c_l10 = w2c_j2;
+  w2c_i1 = w2c_j1 > w2c_j2;
+  w2c_j2 = w2c_p0;
+  w2c_j3 = w2c_l10;
+  w2c_i2 = w2c_j2 == w2c_j3;
+  w2c_i0 = w2c_i2 ? w2c_i0 : w2c_i1;
+  w2c_i0 = !(w2c_i0);
+  if (w2c_i0) {goto w2c_B32;}
+  goto w2c_B12;
+  w2c_B34:;
+  w2c_j0 = 0ull;
+  w2c_j1 = w2c_l5;
+  w2c_j2 = w2c_l6;
+  w2c_i2 = (u32)(w2c_j2);
+  w2c_i2 = i32_load8_u(m, (u64)(w2c_i2) + 56u);
+  w2c_l12 = w2c_i2;
+  w2c_i3 = 2u;
+  w2c_i2 = w2c_i2 == w2c_i3;
+  w2c_j0 = w2c_i2 ? w2c_j0 : w2c_j1;
+  w2c_l11 = w2c_j0;
+  goto w2c_B30;
+  w2c_B33:;
+  w2c_j0 = 0ull;
+  w2c_p0 = w2c_j0;
+  w2c_j0 = w2c_l6;
+  w2c_i0 = (u32)(w2c_j0);
+  w2c_j1 = 0ull;
+  i64_store(m, (u64)(w2c_i0) + 72, w2c_j1);
+  w2c_j0 = w2c_l6;
+  w2c_i0 = (u32)(w2c_j0);
+  w2c_j1 = 0ull;
+  i64_store(m, (u64)(w2c_i0) + 64, w2c_j1);
+  w2c_j0 = w2c_l6;
+  w2c_i0 = (u32)(w2c_j0);
+  w2c_j1 = 0ull;
+  i64_store(m, (u64)(w2c_i0) + 56, w2c_j1);
+  w2c_j0 = w2c_l6;
+  w2c_i0 = (u32)(w2c_j0);
+  w2c_j1 = 0ull;
+  i64_store(m, (u64)(w2c_i0) + 48, w2c_j1);
+  w2c_j0 = w2c_l6;
+  w2c_j1 = 48ull;
+  w2c_j0 += w2c_j1;
+  w2c_i1 = w2c_l14;
+  w2c_j2 = 0ull;
+  w2c_j3 = w2c_l7;
+  w2c_j4 = w2c_p1;
+  w2c_f48(m, w2c_j0, w2c_i1, w2c_j2, w2c_j3, w2c_j4);
+  w2c_j0 = w2c_l6;
+  w2c_i0 = (u32)(w2c_j0);
+  w2c_j0 = i64_load(m, (u64)(w2c_i0) + 64u);
+  w2c_l5 = w2c_j0;
+  w2c_j0 = w2c_l6;
+  w2c_i0 = (u32)(w2c_j0);
+  w2c_i0 = i32_load8_u(m, (u64)(w2c_i0) + 48u);
+  if (w2c_i0) {goto w2c_B31;}
+  w2c_j0 = 0ull;
+  w2c_l11 = w2c_j0;
+  w2c_j0 = w2c_l5;
+  w2c_j1 = w2c_l10;
+  w2c_j2 = 5ull;
+  w2c_j1 <<= (w2c_j2 & 63);
+  w2c_l10 = w2c_j1;
+  w2c_i1 = (u32)(w2c_j1);
+  w2c_j1 = i64_load(m, (u64)(w2c_i1) + 68048u);
+  w2c_i0 = w2c_j0 > w2c_j1;
+  w2c_j1 = w2c_l6;
+  w2c_i1 = (u32)(w2c_j1);
+  w2c_j1 = i64_load(m, (u64)(w2c_i1) + 72u);
+  w2c_p0 = w2c_j1;
+  w2c_j2 = w2c_l10;
+  w2c_i2 = (u32)(w2c_j2);
+  w2c_j2 = i64_load(m, (u64)(w2c_i2) + 68056u);
+  w2c_l10 = w2c_j2;
+  w2c_i1 = w2c_j1 > w2c_j2;
+  w2c_j2 = w2c_p0;
+  w2c_j3 = w2c_l10;
+  w2c_i2 = w2c_j2 == w2c_j3;
+  w2c_i0 = w2c_i2 ? w2c_i0 : w2c_i1;
+  if (w2c_i0) {goto w2c_B12;}
+  w2c_B32:;
   w2c_i0 = 0u;
   w2c_p2 = w2c_i0;
+  w2c_i0 = 0u;
+  w2c_l12 = w2c_i0;
+  goto w2c_B11;
+  w2c_B31:;
+  w2c_j0 = 0ull;
+  w2c_j1 = w2c_l5;
+  w2c_j2 = w2c_l6;
+  w2c_i2 = (u32)(w2c_j2);
+  w2c_i2 = i32_load8_u(m, (u64)(w2c_i2) + 56u);
+  w2c_l12 = w2c_i2;
+  w2c_i3 = 2u;
+  w2c_i2 = w2c_i2 == w2c_i3;
+  w2c_j0 = w2c_i2 ? w2c_j0 : w2c_j1;
+  w2c_l11 = w2c_j0;
+  w2c_B30:;
+  w2c_i0 = 1u;
+  w2c_p2 = w2c_i0;
+  w2c_j0 = 0ull;
+  w2c_l5 = w2c_j0;
+  goto w2c_B11;
+  w2c_B13:;
+  UNREACHABLE;
+  w2c_B12:;
+  w2c_i0 = 2u;
+  w2c_l12 = w2c_i0;
+  w2c_i0 = 1u;
+  w2c_p2 = w2c_i0;
+  w2c_j0 = 0ull;
+  w2c_l5 = w2c_j0;
+  w2c_j0 = 0ull;
+  w2c_p0 = w2c_j0;
+  w2c_B11:;
+  w2c_i0 = w2c_p2;
+  if (w2c_i0) {goto w2c_B35;}
+  w2c_j0 = w2c_p4;
+  w2c_i0 = (u32)(w2c_j0);
+  w2c_j1 = w2c_p0;
+  i64_store(m, (u64)(w2c_i0) + 8, w2c_j1);
+  w2c_j0 = w2c_p4;
+  w2c_i0 = (u32)(w2c_j0);
+  w2c_j1 = w2c_l5;
+  i64_store(m, (u64)(w2c_i0), w2c_j1);
+  w2c_i0 = 0u;
+  w2c_l12 = w2c_i0;
+  goto w2c_B0;
+  w2c_B35:;
+  w2c_j0 = w2c_l7;
+  w2c_j1 = w2c_p1;
+  w2c_i2 = w2c_l12;
+  w2c_j3 = w2c_l11;
+  w2c_j4 = w2c_l9;
+  w2c_j5 = w2c_l8;
+  w2c_i0 = w2c_f46(m, w2c_j0, w2c_j1, w2c_i2, w2c_j3, w2c_j4, w2c_j5);
+  w2c_l12 = w2c_i0;
+  goto w2c_B0;
+  w2c_B10:;
+  w2c_i0 = 2u;
+  w2c_p2 = w2c_i0;
+  w2c_i0 = 0u;
+  w2c_l12 = w2c_i0;
   w2c_B9:;
   w2c_j0 = w2c_l6;
   w2c_i0 = (u32)(w2c_j0);
@@ -51244,60 +50647,60 @@ static u32 w2c_f86(module *m, u64 w2c_p0, u64 w2c_p1, u32 w2c_p2, u32 w2c_p3, u6
   w2c_j0 = w2c_l6;
   w2c_i0 = (u32)(w2c_j0);
   w2c_i0 = i32_load8_u(m, (u64)(w2c_i0) + 16u);
-  if (w2c_i0) {goto w2c_B27;}
+  if (w2c_i0) {goto w2c_B36;}
   w2c_j0 = w2c_l5;
-  w2c_j1 = w2c_l7;
+  w2c_j1 = w2c_l10;
   w2c_j2 = 5ull;
   w2c_j1 <<= (w2c_j2 & 63);
   w2c_j2 = 68064ull;
   w2c_j3 = 68048ull;
-  w2c_i4 = w2c_p2;
+  w2c_i4 = w2c_l12;
   w2c_j2 = w2c_i4 ? w2c_j2 : w2c_j3;
   w2c_j1 += w2c_j2;
-  w2c_l7 = w2c_j1;
+  w2c_l10 = w2c_j1;
   w2c_i1 = (u32)(w2c_j1);
   w2c_j1 = i64_load(m, (u64)(w2c_i1));
   w2c_i0 = w2c_j0 > w2c_j1;
   w2c_j1 = w2c_p0;
-  w2c_j2 = w2c_l7;
+  w2c_j2 = w2c_l10;
   w2c_i2 = (u32)(w2c_j2);
   w2c_j2 = i64_load(m, (u64)(w2c_i2) + 8u);
-  w2c_l7 = w2c_j2;
+  w2c_l10 = w2c_j2;
   w2c_i1 = w2c_j1 > w2c_j2;
   w2c_j2 = w2c_p0;
-  w2c_j3 = w2c_l7;
+  w2c_j3 = w2c_l10;
   w2c_i2 = w2c_j2 == w2c_j3;
   w2c_i0 = w2c_i2 ? w2c_i0 : w2c_i1;
   if (w2c_i0) {goto w2c_B6;}
-  w2c_i0 = w2c_p2;
+  w2c_i0 = w2c_l12;
   w2c_j0 = (u64)(w2c_i0);
-  w2c_l7 = w2c_j0;
+  w2c_l10 = w2c_j0;
   goto w2c_B4;
-  w2c_B27:;
-  w2c_i0 = w2c_l10;
+  w2c_B36:;
+  w2c_i0 = w2c_p2;
   w2c_j1 = w2c_l6;
   w2c_i1 = (u32)(w2c_j1);
   w2c_i1 = i32_load8_u(m, (u64)(w2c_i1) + 24u);
-  w2c_p2 = w2c_i1;
-  w2c_i2 = w2c_p2;
+  w2c_l12 = w2c_i1;
+  w2c_i2 = w2c_l12;
   w2c_i3 = 2u;
   w2c_i2 = w2c_i2 == w2c_i3;
-  w2c_p2 = w2c_i2;
+  w2c_l12 = w2c_i2;
   w2c_i0 = w2c_i2 ? w2c_i0 : w2c_i1;
-  w2c_l10 = w2c_i0;
+  w2c_p2 = w2c_i0;
   w2c_j0 = 0ull;
   w2c_p0 = w2c_j0;
   w2c_j0 = 0ull;
   w2c_j1 = w2c_l5;
-  w2c_i2 = w2c_p2;
+  w2c_i2 = w2c_l12;
   w2c_j0 = w2c_i2 ? w2c_j0 : w2c_j1;
-  w2c_l7 = w2c_j0;
+  w2c_l10 = w2c_j0;
   goto w2c_B2;
   w2c_B8:;
   w2c_i0 = 2u;
-  w2c_l10 = w2c_i0;
-  w2c_i0 = 0u;
   w2c_p2 = w2c_i0;
+  w2c_i0 = 0u;
+  w2c_l12 = w2c_i0;
   w2c_B7:;
   w2c_j0 = w2c_l6;
   w2c_i0 = (u32)(w2c_j0);
@@ -51312,26 +50715,26 @@ static u32 w2c_f86(module *m, u64 w2c_p0, u64 w2c_p1, u32 w2c_p2, u32 w2c_p3, u6
   w2c_i0 = i32_load8_u(m, (u64)(w2c_i0) + 16u);
   if (w2c_i0) {goto w2c_B3;}
   w2c_j0 = w2c_l5;
-  w2c_j1 = w2c_l7;
+  w2c_j1 = w2c_l10;
   w2c_j2 = 5ull;
   w2c_j1 <<= (w2c_j2 & 63);
   w2c_j2 = 68064ull;
   w2c_j3 = 68048ull;
-  w2c_i4 = w2c_p2;
+  w2c_i4 = w2c_l12;
   w2c_j2 = w2c_i4 ? w2c_j2 : w2c_j3;
   w2c_j1 += w2c_j2;
-  w2c_l7 = w2c_j1;
+  w2c_l10 = w2c_j1;
   w2c_i1 = (u32)(w2c_j1);
   w2c_j1 = i64_load(m, (u64)(w2c_i1));
   w2c_i0 = w2c_j0 > w2c_j1;
   w2c_j1 = w2c_p0;
-  w2c_j2 = w2c_l7;
+  w2c_j2 = w2c_l10;
   w2c_i2 = (u32)(w2c_j2);
   w2c_j2 = i64_load(m, (u64)(w2c_i2) + 8u);
-  w2c_l7 = w2c_j2;
+  w2c_l10 = w2c_j2;
   w2c_i1 = w2c_j1 > w2c_j2;
   w2c_j2 = w2c_p0;
-  w2c_j3 = w2c_l7;
+  w2c_j3 = w2c_l10;
   w2c_i2 = w2c_j2 == w2c_j3;
   w2c_i0 = w2c_i2 ? w2c_i0 : w2c_i1;
   w2c_i0 = !(w2c_i0);
@@ -51340,60 +50743,60 @@ static u32 w2c_f86(module *m, u64 w2c_p0, u64 w2c_p1, u32 w2c_p2, u32 w2c_p3, u6
   w2c_j0 = 0ull;
   w2c_l5 = w2c_j0;
   w2c_i0 = 1u;
-  w2c_p2 = w2c_i0;
+  w2c_l12 = w2c_i0;
   w2c_j0 = 0ull;
   w2c_p0 = w2c_j0;
   w2c_j0 = 0ull;
-  w2c_l7 = w2c_j0;
+  w2c_l10 = w2c_j0;
   goto w2c_B1;
   w2c_B5:;
-  w2c_i0 = w2c_p2;
+  w2c_i0 = w2c_l12;
   w2c_j0 = (u64)(w2c_i0);
-  w2c_l7 = w2c_j0;
+  w2c_l10 = w2c_j0;
   w2c_B4:;
   w2c_i0 = 0u;
-  w2c_p2 = w2c_i0;
+  w2c_l12 = w2c_i0;
   w2c_i0 = 0u;
-  w2c_l10 = w2c_i0;
+  w2c_p2 = w2c_i0;
   goto w2c_B1;
   w2c_B3:;
-  w2c_i0 = w2c_l10;
+  w2c_i0 = w2c_p2;
   w2c_j1 = w2c_l6;
   w2c_i1 = (u32)(w2c_j1);
   w2c_i1 = i32_load8_u(m, (u64)(w2c_i1) + 24u);
-  w2c_p2 = w2c_i1;
-  w2c_i2 = w2c_p2;
+  w2c_l12 = w2c_i1;
+  w2c_i2 = w2c_l12;
   w2c_i3 = 2u;
   w2c_i2 = w2c_i2 == w2c_i3;
-  w2c_p2 = w2c_i2;
+  w2c_l12 = w2c_i2;
   w2c_i0 = w2c_i2 ? w2c_i0 : w2c_i1;
-  w2c_l10 = w2c_i0;
+  w2c_p2 = w2c_i0;
   w2c_j0 = 0ull;
   w2c_p0 = w2c_j0;
   w2c_j0 = 0ull;
   w2c_j1 = w2c_l5;
-  w2c_i2 = w2c_p2;
+  w2c_i2 = w2c_l12;
   w2c_j0 = w2c_i2 ? w2c_j0 : w2c_j1;
-  w2c_l7 = w2c_j0;
+  w2c_l10 = w2c_j0;
   w2c_B2:;
   w2c_i0 = 1u;
-  w2c_p2 = w2c_i0;
+  w2c_l12 = w2c_i0;
   w2c_j0 = 0ull;
   w2c_l5 = w2c_j0;
   w2c_B1:;
-  w2c_i0 = w2c_p2;
-  if (w2c_i0) {goto w2c_B28;}
+  w2c_i0 = w2c_l12;
+  if (w2c_i0) {goto w2c_B37;}
   w2c_j0 = w2c_p4;
   w2c_i0 = (u32)(w2c_j0);
   w2c_j1 = 0ull;
   w2c_j2 = w2c_l5;
   w2c_j1 -= w2c_j2;
   w2c_j2 = w2c_l5;
-  w2c_j3 = w2c_l7;
+  w2c_j3 = w2c_l10;
   w2c_i3 = (u32)(w2c_j3);
   w2c_i4 = 1u;
   w2c_i3 &= w2c_i4;
-  w2c_l10 = w2c_i3;
+  w2c_p2 = w2c_i3;
   w2c_j1 = w2c_i3 ? w2c_j1 : w2c_j2;
   i64_store(m, (u64)(w2c_i0), w2c_j1);
   w2c_j0 = w2c_p4;
@@ -51407,31 +50810,27 @@ static u32 w2c_f86(module *m, u64 w2c_p0, u64 w2c_p1, u32 w2c_p2, u32 w2c_p3, u6
   w2c_j2 += w2c_j3;
   w2c_j1 -= w2c_j2;
   w2c_j2 = w2c_p0;
-  w2c_i3 = w2c_l10;
+  w2c_i3 = w2c_p2;
   w2c_j1 = w2c_i3 ? w2c_j1 : w2c_j2;
   i64_store(m, (u64)(w2c_i0) + 8, w2c_j1);
   w2c_i0 = 0u;
-  w2c_l10 = w2c_i0;
+  w2c_l12 = w2c_i0;
   goto w2c_B0;
-  w2c_B28:;
-  w2c_j0 = w2c_l8;
+  w2c_B37:;
+  w2c_j0 = w2c_l7;
   w2c_j1 = w2c_p1;
-  w2c_i2 = w2c_l10;
-  w2c_j3 = w2c_l7;
-  w2c_j4 = w2c_p4;
-  w2c_j5 = 16ull;
-  w2c_j4 += w2c_j5;
-  w2c_j5 = w2c_p4;
-  w2c_j6 = 24ull;
-  w2c_j5 += w2c_j6;
+  w2c_i2 = w2c_p2;
+  w2c_j3 = w2c_l10;
+  w2c_j4 = w2c_l9;
+  w2c_j5 = w2c_l8;
   w2c_i0 = w2c_f46(m, w2c_j0, w2c_j1, w2c_i2, w2c_j3, w2c_j4, w2c_j5);
-  w2c_l10 = w2c_i0;
+  w2c_l12 = w2c_i0;
   w2c_B0:;
   w2c_j0 = w2c_l6;
   w2c_j1 = 96ull;
   w2c_j0 += w2c_j1;
   m->w2c_g0 = w2c_j0;
-  w2c_i0 = w2c_l10;
+  w2c_i0 = w2c_l12;
   return w2c_i0;
 }
 
@@ -51457,10 +50856,10 @@ static u32 w2c_chinese_number_read_utf8(module *m, u64 w2c_p0, u64 w2c_p1, u32 w
 }
 
 static u32 w2c_f88(module *m, u64 w2c_p0, u64 w2c_p1, u32 w2c_p2, u32 w2c_p3, u64 w2c_p4) {
-  u32 w2c_l10 = 0, w2c_l11 = 0;
-  u64 w2c_l5 = 0, w2c_l6 = 0, w2c_l7 = 0, w2c_l8 = 0, w2c_l9 = 0;
+  u32 w2c_l12 = 0, w2c_l13 = 0;
+  u64 w2c_l5 = 0, w2c_l6 = 0, w2c_l7 = 0, w2c_l8 = 0, w2c_l9 = 0, w2c_l10 = 0, w2c_l11 = 0;
   u32 w2c_i0, w2c_i1, w2c_i2, w2c_i3, w2c_i4;
-  u64 w2c_j0, w2c_j1, w2c_j2, w2c_j3, w2c_j4, w2c_j5, w2c_j6;
+  u64 w2c_j0, w2c_j1, w2c_j2, w2c_j3, w2c_j4, w2c_j5;
   w2c_j0 = m->w2c_g0;
   w2c_j1 = 96ull;
   w2c_j0 -= w2c_j1;
@@ -51488,7 +50887,7 @@ static u32 w2c_f88(module *m, u64 w2c_p0, u64 w2c_p1, u32 w2c_p2, u32 w2c_p3, u6
   w2c_j1 = 0ull;
   i64_store(m, (u64)(w2c_i0), w2c_j1);
   w2c_i0 = 8u;
-  w2c_l10 = w2c_i0;
+  w2c_l12 = w2c_i0;
   w2c_i0 = w2c_p2;
   w2c_i1 = 9u;
   w2c_i0 = w2c_i0 > w2c_i1;
@@ -51500,14 +50899,14 @@ static u32 w2c_f88(module *m, u64 w2c_p0, u64 w2c_p1, u32 w2c_p2, u32 w2c_p3, u6
   w2c_i3 = !(w2c_j3);
   w2c_j1 = w2c_i3 ? w2c_j1 : w2c_j2;
   w2c_j0 += w2c_j1;
-  w2c_l6 = w2c_j0;
+  w2c_p0 = w2c_j0;
   w2c_i0 = w2c_p2;
   w2c_j0 = (u64)(w2c_i0);
   w2c_j1 = 68016ull;
   w2c_j0 += w2c_j1;
   w2c_i0 = (u32)(w2c_j0);
   w2c_i0 = i32_load8_u(m, (u64)(w2c_i0));
-  w2c_l11 = w2c_i0;
+  w2c_l13 = w2c_i0;
   w2c_i0 = w2c_p3;
   w2c_i1 = 5u;
   w2c_i0 = w2c_i0 < w2c_i1;
@@ -51519,8 +50918,8 @@ static u32 w2c_f88(module *m, u64 w2c_p0, u64 w2c_p1, u32 w2c_p2, u32 w2c_p3, u6
   w2c_j0 = w2c_l5;
   w2c_j1 = 8ull;
   w2c_j0 += w2c_j1;
-  w2c_i1 = w2c_l11;
-  w2c_j2 = w2c_l6;
+  w2c_i1 = w2c_l13;
+  w2c_j2 = w2c_p0;
   w2c_j3 = w2c_p1;
   w2c_f47(m, w2c_j0, w2c_i1, w2c_j2, w2c_j3);
   w2c_j0 = w2c_l5;
@@ -51530,7 +50929,7 @@ static u32 w2c_f88(module *m, u64 w2c_p0, u64 w2c_p1, u32 w2c_p2, u32 w2c_p3, u6
   w2c_j0 = w2c_l5;
   w2c_i0 = (u32)(w2c_j0);
   w2c_i0 = i32_load8_u(m, (u64)(w2c_i0) + 8u);
-  w2c_l10 = w2c_i0;
+  w2c_l12 = w2c_i0;
   goto w2c_B1;
   w2c_B3:;
   UNREACHABLE;
@@ -51539,28 +50938,40 @@ static u32 w2c_f88(module *m, u64 w2c_p0, u64 w2c_p1, u32 w2c_p2, u32 w2c_p3, u6
   w2c_j0 = (u64)(w2c_i0);
   w2c_j1 = 1ull;
   w2c_j0 <<= (w2c_j1 & 63);
-  w2c_p0 = w2c_j0;
+  w2c_l6 = w2c_j0;
   w2c_j1 = 68027ull;
   w2c_j0 += w2c_j1;
   w2c_i0 = (u32)(w2c_j0);
   w2c_i0 = i32_load8_u(m, (u64)(w2c_i0));
   w2c_p3 = w2c_i0;
-  w2c_j0 = w2c_p0;
+  w2c_j0 = w2c_l6;
   w2c_j1 = 68026ull;
   w2c_j0 += w2c_j1;
   w2c_i0 = (u32)(w2c_j0);
   w2c_i0 = i32_load8_u(m, (u64)(w2c_i0));
-  w2c_l10 = w2c_i0;
+  w2c_l12 = w2c_i0;
   w2c_B1:;
-  w2c_i0 = w2c_l11;
+  w2c_j0 = w2c_p4;
+  w2c_j1 = 24ull;
+  w2c_j0 += w2c_j1;
+  w2c_l7 = w2c_j0;
+  w2c_j0 = w2c_p4;
+  w2c_j1 = 16ull;
+  w2c_j0 += w2c_j1;
+  w2c_l8 = w2c_j0;
+  w2c_i0 = w2c_l13;
   w2c_j0 = (u64)(w2c_i0);
   w2c_j1 = 255ull;
   w2c_j0 &= w2c_j1;
-  w2c_l7 = w2c_j0;
-  w2c_i0 = w2c_l10;
+  w2c_l9 = w2c_j0;
+  w2c_i0 = w2c_p2;
+  w2c_i1 = 5u;
+  w2c_i0 = w2c_i0 < w2c_i1;
+  if (w2c_i0) {goto w2c_B14;}
+  w2c_i0 = w2c_l12;
   w2c_i1 = 255u;
   w2c_i0 &= w2c_i1;
-  if (w2c_i0) {goto w2c_B12;}
+  if (w2c_i0) {goto w2c_B15;}
   w2c_j0 = w2c_l5;
   w2c_i0 = (u32)(w2c_j0);
   w2c_j1 = 0ull;
@@ -51580,10 +50991,6 @@ static u32 w2c_f88(module *m, u64 w2c_p0, u64 w2c_p1, u32 w2c_p2, u32 w2c_p3, u6
   w2c_j0 = w2c_l5;
   w2c_i0 = (u32)(w2c_j0);
   w2c_j1 = 0ull;
-  i64_store(m, (u64)(w2c_i0) + 88, w2c_j1);
-  w2c_j0 = w2c_l5;
-  w2c_i0 = (u32)(w2c_j0);
-  w2c_j1 = 0ull;
   i64_store(m, (u64)(w2c_i0) + 80, w2c_j1);
   w2c_j0 = w2c_l5;
   w2c_i0 = (u32)(w2c_j0);
@@ -51597,85 +51004,85 @@ static u32 w2c_f88(module *m, u64 w2c_p0, u64 w2c_p1, u32 w2c_p2, u32 w2c_p3, u6
   w2c_i0 = (u32)(w2c_j0);
   w2c_j1 = 0ull;
   i64_store(m, (u64)(w2c_i0) + 56, w2c_j1);
-  w2c_i0 = w2c_p2;
-  w2c_i1 = 5u;
-  w2c_i0 = w2c_i0 < w2c_i1;
-  if (w2c_i0) {goto w2c_B15;}
-  w2c_j0 = w2c_l5;
-  w2c_j1 = 56ull;
-  w2c_j0 += w2c_j1;
-  w2c_j1 = w2c_l6;
-  w2c_j2 = w2c_p1;
-  w2c_f33(m, w2c_j0, w2c_j1, w2c_j2);
   w2c_j0 = w2c_l5;
   w2c_i0 = (u32)(w2c_j0);
-  w2c_i0 = i32_load8_u(m, (u64)(w2c_i0) + 56u);
+  w2c_j1 = 0ull;
+  i64_store(m, (u64)(w2c_i0) + 48, w2c_j1);
+  w2c_j0 = w2c_l5;
+  w2c_j1 = 48ull;
+  w2c_j0 += w2c_j1;
+  w2c_j1 = w2c_p0;
+  w2c_j2 = w2c_p1;
+  w2c_f32(m, w2c_j0, w2c_j1, w2c_j2);
+  w2c_j0 = w2c_l5;
+  w2c_i0 = (u32)(w2c_j0);
+  w2c_i0 = i32_load8_u(m, (u64)(w2c_i0) + 48u);
   w2c_i1 = 1u;
   w2c_i0 = w2c_i0 != w2c_i1;
-  if (w2c_i0) {goto w2c_B15;}
-  w2c_j0 = w2c_l5;
-  w2c_i0 = (u32)(w2c_j0);
-  w2c_j0 = i64_load(m, (u64)(w2c_i0) + 88u);
-  w2c_p0 = w2c_j0;
+  if (w2c_i0) {goto w2c_B18;}
   w2c_j0 = w2c_l5;
   w2c_i0 = (u32)(w2c_j0);
   w2c_j0 = i64_load(m, (u64)(w2c_i0) + 80u);
-  w2c_l8 = w2c_j0;
+  w2c_l6 = w2c_j0;
   w2c_j0 = w2c_l5;
   w2c_i0 = (u32)(w2c_j0);
   w2c_j0 = i64_load(m, (u64)(w2c_i0) + 72u);
-  w2c_l9 = w2c_j0;
+  w2c_l10 = w2c_j0;
   w2c_j0 = w2c_l5;
   w2c_i0 = (u32)(w2c_j0);
-  w2c_i0 = i32_load(m, (u64)(w2c_i0) + 64u);
+  w2c_j0 = i64_load(m, (u64)(w2c_i0) + 64u);
+  w2c_l11 = w2c_j0;
+  w2c_j0 = w2c_l5;
+  w2c_i0 = (u32)(w2c_j0);
+  w2c_i0 = i32_load(m, (u64)(w2c_i0) + 56u);
   w2c_p2 = w2c_i0;
   w2c_i1 = 27491u;
   w2c_i0 = w2c_i0 == w2c_i1;
-  if (w2c_i0) {goto w2c_B14;}
+  if (w2c_i0) {goto w2c_B17;}
   w2c_i0 = w2c_p2;
   w2c_i1 = 36000u;
   w2c_i0 = w2c_i0 == w2c_i1;
-  if (w2c_i0) {goto w2c_B13;}
+  if (w2c_i0) {goto w2c_B16;}
   w2c_i0 = w2c_p2;
   w2c_i1 = 36127u;
   w2c_i0 = w2c_i0 == w2c_i1;
-  if (w2c_i0) {goto w2c_B13;}
-  w2c_B15:;
+  if (w2c_i0) {goto w2c_B16;}
+  w2c_B18:;
   w2c_j0 = w2c_l5;
   w2c_j1 = 16ull;
   w2c_j0 += w2c_j1;
   w2c_j1 = 0ull;
-  w2c_j2 = w2c_l6;
+  w2c_j2 = w2c_p0;
   w2c_j3 = w2c_p1;
   w2c_f43(m, w2c_j0, w2c_j1, w2c_j2, w2c_j3);
   goto w2c_B11;
-  w2c_B14:;
+  w2c_B17:;
   w2c_j0 = w2c_l5;
   w2c_j1 = 16ull;
   w2c_j0 += w2c_j1;
-  w2c_j1 = w2c_l9;
+  w2c_j1 = w2c_l11;
   w2c_j2 = 1ull;
   w2c_j1 += w2c_j2;
-  w2c_j2 = w2c_l8;
-  w2c_j3 = w2c_p0;
+  w2c_j2 = w2c_l10;
+  w2c_j3 = w2c_l6;
   w2c_f43(m, w2c_j0, w2c_j1, w2c_j2, w2c_j3);
   goto w2c_B11;
-  w2c_B13:;
+  w2c_B16:;
   w2c_j0 = w2c_l5;
   w2c_j1 = 16ull;
   w2c_j0 += w2c_j1;
-  w2c_j1 = w2c_l9;
+  w2c_j1 = w2c_l11;
   w2c_j2 = 1ull;
   w2c_j1 += w2c_j2;
-  w2c_j2 = w2c_l8;
-  w2c_j3 = w2c_p0;
+  w2c_j2 = w2c_l10;
+  w2c_j3 = w2c_l6;
   w2c_f43(m, w2c_j0, w2c_j1, w2c_j2, w2c_j3);
   w2c_i0 = 3u;
   w2c_p2 = w2c_i0;
   w2c_i0 = 1u;
-  w2c_l10 = w2c_i0;
+  w2c_l12 = w2c_i0;
   goto w2c_B10;
-  w2c_B12:;
+  w2c_B15:;
   w2c_j0 = w2c_l5;
   w2c_i0 = (u32)(w2c_j0);
   w2c_j1 = 0ull;
@@ -51695,10 +51102,6 @@ static u32 w2c_f88(module *m, u64 w2c_p0, u64 w2c_p1, u32 w2c_p2, u32 w2c_p3, u6
   w2c_j0 = w2c_l5;
   w2c_i0 = (u32)(w2c_j0);
   w2c_j1 = 0ull;
-  i64_store(m, (u64)(w2c_i0) + 88, w2c_j1);
-  w2c_j0 = w2c_l5;
-  w2c_i0 = (u32)(w2c_j0);
-  w2c_j1 = 0ull;
   i64_store(m, (u64)(w2c_i0) + 80, w2c_j1);
   w2c_j0 = w2c_l5;
   w2c_i0 = (u32)(w2c_j0);
@@ -51712,213 +51115,404 @@ static u32 w2c_f88(module *m, u64 w2c_p0, u64 w2c_p1, u32 w2c_p2, u32 w2c_p3, u6
   w2c_i0 = (u32)(w2c_j0);
   w2c_j1 = 0ull;
   i64_store(m, (u64)(w2c_i0) + 56, w2c_j1);
-  w2c_i0 = w2c_p2;
-  w2c_i1 = 5u;
-  w2c_i0 = w2c_i0 < w2c_i1;
-  if (w2c_i0) {goto w2c_B20;}
-  w2c_j0 = w2c_l5;
-  w2c_j1 = 56ull;
-  w2c_j0 += w2c_j1;
-  w2c_j1 = w2c_l6;
-  w2c_j2 = w2c_p1;
-  w2c_f33(m, w2c_j0, w2c_j1, w2c_j2);
   w2c_j0 = w2c_l5;
   w2c_i0 = (u32)(w2c_j0);
-  w2c_i0 = i32_load8_u(m, (u64)(w2c_i0) + 56u);
+  w2c_j1 = 0ull;
+  i64_store(m, (u64)(w2c_i0) + 48, w2c_j1);
+  w2c_j0 = w2c_l5;
+  w2c_j1 = 48ull;
+  w2c_j0 += w2c_j1;
+  w2c_j1 = w2c_p0;
+  w2c_j2 = w2c_p1;
+  w2c_f32(m, w2c_j0, w2c_j1, w2c_j2);
+  w2c_j0 = w2c_l5;
+  w2c_i0 = (u32)(w2c_j0);
+  w2c_i0 = i32_load8_u(m, (u64)(w2c_i0) + 48u);
   w2c_i1 = 1u;
   w2c_i0 = w2c_i0 != w2c_i1;
-  if (w2c_i0) {goto w2c_B20;}
-  w2c_j0 = w2c_l5;
-  w2c_i0 = (u32)(w2c_j0);
-  w2c_j0 = i64_load(m, (u64)(w2c_i0) + 88u);
-  w2c_p0 = w2c_j0;
+  if (w2c_i0) {goto w2c_B21;}
   w2c_j0 = w2c_l5;
   w2c_i0 = (u32)(w2c_j0);
   w2c_j0 = i64_load(m, (u64)(w2c_i0) + 80u);
-  w2c_l8 = w2c_j0;
+  w2c_l6 = w2c_j0;
   w2c_j0 = w2c_l5;
   w2c_i0 = (u32)(w2c_j0);
   w2c_j0 = i64_load(m, (u64)(w2c_i0) + 72u);
-  w2c_l9 = w2c_j0;
+  w2c_l10 = w2c_j0;
   w2c_j0 = w2c_l5;
   w2c_i0 = (u32)(w2c_j0);
-  w2c_i0 = i32_load(m, (u64)(w2c_i0) + 64u);
+  w2c_j0 = i64_load(m, (u64)(w2c_i0) + 64u);
+  w2c_l11 = w2c_j0;
+  w2c_j0 = w2c_l5;
+  w2c_i0 = (u32)(w2c_j0);
+  w2c_i0 = i32_load(m, (u64)(w2c_i0) + 56u);
   w2c_p2 = w2c_i0;
   w2c_i1 = 27491u;
   w2c_i0 = w2c_i0 == w2c_i1;
-  if (w2c_i0) {goto w2c_B19;}
+  if (w2c_i0) {goto w2c_B20;}
   w2c_i0 = w2c_p2;
   w2c_i1 = 36000u;
   w2c_i0 = w2c_i0 == w2c_i1;
-  if (w2c_i0) {goto w2c_B18;}
+  if (w2c_i0) {goto w2c_B19;}
   w2c_i0 = w2c_p2;
   w2c_i1 = 36127u;
   w2c_i0 = w2c_i0 == w2c_i1;
-  if (w2c_i0) {goto w2c_B18;}
-  w2c_B20:;
+  if (w2c_i0) {goto w2c_B19;}
+  w2c_B21:;
   w2c_j0 = w2c_l5;
   w2c_j1 = 16ull;
   w2c_j0 += w2c_j1;
   w2c_i1 = w2c_p3;
   w2c_j2 = 0ull;
-  w2c_j3 = w2c_l6;
+  w2c_j3 = w2c_p0;
   w2c_j4 = w2c_p1;
   w2c_f48(m, w2c_j0, w2c_i1, w2c_j2, w2c_j3, w2c_j4);
-  goto w2c_B17;
+  goto w2c_B13;
+  w2c_B20:;
+  w2c_j0 = w2c_l5;
+  w2c_j1 = 16ull;
+  w2c_j0 += w2c_j1;
+  w2c_i1 = w2c_p3;
+  w2c_j2 = w2c_l11;
+  w2c_j3 = 1ull;
+  w2c_j2 += w2c_j3;
+  w2c_j3 = w2c_l10;
+  w2c_j4 = w2c_l6;
+  w2c_f48(m, w2c_j0, w2c_i1, w2c_j2, w2c_j3, w2c_j4);
+  goto w2c_B13;
   w2c_B19:;
   w2c_j0 = w2c_l5;
   w2c_j1 = 16ull;
   w2c_j0 += w2c_j1;
   w2c_i1 = w2c_p3;
-  w2c_j2 = w2c_l9;
+  w2c_j2 = w2c_l11;
   w2c_j3 = 1ull;
   w2c_j2 += w2c_j3;
-  w2c_j3 = w2c_l8;
-  w2c_j4 = w2c_p0;
-  w2c_f48(m, w2c_j0, w2c_i1, w2c_j2, w2c_j3, w2c_j4);
-  goto w2c_B17;
-  w2c_B18:;
-  w2c_j0 = w2c_l5;
-  w2c_j1 = 16ull;
-  w2c_j0 += w2c_j1;
-  w2c_i1 = w2c_p3;
-  w2c_j2 = w2c_l9;
-  w2c_j3 = 1ull;
-  w2c_j2 += w2c_j3;
-  w2c_j3 = w2c_l8;
-  w2c_j4 = w2c_p0;
+  w2c_j3 = w2c_l10;
+  w2c_j4 = w2c_l6;
   w2c_f48(m, w2c_j0, w2c_i1, w2c_j2, w2c_j3, w2c_j4);
   w2c_i0 = 3u;
   w2c_p2 = w2c_i0;
   w2c_i0 = 1u;
-  w2c_l10 = w2c_i0;
-  goto w2c_B16;
-  w2c_B17:;
+  w2c_l12 = w2c_i0;
+  goto w2c_B12;
+  w2c_B14:;
+  w2c_i0 = w2c_l12;
+  w2c_i1 = 255u;
+  w2c_i0 &= w2c_i1;
+  if (w2c_i0) {goto w2c_B27;}
+  w2c_j0 = 0ull;
+  w2c_l10 = w2c_j0;
+  w2c_j0 = w2c_l5;
+  w2c_i0 = (u32)(w2c_j0);
+  w2c_j1 = 0ull;
+  i64_store(m, (u64)(w2c_i0) + 72, w2c_j1);
+  w2c_j0 = w2c_l5;
+  w2c_i0 = (u32)(w2c_j0);
+  w2c_j1 = 0ull;
+  i64_store(m, (u64)(w2c_i0) + 64, w2c_j1);
+  w2c_j0 = w2c_l5;
+  w2c_i0 = (u32)(w2c_j0);
+  w2c_j1 = 0ull;
+  i64_store(m, (u64)(w2c_i0) + 56, w2c_j1);
+  w2c_j0 = w2c_l5;
+  w2c_i0 = (u32)(w2c_j0);
+  w2c_j1 = 0ull;
+  i64_store(m, (u64)(w2c_i0) + 48, w2c_j1);
+  w2c_j0 = w2c_l5;
+  w2c_j1 = 48ull;
+  w2c_j0 += w2c_j1;
+  w2c_j1 = 0ull;
+  w2c_j2 = w2c_p0;
+  w2c_j3 = w2c_p1;
+  w2c_f43(m, w2c_j0, w2c_j1, w2c_j2, w2c_j3);
+  w2c_j0 = w2c_l5;
+  w2c_i0 = (u32)(w2c_j0);
+  w2c_j0 = i64_load(m, (u64)(w2c_i0) + 64u);
+  w2c_l6 = w2c_j0;
+  w2c_j0 = w2c_l5;
+  w2c_i0 = (u32)(w2c_j0);
+  w2c_i0 = i32_load8_u(m, (u64)(w2c_i0) + 48u);
+  if (w2c_i0) {goto w2c_B28;}
+  w2c_j0 = 0ull;
+  w2c_l11 = w2c_j0;
+  w2c_j0 = w2c_l6;
+  w2c_j1 = w2c_l9;
+  w2c_j2 = 5ull;
+  w2c_j1 <<= (w2c_j2 & 63);
+  w2c_l9 = w2c_j1;
+  w2c_i1 = (u32)(w2c_j1);
+  w2c_j1 = i64_load(m, (u64)(w2c_i1) + 68048u);
+  w2c_i0 = w2c_j0 > w2c_j1;
+  w2c_j1 = w2c_l5;
+  w2c_i1 = (u32)(w2c_j1);
+  w2c_j1 = i64_load(m, (u64)(w2c_i1) + 72u);
+  w2c_l10 = w2c_j1;
+  w2c_j2 = w2c_l9;
+  w2c_i2 = (u32)(w2c_j2);
+  w2c_j2 = i64_load(m, (u64)(w2c_i2) + 68056u);
+  w2c_l9 = w2c_j2;
+  w2c_i1 = w2c_j1 > w2c_j2;
+  w2c_j2 = w2c_l10;
+  w2c_j3 = w2c_l9;
+  w2c_i2 = w2c_j2 == w2c_j3;
+  w2c_i0 = w2c_i2 ? w2c_i0 : w2c_i1;
+  w2c_i0 = !(w2c_i0);
+  if (w2c_i0) {goto w2c_B26;}
+  goto w2c_B23;
+  w2c_B28:;
+  w2c_j0 = 0ull;
+  w2c_j1 = w2c_l6;
+  w2c_j2 = w2c_l5;
+  w2c_i2 = (u32)(w2c_j2);
+  w2c_i2 = i32_load8_u(m, (u64)(w2c_i2) + 56u);
+  w2c_l12 = w2c_i2;
+  w2c_i3 = 2u;
+  w2c_i2 = w2c_i2 == w2c_i3;
+  w2c_j0 = w2c_i2 ? w2c_j0 : w2c_j1;
+  w2c_l11 = w2c_j0;
+  goto w2c_B24;
+  w2c_B27:;
+  w2c_j0 = 0ull;
+  w2c_l10 = w2c_j0;
+  w2c_j0 = w2c_l5;
+  w2c_i0 = (u32)(w2c_j0);
+  w2c_j1 = 0ull;
+  i64_store(m, (u64)(w2c_i0) + 72, w2c_j1);
+  w2c_j0 = w2c_l5;
+  w2c_i0 = (u32)(w2c_j0);
+  w2c_j1 = 0ull;
+  i64_store(m, (u64)(w2c_i0) + 64, w2c_j1);
+  w2c_j0 = w2c_l5;
+  w2c_i0 = (u32)(w2c_j0);
+  w2c_j1 = 0ull;
+  i64_store(m, (u64)(w2c_i0) + 56, w2c_j1);
+  w2c_j0 = w2c_l5;
+  w2c_i0 = (u32)(w2c_j0);
+  w2c_j1 = 0ull;
+  i64_store(m, (u64)(w2c_i0) + 48, w2c_j1);
+  w2c_j0 = w2c_l5;
+  w2c_j1 = 48ull;
+  w2c_j0 += w2c_j1;
+  w2c_i1 = w2c_p3;
+  w2c_j2 = 0ull;
+  w2c_j3 = w2c_p0;
+  w2c_j4 = w2c_p1;
+  w2c_f48(m, w2c_j0, w2c_i1, w2c_j2, w2c_j3, w2c_j4);
+  w2c_j0 = w2c_l5;
+  w2c_i0 = (u32)(w2c_j0);
+  w2c_j0 = i64_load(m, (u64)(w2c_i0) + 64u);
+  w2c_l6 = w2c_j0;
+  w2c_j0 = w2c_l5;
+  w2c_i0 = (u32)(w2c_j0);
+  w2c_i0 = i32_load8_u(m, (u64)(w2c_i0) + 48u);
+  if (w2c_i0) {goto w2c_B25;}
+  w2c_j0 = 0ull;
+  w2c_l11 = w2c_j0;
+  w2c_j0 = w2c_l6;
+  w2c_j1 = w2c_l9;
+  w2c_j2 = 5ull;
+  w2c_j1 <<= (w2c_j2 & 63);
+  w2c_l9 = w2c_j1;
+  w2c_i1 = (u32)(w2c_j1);
+  w2c_j1 = i64_load(m, (u64)(w2c_i1) + 68048u);
+  w2c_i0 = w2c_j0 > w2c_j1;
+  w2c_j1 = w2c_l5;
+  w2c_i1 = (u32)(w2c_j1);
+  w2c_j1 = i64_load(m, (u64)(w2c_i1) + 72u);
+  w2c_l10 = w2c_j1;
+  w2c_j2 = w2c_l9;
+  w2c_i2 = (u32)(w2c_j2);
+  w2c_j2 = i64_load(m, (u64)(w2c_i2) + 68056u);
+  w2c_l9 = w2c_j2;
+  w2c_i1 = w2c_j1 > w2c_j2;
+  w2c_j2 = w2c_l10;
+  w2c_j3 = w2c_l9;
+  w2c_i2 = w2c_j2 == w2c_j3;
+  w2c_i0 = w2c_i2 ? w2c_i0 : w2c_i1;
+  if (w2c_i0) {goto w2c_B23;}
+  w2c_B26:;
+  w2c_i0 = 0u;
+  w2c_p2 = w2c_i0;
+  w2c_i0 = 0u;
+  w2c_l12 = w2c_i0;
+  goto w2c_B22;
+  w2c_B25:;
+  w2c_j0 = 0ull;
+  w2c_j1 = w2c_l6;
+  w2c_j2 = w2c_l5;
+  w2c_i2 = (u32)(w2c_j2);
+  w2c_i2 = i32_load8_u(m, (u64)(w2c_i2) + 56u);
+  w2c_l12 = w2c_i2;
+  w2c_i3 = 2u;
+  w2c_i2 = w2c_i2 == w2c_i3;
+  w2c_j0 = w2c_i2 ? w2c_j0 : w2c_j1;
+  w2c_l11 = w2c_j0;
+  w2c_B24:;
+  w2c_i0 = 1u;
+  w2c_p2 = w2c_i0;
+  w2c_j0 = 0ull;
+  w2c_l6 = w2c_j0;
+  goto w2c_B22;
+  w2c_B23:;
+  w2c_i0 = 2u;
+  w2c_l12 = w2c_i0;
+  w2c_i0 = 1u;
+  w2c_p2 = w2c_i0;
+  w2c_j0 = 0ull;
+  w2c_l6 = w2c_j0;
+  w2c_j0 = 0ull;
+  w2c_l10 = w2c_j0;
+  w2c_B22:;
+  w2c_i0 = w2c_p2;
+  if (w2c_i0) {goto w2c_B29;}
+  w2c_j0 = w2c_p4;
+  w2c_i0 = (u32)(w2c_j0);
+  w2c_j1 = w2c_l10;
+  i64_store(m, (u64)(w2c_i0) + 8, w2c_j1);
+  w2c_j0 = w2c_p4;
+  w2c_i0 = (u32)(w2c_j0);
+  w2c_j1 = w2c_l6;
+  i64_store(m, (u64)(w2c_i0), w2c_j1);
+  w2c_i0 = 0u;
+  w2c_l12 = w2c_i0;
+  goto w2c_B0;
+  w2c_B29:;
+  w2c_j0 = w2c_p0;
+  w2c_j1 = w2c_p1;
+  w2c_i2 = w2c_l12;
+  w2c_j3 = w2c_l11;
+  w2c_j4 = w2c_l8;
+  w2c_j5 = w2c_l7;
+  w2c_i0 = w2c_f46(m, w2c_j0, w2c_j1, w2c_i2, w2c_j3, w2c_j4, w2c_j5);
+  w2c_l12 = w2c_i0;
+  goto w2c_B0;
+  w2c_B13:;
   w2c_i0 = 2u;
   w2c_p2 = w2c_i0;
   w2c_i0 = 0u;
-  w2c_l10 = w2c_i0;
-  w2c_B16:;
+  w2c_l12 = w2c_i0;
+  w2c_B12:;
   w2c_j0 = w2c_l5;
   w2c_i0 = (u32)(w2c_j0);
   w2c_j0 = i64_load(m, (u64)(w2c_i0) + 40u);
-  w2c_l8 = w2c_j0;
+  w2c_l10 = w2c_j0;
   w2c_j0 = w2c_l5;
   w2c_i0 = (u32)(w2c_j0);
   w2c_j0 = i64_load(m, (u64)(w2c_i0) + 32u);
-  w2c_p0 = w2c_j0;
+  w2c_l6 = w2c_j0;
   w2c_j0 = w2c_l5;
   w2c_i0 = (u32)(w2c_j0);
   w2c_i0 = i32_load8_u(m, (u64)(w2c_i0) + 16u);
-  if (w2c_i0) {goto w2c_B21;}
-  w2c_j0 = w2c_p0;
-  w2c_j1 = w2c_l7;
+  if (w2c_i0) {goto w2c_B30;}
+  w2c_j0 = w2c_l6;
+  w2c_j1 = w2c_l9;
   w2c_j2 = 5ull;
   w2c_j1 <<= (w2c_j2 & 63);
   w2c_j2 = 68064ull;
   w2c_j3 = 68048ull;
-  w2c_i4 = w2c_l10;
+  w2c_i4 = w2c_l12;
   w2c_j2 = w2c_i4 ? w2c_j2 : w2c_j3;
   w2c_j1 += w2c_j2;
-  w2c_l7 = w2c_j1;
+  w2c_l9 = w2c_j1;
   w2c_i1 = (u32)(w2c_j1);
   w2c_j1 = i64_load(m, (u64)(w2c_i1));
   w2c_i0 = w2c_j0 > w2c_j1;
-  w2c_j1 = w2c_l8;
-  w2c_j2 = w2c_l7;
+  w2c_j1 = w2c_l10;
+  w2c_j2 = w2c_l9;
   w2c_i2 = (u32)(w2c_j2);
   w2c_j2 = i64_load(m, (u64)(w2c_i2) + 8u);
-  w2c_l7 = w2c_j2;
+  w2c_l9 = w2c_j2;
   w2c_i1 = w2c_j1 > w2c_j2;
-  w2c_j2 = w2c_l8;
-  w2c_j3 = w2c_l7;
+  w2c_j2 = w2c_l10;
+  w2c_j3 = w2c_l9;
   w2c_i2 = w2c_j2 == w2c_j3;
   w2c_i0 = w2c_i2 ? w2c_i0 : w2c_i1;
   if (w2c_i0) {goto w2c_B9;}
-  w2c_i0 = w2c_l10;
+  w2c_i0 = w2c_l12;
   w2c_j0 = (u64)(w2c_i0);
-  w2c_l7 = w2c_j0;
+  w2c_l9 = w2c_j0;
   goto w2c_B7;
-  w2c_B21:;
+  w2c_B30:;
   w2c_i0 = w2c_p2;
   w2c_j1 = w2c_l5;
   w2c_i1 = (u32)(w2c_j1);
   w2c_i1 = i32_load8_u(m, (u64)(w2c_i1) + 24u);
-  w2c_l10 = w2c_i1;
-  w2c_i2 = w2c_l10;
+  w2c_l12 = w2c_i1;
+  w2c_i2 = w2c_l12;
   w2c_i3 = 2u;
   w2c_i2 = w2c_i2 == w2c_i3;
-  w2c_l10 = w2c_i2;
+  w2c_l12 = w2c_i2;
   w2c_i0 = w2c_i2 ? w2c_i0 : w2c_i1;
   w2c_p2 = w2c_i0;
   w2c_j0 = 0ull;
-  w2c_l8 = w2c_j0;
+  w2c_l10 = w2c_j0;
   w2c_j0 = 0ull;
-  w2c_j1 = w2c_p0;
-  w2c_i2 = w2c_l10;
+  w2c_j1 = w2c_l6;
+  w2c_i2 = w2c_l12;
   w2c_j0 = w2c_i2 ? w2c_j0 : w2c_j1;
-  w2c_l7 = w2c_j0;
+  w2c_l9 = w2c_j0;
   goto w2c_B5;
   w2c_B11:;
   w2c_i0 = 2u;
   w2c_p2 = w2c_i0;
   w2c_i0 = 0u;
-  w2c_l10 = w2c_i0;
+  w2c_l12 = w2c_i0;
   w2c_B10:;
   w2c_j0 = w2c_l5;
   w2c_i0 = (u32)(w2c_j0);
   w2c_j0 = i64_load(m, (u64)(w2c_i0) + 40u);
-  w2c_l8 = w2c_j0;
+  w2c_l10 = w2c_j0;
   w2c_j0 = w2c_l5;
   w2c_i0 = (u32)(w2c_j0);
   w2c_j0 = i64_load(m, (u64)(w2c_i0) + 32u);
-  w2c_p0 = w2c_j0;
+  w2c_l6 = w2c_j0;
   w2c_j0 = w2c_l5;
   w2c_i0 = (u32)(w2c_j0);
   w2c_i0 = i32_load8_u(m, (u64)(w2c_i0) + 16u);
   if (w2c_i0) {goto w2c_B6;}
-  w2c_j0 = w2c_p0;
-  w2c_j1 = w2c_l7;
+  w2c_j0 = w2c_l6;
+  w2c_j1 = w2c_l9;
   w2c_j2 = 5ull;
   w2c_j1 <<= (w2c_j2 & 63);
   w2c_j2 = 68064ull;
   w2c_j3 = 68048ull;
-  w2c_i4 = w2c_l10;
+  w2c_i4 = w2c_l12;
   w2c_j2 = w2c_i4 ? w2c_j2 : w2c_j3;
   w2c_j1 += w2c_j2;
-  w2c_l7 = w2c_j1;
+  w2c_l9 = w2c_j1;
   w2c_i1 = (u32)(w2c_j1);
   w2c_j1 = i64_load(m, (u64)(w2c_i1));
   w2c_i0 = w2c_j0 > w2c_j1;
-  w2c_j1 = w2c_l8;
-  w2c_j2 = w2c_l7;
+  w2c_j1 = w2c_l10;
+  w2c_j2 = w2c_l9;
   w2c_i2 = (u32)(w2c_j2);
   w2c_j2 = i64_load(m, (u64)(w2c_i2) + 8u);
-  w2c_l7 = w2c_j2;
+  w2c_l9 = w2c_j2;
   w2c_i1 = w2c_j1 > w2c_j2;
-  w2c_j2 = w2c_l8;
-  w2c_j3 = w2c_l7;
+  w2c_j2 = w2c_l10;
+  w2c_j3 = w2c_l9;
   w2c_i2 = w2c_j2 == w2c_j3;
   w2c_i0 = w2c_i2 ? w2c_i0 : w2c_i1;
   w2c_i0 = !(w2c_i0);
   if (w2c_i0) {goto w2c_B8;}
   w2c_B9:;
   w2c_j0 = 0ull;
-  w2c_p0 = w2c_j0;
+  w2c_l6 = w2c_j0;
   w2c_i0 = 1u;
-  w2c_l10 = w2c_i0;
+  w2c_l12 = w2c_i0;
   w2c_j0 = 0ull;
-  w2c_l8 = w2c_j0;
+  w2c_l10 = w2c_j0;
   w2c_j0 = 0ull;
-  w2c_l7 = w2c_j0;
+  w2c_l9 = w2c_j0;
   goto w2c_B4;
   w2c_B8:;
-  w2c_i0 = w2c_l10;
+  w2c_i0 = w2c_l12;
   w2c_j0 = (u64)(w2c_i0);
-  w2c_l7 = w2c_j0;
+  w2c_l9 = w2c_j0;
   w2c_B7:;
   w2c_i0 = 0u;
-  w2c_l10 = w2c_i0;
+  w2c_l12 = w2c_i0;
   w2c_i0 = 0u;
   w2c_p2 = w2c_i0;
   goto w2c_B4;
@@ -51927,35 +51521,35 @@ static u32 w2c_f88(module *m, u64 w2c_p0, u64 w2c_p1, u32 w2c_p2, u32 w2c_p3, u6
   w2c_j1 = w2c_l5;
   w2c_i1 = (u32)(w2c_j1);
   w2c_i1 = i32_load8_u(m, (u64)(w2c_i1) + 24u);
-  w2c_l10 = w2c_i1;
-  w2c_i2 = w2c_l10;
+  w2c_l12 = w2c_i1;
+  w2c_i2 = w2c_l12;
   w2c_i3 = 2u;
   w2c_i2 = w2c_i2 == w2c_i3;
-  w2c_l10 = w2c_i2;
+  w2c_l12 = w2c_i2;
   w2c_i0 = w2c_i2 ? w2c_i0 : w2c_i1;
   w2c_p2 = w2c_i0;
   w2c_j0 = 0ull;
-  w2c_l8 = w2c_j0;
+  w2c_l10 = w2c_j0;
   w2c_j0 = 0ull;
-  w2c_j1 = w2c_p0;
-  w2c_i2 = w2c_l10;
+  w2c_j1 = w2c_l6;
+  w2c_i2 = w2c_l12;
   w2c_j0 = w2c_i2 ? w2c_j0 : w2c_j1;
-  w2c_l7 = w2c_j0;
+  w2c_l9 = w2c_j0;
   w2c_B5:;
   w2c_i0 = 1u;
-  w2c_l10 = w2c_i0;
+  w2c_l12 = w2c_i0;
   w2c_j0 = 0ull;
-  w2c_p0 = w2c_j0;
+  w2c_l6 = w2c_j0;
   w2c_B4:;
-  w2c_i0 = w2c_l10;
-  if (w2c_i0) {goto w2c_B22;}
+  w2c_i0 = w2c_l12;
+  if (w2c_i0) {goto w2c_B31;}
   w2c_j0 = w2c_p4;
   w2c_i0 = (u32)(w2c_j0);
   w2c_j1 = 0ull;
-  w2c_j2 = w2c_p0;
+  w2c_j2 = w2c_l6;
   w2c_j1 -= w2c_j2;
-  w2c_j2 = w2c_p0;
-  w2c_j3 = w2c_l7;
+  w2c_j2 = w2c_l6;
+  w2c_j3 = w2c_l9;
   w2c_i3 = (u32)(w2c_j3);
   w2c_i4 = 1u;
   w2c_i3 &= w2c_i4;
@@ -51965,39 +51559,35 @@ static u32 w2c_f88(module *m, u64 w2c_p0, u64 w2c_p1, u32 w2c_p2, u32 w2c_p3, u6
   w2c_j0 = w2c_p4;
   w2c_i0 = (u32)(w2c_j0);
   w2c_j1 = 0ull;
-  w2c_j2 = w2c_l8;
-  w2c_j3 = w2c_p0;
+  w2c_j2 = w2c_l10;
+  w2c_j3 = w2c_l6;
   w2c_j4 = 0ull;
   w2c_i3 = w2c_j3 != w2c_j4;
   w2c_j3 = (u64)(w2c_i3);
   w2c_j2 += w2c_j3;
   w2c_j1 -= w2c_j2;
-  w2c_j2 = w2c_l8;
+  w2c_j2 = w2c_l10;
   w2c_i3 = w2c_p2;
   w2c_j1 = w2c_i3 ? w2c_j1 : w2c_j2;
   i64_store(m, (u64)(w2c_i0) + 8, w2c_j1);
   w2c_i0 = 0u;
-  w2c_l10 = w2c_i0;
+  w2c_l12 = w2c_i0;
   goto w2c_B0;
-  w2c_B22:;
-  w2c_j0 = w2c_l6;
+  w2c_B31:;
+  w2c_j0 = w2c_p0;
   w2c_j1 = w2c_p1;
   w2c_i2 = w2c_p2;
-  w2c_j3 = w2c_l7;
-  w2c_j4 = w2c_p4;
-  w2c_j5 = 16ull;
-  w2c_j4 += w2c_j5;
-  w2c_j5 = w2c_p4;
-  w2c_j6 = 24ull;
-  w2c_j5 += w2c_j6;
+  w2c_j3 = w2c_l9;
+  w2c_j4 = w2c_l8;
+  w2c_j5 = w2c_l7;
   w2c_i0 = w2c_f46(m, w2c_j0, w2c_j1, w2c_i2, w2c_j3, w2c_j4, w2c_j5);
-  w2c_l10 = w2c_i0;
+  w2c_l12 = w2c_i0;
   w2c_B0:;
   w2c_j0 = w2c_l5;
   w2c_j1 = 96ull;
   w2c_j0 += w2c_j1;
   m->w2c_g0 = w2c_j0;
-  w2c_i0 = w2c_l10;
+  w2c_i0 = w2c_l12;
   return w2c_i0;
 }
 #if defined(__GNUC__)
