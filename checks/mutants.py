@@ -42,7 +42,7 @@ KINDS = [REFUSED, BY_LEMMA, AT_LIMIT, UNCLEAR, ONLY_GONE, WAITING, PROVED]
 WITH_ANY, WITH_WAITING, ALONE = range(3)
 # The processor time that a check may take, and for each mutant that is planted, in seconds; and how
 # many are planted in copies.
-SECONDS, MOST = (120, 15), 32
+SECONDS, MOST = (120, 40), 12
 SEED = 47  # for what is drawn
 
 # A mutant, or none, as it is planted: the functions that it can make wrong, the part of its file that
