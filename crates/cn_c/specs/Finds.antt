@@ -1,5 +1,5 @@
 -- What a call that finds answers.
-use Rattle.std.specs.Prelude.{◌≡◌, ℕ, ◌+◌, Bool, List, ◌++◌, length, take, drop, map, chars, Option, Some, IsCharBoundary, slice_get, if◌then◌else◌}
+use Rattle.std.specs.Prelude.{◌≡◌, ℕ, ◌+◌, Bool, List, ◌++◌, length, take, drop, map, chars, Option, Some, None, IsCharBoundary, slice_get, if◌then◌else◌}
 use Rattle.std.specs.Bool.{MatchBool}
 use Rattle.std.specs.Str.{is_utf8}
 use Rattle.chinese_number.specs.declared.Unit.{Unit as NumeralUnit}
@@ -9,8 +9,6 @@ use Rattle.chinese_number.specs.Spans.{Span as SpanOfText, left_by}
 use Rattle.cn_find.specs.Expressions.{expression_rule}
 use Rattle.cn_find.specs.Flags.{is_about, is_one_character, stands_alone}
 use Rattle.cn_find.specs.Rule.{Rule, number_rule}
-use Rattle.cn_c.specs.declared.finding.Sought.{Sought}
-use Rattle.cn_c.specs.declared.finding.Sought.TheVariants.{Number, Quantity}
 use Rattle.cn_c.specs.declared.finding.Span.{Span}
 use Rattle.cn_c.specs.Codes.{uppers, units, CN_PLAIN_DIGITS, CN_STANDS_ALONE, CN_ABOUT, CN_ONE_CHARACTER, CN_DONE, CN_NOT_UTF8, CN_UNKNOWN}
 
@@ -50,31 +48,29 @@ pub record FindsFrom (rule : Rule) (text : List ℕ) (from : ℕ) (old : List Sp
   pub none : ¬ IsCharBoundary text from
       → (status ≡ CN_NOT_UTF8) × (new ≡ old) × (count ≡ 0)
 
--- what is told of bytes by a rule, and by the case and the unit that two codes name
-abbrev pub IsFoundAs : (Wanted → Rule) → Option Bool → Option NumeralUnit → List ℕ → ℕ → List Span
-    → ℕ → List Span → ℕ → Type 0
-IsFoundAs rule (Some upper) (Some greatest) bytes from old status new count =
-    MatchBool (is_utf8 bytes)
-    (FindsFrom (rule (record { upper = upper; greatest = greatest })) bytes from old status new
-    count)
-    ((status ≡ CN_NOT_UTF8) × (new ≡ old) × (count ≡ 0))
-IsFoundAs rule upper greatest bytes from old status new count =
-    (status ≡ CN_UNKNOWN) × (new ≡ old) × (count ≡ 0)
+-- what is wanted, by whether the upper case is and by the greatest unit
+abbrev pub wanted_of : Option Bool → Option NumeralUnit → Option Wanted
+wanted_of (Some upper) (Some greatest) = Some (record { upper = upper; greatest = greatest })
+wanted_of upper greatest = None
 
--- the rule of what is sought
-abbrev pub rule_of : Sought → Wanted → Rule
-rule_of Number = number_rule
-rule_of Quantity = expression_rule
+-- what is told of bytes by a rule, and by what two codes want
+abbrev pub IsFoundAs : (Wanted → Rule) → Option Wanted → List ℕ → ℕ → List Span → ℕ → List Span → ℕ
+    → Type 0
+IsFoundAs rule (Some wanted) bytes from old status new count =
+    MatchBool (is_utf8 bytes) (FindsFrom (rule wanted) bytes from old status new count)
+    ((status ≡ CN_NOT_UTF8) × (new ≡ old) × (count ≡ 0))
+IsFoundAs rule None bytes from old status new count =
+    (status ≡ CN_UNKNOWN) × (new ≡ old) × (count ≡ 0)
 
 -- what is told of the numbers of bytes, by whether the upper case is wanted and the code of the
 -- greatest unit
 abbrev pub IsFound : List ℕ → ℕ → ℕ → ℕ → List Span → ℕ → List Span → ℕ → Type 0
 IsFound bytes from upper greatest old status new count =
-    IsFoundAs number_rule (slice_get uppers upper) (slice_get units greatest) bytes from old
-    status new count
+    IsFoundAs number_rule (wanted_of (slice_get uppers upper) (slice_get units greatest)) bytes
+    from old status new count
 
 -- and of their expressions
 abbrev pub IsQuantityFound : List ℕ → ℕ → ℕ → ℕ → List Span → ℕ → List Span → ℕ → Type 0
 IsQuantityFound bytes from upper greatest old status new count =
-    IsFoundAs expression_rule (slice_get uppers upper) (slice_get units greatest) bytes from old
-    status new count
+    IsFoundAs expression_rule (wanted_of (slice_get uppers upper) (slice_get units greatest)) bytes
+    from old status new count

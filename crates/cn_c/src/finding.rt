@@ -1,7 +1,7 @@
 // The numbers of a text, and its expressions.
 ghost use Rattle.std.specs.Prelude.{◌≡◌, map, take, IfNone, IfSome, IsUtf8, length, slice_get};
 ghost use Rattle.chinese_number.specs.Spans.{span_of};
-ghost use Rattle.cn_c.specs.Finds.{Fills, FindsFrom, IsFound, IsFoundAs, IsQuantityFound, rule_of, span_told};
+ghost use Rattle.cn_c.specs.Finds.{Fills, IsFound, IsQuantityFound, span_told, wanted_of};
 ghost use Rattle.cn_c.specs.Codes.{units, uppers, CN_DONE, CN_NOT_UTF8};
 
 use crate::codes::{unit_of, upper_of};
@@ -20,13 +20,8 @@ pub struct Span {
     pub flags: u32,
 }
 
-// What a text is searched for.
-#[derive(Clone, Copy)]
-enum Sought {
-    Number,
-    Quantity,
-}
-
+// A run as it is told to C.
+#[inline(always)]
 fn span_of_found(found: Found<'_>) -> Span
     ensures { result ≡ span_told (span_of found.entry) }
 {
@@ -67,67 +62,13 @@ fn tell<R: SearchRule>(runs: Option<Numbers<'_, R>>, spans: &mut [Span], count: 
     DONE
 }
 
-// Tells the runs of a text from a byte on.
-fn find_from(
-    sought: Sought,
-    text: &str,
-    from: usize,
-    wanted: Wanted,
-    spans: &mut [Span],
-    count: &mut usize,
-) -> u32
-    requires { count.old ≡ 0 }
-    ensures { FindsFrom (rule_of sought wanted) text.now from spans.old result spans.new count.new }
+// What is wanted, by the codes.
+fn wanted_of(upper: u32, greatest: u32) -> Option<Wanted>
+    ensures { result ≡ wanted_of (slice_get uppers upper) (slice_get units greatest) }
 {
-    match sought {
-        Sought::Number => tell(find_numbers_from(text, from, wanted), spans, count),
-        Sought::Quantity => tell(find_quantities_from(text, from, wanted), spans, count),
-    }
-}
-
-// Tells the runs of bytes from one on, by the codes of what is wanted.
-fn find(
-    sought: Sought,
-    text: &[u8],
-    from: usize,
-    upper: u32,
-    greatest: u32,
-    spans: &mut [Span],
-    count: &mut usize,
-) -> u32
-    ensures { IsFoundAs (rule_of sought) (slice_get uppers upper) (slice_get units greatest) text.now
-        from spans.old result spans.new count.new }
-{
-    *count = 0;
-    let (Some(upper), Some(greatest)) = (upper_of(upper), unit_of(greatest)) else {
-        return UNKNOWN;
-    };
-    match utf8_text(text) {
-        Some(text) => find_from(sought, text, from, Wanted { upper, greatest }, spans, count),
-        None => NOT_UTF8,
-    }
-}
-
-// The same, of bytes that are known to be UTF-8.
-unsafe fn find_utf8(
-    sought: Sought,
-    text: &[u8],
-    from: usize,
-    upper: u32,
-    greatest: u32,
-    spans: &mut [Span],
-    count: &mut usize,
-) -> u32
-    requires { IsUtf8 text.now }
-    ensures { IsFoundAs (rule_of sought) (slice_get uppers upper) (slice_get units greatest) text.now
-        from spans.old result spans.new count.new }
-{
-    *count = 0;
-    let (Some(upper), Some(greatest)) = (upper_of(upper), unit_of(greatest)) else {
-        return UNKNOWN;
-    };
-    let text = unsafe { str::from_utf8_unchecked(text) };
-    find_from(sought, text, from, Wanted { upper, greatest }, spans, count)
+    let upper = upper_of(upper)?;
+    let greatest = unit_of(greatest)?;
+    Some(Wanted { upper, greatest })
 }
 
 /// Finds the numbers of a text from a byte on, in order, until none is left or the spans are full.
@@ -145,7 +86,14 @@ pub extern "C" fn chinese_number_find(
 ) -> u32
     ensures { IsFound text.now from upper greatest spans.old result spans.new count.new }
 {
-    find(Sought::Number, text, from, upper, greatest, spans, count)
+    *count = 0;
+    let Some(_) = wanted_of(upper, greatest) else {
+        return UNKNOWN;
+    };
+    match utf8_text(text) {
+        Some(_) => unsafe { chinese_number_find_utf8(text, from, upper, greatest, spans, count) },
+        None => NOT_UTF8,
+    }
 }
 
 /// Finds as `chinese_number_find` does, where the caller knows that the bytes are UTF-8: so a text is
@@ -162,7 +110,12 @@ pub unsafe extern "C" fn chinese_number_find_utf8(
     requires { IsUtf8 text.now }
     ensures { IsFound text.now from upper greatest spans.old result spans.new count.new }
 {
-    unsafe { find_utf8(Sought::Number, text, from, upper, greatest, spans, count) }
+    *count = 0;
+    let Some(wanted) = wanted_of(upper, greatest) else {
+        return UNKNOWN;
+    };
+    let text = unsafe { str::from_utf8_unchecked(text) };
+    tell(find_numbers_from(text, from, wanted), spans, count)
 }
 
 /// Finds the expressions of a text, which `chinese_quantity_read` reads, as `chinese_number_find` finds
@@ -178,7 +131,14 @@ pub extern "C" fn chinese_quantity_find(
 ) -> u32
     ensures { IsQuantityFound text.now from upper greatest spans.old result spans.new count.new }
 {
-    find(Sought::Quantity, text, from, upper, greatest, spans, count)
+    *count = 0;
+    let Some(_) = wanted_of(upper, greatest) else {
+        return UNKNOWN;
+    };
+    match utf8_text(text) {
+        Some(_) => unsafe { chinese_quantity_find_utf8(text, from, upper, greatest, spans, count) },
+        None => NOT_UTF8,
+    }
 }
 
 /// Finds as `chinese_quantity_find` does, where the caller knows that the bytes are UTF-8.
@@ -194,5 +154,10 @@ pub unsafe extern "C" fn chinese_quantity_find_utf8(
     requires { IsUtf8 text.now }
     ensures { IsQuantityFound text.now from upper greatest spans.old result spans.new count.new }
 {
-    unsafe { find_utf8(Sought::Quantity, text, from, upper, greatest, spans, count) }
+    *count = 0;
+    let Some(wanted) = wanted_of(upper, greatest) else {
+        return UNKNOWN;
+    };
+    let text = unsafe { str::from_utf8_unchecked(text) };
+    tell(find_quantities_from(text, from, wanted), spans, count)
 }

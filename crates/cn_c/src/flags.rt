@@ -28,6 +28,7 @@ fn flag_if(told: bool, flag: u32) -> u32
 }
 
 /// What is told of a number.
+#[inline(always)]
 pub fn flags_of(found: Found<'_>) -> u32
     ensures { result ≡ flags_told (span_of found.entry) }
 {

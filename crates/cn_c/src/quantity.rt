@@ -65,8 +65,8 @@ fn tell_quantity(
     *quantity = NOTHING;
     match answer {
         Ok(exact) => {
-            quantity.numerator = halves(true, SignedMagnitude::of(exact.numerator));
-            quantity.denominator = halves(false, SignedMagnitude::of(exact.denominator));
+            quantity.numerator = halves(SignedMagnitude::of(exact.numerator));
+            quantity.denominator = halves(SignedMagnitude::of(exact.denominator));
             quantity.form = form_code(exact.form);
             DONE
         }

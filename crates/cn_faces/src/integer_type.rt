@@ -63,6 +63,13 @@ impl IntegerType {
         MOST[self as usize]
     }
 
+    /// The greatest number that the type holds.
+    pub fn greatest(self) -> u128
+        ensures { (the_kind self).greatest ≡ pos result }
+    {
+        self.most().0
+    }
+
     /// Whether the type holds a number.
     pub fn holds(self, number: SignedMagnitude) -> bool
         ensures number { result ≡ holds (the_kind self) (stands_for number) }

@@ -1,6 +1,7 @@
 // Bytes that are text.
-ghost use Rattle.std.specs.Prelude.{◌≡◌, ◌/◌, ◌%◌, ◌<◌, true, false, IsTrue, IsUtf8, MatchOption};
+ghost use Rattle.std.specs.Prelude.{◌≡◌, ◌/◌, ◌%◌, ◌<◌, nat_lt, true, false, IsTrue, IsUtf8, MatchOption};
 ghost use Rattle.std.specs.Int.{IsInRange};
+ghost use Rattle.std.specs.List.{list_all};
 ghost use Rattle.std.specs.Str.{is_utf8};
 
 use std::str;
@@ -18,26 +19,61 @@ fn is_common(key: u32) -> bool
     (above % 256 / 8 == 0) & (above / 256 % 256 / 64 == 2) & (above / 65_536 % 256 / 64 == 2)
 }
 
-// Whether all of these bytes are such characters, from the last to the first. The three bytes of
-// each but the first are loaded at once, with the one in front of them.
+// What stands in front of such characters at the end of these bytes, from the last one on: where that
+// is UTF-8, the bytes are. The three bytes of each but the first are loaded at once, with the one in
+// front of them.
 #[inline(always)]
-fn are_common(bytes: &[u8]) -> bool
-    ensures { IsTrue result → IsUtf8 bytes.now }
+fn before_common(bytes: &[u8]) -> &[u8]
+    ensures { is_utf8 result.now ≡ is_utf8 bytes.now }
 {
     let mut rest = bytes;
     'characters: while let Some(four) = rest.last_chunk::<4>() {
         if !is_common(u32::from_le_bytes(*four) / 256) {
-            return false;
+            return rest;
         }
         rest = &rest[..rest.len() - 3];
     }
-    match rest {
+    rest
+}
+
+// Whether these bytes are all of ASCII.
+#[inline(always)]
+fn are_ascii(bytes: &[u8]) -> bool
+    ensures { result ≡ list_all (λ byte. nat_lt byte 128) bytes.now }
+{
+    bytes.iter().all(|byte| *byte < 128)
+}
+
+// Whether these bytes are few, and all of ASCII: so the digits in front of 月 take a third of what
+// `from_utf8` takes for them.
+#[inline(always)]
+#[tactic(auto, using(crate::proofs::Characters::ascii_is_utf8))]
+fn are_few_ascii(bytes: &[u8]) -> bool
+    ensures { IsTrue result → IsUtf8 bytes.now }
+{
+    bytes.len() < 8 && are_ascii(bytes)
+}
+
+// Whether these bytes are none, or one such character.
+#[inline(always)]
+fn are_none_or_common(bytes: &[u8]) -> bool
+    ensures { IsTrue result → IsUtf8 bytes.now }
+{
+    match bytes {
         [] => true,
         [first, second, third] => {
             is_common(*first as u32 + *second as u32 * 256 + *third as u32 * 65_536)
         }
         _ => false,
     }
+}
+
+// Whether these bytes are soon told to be UTF-8.
+#[inline(always)]
+fn are_soon_utf8(bytes: &[u8]) -> bool
+    ensures { IsTrue result → IsUtf8 bytes.now }
+{
+    are_none_or_common(bytes) || are_few_ascii(bytes)
 }
 
 // Whether any bytes are UTF-8. It stands by itself, so that the short test is short where it is
@@ -56,7 +92,8 @@ fn are_utf8_at_all(bytes: &[u8]) -> bool
 fn are_utf8(bytes: &[u8]) -> bool
     ensures { result ≡ is_utf8 bytes.now }
 {
-    are_common(bytes) || are_utf8_at_all(bytes)
+    let rest = before_common(bytes);
+    are_soon_utf8(rest) || are_utf8_at_all(rest)
 }
 
 /// The text of these bytes, if they are UTF-8.

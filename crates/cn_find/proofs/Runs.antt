@@ -1,5 +1,5 @@
 -- Steps over the characters of a text and of a run, and over a whole run.
-use Rattle.std.proofs.Common.{◌≡◌, ◌⊎◌, inl, inr, ℕ, ◌-◌, ◌<◌, Bool, true, false, not, ◌&&◌, if◌then◌else◌, List, [], ◌∷◌, ◌++◌, length, take, drop, reverse, chars, encode_utf8, encode_utf8_all, IsUtf8, refl, sym, ap, ◌∙◌, arith, append_assoc, append-nil, length-append}
+use Rattle.std.proofs.Common.{◌≡◌, ◌⊎◌, inl, inr, ℕ, ◌-◌, ◌<◌, Bool, true, false, not, ◌&&◌, if◌then◌else◌, List, [], ◌∷◌, ◌++◌, length, take, drop, reverse, chars, encode_utf8, encode_utf8_all, IsUtf8, refl, sym, ap, ◌∙◌, subst, arith, append_assoc, append-nil, length-append}
 use mathlib.Core.List.{reverse_aux}
 use Rattle.std.proofs.Math.Bool.{and-false}
 use Rattle.std.proofs.Math.Seq.{take-append_seam, drop-append_seam}
@@ -9,7 +9,7 @@ use Rattle.std.proofs.Math.Utf8.{scalar, scalars}
 use Rattle.std.proofs.lemmas.Str.{IsUtf8-take, chars-nil, chars-append, chars-encodes, scalars-chars, chars_from_encodes, encodes-append, encodes-chars, IsCharBoundary-at_seam}
 use Rattle.std.specs.Str.{IsCharBoundary}
 use Rattle.cn_core.proofs.Fronts.{and-left, both}
-use Rattle.cn_find.specs.Private.{EndsRun, Skipped}
+use Rattle.cn_find.specs.Private.{EndsRun}
 use Rattle.cn_find.specs.Rule.{Rule, is_joined}
 use Rattle.cn_find.specs.Runs.{first_belongs}
 use Rattle.cn_find.specs.Spans.{Span, run_of, after_run, span_at, spans_after, spans_by, text_before, in_front, left_by}
@@ -150,19 +150,6 @@ Skipping-more rule whole rest ahead after c s front here ended parts e = record 
   passed = Passed-of whole (text_before whole ahead) ahead after c (sym s.ends) front here ended
       parts
 
-pub Skipped-of : (rule : Rule) (whole rest ahead : List ℕ) → Skipping rule whole rest ahead
-    → (chars ahead ≡ [])
-    ⊎ (first_belongs rule (in_front (text_before whole ahead)) (chars ahead) ≡ true)
-    → IsUtf8 ahead → Skipped rule whole rest ahead
-Skipped-of rule whole rest ahead s why here = record {
-  parts = s.ends;
-  same = s.same;
-  stops = elim why [
-    | inl none ↦ inl (sym (encodes-chars ahead here) ∙ ap encode_utf8_all none)
-    | inr belongs ↦ inr belongs
-  ];
-}
-
 -- the first characters of a run were passed, `last` the last of them, and these are behind it
 pub record Gathered (rule : Rule) (whole before ahead rest : List ℕ) (last : ℕ) : Type 0 where
   pub passed : List ℕ
@@ -178,8 +165,7 @@ pub record Gathered (rule : Rule) (whole before ahead rest : List ℕ) (last : �
 
 pub Gathered-first : (rule : Rule) (whole before ahead rest : List ℕ) (first : ℕ)
     → whole ≡ before ++ ahead → IsUtf8 before → IsUtf8 ahead → IsUtf8 rest
-    → chars ahead ≡ first ∷ chars rest
-    → first_belongs rule (in_front before) (chars ahead) ≡ true
+    → chars ahead ≡ first ∷ chars rest → rule.belongs (in_front before) first (chars rest) ≡ true
     → Gathered rule whole before ahead rest first
 Gathered-first rule whole before ahead rest first cut front here ended parts begins = record {
   passed = [];
@@ -187,7 +173,7 @@ Gathered-first rule whole before ahead rest first cut front here ended parts beg
   parts = parts;
   run = ap (run_of rule (in_front before)) parts;
   after = ap (after_run rule (in_front before)) parts;
-  belongs = ap (first_belongs rule (in_front before)) (sym parts) ∙ begins;
+  belongs = begins;
   at = step.front;
   ends = step.ends;
 } where
@@ -297,10 +283,12 @@ front-onto front (c ∷ run) =
     ∙ ap (λ l. l ++ front) (sym (reverse_onto run c []))
 
 pub IsNext-found : (rule : Rule) (whole rest before ahead text after : List ℕ)
-    → Skipped rule whole rest ahead → 0 < length ahead → before ≡ text_before whole ahead
-    → IsUtf8 before → EndsRun rule before ahead after → text ≡ text_before ahead after
+    → Skipping rule whole rest ahead
+    → first_belongs rule (in_front (text_before whole ahead)) (chars ahead) ≡ true
+    → before ≡ text_before whole ahead → IsUtf8 before
+    → EndsRun rule (text_before whole ahead) ahead after → text ≡ text_before ahead after
     → IsUtf8 text → IsUtf8 after → IsNext rule whole rest before text after
-IsNext-found rule whole rest before ahead text after s some at utf8 e cut whole_text ended = record {
+IsNext-found rule whole rest before ahead text after s here at utf8 run_ends cut whole_text ended = record {
   parts =
       s.same ∙ ap (λ l. spans_after rule false (in_front l) (chars ahead)) (sym at)
       ∙ first-span rule front (chars ahead) begins
@@ -327,6 +315,9 @@ IsNext-found rule whole rest before ahead text after s some at utf8 e cut whole_
   front : List ℕ
   front = in_front before
 
+  e : EndsRun rule before ahead after
+  e = subst (λ l. EndsRun rule l ahead after) (sym at) run_ends
+
   run : text ≡ encode_utf8_all (run_of rule front (chars ahead))
   run = cut ∙ seam-front ahead (encode_utf8_all (run_of rule front (chars ahead))) after e.bytes
 
@@ -339,7 +330,7 @@ IsNext-found rule whole rest before ahead text after s some at utf8 e cut whole_
       ∙ encodes-chars before utf8
 
   at_after : whole ≡ before ++ text ++ after
-  at_after = sym s.parts ∙ ap (λ l. l ++ ahead) (sym at) ∙ ap (λ l. before ++ l) (e.bytes
+  at_after = sym s.ends ∙ ap (λ l. l ++ ahead) (sym at) ∙ ap (λ l. before ++ l) (e.bytes
       ∙ ap (λ l. l ++ after) (sym run))
       ∙ sym (append_assoc before text after)
 
@@ -354,17 +345,12 @@ IsNext-found rule whole rest before ahead text after s some at utf8 e cut whole_
       ∙ ap in_front (sym (seam-front whole (before ++ text) after at_after))
 
   begins : first_belongs rule front (chars ahead) ≡ true
-  begins = elim s.stops [
-    | inl none ↦ absurd (let n = ap length none in omega (arith, n, some))
-    | inr here ↦ ap (λ l. first_belongs rule (in_front l) (chars ahead)) at ∙ here
-  ]
+  begins = ap (λ l. first_belongs rule (in_front l) (chars ahead)) at ∙ here
 
-pub none-next : (rule : Rule) (whole rest ahead : List ℕ) → Skipped rule whole rest ahead
-    → length ahead ≡ 0 → left_by rule whole rest ≡ []
-none-next rule whole rest ahead s none = s.same ∙ by ahead none where
-  by : (ahead : List ℕ) → length ahead ≡ 0 → left_by rule whole ahead ≡ []
-  by [] none = ap (spans_after rule false (in_front (text_before whole []))) chars-nil
-  by (b ∷ ahead) none = absurd (omega (arith, none))
+pub none-next : (rule : Rule) (whole rest ahead : List ℕ) → Skipping rule whole rest ahead
+    → chars ahead ≡ [] → left_by rule whole rest ≡ []
+none-next rule whole rest ahead s none =
+    s.same ∙ ap (spans_after rule false (in_front (text_before whole ahead))) none
 
 -- nothing is left at the end
 pub none_left : (rule : Rule) (whole : List ℕ) → left_by rule whole [] ≡ []

@@ -1,4 +1,4 @@
-ghost use Rattle.std.specs.Prelude.{◌≡◌, ℕ, ◌<◌, Bool, false, List, ◌∷◌, length, chars, IfSome};
+ghost use Rattle.std.specs.Prelude.{◌≡◌, chars};
 ghost use Rattle.cn_core.specs.Mark.{mark_of};
 ghost use Rattle.cn_judge.specs.Marked.{marked};
 ghost use Rattle.cn_find.specs.Expressions.{expression_rule};
@@ -8,7 +8,7 @@ ghost use Rattle.cn_find.specs.Spans.{in_front};
 use crate::Wanted;
 use crate::belongs::{belongs, is_parted};
 use crate::expressions::{is_of_expression, parts_expressions};
-use cn_judge::{Mark, split_first_other};
+use cn_judge::Mark;
 
 /// What a search goes by: which characters of a text belong to what is looked for.
 pub trait SearchRule: Copy {
@@ -19,14 +19,6 @@ pub trait SearchRule: Copy {
     fn belongs(self, before: &str, c: char, mark: Mark, after: &str) -> bool
         requires { marked mark ≡ mark_of c }
         ensures { result ≡ (rule self).belongs (in_front before.now) c (chars after.now) };
-
-    /// What stands behind the first character, where it is soon told that this belongs nowhere: so a
-    /// search for numbers passes each other character of three bytes in 24 instructions, and else in
-    /// 37. `None` says nothing of a text.
-    fn skip_outsider(self, ahead: &str) -> Option<&str>
-        ensures outsider { IfSome result (λ after. (c : ℕ) × (chars ahead.now ≡ c ∷ chars after.now)
-            × ((front : List ℕ) → (rule self).belongs front c (chars after.now) ≡ false)) }
-        ensures shorter { IfSome result (λ after. length after.now < length ahead.now) };
 
     /// Whether two neighbours are parted though both belong.
     fn is_parted(self, c: char, next: char) -> bool
@@ -48,12 +40,6 @@ impl SearchRule for NumberRule {
     }
 
     #[inline(always)]
-    #[tactic(auto, unfolding(crate::specs::Belongs::belongs))]
-    fn skip_outsider(self, ahead: &str) -> Option<&str> {
-        split_first_other(ahead)
-    }
-
-    #[inline(always)]
     fn is_parted(self, c: char, next: char) -> bool {
         is_parted(c, next)
     }
@@ -71,11 +57,6 @@ impl SearchRule for QuantityRule {
     #[inline(always)]
     fn belongs(self, before: &str, c: char, mark: Mark, after: &str) -> bool {
         is_of_expression(self.wanted, before, c, mark, after)
-    }
-
-    #[inline(always)]
-    fn skip_outsider(self, ahead: &str) -> Option<&str> {
-        None
     }
 
     #[inline(always)]

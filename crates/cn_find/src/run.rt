@@ -1,13 +1,14 @@
 // The next run of a text.
-ghost use Rattle.std.specs.Prelude.{◌≡◌, ◌⊎◌, ℕ, ◌++◌, ◌+◌, ◌<◌, ◌≤◌, ◌∷◌, [], true, false, length, chars, MatchOption, IfNone, IfSome};
-ghost use Rattle.cn_find.specs.Private.{EndsRun, Skipped};
-ghost use Rattle.cn_find.specs.Runs.{first_belongs};
+ghost use Rattle.std.specs.Prelude.{◌≡◌, ◌++◌, ◌<◌, ◌∷◌, [], true, length, chars, MatchOption, IfSome};
+ghost use Rattle.cn_core.specs.Mark.{mark_of};
+ghost use Rattle.cn_judge.specs.Marked.{marked};
+ghost use Rattle.cn_find.specs.Private.{EndsRun};
 ghost use Rattle.cn_find.specs.Spans.{in_front, left_by, span_of, text_before};
 
 use crate::Found;
 use crate::rule::SearchRule;
 use cn_core::split_first_char;
-use cn_judge::split_first_mark;
+use cn_judge::{Mark, mark_of, split_first_mark, split_first_three};
 
 // What stands before the end of a text.
 #[inline(always)]
@@ -19,60 +20,82 @@ fn text_before<'a>(whole: &'a str, rest: &'a str) -> &'a str
     before
 }
 
-// What follows the run that begins here.
-fn skip_run<'a, R: SearchRule>(rule: R, whole: &'a str, before: &'a str, ahead: &'a str) -> &'a str
-    requires parts { whole.now ≡ before.now ++ ahead.now }
-    requires begins { first_belongs (R.rule rule) (in_front before.now) (chars ahead.now) ≡ true }
-    ensures { EndsRun (R.rule rule) before.now ahead.now result.now }
+// The first character of an end of a text, whether it belongs to what is looked for, and what stands
+// behind it.
+#[derive(Copy, Clone)]
+struct Look<'a> {
+    belongs: bool,
+    first: char,
+    behind: &'a str,
+}
+
+#[inline(always)]
+fn look_at_mark<'a, R: SearchRule>(
+    rule: R,
+    before: &str,
+    first: char,
+    mark: Mark,
+    behind: &'a str,
+) -> Look<'a>
+    requires { marked mark ≡ mark_of first }
+    ensures first { result.first ≡ first }
+    ensures behind { result.behind.now ≡ behind.now }
+    ensures belongs { result.belongs
+        ≡ (R.rule rule).belongs (in_front before.now) first (chars behind.now) }
 {
-    let Some((first, after)) = split_first_char(ahead) else {
-        return ahead;
-    };
+    let belongs = rule.belongs(before, first, mark, behind);
+    Look {
+        belongs,
+        first,
+        behind,
+    }
+}
+
+// A character of three bytes is looked at by itself: so a search for numbers passes each other one in
+// 24 instructions, and else in 37.
+#[inline(always)]
+fn look_at<'a, R: SearchRule>(rule: R, whole: &'a str, ahead: &'a str) -> Option<Look<'a>>
+    requires { text_before whole.now ahead.now ++ ahead.now ≡ whole.now }
+    ensures parts { MatchOption result (chars ahead.now ≡ [])
+        (λ look. (chars ahead.now ≡ look.first ∷ chars look.behind.now)
+        × (look.belongs ≡ (R.rule rule).belongs (in_front (text_before whole.now ahead.now))
+        look.first (chars look.behind.now))) }
+    ensures shorter { IfSome result (λ look. length look.behind.now < length ahead.now) }
+{
+    let before = text_before(whole, ahead);
+    if let Some((first, mark, behind)) = split_first_three(ahead) {
+        return Some(look_at_mark(rule, before, first, mark, behind));
+    }
+    let (first, behind) = split_first_char(ahead)?;
+    Some(look_at_mark(rule, before, first, mark_of(first), behind))
+}
+
+// What follows the run that begins here with this character, behind which that text stands.
+fn skip_run<'a, R: SearchRule>(
+    rule: R,
+    whole: &'a str,
+    ahead: &'a str,
+    first: char,
+    behind: &'a str,
+) -> &'a str
+    requires end { text_before whole.now ahead.now ++ ahead.now ≡ whole.now }
+    requires parts { chars ahead.now ≡ first ∷ chars behind.now }
+    requires begins { (R.rule rule).belongs (in_front (text_before whole.now ahead.now)) first
+        (chars behind.now) ≡ true }
+    ensures { EndsRun (R.rule rule) (text_before whole.now ahead.now) ahead.now result.now }
+{
     let mut last = first;
-    let mut rest = after;
-    'gathering: while let Some((next, mark, behind)) = split_first_mark(rest) {
-        if !rule.belongs(text_before(whole, rest), next, mark, behind)
+    let mut rest = behind;
+    'gathering: while let Some((next, mark, after)) = split_first_mark(rest) {
+        if !rule.belongs(text_before(whole, rest), next, mark, after)
             || rule.is_parted(last, next)
         {
             return rest;
         }
         last = next;
-        rest = behind;
+        rest = after;
     }
     rest
-}
-
-// What stands behind the first character, where this does not belong.
-#[inline(always)]
-fn pass_outsider<'a, R: SearchRule>(rule: R, whole: &'a str, ahead: &'a str) -> Option<&'a str>
-    requires { text_before whole.now ahead.now ++ ahead.now ≡ whole.now }
-    ensures some { IfSome result (λ after. (c : ℕ) × (chars ahead.now ≡ c ∷ chars after.now)
-        × ((R.rule rule).belongs (in_front (text_before whole.now ahead.now)) c (chars after.now)
-        ≡ false)) }
-    ensures shorter { IfSome result (λ after. length after.now < length ahead.now) }
-    ensures none { IfNone result ((chars ahead.now ≡ []) ⊎ (first_belongs (R.rule rule)
-        (in_front (text_before whole.now ahead.now)) (chars ahead.now) ≡ true)) }
-{
-    if let Some(after) = rule.skip_outsider(ahead) {
-        return Some(after);
-    }
-    let (c, mark, after) = split_first_mark(ahead)?;
-    if rule.belongs(text_before(whole, ahead), c, mark, after) {
-        return None;
-    }
-    Some(after)
-}
-
-// What follows the characters at the start that do not belong.
-fn skip_outside<'a, R: SearchRule>(rule: R, whole: &'a str, rest: &'a str) -> &'a str
-    requires { text_before whole.now rest.now ++ rest.now ≡ whole.now }
-    ensures { Skipped (R.rule rule) whole.now rest.now result.now }
-{
-    let mut ahead = rest;
-    'skipping: while let Some(after) = pass_outsider(rule, whole, ahead) {
-        ahead = after;
-    }
-    ahead
 }
 
 /// The first run of this end of a text.
@@ -84,15 +107,17 @@ pub fn next_run<'a, R: SearchRule>(rule: R, whole: &'a str, rest: &'a str) -> Op
     ensures ends { IfSome result
         (λ found. text_before whole.now found.after.now ++ found.after.now ≡ whole.now) }
 {
-    let ahead = skip_outside(rule, whole, rest);
-    if ahead.is_empty() {
-        return None;
+    let mut ahead = rest;
+    'searching: while let Some(look) = look_at(rule, whole, ahead) {
+        if look.belongs {
+            let after = skip_run(rule, whole, ahead, look.first, look.behind);
+            return Some(Found {
+                before: text_before(whole, ahead),
+                text: text_before(ahead, after),
+                after,
+            });
+        }
+        ahead = look.behind;
     }
-    let before = text_before(whole, ahead);
-    let after = skip_run(rule, whole, before, ahead);
-    Some(Found {
-        before,
-        text: text_before(ahead, after),
-        after,
-    })
+    None
 }

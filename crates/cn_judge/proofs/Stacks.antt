@@ -1,5 +1,5 @@
 -- The open units in an array.
-use Rattle.std.proofs.Common.{◌≡◌, ℕ, nat_lt, Bool, Some, None, if◌then◌else◌, zero, suc, ◌+◌, ◌*◌, ◌^◌, ◌<◌, ◌≤◌, true, false, List, [], ◌∷◌, length, slice_index_or, slice_set, refl, ap, arith, add-one}
+use Rattle.std.proofs.Common.{◌≡◌, ℕ, nat_lt, Bool, Some, None, if◌then◌else◌, zero, suc, ◌+◌, ◌*◌, ◌^◌, ◌<◌, ◌≤◌, true, false, nat_le, List, [], ◌∷◌, length, slice_index_or, slice_set, refl, ap, arith, add-one}
 use Rattle.std.proofs.lemmas.Grind.{common_steps}
 use Rattle.cn_core.specs.declared.method.ChineseCountMethod.{ChineseCountMethod}
 use Rattle.cn_core.specs.Scale.{scale}
@@ -10,7 +10,7 @@ use Rattle.cn_judge.specs.Private.Walk.{opens_of}
 use Rattle.cn_core.proofs.ScaleLaws.{scale-pos}
 use Rattle.cn_core.proofs.Fronts.{and-left, and-right}
 use Rattle.std.proofs.lemmas.Bool.Decides.{nat_tests}
-use Rattle.cn_judge.specs.Private.Stack.{StackEntry, stack_of, opened_at, no_unit, ClosesTop, all_positive, closed_sum, still_open, top_of, total_sum}
+use Rattle.cn_judge.specs.Private.Stack.{StackEntry, all_scales_fit, stack_of, opened_at, no_unit, ClosesTop, all_positive, closed_sum, still_open, top_of, total_sum}
 
 pub length-stacked : {Entry Meaning : Type 0} (meaning : Entry → Meaning) (none : Entry)
     (entries : List Entry) (len : ℕ) → length (stacked meaning none entries len) ≡ len
@@ -119,3 +119,22 @@ pub some_entries : (entries : List OpenUnit) (len : ℕ) (units : List StackEntr
     → stack_of entries len ≡ units → 0 < len → 0 < length units
 some_entries entries len units is some = let same =
     ap length is in omega (arith, same, length-stacked opened_at no_unit entries len, some)
+
+-- an entry whose scale fits leaves all fitting
+pub scales-set : (entries : List OpenUnit) (i : ℕ) (e : OpenUnit) → e.exponent ≤ 38
+    → all_scales_fit entries ≡ true → all_scales_fit (slice_set entries i e) ≡ true
+scales-set [] i e fits h = h
+scales-set (entry ∷ entries) zero e fits h =
+    let test : nat_le e.exponent 38 ≡ true = grind (arith, nat_tests) in
+    rw test (and-right (nat_le entry.exponent 38) _ h)
+scales-set (entry ∷ entries) (suc i) e fits h =
+    rw (and-left (nat_le entry.exponent 38) _ h)
+    (scales-set entries i e fits (and-right (nat_le entry.exponent 38) _ h))
+
+pub scale-fits-at : (entries : List OpenUnit) (i : ℕ) → all_scales_fit entries ≡ true
+    → (slice_index_or entries i no_unit).exponent ≤ 38
+scale-fits-at [] i h = omega arith
+scale-fits-at (entry ∷ entries) zero h =
+    let test = and-left (nat_le entry.exponent 38) _ h in grind (arith, nat_tests)
+scale-fits-at (entry ∷ entries) (suc i) h =
+    scale-fits-at entries i (and-right (nat_le entry.exponent 38) _ h)

@@ -1,5 +1,5 @@
 -- Characters of three bytes, by what the bytes add up to.
-use Rattle.std.proofs.Common.{◌≡◌, ℕ, ◌+◌, ◌*◌, ◌/◌, ◌%◌, ◌<◌, ◌≤◌, Bool, true, false, cond, ltb, List, [], ◌∷◌, ◌++◌, length, get_or, take, drop, chars, encode_utf8, IsUtf8, refl, sym, ap, ◌∙◌, subst, arith, append-nil, add-zero, length-drop}
+use Rattle.std.proofs.Common.{◌≡◌, ℕ, ◌+◌, ◌-◌, ◌*◌, ◌/◌, ◌%◌, ◌<◌, ◌≤◌, Bool, true, false, cond, ltb, List, [], ◌∷◌, ◌++◌, length, get_or, take, drop, chars, encode_utf8, IsUtf8, refl, sym, ap, ◌∙◌, subst, arith, append-nil, add-zero, length-drop}
 use Rattle.std.specs.Int.{w32, from_le_bytes}
 use Rattle.std.specs.Str.{IsCharBoundary}
 use Rattle.std.proofs.lemmas.Str.{IsUtf8-take, IsUtf8-drop, IsUtf8-past_char, IsCharBoundary-from_drop, chars_past_char}
@@ -11,7 +11,7 @@ use Rattle.std.specs.Char.{IsScalar}
 use Rattle.std.proofs.lemmas.Bool.{ltb-false}
 use Rattle.cn_core.proofs.Fronts.{and-left}
 use Rattle.cn_judge.specs.Marked.{key_of}
-use Rattle.cn_judge.specs.Private.FirstKey.{StartsWithKey}
+use Rattle.cn_judge.specs.Private.FirstKey.{EndsWithKey, StartsWithKey}
 use Rattle.cn_judge.proofs.Walking.{chars-back}
 
 -- a character's bytes, by which of the three bounds it is below
@@ -169,6 +169,45 @@ last-three bytes before start a b d code whole boundary long cut p q r low sum =
     (sym (take-append-drop start bytes) ∙ ap (λ l. l ++ drop start bytes) (sym cut)
     ∙ ap (λ l. before ++ l) last)
 
+pub boundary-at : (bytes : List ℕ) (start : ℕ) → start ≤ length bytes → 224 ≤ get_or bytes start 0
+    → IsCharBoundary bytes start
+boundary-at bytes start le low = (le, λ _ _. omega (arith, low))
+
+-- the last character and its key
+pub last-key : (bytes text : List ℕ) (start : ℕ) → bytes ≡ text → IsUtf8 text
+    → length bytes ≡ start + 3 → get_or bytes start 0 < 256 → get_or bytes (start + 1) 0 < 256
+    → (key : ℕ)
+    → key ≡ get_or bytes start 0 + get_or bytes (start + 1) 0 * 256
+    + get_or bytes (start + 2) 0 * 65536
+    → key % 256 / 16 ≡ 14 → EndsWithKey text key
+last-key bytes text start same utf8 long p q key is kind =
+    let whole : IsUtf8 bytes = subst IsUtf8 (sym same) utf8 in
+    let low : 224 ≤ get_or bytes start 0 = omega (arith, is, kind, p, q) in
+    let boundary : IsCharBoundary bytes start =
+    boundary-at bytes start (omega (arith, long)) low in
+    let three = last-starts bytes start _ whole boundary long refl low in
+    let one = at-start bytes start in
+    let two = get_or-drop start bytes 1 0 in
+    let third = get_or-drop start bytes 2 0 in
+    let from : length bytes - 3 ≡ start = omega (arith, long) in
+    let sum : three.code + 925824 ≡ get_or bytes start 0 * 4096 + get_or bytes (start + 1) 0 * 64
+    + get_or bytes (start + 2) 0 = omega (arith, three.sum, one, two, third) in
+    let ends : EndsWithKey bytes key =
+    record {
+      code = three.code;
+      key_is = omega (arith, three.key, is, one, two, third);
+      sum = omega (arith, sum, is, p, q);
+      low = three.low;
+      high = three.high;
+      scalar = three.scalar;
+      long = omega (arith, long);
+      boundary = subst (λ n. IsCharBoundary bytes n) (sym from) boundary;
+      parts = subst (λ n. chars bytes ≡ chars (take n bytes) ++ three.code ∷ []) (sym from)
+          (last-three bytes (take start bytes) start _ _ _ three.code whole boundary long refl refl
+          refl refl low sum);
+    } in
+    subst (λ l. EndsWithKey l key) same ends
+
 -- a key by its bytes, the first of them lowest
 pub record HasBytes (key a b d : ℕ) : Type 0 where
   pub one : key % 256 ≡ a
@@ -204,7 +243,3 @@ word-bytes bytes four front start word below next last is =
       at : (i j : ℕ) → front + i ≡ j → get_or four i 0 ≡ get_or bytes j 0
       at i j e = ap (λ l. get_or l i 0) last ∙ get_or-drop front bytes i 0
           ∙ ap (λ n. get_or bytes n 0) e
-
-pub boundary-at : (bytes : List ℕ) (start : ℕ) → start ≤ length bytes → 224 ≤ get_or bytes start 0
-    → IsCharBoundary bytes start
-boundary-at bytes start le low = (le, λ _ _. omega (arith, low))

@@ -1,5 +1,5 @@
 -- The steps of the walk, over what its state says.
-use Rattle.std.proofs.Common.{◌≡◌, ◌≢◌, ◌↔◌, ℕ, ◌+◌, ◌^◌, ◌<◌, Bool, true, false, IsTrue, List, [], ◌∷◌, length, Option, Some, None, refl, sym, ap, ◌∙◌, arith, if◌then◌else◌, ◌++◌, append_assoc, filter, chars, Result, Ok, Err, subst}
+use Rattle.std.proofs.Common.{◌≡◌, ◌≢◌, ◌↔◌, ℕ, ◌+◌, ◌^◌, ◌<◌, Bool, true, false, List, [], ◌∷◌, length, Option, Some, None, refl, sym, ap, ◌∙◌, arith, if◌then◌else◌, ◌++◌, append_assoc, filter, chars, Result, Ok, Err, subst}
 use Rattle.std.specs.Result.{IsErr, IsErrAnd, MatchResult}
 use Rattle.cn_core.specs.declared.method.ChineseCountMethod.{ChineseCountMethod}
 use Rattle.cn_core.specs.Characters.{digit_of, rank_of}
@@ -145,11 +145,6 @@ walked-room method u sum units after next low gives top walked w =
     (not_top method u walked sum units after next gives top w) in
     let same = ap length (left_same method u walked sum units after next gives w) in
     omega (arith, room, same)
-
--- a scale that does not fit
-pub unfit : (b : Bool) → ¬ (IsTrue b) → b ≡ false
-unfit true h = absurd (h refl)
-unfit false h = refl
 
 -- a fault stays, and its place counts what stands before it
 past-front : (method : ChineseCountMethod) (front marks : List Mark)

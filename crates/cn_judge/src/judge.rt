@@ -18,7 +18,7 @@ ghost use Rattle.cn_judge.specs.Private.Walk.{digit_next, walked_answer, HasNoTa
 use crate::ChineseToNumberError;
 use crate::mark::{Mark, mark_of};
 use crate::open_units::OpenUnits;
-use crate::text::{count_chars, split_first, split_first_slowly, split_last_mark};
+use crate::text::{count_chars, split_first, split_last_mark};
 use crate::walk::{is_at_digit, separates_digits, walk};
 use cn_core::{ChineseCountMethod, Sign, Unit, Whole, scale, sign_of};
 
@@ -32,13 +32,14 @@ pub struct AfterSign<'a> {
 }
 
 /// Takes off one sign at the start of a text that is read for a signed type.
+#[inline(always)]
 pub fn split_sign(signed: bool, text: &str) -> AfterSign<'_>
     ensures sign { result.sign ≡ leading_sign signed (text_of text.now) }
     ensures rest { StandsAt text.now (chars result.rest.now) result.skipped (sign_len result.sign) }
     ensures within { result.skipped + length result.rest.now ≤ length text.now }
 {
     if signed {
-        if let Some(first) = split_first_slowly(text) {
+        if let Some(first) = split_first(text) {
             if let Some(sign) = sign_of(first.character) {
                 return AfterSign {
                     sign: Some(sign),
@@ -123,6 +124,7 @@ fn unit_before(second: Mark, last: Mark) -> Option<Unit>
 }
 
 // The last character where it stands apart.
+#[inline(always)]
 fn split_tail(text: &str) -> Option<Tail<'_>>
     ensures tail { MatchOption result (HasNoTail (marks_of (text_of text.now)))
         (λ t. HasTail (marks_of (text_of text.now)) (marks_of (text_of t.body.now))
@@ -152,6 +154,7 @@ fn add_tail(method: ChineseCountMethod, number: u128, unit: Unit, digit: u8) -> 
 }
 
 /// The answer to a text without sign, which stands after so many characters of the caller's string.
+#[inline(always)]
 pub fn judge_text(
     method: ChineseCountMethod,
     skipped: usize,

@@ -20,7 +20,7 @@ pub use judge::{AfterSign, first_digit, judge_text, read, signed_answer, split_s
 pub use mark::{Mark, mark_of};
 pub use naive::{judge_naive, read_naive};
 pub use text::{
-    First, byte_index, count_chars, split_first, split_first_known, split_first_mark,
-    split_first_other, split_last, split_last_char, split_last_known,
+    First, byte_index, count_chars, split_end_mark, split_first, split_first_known,
+    split_first_mark, split_first_three, split_last, split_last_char, split_last_known,
 };
 pub use walk::separates_digits;

@@ -3,14 +3,15 @@ ghost use Rattle.std.specs.Prelude.{◌≡◌, ◌+◌, ◌*◌, ◌^◌, ◌<�
 ghost use Rattle.cn_core.specs.Characters.{rank};
 ghost use Rattle.cn_judge.specs.Private.Stack.{ClosesTop, all_positive, closed_sum, still_open, top_of, total_sum};
 
-use cn_core::Unit;
+use cn_core::{Unit, power_of_ten};
 use std::marker::Model;
 
-// A unit, its scale, and the sum that it was opened over.
+// A unit, the exponent of its scale, and the sum that it was opened over. All entries are cleared
+// first, so with the scale itself a refusal takes 26 instructions more.
 #[derive(Copy, Clone)]
 struct OpenUnit {
     unit: Unit,
-    size: u128,
+    exponent: u8,
     below: u128,
 }
 
@@ -23,15 +24,15 @@ pub struct OpenUnits {
 }
 
 impl Model for OpenUnits {
-    ghost use Rattle.std.specs.Prelude.{ℕ, List, ◌≤◌};
+    ghost use Rattle.std.specs.Prelude.{ℕ, List, ◌≤◌, IsTrue};
 
     ghost Value = { List (ℕ × ℕ × ℕ) };
 
-    ghost use Rattle.cn_judge.specs.Private.Stack.{stack_of};
+    ghost use Rattle.cn_judge.specs.Private.Stack.{stack_of, all_scales_fit};
 
     ghost view = { λ s. stack_of s.entries s.len };
 
-    ghost invariant = { λ s. s.len ≤ 16 };
+    ghost invariant = { λ s. (s.len ≤ 16) × IsTrue (all_scales_fit s.entries) };
 }
 
 /// A product and a sum, if they fit. Where both factors are below 2^64 the product does, and is
@@ -53,19 +54,24 @@ impl OpenUnits {
         OpenUnits {
             entries: [OpenUnit {
                 unit: Unit::Ge,
-                size: 0,
+                exponent: 0,
                 below: 0,
             }; 16],
             len: 0,
         }
     }
 
-    /// Opens a unit over the sum so far.
-    pub fn open(&mut self, unit: Unit, size: u128, below: u128)
-        requires { length self.old < 16 }
-        ensures { self.new ≡ (rank unit, size, below) ∷ self.old }
+    /// Opens a unit, whose scale has this exponent, over the sum so far.
+    pub fn open(&mut self, unit: Unit, exponent: u8, below: u128)
+        requires room { length self.old < 16 }
+        requires fits { exponent ≤ 38 }
+        ensures { self.new ≡ (rank unit, 10 ^ exponent, below) ∷ self.old }
     {
-        self.entries[self.len] = OpenUnit { unit, size, below };
+        self.entries[self.len] = OpenUnit {
+            unit,
+            exponent,
+            below,
+        };
         self.len += 1;
     }
 
@@ -98,7 +104,10 @@ impl OpenUnits {
     {
         let top = self.entries[self.len - 1];
         self.len -= 1;
-        multiply_add(sum, top.size, top.below)
+        let Some(size) = power_of_ten(top.exponent as usize) else {
+            unreachable!()
+        };
+        multiply_add(sum, size, top.below)
     }
 
     /// The sum once each open unit that is smaller than this one is closed, if it fits.

@@ -8,7 +8,7 @@ ghost use Rattle.cn_core.specs.Text.{text_of};
 ghost use Rattle.cn_judge.specs.ByteIndex.{byte_index};
 ghost use Rattle.cn_judge.specs.Marked.{marked};
 ghost use Rattle.cn_judge.specs.Piece.{StandsAt, EndsWith};
-ghost use Rattle.cn_judge.specs.Private.FirstKey.{BeginsThreeThrees, StartsWithKey};
+ghost use Rattle.cn_judge.specs.Private.FirstKey.{BeginsThreeThrees, EndsWithKey, StartsWithKey};
 
 use crate::mark::{Mark, known_mark, mark_of, mark_of_key};
 use cn_core::split_first_char;
@@ -31,10 +31,10 @@ fn first_key(text: &str) -> Option<u32>
     }
 }
 
-// The first character where it takes three bytes, its mark, and what stands after it. Looked up by
-// its bytes, each is passed in 16 instructions fewer.
+/// The first character where it takes three bytes, its mark, and what stands after it. Looked up by
+/// its bytes, each is passed in 16 instructions fewer.
 #[inline(always)]
-fn split_first_three(text: &str) -> Option<(char, Mark, &str)>
+pub fn split_first_three(text: &str) -> Option<(char, Mark, &str)>
     ensures parts { IfSome result (λ r. (chars text.now ≡ r.0 ∷ chars r.2.now)
         × (marked r.1 ≡ mark_of r.0)) }
     ensures shorter { IfSome result (λ r. length r.2.now < length text.now) }
@@ -44,22 +44,6 @@ fn split_first_three(text: &str) -> Option<(char, Mark, &str)>
     let c = unsafe { char::from_u32_unchecked(code) };
     let (_, after) = text.split_at(3);
     Some((c, mark_of_key(key), after))
-}
-
-/// What stands behind the first character, where that takes three bytes and is neither digit nor
-/// unit. `None` says nothing of a text.
-#[inline(always)]
-pub fn split_first_other(text: &str) -> Option<&str>
-    ensures parts { IfSome result (λ after. (c : ℕ) × (chars text.now ≡ c ∷ chars after.now)
-        × (mark_of c ≡ other)) }
-    ensures shorter { IfSome result (λ after. length after.now < length text.now) }
-{
-    let key = first_key(text)?;
-    if known_mark(key).is_some() {
-        return None;
-    }
-    let (_, after) = text.split_at(3);
-    Some(after)
 }
 
 /// The first character, its mark, and what stands after it.
@@ -76,8 +60,8 @@ pub fn split_first_mark(text: &str) -> Option<(char, Mark, &str)>
     Some((c, mark_of(c), after))
 }
 
-// The first character where it is a digit or a unit of three bytes, and so no white space, and what
-// stands after it. By decoding it a refusal takes 20 instructions more.
+// The first character where it takes three bytes and is no white space, and what stands after it. By
+// std's decoding a refusal takes 20 instructions more. `None` says nothing of a text.
 #[inline(always)]
 fn split_first_dark(text: &str) -> Option<(char, &str)>
     ensures parts { IfSome result (λ r. chars text.now ≡ r.0 ∷ chars r.1.now) }
@@ -86,7 +70,13 @@ fn split_first_dark(text: &str) -> Option<(char, &str)>
 {
     let (c, mark, after) = split_first_three(text)?;
     match mark {
-        Mark::Other => None,
+        Mark::Other => {
+            if c.is_whitespace() {
+                None
+            } else {
+                Some((c, after))
+            }
+        }
         _ => Some((c, after)),
     }
 }
@@ -157,6 +147,53 @@ pub fn split_last_char(text: &str) -> Option<(char, &str)>
         Some(c) => Some((c, chars.as_str())),
         None => None,
     }
+}
+
+// The key of the last character where it takes three bytes, as most do that stand by a number.
+#[inline(always)]
+fn last_key(text: &str) -> Option<u32>
+    ensures { IfSome result (EndsWithKey text.now) }
+{
+    let bytes = text.as_bytes();
+    if bytes.len() < 3 {
+        return None;
+    }
+    let start = bytes.len() - 3;
+    let (first, second) = (bytes[start] as u32, bytes[start + 1] as u32);
+    let key = first + second * 256 + bytes[start + 2] as u32 * 65_536;
+    if key % 256 / 16 == 14 {
+        Some(key)
+    } else {
+        None
+    }
+}
+
+// The last character where it takes three bytes, its mark, and what stands before it.
+#[inline(always)]
+fn split_last_three(text: &str) -> Option<(char, Mark, &str)>
+    ensures parts { IfSome result (λ r. (chars text.now ≡ chars r.2.now ++ r.0 ∷ [])
+        × (marked r.1 ≡ mark_of r.0)) }
+    ensures shorter { IfSome result (λ r. length r.2.now < length text.now) }
+{
+    let key = last_key(text)?;
+    let code = key % 256 * 4096 + key / 256 % 256 * 64 + key / 65_536 - 925_824;
+    let c = unsafe { char::from_u32_unchecked(code) };
+    let (before, _) = text.split_at(text.len() - 3);
+    Some((c, mark_of_key(key), before))
+}
+
+/// The last character, its mark, and what stands before it.
+#[inline(always)]
+pub fn split_end_mark(text: &str) -> Option<(char, Mark, &str)>
+    ensures parts { MatchOption result (chars text.now ≡ [])
+        (λ r. (chars text.now ≡ chars r.2.now ++ r.0 ∷ []) × (marked r.1 ≡ mark_of r.0)) }
+    ensures shorter { IfSome result (λ r. length r.2.now < length text.now) }
+{
+    if let Some((c, mark, before)) = split_last_three(text) {
+        return Some((c, mark, before));
+    }
+    let (c, before) = split_last_char(text)?;
+    Some((c, mark_of(c), before))
 }
 
 /// The last character that is no white space, and what stands before it.

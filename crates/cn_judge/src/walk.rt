@@ -15,7 +15,7 @@ use crate::ChineseToNumberError;
 use crate::mark::Mark;
 use crate::open_units::OpenUnits;
 use crate::text::{count_chars, split_last_mark};
-use cn_core::{ChineseCountMethod, Unit, scale};
+use cn_core::{ChineseCountMethod, Unit, exponent};
 
 /// Where a walk stands between two characters.
 #[derive(Copy, Clone)]
@@ -108,10 +108,11 @@ fn step_unit(
     if !units.groups_strictly(unit) {
         return Err(Fault::Incorrect); // rule 6
     }
-    let Some(size) = scale(method, unit) else {
+    let exponent = exponent(method, unit);
+    if exponent > 38 {
         return Err(Fault::TooLarge); // its scale does not fit
-    };
-    units.open(unit, size, below);
+    }
+    units.open(unit, exponent as u8, below);
     Ok(())
 }
 

@@ -43,15 +43,7 @@ fn answer_read(answer: &mut String, fields: &[u8]) -> Result<(), AllocError>
 {
     match asked_reading(fields) {
         Some(asked) => {
-            put_number_or_refusal(
-                answer,
-                read_as(
-                    asked.integer,
-                    asked.integer.is_signed(),
-                    asked.way,
-                    asked.text,
-                ),
-            )
+            put_number_or_refusal(answer, read_as(asked.integer, asked.way, asked.text))
         },
         None => put_bad_line(answer),
     }

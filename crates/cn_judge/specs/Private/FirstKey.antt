@@ -1,5 +1,5 @@
--- What a text starts with, by the bytes of its first character.
-use Rattle.std.specs.Prelude.{◌≡◌, ℕ, ◌+◌, ◌*◌, ◌/◌, ◌%◌, ◌<◌, ◌≤◌, List, ◌∷◌, length, get_or, drop, chars, IsCharBoundary}
+-- What a text starts or ends with, by the bytes of its first or last character.
+use Rattle.std.specs.Prelude.{◌≡◌, ℕ, ◌+◌, ◌-◌, ◌*◌, ◌/◌, ◌%◌, ◌<◌, ◌≤◌, List, [], ◌∷◌, ◌++◌, length, get_or, take, drop, chars, IsCharBoundary}
 use Rattle.std.specs.Char.{IsScalar}
 use Rattle.cn_judge.specs.Marked.{key_of}
 
@@ -14,6 +14,18 @@ pub record StartsWithKey (text : List ℕ) (key : ℕ) : Type 0 where
   pub long : 3 ≤ length text
   pub boundary : IsCharBoundary text 3
   pub parts : chars text ≡ code ∷ chars (drop 3 text)
+
+-- the last character takes three bytes, and this is its key
+pub record EndsWithKey (text : List ℕ) (key : ℕ) : Type 0 where
+  pub code : ℕ
+  pub key_is : key_of code ≡ key
+  pub sum : code + 925824 ≡ key % 256 * 4096 + key / 256 % 256 * 64 + key / 65536
+  pub low : 2048 ≤ code
+  pub high : code < 65536
+  pub scalar : IsScalar code
+  pub long : 3 ≤ length text
+  pub boundary : IsCharBoundary text (length text - 3)
+  pub parts : chars text ≡ chars (take (length text - 3) text) ++ code ∷ []
 
 -- three characters of three bytes begin at this byte, by the first byte of each
 pub record BeginsThreeThrees (bytes : List ℕ) (at : ℕ) : Type 0 where

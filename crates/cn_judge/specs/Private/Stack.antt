@@ -1,6 +1,6 @@
 -- The open units as the walk keeps them, each with its scale, in an array whose last entry is the
 -- top.
-use Rattle.std.specs.Prelude.{◌≡◌, ℕ, ◌+◌, ◌*◌, ◌^◌, ◌<◌, SomeIff, Bool, nat_lt, List, [], ◌∷◌, Option, Some, None, if◌then◌else◌}
+use Rattle.std.specs.Prelude.{◌≡◌, ℕ, ◌+◌, ◌*◌, ◌^◌, ◌<◌, SomeIff, Bool, nat_le, nat_lt, List, [], ◌∷◌, Option, Some, None, if◌then◌else◌}
 use Rattle.std.specs.List.{list_all}
 use Rattle.cn_core.specs.declared.unit.Unit.TheVariants.{Ge}
 use Rattle.cn_core.specs.Characters.{rank}
@@ -39,10 +39,14 @@ total_sum sum (top ∷ units) = total_sum (sum * top.1 + top.2) units
 
 -- an entry past the end
 abbrev pub no_unit : OpenUnit
-no_unit = record { unit = Ge; size = 0; below = 0 }
+no_unit = record { unit = Ge; exponent = 0; below = 0 }
 
 abbrev pub opened_at : OpenUnit → StackEntry
-opened_at entry = (rank entry.unit, entry.size, entry.below)
+opened_at entry = (rank entry.unit, 10 ^ entry.exponent, entry.below)
+
+-- each entry's scale fits 128 bits
+abbrev pub all_scales_fit : List OpenUnit → Bool
+all_scales_fit entries = list_all (λ entry. nat_le entry.exponent 38) entries
 
 -- the first entries, the last of them first
 abbrev pub stack_of : List OpenUnit → ℕ → List StackEntry

@@ -13,7 +13,7 @@ returns-clause-answer c =
     let bytes = c.args.text.now in
     let after = c.split_sign-after in
     let sign_is : after.result.sign ≡ leading_sign kind.signed (text_of bytes) =
-    after.ensures.sign ∙ ap (λ s. leading_sign s (text_of bytes)) c.requires in
+    after.ensures.sign ∙ ap (λ s. leading_sign s (text_of bytes)) c.is_signed.ensures in
     c.signed_answer.ensures.answer
     ∙ ap (signed_answer kind after.result.sign) c.judge_naive.ensures
     ∙ typed-rest kind bytes _ _ after.result.sign _ after.ensures.rest
