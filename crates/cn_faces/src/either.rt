@@ -35,6 +35,7 @@ fn is_plain(text: &str) -> bool
 
 /// The way in which a text is read either way, as a number of a type: plain digits as such, and any
 /// other text by `TenThousand`.
+// It stands by itself, so that reading in a way that is named is short.
 #[inline(never)]
 pub fn either_way(integer: IntegerType, text: &str) -> Way
     ensures { result ≡ either_way (the_kind integer) text.now }

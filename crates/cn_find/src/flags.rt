@@ -75,8 +75,8 @@ fn is_link(c: char) -> bool
     matches!(c, '.' | ',' | '-' | '点' | '點')
 }
 
-// Whether a character that is no digit tells nothing of a number that it touches, as most do. Told at
-// once, it takes 20 instructions fewer.
+// Whether a character that is no digit tells nothing of a number that it touches, as most do. Told
+// at once, it takes some 20 instructions fewer.
 #[inline(always)]
 #[tactic(auto, unfolding(crate::specs::Flags::clings, crate::specs::Flags::is_link))]
 fn tells_nothing(c: char) -> bool

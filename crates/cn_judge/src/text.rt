@@ -225,7 +225,7 @@ fn char_len(first: u8) -> usize
 }
 
 // Whether three characters of three bytes begin here, as most do in numerals, by the first byte of each.
-// So each is passed in 4 instructions, and alone in 7.
+// So each is passed in 4 instructions, and alone in 7. `false` says nothing of the bytes.
 #[inline(always)]
 fn begins_three_threes(bytes: &[u8], passed: usize) -> bool
     requires { passed ≤ length bytes.now }
@@ -286,7 +286,7 @@ pub fn byte_index(text: &str, char_index: usize) -> usize
 
 /// The mark of the last character where the table of marks has it, and what stands before it. The
 /// character and the byte in front are loaded at once, so a text of one character is left to
-/// `split_first_known`.
+/// `split_first_known`. `None` says nothing of a text.
 #[inline(always)]
 pub fn split_last_known(text: &str) -> Option<(Mark, &str)>
     ensures parts { IfSome result (λ r. (c : ℕ) × (chars text.now ≡ chars r.1.now ++ c ∷ [])
@@ -300,7 +300,8 @@ pub fn split_last_known(text: &str) -> Option<(Mark, &str)>
     Some((mark, before))
 }
 
-/// The mark of the first character where the table of marks has it, and what stands after it.
+/// The mark of the first character where the table of marks has it, and what stands after it. `None`
+/// says nothing of a text.
 #[inline(always)]
 pub fn split_first_known(text: &str) -> Option<(Mark, &str)>
     ensures parts { IfSome result (λ r. (c : ℕ) × (chars text.now ≡ c ∷ chars r.1.now)

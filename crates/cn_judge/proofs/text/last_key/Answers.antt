@@ -1,4 +1,4 @@
-use Rattle.std.proofs.Common.{◌≡◌, ◌+◌, ◌-◌, ◌<◌, ℕ, get_or, length, refl, rules, arith}
+use Rattle.std.proofs.Common.{◌≡◌, ◌+◌, ◌-◌, ◌<◌, ℕ, get_or, length, refl, arith}
 use Rattle.cn_judge.proofs.ThreeBytes.{last-key}
 use Rattle.cn_judge.proofs.text.last_key.Goals as goal
 
